@@ -1,0 +1,2 @@
+//! The checker of a trace, which is fed one event at a time.
+#![tactic(auto)]

@@ -1,0 +1,10 @@
+//! The events of a recorded trace, its header, and the lines of memory that they carry.
+#![tactic(auto)]
+
+mod event;
+mod header;
+mod line;
+
+pub use event::{Channel, Event, Outcome};
+pub use header::{Header, PortKind};
+pub use line::Line;

@@ -1,0 +1,2 @@
+//! The reader of trace text.
+#![tactic(auto)]
