@@ -1,0 +1,7 @@
+pub mod Faults
+pub mod Line
+pub mod MemSink
+pub mod MemSource
+pub mod Reader
+pub mod StdSink
+pub mod StdSource

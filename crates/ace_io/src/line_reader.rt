@@ -1,0 +1,160 @@
+// A source of bytes is cut into lines: at each line feed, of at most 256 bytes with it.
+ghost use Rattle.std.specs.Prelude.{◌≡◌, ◌<◌, ◌≤◌, [], List, ℕ, length, take, slice_index, IfOk, OnOk, OnErr, IfNone, MatchOption, IsTrue, false};
+ghost use Rattle.std.specs.Io.KnownBytes.{Consumes, IsAtEnd};
+ghost use Rattle.ace_io.specs.Faults.{HasCause};
+ghost use Rattle.ace_io.specs.Line.{HasNoLf, CutsHeld, CutsPiece, CutsLine, IsPending};
+
+use crate::{Failed, LineBuf, LineEnd, NoMemory, Source};
+use std::alloc::Global;
+
+/// The most bytes of a line, with its line feed.
+const LINE_LIMIT: usize = 256;
+
+/// How many bytes are asked of the source at once.
+const BUFFER_SIZE: usize = 4096;
+
+/// Where the first line feed of the piece is.
+fn find_lf(piece: &[u8]) -> Option<usize>
+    ensures { MatchOption result (HasNoLf piece.now)
+        (λ at. (at < length piece.now) × HasNoLf (take at piece.now) × (slice_index piece.now at ≡ 10)) }
+{
+    piece.iter().position(|b| *b == b'\n')
+}
+
+/// Cuts the bytes of a source into lines. It asks for up to 4096 bytes at once, and keeps what no line has yet.
+#[derive(Drop)]
+pub struct LineReader<'a, S: Source> {
+    source: &'a mut S,
+    buffer: [u8; BUFFER_SIZE],
+    start: usize,
+    end: usize,
+    ghost start_in_range: { start ≤ end },
+    ghost end_in_range: { end ≤ 4096 },
+}
+
+impl<'a, S: Source> LineReader<'a, S> {
+    ghost use Rattle.ace_io.specs.Reader.{source_of, waiting, held};
+
+    /// A reader before the first byte that the source has left.
+    ///
+    /// # Errors
+    ///
+    /// `NoMemory` where there is none for its buffer.
+    pub fn start(_alloc: Global, source: &'a mut S) -> Result<LineReader<'a, S>, NoMemory>
+        ensures same_source { IfOk result (λ r. (source_of r).ghost_name ≡ source.entry.ghost_name) }
+        ensures waiting { IfOk result (λ r. waiting S.left r ≡ S.left source.entry.now) }
+        ensures faults { IfOk result (λ r. S.faults (source_of r).now ≡ S.faults source.entry.now) }
+    {
+        Ok(LineReader {
+            source,
+            buffer: [0; BUFFER_SIZE],
+            start: 0,
+            end: 0,
+        })
+    }
+
+    /// Asks the source for more, and says whether there was any.
+    #[tactic(auto, using(crate::proofs::Held::held_steps))]
+    fn fill(&mut self) -> Result<bool, Failed>
+        requires { self.old.start ≡ self.old.end }
+        ensures same_source { self.new.source.ghost_name ≡ self.old.source.ghost_name }
+        ensures kept { OnOk result (Consumes (waiting S.left self.old) (waiting S.left self.new) []) }
+        ensures some { IfOk result (λ more. IsTrue more → self.new.start < self.new.end) }
+        ensures end { IfOk result (λ more. more ≡ false → IsAtEnd (waiting S.left self.new)) }
+        ensures err { OnErr result (Consumes (waiting S.left self.old) (S.left self.new.source.now) []) }
+        ensures cause { HasCause (S.faults self.old.source.now) (S.faults self.new.source.now) result }
+    {
+        match self.source.take(&mut self.buffer) {
+            Ok(count) => {
+                self.start = 0;
+                self.end = count;
+                Ok(count > 0)
+            }
+            Err(failed) => Err(failed),
+        }
+    }
+
+    /// Moves the front of what is held into the line, up to its line feed or its limit.
+    #[tactic(auto, using(crate::proofs::Held::held_steps))]
+    fn cut(&mut self, into: &mut LineBuf) -> Option<LineEnd>
+        requires held { self.old.start < self.old.end }
+        requires short { length into.old < 256 }
+        requires no_lf { HasNoLf into.old }
+        ensures same_source { self.new.source.ghost_name ≡ self.old.source.ghost_name }
+        ensures source { self.new.source.now ≡ self.old.source.now }
+        ensures no_lf { HasNoLf into.new }
+        ensures moved { CutsHeld into.old (held self.old) into.new result (held self.new) }
+        ensures more { IfNone result (self.new.start ≡ self.new.end) }
+    {
+        let room = LINE_LIMIT - into.len();
+        let held = &self.buffer[self.start..self.end];
+        let most = held.len().min(room);
+        let piece = &held[..most];
+        match find_lf(piece) {
+            Some(at) => {
+                into.append(&piece[..at]);
+                self.start += at + 1;
+                Some(LineEnd::Whole)
+            }
+            None => {
+                into.append(piece);
+                self.start += most;
+                if most == room {
+                    Some(LineEnd::NoLf)
+                } else {
+                    None
+                }
+            }
+        }
+    }
+
+    /// Moves what is at hand into the line, after asking the source for more where nothing is. An answer ends the line.
+    fn advance(&mut self, into: &mut LineBuf) -> Result<Option<LineEnd>, Failed>
+        requires short { length into.old < 256 }
+        requires no_lf { HasNoLf into.old }
+        ensures same_source { self.new.source.ghost_name ≡ self.old.source.ghost_name }
+        ensures no_lf { HasNoLf into.new }
+        ensures moved { IfOk result (λ end. CutsPiece into.old (waiting S.left self.old) into.new end (waiting S.left self.new)) }
+        ensures line_stays { OnErr result (into.new ≡ into.old) }
+        ensures bytes_stay { OnErr result (Consumes (waiting S.left self.old) (S.left self.new.source.now) []) }
+        ensures cause { HasCause (S.faults self.old.source.now) (S.faults self.new.source.now) result }
+    {
+        if self.start == self.end {
+            match self.fill() {
+                Ok(true) => {}
+                Ok(false) => {
+                    return Ok(Some(if into.len() == 0 {
+                        LineEnd::End
+                    } else {
+                        LineEnd::NoLf
+                    }));
+                }
+                Err(failed) => return Err(failed),
+            }
+        }
+        Ok(self.cut(into))
+    }
+
+    /// Puts the next line into the buffer, and says how it ends. After an `Err` nothing is promised of another call.
+    ///
+    /// # Errors
+    ///
+    /// `Failed` only where the source's count of faults rose in this call, or stood at its last value before. What
+    /// was taken from the source and not given in a line then holds no line feed and is fewer than 256 bytes.
+    pub fn next(&mut self, into: &mut LineBuf) -> Result<LineEnd, Failed>
+        ensures same_source { (source_of self.new).ghost_name ≡ (source_of self.old).ghost_name }
+        ensures no_lf { HasNoLf into.new }
+        ensures line { IfOk result (λ end. CutsLine (waiting S.left self.old) into.new end (waiting S.left self.new)) }
+        ensures pending { OnErr result (IsPending (waiting S.left self.old) (S.left (source_of self.new).now)) }
+        ensures cause { HasCause (S.faults (source_of self.old).now) (S.faults (source_of self.new).now) result }
+    {
+        into.clear();
+        'pieces: loop {
+            match self.advance(into) {
+                Ok(None) => {}
+                Ok(Some(end)) => return Ok(end),
+                Err(failed) => return Err(failed),
+            }
+        }
+    }
+}
