@@ -1,5 +1,5 @@
 // A source over bytes that are lent to it.
-ghost use Rattle.std.specs.Prelude.{◌≡◌, List, ℕ, Some, Ok, length, min};
+ghost use Rattle.std.specs.Prelude.{◌≡◌, ◌<◌, List, ℕ, Some, Ok, length, min};
 ghost use Rattle.ace_io.specs.Faults.{HasCause, Takes};
 
 use crate::{Failed, Source};
@@ -33,6 +33,7 @@ impl<'a> Source for HonestSource<'a> {
 
     /// As many of the bytes as fit into the slice.
     fn take(&mut self, into: &mut [u8]) -> Result<usize, Failed>
+        requires { 0 < length into.old }
         ensures bytes { Takes (Some self.old) (Some self.new) result into.new }
         ensures cause { HasCause 0 0 result }
         ensures count { result ≡ Ok (min (length self.old) (length into.old)) }
