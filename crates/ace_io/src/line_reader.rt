@@ -1,5 +1,5 @@
 // A source of bytes is cut into lines: at each line feed, of at most 256 bytes with it.
-ghost use Rattle.std.specs.Prelude.{◌≡◌, ◌<◌, ◌≤◌, [], List, ℕ, length, take, slice_index, IfOk, OnOk, OnErr, IfNone, MatchOption, IsTrue, false};
+ghost use Rattle.std.specs.Prelude.{◌≡◌, ◌<◌, ◌≤◌, [], List, ℕ, length, take, slice_index, IfOk, OnOk, OnErr, IfNone, MatchOption, IsTrue, IsOk, false};
 ghost use Rattle.std.specs.Io.KnownBytes.{Consumes, IsAtEnd};
 ghost use Rattle.ace_io.specs.Faults.{HasCause};
 ghost use Rattle.ace_io.specs.Line.{HasNoLf, CutsHeld, CutsPiece, CutsLine, IsPending};
@@ -35,12 +35,9 @@ pub struct LineReader<'a, S: Source> {
 impl<'a, S: Source> LineReader<'a, S> {
     ghost use Rattle.ace_io.specs.Reader.{source_of, waiting, held};
 
-    /// A reader before the first byte that the source has left.
-    ///
-    /// # Errors
-    ///
-    /// `NoMemory` where there is none for its buffer.
+    /// A reader before the first byte that the source has left. Its buffer is a part of it, so there is always memory.
     pub fn start(_alloc: Global, source: &'a mut S) -> Result<LineReader<'a, S>, NoMemory>
+        ensures always { IsOk result }
         ensures same_source { IfOk result (λ r. (source_of r).ghost_name ≡ source.entry.ghost_name) }
         ensures waiting { IfOk result (λ r. waiting S.left r ≡ S.left source.entry.now) }
         ensures faults { IfOk result (λ r. S.faults (source_of r).now ≡ S.faults source.entry.now) }
