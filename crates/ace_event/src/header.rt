@@ -1,3 +1,7 @@
+// The header of a trace.
+ghost use Rattle.std.specs.Prelude.{◌≡◌};
+ghost use Rattle.ace_event.specs.Ports.{port_kind};
+
 /// What stands behind a port (Arm IHI 0022E, C1.4 and C11).
 #[derive(Clone, Copy, Debug, PartialEq, Eq)]
 pub enum PortKind {
@@ -14,4 +18,18 @@ pub struct Header {
     pub version: u8,
     pub ports: u8,
     pub ace: u32,
+}
+
+/// What stands behind the port with this number, from 0. None where the header has no such port.
+pub fn kind_of(header: &Header, port: u8) -> Option<PortKind>
+    ensures { result ≡ port_kind header.now port }
+{
+    if port >= header.ports {
+        return None;
+    }
+    Some(if port < 32 && header.ace >> port & 1 == 1 {
+        PortKind::Ace
+    } else {
+        PortKind::Lite
+    })
 }

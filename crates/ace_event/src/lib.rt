@@ -6,5 +6,5 @@ mod header;
 mod line;
 
 pub use event::{Channel, Event, Outcome};
-pub use header::{Header, PortKind};
-pub use line::Line;
+pub use header::{Header, PortKind, kind_of};
+pub use line::{Line, merge};

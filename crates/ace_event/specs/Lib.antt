@@ -1,0 +1,4 @@
+pub mod Bytes
+pub mod Ports
+pub mod Range
+pub mod Text
