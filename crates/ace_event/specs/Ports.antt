@@ -1,5 +1,5 @@
 -- The ports of a header.
-use Rattle.std.specs.Prelude.{◌≡◌, ℕ, ◌<◌, ◌≤◌, ◌^◌, ◌==◌, if◌then◌else◌, nat_lt, List, map, Option, Some, None, codes}
+use Rattle.std.specs.Prelude.{◌≡◌, ℕ, ◌<◌, ◌≤◌, ◌^◌, ◌==◌, if◌then◌else◌, nat_lt, List, map, Option, Some, None}
 use Rattle.std.specs.List.{range_with_len, count_by}
 use Rattle.std.specs.Int.{bit_at}
 use Rattle.ace_event.specs.declared.header.Header.{Header}

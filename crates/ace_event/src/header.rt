@@ -1,5 +1,6 @@
 // The header of a trace.
-ghost use Rattle.std.specs.Prelude.{◌≡◌};
+ghost use Rattle.std.specs.Prelude.{◌≡◌, ◌==◌};
+ghost use Rattle.std.specs.Int.{bit_at};
 ghost use Rattle.ace_event.specs.Ports.{port_kind};
 
 /// What stands behind a port (Arm IHI 0022E, C1.4 and C11).
@@ -20,6 +21,17 @@ pub struct Header {
     pub ace: u32,
 }
 
+/// Whether bit n of the number is 1.
+#[tactic(auto, using(crate::proofs::Bytes::no_bit))]
+fn has_bit(bits: u32, n: u8) -> bool
+    ensures { result ≡ (bit_at bits n == 1) }
+{
+    if n >= 32 {
+        return false;
+    }
+    bits >> n & 1 == 1
+}
+
 /// What stands behind the port with this number, from 0. None where the header has no such port.
 pub fn kind_of(header: &Header, port: u8) -> Option<PortKind>
     ensures { result ≡ port_kind header.now port }
@@ -27,7 +39,7 @@ pub fn kind_of(header: &Header, port: u8) -> Option<PortKind>
     if port >= header.ports {
         return None;
     }
-    Some(if port < 32 && header.ace >> port & 1 == 1 {
+    Some(if has_bit(header.ace, port) {
         PortKind::Ace
     } else {
         PortKind::Lite
