@@ -3,6 +3,7 @@
 
 mod counts;
 mod honest_source;
+pub mod laws;
 mod line_buf;
 mod line_reader;
 mod mem_sink;
