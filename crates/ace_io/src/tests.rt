@@ -149,7 +149,8 @@ fn reaches_readers_and_writers(rt: HostRuntime) -> Result<(), Fail> {
     let mut out = MemSink::new(rt.alloc(), 20, &[])?;
     marked_lines(rt.alloc(), &mut lent, &mut out)?;
     marked_lines(rt.alloc(), &mut read, &mut out)?;
-    assert_eq!(rt; out.bytes(), b"ab|cd~$ab|cd~$".as_slice());
+    marked_lines(rt.alloc(), &mut StdSource::new(Broken), &mut out)?;
+    assert_eq!(rt; out.bytes(), b"ab|cd~$ab|cd~$!".as_slice());
 
     let mut into = [0; 4];
     assert_eq!(rt; StdSource::new(Broken).take(&mut into), Err(Failed));
