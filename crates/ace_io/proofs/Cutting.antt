@@ -1,4 +1,4 @@
--- The same bytes are cut in one way.
+-- The same bytes are cut in one way. Here l and m are two first lines of them, and r and s what is left after each.
 use Rattle.std.proofs.Common.{◌≡◌, ◌≢◌, ℕ, ◌<◌, ◌≤◌, ◌+◌, List, [], ◌∷◌, ◌++◌, length, get_or, drop, Option, None, Some, arith, ap, refl, sym, ◌∙◌, subst}
 use Rattle.std.proofs.lemmas.Grind.{common_steps}
 use Rattle.std.proofs.lemmas.List.Elements.{All-head, All-tail}

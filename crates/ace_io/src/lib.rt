@@ -12,6 +12,8 @@ mod open_sink;
 mod outside;
 mod std_sink;
 mod std_source;
+#[cfg(test)]
+mod tests;
 
 pub use honest_source::HonestSource;
 pub use line_buf::{LineBuf, LineEnd};

@@ -1,5 +1,5 @@
 // A source over bytes in memory, which come in pieces and with faults as it is told.
-ghost use Rattle.std.specs.Prelude.{◌≡◌, ◌<◌, [], Some, Ok, length, is_ok, not, All, IfOk, OnOk, OnErr};
+ghost use Rattle.std.specs.Prelude.{◌≡◌, ◌<◌, Some, length, is_ok, not, All, IfOk, OnErr};
 ghost use Rattle.ace_io.specs.Faults.{HasCause, Takes, raised};
 ghost use Rattle.ace_io.specs.MemSource.{fails_next, next_count};
 
@@ -22,8 +22,8 @@ pub struct MemSource {
 }
 
 impl Model for MemSource {
-    ghost use Rattle.std.specs.Prelude.{◌<◌, ◌≤◌, length, drop, All};
-    ghost use Rattle.ace_io.specs.MemSource.{SourceInMemory};
+    ghost use Rattle.std.specs.Prelude.{drop};
+    ghost use Rattle.ace_io.specs.MemSource.{SourceInMemory, GivesPieces};
 
     ghost Value = { SourceInMemory };
 
@@ -35,8 +35,7 @@ impl Model for MemSource {
       faults = s.faults;
     } };
 
-    ghost invariant = { λ s. (s.given ≤ length s.bytes.items) × (0 < length s.pieces.items)
-        × All (λ piece. 0 < piece) s.pieces.items };
+    ghost invariant = { λ s. GivesPieces s.bytes.items s.given s.pieces.items };
 }
 
 impl MemSource {

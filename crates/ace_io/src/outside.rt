@@ -62,6 +62,7 @@ pub trait Gate {
 }
 
 /// A gate that returns at once.
+#[derive(Drop)]
 pub struct Free;
 
 impl Gate for Free {

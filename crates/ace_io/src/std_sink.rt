@@ -6,8 +6,8 @@ use crate::counts::count_on;
 use crate::{Failed, Sink};
 use std::io::Write;
 
-/// Hands bytes to a writer. It tells the bytes that the writer tells. Each error of the writer is a fault, and so is a
-/// write of nothing of a piece that isn't empty.
+/// Hands bytes to a writer. It tells the bytes that the writer tells, as one over memory does and standard output
+/// doesn't. Each error of the writer is a fault, and so is a write of nothing of a piece that isn't empty.
 #[derive(Drop)]
 pub struct StdSink<W: Write> {
     inner: W,

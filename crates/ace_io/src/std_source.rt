@@ -6,7 +6,8 @@ use crate::counts::count_on;
 use crate::{Failed, Source};
 use std::io::Read;
 
-/// The bytes of a reader. It tells the bytes that the reader tells, and each error of the reader is a fault.
+/// The bytes of a reader. It tells the bytes that the reader tells, as one over memory does and standard input doesn't.
+/// Each error of the reader is a fault.
 #[derive(Drop)]
 pub struct StdSource<R: Read> {
     inner: R,
