@@ -1,0 +1,11 @@
+mod Issued
+mod KeptRules
+mod Looks
+mod Places
+mod UniqueAcknowledge
+mod UniqueAddress
+mod UniqueFacts
+mod UniqueGrant
+mod UniqueLaw
+mod UniqueSnoop
+mod UniqueTransfer
