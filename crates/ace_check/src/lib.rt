@@ -1,9 +1,11 @@
 //! The checker of a trace, which is fed one event at a time.
 #![tactic(auto)]
 
+mod checker;
 mod exclusives;
 mod grants;
 mod kinds;
+mod least;
 mod responses;
 mod rules;
 mod snoops;
@@ -12,3 +14,5 @@ mod tables;
 mod transactions;
 mod transfers;
 mod writes;
+
+pub use checker::{CheckErr, Checker, Step};
