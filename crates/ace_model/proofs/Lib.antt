@@ -1,11 +1,12 @@
-mod Issued
-mod KeptRules
-mod Looks
-mod Places
-mod UniqueAcknowledge
-mod UniqueAddress
-mod UniqueFacts
-mod UniqueGrant
-mod UniqueLaw
-mod UniqueSnoop
-mod UniqueTransfer
+pub mod Acceptance
+pub mod Issued
+pub mod Kept
+pub mod Looks
+pub mod Places
+pub mod UniqueAcknowledge
+pub mod UniqueAddress
+pub mod UniqueFacts
+pub mod UniqueGrant
+pub mod UniqueLaw
+pub mod UniqueSnoop
+pub mod UniqueTransfer
