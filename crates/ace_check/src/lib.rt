@@ -1,2 +1,18 @@
 //! The checker of a trace, which is fed one event at a time.
 #![tactic(auto)]
+
+mod checker;
+mod exclusives;
+mod grants;
+mod kinds;
+mod least;
+mod responses;
+mod rules;
+mod snoops;
+mod states;
+mod tables;
+mod transactions;
+mod transfers;
+mod writes;
+
+pub use checker::{CheckErr, Checker, Step};

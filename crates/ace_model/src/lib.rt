@@ -1,2 +1,11 @@
 //! What a trace means: its transactions, the rules, which traces are accepted, and what acceptance promises.
 #![tactic(auto)]
+
+mod breaks;
+pub mod rows;
+mod snoops;
+mod transactions;
+
+pub use breaks::Break;
+pub use snoops::{Answer, Snoop};
+pub use transactions::Transaction;

@@ -1,0 +1,4 @@
+pub mod Bits
+pub mod Past
+pub mod Ports
+pub mod Unlocked

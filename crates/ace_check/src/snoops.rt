@@ -1,0 +1,135 @@
+//! Looks at the snoops of a port, their answers and their data.
+
+ghost use Rattle.std.specs.Prelude.{◌≡◌, ◌≤◌, reverse, length, if◌then◌else◌, ◌==◌};
+ghost use Rattle.ace_model.specs.Trace.{is_some_and};
+ghost use Rattle.ace_model.specs.Kinds.{is_line_snoop};
+ghost use Rattle.ace_model.specs.Snoops.{snoop_at, answers, answered, snoops_a_line, is_snoop_on, answers_line, data_answers, data_beats};
+
+use crate::kinds::{ac_kind_of, is_line_snoop};
+use crate::responses::transfers_data;
+use ace_codes::SnoopKind;
+use ace_event::Event;
+use ace_model::Snoop;
+
+/// The snoop of the port that the event is.
+fn snoop_at(place: usize, e: &Event, p: u8) -> Option<Snoop>
+    ensures { result ≡ snoop_at place e.now p }
+{
+    match *e {
+        Event::Ac { port, addr, snoop } => {
+            if p == port {
+                Some(Snoop { place, addr, snoop })
+            } else {
+                None
+            }
+        }
+        _ => None,
+    }
+}
+
+/// How many CR events the port has.
+fn answers(past: &[Event], p: u8) -> usize
+    ensures value { result ≡ answers (reverse past.now) p }
+    ensures most { result ≤ length past.now }
+{
+    let mut count: usize = 0;
+    for (n, e) in past.iter().enumerate() {
+        if let Event::Cr { port, .. } = *e {
+            if p == port {
+                count += 1;
+            }
+        }
+    }
+    count
+}
+
+/// The new value where the places are the same, or else what was found.
+fn new_at(found: Option<Snoop>, count: usize, k: usize, new: Snoop) -> Option<Snoop>
+    ensures { result ≡ (if count == k then Some new else found) }
+{
+    if count == k { Some(new) } else { found }
+}
+
+/// The snoop that the port's next CR answers.
+pub fn answered(past: &[Event], p: u8) -> Option<Snoop>
+    ensures { result ≡ answered (reverse past.now) p }
+{
+    let k = answers(past, p);
+    let mut count: usize = 0;
+    let mut found = None;
+    for (n, e) in past.iter().enumerate() {
+        match snoop_at(n, e, p) {
+            None => {}
+            Some(s) => {
+                found = new_at(found, count, k, s);
+                count += 1;
+            }
+        }
+    }
+    found
+}
+
+fn is_line_snoop_kind(kind: Option<SnoopKind>) -> bool
+    ensures { result ≡ is_some_and kind is_line_snoop }
+{
+    match kind {
+        None => false,
+        Some(k) => is_line_snoop(k),
+    }
+}
+
+/// The code is that of a line snoop.
+pub fn snoops_a_line(snoop: u8) -> bool
+    ensures { result ≡ snoops_a_line snoop }
+{
+    is_line_snoop_kind(ac_kind_of(snoop))
+}
+
+/// A line snoop of this line.
+pub fn is_snoop_on(s: Snoop, l: u32) -> bool
+    ensures { result ≡ is_snoop_on s l }
+{
+    snoops_a_line(s.snoop) && s.addr == l
+}
+
+/// The port's next CR answers a snoop of the line.
+pub fn answers_line(past: &[Event], p: u8, l: u32) -> bool
+    ensures { result ≡ answers_line (reverse past.now) p l }
+{
+    match answered(past, p) {
+        None => false,
+        Some(s) => is_snoop_on(s, l),
+    }
+}
+
+/// How many of the port's answers have DataTransfer.
+pub fn data_answers(past: &[Event], p: u8) -> usize
+    ensures value { result ≡ data_answers (reverse past.now) p }
+    ensures most { result ≤ length past.now }
+{
+    let mut count: usize = 0;
+    for (n, e) in past.iter().enumerate() {
+        if let Event::Cr { port, resp, .. } = *e {
+            if p == port && transfers_data(resp) {
+                count += 1;
+            }
+        }
+    }
+    count
+}
+
+/// How many CD events the port has.
+pub fn data_beats(past: &[Event], p: u8) -> usize
+    ensures value { result ≡ data_beats (reverse past.now) p }
+    ensures most { result ≤ length past.now }
+{
+    let mut count: usize = 0;
+    for (n, e) in past.iter().enumerate() {
+        if let Event::Cd { port, .. } = *e {
+            if p == port {
+                count += 1;
+            }
+        }
+    }
+    count
+}

@@ -1,0 +1,66 @@
+-- What it says that an event breaks no rule, rule by rule.
+use Rattle.std.proofs.Common.{◌≡◌, ℕ, Bool, true, false, if◌then◌else◌, List, [], ◌∷◌, Option, Some, None, refl}
+use Rattle.ace_event.specs.declared.event.Event.{Event}
+use Rattle.ace_event.specs.declared.header.Header.{Header}
+use Rattle.ace_model.specs.Trace.{Trace}
+use Rattle.ace_model.specs.Rules.{k1, k2, k3, k4, k5, k6, k7, k12, k13, k14, k15, k18, k19, k21, k22, k23}
+use Rattle.ace_model.specs.Accepted.{Rule, rules, least_of, least_broken}
+
+-- the event keeps each rule of the list
+abbrev pub KeepsAll : List Rule → Header → Trace → Event → Type 0
+KeepsAll [] h past e = Unit {0}
+KeepsAll (r ∷ rs) h past e = (r.keeps h past e ≡ true) × (KeepsAll rs h past e)
+
+-- where the least broken one is none, the first is kept, and none of the others is broken
+kept_first : (k : Bool) (n : ℕ) (rest : Option ℕ) → (if k then rest else Some n) ≡ None → (k ≡ true) × (rest ≡ None)
+kept_first true n rest none = (refl, none)
+kept_first false n rest none = cc
+
+-- where none is broken, each is kept
+pub keeps_all : (rs : List Rule) (h : Header) (past : Trace) (e : Event) → least_of rs h past e ≡ None → KeepsAll rs h past e
+keeps_all [] h past e none = tt
+keeps_all (r ∷ rs) h past e none =
+    let k : (r.keeps h past e ≡ true) × (least_of rs h past e ≡ None) = kept_first (r.keeps h past e) r.number (least_of rs h past e) none in
+    (k.0, keeps_all rs h past e k.1)
+
+-- every rule, by its name
+pub record Kept (h : Header) (past : Trace) (e : Event) : Type 0 where
+  pub rule_1 : k1 h past e ≡ true
+  pub rule_2 : k2 h past e ≡ true
+  pub rule_3 : k3 h past e ≡ true
+  pub rule_4 : k4 h past e ≡ true
+  pub rule_5 : k5 h past e ≡ true
+  pub rule_6 : k6 h past e ≡ true
+  pub rule_7 : k7 h past e ≡ true
+  pub rule_12 : k12 h past e ≡ true
+  pub rule_13 : k13 h past e ≡ true
+  pub rule_14 : k14 h past e ≡ true
+  pub rule_15 : k15 h past e ≡ true
+  pub rule_18 : k18 h past e ≡ true
+  pub rule_19 : k19 h past e ≡ true
+  pub rule_21 : k21 h past e ≡ true
+  pub rule_22 : k22 h past e ≡ true
+  pub rule_23 : k23 h past e ≡ true
+
+-- an event that breaks no rule keeps each
+pub kept : (h : Header) (past : Trace) (e : Event) → least_broken h past e ≡ None → Kept h past e
+kept h past e none =
+    let a : KeepsAll rules h past e = keeps_all rules h past e none in
+    record {
+      rule_1 = a.0;
+      rule_2 = a.1.0;
+      rule_3 = a.1.1.0;
+      rule_4 = a.1.1.1.0;
+      rule_5 = a.1.1.1.1.0;
+      rule_6 = a.1.1.1.1.1.0;
+      rule_7 = a.1.1.1.1.1.1.0;
+      rule_12 = a.1.1.1.1.1.1.1.0;
+      rule_13 = a.1.1.1.1.1.1.1.1.0;
+      rule_14 = a.1.1.1.1.1.1.1.1.1.0;
+      rule_15 = a.1.1.1.1.1.1.1.1.1.1.0;
+      rule_18 = a.1.1.1.1.1.1.1.1.1.1.1.0;
+      rule_19 = a.1.1.1.1.1.1.1.1.1.1.1.1.0;
+      rule_21 = a.1.1.1.1.1.1.1.1.1.1.1.1.1.0;
+      rule_22 = a.1.1.1.1.1.1.1.1.1.1.1.1.1.1.0;
+      rule_23 = a.1.1.1.1.1.1.1.1.1.1.1.1.1.1.1.0;
+    }

@@ -1,0 +1,12 @@
+pub mod Acceptance
+pub mod Issued
+pub mod Kept
+pub mod Looks
+pub mod Places
+pub mod UniqueAcknowledge
+pub mod UniqueAddress
+pub mod UniqueFacts
+pub mod UniqueGrant
+pub mod UniqueLaw
+pub mod UniqueSnoop
+pub mod UniqueTransfer

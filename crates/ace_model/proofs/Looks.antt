@@ -1,0 +1,144 @@
+-- What the small tests of the looks at a trace say.
+use Rattle.std.proofs.Common.{◌≡◌, ◌≢◌, ◌⊎◌, ℕ, ◌<◌, ◌+◌, Bool, true, false, cond, not, ◌&&◌, ◌||◌, nat_eq, List, [], ◌∷◌, length, Option, Some, None, is_some, is_none, refl, sym, ap, subst, ◌∙◌, arith, inl, inr}
+use Rattle.std.proofs.lemmas.Bool.{and_parts, and_from, cases_Bool, eqb-true, eq-eqb, not-true}
+use Rattle.ace_codes.specs.declared.state.LineState.{LineState}
+use Rattle.ace_codes.specs.declared.state.LineState.TheVariants.{I, UC, UD, SC, SD}
+use Rattle.ace_event.specs.declared.event.Channel.{Channel}
+use Rattle.ace_event.specs.declared.event.Channel.TheVariants.{Read, Write}
+use Rattle.ace_model.specs.declared.transactions.Transaction.{Transaction}
+use Rattle.ace_model.specs.Trace.{implies, same_test, is_some_and, is_none_or}
+use Rattle.ace_model.specs.Tables.{is_invalid, is_unique}
+use Rattle.ace_model.specs.Transactions.{is_read, same_channel, has_name, is_named, is_transaction, is_on, is_some_on, newest_named, without}
+use Rattle.ace_model.specs.Grants.{newest_on}
+
+pub some_is : {A : Type 0} → (o : Option A) → is_some o ≡ true → (x : A) × (o ≡ Some x)
+some_is None e = cc
+some_is (Some x) e = (x, refl)
+
+pub none_is : {A : Type 0} → (o : Option A) → is_none o ≡ true → o ≡ None
+none_is None e = refl
+none_is (Some x) e = cc
+
+pub Some-injective : {A : Type 0} → (x y : A) → Some x ≡ Some y → x ≡ y
+Some-injective x y e = cc
+
+pub is_some_and-is : {A : Type 0} → (o : Option A) (test : A → Bool) → is_some_and o test ≡ true → (x : A) × (o ≡ Some x) × (test x ≡ true)
+is_some_and-is None test e = cc
+is_some_and-is (Some x) test e = (x, refl, e)
+
+pub is_none_or-at : {A : Type 0} → (o : Option A) (test : A → Bool) (x : A) → is_none_or o test ≡ true → o ≡ Some x → test x ≡ true
+is_none_or-at None test x t e = cc
+is_none_or-at (Some y) test x t e = subst (λ z. test z ≡ true) (Some-injective y x e) t
+
+pub implies-at : (a b : Bool) → implies a b ≡ true → a ≡ true → b ≡ true
+implies-at true b e f = e
+implies-at false b e f = cc
+
+pub same_test-at : (a b : Bool) → same_test a b ≡ true → a ≡ b
+same_test-at true true e = refl
+same_test-at true false e = cc
+same_test-at false true e = cc
+same_test-at false false e = refl
+
+pub is_invalid-is : (st : LineState) → is_invalid st ≡ true → st ≡ I
+is_invalid-is I e = refl
+is_invalid-is UC e = cc
+is_invalid-is UD e = cc
+is_invalid-is SC e = cc
+is_invalid-is SD e = cc
+
+pub not_unique : (st : LineState) → st ≡ I → is_unique st ≡ true → ⊥
+not_unique st e u = let v : is_unique I ≡ true = subst (λ (s : LineState). is_unique s ≡ true) e u in cc
+
+pub is_read-is : (c : Channel) → is_read c ≡ true → c ≡ Read
+is_read-is Read e = refl
+is_read-is Write e = cc
+
+pub same_channel-is : (c d : Channel) → same_channel c d ≡ true → c ≡ d
+same_channel-is Read Read e = refl
+same_channel-is Read Write e = cc
+same_channel-is Write Read e = cc
+same_channel-is Write Write e = refl
+
+pub same_channel-self : (c : Channel) → same_channel c c ≡ true
+same_channel-self Read = refl
+same_channel-self Write = refl
+
+pub record Named (x : Transaction) (p : ℕ) (c : Channel) (i : ℕ) : Type 0 where
+  pub port : x.port ≡ p
+  pub chan : x.chan ≡ c
+  pub id : x.id ≡ i
+
+pub has_name-is : (x : Transaction) (p : ℕ) (c : Channel) (i : ℕ) → has_name x p c i ≡ true → Named x p c i
+has_name-is x p c i e =
+    let a = and_parts (nat_eq x.port p && same_channel x.chan c) (nat_eq x.id i) e in
+    let b = and_parts (nat_eq x.port p) (same_channel x.chan c) a.0 in
+    record { port = eqb-true x.port p b.0; chan = same_channel-is x.chan c b.1; id = eqb-true x.id i a.1 }
+
+pub has_name-self : (x : Transaction) → has_name x x.port x.chan x.id ≡ true
+has_name-self x = and_from _ _ (and_from _ _ (eq-eqb x.port x.port refl) (same_channel-self x.chan)) (eq-eqb x.id x.id refl)
+
+-- the newest of the name is the first one, with the name, or else the older one
+pub newest_named-cases : (new : Option Transaction) (p : ℕ) (c : Channel) (i : ℕ) (older : Option Transaction) (x : Transaction)
+    → newest_named new p c i older ≡ Some x
+    → ((new ≡ Some x) × (has_name x p c i ≡ true)) ⊎ ((older ≡ Some x) × (is_named new p c i ≡ false))
+newest_named-cases None p c i older x e = inr (e, refl)
+newest_named-cases (Some y) p c i older x e =
+    elim (cases_Bool (has_name y p c i)) [
+      | inl t ↦ let same : Some y ≡ Some x = rw t at e in inl (same, subst (λ (z : Transaction). has_name z p c i ≡ true) (Some-injective y x same) t)
+      | inr f ↦ inr (rw f at e, f)
+    ]
+
+pub newest_named-first : (new : Option Transaction) (p : ℕ) (c : Channel) (i : ℕ) (older : Option Transaction) (x : Transaction)
+    → new ≡ Some x → has_name x p c i ≡ true → newest_named new p c i older ≡ Some x
+newest_named-first None p c i older x e n = cc
+newest_named-first (Some y) p c i older x e n =
+    rw (subst (λ (z : Transaction). has_name z p c i ≡ true) (sym (Some-injective y x e)) n) e
+
+pub newest_named-older : (new : Option Transaction) (p : ℕ) (c : Channel) (i : ℕ) (older : Option Transaction)
+    → is_named new p c i ≡ false → newest_named new p c i older ≡ older
+newest_named-older None p c i older f = refl
+newest_named-older (Some y) p c i older f = rw f refl
+
+-- what stays when a transaction ends was there, and is another one
+pub without-some : (y o : Option Transaction) (x : Transaction) → without y o ≡ Some x → (o ≡ Some x) × ((z : Transaction) → y ≡ Some z → z.place ≢ x.place)
+without-some None o x e = (e, λ z is. cc)
+without-some (Some y) None x e = cc
+without-some (Some y) (Some w) x e =
+    elim (cases_Bool (nat_eq w.place y.place)) [
+      | inl t ↦ let f : None ≡ Some x = rw t at e in cc
+      | inr f ↦
+          let same : Some w ≡ Some x = rw f at e in (
+            same,
+            λ z is eq.
+                let yz : y ≡ z = Some-injective y z is in
+                let wx : w ≡ x = Some-injective w x same in
+                let t : nat_eq w.place y.place ≡ true = eq-eqb w.place y.place (ap (λ (v : Transaction). v.place) wx ∙ sym eq ∙ ap (λ (v : Transaction). v.place) (sym yz)) in
+                cc,
+          )
+    ]
+
+-- a transaction at another place than the one that ends stays
+pub without-other : (y o : Option Transaction) (x : Transaction) → o ≡ Some x → ((z : Transaction) → y ≡ Some z → z.place ≢ x.place) → without y o ≡ Some x
+without-other None o x e other = e
+without-other (Some y) None x e other = cc
+without-other (Some y) (Some w) x e other =
+    elim (cases_Bool (nat_eq w.place y.place)) [
+      | inl t ↦ absurd (other y refl (sym (eqb-true w.place y.place t) ∙ ap (λ (v : Transaction). v.place) (Some-injective w x e)))
+      | inr f ↦ rw f e
+    ]
+
+-- the newest on a line is the first one, on the line, or else the older one
+pub newest_on-cases : (new : Option Transaction) (l : ℕ) (older : Option Transaction) (x : Transaction)
+    → newest_on new l older ≡ Some x
+    → ((new ≡ Some x) × (is_on x l ≡ true)) ⊎ ((older ≡ Some x) × (is_some_on new l ≡ false))
+newest_on-cases None l older x e = inr (e, refl)
+newest_on-cases (Some y) l older x e =
+    elim (cases_Bool (is_on y l)) [
+      | inl t ↦ let same : Some y ≡ Some x = rw t at e in inl (same, subst (λ (z : Transaction). is_on z l ≡ true) (Some-injective y x same) t)
+      | inr f ↦ inr (rw f at e, f)
+    ]
+
+pub newest_on-older : (new : Option Transaction) (l : ℕ) (older : Option Transaction) → is_some_on new l ≡ false → newest_on new l older ≡ older
+newest_on-older None l older f = refl
+newest_on-older (Some y) l older f = rw f refl

@@ -1,0 +1,14 @@
+pub mod Trace
+pub mod Kinds
+pub mod Responses
+pub mod Tables
+pub mod Transactions
+pub mod Writes
+pub mod Snoops
+pub mod Grants
+pub mod Exclusives
+pub mod States
+pub mod Rules
+pub mod Accepted
+pub mod Unique
+pub mod Rows

@@ -1,0 +1,49 @@
+-- A trace as definitions see it: the newest event first. `e ∷ past` is the trace `past` and then the event `e`.
+use Rattle.std.specs.Prelude.{ℕ, Bool, true, false, not, ◌||◌, if◌then◌else◌, List, Option, Some, None}
+use Rattle.ace_event.specs.declared.event.Event.{Event}
+use Rattle.ace_event.specs.declared.event.Event.TheVariants.{Ar, R, Rk, Aw, W, B, Wk, Ac, Cr, Cd, G, M, S, L, D, Op}
+
+abbrev pub Trace : Type 0
+Trace = List Event
+
+-- the port of an event
+abbrev pub port_of : Event → ℕ
+port_of (Ar p i addr snoop dom bar lock) = p
+port_of (R p i resp last word) = p
+port_of (Rk p st) = p
+port_of (Aw p i addr snoop dom bar) = p
+port_of (W p strb last word) = p
+port_of (B p i resp) = p
+port_of (Wk p st) = p
+port_of (Ac p addr snoop) = p
+port_of (Cr p resp st) = p
+port_of (Cd p last word) = p
+port_of (G p c i) = p
+port_of (M p c i line) = p
+port_of (S p addr st) = p
+port_of (L p addr w x word) = p
+port_of (D p addr strobe x line) = p
+port_of (Op p k res) = p
+
+-- if a, then b
+abbrev pub implies : Bool → Bool → Bool
+implies a b = not a || b
+
+-- both tests hold, or none does
+abbrev pub same_test : Bool → Bool → Bool
+same_test a b = if a then b else not b
+
+-- there is a value, and the test holds of it
+abbrev pub is_some_and : {A : Type 0} → Option A → (A → Bool) → Bool
+is_some_and None test = false
+is_some_and (Some x) test = test x
+
+-- there is no value, or the test holds of it
+abbrev pub is_none_or : {A : Type 0} → Option A → (A → Bool) → Bool
+is_none_or None test = true
+is_none_or (Some x) test = test x
+
+-- the newer value, if there is one, else the older
+abbrev pub newer : {A : Type 0} → Option A → Option A → Option A
+newer None older = older
+newer (Some x) older = Some x

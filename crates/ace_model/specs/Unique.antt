@@ -1,0 +1,16 @@
+-- A line that is unique at a port is nowhere else.
+use Rattle.std.specs.Prelude.{ℕ, ◌≡◌, ◌≢◌, true, [], ◌∷◌}
+use Rattle.ace_codes.specs.declared.state.LineState.TheVariants.{I}
+use Rattle.ace_event.specs.declared.header.Header.{Header}
+use Rattle.ace_model.specs.Trace.{Trace}
+use Rattle.ace_model.specs.Tables.{is_unique}
+use Rattle.ace_model.specs.States.{state_of}
+
+-- where a port holds a line in UC or UD, every other port's state of it is I
+abbrev pub UniqueNow : Header → Trace → Type 0
+UniqueNow h past = (l p q : ℕ) → is_unique (state_of h past p l) ≡ true → p ≢ q → state_of h past q l ≡ I
+
+-- at every point of the trace
+abbrev pub Unique : Header → Trace → Type 0
+Unique h [] = UniqueNow h []
+Unique h (e ∷ past) = Unique h past × UniqueNow h (e ∷ past)
