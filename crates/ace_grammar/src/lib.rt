@@ -3,8 +3,10 @@
 
 mod error;
 mod event;
+mod fields;
 mod header;
 mod reader;
+mod records;
 
 pub use error::ReadErr;
 pub use event::parse_event;

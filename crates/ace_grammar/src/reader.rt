@@ -3,7 +3,7 @@ ghost use Rattle.std.specs.Prelude.{◌≡◌, IsErrOf, IfOk, OnOk, MatchOption}
 ghost use Rattle.std.specs.Io.KnownBytes.{Consumes, IsAtEnd};
 ghost use Rattle.ace_io.specs.Faults.{Rose};
 ghost use Rattle.ace_io.specs.Line.{IsPending};
-ghost use Rattle.ace_io.specs.Reader.{waiting};
+ghost use Rattle.ace_io.specs.Reader.{source_of, waiting};
 ghost use Rattle.ace_event.specs.Text.{event_text, line_text, header_text};
 ghost use Rattle.ace_grammar.specs.Reading.{IsReadable, IsReadableHeader, HasBadHeader, HasBadLine, IfTold};
 
@@ -18,13 +18,13 @@ pub fn read_header<S: Source>(
     lines: &mut LineReader<S>,
     line: &mut LineBuf,
 ) -> Result<Header, ReadErr>
-    ensures same_source { lines.new.source.ghost_name ≡ lines.old.source.ghost_name }
+    ensures same_source { (source_of lines.new).ghost_name ≡ (source_of lines.old).ghost_name }
     ensures readable { IfOk result (λ header. IsReadableHeader header) }
     ensures header { IfOk result (λ header. Consumes (waiting S.left lines.old) (waiting S.left lines.new) (header_text header)) }
-    ensures steady { OnOk result (S.faults lines.new.source.now ≡ S.faults lines.old.source.now) }
+    ensures steady { OnOk result (S.faults (source_of lines.new).now ≡ S.faults (source_of lines.old).now) }
     ensures malformed { IsErrOf result ReadErr.Malformed → IfTold (waiting S.left lines.old) HasBadHeader }
-    ensures malformed_steady { IsErrOf result ReadErr.Malformed → S.faults lines.new.source.now ≡ S.faults lines.old.source.now }
-    ensures fault { IsErrOf result ReadErr.ReadFault → Rose (S.faults lines.old.source.now) (S.faults lines.new.source.now) }
+    ensures malformed_steady { IsErrOf result ReadErr.Malformed → S.faults (source_of lines.new).now ≡ S.faults (source_of lines.old).now }
+    ensures fault { IsErrOf result ReadErr.ReadFault → Rose (S.faults (source_of lines.old).now) (S.faults (source_of lines.new).now) }
 {
     let _ = (lines, line);
     Err(ReadErr::Malformed)
@@ -37,16 +37,16 @@ pub fn read_event<S: Source>(
     lines: &mut LineReader<S>,
     line: &mut LineBuf,
 ) -> Result<Option<Event>, ReadErr>
-    ensures same_source { lines.new.source.ghost_name ≡ lines.old.source.ghost_name }
+    ensures same_source { (source_of lines.new).ghost_name ≡ (source_of lines.old).ghost_name }
     ensures read { IfOk result (λ next. MatchOption next
         (IsAtEnd (waiting S.left lines.old) × IsAtEnd (waiting S.left lines.new))
         (λ event. IsReadable event
             × Consumes (waiting S.left lines.old) (waiting S.left lines.new) (line_text (event_text event)))) }
-    ensures steady { OnOk result (S.faults lines.new.source.now ≡ S.faults lines.old.source.now) }
+    ensures steady { OnOk result (S.faults (source_of lines.new).now ≡ S.faults (source_of lines.old).now) }
     ensures malformed { IsErrOf result ReadErr.Malformed → IfTold (waiting S.left lines.old) HasBadLine }
-    ensures malformed_steady { IsErrOf result ReadErr.Malformed → S.faults lines.new.source.now ≡ S.faults lines.old.source.now }
-    ensures fault { IsErrOf result ReadErr.ReadFault → Rose (S.faults lines.old.source.now) (S.faults lines.new.source.now) }
-    ensures pending { IsErrOf result ReadErr.ReadFault → IsPending (waiting S.left lines.old) (S.left lines.new.source.now) }
+    ensures malformed_steady { IsErrOf result ReadErr.Malformed → S.faults (source_of lines.new).now ≡ S.faults (source_of lines.old).now }
+    ensures fault { IsErrOf result ReadErr.ReadFault → Rose (S.faults (source_of lines.old).now) (S.faults (source_of lines.new).now) }
+    ensures pending { IsErrOf result ReadErr.ReadFault → IsPending (waiting S.left lines.old) (S.left (source_of lines.new).now) }
 {
     match lines.next(line) {
         Ok(LineEnd::Whole) => match parse_event(line.bytes()) {
