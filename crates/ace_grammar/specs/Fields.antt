@@ -63,7 +63,17 @@ state_of bytes =
 unfoldable pub state_at : List ℕ → Option LineState
 state_at bytes = option_and_then state_of (space_at bytes)
 
--- no bytes are left
-abbrev pub ended : {A : Type 0} → A × List ℕ → Option A
-ended (value, []) = Some value
-ended (value, byte ∷ bytes) = None
+-- the value, where no bytes are left
+abbrev pub ended : {A : Type 0} → A → List ℕ → Option A
+ended value [] = Some value
+ended value (byte ∷ bytes) = None
+
+-- a value that all of the bytes make
+abbrev pub whole : {A : Type 0} → Taker A → List ℕ → Option A
+whole take_first bytes = option_and_then (λ first. ended first.0 first.1) (take_first bytes)
+
+-- a field, and what the bytes after it make
+infixr 10 ◌▹◌
+abbrev pub ◌▹◌ : {A B : Type 0} → Taker A → (List ℕ → Option B) → List ℕ → Option (A × B)
+(take_first ▹ read_rest) bytes =
+    option_and_then (λ first. option_map (λ rest. (first.0, rest)) (read_rest first.1)) (take_first bytes)

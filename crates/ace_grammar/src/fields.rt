@@ -1,7 +1,7 @@
 // Fields, from the front of a line. Each comes with the space before it.
 ghost use Rattle.std.specs.Prelude.{◌≡◌, ◌≤◌, ◌^◌, ◌<◌, length, IfSome};
 ghost use Rattle.std.specs.Option.{option_map};
-ghost use Rattle.ace_grammar.specs.Fields.{digit_of, digits_onto, space_at, digits_at, number_at, flag_at, letter_at, channel_at, state_of, state_at};
+ghost use Rattle.ace_grammar.specs.Fields.{digit_of, digits_onto, space_at, digits_at, number_at, flag_at, letter_at, channel_at, state_of, state_at, ended};
 
 use ace_codes::LineState;
 use ace_event::Channel;
@@ -119,4 +119,14 @@ pub fn take_state(bytes: &[u8]) -> Option<LineState>
     ensures { result ≡ state_at bytes.now }
 {
     state_of(take_space(bytes)?)
+}
+
+/// The value, where no bytes are left.
+pub fn at_end<A: Drop>(value: A, bytes: &[u8]) -> Option<A>
+    ensures { result ≡ ended value bytes.now }
+{
+    match bytes {
+        [] => Some(value),
+        _ => None,
+    }
 }
