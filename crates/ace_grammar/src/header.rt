@@ -1,6 +1,7 @@
 // The two lines of a header.
-ghost use Rattle.std.specs.Prelude.{◌≡◌, ◌≢◌, ◌↔◌, MatchOption, IsTrue, codes};
+ghost use Rattle.std.specs.Prelude.{◌≡◌, ◌≢◌, ◌↔◌, MatchOption, IsTrue, codes, EachIndex, slice_index};
 ghost use Rattle.ace_event.specs.declared.header.Header.{Header};
+ghost use Rattle.ace_event.specs.Ports.{port_letters};
 ghost use Rattle.ace_grammar.specs.Reading.{IsReadableHeader, ports_text};
 
 use ace_event::Header;
@@ -12,11 +13,34 @@ pub fn is_version_line(line: &[u8]) -> bool
     line == b"ACE 1".as_slice()
 }
 
+/// Whether every letter is that of an ACE port.
+fn are_ace(letters: &[u8]) -> bool
+    ensures { IsTrue result ↔ EachIndex letters.now (λ p. slice_index letters.now p ≡ 65) }
+{
+    letters.iter().all(|letter| *letter == b'A')
+}
+
+/// The header with these port letters.
+fn parse_letters(letters: &[u8]) -> Option<Header>
+    ensures { MatchOption result ((header : Header) → IsReadableHeader header → port_letters header ≢ letters.now)
+        (λ header. IsReadableHeader header × (port_letters header ≡ letters.now)) }
+{
+    if letters.is_empty() || letters.len() > 8 || !are_ace(letters) {
+        return None;
+    }
+    let ports = letters.len() as u8;
+    Some(Header {
+        version: 1,
+        ports,
+        ace: (1 << ports) - 1,
+    })
+}
+
 /// The header whose second line this is, without its line feed. None where it is that of no readable header.
 pub fn parse_ports(line: &[u8]) -> Option<Header>
     ensures { MatchOption result ((header : Header) → IsReadableHeader header → ports_text header ≢ line.now)
         (λ header. IsReadableHeader header × (ports_text header ≡ line.now)) }
 {
-    let _ = line;
-    None
+    let letters = line.strip_prefix(b"PORTS ".as_slice())?;
+    parse_letters(letters)
 }

@@ -6,7 +6,6 @@ mod event;
 mod fields;
 mod header;
 mod reader;
-mod records;
 
 pub use error::ReadErr;
 pub use event::parse_event;
