@@ -3,6 +3,7 @@ ghost use Rattle.std.specs.Prelude.{◌≡◌, ◌≢◌, ◌↔◌, MatchOption
 ghost use Rattle.ace_event.specs.declared.header.Header.{Header};
 ghost use Rattle.ace_event.specs.Ports.{port_letters};
 ghost use Rattle.ace_grammar.specs.Reading.{IsReadableHeader, ports_text};
+ghost use Rattle.ace_grammar.specs.Letters.{AreAceLetters};
 
 use ace_event::Header;
 
@@ -20,12 +21,19 @@ fn are_ace(letters: &[u8]) -> bool
     letters.iter().all(|letter| *letter == b'A')
 }
 
+/// Whether these are one to eight letters of ACE ports.
+fn are_letters(letters: &[u8]) -> bool
+    ensures { IsTrue result ↔ AreAceLetters letters.now }
+{
+    !letters.is_empty() && letters.len() <= 8 && are_ace(letters)
+}
+
 /// The header with these port letters.
 fn parse_letters(letters: &[u8]) -> Option<Header>
     ensures { MatchOption result ((header : Header) → IsReadableHeader header → port_letters header ≢ letters.now)
         (λ header. IsReadableHeader header × (port_letters header ≡ letters.now)) }
 {
-    if letters.is_empty() || letters.len() > 8 || !are_ace(letters) {
+    if !are_letters(letters) {
         return None;
     }
     let ports = letters.len() as u8;
