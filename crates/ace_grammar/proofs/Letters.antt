@@ -39,12 +39,12 @@ ace_letter : (ace p : ℕ) → bit_at ace p ≡ 1 → port_letter ace p ≡ 65
 ace_letter ace p e = rw e refl
 
 -- the letters of a readable header
-readable_letters : (header : Header) → HasAceAlone header → port_letters header ≡ replicate header.ports 65
+pub readable_letters : (header : Header) → HasAceAlone header → port_letters header ≡ replicate header.ports 65
 readable_letters header alone =
     sym (fill_by_all (port_letter header.ace) (replicate header.ports 65) header.ports 0 (length-replicate header.ports 65)
     (λ p h. get_or-replicate header.ports p 65 0 h ∙ sym (ace_letter header.ace p (ace_bit header p (alone p h)))))
 
-readable_count : (header : Header) → IsReadableHeader header → header.ports ≤ 8
+pub readable_count : (header : Header) → IsReadableHeader header → header.ports ≤ 8
 readable_count header h =
     let count : count_by (λ letter. eqb letter 65) (port_letters header) ≡ header.ports * 1 =
     ap (count_by (λ letter. eqb letter 65)) (readable_letters header h.1) ∙ sum_by-replicate (λ letter. cond (eqb letter 65) 1 0) header.ports 65 in
