@@ -2,14 +2,32 @@
 ghost use Rattle.std.specs.Prelude.{◌≡◌, IsErrOf, IfOk, OnOk, MatchOption};
 ghost use Rattle.std.specs.Io.KnownBytes.{Consumes, IsAtEnd};
 ghost use Rattle.ace_io.specs.Faults.{Rose};
-ghost use Rattle.ace_io.specs.Line.{IsPending};
+ghost use Rattle.ace_io.specs.Line.{HasNoLf, IsPending};
 ghost use Rattle.ace_io.specs.Reader.{source_of, waiting};
 ghost use Rattle.ace_event.specs.Text.{event_text, line_text, header_text};
+ghost use Rattle.ace_grammar.specs.Lines.{HasNoLine};
 ghost use Rattle.ace_grammar.specs.Reading.{IsReadable, IsReadableHeader, HasBadHeader, HasBadLine, IfTold};
 
 use crate::{ReadErr, is_version_line, parse_event, parse_ports};
 use ace_event::{Event, Header};
 use ace_io::{LineBuf, LineEnd, LineReader, Source};
+
+/// Takes the next line with its line feed. `Malformed` says that none stands there.
+fn take_line<S: Source>(lines: &mut LineReader<S>, line: &mut LineBuf) -> Result<(), ReadErr>
+    ensures same_source { (source_of lines.new).ghost_name ≡ (source_of lines.old).ghost_name }
+    ensures no_lf { HasNoLf line.new }
+    ensures taken { OnOk result (Consumes (waiting S.left lines.old) (waiting S.left lines.new) (line_text line.new)) }
+    ensures steady { OnOk result (S.faults (source_of lines.new).now ≡ S.faults (source_of lines.old).now) }
+    ensures malformed { IsErrOf result ReadErr.Malformed → IfTold (waiting S.left lines.old) HasNoLine }
+    ensures malformed_steady { IsErrOf result ReadErr.Malformed → S.faults (source_of lines.new).now ≡ S.faults (source_of lines.old).now }
+    ensures fault { IsErrOf result ReadErr.ReadFault → Rose (S.faults (source_of lines.old).now) (S.faults (source_of lines.new).now) }
+{
+    match lines.next(line) {
+        Ok(LineEnd::Whole) => Ok(()),
+        Ok(LineEnd::NoLf | LineEnd::End) => Err(ReadErr::Malformed),
+        Err(_) => Err(ReadErr::ReadFault),
+    }
+}
 
 /// Reads the two header lines. `Malformed` says that the input does not begin with the lines of a readable header;
 /// `ReadFault` comes only where the source's count of faults rose. After an error read no more. `line` is room for a
@@ -26,8 +44,21 @@ pub fn read_header<S: Source>(
     ensures malformed_steady { IsErrOf result ReadErr.Malformed → S.faults (source_of lines.new).now ≡ S.faults (source_of lines.old).now }
     ensures fault { IsErrOf result ReadErr.ReadFault → Rose (S.faults (source_of lines.old).now) (S.faults (source_of lines.new).now) }
 {
-    let _ = (lines, line);
-    Err(ReadErr::Malformed)
+    match take_line(lines, line) {
+        Ok(()) => {}
+        Err(error) => return Err(error),
+    }
+    if !is_version_line(line.bytes()) {
+        return Err(ReadErr::Malformed);
+    }
+    match take_line(lines, line) {
+        Ok(()) => {}
+        Err(error) => return Err(error),
+    }
+    match parse_ports(line.bytes()) {
+        Some(header) => Ok(header),
+        None => Err(ReadErr::Malformed),
+    }
 }
 
 /// Reads the next event, or None at the end of the input after a whole line. `Malformed` says that a line stands there
