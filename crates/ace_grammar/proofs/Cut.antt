@@ -157,3 +157,6 @@ other_second_line (Some xs) (Some ys) (Some zs) line c clean other d =
 
 pub both_lines : (old mid new : Option (List ℕ)) (header : Header) → Consumes old mid (line_text (codes "ACE 1")) → Consumes mid new (line_text (ports_text header)) → Consumes old new (header_text header)
 both_lines old mid new header c d = Consumes-trans old mid new (line_text (codes "ACE 1")) (line_text (ports_text header)) c d
+
+pub version_taken : (old mid : Option (List ℕ)) (bytes line : List ℕ) → bytes ≡ codes "ACE 1" → bytes ≡ line → Consumes old mid (line_text line) → Consumes old mid (line_text (codes "ACE 1"))
+version_taken old mid bytes line version is taken = subst (λ (l : List ℕ). Consumes old mid (line_text l)) (sym is ∙ version) taken
