@@ -1,2 +1,13 @@
-//! The reader of trace text.
+//! The reader of trace text: exactly the grammar of the header and of the events that it knows.
 #![tactic(auto)]
+
+mod error;
+mod event;
+mod fields;
+mod header;
+mod reader;
+
+pub use error::ReadErr;
+pub use event::parse_event;
+pub use header::{is_version_line, parse_ports};
+pub use reader::{read_event, read_header};

@@ -1,0 +1,162 @@
+-- Lines that stand at the front of the bytes, against those that a reader cuts.
+use Rattle.std.proofs.Common.{◌≡◌, ◌≢◌, ℕ, zero, suc, ◌+◌, ◌<◌, ◌≤◌, List, [], ◌∷◌, ◌++◌, length, Option, Some, None, refl, sym, ap, subst, ◌∙◌, arith, inl, inr, ◌⊎◌, append_assoc}
+use Rattle.std.specs.Prelude.{codes, All}
+use Rattle.std.specs.List.{AllByRecursion}
+use Rattle.std.specs.Io.KnownBytes.{Consumes, IsAtEnd}
+use Rattle.std.proofs.lemmas.List.{append-nil, length-append, length-replicate}
+use Rattle.std.proofs.lemmas.List.Elements.{recursion_from_All, All-from_recursion, All-replicate}
+use Rattle.std.proofs.Math.ListN.{replicate}
+use Rattle.std.proofs.lemmas.Bool.{cases_lt}
+use Rattle.std.proofs.KnownBytes.{Consumes-trans}
+use Rattle.ace_event.specs.Ports.{port_letters}
+use Rattle.ace_io.specs.Line.{HasNoLf}
+use Rattle.ace_event.specs.declared.event.Event.{Event}
+use Rattle.ace_event.specs.declared.header.Header.{Header}
+use Rattle.ace_event.specs.Text.{event_text, line_text, header_text}
+use Rattle.ace_grammar.specs.Reading.{IsReadable, IsReadableHeader, BeginsWith, HasBadLine, HasBadHeader, IfTold, ports_text}
+use Rattle.ace_grammar.specs.Lines.{HasNoLine}
+use Rattle.ace_grammar.proofs.Exact.{IsClean, clean-append}
+use Rattle.ace_grammar.proofs.Letters.{readable_letters, readable_count}
+use Rattle.ace_grammar.proofs.LineTexts.{event_clean, event_short}
+
+clean_line : (line : List ℕ) → HasNoLf line → IsClean line
+clean_line line h = recursion_from_All (λ b. b ≢ 10) line h
+
+-- of two lines at the front of the same bytes, both are one
+pub same_line : (a b x y : List ℕ) → IsClean a → IsClean b → (a ++ 10 ∷ []) ++ x ≡ (b ++ 10 ∷ []) ++ y → (a ≡ b) × (x ≡ y)
+same_line [] [] x y p q e = (refl, cc)
+same_line [] (c ∷ b) x y p q e = let h : c ≡ 10 = cc in absurd (q.0 h)
+same_line (c ∷ a) [] x y p q e = let h : c ≡ 10 = cc in absurd (p.0 h)
+same_line (c ∷ a) (d ∷ b) x y p q e =
+    let head : c ≡ d = cc in
+    let tail : (a ++ 10 ∷ []) ++ x ≡ (b ++ 10 ∷ []) ++ y = cc in
+    let same = same_line a b x y p.1 q.1 tail in
+    (ap (λ h. h ∷ a) head ∙ ap (λ (l : List ℕ). d ∷ l) same.0, same.1)
+
+-- what has no line feed, and is longer than a line or all that there is, doesn't begin with that line
+pub no_line : (line rest text more : List ℕ) → IsClean line → (length text < length line) ⊎ (rest ≡ []) → line ++ rest ≡ (text ++ 10 ∷ []) ++ more → ⊥
+no_line [] rest text more p (inl short) e = omega (arith, short)
+no_line [] rest [] more p (inr end) e = absurd (cc)
+no_line [] rest (t ∷ text) more p (inr end) e = absurd (cc)
+no_line (c ∷ line) rest [] more p far e = let h : c ≡ 10 = cc in absurd (p.0 h)
+no_line (c ∷ line) rest (t ∷ text) more p (inl short) e =
+    let tail : line ++ rest ≡ (text ++ 10 ∷ []) ++ more = cc in
+    no_line line rest text more p.1 (inl (omega (arith, short))) tail
+no_line (c ∷ line) rest (t ∷ text) more p (inr end) e =
+    let tail : line ++ rest ≡ (text ++ 10 ∷ []) ++ more = cc in
+    no_line line rest text more p.1 (inr end) tail
+
+-- a line of fewer than 256 bytes with its end, or more bytes without a line feed, or all that there is without one
+far : (line : List ℕ) (rest : List ℕ) (text : List ℕ) → length text < 256 → (length line < 256 → rest ≡ []) → (length text < length line) ⊎ (rest ≡ [])
+far line rest text short end =
+    elim (cases_lt (length line) 256) [ inl lt ↦ inr (end lt) | inr le ↦ inl (omega arith) ]
+
+not_empty : (line x : List ℕ) → (line ++ 10 ∷ []) ++ x ≢ []
+not_empty [] x e = absurd cc
+not_empty (c ∷ line) x e = absurd cc
+
+some_left : (line x : List ℕ) → 0 < length line → line ++ x ≢ []
+some_left [] x h e = omega arith
+some_left (c ∷ line) x h e = absurd cc
+
+-- ---- events
+
+-- a whole line that is no readable event's
+pub other_line_is_bad : (old new : Option (List ℕ)) (line : List ℕ) → HasNoLf line → ((event : Event) → IsReadable event → event_text event ≢ line)
+    → Consumes old new (line ++ 10 ∷ []) → IfTold old HasBadLine
+other_line_is_bad None new line clean other c = tt
+other_line_is_bad (Some xs) None line clean other c = absurd c
+other_line_is_bad (Some xs) (Some ys) line clean other c = (
+  λ e. not_empty line ys (sym c ∙ e),
+  λ event h begins.
+  let same = same_line (event_text event) line begins.0 ys (event_clean event h) (clean_line line clean) (sym begins.1 ∙ c) in
+  other event h same.0,
+)
+
+-- a line without its line feed
+pub cut_line_is_bad : (old new : Option (List ℕ)) (line : List ℕ) → HasNoLf line → 0 < length line → (length line < 256 → IsAtEnd new)
+    → Consumes old new line → IfTold old HasBadLine
+cut_line_is_bad None new line clean some end c = tt
+cut_line_is_bad (Some xs) None line clean some end c = absurd c
+cut_line_is_bad (Some xs) (Some ys) line clean some end c = (
+  λ e. some_left line ys some (sym c ∙ e),
+  λ event h begins.
+  no_line line ys (event_text event) begins.0 (clean_line line clean) (far line ys (event_text event) (event_short event h) end) (sym c ∙ begins.1),
+)
+
+-- ---- lines of the header
+
+pub cut_line_is_none : (old new : Option (List ℕ)) (line : List ℕ) → HasNoLf line → (length line < 256 → IsAtEnd new)
+    → Consumes old new line → IfTold old HasNoLine
+cut_line_is_none None new line clean end c = tt
+cut_line_is_none (Some xs) None line clean end c = absurd c
+cut_line_is_none (Some xs) (Some ys) line clean end c =
+    λ text text_clean short begins.
+    no_line line ys text begins.0 (clean_line line clean) (far line ys text short end) (sym c ∙ begins.1)
+
+pub no_line_at_end : (old new : Option (List ℕ)) (line : List ℕ) → line ≡ [] → IsAtEnd new → Consumes old new line → IfTold old HasNoLine
+no_line_at_end None new line nil end c = tt
+no_line_at_end (Some xs) None line nil end c = absurd c
+no_line_at_end (Some xs) (Some ys) line nil end c =
+    λ text text_clean short begins.
+    no_line [] ys text begins.0 tt (inr end) (ap (λ (l : List ℕ). l ++ ys) (sym nil) ∙ sym c ∙ begins.1)
+
+version_clean : IsClean (codes "ACE 1")
+version_clean = grind arith
+
+letters_clean : (header : Header) → IsReadableHeader header → IsClean (port_letters header)
+letters_clean header h =
+    let eleven : (n : ℕ) → n ≡ 65 → n ≢ 10 = λ n e f. omega arith in
+    subst IsClean (sym (readable_letters header h.1)) (recursion_from_All (λ b. b ≢ 10) (replicate header.ports 65) (All-replicate (λ b. b ≢ 10) header.ports 65 (eleven 65 refl)))
+
+ports_clean : (header : Header) → IsReadableHeader header → IsClean (ports_text header)
+ports_clean header h = clean-append (codes "PORTS ") (port_letters header) (grind arith) (letters_clean header h)
+
+ports_short : (header : Header) → IsReadableHeader header → length (ports_text header) < 256
+ports_short header h =
+    let size : length (port_letters header) ≡ header.ports = ap length (readable_letters header h.1) ∙ length-replicate header.ports 65 in
+    omega (arith, size, readable_count header h)
+
+-- the header lines at the front of the bytes, one by one
+header_lines : (xs rest : List ℕ) (header : Header) → xs ≡ header_text header ++ rest → xs ≡ line_text (codes "ACE 1") ++ (line_text (ports_text header) ++ rest)
+header_lines xs rest header e = e ∙ append_assoc (line_text (codes "ACE 1")) (line_text (ports_text header)) rest
+
+pub no_first_line : (old : Option (List ℕ)) → IfTold old HasNoLine → IfTold old HasBadHeader
+no_first_line None none = tt
+no_first_line (Some xs) none =
+    λ header h begins.
+    none (codes "ACE 1") (All-from_recursion (λ b. b ≢ 10) (codes "ACE 1") version_clean) (omega arith) (line_text (ports_text header) ++ begins.0, header_lines xs begins.0 header begins.1)
+
+pub other_first_line : (old mid : Option (List ℕ)) (line : List ℕ) → HasNoLf line → line ≢ codes "ACE 1" → Consumes old mid (line ++ 10 ∷ []) → IfTold old HasBadHeader
+other_first_line None mid line clean other c = tt
+other_first_line (Some xs) None line clean other c = absurd c
+other_first_line (Some xs) (Some ys) line clean other c =
+    λ header h begins.
+    other (same_line line (codes "ACE 1") ys (line_text (ports_text header) ++ begins.0) (clean_line line clean) version_clean (sym c ∙ header_lines xs begins.0 header begins.1)).0
+
+-- behind the first line the second one stands
+second_line : (xs ys rest : List ℕ) (header : Header) → xs ≡ line_text (codes "ACE 1") ++ ys → xs ≡ header_text header ++ rest → ys ≡ line_text (ports_text header) ++ rest
+second_line xs ys rest header c e =
+    (same_line (codes "ACE 1") (codes "ACE 1") ys (line_text (ports_text header) ++ rest) version_clean version_clean (sym c ∙ header_lines xs rest header e)).1
+
+pub no_second_line : (old mid : Option (List ℕ)) → Consumes old mid (line_text (codes "ACE 1")) → IfTold mid HasNoLine → IfTold old HasBadHeader
+no_second_line None mid c none = tt
+no_second_line (Some xs) None c none = absurd c
+no_second_line (Some xs) (Some ys) c none =
+    λ header h begins.
+    none (ports_text header) (All-from_recursion (λ b. b ≢ 10) (ports_text header) (ports_clean header h)) (ports_short header h) (begins.0, second_line xs ys begins.0 header c begins.1)
+
+pub other_second_line : (old mid new : Option (List ℕ)) (line : List ℕ) → Consumes old mid (line_text (codes "ACE 1")) → HasNoLf line
+    → ((header : Header) → IsReadableHeader header → ports_text header ≢ line) → Consumes mid new (line ++ 10 ∷ []) → IfTold old HasBadHeader
+other_second_line None mid new line c clean other d = tt
+other_second_line (Some xs) None new line c clean other d = absurd c
+other_second_line (Some xs) (Some ys) None line c clean other d = absurd d
+other_second_line (Some xs) (Some ys) (Some zs) line c clean other d =
+    λ header h begins.
+    other header h (same_line (ports_text header) line begins.0 zs (ports_clean header h) (clean_line line clean) (sym (second_line xs ys begins.0 header c begins.1) ∙ d)).0
+
+pub both_lines : (old mid new : Option (List ℕ)) (header : Header) → Consumes old mid (line_text (codes "ACE 1")) → Consumes mid new (line_text (ports_text header)) → Consumes old new (header_text header)
+both_lines old mid new header c d = Consumes-trans old mid new (line_text (codes "ACE 1")) (line_text (ports_text header)) c d
+
+pub version_taken : (old mid : Option (List ℕ)) (bytes line : List ℕ) → bytes ≡ codes "ACE 1" → bytes ≡ line → Consumes old mid (line_text line) → Consumes old mid (line_text (codes "ACE 1"))
+version_taken old mid bytes line version is taken = subst (λ (l : List ℕ). Consumes old mid (line_text l)) (sym is ∙ version) taken

@@ -1,0 +1,108 @@
+-- What takes a field from the front of a line is exact: it takes each text of the field, and nothing else.
+use Rattle.std.proofs.Common.{◌≡◌, ◌≢◌, ℕ, ◌+◌, ◌≤◌, List, [], ◌∷◌, ◌++◌, length, Option, Some, None, refl, sym, ap, subst, ◌∙◌, arith, eqb, inl, inr}
+use Rattle.std.proofs.lemmas.Bool.{eqb-true}
+use Rattle.std.specs.Option.{option_and_then, option_map}
+use Rattle.std.specs.List.{AllByRecursion}
+use Rattle.std.proofs.lemmas.List.{append-nil, length-append}
+use Rattle.ace_grammar.specs.Fields.{Taker, space_at, whole, ended, ◌▹◌}
+use Rattle.ace_grammar.proofs.Options.{bind_some, map_some, some_is, none_isn't, chosen}
+
+-- no byte is a line feed
+abbrev pub IsClean : List ℕ → Type 0
+IsClean bytes = AllByRecursion (λ byte. byte ≢ 10) bytes
+
+pub clean-append : (a b : List ℕ) → IsClean a → IsClean b → IsClean (a ++ b)
+clean-append [] b p q = q
+clean-append (x ∷ a) b p q = (p.0, clean-append a b p.1 q)
+
+-- A field has a text for each value that it may have. None holds a line feed, and none is longer than size.
+pub record Takes {A : Type 0} (take_first : Taker A) (text : A → List ℕ) (IsIn : A → Type 0) (size : ℕ) : Type 0 where
+  pub takes : (bytes rest : List ℕ) (value : A) → take_first bytes ≡ Some (value, rest) → IsIn value × (bytes ≡ text value ++ rest)
+  pub again : (value : A) (rest : List ℕ) → IsIn value → take_first (text value ++ rest) ≡ Some (value, rest)
+  pub clean : (value : A) → IsClean (text value)
+  pub short : (value : A) → length (text value) ≤ size
+
+-- the same of what is read from all of the bytes
+pub record ReadsAll {A : Type 0} (read : List ℕ → Option A) (text : A → List ℕ) (IsIn : A → Type 0) (size : ℕ) : Type 0 where
+  pub takes : (bytes : List ℕ) (value : A) → read bytes ≡ Some value → IsIn value × (bytes ≡ text value)
+  pub again : (value : A) → IsIn value → read (text value) ≡ Some value
+  pub clean : (value : A) → IsClean (text value)
+  pub short : (value : A) → length (text value) ≤ size
+
+space_takes : (bytes rest : List ℕ) → space_at bytes ≡ Some rest → bytes ≡ 32 ∷ rest
+unfolding space_at
+space_takes [] rest e = none_isn't rest _ e
+space_takes (byte ∷ bytes) rest e =
+    elim (chosen (eqb byte 32) (Some bytes) None (Some rest) e) [
+      | inl p ↦ ap (λ b. b ∷ bytes) (eqb-true byte 32 p.0) ∙ ap (λ (l : List ℕ). 32 ∷ l) (some_is bytes rest p.1)
+      | inr p ↦ none_isn't rest _ p.1
+    ]
+
+space_again : (bytes : List ℕ) → space_at (32 ∷ bytes) ≡ Some bytes
+unfolding space_at
+space_again bytes = refl
+
+-- the space before a field
+pub takes_spaced : {A : Type 0} (take_first : Taker A) (text : A → List ℕ) (IsIn : A → Type 0) (size : ℕ) → Takes take_first text IsIn size
+    → Takes (λ bytes. option_and_then take_first (space_at bytes)) (λ value. 32 ∷ text value) IsIn (size + 1)
+takes_spaced take_first text IsIn size f = record {
+  takes = λ bytes rest value e.
+  let step = bind_some (space_at bytes) take_first (value, rest) e in
+  let inner = f.takes step.0 rest value step.2 in
+  (inner.0, space_takes bytes step.0 step.1 ∙ ap (λ (l : List ℕ). 32 ∷ l) inner.1);
+  again = λ value rest h. ap (option_and_then take_first) (space_again (text value ++ rest)) ∙ f.again value rest h;
+  clean = λ value. ((λ e. absurd (omega (arith, e))), f.clean value);
+  short = λ value. omega (arith, f.short value);
+}
+
+pub reads_spaced : {A : Type 0} (read : List ℕ → Option A) (text : A → List ℕ) (IsIn : A → Type 0) (size : ℕ) → ReadsAll read text IsIn size
+    → ReadsAll (λ bytes. option_and_then read (space_at bytes)) (λ value. 32 ∷ text value) IsIn (size + 1)
+reads_spaced read text IsIn size f = record {
+  takes = λ bytes value e.
+  let step = bind_some (space_at bytes) read value e in
+  let inner = f.takes step.0 value step.2 in
+  (inner.0, space_takes bytes step.0 step.1 ∙ ap (λ (l : List ℕ). 32 ∷ l) inner.1);
+  again = λ value h. ap (option_and_then read) (space_again (text value)) ∙ f.again value h;
+  clean = λ value. ((λ e. absurd (omega (arith, e))), f.clean value);
+  short = λ value. omega (arith, f.short value);
+}
+
+ended_takes : {A : Type 0} (first value : A) (rest : List ℕ) → ended first rest ≡ Some value → (first ≡ value) × (rest ≡ [])
+ended_takes first value [] e = (some_is first value e, refl)
+ended_takes first value (byte ∷ rest) e = none_isn't value _ e
+
+-- a field, and the end
+pub reads_whole : {A : Type 0} (take_first : Taker A) (text : A → List ℕ) (IsIn : A → Type 0) (size : ℕ) → Takes take_first text IsIn size
+    → ReadsAll (whole take_first) text IsIn size
+reads_whole {A} take_first text IsIn size f = record {
+  takes = λ bytes value e.
+  let step = bind_some (take_first bytes) (λ first. ended first.0 first.1) value e in
+  let inner = f.takes bytes step.0.1 step.0.0 step.1 in
+  let last = ended_takes step.0.0 value step.0.1 step.2 in
+  (subst IsIn last.0 inner.0, inner.1 ∙ ap (λ (l : List ℕ). text step.0.0 ++ l) last.1 ∙ append-nil (text step.0.0) ∙ ap text last.0);
+  again = λ value h.
+  ap (λ (l : List ℕ). whole take_first l) (sym (append-nil (text value)))
+  ∙ ap (option_and_then (λ first. ended first.0 first.1)) (f.again value [] h);
+  clean = f.clean;
+  short = f.short;
+}
+
+-- a field, and what follows
+pub reads_then : {A B : Type 0} (take_first : Taker A) (text : A → List ℕ) (IsIn : A → Type 0) (size : ℕ)
+    (read : List ℕ → Option B) (after : B → List ℕ) (IsAfter : B → Type 0) (more : ℕ)
+    → Takes take_first text IsIn size → ReadsAll read after IsAfter more
+    → ReadsAll (take_first ▹ read) (λ both. text both.0 ++ after both.1) (λ both. IsIn both.0 × IsAfter both.1) (size + more)
+reads_then {A} {B} take_first text IsIn size read after IsAfter more f g = record {
+  takes = λ bytes both e.
+  let step = bind_some (take_first bytes) (λ first. option_map (λ rest. (first.0, rest)) (read first.1)) both e in
+  let next = map_some (read step.0.1) (λ rest. (step.0.0, rest)) both step.2 in
+  let front = f.takes bytes step.0.1 step.0.0 step.1 in
+  let back = g.takes step.0.1 next.0 next.1 in
+  subst (λ (b : A × B). (IsIn b.0 × IsAfter b.1) × (bytes ≡ text b.0 ++ after b.1)) next.2
+  ((front.0, back.0), front.1 ∙ ap (λ (l : List ℕ). text step.0.0 ++ l) back.1);
+  again = λ both h.
+  ap (option_and_then (λ first. option_map (λ rest. (first.0, rest)) (read first.1))) (f.again both.0 (after both.1) h.0)
+  ∙ ap (option_map (λ rest. (both.0, rest))) (g.again both.1 h.1);
+  clean = λ both. clean-append (text both.0) (after both.1) (f.clean both.0) (g.clean both.1);
+  short = λ both. rw length-append (omega (arith, f.short both.0, g.short both.1));
+}

@@ -1,0 +1,179 @@
+-- The fields of a line: what takes each is exact.
+use Rattle.std.proofs.Common.{◌≡◌, ◌≢◌, ℕ, zero, suc, ◌+◌, ◌/◌, ◌%◌, ◌^◌, ◌<◌, ◌≤◌, Bool, true, false, List, [], ◌∷◌, ◌++◌, length, Option, Some, None, refl, sym, ap, subst, ◌∙◌, arith, eqb, inl, inr}
+use Rattle.std.proofs.lemmas.Bool.{eqb-true}
+use Rattle.std.specs.Prelude.{codes}
+use Rattle.std.specs.Option.{option_and_then, option_map}
+use Rattle.std.specs.Char.{digit_char}
+use Rattle.std.specs.Str.{bytes_eq}
+use Rattle.std.proofs.lemmas.Slice.Eq.{bytes_eq-Decides}
+use Rattle.ace_codes.specs.declared.state.LineState.{LineState}
+use Rattle.ace_codes.specs.declared.state.LineState.TheVariants.{I, UC, UD, SC, SD}
+use Rattle.ace_event.specs.declared.event.Channel.{Channel}
+use Rattle.ace_event.specs.declared.event.Channel.TheVariants.{Read, Write}
+use Rattle.ace_event.specs.Text.{hex_text, flag_text, channel_text, state_text}
+use Rattle.ace_grammar.specs.Fields.{digits_at, number_at, flag_at, channel_of, letter_at, channel_at, state_of, state_at}
+use Rattle.ace_grammar.proofs.Options.{bind_some, map_some, some_is, none_isn't, chosen}
+use Rattle.ace_grammar.proofs.Hex.{digit_char-clean, length-hex_text, digits_takes, digits_again}
+use Rattle.ace_grammar.proofs.Exact.{IsClean, clean-append, Takes, ReadsAll, takes_spaced, reads_spaced}
+
+hex_text-clean : (count number : ℕ) → IsClean (hex_text count number)
+unfolding hex_text
+hex_text-clean zero number = tt
+hex_text-clean (suc count) number = clean-append (hex_text count (number / 16)) (digit_char (number % 16) ∷ []) (hex_text-clean count (number / 16)) (digit_char-clean (number % 16), tt)
+
+digits_exact : (count most : ℕ) → most < 16 ^ count → Takes (digits_at count most) (hex_text count) (λ number. number ≤ most) count
+digits_exact count most room = record {
+  takes = λ bytes rest number e. digits_takes count most bytes rest number e;
+  again = λ number rest h. digits_again count most number rest room h;
+  clean = hex_text-clean count;
+  short = λ number. omega (arith, length-hex_text count number);
+}
+
+pub number_exact : (count most : ℕ) → most < 16 ^ count → Takes (number_at count most) (λ number. 32 ∷ hex_text count number) (λ number. number ≤ most) (count + 1)
+unfolding number_at
+number_exact count most room = takes_spaced (digits_at count most) (hex_text count) (λ number. number ≤ most) count (digits_exact count most room)
+
+-- every value of the type is in range
+abbrev pub Any : {A : Type 0} → A → Type 0
+Any value = Unit {0}
+
+bit_text : (bit : ℕ) → bit ≤ 1 → hex_text 1 bit ≡ flag_text (eqb bit 1)
+unfolding hex_text
+bit_text zero h = refl
+bit_text (suc zero) h = refl
+bit_text (suc (suc n)) h = absurd (omega arith)
+
+flag_bit : (flag : Bool) → (bit : ℕ) × (bit ≤ 1) × (eqb bit 1 ≡ flag)
+flag_bit false = (0, omega arith, refl)
+flag_bit true = (1, omega arith, refl)
+
+flag_text-clean : (flag : Bool) → IsClean (flag_text flag)
+flag_text-clean false = ((λ e. absurd (omega (arith, e))), tt)
+flag_text-clean true = ((λ e. absurd (omega (arith, e))), tt)
+
+flag_text-short : (flag : Bool) → length (flag_text flag) ≤ 1
+flag_text-short false = omega arith
+flag_text-short true = omega arith
+
+one_digit : 1 < 16 ^ 1
+one_digit = omega arith
+
+flag_takes : (bytes rest : List ℕ) (flag : Bool) → flag_at bytes ≡ Some (flag, rest) → bytes ≡ 32 ∷ flag_text flag ++ rest
+unfolding flag_at
+flag_takes bytes rest flag e =
+    let step = map_some (number_at 1 1 bytes) (λ bit. (eqb bit.0 1, bit.1)) (flag, rest) e in
+    let bit = (number_exact 1 1 one_digit).takes bytes step.0.1 step.0.0 step.1 in
+    let text = bit_text step.0.0 bit.0 in
+    bit.1 ∙ ap (λ (l : List ℕ). 32 ∷ l ++ step.0.1) text ∙ ap (λ (x : Bool × List ℕ). 32 ∷ flag_text x.0 ++ x.1) step.2
+
+flag_again : (flag : Bool) (rest : List ℕ) → flag_at (32 ∷ flag_text flag ++ rest) ≡ Some (flag, rest)
+unfolding flag_at
+flag_again flag rest =
+    let bit = flag_bit flag in
+    let text : hex_text 1 bit.0 ≡ flag_text flag = bit_text bit.0 bit.1 ∙ ap flag_text bit.2 in
+    let told : number_at 1 1 (32 ∷ flag_text flag ++ rest) ≡ Some (bit.0, rest) =
+    ap (λ (l : List ℕ). number_at 1 1 (32 ∷ l ++ rest)) (sym text) ∙ (number_exact 1 1 one_digit).again bit.0 rest bit.1 in
+    ap (option_map (λ bit. (eqb bit.0 1, bit.1))) told ∙ ap (λ b. Some (b, rest)) bit.2
+
+pub flag_exact : Takes flag_at (λ flag. 32 ∷ flag_text flag) Any 2
+flag_exact = record {
+  takes = λ bytes rest flag e. (tt, flag_takes bytes rest flag e);
+  again = λ flag rest h. flag_again flag rest;
+  clean = λ flag. ((λ e. absurd (omega (arith, e))), flag_text-clean flag);
+  short = λ flag. omega (arith, flag_text-short flag);
+}
+
+letter_takes : (byte : ℕ) (channel : Channel) → channel_of byte ≡ Some channel → byte ∷ [] ≡ channel_text channel
+letter_takes byte channel e =
+    elim (chosen (eqb byte 82) (Some Read) _ (Some channel) e) [
+      | inl p ↦ ap (λ b. b ∷ []) (eqb-true byte 82 p.0) ∙ ap channel_text (some_is Read channel p.1)
+      | inr q ↦
+        elim (chosen (eqb byte 87) (Some Write) None (Some channel) q.1) [
+          | inl p ↦ ap (λ b. b ∷ []) (eqb-true byte 87 p.0) ∙ ap channel_text (some_is Write channel p.1)
+          | inr p ↦ none_isn't channel _ p.1
+        ]
+    ]
+
+channel_takes : (bytes rest : List ℕ) (channel : Channel) → letter_at bytes ≡ Some (channel, rest) → bytes ≡ channel_text channel ++ rest
+unfolding letter_at
+channel_takes [] rest channel e = none_isn't (channel, rest) _ e
+channel_takes (byte ∷ bytes) rest channel e =
+    let step = map_some (channel_of byte) (λ c. (c, bytes)) (channel, rest) e in
+    ap (λ (l : List ℕ). l ++ bytes) (letter_takes byte step.0 step.1) ∙ ap (λ (x : Channel × List ℕ). channel_text x.0 ++ x.1) step.2
+
+channel_again : (channel : Channel) (rest : List ℕ) → letter_at (channel_text channel ++ rest) ≡ Some (channel, rest)
+unfolding letter_at
+channel_again Read rest = refl
+channel_again Write rest = refl
+
+channel_text-clean : (channel : Channel) → IsClean (channel_text channel)
+channel_text-clean Read = ((λ e. absurd (omega (arith, e))), tt)
+channel_text-clean Write = ((λ e. absurd (omega (arith, e))), tt)
+
+channel_text-short : (channel : Channel) → length (channel_text channel) ≤ 1
+channel_text-short Read = omega arith
+channel_text-short Write = omega arith
+
+letter_exact : Takes letter_at channel_text Any 1
+letter_exact = record {
+  takes = λ bytes rest channel e. (tt, channel_takes bytes rest channel e);
+  again = λ channel rest h. channel_again channel rest;
+  clean = channel_text-clean;
+  short = channel_text-short;
+}
+
+pub channel_exact : Takes channel_at (λ channel. 32 ∷ channel_text channel) Any 2
+unfolding channel_at
+channel_exact = takes_spaced letter_at channel_text Any 1 letter_exact
+
+state_takes : (bytes : List ℕ) (st : LineState) → state_of bytes ≡ Some st → bytes ≡ state_text st
+state_takes bytes st e =
+    elim (chosen (bytes_eq bytes (codes "I")) (Some I) _ (Some st) e) [
+      | inl p ↦ (bytes_eq-Decides bytes (codes "I")).0 p.0 ∙ ap state_text (some_is I st p.1)
+      | inr q ↦
+    elim (chosen (bytes_eq bytes (codes "UC")) (Some UC) _ (Some st) q.1) [
+      | inl p ↦ (bytes_eq-Decides bytes (codes "UC")).0 p.0 ∙ ap state_text (some_is UC st p.1)
+      | inr q ↦
+    elim (chosen (bytes_eq bytes (codes "UD")) (Some UD) _ (Some st) q.1) [
+      | inl p ↦ (bytes_eq-Decides bytes (codes "UD")).0 p.0 ∙ ap state_text (some_is UD st p.1)
+      | inr q ↦
+    elim (chosen (bytes_eq bytes (codes "SC")) (Some SC) _ (Some st) q.1) [
+      | inl p ↦ (bytes_eq-Decides bytes (codes "SC")).0 p.0 ∙ ap state_text (some_is SC st p.1)
+      | inr q ↦
+    elim (chosen (bytes_eq bytes (codes "SD")) (Some SD) None (Some st) q.1) [
+      | inl p ↦ (bytes_eq-Decides bytes (codes "SD")).0 p.0 ∙ ap state_text (some_is SD st p.1)
+      | inr q ↦ none_isn't st _ q.1
+    ] ] ] ] ]
+
+state_again : (st : LineState) → state_of (state_text st) ≡ Some st
+state_again I = refl
+state_again UC = refl
+state_again UD = refl
+state_again SC = refl
+state_again SD = refl
+
+state_text-clean : (st : LineState) → IsClean (state_text st)
+state_text-clean I = ((λ e. absurd (omega (arith, e))), tt)
+state_text-clean UC = ((λ e. absurd (omega (arith, e))), ((λ e. absurd (omega (arith, e))), tt))
+state_text-clean UD = ((λ e. absurd (omega (arith, e))), ((λ e. absurd (omega (arith, e))), tt))
+state_text-clean SC = ((λ e. absurd (omega (arith, e))), ((λ e. absurd (omega (arith, e))), tt))
+state_text-clean SD = ((λ e. absurd (omega (arith, e))), ((λ e. absurd (omega (arith, e))), tt))
+
+state_text-short : (st : LineState) → length (state_text st) ≤ 2
+state_text-short I = omega arith
+state_text-short UC = omega arith
+state_text-short UD = omega arith
+state_text-short SC = omega arith
+state_text-short SD = omega arith
+
+word_exact : ReadsAll state_of state_text Any 2
+word_exact = record {
+  takes = λ bytes st e. (tt, state_takes bytes st e);
+  again = λ st h. state_again st;
+  clean = state_text-clean;
+  short = state_text-short;
+}
+
+pub state_exact : ReadsAll state_at (λ st. 32 ∷ state_text st) Any 3
+unfolding state_at
+state_exact = reads_spaced state_of state_text Any 2 word_exact

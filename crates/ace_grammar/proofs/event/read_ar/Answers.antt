@@ -1,0 +1,17 @@
+use Rattle.ace_grammar.specs.Records.{ar_fields}
+use Rattle.ace_grammar.proofs.Ended.{map_ended}
+use Rattle.ace_grammar.proofs.event.read_ar.Goals as goal
+
+pub returns : goal.returns
+unfolding ar_fields
+returns c =
+    rw (
+      ← c.in_ok-port.ensures.value,
+      ← c.in_ok-id.ensures.value,
+      ← c.in_ok-addr.ensures.value,
+      ← c.in_ok-snoop.ensures.value,
+      ← c.in_ok-dom.ensures.value,
+      ← c.in_ok-bar.ensures.value,
+      ← c.in_ok-lock.ensures,
+      c.at_end.ensures
+    ) (simp map_ended)

@@ -1,0 +1,132 @@
+// Fields, from the front of a line. Each comes with the space before it.
+ghost use Rattle.std.specs.Prelude.{◌≡◌, ◌≤◌, ◌^◌, ◌<◌, length, IfSome};
+ghost use Rattle.std.specs.Option.{option_map};
+ghost use Rattle.ace_grammar.specs.Fields.{digit_of, digits_onto, space_at, digits_at, number_at, flag_at, letter_at, channel_at, state_of, state_at, ended};
+
+use ace_codes::LineState;
+use ace_event::Channel;
+
+/// The value of a lower-case hexadecimal digit.
+fn digit_of(byte: u8) -> Option<u8>
+    ensures value { result ≡ digit_of byte }
+    ensures below { IfSome result (λ digit. digit < 16) }
+{
+    match byte {
+        b'0'..=b'9' => Some(byte - b'0'),
+        b'a'..=b'f' => Some(byte - b'a' + 10),
+        _ => None,
+    }
+}
+
+/// The number that these digits write, of which there are at most 32.
+fn number_of(digits: &[u8]) -> Option<u128>
+    requires { length digits.now ≤ 32 }
+    ensures { result ≡ digits_onto 0 digits.now }
+{
+    let mut number = 0;
+    for byte in digits {
+        number = number * 16 + u128::from(digit_of(*byte)?);
+    }
+    Some(number)
+}
+
+#[tactic(auto, unfolding(crate::specs::Fields::space_at))]
+fn take_space(bytes: &[u8]) -> Option<&[u8]>
+    ensures { option_map (λ rest. rest.now) result ≡ space_at bytes.now }
+{
+    match bytes {
+        [b' ', rest @ ..] => Some(rest),
+        _ => None,
+    }
+}
+
+#[tactic(auto, unfolding(crate::specs::Fields::digits_at))]
+fn take_digits(bytes: &[u8], count: usize, most: u128) -> Option<(u128, &[u8])>
+    requires { count ≤ 32 }
+    ensures value { option_map (λ x. (x.0, x.1.now)) result ≡ digits_at count most bytes.now }
+    ensures bound { IfSome result (λ x. x.0 ≤ most) }
+{
+    if bytes.len() < count {
+        return None;
+    }
+    let (digits, rest) = bytes.split_at(count);
+    let number = number_of(digits)?;
+    if number > most {
+        return None;
+    }
+    Some((number, rest))
+}
+
+/// A number of so many digits, which is at most `most`.
+#[tactic(auto, unfolding(crate::specs::Fields::number_at))]
+pub fn take_number(bytes: &[u8], count: usize, most: u128) -> Option<(u128, &[u8])>
+    requires { count ≤ 32 }
+    ensures value { option_map (λ x. (x.0, x.1.now)) result ≡ number_at count most bytes.now }
+    ensures bound { IfSome result (λ x. x.0 ≤ most) }
+{
+    take_digits(take_space(bytes)?, count, most)
+}
+
+/// A flag: `0` or `1`.
+#[tactic(auto, unfolding(crate::specs::Fields::flag_at))]
+pub fn take_flag(bytes: &[u8]) -> Option<(bool, &[u8])>
+    ensures { option_map (λ x. (x.0, x.1.now)) result ≡ flag_at bytes.now }
+{
+    let (bit, rest) = take_number(bytes, 1, 1)?;
+    Some((bit == 1, rest))
+}
+
+#[tactic(auto, unfolding(crate::specs::Fields::letter_at))]
+fn take_letter(bytes: &[u8]) -> Option<(Channel, &[u8])>
+    ensures { option_map (λ x. (x.0, x.1.now)) result ≡ letter_at bytes.now }
+{
+    match bytes {
+        [b'R', rest @ ..] => Some((Channel::Read, rest)),
+        [b'W', rest @ ..] => Some((Channel::Write, rest)),
+        _ => None,
+    }
+}
+
+/// A channel: `R` or `W`.
+#[tactic(auto, unfolding(crate::specs::Fields::channel_at))]
+pub fn take_channel(bytes: &[u8]) -> Option<(Channel, &[u8])>
+    ensures { option_map (λ x. (x.0, x.1.now)) result ≡ channel_at bytes.now }
+{
+    take_letter(take_space(bytes)?)
+}
+
+fn state_of(bytes: &[u8]) -> Option<LineState>
+    ensures { result ≡ state_of bytes.now }
+{
+    if bytes == b"I".as_slice() {
+        Some(LineState::I)
+    } else if bytes == b"UC".as_slice() {
+        Some(LineState::UC)
+    } else if bytes == b"UD".as_slice() {
+        Some(LineState::UD)
+    } else if bytes == b"SC".as_slice() {
+        Some(LineState::SC)
+    } else if bytes == b"SD".as_slice() {
+        Some(LineState::SD)
+    } else {
+        None
+    }
+}
+
+/// A state, which is the last field of its line.
+#[tactic(auto, unfolding(crate::specs::Fields::state_at))]
+pub fn take_state(bytes: &[u8]) -> Option<LineState>
+    ensures { result ≡ state_at bytes.now }
+{
+    state_of(take_space(bytes)?)
+}
+
+/// The value, where no bytes are left.
+pub fn at_end<A: Drop>(value: A, bytes: &[u8]) -> Option<A>
+    ensures { result ≡ ended value bytes.now }
+{
+    match bytes {
+        [] => Some(value),
+        _ => None,
+    }
+}
