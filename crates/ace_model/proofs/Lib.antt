@@ -1,2 +1,4 @@
 pub mod Kept
 pub mod Acceptance
+pub mod Least
+pub mod FirstBreak
