@@ -1,6 +1,7 @@
 //! Looks at the state of a line at a port, and at whether the snoops of a granted transaction are done.
 
 ghost use Rattle.std.specs.Prelude.{◌≡◌, reverse, false, if◌then◌else◌, ◌&&◌};
+ghost use Rattle.ace_model.specs.Trace.{is_some_and};
 ghost use Rattle.ace_model.specs.Grants.{each_port};
 ghost use Rattle.ace_model.specs.States.{awaits_store, is_in_make_unique, left_by, state_of, is_store_of, has_store, awaits_wack, owes_wack, is_port_done, are_snoops_done};
 
@@ -10,7 +11,7 @@ use crate::snoops::answers_line;
 use crate::tables::is_invalid;
 use crate::transactions::{
     acknowledged, is_ace, is_complete, is_make_unique_on, is_named, is_outstanding,
-    is_outstanding_on, is_read, is_some_on, issued, snoop_of, transaction_of,
+    is_outstanding_on, is_read, is_some_on, issued, outstanding, snoop_of,
 };
 use ace_codes::LineState;
 use ace_event::{Channel, Event, Header};
@@ -81,15 +82,22 @@ pub fn state_of(h: &Header, past: &[Event], p: u8, l: u32) -> LineState
     st
 }
 
+fn awaits_its_store(h: &Header, past: &[Event], p: u8, l: u32, x: Option<Transaction>) -> bool
+    ensures { result ≡ is_some_and x (awaits_store h.now (reverse past.now) p l) }
+{
+    match x {
+        None => false,
+        Some(y) => awaits_store(h, past, p, l, y),
+    }
+}
+
 /// The event is the store of the port's MakeUnique under the identifier.
 fn is_store_of(h: &Header, past: &[Event], e: &Event, p: u8, i: u8) -> bool
     ensures { result ≡ is_store_of h.now (reverse past.now) e.now p i }
 {
     match *e {
         Event::D { port, addr, .. } => {
-            p == port
-                && is_in_make_unique(h, past, p, addr)
-                && is_some_on(transaction_of(past, p, Channel::Read, i), addr)
+            p == port && awaits_its_store(h, past, p, addr, outstanding(h, past, p, Channel::Read, i))
         }
         _ => false,
     }

@@ -12,7 +12,7 @@ KeepsAll [] h past e = Unit {0}
 KeepsAll (r ∷ rs) h past e = (r.keeps h past e ≡ true) × (KeepsAll rs h past e)
 
 -- where the least broken one is none, the first is kept, and none of the others is broken
-kept_first : (k : Bool) (n : ℕ) (rest : Option ℕ) → (if k then rest else Some n) ≡ None → (k ≡ true) × (rest ≡ None)
+pub kept_first : (k : Bool) (n : ℕ) (rest : Option ℕ) → (if k then rest else Some n) ≡ None → (k ≡ true) × (rest ≡ None)
 kept_first true n rest none = (refl, none)
 kept_first false n rest none = cc
 

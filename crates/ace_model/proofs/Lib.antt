@@ -1,6 +1,8 @@
 pub mod Acceptance
+pub mod FirstBreak
 pub mod Issued
 pub mod Kept
+pub mod Least
 pub mod Looks
 pub mod Places
 pub mod UniqueAcknowledge

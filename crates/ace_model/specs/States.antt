@@ -9,7 +9,7 @@ use Rattle.ace_event.specs.declared.event.Event.TheVariants.{Rk, Wk, Cr, S, D}
 use Rattle.ace_model.specs.declared.transactions.Transaction.{Transaction}
 use Rattle.ace_model.specs.Trace.{Trace, is_some_and}
 use Rattle.ace_model.specs.Tables.{is_invalid}
-use Rattle.ace_model.specs.Transactions.{is_ace, is_read, is_named, is_some_on, is_make_unique_on, snoop_of, issued, acknowledged, is_outstanding, is_outstanding_on, is_complete, some_issued, transaction_of}
+use Rattle.ace_model.specs.Transactions.{is_ace, is_read, is_named, is_some_on, is_make_unique_on, snoop_of, issued, acknowledged, is_outstanding, is_outstanding_on, is_complete, some_issued, outstanding}
 use Rattle.ace_model.specs.Snoops.{answers_line}
 use Rattle.ace_model.specs.Grants.{was_snooped, owes_answer, owes_data, each_port}
 use Rattle.ace_model.specs.Exclusives.{has_failed}
@@ -40,7 +40,7 @@ state_of h (e ∷ past) p l = unwrap_or (left_by h past e p l) (state_of h past 
 -- the event is the store of the port's MakeUnique under the identifier
 abbrev pub is_store_of : Header → Trace → Event → ℕ → ℕ → Bool
 is_store_of h past (D q addr strobe x line) p i =
-    (p == q) && is_in_make_unique h past p addr && is_some_on (transaction_of past p Read i) addr
+    (p == q) && is_some_and (outstanding h past p Read i) (awaits_store h past p addr)
 is_store_of h past _ p i = false
 
 -- the port's last read under the identifier, a MakeUnique, has had its D

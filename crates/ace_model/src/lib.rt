@@ -2,6 +2,7 @@
 #![tactic(auto)]
 
 mod breaks;
+pub mod laws;
 pub mod rows;
 mod snoops;
 mod transactions;
