@@ -1,6 +1,7 @@
 -- The same bytes are cut in one way. Here l and m are two first lines of them, and r and s what is left after each.
 use Rattle.std.proofs.Common.{◌≡◌, ◌≢◌, ℕ, ◌<◌, ◌≤◌, ◌+◌, List, [], ◌∷◌, ◌++◌, length, get_or, drop, Option, None, Some, arith, ap, refl, sym, ◌∙◌, subst}
 use Rattle.std.proofs.lemmas.Grind.{common_steps}
+use Rattle.std.proofs.lemmas.List.{append_assoc}
 use Rattle.std.proofs.lemmas.List.Elements.{All-head, All-tail}
 use Rattle.ace_io.specs.Line.{HasNoLf, CutsLine}
 use Rattle.ace_io.specs.declared.line_buf.LineEnd.{LineEnd}
@@ -92,3 +93,9 @@ one_cutting b l m e f rest1 rest2 p c q d =
     let same : (l ≡ m) × (e ≡ f) × (told1.0 ≡ told2.0) =
     cuttings b l m told1.0 told2.0 e f p (subst (λ rest. CutsLine (Some b) l e rest) told1.1 c) q (subst (λ rest. CutsLine (Some b) m f rest) told2.1 d) in
     (same.0, same.1, told1.1 ∙ ap (λ r. Some r) same.2 ∙ sym told2.1)
+
+-- a line of fewer than 256 bytes before its line feed is cut whole
+pub whole_line_cut : (line rest cut : List ℕ) (end : LineEnd) (left : Option (List ℕ)) → HasNoLf line → length line < 256
+    → HasNoLf cut → CutsLine (Some (line ++ 10 ∷ rest)) cut end left → (cut ≡ line) × (end ≡ Whole) × (left ≡ Some rest)
+whole_line_cut line rest cut end left p short q c =
+    one_cutting (line ++ 10 ∷ rest) cut line end Whole left (Some rest) q c p (short, sym (append_assoc line (10 ∷ []) rest))
