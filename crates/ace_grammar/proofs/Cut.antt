@@ -1,9 +1,8 @@
 -- Lines that stand at the front of the bytes, against those that a reader cuts.
-use Rattle.std.proofs.Common.{◌≡◌, ◌≢◌, ℕ, zero, suc, ◌+◌, ◌<◌, ◌≤◌, List, [], ◌∷◌, ◌++◌, length, Option, Some, None, refl, sym, ap, subst, ◌∙◌, arith, inl, inr, ◌⊎◌, append_assoc}
-use Rattle.std.specs.Prelude.{codes, All}
-use Rattle.std.specs.List.{AllByRecursion}
+use Rattle.std.proofs.Common.{◌≡◌, ◌≢◌, ℕ, ◌<◌, List, [], ◌∷◌, ◌++◌, length, Option, Some, None, refl, sym, ap, subst, ◌∙◌, arith, inl, inr, ◌⊎◌, append_assoc}
+use Rattle.std.specs.Prelude.{codes}
 use Rattle.std.specs.Io.KnownBytes.{Consumes, IsAtEnd}
-use Rattle.std.proofs.lemmas.List.{append-nil, length-append, length-replicate}
+use Rattle.std.proofs.lemmas.List.{length-replicate}
 use Rattle.std.proofs.lemmas.List.Elements.{recursion_from_All, All-from_recursion, All-replicate}
 use Rattle.std.proofs.Math.ListN.{replicate}
 use Rattle.std.proofs.lemmas.Bool.{cases_lt}
@@ -13,7 +12,7 @@ use Rattle.ace_io.specs.Line.{HasNoLf}
 use Rattle.ace_event.specs.declared.event.Event.{Event}
 use Rattle.ace_event.specs.declared.header.Header.{Header}
 use Rattle.ace_event.specs.Text.{event_text, line_text, header_text}
-use Rattle.ace_grammar.specs.Reading.{IsReadable, IsReadableHeader, BeginsWith, HasBadLine, HasBadHeader, IfTold, ports_text}
+use Rattle.ace_grammar.specs.Reading.{IsReadable, IsReadableHeader, HasBadLine, HasBadHeader, IfTold, ports_text}
 use Rattle.ace_grammar.specs.Lines.{HasNoLine}
 use Rattle.ace_grammar.proofs.Exact.{IsClean, clean-append}
 use Rattle.ace_grammar.proofs.Letters.{readable_letters, readable_count}
@@ -69,8 +68,8 @@ other_line_is_bad (Some xs) None line clean other c = absurd c
 other_line_is_bad (Some xs) (Some ys) line clean other c = (
   λ e. not_empty line ys (sym c ∙ e),
   λ event h begins.
-  let same = same_line (event_text event) line begins.0 ys (event_clean event h) (clean_line line clean) (sym begins.1 ∙ c) in
-  other event h same.0,
+      let same = same_line (event_text event) line begins.0 ys (event_clean event h) (clean_line line clean) (sym begins.1 ∙ c) in
+      other event h same.0,
 )
 
 -- a line without its line feed
@@ -81,7 +80,7 @@ cut_line_is_bad (Some xs) None line clean some end c = absurd c
 cut_line_is_bad (Some xs) (Some ys) line clean some end c = (
   λ e. some_left line ys some (sym c ∙ e),
   λ event h begins.
-  no_line line ys (event_text event) begins.0 (clean_line line clean) (far line ys (event_text event) (event_short event h) end) (sym c ∙ begins.1),
+      no_line line ys (event_text event) begins.0 (clean_line line clean) (far line ys (event_text event) (event_short event h) end) (sym c ∙ begins.1),
 )
 
 -- ---- lines of the header
