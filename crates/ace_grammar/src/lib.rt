@@ -11,3 +11,6 @@ pub use error::ReadErr;
 pub use event::parse_event;
 pub use header::{is_version_line, parse_ports};
 pub use reader::{read_event, read_header};
+
+#[cfg(test)]
+mod tests;
