@@ -50,7 +50,7 @@ far : (line : List ℕ) (rest : List ℕ) (text : List ℕ) → length text < 25
 far line rest text short end =
     elim (cases_lt (length line) 256) [ inl lt ↦ inr (end lt) | inr le ↦ inl (omega arith) ]
 
-not_empty : (line x : List ℕ) → (line ++ 10 ∷ []) ++ x ≢ []
+pub not_empty : (line x : List ℕ) → (line ++ 10 ∷ []) ++ x ≢ []
 not_empty [] x e = absurd cc
 not_empty (c ∷ line) x e = absurd cc
 
@@ -108,7 +108,7 @@ letters_clean header h =
     let eleven : (n : ℕ) → n ≡ 65 → n ≢ 10 = λ n e f. omega arith in
     subst IsClean (sym (readable_letters header h.1)) (recursion_from_All (λ b. b ≢ 10) (replicate header.ports 65) (All-replicate (λ b. b ≢ 10) header.ports 65 (eleven 65 refl)))
 
-ports_clean : (header : Header) → IsReadableHeader header → IsClean (ports_text header)
+pub ports_clean : (header : Header) → IsReadableHeader header → IsClean (ports_text header)
 ports_clean header h = clean-append (codes "PORTS ") (port_letters header) (grind arith) (letters_clean header h)
 
 ports_short : (header : Header) → IsReadableHeader header → length (ports_text header) < 256
@@ -134,7 +134,7 @@ other_first_line (Some xs) (Some ys) line clean other c =
     other (same_line line (codes "ACE 1") ys (line_text (ports_text header) ++ begins.0) (clean_line line clean) version_clean (sym c ∙ header_lines xs begins.0 header begins.1)).0
 
 -- behind the first line the second one stands
-second_line : (xs ys rest : List ℕ) (header : Header) → xs ≡ line_text (codes "ACE 1") ++ ys → xs ≡ header_text header ++ rest → ys ≡ line_text (ports_text header) ++ rest
+pub second_line : (xs ys rest : List ℕ) (header : Header) → xs ≡ line_text (codes "ACE 1") ++ ys → xs ≡ header_text header ++ rest → ys ≡ line_text (ports_text header) ++ rest
 second_line xs ys rest header c e =
     (same_line (codes "ACE 1") (codes "ACE 1") ys (line_text (ports_text header) ++ rest) version_clean version_clean (sym c ∙ header_lines xs rest header e)).1
 

@@ -21,7 +21,7 @@ lite_isn't_ace : (P : Type 0) → Some Lite ≡ Some Ace → P
 lite_isn't_ace P e = absurd cc
 
 -- the bit of an ACE port
-ace_bit : (header : Header) (p : ℕ) → port_kind header p ≡ Some Ace → bit_at header.ace p ≡ 1
+pub ace_bit : (header : Header) (p : ℕ) → port_kind header p ≡ Some Ace → bit_at header.ace p ≡ 1
 ace_bit header p e =
     elim (chosen (ltb p header.ports) (Some (cond (eqb (bit_at header.ace p) 1) Ace Lite)) None (Some Ace) e) [
       | inl q ↦

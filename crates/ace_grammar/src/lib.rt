@@ -5,6 +5,7 @@ mod error;
 mod event;
 mod fields;
 mod header;
+pub mod laws;
 mod reader;
 
 pub use error::ReadErr;
