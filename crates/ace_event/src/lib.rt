@@ -3,6 +3,7 @@
 
 mod event;
 mod header;
+pub mod laws;
 mod line;
 
 pub use event::{Channel, Event, Outcome};

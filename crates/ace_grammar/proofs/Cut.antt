@@ -1,9 +1,8 @@
 -- Lines that stand at the front of the bytes, against those that a reader cuts.
-use Rattle.std.proofs.Common.{◌≡◌, ◌≢◌, ℕ, zero, suc, ◌+◌, ◌<◌, ◌≤◌, List, [], ◌∷◌, ◌++◌, length, Option, Some, None, refl, sym, ap, subst, ◌∙◌, arith, inl, inr, ◌⊎◌, append_assoc}
-use Rattle.std.specs.Prelude.{codes, All}
-use Rattle.std.specs.List.{AllByRecursion}
+use Rattle.std.proofs.Common.{◌≡◌, ◌≢◌, ℕ, ◌<◌, List, [], ◌∷◌, ◌++◌, length, Option, Some, None, refl, sym, ap, subst, ◌∙◌, arith, inl, inr, ◌⊎◌, append_assoc}
+use Rattle.std.specs.Prelude.{codes}
 use Rattle.std.specs.Io.KnownBytes.{Consumes, IsAtEnd}
-use Rattle.std.proofs.lemmas.List.{append-nil, length-append, length-replicate}
+use Rattle.std.proofs.lemmas.List.{length-replicate}
 use Rattle.std.proofs.lemmas.List.Elements.{recursion_from_All, All-from_recursion, All-replicate}
 use Rattle.std.proofs.Math.ListN.{replicate}
 use Rattle.std.proofs.lemmas.Bool.{cases_lt}
@@ -13,7 +12,7 @@ use Rattle.ace_io.specs.Line.{HasNoLf}
 use Rattle.ace_event.specs.declared.event.Event.{Event}
 use Rattle.ace_event.specs.declared.header.Header.{Header}
 use Rattle.ace_event.specs.Text.{event_text, line_text, header_text}
-use Rattle.ace_grammar.specs.Reading.{IsReadable, IsReadableHeader, BeginsWith, HasBadLine, HasBadHeader, IfTold, ports_text}
+use Rattle.ace_grammar.specs.Reading.{IsReadable, IsReadableHeader, HasBadLine, HasBadHeader, IfTold, ports_text}
 use Rattle.ace_grammar.specs.Lines.{HasNoLine}
 use Rattle.ace_grammar.proofs.Exact.{IsClean, clean-append}
 use Rattle.ace_grammar.proofs.Letters.{readable_letters, readable_count}
@@ -51,7 +50,7 @@ far : (line : List ℕ) (rest : List ℕ) (text : List ℕ) → length text < 25
 far line rest text short end =
     elim (cases_lt (length line) 256) [ inl lt ↦ inr (end lt) | inr le ↦ inl (omega arith) ]
 
-not_empty : (line x : List ℕ) → (line ++ 10 ∷ []) ++ x ≢ []
+pub not_empty : (line x : List ℕ) → (line ++ 10 ∷ []) ++ x ≢ []
 not_empty [] x e = absurd cc
 not_empty (c ∷ line) x e = absurd cc
 
@@ -69,8 +68,8 @@ other_line_is_bad (Some xs) None line clean other c = absurd c
 other_line_is_bad (Some xs) (Some ys) line clean other c = (
   λ e. not_empty line ys (sym c ∙ e),
   λ event h begins.
-  let same = same_line (event_text event) line begins.0 ys (event_clean event h) (clean_line line clean) (sym begins.1 ∙ c) in
-  other event h same.0,
+      let same = same_line (event_text event) line begins.0 ys (event_clean event h) (clean_line line clean) (sym begins.1 ∙ c) in
+      other event h same.0,
 )
 
 -- a line without its line feed
@@ -81,7 +80,7 @@ cut_line_is_bad (Some xs) None line clean some end c = absurd c
 cut_line_is_bad (Some xs) (Some ys) line clean some end c = (
   λ e. some_left line ys some (sym c ∙ e),
   λ event h begins.
-  no_line line ys (event_text event) begins.0 (clean_line line clean) (far line ys (event_text event) (event_short event h) end) (sym c ∙ begins.1),
+      no_line line ys (event_text event) begins.0 (clean_line line clean) (far line ys (event_text event) (event_short event h) end) (sym c ∙ begins.1),
 )
 
 -- ---- lines of the header
@@ -109,7 +108,7 @@ letters_clean header h =
     let eleven : (n : ℕ) → n ≡ 65 → n ≢ 10 = λ n e f. omega arith in
     subst IsClean (sym (readable_letters header h.1)) (recursion_from_All (λ b. b ≢ 10) (replicate header.ports 65) (All-replicate (λ b. b ≢ 10) header.ports 65 (eleven 65 refl)))
 
-ports_clean : (header : Header) → IsReadableHeader header → IsClean (ports_text header)
+pub ports_clean : (header : Header) → IsReadableHeader header → IsClean (ports_text header)
 ports_clean header h = clean-append (codes "PORTS ") (port_letters header) (grind arith) (letters_clean header h)
 
 ports_short : (header : Header) → IsReadableHeader header → length (ports_text header) < 256
@@ -135,7 +134,7 @@ other_first_line (Some xs) (Some ys) line clean other c =
     other (same_line line (codes "ACE 1") ys (line_text (ports_text header) ++ begins.0) (clean_line line clean) version_clean (sym c ∙ header_lines xs begins.0 header begins.1)).0
 
 -- behind the first line the second one stands
-second_line : (xs ys rest : List ℕ) (header : Header) → xs ≡ line_text (codes "ACE 1") ++ ys → xs ≡ header_text header ++ rest → ys ≡ line_text (ports_text header) ++ rest
+pub second_line : (xs ys rest : List ℕ) (header : Header) → xs ≡ line_text (codes "ACE 1") ++ ys → xs ≡ header_text header ++ rest → ys ≡ line_text (ports_text header) ++ rest
 second_line xs ys rest header c e =
     (same_line (codes "ACE 1") (codes "ACE 1") ys (line_text (ports_text header) ++ rest) version_clean version_clean (sym c ∙ header_lines xs rest header e)).1
 

@@ -47,9 +47,9 @@ pub takes_spaced : {A : Type 0} (take_first : Taker A) (text : A → List ℕ) (
     → Takes (λ bytes. option_and_then take_first (space_at bytes)) (λ value. 32 ∷ text value) IsIn (size + 1)
 takes_spaced take_first text IsIn size f = record {
   takes = λ bytes rest value e.
-  let step = bind_some (space_at bytes) take_first (value, rest) e in
-  let inner = f.takes step.0 rest value step.2 in
-  (inner.0, space_takes bytes step.0 step.1 ∙ ap (λ (l : List ℕ). 32 ∷ l) inner.1);
+      let step = bind_some (space_at bytes) take_first (value, rest) e in
+      let inner = f.takes step.0 rest value step.2 in
+      (inner.0, space_takes bytes step.0 step.1 ∙ ap (λ (l : List ℕ). 32 ∷ l) inner.1);
   again = λ value rest h. ap (option_and_then take_first) (space_again (text value ++ rest)) ∙ f.again value rest h;
   clean = λ value. ((λ e. absurd (omega (arith, e))), f.clean value);
   short = λ value. omega (arith, f.short value);
@@ -59,9 +59,9 @@ pub reads_spaced : {A : Type 0} (read : List ℕ → Option A) (text : A → Lis
     → ReadsAll (λ bytes. option_and_then read (space_at bytes)) (λ value. 32 ∷ text value) IsIn (size + 1)
 reads_spaced read text IsIn size f = record {
   takes = λ bytes value e.
-  let step = bind_some (space_at bytes) read value e in
-  let inner = f.takes step.0 value step.2 in
-  (inner.0, space_takes bytes step.0 step.1 ∙ ap (λ (l : List ℕ). 32 ∷ l) inner.1);
+      let step = bind_some (space_at bytes) read value e in
+      let inner = f.takes step.0 value step.2 in
+      (inner.0, space_takes bytes step.0 step.1 ∙ ap (λ (l : List ℕ). 32 ∷ l) inner.1);
   again = λ value h. ap (option_and_then read) (space_again (text value)) ∙ f.again value h;
   clean = λ value. ((λ e. absurd (omega (arith, e))), f.clean value);
   short = λ value. omega (arith, f.short value);
@@ -76,13 +76,13 @@ pub reads_whole : {A : Type 0} (take_first : Taker A) (text : A → List ℕ) (I
     → ReadsAll (whole take_first) text IsIn size
 reads_whole {A} take_first text IsIn size f = record {
   takes = λ bytes value e.
-  let step = bind_some (take_first bytes) (λ first. ended first.0 first.1) value e in
-  let inner = f.takes bytes step.0.1 step.0.0 step.1 in
-  let last = ended_takes step.0.0 value step.0.1 step.2 in
-  (subst IsIn last.0 inner.0, inner.1 ∙ ap (λ (l : List ℕ). text step.0.0 ++ l) last.1 ∙ append-nil (text step.0.0) ∙ ap text last.0);
+      let step = bind_some (take_first bytes) (λ first. ended first.0 first.1) value e in
+      let inner = f.takes bytes step.0.1 step.0.0 step.1 in
+      let last = ended_takes step.0.0 value step.0.1 step.2 in
+      (subst IsIn last.0 inner.0, inner.1 ∙ ap (λ (l : List ℕ). text step.0.0 ++ l) last.1 ∙ append-nil (text step.0.0) ∙ ap text last.0);
   again = λ value h.
-  ap (λ (l : List ℕ). whole take_first l) (sym (append-nil (text value)))
-  ∙ ap (option_and_then (λ first. ended first.0 first.1)) (f.again value [] h);
+      ap (λ (l : List ℕ). whole take_first l) (sym (append-nil (text value)))
+      ∙ ap (option_and_then (λ first. ended first.0 first.1)) (f.again value [] h);
   clean = f.clean;
   short = f.short;
 }
@@ -94,15 +94,15 @@ pub reads_then : {A B : Type 0} (take_first : Taker A) (text : A → List ℕ) (
     → ReadsAll (take_first ▹ read) (λ both. text both.0 ++ after both.1) (λ both. IsIn both.0 × IsAfter both.1) (size + more)
 reads_then {A} {B} take_first text IsIn size read after IsAfter more f g = record {
   takes = λ bytes both e.
-  let step = bind_some (take_first bytes) (λ first. option_map (λ rest. (first.0, rest)) (read first.1)) both e in
-  let next = map_some (read step.0.1) (λ rest. (step.0.0, rest)) both step.2 in
-  let front = f.takes bytes step.0.1 step.0.0 step.1 in
-  let back = g.takes step.0.1 next.0 next.1 in
-  subst (λ (b : A × B). (IsIn b.0 × IsAfter b.1) × (bytes ≡ text b.0 ++ after b.1)) next.2
-  ((front.0, back.0), front.1 ∙ ap (λ (l : List ℕ). text step.0.0 ++ l) back.1);
+      let step = bind_some (take_first bytes) (λ first. option_map (λ rest. (first.0, rest)) (read first.1)) both e in
+      let next = map_some (read step.0.1) (λ rest. (step.0.0, rest)) both step.2 in
+      let front = f.takes bytes step.0.1 step.0.0 step.1 in
+      let back = g.takes step.0.1 next.0 next.1 in
+      subst (λ (b : A × B). (IsIn b.0 × IsAfter b.1) × (bytes ≡ text b.0 ++ after b.1)) next.2
+      ((front.0, back.0), front.1 ∙ ap (λ (l : List ℕ). text step.0.0 ++ l) back.1);
   again = λ both h.
-  ap (option_and_then (λ first. option_map (λ rest. (first.0, rest)) (read first.1))) (f.again both.0 (after both.1) h.0)
-  ∙ ap (option_map (λ rest. (both.0, rest))) (g.again both.1 h.1);
+      ap (option_and_then (λ first. option_map (λ rest. (first.0, rest)) (read first.1))) (f.again both.0 (after both.1) h.0)
+      ∙ ap (option_map (λ rest. (both.0, rest))) (g.again both.1 h.1);
   clean = λ both. clean-append (text both.0) (after both.1) (f.clean both.0) (g.clean both.1);
   short = λ both. rw length-append (omega (arith, f.short both.0, g.short both.1));
 }

@@ -1,8 +1,8 @@
 -- The fields of a line: what takes each is exact.
-use Rattle.std.proofs.Common.{◌≡◌, ◌≢◌, ℕ, zero, suc, ◌+◌, ◌/◌, ◌%◌, ◌^◌, ◌<◌, ◌≤◌, Bool, true, false, List, [], ◌∷◌, ◌++◌, length, Option, Some, None, refl, sym, ap, subst, ◌∙◌, arith, eqb, inl, inr}
+use Rattle.std.proofs.Common.{◌≡◌, ℕ, zero, suc, ◌+◌, ◌/◌, ◌%◌, ◌^◌, ◌<◌, ◌≤◌, Bool, true, false, List, [], ◌∷◌, ◌++◌, length, Some, None, refl, sym, ap, ◌∙◌, arith, eqb, inl, inr}
 use Rattle.std.proofs.lemmas.Bool.{eqb-true}
 use Rattle.std.specs.Prelude.{codes}
-use Rattle.std.specs.Option.{option_and_then, option_map}
+use Rattle.std.specs.Option.{option_map}
 use Rattle.std.specs.Char.{digit_char}
 use Rattle.std.specs.Str.{bytes_eq}
 use Rattle.std.proofs.lemmas.Slice.Eq.{bytes_eq-Decides}
@@ -12,7 +12,7 @@ use Rattle.ace_event.specs.declared.event.Channel.{Channel}
 use Rattle.ace_event.specs.declared.event.Channel.TheVariants.{Read, Write}
 use Rattle.ace_event.specs.Text.{hex_text, flag_text, channel_text, state_text}
 use Rattle.ace_grammar.specs.Fields.{digits_at, number_at, flag_at, channel_of, letter_at, channel_at, state_of, state_at}
-use Rattle.ace_grammar.proofs.Options.{bind_some, map_some, some_is, none_isn't, chosen}
+use Rattle.ace_grammar.proofs.Options.{map_some, some_is, none_isn't, chosen}
 use Rattle.ace_grammar.proofs.Hex.{digit_char-clean, length-hex_text, digits_takes, digits_again}
 use Rattle.ace_grammar.proofs.Exact.{IsClean, clean-append, Takes, ReadsAll, takes_spaced, reads_spaced}
 
@@ -88,10 +88,10 @@ letter_takes byte channel e =
     elim (chosen (eqb byte 82) (Some Read) _ (Some channel) e) [
       | inl p ↦ ap (λ b. b ∷ []) (eqb-true byte 82 p.0) ∙ ap channel_text (some_is Read channel p.1)
       | inr q ↦
-        elim (chosen (eqb byte 87) (Some Write) None (Some channel) q.1) [
-          | inl p ↦ ap (λ b. b ∷ []) (eqb-true byte 87 p.0) ∙ ap channel_text (some_is Write channel p.1)
-          | inr p ↦ none_isn't channel _ p.1
-        ]
+          elim (chosen (eqb byte 87) (Some Write) None (Some channel) q.1) [
+            | inl p ↦ ap (λ b. b ∷ []) (eqb-true byte 87 p.0) ∙ ap channel_text (some_is Write channel p.1)
+            | inr p ↦ none_isn't channel _ p.1
+          ]
     ]
 
 channel_takes : (bytes rest : List ℕ) (channel : Channel) → letter_at bytes ≡ Some (channel, rest) → bytes ≡ channel_text channel ++ rest
@@ -131,19 +131,23 @@ state_takes bytes st e =
     elim (chosen (bytes_eq bytes (codes "I")) (Some I) _ (Some st) e) [
       | inl p ↦ (bytes_eq-Decides bytes (codes "I")).0 p.0 ∙ ap state_text (some_is I st p.1)
       | inr q ↦
-    elim (chosen (bytes_eq bytes (codes "UC")) (Some UC) _ (Some st) q.1) [
-      | inl p ↦ (bytes_eq-Decides bytes (codes "UC")).0 p.0 ∙ ap state_text (some_is UC st p.1)
-      | inr q ↦
-    elim (chosen (bytes_eq bytes (codes "UD")) (Some UD) _ (Some st) q.1) [
-      | inl p ↦ (bytes_eq-Decides bytes (codes "UD")).0 p.0 ∙ ap state_text (some_is UD st p.1)
-      | inr q ↦
-    elim (chosen (bytes_eq bytes (codes "SC")) (Some SC) _ (Some st) q.1) [
-      | inl p ↦ (bytes_eq-Decides bytes (codes "SC")).0 p.0 ∙ ap state_text (some_is SC st p.1)
-      | inr q ↦
-    elim (chosen (bytes_eq bytes (codes "SD")) (Some SD) None (Some st) q.1) [
-      | inl p ↦ (bytes_eq-Decides bytes (codes "SD")).0 p.0 ∙ ap state_text (some_is SD st p.1)
-      | inr q ↦ none_isn't st _ q.1
-    ] ] ] ] ]
+          elim (chosen (bytes_eq bytes (codes "UC")) (Some UC) _ (Some st) q.1) [
+            | inl p ↦ (bytes_eq-Decides bytes (codes "UC")).0 p.0 ∙ ap state_text (some_is UC st p.1)
+            | inr q ↦
+                elim (chosen (bytes_eq bytes (codes "UD")) (Some UD) _ (Some st) q.1) [
+                  | inl p ↦ (bytes_eq-Decides bytes (codes "UD")).0 p.0 ∙ ap state_text (some_is UD st p.1)
+                  | inr q ↦
+                      elim (chosen (bytes_eq bytes (codes "SC")) (Some SC) _ (Some st) q.1) [
+                        | inl p ↦ (bytes_eq-Decides bytes (codes "SC")).0 p.0 ∙ ap state_text (some_is SC st p.1)
+                        | inr q ↦
+                            elim (chosen (bytes_eq bytes (codes "SD")) (Some SD) None (Some st) q.1) [
+                              | inl p ↦ (bytes_eq-Decides bytes (codes "SD")).0 p.0 ∙ ap state_text (some_is SD st p.1)
+                              | inr q ↦ none_isn't st _ q.1
+                            ]
+                      ]
+                ]
+          ]
+    ]
 
 state_again : (st : LineState) → state_of (state_text st) ≡ Some st
 state_again I = refl

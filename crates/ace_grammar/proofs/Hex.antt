@@ -1,8 +1,7 @@
 -- Digits that are read are those of the number's text, and the text of a number is read as that number.
-use Rattle.std.proofs.Common.{◌≡◌, ◌≢◌, ℕ, zero, suc, ◌+◌, ◌-◌, ◌*◌, ◌/◌, ◌%◌, ◌^◌, ◌<◌, ◌≤◌, min, Bool, true, false, cond, leb, ltb, ◌&&◌, List, [], ◌∷◌, ◌++◌, length, take, drop, Option, Some, None, refl, sym, ap, ◌∙◌, arith, inl, inr, append_assoc}
+use Rattle.std.proofs.Common.{◌≡◌, ◌≢◌, ℕ, zero, suc, ◌+◌, ◌-◌, ◌*◌, ◌/◌, ◌%◌, ◌^◌, ◌<◌, ◌≤◌, cond, leb, ltb, ◌&&◌, List, [], ◌∷◌, ◌++◌, length, take, drop, Option, Some, None, refl, sym, ap, ◌∙◌, arith, inl, inr, append_assoc}
 use Rattle.std.specs.Option.{option_and_then}
 use Rattle.std.specs.Char.{digit_char}
-use Rattle.std.specs.List.{AllByRecursion}
 use Rattle.std.proofs.Math.Nat.{pow-suc}
 use Rattle.std.proofs.lemmas.Bool.{and_parts, and_from, and_right, cond-true, cond-false, leb-true, le-leb, lt-leb, cases_lt, lt-ltb, le-ltb, ltb-false}
 use Rattle.std.proofs.lemmas.List.{append-nil, length-append, take_at, drop_at, take-append-drop, length-take-le}
@@ -28,34 +27,34 @@ digit_takes : (byte digit : ℕ) → digit_of byte ≡ Some digit → (digit < 1
 digit_takes byte digit e =
     elim (chosen (leb 48 byte && leb byte 57) (Some (byte - 48)) _ (Some digit) e) [
       | inl p ↦
-        let both = and_parts (leb 48 byte) (leb byte 57) p.0 in
-        let low = leb-true 48 byte both.0 in
-        let high = leb-true byte 57 both.1 in
-        let is = some_is _ _ p.1 in
-        let sum : 48 + digit ≡ byte = omega (arith, low, is) in
-        (omega (arith, high, is), decimal_char digit (omega (arith, high, is)) ∙ sum)
+          let both = and_parts (leb 48 byte) (leb byte 57) p.0 in
+          let low = leb-true 48 byte both.0 in
+          let high = leb-true byte 57 both.1 in
+          let is = some_is _ _ p.1 in
+          let sum : 48 + digit ≡ byte = omega (arith, low, is) in
+          (omega (arith, high, is), decimal_char digit (omega (arith, high, is)) ∙ sum)
       | inr q ↦
-        elim (chosen (leb 97 byte && leb byte 102) (Some (byte - 87)) None (Some digit) q.1) [
-          | inl p ↦
-            let both = and_parts (leb 97 byte) (leb byte 102) p.0 in
-            let low = leb-true 97 byte both.0 in
-            let high = leb-true byte 102 both.1 in
-            let is = some_is _ _ p.1 in
-            let sum : 87 + digit ≡ byte = omega (arith, low, is) in
-            (omega (arith, high, is), letter_char digit (omega (arith, low, is)) ∙ sum)
-          | inr p ↦ none_isn't digit _ p.1
-        ]
+          elim (chosen (leb 97 byte && leb byte 102) (Some (byte - 87)) None (Some digit) q.1) [
+            | inl p ↦
+                let both = and_parts (leb 97 byte) (leb byte 102) p.0 in
+                let low = leb-true 97 byte both.0 in
+                let high = leb-true byte 102 both.1 in
+                let is = some_is _ _ p.1 in
+                let sum : 87 + digit ≡ byte = omega (arith, low, is) in
+                (omega (arith, high, is), letter_char digit (omega (arith, low, is)) ∙ sum)
+            | inr p ↦ none_isn't digit _ p.1
+          ]
     ]
 
 digit_again : (digit : ℕ) → digit < 16 → digit_of (digit_char digit) ≡ Some digit
 digit_again digit h =
     elim (cases_lt digit 10) [
       | inl lt ↦
-        let back : 48 + digit - 48 ≡ digit = omega arith in
-        ap digit_of (decimal_char digit lt) ∙ decimal_value (48 + digit) (omega arith) (omega arith) ∙ ap (λ n. Some n) back
+          let back : 48 + digit - 48 ≡ digit = omega arith in
+          ap digit_of (decimal_char digit lt) ∙ decimal_value (48 + digit) (omega arith) (omega arith) ∙ ap (λ n. Some n) back
       | inr le ↦
-        let back : 87 + digit - 87 ≡ digit = omega arith in
-        ap digit_of (letter_char digit le) ∙ letter_value (87 + digit) (omega arith) (omega arith) ∙ ap (λ n. Some n) back
+          let back : 87 + digit - 87 ≡ digit = omega arith in
+          ap digit_of (letter_char digit le) ∙ letter_value (87 + digit) (omega arith) (omega arith) ∙ ap (λ n. Some n) back
     ]
 
 pub digit_char-clean : (digit : ℕ) → digit_char digit ≢ 10
@@ -119,14 +118,14 @@ digits_within : (count most : ℕ) (bytes rest : List ℕ) (number read : ℕ) �
 digits_within count most bytes rest number read long told e =
     elim (chosen {A = Option (ℕ × List ℕ)} (leb read most) (Some (read, drop count bytes)) None (Some (number, rest)) e) [
       | inl p ↦
-        let same : read ≡ number = ap (λ (x : ℕ × List ℕ). x.0) (some_is _ _ p.1) in
-        let left : drop count bytes ≡ rest = ap (λ (x : ℕ × List ℕ). x.1) (some_is _ _ p.1) in
-        let text = onto_takes (take count bytes) 0 0 read told in
-        let size : 0 + length (take count bytes) ≡ count = omega (arith, length-take-le count bytes long) in
-        let front : hex_text count number ≡ take count bytes =
-        ap (hex_text count) (sym same) ∙ ap (λ k. hex_text k read) (sym size) ∙ text ∙ ap (λ (l : List ℕ). l ++ take count bytes) (empty_text 0) in
-        let bound : number ≤ most = omega (arith, same, leb-true read most p.0) in
-        (bound, sym (take-append-drop count bytes) ∙ ap (λ (l : List ℕ). l ++ drop count bytes) (sym front) ∙ ap (λ (l : List ℕ). hex_text count number ++ l) left)
+          let same : read ≡ number = ap (λ (x : ℕ × List ℕ). x.0) (some_is _ _ p.1) in
+          let left : drop count bytes ≡ rest = ap (λ (x : ℕ × List ℕ). x.1) (some_is _ _ p.1) in
+          let text = onto_takes (take count bytes) 0 0 read told in
+          let size : 0 + length (take count bytes) ≡ count = omega (arith, length-take-le count bytes long) in
+          let front : hex_text count number ≡ take count bytes =
+          ap (hex_text count) (sym same) ∙ ap (λ k. hex_text k read) (sym size) ∙ text ∙ ap (λ (l : List ℕ). l ++ take count bytes) (empty_text 0) in
+          let bound : number ≤ most = omega (arith, same, leb-true read most p.0) in
+          (bound, sym (take-append-drop count bytes) ∙ ap (λ (l : List ℕ). l ++ drop count bytes) (sym front) ∙ ap (λ (l : List ℕ). hex_text count number ++ l) left)
       | inr p ↦ none_isn't (number, rest) _ p.1
     ]
 
@@ -136,9 +135,9 @@ digits_takes count most bytes rest number e =
     elim (chosen {A = Option (ℕ × List ℕ)} (ltb (length bytes) count) None _ (Some (number, rest)) e) [
       | inl p ↦ none_isn't (number, rest) _ p.1
       | inr p ↦
-        let long = ltb-false (length bytes) count p.0 in
-        let step = bind_some (digits_onto 0 (take count bytes)) _ (number, rest) p.1 in
-        digits_within count most bytes rest number step.0 long step.1 step.2
+          let long = ltb-false (length bytes) count p.0 in
+          let step = bind_some (digits_onto 0 (take count bytes)) _ (number, rest) p.1 in
+          digits_within count most bytes rest number step.0 long step.1 step.2
     ]
 
 pub digits_again : (count most number : ℕ) (rest : List ℕ) → most < 16 ^ count → number ≤ most → digits_at count most (hex_text count number ++ rest) ≡ Some (number, rest)

@@ -1,19 +1,16 @@
 -- The port letters of a header.
-use Rattle.std.proofs.Common.{◌≡◌, ◌≢◌, ℕ, zero, suc, ◌+◌, ◌-◌, ◌*◌, ◌/◌, ◌%◌, ◌^◌, ◌<◌, ◌≤◌, Bool, true, false, cond, eqb, ltb, List, [], ◌∷◌, ◌++◌, length, get_or, map, Option, Some, None, refl, sym, ap, subst, ◌∙◌, arith, inl, inr}
-use Rattle.std.specs.Prelude.{EachIndex, slice_index}
-use Rattle.std.specs.List.{range_with_len, count_by}
+use Rattle.std.proofs.Common.{◌≡◌, ◌≢◌, ℕ, ◌-◌, ◌*◌, ◌%◌, ◌^◌, ◌<◌, ◌≤◌, cond, eqb, ltb, List, length, get_or, Some, None, refl, sym, ap, subst, ◌∙◌, arith, inl, inr}
+use Rattle.std.specs.List.{count_by}
 use Rattle.std.specs.Int.{bit_at}
 use Rattle.std.proofs.Math.ListN.{replicate}
-use Rattle.std.proofs.Math.Nat.{mod-eq_of_lt}
 use Rattle.std.proofs.lemmas.Nat.{pow_below, pow_pos}
 use Rattle.std.proofs.lemmas.Nat.Bits.{bit_at_ones}
 use Rattle.std.proofs.lemmas.Bool.{eqb-true, lt-ltb, cond-true}
 use Rattle.std.proofs.lemmas.List.{length-replicate, get_or-replicate}
-use Rattle.std.proofs.lemmas.List.FromFn.{fill_by_all, get_or-map-range_with_len, length-map-range_with_len}
+use Rattle.std.proofs.lemmas.List.FromFn.{fill_by_all, length-map-range_with_len}
 use Rattle.std.proofs.lemmas.List.Sums.{count_by-le-length}
 use Rattle.std.proofs.lemmas.List.Folds.{sum_by-replicate}
 use Rattle.ace_event.specs.declared.header.Header.{Header}
-use Rattle.ace_event.specs.declared.header.PortKind.{PortKind}
 use Rattle.ace_event.specs.declared.header.PortKind.TheVariants.{Ace, Lite}
 use Rattle.ace_event.specs.Ports.{IsHeader, port_kind, port_letter, port_letters}
 use Rattle.ace_grammar.specs.Reading.{HasAceAlone, IsReadableHeader}
@@ -24,14 +21,14 @@ lite_isn't_ace : (P : Type 0) → Some Lite ≡ Some Ace → P
 lite_isn't_ace P e = absurd cc
 
 -- the bit of an ACE port
-ace_bit : (header : Header) (p : ℕ) → port_kind header p ≡ Some Ace → bit_at header.ace p ≡ 1
+pub ace_bit : (header : Header) (p : ℕ) → port_kind header p ≡ Some Ace → bit_at header.ace p ≡ 1
 ace_bit header p e =
     elim (chosen (ltb p header.ports) (Some (cond (eqb (bit_at header.ace p) 1) Ace Lite)) None (Some Ace) e) [
       | inl q ↦
-        elim (chosen (eqb (bit_at header.ace p) 1) Ace Lite Ace (some_is _ _ q.1)) [
-          | inl b ↦ eqb-true (bit_at header.ace p) 1 b.0
-          | inr b ↦ lite_isn't_ace _ (ap (λ k. Some k) b.1)
-        ]
+          elim (chosen (eqb (bit_at header.ace p) 1) Ace Lite Ace (some_is _ _ q.1)) [
+            | inl b ↦ eqb-true (bit_at header.ace p) 1 b.0
+            | inr b ↦ lite_isn't_ace _ (ap (λ k. Some k) b.1)
+          ]
       | inr q ↦ none_isn't Ace _ q.1
     ]
 
@@ -52,9 +49,12 @@ readable_count header h =
 
 pub readable_are_ace : (header : Header) → IsReadableHeader header → AreAceLetters (port_letters header)
 readable_are_ace header h =
-    let size : length (port_letters header) ≡ header.ports = length-map-range_with_len (port_letter header.ace) 0 header.ports in
-    (omega (arith, h.0.some_port, size), omega (arith, size, readable_count header h), λ p lt.
-    ap (λ (l : List ℕ). get_or l p 0) (readable_letters header h.1) ∙ get_or-replicate header.ports p 65 0 (omega (arith, lt, size)))
+    let size : length (port_letters header) ≡ header.ports = length-map-range_with_len (port_letter header.ace) 0 header.ports in (
+      omega (arith, h.0.some_port, size),
+      omega (arith, size, readable_count header h),
+      λ p lt.
+          ap (λ (l : List ℕ). get_or l p 0) (readable_letters header h.1) ∙ get_or-replicate header.ports p 65 0 (omega (arith, lt, size)),
+    )
 
 pub no_letters : (letters : List ℕ) → (AreAceLetters letters → ⊥) → (header : Header) → IsReadableHeader header → port_letters header ≢ letters
 no_letters letters not header h same = not (subst AreAceLetters same (readable_are_ace header h))

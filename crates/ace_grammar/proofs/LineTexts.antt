@@ -1,5 +1,5 @@
 -- Lines: what is read from a line is exactly a readable event.
-use Rattle.std.proofs.Common.{◌≡◌, ◌≢◌, ℕ, ◌+◌, ◌-◌, ◌^◌, ◌<◌, ◌≤◌, Bool, true, List, [], ◌∷◌, ◌++◌, length, Option, Some, None, refl, sym, ap, subst, ◌∙◌, arith, eqb, inl, inr}
+use Rattle.std.proofs.Common.{◌≡◌, ◌≢◌, ℕ, ◌<◌, true, List, [], ◌∷◌, ◌++◌, length, Option, Some, None, refl, sym, ap, subst, ◌∙◌, arith, eqb, inl, inr}
 use Rattle.std.specs.Prelude.{MatchOption}
 use Rattle.std.specs.Option.{option_map}
 use Rattle.std.proofs.lemmas.Bool.{eqb-true}
@@ -61,10 +61,11 @@ a_takes (letter ∷ bytes) event e =
     elim (chosen (eqb letter 67) _ _ (Some event) e) [
       | inl p ↦ behind_letter 65 letter 67 bytes event p.0 (ac_takes bytes event p.1)
       | inr q ↦
-    elim (chosen (eqb letter 82) _ None (Some event) q.1) [
-      | inl p ↦ behind_letter 65 letter 82 bytes event p.0 (ar_takes bytes event p.1)
-      | inr q ↦ none_isn't event _ q.1
-    ] ]
+          elim (chosen (eqb letter 82) _ None (Some event) q.1) [
+            | inl p ↦ behind_letter 65 letter 82 bytes event p.0 (ar_takes bytes event p.1)
+            | inr q ↦ none_isn't event _ q.1
+          ]
+    ]
 
 c_takes : (bytes : List ℕ) (event : Event) → c_at bytes ≡ Some event → Reads (67 ∷ []) bytes event
 unfolding c_at
@@ -92,16 +93,19 @@ event_takes (letter ∷ bytes) event e =
     elim (chosen (eqb letter 65) _ _ (Some event) e) [
       | inl p ↦ with_letter letter 65 bytes event p.0 (a_takes bytes event p.1)
       | inr q ↦
-    elim (chosen (eqb letter 67) _ _ (Some event) q.1) [
-      | inl p ↦ with_letter letter 67 bytes event p.0 (c_takes bytes event p.1)
-      | inr q ↦
-    elim (chosen (eqb letter 71) _ _ (Some event) q.1) [
-      | inl p ↦ with_letter letter 71 bytes event p.0 (g_takes bytes event p.1)
-      | inr q ↦
-    elim (chosen (eqb letter 82) _ None (Some event) q.1) [
-      | inl p ↦ with_letter letter 82 bytes event p.0 (r_or_rk_takes bytes event p.1)
-      | inr q ↦ none_isn't event _ q.1
-    ] ] ] ]
+          elim (chosen (eqb letter 67) _ _ (Some event) q.1) [
+            | inl p ↦ with_letter letter 67 bytes event p.0 (c_takes bytes event p.1)
+            | inr q ↦
+                elim (chosen (eqb letter 71) _ _ (Some event) q.1) [
+                  | inl p ↦ with_letter letter 71 bytes event p.0 (g_takes bytes event p.1)
+                  | inr q ↦
+                      elim (chosen (eqb letter 82) _ None (Some event) q.1) [
+                        | inl p ↦ with_letter letter 82 bytes event p.0 (r_or_rk_takes bytes event p.1)
+                        | inr q ↦ none_isn't event _ q.1
+                      ]
+                ]
+          ]
+    ]
 
 -- the text of a readable event is read as that event
 pub event_again : (event : Event) → IsReadable event → event_at (event_text event) ≡ Some event

@@ -1,17 +1,9 @@
 -- The records: what is read from behind a record word is exactly an event with that word.
-use Rattle.std.proofs.Common.{◌≡◌, ◌≢◌, ℕ, ◌+◌, ◌-◌, ◌^◌, ◌<◌, ◌≤◌, Bool, List, [], ◌∷◌, ◌++◌, length, Option, Some, None, refl, sym, ap, subst, ◌∙◌, arith}
-use Rattle.std.specs.Option.{option_map}
-use Rattle.ace_codes.specs.declared.state.LineState.{LineState}
-use Rattle.ace_event.specs.declared.event.Channel.{Channel}
-use Rattle.ace_event.specs.declared.event.Event.{Event}
-use Rattle.ace_event.specs.declared.event.Event.TheVariants.{Ar, R, Rk, Ac, Cr, G}
-use Rattle.ace_event.specs.Range.{InRange}
-use Rattle.ace_event.specs.Text.{hex_text, flag_text, channel_text, state_text, event_text}
-use Rattle.ace_grammar.specs.Reading.{IsReadable}
-use Rattle.ace_grammar.specs.Fields.{Taker, ◌▹◌, number_at, flag_at, channel_at, state_at, whole}
-use Rattle.ace_grammar.specs.Records.{ArFields, RFields, RkFields, AcFields, CrFields, GFields, ar_fields, r_fields, rk_fields, ac_fields, cr_fields, g_fields, ar_event, r_event, rk_event, ac_event, cr_event, g_event}
-use Rattle.ace_grammar.proofs.Options.{map_some}
-use Rattle.ace_grammar.proofs.Exact.{IsClean, Takes, ReadsAll, reads_whole, reads_then}
+use Rattle.std.proofs.Common.{ℕ, ◌+◌, ◌-◌, ◌^◌, ◌<◌, ◌≤◌, List, ◌∷◌, ◌++◌, Option, arith}
+use Rattle.ace_event.specs.Text.{hex_text, flag_text, channel_text, state_text}
+use Rattle.ace_grammar.specs.Fields.{◌▹◌, number_at, flag_at, channel_at}
+use Rattle.ace_grammar.specs.Records.{ArFields, RFields, RkFields, AcFields, CrFields, GFields, ar_fields, r_fields, rk_fields, ac_fields, cr_fields, g_fields}
+use Rattle.ace_grammar.proofs.Exact.{ReadsAll, reads_whole, reads_then}
 use Rattle.ace_grammar.proofs.FieldTexts.{Any, number_exact, flag_exact, channel_exact, state_exact}
 
 -- a number, and what follows
@@ -85,4 +77,3 @@ pub g_exact : ReadsAll g_fields g_text GInRange 6
 unfolding g_fields
 g_exact =
     then_number 1 15 _ _ _ _ (omega arith) (reads_then channel_at (λ c. 32 ∷ channel_text c) Any 2 _ _ _ _ channel_exact (reads_whole (number_at 1 15) (λ n. 32 ∷ hex_text 1 n) (λ n. n ≤ 15) 2 (number_exact 1 15 (omega arith))))
-

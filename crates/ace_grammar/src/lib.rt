@@ -5,9 +5,13 @@ mod error;
 mod event;
 mod fields;
 mod header;
+pub mod laws;
 mod reader;
 
 pub use error::ReadErr;
 pub use event::parse_event;
 pub use header::{is_version_line, parse_ports};
 pub use reader::{read_event, read_header};
+
+#[cfg(test)]
+mod tests;

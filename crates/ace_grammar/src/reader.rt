@@ -72,7 +72,7 @@ pub fn read_event<S: Source>(
     ensures read { IfOk result (λ next. MatchOption next
         (IsAtEnd (waiting S.left lines.old) × IsAtEnd (waiting S.left lines.new))
         (λ event. IsReadable event
-            × Consumes (waiting S.left lines.old) (waiting S.left lines.new) (line_text (event_text event)))) }
+        × Consumes (waiting S.left lines.old) (waiting S.left lines.new) (line_text (event_text event)))) }
     ensures steady { OnOk result (S.faults (source_of lines.new).now ≡ S.faults (source_of lines.old).now) }
     ensures malformed { IsErrOf result ReadErr.Malformed → IfTold (waiting S.left lines.old) HasBadLine }
     ensures malformed_steady { IsErrOf result ReadErr.Malformed → S.faults (source_of lines.new).now ≡ S.faults (source_of lines.old).now }

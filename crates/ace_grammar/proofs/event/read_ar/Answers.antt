@@ -13,5 +13,5 @@ returns c =
       ← c.in_ok-dom.ensures.value,
       ← c.in_ok-bar.ensures.value,
       ← c.in_ok-lock.ensures,
-      c.at_end.ensures
+      c.at_end.ensures,
     ) (simp map_ended)

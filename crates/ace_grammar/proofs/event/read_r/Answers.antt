@@ -11,5 +11,5 @@ returns c =
       ← c.in_ok-resp.ensures.value,
       ← c.in_ok-last.ensures,
       ← c.in_ok-word.ensures.value,
-      c.at_end.ensures
+      c.at_end.ensures,
     ) (simp map_ended)

@@ -1,5 +1,4 @@
-use Rattle.std.proofs.Common.{arith, rules, ◌≡◌, ◌∙◌, ap, ◌+◌, ◌*◌}
-use Rattle.std.proofs.lemmas.Grind.{common_steps}
+use Rattle.std.proofs.Common.{arith}
 use Rattle.ace_grammar.proofs.Digits.{digit_fits, one_more_digit, goes_on, breaks_off, is_done}
 use Rattle.ace_grammar.proofs.fields.number_of.Goals as goal
 

@@ -1,0 +1,8 @@
+use Rattle.ace_grammar.proofs.OneReading.{one_reading, no_bad_header}
+use Rattle.ace_grammar.proofs.laws.one_reading.Goals as goal
+
+pub returns-clause-one : goal.returns-clause-one
+returns-clause-one c = one_reading
+
+pub returns-clause-apart : goal.returns-clause-apart
+returns-clause-apart c = no_bad_header
