@@ -1,0 +1,46 @@
+-- What a text that was cut short leaves on a sink.
+use Rattle.std.proofs.Common.{◌≡◌, ◌<◌, ◌≤◌, ◌-◌, ◌^◌, ◌++◌, ℕ, List, [], Option, None, Some, take, drop, sym, refl, ap, ◌∙◌, take-append-drop, append-nil, Result, Ok, Err, OnErr, OnOk, arith}
+use Rattle.std.specs.Io.KnownBytes.{Appends, Keeps}
+use Rattle.std.proofs.KnownBytes.{Appends-nil, Keeps-refl}
+use Rattle.ace_io.specs.Faults.{HasCause}
+use Rattle.ace_top.specs.Output.{AppendsPart}
+
+pub Appends-kept : (a b c : Option (List ℕ)) (bs : List ℕ) → Appends a b bs → Keeps b c → Appends a c bs
+Appends-kept None b c bs p q = tt
+Appends-kept (Some x) None c bs p q = absurd p
+Appends-kept (Some x) (Some y) None bs p q = absurd q
+Appends-kept (Some x) (Some y) (Some z) bs p q = q ∙ p
+
+-- a front of the text, and then nothing
+pub front_appended : (a b c : Option (List ℕ)) (n : ℕ) (text : List ℕ) → Appends a b (take n text) → Keeps b c → AppendsPart a c text
+front_appended a b c n text p q = (take n text, drop n text, sym (take-append-drop n text), Appends-kept a b c _ p q)
+
+-- the whole text is a front of it
+pub whole_part : (a b : Option (List ℕ)) (text : List ℕ) → Appends a b text → AppendsPart a b text
+whole_part a b text p = (text, [], sym (append-nil text), p)
+
+-- nothing is a front of any text
+pub no_part : (a : Option (List ℕ)) (text : List ℕ) → AppendsPart a a text
+no_part a text = ([], text, refl, Appends-nil a)
+
+-- where the second of two attempts did not fail, though each that fails is counted, all of its text was appended
+pub told_alone : (a b c : Option (List ℕ)) (n m k : ℕ) (text : List ℕ) {T E : Type 0} (r : Result T E)
+    → (n < 2 ^ 64 - 1 → m ≡ n → Keeps a b) → n ≤ m → HasCause m k r → OnOk r (Appends b c text) → n < 2 ^ 64 - 1 → k ≡ n → Appends a c text
+told_alone a b c n m k text (Ok x) kept later cause whole below same =
+    kept_before a b c text (kept below (omega (arith, cause.later))) whole
+  where
+    kept_before : (a b c : Option (List ℕ)) (bs : List ℕ) → Keeps a b → Appends b c bs → Appends a c bs
+    kept_before None b c bs p q = tt
+    kept_before (Some x) None c bs p q = absurd p
+    kept_before (Some x) (Some y) None bs p q = absurd q
+    kept_before (Some x) (Some y) (Some z) bs p q = q ∙ ap (λ l. l ++ bs) p
+told_alone a b c n m k text (Err e) kept later cause whole below same =
+    let same_before : m ≡ n = omega (arith, cause.later) in
+    absurd (omega (arith, cause.failed (omega arith)))
+
+-- whether or not the second attempt failed, a front of its text was appended
+pub any_part : (a b : Option (List ℕ)) (text : List ℕ) {T E : Type 0} (r : Result T E) → OnOk r (Appends a b text) → OnErr r (AppendsPart a b text) → AppendsPart a b text
+any_part a b text (Ok x) whole part = whole_part a b text whole
+any_part a b text (Err e) whole part = part
+
+pub ruleset parts = (front_appended, whole_part, no_part, told_alone, any_part, Keeps-refl)

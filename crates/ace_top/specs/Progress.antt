@@ -1,0 +1,49 @@
+-- How far a check of the bytes of a trace has come.
+use Rattle.std.specs.Prelude.{◌≡◌, ◌≢◌, ◌<◌, ◌+◌, ⊤, ℕ, List, [], ◌∷◌, Option, None, Some, length, reverse}
+use Rattle.std.specs.List.{AllByRecursion}
+use Rattle.std.specs.Io.KnownBytes.{Consumes, IsAtEnd}
+use Rattle.ace_event.specs.declared.header.Header.{Header}
+use Rattle.ace_event.specs.declared.event.Event.{Event}
+use Rattle.ace_event.specs.Text.{trace_text, event_text, line_text}
+use Rattle.ace_grammar.specs.Reading.{IsReadable, IsReadableHeader, HasBadLine, IfTold, most_events}
+use Rattle.ace_model.specs.Accepted.{IsAccepted, least_broken}
+use Rattle.ace_top.specs.declared.answer.Answer.{Answer}
+use Rattle.ace_top.specs.declared.answer.Answer.TheVariants.{Accepted, Refused, Usage, Malformed, ReadFault, LimitEvents, NoMemory}
+
+-- Of these bytes the header and the events of the past, which is kept newest first, were read and found fine, and these
+-- are left.
+pub record StandsAt (bytes : List ℕ) (header : Header) (past : List Event) (left : Option (List ℕ)) : Type 0 where
+  pub header_is_readable : IsReadableHeader header
+  pub events_are_readable : AllByRecursion IsReadable (reverse past)
+  pub text : Consumes (Some bytes) left (trace_text header (reverse past))
+  pub accepted : IsAccepted header past
+
+-- one more event was read and found fine
+abbrev pub TakesEvent : Header → List Event → List Event → Option (List ℕ) → Option (List ℕ) → Type 0
+TakesEvent header past past' left left' = (event : Event) × (past' ≡ event ∷ past) × IsReadable event
+    × Consumes left left' (line_text (event_text event)) × (least_broken header past event ≡ None)
+
+-- The next line breaks a rule.
+abbrev pub TakesBroken : Header → List Event → Option (List ℕ) → Option (List ℕ) → ℕ → Type 0
+TakesBroken header past left left' rule = (event : Event) × IsReadable event
+    × Consumes left left' (line_text (event_text event)) × (least_broken header past event ≡ Some rule)
+
+-- the answer that the next line, or the end of the bytes, gives
+abbrev pub IsNextVerdict : Header → List Event → Option (List ℕ) → Option (List ℕ) → Answer → Type 0
+IsNextVerdict header past left left' (Accepted events) = IsAtEnd left × (events ≡ length past)
+IsNextVerdict header past left left' (Refused index rule) = (index ≡ length past + 1) × TakesBroken header past left left' rule × (length past < most_events)
+IsNextVerdict header past left left' Malformed = IfTold left HasBadLine × (length past < most_events)
+IsNextVerdict header past left left' LimitEvents = IfTold left (λ bytes. bytes ≢ []) × (length past ≡ most_events)
+IsNextVerdict header past left left' ReadFault = ⊤
+IsNextVerdict header past left left' NoMemory = ⊤
+IsNextVerdict header past left left' Usage = ⊥
+
+-- an accepted trace was read to the end of the input
+abbrev pub EndsInput : Answer → Option (List ℕ) → Type 0
+EndsInput (Accepted events) left = IsAtEnd left
+EndsInput (Refused index rule) left = ⊤
+EndsInput Usage left = ⊤
+EndsInput Malformed left = ⊤
+EndsInput ReadFault left = ⊤
+EndsInput LimitEvents left = ⊤
+EndsInput NoMemory left = ⊤

@@ -1,0 +1,79 @@
+// The answers of the program: their statuses and texts.
+ghost use Rattle.std.specs.Prelude.{◌≡◌, ◌≢◌};
+ghost use Rattle.ace_top.specs.Texts.{status_of, out_text_of, notes_text_of};
+
+use arrayvec::ArrayString;
+use itoa::Buffer;
+
+/// What a call of the program answers, unless an output fails.
+#[derive(Clone, Copy, Debug, PartialEq, Eq)]
+pub enum Answer {
+    /// The trace was read to its end, and none of its events breaks a rule.
+    Accepted { events: u64 },
+    /// This event, counted from 1, is the first that breaks a rule, and this is the least rule that it breaks.
+    Refused { index: u64, rule: u8 },
+    /// The words of the command line name no command.
+    Usage,
+    /// A line is outside the grammar, and no event before it breaks a rule.
+    Malformed,
+    /// The input failed.
+    ReadFault,
+    /// The input goes on after as many events as a trace may have.
+    LimitEvents,
+    /// There was no memory.
+    NoMemory,
+}
+
+/// The status with which the program ends.
+pub fn status_of(answer: Answer) -> u8
+    ensures value { result ≡ status_of answer }
+    ensures no_write_fault { result ≢ 5 }
+{
+    match answer {
+        Answer::Accepted { .. } => 0,
+        Answer::Refused { .. } => 1,
+        Answer::Usage => 2,
+        Answer::Malformed => 3,
+        Answer::ReadFault => 4,
+        Answer::LimitEvents => 6,
+        Answer::NoMemory => 7,
+    }
+}
+
+/// The text for the standard output, with its line feed.
+pub fn out_text(answer: Answer) -> ArrayString<64>
+    ensures { result.bytes ≡ out_text_of answer }
+{
+    let mut text = ArrayString::new();
+    let mut digits = Buffer::new();
+    match answer {
+        Answer::Accepted { events } => {
+            text.push_str("accepted ");
+            text.push_str(digits.format(events));
+            text.push_str("\n");
+        }
+        Answer::Refused { index, rule } => {
+            text.push_str("refused event ");
+            text.push_str(digits.format(index));
+            text.push_str(": K");
+            text.push_str(digits.format(rule));
+            text.push_str("\n");
+        }
+        _ => {}
+    }
+    text
+}
+
+/// The text for the standard error, with its line feed.
+pub fn notes_text(answer: Answer) -> &'static [u8]
+    ensures { result.now ≡ notes_text_of answer }
+{
+    match answer {
+        Answer::Accepted { .. } | Answer::Refused { .. } => b"",
+        Answer::Usage => b"usage: ace check|run|show|report|gen N|trial N\n",
+        Answer::Malformed => b"malformed line\n",
+        Answer::ReadFault => b"read fault\n",
+        Answer::LimitEvents => b"limit events\n",
+        Answer::NoMemory => b"out of memory\n",
+    }
+}

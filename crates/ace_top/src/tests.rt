@@ -1,0 +1,102 @@
+// What a call answers, over inputs and outputs in memory.
+use crate::top::ace;
+use ace_io::{Free, HonestSource, MemSink, MemSource, Source};
+use std::alloc::Global;
+use std::sync::Wait;
+use std::test::Fail;
+use std::thread::Threads;
+
+const EMPTY: &str = "ACE 1\nPORTS AA\n";
+
+/// Port 0 reads a line uniquely, then port 1 does, and port 0 is snooped out of it.
+const SNOOPED_OUT: &str = "ACE 1\nPORTS AA\n\
+    AR 0 0 00000040 7 1 0 0\nG 0 R 0\n\
+    R 0 0 0 0 00000000000000000000000000000000\nR 0 0 0 0 00000000000000000000000000000000\n\
+    R 0 0 0 0 00000000000000000000000000000000\nR 0 0 0 1 00000000000000000000000000000000\nRK 0 UC\n\
+    AR 1 0 00000040 7 1 0 0\nG 1 R 0\nAC 0 00000040 7\nCR 0 10 I\n\
+    R 1 0 0 0 00000000000000000000000000000000\nR 1 0 0 0 00000000000000000000000000000000\n\
+    R 1 0 0 0 00000000000000000000000000000000\nR 1 0 0 1 00000000000000000000000000000000\nRK 1 UC\n";
+
+const USAGE: &str = "usage: ace check|run|show|report|gen N|trial N\n";
+
+/// Calls `ace` with so much room on its outputs: the status, and what these then hold.
+fn answer<R: Threads + Wait + Sync, S: Source>(
+    rt: &R,
+    alloc: Global,
+    words: &[&str],
+    input: &mut S,
+    rooms: (usize, usize),
+) -> Result<(u8, MemSink, MemSink), Fail> {
+    let mut owned = Vec::new(alloc);
+    for word in words {
+        owned.push(String::from_str(alloc, word)?)?;
+    }
+    let mut out = MemSink::new(alloc, rooms.0, &[])?;
+    let mut notes = MemSink::new(alloc, rooms.1, &[])?;
+    let status = ace(
+        rt,
+        alloc,
+        owned.as_slice(),
+        input,
+        &mut out,
+        &mut notes,
+        &Free,
+    );
+    Ok((status, out, notes))
+}
+
+#[test]
+fn verdicts_in_any_pieces(rt: HostRuntime) -> Result<(), Fail> {
+    let alloc = rt.alloc();
+    for (trace, status, wanted_out, wanted_notes) in [
+        (EMPTY, 0, "accepted 0\n", ""),
+        (SNOOPED_OUT, 0, "accepted 16\n", ""),
+        ("", 3, "", "malformed line\n"),
+        ("ACE 1\nPORTS AA\nXX 0\n", 3, "", "malformed line\n"),
+        ("ACE 1\nPORTS AA", 3, "", "malformed line\n"),
+    ] {
+        for piece in 1..65 {
+            let mut input = MemSource::new(alloc, trace.as_bytes(), &[piece], &[])?;
+            let (given, out, notes) = answer(&rt, alloc, &["check"], &mut input, (99, 99))?;
+            assert_eq!(rt; given, status, "{trace} in pieces of {piece}");
+            assert_eq!(rt;
+                out.bytes(),
+                wanted_out.as_bytes(),
+                "{trace} in pieces of {piece}"
+            );
+            assert_eq!(rt;
+                notes.bytes(),
+                wanted_notes.as_bytes(),
+                "{trace} in pieces of {piece}"
+            );
+        }
+    }
+    Ok(())
+}
+
+#[test]
+fn words_outputs_and_faults(rt: HostRuntime) -> Result<(), Fail> {
+    let alloc = rt.alloc();
+    for (words, rooms, status, wanted_out, wanted_notes) in [
+        ([].as_slice(), (99, 99), 2, "", USAGE),
+        (["check", "x"].as_slice(), (99, 99), 2, "", USAGE),
+        (["Check"].as_slice(), (99, 99), 2, "", USAGE),
+        (["check"].as_slice(), (0, 99), 5, "", "write fault\n"),
+        (["check"].as_slice(), (4, 99), 5, "acce", "write fault\n"),
+        (["check"].as_slice(), (99, 0), 0, "accepted 0\n", ""),
+        ([].as_slice(), (99, 0), 5, "", ""),
+        ([].as_slice(), (99, 5), 5, "", "usage"),
+    ] {
+        let mut input = HonestSource::new(EMPTY.as_bytes());
+        let (given, out, notes) = answer(&rt, alloc, words, &mut input, rooms)?;
+        assert_eq!(rt; given, status, "{words:?}");
+        assert_eq!(rt; out.bytes(), wanted_out.as_bytes(), "{words:?}");
+        assert_eq!(rt; notes.bytes(), wanted_notes.as_bytes(), "{words:?}");
+    }
+    let mut third_fails = MemSource::new(alloc, SNOOPED_OUT.as_bytes(), &[8], &[2])?;
+    let (given, out, notes) = answer(&rt, alloc, &["check"], &mut third_fails, (99, 99))?;
+    assert_eq!(rt; given, 4);
+    assert_eq!(rt; out.bytes(), b"".as_slice());
+    assert_eq!(rt; notes.bytes(), b"read fault\n".as_slice());
+    Ok(())
+}

@@ -1,0 +1,63 @@
+// The top call: all that the program does.
+ghost use Rattle.std.specs.Prelude.{◌≡◌, ◌≢◌, ◌<◌, ◌≤◌, ◌-◌, ◌^◌, ◌⊎◌, IfSome, codes};
+ghost use Rattle.std.specs.Io.KnownBytes.{Appends, IsAtEnd};
+ghost use Rattle.ace_io.specs.Faults.{Rose};
+ghost use Rattle.ace_top.specs.Verdict.{ReadsUnique};
+ghost use Rattle.ace_top.specs.Words.{IsCommand};
+ghost use Rattle.ace_top.specs.Answer.{Answers, BreaksOff};
+
+use crate::answer::Answer;
+use crate::check::check;
+use crate::output::conclude;
+use crate::words::is_command;
+use ace_io::{Gate, Sink, Source};
+use std::alloc::Global;
+use std::sync::Wait;
+use std::thread::Threads;
+
+/// Does what the words ask, and returns the status.
+#[tactic(auto, using(crate::proofs::AcceptedEnd::accepted_end))]
+pub fn ace<R: Threads + Wait + Sync, S: Source, K: Sink, E: Sink, G: Gate + Sync>(
+    _rt: &R,
+    alloc: Global,
+    words: &[String],
+    input: &mut S,
+    out: &mut K,
+    notes: &mut E,
+    _gate: &G,
+) -> u8
+    // Where no output failed, the status and the texts are those of an answer to the words and the input.
+    ensures answer { result ≢ 5 → Answers words.now (S.left input.old) result
+        (K.held out.old) (K.held out.new) (E.held notes.old) (E.held notes.new) }
+
+    // Where the status is 0, the input was read to its end, and at each point of its trace a unique line has one holder.
+    ensures unique { result ≡ 0 → IfSome (S.left input.old) ReadsUnique }
+    ensures whole { result ≡ 0 → IsAtEnd (S.left input.new) }
+
+    // Where an output failed, each has a front of what such an answer gives it, and then the notes tell so if they can.
+    ensures broken_off { result ≡ 5 → BreaksOff words.now (S.left input.old)
+        (K.held out.old) (K.held out.new) (E.held notes.old) (E.held notes.new) }
+    ensures told { result ≡ 5 → E.faults notes.old < 2 ^ 64 - 1 → E.faults notes.new ≡ E.faults notes.old
+        → Appends (E.held notes.old) (E.held notes.new) (codes "write fault\n") }
+
+    // A read fault is answered only where the input failed, and where it failed little else is answered.
+    ensures read_fault { result ≡ 4 → Rose (S.faults input.old) (S.faults input.new) }
+    ensures input_failed { S.faults input.old < S.faults input.new → (result ≡ 4) ⊎ (result ≡ 5) ⊎ (result ≡ 7) }
+
+    // A write fault is answered only where an output failed, and wherever one failed.
+    ensures write_fault { result ≡ 5 → Rose (K.faults out.old) (K.faults out.new) ⊎ Rose (E.faults notes.old) (E.faults notes.new) }
+    ensures output_failed { (K.faults out.old < K.faults out.new) ⊎ (E.faults notes.old < E.faults notes.new) → result ≡ 5 }
+
+    // The usage is told exactly where the words name no command, and then the input isn't touched.
+    ensures usage { result ≡ 2 → ¬ IsCommand words.now }
+    ensures no_command { ¬ IsCommand words.now → (result ≡ 2) ⊎ (result ≡ 5) ⊎ (result ≡ 7) }
+    ensures untouched { ¬ IsCommand words.now → input.new ≡ input.old }
+    ensures status { result ≤ 7 }
+{
+    let answer = if is_command(words) {
+        check(alloc, input)
+    } else {
+        Answer::Usage
+    };
+    conclude(out, notes, answer)
+}
