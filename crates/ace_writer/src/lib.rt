@@ -1,0 +1,10 @@
+//! The writer of trace text: the header and the events, exactly as the reader of traces reads them.
+#![tactic(auto)]
+
+mod error;
+mod fields;
+mod records;
+mod text_buf;
+mod writer;
+
+pub use error::WriteErr;
