@@ -1,5 +1,5 @@
 -- The digits of a number, from the most significant on.
-use Rattle.std.proofs.Common.{◌≡◌, ℕ, zero, suc, ◌+◌, ◌-◌, ◌*◌, ◌/◌, ◌%◌, ◌^◌, ◌<◌, ◌≤◌, List, [], ◌∷◌, ◌++◌, refl, sym, ap, ◌∙◌, arith, bit_and, append_assoc, append-nil}
+use Rattle.std.proofs.Common.{◌≡◌, ℕ, zero, suc, ◌+◌, ◌-◌, ◌*◌, ◌/◌, ◌%◌, ◌^◌, ◌<◌, List, [], ◌∷◌, ◌++◌, refl, sym, ap, ◌∙◌, arith, bit_and, append_assoc, append-nil}
 use Rattle.std.specs.Char.{digit_char}
 use Rattle.std.proofs.Math.Nat.{div-div-eq-div-mul}
 use Rattle.std.proofs.lemmas.Nat.{pow-add, and_mask}

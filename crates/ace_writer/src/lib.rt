@@ -3,8 +3,11 @@
 
 mod error;
 mod fields;
+mod give;
+mod header;
 mod records;
 mod text_buf;
 mod writer;
 
 pub use error::WriteErr;
+pub use writer::Writer;

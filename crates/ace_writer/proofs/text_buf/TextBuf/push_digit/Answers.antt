@@ -1,4 +1,4 @@
-use Rattle.std.proofs.Common.{◌∷◌, ◌++◌, [], ap, ◌∙◌, append_assoc}
+use Rattle.std.proofs.Common.{◌∷◌, [], append_assoc}
 use Rattle.ace_writer.proofs.Digits.{one_digit}
 use Rattle.ace_writer.proofs.text_buf.TextBuf.push_digit.Goals as goal
 

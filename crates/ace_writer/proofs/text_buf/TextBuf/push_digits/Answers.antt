@@ -1,5 +1,4 @@
-use Rattle.std.proofs.Common.{◌++◌, arith, refl, sym, ◌∙◌, ◌≡◌}
-use Rattle.ace_event.specs.Text.{hex_text}
+use Rattle.std.proofs.Common.{arith, refl, ◌∙◌}
 use Rattle.ace_writer.proofs.Digits.{next_digit, none_left}
 use Rattle.ace_writer.proofs.text_buf.TextBuf.push_digits.Goals as goal
 
