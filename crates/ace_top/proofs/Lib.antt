@@ -1,5 +1,8 @@
 pub mod AcceptedEnd
+pub mod CopyLemmas
 pub mod FirstBreakLemmas
 pub mod OneWord
 pub mod Parts
 pub mod ProgressLemmas
+pub mod ShowLemmas
+pub mod WordsAnswered

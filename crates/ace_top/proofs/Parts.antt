@@ -23,24 +23,28 @@ whole_part a b text p = (text, [], sym (append-nil text), p)
 pub no_part : (a : Option (List ℕ)) (text : List ℕ) → AppendsPart a a text
 no_part a text = ([], text, refl, Appends-nil a)
 
--- where the second of two attempts did not fail, though each that fails is counted, all of its text was appended
-pub told_alone : (a b c : Option (List ℕ)) (n m k : ℕ) (text : List ℕ) {T E : Type 0} (r : Result T E)
-    → (n < 2 ^ 64 - 1 → m ≡ n → Keeps a b) → n ≤ m → HasCause m k r → OnOk r (Appends b c text) → n < 2 ^ 64 - 1 → k ≡ n → Appends a c text
-told_alone a b c n m k text (Ok x) kept later cause whole below same =
-    kept_before a b c text (kept below (omega (arith, cause.later))) whole
+-- where neither of two attempts was counted as failed, though each that fails is counted, all of the second text was appended
+pub told_alone : (a b c : Option (List ℕ)) (n m k : ℕ) (text : List ℕ)
+    → (n < 2 ^ 64 - 1 → m ≡ n → Keeps a b) → n ≤ m → m ≤ k → (m < 2 ^ 64 - 1 → k ≡ m → Appends b c text) → n < 2 ^ 64 - 1 → k ≡ n → Appends a c text
+told_alone a b c n m k text kept later more told below same =
+    let mid : m ≡ n = omega arith in
+    kept_before a b c text (kept below mid) (told (omega arith) (omega arith))
   where
     kept_before : (a b c : Option (List ℕ)) (bs : List ℕ) → Keeps a b → Appends b c bs → Appends a c bs
     kept_before None b c bs p q = tt
     kept_before (Some x) None c bs p q = absurd p
     kept_before (Some x) (Some y) None bs p q = absurd q
     kept_before (Some x) (Some y) (Some z) bs p q = q ∙ ap (λ l. l ++ bs) p
-told_alone a b c n m k text (Err e) kept later cause whole below same =
-    let same_before : m ≡ n = omega (arith, cause.later) in
-    absurd (omega (arith, cause.failed (omega arith)))
+
+-- the first of two attempts, where it is the one that may fail
+pub told_once : (a b : Option (List ℕ)) (n m : ℕ) (text : List ℕ) {T E : Type 0} (r : Result T E)
+    → HasCause n m r → OnOk r (Appends a b text) → n < 2 ^ 64 - 1 → m ≡ n → Appends a b text
+told_once a b n m text (Ok x) cause whole below same = whole
+told_once a b n m text (Err e) cause whole below same = absurd (omega (arith, cause.failed below))
 
 -- whether or not the second attempt failed, a front of its text was appended
 pub any_part : (a b : Option (List ℕ)) (text : List ℕ) {T E : Type 0} (r : Result T E) → OnOk r (Appends a b text) → OnErr r (AppendsPart a b text) → AppendsPart a b text
 any_part a b text (Ok x) whole part = whole_part a b text whole
 any_part a b text (Err e) whole part = part
 
-pub ruleset parts = (front_appended, whole_part, no_part, told_alone, any_part, Keeps-refl)
+pub ruleset parts = (front_appended, whole_part, no_part, told_alone, told_once, any_part, Keeps-refl)

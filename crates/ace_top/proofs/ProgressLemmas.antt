@@ -11,7 +11,7 @@ use Rattle.ace_event.specs.Text.{trace_text, events_text, header_text, event_tex
 use Rattle.ace_grammar.specs.Reading.{Reads, Whole, Full, Bad, IsReadable, IsReadableHeader, HasBadLine, IfTold, most_events}
 use Rattle.ace_model.specs.Accepted.{IsAccepted}
 use Rattle.ace_top.specs.declared.answer.Answer.{Answer}
-use Rattle.ace_top.specs.declared.answer.Answer.TheVariants.{Accepted, Refused, Usage, Malformed, ReadFault, LimitEvents, NoMemory}
+use Rattle.ace_top.specs.declared.answer.Answer.TheVariants.{Accepted, Refused, Shown, Usage, Malformed, ReadFault, LimitEvents, NoMemory}
 use Rattle.ace_io.specs.Line.{in_front}
 use Rattle.ace_top.specs.Progress.{StandsAt, TakesEvent, IsNextVerdict, EndsInput}
 use Rattle.ace_top.specs.Verdict.{IsVerdict}
@@ -100,6 +100,7 @@ verdict_next bytes h past left left' LimitEvents few next s =
     (length past, (h, reverse past, reads, no_break h past s.accepted, length-reverse past))
 verdict_next bytes h past left left' ReadFault few next s = tt
 verdict_next bytes h past left left' NoMemory few next s = tt
+verdict_next bytes h past left left' Shown few next s = absurd next
 verdict_next bytes h past left left' Usage few next s = absurd next
 
 no_front : (held rest : List ℕ) → held ++ rest ≡ [] → rest ≡ []
@@ -111,6 +112,8 @@ pub ends_source : (held : List ℕ) (left : Option (List ℕ)) (answer : Answer)
 ends_source held None (Accepted events) e = tt
 ends_source held (Some rest) (Accepted events) e = no_front held rest e
 ends_source held left (Refused index rule) e = tt
+ends_source held None Shown e = tt
+ends_source held (Some rest) Shown e = no_front held rest e
 ends_source held left Usage e = tt
 ends_source held left Malformed e = tt
 ends_source held left ReadFault e = tt

@@ -1,25 +1,53 @@
 -- What a call of the program answers, by its words and by the bytes of its input, where these are told.
-use Rattle.std.specs.Prelude.{◌≡◌, ◌⊎◌, ℕ, List, Option, String, IfSome, codes}
+use Rattle.std.specs.Prelude.{◌≡◌, ◌⊎◌, ℕ, List, [], Option, String, IfSome, codes}
 use Rattle.std.specs.Io.KnownBytes.{Appends}
 use Rattle.std.specs.declared.alloc.Global.{Global}
 use Rattle.ace_top.specs.declared.answer.Answer.{Answer}
 use Rattle.ace_top.specs.declared.answer.Answer.TheVariants.{Usage}
+use Rattle.ace_top.specs.declared.words.Command.{Command}
+use Rattle.ace_top.specs.declared.words.Command.TheVariants.{Check, Show}
+use Rattle.ace_top.specs.Command.{Names}
 use Rattle.ace_top.specs.Output.{AppendsPart, AppendsParts}
+use Rattle.ace_top.specs.Show.{IsShown, ShowsFront}
 use Rattle.ace_top.specs.Texts.{status_of, out_text_of, notes_text_of}
 use Rattle.ace_top.specs.Verdict.{IsVerdict}
 use Rattle.ace_top.specs.Words.{IsCommand}
 
--- an answer to these words and this input
-abbrev pub IsAnswer : List (String Global) → Option (List ℕ) → Answer → Type 0
-IsAnswer words input answer =
-    (IsCommand words × IfSome input (λ bytes. IsVerdict bytes answer)) ⊎ (¬ IsCommand words × (answer ≡ Usage))
+-- what a command answers to these bytes, of which these are left, with this text on the standard output
+abbrev pub IsAnswer : Command → List ℕ → Option (List ℕ) → Answer → List ℕ → Type 0
+IsAnswer Check bytes left answer text = IsVerdict bytes answer × (text ≡ out_text_of answer)
+IsAnswer Show bytes left answer text = IsShown bytes left answer text
 
--- The status is that of an answer, and its texts were appended to the two outputs.
-abbrev pub Answers : List (String Global) → Option (List ℕ) → ℕ → Option (List ℕ) → Option (List ℕ) → Option (List ℕ) → Option (List ℕ) → Type 0
-Answers words input status out out' notes notes' = (answer : Answer) × IsAnswer words input answer × (status ≡ status_of answer)
-    × Appends out out' (out_text_of answer) × Appends notes notes' (notes_text_of answer)
+-- The status is that of an answer of the command, and its texts were appended to the two outputs.
+abbrev pub Answers : Command → Option (List ℕ) → Option (List ℕ) → ℕ
+    → Option (List ℕ) → Option (List ℕ) → Option (List ℕ) → Option (List ℕ) → Type 0
+Answers command input left status out out' notes notes' =
+    (answer : Answer) × (text : List ℕ) × IfSome input (λ bytes. IsAnswer command bytes left answer text)
+    × (status ≡ status_of answer) × Appends out out' text × Appends notes notes' (notes_text_of answer)
 
--- A front of each text of an answer was appended, and to the notes then a front of the word that an output failed.
-abbrev pub BreaksOff : List (String Global) → Option (List ℕ) → Option (List ℕ) → Option (List ℕ) → Option (List ℕ) → Option (List ℕ) → Type 0
-BreaksOff words input out out' notes notes' = (answer : Answer) × IsAnswer words input answer
-    × AppendsPart out out' (out_text_of answer) × AppendsParts notes notes' (notes_text_of answer) (codes "write fault\n")
+-- the same for a list of words: where they name no command, the usage is told
+abbrev pub AnswersWords : List (String Global) → Option (List ℕ) → Option (List ℕ) → ℕ
+    → Option (List ℕ) → Option (List ℕ) → Option (List ℕ) → Option (List ℕ) → Type 0
+AnswersWords words input left status out out' notes notes' =
+    ((command : Command) × Names words command × Answers command input left status out out' notes notes')
+    ⊎ (¬ IsCommand words × (status ≡ status_of Usage) × Appends out out' [] × Appends notes notes' (notes_text_of Usage))
+
+-- a text that the command would write to the standard output, if no output failed
+abbrev pub IsBegun : Command → List ℕ → List ℕ → Type 0
+IsBegun Check bytes text = (answer : Answer) × IsVerdict bytes answer × (text ≡ out_text_of answer)
+IsBegun Show bytes text = (text ≡ []) ⊎ ShowsFront bytes text
+
+-- A front of such a text was appended to the one output, and to the other a front of the text of an answer, and then a
+-- front of the word that an output failed.
+abbrev pub BreaksOff : Command → Option (List ℕ)
+    → Option (List ℕ) → Option (List ℕ) → Option (List ℕ) → Option (List ℕ) → Type 0
+BreaksOff command input out out' notes notes' =
+    (answer : Answer) × (text : List ℕ) × IfSome input (λ bytes. IsBegun command bytes text)
+    × AppendsPart out out' text × AppendsParts notes notes' (notes_text_of answer) (codes "write fault\n")
+
+-- the same for a list of words
+abbrev pub BreaksOffWords : List (String Global) → Option (List ℕ)
+    → Option (List ℕ) → Option (List ℕ) → Option (List ℕ) → Option (List ℕ) → Type 0
+BreaksOffWords words input out out' notes notes' =
+    ((command : Command) × Names words command × BreaksOff command input out out' notes notes')
+    ⊎ (¬ IsCommand words × Appends out out' [] × AppendsParts notes notes' (notes_text_of Usage) (codes "write fault\n"))

@@ -1,6 +1,9 @@
 pub mod Answer
+pub mod Command
+pub mod Copy
 pub mod Output
 pub mod Progress
+pub mod Show
 pub mod Texts
 pub mod Verdict
 pub mod Words

@@ -9,7 +9,7 @@ use Rattle.ace_event.specs.Text.{trace_text, event_text, line_text}
 use Rattle.ace_grammar.specs.Reading.{IsReadable, IsReadableHeader, HasBadLine, IfTold, most_events}
 use Rattle.ace_model.specs.Accepted.{IsAccepted, least_broken}
 use Rattle.ace_top.specs.declared.answer.Answer.{Answer}
-use Rattle.ace_top.specs.declared.answer.Answer.TheVariants.{Accepted, Refused, Usage, Malformed, ReadFault, LimitEvents, NoMemory}
+use Rattle.ace_top.specs.declared.answer.Answer.TheVariants.{Accepted, Refused, Shown, Usage, Malformed, ReadFault, LimitEvents, NoMemory}
 
 -- Of these bytes the header and the events of the past, which is kept newest first, were read and found fine, and these
 -- are left.
@@ -37,12 +37,14 @@ IsNextVerdict header past left left' Malformed = IfTold left HasBadLine × (leng
 IsNextVerdict header past left left' LimitEvents = IfTold left (λ bytes. bytes ≢ []) × (length past ≡ most_events)
 IsNextVerdict header past left left' ReadFault = ⊤
 IsNextVerdict header past left left' NoMemory = ⊤
+IsNextVerdict header past left left' Shown = ⊥
 IsNextVerdict header past left left' Usage = ⊥
 
--- an accepted trace was read to the end of the input
+-- a trace that is accepted or shown was read to the end of the input
 abbrev pub EndsInput : Answer → Option (List ℕ) → Type 0
 EndsInput (Accepted events) left = IsAtEnd left
 EndsInput (Refused index rule) left = ⊤
+EndsInput Shown left = IsAtEnd left
 EndsInput Usage left = ⊤
 EndsInput Malformed left = ⊤
 EndsInput ReadFault left = ⊤

@@ -1,21 +1,23 @@
 -- The status and the texts of each answer.
 use Rattle.std.specs.Prelude.{ℕ, List, [], ◌++◌, codes, decimal}
 use Rattle.ace_top.specs.declared.answer.Answer.{Answer}
-use Rattle.ace_top.specs.declared.answer.Answer.TheVariants.{Accepted, Refused, Usage, Malformed, ReadFault, LimitEvents, NoMemory}
+use Rattle.ace_top.specs.declared.answer.Answer.TheVariants.{Accepted, Refused, Shown, Usage, Malformed, ReadFault, LimitEvents, NoMemory}
 
 abbrev pub status_of : Answer → ℕ
 status_of (Accepted events) = 0
 status_of (Refused index rule) = 1
+status_of Shown = 0
 status_of Usage = 2
 status_of Malformed = 3
 status_of ReadFault = 4
 status_of LimitEvents = 6
 status_of NoMemory = 7
 
--- what is written to the standard output
+-- what is written to the standard output, beside the text of a trace that is shown
 abbrev pub out_text_of : Answer → List ℕ
 out_text_of (Accepted events) = codes "accepted " ++ decimal events ++ codes "\n"
 out_text_of (Refused index rule) = codes "refused event " ++ decimal index ++ codes ": K" ++ decimal rule ++ codes "\n"
+out_text_of Shown = []
 out_text_of Usage = []
 out_text_of Malformed = []
 out_text_of ReadFault = []
@@ -26,6 +28,7 @@ out_text_of NoMemory = []
 abbrev pub notes_text_of : Answer → List ℕ
 notes_text_of (Accepted events) = []
 notes_text_of (Refused index rule) = []
+notes_text_of Shown = []
 notes_text_of Usage = codes "usage: ace check|run|show|report|gen N|trial N\n"
 notes_text_of Malformed = codes "malformed line\n"
 notes_text_of ReadFault = codes "read fault\n"

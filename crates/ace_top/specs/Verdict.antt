@@ -8,7 +8,7 @@ use Rattle.ace_grammar.specs.Reading.{Ending, Whole, Full, Bad, Reads, IsReadabl
 use Rattle.ace_model.specs.Accepted.{first_break}
 use Rattle.ace_model.specs.Unique.{Unique}
 use Rattle.ace_top.specs.declared.answer.Answer.{Answer}
-use Rattle.ace_top.specs.declared.answer.Answer.TheVariants.{Accepted, Refused, Usage, Malformed, ReadFault, LimitEvents, NoMemory}
+use Rattle.ace_top.specs.declared.answer.Answer.TheVariants.{Accepted, Refused, Shown, Usage, Malformed, ReadFault, LimitEvents, NoMemory}
 
 -- The bytes are a trace that ends so, and no event of it breaks a rule.
 abbrev pub ReadsUnbroken : List ℕ → ℕ → Ending → Type 0
@@ -30,6 +30,7 @@ IsVerdict bytes Malformed = HasBadHeader bytes ⊎ ((count : ℕ) × ReadsUnbrok
 IsVerdict bytes LimitEvents = (count : ℕ) × ReadsUnbroken bytes count Full
 IsVerdict bytes ReadFault = ⊤
 IsVerdict bytes NoMemory = ⊤
+IsVerdict bytes Shown = ⊥
 IsVerdict bytes Usage = ⊥
 
 -- The bytes are a whole trace, and at each point of it a unique line has one holder.

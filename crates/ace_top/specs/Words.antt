@@ -1,8 +1,18 @@
 -- The words of the command line.
-use Rattle.std.specs.Prelude.{◌≡◌, List, [], ◌∷◌, map, codes, String}
+use Rattle.std.specs.Prelude.{◌≡◌, ◌⊎◌, ℕ, List, [], ◌∷◌, map, codes, String}
 use Rattle.std.specs.String.{string_bytes}
 use Rattle.std.specs.declared.alloc.Global.{Global}
 
--- The words name a command that is built: `check` alone.
+-- there is one word, and it is this text
+abbrev pub IsWord : List (String Global) → List ℕ → Type 0
+IsWord words text = map string_bytes words ≡ text ∷ []
+
+abbrev pub IsCheck : List (String Global) → Type 0
+IsCheck words = IsWord words (codes "check")
+
+abbrev pub IsShow : List (String Global) → Type 0
+IsShow words = IsWord words (codes "show")
+
+-- The words name a command that is built.
 abbrev pub IsCommand : List (String Global) → Type 0
-IsCommand words = map string_bytes words ≡ codes "check" ∷ []
+IsCommand words = IsCheck words ⊎ IsShow words

@@ -12,6 +12,8 @@ pub enum Answer {
     Accepted { events: u64 },
     /// This event, counted from 1, is the first that breaks a rule, and this is the least rule that it breaks.
     Refused { index: u64, rule: u8 },
+    /// The trace was shown to its end.
+    Shown,
     /// The words of the command line name no command.
     Usage,
     /// A line is outside the grammar, and no event before it breaks a rule.
@@ -30,7 +32,7 @@ pub fn status_of(answer: Answer) -> u8
     ensures no_write_fault { result ≢ 5 }
 {
     match answer {
-        Answer::Accepted { .. } => 0,
+        Answer::Accepted { .. } | Answer::Shown => 0,
         Answer::Refused { .. } => 1,
         Answer::Usage => 2,
         Answer::Malformed => 3,
@@ -40,7 +42,7 @@ pub fn status_of(answer: Answer) -> u8
     }
 }
 
-/// The text for the standard output, with its line feed.
+/// The text of a verdict for the standard output, with its line feed.
 pub fn out_text(answer: Answer) -> ArrayString<64>
     ensures { result.bytes ≡ out_text_of answer }
 {
@@ -69,7 +71,7 @@ pub fn notes_text(answer: Answer) -> &'static [u8]
     ensures { result.now ≡ notes_text_of answer }
 {
     match answer {
-        Answer::Accepted { .. } | Answer::Refused { .. } => b"",
+        Answer::Accepted { .. } | Answer::Refused { .. } | Answer::Shown => b"",
         Answer::Usage => b"usage: ace check|run|show|report|gen N|trial N\n",
         Answer::Malformed => b"malformed line\n",
         Answer::ReadFault => b"read fault\n",

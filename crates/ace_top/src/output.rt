@@ -46,6 +46,19 @@ fn give_texts<K: Sink, E: Sink>(out: &mut K, notes: &mut E, answer: Answer) -> R
     }
 }
 
+/// Tells that an output failed, once.
+#[tactic(auto, using(crate::proofs::Parts::parts))]
+pub fn break_off<E: Sink>(notes: &mut E) -> u8
+    ensures status { result ≡ 5 }
+    ensures told { E.faults notes.old < 2 ^ 64 - 1 → E.faults notes.new ≡ E.faults notes.old
+        → Appends (E.held notes.old) (E.held notes.new) (codes "write fault\n") }
+    ensures later { E.faults notes.old ≤ E.faults notes.new }
+    ensures part { AppendsPart (E.held notes.old) (E.held notes.new) (codes "write fault\n") }
+{
+    let _ = give_all(notes, b"write fault\n");
+    5
+}
+
 /// Gives the texts of the answer, and returns its status. Where an output fails it tells so, once, and returns 5.
 #[tactic(auto, using(crate::proofs::Parts::parts))]
 pub fn conclude<K: Sink, E: Sink>(out: &mut K, notes: &mut E, answer: Answer) -> u8
@@ -63,9 +76,6 @@ pub fn conclude<K: Sink, E: Sink>(out: &mut K, notes: &mut E, answer: Answer) ->
 {
     match give_texts(out, notes, answer) {
         Ok(()) => status_of(answer),
-        Err(_) => {
-            let _ = give_all(notes, b"write fault\n");
-            5
-        }
+        Err(_) => break_off(notes),
     }
 }

@@ -100,3 +100,45 @@ fn words_outputs_and_faults(rt: HostRuntime) -> Result<(), Fail> {
     assert_eq!(rt; notes.bytes(), b"read fault\n".as_slice());
     Ok(())
 }
+
+#[test]
+fn shown_traces(rt: HostRuntime) -> Result<(), Fail> {
+    let alloc = rt.alloc();
+    for (trace, rooms, status, wanted_out, wanted_notes) in [
+        (SNOOPED_OUT, (999, 99), 0, SNOOPED_OUT, ""),
+        (EMPTY, (99, 99), 0, EMPTY, ""),
+        (
+            "ACE 1\nPORTS AA\nRK 0 UC\nXX 0\n",
+            (99, 99),
+            3,
+            "ACE 1\nPORTS AA\nRK 0 UC\n",
+            "malformed line\n",
+        ),
+        (
+            "ACE 1\nPORTS AA\nRK 0 UC",
+            (99, 99),
+            3,
+            EMPTY,
+            "malformed line\n",
+        ),
+        ("ACE 2\n", (99, 99), 3, "", "malformed line\n"),
+        (EMPTY, (7, 99), 5, "ACE 1\nP", "write fault\n"),
+    ] {
+        for piece in [1, 7, 64] {
+            let mut input = MemSource::new(alloc, trace.as_bytes(), &[piece], &[])?;
+            let (given, out, notes) = answer(&rt, alloc, &["show"], &mut input, rooms)?;
+            assert_eq!(rt; given, status, "{trace}");
+            assert_eq!(rt; out.bytes(), wanted_out.as_bytes(), "{trace}");
+            assert_eq!(rt; notes.bytes(), wanted_notes.as_bytes(), "{trace}");
+        }
+    }
+    let mut fails = MemSource::new(alloc, SNOOPED_OUT.as_bytes(), &[8], &[5])?;
+    let (given, out, notes) = answer(&rt, alloc, &["show"], &mut fails, (999, 99))?;
+    assert_eq!(rt; given, 4);
+    assert_eq!(rt;
+        out.bytes(),
+        b"ACE 1\nPORTS AA\nAR 0 0 00000040 7 1 0 0\n".as_slice()
+    );
+    assert_eq!(rt; notes.bytes(), b"read fault\n".as_slice());
+    Ok(())
+}

@@ -3,20 +3,21 @@ ghost use Rattle.std.specs.Prelude.{◌≡◌, ◌≢◌, ◌<◌, ◌≤◌, �
 ghost use Rattle.std.specs.Io.KnownBytes.{Appends, IsAtEnd};
 ghost use Rattle.ace_io.specs.Faults.{Rose};
 ghost use Rattle.ace_top.specs.Verdict.{ReadsUnique};
-ghost use Rattle.ace_top.specs.Words.{IsCommand};
-ghost use Rattle.ace_top.specs.Answer.{Answers, BreaksOff};
+ghost use Rattle.ace_top.specs.Words.{IsCheck, IsCommand};
+ghost use Rattle.ace_top.specs.Answer.{AnswersWords, BreaksOffWords};
 
 use crate::answer::Answer;
-use crate::check::check;
+use crate::check::tell_verdict;
 use crate::output::conclude;
-use crate::words::is_command;
+use crate::show::show;
+use crate::words::{Command, command_of};
 use ace_io::{Gate, Sink, Source};
 use std::alloc::Global;
 use std::sync::Wait;
 use std::thread::Threads;
 
 /// Does what the words ask, and returns the status.
-#[tactic(auto, using(crate::proofs::AcceptedEnd::accepted_end))]
+#[tactic(auto, using(crate::proofs::WordsAnswered::words_answered))]
 pub fn ace<R: Threads + Wait + Sync, S: Source, K: Sink, E: Sink, G: Gate + Sync>(
     _rt: &R,
     alloc: Global,
@@ -27,15 +28,15 @@ pub fn ace<R: Threads + Wait + Sync, S: Source, K: Sink, E: Sink, G: Gate + Sync
     _gate: &G,
 ) -> u8
     // Where no output failed, the status and the texts are those of an answer to the words and the input.
-    ensures answer { result ≢ 5 → Answers words.now (S.left input.old) result
+    ensures answer { result ≢ 5 → AnswersWords words.now (S.left input.old) (S.left input.new) result
         (K.held out.old) (K.held out.new) (E.held notes.old) (E.held notes.new) }
 
     // Where the status is 0, the input was read to its end, and a unique line has one holder at each point of its trace.
-    ensures unique { result ≡ 0 → IfSome (S.left input.old) ReadsUnique }
-    ensures whole { result ≡ 0 → IsAtEnd (S.left input.new) }
+    ensures unique { IsCheck words.now → result ≡ 0 → IfSome (S.left input.old) ReadsUnique }
+    ensures whole { IsCheck words.now → result ≡ 0 → IsAtEnd (S.left input.new) }
 
     // Where an output failed, each has a front of what such an answer gives it, and then the notes tell so if they can.
-    ensures broken_off { result ≡ 5 → BreaksOff words.now (S.left input.old)
+    ensures broken_off { result ≡ 5 → BreaksOffWords words.now (S.left input.old)
         (K.held out.old) (K.held out.new) (E.held notes.old) (E.held notes.new) }
     ensures told { result ≡ 5 → E.faults notes.old < 2 ^ 64 - 1 → E.faults notes.new ≡ E.faults notes.old
         → Appends (E.held notes.old) (E.held notes.new) (codes "write fault\n") }
@@ -56,10 +57,9 @@ pub fn ace<R: Threads + Wait + Sync, S: Source, K: Sink, E: Sink, G: Gate + Sync
     ensures untouched { ¬ IsCommand words.now → input.new ≡ input.old }
     ensures status { result ≤ 7 }
 {
-    let answer = if is_command(words) {
-        check(alloc, input)
-    } else {
-        Answer::Usage
-    };
-    conclude(out, notes, answer)
+    match command_of(words) {
+        Some(Command::Check) => tell_verdict(alloc, input, out, notes),
+        Some(Command::Show) => show(alloc, input, out, notes),
+        None => conclude(out, notes, Answer::Usage),
+    }
 }

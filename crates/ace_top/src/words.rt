@@ -1,16 +1,39 @@
 // The words of the command line.
-ghost use Rattle.std.specs.Prelude.{◌≡◌, ◌↔◌, IsTrue, codes};
-ghost use Rattle.ace_top.specs.Words.{IsCommand};
+ghost use Rattle.std.specs.Prelude.{◌≡◌, ◌↔◌, IsTrue, MatchOption};
+ghost use Rattle.ace_top.specs.Command.{Names};
+ghost use Rattle.ace_top.specs.Words.{IsCommand, IsWord};
 
-fn is_check(word: &str) -> bool
-    ensures { IsTrue result ↔ (word.now ≡ codes "check") }
-{
-    word == "check"
+/// What the program is asked to do.
+#[derive(Clone, Copy, Debug, PartialEq, Eq)]
+pub enum Command {
+    /// To tell the verdict on a trace.
+    Check,
+    /// To write a trace as it reads.
+    Show,
 }
 
-/// Whether the words name a command.
-pub fn is_command(words: &[String]) -> bool
-    ensures { IsTrue result ↔ IsCommand words.now }
+fn is_text(word: &str, text: &str) -> bool
+    ensures { IsTrue result ↔ (word.now ≡ text.now) }
 {
-    words.len() == 1 && is_check(words[0].as_str())
+    word == text
+}
+
+/// Whether there is one word, and it is this one.
+fn is_word(words: &[String], text: &str) -> bool
+    ensures { IsTrue result ↔ IsWord words.now text.now }
+{
+    words.len() == 1 && is_text(words[0].as_str(), text)
+}
+
+/// The command that the words name.
+pub fn command_of(words: &[String]) -> Option<Command>
+    ensures { MatchOption result (¬ IsCommand words.now) (Names words.now) }
+{
+    if is_word(words, "check") {
+        Some(Command::Check)
+    } else if is_word(words, "show") {
+        Some(Command::Show)
+    } else {
+        None
+    }
 }

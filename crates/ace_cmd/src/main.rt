@@ -1,18 +1,10 @@
-//! Checks a recorded trace of the coherency part of ACE.
+//! The program `ace`: the top call over the words of the command line and the standard streams.
 #![tactic(auto)]
 
-mod answer;
-mod check;
-mod output;
-#[cfg(test)]
-mod tests;
-mod top;
-mod words;
-
 use ace_io::{Free, StdSink, StdSource};
+use ace_top::ace;
 use std::process::ExitCode;
 use std::{env, io};
-use top::ace;
 
 /// The words of the command line. Where they can't be had as text there are none, which names no command.
 fn read_words(rt: &HostRuntime) -> Vec<String> {

@@ -1,0 +1,65 @@
+-- A copy of a trace, event by event.
+use Rattle.std.proofs.Common.{◌≡◌, ◌≢◌, ◌≤◌, ◌<◌, ◌+◌, ◌++◌, ℕ, List, [], ◌∷◌, Option, None, Some, length, refl, sym, ap, subst, ◌∙◌, append_assoc, append-nil, arith, flat_map}
+use Rattle.std.specs.List.{AllByRecursion}
+use Rattle.std.specs.Io.KnownBytes.{Consumes}
+use Rattle.std.proofs.KnownBytes.{Consumes-trans, Consumes-nil}
+use Rattle.std.proofs.lemmas.List.{length-append}
+use Rattle.std.proofs.lemmas.Grind.{flat_map-append}
+use Rattle.ace_event.specs.declared.event.Event.{Event}
+use Rattle.ace_event.specs.declared.header.Header.{Header}
+use Rattle.ace_event.specs.Text.{header_text, trace_text, events_text, event_text, line_text}
+use Rattle.ace_grammar.specs.Reading.{IsReadable, most_events}
+use Rattle.ace_writer.specs.declared.writer.Writer.{Writer}
+use Rattle.ace_writer.specs.Given.{GivesFront, sink_of}
+use Rattle.ace_top.specs.Output.{AppendsPart}
+use Rattle.ace_top.specs.declared.answer.Answer.{Answer}
+use Rattle.ace_top.specs.declared.answer.Answer.TheVariants.{Accepted, Refused, Shown, Usage, Malformed, ReadFault, LimitEvents, NoMemory}
+use Rattle.ace_top.specs.Copy.{HasCopied, HasWritten, CopiesNext, EndsCopy, StopsCopy}
+use Rattle.ace_top.proofs.ProgressLemmas.{All-more}
+
+-- the lines of one more event
+pub events_text-more : (events : List Event) (e : Event) → events_text (events ++ e ∷ []) ≡ events_text events ++ line_text (event_text e)
+events_text-more events e =
+    flat_map-append (λ event. line_text (event_text event)) events (e ∷ []) ∙ ap (λ t. events_text events ++ t) (append-nil (line_text (event_text e)))
+
+-- nothing was copied
+pub copied_nothing : {K : Type 0} (held : K → Option (List ℕ)) (old : Option (List ℕ)) (writer : Writer K) → HasCopied held old old writer writer []
+copied_nothing held old writer = record {
+  readable = tt;
+  few = omega arith;
+  taken = Consumes-nil old;
+  put = λ before text g. subst (λ t. GivesFront held before t writer) (sym (append-nil text)) g;
+}
+
+-- one more event was copied
+pub copied_more : {K : Type 0} (held : K → Option (List ℕ)) (old mid new : Option (List ℕ)) (writer writer' writer'' : Writer K) (events : List Event) (event : Event)
+    → HasCopied held old mid writer writer' events → CopiesNext held mid new writer' writer'' event → length events < most_events
+    → HasCopied held old new writer writer'' (events ++ event ∷ [])
+copied_more held old mid new writer writer' writer'' events event c n room = record {
+  readable = All-more IsReadable events event c.readable n.readable;
+  few = rw length-append (omega arith);
+  taken = subst (Consumes old new) (sym (events_text-more events event)) (Consumes-trans old mid new _ _ c.taken n.taken);
+  put = λ before text g.
+      subst (λ t. GivesFront held before t writer'') (append_assoc text (events_text events) (line_text (event_text event)) ∙ ap (λ t. text ++ t) (sym (events_text-more events event)))
+      (n.put before (text ++ events_text events) (c.put before text g));
+}
+
+-- a copy that stops ends
+pub stops_ends : (answer : Answer) (events : List Event) (next left : Option (List ℕ)) → StopsCopy answer next left → length events < most_events → EndsCopy answer events next left
+stops_ends Shown events next left s room = s
+stops_ends Malformed events next left s room = (s, room)
+stops_ends ReadFault events next left s room = s
+stops_ends LimitEvents events next left s room = absurd s
+stops_ends NoMemory events next left s room = s
+stops_ends (Accepted count) events next left s room = s
+stops_ends (Refused index rule) events next left s room = s
+stops_ends Usage events next left s room = s
+
+pub written : {K : Type 0} (held : K → Option (List ℕ)) (old new : Option (List ℕ)) (writer writer' : Writer K) (events : List Event) → HasCopied held old new writer writer' events → HasWritten old new events
+written held old new writer writer' events c = record { readable = c.readable; few = c.few; taken = c.taken }
+
+-- what a writer has given of its text is a front of it
+pub front_given : {K : Type 0} (held : K → Option (List ℕ)) (before : Option (List ℕ)) (text : List ℕ) (writer : Writer K) → GivesFront held before text writer → AppendsPart before (held (sink_of writer).now) text
+front_given held before text writer g = (g.front, g.rest, g.cut, g.bytes)
+
+pub ruleset copies = (copied_nothing, copied_more, stops_ends, written, front_given)

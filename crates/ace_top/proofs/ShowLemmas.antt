@@ -1,0 +1,149 @@
+-- What `show` answers.
+use Rattle.std.proofs.Common.{◌≡◌, ◌≢◌, ◌≤◌, ◌<◌, ◌++◌, ℕ, List, [], ◌∷◌, Option, None, Some, IfSome, length, refl, sym, ap, subst, ◌∙◌, append_assoc, append-nil, arith, inl, inr, codes}
+use Rattle.std.specs.List.{AllByRecursion}
+use Rattle.std.specs.Io.KnownBytes.{Consumes, Appends, IsAtEnd}
+use Rattle.std.proofs.KnownBytes.{Consumes-trans, Appends-trans, Appends-nil}
+use Rattle.ace_event.specs.declared.header.Header.{Header}
+use Rattle.ace_event.specs.declared.event.Event.{Event}
+use Rattle.ace_event.specs.Text.{header_text, events_text, trace_text}
+use Rattle.ace_io.specs.Line.{IsPending}
+use Rattle.ace_grammar.specs.Reading.{Reads, Whole, Full, Bad, IsReadable, IsReadableHeader, BeginsWith, HasBadHeader, HasBadLine, IfTold, most_events}
+use Rattle.ace_top.specs.declared.answer.Answer.{Answer}
+use Rattle.ace_top.specs.declared.answer.Answer.TheVariants.{Accepted, Refused, Shown, Usage, Malformed, ReadFault, LimitEvents, NoMemory}
+use Rattle.ace_top.specs.declared.words.Command.TheVariants.{Show}
+use Rattle.ace_top.specs.Answer.{Answers, BreaksOff, IsBegun}
+use Rattle.ace_top.specs.Copy.{HasWritten, WritesPart, EndsCopy}
+use Rattle.ace_top.specs.Output.{AppendsPart, AppendsParts}
+use Rattle.ace_top.specs.Show.{IsShown, ShowsFront}
+use Rattle.ace_top.specs.Texts.{status_of, out_text_of, notes_text_of}
+
+-- after a copy there is no further text for the standard output
+quiet : (answer : Answer) (events : List Event) (next left : Option (List ℕ)) → EndsCopy answer events next left → out_text_of answer ≡ []
+quiet Shown events next left e = refl
+quiet Malformed events next left e = refl
+quiet LimitEvents events next left e = refl
+quiet ReadFault events next left e = refl
+quiet NoMemory events next left e = refl
+quiet (Accepted count) events next left e = absurd e
+quiet (Refused index rule) events next left e = absurd e
+quiet Usage events next left e = refl
+
+-- the bytes of a trace that was copied, and what stands next
+record Copied (bytes : List ℕ) (header : Header) (events : List Event) (next : Option (List ℕ)) : Type 0 where
+  readable : IsReadableHeader header
+  all : AllByRecursion IsReadable events
+  few : length events ≤ most_events
+  text : Consumes (Some bytes) next (trace_text header events)
+
+split : (bytes text : List ℕ) (left : Option (List ℕ)) (P : List ℕ → Type 0) → Consumes (Some bytes) left text → IfTold left P → (rest : List ℕ) × (bytes ≡ text ++ rest) × P rest
+split bytes text None P c p = absurd c
+split bytes text (Some rest) P c p = (rest, c, p)
+
+at_end : (left : Option (List ℕ)) → IsAtEnd left → IfTold left (λ rest. rest ≡ [])
+at_end None e = tt
+at_end (Some rest) e = e
+
+copied_shown : (bytes : List ℕ) (header : Header) (events : List Event) (next left : Option (List ℕ)) (answer : Answer)
+    → Copied bytes header events next → EndsCopy answer events next left → IsShown bytes left answer (trace_text header events)
+copied_shown bytes header events next left Shown c e =
+    let parts = split bytes _ next (λ rest. rest ≡ []) c.text (at_end next e) in
+    let reads : Reads bytes header events Whole = record { header_is_readable = c.readable; events_are_readable = c.all; text = (parts.0, parts.1, (c.few, parts.2)) } in
+    (header, events, reads, refl)
+copied_shown bytes header events next left Malformed c e =
+    let parts = split bytes _ next HasBadLine c.text e.0 in
+    let reads : Reads bytes header events Bad = record { header_is_readable = c.readable; events_are_readable = c.all; text = (parts.0, parts.1, (e.1, parts.2)) } in
+    inr (header, events, reads, refl)
+copied_shown bytes header events next left LimitEvents c e =
+    let parts = split bytes _ next (λ rest. rest ≢ []) c.text e.0 in
+    let reads : Reads bytes header events Full = record { header_is_readable = c.readable; events_are_readable = c.all; text = (parts.0, parts.1, (e.1, parts.2)) } in
+    (header, events, reads, refl)
+copied_shown bytes header events next left ReadFault c (pending, none, short, taken) =
+    inr (header, events, pending, c.readable, c.all, c.few, none, short, Consumes-trans (Some bytes) next left _ _ c.text taken, refl)
+copied_shown bytes header events next left NoMemory c e = absurd e
+copied_shown bytes header events next left (Accepted count) c e = absurd e
+copied_shown bytes header events next left (Refused index rule) c e = absurd e
+copied_shown bytes header events next left Usage c e = absurd e
+
+copied_from : (bytes : List ℕ) (header : Header) (events : List Event) (mid next : Option (List ℕ)) → IsReadableHeader header → Consumes (Some bytes) mid (header_text header) → HasWritten mid next events → Copied bytes header events next
+copied_from bytes header events mid next readable head w = record {
+  readable = readable;
+  all = w.readable;
+  few = w.few;
+  text = Consumes-trans (Some bytes) mid next _ _ head w.taken;
+}
+
+-- no output failed: the trace stands on the standard output
+pub shows_copy : (old mid next left out out' out'' notes notes' : Option (List ℕ)) (header : Header) (events : List Event) (answer : Answer) (status : ℕ)
+    → IsReadableHeader header → Consumes old mid (header_text header) → HasWritten mid next events → EndsCopy answer events next left
+    → Appends out out' (trace_text header events) → Appends out' out'' (out_text_of answer) → Appends notes notes' (notes_text_of answer) → status ≡ status_of answer
+    → Answers Show old left status out out'' notes notes'
+shows_copy old mid next left out out' out'' notes notes' header events answer status readable head w e given more told is = (
+  answer,
+  trace_text header events,
+  shown old head,
+  is,
+  subst (Appends out out'') (ap (λ t. trace_text header events ++ t) (quiet answer events next left e) ∙ append-nil (trace_text header events)) (Appends-trans out out' out'' _ _ given more),
+  told,
+)
+  where
+    shown : (old : Option (List ℕ)) → Consumes old mid (header_text header) → IfSome old (λ bytes. IsShown bytes left answer (trace_text header events))
+    shown None head = tt
+    shown (Some bytes) head = copied_shown bytes header events next left answer (copied_from bytes header events mid next readable head w) e
+
+-- there was no header
+pub shows_no_header : (old left out out' notes notes' : Option (List ℕ)) (status : ℕ)
+    → IfTold old HasBadHeader → Appends out out' [] → Appends notes notes' (notes_text_of Malformed) → status ≡ 3 → Answers Show old left status out out' notes notes'
+shows_no_header old left out out' notes notes' status bad given told is = (Malformed, [], shown old bad, is, given, told)
+  where
+    shown : (old : Option (List ℕ)) → IfTold old HasBadHeader → IfSome old (λ bytes. IsShown bytes left Malformed [])
+    shown None bad = tt
+    shown (Some bytes) bad = inl (bad, refl)
+
+-- the input failed in the header
+pub shows_failed_header : (old left out out' notes notes' : Option (List ℕ)) (status : ℕ)
+    → Appends out out' [] → Appends notes notes' (notes_text_of ReadFault) → status ≡ 4 → Answers Show old left status out out' notes notes'
+shows_failed_header old left out out' notes notes' status given told is = (ReadFault, [], shown old, is, given, told)
+  where
+    shown : (old : Option (List ℕ)) → IfSome old (λ bytes. IsShown bytes left ReadFault [])
+    shown None = tt
+    shown (Some bytes) = inl refl
+
+begun : (old mid next : Option (List ℕ)) (header : Header) (events : List Event) → IsReadableHeader header → Consumes old mid (header_text header) → HasWritten mid next events
+    → IfSome old (λ bytes. IsBegun Show bytes (trace_text header events))
+begun None mid next header events readable head w = tt
+begun (Some bytes) mid next header events readable head w =
+    let c = copied_from bytes header events mid next readable head w in
+    inr (header, events, readable, w.readable, w.few, front next c.text, refl)
+  where
+    front : (next : Option (List ℕ)) → Consumes (Some bytes) next (trace_text header events) → BeginsWith bytes (trace_text header events)
+    front None c = absurd c
+    front (Some rest) c = (rest, c)
+
+begun_nothing : (old : Option (List ℕ)) → IfSome old (λ bytes. IsBegun Show bytes [])
+begun_nothing None = tt
+begun_nothing (Some bytes) = inl refl
+
+-- the standard output failed in the trace
+pub breaks_in_copy : (old mid out out' notes notes' : Option (List ℕ)) (header : Header) → IsReadableHeader header → Consumes old mid (header_text header)
+    → WritesPart out out' (header_text header) mid → AppendsPart notes notes' (codes "write fault\n") → BreaksOff Show old out out' notes notes'
+breaks_in_copy old mid out out' notes notes' header readable head w told =
+    (Shown, trace_text header w.events, begun old mid w.next header w.events readable head w.written, w.part, (notes, ([], [], refl, Appends-nil notes), told))
+
+-- an output failed behind the trace
+pub breaks_after_copy : (old mid next left out out' out'' notes notes' : Option (List ℕ)) (header : Header) (events : List Event) (answer : Answer)
+    → IsReadableHeader header → Consumes old mid (header_text header) → HasWritten mid next events → EndsCopy answer events next left
+    → Appends out out' (trace_text header events) → AppendsPart out' out'' (out_text_of answer) → AppendsParts notes notes' (notes_text_of answer) (codes "write fault\n")
+    → BreaksOff Show old out out'' notes notes'
+breaks_after_copy old mid next left out out' out'' notes notes' header events answer readable head w e given (part, rest, cut, more) told =
+    let none : part ≡ [] = nothing part rest (sym cut ∙ quiet answer events next left e) in
+    let whole : Appends out out'' (trace_text header events) =
+    subst (Appends out out'') (ap (λ t. trace_text header events ++ t) none ∙ append-nil (trace_text header events)) (Appends-trans out out' out'' _ _ given more) in
+    (answer, trace_text header events, begun old mid next header events readable head w, (trace_text header events, [], sym (append-nil (trace_text header events)), whole), told)
+  where
+    nothing : (part rest : List ℕ) → part ++ rest ≡ [] → part ≡ []
+    nothing [] rest e = refl
+    nothing (b ∷ part) rest e = absurd (cc)
+
+-- an output failed, and there was no header
+pub breaks_without_header : (old out out' notes notes' : Option (List ℕ)) (answer : Answer) → AppendsPart out out' [] → AppendsParts notes notes' (notes_text_of answer) (codes "write fault\n") → BreaksOff Show old out out' notes notes'
+breaks_without_header old out out' notes notes' answer part told = (answer, [], begun_nothing old, part, told)

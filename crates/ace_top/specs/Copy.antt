@@ -1,0 +1,69 @@
+-- How far a copy of a trace has come: events that were read, and handed to a writer.
+use Rattle.std.specs.Prelude.{◌≡◌, ◌≢◌, ◌≤◌, ◌<◌, ◌++◌, ⊤, ℕ, List, [], Option, length}
+use Rattle.std.specs.List.{AllByRecursion}
+use Rattle.std.specs.Io.KnownBytes.{Consumes, Appends, IsAtEnd}
+use Rattle.ace_event.specs.declared.event.Event.{Event}
+use Rattle.ace_event.specs.Text.{events_text, event_text, line_text}
+use Rattle.ace_io.specs.Line.{IsPending}
+use Rattle.ace_grammar.specs.Reading.{IsReadable, HasBadLine, IfTold, most_events}
+use Rattle.ace_writer.specs.declared.writer.Writer.{Writer}
+use Rattle.ace_writer.specs.Given.{GivesFront}
+use Rattle.ace_top.specs.Output.{AppendsPart}
+use Rattle.ace_top.specs.declared.answer.Answer.{Answer}
+use Rattle.ace_top.specs.declared.answer.Answer.TheVariants.{Accepted, Refused, Shown, Usage, Malformed, ReadFault, LimitEvents, NoMemory}
+
+-- these events were read, and their lines were added to the text of the writer
+pub record HasCopied {K : Type 0} (held : K → Option (List ℕ)) (old new : Option (List ℕ)) (writer writer' : Writer K)
+    (events : List Event) : Type 0 where
+  pub readable : AllByRecursion IsReadable events
+  pub few : length events ≤ most_events
+  pub taken : Consumes old new (events_text events)
+  pub put : (before : Option (List ℕ)) (text : List ℕ) → GivesFront held before text writer
+      → GivesFront held before (text ++ events_text events) writer'
+
+-- these events, readable and not too many, were read
+pub record HasWritten (old new : Option (List ℕ)) (events : List Event) : Type 0 where
+  pub readable : AllByRecursion IsReadable events
+  pub few : length events ≤ most_events
+  pub taken : Consumes old new (events_text events)
+
+-- whatever the text of the writer was, the sink holds that and this more of it
+abbrev pub GivesMore : {K : Type 0} → (K → Option (List ℕ)) → Writer K → List ℕ → Option (List ℕ) → Type 0
+GivesMore held writer more now = (before : Option (List ℕ)) (text : List ℕ) → GivesFront held before text writer → Appends before now (text ++ more)
+
+-- a front was appended of this text and the lines of events that were read
+pub record WritesPart (before now : Option (List ℕ)) (text : List ℕ) (old : Option (List ℕ)) : Type 0 where
+  pub events : List Event
+  pub next : Option (List ℕ)
+  pub written : HasWritten old next events
+  pub part : AppendsPart before now (text ++ events_text events)
+
+-- this event was read, and its line was added to the text of the writer
+pub record CopiesNext {K : Type 0} (held : K → Option (List ℕ)) (old new : Option (List ℕ)) (writer writer' : Writer K)
+    (event : Event) : Type 0 where
+  pub readable : IsReadable event
+  pub taken : Consumes old new (line_text (event_text event))
+  pub put : (before : Option (List ℕ)) (text : List ℕ) → GivesFront held before text writer
+      → GivesFront held before (text ++ line_text (event_text event)) writer'
+
+-- why the copy ends: by what stands next, and by what is left of the source after that was read
+abbrev pub EndsCopy : Answer → List Event → Option (List ℕ) → Option (List ℕ) → Type 0
+EndsCopy Shown events next left = IsAtEnd next
+EndsCopy Malformed events next left = IfTold next HasBadLine × (length events < most_events)
+EndsCopy LimitEvents events next left = IfTold next (λ bytes. bytes ≢ []) × (length events ≡ most_events)
+EndsCopy ReadFault events next left = IsPending next left
+EndsCopy NoMemory events next left = ⊥
+EndsCopy (Accepted count) events next left = ⊥
+EndsCopy (Refused index rule) events next left = ⊥
+EndsCopy Usage events next left = ⊥
+
+-- the same where fewer events than a trace may have were copied
+abbrev pub StopsCopy : Answer → Option (List ℕ) → Option (List ℕ) → Type 0
+StopsCopy Shown next left = IsAtEnd next
+StopsCopy Malformed next left = IfTold next HasBadLine
+StopsCopy ReadFault next left = IsPending next left
+StopsCopy LimitEvents next left = ⊥
+StopsCopy NoMemory next left = ⊥
+StopsCopy (Accepted count) next left = ⊥
+StopsCopy (Refused index rule) next left = ⊥
+StopsCopy Usage next left = ⊥

@@ -1,0 +1,40 @@
+-- What `show` writes of the bytes of a trace.
+use Rattle.std.specs.Prelude.{◌≡◌, ◌≤◌, ◌<◌, ◌⊎◌, ◌++◌, ℕ, List, [], Option, Some, length}
+use Rattle.std.specs.Io.KnownBytes.{Consumes}
+use Rattle.ace_io.specs.Line.{HasNoLf}
+use Rattle.std.specs.List.{AllByRecursion}
+use Rattle.ace_event.specs.declared.header.Header.{Header}
+use Rattle.ace_event.specs.declared.event.Event.{Event}
+use Rattle.ace_event.specs.Text.{trace_text}
+use Rattle.ace_grammar.specs.Reading.{Ending, Whole, Full, Bad, Reads, IsReadable, IsReadableHeader, BeginsWith, HasBadHeader, most_events}
+use Rattle.ace_top.specs.declared.answer.Answer.{Answer}
+use Rattle.ace_top.specs.declared.answer.Answer.TheVariants.{Accepted, Refused, Shown, Usage, Malformed, ReadFault, LimitEvents, NoMemory}
+
+-- the bytes are a trace that ends so, and the text is that of the trace
+abbrev pub ShowsTrace : List ℕ → List ℕ → Ending → Type 0
+ShowsTrace bytes text ending = (header : Header) × (events : List Event) × Reads bytes header events ending × (text ≡ trace_text header events)
+
+-- The text is that of a header and events, at most as many as a trace may have, with which the bytes begin.
+abbrev pub ShowsFront : List ℕ → List ℕ → Type 0
+ShowsFront bytes text = (header : Header) × (events : List Event) × IsReadableHeader header × AllByRecursion IsReadable events
+    × (length events ≤ most_events) × BeginsWith bytes (trace_text header events) × (text ≡ trace_text header events)
+
+-- The text is that of the header and the events that stand whole in the bytes that were taken. What was taken after them
+-- is less than a line.
+abbrev pub ShowsTaken : List ℕ → Option (List ℕ) → List ℕ → Type 0
+ShowsTaken bytes left text = (header : Header) × (events : List Event) × (pending : List ℕ)
+    × IsReadableHeader header × AllByRecursion IsReadable events × (length events ≤ most_events)
+    × HasNoLf pending × (length pending < 256) × Consumes (Some bytes) left (trace_text header events ++ pending)
+    × (text ≡ trace_text header events)
+
+-- The answer that `show` gives to these bytes, of which these are left, and the text that it writes. Want of memory may
+-- take its place.
+abbrev pub IsShown : List ℕ → Option (List ℕ) → Answer → List ℕ → Type 0
+IsShown bytes left Shown text = ShowsTrace bytes text Whole
+IsShown bytes left Malformed text = (HasBadHeader bytes × (text ≡ [])) ⊎ ShowsTrace bytes text Bad
+IsShown bytes left LimitEvents text = ShowsTrace bytes text Full
+IsShown bytes left ReadFault text = (text ≡ []) ⊎ ShowsTaken bytes left text
+IsShown bytes left NoMemory text = text ≡ []
+IsShown bytes left (Accepted events) text = ⊥
+IsShown bytes left (Refused index rule) text = ⊥
+IsShown bytes left Usage text = ⊥

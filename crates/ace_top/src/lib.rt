@@ -1,0 +1,14 @@
+//! The top call `ace`: all that the program does, over any source, sinks and gate.
+#![tactic(auto)]
+
+mod answer;
+mod check;
+mod copy;
+mod output;
+mod show;
+#[cfg(test)]
+mod tests;
+mod top;
+mod words;
+
+pub use top::ace;
