@@ -1,7 +1,6 @@
 -- The answers to a snoop: which state the port is left in, and what CRRESP says (Arm IHI 0022E, C5 and C3.7; which of the
 -- permitted ones is our choice).
-use Rattle.std.specs.Prelude.{ℕ, Bool, true, false, not, ◌&&◌, ◌||◌, ◌==◌, nat_lt, List, [], ◌∷◌, map}
-use Rattle.std.specs.List.{filter, flat_map}
+use Rattle.std.specs.Prelude.{ℕ, Bool, true, false, not, ◌&&◌, ◌||◌, ◌==◌, nat_lt, List, [], ◌∷◌, ◌++◌, if◌then◌else◌}
 use Rattle.ace_codes.specs.declared.state.LineState.{LineState}
 use Rattle.ace_codes.specs.declared.state.LineState.TheVariants.{I, UC, UD, SC, SD}
 use Rattle.ace_codes.specs.declared.kind.SnoopKind.{SnoopKind}
@@ -38,8 +37,8 @@ states_after _ _ = []
 
 -- DataTransfer: 0 for MakeInvalid; for the others 1 where the held state is dirty, and free where it is clean
 abbrev pub fits_transfer : SnoopKind → LineState → Bool → Bool
-fits_transfer MakeInvalid held data = not data
-fits_transfer _ held data = not (is_dirty held) || data
+fits_transfer MakeInvalid held transfer = not transfer
+fits_transfer _ held transfer = not (is_dirty held) || transfer
 
 -- PassDirty: 1 exactly where the held state is dirty, the new one isn't, and the snoop isn't MakeInvalid
 abbrev pub must_pass_dirty : SnoopKind → LineState → LineState → Bool
@@ -90,19 +89,27 @@ is_snoop_row DvmMessage held update resp next = is_plain_row resp next
 is_snoop_row kind I update resp next = is_plain_row resp next
 is_snoop_row kind held update resp next = is_line_row kind held update resp next
 
--- the order of the next states in a list of rows
-abbrev pub state_order : List LineState
-state_order = UD ∷ SD ∷ UC ∷ SC ∷ I ∷ []
-
--- the order of the responses in it: DataTransfer 0 before 1, then WasUnique 0 before 1
+-- the order of the responses in a list of rows: DataTransfer 0 before 1, then WasUnique 0 before 1
 abbrev pub response_order : List ℕ
 response_order = 0 ∷ 4 ∷ 8 ∷ 12 ∷ 16 ∷ 20 ∷ 24 ∷ 28 ∷ 1 ∷ 5 ∷ 9 ∷ 13 ∷ 17 ∷ 21 ∷ 25 ∷ 29 ∷ []
 
--- the rows with this next state, in order
-abbrev pub rows_to : SnoopKind → LineState → Bool → LineState → List ℕ → List Row
-rows_to kind held update next responses =
-    map (λ resp. record { resp = resp; next = next }) (filter (λ resp. is_snoop_row kind held update resp next) responses)
+-- the rows with one of these responses and this next state
+unfoldable pub rows_among : SnoopKind → LineState → Bool → LineState → List ℕ → List Row
+rows_among kind held update next [] = []
+rows_among kind held update next (resp ∷ rest) =
+    if is_snoop_row kind held update resp next
+    then record { resp = resp; next = next } ∷ rows_among kind held update next rest
+    else rows_among kind held update next rest
 
--- all rows, in order
+-- the rows with this next state
+unfoldable pub rows_to : SnoopKind → LineState → Bool → LineState → List Row
+rows_to kind held update next = rows_among kind held update next response_order
+
+-- all rows, by their next states in the order UD, SD, UC, SC, I
 unfoldable pub snoop_rows : SnoopKind → LineState → Bool → List Row
-snoop_rows kind held update = flat_map (λ next. rows_to kind held update next response_order) state_order
+snoop_rows kind held update =
+    rows_to kind held update UD
+    ++ rows_to kind held update SD
+    ++ rows_to kind held update UC
+    ++ rows_to kind held update SC
+    ++ rows_to kind held update I

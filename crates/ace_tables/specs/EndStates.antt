@@ -16,6 +16,16 @@ is_fetch read.ReadShared = true
 is_fetch read.ReadUnique = true
 is_fetch _ = false
 
+-- reads that bring no line into a cache
+abbrev pub is_unheld : ArKind → Bool
+is_unheld read.ReadNoSnoop = true
+is_unheld read.CleanInvalid = true
+is_unheld read.MakeInvalid = true
+is_unheld read.Barrier = true
+is_unheld read.DvmComplete = true
+is_unheld read.DvmMessage = true
+is_unheld _ = false
+
 -- of a read: by its kind, the state held at its end, IsShared and PassDirty of its response, and whether it is an
 -- exclusive store that failed. Barriers and DVM hold no line, which is I.
 abbrev pub end_states_of_read : ArKind → LineState → Bool → Bool → Bool → List LineState

@@ -1,6 +1,6 @@
 // How a snoop may be answered.
 ghost use Rattle.std.specs.Prelude.{◌≡◌, ◌+◌, ◌≤◌, ◌++◌, not, length};
-ghost use Rattle.ace_tables.specs.Answers.{states_after_sharing, states_after, fits_transfer, must_pass_dirty, fits_answer, fits_update, is_line_row, is_snoop_row, rows_to, response_order, snoop_rows};
+ghost use Rattle.ace_tables.specs.Answers.{states_after_sharing, states_after, fits_transfer, must_pass_dirty, fits_answer, fits_update, is_line_row, is_snoop_row, rows_to, snoop_rows};
 
 use crate::rows::{Row, RowList};
 use crate::states::{is_among, is_dirty, is_invalid, is_unique};
@@ -41,15 +41,34 @@ fn states_after(kind: SnoopKind, held: LineState) -> &'static [LineState]
     }
 }
 
+/// Whether DataTransfer may be this.
+fn fits_transfer(kind: SnoopKind, held: LineState, transfer: bool) -> bool
+    ensures { result ≡ fits_transfer kind held transfer }
+{
+    match kind {
+        SnoopKind::MakeInvalid => !transfer,
+        _ => !is_dirty(held) || transfer,
+    }
+}
+
+/// What PassDirty has to be.
+fn must_pass_dirty(kind: SnoopKind, held: LineState, next: LineState) -> bool
+    ensures { result ≡ must_pass_dirty kind held next }
+{
+    match kind {
+        SnoopKind::MakeInvalid => false,
+        _ => is_dirty(held) && !is_dirty(next),
+    }
+}
+
 /// Whether the response fits the answer by which a state other than I becomes the next one.
 fn fits_answer(kind: SnoopKind, held: LineState, next: LineState, resp: u8) -> bool
     ensures { result ≡ fits_answer kind held next resp }
 {
-    let is_make = matches!(kind, SnoopKind::MakeInvalid);
     resp < 32
         && !has_error(resp)
-        && (if is_make { !transfers_data(resp) } else { !is_dirty(held) || transfers_data(resp) })
-        && passes_dirty(resp) == (is_dirty(held) && !is_dirty(next) && !is_make)
+        && fits_transfer(kind, held, transfers_data(resp))
+        && passes_dirty(resp) == must_pass_dirty(kind, held, next)
         && is_shared(resp) == !is_invalid(next)
         && (!was_unique(resp) || is_unique(held))
 }
@@ -83,9 +102,10 @@ pub fn is_snoop_row(kind: SnoopKind, held: LineState, update: bool, resp: u8, ne
 }
 
 /// Puts the rows with this next state at the end of the list.
+#[tactic(auto, unfolding(crate::specs::Answers::rows_to))]
 fn push_rows(rows: &mut RowList, kind: SnoopKind, held: LineState, update: bool, next: LineState)
-    requires { length rows.old + length (rows_to kind held update next response_order) ≤ 12 }
-    ensures { rows.new ≡ rows.old ++ rows_to kind held update next response_order }
+    requires { length rows.old + length (rows_to kind held update next) ≤ 12 }
+    ensures { rows.new ≡ rows.old ++ rows_to kind held update next }
 {
     for resp in RESPONSES {
         if is_snoop_row(kind, held, update, resp, next) {
@@ -97,6 +117,7 @@ fn push_rows(rows: &mut RowList, kind: SnoopKind, held: LineState, update: bool,
 /// The rows of a snoop: how a port may answer it that holds the line in this state, and has a memory update of the line
 /// outstanding or not. The next states stand in the order UD, SD, UC, SC, I; for one of them DataTransfer 0 stands before 1,
 /// and then WasUnique 0 before 1. There are at most 12 (Arm IHI 0022E, C5 and C3.7).
+#[tactic(auto, using(crate::proofs::MostRows::bounds), unfolding(crate::specs::Answers::snoop_rows))]
 pub fn snoop_rows(snoop: SnoopKind, held: LineState, update: bool) -> RowList
     ensures { result ≡ snoop_rows snoop held update }
 {

@@ -1,6 +1,6 @@
 // The states in which a transaction may end.
-ghost use Rattle.std.specs.Prelude.{◌≡◌, true, false};
-ghost use Rattle.ace_tables.specs.EndStates.{is_fetch, end_states_of_read, end_states_of_write};
+ghost use Rattle.std.specs.Prelude.{◌≡◌, Bool, IsTrue};
+ghost use Rattle.ace_tables.specs.EndStates.{is_fetch, is_unheld, end_states_of_read, end_states_of_write};
 
 use crate::states::StateSet;
 use ace_codes::LineState::{I, SC, SD, UC, UD};
@@ -8,8 +8,8 @@ use ace_codes::{ArKind, AwKind, LineState};
 
 /// The end states of a read by which a port fetches a line to keep.
 fn end_of_fetch(kind: ArKind, held: LineState, shared: bool, pass: bool) -> &'static [LineState]
-    requires { is_fetch kind ≡ true }
-    ensures { result.now ≡ end_states_of_read kind held shared pass false }
+    requires { IsTrue (is_fetch kind) }
+    ensures { (failed : Bool) → result.now ≡ end_states_of_read kind held shared pass failed }
 {
     match (kind, held, shared, pass) {
         (_, I, false, false) => &[UC, SC, I],
@@ -36,12 +36,43 @@ fn end_of_clean_unique(held: LineState, shared: bool, pass: bool, failed: bool) 
 
 /// The end states of a CleanShared.
 fn end_of_clean_shared(held: LineState, shared: bool, pass: bool) -> &'static [LineState]
-    ensures { result.now ≡ end_states_of_read ArKind.CleanShared held shared pass false }
+    ensures { (failed : Bool) → result.now ≡ end_states_of_read ArKind.CleanShared held shared pass failed }
 {
     match (held, shared, pass) {
         (I, _, false) => &[I],
         (UC | SC, false, false) => &[UC, SC, I],
         (UC | SC, true, false) => &[SC, I],
+        _ => &[],
+    }
+}
+
+/// The end states of a MakeUnique.
+fn end_of_make_unique(held: LineState, shared: bool, pass: bool) -> &'static [LineState]
+    ensures { (failed : Bool) → result.now ≡ end_states_of_read ArKind.MakeUnique held shared pass failed }
+{
+    match (held, shared, pass) {
+        (I | SC | SD, false, false) => &[UD],
+        _ => &[],
+    }
+}
+
+/// The end states of a ReadOnce.
+fn end_of_read_once(held: LineState, pass: bool) -> &'static [LineState]
+    ensures { (shared failed : Bool) → result.now ≡ end_states_of_read ArKind.ReadOnce held shared pass failed }
+{
+    match (held, pass) {
+        (I, false) => &[I],
+        _ => &[],
+    }
+}
+
+/// The end states of a read that brings no line into a cache.
+fn end_of_unheld(kind: ArKind, held: LineState, shared: bool, pass: bool) -> &'static [LineState]
+    requires { IsTrue (is_unheld kind) }
+    ensures { (failed : Bool) → result.now ≡ end_states_of_read kind held shared pass failed }
+{
+    match (kind, held, shared, pass) {
+        (_, I, false, false) => &[I],
         _ => &[],
     }
 }
@@ -52,21 +83,21 @@ fn end_of_clean_shared(held: LineState, shared: bool, pass: bool) -> &'static [L
 pub fn end_read(kind: ArKind, held: LineState, shared: bool, pass: bool, failed: bool) -> StateSet
     ensures { result ≡ end_states_of_read kind held shared pass failed }
 {
-    let states: &'static [LineState] = match kind {
+    StateSet::of(match kind {
         ArKind::ReadClean | ArKind::ReadNotSharedDirty | ArKind::ReadShared | ArKind::ReadUnique => {
             end_of_fetch(kind, held, shared, pass)
         }
         ArKind::CleanUnique => end_of_clean_unique(held, shared, pass, failed),
         ArKind::CleanShared => end_of_clean_shared(held, shared, pass),
-        ArKind::MakeUnique => match (held, shared, pass) {
-            (I | SC | SD, false, false) => &[UD],
-            _ => &[],
-        },
-        ArKind::ReadOnce if matches!(held, I) && !pass => &[I],
-        _ if matches!(held, I) && !shared && !pass => &[I],
-        _ => &[],
-    };
-    StateSet::of(states)
+        ArKind::MakeUnique => end_of_make_unique(held, shared, pass),
+        ArKind::ReadOnce => end_of_read_once(held, pass),
+        ArKind::ReadNoSnoop
+        | ArKind::CleanInvalid
+        | ArKind::MakeInvalid
+        | ArKind::Barrier
+        | ArKind::DvmComplete
+        | ArKind::DvmMessage => end_of_unheld(kind, held, shared, pass),
+    })
 }
 
 /// The states in which a port may hold the line after a write of this kind, where it holds `held` at its end

@@ -16,7 +16,7 @@ pub struct Row {
 pub(crate) const MOST_ROWS: usize = 12;
 
 /// A list of at most 12 answers. Contracts see the list.
-#[derive(Clone, Copy)]
+#[derive(Drop)]
 pub struct RowList {
     rows: [Row; MOST_ROWS],
     len: u8,
@@ -27,7 +27,7 @@ impl Model for RowList {
 
     ghost view = { λ list. take list.len list.rows };
 
-    ghost invariant = { λ list. list.len ≤ 12 };
+    ghost invariant = { λ list. (list.len ≤ 12) × (length list.rows ≡ 12) };
 }
 
 impl RowList {

@@ -49,7 +49,7 @@ pub(crate) fn is_among(st: LineState, states: &[LineState]) -> bool
 }
 
 /// A set of line states. Contracts see the list of them.
-#[derive(Clone, Copy)]
+#[derive(Drop)]
 pub struct StateSet {
     states: &'static [LineState],
 }
