@@ -14,5 +14,4 @@ pub fn codes_read_back()
     ensures reads { (kind : ArKind) (domain bar : ℕ) → IsTrue (is_in (read_place kind) domain bar) → ar_kind_of (ar_code kind) domain bar ≡ Some kind }
     ensures writes { (kind : AwKind) (domain bar : ℕ) → IsTrue (is_in (write_place kind) domain bar) → aw_kind_of (aw_code kind) domain bar ≡ Some kind }
     ensures snoops { (kind : SnoopKind) → ac_kind_of (ac_code kind) ≡ Some kind }
-{
-}
+{}

@@ -5,8 +5,9 @@ ghost use Rattle.ace_tables.specs.Answers.{states_after_sharing, states_after, f
 use crate::rows::{Row, RowList};
 use crate::states::{is_among, is_dirty, is_invalid, is_unique};
 use ace_codes::LineState::{I, SC, SD, UC, UD};
-use ace_codes::{LineState, SnoopKind};
-use ace_codes::{has_error, is_shared, passes_dirty, transfers_data, was_unique};
+use ace_codes::{
+    LineState, SnoopKind, has_error, is_shared, passes_dirty, transfers_data, was_unique,
+};
 
 /// The responses that there are without the Error bit, in the order of a list of rows.
 const RESPONSES: [u8; 16] = [0, 4, 8, 12, 16, 20, 24, 28, 1, 5, 9, 13, 17, 21, 25, 29];
@@ -89,7 +90,13 @@ fn fits_update(kind: SnoopKind, next: LineState, resp: u8) -> bool
 
 /// Whether a port may answer the snoop with this response and be in the next state: where it holds the first state, and has
 /// a memory update of the line outstanding or not (Arm IHI 0022E, C5 and C3.7).
-pub fn is_snoop_row(kind: SnoopKind, held: LineState, update: bool, resp: u8, next: LineState) -> bool
+pub fn is_snoop_row(
+    kind: SnoopKind,
+    held: LineState,
+    update: bool,
+    resp: u8,
+    next: LineState,
+) -> bool
     ensures { result ≡ is_snoop_row kind held update resp next }
 {
     let is_dvm = matches!(kind, SnoopKind::DvmComplete | SnoopKind::DvmMessage);

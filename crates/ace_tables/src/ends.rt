@@ -13,15 +13,24 @@ fn end_of_fetch(kind: ArKind, held: LineState, shared: bool, pass: bool) -> &'st
 {
     match (kind, held, shared, pass) {
         (_, I, false, false) => &[UC, SC, I],
-        (ArKind::ReadClean | ArKind::ReadNotSharedDirty | ArKind::ReadShared, I, true, false) => &[SC, I],
-        (ArKind::ReadNotSharedDirty | ArKind::ReadShared | ArKind::ReadUnique, I, false, true) => &[UD, SD],
+        (ArKind::ReadClean | ArKind::ReadNotSharedDirty | ArKind::ReadShared, I, true, false) => &[
+            SC, I,
+        ],
+        (ArKind::ReadNotSharedDirty | ArKind::ReadShared | ArKind::ReadUnique, I, false, true) => &[
+            UD, SD,
+        ],
         (ArKind::ReadShared, I, true, true) => &[SD],
         _ => &[],
     }
 }
 
 /// The end states of a CleanUnique.
-fn end_of_clean_unique(held: LineState, shared: bool, pass: bool, failed: bool) -> &'static [LineState]
+fn end_of_clean_unique(
+    held: LineState,
+    shared: bool,
+    pass: bool,
+    failed: bool,
+) -> &'static [LineState]
     ensures { result.now ≡ end_states_of_read ArKind.CleanUnique held shared pass failed }
 {
     match (held, shared, pass, failed) {
@@ -84,9 +93,8 @@ pub fn end_read(kind: ArKind, held: LineState, shared: bool, pass: bool, failed:
     ensures { result ≡ end_states_of_read kind held shared pass failed }
 {
     StateSet::of(match kind {
-        ArKind::ReadClean | ArKind::ReadNotSharedDirty | ArKind::ReadShared | ArKind::ReadUnique => {
-            end_of_fetch(kind, held, shared, pass)
-        }
+        ArKind::ReadClean | ArKind::ReadNotSharedDirty | ArKind::ReadShared | ArKind::ReadUnique =>
+            { end_of_fetch(kind, held, shared, pass) }
         ArKind::CleanUnique => end_of_clean_unique(held, shared, pass, failed),
         ArKind::CleanShared => end_of_clean_shared(held, shared, pass),
         ArKind::MakeUnique => end_of_make_unique(held, shared, pass),

@@ -7,21 +7,21 @@ use Rattle.ace_tables.proofs.answers.push_rows.Goals.{then-is_snoop_row, else-is
 pub push-requires : goal.push-requires
 push-requires c =
     fewer_rows c.loop-resp.rows _ _ _ _
-        (row_at c.args.kind c.args.held c.args.update c.args.next response_order c.loop-resp.resp-index c.loop-resp-test.true (sym c.is_snoop_row.ensures ∙ c.if-is_snoop_row.true))
-        c.loop-resp.invariant
-        (rw (length-append c.args.rows.now _) c.requires)
+    (row_at c.args.kind c.args.held c.args.update c.args.next response_order c.loop-resp.resp-index c.loop-resp-test.true (sym c.is_snoop_row.ensures ∙ c.if-is_snoop_row.true))
+    c.loop-resp.invariant
+    (rw (length-append c.args.rows.now _) c.requires)
 
 pub loop-resp-preserved : goal.loop-resp-preserved
 loop-resp-preserved c =
     elim c.if-is_snoop_row.branch [
       | then-is_snoop_row w ↦
           rw (w.rows-is, w.push.ensures)
-              (more_rows c.loop-resp.rows _ _ _ _
-                  (row_at c.args.kind c.args.held c.args.update c.args.next response_order c.loop-resp.resp-index c.loop-resp-test.true (sym c.is_snoop_row.ensures ∙ w.if-is_snoop_row.true))
-                  c.loop-resp.invariant)
+          (more_rows c.loop-resp.rows _ _ _ _
+          (row_at c.args.kind c.args.held c.args.update c.args.next response_order c.loop-resp.resp-index c.loop-resp-test.true (sym c.is_snoop_row.ensures ∙ w.if-is_snoop_row.true))
+          c.loop-resp.invariant)
       | else-is_snoop_row w ↦
           rw (w.rows-is, sym (no_row_at c.args.kind c.args.held c.args.update c.args.next response_order c.loop-resp.resp-index c.loop-resp-test.true (sym c.is_snoop_row.ensures ∙ w.if-is_snoop_row.false)))
-              c.loop-resp.invariant
+          c.loop-resp.invariant
     ]
 
 pub returns : goal.returns
