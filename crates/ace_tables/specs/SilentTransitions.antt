@@ -1,4 +1,4 @@
--- The changes of state that a port makes on its own (Arm IHI 0022E, C1.2.3 and C4.6).
+-- The changes of state that a port makes on its own (Arm IHI 0022E, C1.2.3 and C4).
 use Rattle.std.specs.Prelude.{Bool, true, false}
 use Rattle.ace_codes.specs.declared.state.LineState.{LineState}
 use Rattle.ace_codes.specs.declared.state.LineState.TheVariants.{I, UC, UD, SC, SD}
