@@ -11,7 +11,7 @@ use Rattle.ace_event.specs.declared.event.Channel.TheVariants.{Read}
 use Rattle.ace_event.specs.declared.event.Event.TheVariants.{Rk}
 use Rattle.ace_model.specs.declared.transactions.Transaction.{Transaction}
 use Rattle.ace_model.specs.Trace.{Trace}
-use Rattle.ace_model.specs.Tables.{is_unique}
+use Rattle.ace_tables.specs.States.{is_unique}
 use Rattle.ace_model.specs.Transactions.{is_ace, is_on, is_some_on, has_name, transaction_of, outstanding, transfers, completed, acknowledgements, next_complete, acknowledged, transaction_under}
 use Rattle.ace_model.specs.Grants.{granted, answer_of}
 use Rattle.ace_model.specs.States.{state_of}

@@ -10,7 +10,7 @@ use Rattle.ace_model.specs.declared.transactions.Transaction.{Transaction}
 use Rattle.ace_model.specs.declared.snoops.Snoop.{Snoop}
 use Rattle.ace_model.specs.declared.snoops.Answer.{Answer}
 use Rattle.ace_model.specs.Trace.{Trace}
-use Rattle.ace_model.specs.Kinds.{ac_kind_of}
+use Rattle.ace_codes.specs.Snoops.{ac_kind_of}
 use Rattle.ace_model.specs.Transactions.{is_ace, read_kind, is_on, outstanding, completed, acknowledgements, transfers}
 use Rattle.ace_model.specs.Snoops.{snoops_of}
 use Rattle.ace_model.specs.Grants.{granted, answer_of}

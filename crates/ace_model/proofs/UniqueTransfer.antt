@@ -12,7 +12,7 @@ use Rattle.ace_model.specs.declared.transactions.Transaction.{Transaction}
 use Rattle.ace_model.specs.declared.snoops.Answer.{Answer}
 use Rattle.ace_model.specs.Trace.{Trace, implies, same_test, is_some_and}
 use Rattle.ace_model.specs.Kinds.{is_line_read}
-use Rattle.ace_model.specs.Tables.{is_invalid}
+use Rattle.ace_tables.specs.States.{is_invalid}
 use Rattle.ace_model.specs.Transactions.{is_ace, read_kind, is_line, is_transaction, is_exclusive_store, snoop_of, ended, without, transaction_of, outstanding, transfers, completed, completes, acknowledgements}
 use Rattle.ace_model.specs.Grants.{granted, is_granted, was_snooped, answer_of, owes_answer, owes_data, each_port}
 use Rattle.ace_model.specs.States.{state_of, is_port_done, are_snoops_done}
