@@ -1,5 +1,5 @@
 -- What holds at each bar and domain of a place holds wherever the place's kind stands.
-use Rattle.std.proofs.Common.{◌≡◌, ℕ, Bool, true, nat_eq, ◌||◌, ◌&&◌, sym, subst, inl, inr}
+use Rattle.std.proofs.Common.{◌≡◌, ℕ, true, nat_eq, ◌||◌, ◌&&◌, sym, subst, inl, inr}
 use Rattle.std.proofs.lemmas.Bool.{and_parts, or_cases, eqb-true}
 use Rattle.ace_codes.specs.Places.{is_normal, is_barrier, is_unshared, is_shareable, is_domain}
 

@@ -1,12 +1,11 @@
-use Rattle.std.proofs.Common.{◌≡◌, ℕ, Some, refl, true, ◌&&◌}
+use Rattle.std.proofs.Common.{◌≡◌, ℕ, Some, refl}
 use Rattle.ace_codes.specs.declared.kind.ArKind.{ArKind}
 use Rattle.ace_codes.specs.declared.kind.ArKind.TheVariants as read
 use Rattle.ace_codes.specs.declared.kind.AwKind.{AwKind}
 use Rattle.ace_codes.specs.declared.kind.AwKind.TheVariants as write
-use Rattle.ace_codes.specs.declared.kind.SnoopKind.{SnoopKind}
 use Rattle.ace_codes.specs.declared.kind.SnoopKind.TheVariants as snoop
 use Rattle.ace_codes.specs.Reads.{ar_kind_of, ar_code}
-use Rattle.ace_codes.specs.Snoops.{ac_kind_of, ac_code}
+use Rattle.ace_codes.specs.Snoops.{ac_kind_of}
 use Rattle.ace_codes.specs.Writes.{aw_kind_of, aw_code}
 use Rattle.ace_codes.proofs.ReadBack.{normal_unshared, normal_shareable, in_each_domain, barrier_anywhere}
 use Rattle.ace_codes.proofs.laws.codes_read_back.Goals as goal

@@ -1,4 +1,4 @@
-use Rattle.std.proofs.Common.{◌≡◌, length-append, sym, ◌∙◌}
+use Rattle.std.proofs.Common.{length-append, sym, ◌∙◌}
 use Rattle.ace_tables.specs.Answers.{response_order, rows_to}
 use Rattle.ace_tables.proofs.RowsAmong.{row_at, no_row_at, more_rows, no_more_rows, fewer_rows}
 use Rattle.ace_tables.proofs.answers.push_rows.Goals as goal
