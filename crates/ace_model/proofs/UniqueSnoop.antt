@@ -1,6 +1,6 @@
 -- AC and CR: a port is snooped, and answers.
-use Rattle.std.proofs.Common.{◌≡◌, ◌≢◌, ◌⊎◌, ℕ, Bool, true, false, cond, not, ◌&&◌, nat_eq, nat_le, [], ◌∷◌, Option, Some, None, is_some, length, slice_get, unwrap_or, refl, sym, ap, subst, ◌∙◌, inl, inr}
-use Rattle.std.proofs.lemmas.Bool.{and_parts, and_from, cases_Bool, eqb-true}
+use Rattle.std.proofs.Common.{◌≡◌, ◌⊎◌, ℕ, Bool, true, false, cond, ◌&&◌, nat_eq, nat_le, [], ◌∷◌, Some, None, length, refl, ap, subst, ◌∙◌, inl, inr}
+use Rattle.std.proofs.lemmas.Bool.{and_parts, and_from, cases_Bool}
 use Rattle.ace_codes.specs.declared.kind.SnoopKind.{SnoopKind}
 use Rattle.ace_codes.specs.declared.kind.SnoopKind.TheVariants as snoop
 use Rattle.ace_codes.specs.declared.state.LineState.{LineState}
@@ -8,13 +8,13 @@ use Rattle.ace_codes.specs.declared.state.LineState.TheVariants.{I, UC, UD, SC, 
 use Rattle.ace_event.specs.declared.header.Header.{Header}
 use Rattle.ace_event.specs.declared.event.Event.TheVariants.{Ac, Cr}
 use Rattle.ace_model.specs.declared.snoops.Snoop.{Snoop}
-use Rattle.ace_model.specs.Trace.{Trace, is_some_and, is_none_or, newer}
+use Rattle.ace_model.specs.Trace.{Trace}
 use Rattle.ace_codes.specs.Snoops.{ac_kind_of}
 use Rattle.ace_model.specs.Kinds.{is_read_unique_snoop}
 use Rattle.ace_tables.specs.Answers.{states_after, fits_answer, is_line_row, is_snoop_row}
 use Rattle.ace_tables.specs.States.{is_among, is_invalid, is_unique}
 use Rattle.ace_model.specs.Snoops.{snoop_at, snoops_of, answers, answered, is_snoop_on, answers_line}
-use Rattle.ace_model.specs.Grants.{grant_place, answers_grant, answer_of}
+use Rattle.ace_model.specs.Grants.{grant_place, answers_grant}
 use Rattle.ace_model.specs.States.{state_of}
 use Rattle.ace_model.specs.Unique.{UniqueNow}
 use Rattle.ace_model.specs.Rules.{k2, k14, k15, answers_by_row, has_known_codes}
