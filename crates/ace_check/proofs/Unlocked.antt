@@ -9,7 +9,8 @@ use Rattle.ace_event.specs.declared.event.Event.{Event}
 use Rattle.ace_event.specs.declared.event.Event.TheVariants.{Ar, Aw, G}
 use Rattle.ace_model.specs.declared.transactions.Transaction.{Transaction}
 use Rattle.ace_model.specs.Trace.{Trace, implies, is_some_and}
-use Rattle.ace_model.specs.Kinds.{ar_kind_of, is_read_unique, may_be_exclusive}
+use Rattle.ace_codes.specs.Reads.{ar_kind_of}
+use Rattle.ace_model.specs.Kinds.{is_read_unique, may_be_exclusive}
 use Rattle.ace_model.specs.Transactions.{is_ace, has_name, is_on, issued, newest_named, transaction_of, transaction_under, next_complete, acknowledged, ended, without, outstanding}
 use Rattle.ace_model.specs.Grants.{given, newest_on, granted}
 use Rattle.ace_model.specs.Rules.{has_known_codes, is_known_today}

@@ -2,17 +2,17 @@
 
 ghost use Rattle.std.specs.Prelude.{◌≡◌, ◌≤◌, reverse, length, nat_le, ◌&&◌, not};
 ghost use Rattle.ace_model.specs.Trace.{is_some_and, newer};
-ghost use Rattle.ace_model.specs.Responses.{is_shared, passes_dirty};
+ghost use Rattle.ace_codes.specs.Responses.{is_shared, passes_dirty};
 ghost use Rattle.ace_model.specs.Snoops.{is_snoop_on};
 ghost use Rattle.ace_model.specs.Grants.{given, gives_line, newest_on, granted, is_granted, has_grant, is_begun, grant_place, is_snoop_to, was_snooped, answers_grant, answer_at, unless_given, answer_of, is_short, owes_data, owes_answer, shares, passes, has_sharer, passer, has_passed_data, are_passed_data_whole};
 
-use crate::responses::{is_shared, passes_dirty, transfers_data};
 use crate::snoops::{answered, data_answers, data_beats, is_snoop_on, snoops_a_line};
 use crate::transactions::{
     ended, is_named, is_on, is_read, is_some_on, is_transaction, issued, transaction_of, transfers,
     without,
 };
 use crate::writes::has_memory_write;
+use ace_codes::{is_shared, passes_dirty, transfers_data};
 use ace_event::{Channel, Event, Header};
 use ace_model::{Answer, Snoop, Transaction};
 

@@ -6,11 +6,9 @@ mod exclusives;
 mod grants;
 mod kinds;
 mod least;
-mod responses;
 mod rules;
 mod snoops;
 mod states;
-mod tables;
 #[cfg(test)]
 mod tests;
 mod transactions;

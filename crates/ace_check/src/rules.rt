@@ -3,8 +3,10 @@
 ghost use Rattle.std.specs.Prelude.{◌≡◌, reverse, if◌then◌else◌, false};
 ghost use Rattle.ace_model.specs.Grants.{granted};
 ghost use Rattle.ace_model.specs.Trace.{port_of, is_some_and, is_none_or};
-ghost use Rattle.ace_model.specs.Kinds.{is_read_unique, is_read_unique_snoop, may_be_exclusive, ac_code};
-ghost use Rattle.ace_model.specs.Tables.{starts_read, starts_write, is_snoop_row};
+ghost use Rattle.ace_codes.specs.Snoops.{ac_code};
+ghost use Rattle.ace_model.specs.Kinds.{is_read_unique, is_read_unique_snoop, may_be_exclusive};
+ghost use Rattle.ace_tables.specs.Answers.{is_snoop_row};
+ghost use Rattle.ace_tables.specs.StartStates.{starts_read, starts_write};
 ghost use Rattle.ace_model.specs.States.{state_of};
 ghost use Rattle.ace_model.specs.Rules.{is_known_today, wants_ace, k1, may_issue_read, may_issue_write, has_known_codes, k2, line_address, k3, has_free_name, k4, has_free_line, k5, starts_well, k6, may_lock, k7, may_be_granted, k12, has_snoop_code, may_snoop_for, may_snoop, k13, k14, answers_by_row, k15};
 ghost use Rattle.ace_model.specs.Accepted.{IsAccepted};
@@ -12,20 +14,20 @@ ghost use Rattle.ace_model.specs.Accepted.{IsAccepted};
 use crate::exclusives::has_failed;
 use crate::grants::{granted, has_grant, is_begun, was_snooped};
 use crate::kinds::{
-    ac_code, ac_kind_of, ar_kind_of, aw_kind_of, is_lite_read, is_lite_write, is_read_unique,
-    is_read_unique_snoop, may_be_exclusive,
+    is_lite_read, is_lite_write, is_read_unique, is_read_unique_snoop, may_be_exclusive,
 };
-use crate::responses::{has_error, low_bits};
 use crate::snoops::{answered, snoops_a_line};
 use crate::states::{owes_wack, state_of};
-use crate::tables::{is_snoop_row, starts_read, starts_write};
 use crate::transactions::{
     has_outstanding_on, is_ace, is_line, is_line_read_kind, is_line_write_kind, issued,
     outstanding, read_kind, snoop_of, takes_grant, write_kind,
 };
-use ace_codes::{ArKind, AwKind, LineState, SnoopKind};
+use ace_codes::{
+    ArKind, AwKind, LineState, SnoopKind, ac_code, has_error, low_bits, read_ac, read_ar, read_aw,
+};
 use ace_event::{Event, Header};
 use ace_model::{Snoop, Transaction};
+use ace_tables::{is_snoop_row, start_read_ok, start_write_ok};
 
 fn port_of(e: &Event) -> u8
     ensures { result ≡ port_of e.now }
@@ -102,8 +104,8 @@ fn is_known_today(e: &Event) -> bool
             dom,
             bar,
             ..
-        } => is_read_unique_kind(ar_kind_of(snoop, dom, bar)),
-        Event::Ac { snoop, .. } => is_read_unique_snoop_kind(ac_kind_of(snoop)),
+        } => is_read_unique_kind(read_ar(snoop, dom, bar)),
+        Event::Ac { snoop, .. } => is_read_unique_snoop_kind(read_ac(snoop)),
         Event::R { .. } => true,
         Event::Rk { .. } => true,
         Event::Cr { .. } => true,
@@ -141,15 +143,15 @@ fn has_known_codes(h: &Header, e: &Event) -> bool
             dom,
             bar,
             ..
-        } => { may_issue_read(h, port, ar_kind_of(snoop, dom, bar)) }
+        } => { may_issue_read(h, port, read_ar(snoop, dom, bar)) }
         Event::Aw {
             port,
             snoop,
             dom,
             bar,
             ..
-        } => { may_issue_write(h, port, aw_kind_of(snoop, dom, bar)) }
-        Event::Ac { snoop, .. } => ac_kind_of(snoop).is_some(),
+        } => { may_issue_write(h, port, read_aw(snoop, dom, bar)) }
+        Event::Ac { snoop, .. } => read_ac(snoop).is_some(),
         Event::R { resp, .. } => low_bits(resp) < 2,
         Event::B { resp, .. } => low_bits(resp) < 2,
         Event::Cr { resp, .. } => !has_error(resp),
@@ -182,14 +184,14 @@ fn line_address(e: &Event) -> Option<u32>
             dom,
             bar,
             ..
-        } => { addr_if(is_line_read_kind(ar_kind_of(snoop, dom, bar)), addr) }
+        } => { addr_if(is_line_read_kind(read_ar(snoop, dom, bar)), addr) }
         Event::Aw {
             addr,
             snoop,
             dom,
             bar,
             ..
-        } => { addr_if(is_line_write_kind(aw_kind_of(snoop, dom, bar)), addr) }
+        } => { addr_if(is_line_write_kind(read_aw(snoop, dom, bar)), addr) }
         Event::Ac { addr, snoop, .. } => addr_if(snoops_a_line(snoop), addr),
         Event::S { addr, .. } => Some(addr),
         Event::L { addr, .. } => Some(addr),
@@ -245,7 +247,7 @@ fn starts_read_kind(kind: Option<ArKind>, held: LineState) -> bool
 {
     match kind {
         None => true,
-        Some(k) => starts_read(k, held),
+        Some(k) => start_read_ok(k, held),
     }
 }
 
@@ -254,7 +256,7 @@ fn starts_write_kind(kind: Option<AwKind>, held: LineState) -> bool
 {
     match kind {
         None => true,
-        Some(k) => starts_write(k, held),
+        Some(k) => start_write_ok(k, held),
     }
 }
 
@@ -383,9 +385,9 @@ pub fn keeps_answer(h: &Header, past: &[Event], e: &Event) -> bool
 fn answers_by_row(h: &Header, past: &[Event], p: u8, resp: u8, st: LineState, s: Snoop) -> bool
     ensures { result ≡ answers_by_row h.now (reverse past.now) p resp st s }
 {
-    match ac_kind_of(s.snoop) {
+    match read_ac(s.snoop) {
         None => true,
-        Some(k) => is_snoop_row(k, state_of(h, past, p, s.addr), resp, st),
+        Some(k) => is_snoop_row(k, state_of(h, past, p, s.addr), false, resp, st),
     }
 }
 

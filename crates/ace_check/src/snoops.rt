@@ -5,9 +5,8 @@ ghost use Rattle.ace_model.specs.Trace.{is_some_and};
 ghost use Rattle.ace_model.specs.Kinds.{is_line_snoop};
 ghost use Rattle.ace_model.specs.Snoops.{snoop_at, answers, answered, snoops_a_line, is_snoop_on, answers_line, data_answers, data_beats};
 
-use crate::kinds::{ac_kind_of, is_line_snoop};
-use crate::responses::transfers_data;
-use ace_codes::SnoopKind;
+use crate::kinds::is_line_snoop;
+use ace_codes::{SnoopKind, read_ac, transfers_data};
 use ace_event::Event;
 use ace_model::Snoop;
 
@@ -82,7 +81,7 @@ fn is_line_snoop_kind(kind: Option<SnoopKind>) -> bool
 pub fn snoops_a_line(snoop: u8) -> bool
     ensures { result ≡ snoops_a_line snoop }
 {
-    is_line_snoop_kind(ac_kind_of(snoop))
+    is_line_snoop_kind(read_ac(snoop))
 }
 
 /// A line snoop of this line.

@@ -8,7 +8,6 @@ ghost use Rattle.ace_model.specs.States.{awaits_store, is_in_make_unique, left_b
 use crate::exclusives::has_failed;
 use crate::grants::{owes_answer, owes_data, was_snooped};
 use crate::snoops::answers_line;
-use crate::tables::is_invalid;
 use crate::transactions::{
     acknowledged, is_ace, is_complete, is_make_unique_on, is_named, is_outstanding,
     is_outstanding_on, is_read, is_some_on, issued, outstanding, snoop_of,
@@ -16,6 +15,7 @@ use crate::transactions::{
 use ace_codes::LineState;
 use ace_event::{Channel, Event, Header};
 use ace_model::Transaction;
+use ace_tables::is_invalid;
 
 /// A MakeUnique of the port on the line that is outstanding and complete.
 fn awaits_store(h: &Header, past: &[Event], p: u8, l: u32, x: Transaction) -> bool

@@ -6,13 +6,11 @@ ghost use Rattle.ace_model.specs.Trace.{is_some_and};
 ghost use Rattle.ace_model.specs.Kinds.{is_line_read, is_line_write, is_granted_write, is_make_unique};
 ghost use Rattle.ace_model.specs.Transactions.{is_ace, is_read, same_channel, has_name, is_named, is_transaction, read_kind, write_kind, is_line, is_on, is_some_on, takes_grant, snoop_of, is_make_unique_on, issued, newest_named, transaction_of, completes, acknowledgements, next_complete, acknowledged, ended, without, outstanding, is_outstanding, is_outstanding_on, has_outstanding_on, transfers, first_resp, is_completion, is_complete};
 
-use crate::kinds::{
-    ar_kind_of, aw_kind_of, is_granted_write, is_line_read, is_line_write, is_make_unique,
-};
-use crate::tables::{snoop_of_read, snoop_of_write};
-use ace_codes::{ArKind, AwKind, SnoopKind};
+use crate::kinds::{is_granted_write, is_line_read, is_line_write, is_make_unique};
+use ace_codes::{ArKind, AwKind, SnoopKind, read_ar, read_aw};
 use ace_event::{Channel, Event, Header};
 use ace_model::Transaction;
+use ace_tables::{snoop_of_read, snoop_of_write};
 
 /// The port is an ACE port of the header.
 pub fn is_ace(h: &Header, p: u8) -> bool
@@ -71,7 +69,7 @@ pub fn read_kind(x: Transaction) -> Option<ArKind>
     ensures { result ≡ read_kind x }
 {
     if is_read(x.chan) {
-        ar_kind_of(x.snoop, x.dom, x.bar)
+        read_ar(x.snoop, x.dom, x.bar)
     } else {
         None
     }
@@ -84,7 +82,7 @@ pub fn write_kind(x: Transaction) -> Option<AwKind>
     if is_read(x.chan) {
         None
     } else {
-        aw_kind_of(x.snoop, x.dom, x.bar)
+        read_aw(x.snoop, x.dom, x.bar)
     }
 }
 

@@ -3,7 +3,7 @@
 ghost use Rattle.std.specs.Prelude.{◌≡◌, reverse, false};
 ghost use Rattle.ace_model.specs.Trace.{is_some_and, is_none_or, same_test};
 ghost use Rattle.ace_model.specs.Kinds.{takes_passed_data, is_clean_unique};
-ghost use Rattle.ace_model.specs.Responses.{passes_dirty, is_shared};
+ghost use Rattle.ace_codes.specs.Responses.{passes_dirty, is_shared};
 ghost use Rattle.ace_model.specs.Rules.{is_next_transfer, takes_passed, may_transfer, is_due, k18, same_upper_bits, must_be_shared, fits_kind, has_upper_bits, k19, is_exclusive_okay, has_low_bits, k21, k22, is_end, ends_well, k23};
 ghost use Rattle.ace_model.specs.Accepted.{IsAccepted};
 
@@ -13,15 +13,14 @@ use crate::kinds::{
     beats_of, is_clean_unique, is_make_unique, is_read_not_shared_dirty, may_be_shared,
     takes_passed_data,
 };
-use crate::responses::{is_shared, low_bits, passes_dirty};
 use crate::states::{are_snoops_done, has_store, state_of};
-use crate::tables::ends_read;
 use crate::transactions::{
     acknowledged, first_resp, is_ace, is_line, next_complete, outstanding, read_kind, transfers,
 };
-use ace_codes::{ArKind, LineState};
+use ace_codes::{ArKind, LineState, is_shared, low_bits, passes_dirty};
 use ace_event::{Channel, Event, Header};
 use ace_model::Transaction;
+use ace_tables::end_read;
 
 fn same_test(a: bool, b: bool) -> bool
     ensures { result ≡ same_test a b }
@@ -242,14 +241,14 @@ fn is_end(h: &Header, past: &[Event], x: Transaction, st: LineState, kind: ArKin
     let held = state_of(h, past, x.port, x.addr);
     let first = first_resp(past, x.port, x.id);
     let failed = has_failed(past, x);
-    ends_read(
+    let ends = end_read(
         kind,
         held,
         is_shared_response(first),
         is_dirty_response(first),
         failed,
-        st,
-    ) && (!is_make_unique(kind) || has_store(h, past, x.port, x.id))
+    );
+    ends.has(st) && (!is_make_unique(kind) || has_store(h, past, x.port, x.id))
 }
 
 fn ends_well(h: &Header, past: &[Event], st: LineState, x: Transaction) -> bool

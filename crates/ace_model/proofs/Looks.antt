@@ -1,14 +1,14 @@
 -- What the small tests of the looks at a trace say.
-use Rattle.std.proofs.Common.{◌≡◌, ◌≢◌, ◌⊎◌, ℕ, ◌<◌, ◌+◌, Bool, true, false, cond, not, ◌&&◌, ◌||◌, nat_eq, List, [], ◌∷◌, length, Option, Some, None, is_some, is_none, refl, sym, ap, subst, ◌∙◌, arith, inl, inr}
-use Rattle.std.proofs.lemmas.Bool.{and_parts, and_from, cases_Bool, eqb-true, eq-eqb, not-true}
+use Rattle.std.proofs.Common.{◌≡◌, ◌≢◌, ◌⊎◌, ℕ, Bool, true, false, ◌&&◌, nat_eq, Option, Some, None, is_some, is_none, refl, sym, ap, subst, ◌∙◌, inl, inr}
+use Rattle.std.proofs.lemmas.Bool.{and_parts, and_from, cases_Bool, eqb-true, eq-eqb}
 use Rattle.ace_codes.specs.declared.state.LineState.{LineState}
 use Rattle.ace_codes.specs.declared.state.LineState.TheVariants.{I, UC, UD, SC, SD}
 use Rattle.ace_event.specs.declared.event.Channel.{Channel}
 use Rattle.ace_event.specs.declared.event.Channel.TheVariants.{Read, Write}
 use Rattle.ace_model.specs.declared.transactions.Transaction.{Transaction}
 use Rattle.ace_model.specs.Trace.{implies, same_test, is_some_and, is_none_or}
-use Rattle.ace_model.specs.Tables.{is_invalid, is_unique}
-use Rattle.ace_model.specs.Transactions.{is_read, same_channel, has_name, is_named, is_transaction, is_on, is_some_on, newest_named, without}
+use Rattle.ace_tables.specs.States.{is_invalid, is_unique}
+use Rattle.ace_model.specs.Transactions.{is_read, same_channel, has_name, is_named, is_on, is_some_on, newest_named, without}
 use Rattle.ace_model.specs.Grants.{newest_on}
 
 pub some_is : {A : Type 0} → (o : Option A) → is_some o ≡ true → (x : A) × (o ≡ Some x)

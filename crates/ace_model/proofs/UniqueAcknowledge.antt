@@ -1,19 +1,15 @@
 -- RK: a complete read ends, and its port holds the line.
-use Rattle.std.proofs.Common.{◌≡◌, ◌≢◌, ◌⊎◌, ℕ, ◌+◌, ◌≤◌, Bool, true, false, cond, not, ◌&&◌, nat_eq, nat_lt, ◌∷◌, Option, Some, None, is_some, slice_get, unwrap_or, le_refl, refl, sym, ap, subst, ◌∙◌, arith, inl, inr}
-use Rattle.std.proofs.lemmas.Grind.{common_steps}
+use Rattle.std.proofs.Common.{◌≡◌, ◌≢◌, ℕ, ◌+◌, ◌≤◌, Bool, true, false, cond, ◌&&◌, nat_eq, nat_lt, ◌∷◌, Some, slice_get, le_refl, refl, sym, ap, subst, ◌∙◌, arith, inl, inr}
 use Rattle.std.proofs.lemmas.Bool.{and_parts, cases_Bool, eqb-true, eq-eqb}
-use Rattle.std.proofs.lemmas.Bool.Decides.{nat_tests}
 use Rattle.ace_codes.specs.declared.state.LineState.{LineState}
-use Rattle.ace_codes.specs.declared.state.LineState.TheVariants.{I}
 use Rattle.ace_event.specs.declared.header.Header.{Header}
-use Rattle.ace_event.specs.declared.event.Channel.{Channel}
 use Rattle.ace_event.specs.declared.event.Channel.TheVariants.{Read}
 use Rattle.ace_event.specs.declared.event.Event.TheVariants.{Rk}
 use Rattle.ace_model.specs.declared.transactions.Transaction.{Transaction}
 use Rattle.ace_model.specs.Trace.{Trace}
-use Rattle.ace_model.specs.Tables.{is_unique}
-use Rattle.ace_model.specs.Transactions.{is_ace, is_on, is_some_on, has_name, transaction_of, outstanding, transfers, completed, acknowledgements, next_complete, acknowledged, transaction_under}
-use Rattle.ace_model.specs.Grants.{granted, answer_of}
+use Rattle.ace_tables.specs.States.{is_unique}
+use Rattle.ace_model.specs.Transactions.{is_ace, is_on, is_some_on, transaction_of, outstanding, completed, acknowledgements, next_complete, acknowledged, transaction_under}
+use Rattle.ace_model.specs.Grants.{granted}
 use Rattle.ace_model.specs.States.{state_of}
 use Rattle.ace_model.specs.Unique.{UniqueNow}
 use Rattle.ace_model.specs.Rules.{k1, k22}

@@ -1,5 +1,5 @@
 -- AR: a read is issued.
-use Rattle.std.proofs.Common.{◌≡◌, ◌≢◌, ◌⊎◌, ℕ, ◌≤◌, Bool, true, false, cond, not, ◌&&◌, nat_eq, ◌∷◌, length, Option, Some, None, is_none, refl, sym, ap, subst, ◌∙◌, arith, inl, inr, slice_get}
+use Rattle.std.proofs.Common.{◌≡◌, ◌⊎◌, ℕ, Bool, true, false, ◌&&◌, nat_eq, ◌∷◌, length, Some, None, refl, sym, ap, subst, ◌∙◌, inl, inr}
 use Rattle.std.proofs.lemmas.Bool.{and_parts, and_from, or_cases, cases_Bool, eqb-true, eq-eqb}
 use Rattle.ace_codes.specs.declared.kind.ArKind.{ArKind}
 use Rattle.ace_codes.specs.declared.kind.ArKind.TheVariants as read
@@ -9,9 +9,10 @@ use Rattle.ace_event.specs.declared.event.Channel.TheVariants.{Read}
 use Rattle.ace_event.specs.declared.event.Event.TheVariants.{Ar}
 use Rattle.ace_model.specs.declared.transactions.Transaction.{Transaction}
 use Rattle.ace_model.specs.Trace.{Trace, is_some_and}
-use Rattle.ace_model.specs.Kinds.{ar_kind_of, is_read_unique, is_lite_read}
-use Rattle.ace_model.specs.Transactions.{is_ace, has_name, outstanding, transfers}
-use Rattle.ace_model.specs.Rules.{k2, k4, has_known_codes, is_known_today, may_issue_read}
+use Rattle.ace_codes.specs.Reads.{ar_kind_of}
+use Rattle.ace_model.specs.Kinds.{is_read_unique, is_lite_read}
+use Rattle.ace_model.specs.Transactions.{is_ace, has_name, outstanding}
+use Rattle.ace_model.specs.Rules.{k2, k4, has_known_codes, may_issue_read}
 use Rattle.ace_model.proofs.Looks.{none_is, is_some_and-is, Some-injective, has_name-is, newest_named-cases, newest_named-older}
 use Rattle.ace_model.proofs.UniqueFacts.{IsKnown, TransactionsKnown, GrantsStand, TransfersAlone, QueueStands, Inductive}
 

@@ -1,5 +1,5 @@
 -- What holds at each point of an accepted trace beside the law that a unique line has one holder, and makes it inductive.
-use Rattle.std.proofs.Common.{ℕ, ◌≡◌, ◌≢◌, ◌≤◌, true, false, Option, Some, length, slice_get}
+use Rattle.std.proofs.Common.{ℕ, ◌≡◌, ◌≢◌, ◌≤◌, true, false, Some, slice_get}
 use Rattle.ace_codes.specs.declared.kind.ArKind.TheVariants as read
 use Rattle.ace_codes.specs.declared.kind.SnoopKind.TheVariants as snoop
 use Rattle.ace_codes.specs.declared.state.LineState.TheVariants.{I}
@@ -10,7 +10,7 @@ use Rattle.ace_model.specs.declared.transactions.Transaction.{Transaction}
 use Rattle.ace_model.specs.declared.snoops.Snoop.{Snoop}
 use Rattle.ace_model.specs.declared.snoops.Answer.{Answer}
 use Rattle.ace_model.specs.Trace.{Trace}
-use Rattle.ace_model.specs.Kinds.{ac_kind_of}
+use Rattle.ace_codes.specs.Snoops.{ac_kind_of}
 use Rattle.ace_model.specs.Transactions.{is_ace, read_kind, is_on, outstanding, completed, acknowledgements, transfers}
 use Rattle.ace_model.specs.Snoops.{snoops_of}
 use Rattle.ace_model.specs.Grants.{granted, answer_of}

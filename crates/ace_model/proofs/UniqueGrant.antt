@@ -1,5 +1,5 @@
 -- G: the line is granted to a transaction.
-use Rattle.std.proofs.Common.{◌≡◌, ◌≢◌, ◌⊎◌, ℕ, Bool, true, false, cond, not, ◌&&◌, ◌∷◌, Option, Some, None, refl, sym, ap, subst, ◌∙◌, inl, inr}
+use Rattle.std.proofs.Common.{◌≡◌, ℕ, true, false, not, ◌&&◌, ◌∷◌, Some, None, sym, ap, subst, ◌∙◌, inl, inr}
 use Rattle.std.proofs.lemmas.Bool.{and_parts, cases_Bool, eqb-true}
 use Rattle.ace_event.specs.declared.header.Header.{Header}
 use Rattle.ace_event.specs.declared.event.Channel.{Channel}
@@ -7,7 +7,7 @@ use Rattle.ace_event.specs.declared.event.Event.TheVariants.{G}
 use Rattle.ace_model.specs.declared.transactions.Transaction.{Transaction}
 use Rattle.ace_model.specs.Trace.{Trace}
 use Rattle.ace_model.specs.Transactions.{is_on, is_line, is_some_on, has_name, transaction_of, outstanding, takes_grant}
-use Rattle.ace_model.specs.Grants.{granted, given, has_grant, answer_of, gives_line, unless_given}
+use Rattle.ace_model.specs.Grants.{granted, has_grant}
 use Rattle.ace_model.specs.Rules.{k12, may_be_granted}
 use Rattle.ace_model.proofs.Looks.{none_is, is_some_and-is, has_name-is, newest_on-cases, newest_on-older}
 use Rattle.ace_model.proofs.Issued.{outstanding-named, transaction_of-stands}

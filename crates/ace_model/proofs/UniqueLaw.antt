@@ -1,13 +1,13 @@
 -- In an accepted trace a unique line has one holder.
-use Rattle.std.proofs.Common.{◌≡◌, ℕ, Bool, true, false, List, [], ◌∷◌, Option, Some, None, is_none, refl, ◌&&◌}
+use Rattle.std.proofs.Common.{◌≡◌, true, false, [], ◌∷◌, refl, ◌&&◌}
 use Rattle.std.proofs.lemmas.Bool.{and_parts}
 use Rattle.ace_event.specs.declared.header.Header.{Header}
 use Rattle.ace_event.specs.declared.event.Event.{Event}
 use Rattle.ace_event.specs.declared.event.Event.TheVariants.{Ar, R, Rk, Aw, W, B, Wk, Ac, Cr, Cd, G, M, S, L, D, Op}
 use Rattle.ace_model.specs.Trace.{Trace}
 use Rattle.ace_model.specs.Rules.{has_known_codes, is_known_today}
-use Rattle.ace_model.specs.Accepted.{IsAccepted, least_broken}
-use Rattle.ace_model.specs.Unique.{UniqueNow, Unique}
+use Rattle.ace_model.specs.Accepted.{IsAccepted}
+use Rattle.ace_model.specs.Unique.{Unique}
 use Rattle.ace_model.proofs.Kept.{Kept, kept}
 use Rattle.ace_model.proofs.UniqueFacts.{Inductive}
 use Rattle.ace_model.proofs.UniqueAddress.{known_ar, grants_ar, alone_ar, queue_ar}

@@ -1,6 +1,6 @@
 -- AC and CR: a port is snooped, and answers.
-use Rattle.std.proofs.Common.{◌≡◌, ◌≢◌, ◌⊎◌, ℕ, Bool, true, false, cond, not, ◌&&◌, nat_eq, nat_le, ◌∷◌, Option, Some, None, is_some, length, slice_get, unwrap_or, refl, sym, ap, subst, ◌∙◌, inl, inr}
-use Rattle.std.proofs.lemmas.Bool.{and_parts, and_from, cases_Bool, eqb-true}
+use Rattle.std.proofs.Common.{◌≡◌, ◌⊎◌, ℕ, Bool, true, false, cond, ◌&&◌, nat_eq, nat_le, [], ◌∷◌, Some, None, length, refl, ap, subst, ◌∙◌, inl, inr}
+use Rattle.std.proofs.lemmas.Bool.{and_parts, and_from, cases_Bool}
 use Rattle.ace_codes.specs.declared.kind.SnoopKind.{SnoopKind}
 use Rattle.ace_codes.specs.declared.kind.SnoopKind.TheVariants as snoop
 use Rattle.ace_codes.specs.declared.state.LineState.{LineState}
@@ -8,11 +8,13 @@ use Rattle.ace_codes.specs.declared.state.LineState.TheVariants.{I, UC, UD, SC, 
 use Rattle.ace_event.specs.declared.header.Header.{Header}
 use Rattle.ace_event.specs.declared.event.Event.TheVariants.{Ac, Cr}
 use Rattle.ace_model.specs.declared.snoops.Snoop.{Snoop}
-use Rattle.ace_model.specs.Trace.{Trace, is_some_and, is_none_or, newer}
-use Rattle.ace_model.specs.Kinds.{ac_kind_of, is_read_unique_snoop}
-use Rattle.ace_model.specs.Tables.{is_invalid, is_unique, is_snoop_row}
+use Rattle.ace_model.specs.Trace.{Trace}
+use Rattle.ace_codes.specs.Snoops.{ac_kind_of}
+use Rattle.ace_model.specs.Kinds.{is_read_unique_snoop}
+use Rattle.ace_tables.specs.Answers.{states_after, fits_answer, is_line_row, is_snoop_row}
+use Rattle.ace_tables.specs.States.{is_among, is_invalid, is_unique}
 use Rattle.ace_model.specs.Snoops.{snoop_at, snoops_of, answers, answered, is_snoop_on, answers_line}
-use Rattle.ace_model.specs.Grants.{grant_place, answers_grant, answer_of}
+use Rattle.ace_model.specs.Grants.{grant_place, answers_grant}
 use Rattle.ace_model.specs.States.{state_of}
 use Rattle.ace_model.specs.Unique.{UniqueNow}
 use Rattle.ace_model.specs.Rules.{k2, k14, k15, answers_by_row, has_known_codes}
@@ -49,19 +51,31 @@ snoops_ac h past q addr code f k p n s e =
     is_new false is = cc
 
 -- the rows of a ReadUnique snoop leave no state but I
-row_leaves_invalid : (held : LineState) (resp : ℕ) (next : LineState) → is_snoop_row snoop.ReadUnique held resp next ≡ true → next ≡ I
+only_invalid : (next : LineState) → is_among next (I ∷ []) ≡ true → next ≡ I
+only_invalid I e = refl
+only_invalid UC e = cc
+only_invalid UD e = cc
+only_invalid SC e = cc
+only_invalid SD e = cc
+
+line_row_leaves_invalid : (held : LineState) (resp : ℕ) (next : LineState) → is_line_row snoop.ReadUnique held false resp next ≡ true → next ≡ I
+line_row_leaves_invalid held resp next e =
+    let fits = and_parts (is_among next (states_after snoop.ReadUnique held) && fits_answer snoop.ReadUnique held next resp) _ e in
+    only_invalid next (and_parts (is_among next (states_after snoop.ReadUnique held)) _ fits.0).0
+
+row_leaves_invalid : (held : LineState) (resp : ℕ) (next : LineState) → is_snoop_row snoop.ReadUnique held false resp next ≡ true → next ≡ I
 row_leaves_invalid I resp next e = is_invalid-is next (and_parts (nat_eq resp 0) (is_invalid next) e).1
-row_leaves_invalid UC resp next e = is_invalid-is next (and_parts (is_invalid next) _ e).0
-row_leaves_invalid UD resp next e = is_invalid-is next (and_parts (is_invalid next) _ e).0
-row_leaves_invalid SC resp next e = is_invalid-is next (and_parts (is_invalid next) _ e).0
-row_leaves_invalid SD resp next e = is_invalid-is next (and_parts (is_invalid next) _ e).0
+row_leaves_invalid UC resp next e = line_row_leaves_invalid UC resp next e
+row_leaves_invalid UD resp next e = line_row_leaves_invalid UD resp next e
+row_leaves_invalid SC resp next e = line_row_leaves_invalid SC resp next e
+row_leaves_invalid SD resp next e = line_row_leaves_invalid SD resp next e
 
 -- a CR names the state I
 cr_invalid : (h : Header) (past : Trace) (q resp : ℕ) (st : LineState) → Inductive h past → k14 h past (Cr q resp st) ≡ true → k15 h past (Cr q resp st) ≡ true → st ≡ I
 cr_invalid h past q resp st f k m =
     let s = some_is (answered past q) k in
     let row = is_none_or-at (answered past q) (answers_by_row h past q resp st) s.0 m s.1 in
-    row_leaves_invalid (state_of h past q s.0.addr) resp st (is_none_or-at (ac_kind_of s.0.snoop) (λ kind. is_snoop_row kind (state_of h past q s.0.addr) resp st) snoop.ReadUnique row (f.snoops q (answers past q) s.0 s.1))
+    row_leaves_invalid (state_of h past q s.0.addr) resp st (is_none_or-at (ac_kind_of s.0.snoop) (λ kind. is_snoop_row kind (state_of h past q s.0.addr) false resp st) snoop.ReadUnique row (f.snoops q (answers past q) s.0 s.1))
 
 -- each state is as it was, or I
 pub state_cr : (h : Header) (past : Trace) (q resp r l : ℕ) (st : LineState) → Inductive h past → k14 h past (Cr q resp st) ≡ true → k15 h past (Cr q resp st) ≡ true

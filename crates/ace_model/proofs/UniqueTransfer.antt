@@ -1,19 +1,16 @@
 -- R: a transfer of a read.
-use Rattle.std.proofs.Common.{◌≡◌, ◌≢◌, ◌⊎◌, ℕ, zero, suc, ◌+◌, ◌<◌, ◌≤◌, Bool, true, false, cond, not, ◌&&◌, ◌||◌, nat_eq, nat_lt, ◌∷◌, Option, Some, None, is_none, length, slice_get, refl, sym, ap, subst, ◌∙◌, arith, inl, inr}
-use Rattle.std.proofs.lemmas.Bool.{and_parts, and_from, or_cases, cases_Bool, cases_eq, cases_lt, eqb-true, eq-eqb, ltb-true, not-true}
-use Rattle.ace_codes.specs.declared.kind.ArKind.{ArKind}
+use Rattle.std.proofs.Common.{◌≡◌, ◌⊎◌, ℕ, zero, suc, ◌+◌, ◌<◌, ◌≤◌, Bool, true, false, cond, not, ◌&&◌, ◌||◌, nat_eq, nat_lt, ◌∷◌, Option, Some, None, is_none, length, slice_get, refl, sym, ap, subst, ◌∙◌, arith, inl, inr}
+use Rattle.std.proofs.lemmas.Bool.{and_parts, and_from, or_cases, cases_Bool, cases_eq, eqb-true, eq-eqb, ltb-true, not-true}
 use Rattle.ace_codes.specs.declared.kind.ArKind.TheVariants as read
-use Rattle.ace_codes.specs.declared.state.LineState.TheVariants.{I}
 use Rattle.ace_event.specs.declared.header.Header.{Header}
 use Rattle.ace_event.specs.declared.event.Channel.{Channel}
 use Rattle.ace_event.specs.declared.event.Channel.TheVariants.{Read}
 use Rattle.ace_event.specs.declared.event.Event.TheVariants.{R}
 use Rattle.ace_model.specs.declared.transactions.Transaction.{Transaction}
 use Rattle.ace_model.specs.declared.snoops.Answer.{Answer}
-use Rattle.ace_model.specs.Trace.{Trace, implies, same_test, is_some_and}
-use Rattle.ace_model.specs.Kinds.{is_line_read}
-use Rattle.ace_model.specs.Tables.{is_invalid}
-use Rattle.ace_model.specs.Transactions.{is_ace, read_kind, is_line, is_transaction, is_exclusive_store, snoop_of, ended, without, transaction_of, outstanding, transfers, completed, completes, acknowledgements}
+use Rattle.ace_model.specs.Trace.{Trace, implies, is_some_and}
+use Rattle.ace_tables.specs.States.{is_invalid}
+use Rattle.ace_model.specs.Transactions.{is_ace, read_kind, is_line, is_exclusive_store, snoop_of, ended, without, transaction_of, outstanding, transfers, completed, completes, acknowledgements}
 use Rattle.ace_model.specs.Grants.{granted, is_granted, was_snooped, answer_of, owes_answer, owes_data, each_port}
 use Rattle.ace_model.specs.States.{state_of, is_port_done, are_snoops_done}
 use Rattle.ace_model.specs.Exclusives.{has_failed}

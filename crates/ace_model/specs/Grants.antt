@@ -8,7 +8,7 @@ use Rattle.ace_event.specs.declared.event.Event.TheVariants.{Ac, Cr, G}
 use Rattle.ace_model.specs.declared.transactions.Transaction.{Transaction}
 use Rattle.ace_model.specs.declared.snoops.Answer.{Answer}
 use Rattle.ace_model.specs.Trace.{Trace, is_some_and, newer}
-use Rattle.ace_model.specs.Responses.{transfers_data, passes_dirty, is_shared}
+use Rattle.ace_codes.specs.Responses.{transfers_data, passes_dirty, is_shared}
 use Rattle.ace_model.specs.Transactions.{is_named, is_transaction, is_read, is_on, is_some_on, issued, transaction_of, ended, without, transfers}
 use Rattle.ace_model.specs.Writes.{has_memory_write}
 use Rattle.ace_model.specs.Snoops.{answered, is_snoop_on, snoops_a_line, data_answers, data_beats}

@@ -1,7 +1,5 @@
 pub mod Trace
 pub mod Kinds
-pub mod Responses
-pub mod Tables
 pub mod Transactions
 pub mod Writes
 pub mod Snoops

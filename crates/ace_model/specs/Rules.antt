@@ -11,9 +11,14 @@ use Rattle.ace_event.specs.declared.event.Event.TheVariants.{Ar, R, Rk, Aw, B, W
 use Rattle.ace_model.specs.declared.transactions.Transaction.{Transaction}
 use Rattle.ace_model.specs.declared.snoops.Snoop.{Snoop}
 use Rattle.ace_model.specs.Trace.{Trace, port_of, implies, same_test, is_some_and, is_none_or}
-use Rattle.ace_model.specs.Kinds.{ar_kind_of, aw_kind_of, ac_kind_of, ac_code, is_line_read, is_line_write, is_lite_read, is_lite_write, is_read_unique, is_read_unique_snoop, is_read_not_shared_dirty, is_clean_unique, is_make_unique, may_be_exclusive, may_be_shared, takes_passed_data, beats_of}
-use Rattle.ace_model.specs.Responses.{has_error, passes_dirty, is_shared, low_bits}
-use Rattle.ace_model.specs.Tables.{starts_read, starts_write, ends_read, is_snoop_row}
+use Rattle.ace_codes.specs.Reads.{ar_kind_of}
+use Rattle.ace_codes.specs.Snoops.{ac_kind_of, ac_code}
+use Rattle.ace_codes.specs.Writes.{aw_kind_of}
+use Rattle.ace_model.specs.Kinds.{is_line_read, is_line_write, is_lite_read, is_lite_write, is_read_unique, is_read_unique_snoop, is_read_not_shared_dirty, is_clean_unique, is_make_unique, may_be_exclusive, may_be_shared, takes_passed_data, beats_of}
+use Rattle.ace_codes.specs.Responses.{has_error, passes_dirty, is_shared, low_bits}
+use Rattle.ace_tables.specs.Answers.{is_snoop_row}
+use Rattle.ace_tables.specs.EndStates.{ends_read}
+use Rattle.ace_tables.specs.StartStates.{starts_read, starts_write}
 use Rattle.ace_model.specs.Transactions.{is_ace, read_kind, write_kind, is_line, takes_grant, snoop_of, issued, outstanding, has_outstanding_on, next_complete, acknowledged, transfers, first_resp}
 use Rattle.ace_model.specs.Snoops.{answered, snoops_a_line}
 use Rattle.ace_model.specs.Grants.{granted, is_granted, has_grant, is_begun, was_snooped, has_sharer, has_passed_data, are_passed_data_whole}
@@ -158,7 +163,7 @@ k14 h past _ = true
 -- the answer is a row of the snoop and the state that the port holds
 abbrev pub answers_by_row : Header → Trace → ℕ → ℕ → LineState → Snoop → Bool
 answers_by_row h past p resp st s =
-    is_none_or (ac_kind_of s.snoop) (λ k. is_snoop_row k (state_of h past p s.addr) resp st)
+    is_none_or (ac_kind_of s.snoop) (λ k. is_snoop_row k (state_of h past p s.addr) false resp st)
 
 -- K15: the response and the state of a CR are a row of the snoop and of the port's state, without regard to memory
 -- updates (Arm IHI 0022E, C5).

@@ -8,7 +8,7 @@ use Rattle.ace_event.specs.declared.event.Event.{Event}
 use Rattle.ace_event.specs.declared.event.Event.TheVariants.{Rk, Wk, Cr, S, D}
 use Rattle.ace_model.specs.declared.transactions.Transaction.{Transaction}
 use Rattle.ace_model.specs.Trace.{Trace, is_some_and}
-use Rattle.ace_model.specs.Tables.{is_invalid}
+use Rattle.ace_tables.specs.States.{is_invalid}
 use Rattle.ace_model.specs.Transactions.{is_ace, is_read, is_named, is_some_on, is_make_unique_on, snoop_of, issued, acknowledged, is_outstanding, is_outstanding_on, is_complete, some_issued, outstanding}
 use Rattle.ace_model.specs.Snoops.{answers_line}
 use Rattle.ace_model.specs.Grants.{was_snooped, owes_answer, owes_data, each_port}

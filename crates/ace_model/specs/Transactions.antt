@@ -12,8 +12,10 @@ use Rattle.ace_event.specs.declared.event.Event.{Event}
 use Rattle.ace_event.specs.declared.event.Event.TheVariants.{Ar, R, Rk, Aw, B, Wk}
 use Rattle.ace_model.specs.declared.transactions.Transaction.{Transaction}
 use Rattle.ace_model.specs.Trace.{Trace, is_some_and}
-use Rattle.ace_model.specs.Kinds.{ar_kind_of, aw_kind_of, is_line_read, is_line_write, is_granted_write, is_clean_unique, is_make_unique}
-use Rattle.ace_model.specs.Tables.{snoop_of_read, snoop_of_write}
+use Rattle.ace_codes.specs.Reads.{ar_kind_of}
+use Rattle.ace_codes.specs.Writes.{aw_kind_of}
+use Rattle.ace_model.specs.Kinds.{is_line_read, is_line_write, is_granted_write, is_clean_unique, is_make_unique}
+use Rattle.ace_tables.specs.SnoopKinds.{snoop_of_read, snoop_of_write}
 
 -- the port is an ACE port of the header
 abbrev pub is_ace : Header → ℕ → Bool

@@ -3,7 +3,7 @@ use Rattle.std.specs.Prelude.{ℕ, ◌≡◌, ◌≢◌, true, [], ◌∷◌}
 use Rattle.ace_codes.specs.declared.state.LineState.TheVariants.{I}
 use Rattle.ace_event.specs.declared.header.Header.{Header}
 use Rattle.ace_model.specs.Trace.{Trace}
-use Rattle.ace_model.specs.Tables.{is_unique}
+use Rattle.ace_tables.specs.States.{is_unique}
 use Rattle.ace_model.specs.States.{state_of}
 
 -- where a port holds a line in UC or UD, every other port's state of it is I

@@ -1,5 +1,7 @@
 use Rattle.std.proofs.Common.{refl}
-use Rattle.ace_model.specs.Kinds.{ar_kind_of, aw_kind_of, ac_kind_of}
+use Rattle.ace_codes.specs.Reads.{ar_kind_of}
+use Rattle.ace_codes.specs.Snoops.{ac_kind_of}
+use Rattle.ace_codes.specs.Writes.{aw_kind_of}
 use Rattle.ace_model.proofs.rows.makes_unique.Goals as goal
 
 pub returns-clause-wants : goal.returns-clause-wants

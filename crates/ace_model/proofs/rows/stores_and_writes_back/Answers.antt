@@ -1,5 +1,7 @@
 use Rattle.std.proofs.Common.{refl}
-use Rattle.ace_model.specs.Kinds.{ar_kind_of, aw_kind_of, ac_kind_of}
+use Rattle.ace_codes.specs.Reads.{ar_kind_of}
+use Rattle.ace_codes.specs.Snoops.{ac_kind_of}
+use Rattle.ace_codes.specs.Writes.{aw_kind_of}
 use Rattle.ace_model.proofs.rows.stores_and_writes_back.Goals as goal
 
 pub returns-clause-got : goal.returns-clause-got
