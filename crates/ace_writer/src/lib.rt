@@ -6,6 +6,8 @@ mod fields;
 mod give;
 mod header;
 mod records;
+#[cfg(test)]
+mod tests;
 mod text_buf;
 mod writer;
 

@@ -28,7 +28,8 @@ pub struct Writer<'a, K: Sink> {
 impl<'a, K: Sink> Writer<'a, K> {
     ghost use Rattle.ace_writer.specs.Given.{sink_of, in_hand, has_failed, given_of, GivesFront};
 
-    /// A writer whose text is the header's, none of it given yet. So it always succeeds.
+    /// A writer whose text is the header's two lines. Nothing is given yet, so it always succeeds: where the sink fails,
+    /// a later call answers so.
     pub fn start(sink: &'a mut K, header: &Header) -> Result<Writer<'a, K>, WriteErr>
         requires { IsHeader header.now }
         ensures always { IsOk result }
