@@ -19,6 +19,7 @@ pub enum Step {
 /// Why an event was not looked at.
 #[derive(Clone, Copy, Debug, PartialEq, Eq, Error)]
 pub enum CheckErr {
+    /// There is no memory for one more event.
     #[error("out of memory")]
     NoMemory,
 }
@@ -36,9 +37,10 @@ pub struct Checker {
 impl Checker {
     ghost use Rattle.std.specs.Prelude.{◌≡◌, [], None, IfOk, OnErr, length};
     ghost use Rattle.ace_model.specs.Accepted.{IsAccepted};
+    ghost use Rattle.ace_model.specs.Unique.{Unique};
     ghost use Rattle.ace_check.specs.Run.{header_of, past_of, break_of, IsAnswer, past_after, break_after};
 
-    /// The checker of the empty trace under this header.
+    /// The checker of the empty trace under this header. Its only refusal is `NoMemory`.
     pub fn new(alloc: Global, header: Header) -> Result<Checker, CheckErr>
         ensures header { IfOk result (λ c. header_of c ≡ header) }
         ensures past { IfOk result (λ c. past_of c ≡ []) }
@@ -51,17 +53,20 @@ impl Checker {
         })
     }
 
-    /// Looks at the next event of the trace. After `NoMemory` the checker is as it was.
+    /// Looks at the next event of the trace, and keeps it where it is fine. Its only refusal is `NoMemory`, after which
+    /// the checker is as it was; an event that breaks a rule takes no memory.
     pub fn feed(&mut self, event: &Event) -> Result<Step, CheckErr>
         ensures answer { IfOk result (IsAnswer self.old event.now) }
         ensures past { IfOk result (λ s. past_of self.new ≡ past_after (past_of self.old) event.now s) }
         ensures broken { IfOk result (λ s. break_of self.new ≡ break_after s) }
         ensures header { header_of self.new ≡ header_of self.old }
 
+        ensures err_fine { OnErr result (IsAnswer self.old event.now Step.Fine) }
         ensures err_past { OnErr result (past_of self.new ≡ past_of self.old) }
         ensures err_broken { OnErr result (break_of self.new ≡ break_of self.old) }
 
         ensures accepted { IsAccepted (header_of self.new) (past_of self.new) }
+        ensures unique { Unique (header_of self.new) (past_of self.new) }
     {
         if let Some(Break { index, rule }) = self.broken {
             return Ok(Step::Broken { index, rule });

@@ -1,7 +1,7 @@
 //! The least rule that an event breaks.
 
-ghost use Rattle.std.specs.Prelude.{◌≡◌, reverse};
-ghost use Rattle.ace_model.specs.Accepted.{IsAccepted, least_broken};
+ghost use Rattle.std.specs.Prelude.{◌≡◌, reverse, drop};
+ghost use Rattle.ace_model.specs.Accepted.{IsAccepted, rules, least_of, least_broken};
 
 use crate::rules::{
     keeps_alignment, keeps_answer, keeps_codes, keeps_free_line, keeps_free_name, keeps_grant,
@@ -38,6 +38,14 @@ pub fn least_broken(h: &Header, past: &[Event], e: &Event) -> Option<u8>
     if !keeps_lock(h, past, e) {
         return Some(7);
     }
+    least_from_grants(h, past, e)
+}
+
+/// The least rule from K12 on that it breaks.
+fn least_from_grants(h: &Header, past: &[Event], e: &Event) -> Option<u8>
+    requires { IsAccepted h.now (reverse past.now) }
+    ensures { result ≡ least_of (drop 7 rules) h.now (reverse past.now) e.now }
+{
     if !keeps_grant(h, past, e) {
         return Some(12);
     }

@@ -14,7 +14,8 @@ pub record Rule : Type 0 where
 abbrev pub rule : ℕ → (Header → Trace → Event → Bool) → Rule
 rule n keeps = record { number = n; keeps = keeps }
 
--- the rules, the least number first; the others speak of events that are not known today
+-- The rules, the least number first. Today's limit: K20, on the data of a read, is not looked at, and the others that
+-- are missing speak of transactions and records that are not known.
 abbrev pub rules : List Rule
 rules =
     rule 1 k1 ∷ rule 2 k2 ∷ rule 3 k3 ∷ rule 4 k4 ∷ rule 5 k5 ∷ rule 6 k6 ∷ rule 7 k7 ∷ rule 12 k12 ∷ rule 13 k13
