@@ -2,9 +2,8 @@
 use Rattle.std.proofs.Common.{◌≡◌, ◌≢◌, ℕ, ◌<◌, List, [], ◌∷◌, ◌++◌, length, Option, Some, None, refl, sym, ap, subst, ◌∙◌, arith, inl, inr, ◌⊎◌, append_assoc}
 use Rattle.std.specs.Prelude.{codes}
 use Rattle.std.specs.Io.KnownBytes.{Consumes, IsAtEnd}
-use Rattle.std.proofs.lemmas.List.{length-replicate}
-use Rattle.std.proofs.lemmas.List.Elements.{recursion_from_All, All-from_recursion, All-replicate}
-use Rattle.std.proofs.Math.ListN.{replicate}
+use Rattle.std.proofs.lemmas.List.Elements.{recursion_from_All, All-from_recursion}
+use Rattle.std.specs.List.{range_with_len}
 use Rattle.std.proofs.lemmas.Bool.{cases_lt}
 use Rattle.std.proofs.KnownBytes.{Consumes-trans}
 use Rattle.ace_event.specs.Ports.{port_letters}
@@ -15,7 +14,7 @@ use Rattle.ace_event.specs.Text.{event_text, line_text, header_text}
 use Rattle.ace_grammar.specs.Reading.{IsReadable, IsReadableHeader, HasBadLine, HasBadHeader, IfTold, ports_text}
 use Rattle.ace_grammar.specs.Lines.{HasNoLine}
 use Rattle.ace_grammar.proofs.Exact.{IsClean, clean-append}
-use Rattle.ace_grammar.proofs.Letters.{readable_letters, readable_count}
+use Rattle.ace_grammar.proofs.Letters.{letters-clean, letters-length}
 use Rattle.ace_grammar.proofs.LineTexts.{event_clean, event_short}
 
 clean_line : (line : List ℕ) → HasNoLf line → IsClean line
@@ -103,18 +102,12 @@ no_line_at_end (Some xs) (Some ys) line nil end c =
 version_clean : IsClean (codes "ACE 1")
 version_clean = grind arith
 
-letters_clean : (header : Header) → IsReadableHeader header → IsClean (port_letters header)
-letters_clean header h =
-    let eleven : (n : ℕ) → n ≡ 65 → n ≢ 10 = λ n e f. omega arith in
-    subst IsClean (sym (readable_letters header h.1)) (recursion_from_All (λ b. b ≢ 10) (replicate header.ports 65) (All-replicate (λ b. b ≢ 10) header.ports 65 (eleven 65 refl)))
-
 pub ports_clean : (header : Header) → IsReadableHeader header → IsClean (ports_text header)
-ports_clean header h = clean-append (codes "PORTS ") (port_letters header) (grind arith) (letters_clean header h)
+ports_clean header h = clean-append (codes "PORTS ") (port_letters header) (grind arith) (letters-clean header.ace (range_with_len 0 header.ports))
 
 ports_short : (header : Header) → IsReadableHeader header → length (ports_text header) < 256
 ports_short header h =
-    let size : length (port_letters header) ≡ header.ports = ap length (readable_letters header h.1) ∙ length-replicate header.ports 65 in
-    omega (arith, size, readable_count header h)
+    omega (arith, letters-length header, h.most_ports)
 
 -- the header lines at the front of the bytes, one by one
 header_lines : (xs rest : List ℕ) (header : Header) → xs ≡ header_text header ++ rest → xs ≡ line_text (codes "ACE 1") ++ (line_text (ports_text header) ++ rest)

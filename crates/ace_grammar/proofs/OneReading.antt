@@ -2,8 +2,7 @@
 use Rattle.std.proofs.Common.{◌≡◌, ◌≢◌, ℕ, suc, ◌+◌, ◌<◌, ◌≤◌, List, [], ◌∷◌, ◌++◌, length, refl, sym, ap, subst, ◌∙◌, arith, append_assoc}
 use Rattle.std.specs.Prelude.{codes}
 use Rattle.std.specs.List.{AllByRecursion}
-use Rattle.std.proofs.lemmas.List.{append_cancel_left, length-replicate}
-use Rattle.std.proofs.lemmas.Nat.Bits.{same_from_bits_below}
+use Rattle.std.proofs.lemmas.List.{append_cancel_left}
 use Rattle.ace_event.specs.declared.event.Event.{Event}
 use Rattle.ace_event.specs.declared.header.Header.{Header}
 use Rattle.ace_event.specs.Ports.{port_letters}
@@ -12,7 +11,7 @@ use Rattle.ace_grammar.specs.Reading.{IsReadable, IsReadableHeader, HasBadLine, 
 use Rattle.ace_grammar.specs.Records.{event_at}
 use Rattle.ace_grammar.proofs.Options.{some_is}
 use Rattle.ace_grammar.proofs.Cut.{same_line, not_empty, second_line, ports_clean}
-use Rattle.ace_grammar.proofs.Letters.{readable_letters, ace_bit}
+use Rattle.ace_grammar.proofs.Letters.{same_header}
 use Rattle.ace_grammar.proofs.LineTexts.{event_again, event_clean}
 
 -- what stands after so many events, by the ending
@@ -70,18 +69,6 @@ same_events before (first ∷ one) (second ∷ other) end end' rest rest' h k e 
     let count' : before + suc (length other) ≡ suc before + length other = omega arith in
     let tail = same_events (suc before) one other end end' rest rest' h.1 k.1 split.1 (subst (λ c. EndsAt end c rest) count p) (subst (λ c. EndsAt end' c rest') count' q) in
     (ap (λ x. x ∷ one) event ∙ ap (λ (l : List Event). second ∷ l) tail.0, tail.1)
-
--- readable headers with the same letters are one
-same_header : (one other : Header) → IsReadableHeader one → IsReadableHeader other → port_letters one ≡ port_letters other → one ≡ other
-same_header one other h k same =
-    let size : one.ports ≡ other.ports =
-    sym (ap length (readable_letters one h.1) ∙ length-replicate one.ports 65) ∙ ap length same ∙ ap length (readable_letters other k.1) ∙ length-replicate other.ports 65 in
-    let bits : one.ace ≡ other.ace = same_from_bits_below one.ports one.ace other.ace h.0.no_other (rw size k.0.no_other)
-    (λ p lt. ace_bit one p (h.1 p lt) ∙ sym (ace_bit other p (k.1 p (omega (arith, lt, size))))) in
-    let version : one.version ≡ other.version = h.0.version ∙ sym k.0.version in
-    ap (λ v. record { version = v; ports = one.ports; ace = one.ace }) version
-    ∙ ap (λ p. record { version = other.version; ports = p; ace = one.ace }) size
-    ∙ ap (λ a. record { version = other.version; ports = other.ports; ace = a }) bits
 
 -- the header and the bytes behind it
 same_headers : (one other : Header) (rest rest' : List ℕ) → IsReadableHeader one → IsReadableHeader other → header_text one ++ rest ≡ header_text other ++ rest' → (one ≡ other) × (rest ≡ rest')

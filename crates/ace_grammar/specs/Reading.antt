@@ -2,34 +2,18 @@
 use Rattle.std.specs.Prelude.{◌≡◌, ◌≢◌, ℕ, ◌<◌, ◌≤◌, List, [], ◌++◌, length, codes, Option, None, Some}
 use Rattle.std.specs.List.{AllByRecursion}
 use Rattle.ace_event.specs.declared.header.Header.{Header}
-use Rattle.ace_event.specs.declared.header.PortKind.TheVariants.{Ace}
 use Rattle.ace_event.specs.declared.event.Event.{Event}
-use Rattle.ace_event.specs.declared.event.Event.TheVariants.{Ar, R, Rk, Ac, Cr, G}
-use Rattle.ace_event.specs.Ports.{IsHeader, port_kind, port_letters}
+use Rattle.ace_event.specs.Ports.{IsHeader, port_letters}
 use Rattle.ace_event.specs.Range.{InRange}
 use Rattle.ace_event.specs.Text.{event_text, line_text, header_text, trace_text}
 
--- The records that are read today. A line of any other record is malformed.
-abbrev pub IsRead : Event → Type 0
-IsRead (Ar port id addr snoop dom bar lock) = Unit {0}
-IsRead (R port id resp last word) = Unit {0}
-IsRead (Rk port st) = Unit {0}
-IsRead (Ac port addr snoop) = Unit {0}
-IsRead (Cr port resp st) = Unit {0}
-IsRead (G port chan id) = Unit {0}
-IsRead _ = ⊥
-
--- The headers that are read today: every port is an ACE port.
-abbrev pub HasAceAlone : Header → Type 0
-HasAceAlone header = (p : ℕ) → p < header.ports → port_kind header p ≡ Some Ace
-
 -- an event whose line is read
 abbrev pub IsReadable : Event → Type 0
-IsReadable event = IsRead event × InRange event
+IsReadable event = InRange event
 
 -- a header whose two lines are read
 abbrev pub IsReadableHeader : Header → Type 0
-IsReadableHeader header = IsHeader header × HasAceAlone header
+IsReadableHeader header = IsHeader header
 
 -- the second header line, without its line feed
 abbrev pub ports_text : Header → List ℕ

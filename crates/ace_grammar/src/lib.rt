@@ -1,4 +1,4 @@
-//! The reader of trace text: exactly the grammar of the header and of the events that it knows.
+//! The reader of trace text: exactly the grammar of the header and of the events.
 #![tactic(auto)]
 
 mod error;
@@ -7,6 +7,7 @@ mod fields;
 mod header;
 pub mod laws;
 mod reader;
+mod records;
 
 pub use error::ReadErr;
 pub use event::parse_event;

@@ -2,7 +2,7 @@
 
 use crate::{ReadErr, parse_event, read_event, read_header};
 use ace_codes::LineState;
-use ace_event::{Channel, Event, Header};
+use ace_event::{Channel, Event, Header, Line, Outcome};
 use ace_io::{HonestSource, LineBuf, LineReader, MemSource, Source};
 use std::alloc::Global;
 use std::test::Fail;
@@ -10,7 +10,7 @@ use std::test::Fail;
 #[test]
 fn reads_each_record(rt: HostRuntime) {
     let word = 0x0123_4567_89ab_cdef_0011_2233_4455_6677;
-    let cases: [(&[u8], Event); 12] = [
+    let cases: [(&[u8], Event); 22] = [
         (
             b"AR a 5 0123cdef 7 2 1 0",
             Event::Ar {
@@ -70,6 +70,41 @@ fn reads_each_record(rt: HostRuntime) {
             },
         ),
         (
+            b"AW c 6 fedcba98 7 3 2",
+            Event::Aw {
+                port: 12,
+                id: 6,
+                addr: 0xfedc_ba98,
+                snoop: 7,
+                dom: 3,
+                bar: 2,
+            },
+        ),
+        (
+            b"W d ac0f 1 0123456789abcdef0011223344556677",
+            Event::W {
+                port: 13,
+                strb: 0xac0f,
+                last: true,
+                word,
+            },
+        ),
+        (
+            b"B e f 3",
+            Event::B {
+                port: 14,
+                id: 15,
+                resp: 3,
+            },
+        ),
+        (
+            b"WK 2 SC",
+            Event::Wk {
+                port: 2,
+                st: LineState::SC,
+            },
+        ),
+        (
             b"AC 4 89abcdef e",
             Event::Ac {
                 port: 4,
@@ -102,6 +137,14 @@ fn reads_each_record(rt: HostRuntime) {
             },
         ),
         (
+            b"CD 8 1 0123456789abcdef0011223344556677",
+            Event::Cd {
+                port: 8,
+                last: true,
+                word,
+            },
+        ),
+        (
             b"G 8 R 9",
             Event::G {
                 port: 8,
@@ -117,9 +160,82 @@ fn reads_each_record(rt: HostRuntime) {
                 id: 8,
             },
         ),
+        (
+            b"S 1 00000fc0 SC",
+            Event::S {
+                port: 1,
+                addr: 0xfc0,
+                st: LineState::SC,
+            },
+        ),
+        (
+            b"L 2 000000c0 3 1 0123456789abcdef0011223344556677",
+            Event::L {
+                port: 2,
+                addr: 0xc0,
+                w: 3,
+                x: true,
+                word,
+            },
+        ),
+        (
+            b"OP 3 01ff ok",
+            Event::Op {
+                port: 3,
+                k: 0x1ff,
+                res: Outcome::Ok,
+            },
+        ),
+        (
+            b"OP 4 8000 skip",
+            Event::Op {
+                port: 4,
+                k: 0x8000,
+                res: Outcome::Skip,
+            },
+        ),
+        (
+            b"OP f ffff fail",
+            Event::Op {
+                port: 15,
+                k: 0xffff,
+                res: Outcome::Fail,
+            },
+        ),
     ];
     for (line, event) in cases {
         assert_eq!(rt; parse_event(line), Some(event));
+    }
+}
+
+#[test]
+fn reads_lines_of_memory(rt: HostRuntime) {
+    let line = Line {
+        words: [0x10, u128::MAX, 0x2000, 1 << 127],
+    };
+    let cases: [(&[u8], Event); 2] = [
+        (
+            b"M 1 W 2 00000000000000000000000000000010ffffffffffffffffffffffffffffffff0000000000000000000000000000200080000000000000000000000000000000",
+            Event::M {
+                port: 1,
+                chan: Channel::Write,
+                id: 2,
+                line,
+            },
+        ),
+        (
+            b"D 3 00000040 8000000000000001 1 00000000000000000000000000000010ffffffffffffffffffffffffffffffff0000000000000000000000000000200080000000000000000000000000000000",
+            Event::D {
+                port: 3,
+                addr: 0x40,
+                strobe: 0x8000_0000_0000_0001,
+                x: true,
+                line,
+            },
+        ),
+    ];
+    for (text, event) in cases {
+        assert_eq!(rt; parse_event(text), Some(event));
     }
 }
 
@@ -134,10 +250,10 @@ fn refuses_other_lines(rt: HostRuntime) {
         b"AR",
         b"AR ",
         b"ar 0 0 00000040 7 1 0 0",
-        b"OP 0 0000 ok",
-        b"S 0 00000040 I",
-        b"AW 0 0 00000040 3 1 0",
-        b"CD 0 1 00000000000000000000000000000000",
+        b"op 0 0000 ok",
+        b"OK 0 0000 ok",
+        b"WR 0 I",
+        b"CK 0 I",
         b"RKK 0 I",
         b"GR 0 R 0",
         // too many fields, too few, and empty ones
@@ -220,8 +336,14 @@ fn reads_traces_in_pieces(rt: HostRuntime) -> Result<(), Fail> {
         ports: 8,
         ace: 0xff,
     };
+    let mixed = Header {
+        version: 1,
+        ports: 16,
+        ace: 0xe80f,
+    };
     let bad = Err(ReadErr::Malformed);
-    let cases: [(&[u8], End); 22] = [
+    let cases: [(&[u8], End); 24] = [
+        (b"ACE 1\nPORTS AAAALLLLLLLALAAA\n", End::After(0, Ok(mixed))),
         (b"ACE 1\nPORTS A\n", End::After(0, Ok(one))),
         (b"ACE 1\nPORTS AAAAAAAA\n", End::After(0, Ok(eight))),
         (b"ACE 1\nPORTS A\nRK 0 I\nG 0 R 0\n", End::After(2, Ok(one))),
@@ -244,7 +366,11 @@ fn reads_traces_in_pieces(rt: HostRuntime) -> Result<(), Fail> {
             b"ACE 1\nPORTS AAAAAAAAA\n",
             End::BadHeader(ReadErr::Malformed),
         ),
-        (b"ACE 1\nPORTS AL\n", End::BadHeader(ReadErr::Malformed)),
+        (
+            b"ACE 1\nPORTS LLLLLLLLLAA\n",
+            End::BadHeader(ReadErr::Malformed),
+        ),
+        (b"ACE 1\nPORTS AM\n", End::BadHeader(ReadErr::Malformed)),
         (b"ACE 1\nPORTS a\n", End::BadHeader(ReadErr::Malformed)),
         (b"ACE 1\nPORTS A A\n", End::BadHeader(ReadErr::Malformed)),
     ];
