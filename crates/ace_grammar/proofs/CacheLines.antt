@@ -13,7 +13,7 @@ abbrev pub words : Rest LineWords
 words = word then next_word then next_word then last next_word
 
 -- the digits of four words
-four_texts : (text : ℕ → List ℕ) (a b c d : ℕ) → text a ++ (text b ++ (text c ++ text d)) ≡ flat_map text (a ∷ b ∷ c ∷ d ∷ [])
+pub four_texts : (text : ℕ → List ℕ) (a b c d : ℕ) → text a ++ (text b ++ (text c ++ text d)) ≡ flat_map text (a ∷ b ∷ c ∷ d ∷ [])
 four_texts text a b c d = ap (λ (l : List ℕ). text a ++ (text b ++ (text c ++ l))) (sym (append-nil (text d)))
 
 digits_of_four : (f : LineWords) → words.text f ≡ 32 ∷ line_digits (line_of f)

@@ -39,13 +39,13 @@ number_exact count most room = takes_spaced (digits_at count most) (hex_text cou
 abbrev pub Any : {A : Type 0} → A → Type 0
 Any value = Unit {0}
 
-bit_text : (bit : ℕ) → bit ≤ 1 → hex_text 1 bit ≡ flag_text (eqb bit 1)
+pub bit_text : (bit : ℕ) → bit ≤ 1 → hex_text 1 bit ≡ flag_text (eqb bit 1)
 unfolding hex_text
 bit_text zero h = refl
 bit_text (suc zero) h = refl
 bit_text (suc (suc n)) h = absurd (omega arith)
 
-flag_bit : (flag : Bool) → (bit : ℕ) × (bit ≤ 1) × (eqb bit 1 ≡ flag)
+pub flag_bit : (flag : Bool) → (bit : ℕ) × (bit ≤ 1) × (eqb bit 1 ≡ flag)
 flag_bit false = (0, omega arith, refl)
 flag_bit true = (1, omega arith, refl)
 
@@ -128,7 +128,7 @@ pub channel_exact : Takes channel_at (λ channel. 32 ∷ channel_text channel) A
 unfolding channel_at
 channel_exact = takes_spaced letter_at channel_text Any 1 letter_exact
 
-state_takes : (bytes : List ℕ) (st : LineState) → state_of bytes ≡ Some st → bytes ≡ state_text st
+pub state_takes : (bytes : List ℕ) (st : LineState) → state_of bytes ≡ Some st → bytes ≡ state_text st
 state_takes bytes st e =
     elim (chosen (bytes_eq bytes (codes "I")) (Some I) _ (Some st) e) [
       | inl p ↦ (bytes_eq-Decides bytes (codes "I")).0 p.0 ∙ ap state_text (some_is I st p.1)
@@ -151,7 +151,7 @@ state_takes bytes st e =
           ]
     ]
 
-state_again : (st : LineState) → state_of (state_text st) ≡ Some st
+pub state_again : (st : LineState) → state_of (state_text st) ≡ Some st
 state_again I = refl
 state_again UC = refl
 state_again UD = refl
@@ -184,7 +184,7 @@ pub state_exact : ReadsAll state_at (λ st. 32 ∷ state_text st) Any 3
 unfolding state_at
 state_exact = reads_spaced state_of state_text Any 2 word_exact
 
-outcome_takes : (bytes : List ℕ) (res : Outcome) → outcome_of bytes ≡ Some res → bytes ≡ outcome_text res
+pub outcome_takes : (bytes : List ℕ) (res : Outcome) → outcome_of bytes ≡ Some res → bytes ≡ outcome_text res
 outcome_takes bytes res e =
     elim (chosen (bytes_eq bytes (codes "ok")) (Some Ok) _ (Some res) e) [
       | inl p ↦ (bytes_eq-Decides bytes (codes "ok")).0 p.0 ∙ ap outcome_text (some_is Ok res p.1)
@@ -199,7 +199,7 @@ outcome_takes bytes res e =
           ]
     ]
 
-outcome_again : (res : Outcome) → outcome_of (outcome_text res) ≡ Some res
+pub outcome_again : (res : Outcome) → outcome_of (outcome_text res) ≡ Some res
 outcome_again Ok = refl
 outcome_again Skip = refl
 outcome_again Fail = refl

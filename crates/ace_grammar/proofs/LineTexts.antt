@@ -1,6 +1,5 @@
 -- Lines: what is read from a line is exactly a readable event.
 use Rattle.std.proofs.Common.{◌≡◌, ◌≢◌, ℕ, ◌<◌, Bool, true, cond, List, [], ◌∷◌, ◌++◌, length, Option, Some, None, refl, sym, ap, subst, ◌∙◌, arith, eqb, inl, inr}
-use Rattle.std.specs.Prelude.{MatchOption}
 use Rattle.std.specs.Option.{option_map}
 use Rattle.std.proofs.lemmas.Bool.{eqb-true}
 use Rattle.ace_event.specs.declared.event.Event.{Event}
@@ -218,12 +217,3 @@ event_short (S port addr st) h = omega (arith, s.exact.short (port, (addr, st)) 
 event_short (L port addr w x word) h = omega (arith, l.exact.short (port, (addr, (w, (x, word)))) (omega (arith, h.0), (omega (arith, h.1), (h.2, (tt, omega (arith, h.3))))))
 event_short (D port addr strobe x line) h = omega (arith, d.exact.short (port, (addr, (strobe, (x, line)))) (omega (arith, h.0), (omega (arith, h.1), (omega (arith, h.2), (tt, h.3)))))
 event_short (Op port k res) h = omega (arith, op.exact.short (port, (k, res)) (omega (arith, h.0), (omega (arith, h.1), tt)))
-
-no_event : (line : List ℕ) → event_at line ≡ None → (event : Event) → IsReadable event → event_text event ≢ line
-no_event line none event h same = none_isn't event _ (sym none ∙ ap event_at (sym same) ∙ event_again event h)
-
--- what is read of a line, and when nothing is
-pub line_is_read : (line : List ℕ) (read : Option Event) → read ≡ event_at line
-    → MatchOption read ((event : Event) → IsReadable event → event_text event ≢ line) (λ event. IsReadable event × (event_text event ≡ line))
-line_is_read line None is = no_event line (sym is)
-line_is_read line (Some event) is = event_takes line event (sym is)

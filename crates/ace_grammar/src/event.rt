@@ -1,10 +1,12 @@
 // The event of a line, by its record word.
-ghost use Rattle.std.specs.Prelude.{◌≡◌, ◌≢◌, MatchOption};
+ghost use Rattle.std.specs.Prelude.{◌≡◌, IfOk, IfErr, None};
 ghost use Rattle.ace_grammar.specs.Records.{a_at, c_at, o_at, r_at, w_at, event_at};
-ghost use Rattle.ace_event.specs.declared.event.Event.{Event};
 ghost use Rattle.ace_event.specs.Text.{event_text};
 ghost use Rattle.ace_grammar.specs.Reading.{IsReadable};
+ghost use Rattle.ace_grammar.specs.Reasons.{HasReason};
 
+use crate::Reason;
+use crate::line_reason::line_reason;
 use crate::records::{
     read_ac, read_ar, read_aw, read_b, read_cd, read_cr, read_d, read_g, read_l, read_m, read_op,
     read_r, read_rk, read_s, read_w, read_wk,
@@ -90,11 +92,25 @@ fn read_line(line: &[u8]) -> Option<Event>
     }
 }
 
-/// The event whose line this is, without its line feed. None where it is the line of no event in range.
-#[tactic(auto, using(crate::proofs::LineTexts::line_is_read))]
-pub fn parse_event(line: &[u8]) -> Option<Event>
-    ensures { MatchOption result ((event : Event) → IsReadable event → event_text event ≢ line.now)
-        (λ event. IsReadable event × (event_text event ≡ line.now)) }
+/// The reason of a line that isn't read as an event.
+fn reason_of(line: &[u8]) -> Reason
+    requires { event_at line.now ≡ None }
+    ensures { HasReason line.now result }
 {
-    read_line(line)
+    match line_reason(line) {
+        Some(reason) => reason,
+        None => unreachable!(),
+    }
+}
+
+/// The event whose line this is, without its line feed. Where it is the line of no event in range, the error is the
+/// least reason of `F2` to `F6` that applies.
+pub fn parse_event(line: &[u8]) -> Result<Event, Reason>
+    ensures event { IfOk result (λ event. IsReadable event × (event_text event ≡ line.now)) }
+    ensures reason { IfErr result (HasReason line.now) }
+{
+    match read_line(line) {
+        Some(event) => Ok(event),
+        None => Err(reason_of(line)),
+    }
 }

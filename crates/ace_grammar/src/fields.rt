@@ -7,7 +7,7 @@ use ace_codes::LineState;
 use ace_event::{Channel, Line, Outcome};
 
 /// The value of a lower-case hexadecimal digit.
-fn digit_of(byte: u8) -> Option<u8>
+pub fn digit_of(byte: u8) -> Option<u8>
     ensures value { result ≡ digit_of byte }
     ensures below { IfSome result (λ digit. digit < 16) }
 {
@@ -19,7 +19,7 @@ fn digit_of(byte: u8) -> Option<u8>
 }
 
 /// The number that these digits write, of which there are at most 32.
-fn number_of(digits: &[u8]) -> Option<u128>
+pub fn number_of(digits: &[u8]) -> Option<u128>
     requires { length digits.now ≤ 32 }
     ensures { result ≡ digits_onto 0 digits.now }
 {
@@ -95,7 +95,7 @@ pub fn take_channel(bytes: &[u8]) -> Option<(Channel, &[u8])>
     take_letter(take_space(bytes)?)
 }
 
-fn state_of(bytes: &[u8]) -> Option<LineState>
+pub fn state_of(bytes: &[u8]) -> Option<LineState>
     ensures { result ≡ state_of bytes.now }
 {
     if bytes == b"I".as_slice() {
@@ -121,7 +121,7 @@ pub fn take_state(bytes: &[u8]) -> Option<LineState>
     state_of(take_space(bytes)?)
 }
 
-fn outcome_of(bytes: &[u8]) -> Option<Outcome>
+pub fn outcome_of(bytes: &[u8]) -> Option<Outcome>
     ensures { result ≡ outcome_of bytes.now }
 {
     if bytes == b"ok".as_slice() {
