@@ -2,23 +2,23 @@
 use Rattle.std.proofs.Common.{◌≡◌, ◌≢◌, ℕ, ◌<◌, List, [], ◌∷◌, ◌++◌, length, Option, Some, None, refl, sym, ap, subst, ◌∙◌, arith, inl, inr, ◌⊎◌, append_assoc}
 use Rattle.std.specs.Prelude.{codes}
 use Rattle.std.specs.Io.KnownBytes.{Consumes, IsAtEnd}
-use Rattle.std.proofs.lemmas.List.{length-replicate}
-use Rattle.std.proofs.lemmas.List.Elements.{recursion_from_All, All-from_recursion, All-replicate}
-use Rattle.std.proofs.Math.ListN.{replicate}
+use Rattle.std.proofs.lemmas.List.Elements.{recursion_from_All, All-from_recursion}
+use Rattle.std.specs.List.{range_with_len}
 use Rattle.std.proofs.lemmas.Bool.{cases_lt}
 use Rattle.std.proofs.KnownBytes.{Consumes-trans}
 use Rattle.ace_event.specs.Ports.{port_letters}
 use Rattle.ace_io.specs.Line.{HasNoLf}
-use Rattle.ace_event.specs.declared.event.Event.{Event}
 use Rattle.ace_event.specs.declared.header.Header.{Header}
-use Rattle.ace_event.specs.Text.{event_text, line_text, header_text}
-use Rattle.ace_grammar.specs.Reading.{IsReadable, IsReadableHeader, HasBadLine, HasBadHeader, IfTold, ports_text}
-use Rattle.ace_grammar.specs.Lines.{HasNoLine}
+use Rattle.ace_event.specs.Text.{line_text, header_text}
+use Rattle.ace_grammar.specs.Reading.{IsReadableHeader, HasBadLine, HasBadHeader, IfTold, ports_text}
+use Rattle.ace_grammar.specs.Lines.{BeginsWith, IsFirstLine, HasNoLine}
+use Rattle.ace_grammar.specs.Reasons.{HasReason}
+use Rattle.ace_grammar.specs.declared.reason.Reason.{Reason}
+use Rattle.ace_grammar.specs.declared.reason.Reason.TheVariants.{F1, F7}
 use Rattle.ace_grammar.proofs.Exact.{IsClean, clean-append}
-use Rattle.ace_grammar.proofs.Letters.{readable_letters, readable_count}
-use Rattle.ace_grammar.proofs.LineTexts.{event_clean, event_short}
+use Rattle.ace_grammar.proofs.Letters.{letters-clean, letters-length}
 
-clean_line : (line : List ℕ) → HasNoLf line → IsClean line
+pub clean_line : (line : List ℕ) → HasNoLf line → IsClean line
 clean_line line h = recursion_from_All (λ b. b ≢ 10) line h
 
 -- of two lines at the front of the same bytes, both are one
@@ -60,99 +60,91 @@ some_left (c ∷ line) x h e = absurd cc
 
 -- ---- events
 
--- a whole line that is no readable event's
-pub other_line_is_bad : (old new : Option (List ℕ)) (line : List ℕ) → HasNoLf line → ((event : Event) → IsReadable event → event_text event ≢ line)
-    → Consumes old new (line ++ 10 ∷ []) → IfTold old HasBadLine
-other_line_is_bad None new line clean other c = tt
-other_line_is_bad (Some xs) None line clean other c = absurd c
-other_line_is_bad (Some xs) (Some ys) line clean other c = (
-  λ e. not_empty line ys (sym c ∙ e),
-  λ event h begins.
-      let same = same_line (event_text event) line begins.0 ys (event_clean event h) (clean_line line clean) (sym begins.1 ∙ c) in
-      other event h same.0,
-)
+-- a whole line with a reason
+pub other_line_is_bad : (old new : Option (List ℕ)) (line : List ℕ) (reason : Reason) → HasNoLf line → length line < 256 → HasReason line reason
+    → Consumes old new (line ++ 10 ∷ []) → IfTold old (λ bytes. HasBadLine bytes reason)
+other_line_is_bad None new line reason clean short has c = tt
+other_line_is_bad (Some xs) None line reason clean short has c = absurd c
+other_line_is_bad (Some xs) (Some ys) line reason clean short has c = inr (line, (clean, short, (ys, c)), has)
 
--- a line without its line feed
-pub cut_line_is_bad : (old new : Option (List ℕ)) (line : List ℕ) → HasNoLf line → 0 < length line → (length line < 256 → IsAtEnd new)
-    → Consumes old new line → IfTold old HasBadLine
-cut_line_is_bad None new line clean some end c = tt
-cut_line_is_bad (Some xs) None line clean some end c = absurd c
-cut_line_is_bad (Some xs) (Some ys) line clean some end c = (
-  λ e. some_left line ys some (sym c ∙ e),
-  λ event h begins.
-      no_line line ys (event_text event) begins.0 (clean_line line clean) (far line ys (event_text event) (event_short event h) end) (sym c ∙ begins.1),
-)
-
--- ---- lines of the header
+-- ---- no line
 
 pub cut_line_is_none : (old new : Option (List ℕ)) (line : List ℕ) → HasNoLf line → (length line < 256 → IsAtEnd new)
     → Consumes old new line → IfTold old HasNoLine
 cut_line_is_none None new line clean end c = tt
 cut_line_is_none (Some xs) None line clean end c = absurd c
 cut_line_is_none (Some xs) (Some ys) line clean end c =
-    λ text text_clean short begins.
-    no_line line ys text begins.0 (clean_line line clean) (far line ys text short end) (sym c ∙ begins.1)
+    λ text first.
+    no_line line ys text first.2.0 (clean_line line clean) (far line ys text first.1 end) (sym c ∙ first.2.1)
 
 pub no_line_at_end : (old new : Option (List ℕ)) (line : List ℕ) → line ≡ [] → IsAtEnd new → Consumes old new line → IfTold old HasNoLine
 no_line_at_end None new line nil end c = tt
 no_line_at_end (Some xs) None line nil end c = absurd c
 no_line_at_end (Some xs) (Some ys) line nil end c =
-    λ text text_clean short begins.
-    no_line [] ys text begins.0 tt (inr end) (ap (λ (l : List ℕ). l ++ ys) (sym nil) ∙ sym c ∙ begins.1)
+    λ text first.
+    no_line [] ys text first.2.0 tt (inr end) (ap (λ (l : List ℕ). l ++ ys) (sym nil) ∙ sym c ∙ first.2.1)
+
+-- a line without its line feed
+pub cut_line_is_bad : (old new : Option (List ℕ)) (line : List ℕ) → HasNoLf line → 0 < length line → (length line < 256 → IsAtEnd new)
+    → Consumes old new line → IfTold old (λ bytes. HasBadLine bytes F1)
+cut_line_is_bad None new line clean some end c = tt
+cut_line_is_bad (Some xs) None line clean some end c = absurd c
+cut_line_is_bad (Some xs) (Some ys) line clean some end c =
+    inl (refl, (λ e. some_left line ys some (sym c ∙ e)), cut_line_is_none (Some xs) (Some ys) line clean end c)
+
+-- ---- lines of the header
 
 version_clean : IsClean (codes "ACE 1")
 version_clean = grind arith
 
-letters_clean : (header : Header) → IsReadableHeader header → IsClean (port_letters header)
-letters_clean header h =
-    let eleven : (n : ℕ) → n ≡ 65 → n ≢ 10 = λ n e f. omega arith in
-    subst IsClean (sym (readable_letters header h.1)) (recursion_from_All (λ b. b ≢ 10) (replicate header.ports 65) (All-replicate (λ b. b ≢ 10) header.ports 65 (eleven 65 refl)))
+pub version_line : HasNoLf (codes "ACE 1")
+version_line = All-from_recursion (λ b. b ≢ 10) (codes "ACE 1") version_clean
 
-pub ports_clean : (header : Header) → IsReadableHeader header → IsClean (ports_text header)
-ports_clean header h = clean-append (codes "PORTS ") (port_letters header) (grind arith) (letters_clean header h)
+pub ports_clean : (header : Header) → IsClean (ports_text header)
+ports_clean header = clean-append (codes "PORTS ") (port_letters header) (grind arith) (letters-clean header.ace (range_with_len 0 header.ports))
 
-ports_short : (header : Header) → IsReadableHeader header → length (ports_text header) < 256
-ports_short header h =
-    let size : length (port_letters header) ≡ header.ports = ap length (readable_letters header h.1) ∙ length-replicate header.ports 65 in
-    omega (arith, size, readable_count header h)
+pub ports_line : (header : Header) → HasNoLf (ports_text header)
+ports_line header = All-from_recursion (λ b. b ≢ 10) (ports_text header) (ports_clean header)
+
+pub ports_short : (header : Header) → IsReadableHeader header → length (ports_text header) < 256
+ports_short header h = omega (arith, letters-length header, h.most_ports)
+
+-- the first lines of the same bytes are one
+pub same_first : (bytes one other : List ℕ) (rest : List ℕ) → IsFirstLine one bytes → HasNoLf other → bytes ≡ line_text other ++ rest → (one ≡ other) × (h : BeginsWith bytes (line_text one)) × (h.0 ≡ rest)
+same_first bytes one other rest first clean e =
+    let same = same_line one other first.2.0 rest (clean_line one first.0) (clean_line other clean) (sym first.2.1 ∙ e) in
+    (same.0, first.2, same.1)
 
 -- the header lines at the front of the bytes, one by one
-header_lines : (xs rest : List ℕ) (header : Header) → xs ≡ header_text header ++ rest → xs ≡ line_text (codes "ACE 1") ++ (line_text (ports_text header) ++ rest)
+pub header_lines : (xs rest : List ℕ) (header : Header) → xs ≡ header_text header ++ rest → xs ≡ line_text (codes "ACE 1") ++ (line_text (ports_text header) ++ rest)
 header_lines xs rest header e = e ∙ append_assoc (line_text (codes "ACE 1")) (line_text (ports_text header)) rest
 
-pub no_first_line : (old : Option (List ℕ)) → IfTold old HasNoLine → IfTold old HasBadHeader
-no_first_line None none = tt
-no_first_line (Some xs) none =
-    λ header h begins.
-    none (codes "ACE 1") (All-from_recursion (λ b. b ≢ 10) (codes "ACE 1") version_clean) (omega arith) (line_text (ports_text header) ++ begins.0, header_lines xs begins.0 header begins.1)
-
-pub other_first_line : (old mid : Option (List ℕ)) (line : List ℕ) → HasNoLf line → line ≢ codes "ACE 1" → Consumes old mid (line ++ 10 ∷ []) → IfTold old HasBadHeader
-other_first_line None mid line clean other c = tt
-other_first_line (Some xs) None line clean other c = absurd c
-other_first_line (Some xs) (Some ys) line clean other c =
-    λ header h begins.
-    other (same_line line (codes "ACE 1") ys (line_text (ports_text header) ++ begins.0) (clean_line line clean) version_clean (sym c ∙ header_lines xs begins.0 header begins.1)).0
-
 -- behind the first line the second one stands
-pub second_line : (xs ys rest : List ℕ) (header : Header) → xs ≡ line_text (codes "ACE 1") ++ ys → xs ≡ header_text header ++ rest → ys ≡ line_text (ports_text header) ++ rest
-second_line xs ys rest header c e =
-    (same_line (codes "ACE 1") (codes "ACE 1") ys (line_text (ports_text header) ++ rest) version_clean version_clean (sym c ∙ header_lines xs rest header e)).1
+pub behind_version : (ys zs : List ℕ) → line_text (codes "ACE 1") ++ ys ≡ line_text (codes "ACE 1") ++ zs → ys ≡ zs
+behind_version ys zs e = (same_line (codes "ACE 1") (codes "ACE 1") ys zs version_clean version_clean e).1
 
-pub no_second_line : (old mid : Option (List ℕ)) → Consumes old mid (line_text (codes "ACE 1")) → IfTold mid HasNoLine → IfTold old HasBadHeader
+pub no_first_line : (old : Option (List ℕ)) → IfTold old HasNoLine → IfTold old (λ bytes. HasBadHeader bytes 1 F1)
+no_first_line None none = tt
+no_first_line (Some xs) none = inl (refl, inl (refl, none))
+
+pub other_first_line : (old mid : Option (List ℕ)) (line : List ℕ) → HasNoLf line → length line < 256 → line ≢ codes "ACE 1" → Consumes old mid (line ++ 10 ∷ [])
+    → IfTold old (λ bytes. HasBadHeader bytes 1 F7)
+other_first_line None mid line clean short other c = tt
+other_first_line (Some xs) None line clean short other c = absurd c
+other_first_line (Some xs) (Some ys) line clean short other c = inl (refl, inr (refl, (line, (clean, short, (ys, c)), other)))
+
+pub no_second_line : (old mid : Option (List ℕ)) → Consumes old mid (line_text (codes "ACE 1")) → IfTold mid HasNoLine → IfTold old (λ bytes. HasBadHeader bytes 2 F1)
 no_second_line None mid c none = tt
 no_second_line (Some xs) None c none = absurd c
-no_second_line (Some xs) (Some ys) c none =
-    λ header h begins.
-    none (ports_text header) (All-from_recursion (λ b. b ≢ 10) (ports_text header) (ports_clean header h)) (ports_short header h) (begins.0, second_line xs ys begins.0 header c begins.1)
+no_second_line (Some xs) (Some ys) c none = inr (refl, (ys, c, inl (refl, none)))
 
-pub other_second_line : (old mid new : Option (List ℕ)) (line : List ℕ) → Consumes old mid (line_text (codes "ACE 1")) → HasNoLf line
-    → ((header : Header) → IsReadableHeader header → ports_text header ≢ line) → Consumes mid new (line ++ 10 ∷ []) → IfTold old HasBadHeader
-other_second_line None mid new line c clean other d = tt
-other_second_line (Some xs) None new line c clean other d = absurd c
-other_second_line (Some xs) (Some ys) None line c clean other d = absurd d
-other_second_line (Some xs) (Some ys) (Some zs) line c clean other d =
-    λ header h begins.
-    other header h (same_line (ports_text header) line begins.0 zs (ports_clean header h) (clean_line line clean) (sym (second_line xs ys begins.0 header c begins.1) ∙ d)).0
+pub other_second_line : (old mid new : Option (List ℕ)) (line : List ℕ) → Consumes old mid (line_text (codes "ACE 1")) → HasNoLf line → length line < 256
+    → ((header : Header) → IsReadableHeader header → ports_text header ≢ line) → Consumes mid new (line ++ 10 ∷ []) → IfTold old (λ bytes. HasBadHeader bytes 2 F7)
+other_second_line None mid new line c clean short other d = tt
+other_second_line (Some xs) None new line c clean short other d = absurd c
+other_second_line (Some xs) (Some ys) None line c clean short other d = absurd d
+other_second_line (Some xs) (Some ys) (Some zs) line c clean short other d =
+    inr (refl, (ys, c, inr (refl, (line, (clean, short, (zs, d)), λ is. other is.0 is.1 is.2))))
 
 pub both_lines : (old mid new : Option (List ℕ)) (header : Header) → Consumes old mid (line_text (codes "ACE 1")) → Consumes mid new (line_text (ports_text header)) → Consumes old new (header_text header)
 both_lines old mid new header c d = Consumes-trans old mid new (line_text (codes "ACE 1")) (line_text (ports_text header)) c d

@@ -20,14 +20,14 @@ pub record Takes {A : Type 0} (take_first : Taker A) (text : A → List ℕ) (Is
   pub takes : (bytes rest : List ℕ) (value : A) → take_first bytes ≡ Some (value, rest) → IsIn value × (bytes ≡ text value ++ rest)
   pub again : (value : A) (rest : List ℕ) → IsIn value → take_first (text value ++ rest) ≡ Some (value, rest)
   pub clean : (value : A) → IsClean (text value)
-  pub short : (value : A) → length (text value) ≤ size
+  pub short : (value : A) → IsIn value → length (text value) ≤ size
 
 -- the same of what is read from all of the bytes
 pub record ReadsAll {A : Type 0} (read : List ℕ → Option A) (text : A → List ℕ) (IsIn : A → Type 0) (size : ℕ) : Type 0 where
   pub takes : (bytes : List ℕ) (value : A) → read bytes ≡ Some value → IsIn value × (bytes ≡ text value)
   pub again : (value : A) → IsIn value → read (text value) ≡ Some value
   pub clean : (value : A) → IsClean (text value)
-  pub short : (value : A) → length (text value) ≤ size
+  pub short : (value : A) → IsIn value → length (text value) ≤ size
 
 space_takes : (bytes rest : List ℕ) → space_at bytes ≡ Some rest → bytes ≡ 32 ∷ rest
 unfolding space_at
@@ -52,7 +52,7 @@ takes_spaced take_first text IsIn size f = record {
       (inner.0, space_takes bytes step.0 step.1 ∙ ap (λ (l : List ℕ). 32 ∷ l) inner.1);
   again = λ value rest h. ap (option_and_then take_first) (space_again (text value ++ rest)) ∙ f.again value rest h;
   clean = λ value. ((λ e. absurd (omega (arith, e))), f.clean value);
-  short = λ value. omega (arith, f.short value);
+  short = λ value h. omega (arith, f.short value h);
 }
 
 pub reads_spaced : {A : Type 0} (read : List ℕ → Option A) (text : A → List ℕ) (IsIn : A → Type 0) (size : ℕ) → ReadsAll read text IsIn size
@@ -64,7 +64,7 @@ reads_spaced read text IsIn size f = record {
       (inner.0, space_takes bytes step.0 step.1 ∙ ap (λ (l : List ℕ). 32 ∷ l) inner.1);
   again = λ value h. ap (option_and_then read) (space_again (text value)) ∙ f.again value h;
   clean = λ value. ((λ e. absurd (omega (arith, e))), f.clean value);
-  short = λ value. omega (arith, f.short value);
+  short = λ value h. omega (arith, f.short value h);
 }
 
 ended_takes : {A : Type 0} (first value : A) (rest : List ℕ) → ended first rest ≡ Some value → (first ≡ value) × (rest ≡ [])
@@ -104,7 +104,30 @@ reads_then {A} {B} take_first text IsIn size read after IsAfter more f g = recor
       ap (option_and_then (λ first. option_map (λ rest. (first.0, rest)) (read first.1))) (f.again both.0 (after both.1) h.0)
       ∙ ap (option_map (λ rest. (both.0, rest))) (g.again both.1 h.1);
   clean = λ both. clean-append (text both.0) (after both.1) (f.clean both.0) (g.clean both.1);
-  short = λ both. rw length-append (omega (arith, f.short both.0, g.short both.1));
+  short = λ both h. rw length-append (omega (arith, f.short both.0 h.0, g.short both.1 h.1));
+}
+
+-- what is made of a value that was read from all of the bytes
+pub reads_made : {A B : Type 0} (read : List ℕ → Option A) (text : A → List ℕ) (IsIn : A → Type 0) (size : ℕ) (make : A → B) (written : B → List ℕ) (IsMade : B → Type 0)
+    → ((value : A) → IsIn value → IsMade (make value) × (text value ≡ written (make value)))
+    → ((b : B) → IsMade b → (value : A) × IsIn value × (make value ≡ b))
+    → ((b : B) → IsClean (written b))
+    → ReadsAll read text IsIn size → ReadsAll (λ bytes. option_map make (read bytes)) written IsMade size
+reads_made read text IsIn size make written IsMade makes is_made clean f = record {
+  takes = λ bytes b e.
+      let step = map_some (read bytes) make b e in
+      let inner = f.takes bytes step.0 step.1 in
+      let made = makes step.0 inner.0 in
+      (subst IsMade step.2 made.0, inner.1 ∙ made.1 ∙ ap written step.2);
+  again = λ b h.
+      let from = is_made b h in
+      let text_is : written b ≡ text from.0 = sym (ap written from.2) ∙ sym (makes from.0 from.1).1 in
+      ap (λ (l : List ℕ). option_map make (read l)) text_is ∙ ap (option_map make) (f.again from.0 from.1) ∙ ap (λ x. Some x) from.2;
+  clean = clean;
+  short = λ b h.
+      let from = is_made b h in
+      let text_is : written b ≡ text from.0 = sym (ap written from.2) ∙ sym (makes from.0 from.1).1 in
+      omega (arith, f.short from.0 from.1, ap length text_is);
 }
 
 -- ---- fields and lines with their texts

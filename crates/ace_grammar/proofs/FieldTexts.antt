@@ -10,23 +10,25 @@ use Rattle.ace_codes.specs.declared.state.LineState.{LineState}
 use Rattle.ace_codes.specs.declared.state.LineState.TheVariants.{I, UC, UD, SC, SD}
 use Rattle.ace_event.specs.declared.event.Channel.{Channel}
 use Rattle.ace_event.specs.declared.event.Channel.TheVariants.{Read, Write}
-use Rattle.ace_event.specs.Text.{hex_text, flag_text, channel_text, state_text}
-use Rattle.ace_grammar.specs.Fields.{digits_at, number_at, flag_at, channel_of, letter_at, channel_at, state_of, state_at}
+use Rattle.ace_event.specs.declared.event.Outcome.{Outcome}
+use Rattle.ace_event.specs.declared.event.Outcome.TheVariants.{Ok, Skip, Fail}
+use Rattle.ace_event.specs.Text.{hex_text, flag_text, channel_text, state_text, outcome_text}
+use Rattle.ace_grammar.specs.Fields.{digits_at, number_at, flag_at, channel_of, letter_at, channel_at, state_of, state_at, outcome_of, outcome_at}
 use Rattle.ace_grammar.proofs.Options.{map_some, some_is, none_isn't, chosen}
 use Rattle.ace_grammar.proofs.Hex.{digit_char-clean, length-hex_text, digits_takes, digits_again}
 use Rattle.ace_grammar.proofs.Exact.{IsClean, clean-append, Takes, ReadsAll, takes_spaced, reads_spaced, Field, Rest}
 
-hex_text-clean : (count number : ℕ) → IsClean (hex_text count number)
+pub hex_text-clean : (count number : ℕ) → IsClean (hex_text count number)
 unfolding hex_text
 hex_text-clean zero number = tt
 hex_text-clean (suc count) number = clean-append (hex_text count (number / 16)) (digit_char (number % 16) ∷ []) (hex_text-clean count (number / 16)) (digit_char-clean (number % 16), tt)
 
-digits_exact : (count most : ℕ) → most < 16 ^ count → Takes (digits_at count most) (hex_text count) (λ number. number ≤ most) count
+pub digits_exact : (count most : ℕ) → most < 16 ^ count → Takes (digits_at count most) (hex_text count) (λ number. number ≤ most) count
 digits_exact count most room = record {
   takes = λ bytes rest number e. digits_takes count most bytes rest number e;
   again = λ number rest h. digits_again count most number rest room h;
   clean = hex_text-clean count;
-  short = λ number. omega (arith, length-hex_text count number);
+  short = λ number h. omega (arith, length-hex_text count number);
 }
 
 pub number_exact : (count most : ℕ) → most < 16 ^ count → Takes (number_at count most) (λ number. 32 ∷ hex_text count number) (λ number. number ≤ most) (count + 1)
@@ -37,13 +39,13 @@ number_exact count most room = takes_spaced (digits_at count most) (hex_text cou
 abbrev pub Any : {A : Type 0} → A → Type 0
 Any value = Unit {0}
 
-bit_text : (bit : ℕ) → bit ≤ 1 → hex_text 1 bit ≡ flag_text (eqb bit 1)
+pub bit_text : (bit : ℕ) → bit ≤ 1 → hex_text 1 bit ≡ flag_text (eqb bit 1)
 unfolding hex_text
 bit_text zero h = refl
 bit_text (suc zero) h = refl
 bit_text (suc (suc n)) h = absurd (omega arith)
 
-flag_bit : (flag : Bool) → (bit : ℕ) × (bit ≤ 1) × (eqb bit 1 ≡ flag)
+pub flag_bit : (flag : Bool) → (bit : ℕ) × (bit ≤ 1) × (eqb bit 1 ≡ flag)
 flag_bit false = (0, omega arith, refl)
 flag_bit true = (1, omega arith, refl)
 
@@ -80,7 +82,7 @@ flag_exact = record {
   takes = λ bytes rest flag e. (tt, flag_takes bytes rest flag e);
   again = λ flag rest h. flag_again flag rest;
   clean = λ flag. ((λ e. absurd (omega (arith, e))), flag_text-clean flag);
-  short = λ flag. omega (arith, flag_text-short flag);
+  short = λ flag h. omega (arith, flag_text-short flag);
 }
 
 letter_takes : (byte : ℕ) (channel : Channel) → channel_of byte ≡ Some channel → byte ∷ [] ≡ channel_text channel
@@ -119,14 +121,14 @@ letter_exact = record {
   takes = λ bytes rest channel e. (tt, channel_takes bytes rest channel e);
   again = λ channel rest h. channel_again channel rest;
   clean = channel_text-clean;
-  short = channel_text-short;
+  short = λ channel h. channel_text-short channel;
 }
 
 pub channel_exact : Takes channel_at (λ channel. 32 ∷ channel_text channel) Any 2
 unfolding channel_at
 channel_exact = takes_spaced letter_at channel_text Any 1 letter_exact
 
-state_takes : (bytes : List ℕ) (st : LineState) → state_of bytes ≡ Some st → bytes ≡ state_text st
+pub state_takes : (bytes : List ℕ) (st : LineState) → state_of bytes ≡ Some st → bytes ≡ state_text st
 state_takes bytes st e =
     elim (chosen (bytes_eq bytes (codes "I")) (Some I) _ (Some st) e) [
       | inl p ↦ (bytes_eq-Decides bytes (codes "I")).0 p.0 ∙ ap state_text (some_is I st p.1)
@@ -149,7 +151,7 @@ state_takes bytes st e =
           ]
     ]
 
-state_again : (st : LineState) → state_of (state_text st) ≡ Some st
+pub state_again : (st : LineState) → state_of (state_text st) ≡ Some st
 state_again I = refl
 state_again UC = refl
 state_again UD = refl
@@ -175,12 +177,54 @@ word_exact = record {
   takes = λ bytes st e. (tt, state_takes bytes st e);
   again = λ st h. state_again st;
   clean = state_text-clean;
-  short = state_text-short;
+  short = λ st h. state_text-short st;
 }
 
 pub state_exact : ReadsAll state_at (λ st. 32 ∷ state_text st) Any 3
 unfolding state_at
 state_exact = reads_spaced state_of state_text Any 2 word_exact
+
+pub outcome_takes : (bytes : List ℕ) (res : Outcome) → outcome_of bytes ≡ Some res → bytes ≡ outcome_text res
+outcome_takes bytes res e =
+    elim (chosen (bytes_eq bytes (codes "ok")) (Some Ok) _ (Some res) e) [
+      | inl p ↦ (bytes_eq-Decides bytes (codes "ok")).0 p.0 ∙ ap outcome_text (some_is Ok res p.1)
+      | inr q ↦
+          elim (chosen (bytes_eq bytes (codes "skip")) (Some Skip) _ (Some res) q.1) [
+            | inl p ↦ (bytes_eq-Decides bytes (codes "skip")).0 p.0 ∙ ap outcome_text (some_is Skip res p.1)
+            | inr q ↦
+                elim (chosen (bytes_eq bytes (codes "fail")) (Some Fail) None (Some res) q.1) [
+                  | inl p ↦ (bytes_eq-Decides bytes (codes "fail")).0 p.0 ∙ ap outcome_text (some_is Fail res p.1)
+                  | inr q ↦ none_isn't res _ q.1
+                ]
+          ]
+    ]
+
+pub outcome_again : (res : Outcome) → outcome_of (outcome_text res) ≡ Some res
+outcome_again Ok = refl
+outcome_again Skip = refl
+outcome_again Fail = refl
+
+outcome_text-clean : (res : Outcome) → IsClean (outcome_text res)
+outcome_text-clean Ok = grind arith
+outcome_text-clean Skip = grind arith
+outcome_text-clean Fail = grind arith
+
+outcome_text-short : (res : Outcome) → length (outcome_text res) ≤ 4
+outcome_text-short Ok = omega arith
+outcome_text-short Skip = omega arith
+outcome_text-short Fail = omega arith
+
+outcome_word_exact : ReadsAll outcome_of outcome_text Any 4
+outcome_word_exact = record {
+  takes = λ bytes res e. (tt, outcome_takes bytes res e);
+  again = λ res h. outcome_again res;
+  clean = outcome_text-clean;
+  short = λ res h. outcome_text-short res;
+}
+
+pub outcome_exact : ReadsAll outcome_at (λ res. 32 ∷ outcome_text res) Any 5
+unfolding outcome_at
+outcome_exact = reads_spaced outcome_of outcome_text Any 4 outcome_word_exact
 
 -- ---- the fields of the records
 
@@ -205,13 +249,22 @@ room_of_response = omega arith
 pub room_of_address : 0xffff_ffff < 16 ^ 8
 room_of_address = omega arith
 
+pub room_of_write_snoop : 7 < 16 ^ 1
+room_of_write_snoop = omega arith
+
+pub room_of_four : 0xffff < 16 ^ 4
+room_of_four = omega arith
+
+pub room_of_strobe : 0xffff_ffff_ffff_ffff < 16 ^ 16
+room_of_strobe = omega arith
+
 pub room_of_word : 2 ^ 128 - 1 < 16 ^ 32
 room_of_word = omega arith
 
 abbrev pub digit : Field ℕ
 digit = number 1 15 room_of_digit
 
--- a domain or a barrier
+-- a domain, a barrier, a write response, or the number of a word
 abbrev pub two_bits : Field ℕ
 two_bits = number 1 3 room_of_domain
 
@@ -224,6 +277,31 @@ address = number 8 0xffff_ffff room_of_address
 abbrev pub word : Field ℕ
 word = number 32 (2 ^ 128 - 1) room_of_word
 
+abbrev pub write_snoop : Field ℕ
+write_snoop = number 1 7 room_of_write_snoop
+
+-- the strobe of a beat
+abbrev pub strobe_of_word : Field ℕ
+strobe_of_word = number 4 0xffff room_of_four
+
+-- the number of an operation
+abbrev pub place : Field ℕ
+place = number 4 0xffff room_of_four
+
+-- the strobe of a line
+abbrev pub strobe_of_line : Field ℕ
+strobe_of_line = number 16 0xffff_ffff_ffff_ffff room_of_strobe
+
+-- a word right behind another one
+abbrev pub next_word : Field ℕ
+next_word = record {
+  take_first = digits_at 32 (2 ^ 128 - 1);
+  text = hex_text 32;
+  IsIn = λ n. n ≤ 2 ^ 128 - 1;
+  size = 32;
+  exact = digits_exact 32 (2 ^ 128 - 1) room_of_word;
+}
+
 abbrev pub flag : Field Bool
 flag = record { take_first = flag_at; text = λ b. 32 ∷ flag_text b; IsIn = Any; size = 2; exact = flag_exact }
 
@@ -233,3 +311,6 @@ channel = record { take_first = channel_at; text = λ c. 32 ∷ channel_text c; 
 -- a state, which is always the last
 abbrev pub state : Rest LineState
 state = record { read = state_at; text = λ st. 32 ∷ state_text st; IsIn = Any; size = 3; exact = state_exact }
+
+abbrev pub outcome : Rest Outcome
+outcome = record { read = outcome_at; text = λ res. 32 ∷ outcome_text res; IsIn = Any; size = 5; exact = outcome_exact }

@@ -1,12 +1,15 @@
 -- Digits that are read are those of the number's text, and the text of a number is read as that number.
-use Rattle.std.proofs.Common.{◌≡◌, ◌≢◌, ℕ, zero, suc, ◌+◌, ◌-◌, ◌*◌, ◌/◌, ◌%◌, ◌^◌, ◌<◌, ◌≤◌, cond, leb, ltb, ◌&&◌, List, [], ◌∷◌, ◌++◌, length, take, drop, Option, Some, None, refl, sym, ap, ◌∙◌, arith, inl, inr, append_assoc}
-use Rattle.std.specs.Option.{option_and_then}
+use Rattle.std.proofs.Common.{◌≡◌, ◌≢◌, ℕ, zero, suc, ◌+◌, ◌-◌, ◌*◌, ◌/◌, ◌%◌, ◌^◌, ◌<◌, ◌≤◌, true, cond, leb, ltb, ◌&&◌, List, [], ◌∷◌, ◌++◌, length, take, drop, Option, Some, None, refl, sym, ap, ◌∙◌, arith, inl, inr, append_assoc}
+use Rattle.std.specs.Option.{option_and_then, is_some}
+use Rattle.std.specs.List.{list_all}
+use Rattle.std.proofs.lemmas.List.Folds.{list_all-append}
 use Rattle.std.specs.Char.{digit_char}
-use Rattle.std.proofs.Math.Nat.{pow-suc}
+use Rattle.std.proofs.Math.Nat.{pow-suc, mul-le-mul_right}
 use Rattle.std.proofs.lemmas.Bool.{and_parts, and_from, and_right, cond-true, cond-false, leb-true, le-leb, lt-leb, cases_lt, lt-ltb, le-ltb, ltb-false}
 use Rattle.std.proofs.lemmas.List.{append-nil, length-append, take_at, drop_at, take-append-drop, length-take-le}
 use Rattle.ace_event.specs.Text.{hex_text}
 use Rattle.ace_grammar.specs.Fields.{digit_of, digits_onto, digits_at}
+use Rattle.ace_grammar.specs.Reasons.{is_digit}
 use Rattle.ace_grammar.proofs.Options.{bind_some, some_is, none_isn't, chosen}
 
 decimal_char : (digit : ℕ) → digit < 10 → digit_char digit ≡ 48 + digit
@@ -59,6 +62,13 @@ digit_again digit h =
 
 pub digit_char-clean : (digit : ℕ) → digit_char digit ≢ 10
 digit_char-clean digit e =
+    elim (cases_lt digit 10) [
+      | inl lt ↦ omega (arith, e, decimal_char digit lt)
+      | inr le ↦ omega (arith, e, letter_char digit le)
+    ]
+
+pub digit_char-plain : (digit : ℕ) → digit_char digit ≢ 32
+digit_char-plain digit e =
     elim (cases_lt digit 10) [
       | inl lt ↦ omega (arith, e, decimal_char digit lt)
       | inr le ↦ omega (arith, e, letter_char digit le)
@@ -151,3 +161,57 @@ digits_again count most number rest room h =
     let told : digits_onto 0 (hex_text count number) ≡ Some number =
     ap (digits_onto 0) (sym (append-nil (hex_text count number))) ∙ onto_again count 0 number [] (omega arith) ∙ onto_end (0 * 16 ^ count + number) ∙ ap (λ n. Some n) value in
     rw (le-ltb (length (hex_text count number ++ rest)) count long, front, told, back, le-leb number most h) refl
+
+-- ---- digits alone
+
+one_digit : (digit : ℕ) → digit < 16 → list_all is_digit (digit_char digit ∷ []) ≡ true
+one_digit digit h = and_from (is_digit (digit_char digit)) true (ap is_some (digit_again digit h)) refl
+
+is_there : {A : Type 0} (o : Option A) → is_some o ≡ true → (x : A) × (o ≡ Some x)
+is_there (Some x) e = (x, refl)
+is_there None e = absurd cc
+
+-- the number that digits make behind another one is less than one more of that one makes with zeros
+onto_below : (bytes : List ℕ) (number total : ℕ) → digits_onto number bytes ≡ Some total → total < (number + 1) * 16 ^ length bytes
+unfolding digits_onto
+onto_below [] number total e =
+    let same : number ≡ total = some_is number total e in
+    omega (arith, same)
+onto_below (byte ∷ bytes) number total e =
+    let step = bind_some (digit_of byte) (λ digit. digits_onto (number * 16 + digit) bytes) total e in
+    let digit = digit_takes byte step.0 step.1 in
+    let below = onto_below bytes (number * 16 + step.0) total step.2 in
+    let more : (number * 16 + step.0 + 1) * 16 ^ length bytes ≤ (number + 1) * 16 * 16 ^ length bytes = mul-le-mul_right (16 ^ length bytes) (omega (arith, digit.0)) in
+    rw pow-suc (omega (arith, below, more))
+
+onto_all : (bytes : List ℕ) (number : ℕ) → list_all is_digit bytes ≡ true → (total : ℕ) × (digits_onto number bytes ≡ Some total)
+unfolding digits_onto
+onto_all [] number e = (number, refl)
+onto_all (byte ∷ bytes) number e =
+    let parts = and_parts (is_digit byte) (list_all is_digit bytes) e in
+    let digit = is_there (digit_of byte) parts.0 in
+    let rest = onto_all bytes (number * 16 + digit.0) parts.1 in
+    (rest.0, ap (option_and_then (λ digit. digits_onto (number * 16 + digit) bytes)) digit.1 ∙ rest.1)
+
+-- digits are the text of the number that they make
+pub digits_text : (bytes : List ℕ) (number : ℕ) → digits_onto 0 bytes ≡ Some number → bytes ≡ hex_text (length bytes) number
+digits_text bytes number e =
+    let size : length bytes ≡ 0 + length bytes = omega arith in
+    sym (ap (λ k. hex_text k number) size ∙ onto_takes bytes 0 0 number e ∙ ap (λ (l : List ℕ). l ++ bytes) (empty_text 0))
+
+pub number_of_digits : (bytes : List ℕ) → list_all is_digit bytes ≡ true → (number : ℕ) × (number < 16 ^ length bytes) × (bytes ≡ hex_text (length bytes) number)
+number_of_digits bytes all =
+    let told = onto_all bytes 0 all in
+    (told.0, omega (arith, onto_below bytes 0 told.0 told.1), digits_text bytes told.0 told.1)
+
+pub number_again : (count number : ℕ) → number < 16 ^ count → digits_onto 0 (hex_text count number) ≡ Some number
+number_again count number h =
+    let value : 0 * 16 ^ count + number ≡ number = omega arith in
+    ap (digits_onto 0) (sym (append-nil (hex_text count number))) ∙ onto_again count 0 number [] h ∙ onto_end (0 * 16 ^ count + number) ∙ ap (λ n. Some n) value
+
+pub hex_digits : (count number : ℕ) → list_all is_digit (hex_text count number) ≡ true
+unfolding hex_text
+hex_digits zero number = refl
+hex_digits (suc count) number =
+    list_all-append is_digit (hex_text count (number / 16)) (digit_char (number % 16) ∷ [])
+    ∙ and_from (list_all is_digit (hex_text count (number / 16))) (list_all is_digit (digit_char (number % 16) ∷ [])) (hex_digits count (number / 16)) (one_digit (number % 16) (omega arith))

@@ -1,95 +1,172 @@
 -- The port letters of a header.
-use Rattle.std.proofs.Common.{◌≡◌, ◌≢◌, ℕ, ◌-◌, ◌*◌, ◌%◌, ◌^◌, ◌<◌, ◌≤◌, cond, eqb, ltb, List, length, get_or, Some, None, refl, sym, ap, subst, ◌∙◌, arith, inl, inr}
-use Rattle.std.specs.List.{count_by}
+use Rattle.std.proofs.Common.{◌≡◌, ◌≢◌, ℕ, zero, suc, ◌+◌, ◌*◌, ◌/◌, ◌%◌, ◌^◌, ◌<◌, ◌≤◌, Bool, true, false, cond, eqb, List, [], ◌∷◌, length, get_or, map, refl, sym, ap, subst, ◌∙◌, arith, inl, inr, ◌⊎◌}
+use Rattle.std.specs.List.{count_by, range_with_len}
 use Rattle.std.specs.Int.{bit_at}
-use Rattle.std.proofs.Math.ListN.{replicate}
-use Rattle.std.proofs.lemmas.Nat.{pow_below, pow_pos}
-use Rattle.std.proofs.lemmas.Nat.Bits.{bit_at_ones}
-use Rattle.std.proofs.lemmas.Bool.{eqb-true, lt-ltb, cond-true}
-use Rattle.std.proofs.lemmas.List.{length-replicate, get_or-replicate}
-use Rattle.std.proofs.lemmas.List.FromFn.{fill_by_all, length-map-range_with_len}
-use Rattle.std.proofs.lemmas.List.Sums.{count_by-le-length}
-use Rattle.std.proofs.lemmas.List.Folds.{sum_by-replicate}
+use Rattle.std.proofs.Math.Nat.{pow-suc}
+use Rattle.std.proofs.lemmas.Nat.Bits.{bit_at-lt, bit_at_lowest, bit_at-suc, same_from_bits_below}
+use Rattle.std.proofs.lemmas.Bool.Decides.{eqb_tells}
+use Rattle.std.proofs.lemmas.List.FromFn.{fill_by_all, length-map-range_with_len, get_or-map-range_with_len}
+use Rattle.std.proofs.lemmas.List.Sums.{sum_by-cons}
 use Rattle.ace_event.specs.declared.header.Header.{Header}
-use Rattle.ace_event.specs.declared.header.PortKind.TheVariants.{Ace, Lite}
-use Rattle.ace_event.specs.Ports.{IsHeader, port_kind, port_letter, port_letters}
-use Rattle.ace_grammar.specs.Reading.{HasAceAlone, IsReadableHeader}
-use Rattle.ace_grammar.specs.Letters.{AreAceLetters}
-use Rattle.ace_grammar.proofs.Options.{some_is, none_isn't, chosen}
+use Rattle.ace_event.specs.Ports.{IsHeader, port_letter, port_letters}
+use Rattle.ace_grammar.specs.Reading.{IsReadableHeader}
+use Rattle.ace_grammar.specs.Letters.{ArePortLetters, ace_bits}
+use Rattle.ace_grammar.proofs.Exact.{IsClean}
 
-lite_isn't_ace : (P : Type 0) → Some Lite ≡ Some Ace → P
-lite_isn't_ace P e = absurd cc
+-- 1 for the letter, and 0 for another one
+abbrev is_ace : ℕ → ℕ
+is_ace letter = cond (eqb letter 65) 1 0
 
--- the bit of an ACE port
-pub ace_bit : (header : Header) (p : ℕ) → port_kind header p ≡ Some Ace → bit_at header.ace p ≡ 1
-ace_bit header p e =
-    elim (chosen (ltb p header.ports) (Some (cond (eqb (bit_at header.ace p) 1) Ace Lite)) None (Some Ace) e) [
-      | inl q ↦
-          elim (chosen (eqb (bit_at header.ace p) 1) Ace Lite Ace (some_is _ _ q.1)) [
-            | inl b ↦ eqb-true (bit_at header.ace p) 1 b.0
-            | inr b ↦ lite_isn't_ace _ (ap (λ k. Some k) b.1)
+abbrev is_lite : ℕ → ℕ
+is_lite letter = cond (eqb letter 76) 1 0
+
+abbrev aces : List ℕ → ℕ
+aces letters = count_by (λ letter. eqb letter 65) letters
+
+abbrev lites : List ℕ → ℕ
+lites letters = count_by (λ letter. eqb letter 76) letters
+
+aces-cons : (x : ℕ) (xs : List ℕ) → aces (x ∷ xs) ≡ is_ace x + aces xs
+aces-cons x xs = sum_by-cons is_ace x xs
+
+lites-cons : (x : ℕ) (xs : List ℕ) → lites (x ∷ xs) ≡ is_lite x + lites xs
+lites-cons x xs = sum_by-cons is_lite x xs
+
+kind_of_letter : (x : ℕ) → ((x ≡ 65) × (is_ace x ≡ 1) × (is_lite x ≡ 0)) ⊎ (((x ≡ 76) × (is_ace x ≡ 0) × (is_lite x ≡ 1)) ⊎ ((is_ace x ≡ 0) × (is_lite x ≡ 0)))
+kind_of_letter x =
+    elim (eqb_tells x 65) [
+      | inl p ↦ inl (p.1, ap (λ b. cond b 1 0) p.0, ap is_lite p.1)
+      | inr q ↦
+          elim (eqb_tells x 76) [
+            | inl p ↦ inr (inl (p.1, ap (λ b. cond b 1 0) q.0, ap (λ b. cond b 1 0) p.0))
+            | inr p ↦ inr (inr (ap (λ b. cond b 1 0) q.0, ap (λ b. cond b 1 0) p.0))
           ]
-      | inr q ↦ none_isn't Ace _ q.1
     ]
 
-ace_letter : (ace p : ℕ) → bit_at ace p ≡ 1 → port_letter ace p ≡ 65
-ace_letter ace p e = rw e refl
+at_most_one : (x : ℕ) → is_ace x + is_lite x ≤ 1
+at_most_one x = elim (kind_of_letter x) [ inl p ↦ omega (arith, p.1, p.2) | inr q ↦ elim q [ inl p ↦ omega (arith, p.1, p.2) | inr p ↦ omega (arith, p.0, p.1) ] ]
 
--- the letters of a readable header
-pub readable_letters : (header : Header) → HasAceAlone header → port_letters header ≡ replicate header.ports 65
-readable_letters header alone =
-    sym (fill_by_all (port_letter header.ace) (replicate header.ports 65) header.ports 0 (length-replicate header.ports 65)
-    (λ p h. get_or-replicate header.ports p 65 0 h ∙ sym (ace_letter header.ace p (ace_bit header p (alone p h)))))
+known-le-length : (letters : List ℕ) → aces letters + lites letters ≤ length letters
+known-le-length [] = omega arith
+known-le-length (x ∷ xs) = omega (arith, aces-cons x xs, lites-cons x xs, at_most_one x, known-le-length xs)
 
-pub readable_count : (header : Header) → IsReadableHeader header → header.ports ≤ 8
-readable_count header h =
-    let count : count_by (λ letter. eqb letter 65) (port_letters header) ≡ header.ports * 1 =
-    ap (count_by (λ letter. eqb letter 65)) (readable_letters header h.1) ∙ sum_by-replicate (λ letter. cond (eqb letter 65) 1 0) header.ports 65 in
-    omega (arith, h.0.most_ace, count)
+-- ---- the letters of ports
 
-pub readable_are_ace : (header : Header) → IsReadableHeader header → AreAceLetters (port_letters header)
-readable_are_ace header h =
-    let size : length (port_letters header) ≡ header.ports = length-map-range_with_len (port_letter header.ace) 0 header.ports in (
-      omega (arith, h.0.some_port, size),
-      omega (arith, size, readable_count header h),
-      λ p lt.
-          ap (λ (l : List ℕ). get_or l p 0) (readable_letters header h.1) ∙ get_or-replicate header.ports p 65 0 (omega (arith, lt, size)),
-    )
+abbrev letter_of : Bool → ℕ
+letter_of b = cond b 65 76
 
-pub no_letters : (letters : List ℕ) → (AreAceLetters letters → ⊥) → (header : Header) → IsReadableHeader header → port_letters header ≢ letters
-no_letters letters not header h same = not (subst AreAceLetters same (readable_are_ace header h))
+letter_of_bit : (b : Bool) → (is_ace (letter_of b) + is_lite (letter_of b) ≡ 1) × (letter_of b ≢ 10)
+letter_of_bit true = (refl, λ e. absurd (omega (arith, e)))
+letter_of_bit false = (refl, λ e. absurd (omega (arith, e)))
 
--- the header with so many ACE ports
-abbrev pub ace_ports : ℕ → Header
-ace_ports count = record { version = 1; ports = count; ace = 2 ^ count - 1 }
+all_known : (ace : ℕ) (places : List ℕ) → aces (map (port_letter ace) places) + lites (map (port_letter ace) places) ≡ length (map (port_letter ace) places)
+all_known ace [] = refl
+all_known ace (p ∷ places) =
+    let letters = map (port_letter ace) places in
+    omega (arith, aces-cons (port_letter ace p) letters, lites-cons (port_letter ace p) letters, (letter_of_bit (eqb (bit_at ace p) 1)).0, all_known ace places)
 
-ace_ports-alone : (count : ℕ) → HasAceAlone (ace_ports count)
-ace_ports-alone count p h =
-    cond-true (ltb p count) _ None (lt-ltb p count h) ∙ ap (λ bit. Some (cond (eqb bit 1) Ace Lite)) (bit_at_ones count p h)
+pub letters-clean : (ace : ℕ) (places : List ℕ) → IsClean (map (port_letter ace) places)
+letters-clean ace [] = tt
+letters-clean ace (p ∷ places) = ((letter_of_bit (eqb (bit_at ace p) 1)).1, letters-clean ace places)
 
-ace_ports-letters : (letters : List ℕ) → AreAceLetters letters → port_letters (ace_ports (length letters)) ≡ letters
-ace_ports-letters letters h =
-    let count = length letters in
-    sym (fill_by_all (port_letter (2 ^ count - 1)) letters count 0 refl (λ p lt. h.2 p lt ∙ sym (ace_letter (2 ^ count - 1) p (bit_at_ones count p lt))))
+pub letters-length : (header : Header) → length (port_letters header) ≡ header.ports
+letters-length header = length-map-range_with_len (port_letter header.ace) 0 header.ports
 
-pub made_letters : (letters : List ℕ) → AreAceLetters letters → IsReadableHeader (ace_ports (length letters)) × (port_letters (ace_ports (length letters)) ≡ letters)
+readable_are_letters : (header : Header) → IsReadableHeader header → ArePortLetters (port_letters header)
+readable_are_letters header h =
+    (omega (arith, h.some_port, letters-length header), h.most_ace, h.most_lite, all_known header.ace (range_with_len 0 header.ports))
+
+pub no_letters : (letters : List ℕ) → (ArePortLetters letters → ⊥) → (header : Header) → IsReadableHeader header → port_letters header ≢ letters
+no_letters letters not header h same = not (subst ArePortLetters same (readable_are_letters header h))
+
+-- ---- the header of letters
+
+-- letters that are known, one by one
+abbrev AreKnown : List ℕ → Type 0
+AreKnown letters = aces letters + lites letters ≡ length letters
+
+first_known : (x : ℕ) (xs : List ℕ) → AreKnown (x ∷ xs) → (((x ≡ 65) × (is_ace x ≡ 1)) ⊎ ((x ≡ 76) × (is_ace x ≡ 0))) × AreKnown xs
+first_known x xs all =
+    let sums : is_ace x + is_lite x + (aces xs + lites xs) ≡ suc (length xs) = omega (arith, aces-cons x xs, lites-cons x xs, all) in
+    let most = known-le-length xs in
+    elim (kind_of_letter x) [
+      | inl p ↦ (inl (p.0, p.1), omega (arith, sums, p.1, p.2))
+      | inr q ↦
+          elim q [
+            | inl p ↦ (inr (p.0, p.1), omega (arith, sums, p.1, p.2))
+            | inr p ↦ absurd (omega (arith, sums, p.0, p.1, most))
+          ]
+    ]
+
+pub bits_below : (letters : List ℕ) → ace_bits letters < 2 ^ length letters
+unfolding ace_bits
+bits_below [] = omega arith
+bits_below (x ∷ xs) = rw pow-suc (omega (arith, bits_below xs, at_most_one x))
+
+letter_of_digit : (x digit : ℕ) → ((x ≡ 65) × (digit ≡ 1)) ⊎ ((x ≡ 76) × (digit ≡ 0)) → x ≡ cond (eqb digit 1) 65 76
+letter_of_digit x digit (inl p) = p.0 ∙ ap (λ d. cond (eqb d 1) 65 76) (sym p.1)
+letter_of_digit x digit (inr p) = p.0 ∙ ap (λ d. cond (eqb d 1) 65 76) (sym p.1)
+
+lowest_bit : (digit bits : ℕ) → digit ≤ 1 → bit_at (digit + 2 * bits) 0 ≡ digit
+lowest_bit digit bits h = bit_at_lowest (digit + 2 * bits) ∙ omega (arith, h)
+
+next_bit : (digit bits p : ℕ) → digit ≤ 1 → bit_at (digit + 2 * bits) (suc p) ≡ bit_at bits p
+next_bit digit bits p h =
+    let half : (digit + 2 * bits) / 2 ≡ bits = omega (arith, h) in
+    bit_at-suc (digit + 2 * bits) p ∙ ap (λ n. bit_at n p) half
+
+letter_is : (letters : List ℕ) (p : ℕ) → AreKnown letters → p < length letters → get_or letters p 0 ≡ port_letter (ace_bits letters) p
+unfolding ace_bits
+letter_is [] p all h = absurd (omega (arith, h))
+letter_is (x ∷ xs) zero all h =
+    letter_of_digit x (is_ace x) (first_known x xs all).0
+    ∙ ap (λ d. cond (eqb d 1) 65 76) (sym (lowest_bit (is_ace x) (ace_bits xs) (omega (arith, at_most_one x))))
+letter_is (x ∷ xs) (suc p) all h =
+    letter_is xs p (first_known x xs all).1 (omega (arith, h))
+    ∙ ap (λ d. cond (eqb d 1) 65 76) (sym (next_bit (is_ace x) (ace_bits xs) p (omega (arith, at_most_one x))))
+
+-- the header with these letters
+abbrev pub header_of : List ℕ → Header
+header_of letters = record { version = 1; ports = length letters; ace = ace_bits letters }
+
+written_again : (letters : List ℕ) → AreKnown letters → port_letters (header_of letters) ≡ letters
+written_again letters all = sym (fill_by_all (port_letter (ace_bits letters)) letters (length letters) 0 refl (λ p lt. letter_is letters p all lt))
+
+pub made_letters : (letters : List ℕ) → ArePortLetters letters → IsReadableHeader (header_of letters) × (port_letters (header_of letters) ≡ letters)
 made_letters letters h =
-    let count = length letters in
-    let written = ace_ports-letters letters h in
-    let most : (letter : ℕ) → count_by (λ l. eqb l letter) (port_letters (ace_ports count)) ≤ 8 =
-    λ letter. rw written (omega (arith, count_by-le-length (λ l. eqb l letter) letters, h.1)) in
-    let header : IsHeader (ace_ports count) = record {
+    let written = written_again letters h.3 in
+    let header : IsHeader (header_of letters) = record {
       version = refl;
       some_port = h.0;
-      most_ports = omega (arith, h.1);
-      most_ace = most 65;
-      most_lite = most 76;
-      no_other = omega (arith, pow_pos count);
+      most_ports = omega (arith, h.1, h.2, h.3);
+      most_ace = rw written h.1;
+      most_lite = rw written h.2;
+      no_other = bits_below letters;
     } in
-    ((header, ace_ports-alone count), written)
+    (header, written)
 
--- the bits of so many ports, as a shift makes them
-pub shifted_ports : (count : ℕ) → count ≤ 8 → 1 * 2 ^ count % 4294967296 - 1 ≡ 2 ^ count - 1
-shifted_ports count h =
-    let small : 2 ^ count < 2 ^ 32 = pow_below count 32 (omega arith) in
-    omega (arith, small)
+-- ---- headers with the same letters
+
+digit_of_letter : (a b : ℕ) → a < 2 → b < 2 → letter_of (eqb a 1) ≡ letter_of (eqb b 1) → a ≡ b
+digit_of_letter zero zero h k e = refl
+digit_of_letter zero (suc zero) h k e = absurd (omega (arith, e))
+digit_of_letter (suc zero) zero h k e = absurd (omega (arith, e))
+digit_of_letter (suc zero) (suc zero) h k e = refl
+digit_of_letter (suc (suc a)) b h k e = absurd (omega (arith, h))
+digit_of_letter a (suc (suc b)) h k e = absurd (omega (arith, k))
+
+letter_at_place : (header : Header) (p : ℕ) → p < header.ports → get_or (port_letters header) p 0 ≡ port_letter header.ace p
+letter_at_place header p h = get_or-map-range_with_len (port_letter header.ace) 0 header.ports p p 0 h (omega arith)
+
+pub same_header : (one other : Header) → IsReadableHeader one → IsReadableHeader other → port_letters one ≡ port_letters other → one ≡ other
+same_header one other h k same =
+    let size : one.ports ≡ other.ports = sym (letters-length one) ∙ ap length same ∙ letters-length other in
+    let bits : one.ace ≡ other.ace =
+    same_from_bits_below one.ports one.ace other.ace h.no_other (rw size k.no_other)
+    (λ p lt.
+    let letters = sym (letter_at_place one p lt) ∙ ap (λ (l : List ℕ). get_or l p 0) same ∙ letter_at_place other p (omega (arith, lt, size)) in
+    digit_of_letter (bit_at one.ace p) (bit_at other.ace p) (bit_at-lt one.ace p) (bit_at-lt other.ace p) letters) in
+    let version : one.version ≡ other.version = h.version ∙ sym k.version in
+    ap (λ v. record { version = v; ports = one.ports; ace = one.ace }) version
+    ∙ ap (λ p. record { version = other.version; ports = p; ace = one.ace }) size
+    ∙ ap (λ a. record { version = other.version; ports = other.ports; ace = a }) bits

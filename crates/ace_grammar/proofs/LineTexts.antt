@@ -1,179 +1,219 @@
 -- Lines: what is read from a line is exactly a readable event.
-use Rattle.std.proofs.Common.{◌≡◌, ◌≢◌, ℕ, ◌<◌, true, List, [], ◌∷◌, ◌++◌, length, Option, Some, None, refl, sym, ap, subst, ◌∙◌, arith, eqb, inl, inr}
-use Rattle.std.specs.Prelude.{MatchOption}
+use Rattle.std.proofs.Common.{◌≡◌, ◌≢◌, ℕ, ◌<◌, Bool, true, cond, List, [], ◌∷◌, ◌++◌, length, Option, Some, None, refl, sym, ap, subst, ◌∙◌, arith, eqb, inl, inr}
 use Rattle.std.specs.Option.{option_map}
 use Rattle.std.proofs.lemmas.Bool.{eqb-true}
 use Rattle.ace_event.specs.declared.event.Event.{Event}
-use Rattle.ace_event.specs.declared.event.Event.TheVariants.{Ar, R, Rk, Ac, Cr, G}
+use Rattle.ace_event.specs.declared.event.Event.TheVariants.{Ar, R, Rk, Aw, W, B, Wk, Ac, Cr, Cd, G, M, S, L, D, Op}
 use Rattle.ace_event.specs.Text.{event_text}
 use Rattle.ace_grammar.specs.Reading.{IsReadable}
-use Rattle.ace_grammar.specs.Records.{ArFields, RFields, RkFields, AcFields, CrFields, GFields, ar_fields, r_fields, rk_fields, ac_fields, cr_fields, g_fields, ar_event, r_event, rk_event, ac_event, cr_event, g_event, a_at, c_at, r_at, event_at}
+use Rattle.ace_grammar.specs.Records.{ArFields, RFields, RkFields, AwFields, WFields, BFields, WkFields, AcFields, CrFields, CdFields, GFields, MFields, SFields, LFields, DFields, OpFields, ar_fields, r_fields, rk_fields, aw_fields, w_fields, b_fields, wk_fields, ac_fields, cr_fields, cd_fields, g_fields, m_fields, s_fields, l_fields, d_fields, op_fields, ar_event, r_event, rk_event, aw_event, w_event, b_event, wk_event, ac_event, cr_event, cd_event, g_event, m_event, s_event, l_event, d_event, op_event, a_at, c_at, o_at, r_at, w_at, event_at}
 use Rattle.ace_grammar.proofs.Options.{map_some, none_isn't, chosen}
 use Rattle.ace_grammar.proofs.Exact.{IsClean, Rest}
-use Rattle.ace_grammar.proofs.RecordTexts.{ar, r, rk, ac, cr, g}
+use Rattle.ace_grammar.proofs.RecordTexts.{ar, r, rk, aw, w, b, wk, ac, cr, cd, g, m, s, l, d, op}
 
 -- the bytes behind these are the rest of the event's line
-abbrev pub Reads : List ℕ → List ℕ → Event → Type 0
-Reads front bytes event = IsReadable event × (event_text event ≡ front ++ bytes)
+abbrev pub Reads : (List ℕ → List ℕ) → List ℕ → Event → Type 0
+Reads front bytes event = IsReadable event × (event_text event ≡ front bytes)
 
-record_takes : {F : Type 0} (fields : Rest F) (make : F → Event) (front : List ℕ) → ((f : F) → fields.IsIn f → Reads front (fields.text f) (make f))
+record_takes : {F : Type 0} (fields : Rest F) (make : F → Event) (front : List ℕ → List ℕ) → ((f : F) → fields.IsIn f → Reads front (fields.text f) (make f))
     → (bytes : List ℕ) (event : Event) → option_map make (fields.read bytes) ≡ Some event → Reads front bytes event
 record_takes fields make front makes bytes event e =
     let step = map_some (fields.read bytes) make event e in
     let taken = fields.exact.takes bytes step.0 step.1 in
     subst (Reads front bytes) step.2 (subst (λ (l : List ℕ). Reads front l (make step.0)) (sym taken.1) (makes step.0 taken.0))
 
-ar_takes : (bytes : List ℕ) (event : Event) → option_map ar_event (ar_fields bytes) ≡ Some event → Reads (65 ∷ 82 ∷ []) bytes event
+ar_takes : (bytes : List ℕ) (event : Event) → option_map ar_event (ar_fields bytes) ≡ Some event → Reads (λ l. 65 ∷ 82 ∷ l) bytes event
 unfolding ar_fields
-ar_takes = record_takes ar ar_event (65 ∷ 82 ∷ [])
-    (λ f h. ((tt, (omega (arith, h.0), omega (arith, h.1.0), omega (arith, h.1.1.0), omega (arith, h.1.1.1.0), h.1.1.1.1.0, h.1.1.1.1.1.0)), refl))
+ar_takes = record_takes ar ar_event (λ l. 65 ∷ 82 ∷ l) (λ f h. ((omega (arith, h.0), omega (arith, h.1.0), omega (arith, h.1.1.0), omega (arith, h.1.1.1.0), h.1.1.1.1.0, h.1.1.1.1.1.0), refl))
 
-r_takes : (bytes : List ℕ) (event : Event) → option_map r_event (r_fields bytes) ≡ Some event → Reads (82 ∷ []) bytes event
+r_takes : (bytes : List ℕ) (event : Event) → option_map r_event (r_fields bytes) ≡ Some event → Reads (λ l. 82 ∷ l) bytes event
 unfolding r_fields
-r_takes = record_takes r r_event (82 ∷ [])
-    (λ f h. ((tt, (omega (arith, h.0), omega (arith, h.1.0), omega (arith, h.1.1.0), omega (arith, h.1.1.1.1))), refl))
+r_takes = record_takes r r_event (λ l. 82 ∷ l) (λ f h. ((omega (arith, h.0), omega (arith, h.1.0), omega (arith, h.1.1.0), omega (arith, h.1.1.1.1)), refl))
 
-rk_takes : (bytes : List ℕ) (event : Event) → option_map rk_event (rk_fields bytes) ≡ Some event → Reads (82 ∷ 75 ∷ []) bytes event
+rk_takes : (bytes : List ℕ) (event : Event) → option_map rk_event (rk_fields bytes) ≡ Some event → Reads (λ l. 82 ∷ 75 ∷ l) bytes event
 unfolding rk_fields
-rk_takes = record_takes rk rk_event (82 ∷ 75 ∷ []) (λ f h. ((tt, omega (arith, h.0)), refl))
+rk_takes = record_takes rk rk_event (λ l. 82 ∷ 75 ∷ l) (λ f h. (omega (arith, h.0), refl))
 
-ac_takes : (bytes : List ℕ) (event : Event) → option_map ac_event (ac_fields bytes) ≡ Some event → Reads (65 ∷ 67 ∷ []) bytes event
+aw_takes : (bytes : List ℕ) (event : Event) → option_map aw_event (aw_fields bytes) ≡ Some event → Reads (λ l. 65 ∷ 87 ∷ l) bytes event
+unfolding aw_fields
+aw_takes = record_takes aw aw_event (λ l. 65 ∷ 87 ∷ l) (λ f h. ((omega (arith, h.0), omega (arith, h.1.0), omega (arith, h.1.1.0), h.1.1.1.0, h.1.1.1.1.0, h.1.1.1.1.1), refl))
+
+w_takes : (bytes : List ℕ) (event : Event) → option_map w_event (w_fields bytes) ≡ Some event → Reads (λ l. 87 ∷ l) bytes event
+unfolding w_fields
+w_takes = record_takes w w_event (λ l. 87 ∷ l) (λ f h. ((omega (arith, h.0), omega (arith, h.1.0), omega (arith, h.1.1.1)), refl))
+
+b_takes : (bytes : List ℕ) (event : Event) → option_map b_event (b_fields bytes) ≡ Some event → Reads (λ l. 66 ∷ l) bytes event
+unfolding b_fields
+b_takes = record_takes b b_event (λ l. 66 ∷ l) (λ f h. ((omega (arith, h.0), omega (arith, h.1.0), h.1.1), refl))
+
+wk_takes : (bytes : List ℕ) (event : Event) → option_map wk_event (wk_fields bytes) ≡ Some event → Reads (λ l. 87 ∷ 75 ∷ l) bytes event
+unfolding wk_fields
+wk_takes = record_takes wk wk_event (λ l. 87 ∷ 75 ∷ l) (λ f h. (omega (arith, h.0), refl))
+
+ac_takes : (bytes : List ℕ) (event : Event) → option_map ac_event (ac_fields bytes) ≡ Some event → Reads (λ l. 65 ∷ 67 ∷ l) bytes event
 unfolding ac_fields
-ac_takes = record_takes ac ac_event (65 ∷ 67 ∷ []) (λ f h. ((tt, (omega (arith, h.0), omega (arith, h.1.0), omega (arith, h.1.1))), refl))
+ac_takes = record_takes ac ac_event (λ l. 65 ∷ 67 ∷ l) (λ f h. ((omega (arith, h.0), omega (arith, h.1.0), omega (arith, h.1.1)), refl))
 
-cr_takes : (bytes : List ℕ) (event : Event) → option_map cr_event (cr_fields bytes) ≡ Some event → Reads (67 ∷ 82 ∷ []) bytes event
+cr_takes : (bytes : List ℕ) (event : Event) → option_map cr_event (cr_fields bytes) ≡ Some event → Reads (λ l. 67 ∷ 82 ∷ l) bytes event
 unfolding cr_fields
-cr_takes = record_takes cr cr_event (67 ∷ 82 ∷ []) (λ f h. ((tt, (omega (arith, h.0), h.1.0)), refl))
+cr_takes = record_takes cr cr_event (λ l. 67 ∷ 82 ∷ l) (λ f h. ((omega (arith, h.0), h.1.0), refl))
 
-g_takes : (bytes : List ℕ) (event : Event) → option_map g_event (g_fields bytes) ≡ Some event → Reads (71 ∷ []) bytes event
+cd_takes : (bytes : List ℕ) (event : Event) → option_map cd_event (cd_fields bytes) ≡ Some event → Reads (λ l. 67 ∷ 68 ∷ l) bytes event
+unfolding cd_fields
+cd_takes = record_takes cd cd_event (λ l. 67 ∷ 68 ∷ l) (λ f h. ((omega (arith, h.0), omega (arith, h.1.1)), refl))
+
+g_takes : (bytes : List ℕ) (event : Event) → option_map g_event (g_fields bytes) ≡ Some event → Reads (λ l. 71 ∷ l) bytes event
 unfolding g_fields
-g_takes = record_takes g g_event (71 ∷ []) (λ f h. ((tt, (omega (arith, h.0), omega (arith, h.1.1))), refl))
+g_takes = record_takes g g_event (λ l. 71 ∷ l) (λ f h. ((omega (arith, h.0), omega (arith, h.1.1)), refl))
 
--- a letter in front, known by its number
-with_letter : (letter known : ℕ) (bytes : List ℕ) (event : Event) → eqb letter known ≡ true → Reads (known ∷ []) bytes event → Reads [] (letter ∷ bytes) event
-with_letter letter known bytes event is read = (read.0, read.1 ∙ ap (λ l. l ∷ bytes) (sym (eqb-true letter known is)))
+m_takes : (bytes : List ℕ) (event : Event) → option_map m_event (m_fields bytes) ≡ Some event → Reads (λ l. 77 ∷ l) bytes event
+unfolding m_fields
+m_takes = record_takes m m_event (λ l. 77 ∷ l) (λ f h. ((omega (arith, h.0), omega (arith, h.1.1.0), h.1.1.1), refl))
 
-behind_letter : (first letter known : ℕ) (bytes : List ℕ) (event : Event) → eqb letter known ≡ true → Reads (first ∷ known ∷ []) bytes event → Reads (first ∷ []) (letter ∷ bytes) event
-behind_letter first letter known bytes event is read = (read.0, read.1 ∙ ap (λ l. first ∷ l ∷ bytes) (sym (eqb-true letter known is)))
+s_takes : (bytes : List ℕ) (event : Event) → option_map s_event (s_fields bytes) ≡ Some event → Reads (λ l. 83 ∷ l) bytes event
+unfolding s_fields
+s_takes = record_takes s s_event (λ l. 83 ∷ l) (λ f h. ((omega (arith, h.0), omega (arith, h.1.0)), refl))
 
-a_takes : (bytes : List ℕ) (event : Event) → a_at bytes ≡ Some event → Reads (65 ∷ []) bytes event
+l_takes : (bytes : List ℕ) (event : Event) → option_map l_event (l_fields bytes) ≡ Some event → Reads (λ l. 76 ∷ l) bytes event
+unfolding l_fields
+l_takes = record_takes l l_event (λ l. 76 ∷ l) (λ f h. ((omega (arith, h.0), omega (arith, h.1.0), h.1.1.0, omega (arith, h.1.1.1.1)), refl))
+
+d_takes : (bytes : List ℕ) (event : Event) → option_map d_event (d_fields bytes) ≡ Some event → Reads (λ l. 68 ∷ l) bytes event
+unfolding d_fields
+d_takes = record_takes d d_event (λ l. 68 ∷ l) (λ f h. ((omega (arith, h.0), omega (arith, h.1.0), omega (arith, h.1.1.0), h.1.1.1.1), refl))
+
+op_takes : (bytes : List ℕ) (event : Event) → option_map op_event (op_fields bytes) ≡ Some event → Reads (λ l. 79 ∷ 80 ∷ l) bytes event
+unfolding op_fields
+op_takes = record_takes op op_event (λ l. 79 ∷ 80 ∷ l) (λ f h. ((omega (arith, h.0), omega (arith, h.1.0)), refl))
+
+-- a letter in front, known by its number, or another one
+by_letter : (front : List ℕ → List ℕ) (letter known : ℕ) (here other : Option Event) (bytes : List ℕ) (event : Event) → (here ≡ Some event → Reads (λ l. front (known ∷ l)) bytes event)
+    → (other ≡ Some event → Reads front (letter ∷ bytes) event) → cond (eqb letter known) here other ≡ Some event → Reads front (letter ∷ bytes) event
+by_letter front letter known here other bytes event told else_told e =
+    elim (chosen (eqb letter known) here other (Some event) e) [
+      | inl p ↦ let read = told p.1 in (read.0, read.1 ∙ ap (λ l. front (l ∷ bytes)) (sym (eqb-true letter known p.0)))
+      | inr q ↦ else_told q.1
+    ]
+
+a_at_takes : (bytes : List ℕ) (event : Event) → a_at bytes ≡ Some event → Reads (λ l. 65 ∷ l) bytes event
 unfolding a_at
-a_takes [] event e = none_isn't event _ e
-a_takes (letter ∷ bytes) event e =
-    elim (chosen (eqb letter 67) _ _ (Some event) e) [
-      | inl p ↦ behind_letter 65 letter 67 bytes event p.0 (ac_takes bytes event p.1)
-      | inr q ↦
-          elim (chosen (eqb letter 82) _ None (Some event) q.1) [
-            | inl p ↦ behind_letter 65 letter 82 bytes event p.0 (ar_takes bytes event p.1)
-            | inr q ↦ none_isn't event _ q.1
-          ]
-    ]
+a_at_takes [] event e = none_isn't event _ e
+a_at_takes (letter ∷ bytes) event e =
+    by_letter (λ l. 65 ∷ l) letter 67 _ _ bytes event (ac_takes bytes event) (λ e.
+    by_letter (λ l. 65 ∷ l) letter 82 _ _ bytes event (ar_takes bytes event) (λ e.
+    by_letter (λ l. 65 ∷ l) letter 87 _ _ bytes event (aw_takes bytes event) (λ e.
+    none_isn't event _ e
+    ) e) e) e
 
-c_takes : (bytes : List ℕ) (event : Event) → c_at bytes ≡ Some event → Reads (67 ∷ []) bytes event
+c_at_takes : (bytes : List ℕ) (event : Event) → c_at bytes ≡ Some event → Reads (λ l. 67 ∷ l) bytes event
 unfolding c_at
-c_takes [] event e = none_isn't event _ e
-c_takes (letter ∷ bytes) event e =
-    elim (chosen (eqb letter 82) _ None (Some event) e) [
-      | inl p ↦ behind_letter 67 letter 82 bytes event p.0 (cr_takes bytes event p.1)
-      | inr q ↦ none_isn't event _ q.1
-    ]
+c_at_takes [] event e = none_isn't event _ e
+c_at_takes (letter ∷ bytes) event e =
+    by_letter (λ l. 67 ∷ l) letter 68 _ _ bytes event (cd_takes bytes event) (λ e.
+    by_letter (λ l. 67 ∷ l) letter 82 _ _ bytes event (cr_takes bytes event) (λ e.
+    none_isn't event _ e
+    ) e) e
 
-r_or_rk_takes : (bytes : List ℕ) (event : Event) → r_at bytes ≡ Some event → Reads (82 ∷ []) bytes event
+o_at_takes : (bytes : List ℕ) (event : Event) → o_at bytes ≡ Some event → Reads (λ l. 79 ∷ l) bytes event
+unfolding o_at
+o_at_takes [] event e = none_isn't event _ e
+o_at_takes (letter ∷ bytes) event e =
+    by_letter (λ l. 79 ∷ l) letter 80 _ _ bytes event (op_takes bytes event) (λ e.
+    none_isn't event _ e
+    ) e
+
+r_at_takes : (bytes : List ℕ) (event : Event) → r_at bytes ≡ Some event → Reads (λ l. 82 ∷ l) bytes event
 unfolding r_at
-r_or_rk_takes [] event e = r_takes [] event e
-r_or_rk_takes (letter ∷ bytes) event e =
-    elim (chosen (eqb letter 75) _ _ (Some event) e) [
-      | inl p ↦ behind_letter 82 letter 75 bytes event p.0 (rk_takes bytes event p.1)
-      | inr q ↦ r_takes (letter ∷ bytes) event q.1
-    ]
+r_at_takes [] event e = r_takes [] event e
+r_at_takes (letter ∷ bytes) event e =
+    by_letter (λ l. 82 ∷ l) letter 75 _ _ bytes event (rk_takes bytes event) (λ e.
+    r_takes (letter ∷ bytes) event e
+    ) e
+
+w_at_takes : (bytes : List ℕ) (event : Event) → w_at bytes ≡ Some event → Reads (λ l. 87 ∷ l) bytes event
+unfolding w_at
+w_at_takes [] event e = w_takes [] event e
+w_at_takes (letter ∷ bytes) event e =
+    by_letter (λ l. 87 ∷ l) letter 75 _ _ bytes event (wk_takes bytes event) (λ e.
+    w_takes (letter ∷ bytes) event e
+    ) e
 
 -- what is read from a line is a readable event, and the line is its text
-pub event_takes : (line : List ℕ) (event : Event) → event_at line ≡ Some event → IsReadable event × (event_text event ≡ line)
+pub event_takes : (bytes : List ℕ) (event : Event) → event_at bytes ≡ Some event → Reads (λ l. l) bytes event
 unfolding event_at
 event_takes [] event e = none_isn't event _ e
 event_takes (letter ∷ bytes) event e =
-    elim (chosen (eqb letter 65) _ _ (Some event) e) [
-      | inl p ↦ with_letter letter 65 bytes event p.0 (a_takes bytes event p.1)
-      | inr q ↦
-          elim (chosen (eqb letter 67) _ _ (Some event) q.1) [
-            | inl p ↦ with_letter letter 67 bytes event p.0 (c_takes bytes event p.1)
-            | inr q ↦
-                elim (chosen (eqb letter 71) _ _ (Some event) q.1) [
-                  | inl p ↦ with_letter letter 71 bytes event p.0 (g_takes bytes event p.1)
-                  | inr q ↦
-                      elim (chosen (eqb letter 82) _ None (Some event) q.1) [
-                        | inl p ↦ with_letter letter 82 bytes event p.0 (r_or_rk_takes bytes event p.1)
-                        | inr q ↦ none_isn't event _ q.1
-                      ]
-                ]
-          ]
-    ]
+    by_letter (λ l. l) letter 65 _ _ bytes event (a_at_takes bytes event) (λ e.
+    by_letter (λ l. l) letter 66 _ _ bytes event (b_takes bytes event) (λ e.
+    by_letter (λ l. l) letter 67 _ _ bytes event (c_at_takes bytes event) (λ e.
+    by_letter (λ l. l) letter 68 _ _ bytes event (d_takes bytes event) (λ e.
+    by_letter (λ l. l) letter 71 _ _ bytes event (g_takes bytes event) (λ e.
+    by_letter (λ l. l) letter 76 _ _ bytes event (l_takes bytes event) (λ e.
+    by_letter (λ l. l) letter 77 _ _ bytes event (m_takes bytes event) (λ e.
+    by_letter (λ l. l) letter 79 _ _ bytes event (o_at_takes bytes event) (λ e.
+    by_letter (λ l. l) letter 82 _ _ bytes event (r_at_takes bytes event) (λ e.
+    by_letter (λ l. l) letter 83 _ _ bytes event (s_takes bytes event) (λ e.
+    by_letter (λ l. l) letter 87 _ _ bytes event (w_at_takes bytes event) (λ e.
+    none_isn't event _ e
+    ) e) e) e) e) e) e) e) e) e) e) e
 
 -- the text of a readable event is read as that event
 pub event_again : (event : Event) → IsReadable event → event_at (event_text event) ≡ Some event
-unfolding event_at a_at c_at r_at ar_fields r_fields rk_fields ac_fields cr_fields g_fields
-event_again (Ar port id addr snoop dom bar lock) h =
-    let fits = h.1 in
-    let f : ArFields = (port, (id, (addr, (snoop, (dom, (bar, lock)))))) in
-    ap (option_map ar_event) (ar.exact.again f (omega (arith, fits.0), (omega (arith, fits.1), (omega (arith, fits.2), (omega (arith, fits.3), (fits.4, (fits.5, tt)))))))
-event_again (R port id resp last word) h =
-    let fits = h.1 in
-    let f : RFields = (port, (id, (resp, (last, word)))) in
-    ap (option_map r_event) (r.exact.again f (omega (arith, fits.0), (omega (arith, fits.1), (omega (arith, fits.2), (tt, omega (arith, fits.3))))))
-event_again (Rk port st) h =
-    let f : RkFields = (port, st) in
-    ap (option_map rk_event) (rk.exact.again f (omega (arith, h.1), tt))
-event_again (Ac port addr snoop) h =
-    let fits = h.1 in
-    let f : AcFields = (port, (addr, snoop)) in
-    ap (option_map ac_event) (ac.exact.again f (omega (arith, fits.0), (omega (arith, fits.1), omega (arith, fits.2))))
-event_again (Cr port resp st) h =
-    let fits = h.1 in
-    let f : CrFields = (port, (resp, st)) in
-    ap (option_map cr_event) (cr.exact.again f (omega (arith, fits.0), (fits.1, tt)))
-event_again (G port chan id) h =
-    let fits = h.1 in
-    let f : GFields = (port, (chan, id)) in
-    ap (option_map g_event) (g.exact.again f (omega (arith, fits.0), (tt, omega (arith, fits.1))))
-event_again _ h = absurd h.0
+unfolding event_at a_at c_at o_at r_at w_at ar_fields r_fields rk_fields aw_fields w_fields b_fields wk_fields ac_fields cr_fields cd_fields g_fields m_fields s_fields l_fields d_fields op_fields
+event_again (Ar port id addr snoop dom bar lock) h = ap (option_map ar_event) (ar.exact.again (port, (id, (addr, (snoop, (dom, (bar, lock)))))) (omega (arith, h.0), (omega (arith, h.1), (omega (arith, h.2), (omega (arith, h.3), (h.4, (h.5, tt)))))))
+event_again (R port id resp last word) h = ap (option_map r_event) (r.exact.again (port, (id, (resp, (last, word)))) (omega (arith, h.0), (omega (arith, h.1), (omega (arith, h.2), (tt, omega (arith, h.3))))))
+event_again (Rk port st) h = ap (option_map rk_event) (rk.exact.again (port, st) (omega (arith, h), tt))
+event_again (Aw port id addr snoop dom bar) h = ap (option_map aw_event) (aw.exact.again (port, (id, (addr, (snoop, (dom, bar))))) (omega (arith, h.0), (omega (arith, h.1), (omega (arith, h.2), (h.3, (h.4, h.5))))))
+event_again (W port strb last word) h = ap (option_map w_event) (w.exact.again (port, (strb, (last, word))) (omega (arith, h.0), (omega (arith, h.1), (tt, omega (arith, h.2)))))
+event_again (B port id resp) h = ap (option_map b_event) (b.exact.again (port, (id, resp)) (omega (arith, h.0), (omega (arith, h.1), h.2)))
+event_again (Wk port st) h = ap (option_map wk_event) (wk.exact.again (port, st) (omega (arith, h), tt))
+event_again (Ac port addr snoop) h = ap (option_map ac_event) (ac.exact.again (port, (addr, snoop)) (omega (arith, h.0), (omega (arith, h.1), omega (arith, h.2))))
+event_again (Cr port resp st) h = ap (option_map cr_event) (cr.exact.again (port, (resp, st)) (omega (arith, h.0), (h.1, tt)))
+event_again (Cd port last word) h = ap (option_map cd_event) (cd.exact.again (port, (last, word)) (omega (arith, h.0), (tt, omega (arith, h.1))))
+event_again (G port chan id) h = ap (option_map g_event) (g.exact.again (port, (chan, id)) (omega (arith, h.0), (tt, omega (arith, h.1))))
+event_again (M port chan id line) h = ap (option_map m_event) (m.exact.again (port, (chan, (id, line))) (omega (arith, h.0), (tt, (omega (arith, h.1), h.2))))
+event_again (S port addr st) h = ap (option_map s_event) (s.exact.again (port, (addr, st)) (omega (arith, h.0), (omega (arith, h.1), tt)))
+event_again (L port addr w x word) h = ap (option_map l_event) (l.exact.again (port, (addr, (w, (x, word)))) (omega (arith, h.0), (omega (arith, h.1), (h.2, (tt, omega (arith, h.3))))))
+event_again (D port addr strobe x line) h = ap (option_map d_event) (d.exact.again (port, (addr, (strobe, (x, line)))) (omega (arith, h.0), (omega (arith, h.1), (omega (arith, h.2), (tt, h.3)))))
+event_again (Op port k res) h = ap (option_map op_event) (op.exact.again (port, (k, res)) (omega (arith, h.0), (omega (arith, h.1), tt)))
 
 not_lf : (n : ℕ) → 10 < n → n ≢ 10
 not_lf n h e = omega arith
 
--- the line of a readable event holds no line feed
+-- the line of an event holds no line feed
 pub event_clean : (event : Event) → IsReadable event → IsClean (event_text event)
-event_clean (Ar port id addr snoop dom bar lock) h =
-    let f : ArFields = (port, (id, (addr, (snoop, (dom, (bar, lock)))))) in
-    (not_lf 65 (omega arith), (not_lf 82 (omega arith), ar.exact.clean f))
-event_clean (R port id resp last word) h =
-    let f : RFields = (port, (id, (resp, (last, word)))) in (not_lf 82 (omega arith), r.exact.clean f)
-event_clean (Rk port st) h =
-    let f : RkFields = (port, st) in (not_lf 82 (omega arith), (not_lf 75 (omega arith), rk.exact.clean f))
-event_clean (Ac port addr snoop) h =
-    let f : AcFields = (port, (addr, snoop)) in (not_lf 65 (omega arith), (not_lf 67 (omega arith), ac.exact.clean f))
-event_clean (Cr port resp st) h =
-    let f : CrFields = (port, (resp, st)) in (not_lf 67 (omega arith), (not_lf 82 (omega arith), cr.exact.clean f))
-event_clean (G port chan id) h =
-    let f : GFields = (port, (chan, id)) in (not_lf 71 (omega arith), g.exact.clean f)
-event_clean _ h = absurd h.0
+event_clean (Ar port id addr snoop dom bar lock) h = (not_lf 65 (omega arith), (not_lf 82 (omega arith), ar.exact.clean (port, (id, (addr, (snoop, (dom, (bar, lock))))))))
+event_clean (R port id resp last word) h = (not_lf 82 (omega arith), r.exact.clean (port, (id, (resp, (last, word)))))
+event_clean (Rk port st) h = (not_lf 82 (omega arith), (not_lf 75 (omega arith), rk.exact.clean (port, st)))
+event_clean (Aw port id addr snoop dom bar) h = (not_lf 65 (omega arith), (not_lf 87 (omega arith), aw.exact.clean (port, (id, (addr, (snoop, (dom, bar)))))))
+event_clean (W port strb last word) h = (not_lf 87 (omega arith), w.exact.clean (port, (strb, (last, word))))
+event_clean (B port id resp) h = (not_lf 66 (omega arith), b.exact.clean (port, (id, resp)))
+event_clean (Wk port st) h = (not_lf 87 (omega arith), (not_lf 75 (omega arith), wk.exact.clean (port, st)))
+event_clean (Ac port addr snoop) h = (not_lf 65 (omega arith), (not_lf 67 (omega arith), ac.exact.clean (port, (addr, snoop))))
+event_clean (Cr port resp st) h = (not_lf 67 (omega arith), (not_lf 82 (omega arith), cr.exact.clean (port, (resp, st))))
+event_clean (Cd port last word) h = (not_lf 67 (omega arith), (not_lf 68 (omega arith), cd.exact.clean (port, (last, word))))
+event_clean (G port chan id) h = (not_lf 71 (omega arith), g.exact.clean (port, (chan, id)))
+event_clean (M port chan id line) h = (not_lf 77 (omega arith), m.exact.clean (port, (chan, (id, line))))
+event_clean (S port addr st) h = (not_lf 83 (omega arith), s.exact.clean (port, (addr, st)))
+event_clean (L port addr w x word) h = (not_lf 76 (omega arith), l.exact.clean (port, (addr, (w, (x, word)))))
+event_clean (D port addr strobe x line) h = (not_lf 68 (omega arith), d.exact.clean (port, (addr, (strobe, (x, line)))))
+event_clean (Op port k res) h = (not_lf 79 (omega arith), (not_lf 80 (omega arith), op.exact.clean (port, (k, res))))
 
 -- and is shorter than 256 bytes
 pub event_short : (event : Event) → IsReadable event → length (event_text event) < 256
-event_short (Ar port id addr snoop dom bar lock) h =
-    let f : ArFields = (port, (id, (addr, (snoop, (dom, (bar, lock)))))) in omega (arith, ar.exact.short f)
-event_short (R port id resp last word) h =
-    let f : RFields = (port, (id, (resp, (last, word)))) in omega (arith, r.exact.short f)
-event_short (Rk port st) h = let f : RkFields = (port, st) in omega (arith, rk.exact.short f)
-event_short (Ac port addr snoop) h = let f : AcFields = (port, (addr, snoop)) in omega (arith, ac.exact.short f)
-event_short (Cr port resp st) h = let f : CrFields = (port, (resp, st)) in omega (arith, cr.exact.short f)
-event_short (G port chan id) h = let f : GFields = (port, (chan, id)) in omega (arith, g.exact.short f)
-event_short _ h = absurd h.0
-
-no_event : (line : List ℕ) → event_at line ≡ None → (event : Event) → IsReadable event → event_text event ≢ line
-no_event line none event h same = none_isn't event _ (sym none ∙ ap event_at (sym same) ∙ event_again event h)
-
--- what is read of a line, and when nothing is
-pub line_is_read : (line : List ℕ) (read : Option Event) → read ≡ event_at line
-    → MatchOption read ((event : Event) → IsReadable event → event_text event ≢ line) (λ event. IsReadable event × (event_text event ≡ line))
-line_is_read line None is = no_event line (sym is)
-line_is_read line (Some event) is = event_takes line event (sym is)
+event_short (Ar port id addr snoop dom bar lock) h = omega (arith, ar.exact.short (port, (id, (addr, (snoop, (dom, (bar, lock)))))) (omega (arith, h.0), (omega (arith, h.1), (omega (arith, h.2), (omega (arith, h.3), (h.4, (h.5, tt)))))))
+event_short (R port id resp last word) h = omega (arith, r.exact.short (port, (id, (resp, (last, word)))) (omega (arith, h.0), (omega (arith, h.1), (omega (arith, h.2), (tt, omega (arith, h.3))))))
+event_short (Rk port st) h = omega (arith, rk.exact.short (port, st) (omega (arith, h), tt))
+event_short (Aw port id addr snoop dom bar) h = omega (arith, aw.exact.short (port, (id, (addr, (snoop, (dom, bar))))) (omega (arith, h.0), (omega (arith, h.1), (omega (arith, h.2), (h.3, (h.4, h.5))))))
+event_short (W port strb last word) h = omega (arith, w.exact.short (port, (strb, (last, word))) (omega (arith, h.0), (omega (arith, h.1), (tt, omega (arith, h.2)))))
+event_short (B port id resp) h = omega (arith, b.exact.short (port, (id, resp)) (omega (arith, h.0), (omega (arith, h.1), h.2)))
+event_short (Wk port st) h = omega (arith, wk.exact.short (port, st) (omega (arith, h), tt))
+event_short (Ac port addr snoop) h = omega (arith, ac.exact.short (port, (addr, snoop)) (omega (arith, h.0), (omega (arith, h.1), omega (arith, h.2))))
+event_short (Cr port resp st) h = omega (arith, cr.exact.short (port, (resp, st)) (omega (arith, h.0), (h.1, tt)))
+event_short (Cd port last word) h = omega (arith, cd.exact.short (port, (last, word)) (omega (arith, h.0), (tt, omega (arith, h.1))))
+event_short (G port chan id) h = omega (arith, g.exact.short (port, (chan, id)) (omega (arith, h.0), (tt, omega (arith, h.1))))
+event_short (M port chan id line) h = omega (arith, m.exact.short (port, (chan, (id, line))) (omega (arith, h.0), (tt, (omega (arith, h.1), h.2))))
+event_short (S port addr st) h = omega (arith, s.exact.short (port, (addr, st)) (omega (arith, h.0), (omega (arith, h.1), tt)))
+event_short (L port addr w x word) h = omega (arith, l.exact.short (port, (addr, (w, (x, word)))) (omega (arith, h.0), (omega (arith, h.1), (h.2, (tt, omega (arith, h.3))))))
+event_short (D port addr strobe x line) h = omega (arith, d.exact.short (port, (addr, (strobe, (x, line)))) (omega (arith, h.0), (omega (arith, h.1), (omega (arith, h.2), (tt, h.3)))))
+event_short (Op port k res) h = omega (arith, op.exact.short (port, (k, res)) (omega (arith, h.0), (omega (arith, h.1), tt)))

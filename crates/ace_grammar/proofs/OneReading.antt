@@ -1,53 +1,85 @@
 -- The same bytes read in one way.
-use Rattle.std.proofs.Common.{◌≡◌, ◌≢◌, ℕ, suc, ◌+◌, ◌<◌, ◌≤◌, List, [], ◌∷◌, ◌++◌, length, refl, sym, ap, subst, ◌∙◌, arith, append_assoc}
+use Rattle.std.proofs.Common.{◌≡◌, ◌≢◌, ℕ, suc, ◌+◌, ◌<◌, ◌≤◌, List, [], ◌∷◌, ◌++◌, length, refl, sym, ap, subst, ◌∙◌, arith, append_assoc, inl, inr}
 use Rattle.std.specs.Prelude.{codes}
 use Rattle.std.specs.List.{AllByRecursion}
-use Rattle.std.proofs.lemmas.List.{append_cancel_left, length-replicate}
-use Rattle.std.proofs.lemmas.Nat.Bits.{same_from_bits_below}
+use Rattle.std.proofs.lemmas.List.{append_cancel_left}
 use Rattle.ace_event.specs.declared.event.Event.{Event}
 use Rattle.ace_event.specs.declared.header.Header.{Header}
 use Rattle.ace_event.specs.Ports.{port_letters}
 use Rattle.ace_event.specs.Text.{event_text, events_text, line_text, header_text, trace_text}
-use Rattle.ace_grammar.specs.Reading.{IsReadable, IsReadableHeader, HasBadLine, HasBadHeader, ports_text, most_events, Ending, Whole, Full, Bad, Ends, Reads}
+use Rattle.ace_grammar.specs.Reading.{IsReadable, IsReadableHeader, HasBadLine, HasBadHeaderLine, HasBadHeader, IsPortsLine, ports_text, most_events, Ending, Whole, Full, Bad, Ends, Reads}
+use Rattle.std.proofs.lemmas.List.Elements.{All-from_recursion}
+use Rattle.ace_grammar.specs.declared.reason.Reason.{Reason}
+use Rattle.ace_grammar.specs.Lines.{IsFirstLine}
+use Rattle.ace_grammar.specs.Reasons.{HasReason}
 use Rattle.ace_grammar.specs.Records.{event_at}
 use Rattle.ace_grammar.proofs.Options.{some_is}
-use Rattle.ace_grammar.proofs.Cut.{same_line, not_empty, second_line, ports_clean}
-use Rattle.ace_grammar.proofs.Letters.{readable_letters, ace_bit}
-use Rattle.ace_grammar.proofs.LineTexts.{event_again, event_clean}
+use Rattle.ace_grammar.proofs.Cut.{same_line, same_first, not_empty, header_lines, behind_version, version_line, ports_clean, ports_line, ports_short}
+use Rattle.ace_grammar.proofs.Letters.{same_header}
+use Rattle.ace_grammar.proofs.LineTexts.{event_again, event_clean, event_short}
+use Rattle.ace_grammar.proofs.LineReasons.{same_reason, event_has_none}
 
 -- what stands after so many events, by the ending
 abbrev EndsAt : Ending → ℕ → List ℕ → Type 0
 EndsAt Whole count rest = (count ≤ most_events) × (rest ≡ [])
 EndsAt Full count rest = (count ≡ most_events) × (rest ≢ [])
-EndsAt Bad count rest = (count < most_events) × HasBadLine rest
+EndsAt (Bad line reason) count rest = (count < most_events) × (line ≡ count + 3) × HasBadLine rest reason
 
 ends_at : (ending : Ending) (events : List Event) (rest : List ℕ) → Ends ending events rest → EndsAt ending (length events) rest
 ends_at Whole events rest h = h
 ends_at Full events rest h = h
-ends_at Bad events rest h = h
+ends_at (Bad line reason) events rest h = h
 
 at_most : (ending : Ending) (count : ℕ) (rest : List ℕ) → EndsAt ending count rest → count ≤ most_events
 at_most Whole count rest h = h.0
 at_most Full count rest h = omega (arith, h.0)
-at_most Bad count rest h = omega (arith, h.0)
+at_most (Bad line reason) count rest h = omega (arith, h.0)
+
+nothing_first : (line bytes : List ℕ) → IsFirstLine line bytes → bytes ≢ []
+nothing_first line bytes first e = not_empty line first.2.0 (sym first.2.1 ∙ e)
+
+bad_isn't_empty : (rest : List ℕ) (reason : Reason) → HasBadLine rest reason → rest ≢ []
+bad_isn't_empty rest reason (inl h) = h.1
+bad_isn't_empty rest reason (inr h) = nothing_first h.0 rest h.1
+
+-- of two first lines both are one
+same_lines : (bytes one other : List ℕ) → IsFirstLine one bytes → IsFirstLine other bytes → one ≡ other
+same_lines bytes one other h k = (same_first bytes one other k.2.0 h k.0 k.2.1).0
+
+same_bad_line : (rest : List ℕ) (one other : Reason) → HasBadLine rest one → HasBadLine rest other → one ≡ other
+same_bad_line rest one other (inl h) (inl k) = h.0 ∙ sym k.0
+same_bad_line rest one other (inl h) (inr k) = absurd (h.2 k.0 k.1)
+same_bad_line rest one other (inr h) (inl k) = absurd (k.2 h.0 h.1)
+same_bad_line rest one other (inr h) (inr k) = same_reason k.0 one other (subst (λ (l : List ℕ). HasReason l one) (same_lines rest h.0 k.0 h.1 k.1) h.2) k.2
 
 same_ending : (one other : Ending) (count : ℕ) (rest : List ℕ) → EndsAt one count rest → EndsAt other count rest → one ≡ other
 same_ending Whole Whole count rest h k = refl
 same_ending Whole Full count rest h k = absurd (k.1 h.1)
-same_ending Whole Bad count rest h k = absurd (k.1.0 h.1)
+same_ending Whole (Bad line reason) count rest h k = absurd (bad_isn't_empty rest reason k.2 h.1)
 same_ending Full Whole count rest h k = absurd (h.1 k.1)
 same_ending Full Full count rest h k = refl
-same_ending Full Bad count rest h k = absurd (omega (arith, h.0, k.0))
-same_ending Bad Whole count rest h k = absurd (h.1.0 k.1)
-same_ending Bad Full count rest h k = absurd (omega (arith, h.0, k.0))
-same_ending Bad Bad count rest h k = refl
+same_ending Full (Bad line reason) count rest h k = absurd (omega (arith, h.0, k.0))
+same_ending (Bad line reason) Whole count rest h k = absurd (bad_isn't_empty rest reason h.2 k.1)
+same_ending (Bad line reason) Full count rest h k = absurd (omega (arith, h.0, k.0))
+same_ending (Bad line reason) (Bad line' reason') count rest h k =
+    ap (λ l. Bad l reason) (h.1 ∙ sym k.1) ∙ ap (λ r. Bad line' r) (same_bad_line rest reason reason' h.2 k.2)
+
+-- the line of an event in range is a first line
+event_line : (event : Event) (rest more : List ℕ) → IsReadable event → rest ≡ line_text (event_text event) ++ more → IsFirstLine (event_text event) rest
+event_line event rest more is e = (All-from_recursion (λ b. b ≢ 10) (event_text event) (event_clean event is), event_short event is, (more, e))
+
+-- it isn't malformed
+event_isn't_bad : (event : Event) (rest more : List ℕ) (reason : Reason) → IsReadable event → rest ≡ line_text (event_text event) ++ more → HasBadLine rest reason → ⊥
+event_isn't_bad event rest more reason is e (inl h) = h.2 (event_text event) (event_line event rest more is e)
+event_isn't_bad event rest more reason is e (inr h) =
+    event_has_none h.0 reason event h.2 is (same_lines rest (event_text event) h.0 (event_line event rest more is e) h.1)
 
 -- where bytes end no event goes on, within the most of a trace
 no_more : (ending : Ending) (count : ℕ) (rest more : List ℕ) (event : Event) → EndsAt ending count rest → count < most_events → IsReadable event
     → rest ≡ line_text (event_text event) ++ more → ⊥
 no_more Whole count rest more event h lt is e = not_empty (event_text event) more (sym e ∙ h.1)
 no_more Full count rest more event h lt is e = omega (arith, h.0)
-no_more Bad count rest more event h lt is e = h.1.1 event is (more, e)
+no_more (Bad line reason) count rest more event h lt is e = event_isn't_bad event rest more reason is e h.2
 
 same_event : (one other : Event) → IsReadable one → IsReadable other → event_text one ≡ event_text other → one ≡ other
 same_event one other h k same = some_is one other (sym (event_again one h) ∙ ap event_at same ∙ event_again other k)
@@ -71,24 +103,13 @@ same_events before (first ∷ one) (second ∷ other) end end' rest rest' h k e 
     let tail = same_events (suc before) one other end end' rest rest' h.1 k.1 split.1 (subst (λ c. EndsAt end c rest) count p) (subst (λ c. EndsAt end' c rest') count' q) in
     (ap (λ x. x ∷ one) event ∙ ap (λ (l : List Event). second ∷ l) tail.0, tail.1)
 
--- readable headers with the same letters are one
-same_header : (one other : Header) → IsReadableHeader one → IsReadableHeader other → port_letters one ≡ port_letters other → one ≡ other
-same_header one other h k same =
-    let size : one.ports ≡ other.ports =
-    sym (ap length (readable_letters one h.1) ∙ length-replicate one.ports 65) ∙ ap length same ∙ ap length (readable_letters other k.1) ∙ length-replicate other.ports 65 in
-    let bits : one.ace ≡ other.ace = same_from_bits_below one.ports one.ace other.ace h.0.no_other (rw size k.0.no_other)
-    (λ p lt. ace_bit one p (h.1 p lt) ∙ sym (ace_bit other p (k.1 p (omega (arith, lt, size))))) in
-    let version : one.version ≡ other.version = h.0.version ∙ sym k.0.version in
-    ap (λ v. record { version = v; ports = one.ports; ace = one.ace }) version
-    ∙ ap (λ p. record { version = other.version; ports = p; ace = one.ace }) size
-    ∙ ap (λ a. record { version = other.version; ports = other.ports; ace = a }) bits
-
 -- the header and the bytes behind it
 same_headers : (one other : Header) (rest rest' : List ℕ) → IsReadableHeader one → IsReadableHeader other → header_text one ++ rest ≡ header_text other ++ rest' → (one ≡ other) × (rest ≡ rest')
 same_headers one other rest rest' h k e =
-    let first : header_text one ++ rest ≡ line_text (codes "ACE 1") ++ (line_text (ports_text one) ++ rest) = append_assoc (line_text (codes "ACE 1")) (line_text (ports_text one)) rest in
-    let behind = second_line (header_text one ++ rest) (line_text (ports_text one) ++ rest) rest' other first e in
-    let split = same_line (ports_text one) (ports_text other) rest rest' (ports_clean one h) (ports_clean other k) behind in
+    let lines = header_lines (header_text one ++ rest) rest one refl in
+    let lines' = header_lines (header_text one ++ rest) rest' other e in
+    let behind = behind_version (line_text (ports_text one) ++ rest) (line_text (ports_text other) ++ rest') (sym lines ∙ lines') in
+    let split = same_line (ports_text one) (ports_text other) rest rest' (ports_clean one) (ports_clean other) behind in
     (same_header one other h k (append_cancel_left (codes "PORTS ") (port_letters one) (port_letters other) split.0), split.1)
 
 behind_header : (bytes : List ℕ) (header : Header) (events : List Event) (rest : List ℕ) → bytes ≡ trace_text header events ++ rest → bytes ≡ header_text header ++ (events_text events ++ rest)
@@ -110,6 +131,39 @@ one_reading bytes one other events events' end end' p q =
     let moved : EndsAt end' (length events) rest = rw (same.0, same.1) ends' in
     (header.0, same.0, same_ending end end' (length events) rest ends moved)
 
-pub no_bad_header : (bytes : List ℕ) (header : Header) (events : List Event) (end : Ending) → Reads bytes header events end → HasBadHeader bytes → ⊥
-no_bad_header bytes header events end p bad =
-    bad header p.header_is_readable (events_text events ++ p.text.0, behind_header bytes header events p.text.0 p.text.1)
+version_first : (bytes rest : List ℕ) → bytes ≡ line_text (codes "ACE 1") ++ rest → IsFirstLine (codes "ACE 1") bytes
+version_first bytes rest e = (version_line, omega arith, (rest, e))
+
+-- a first line that is right isn't malformed
+right_isn't_bad : (IsRight : List ℕ → Type 0) (line bytes : List ℕ) (reason : Reason) → IsRight line → IsFirstLine line bytes → HasBadHeaderLine IsRight bytes reason → ⊥
+right_isn't_bad IsRight line bytes reason is first (inl h) = h.1 line first
+right_isn't_bad IsRight line bytes reason is first (inr h) = h.1.2 (subst IsRight (same_lines bytes line h.1.0 first h.1.1) is)
+
+header_isn't_bad : (bytes rest : List ℕ) (header : Header) (number : ℕ) (reason : Reason) → IsReadableHeader header → bytes ≡ line_text (codes "ACE 1") ++ (line_text (ports_text header) ++ rest)
+    → HasBadHeader bytes number reason → ⊥
+header_isn't_bad bytes rest header number reason is e (inl h) =
+    right_isn't_bad (λ line. line ≡ codes "ACE 1") (codes "ACE 1") bytes reason refl (version_first bytes (line_text (ports_text header) ++ rest) e) h.1
+header_isn't_bad bytes rest header number reason is e (inr h) =
+    let behind : h.1.0 ≡ line_text (ports_text header) ++ rest = behind_version h.1.0 (line_text (ports_text header) ++ rest) (sym h.1.1 ∙ e) in
+    right_isn't_bad IsPortsLine (ports_text header) h.1.0 reason (header, is, refl) (ports_line header, ports_short header is, (rest, behind)) h.1.2
+
+pub no_bad_header : (bytes : List ℕ) (header : Header) (events : List Event) (end : Ending) (number : ℕ) (reason : Reason) → Reads bytes header events end → HasBadHeader bytes number reason → ⊥
+no_bad_header bytes header events end number reason p bad =
+    let rest = events_text events ++ p.text.0 in
+    header_isn't_bad bytes rest header number reason p.header_is_readable (header_lines bytes rest header (behind_header bytes header events p.text.0 p.text.1)) bad
+
+same_bad_header_line : (IsRight : List ℕ → Type 0) (bytes : List ℕ) (one other : Reason) → HasBadHeaderLine IsRight bytes one → HasBadHeaderLine IsRight bytes other → one ≡ other
+same_bad_header_line IsRight bytes one other (inl h) (inl k) = h.0 ∙ sym k.0
+same_bad_header_line IsRight bytes one other (inl h) (inr k) = absurd (h.1 k.1.0 k.1.1)
+same_bad_header_line IsRight bytes one other (inr h) (inl k) = absurd (k.1 h.1.0 h.1.1)
+same_bad_header_line IsRight bytes one other (inr h) (inr k) = h.0 ∙ sym k.0
+
+pub one_bad_header : (bytes : List ℕ) (number number' : ℕ) (one other : Reason) → HasBadHeader bytes number one → HasBadHeader bytes number' other → (number ≡ number') × (one ≡ other)
+one_bad_header bytes number number' one other (inl h) (inl k) = (h.0 ∙ sym k.0, same_bad_header_line (λ line. line ≡ codes "ACE 1") bytes one other h.1 k.1)
+one_bad_header bytes number number' one other (inl h) (inr k) =
+    absurd (right_isn't_bad (λ line. line ≡ codes "ACE 1") (codes "ACE 1") bytes one refl (version_first bytes k.1.0 k.1.1) h.1)
+one_bad_header bytes number number' one other (inr h) (inl k) =
+    absurd (right_isn't_bad (λ line. line ≡ codes "ACE 1") (codes "ACE 1") bytes other refl (version_first bytes h.1.0 h.1.1) k.1)
+one_bad_header bytes number number' one other (inr h) (inr k) =
+    let rest : h.1.0 ≡ k.1.0 = behind_version h.1.0 k.1.0 (sym h.1.1 ∙ k.1.1) in
+    (h.0 ∙ sym k.0, same_bad_header_line IsPortsLine k.1.0 one other (subst (λ (l : List ℕ). HasBadHeaderLine IsPortsLine l one) rest h.1.2) k.1.2)

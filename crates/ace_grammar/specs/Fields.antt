@@ -1,11 +1,14 @@
 -- What the reader takes from the front of a line, field by field. Each field comes with the space before it.
-use Rattle.std.specs.Prelude.{ℕ, ◌+◌, ◌-◌, ◌*◌, ◌==◌, ◌&&◌, Bool, nat_lt, nat_le, if◌then◌else◌, List, [], ◌∷◌, length, take, drop, codes, Option, Some, None}
+use Rattle.std.specs.Prelude.{ℕ, ◌+◌, ◌-◌, ◌*◌, ◌^◌, ◌==◌, ◌&&◌, Bool, nat_lt, nat_le, if◌then◌else◌, List, [], ◌∷◌, length, take, drop, codes, Option, Some, None}
 use Rattle.std.specs.Option.{option_and_then, option_map}
 use Rattle.std.specs.Str.{bytes_eq}
 use Rattle.ace_codes.specs.declared.state.LineState.{LineState}
 use Rattle.ace_codes.specs.declared.state.LineState.TheVariants.{I, UC, UD, SC, SD}
+use Rattle.ace_event.specs.declared.line.Line.{Line}
 use Rattle.ace_event.specs.declared.event.Channel.{Channel}
 use Rattle.ace_event.specs.declared.event.Channel.TheVariants.{Read, Write}
+use Rattle.ace_event.specs.declared.event.Outcome.{Outcome}
+use Rattle.ace_event.specs.declared.event.Outcome.TheVariants.{Ok, Skip, Fail}
 
 -- what takes a value from the front of the bytes, where one stands there, and leaves the bytes after it
 abbrev pub Taker : Type 0 → Type 0
@@ -63,6 +66,16 @@ state_of bytes =
 unfoldable pub state_at : List ℕ → Option LineState
 state_at bytes = option_and_then state_of (space_at bytes)
 
+-- how an operation retired: all of the bytes
+abbrev pub outcome_of : List ℕ → Option Outcome
+outcome_of bytes =
+    if bytes_eq bytes (codes "ok") then Some Ok
+    else (if bytes_eq bytes (codes "skip") then Some Skip
+    else (if bytes_eq bytes (codes "fail") then Some Fail else None))
+
+unfoldable pub outcome_at : List ℕ → Option Outcome
+outcome_at bytes = option_and_then outcome_of (space_at bytes)
+
 -- the value, where no bytes are left
 abbrev pub ended : {A : Type 0} → A → List ℕ → Option A
 ended value [] = Some value
@@ -77,3 +90,16 @@ infixr 10 ◌▹◌
 abbrev pub ◌▹◌ : {A B : Type 0} → Taker A → (List ℕ → Option B) → List ℕ → Option (A × B)
 (take_first ▹ read_rest) bytes =
     option_and_then (λ first. option_map (λ rest. (first.0, rest)) (read_rest first.1)) (take_first bytes)
+
+-- the four words of a cache line
+abbrev pub LineWords : Type 0
+LineWords = ℕ × (ℕ × (ℕ × ℕ))
+
+abbrev pub line_of : LineWords → Line
+line_of f = record { words = f.0 ∷ f.1.0 ∷ f.1.1.0 ∷ f.1.1.1 ∷ [] }
+
+-- a cache line: all of the bytes
+unfoldable pub line_at : List ℕ → Option Line
+line_at bytes =
+    option_map line_of
+    ((number_at 32 (2 ^ 128 - 1) ▹ digits_at 32 (2 ^ 128 - 1) ▹ digits_at 32 (2 ^ 128 - 1) ▹ whole (digits_at 32 (2 ^ 128 - 1))) bytes)

@@ -1,6 +1,14 @@
 -- The port letters that the reader takes.
-use Rattle.std.specs.Prelude.{◌≡◌, ℕ, ◌<◌, ◌≤◌, List, length, EachIndex, slice_index}
+use Rattle.std.specs.Prelude.{◌≡◌, ℕ, ◌+◌, ◌*◌, ◌<◌, ◌≤◌, ◌==◌, if◌then◌else◌, List, [], ◌∷◌, length}
+use Rattle.std.specs.List.{count_by}
 
--- one to eight letters, each that of an ACE port
-abbrev pub AreAceLetters : List ℕ → Type 0
-AreAceLetters letters = (0 < length letters) × (length letters ≤ 8) × EachIndex letters (λ p. slice_index letters p ≡ 65)
+-- one letter or more, each of them `A` or `L`, and at most eight of each
+abbrev pub ArePortLetters : List ℕ → Type 0
+ArePortLetters letters =
+    (0 < length letters) × (count_by (λ letter. letter == 65) letters ≤ 8) × (count_by (λ letter. letter == 76) letters ≤ 8)
+    × (count_by (λ letter. letter == 65) letters + count_by (λ letter. letter == 76) letters ≡ length letters)
+
+-- The number in which bit p is 1 exactly where letter p is `A`.
+unfoldable pub ace_bits : List ℕ → ℕ
+ace_bits [] = 0
+ace_bits (letter ∷ letters) = (if letter == 65 then 1 else 0) + 2 * ace_bits letters

@@ -1,5 +1,9 @@
+pub mod Errors
 pub mod Fields
 pub mod Letters
 pub mod Lines
+pub mod Parts
 pub mod Reading
+pub mod Reasons
 pub mod Records
+pub mod Shapes

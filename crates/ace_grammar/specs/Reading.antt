@@ -1,52 +1,48 @@
 -- How bytes read as a trace. The text of a trace is written and compared here, and never cut.
-use Rattle.std.specs.Prelude.{◌≡◌, ◌≢◌, ℕ, ◌<◌, ◌≤◌, List, [], ◌++◌, length, codes, Option, None, Some}
+use Rattle.std.specs.Prelude.{◌≡◌, ◌≢◌, ℕ, ◌+◌, ◌<◌, ◌≤◌, ◌⊎◌, List, [], ◌++◌, length, codes, Option, None, Some}
 use Rattle.std.specs.List.{AllByRecursion}
 use Rattle.ace_event.specs.declared.header.Header.{Header}
-use Rattle.ace_event.specs.declared.header.PortKind.TheVariants.{Ace}
 use Rattle.ace_event.specs.declared.event.Event.{Event}
-use Rattle.ace_event.specs.declared.event.Event.TheVariants.{Ar, R, Rk, Ac, Cr, G}
-use Rattle.ace_event.specs.Ports.{IsHeader, port_kind, port_letters}
+use Rattle.ace_event.specs.Ports.{IsHeader, port_letters}
 use Rattle.ace_event.specs.Range.{InRange}
-use Rattle.ace_event.specs.Text.{event_text, line_text, header_text, trace_text}
-
--- The records that are read today. A line of any other record is malformed.
-abbrev pub IsRead : Event → Type 0
-IsRead (Ar port id addr snoop dom bar lock) = Unit {0}
-IsRead (R port id resp last word) = Unit {0}
-IsRead (Rk port st) = Unit {0}
-IsRead (Ac port addr snoop) = Unit {0}
-IsRead (Cr port resp st) = Unit {0}
-IsRead (G port chan id) = Unit {0}
-IsRead _ = ⊥
-
--- The headers that are read today: every port is an ACE port.
-abbrev pub HasAceAlone : Header → Type 0
-HasAceAlone header = (p : ℕ) → p < header.ports → port_kind header p ≡ Some Ace
+use Rattle.ace_event.specs.Text.{line_text, trace_text}
+use Rattle.ace_grammar.specs.declared.reason.Reason.{Reason}
+use Rattle.ace_grammar.specs.declared.reason.Reason.TheVariants.{F1, F7}
+use Rattle.ace_grammar.specs.Lines.{IsFirstLine, HasNoLine}
+use Rattle.ace_grammar.specs.Reasons.{HasReason}
 
 -- an event whose line is read
 abbrev pub IsReadable : Event → Type 0
-IsReadable event = IsRead event × InRange event
+IsReadable event = InRange event
 
 -- a header whose two lines are read
 abbrev pub IsReadableHeader : Header → Type 0
-IsReadableHeader header = IsHeader header × HasAceAlone header
+IsReadableHeader header = IsHeader header
 
 -- the second header line, without its line feed
 abbrev pub ports_text : Header → List ℕ
 ports_text header = codes "PORTS " ++ port_letters header
 
--- the bytes are this text, and then a rest
-abbrev pub BeginsWith : List ℕ → List ℕ → Type 0
-BeginsWith bytes text = (rest : List ℕ) × (bytes ≡ text ++ rest)
+-- the second header line of some readable header
+abbrev pub IsPortsLine : List ℕ → Type 0
+IsPortsLine line = (header : Header) × IsReadableHeader header × (ports_text header ≡ line)
 
--- The header lines at the front are missing or malformed.
-abbrev pub HasBadHeader : List ℕ → Type 0
-HasBadHeader bytes = (header : Header) → IsReadableHeader header → ¬ BeginsWith bytes (header_text header)
+-- A header line stands at the front, and it is malformed for this reason: it is missing or has no end, or it isn't as
+-- it has to be.
+abbrev pub HasBadHeaderLine : (List ℕ → Type 0) → List ℕ → Reason → Type 0
+HasBadHeaderLine IsRight bytes reason =
+    ((reason ≡ F1) × HasNoLine bytes) ⊎ ((reason ≡ F7) × ((line : List ℕ) × IsFirstLine line bytes × ¬ IsRight line))
 
--- A line stands at the front, and it is malformed: it isn't the line of a readable event with its line feed.
-abbrev pub HasBadLine : List ℕ → Type 0
-HasBadLine bytes =
-    (bytes ≢ []) × ((event : Event) → IsReadable event → ¬ BeginsWith bytes (line_text (event_text event)))
+-- The header line of this number, 1 or 2, is the first that is malformed, for this reason.
+abbrev pub HasBadHeader : List ℕ → ℕ → Reason → Type 0
+HasBadHeader bytes number reason =
+    ((number ≡ 1) × HasBadHeaderLine (λ line. line ≡ codes "ACE 1") bytes reason)
+    ⊎ ((number ≡ 2) × ((rest : List ℕ) × (bytes ≡ line_text (codes "ACE 1") ++ rest) × HasBadHeaderLine IsPortsLine rest reason))
+
+-- A line stands at the front, and it is malformed for this reason, the least that applies.
+abbrev pub HasBadLine : List ℕ → Reason → Type 0
+HasBadLine bytes reason =
+    ((reason ≡ F1) × (bytes ≢ []) × HasNoLine bytes) ⊎ ((line : List ℕ) × IsFirstLine line bytes × HasReason line reason)
 
 -- the same of bytes that may not be told
 abbrev pub IfTold : Option (List ℕ) → (List ℕ → Type 0) → Type 0
@@ -57,17 +53,18 @@ IfTold (Some bytes) P = P bytes
 abbrev pub most_events : ℕ
 most_events = 1048576
 
--- How bytes end: after a whole trace, after the most events of a trace with bytes left, or before a malformed line.
+-- How bytes end: after a whole trace, after the most events of a trace with bytes left, or before a malformed line
+-- with its number and reason. The header has the lines 1 and 2.
 pub data Ending : Type 0 where
   Whole : Ending
   Full : Ending
-  Bad : Ending
+  Bad : ℕ → Reason → Ending
 
 -- what stands after the events, by the ending
 abbrev pub Ends : Ending → List Event → List ℕ → Type 0
 Ends Whole events rest = (length events ≤ most_events) × (rest ≡ [])
 Ends Full events rest = (length events ≡ most_events) × (rest ≢ [])
-Ends Bad events rest = (length events < most_events) × HasBadLine rest
+Ends (Bad line reason) events rest = (length events < most_events) × (line ≡ length events + 3) × HasBadLine rest reason
 
 -- The bytes are the text of this header and these events, oldest first, and then end so. Bytes with a bad header have
 -- no such reading.

@@ -2,10 +2,12 @@
 use Rattle.std.specs.Prelude.{ℕ, ◌-◌, ◌^◌, ◌==◌, Bool, if◌then◌else◌, List, [], ◌∷◌, Option, None}
 use Rattle.std.specs.Option.{option_map}
 use Rattle.ace_codes.specs.declared.state.LineState.{LineState}
+use Rattle.ace_event.specs.declared.line.Line.{Line}
 use Rattle.ace_event.specs.declared.event.Channel.{Channel}
+use Rattle.ace_event.specs.declared.event.Outcome.{Outcome}
 use Rattle.ace_event.specs.declared.event.Event.{Event}
-use Rattle.ace_event.specs.declared.event.Event.TheVariants.{Ar, R, Rk, Ac, Cr, G}
-use Rattle.ace_grammar.specs.Fields.{◌▹◌, whole, number_at, flag_at, channel_at, state_at}
+use Rattle.ace_event.specs.declared.event.Event.TheVariants.{Ar, R, Rk, Aw, W, B, Wk, Ac, Cr, Cd, G, M, S, L, D, Op}
+use Rattle.ace_grammar.specs.Fields.{◌▹◌, whole, number_at, flag_at, channel_at, state_at, outcome_at, line_at}
 
 abbrev pub ArFields : Type 0
 ArFields = ℕ × (ℕ × (ℕ × (ℕ × (ℕ × (ℕ × Bool)))))
@@ -34,6 +36,42 @@ rk_fields = number_at 1 15 ▹ state_at
 abbrev pub rk_event : RkFields → Event
 rk_event f = Rk f.0 f.1
 
+abbrev pub AwFields : Type 0
+AwFields = ℕ × (ℕ × (ℕ × (ℕ × (ℕ × ℕ))))
+
+unfoldable pub aw_fields : List ℕ → Option AwFields
+aw_fields = number_at 1 15 ▹ number_at 1 15 ▹ number_at 8 0xffff_ffff ▹ number_at 1 7 ▹ number_at 1 3 ▹ whole (number_at 1 3)
+
+abbrev pub aw_event : AwFields → Event
+aw_event f = Aw f.0 f.1.0 f.1.1.0 f.1.1.1.0 f.1.1.1.1.0 f.1.1.1.1.1
+
+abbrev pub WFields : Type 0
+WFields = ℕ × (ℕ × (Bool × ℕ))
+
+unfoldable pub w_fields : List ℕ → Option WFields
+w_fields = number_at 1 15 ▹ number_at 4 0xffff ▹ flag_at ▹ whole (number_at 32 (2 ^ 128 - 1))
+
+abbrev pub w_event : WFields → Event
+w_event f = W f.0 f.1.0 f.1.1.0 f.1.1.1
+
+abbrev pub BFields : Type 0
+BFields = ℕ × (ℕ × ℕ)
+
+unfoldable pub b_fields : List ℕ → Option BFields
+b_fields = number_at 1 15 ▹ number_at 1 15 ▹ whole (number_at 1 3)
+
+abbrev pub b_event : BFields → Event
+b_event f = B f.0 f.1.0 f.1.1
+
+abbrev pub WkFields : Type 0
+WkFields = ℕ × LineState
+
+unfoldable pub wk_fields : List ℕ → Option WkFields
+wk_fields = number_at 1 15 ▹ state_at
+
+abbrev pub wk_event : WkFields → Event
+wk_event f = Wk f.0 f.1
+
 abbrev pub AcFields : Type 0
 AcFields = ℕ × (ℕ × ℕ)
 
@@ -52,6 +90,15 @@ cr_fields = number_at 1 15 ▹ number_at 2 0x1f ▹ state_at
 abbrev pub cr_event : CrFields → Event
 cr_event f = Cr f.0 f.1.0 f.1.1
 
+abbrev pub CdFields : Type 0
+CdFields = ℕ × (Bool × ℕ)
+
+unfoldable pub cd_fields : List ℕ → Option CdFields
+cd_fields = number_at 1 15 ▹ flag_at ▹ whole (number_at 32 (2 ^ 128 - 1))
+
+abbrev pub cd_event : CdFields → Event
+cd_event f = Cd f.0 f.1.0 f.1.1
+
 abbrev pub GFields : Type 0
 GFields = ℕ × (Channel × ℕ)
 
@@ -61,17 +108,70 @@ g_fields = number_at 1 15 ▹ channel_at ▹ whole (number_at 1 15)
 abbrev pub g_event : GFields → Event
 g_event f = G f.0 f.1.0 f.1.1
 
+abbrev pub MFields : Type 0
+MFields = ℕ × (Channel × (ℕ × Line))
+
+unfoldable pub m_fields : List ℕ → Option MFields
+m_fields = number_at 1 15 ▹ channel_at ▹ number_at 1 15 ▹ line_at
+
+abbrev pub m_event : MFields → Event
+m_event f = M f.0 f.1.0 f.1.1.0 f.1.1.1
+
+abbrev pub SFields : Type 0
+SFields = ℕ × (ℕ × LineState)
+
+unfoldable pub s_fields : List ℕ → Option SFields
+s_fields = number_at 1 15 ▹ number_at 8 0xffff_ffff ▹ state_at
+
+abbrev pub s_event : SFields → Event
+s_event f = S f.0 f.1.0 f.1.1
+
+abbrev pub LFields : Type 0
+LFields = ℕ × (ℕ × (ℕ × (Bool × ℕ)))
+
+unfoldable pub l_fields : List ℕ → Option LFields
+l_fields = number_at 1 15 ▹ number_at 8 0xffff_ffff ▹ number_at 1 3 ▹ flag_at ▹ whole (number_at 32 (2 ^ 128 - 1))
+
+abbrev pub l_event : LFields → Event
+l_event f = L f.0 f.1.0 f.1.1.0 f.1.1.1.0 f.1.1.1.1
+
+abbrev pub DFields : Type 0
+DFields = ℕ × (ℕ × (ℕ × (Bool × Line)))
+
+unfoldable pub d_fields : List ℕ → Option DFields
+d_fields = number_at 1 15 ▹ number_at 8 0xffff_ffff ▹ number_at 16 0xffff_ffff_ffff_ffff ▹ flag_at ▹ line_at
+
+abbrev pub d_event : DFields → Event
+d_event f = D f.0 f.1.0 f.1.1.0 f.1.1.1.0 f.1.1.1.1
+
+abbrev pub OpFields : Type 0
+OpFields = ℕ × (ℕ × Outcome)
+
+unfoldable pub op_fields : List ℕ → Option OpFields
+op_fields = number_at 1 15 ▹ number_at 4 0xffff ▹ outcome_at
+
+abbrev pub op_event : OpFields → Event
+op_event f = Op f.0 f.1.0 f.1.1
+
 -- the records whose words begin with A, behind that letter
 unfoldable pub a_at : List ℕ → Option Event
 a_at [] = None
 a_at (letter ∷ bytes) =
     if letter == 67 then option_map ac_event (ac_fields bytes)
-    else (if letter == 82 then option_map ar_event (ar_fields bytes) else None)
+    else (if letter == 82 then option_map ar_event (ar_fields bytes)
+    else (if letter == 87 then option_map aw_event (aw_fields bytes) else None))
 
 -- with C
 unfoldable pub c_at : List ℕ → Option Event
 c_at [] = None
-c_at (letter ∷ bytes) = if letter == 82 then option_map cr_event (cr_fields bytes) else None
+c_at (letter ∷ bytes) =
+    if letter == 68 then option_map cd_event (cd_fields bytes)
+    else (if letter == 82 then option_map cr_event (cr_fields bytes) else None)
+
+-- with O
+unfoldable pub o_at : List ℕ → Option Event
+o_at [] = None
+o_at (letter ∷ bytes) = if letter == 80 then option_map op_event (op_fields bytes) else None
 
 -- with R
 unfoldable pub r_at : List ℕ → Option Event
@@ -79,11 +179,24 @@ r_at [] = option_map r_event (r_fields [])
 r_at (letter ∷ bytes) =
     if letter == 75 then option_map rk_event (rk_fields bytes) else option_map r_event (r_fields (letter ∷ bytes))
 
+-- with W
+unfoldable pub w_at : List ℕ → Option Event
+w_at [] = option_map w_event (w_fields [])
+w_at (letter ∷ bytes) =
+    if letter == 75 then option_map wk_event (wk_fields bytes) else option_map w_event (w_fields (letter ∷ bytes))
+
 -- all records
 unfoldable pub event_at : List ℕ → Option Event
 event_at [] = None
 event_at (letter ∷ bytes) =
     if letter == 65 then a_at bytes
+    else (if letter == 66 then option_map b_event (b_fields bytes)
     else (if letter == 67 then c_at bytes
+    else (if letter == 68 then option_map d_event (d_fields bytes)
     else (if letter == 71 then option_map g_event (g_fields bytes)
-    else (if letter == 82 then r_at bytes else None)))
+    else (if letter == 76 then option_map l_event (l_fields bytes)
+    else (if letter == 77 then option_map m_event (m_fields bytes)
+    else (if letter == 79 then o_at bytes
+    else (if letter == 82 then r_at bytes
+    else (if letter == 83 then option_map s_event (s_fields bytes)
+    else (if letter == 87 then w_at bytes else None))))))))))

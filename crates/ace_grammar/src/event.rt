@@ -1,111 +1,17 @@
-// The line of an event: its record word, and then its fields.
-ghost use Rattle.std.specs.Prelude.{◌≡◌, ◌≢◌, MatchOption};
-ghost use Rattle.std.specs.Option.{option_map};
-ghost use Rattle.ace_grammar.specs.Records.{ar_event, ar_fields, r_event, r_fields, rk_event, rk_fields, ac_event, ac_fields, cr_event, cr_fields, g_event, g_fields, a_at, c_at, r_at, event_at};
-ghost use Rattle.ace_event.specs.declared.event.Event.{Event};
+// The event of a line, by its record word.
+ghost use Rattle.std.specs.Prelude.{◌≡◌, IfOk, IfErr, None};
+ghost use Rattle.ace_grammar.specs.Records.{a_at, c_at, o_at, r_at, w_at, event_at};
 ghost use Rattle.ace_event.specs.Text.{event_text};
 ghost use Rattle.ace_grammar.specs.Reading.{IsReadable};
+ghost use Rattle.ace_grammar.specs.Reasons.{HasReason};
 
-use crate::fields::{at_end, take_channel, take_flag, take_number, take_state};
+use crate::Reason;
+use crate::line_reason::line_reason;
+use crate::records::{
+    read_ac, read_ar, read_aw, read_b, read_cd, read_cr, read_d, read_g, read_l, read_m, read_op,
+    read_r, read_rk, read_s, read_w, read_wk,
+};
 use ace_event::Event;
-
-#[tactic(auto, unfolding(crate::specs::Records::ar_fields))]
-fn read_ar(bytes: &[u8]) -> Option<Event>
-    ensures { result ≡ option_map ar_event (ar_fields bytes.now) }
-{
-    let (port, rest) = take_number(bytes, 1, 15)?;
-    let (id, rest) = take_number(rest, 1, 15)?;
-    let (addr, rest) = take_number(rest, 8, 0xffff_ffff)?;
-    let (snoop, rest) = take_number(rest, 1, 15)?;
-    let (dom, rest) = take_number(rest, 1, 3)?;
-    let (bar, rest) = take_number(rest, 1, 3)?;
-    let (lock, rest) = take_flag(rest)?;
-    let event = Event::Ar {
-        port: port as u8,
-        id: id as u8,
-        addr: addr as u32,
-        snoop: snoop as u8,
-        dom: dom as u8,
-        bar: bar as u8,
-        lock,
-    };
-    at_end(event, rest)
-}
-
-#[tactic(auto, unfolding(crate::specs::Records::r_fields))]
-fn read_r(bytes: &[u8]) -> Option<Event>
-    ensures { result ≡ option_map r_event (r_fields bytes.now) }
-{
-    let (port, rest) = take_number(bytes, 1, 15)?;
-    let (id, rest) = take_number(rest, 1, 15)?;
-    let (resp, rest) = take_number(rest, 1, 15)?;
-    let (last, rest) = take_flag(rest)?;
-    let (word, rest) = take_number(rest, 32, u128::MAX)?;
-    let event = Event::R {
-        port: port as u8,
-        id: id as u8,
-        resp: resp as u8,
-        last,
-        word,
-    };
-    at_end(event, rest)
-}
-
-#[tactic(auto, unfolding(crate::specs::Records::rk_fields))]
-fn read_rk(bytes: &[u8]) -> Option<Event>
-    ensures { result ≡ option_map rk_event (rk_fields bytes.now) }
-{
-    let (port, rest) = take_number(bytes, 1, 15)?;
-    let st = take_state(rest)?;
-    Some(Event::Rk {
-        port: port as u8,
-        st,
-    })
-}
-
-#[tactic(auto, unfolding(crate::specs::Records::ac_fields))]
-fn read_ac(bytes: &[u8]) -> Option<Event>
-    ensures { result ≡ option_map ac_event (ac_fields bytes.now) }
-{
-    let (port, rest) = take_number(bytes, 1, 15)?;
-    let (addr, rest) = take_number(rest, 8, 0xffff_ffff)?;
-    let (snoop, rest) = take_number(rest, 1, 15)?;
-    let event = Event::Ac {
-        port: port as u8,
-        addr: addr as u32,
-        snoop: snoop as u8,
-    };
-    at_end(event, rest)
-}
-
-#[tactic(auto, unfolding(crate::specs::Records::cr_fields))]
-fn read_cr(bytes: &[u8]) -> Option<Event>
-    ensures { result ≡ option_map cr_event (cr_fields bytes.now) }
-{
-    let (port, rest) = take_number(bytes, 1, 15)?;
-    let (resp, rest) = take_number(rest, 2, 0x1f)?;
-    let st = take_state(rest)?;
-    Some(Event::Cr {
-        port: port as u8,
-        resp: resp as u8,
-        st,
-    })
-}
-
-#[tactic(auto, unfolding(crate::specs::Records::g_fields))]
-fn read_g(bytes: &[u8]) -> Option<Event>
-    ensures { result ≡ option_map g_event (g_fields bytes.now) }
-{
-    let (port, rest) = take_number(bytes, 1, 15)?;
-    let (chan, rest) = take_channel(rest)?;
-    let (id, rest) = take_number(rest, 1, 15)?;
-    let event = Event::G {
-        port: port as u8,
-        chan,
-        id: id as u8,
-    };
-    at_end(event, rest)
-}
 
 /// The records whose words begin with A, behind that letter.
 #[tactic(auto, unfolding(crate::specs::Records::a_at))]
@@ -115,6 +21,7 @@ fn read_a(bytes: &[u8]) -> Option<Event>
     match bytes {
         [b'C', rest @ ..] => read_ac(rest),
         [b'R', rest @ ..] => read_ar(rest),
+        [b'W', rest @ ..] => read_aw(rest),
         _ => None,
     }
 }
@@ -125,7 +32,19 @@ fn read_c(bytes: &[u8]) -> Option<Event>
     ensures { result ≡ c_at bytes.now }
 {
     match bytes {
+        [b'D', rest @ ..] => read_cd(rest),
         [b'R', rest @ ..] => read_cr(rest),
+        _ => None,
+    }
+}
+
+/// Those with O.
+#[tactic(auto, unfolding(crate::specs::Records::o_at))]
+fn read_o(bytes: &[u8]) -> Option<Event>
+    ensures { result ≡ o_at bytes.now }
+{
+    match bytes {
+        [b'P', rest @ ..] => read_op(rest),
         _ => None,
     }
 }
@@ -141,6 +60,17 @@ fn read_r_or_rk(bytes: &[u8]) -> Option<Event>
     }
 }
 
+/// Those with W.
+#[tactic(auto, unfolding(crate::specs::Records::w_at))]
+fn read_w_or_wk(bytes: &[u8]) -> Option<Event>
+    ensures { result ≡ w_at bytes.now }
+{
+    match bytes {
+        [b'K', rest @ ..] => read_wk(rest),
+        _ => read_w(bytes),
+    }
+}
+
 /// The event of a line.
 #[tactic(auto, unfolding(crate::specs::Records::event_at))]
 fn read_line(line: &[u8]) -> Option<Event>
@@ -148,18 +78,39 @@ fn read_line(line: &[u8]) -> Option<Event>
 {
     match line {
         [b'A', rest @ ..] => read_a(rest),
+        [b'B', rest @ ..] => read_b(rest),
         [b'C', rest @ ..] => read_c(rest),
+        [b'D', rest @ ..] => read_d(rest),
         [b'G', rest @ ..] => read_g(rest),
+        [b'L', rest @ ..] => read_l(rest),
+        [b'M', rest @ ..] => read_m(rest),
+        [b'O', rest @ ..] => read_o(rest),
         [b'R', rest @ ..] => read_r_or_rk(rest),
+        [b'S', rest @ ..] => read_s(rest),
+        [b'W', rest @ ..] => read_w_or_wk(rest),
         _ => None,
     }
 }
 
-/// The event whose line this is, without its line feed. None where it is the line of no readable event.
-#[tactic(auto, using(crate::proofs::LineTexts::line_is_read))]
-pub fn parse_event(line: &[u8]) -> Option<Event>
-    ensures { MatchOption result ((event : Event) → IsReadable event → event_text event ≢ line.now)
-        (λ event. IsReadable event × (event_text event ≡ line.now)) }
+/// The reason of a line that isn't read as an event.
+fn reason_of(line: &[u8]) -> Reason
+    requires { event_at line.now ≡ None }
+    ensures { HasReason line.now result }
 {
-    read_line(line)
+    match line_reason(line) {
+        Some(reason) => reason,
+        None => unreachable!(),
+    }
+}
+
+/// The event whose line this is, without its line feed. Where it is the line of no event in range, the error is the
+/// least reason of `F2` to `F6` that applies.
+pub fn parse_event(line: &[u8]) -> Result<Event, Reason>
+    ensures event { IfOk result (λ event. IsReadable event × (event_text event ≡ line.now)) }
+    ensures reason { IfErr result (HasReason line.now) }
+{
+    match read_line(line) {
+        Some(event) => Ok(event),
+        None => Err(reason_of(line)),
+    }
 }

@@ -1,13 +1,13 @@
 // Fields, from the front of a line. Each comes with the space before it.
 ghost use Rattle.std.specs.Prelude.{◌≡◌, ◌≤◌, ◌^◌, ◌<◌, length, IfSome};
 ghost use Rattle.std.specs.Option.{option_map};
-ghost use Rattle.ace_grammar.specs.Fields.{digit_of, digits_onto, space_at, digits_at, number_at, flag_at, letter_at, channel_at, state_of, state_at, ended};
+ghost use Rattle.ace_grammar.specs.Fields.{digit_of, digits_onto, space_at, digits_at, number_at, flag_at, letter_at, channel_at, state_of, state_at, outcome_of, outcome_at, line_at, ended};
 
 use ace_codes::LineState;
-use ace_event::Channel;
+use ace_event::{Channel, Line, Outcome};
 
 /// The value of a lower-case hexadecimal digit.
-fn digit_of(byte: u8) -> Option<u8>
+pub fn digit_of(byte: u8) -> Option<u8>
     ensures value { result ≡ digit_of byte }
     ensures below { IfSome result (λ digit. digit < 16) }
 {
@@ -19,7 +19,7 @@ fn digit_of(byte: u8) -> Option<u8>
 }
 
 /// The number that these digits write, of which there are at most 32.
-fn number_of(digits: &[u8]) -> Option<u128>
+pub fn number_of(digits: &[u8]) -> Option<u128>
     requires { length digits.now ≤ 32 }
     ensures { result ≡ digits_onto 0 digits.now }
 {
@@ -95,7 +95,7 @@ pub fn take_channel(bytes: &[u8]) -> Option<(Channel, &[u8])>
     take_letter(take_space(bytes)?)
 }
 
-fn state_of(bytes: &[u8]) -> Option<LineState>
+pub fn state_of(bytes: &[u8]) -> Option<LineState>
     ensures { result ≡ state_of bytes.now }
 {
     if bytes == b"I".as_slice() {
@@ -121,6 +121,28 @@ pub fn take_state(bytes: &[u8]) -> Option<LineState>
     state_of(take_space(bytes)?)
 }
 
+pub fn outcome_of(bytes: &[u8]) -> Option<Outcome>
+    ensures { result ≡ outcome_of bytes.now }
+{
+    if bytes == b"ok".as_slice() {
+        Some(Outcome::Ok)
+    } else if bytes == b"skip".as_slice() {
+        Some(Outcome::Skip)
+    } else if bytes == b"fail".as_slice() {
+        Some(Outcome::Fail)
+    } else {
+        None
+    }
+}
+
+/// How an operation retired, which is the last field of its line.
+#[tactic(auto, unfolding(crate::specs::Fields::outcome_at))]
+pub fn take_outcome(bytes: &[u8]) -> Option<Outcome>
+    ensures { result ≡ outcome_at bytes.now }
+{
+    outcome_of(take_space(bytes)?)
+}
+
 /// The value, where no bytes are left.
 pub fn at_end<A: Drop>(value: A, bytes: &[u8]) -> Option<A>
     ensures { result ≡ ended value bytes.now }
@@ -129,4 +151,19 @@ pub fn at_end<A: Drop>(value: A, bytes: &[u8]) -> Option<A>
         [] => Some(value),
         _ => None,
     }
+}
+
+/// The four words of a cache line, which is the last field of its line.
+#[tactic(auto, unfolding(crate::specs::Fields::line_at))]
+pub fn take_line(bytes: &[u8]) -> Option<Line>
+    ensures { result ≡ line_at bytes.now }
+{
+    let (a, rest) = take_number(bytes, 32, u128::MAX)?;
+    let (b, rest) = take_digits(rest, 32, u128::MAX)?;
+    let (c, rest) = take_digits(rest, 32, u128::MAX)?;
+    let (d, rest) = take_digits(rest, 32, u128::MAX)?;
+    let line = Line {
+        words: [a, b, c, d],
+    };
+    at_end(line, rest)
 }

@@ -1,9 +1,10 @@
 // The two lines of a header.
-ghost use Rattle.std.specs.Prelude.{◌≡◌, ◌≢◌, ◌↔◌, MatchOption, IsTrue, codes, EachIndex, slice_index};
+ghost use Rattle.std.specs.Prelude.{◌≡◌, ◌≢◌, ◌↔◌, MatchOption, IsTrue, ◌==◌, ◌<◌, ◌≤◌, ◌^◌, length, codes};
+ghost use Rattle.std.specs.List.{count_by};
 ghost use Rattle.ace_event.specs.declared.header.Header.{Header};
 ghost use Rattle.ace_event.specs.Ports.{port_letters};
 ghost use Rattle.ace_grammar.specs.Reading.{IsReadableHeader, ports_text};
-ghost use Rattle.ace_grammar.specs.Letters.{AreAceLetters};
+ghost use Rattle.ace_grammar.specs.Letters.{ArePortLetters, ace_bits};
 
 use ace_event::Header;
 
@@ -14,18 +15,34 @@ pub fn is_version_line(line: &[u8]) -> bool
     line == b"ACE 1".as_slice()
 }
 
-/// Whether every letter is that of an ACE port.
-fn are_ace(letters: &[u8]) -> bool
-    ensures { IsTrue result ↔ EachIndex letters.now (λ p. slice_index letters.now p ≡ 65) }
+/// How many of the letters are this one.
+fn count_of(letters: &[u8], letter: u8) -> usize
+    ensures value { result ≡ count_by (λ other. other == letter) letters.now }
+    ensures bound { result ≤ length letters.now }
 {
-    letters.iter().all(|letter| *letter == b'A')
+    letters.iter().filter(|other| **other == letter).count()
 }
 
-/// Whether these are one to eight letters of ACE ports.
+/// Whether these are the letters of ports: one or more, and at most eight of each kind.
 fn are_letters(letters: &[u8]) -> bool
-    ensures { IsTrue result ↔ AreAceLetters letters.now }
+    ensures { IsTrue result ↔ ArePortLetters letters.now }
 {
-    !letters.is_empty() && letters.len() <= 8 && are_ace(letters)
+    let ace = count_of(letters, b'A');
+    let lite = count_of(letters, b'L');
+    !letters.is_empty() && ace <= 8 && lite <= 8 && ace + lite == letters.len()
+}
+
+/// The number in which bit p is 1 exactly where letter p is that of an ACE port.
+#[tactic(auto, unfolding(crate::specs::Letters::ace_bits))]
+fn ace_bits(letters: &[u8]) -> u32
+    requires { length letters.now ≤ 16 }
+    ensures value { result ≡ ace_bits letters.now }
+    ensures below { result < 2 ^ length letters.now }
+{
+    match letters {
+        [] => 0,
+        [letter, rest @ ..] => u32::from(*letter == b'A') + 2 * ace_bits(rest),
+    }
 }
 
 /// The header with these port letters.
@@ -36,11 +53,10 @@ fn parse_letters(letters: &[u8]) -> Option<Header>
     if !are_letters(letters) {
         return None;
     }
-    let ports = letters.len() as u8;
     Some(Header {
         version: 1,
-        ports,
-        ace: (1 << ports) - 1,
+        ports: letters.len() as u8,
+        ace: ace_bits(letters),
     })
 }
 

@@ -1,15 +1,35 @@
 //! Facts about the definitions, as contracts of functions that do nothing.
 
-ghost use Rattle.std.specs.Prelude.{◌≡◌, ℕ, List};
+ghost use Rattle.std.specs.Prelude.{◌≡◌, ◌≢◌, ◌⊎◌, ℕ, List};
 ghost use Rattle.ace_event.specs.declared.event.Event.{Event};
 ghost use Rattle.ace_event.specs.declared.header.Header.{Header};
+ghost use Rattle.ace_event.specs.Range.{InRange};
+ghost use Rattle.ace_event.specs.Text.{event_text};
+ghost use Rattle.ace_grammar.specs.declared.reason.Reason.{Reason};
+ghost use Rattle.ace_grammar.specs.Reasons.{HasReason};
 ghost use Rattle.ace_grammar.specs.Reading.{Ending, Reads, HasBadHeader};
 
-/// The same bytes read in one way: they have one header, one list of events and one ending, or a bad header.
+/// The same bytes read in one way: they have one header, one list of events and one ending, or a bad header with one
+/// line and one reason.
 pub fn one_reading()
     ensures one { (bytes : List ℕ) (header other : Header) (events others : List Event) (end last : Ending)
         → Reads bytes header events end → Reads bytes other others last
         → (header ≡ other) × (events ≡ others) × (end ≡ last) }
-    ensures apart { (bytes : List ℕ) (header : Header) (events : List Event) (end : Ending)
-        → Reads bytes header events end → ¬ HasBadHeader bytes }
+    ensures apart { (bytes : List ℕ) (header : Header) (events : List Event) (end : Ending) (number : ℕ) (reason : Reason)
+        → Reads bytes header events end → ¬ HasBadHeader bytes number reason }
+    ensures one_bad { (bytes : List ℕ) (number line : ℕ) (reason other : Reason)
+        → HasBadHeader bytes number reason → HasBadHeader bytes line other → (number ≡ line) × (reason ≡ other) }
+{}
+
+/// A line has at most one reason; the line of an event in range has none.
+pub fn one_reason()
+    ensures one { (line : List ℕ) (reason other : Reason) → HasReason line reason → HasReason line other → reason ≡ other }
+    ensures none { (line : List ℕ) (reason : Reason) (event : Event)
+        → HasReason line reason → InRange event → event_text event ≢ line }
+{}
+
+/// Every list of bytes has a reading: a bad header, or a header, events and an ending.
+pub fn some_reading()
+    ensures { (bytes : List ℕ) → ((number : ℕ) × (reason : Reason) × HasBadHeader bytes number reason)
+        ⊎ ((header : Header) × (events : List Event) × (end : Ending) × Reads bytes header events end) }
 {}

@@ -1,4 +1,4 @@
-//! The reader of trace text: exactly the grammar of the header and of the events that it knows.
+//! The reader of trace text: exactly the grammar of the header and of the events.
 #![tactic(auto)]
 
 mod error;
@@ -6,12 +6,18 @@ mod event;
 mod fields;
 mod header;
 pub mod laws;
+mod line_reason;
 mod reader;
+mod reason;
+mod records;
+mod shapes;
 
-pub use error::ReadErr;
+pub use error::{HeaderErr, ReadErr};
 pub use event::parse_event;
 pub use header::{is_version_line, parse_ports};
 pub use reader::{read_event, read_header};
+pub use reason::Reason;
+pub use shapes::Shape;
 
 #[cfg(test)]
 mod tests;

@@ -1,8 +1,8 @@
 // Lines and traces written out by hand, whole and in pieces.
 
-use crate::{ReadErr, parse_event, read_event, read_header};
+use crate::{HeaderErr, ReadErr, Reason, parse_event, read_event, read_header};
 use ace_codes::LineState;
-use ace_event::{Channel, Event, Header};
+use ace_event::{Channel, Event, Header, Line, Outcome};
 use ace_io::{HonestSource, LineBuf, LineReader, MemSource, Source};
 use std::alloc::Global;
 use std::test::Fail;
@@ -10,7 +10,7 @@ use std::test::Fail;
 #[test]
 fn reads_each_record(rt: HostRuntime) {
     let word = 0x0123_4567_89ab_cdef_0011_2233_4455_6677;
-    let cases: [(&[u8], Event); 12] = [
+    let cases: [(&[u8], Event); 22] = [
         (
             b"AR a 5 0123cdef 7 2 1 0",
             Event::Ar {
@@ -70,6 +70,41 @@ fn reads_each_record(rt: HostRuntime) {
             },
         ),
         (
+            b"AW c 6 fedcba98 7 3 2",
+            Event::Aw {
+                port: 12,
+                id: 6,
+                addr: 0xfedc_ba98,
+                snoop: 7,
+                dom: 3,
+                bar: 2,
+            },
+        ),
+        (
+            b"W d ac0f 1 0123456789abcdef0011223344556677",
+            Event::W {
+                port: 13,
+                strb: 0xac0f,
+                last: true,
+                word,
+            },
+        ),
+        (
+            b"B e f 3",
+            Event::B {
+                port: 14,
+                id: 15,
+                resp: 3,
+            },
+        ),
+        (
+            b"WK 2 SC",
+            Event::Wk {
+                port: 2,
+                st: LineState::SC,
+            },
+        ),
+        (
             b"AC 4 89abcdef e",
             Event::Ac {
                 port: 4,
@@ -102,6 +137,14 @@ fn reads_each_record(rt: HostRuntime) {
             },
         ),
         (
+            b"CD 8 1 0123456789abcdef0011223344556677",
+            Event::Cd {
+                port: 8,
+                last: true,
+                word,
+            },
+        ),
+        (
             b"G 8 R 9",
             Event::G {
                 port: 8,
@@ -117,78 +160,392 @@ fn reads_each_record(rt: HostRuntime) {
                 id: 8,
             },
         ),
+        (
+            b"S 1 00000fc0 SC",
+            Event::S {
+                port: 1,
+                addr: 0xfc0,
+                st: LineState::SC,
+            },
+        ),
+        (
+            b"L 2 000000c0 3 1 0123456789abcdef0011223344556677",
+            Event::L {
+                port: 2,
+                addr: 0xc0,
+                w: 3,
+                x: true,
+                word,
+            },
+        ),
+        (
+            b"OP 3 01ff ok",
+            Event::Op {
+                port: 3,
+                k: 0x1ff,
+                res: Outcome::Ok,
+            },
+        ),
+        (
+            b"OP 4 8000 skip",
+            Event::Op {
+                port: 4,
+                k: 0x8000,
+                res: Outcome::Skip,
+            },
+        ),
+        (
+            b"OP f ffff fail",
+            Event::Op {
+                port: 15,
+                k: 0xffff,
+                res: Outcome::Fail,
+            },
+        ),
     ];
     for (line, event) in cases {
-        assert_eq!(rt; parse_event(line), Some(event));
+        assert_eq!(rt; parse_event(line), Ok(event));
     }
 }
 
 #[test]
-fn refuses_other_lines(rt: HostRuntime) {
-    let lines: [&[u8]; 41] = [
-        // no record, or one that isn't read
-        b"",
-        b" ",
-        b"A",
-        b"XX 0",
-        b"AR",
-        b"AR ",
-        b"ar 0 0 00000040 7 1 0 0",
-        b"OP 0 0000 ok",
-        b"S 0 00000040 I",
-        b"AW 0 0 00000040 3 1 0",
-        b"CD 0 1 00000000000000000000000000000000",
-        b"RKK 0 I",
-        b"GR 0 R 0",
-        // too many fields, too few, and empty ones
-        b"AR 0 0 00000040 7 1 0",
-        b"AR 0 0 00000040 7 1 0 0 0",
-        b"AR 0 0 00000040 7 1 0 0 ",
-        b" AR 0 0 00000040 7 1 0 0",
-        b"AR  0 0 00000040 7 1 0 0",
-        b"AR 0 0  00000040 7 1 0 0",
-        b"AR\t0 0 00000040 7 1 0 0",
-        b"G 0 R 0\r",
-        // fields of another length
-        b"AR 00 0 00000040 7 1 0 0",
-        b"AR 0 0 0000040 7 1 0 0",
-        b"AR 0 0 000000040 7 1 0 0",
-        b"R 0 0 0 1 0000000000000000000000000000000",
-        b"R 0 0 0 1 000000000000000000000000000000000",
-        b"CR 0 0 I",
-        b"CR 0 000 I",
-        b"RK 0 ",
-        b"RK 0 UCI",
-        // other characters
-        b"AR 0 0 000000A0 7 1 0 0",
-        b"AR g 0 00000040 7 1 0 0",
-        b"AR / 0 00000040 7 1 0 0",
-        b"AC 0 00000040 :",
-        b"RK 0 uc",
-        b"RK 0 DU",
-        b"G 0 r 0",
-        b"G 0 0 0",
-        // numbers out of range
-        b"AR 0 0 00000040 7 4 0 0",
-        b"AR 0 0 00000040 7 1 4 0",
-        b"AR 0 0 00000040 7 1 0 2",
+fn reads_lines_of_memory(rt: HostRuntime) {
+    let line = Line {
+        words: [0x10, u128::MAX, 0x2000, 1 << 127],
+    };
+    let cases: [(&[u8], Event); 2] = [
+        (
+            b"M 1 W 2 00000000000000000000000000000010ffffffffffffffffffffffffffffffff0000000000000000000000000000200080000000000000000000000000000000",
+            Event::M {
+                port: 1,
+                chan: Channel::Write,
+                id: 2,
+                line,
+            },
+        ),
+        (
+            b"D 3 00000040 8000000000000001 1 00000000000000000000000000000010ffffffffffffffffffffffffffffffff0000000000000000000000000000200080000000000000000000000000000000",
+            Event::D {
+                port: 3,
+                addr: 0x40,
+                strobe: 0x8000_0000_0000_0001,
+                x: true,
+                line,
+            },
+        ),
     ];
-    for line in lines {
-        assert_eq!(rt; parse_event(line), None);
+    for (text, event) in cases {
+        assert_eq!(rt; parse_event(text), Ok(event));
     }
-    assert_eq!(rt; parse_event(b"CR 0 20 I"), None);
-    assert_eq!(rt;
-        parse_event(b"R 0 0 0 2 00000000000000000000000000000000"),
-        None
-    );
+}
+
+/// Lines to which one reason or several apply.
+#[test]
+fn tells_the_least_reason(rt: HostRuntime) {
+    let cases: [(&[u8], Reason); 56] = [
+        (b"", Reason::F2),
+        (b"\0", Reason::F2),
+        (b" ", Reason::F2),
+        (b"A", Reason::F2),
+        (b"XX 0", Reason::F2),
+        (b" OP 0 0000 ok", Reason::F2),
+        (b"op 0 0000 ok", Reason::F2),
+        (b"OPP 0 0000 ok", Reason::F2),
+        (b"AR\t0 0 00000040 7 1 0 0", Reason::F2),
+        (b"  ", Reason::F2),
+        (b"RD 0", Reason::F2),
+        (b"AR", Reason::F3),
+        (b"AR ", Reason::F3),
+        (b"OP 0  0000 ok", Reason::F3),
+        (b"OP 0 0000 ok ", Reason::F3),
+        (b"OP 0 0000", Reason::F3),
+        (b"AR 0 0 0000004A 7 1 0", Reason::F3),
+        (b"RK 0 I I", Reason::F3),
+        (b"R 0 0 0 1", Reason::F3),
+        (b"B 0 0 0 0", Reason::F3),
+        (b"G 0 R", Reason::F3),
+        (b"OP 0 000 ok", Reason::F4),
+        (b"CR 0 0 I", Reason::F4),
+        (b"CR 0 000 X", Reason::F4),
+        (b"RK  I", Reason::F4),
+        (b"AC 0 00000040 ", Reason::F4),
+        (b"AR 00 0 000000A0 7 9 0 0", Reason::F4),
+        (b"B 0 0 44", Reason::F4),
+        (b"OP 0 0000 ok\r", Reason::F5),
+        (b"RK 0 uc", Reason::F5),
+        (b"RK 0 UCI", Reason::F5),
+        (b"RK 0 ", Reason::F5),
+        (b"G 0 r 0", Reason::F5),
+        (b"G 0 RW 0", Reason::F5),
+        (b"G 0  0", Reason::F5),
+        (b"AC 0 00000040 :", Reason::F5),
+        (b"AC / 00000040 0", Reason::F5),
+        (b"B 0 @ 4", Reason::F5),
+        (b"OP 0 0000 OK", Reason::F5),
+        (b"CR 0 2g I", Reason::F5),
+        (b"AR 0 0 000000A0 7 4 0 2", Reason::F5),
+        (b"AC 0 00000040 `", Reason::F5),
+        (b"AR 0 0 00000040 7 1 0 2", Reason::F6),
+        (b"AR 0 0 00000040 7 4 0 0", Reason::F6),
+        (b"AR 0 0 00000040 7 1 4 0", Reason::F6),
+        (b"AW 0 0 00000040 8 1 0", Reason::F6),
+        (b"AW 0 0 00000040 7 f 0", Reason::F6),
+        (b"AW 0 0 00000040 7 1 4", Reason::F6),
+        (b"B 0 0 4", Reason::F6),
+        (b"CR 0 20 I", Reason::F6),
+        (
+            b"L 0 00000040 4 0 00000000000000000000000000000000",
+            Reason::F6,
+        ),
+        (
+            b"L 0 00000040 3 2 00000000000000000000000000000000",
+            Reason::F6,
+        ),
+        (b"R 0 0 0 2 00000000000000000000000000000000", Reason::F6),
+        (b"W 0 0000 2 00000000000000000000000000000000", Reason::F6),
+        (b"CD 0 2 00000000000000000000000000000000", Reason::F6),
+        (
+            b"D 0 00000040 0000000000000000 2 00000000000000000000000000000000000000000000000000000000000000000000000000000000000000000000000000000000000000000000000000000000",
+            Reason::F6,
+        ),
+    ];
+    for (line, reason) in cases {
+        assert_eq!(rt; parse_event(line), Err(reason));
+    }
+}
+
+/// Each field of digits with one digit more.
+#[test]
+fn tells_each_length(rt: HostRuntime) {
+    let cases: [(&[u8], Reason); 54] = [
+        (b"AR 00 0 00000040 0 3 3 1", Reason::F4),
+        (b"AR 0 00 00000040 0 3 3 1", Reason::F4),
+        (b"AR 0 0 000000400 0 3 3 1", Reason::F4),
+        (b"AR 0 0 00000040 00 3 3 1", Reason::F4),
+        (b"AR 0 0 00000040 0 30 3 1", Reason::F4),
+        (b"AR 0 0 00000040 0 3 30 1", Reason::F4),
+        (b"AR 0 0 00000040 0 3 3 10", Reason::F4),
+        (b"R 00 0 0 1 00000000000000000000000000000000", Reason::F4),
+        (b"R 0 00 0 1 00000000000000000000000000000000", Reason::F4),
+        (b"R 0 0 00 1 00000000000000000000000000000000", Reason::F4),
+        (b"R 0 0 0 10 00000000000000000000000000000000", Reason::F4),
+        (b"R 0 0 0 1 000000000000000000000000000000000", Reason::F4),
+        (b"RK 00 SD", Reason::F4),
+        (b"AW 00 0 00000040 7 3 3", Reason::F4),
+        (b"AW 0 00 00000040 7 3 3", Reason::F4),
+        (b"AW 0 0 000000400 7 3 3", Reason::F4),
+        (b"AW 0 0 00000040 70 3 3", Reason::F4),
+        (b"AW 0 0 00000040 7 30 3", Reason::F4),
+        (b"AW 0 0 00000040 7 3 30", Reason::F4),
+        (b"W 00 ffff 1 00000000000000000000000000000000", Reason::F4),
+        (b"W 0 ffff0 1 00000000000000000000000000000000", Reason::F4),
+        (b"W 0 ffff 10 00000000000000000000000000000000", Reason::F4),
+        (b"W 0 ffff 1 000000000000000000000000000000000", Reason::F4),
+        (b"B 00 0 3", Reason::F4),
+        (b"B 0 00 3", Reason::F4),
+        (b"B 0 0 30", Reason::F4),
+        (b"WK 00 SD", Reason::F4),
+        (b"AC 00 00000040 0", Reason::F4),
+        (b"AC 0 000000400 0", Reason::F4),
+        (b"AC 0 00000040 00", Reason::F4),
+        (b"CR 00 1f SD", Reason::F4),
+        (b"CR 0 1f0 SD", Reason::F4),
+        (b"CD 00 1 00000000000000000000000000000000", Reason::F4),
+        (b"CD 0 10 00000000000000000000000000000000", Reason::F4),
+        (b"CD 0 1 000000000000000000000000000000000", Reason::F4),
+        (b"G 00 W 0", Reason::F4),
+        (b"G 0 W 00", Reason::F4),
+        (
+            b"M 00 W 0 00000000000000000000000000000000000000000000000000000000000000000000000000000000000000000000000000000000000000000000000000000000",
+            Reason::F4,
+        ),
+        (
+            b"M 0 W 00 00000000000000000000000000000000000000000000000000000000000000000000000000000000000000000000000000000000000000000000000000000000",
+            Reason::F4,
+        ),
+        (
+            b"M 0 W 0 000000000000000000000000000000000000000000000000000000000000000000000000000000000000000000000000000000000000000000000000000000000",
+            Reason::F4,
+        ),
+        (b"S 00 00000040 SD", Reason::F4),
+        (b"S 0 000000400 SD", Reason::F4),
+        (
+            b"L 00 00000040 3 1 00000000000000000000000000000000",
+            Reason::F4,
+        ),
+        (
+            b"L 0 000000400 3 1 00000000000000000000000000000000",
+            Reason::F4,
+        ),
+        (
+            b"L 0 00000040 30 1 00000000000000000000000000000000",
+            Reason::F4,
+        ),
+        (
+            b"L 0 00000040 3 10 00000000000000000000000000000000",
+            Reason::F4,
+        ),
+        (
+            b"L 0 00000040 3 1 000000000000000000000000000000000",
+            Reason::F4,
+        ),
+        (
+            b"D 00 00000040 ffffffffffffffff 1 00000000000000000000000000000000000000000000000000000000000000000000000000000000000000000000000000000000000000000000000000000000",
+            Reason::F4,
+        ),
+        (
+            b"D 0 000000400 ffffffffffffffff 1 00000000000000000000000000000000000000000000000000000000000000000000000000000000000000000000000000000000000000000000000000000000",
+            Reason::F4,
+        ),
+        (
+            b"D 0 00000040 ffffffffffffffff0 1 00000000000000000000000000000000000000000000000000000000000000000000000000000000000000000000000000000000000000000000000000000000",
+            Reason::F4,
+        ),
+        (
+            b"D 0 00000040 ffffffffffffffff 10 00000000000000000000000000000000000000000000000000000000000000000000000000000000000000000000000000000000000000000000000000000000",
+            Reason::F4,
+        ),
+        (
+            b"D 0 00000040 ffffffffffffffff 1 000000000000000000000000000000000000000000000000000000000000000000000000000000000000000000000000000000000000000000000000000000000",
+            Reason::F4,
+        ),
+        (b"OP 00 0000 skip", Reason::F4),
+        (b"OP 0 00000 skip", Reason::F4),
+    ];
+    for (line, reason) in cases {
+        assert_eq!(rt; parse_event(line), Err(reason));
+    }
+}
+
+/// Each field with another character at its end.
+#[test]
+fn tells_each_character(rt: HostRuntime) {
+    let cases: [(&[u8], Reason); 61] = [
+        (b"AR A 0 00000040 0 3 3 1", Reason::F5),
+        (b"AR 0 A 00000040 0 3 3 1", Reason::F5),
+        (b"AR 0 0 0000004A 0 3 3 1", Reason::F5),
+        (b"AR 0 0 00000040 A 3 3 1", Reason::F5),
+        (b"AR 0 0 00000040 0 A 3 1", Reason::F5),
+        (b"AR 0 0 00000040 0 3 A 1", Reason::F5),
+        (b"AR 0 0 00000040 0 3 3 A", Reason::F5),
+        (b"R A 0 0 1 00000000000000000000000000000000", Reason::F5),
+        (b"R 0 A 0 1 00000000000000000000000000000000", Reason::F5),
+        (b"R 0 0 A 1 00000000000000000000000000000000", Reason::F5),
+        (b"R 0 0 0 A 00000000000000000000000000000000", Reason::F5),
+        (b"R 0 0 0 1 0000000000000000000000000000000A", Reason::F5),
+        (b"RK A SD", Reason::F5),
+        (b"RK 0 sdx", Reason::F5),
+        (b"AW A 0 00000040 7 3 3", Reason::F5),
+        (b"AW 0 A 00000040 7 3 3", Reason::F5),
+        (b"AW 0 0 0000004A 7 3 3", Reason::F5),
+        (b"AW 0 0 00000040 A 3 3", Reason::F5),
+        (b"AW 0 0 00000040 7 A 3", Reason::F5),
+        (b"AW 0 0 00000040 7 3 A", Reason::F5),
+        (b"W A ffff 1 00000000000000000000000000000000", Reason::F5),
+        (b"W 0 fffA 1 00000000000000000000000000000000", Reason::F5),
+        (b"W 0 ffff A 00000000000000000000000000000000", Reason::F5),
+        (b"W 0 ffff 1 0000000000000000000000000000000A", Reason::F5),
+        (b"B A 0 3", Reason::F5),
+        (b"B 0 A 3", Reason::F5),
+        (b"B 0 0 A", Reason::F5),
+        (b"WK A SD", Reason::F5),
+        (b"WK 0 sdx", Reason::F5),
+        (b"AC A 00000040 0", Reason::F5),
+        (b"AC 0 0000004A 0", Reason::F5),
+        (b"AC 0 00000040 A", Reason::F5),
+        (b"CR A 1f SD", Reason::F5),
+        (b"CR 0 1A SD", Reason::F5),
+        (b"CR 0 1f sdx", Reason::F5),
+        (b"CD A 1 00000000000000000000000000000000", Reason::F5),
+        (b"CD 0 A 00000000000000000000000000000000", Reason::F5),
+        (b"CD 0 1 0000000000000000000000000000000A", Reason::F5),
+        (b"G A W 0", Reason::F5),
+        (b"G 0 wx 0", Reason::F5),
+        (b"G 0 W A", Reason::F5),
+        (
+            b"M A W 0 00000000000000000000000000000000000000000000000000000000000000000000000000000000000000000000000000000000000000000000000000000000",
+            Reason::F5,
+        ),
+        (
+            b"M 0 wx 0 00000000000000000000000000000000000000000000000000000000000000000000000000000000000000000000000000000000000000000000000000000000",
+            Reason::F5,
+        ),
+        (
+            b"M 0 W A 00000000000000000000000000000000000000000000000000000000000000000000000000000000000000000000000000000000000000000000000000000000",
+            Reason::F5,
+        ),
+        (
+            b"M 0 W 0 0000000000000000000000000000000000000000000000000000000000000000000000000000000000000000000000000000000000000000000000000000000A",
+            Reason::F5,
+        ),
+        (b"S A 00000040 SD", Reason::F5),
+        (b"S 0 0000004A SD", Reason::F5),
+        (b"S 0 00000040 sdx", Reason::F5),
+        (
+            b"L A 00000040 3 1 00000000000000000000000000000000",
+            Reason::F5,
+        ),
+        (
+            b"L 0 0000004A 3 1 00000000000000000000000000000000",
+            Reason::F5,
+        ),
+        (
+            b"L 0 00000040 A 1 00000000000000000000000000000000",
+            Reason::F5,
+        ),
+        (
+            b"L 0 00000040 3 A 00000000000000000000000000000000",
+            Reason::F5,
+        ),
+        (
+            b"L 0 00000040 3 1 0000000000000000000000000000000A",
+            Reason::F5,
+        ),
+        (
+            b"D A 00000040 ffffffffffffffff 1 00000000000000000000000000000000000000000000000000000000000000000000000000000000000000000000000000000000000000000000000000000000",
+            Reason::F5,
+        ),
+        (
+            b"D 0 0000004A ffffffffffffffff 1 00000000000000000000000000000000000000000000000000000000000000000000000000000000000000000000000000000000000000000000000000000000",
+            Reason::F5,
+        ),
+        (
+            b"D 0 00000040 fffffffffffffffA 1 00000000000000000000000000000000000000000000000000000000000000000000000000000000000000000000000000000000000000000000000000000000",
+            Reason::F5,
+        ),
+        (
+            b"D 0 00000040 ffffffffffffffff A 00000000000000000000000000000000000000000000000000000000000000000000000000000000000000000000000000000000000000000000000000000000",
+            Reason::F5,
+        ),
+        (
+            b"D 0 00000040 ffffffffffffffff 1 0000000000000000000000000000000000000000000000000000000000000000000000000000000000000000000000000000000000000000000000000000000A",
+            Reason::F5,
+        ),
+        (b"OP A 0000 skip", Reason::F5),
+        (b"OP 0 000A skip", Reason::F5),
+        (b"OP 0 0000 skipx", Reason::F5),
+    ];
+    for (line, reason) in cases {
+        assert_eq!(rt; parse_event(line), Err(reason));
+    }
 }
 
 /// How the reading of a trace ends.
 #[derive(Clone, Copy, Debug, PartialEq, Eq)]
 enum End {
-    BadHeader(ReadErr),
+    BadHeader(HeaderErr),
     /// After so many events.
     After(u32, Result<Header, ReadErr>),
+}
+
+/// A malformed line.
+fn bad(reason: Reason) -> Result<Header, ReadErr> {
+    Err(ReadErr::Malformed { reason })
+}
+
+/// A malformed header line.
+fn no_header(line: u64, reason: Reason) -> End {
+    End::BadHeader(HeaderErr::Malformed { line, reason })
 }
 
 fn end_of<S: Source>(alloc: Global, source: &mut S) -> Result<End, Fail> {
@@ -220,33 +577,62 @@ fn reads_traces_in_pieces(rt: HostRuntime) -> Result<(), Fail> {
         ports: 8,
         ace: 0xff,
     };
-    let bad = Err(ReadErr::Malformed);
-    let cases: [(&[u8], End); 22] = [
+    let mixed = Header {
+        version: 1,
+        ports: 16,
+        ace: 0xe80f,
+    };
+    let cases: [(&[u8], End); 26] = [
         (b"ACE 1\nPORTS A\n", End::After(0, Ok(one))),
         (b"ACE 1\nPORTS AAAAAAAA\n", End::After(0, Ok(eight))),
+        (b"ACE 1\nPORTS AAAALLLLLLLALAAA\n", End::After(0, Ok(mixed))),
         (b"ACE 1\nPORTS A\nRK 0 I\nG 0 R 0\n", End::After(2, Ok(one))),
-        (b"ACE 1\nPORTS A\nRK 0 I\nG 0 R 0", End::After(1, bad)),
-        (b"ACE 1\nPORTS A\nRK 0 I\n\n", End::After(1, bad)),
-        (b"ACE 1\nPORTS A\nRK 0 I\nG 0\nR 0\n", End::After(1, bad)),
-        (b"ACE 1\nPORTS A\nXX 0\nRK 0 I\n", End::After(0, bad)),
-        (b"ACE 1\nPORTS A\nRK 0 I\r\n", End::After(0, bad)),
-        (b"", End::BadHeader(ReadErr::Malformed)),
-        (b"ACE 1", End::BadHeader(ReadErr::Malformed)),
-        (b"ACE 1\n", End::BadHeader(ReadErr::Malformed)),
-        (b"ACE 1\nPORTS A", End::BadHeader(ReadErr::Malformed)),
-        (b"ACE 2\nPORTS A\n", End::BadHeader(ReadErr::Malformed)),
-        (b"ACE 1 \nPORTS A\n", End::BadHeader(ReadErr::Malformed)),
-        (b"\nACE 1\nPORTS A\n", End::BadHeader(ReadErr::Malformed)),
-        (b"PORTS A\nACE 1\n", End::BadHeader(ReadErr::Malformed)),
-        (b"ACE 1\nPORTS \n", End::BadHeader(ReadErr::Malformed)),
-        (b"ACE 1\nPORTS\n", End::BadHeader(ReadErr::Malformed)),
         (
-            b"ACE 1\nPORTS AAAAAAAAA\n",
-            End::BadHeader(ReadErr::Malformed),
+            b"ACE 1\nPORTS A\nRK 0 I\nG 0 R 0",
+            End::After(1, bad(Reason::F1)),
         ),
-        (b"ACE 1\nPORTS AL\n", End::BadHeader(ReadErr::Malformed)),
-        (b"ACE 1\nPORTS a\n", End::BadHeader(ReadErr::Malformed)),
-        (b"ACE 1\nPORTS A A\n", End::BadHeader(ReadErr::Malformed)),
+        (
+            b"ACE 1\nPORTS A\nRK 0 I\n\n",
+            End::After(1, bad(Reason::F2)),
+        ),
+        (
+            b"ACE 1\nPORTS A\nRK 0 I\nG 0\nR 0\n",
+            End::After(1, bad(Reason::F3)),
+        ),
+        (
+            b"ACE 1\nPORTS A\nXX\nOP 0 0001 ok\n",
+            End::After(0, bad(Reason::F2)),
+        ),
+        (
+            b"ACE 1\nPORTS A\nOP 0 0001 ok\nXX\n",
+            End::After(1, bad(Reason::F2)),
+        ),
+        (
+            b"ACE 1\nPORTS A\nRK 0 I\r\n",
+            End::After(0, bad(Reason::F5)),
+        ),
+        (
+            b"ACE 1\nPORTS A\nAR 0 0 00000040 7 1 0 2\n",
+            End::After(0, bad(Reason::F6)),
+        ),
+        (
+            b"ACE 1\nPORTS A\nOP 0 000 ok\nOP",
+            End::After(0, bad(Reason::F4)),
+        ),
+        (b"", no_header(1, Reason::F1)),
+        (b"ACE 1", no_header(1, Reason::F1)),
+        (b"ACE 1\n", no_header(2, Reason::F1)),
+        (b"ACE 1\nPORTS A", no_header(2, Reason::F1)),
+        (b"ACE 9\nPORTS A\n", no_header(1, Reason::F7)),
+        (b"ACE 1 \nPORTS A\n", no_header(1, Reason::F7)),
+        (b"\nACE 1\n", no_header(1, Reason::F7)),
+        (b"ACE 1\nPORTS \n", no_header(2, Reason::F7)),
+        (b"ACE 1\nPORTS\n", no_header(2, Reason::F7)),
+        (b"ACE 1\nPORTS AAAAAAAAA\n", no_header(2, Reason::F7)),
+        (b"ACE 1\nPORTS LLLLLLLLLAA\n", no_header(2, Reason::F7)),
+        (b"ACE 1\nPORTS AM\n", no_header(2, Reason::F7)),
+        (b"ACE 1\nPORTS a\n", no_header(2, Reason::F7)),
+        (b"ACE 1\nPORTS A A\n", no_header(2, Reason::F7)),
     ];
     for (text, end) in cases {
         let mut source = HonestSource::new(text);
@@ -267,7 +653,12 @@ fn reads_traces_in_pieces(rt: HostRuntime) -> Result<(), Fail> {
 
 #[test]
 fn refuses_long_lines(rt: HostRuntime) -> Result<(), Fail> {
-    for len in [200, 249, 250, 300] {
+    for (len, reason) in [
+        (248, Reason::F3),
+        (249, Reason::F3),
+        (250, Reason::F1),
+        (300, Reason::F1),
+    ] {
         let mut text = Vec::from_slice(rt.alloc(), b"ACE 1\nPORTS A\nRK 0 I")?;
         for _ in 0..len {
             text.push(b' ')?;
@@ -276,7 +667,7 @@ fn refuses_long_lines(rt: HostRuntime) -> Result<(), Fail> {
         let mut source = HonestSource::new(&text);
         assert_eq!(rt;
             end_of(rt.alloc(), &mut source)?,
-            End::After(0, Err(ReadErr::Malformed))
+            End::After(0, bad(reason))
         );
     }
     Ok(())
@@ -287,8 +678,8 @@ fn tells_a_read_fault(rt: HostRuntime) -> Result<(), Fail> {
     let text = b"ACE 1\nPORTS A\nRK 0 I\nG 0 R 0\n";
     let fault = Err(ReadErr::ReadFault);
     let cases = [
-        (0, End::BadHeader(ReadErr::ReadFault)),
-        (1, End::BadHeader(ReadErr::ReadFault)),
+        (0, End::BadHeader(HeaderErr::ReadFault)),
+        (1, End::BadHeader(HeaderErr::ReadFault)),
         (2, End::After(0, fault)),
         (3, End::After(1, fault)),
     ];

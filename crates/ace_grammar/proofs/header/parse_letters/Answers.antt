@@ -1,6 +1,5 @@
-use Rattle.std.proofs.Common.{length}
 use Rattle.std.proofs.lemmas.Bool.{iff_false}
-use Rattle.ace_grammar.proofs.Letters.{no_letters, made_letters, shifted_ports}
+use Rattle.ace_grammar.proofs.Letters.{no_letters, made_letters}
 use Rattle.ace_grammar.proofs.header.parse_letters.Goals as goal
 
 pub returns-then-not-are_letters : goal.returns-then-not-are_letters
@@ -9,4 +8,4 @@ returns-then-not-are_letters c = no_letters c.args.letters.now (iff_false c.are_
 pub returns : goal.returns
 returns c =
     let letters = c.are_letters.ensures.0 c.if-not-are_letters.false in
-    rw (shifted_ports (length c.args.letters.now) letters.1) (made_letters c.args.letters.now letters)
+    rw c.ace_bits.ensures.value (made_letters c.args.letters.now letters)

@@ -1,6 +1,6 @@
 use Rattle.ace_grammar.specs.Records.{ar_fields}
 use Rattle.ace_grammar.proofs.Ended.{map_ended}
-use Rattle.ace_grammar.proofs.event.read_ar.Goals as goal
+use Rattle.ace_grammar.proofs.records.read_ar.Goals as goal
 
 pub returns : goal.returns
 unfolding ar_fields

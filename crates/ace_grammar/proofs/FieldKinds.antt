@@ -1,0 +1,234 @@
+-- What a field has to be for no reason to apply: the text of a value in its range.
+use Rattle.std.proofs.Common.{◌≡◌, ◌≢◌, ℕ, zero, suc, ◌+◌, ◌-◌, ◌*◌, ◌^◌, ◌<◌, ◌≤◌, Bool, true, false, cond, eqb, leb, ◌&&◌, ◌||◌, List, [], ◌∷◌, ◌++◌, length, Option, Some, None, refl, sym, ap, subst, ◌∙◌, arith, inl, inr, ◌⊎◌}
+use Rattle.std.specs.Prelude.{codes}
+use Rattle.std.specs.Option.{is_some}
+use Rattle.std.specs.List.{AllByRecursion, list_all}
+use Rattle.std.specs.Str.{bytes_eq}
+use Rattle.std.proofs.lemmas.Bool.{cases_Bool, eqb-true, eq-eqb, leb-true, le-leb, cond-true}
+use Rattle.std.proofs.lemmas.Slice.Eq.{bytes_eq-Decides}
+use Rattle.ace_codes.specs.declared.state.LineState.{LineState}
+use Rattle.ace_codes.specs.declared.state.LineState.TheVariants.{I, UC, UD, SC, SD}
+use Rattle.ace_event.specs.declared.event.Channel.{Channel}
+use Rattle.ace_event.specs.declared.event.Channel.TheVariants.{Read, Write}
+use Rattle.ace_event.specs.declared.event.Outcome.{Outcome}
+use Rattle.ace_event.specs.declared.event.Outcome.TheVariants.{Ok, Skip, Fail}
+use Rattle.ace_event.specs.Text.{hex_text, flag_text, channel_text, state_text, outcome_text}
+use Rattle.ace_grammar.specs.declared.reason.Reason.{Reason}
+use Rattle.ace_grammar.specs.declared.reason.Reason.TheVariants.{F3, F4, F5, F6}
+use Rattle.ace_grammar.specs.declared.shapes.Shape.{Shape}
+use Rattle.ace_grammar.specs.declared.shapes.Shape.TheVariants.{Digits, AtMost, SnoopResponse, ChannelWord, StateWord, OutcomeWord}
+use Rattle.ace_grammar.specs.Fields.{digits_onto, state_of, outcome_of}
+use Rattle.ace_grammar.specs.Reasons.{is_digit, digits_reason, number_reason, limited_reason, word_reason, field_reason, least, fields_reason}
+use Rattle.ace_grammar.proofs.Options.{chosen}
+use Rattle.ace_grammar.proofs.Hex.{length-hex_text, hex_digits, number_of_digits, number_again, digits_text}
+use Rattle.ace_grammar.proofs.FieldTexts.{bit_text, flag_bit, state_takes, state_again, outcome_takes, outcome_again}
+use Rattle.ace_grammar.proofs.Plain.{IsPlain, hex_text-plain}
+
+pub some_isn't_none : {A : Type 0} (x : A) (P : Type 0) → Some x ≡ None → P
+some_isn't_none x P e = absurd cc
+
+-- a field of some shape: the values whose texts have no reason, and no other text
+pub record Kind (A : Type 0) : Type 1 where
+  pub shape : Shape
+  pub text : A → List ℕ
+  pub IsIn : A → Type 0
+  pub decode : (field : List ℕ) → field_reason shape field ≡ None → (value : A) × IsIn value × (field ≡ text value)
+  pub encode : (value : A) → IsIn value → field_reason shape (text value) ≡ None
+  pub plain : (value : A) → IsPlain (text value)
+
+-- ---- digits
+
+pub digits_none : (count : ℕ) (field : List ℕ) → digits_reason count field ≡ None → (length field ≡ count) × (list_all is_digit field ≡ true)
+digits_none count field e =
+    elim (chosen (eqb (length field) count) (cond (list_all is_digit field) None (Some F5)) (Some F4) None e) [
+      | inl p ↦
+          elim (chosen (list_all is_digit field) None (Some F5) None p.1) [
+            | inl q ↦ (eqb-true (length field) count p.0, q.0)
+            | inr q ↦ some_isn't_none F5 _ q.1
+          ]
+      | inr p ↦ some_isn't_none F4 _ p.1
+    ]
+
+pub digits_decode : (count : ℕ) (field : List ℕ) → digits_reason count field ≡ None → (number : ℕ) × (number < 16 ^ count) × (field ≡ hex_text count number)
+digits_decode count field e =
+    let told = digits_none count field e in
+    let number = number_of_digits field told.1 in
+    (number.0, subst (λ k. number.0 < 16 ^ k) told.0 number.1, number.2 ∙ ap (λ k. hex_text k number.0) told.0)
+
+pub digits_fine : (count : ℕ) (field : List ℕ) → length field ≡ count → list_all is_digit field ≡ true → digits_reason count field ≡ None
+digits_fine count field size all =
+    cond-true (eqb (length field) count) _ _ (eq-eqb (length field) count size) ∙ cond-true (list_all is_digit field) _ _ all
+
+pub digits_encode : (count number : ℕ) → digits_reason count (hex_text count number) ≡ None
+digits_encode count number = digits_fine count (hex_text count number) (length-hex_text count number) (hex_digits count number)
+
+abbrev pub digits : ℕ → Kind ℕ
+digits count = record {
+  shape = Digits count;
+  text = hex_text count;
+  IsIn = λ number. number < 16 ^ count;
+  decode = digits_decode count;
+  encode = λ number h. digits_encode count number;
+  plain = hex_text-plain count;
+}
+
+number_none : (most : ℕ) (read : Option ℕ) → number_reason most read ≡ None → (number : ℕ) × (read ≡ Some number) × (number ≤ most)
+number_none most None e = some_isn't_none F5 _ e
+number_none most (Some number) e =
+    elim (chosen (leb number most) None (Some F6) None e) [
+      | inl p ↦ (number, refl, leb-true number most p.0)
+      | inr p ↦ some_isn't_none F6 _ p.1
+    ]
+
+pub limited_decode : (count most : ℕ) (field : List ℕ) → limited_reason count most field ≡ None → (number : ℕ) × (number ≤ most) × (field ≡ hex_text count number)
+limited_decode count most field e =
+    elim (chosen (eqb (length field) count) (number_reason most (digits_onto 0 field)) (Some F4) None e) [
+      | inl p ↦
+          let number = number_none most (digits_onto 0 field) p.1 in
+          (number.0, number.2, digits_text field number.0 number.1 ∙ ap (λ k. hex_text k number.0) (eqb-true (length field) count p.0))
+      | inr p ↦ some_isn't_none F4 _ p.1
+    ]
+
+pub limited_encode : (count most number : ℕ) → most < 16 ^ count → number ≤ most → limited_reason count most (hex_text count number) ≡ None
+limited_encode count most number room h =
+    cond-true (eqb (length (hex_text count number)) count) _ _ (eq-eqb (length (hex_text count number)) count (length-hex_text count number))
+    ∙ ap (number_reason most) (number_again count number (omega (arith, room, h)))
+    ∙ cond-true (leb number most) _ _ (le-leb number most h)
+
+abbrev pub at_most : (most : ℕ) → most < 16 ^ 1 → Kind ℕ
+at_most most room = record {
+  shape = AtMost most;
+  text = hex_text 1;
+  IsIn = λ number. number ≤ most;
+  decode = limited_decode 1 most;
+  encode = λ number h. limited_encode 1 most number room h;
+  plain = hex_text-plain 1;
+}
+
+pub room_of_response : 0x1f < 16 ^ 2
+room_of_response = omega arith
+
+abbrev pub response : Kind ℕ
+response = record {
+  shape = SnoopResponse;
+  text = hex_text 2;
+  IsIn = λ number. number ≤ 0x1f;
+  decode = limited_decode 2 0x1f;
+  encode = λ number h. limited_encode 2 0x1f number room_of_response h;
+  plain = hex_text-plain 2;
+}
+
+-- every value of the type is in range
+abbrev pub Any : {A : Type 0} → A → Type 0
+Any value = Unit {0}
+
+pub flag_decode : (field : List ℕ) → limited_reason 1 1 field ≡ None → (value : Bool) × Any value × (field ≡ flag_text value)
+flag_decode field e =
+    let bit = limited_decode 1 1 field e in
+    (eqb bit.0 1, tt, bit.2 ∙ bit_text bit.0 bit.1)
+
+pub flag_encode : (value : Bool) → limited_reason 1 1 (flag_text value) ≡ None
+flag_encode value =
+    let bit = flag_bit value in
+    ap (limited_reason 1 1) (sym (bit_text bit.0 bit.1 ∙ ap flag_text bit.2)) ∙ limited_encode 1 1 bit.0 (omega arith) bit.1
+
+pub flag-plain : (value : Bool) → IsPlain (flag_text value)
+flag-plain false = ((λ e. absurd (omega (arith, e))), tt)
+flag-plain true = ((λ e. absurd (omega (arith, e))), tt)
+
+abbrev pub flag : Kind Bool
+flag = record {
+  shape = AtMost 1;
+  text = flag_text;
+  IsIn = Any;
+  decode = flag_decode;
+  encode = λ value h. flag_encode value;
+  plain = flag-plain;
+}
+
+-- ---- words
+
+word_none : (known : Bool) → word_reason known ≡ None → known ≡ true
+word_none true e = refl
+word_none false e = some_isn't_none F5 _ e
+
+is_there : {A : Type 0} (o : Option A) → is_some o ≡ true → (x : A) × (o ≡ Some x)
+is_there (Some x) e = (x, refl)
+is_there None e = absurd cc
+
+either : (a b : Bool) → (a || b) ≡ true → (a ≡ true) ⊎ (b ≡ true)
+either true b e = inl refl
+either false b e = inr e
+
+pub channel_decode : (field : List ℕ) → field_reason ChannelWord field ≡ None → (value : Channel) × Any value × (field ≡ channel_text value)
+channel_decode field e =
+    elim (either (bytes_eq field (codes "R")) (bytes_eq field (codes "W")) (word_none _ e)) [
+      | inl p ↦ (Read, tt, (bytes_eq-Decides field (codes "R")).0 p)
+      | inr p ↦ (Write, tt, (bytes_eq-Decides field (codes "W")).0 p)
+    ]
+
+pub channel_encode : (value : Channel) → field_reason ChannelWord (channel_text value) ≡ None
+channel_encode Read = refl
+channel_encode Write = refl
+
+pub channel-plain : (value : Channel) → IsPlain (channel_text value)
+channel-plain Read = ((λ e. absurd (omega (arith, e))), tt)
+channel-plain Write = ((λ e. absurd (omega (arith, e))), tt)
+
+abbrev pub channel : Kind Channel
+channel = record {
+  shape = ChannelWord;
+  text = channel_text;
+  IsIn = Any;
+  decode = channel_decode;
+  encode = λ value h. channel_encode value;
+  plain = channel-plain;
+}
+
+pub state_decode : (field : List ℕ) → field_reason StateWord field ≡ None → (value : LineState) × Any value × (field ≡ state_text value)
+state_decode field e =
+    let there = is_there (state_of field) (word_none (is_some (state_of field)) e) in
+    (there.0, tt, state_takes field there.0 there.1)
+
+pub state_encode : (value : LineState) → field_reason StateWord (state_text value) ≡ None
+state_encode value = ap (λ (o : Option LineState). word_reason (is_some o)) (state_again value)
+
+pub state-plain : (value : LineState) → IsPlain (state_text value)
+state-plain I = grind arith
+state-plain UC = grind arith
+state-plain UD = grind arith
+state-plain SC = grind arith
+state-plain SD = grind arith
+
+abbrev pub state : Kind LineState
+state = record {
+  shape = StateWord;
+  text = state_text;
+  IsIn = Any;
+  decode = state_decode;
+  encode = λ value h. state_encode value;
+  plain = state-plain;
+}
+
+pub outcome_decode : (field : List ℕ) → field_reason OutcomeWord field ≡ None → (value : Outcome) × Any value × (field ≡ outcome_text value)
+outcome_decode field e =
+    let there = is_there (outcome_of field) (word_none (is_some (outcome_of field)) e) in
+    (there.0, tt, outcome_takes field there.0 there.1)
+
+pub outcome_encode : (value : Outcome) → field_reason OutcomeWord (outcome_text value) ≡ None
+outcome_encode value = ap (λ (o : Option Outcome). word_reason (is_some o)) (outcome_again value)
+
+pub outcome-plain : (value : Outcome) → IsPlain (outcome_text value)
+outcome-plain Ok = grind arith
+outcome-plain Skip = grind arith
+outcome-plain Fail = grind arith
+
+abbrev pub outcome : Kind Outcome
+outcome = record {
+  shape = OutcomeWord;
+  text = outcome_text;
+  IsIn = Any;
+  decode = outcome_decode;
+  encode = λ value h. outcome_encode value;
+  plain = outcome-plain;
+}

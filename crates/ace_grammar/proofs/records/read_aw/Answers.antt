@@ -1,0 +1,16 @@
+use Rattle.ace_grammar.specs.Records.{aw_fields}
+use Rattle.ace_grammar.proofs.Ended.{map_ended}
+use Rattle.ace_grammar.proofs.records.read_aw.Goals as goal
+
+pub returns : goal.returns
+unfolding aw_fields
+returns c =
+    rw (
+      ← c.in_ok-port.ensures.value,
+      ← c.in_ok-id.ensures.value,
+      ← c.in_ok-addr.ensures.value,
+      ← c.in_ok-snoop.ensures.value,
+      ← c.in_ok-dom.ensures.value,
+      ← c.in_ok-bar.ensures.value,
+      c.at_end.ensures,
+    ) (simp map_ended)

@@ -1,0 +1,15 @@
+use Rattle.ace_grammar.specs.Records.{l_fields}
+use Rattle.ace_grammar.proofs.Ended.{map_ended}
+use Rattle.ace_grammar.proofs.records.read_l.Goals as goal
+
+pub returns : goal.returns
+unfolding l_fields
+returns c =
+    rw (
+      ← c.in_ok-port.ensures.value,
+      ← c.in_ok-addr.ensures.value,
+      ← c.in_ok-w.ensures.value,
+      ← c.in_ok-x.ensures,
+      ← c.in_ok-word.ensures.value,
+      c.at_end.ensures,
+    ) (simp map_ended)

@@ -1,0 +1,165 @@
+// The shapes of the fields of a record.
+ghost use Rattle.std.specs.Prelude.{◌≡◌};
+ghost use Rattle.std.specs.Option.{option_map};
+ghost use Rattle.ace_grammar.specs.Shapes.{shapes_of};
+
+/// What a field of a record may be.
+#[derive(Clone, Copy, Debug, PartialEq, Eq)]
+pub enum Shape {
+    /// So many lower-case hexadecimal digits.
+    Digits { count: usize },
+    /// One such digit, of a number that isn't above the most.
+    AtMost { most: u8 },
+    /// Two such digits, of a number that isn't above 1f (hexadecimal).
+    SnoopResponse,
+    /// `R` or `W`.
+    ChannelWord,
+    /// `I`, `UC`, `UD`, `SC` or `SD`.
+    StateWord,
+    /// `ok`, `skip` or `fail`.
+    OutcomeWord,
+}
+
+static AR: [Shape; 7] = [
+    Shape::Digits { count: 1 },
+    Shape::Digits { count: 1 },
+    Shape::Digits { count: 8 },
+    Shape::Digits { count: 1 },
+    Shape::AtMost { most: 3 },
+    Shape::AtMost { most: 3 },
+    Shape::AtMost { most: 1 },
+];
+
+static R: [Shape; 5] = [
+    Shape::Digits { count: 1 },
+    Shape::Digits { count: 1 },
+    Shape::Digits { count: 1 },
+    Shape::AtMost { most: 1 },
+    Shape::Digits { count: 32 },
+];
+
+static RK: [Shape; 2] = [Shape::Digits { count: 1 }, Shape::StateWord];
+
+static AW: [Shape; 6] = [
+    Shape::Digits { count: 1 },
+    Shape::Digits { count: 1 },
+    Shape::Digits { count: 8 },
+    Shape::AtMost { most: 7 },
+    Shape::AtMost { most: 3 },
+    Shape::AtMost { most: 3 },
+];
+
+static W: [Shape; 4] = [
+    Shape::Digits { count: 1 },
+    Shape::Digits { count: 4 },
+    Shape::AtMost { most: 1 },
+    Shape::Digits { count: 32 },
+];
+
+static B: [Shape; 3] = [
+    Shape::Digits { count: 1 },
+    Shape::Digits { count: 1 },
+    Shape::AtMost { most: 3 },
+];
+
+static WK: [Shape; 2] = [Shape::Digits { count: 1 }, Shape::StateWord];
+
+static AC: [Shape; 3] = [
+    Shape::Digits { count: 1 },
+    Shape::Digits { count: 8 },
+    Shape::Digits { count: 1 },
+];
+
+static CR: [Shape; 3] = [
+    Shape::Digits { count: 1 },
+    Shape::SnoopResponse,
+    Shape::StateWord,
+];
+
+static CD: [Shape; 3] = [
+    Shape::Digits { count: 1 },
+    Shape::AtMost { most: 1 },
+    Shape::Digits { count: 32 },
+];
+
+static G: [Shape; 3] = [
+    Shape::Digits { count: 1 },
+    Shape::ChannelWord,
+    Shape::Digits { count: 1 },
+];
+
+static M: [Shape; 4] = [
+    Shape::Digits { count: 1 },
+    Shape::ChannelWord,
+    Shape::Digits { count: 1 },
+    Shape::Digits { count: 128 },
+];
+
+static S: [Shape; 3] = [
+    Shape::Digits { count: 1 },
+    Shape::Digits { count: 8 },
+    Shape::StateWord,
+];
+
+static L: [Shape; 5] = [
+    Shape::Digits { count: 1 },
+    Shape::Digits { count: 8 },
+    Shape::AtMost { most: 3 },
+    Shape::AtMost { most: 1 },
+    Shape::Digits { count: 32 },
+];
+
+static D: [Shape; 5] = [
+    Shape::Digits { count: 1 },
+    Shape::Digits { count: 8 },
+    Shape::Digits { count: 16 },
+    Shape::AtMost { most: 1 },
+    Shape::Digits { count: 128 },
+];
+
+static OP: [Shape; 3] = [
+    Shape::Digits { count: 1 },
+    Shape::Digits { count: 4 },
+    Shape::OutcomeWord,
+];
+
+/// The shapes of the fields behind this word, where it is a record word.
+pub fn shapes_of(word: &[u8]) -> Option<&'static [Shape]>
+    ensures { option_map (λ shapes. shapes.now) result ≡ shapes_of word.now }
+{
+    if word == b"AR".as_slice() {
+        Some(&AR)
+    } else if word == b"R".as_slice() {
+        Some(&R)
+    } else if word == b"RK".as_slice() {
+        Some(&RK)
+    } else if word == b"AW".as_slice() {
+        Some(&AW)
+    } else if word == b"W".as_slice() {
+        Some(&W)
+    } else if word == b"B".as_slice() {
+        Some(&B)
+    } else if word == b"WK".as_slice() {
+        Some(&WK)
+    } else if word == b"AC".as_slice() {
+        Some(&AC)
+    } else if word == b"CR".as_slice() {
+        Some(&CR)
+    } else if word == b"CD".as_slice() {
+        Some(&CD)
+    } else if word == b"G".as_slice() {
+        Some(&G)
+    } else if word == b"M".as_slice() {
+        Some(&M)
+    } else if word == b"S".as_slice() {
+        Some(&S)
+    } else if word == b"L".as_slice() {
+        Some(&L)
+    } else if word == b"D".as_slice() {
+        Some(&D)
+    } else if word == b"OP".as_slice() {
+        Some(&OP)
+    } else {
+        None
+    }
+}
