@@ -1,5 +1,5 @@
 -- Every list of bytes reads as a trace in some way.
-use Rattle.std.proofs.Common.{◌≡◌, ◌≢◌, ℕ, zero, suc, ◌+◌, ◌<◌, ◌≤◌, Bool, true, false, List, [], ◌∷◌, ◌++◌, length, take, drop, Option, Some, None, refl, sym, ap, subst, ◌∙◌, arith, append_assoc, inl, inr, ◌⊎◌}
+use Rattle.std.proofs.Common.{◌≡◌, ◌≢◌, ℕ, zero, suc, ◌+◌, ◌<◌, ◌≤◌, true, false, List, [], ◌∷◌, ◌++◌, length, take, drop, refl, sym, ap, ◌∙◌, arith, append_assoc, inl, inr, ◌⊎◌}
 use Rattle.std.specs.Prelude.{codes}
 use Rattle.std.specs.Str.{bytes_eq}
 use Rattle.std.specs.List.{AllByRecursion, count_by}
@@ -10,20 +10,16 @@ use Rattle.std.proofs.lemmas.List.Elements.{All-from_recursion}
 use Rattle.std.proofs.lemmas.Slice.Eq.{bytes_eq-Decides}
 use Rattle.ace_event.specs.declared.event.Event.{Event}
 use Rattle.ace_event.specs.declared.header.Header.{Header}
-use Rattle.ace_event.specs.Range.{InRange}
-use Rattle.ace_event.specs.Ports.{port_letters}
 use Rattle.ace_event.specs.Text.{event_text, events_text, line_text, header_text, trace_text}
 use Rattle.ace_grammar.specs.declared.reason.Reason.{Reason}
 use Rattle.ace_grammar.specs.declared.reason.Reason.TheVariants.{F1, F7}
 use Rattle.ace_grammar.specs.Letters.{ArePortLetters}
 use Rattle.ace_grammar.specs.Lines.{BeginsWith, IsFirstLine, HasNoLine}
-use Rattle.ace_grammar.specs.Reasons.{HasReason, line_reason}
-use Rattle.ace_grammar.specs.Reading.{IsReadable, IsReadableHeader, HasBadLine, HasBadHeader, IsPortsLine, ports_text, most_events, Ending, Whole, Full, Bad, Ends, Reads}
+use Rattle.ace_grammar.specs.Reading.{IsReadable, IsReadableHeader, HasBadLine, HasBadHeader, IsPortsLine, ports_text, most_events, Ending, Whole, Full, Bad, Reads}
 use Rattle.ace_grammar.proofs.Exact.{IsClean}
 use Rattle.ace_grammar.proofs.Letters.{header_of, made_letters, no_letters}
 use Rattle.ace_grammar.proofs.Cut.{not_empty, clean_line}
-use Rattle.ace_grammar.proofs.CutFields.{cut}
-use Rattle.ace_grammar.proofs.LineReasons.{has_reason, line_without_reason}
+use Rattle.ace_grammar.proofs.LineReasons.{event_or_reason}
 
 -- ---- first lines
 
@@ -61,11 +57,7 @@ first_of count is bytes =
 first_line : (bytes : List ℕ) → ((line : List ℕ) × IsFirstLine line bytes) ⊎ HasNoLine bytes
 first_line bytes = first_of 256 refl bytes
 
--- ---- lines of events
-
-line_told : (line : List ℕ) (reason : Option Reason) → line_reason (cut line) ≡ reason → ((event : Event) × InRange event × (event_text event ≡ line)) ⊎ ((why : Reason) × HasReason line why)
-line_told line None e = inl (line_without_reason line e)
-line_told line (Some why) e = inr (why, has_reason line why e)
+-- ---- events
 
 -- how the events end, where there is room for so many
 abbrev Stops : ℕ → ℕ → List ℕ → Type 0
@@ -99,7 +91,7 @@ events_of (suc room) (x ∷ xs) =
     elim (first_line (x ∷ xs)) [
       | inr none ↦ stopped (suc room) (x ∷ xs) (inr (inr (omega arith, (F1, inl (refl, (λ e. absurd cc), none)))))
       | inl f ↦
-          elim (line_told f.0 (line_reason (cut f.0)) refl) [
+          elim (event_or_reason f.0) [
             | inr why ↦ stopped (suc room) (x ∷ xs) (inr (inr (omega arith, (why.0, inr (f.0, f.1, why.1)))))
             | inl event ↦
                 more_events room (x ∷ xs) f.1.2.0 event.0 event.1

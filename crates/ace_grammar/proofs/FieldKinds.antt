@@ -1,10 +1,10 @@
 -- What a field has to be for no reason to apply: the text of a value in its range.
-use Rattle.std.proofs.Common.{◌≡◌, ◌≢◌, ℕ, zero, suc, ◌+◌, ◌-◌, ◌*◌, ◌^◌, ◌<◌, ◌≤◌, Bool, true, false, cond, eqb, leb, ◌&&◌, ◌||◌, List, [], ◌∷◌, ◌++◌, length, Option, Some, None, refl, sym, ap, subst, ◌∙◌, arith, inl, inr, ◌⊎◌}
+use Rattle.std.proofs.Common.{◌≡◌, ℕ, ◌^◌, ◌<◌, ◌≤◌, Bool, true, false, cond, eqb, leb, ◌||◌, List, length, Option, Some, None, refl, sym, ap, subst, ◌∙◌, arith, inl, inr, ◌⊎◌}
 use Rattle.std.specs.Prelude.{codes}
 use Rattle.std.specs.Option.{is_some}
-use Rattle.std.specs.List.{AllByRecursion, list_all}
+use Rattle.std.specs.List.{list_all}
 use Rattle.std.specs.Str.{bytes_eq}
-use Rattle.std.proofs.lemmas.Bool.{cases_Bool, eqb-true, eq-eqb, leb-true, le-leb, cond-true}
+use Rattle.std.proofs.lemmas.Bool.{eqb-true, eq-eqb, leb-true, le-leb, cond-true}
 use Rattle.std.proofs.lemmas.Slice.Eq.{bytes_eq-Decides}
 use Rattle.ace_codes.specs.declared.state.LineState.{LineState}
 use Rattle.ace_codes.specs.declared.state.LineState.TheVariants.{I, UC, UD, SC, SD}
@@ -13,12 +13,11 @@ use Rattle.ace_event.specs.declared.event.Channel.TheVariants.{Read, Write}
 use Rattle.ace_event.specs.declared.event.Outcome.{Outcome}
 use Rattle.ace_event.specs.declared.event.Outcome.TheVariants.{Ok, Skip, Fail}
 use Rattle.ace_event.specs.Text.{hex_text, flag_text, channel_text, state_text, outcome_text}
-use Rattle.ace_grammar.specs.declared.reason.Reason.{Reason}
-use Rattle.ace_grammar.specs.declared.reason.Reason.TheVariants.{F3, F4, F5, F6}
+use Rattle.ace_grammar.specs.declared.reason.Reason.TheVariants.{F4, F5, F6}
 use Rattle.ace_grammar.specs.declared.shapes.Shape.{Shape}
 use Rattle.ace_grammar.specs.declared.shapes.Shape.TheVariants.{Digits, AtMost, SnoopResponse, ChannelWord, StateWord, OutcomeWord}
 use Rattle.ace_grammar.specs.Fields.{digits_onto, state_of, outcome_of}
-use Rattle.ace_grammar.specs.Reasons.{is_digit, digits_reason, number_reason, limited_reason, word_reason, field_reason, least, fields_reason}
+use Rattle.ace_grammar.specs.Reasons.{is_digit, digits_reason, number_reason, limited_reason, word_reason, field_reason}
 use Rattle.ace_grammar.proofs.Options.{chosen}
 use Rattle.ace_grammar.proofs.Hex.{length-hex_text, hex_digits, number_of_digits, number_again, digits_text}
 use Rattle.ace_grammar.proofs.FieldTexts.{bit_text, flag_bit, state_takes, state_again, outcome_takes, outcome_again}

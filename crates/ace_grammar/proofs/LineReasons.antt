@@ -1,5 +1,5 @@
 -- The reasons of lines.
-use Rattle.std.proofs.Common.{◌≡◌, ◌≢◌, ℕ, ◌<◌, List, [], ◌∷◌, ◌++◌, Option, Some, None, refl, sym, ap, ◌∙◌, arith}
+use Rattle.std.proofs.Common.{◌≡◌, ◌≢◌, ℕ, List, [], Option, Some, None, refl, sym, ap, ◌∙◌, inl, inr, ◌⊎◌}
 use Rattle.std.specs.List.{join_with_byte}
 use Rattle.std.proofs.lemmas.List.Splits.{join_with_byte-slice_split}
 use Rattle.ace_event.specs.declared.event.Event.{Event}
@@ -61,3 +61,11 @@ pub unread_has_reason : (line : List ℕ) → event_at line ≡ None → line_re
 unread_has_reason line none e =
     let told = line_without_reason line e in
     none_isn't told.0 _ (sym none ∙ ap event_at (sym told.2) ∙ event_again told.0 told.1)
+
+told : (line : List ℕ) (reason : Option Reason) → line_reason (cut line) ≡ reason → ((event : Event) × InRange event × (event_text event ≡ line)) ⊎ ((why : Reason) × HasReason line why)
+told line None e = inl (line_without_reason line e)
+told line (Some why) e = inr (why, has_reason line why e)
+
+-- each line is that of an event in range, or has a reason
+pub event_or_reason : (line : List ℕ) → ((event : Event) × InRange event × (event_text event ≡ line)) ⊎ ((why : Reason) × HasReason line why)
+event_or_reason line = told line (line_reason (cut line)) refl

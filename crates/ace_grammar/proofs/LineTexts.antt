@@ -1,12 +1,12 @@
 -- Lines: what is read from a line is exactly a readable event.
-use Rattle.std.proofs.Common.{◌≡◌, ◌≢◌, ℕ, ◌<◌, Bool, true, cond, List, [], ◌∷◌, ◌++◌, length, Option, Some, None, refl, sym, ap, subst, ◌∙◌, arith, eqb, inl, inr}
+use Rattle.std.proofs.Common.{◌≡◌, ◌≢◌, ℕ, ◌<◌, cond, List, [], ◌∷◌, length, Option, Some, refl, sym, ap, subst, ◌∙◌, arith, eqb, inl, inr}
 use Rattle.std.specs.Option.{option_map}
 use Rattle.std.proofs.lemmas.Bool.{eqb-true}
 use Rattle.ace_event.specs.declared.event.Event.{Event}
 use Rattle.ace_event.specs.declared.event.Event.TheVariants.{Ar, R, Rk, Aw, W, B, Wk, Ac, Cr, Cd, G, M, S, L, D, Op}
 use Rattle.ace_event.specs.Text.{event_text}
 use Rattle.ace_grammar.specs.Reading.{IsReadable}
-use Rattle.ace_grammar.specs.Records.{ArFields, RFields, RkFields, AwFields, WFields, BFields, WkFields, AcFields, CrFields, CdFields, GFields, MFields, SFields, LFields, DFields, OpFields, ar_fields, r_fields, rk_fields, aw_fields, w_fields, b_fields, wk_fields, ac_fields, cr_fields, cd_fields, g_fields, m_fields, s_fields, l_fields, d_fields, op_fields, ar_event, r_event, rk_event, aw_event, w_event, b_event, wk_event, ac_event, cr_event, cd_event, g_event, m_event, s_event, l_event, d_event, op_event, a_at, c_at, o_at, r_at, w_at, event_at}
+use Rattle.ace_grammar.specs.Records.{ar_fields, r_fields, rk_fields, aw_fields, w_fields, b_fields, wk_fields, ac_fields, cr_fields, cd_fields, g_fields, m_fields, s_fields, l_fields, d_fields, op_fields, ar_event, r_event, rk_event, aw_event, w_event, b_event, wk_event, ac_event, cr_event, cd_event, g_event, m_event, s_event, l_event, d_event, op_event, a_at, c_at, o_at, r_at, w_at, event_at}
 use Rattle.ace_grammar.proofs.Options.{map_some, none_isn't, chosen}
 use Rattle.ace_grammar.proofs.Exact.{IsClean, Rest}
 use Rattle.ace_grammar.proofs.RecordTexts.{ar, r, rk, aw, w, b, wk, ac, cr, cd, g, m, s, l, d, op}

@@ -1,11 +1,11 @@
 -- The fields behind each record word: no reason applies exactly to the texts of their values.
-use Rattle.std.proofs.Common.{◌≡◌, ◌≢◌, ℕ, List, [], ◌∷◌, Option, Some, None, refl, sym, ap, ◌∙◌, arith, inl, inr}
+use Rattle.std.proofs.Common.{◌≡◌, ℕ, List, [], ◌∷◌, Option, Some, None, refl, ap, ◌∙◌, inl, inr}
 use Rattle.std.specs.List.{AllByRecursion}
 use Rattle.ace_grammar.specs.declared.reason.Reason.{Reason}
 use Rattle.ace_grammar.specs.declared.reason.Reason.TheVariants.{F3}
 use Rattle.ace_grammar.specs.declared.shapes.Shape.{Shape}
 use Rattle.ace_grammar.specs.Records.{ArFields, RFields, RkFields, AwFields, WFields, BFields, WkFields, AcFields, CrFields, CdFields, GFields, MFields, SFields, LFields, DFields, OpFields}
-use Rattle.ace_grammar.specs.Reasons.{field_reason, number_of_reason, least, fields_reason}
+use Rattle.ace_grammar.specs.Reasons.{field_reason, least, fields_reason}
 use Rattle.ace_grammar.proofs.Plain.{IsPlain}
 use Rattle.ace_grammar.proofs.FieldTexts.{room_of_domain, room_of_write_snoop}
 use Rattle.ace_grammar.proofs.Options.{chosen}

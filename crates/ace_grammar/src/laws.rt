@@ -21,10 +21,11 @@ pub fn one_reading()
         → HasBadHeader bytes number reason → HasBadHeader bytes line other → (number ≡ line) × (reason ≡ other) }
 {}
 
-/// A line has at most one reason; the line of an event in range has none.
+/// A line, without its line feed, is that of an event in range, or it has one reason.
 pub fn one_reason()
+    ensures some { (line : List ℕ) → ((event : Event) × InRange event × (event_text event ≡ line)) ⊎ ((reason : Reason) × HasReason line reason) }
     ensures one { (line : List ℕ) (reason other : Reason) → HasReason line reason → HasReason line other → reason ≡ other }
-    ensures none { (line : List ℕ) (reason : Reason) (event : Event)
+    ensures apart { (line : List ℕ) (reason : Reason) (event : Event)
         → HasReason line reason → InRange event → event_text event ≢ line }
 {}
 

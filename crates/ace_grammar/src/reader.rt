@@ -79,8 +79,9 @@ pub fn read_header<S: Source>(
 }
 
 /// Reads the next event, or None at the end of the input after a whole line. `Malformed` comes exactly where a line
-/// stands there that is malformed, with the least reason that applies; `ReadFault` comes only where the source's count of faults
-/// rose, and what was taken by then and not given is less than a line. After an error read no more. `line` is room for a line.
+/// stands there that is malformed, with the least reason that applies; `ReadFault` comes only where the source's count
+/// of faults rose, and what was taken by then and not given is less than a line. After an error read no more. `line` is
+/// room for a line.
 pub fn read_event<S: Source>(
     lines: &mut LineReader<S>,
     line: &mut LineBuf,

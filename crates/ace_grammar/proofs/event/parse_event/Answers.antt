@@ -1,4 +1,4 @@
-use Rattle.std.proofs.Common.{sym, ◌∙◌}
+use Rattle.std.proofs.Common.{sym}
 use Rattle.ace_grammar.proofs.LineTexts.{event_takes}
 use Rattle.ace_grammar.proofs.event.parse_event.Goals as goal
 

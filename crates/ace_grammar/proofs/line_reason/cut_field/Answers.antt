@@ -1,4 +1,4 @@
-use Rattle.std.proofs.Common.{◌≡◌, ◌-◌, ◌+◌, length, refl}
+use Rattle.std.proofs.Common.{◌-◌, ◌+◌, length, refl}
 use Rattle.ace_grammar.proofs.CutFields.{cut_none, cut_first}
 use Rattle.ace_grammar.proofs.line_reason.cut_field.Goals as goal
 
