@@ -18,7 +18,7 @@ zero-end (Accepted events) left s e = e
 zero-end Shown left s e = e
 zero-end (Refused index rule) left s e = absurd (omega arith)
 zero-end Usage left s e = absurd (omega arith)
-zero-end Malformed left s e = absurd (omega arith)
+zero-end (Malformed line reason) left s e = absurd (omega arith)
 zero-end ReadFault left s e = absurd (omega arith)
 zero-end LimitEvents left s e = absurd (omega arith)
 zero-end NoMemory left s e = absurd (omega arith)
@@ -29,7 +29,7 @@ verdict-unique bytes (Accepted events) s (header, trace, reads, unbroken, count)
 verdict-unique bytes (Refused index rule) s v = absurd (omega arith)
 verdict-unique bytes Shown s v = absurd v
 verdict-unique bytes Usage s v = absurd (omega arith)
-verdict-unique bytes Malformed s v = absurd (omega arith)
+verdict-unique bytes (Malformed line reason) s v = absurd (omega arith)
 verdict-unique bytes ReadFault s v = absurd (omega arith)
 verdict-unique bytes LimitEvents s v = absurd (omega arith)
 verdict-unique bytes NoMemory s v = absurd (omega arith)

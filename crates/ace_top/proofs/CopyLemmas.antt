@@ -45,15 +45,15 @@ copied_more held old mid new writer writer' writer'' events event c n room = rec
 }
 
 -- a copy that stops ends
-pub stops_ends : (answer : Answer) (events : List Event) (next left : Option (List ℕ)) → StopsCopy answer next left → length events < most_events → EndsCopy answer events next left
-stops_ends Shown events next left s room = s
-stops_ends Malformed events next left s room = (s, room)
-stops_ends ReadFault events next left s room = s
-stops_ends LimitEvents events next left s room = absurd s
-stops_ends NoMemory events next left s room = s
-stops_ends (Accepted count) events next left s room = s
-stops_ends (Refused index rule) events next left s room = s
-stops_ends Usage events next left s room = s
+pub stops_ends : (answer : Answer) (events : List Event) (count : ℕ) (next left : Option (List ℕ)) → StopsCopy answer count next left → length events ≡ count → count < most_events → EndsCopy answer events next left
+stops_ends Shown events count next left s same room = s
+stops_ends (Malformed line reason) events count next left s same room = (s.0, rw same room, rw same s.1)
+stops_ends ReadFault events count next left s same room = s
+stops_ends LimitEvents events count next left s same room = absurd s
+stops_ends NoMemory events count next left s same room = s
+stops_ends (Accepted n) events count next left s same room = s
+stops_ends (Refused index rule) events count next left s same room = s
+stops_ends Usage events count next left s same room = s
 
 pub written : {K : Type 0} (held : K → Option (List ℕ)) (old new : Option (List ℕ)) (writer writer' : Writer K) (events : List Event) → HasCopied held old new writer writer' events → HasWritten old new events
 written held old new writer writer' events c = record { readable = c.readable; few = c.few; taken = c.taken }

@@ -82,12 +82,12 @@ verdict_next bytes h past left left' (Refused index rule) few (number, (event, r
     told : (left : Option (List ℕ)) → IfTold left (λ rest. Unit {0})
     told None = tt
     told (Some rest) = tt
-verdict_next bytes h past left left' Malformed few next s =
-    let parts = split bytes _ left HasBadLine s.text next.0 in
-    let reads : Reads bytes h (reverse past) Bad = record {
+verdict_next bytes h past left left' (Malformed line reason) few next s =
+    let parts = split bytes _ left (λ rest. HasBadLine rest reason) s.text next.0 in
+    let reads : Reads bytes h (reverse past) (Bad line reason) = record {
       header_is_readable = s.header_is_readable;
       events_are_readable = s.events_are_readable;
-      text = (parts.0, parts.1, ((rw length-reverse next.1), parts.2));
+      text = (parts.0, parts.1, ((rw length-reverse next.1), (rw length-reverse next.2), parts.2));
     } in
     inr (length past, (h, reverse past, reads, no_break h past s.accepted, length-reverse past))
 verdict_next bytes h past left left' LimitEvents few next s =
@@ -115,7 +115,7 @@ ends_source held left (Refused index rule) e = tt
 ends_source held None Shown e = tt
 ends_source held (Some rest) Shown e = no_front held rest e
 ends_source held left Usage e = tt
-ends_source held left Malformed e = tt
+ends_source held left (Malformed line reason) e = tt
 ends_source held left ReadFault e = tt
 ends_source held left LimitEvents e = tt
 ends_source held left NoMemory e = tt

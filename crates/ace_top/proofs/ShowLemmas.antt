@@ -7,12 +7,18 @@ use Rattle.ace_event.specs.declared.header.Header.{Header}
 use Rattle.ace_event.specs.declared.event.Event.{Event}
 use Rattle.ace_event.specs.Text.{header_text, events_text, trace_text}
 use Rattle.ace_io.specs.Line.{IsPending}
-use Rattle.ace_grammar.specs.Reading.{Reads, Whole, Full, Bad, IsReadable, IsReadableHeader, BeginsWith, HasBadHeader, HasBadLine, IfTold, most_events}
+use Rattle.ace_grammar.specs.declared.reason.Reason.{Reason}
+use Rattle.ace_grammar.specs.declared.error.HeaderErr.{HeaderErr}
+use Rattle.ace_grammar.specs.declared.error.HeaderErr.TheVariants as header_error
+use Rattle.ace_grammar.specs.Errors.{IfMalformedHeader}
+use Rattle.ace_grammar.specs.Lines.{BeginsWith}
+use Rattle.ace_grammar.specs.Reading.{Reads, Whole, Full, Bad, IsReadable, IsReadableHeader, HasBadHeader, HasBadLine, IfTold, most_events}
 use Rattle.ace_top.specs.declared.answer.Answer.{Answer}
 use Rattle.ace_top.specs.declared.answer.Answer.TheVariants.{Accepted, Refused, Shown, Usage, Malformed, ReadFault, LimitEvents, NoMemory}
 use Rattle.ace_top.specs.declared.words.Command.TheVariants.{Show}
 use Rattle.ace_top.specs.Answer.{Answers, BreaksOff, IsBegun}
 use Rattle.ace_top.specs.Copy.{HasWritten, WritesPart, EndsCopy}
+use Rattle.ace_top.specs.HeaderAnswer.{header_answer}
 use Rattle.ace_top.specs.Output.{AppendsPart, AppendsParts}
 use Rattle.ace_top.specs.Show.{IsShown, ShowsFront}
 use Rattle.ace_top.specs.Texts.{status_of, out_text_of, notes_text_of}
@@ -20,7 +26,7 @@ use Rattle.ace_top.specs.Texts.{status_of, out_text_of, notes_text_of}
 -- after a copy there is no further text for the standard output
 quiet : (answer : Answer) (events : List Event) (next left : Option (List ℕ)) → EndsCopy answer events next left → out_text_of answer ≡ []
 quiet Shown events next left e = refl
-quiet Malformed events next left e = refl
+quiet (Malformed line reason) events next left e = refl
 quiet LimitEvents events next left e = refl
 quiet ReadFault events next left e = refl
 quiet NoMemory events next left e = refl
@@ -49,9 +55,9 @@ copied_shown bytes header events next left Shown c e =
     let parts = split bytes _ next (λ rest. rest ≡ []) c.text (at_end next e) in
     let reads : Reads bytes header events Whole = record { header_is_readable = c.readable; events_are_readable = c.all; text = (parts.0, parts.1, (c.few, parts.2)) } in
     (header, events, reads, refl)
-copied_shown bytes header events next left Malformed c e =
-    let parts = split bytes _ next HasBadLine c.text e.0 in
-    let reads : Reads bytes header events Bad = record { header_is_readable = c.readable; events_are_readable = c.all; text = (parts.0, parts.1, (e.1, parts.2)) } in
+copied_shown bytes header events next left (Malformed line reason) c e =
+    let parts = split bytes _ next (λ rest. HasBadLine rest reason) c.text e.0 in
+    let reads : Reads bytes header events (Bad line reason) = record { header_is_readable = c.readable; events_are_readable = c.all; text = (parts.0, parts.1, (e.1, e.2, parts.2)) } in
     inr (header, events, reads, refl)
 copied_shown bytes header events next left LimitEvents c e =
     let parts = split bytes _ next (λ rest. rest ≢ []) c.text e.0 in
@@ -90,23 +96,28 @@ shows_copy old mid next left out out' out'' notes notes' header events answer st
     shown None head = tt
     shown (Some bytes) head = copied_shown bytes header events next left answer (copied_from bytes header events mid next readable head w) e
 
--- there was no header
-pub shows_no_header : (old left out out' notes notes' : Option (List ℕ)) (status : ℕ)
-    → IfTold old HasBadHeader → Appends out out' [] → Appends notes notes' (notes_text_of Malformed) → status ≡ 3 → Answers Show old left status out out' notes notes'
-shows_no_header old left out out' notes notes' status bad given told is = (Malformed, [], shown old bad, is, given, told)
-  where
-    shown : (old : Option (List ℕ)) → IfTold old HasBadHeader → IfSome old (λ bytes. IsShown bytes left Malformed [])
-    shown None bad = tt
-    shown (Some bytes) bad = inl (bad, refl)
+-- where there is no header, there is no text for the standard output
+silent : (error : HeaderErr) → out_text_of (header_answer error) ≡ []
+silent (header_error.Malformed line reason) = refl
+silent header_error.ReadFault = refl
 
--- the input failed in the header
-pub shows_failed_header : (old left out out' notes notes' : Option (List ℕ)) (status : ℕ)
-    → Appends out out' [] → Appends notes notes' (notes_text_of ReadFault) → status ≡ 4 → Answers Show old left status out out' notes notes'
-shows_failed_header old left out out' notes notes' status given told is = (ReadFault, [], shown old, is, given, told)
+-- there was no header
+pub shows_no_header : (old left out out' notes notes' : Option (List ℕ)) (status : ℕ) (error : HeaderErr) (answer : Answer)
+    → answer ≡ header_answer error → IfMalformedHeader error (λ line reason. IfTold old (λ bytes. HasBadHeader bytes line reason))
+    → Appends out out' (out_text_of answer) → Appends notes notes' (notes_text_of answer) → status ≡ status_of answer → Answers Show old left status out out' notes notes'
+shows_no_header old left out out' notes notes' status error answer is bad given told same = (
+  answer,
+  [],
+  subst (λ (a : Answer). IfSome old (λ bytes. IsShown bytes left a [])) (sym is) (shown error old bad),
+  same,
+  subst (Appends out out') (ap out_text_of is ∙ silent error) given,
+  told,
+)
   where
-    shown : (old : Option (List ℕ)) → IfSome old (λ bytes. IsShown bytes left ReadFault [])
-    shown None = tt
-    shown (Some bytes) = inl refl
+    shown : (error : HeaderErr) (old : Option (List ℕ)) → IfMalformedHeader error (λ line reason. IfTold old (λ bytes. HasBadHeader bytes line reason)) → IfSome old (λ bytes. IsShown bytes left (header_answer error) [])
+    shown error None bad = tt
+    shown (header_error.Malformed line reason) (Some bytes) bad = inl (bad, refl)
+    shown header_error.ReadFault (Some bytes) bad = inl refl
 
 begun : (old mid next : Option (List ℕ)) (header : Header) (events : List Event) → IsReadableHeader header → Consumes old mid (header_text header) → HasWritten mid next events
     → IfSome old (λ bytes. IsBegun Show bytes (trace_text header events))
@@ -145,5 +156,7 @@ breaks_after_copy old mid next left out out' out'' notes notes' header events an
     nothing (b ∷ part) rest e = absurd (cc)
 
 -- an output failed, and there was no header
-pub breaks_without_header : (old out out' notes notes' : Option (List ℕ)) (answer : Answer) → AppendsPart out out' [] → AppendsParts notes notes' (notes_text_of answer) (codes "write fault\n") → BreaksOff Show old out out' notes notes'
-breaks_without_header old out out' notes notes' answer part told = (answer, [], begun_nothing old, part, told)
+pub breaks_without_header : (old out out' notes notes' : Option (List ℕ)) (error : HeaderErr) (answer : Answer) → answer ≡ header_answer error
+    → AppendsPart out out' (out_text_of answer) → AppendsParts notes notes' (notes_text_of answer) (codes "write fault\n") → BreaksOff Show old out out' notes notes'
+breaks_without_header old out out' notes notes' error answer is part told =
+    (answer, [], begun_nothing old, subst (AppendsPart out out') (ap out_text_of is ∙ silent error) part, told)

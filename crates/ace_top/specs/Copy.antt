@@ -1,5 +1,5 @@
 -- How far a copy of a trace has come: events that were read, and handed to a writer.
-use Rattle.std.specs.Prelude.{◌≡◌, ◌≢◌, ◌≤◌, ◌<◌, ◌++◌, ⊤, ℕ, List, [], Option, length}
+use Rattle.std.specs.Prelude.{◌≡◌, ◌≢◌, ◌≤◌, ◌<◌, ◌+◌, ◌++◌, ⊤, ℕ, List, [], Option, length}
 use Rattle.std.specs.List.{AllByRecursion}
 use Rattle.std.specs.Io.KnownBytes.{Consumes, Appends, IsAtEnd}
 use Rattle.ace_event.specs.declared.event.Event.{Event}
@@ -49,7 +49,7 @@ pub record CopiesNext {K : Type 0} (held : K → Option (List ℕ)) (old new : O
 -- why the copy ends: by what stands next, and by what is left of the source after that was read
 abbrev pub EndsCopy : Answer → List Event → Option (List ℕ) → Option (List ℕ) → Type 0
 EndsCopy Shown events next left = IsAtEnd next
-EndsCopy Malformed events next left = IfTold next HasBadLine × (length events < most_events)
+EndsCopy (Malformed line reason) events next left = IfTold next (λ bytes. HasBadLine bytes reason) × (length events < most_events) × (line ≡ length events + 3)
 EndsCopy LimitEvents events next left = IfTold next (λ bytes. bytes ≢ []) × (length events ≡ most_events)
 EndsCopy ReadFault events next left = IsPending next left
 EndsCopy NoMemory events next left = ⊥
@@ -57,13 +57,13 @@ EndsCopy (Accepted count) events next left = ⊥
 EndsCopy (Refused index rule) events next left = ⊥
 EndsCopy Usage events next left = ⊥
 
--- the same where fewer events than a trace may have were copied
-abbrev pub StopsCopy : Answer → Option (List ℕ) → Option (List ℕ) → Type 0
-StopsCopy Shown next left = IsAtEnd next
-StopsCopy Malformed next left = IfTold next HasBadLine
-StopsCopy ReadFault next left = IsPending next left
-StopsCopy LimitEvents next left = ⊥
-StopsCopy NoMemory next left = ⊥
-StopsCopy (Accepted count) next left = ⊥
-StopsCopy (Refused index rule) next left = ⊥
-StopsCopy Usage next left = ⊥
+-- the same where so many events were copied, fewer than a trace may have
+abbrev pub StopsCopy : Answer → ℕ → Option (List ℕ) → Option (List ℕ) → Type 0
+StopsCopy Shown count next left = IsAtEnd next
+StopsCopy (Malformed line reason) count next left = IfTold next (λ bytes. HasBadLine bytes reason) × (line ≡ count + 3)
+StopsCopy ReadFault count next left = IsPending next left
+StopsCopy LimitEvents count next left = ⊥
+StopsCopy NoMemory count next left = ⊥
+StopsCopy (Accepted events) count next left = ⊥
+StopsCopy (Refused index rule) count next left = ⊥
+StopsCopy Usage count next left = ⊥

@@ -33,7 +33,7 @@ TakesBroken header past left left' rule = (event : Event) × IsReadable event
 abbrev pub IsNextVerdict : Header → List Event → Option (List ℕ) → Option (List ℕ) → Answer → Type 0
 IsNextVerdict header past left left' (Accepted events) = IsAtEnd left × (events ≡ length past)
 IsNextVerdict header past left left' (Refused index rule) = (index ≡ length past + 1) × TakesBroken header past left left' rule × (length past < most_events)
-IsNextVerdict header past left left' Malformed = IfTold left HasBadLine × (length past < most_events)
+IsNextVerdict header past left left' (Malformed line reason) = IfTold left (λ bytes. HasBadLine bytes reason) × (length past < most_events) × (line ≡ length past + 3)
 IsNextVerdict header past left left' LimitEvents = IfTold left (λ bytes. bytes ≢ []) × (length past ≡ most_events)
 IsNextVerdict header past left left' ReadFault = ⊤
 IsNextVerdict header past left left' NoMemory = ⊤
@@ -46,7 +46,7 @@ EndsInput (Accepted events) left = IsAtEnd left
 EndsInput (Refused index rule) left = ⊤
 EndsInput Shown left = IsAtEnd left
 EndsInput Usage left = ⊤
-EndsInput Malformed left = ⊤
+EndsInput (Malformed line reason) left = ⊤
 EndsInput ReadFault left = ⊤
 EndsInput LimitEvents left = ⊤
 EndsInput NoMemory left = ⊤

@@ -6,7 +6,8 @@ use Rattle.std.specs.List.{AllByRecursion}
 use Rattle.ace_event.specs.declared.header.Header.{Header}
 use Rattle.ace_event.specs.declared.event.Event.{Event}
 use Rattle.ace_event.specs.Text.{trace_text}
-use Rattle.ace_grammar.specs.Reading.{Ending, Whole, Full, Bad, Reads, IsReadable, IsReadableHeader, BeginsWith, HasBadHeader, most_events}
+use Rattle.ace_grammar.specs.Lines.{BeginsWith}
+use Rattle.ace_grammar.specs.Reading.{Ending, Whole, Full, Bad, Reads, IsReadable, IsReadableHeader, HasBadHeader, most_events}
 use Rattle.ace_top.specs.declared.answer.Answer.{Answer}
 use Rattle.ace_top.specs.declared.answer.Answer.TheVariants.{Accepted, Refused, Shown, Usage, Malformed, ReadFault, LimitEvents, NoMemory}
 
@@ -31,7 +32,7 @@ ShowsTaken bytes left text = (header : Header) × (events : List Event) × (pend
 -- take its place.
 abbrev pub IsShown : List ℕ → Option (List ℕ) → Answer → List ℕ → Type 0
 IsShown bytes left Shown text = ShowsTrace bytes text Whole
-IsShown bytes left Malformed text = (HasBadHeader bytes × (text ≡ [])) ⊎ ShowsTrace bytes text Bad
+IsShown bytes left (Malformed line reason) text = (HasBadHeader bytes line reason × (text ≡ [])) ⊎ ShowsTrace bytes text (Bad line reason)
 IsShown bytes left LimitEvents text = ShowsTrace bytes text Full
 IsShown bytes left ReadFault text = (text ≡ []) ⊎ ShowsTaken bytes left text
 IsShown bytes left NoMemory text = text ≡ []

@@ -1,5 +1,6 @@
 -- The status and the texts of each answer.
 use Rattle.std.specs.Prelude.{ℕ, List, [], ◌++◌, codes, decimal}
+use Rattle.ace_grammar.specs.Reasons.{number_of_reason}
 use Rattle.ace_top.specs.declared.answer.Answer.{Answer}
 use Rattle.ace_top.specs.declared.answer.Answer.TheVariants.{Accepted, Refused, Shown, Usage, Malformed, ReadFault, LimitEvents, NoMemory}
 
@@ -8,7 +9,7 @@ status_of (Accepted events) = 0
 status_of (Refused index rule) = 1
 status_of Shown = 0
 status_of Usage = 2
-status_of Malformed = 3
+status_of (Malformed line reason) = 3
 status_of ReadFault = 4
 status_of LimitEvents = 6
 status_of NoMemory = 7
@@ -19,7 +20,7 @@ out_text_of (Accepted events) = codes "accepted " ++ decimal events ++ codes "\n
 out_text_of (Refused index rule) = codes "refused event " ++ decimal index ++ codes ": K" ++ decimal rule ++ codes "\n"
 out_text_of Shown = []
 out_text_of Usage = []
-out_text_of Malformed = []
+out_text_of (Malformed line reason) = []
 out_text_of ReadFault = []
 out_text_of LimitEvents = []
 out_text_of NoMemory = []
@@ -30,7 +31,7 @@ notes_text_of (Accepted events) = []
 notes_text_of (Refused index rule) = []
 notes_text_of Shown = []
 notes_text_of Usage = codes "usage: ace check|run|show|report|gen N|trial N\n"
-notes_text_of Malformed = codes "malformed line\n"
+notes_text_of (Malformed line reason) = codes "malformed line " ++ decimal line ++ codes ": F" ++ decimal (number_of_reason reason) ++ codes "\n"
 notes_text_of ReadFault = codes "read fault\n"
 notes_text_of LimitEvents = codes "limit events\n"
 notes_text_of NoMemory = codes "out of memory\n"

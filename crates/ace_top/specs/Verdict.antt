@@ -4,7 +4,8 @@ use Rattle.std.specs.List.{AllByRecursion}
 use Rattle.ace_event.specs.declared.header.Header.{Header}
 use Rattle.ace_event.specs.declared.event.Event.{Event}
 use Rattle.ace_event.specs.Text.{trace_text}
-use Rattle.ace_grammar.specs.Reading.{Ending, Whole, Full, Bad, Reads, IsReadable, IsReadableHeader, BeginsWith, HasBadHeader, most_events}
+use Rattle.ace_grammar.specs.Lines.{BeginsWith}
+use Rattle.ace_grammar.specs.Reading.{Ending, Whole, Full, Bad, Reads, IsReadable, IsReadableHeader, HasBadHeader, most_events}
 use Rattle.ace_model.specs.Accepted.{first_break}
 use Rattle.ace_model.specs.Unique.{Unique}
 use Rattle.ace_top.specs.declared.answer.Answer.{Answer}
@@ -26,7 +27,7 @@ BeginsBroken bytes index rule =
 abbrev pub IsVerdict : List ℕ → Answer → Type 0
 IsVerdict bytes (Accepted events) = ReadsUnbroken bytes events Whole
 IsVerdict bytes (Refused index rule) = BeginsBroken bytes index rule
-IsVerdict bytes Malformed = HasBadHeader bytes ⊎ ((count : ℕ) × ReadsUnbroken bytes count Bad)
+IsVerdict bytes (Malformed line reason) = HasBadHeader bytes line reason ⊎ ((count : ℕ) × ReadsUnbroken bytes count (Bad line reason))
 IsVerdict bytes LimitEvents = (count : ℕ) × ReadsUnbroken bytes count Full
 IsVerdict bytes ReadFault = ⊤
 IsVerdict bytes NoMemory = ⊤

@@ -2,6 +2,7 @@
 ghost use Rattle.std.specs.Prelude.{◌≡◌, ◌≢◌};
 ghost use Rattle.ace_top.specs.Texts.{status_of, out_text_of, notes_text_of};
 
+use ace_grammar::Reason;
 use arrayvec::ArrayString;
 use itoa::Buffer;
 
@@ -16,8 +17,8 @@ pub enum Answer {
     Shown,
     /// The words of the command line name no command.
     Usage,
-    /// A line is outside the grammar, and no event before it breaks a rule.
-    Malformed,
+    /// This line, counted from 1, is the first that is outside the grammar, for this reason.
+    Malformed { line: u64, reason: Reason },
     /// The input failed.
     ReadFault,
     /// The input goes on after as many events as a trace may have.
@@ -35,7 +36,7 @@ pub fn status_of(answer: Answer) -> u8
         Answer::Accepted { .. } | Answer::Shown => 0,
         Answer::Refused { .. } => 1,
         Answer::Usage => 2,
-        Answer::Malformed => 3,
+        Answer::Malformed { .. } => 3,
         Answer::ReadFault => 4,
         Answer::LimitEvents => 6,
         Answer::NoMemory => 7,
@@ -67,15 +68,24 @@ pub fn out_text(answer: Answer) -> ArrayString<64>
 }
 
 /// The text for the standard error, with its line feed.
-pub fn notes_text(answer: Answer) -> &'static [u8]
-    ensures { result.now ≡ notes_text_of answer }
+pub fn notes_text(answer: Answer) -> ArrayString<64>
+    ensures { result.bytes ≡ notes_text_of answer }
 {
+    let mut text = ArrayString::new();
     match answer {
-        Answer::Accepted { .. } | Answer::Refused { .. } | Answer::Shown => b"",
-        Answer::Usage => b"usage: ace check|run|show|report|gen N|trial N\n",
-        Answer::Malformed => b"malformed line\n",
-        Answer::ReadFault => b"read fault\n",
-        Answer::LimitEvents => b"limit events\n",
-        Answer::NoMemory => b"out of memory\n",
+        Answer::Malformed { line, reason } => {
+            let mut digits = Buffer::new();
+            text.push_str("malformed line ");
+            text.push_str(digits.format(line));
+            text.push_str(": F");
+            text.push_str(digits.format(reason.number()));
+            text.push_str("\n");
+        }
+        Answer::Usage => text.push_str("usage: ace check|run|show|report|gen N|trial N\n"),
+        Answer::ReadFault => text.push_str("read fault\n"),
+        Answer::LimitEvents => text.push_str("limit events\n"),
+        Answer::NoMemory => text.push_str("out of memory\n"),
+        Answer::Accepted { .. } | Answer::Refused { .. } | Answer::Shown => {}
     }
+    text
 }

@@ -13,12 +13,15 @@ ghost use Rattle.ace_top.specs.declared.words.Command.TheVariants.{Check};
 use crate::answer::Answer;
 use crate::output::conclude;
 use ace_check::{CheckErr, Checker, Step};
-use ace_grammar::{ReadErr, read_event, read_header};
+use ace_grammar::{HeaderErr, ReadErr, read_event, read_header};
 use ace_io::{LineBuf, LineEnd, LineReader, Sink, Source};
 use std::alloc::Global;
 
 /// The most events of a trace.
 pub const MOST_EVENTS: u64 = 1_048_576;
+
+/// The number of the line of the first event, behind those of the header.
+pub const FIRST_EVENT_LINE: u64 = 3;
 
 /// Tells the verdict on the trace that the input gives, and returns the status.
 #[tactic(auto, using(crate::proofs::AcceptedEnd::accepted_end))]
@@ -78,8 +81,8 @@ fn check_trace<S: Source>(alloc: Global, lines: &mut LineReader<S>) -> Answer
             Ok(mut checker) => check_events(&mut checker, lines, &mut line),
             Err(CheckErr::NoMemory) => Answer::NoMemory,
         },
-        Err(ReadErr::Malformed) => Answer::Malformed,
-        Err(ReadErr::ReadFault) => Answer::ReadFault,
+        Err(HeaderErr::Malformed { line, reason }) => Answer::Malformed { line, reason },
+        Err(HeaderErr::ReadFault) => Answer::ReadFault,
     }
 }
 
@@ -135,7 +138,10 @@ fn check_next<S: Source>(
         Ok(None) => Some(Answer::Accepted {
             events: checker.count(),
         }),
-        Err(ReadErr::Malformed) => Some(Answer::Malformed),
+        Err(ReadErr::Malformed { reason }) => Some(Answer::Malformed {
+            line: checker.count() + FIRST_EVENT_LINE,
+            reason,
+        }),
         Err(ReadErr::ReadFault) => Some(Answer::ReadFault),
     }
 }

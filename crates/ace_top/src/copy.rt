@@ -1,5 +1,5 @@
 // Copies a trace to a sink as it is read.
-ghost use Rattle.std.specs.Prelude.{◌≡◌, ◌≢◌, ◌⊎◌, ⊤, ℕ, List, [], Option, None, Ok, false, length, is_err, MatchResult, MatchOption, IfOk, IfSome, OnOk, OnErr};
+ghost use Rattle.std.specs.Prelude.{◌≡◌, ◌≢◌, ◌<◌, ◌⊎◌, ⊤, ℕ, List, [], Option, None, Ok, false, length, is_err, MatchResult, MatchOption, IfOk, IfSome, OnOk, OnErr};
 ghost use Rattle.std.specs.Io.KnownBytes.{Appends, IsAtEnd};
 ghost use Rattle.ace_event.specs.Text.{header_text, events_text, trace_text};
 ghost use Rattle.ace_event.specs.declared.event.Event.{Event};
@@ -13,19 +13,21 @@ ghost use Rattle.ace_top.specs.Copy.{HasCopied, HasWritten, GivesMore, WritesPar
 ghost use Rattle.ace_top.specs.Progress.{HasReadCause};
 
 use crate::answer::Answer;
-use crate::check::MOST_EVENTS;
+use crate::check::{FIRST_EVENT_LINE, MOST_EVENTS};
 use ace_event::Header;
 use ace_grammar::{ReadErr, read_event};
 use ace_io::{LineBuf, LineEnd, LineReader, Sink, Source};
 use ace_writer::{WriteErr, Writer};
 
-/// Copies one event from the lines to the writer. An answer ends the copy.
+/// Copies one event from the lines to the writer, after so many. An answer ends the copy.
 fn copy_next<S: Source, K: Sink>(
     lines: &mut LineReader<S>,
     line: &mut LineBuf,
     writer: &mut Writer<K>,
+    count: u64,
 ) -> Result<Option<Answer>, WriteErr>
-    requires { has_failed writer.old ≡ false }
+    requires room { count < most_events }
+    requires unfailed { has_failed writer.old ≡ false }
     ensures same_source { (source_of lines.new).ghost_name ≡ (source_of lines.old).ghost_name }
     ensures same_sink { (sink_of writer.new).ghost_name ≡ (sink_of writer.old).ghost_name }
     ensures copied { result ≡ Ok None → (event : Event)
@@ -33,7 +35,7 @@ fn copy_next<S: Source, K: Sink>(
     ensures broken { OnErr result ((event : Event)
         × CopiesNext K.held (waiting S.left lines.old) (waiting S.left lines.new) writer.old writer.new event) }
     ensures stops { IfOk result (λ stop. IfSome stop (λ answer.
-        StopsCopy answer (waiting S.left lines.old) (S.left (source_of lines.new).now))) }
+        StopsCopy answer count (waiting S.left lines.old) (S.left (source_of lines.new).now))) }
     ensures kept { IfOk result (λ stop. IfSome stop (λ answer. writer.new ≡ writer.old)) }
     ensures cause { IfOk result (λ stop. IfSome stop
         (HasReadCause (S.faults (source_of lines.old).now) (S.faults (source_of lines.new).now))) }
@@ -48,7 +50,10 @@ fn copy_next<S: Source, K: Sink>(
             Err(fault) => Err(fault),
         },
         Ok(None) => Ok(Some(Answer::Shown)),
-        Err(ReadErr::Malformed) => Ok(Some(Answer::Malformed)),
+        Err(ReadErr::Malformed { reason }) => Ok(Some(Answer::Malformed {
+            line: count + FIRST_EVENT_LINE,
+            reason,
+        })),
         Err(ReadErr::ReadFault) => Ok(Some(Answer::ReadFault)),
     }
 }
@@ -87,7 +92,7 @@ fn copy_events<S: Source, K: Sink>(
 {
     let mut count = 0;
     'events: while count < MOST_EVENTS {
-        match copy_next(lines, line, writer) {
+        match copy_next(lines, line, writer, count) {
             Ok(None) => count += 1,
             Ok(Some(answer)) => return Ok(answer),
             Err(fault) => return Err(fault),

@@ -41,7 +41,7 @@ fn give_texts<K: Sink, E: Sink>(out: &mut K, notes: &mut E, answer: Answer) -> R
         → Keeps (E.held notes.old) (E.held notes.new)) }
 {
     match give_all(out, out_text(answer).as_bytes()) {
-        Ok(()) => give_all(notes, notes_text(answer)),
+        Ok(()) => give_all(notes, notes_text(answer).as_bytes()),
         Err(failed) => Err(failed),
     }
 }

@@ -4,12 +4,13 @@ ghost use Rattle.std.specs.Io.KnownBytes.{Appends};
 ghost use Rattle.ace_io.specs.Faults.{Rose};
 ghost use Rattle.ace_io.specs.Reader.{waiting, source_of};
 ghost use Rattle.ace_top.specs.Answer.{Answers, BreaksOff};
+ghost use Rattle.ace_top.specs.HeaderAnswer.{header_answer};
 ghost use Rattle.ace_top.specs.declared.words.Command.TheVariants.{Show};
 
 use crate::answer::Answer;
 use crate::copy::write_trace;
 use crate::output::{break_off, conclude};
-use ace_grammar::{ReadErr, read_header};
+use ace_grammar::{HeaderErr, read_header};
 use ace_io::{LineBuf, LineReader, Sink, Source};
 use std::alloc::Global;
 
@@ -38,6 +39,16 @@ pub fn show<S: Source, K: Sink, E: Sink>(
     match LineReader::start(alloc, input) {
         Ok(mut lines) => show_lines(&mut lines, out, notes),
         Err(_) => conclude(out, notes, Answer::NoMemory),
+    }
+}
+
+/// The answer where the header could not be read.
+fn answer_of(error: HeaderErr) -> Answer
+    ensures { result ≡ header_answer error }
+{
+    match error {
+        HeaderErr::Malformed { line, reason } => Answer::Malformed { line, reason },
+        HeaderErr::ReadFault => Answer::ReadFault,
     }
 }
 
@@ -70,7 +81,6 @@ fn show_lines<S: Source, K: Sink, E: Sink>(
             Ok(answer) => conclude(out, notes, answer),
             Err(_) => break_off(notes),
         },
-        Err(ReadErr::Malformed) => conclude(out, notes, Answer::Malformed),
-        Err(ReadErr::ReadFault) => conclude(out, notes, Answer::ReadFault),
+        Err(error) => conclude(out, notes, answer_of(error)),
     }
 }
