@@ -17,6 +17,25 @@ const SNOOPED_OUT: &str = "ACE 1\nPORTS AA\n\
     R 1 0 0 0 00000000000000000000000000000000\nR 1 0 0 0 00000000000000000000000000000000\n\
     R 1 0 0 0 00000000000000000000000000000000\nR 1 0 0 1 00000000000000000000000000000000\nRK 1 UC\n";
 
+/// A line of each of the sixteen records.
+const SIXTEEN: &str = "ACE 1\nPORTS AL\n\
+    AR 0 1 00000040 7 1 0 0\n\
+    R 0 1 4 1 000102030405060708090a0b0c0d0e0f\n\
+    RK 0 UD\n\
+    AW 1 2 00000080 3 1 2\n\
+    W 1 ffff 1 11111111111111111111111111111111\n\
+    B 1 2 0\n\
+    WK 1 I\n\
+    AC 0 000000c0 7\n\
+    CR 0 1d SC\n\
+    CD 0 1 22222222222222222222222222222222\n\
+    G 0 R 1\n\
+    M 1 W 2 33333333333333333333333333333333333333333333333333333333333333333333333333333333333333333333333333333333333333333333333333333333\n\
+    S 0 00000040 SD\n\
+    L 0 00000040 3 1 44444444444444444444444444444444\n\
+    D 0 00000040 ffffffffffffffff 0 55555555555555555555555555555555555555555555555555555555555555555555555555555555555555555555555555555555555555555555555555555555\n\
+    OP 0 0001 skip\n";
+
 const USAGE: &str = "usage: ace check|run|show|report|gen N|trial N\n";
 
 /// Calls `ace` with so much room on its outputs: the status, and what these then hold.
@@ -51,9 +70,15 @@ fn verdicts_in_any_pieces(rt: HostRuntime) -> Result<(), Fail> {
     for (trace, status, wanted_out, wanted_notes) in [
         (EMPTY, 0, "accepted 0\n", ""),
         (SNOOPED_OUT, 0, "accepted 16\n", ""),
-        ("", 3, "", "malformed line\n"),
-        ("ACE 1\nPORTS AA\nXX 0\n", 3, "", "malformed line\n"),
-        ("ACE 1\nPORTS AA", 3, "", "malformed line\n"),
+        ("", 3, "", "malformed line 1: F1\n"),
+        ("ACE 1\nPORTS AA\nXX 0\n", 3, "", "malformed line 3: F2\n"),
+        (
+            "ACE 1\nPORTS AA\nOP 0 0000 ok\n",
+            1,
+            "refused event 1: K2\n",
+            "",
+        ),
+        ("ACE 1\nPORTS AA", 3, "", "malformed line 2: F1\n"),
     ] {
         for piece in 1..65 {
             let mut input = MemSource::new(alloc, trace.as_bytes(), &[piece], &[])?;
@@ -112,16 +137,17 @@ fn shown_traces(rt: HostRuntime) -> Result<(), Fail> {
             (99, 99),
             3,
             "ACE 1\nPORTS AA\nRK 0 UC\n",
-            "malformed line\n",
+            "malformed line 4: F2\n",
         ),
         (
             "ACE 1\nPORTS AA\nRK 0 UC",
             (99, 99),
             3,
             EMPTY,
-            "malformed line\n",
+            "malformed line 3: F1\n",
         ),
-        ("ACE 2\n", (99, 99), 3, "", "malformed line\n"),
+        ("ACE 2\n", (99, 99), 3, "", "malformed line 1: F7\n"),
+        (SIXTEEN, (2000, 99), 0, SIXTEEN, ""),
         (EMPTY, (7, 99), 5, "ACE 1\nP", "write fault\n"),
     ] {
         for piece in [1, 7, 64] {
