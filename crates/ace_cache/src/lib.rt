@@ -1,0 +1,9 @@
+//! The cache of a master: a few lines, the most recently used first.
+#![tactic(auto)]
+
+mod line_cache;
+mod way;
+mod ways;
+
+pub use line_cache::LineCache;
+pub use way::Way;
