@@ -1,0 +1,5 @@
+pub mod Places
+pub mod Reads
+pub mod Responses
+pub mod Snoops
+pub mod Writes

@@ -1,0 +1,2 @@
+pub mod MostRows
+pub mod RowsAmong
