@@ -1,5 +1,5 @@
 -- The first n events of a list as a trace, the newest first.
-use Rattle.std.proofs.Common.{◌≡◌, ℕ, zero, suc, ◌+◌, ◌<◌, ◌≤◌, List, [], ◌∷◌, ◌++◌, length, get_or, take, drop, reverse, refl, ap, sym, ◌∙◌, arith, length-append, length-take, slice_get, Some, cond, nat_eq, nat_le, Bool, true, false, ◌||◌, ◌&&◌, eq-eqb, inl, inr}
+use Rattle.std.proofs.Common.{◌≡◌, ℕ, zero, suc, ◌+◌, ◌<◌, ◌≤◌, List, [], ◌∷◌, ◌++◌, length, get_or, take, reverse, refl, ap, sym, ◌∙◌, arith, length-take, slice_get, Some, cond, nat_eq, eq-eqb, inl, inr}
 use Rattle.std.proofs.lemmas.Bool.{cases_eq, ne_eqb}
 use Rattle.std.proofs.lemmas.List.{reverse-append, length-reverse}
 use Rattle.std.proofs.lemmas.Grind.{take_at_read}

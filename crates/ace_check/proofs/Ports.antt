@@ -1,5 +1,5 @@
 -- One port more.
-use Rattle.std.proofs.Common.{◌≡◌, ℕ, ◌+◌, Bool, true, false, ◌&&◌, refl, sym, add-one}
+use Rattle.std.proofs.Common.{◌≡◌, ℕ, ◌+◌, Bool, ◌&&◌, refl, add-one}
 use Rattle.ace_model.specs.Grants.{each_port}
 
 -- the test of port n, after it was made of the ports below

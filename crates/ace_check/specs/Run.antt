@@ -1,5 +1,5 @@
 -- What a checker stands for, and what it answers to an event.
-use Rattle.std.specs.Prelude.{ℕ, ◌+◌, ◌≡◌, List, ◌∷◌, Option, Some, None, length, reverse, MatchOption}
+use Rattle.std.specs.Prelude.{◌+◌, ◌≡◌, ◌∷◌, Option, Some, None, length, reverse, MatchOption}
 use Rattle.ace_event.specs.declared.event.Event.{Event}
 use Rattle.ace_event.specs.declared.header.Header.{Header}
 use Rattle.ace_model.specs.declared.breaks.Break.{Break}

@@ -1,11 +1,11 @@
+ghost use Rattle.std.specs.Prelude.{IsTrue, reverse};
+ghost use Rattle.ace_model.specs.Accepted.{is_accepted};
+
 use crate::least::least_broken;
 use ace_event::{Event, Header};
 use ace_model::Break;
 use std::alloc::Global;
 use thiserror::Error;
-
-ghost use Rattle.std.specs.Prelude.{IsTrue, reverse};
-ghost use Rattle.ace_model.specs.Accepted.{is_accepted};
 
 /// What the checker says of an event.
 #[derive(Clone, Copy, Debug, PartialEq, Eq)]

@@ -49,7 +49,11 @@ pub fn granted(h: &Header, past: &[Event], l: u32) -> Option<Transaction>
 {
     let mut now = None;
     for (n, e) in past.iter().enumerate() {
-        now = newest_on(given(&past[..n], e), l, without(ended(h, &past[..n], e), now));
+        now = newest_on(
+            given(&past[..n], e),
+            l,
+            without(ended(h, &past[..n], e), now),
+        );
     }
     now
 }

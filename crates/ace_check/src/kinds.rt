@@ -69,7 +69,11 @@ pub fn ar_kind_of(code: u8, dom: u8, bar: u8) -> Option<ArKind>
     ensures { result ≡ ar_kind_of code dom bar }
 {
     if is_barrier(bar) {
-        return if code == 0 && dom < 4 { Some(ArKind::Barrier) } else { None };
+        return if code == 0 && dom < 4 {
+            Some(ArKind::Barrier)
+        } else {
+            None
+        };
     }
     if is_normal(bar) && is_shareable(dom) {
         return shareable_read(code);
@@ -86,7 +90,11 @@ pub fn aw_kind_of(code: u8, dom: u8, bar: u8) -> Option<AwKind>
     ensures { result ≡ aw_kind_of code dom bar }
 {
     if is_barrier(bar) {
-        return if code == 0 && dom < 4 { Some(AwKind::Barrier) } else { None };
+        return if code == 0 && dom < 4 {
+            Some(AwKind::Barrier)
+        } else {
+            None
+        };
     }
     if is_normal(bar) && is_shareable(dom) {
         return shareable_write(code);
@@ -139,7 +147,10 @@ pub fn ac_code(kind: SnoopKind) -> u8
 pub fn is_line_read(kind: ArKind) -> bool
     ensures { result ≡ is_line_read kind }
 {
-    !matches!(kind, ArKind::Barrier | ArKind::DvmComplete | ArKind::DvmMessage)
+    !matches!(
+        kind,
+        ArKind::Barrier | ArKind::DvmComplete | ArKind::DvmMessage
+    )
 }
 
 pub fn is_line_write(kind: AwKind) -> bool
@@ -173,7 +184,10 @@ pub fn beats_of(kind: ArKind) -> usize
 pub fn is_granted_write(kind: AwKind) -> bool
     ensures { result ≡ is_granted_write kind }
 {
-    matches!(kind, AwKind::WriteNoSnoop | AwKind::WriteUnique | AwKind::WriteLineUnique)
+    matches!(
+        kind,
+        AwKind::WriteNoSnoop | AwKind::WriteUnique | AwKind::WriteLineUnique
+    )
 }
 
 /// What an ACE-Lite port may issue.
@@ -204,7 +218,10 @@ pub fn is_lite_write(kind: AwKind) -> bool
 pub fn may_be_exclusive(kind: ArKind) -> bool
     ensures { result ≡ may_be_exclusive kind }
 {
-    matches!(kind, ArKind::ReadShared | ArKind::ReadClean | ArKind::CleanUnique)
+    matches!(
+        kind,
+        ArKind::ReadShared | ArKind::ReadClean | ArKind::CleanUnique
+    )
 }
 
 pub fn is_clean_unique(kind: ArKind) -> bool
@@ -241,7 +258,10 @@ pub fn is_read_not_shared_dirty(kind: ArKind) -> bool
 pub fn takes_passed_data(kind: ArKind) -> bool
     ensures { result ≡ takes_passed_data kind }
 {
-    matches!(kind, ArKind::ReadShared | ArKind::ReadNotSharedDirty | ArKind::ReadUnique)
+    matches!(
+        kind,
+        ArKind::ReadShared | ArKind::ReadNotSharedDirty | ArKind::ReadUnique
+    )
 }
 
 /// A read whose response may say IsShared.

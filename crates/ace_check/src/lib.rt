@@ -11,6 +11,8 @@ mod rules;
 mod snoops;
 mod states;
 mod tables;
+#[cfg(test)]
+mod tests;
 mod transactions;
 mod transfers;
 mod writes;

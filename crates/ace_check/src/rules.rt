@@ -20,8 +20,8 @@ use crate::snoops::{answered, snoops_a_line};
 use crate::states::{owes_wack, state_of};
 use crate::tables::{is_snoop_row, starts_read, starts_write};
 use crate::transactions::{
-    has_outstanding_on, is_ace, is_line, is_line_read_kind, is_line_write_kind, issued, outstanding,
-    read_kind, snoop_of, takes_grant, write_kind,
+    has_outstanding_on, is_ace, is_line, is_line_read_kind, is_line_write_kind, issued,
+    outstanding, read_kind, snoop_of, takes_grant, write_kind,
 };
 use ace_codes::{ArKind, AwKind, LineState, SnoopKind};
 use ace_event::{Event, Header};
@@ -97,7 +97,12 @@ fn is_known_today(e: &Event) -> bool
     ensures { result ≡ is_known_today e.now }
 {
     match *e {
-        Event::Ar { snoop, dom, bar, .. } => is_read_unique_kind(ar_kind_of(snoop, dom, bar)),
+        Event::Ar {
+            snoop,
+            dom,
+            bar,
+            ..
+        } => is_read_unique_kind(ar_kind_of(snoop, dom, bar)),
         Event::Ac { snoop, .. } => is_read_unique_snoop_kind(ac_kind_of(snoop)),
         Event::R { .. } => true,
         Event::Rk { .. } => true,
@@ -130,12 +135,20 @@ fn has_known_codes(h: &Header, e: &Event) -> bool
     ensures { result ≡ has_known_codes h.now e.now }
 {
     match *e {
-        Event::Ar { port, snoop, dom, bar, .. } => {
-            may_issue_read(h, port, ar_kind_of(snoop, dom, bar))
-        }
-        Event::Aw { port, snoop, dom, bar, .. } => {
-            may_issue_write(h, port, aw_kind_of(snoop, dom, bar))
-        }
+        Event::Ar {
+            port,
+            snoop,
+            dom,
+            bar,
+            ..
+        } => { may_issue_read(h, port, ar_kind_of(snoop, dom, bar)) }
+        Event::Aw {
+            port,
+            snoop,
+            dom,
+            bar,
+            ..
+        } => { may_issue_write(h, port, aw_kind_of(snoop, dom, bar)) }
         Event::Ac { snoop, .. } => ac_kind_of(snoop).is_some(),
         Event::R { resp, .. } => low_bits(resp) < 2,
         Event::B { resp, .. } => low_bits(resp) < 2,
@@ -163,12 +176,20 @@ fn line_address(e: &Event) -> Option<u32>
     ensures { result ≡ line_address e.now }
 {
     match *e {
-        Event::Ar { addr, snoop, dom, bar, .. } => {
-            addr_if(is_line_read_kind(ar_kind_of(snoop, dom, bar)), addr)
-        }
-        Event::Aw { addr, snoop, dom, bar, .. } => {
-            addr_if(is_line_write_kind(aw_kind_of(snoop, dom, bar)), addr)
-        }
+        Event::Ar {
+            addr,
+            snoop,
+            dom,
+            bar,
+            ..
+        } => { addr_if(is_line_read_kind(ar_kind_of(snoop, dom, bar)), addr) }
+        Event::Aw {
+            addr,
+            snoop,
+            dom,
+            bar,
+            ..
+        } => { addr_if(is_line_write_kind(aw_kind_of(snoop, dom, bar)), addr) }
         Event::Ac { addr, snoop, .. } => addr_if(snoops_a_line(snoop), addr),
         Event::S { addr, .. } => Some(addr),
         Event::L { addr, .. } => Some(addr),
@@ -282,9 +303,7 @@ pub fn keeps_lock(h: &Header, past: &[Event], e: &Event) -> bool
 fn may_be_granted(h: &Header, past: &[Event], x: Transaction) -> bool
     ensures { result ≡ may_be_granted h.now (reverse past.now) x }
 {
-    takes_grant(x)
-        && !has_grant(past, x.port, x.chan, x.id)
-        && granted(h, past, x.addr).is_none()
+    takes_grant(x) && !has_grant(past, x.port, x.chan, x.id) && granted(h, past, x.addr).is_none()
 }
 
 /// K12

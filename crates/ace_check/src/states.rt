@@ -53,10 +53,16 @@ fn left_by(h: &Header, past: &[Event], e: &Event, p: u8, l: u32) -> Option<LineS
 {
     match *e {
         Event::Rk { port, st } => {
-            state_if(p == port && is_some_on(acknowledged(past, p, Channel::Read), l), st)
+            state_if(
+                p == port && is_some_on(acknowledged(past, p, Channel::Read), l),
+                st,
+            )
         }
         Event::Wk { port, st } => {
-            state_if(p == port && is_some_on(acknowledged(past, p, Channel::Write), l), st)
+            state_if(
+                p == port && is_some_on(acknowledged(past, p, Channel::Write), l),
+                st,
+            )
         }
         Event::Cr { port, st, .. } => state_if(p == port && answers_line(past, p, l), st),
         Event::S { port, addr, st } => state_if(p == port && l == addr, st),
@@ -97,7 +103,8 @@ fn is_store_of(h: &Header, past: &[Event], e: &Event, p: u8, i: u8) -> bool
 {
     match *e {
         Event::D { port, addr, .. } => {
-            p == port && awaits_its_store(h, past, p, addr, outstanding(h, past, p, Channel::Read, i))
+            p == port
+                && awaits_its_store(h, past, p, addr, outstanding(h, past, p, Channel::Read, i))
         }
         _ => false,
     }

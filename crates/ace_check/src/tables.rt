@@ -72,7 +72,14 @@ pub fn starts_write(_kind: AwKind, _held: LineState) -> bool
 }
 
 /// A read of this kind, with this response, may end in the last state where the port holds the first.
-pub fn ends_read(kind: ArKind, held: LineState, shared: bool, pass: bool, failed: bool, st: LineState) -> bool
+pub fn ends_read(
+    kind: ArKind,
+    held: LineState,
+    shared: bool,
+    pass: bool,
+    failed: bool,
+    st: LineState,
+) -> bool
     ensures { result ≡ ends_read kind held shared pass failed st }
 {
     if !matches!(kind, ArKind::ReadUnique) || !is_invalid(held) || shared {
@@ -104,7 +111,11 @@ fn fits_answer(kind: SnoopKind, held: LineState, next: LineState, resp: u8) -> b
     let is_make = is_make_invalid_snoop(kind);
     resp < 32
         && !has_error(resp)
-        && (if is_make { !transfers_data(resp) } else { !is_dirty(held) || transfers_data(resp) })
+        && (if is_make {
+            !transfers_data(resp)
+        } else {
+            !is_dirty(held) || transfers_data(resp)
+        })
         && passes_dirty(resp) == (is_dirty(held) && !is_dirty(next) && !is_make)
         && is_shared(resp) == !is_invalid(next)
         && (!was_unique(resp) || is_unique(held))

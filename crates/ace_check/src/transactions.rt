@@ -70,14 +70,22 @@ pub fn is_transaction(x: Option<Transaction>, y: Transaction) -> bool
 pub fn read_kind(x: Transaction) -> Option<ArKind>
     ensures { result ≡ read_kind x }
 {
-    if is_read(x.chan) { ar_kind_of(x.snoop, x.dom, x.bar) } else { None }
+    if is_read(x.chan) {
+        ar_kind_of(x.snoop, x.dom, x.bar)
+    } else {
+        None
+    }
 }
 
 /// The kind of a transaction, if it is a write.
 pub fn write_kind(x: Transaction) -> Option<AwKind>
     ensures { result ≡ write_kind x }
 {
-    if is_read(x.chan) { None } else { aw_kind_of(x.snoop, x.dom, x.bar) }
+    if is_read(x.chan) {
+        None
+    } else {
+        aw_kind_of(x.snoop, x.dom, x.bar)
+    }
 }
 
 /// There is a kind, and it is that of a line transaction.
@@ -212,7 +220,13 @@ pub fn issued(place: usize, e: &Event) -> Option<Transaction>
 }
 
 /// The first one, where it has the name, else the older one.
-fn newest_named(x: Option<Transaction>, p: u8, c: Channel, i: u8, older: Option<Transaction>) -> Option<Transaction>
+fn newest_named(
+    x: Option<Transaction>,
+    p: u8,
+    c: Channel,
+    i: u8,
+    older: Option<Transaction>,
+) -> Option<Transaction>
     ensures { result ≡ newest_named x p c i older }
 {
     match x {
@@ -238,9 +252,17 @@ fn completes(e: &Event, p: u8, c: Channel) -> Option<u8>
 {
     match *e {
         Event::R { port, id, last, .. } => {
-            if is_read(c) && p == port && last { Some(id) } else { None }
+            if is_read(c) && p == port && last {
+                Some(id)
+            } else {
+                None
+            }
         }
-        Event::B { port, id, .. } => if !is_read(c) && p == port { Some(id) } else { None },
+        Event::B { port, id, .. } => if !is_read(c) && p == port {
+            Some(id)
+        } else {
+            None
+        },
         _ => None,
     }
 }
@@ -310,10 +332,18 @@ pub fn ended(h: &Header, past: &[Event], e: &Event) -> Option<Transaction>
         Event::Rk { port, .. } => acknowledged(past, port, Channel::Read),
         Event::Wk { port, .. } => acknowledged(past, port, Channel::Write),
         Event::R { port, id, last, .. } => {
-            if last && !is_ace(h, port) { transaction_of(past, port, Channel::Read, id) } else { None }
+            if last && !is_ace(h, port) {
+                transaction_of(past, port, Channel::Read, id)
+            } else {
+                None
+            }
         }
         Event::B { port, id, .. } => {
-            if is_ace(h, port) { None } else { transaction_of(past, port, Channel::Write, id) }
+            if is_ace(h, port) {
+                None
+            } else {
+                transaction_of(past, port, Channel::Write, id)
+            }
         }
         _ => None,
     }

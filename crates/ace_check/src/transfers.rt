@@ -87,7 +87,13 @@ pub fn keeps_transfer(h: &Header, past: &[Event], e: &Event) -> bool
     ensures { result ≡ k18 h.now (reverse past.now) e.now }
 {
     match *e {
-        Event::R { port, id, resp, last, .. } => {
+        Event::R {
+            port,
+            id,
+            resp,
+            last,
+            ..
+        } => {
             match outstanding(h, past, port, Channel::Read, id) {
                 None => false,
                 Some(x) => is_due(h, past, resp, last, x),
@@ -101,7 +107,8 @@ pub fn keeps_transfer(h: &Header, past: &[Event], e: &Event) -> bool
 fn same_upper_bits(resp: u8, first: u8) -> bool
     ensures { result ≡ same_upper_bits resp first }
 {
-    same_test(passes_dirty(resp), passes_dirty(first)) && same_test(is_shared(resp), is_shared(first))
+    same_test(passes_dirty(resp), passes_dirty(first))
+        && same_test(is_shared(resp), is_shared(first))
 }
 
 fn same_upper_bits_as(resp: u8, first: Option<u8>) -> bool
@@ -235,8 +242,14 @@ fn is_end(h: &Header, past: &[Event], x: Transaction, st: LineState, kind: ArKin
     let held = state_of(h, past, x.port, x.addr);
     let first = first_resp(past, x.port, x.id);
     let failed = has_failed(past, x);
-    ends_read(kind, held, is_shared_response(first), is_dirty_response(first), failed, st)
-        && (!is_make_unique(kind) || has_store(h, past, x.port, x.id))
+    ends_read(
+        kind,
+        held,
+        is_shared_response(first),
+        is_dirty_response(first),
+        failed,
+        st,
+    ) && (!is_make_unique(kind) || has_store(h, past, x.port, x.id))
 }
 
 fn ends_well(h: &Header, past: &[Event], st: LineState, x: Transaction) -> bool

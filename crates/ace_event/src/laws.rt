@@ -28,5 +28,4 @@ pub fn worked_lines()
     ensures d { event_text (D 1 192 0x8000000000000001 false (record { words = 16 ∷ 0 ∷ 0 ∷ 1 ∷ [] })) ≡ codes "D 1 000000c0 8000000000000001 0 00000000000000000000000000000010000000000000000000000000000000000000000000000000000000000000000000000000000000000000000000000001" }
     ensures op { event_text (Op 2 0x1f Skip) ≡ codes "OP 2 001f skip" }
     ensures dirty { event_text (Rk 0 UD) ≡ codes "RK 0 UD" }
-{
-}
+{}

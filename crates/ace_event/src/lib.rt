@@ -9,3 +9,6 @@ mod line;
 pub use event::{Channel, Event, Outcome};
 pub use header::{Header, PortKind, kind_of};
 pub use line::{Line, merge};
+
+#[cfg(test)]
+mod tests;

@@ -106,3 +106,42 @@ reads_then {A} {B} take_first text IsIn size read after IsAfter more f g = recor
   clean = λ both. clean-append (text both.0) (after both.1) (f.clean both.0) (g.clean both.1);
   short = λ both. rw length-append (omega (arith, f.short both.0, g.short both.1));
 }
+
+-- ---- fields and lines with their texts
+
+-- a field: what takes it, its texts and their values, the most bytes of a text, and that it is taken exactly
+pub record Field (A : Type 0) : Type 1 where
+  pub take_first : Taker A
+  pub text : A → List ℕ
+  pub IsIn : A → Type 0
+  pub size : ℕ
+  pub exact : Takes take_first text IsIn size
+
+-- the same of the rest of a line
+pub record Rest (A : Type 0) : Type 1 where
+  pub read : List ℕ → Option A
+  pub text : A → List ℕ
+  pub IsIn : A → Type 0
+  pub size : ℕ
+  pub exact : ReadsAll read text IsIn size
+
+-- a field that is the last of its line
+abbrev pub last : {A : Type 0} → Field A → Rest A
+last f = record {
+  read = whole f.take_first;
+  text = f.text;
+  IsIn = f.IsIn;
+  size = f.size;
+  exact = reads_whole f.take_first f.text f.IsIn f.size f.exact;
+}
+
+-- a field, and the rest of its line
+infixr 10 ◌then◌
+abbrev pub ◌then◌ : {A B : Type 0} → Field A → Rest B → Rest (A × B)
+f then r = record {
+  read = f.take_first ▹ r.read;
+  text = λ both. f.text both.0 ++ r.text both.1;
+  IsIn = λ both. f.IsIn both.0 × r.IsIn both.1;
+  size = f.size + r.size;
+  exact = reads_then f.take_first f.text f.IsIn f.size r.read r.text r.IsIn r.size f.exact r.exact;
+}

@@ -1,5 +1,5 @@
 -- The fields of a line: what takes each is exact.
-use Rattle.std.proofs.Common.{◌≡◌, ℕ, zero, suc, ◌+◌, ◌/◌, ◌%◌, ◌^◌, ◌<◌, ◌≤◌, Bool, true, false, List, [], ◌∷◌, ◌++◌, length, Some, None, refl, sym, ap, ◌∙◌, arith, eqb, inl, inr}
+use Rattle.std.proofs.Common.{◌≡◌, ℕ, zero, suc, ◌+◌, ◌-◌, ◌/◌, ◌%◌, ◌^◌, ◌<◌, ◌≤◌, Bool, true, false, List, [], ◌∷◌, ◌++◌, length, Some, None, refl, sym, ap, ◌∙◌, arith, eqb, inl, inr}
 use Rattle.std.proofs.lemmas.Bool.{eqb-true}
 use Rattle.std.specs.Prelude.{codes}
 use Rattle.std.specs.Option.{option_map}
@@ -14,7 +14,7 @@ use Rattle.ace_event.specs.Text.{hex_text, flag_text, channel_text, state_text}
 use Rattle.ace_grammar.specs.Fields.{digits_at, number_at, flag_at, channel_of, letter_at, channel_at, state_of, state_at}
 use Rattle.ace_grammar.proofs.Options.{map_some, some_is, none_isn't, chosen}
 use Rattle.ace_grammar.proofs.Hex.{digit_char-clean, length-hex_text, digits_takes, digits_again}
-use Rattle.ace_grammar.proofs.Exact.{IsClean, clean-append, Takes, ReadsAll, takes_spaced, reads_spaced}
+use Rattle.ace_grammar.proofs.Exact.{IsClean, clean-append, Takes, ReadsAll, takes_spaced, reads_spaced, Field, Rest}
 
 hex_text-clean : (count number : ℕ) → IsClean (hex_text count number)
 unfolding hex_text
@@ -181,3 +181,55 @@ word_exact = record {
 pub state_exact : ReadsAll state_at (λ st. 32 ∷ state_text st) Any 3
 unfolding state_at
 state_exact = reads_spaced state_of state_text Any 2 word_exact
+
+-- ---- the fields of the records
+
+abbrev pub number : (count most : ℕ) → most < 16 ^ count → Field ℕ
+number count most room = record {
+  take_first = number_at count most;
+  text = λ n. 32 ∷ hex_text count n;
+  IsIn = λ n. n ≤ most;
+  size = count + 1;
+  exact = number_exact count most room;
+}
+
+pub room_of_digit : 15 < 16 ^ 1
+room_of_digit = omega arith
+
+pub room_of_domain : 3 < 16 ^ 1
+room_of_domain = omega arith
+
+pub room_of_response : 0x1f < 16 ^ 2
+room_of_response = omega arith
+
+pub room_of_address : 0xffff_ffff < 16 ^ 8
+room_of_address = omega arith
+
+pub room_of_word : 2 ^ 128 - 1 < 16 ^ 32
+room_of_word = omega arith
+
+abbrev pub digit : Field ℕ
+digit = number 1 15 room_of_digit
+
+-- a domain or a barrier
+abbrev pub two_bits : Field ℕ
+two_bits = number 1 3 room_of_domain
+
+abbrev pub response : Field ℕ
+response = number 2 0x1f room_of_response
+
+abbrev pub address : Field ℕ
+address = number 8 0xffff_ffff room_of_address
+
+abbrev pub word : Field ℕ
+word = number 32 (2 ^ 128 - 1) room_of_word
+
+abbrev pub flag : Field Bool
+flag = record { take_first = flag_at; text = λ b. 32 ∷ flag_text b; IsIn = Any; size = 2; exact = flag_exact }
+
+abbrev pub channel : Field Channel
+channel = record { take_first = channel_at; text = λ c. 32 ∷ channel_text c; IsIn = Any; size = 2; exact = channel_exact }
+
+-- a state, which is always the last
+abbrev pub state : Rest LineState
+state = record { read = state_at; text = λ st. 32 ∷ state_text st; IsIn = Any; size = 3; exact = state_exact }

@@ -9,43 +9,45 @@ use Rattle.ace_event.specs.Text.{event_text}
 use Rattle.ace_grammar.specs.Reading.{IsReadable}
 use Rattle.ace_grammar.specs.Records.{ArFields, RFields, RkFields, AcFields, CrFields, GFields, ar_fields, r_fields, rk_fields, ac_fields, cr_fields, g_fields, ar_event, r_event, rk_event, ac_event, cr_event, g_event, a_at, c_at, r_at, event_at}
 use Rattle.ace_grammar.proofs.Options.{map_some, none_isn't, chosen}
-use Rattle.ace_grammar.proofs.Exact.{IsClean, ReadsAll}
-use Rattle.ace_grammar.proofs.RecordTexts.{ar_exact, r_exact, rk_exact, ac_exact, cr_exact, g_exact, ar_text, r_text, rk_text, ac_text, cr_text, g_text, ArInRange, RInRange, RkInRange, AcInRange, CrInRange, GInRange}
+use Rattle.ace_grammar.proofs.Exact.{IsClean, Rest}
+use Rattle.ace_grammar.proofs.RecordTexts.{ar, r, rk, ac, cr, g}
 
 -- the bytes behind these are the rest of the event's line
 abbrev pub Reads : List ℕ → List ℕ → Event → Type 0
 Reads front bytes event = IsReadable event × (event_text event ≡ front ++ bytes)
 
-record_takes : {F : Type 0} (read : List ℕ → Option F) (text : F → List ℕ) (IsIn : F → Type 0) (size : ℕ) (make : F → Event) (front : List ℕ)
-    → ReadsAll read text IsIn size → ((f : F) → IsIn f → Reads front (text f) (make f))
-    → (bytes : List ℕ) (event : Event) → option_map make (read bytes) ≡ Some event → Reads front bytes event
-record_takes read text IsIn size make front exact makes bytes event e =
-    let step = map_some (read bytes) make event e in
-    let read_is = exact.takes bytes step.0 step.1 in
-    subst (Reads front bytes) step.2 (subst (λ (l : List ℕ). Reads front l (make step.0)) (sym read_is.1) (makes step.0 read_is.0))
+record_takes : {F : Type 0} (fields : Rest F) (make : F → Event) (front : List ℕ) → ((f : F) → fields.IsIn f → Reads front (fields.text f) (make f))
+    → (bytes : List ℕ) (event : Event) → option_map make (fields.read bytes) ≡ Some event → Reads front bytes event
+record_takes fields make front makes bytes event e =
+    let step = map_some (fields.read bytes) make event e in
+    let taken = fields.exact.takes bytes step.0 step.1 in
+    subst (Reads front bytes) step.2 (subst (λ (l : List ℕ). Reads front l (make step.0)) (sym taken.1) (makes step.0 taken.0))
 
 ar_takes : (bytes : List ℕ) (event : Event) → option_map ar_event (ar_fields bytes) ≡ Some event → Reads (65 ∷ 82 ∷ []) bytes event
-ar_takes = record_takes ar_fields ar_text ArInRange 21 ar_event (65 ∷ 82 ∷ []) ar_exact
+unfolding ar_fields
+ar_takes = record_takes ar ar_event (65 ∷ 82 ∷ [])
     (λ f h. ((tt, (omega (arith, h.0), omega (arith, h.1.0), omega (arith, h.1.1.0), omega (arith, h.1.1.1.0), h.1.1.1.1.0, h.1.1.1.1.1.0)), refl))
 
 r_takes : (bytes : List ℕ) (event : Event) → option_map r_event (r_fields bytes) ≡ Some event → Reads (82 ∷ []) bytes event
-r_takes = record_takes r_fields r_text RInRange 41 r_event (82 ∷ []) r_exact
+unfolding r_fields
+r_takes = record_takes r r_event (82 ∷ [])
     (λ f h. ((tt, (omega (arith, h.0), omega (arith, h.1.0), omega (arith, h.1.1.0), omega (arith, h.1.1.1.1))), refl))
 
 rk_takes : (bytes : List ℕ) (event : Event) → option_map rk_event (rk_fields bytes) ≡ Some event → Reads (82 ∷ 75 ∷ []) bytes event
-rk_takes = record_takes rk_fields rk_text RkInRange 5 rk_event (82 ∷ 75 ∷ []) rk_exact (λ f h. ((tt, omega (arith, h.0)), refl))
+unfolding rk_fields
+rk_takes = record_takes rk rk_event (82 ∷ 75 ∷ []) (λ f h. ((tt, omega (arith, h.0)), refl))
 
 ac_takes : (bytes : List ℕ) (event : Event) → option_map ac_event (ac_fields bytes) ≡ Some event → Reads (65 ∷ 67 ∷ []) bytes event
-ac_takes = record_takes ac_fields ac_text AcInRange 13 ac_event (65 ∷ 67 ∷ []) ac_exact
-    (λ f h. ((tt, (omega (arith, h.0), omega (arith, h.1.0), omega (arith, h.1.1))), refl))
+unfolding ac_fields
+ac_takes = record_takes ac ac_event (65 ∷ 67 ∷ []) (λ f h. ((tt, (omega (arith, h.0), omega (arith, h.1.0), omega (arith, h.1.1))), refl))
 
 cr_takes : (bytes : List ℕ) (event : Event) → option_map cr_event (cr_fields bytes) ≡ Some event → Reads (67 ∷ 82 ∷ []) bytes event
-cr_takes = record_takes cr_fields cr_text CrInRange 8 cr_event (67 ∷ 82 ∷ []) cr_exact
-    (λ f h. ((tt, (omega (arith, h.0), h.1.0)), refl))
+unfolding cr_fields
+cr_takes = record_takes cr cr_event (67 ∷ 82 ∷ []) (λ f h. ((tt, (omega (arith, h.0), h.1.0)), refl))
 
 g_takes : (bytes : List ℕ) (event : Event) → option_map g_event (g_fields bytes) ≡ Some event → Reads (71 ∷ []) bytes event
-g_takes = record_takes g_fields g_text GInRange 6 g_event (71 ∷ []) g_exact
-    (λ f h. ((tt, (omega (arith, h.0), omega (arith, h.1.1))), refl))
+unfolding g_fields
+g_takes = record_takes g g_event (71 ∷ []) (λ f h. ((tt, (omega (arith, h.0), omega (arith, h.1.1))), refl))
 
 -- a letter in front, known by its number
 with_letter : (letter known : ℕ) (bytes : List ℕ) (event : Event) → eqb letter known ≡ true → Reads (known ∷ []) bytes event → Reads [] (letter ∷ bytes) event
@@ -109,30 +111,30 @@ event_takes (letter ∷ bytes) event e =
 
 -- the text of a readable event is read as that event
 pub event_again : (event : Event) → IsReadable event → event_at (event_text event) ≡ Some event
-unfolding event_at a_at c_at r_at
+unfolding event_at a_at c_at r_at ar_fields r_fields rk_fields ac_fields cr_fields g_fields
 event_again (Ar port id addr snoop dom bar lock) h =
-    let r = h.1 in
+    let fits = h.1 in
     let f : ArFields = (port, (id, (addr, (snoop, (dom, (bar, lock)))))) in
-    ap (option_map ar_event) (ar_exact.again f (omega (arith, r.0), (omega (arith, r.1), (omega (arith, r.2), (omega (arith, r.3), (r.4, (r.5, tt)))))))
+    ap (option_map ar_event) (ar.exact.again f (omega (arith, fits.0), (omega (arith, fits.1), (omega (arith, fits.2), (omega (arith, fits.3), (fits.4, (fits.5, tt)))))))
 event_again (R port id resp last word) h =
-    let r = h.1 in
+    let fits = h.1 in
     let f : RFields = (port, (id, (resp, (last, word)))) in
-    ap (option_map r_event) (r_exact.again f (omega (arith, r.0), (omega (arith, r.1), (omega (arith, r.2), (tt, omega (arith, r.3))))))
+    ap (option_map r_event) (r.exact.again f (omega (arith, fits.0), (omega (arith, fits.1), (omega (arith, fits.2), (tt, omega (arith, fits.3))))))
 event_again (Rk port st) h =
     let f : RkFields = (port, st) in
-    ap (option_map rk_event) (rk_exact.again f (omega (arith, h.1), tt))
+    ap (option_map rk_event) (rk.exact.again f (omega (arith, h.1), tt))
 event_again (Ac port addr snoop) h =
-    let r = h.1 in
+    let fits = h.1 in
     let f : AcFields = (port, (addr, snoop)) in
-    ap (option_map ac_event) (ac_exact.again f (omega (arith, r.0), (omega (arith, r.1), omega (arith, r.2))))
+    ap (option_map ac_event) (ac.exact.again f (omega (arith, fits.0), (omega (arith, fits.1), omega (arith, fits.2))))
 event_again (Cr port resp st) h =
-    let r = h.1 in
+    let fits = h.1 in
     let f : CrFields = (port, (resp, st)) in
-    ap (option_map cr_event) (cr_exact.again f (omega (arith, r.0), (r.1, tt)))
+    ap (option_map cr_event) (cr.exact.again f (omega (arith, fits.0), (fits.1, tt)))
 event_again (G port chan id) h =
-    let r = h.1 in
+    let fits = h.1 in
     let f : GFields = (port, (chan, id)) in
-    ap (option_map g_event) (g_exact.again f (omega (arith, r.0), (tt, omega (arith, r.1))))
+    ap (option_map g_event) (g.exact.again f (omega (arith, fits.0), (tt, omega (arith, fits.1))))
 event_again _ h = absurd h.0
 
 not_lf : (n : ℕ) → 10 < n → n ≢ 10
@@ -142,29 +144,29 @@ not_lf n h e = omega arith
 pub event_clean : (event : Event) → IsReadable event → IsClean (event_text event)
 event_clean (Ar port id addr snoop dom bar lock) h =
     let f : ArFields = (port, (id, (addr, (snoop, (dom, (bar, lock)))))) in
-    (not_lf 65 (omega arith), (not_lf 82 (omega arith), ar_exact.clean f))
+    (not_lf 65 (omega arith), (not_lf 82 (omega arith), ar.exact.clean f))
 event_clean (R port id resp last word) h =
-    let f : RFields = (port, (id, (resp, (last, word)))) in (not_lf 82 (omega arith), r_exact.clean f)
+    let f : RFields = (port, (id, (resp, (last, word)))) in (not_lf 82 (omega arith), r.exact.clean f)
 event_clean (Rk port st) h =
-    let f : RkFields = (port, st) in (not_lf 82 (omega arith), (not_lf 75 (omega arith), rk_exact.clean f))
+    let f : RkFields = (port, st) in (not_lf 82 (omega arith), (not_lf 75 (omega arith), rk.exact.clean f))
 event_clean (Ac port addr snoop) h =
-    let f : AcFields = (port, (addr, snoop)) in (not_lf 65 (omega arith), (not_lf 67 (omega arith), ac_exact.clean f))
+    let f : AcFields = (port, (addr, snoop)) in (not_lf 65 (omega arith), (not_lf 67 (omega arith), ac.exact.clean f))
 event_clean (Cr port resp st) h =
-    let f : CrFields = (port, (resp, st)) in (not_lf 67 (omega arith), (not_lf 82 (omega arith), cr_exact.clean f))
+    let f : CrFields = (port, (resp, st)) in (not_lf 67 (omega arith), (not_lf 82 (omega arith), cr.exact.clean f))
 event_clean (G port chan id) h =
-    let f : GFields = (port, (chan, id)) in (not_lf 71 (omega arith), g_exact.clean f)
+    let f : GFields = (port, (chan, id)) in (not_lf 71 (omega arith), g.exact.clean f)
 event_clean _ h = absurd h.0
 
 -- and is shorter than 256 bytes
 pub event_short : (event : Event) → IsReadable event → length (event_text event) < 256
 event_short (Ar port id addr snoop dom bar lock) h =
-    let f : ArFields = (port, (id, (addr, (snoop, (dom, (bar, lock)))))) in omega (arith, ar_exact.short f)
+    let f : ArFields = (port, (id, (addr, (snoop, (dom, (bar, lock)))))) in omega (arith, ar.exact.short f)
 event_short (R port id resp last word) h =
-    let f : RFields = (port, (id, (resp, (last, word)))) in omega (arith, r_exact.short f)
-event_short (Rk port st) h = let f : RkFields = (port, st) in omega (arith, rk_exact.short f)
-event_short (Ac port addr snoop) h = let f : AcFields = (port, (addr, snoop)) in omega (arith, ac_exact.short f)
-event_short (Cr port resp st) h = let f : CrFields = (port, (resp, st)) in omega (arith, cr_exact.short f)
-event_short (G port chan id) h = let f : GFields = (port, (chan, id)) in omega (arith, g_exact.short f)
+    let f : RFields = (port, (id, (resp, (last, word)))) in omega (arith, r.exact.short f)
+event_short (Rk port st) h = let f : RkFields = (port, st) in omega (arith, rk.exact.short f)
+event_short (Ac port addr snoop) h = let f : AcFields = (port, (addr, snoop)) in omega (arith, ac.exact.short f)
+event_short (Cr port resp st) h = let f : CrFields = (port, (resp, st)) in omega (arith, cr.exact.short f)
+event_short (G port chan id) h = let f : GFields = (port, (chan, id)) in omega (arith, g.exact.short f)
 event_short _ h = absurd h.0
 
 no_event : (line : List ℕ) → event_at line ≡ None → (event : Event) → IsReadable event → event_text event ≢ line

@@ -1,5 +1,5 @@
 // The header and the events of a source, line by line.
-ghost use Rattle.std.specs.Prelude.{◌≡◌, IsErrOf, IfOk, OnOk, MatchOption};
+ghost use Rattle.std.specs.Prelude.{◌≡◌, ◌≢◌, [], IsErrOf, IfOk, OnOk, IsSome, MatchOption};
 ghost use Rattle.std.specs.Io.KnownBytes.{Consumes, IsAtEnd};
 ghost use Rattle.ace_io.specs.Faults.{Rose};
 ghost use Rattle.ace_io.specs.Line.{HasNoLf, IsPending};
@@ -73,6 +73,7 @@ pub fn read_event<S: Source>(
         (IsAtEnd (waiting S.left lines.old) × IsAtEnd (waiting S.left lines.new))
         (λ event. IsReadable event
         × Consumes (waiting S.left lines.old) (waiting S.left lines.new) (line_text (event_text event)))) }
+    ensures some_left { IfOk result (λ next. IsSome next → IfTold (waiting S.left lines.old) (λ bytes. bytes ≢ [])) }
     ensures steady { OnOk result (S.faults (source_of lines.new).now ≡ S.faults (source_of lines.old).now) }
     ensures malformed { IsErrOf result ReadErr.Malformed → IfTold (waiting S.left lines.old) HasBadLine }
     ensures malformed_steady { IsErrOf result ReadErr.Malformed → S.faults (source_of lines.new).now ≡ S.faults (source_of lines.old).now }

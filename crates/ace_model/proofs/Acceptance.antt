@@ -1,5 +1,5 @@
 -- The fact that a trace is accepted, and its test.
-use Rattle.std.proofs.Common.{◌≡◌, Bool, true, false, [], ◌∷◌, Option, Some, None, is_none, refl}
+use Rattle.std.proofs.Common.{◌≡◌, true, [], ◌∷◌, Option, Some, None, is_none, refl}
 use Rattle.std.proofs.lemmas.Bool.{and_parts}
 use Rattle.ace_event.specs.declared.header.Header.{Header}
 use Rattle.ace_model.specs.Trace.{Trace}

@@ -47,7 +47,7 @@ first_after h past (e ∷ events) b f =
             number = omega arith;
             broken = i.broken;
             least_number = λ n j below _. absurd (omega arith);
-            least_rule = λ j below b'. let most : b.rule ≤ j = i.least j b' in absurd (omega arith)
+            least_rule = λ j below b'. let most : b.rule ≤ j = i.least j b' in absurd (omega arith);
           }
       | inr later ↦
           let i : FirstAfter h (e ∷ past) events b = first_after h (e ∷ past) events b later.1 in
@@ -56,7 +56,7 @@ first_after h past (e ∷ events) b f =
             number = omega arith;
             broken = i.broken;
             least_number = λ n j below b'. earlier_or_rest h past e events i.before n j later.0 i.least_number below b';
-            least_rule = λ j below b'. i.least_rule j below b'
+            least_rule = λ j below b'. i.least_rule j below b';
           }
     ]
 
@@ -88,7 +88,7 @@ first_break_is_first h events b f =
       number = omega arith;
       broken = to_place h [] events i.before b.rule i.broken;
       least_number = λ n j below at. i.least_number n j below (from_place h [] events n j at.0 at.1 at.2);
-      least_rule = λ j below at. i.least_rule j below (from_place h [] events i.before j at.0 at.1 at.2)
+      least_rule = λ j below at. i.least_rule j below (from_place h [] events i.before j at.0 at.1 at.2);
     }
 
 some_of : (h : Header) (events : List Event) (o : Option Break) (n k : ℕ) → first_break h events ≡ o → BreaksAt h events n k → (b : Break) × (first_break h events ≡ Some b)

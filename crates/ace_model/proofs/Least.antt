@@ -1,5 +1,5 @@
 -- The first rule of a list in order that an event breaks is the least.
-use Rattle.std.proofs.Common.{◌≡◌, ◌⊎◌, ℕ, ◌+◌, ◌<◌, ◌≤◌, Bool, true, false, not, ◌&&◌, ◌||◌, ◌==◌, nat_le, if◌then◌else◌, List, [], ◌∷◌, Option, Some, None, refl, arith, inl, inr, ap, sym, ◌∙◌}
+use Rattle.std.proofs.Common.{◌≡◌, ◌⊎◌, ℕ, ◌+◌, ◌≤◌, Bool, true, false, not, ◌&&◌, ◌||◌, ◌==◌, nat_le, if◌then◌else◌, List, [], ◌∷◌, Option, Some, None, refl, arith, inl, inr}
 use Rattle.std.proofs.lemmas.Bool.{and_parts, and_from, or_cases, eqb-true, eq-eqb, leb-true, le-leb}
 use Rattle.ace_event.specs.declared.event.Event.{Event}
 use Rattle.ace_event.specs.declared.header.Header.{Header}
@@ -63,15 +63,15 @@ is_least n (r ∷ rs) h past e k up l =
             least = λ j b. elim (or_cases (r.number == j && not (r.keeps h past e)) (breaks_of rs h past e j) b) [
               | inl this ↦ absurd (kept_not_broken (r.keeps h past e) kept.0 (and_parts (r.number == j) (not (r.keeps h past e)) this).1)
               | inr later ↦ i.least j later
-            ]
+            ];
           }
       | inr broke ↦
           let again : rises r.number (r ∷ rs) ≡ true = and_from (nat_le r.number r.number) (rises (r.number + 1) rs) (le-leb r.number r.number (omega arith)) parts.1 in
           record {
             broken = or_first (r.number == k && not (r.keeps h past e)) (breaks_of rs h past e k) (broken_here (r.keeps h past e) r.number k broke.0 broke.1);
             least = λ j b.
-              let low : r.number ≤ j = no_smaller r.number (r ∷ rs) h past e j again b in
-              omega arith
+                let low : r.number ≤ j = no_smaller r.number (r ∷ rs) h past e j again b in
+                omega arith;
           }
     ]
 

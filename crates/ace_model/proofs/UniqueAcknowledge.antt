@@ -1,5 +1,5 @@
 -- RK: a complete read ends, and its port holds the line.
-use Rattle.std.proofs.Common.{◌≡◌, ◌≢◌, ◌⊎◌, ℕ, ◌+◌, ◌≤◌, Bool, true, false, cond, not, ◌&&◌, nat_eq, ◌∷◌, Option, Some, None, is_some, slice_get, unwrap_or, le_refl, refl, sym, ap, subst, ◌∙◌, arith, inl, inr}
+use Rattle.std.proofs.Common.{◌≡◌, ◌≢◌, ◌⊎◌, ℕ, ◌+◌, ◌≤◌, Bool, true, false, cond, not, ◌&&◌, nat_eq, nat_lt, ◌∷◌, Option, Some, None, is_some, slice_get, unwrap_or, le_refl, refl, sym, ap, subst, ◌∙◌, arith, inl, inr}
 use Rattle.std.proofs.lemmas.Grind.{common_steps}
 use Rattle.std.proofs.lemmas.Bool.{and_parts, cases_Bool, eqb-true, eq-eqb}
 use Rattle.std.proofs.lemmas.Bool.Decides.{nat_tests}
@@ -158,6 +158,6 @@ distinct_rk h past q st f p j k i a b e g = f.distinct p j k i (below (nat_eq p 
 pub outside_rk : (h : Header) (past : Trace) (q : ℕ) (st : LineState) → Inductive h past → k1 h past (Rk q st) ≡ true → OutsideInvalid h (Rk q st ∷ past)
 outside_rk h past q st f k r l o =
     state_rk h past q r l st (λ same y is addr.
-    let ace : is_ace h q ≡ true = (and_parts _ _ k).1 in
+    let ace : is_ace h q ≡ true = (and_parts (nat_lt q h.ports) (is_ace h q) k).1 in
     let t : is_ace h r ≡ true = ap (is_ace h) same ∙ ace in cc)
     ∙ f.outside r l o

@@ -1,6 +1,5 @@
 -- Accepted traces, and the first break of a trace that is not.
 use Rattle.std.specs.Prelude.{Bool, ◌&&◌, ◌||◌, ◌==◌, if◌then◌else◌, not, is_none, ℕ, ◌+◌, ◌<◌, ◌≡◌, true, false, List, [], ◌∷◌, Option, Some, None, length, reverse, take, slice_get, ⊤}
-use Rattle.std.specs.List.{list_any}
 use Rattle.ace_event.specs.declared.event.Event.{Event}
 use Rattle.ace_event.specs.declared.header.Header.{Header}
 use Rattle.ace_model.specs.declared.breaks.Break.{Break}

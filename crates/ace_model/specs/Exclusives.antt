@@ -1,6 +1,5 @@
 -- Exclusive transactions and the monitor of the interconnect, kept by port and line (Arm IHI 0022E, C9).
-use Rattle.std.specs.Prelude.{ℕ, Bool, true, false, not, ◌&&◌, ◌||◌, ◌==◌, if◌then◌else◌, List, [], ◌∷◌, Option, Some, None, length}
-use Rattle.ace_event.specs.declared.event.Event.{Event}
+use Rattle.std.specs.Prelude.{ℕ, Bool, false, not, ◌&&◌, ◌||◌, ◌==◌, if◌then◌else◌, [], ◌∷◌, Option, Some, None, length}
 use Rattle.ace_event.specs.declared.event.Channel.TheVariants.{Read}
 use Rattle.ace_event.specs.declared.event.Event.TheVariants.{G}
 use Rattle.ace_model.specs.declared.transactions.Transaction.{Transaction}

@@ -1,6 +1,6 @@
 -- The snoops of a port. Its CR events answer its AC events in their order, and its CD events belong to its answers with
 -- DataTransfer in their order, four beats to each (Arm IHI 0022E, C3.6 to C3.8).
-use Rattle.std.specs.Prelude.{ℕ, ◌+◌, Bool, true, false, ◌&&◌, ◌==◌, if◌then◌else◌, List, [], ◌∷◌, Option, Some, None, length, slice_get}
+use Rattle.std.specs.Prelude.{ℕ, ◌+◌, Bool, ◌&&◌, ◌==◌, if◌then◌else◌, List, [], ◌∷◌, Option, Some, None, length, slice_get}
 use Rattle.ace_event.specs.declared.event.Event.{Event}
 use Rattle.ace_event.specs.declared.event.Event.TheVariants.{Ac, Cr, Cd}
 use Rattle.ace_model.specs.declared.snoops.Snoop.{Snoop}

@@ -1,7 +1,7 @@
 -- The tables of cache states: where a transaction may start, how it may end, which snoop it causes and how that may be
 -- answered (Arm IHI 0022E, C4 and C5).
 -- Today's limit: of start states, end states and answers the rows of ReadUnique alone.
-use Rattle.std.specs.Prelude.{ℕ, Bool, true, false, not, ◌&&◌, ◌||◌, ◌==◌, nat_lt, if◌then◌else◌, Option, Some, None}
+use Rattle.std.specs.Prelude.{ℕ, Bool, true, false, not, ◌&&◌, ◌==◌, nat_lt, if◌then◌else◌, Option, Some, None}
 use Rattle.ace_codes.specs.declared.state.LineState.{LineState}
 use Rattle.ace_codes.specs.declared.state.LineState.TheVariants.{I, UC, UD, SC, SD}
 use Rattle.ace_codes.specs.declared.kind.ArKind.{ArKind}

@@ -2,6 +2,7 @@
 use Rattle.std.specs.Prelude.{◌≡◌, ◌≢◌, ◌<◌, ◌+◌, ⊤, ℕ, List, [], ◌∷◌, Option, None, Some, length, reverse}
 use Rattle.std.specs.List.{AllByRecursion}
 use Rattle.std.specs.Io.KnownBytes.{Consumes, IsAtEnd}
+use Rattle.ace_io.specs.Faults.{Rose}
 use Rattle.ace_event.specs.declared.header.Header.{Header}
 use Rattle.ace_event.specs.declared.event.Event.{Event}
 use Rattle.ace_event.specs.Text.{trace_text, event_text, line_text}
@@ -47,3 +48,8 @@ EndsInput Malformed left = ⊤
 EndsInput ReadFault left = ⊤
 EndsInput LimitEvents left = ⊤
 EndsInput NoMemory left = ⊤
+
+-- A count of faults goes up exactly where the answer is that the input failed.
+pub record HasReadCause (before now : ℕ) (answer : Answer) : Type 0 where
+  pub failed : answer ≡ ReadFault → Rose before now
+  pub steady : answer ≢ ReadFault → now ≡ before

@@ -1,18 +1,13 @@
 // Checks a trace, event by event, as it is read.
-ghost use Rattle.std.specs.Prelude.{◌≡◌, ◌≢◌, ◌<◌, ◌≤◌, ◌++◌, ⊤, ℕ, List, [], ◌∷◌, Option, None, Some, length, reverse, IfSome, IfNone, MatchOption};
-ghost use Rattle.std.specs.List.{AllByRecursion};
-ghost use Rattle.std.specs.Io.KnownBytes.{Consumes, IsAtEnd};
-ghost use Rattle.ace_io.specs.Faults.{Rose};
+ghost use Rattle.std.specs.Prelude.{◌≡◌, ◌≢◌, ◌<◌, ◌≤◌, ℕ, List, None, Some, length, IfSome, IfNone};
 ghost use Rattle.ace_io.specs.Reader.{waiting, source_of};
-ghost use Rattle.ace_grammar.specs.Reading.{most_events, IsReadableHeader};
-ghost use Rattle.ace_model.specs.Accepted.{IsAccepted};
+ghost use Rattle.ace_grammar.specs.Reading.{most_events};
 ghost use Rattle.ace_check.specs.Run.{header_of, past_of, break_of};
-ghost use Rattle.ace_top.specs.Progress.{EndsInput, IsNextVerdict, TakesEvent, StandsAt};
+ghost use Rattle.ace_top.specs.Progress.{EndsInput, HasReadCause, IsNextVerdict, TakesEvent, StandsAt};
 ghost use Rattle.ace_top.specs.Verdict.{IsVerdict};
 
 use crate::answer::Answer;
 use ace_check::{CheckErr, Checker, Step};
-use ace_event::Header;
 use ace_grammar::{ReadErr, read_event, read_header};
 use ace_io::{LineBuf, LineEnd, LineReader, Source};
 use std::alloc::Global;
@@ -25,8 +20,7 @@ const MOST_EVENTS: u64 = 1_048_576;
 pub fn check<S: Source>(alloc: Global, input: &mut S) -> Answer
     ensures verdict { IfSome (S.left input.old) (λ bytes. IsVerdict bytes result) }
     ensures end { EndsInput result (S.left input.new) }
-    ensures read_fault { result ≡ Answer.ReadFault → Rose (S.faults input.old) (S.faults input.new) }
-    ensures steady { result ≢ Answer.ReadFault → S.faults input.new ≡ S.faults input.old }
+    ensures cause { HasReadCause (S.faults input.old) (S.faults input.new) result }
     ensures command { result ≢ Answer.Usage }
 {
     match LineReader::start(alloc, input) {
@@ -41,8 +35,7 @@ fn check_trace<S: Source>(alloc: Global, lines: &mut LineReader<S>) -> Answer
     ensures same_source { (source_of lines.new).ghost_name ≡ (source_of lines.old).ghost_name }
     ensures verdict { IfSome (waiting S.left lines.old) (λ bytes. IsVerdict bytes result) }
     ensures end { EndsInput result (waiting S.left lines.new) }
-    ensures read_fault { result ≡ Answer.ReadFault → Rose (S.faults (source_of lines.old).now) (S.faults (source_of lines.new).now) }
-    ensures steady { result ≢ Answer.ReadFault → S.faults (source_of lines.new).now ≡ S.faults (source_of lines.old).now }
+    ensures cause { HasReadCause (S.faults (source_of lines.old).now) (S.faults (source_of lines.new).now) result }
     ensures command { result ≢ Answer.Usage }
 {
     let mut line = LineBuf::empty();
@@ -66,10 +59,10 @@ fn check_events<S: Source>(
     requires few { length (past_of checker.old) ≤ most_events }
     requires unbroken { break_of checker.old ≡ None }
     ensures same_source { (source_of lines.new).ghost_name ≡ (source_of lines.old).ghost_name }
-    ensures verdict { (bytes : List ℕ) → StandsAt bytes (header_of checker.old) (past_of checker.old) (waiting S.left lines.old) → IsVerdict bytes result }
+    ensures verdict { (bytes : List ℕ) → StandsAt bytes (header_of checker.old) (past_of checker.old) (waiting S.left lines.old)
+        → IsVerdict bytes result }
     ensures end { EndsInput result (waiting S.left lines.new) }
-    ensures read_fault { result ≡ Answer.ReadFault → Rose (S.faults (source_of lines.old).now) (S.faults (source_of lines.new).now) }
-    ensures steady { result ≢ Answer.ReadFault → S.faults (source_of lines.new).now ≡ S.faults (source_of lines.old).now }
+    ensures cause { HasReadCause (S.faults (source_of lines.old).now) (S.faults (source_of lines.new).now) result }
     ensures command { result ≢ Answer.Usage }
 {
     'events: while checker.count() < MOST_EVENTS {
@@ -91,12 +84,13 @@ fn check_next<S: Source>(
     ensures same_source { (source_of lines.new).ghost_name ≡ (source_of lines.old).ghost_name }
     ensures header { header_of checker.new ≡ header_of checker.old }
     ensures unbroken { IfNone result (break_of checker.new ≡ None) }
-    ensures fine { IfNone result (TakesEvent (header_of checker.old) (past_of checker.old) (past_of checker.new) (waiting S.left lines.old) (waiting S.left lines.new)) }
-    ensures verdict { IfSome result (IsNextVerdict (header_of checker.old) (past_of checker.old) (waiting S.left lines.old) (waiting S.left lines.new)) }
+    ensures fine { IfNone result (TakesEvent (header_of checker.old) (past_of checker.old) (past_of checker.new)
+        (waiting S.left lines.old) (waiting S.left lines.new)) }
+    ensures verdict { IfSome result (IsNextVerdict (header_of checker.old) (past_of checker.old)
+        (waiting S.left lines.old) (waiting S.left lines.new)) }
     ensures end { IfSome result (λ answer. EndsInput answer (waiting S.left lines.new)) }
     ensures fine_steady { IfNone result (S.faults (source_of lines.new).now ≡ S.faults (source_of lines.old).now) }
-    ensures read_fault { result ≡ Some Answer.ReadFault → Rose (S.faults (source_of lines.old).now) (S.faults (source_of lines.new).now) }
-    ensures steady { result ≢ Some Answer.ReadFault → S.faults (source_of lines.new).now ≡ S.faults (source_of lines.old).now }
+    ensures cause { IfSome result (HasReadCause (S.faults (source_of lines.old).now) (S.faults (source_of lines.new).now)) }
 {
     match read_event(lines, line) {
         Ok(Some(event)) => match checker.feed(&event) {
@@ -116,10 +110,10 @@ fn check_next<S: Source>(
 fn check_end<S: Source>(checker: &Checker, lines: &mut LineReader<S>, line: &mut LineBuf) -> Answer
     requires { length (past_of checker.now) ≡ most_events }
     ensures same_source { (source_of lines.new).ghost_name ≡ (source_of lines.old).ghost_name }
-    ensures verdict { IsNextVerdict (header_of checker.now) (past_of checker.now) (waiting S.left lines.old) (waiting S.left lines.new) result }
+    ensures verdict { IsNextVerdict (header_of checker.now) (past_of checker.now)
+        (waiting S.left lines.old) (waiting S.left lines.new) result }
     ensures end { EndsInput result (waiting S.left lines.new) }
-    ensures read_fault { result ≡ Answer.ReadFault → Rose (S.faults (source_of lines.old).now) (S.faults (source_of lines.new).now) }
-    ensures steady { result ≢ Answer.ReadFault → S.faults (source_of lines.new).now ≡ S.faults (source_of lines.old).now }
+    ensures cause { HasReadCause (S.faults (source_of lines.old).now) (S.faults (source_of lines.new).now) result }
     ensures command { result ≢ Answer.Usage }
 {
     match lines.next(line) {

@@ -33,7 +33,8 @@ fn give_texts<K: Sink, E: Sink>(out: &mut K, notes: &mut E, answer: Answer) -> R
     ensures notes_part { OnErr result (AppendsPart (E.held notes.old) (E.held notes.new) (notes_text_of answer)) }
     ensures out_steady { OnOk result (K.faults out.new ≡ K.faults out.old) }
     ensures notes_steady { OnOk result (E.faults notes.new ≡ E.faults notes.old) }
-    ensures cause { OnErr result (Rose (K.faults out.old) (K.faults out.new) ⊎ Rose (E.faults notes.old) (E.faults notes.new)) }
+    ensures cause { OnErr result
+        (Rose (K.faults out.old) (K.faults out.new) ⊎ Rose (E.faults notes.old) (E.faults notes.new)) }
     ensures out_later { K.faults out.old ≤ K.faults out.new }
     ensures notes_later { E.faults notes.old ≤ E.faults notes.new }
     ensures notes_kept { OnErr result (E.faults notes.old < 2 ^ 64 - 1 → E.faults notes.new ≡ E.faults notes.old
@@ -57,7 +58,8 @@ pub fn conclude<K: Sink, E: Sink>(out: &mut K, notes: &mut E, answer: Answer) ->
     ensures out_part { AppendsPart (K.held out.old) (K.held out.new) (out_text_of answer) }
     ensures notes_told { result ≡ 5 → E.faults notes.old < 2 ^ 64 - 1 → E.faults notes.new ≡ E.faults notes.old
         → Appends (E.held notes.old) (E.held notes.new) (codes "write fault\n") }
-    ensures notes_part { result ≡ 5 → AppendsParts (E.held notes.old) (E.held notes.new) (notes_text_of answer) (codes "write fault\n") }
+    ensures notes_part { result ≡ 5
+        → AppendsParts (E.held notes.old) (E.held notes.new) (notes_text_of answer) (codes "write fault\n") }
 {
     match give_texts(out, notes, answer) {
         Ok(()) => status_of(answer),

@@ -30,7 +30,7 @@ pub fn ace<R: Threads + Wait + Sync, S: Source, K: Sink, E: Sink, G: Gate + Sync
     ensures answer { result ≢ 5 → Answers words.now (S.left input.old) result
         (K.held out.old) (K.held out.new) (E.held notes.old) (E.held notes.new) }
 
-    // Where the status is 0, the input was read to its end, and at each point of its trace a unique line has one holder.
+    // Where the status is 0, the input was read to its end, and a unique line has one holder at each point of its trace.
     ensures unique { result ≡ 0 → IfSome (S.left input.old) ReadsUnique }
     ensures whole { result ≡ 0 → IsAtEnd (S.left input.new) }
 
@@ -45,8 +45,10 @@ pub fn ace<R: Threads + Wait + Sync, S: Source, K: Sink, E: Sink, G: Gate + Sync
     ensures input_failed { S.faults input.old < S.faults input.new → (result ≡ 4) ⊎ (result ≡ 5) ⊎ (result ≡ 7) }
 
     // A write fault is answered only where an output failed, and wherever one failed.
-    ensures write_fault { result ≡ 5 → Rose (K.faults out.old) (K.faults out.new) ⊎ Rose (E.faults notes.old) (E.faults notes.new) }
-    ensures output_failed { (K.faults out.old < K.faults out.new) ⊎ (E.faults notes.old < E.faults notes.new) → result ≡ 5 }
+    ensures write_fault { result ≡ 5
+        → Rose (K.faults out.old) (K.faults out.new) ⊎ Rose (E.faults notes.old) (E.faults notes.new) }
+    ensures output_failed { (K.faults out.old < K.faults out.new) ⊎ (E.faults notes.old < E.faults notes.new)
+        → result ≡ 5 }
 
     // The usage is told exactly where the words name no command, and then the input isn't touched.
     ensures usage { result ≡ 2 → ¬ IsCommand words.now }

@@ -1,4 +1,3 @@
-use Rattle.std.proofs.Common.{sym}
 use Rattle.ace_check.proofs.Ports.{each_port-more}
 use Rattle.ace_check.proofs.states.is_each_port_done.Goals as goal
 

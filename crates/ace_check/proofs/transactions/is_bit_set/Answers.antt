@@ -1,4 +1,4 @@
-use Rattle.std.proofs.Common.{◌<◌, ◌≤◌, ◌^◌, arith, refl}
+use Rattle.std.proofs.Common.{◌<◌, ◌^◌, arith, refl}
 use Rattle.ace_check.proofs.Bits.{bit_at-past_32}
 use Rattle.ace_check.proofs.transactions.is_bit_set.Goals as goal
 

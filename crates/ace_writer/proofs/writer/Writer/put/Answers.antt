@@ -1,0 +1,13 @@
+use Rattle.std.proofs.Common.{refl, ◌∙◌, ap, append_assoc, ◌++◌, ◌∷◌, []}
+use Rattle.ace_event.specs.Text.{line_text, event_text}
+use Rattle.ace_writer.proofs.Fronts.{line_added, line_lost}
+use Rattle.ace_writer.proofs.writer.Writer.put.Goals as goal
+
+pub returns-then-self-clause-text : goal.returns-then-self-clause-text
+returns-then-self-clause-text g c = λ before text so_far.
+    line_lost _ before text _ c.give_over.new.self (c.give_over.ensures.text before text so_far) c.if-self.true
+
+pub returns-clause-text : goal.returns-clause-text
+returns-clause-text g c = λ before text so_far.
+    line_added _ before text (line_text (event_text c.args.event.now)) c.give_over.new.self _ (c.give_over.ensures.text before text so_far) c.if-self.false refl refl
+    (c.push.ensures.value ∙ ap (λ l. l ++ 10 ∷ []) c.push_event.ensures.value ∙ append_assoc _ _ (10 ∷ []))

@@ -1,0 +1,36 @@
+-- What a writer has given to its sink, and what it has in hand.
+use Rattle.std.specs.Prelude.{◌≡◌, ◌-◌, ◌^◌, ℕ, Bool, false, List, Option, ◌++◌, length, min}
+use Rattle.std.specs.Borrow.{MutBor}
+use Rattle.std.specs.Io.KnownBytes.{Appends}
+use Rattle.ace_writer.specs.declared.writer.Writer.{Writer}
+
+-- the sink that it gives bytes to
+abbrev pub sink_of : {K : Type 0} → Writer K → MutBor K
+sink_of writer = writer.sink
+
+-- the bytes that it keeps until there are enough of them
+abbrev pub in_hand : {K : Type 0} → Writer K → List ℕ
+in_hand writer = writer.text
+
+-- whether it met a write fault
+abbrev pub has_failed : {K : Type 0} → Writer K → Bool
+has_failed writer = writer.failed
+
+-- how many bytes it says that it gave
+abbrev pub given_of : {K : Type 0} → Writer K → ℕ
+given_of writer = writer.given
+
+-- a number of bytes, up to the last number of 64 bits
+abbrev pub counted : ℕ → ℕ
+counted bytes = min bytes (2 ^ 64 - 1)
+
+-- A front of the text was given, to a sink that before held these bytes, and `given` is its length. Until a write
+-- fault the rest of the text is in hand.
+pub record GivesFront {K : Type 0} (held : K → Option (List ℕ)) (before : Option (List ℕ)) (text : List ℕ)
+    (writer : Writer K) : Type 0 where
+  pub front : List ℕ
+  pub rest : List ℕ
+  pub cut : text ≡ front ++ rest
+  pub bytes : Appends before (held (sink_of writer).now) front
+  pub given : given_of writer ≡ counted (length front)
+  pub waiting : has_failed writer ≡ false → in_hand writer ≡ rest

@@ -1,0 +1,118 @@
+// The fields of a line, each behind a space.
+ghost use Rattle.std.specs.Prelude.{◌≡◌, ◌<◌, ◌≤◌, ◌+◌, ◌*◌, ◌^◌, ◌++◌, ◌∷◌, [], length};
+ghost use Rattle.std.specs.Char.{digit_char};
+ghost use Rattle.ace_event.specs.Text.{hex_text, flag_text, state_text, channel_text, outcome_text, line_digits};
+
+use crate::text_buf::TextBuf;
+use ace_codes::LineState;
+use ace_event::{Channel, Line, Outcome};
+
+/// The lower-case hexadecimal digit of a number.
+pub(crate) fn digit(n: u8) -> u8
+    requires { n < 16 }
+    ensures { result ≡ digit_char n }
+{
+    if n < 10 { b'0' + n } else { b'a' + (n - 10) }
+}
+
+impl TextBuf {
+    /// So many digits of the number, the most significant first.
+    pub(crate) fn push_digits(&mut self, count: u32, n: u128)
+        requires count { count ≤ 32 }
+        requires room { length self.old + count ≤ 4096 }
+        ensures value { self.new ≡ self.old ++ hex_text count n }
+        ensures len { length self.new ≡ length self.old + count }
+    {
+        let mut left = count;
+        while left > 0 {
+            left -= 1;
+            self.push(digit((n >> (4 * left) & 0xf) as u8));
+        }
+    }
+
+    /// A space and so many digits of a number.
+    pub(crate) fn push_number(&mut self, count: u32, n: u128)
+        requires count { count ≤ 32 }
+        requires room { length self.old + 1 + count ≤ 4096 }
+        ensures value { self.new ≡ self.old ++ 32 ∷ hex_text count n }
+        ensures len { length self.new ≡ length self.old + 1 + count }
+    {
+        self.push(b' ');
+        self.push_digits(count, n);
+    }
+
+    /// A space and a number of one digit.
+    #[tactic(auto, using(crate::proofs::Digits::one_digit))]
+    pub(crate) fn push_digit(&mut self, n: u8)
+        requires digit { n < 16 }
+        requires room { length self.old + 2 ≤ 4096 }
+        ensures value { self.new ≡ self.old ++ 32 ∷ hex_text 1 n }
+        ensures len { length self.new ≡ length self.old + 2 }
+    {
+        self.push(b' ');
+        self.push(digit(n));
+    }
+
+    /// A space and `0` or `1`.
+    pub(crate) fn push_flag(&mut self, flag: bool)
+        requires room { length self.old + 2 ≤ 4096 }
+        ensures value { self.new ≡ self.old ++ 32 ∷ flag_text flag }
+        ensures len { length self.new ≡ length self.old + 2 }
+    {
+        self.append(if flag { b" 1" } else { b" 0" });
+    }
+
+    /// A space and the name of a state.
+    pub(crate) fn push_state(&mut self, state: LineState)
+        requires room { length self.old + 3 ≤ 4096 }
+        ensures value { self.new ≡ self.old ++ 32 ∷ state_text state }
+        ensures len { length self.new ≤ length self.old + 3 }
+    {
+        let text: &[u8] = match state {
+            LineState::I => b" I",
+            LineState::UC => b" UC",
+            LineState::UD => b" UD",
+            LineState::SC => b" SC",
+            LineState::SD => b" SD",
+        };
+        self.append(text);
+    }
+
+    /// A space and the letter of a channel.
+    pub(crate) fn push_channel(&mut self, channel: Channel)
+        requires room { length self.old + 2 ≤ 4096 }
+        ensures value { self.new ≡ self.old ++ 32 ∷ channel_text channel }
+        ensures len { length self.new ≡ length self.old + 2 }
+    {
+        self.append(match channel {
+            Channel::Read => b" R",
+            Channel::Write => b" W",
+        });
+    }
+
+    /// A space and the name of an outcome.
+    pub(crate) fn push_outcome(&mut self, outcome: Outcome)
+        requires room { length self.old + 5 ≤ 4096 }
+        ensures value { self.new ≡ self.old ++ 32 ∷ outcome_text outcome }
+        ensures len { length self.new ≤ length self.old + 5 }
+    {
+        let text: &[u8] = match outcome {
+            Outcome::Ok => b" ok",
+            Outcome::Skip => b" skip",
+            Outcome::Fail => b" fail",
+        };
+        self.append(text);
+    }
+
+    /// A space and the digits of a line.
+    pub(crate) fn push_line(&mut self, line: &Line)
+        requires room { length self.old + 129 ≤ 4096 }
+        ensures value { self.new ≡ self.old ++ 32 ∷ line_digits line.now }
+        ensures len { length self.new ≡ length self.old + 129 }
+    {
+        self.push(b' ');
+        for word in &line.words {
+            self.push_digits(32, *word);
+        }
+    }
+}

@@ -1,0 +1,33 @@
+// The lines of a header.
+ghost use Rattle.std.specs.Prelude.{◌≡◌, ◌<◌, ◌≤◌, ◌+◌, ◌++◌, length};
+ghost use Rattle.ace_event.specs.Ports.{IsHeader, port_letter};
+ghost use Rattle.ace_event.specs.Text.{header_text};
+
+use crate::text_buf::TextBuf;
+use ace_event::{Header, PortKind, kind_of};
+
+/// The letter of a port.
+fn letter_of(header: &Header, port: u8) -> u8
+    requires { port < header.now.ports }
+    ensures { result ≡ port_letter header.now.ace port }
+{
+    match kind_of(header, port) {
+        Some(PortKind::Ace) => b'A',
+        _ => b'L',
+    }
+}
+
+impl TextBuf {
+    /// The two header lines.
+    pub(crate) fn push_header(&mut self, header: &Header)
+        requires header { IsHeader header.now }
+        requires room { length self.old + 29 ≤ 4096 }
+        ensures { self.new ≡ self.old ++ header_text header.now }
+    {
+        self.append(b"ACE 1\nPORTS ");
+        for port in 0..header.ports {
+            self.push(letter_of(header, port));
+        }
+        self.push(b'\n');
+    }
+}

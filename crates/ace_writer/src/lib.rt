@@ -1,0 +1,13 @@
+//! The writer of trace text: the header and the events, exactly as the reader of traces reads them.
+#![tactic(auto)]
+
+mod error;
+mod fields;
+mod give;
+mod header;
+mod records;
+mod text_buf;
+mod writer;
+
+pub use error::WriteErr;
+pub use writer::Writer;
