@@ -1,4 +1,4 @@
-// Answers by each policy: rows of the tables, and reference words of the generator.
+// Answers by each policy: rows of the tables, and the first words of the generator.
 
 use crate::{Chosen, Eager, Keep, Mixed, Policy};
 use ace_codes::LineState::{I, SC, SD, UD};
@@ -41,12 +41,22 @@ fn picks_rows(rt: HostRuntime) -> Result<(), Fail> {
 
 #[test]
 fn mixes_rows(rt: HostRuntime) -> Result<(), Fail> {
-    let rows = snoop_rows(SnoopKind::ReadShared, UD, false);
+    // the first words of PCG's reference generator at state 0 and stream 1, modulo the six rows
+    let places = [5, 5, 2, 5, 3, 1, 2, 4];
+    let rows = [
+        (0x09, SD),
+        (0x19, SD),
+        (0x0d, SC),
+        (0x1d, SC),
+        (0x05, I),
+        (0x15, I),
+    ];
     let mut mixed = Mixed::new(0);
     let mut chosen = Chosen::Mixed(Mixed::new(0));
-    for _ in 0..20 {
-        let row = picked(&mut mixed, SnoopKind::ReadShared, UD);
-        assert!(rt; (0..rows.count()).any(|i| Some(rows.row(i)) == row));
+    for place in places {
+        let (resp, next) = rows[place];
+        let row = Some(Row { resp, next });
+        assert_eq!(rt; picked(&mut mixed, SnoopKind::ReadShared, UD), row);
         assert_eq!(rt; picked(&mut chosen, SnoopKind::ReadShared, UD), row);
     }
     Ok(())
