@@ -1,0 +1,5 @@
+pub mod Distinct
+pub mod Kept
+pub mod Looks
+pub mod Places
+pub mod Victims

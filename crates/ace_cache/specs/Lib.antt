@@ -1,0 +1,2 @@
+pub mod LineCache
+pub mod Ways

@@ -1,0 +1,16 @@
+//! How a master picks its answer to a snoop among the permitted ones.
+#![tactic(auto)]
+
+mod chosen;
+mod eager;
+mod keep;
+mod mixed;
+mod policy;
+#[cfg(test)]
+mod tests;
+
+pub use chosen::Chosen;
+pub use eager::Eager;
+pub use keep::Keep;
+pub use mixed::Mixed;
+pub use policy::Policy;

@@ -1,0 +1,63 @@
+// Answers by each policy: rows of the tables, and the first words of the generator.
+
+use crate::{Chosen, Eager, Keep, Mixed, Policy};
+use ace_codes::LineState::{I, SC, SD, UD};
+use ace_codes::{LineState, SnoopKind};
+use ace_tables::{Row, snoop_rows};
+use std::test::Fail;
+
+/// What a policy picks, where there is a row.
+fn picked<P: Policy>(policy: &mut P, snoop: SnoopKind, held: LineState) -> Option<Row> {
+    if snoop_rows(snoop, held, false).count() == 0 {
+        return None;
+    }
+    Some(policy.pick(snoop, held, false))
+}
+
+#[test]
+fn picks_rows(rt: HostRuntime) -> Result<(), Fail> {
+    let cases = [
+        (SnoopKind::ReadShared, UD, 0x19, SD, 0x15, I),
+        (SnoopKind::ReadClean, SC, 0x08, SC, 0x01, I),
+        (SnoopKind::ReadUnique, UD, 0x15, I, 0x15, I),
+        (SnoopKind::DvmMessage, SC, 0, I, 0, I),
+    ];
+    for (snoop, held, keeps, kept, gives, given) in cases {
+        let keep = Row {
+            resp: keeps,
+            next: kept,
+        };
+        let give = Row {
+            resp: gives,
+            next: given,
+        };
+        assert_eq!(rt; picked(&mut Keep, snoop, held), Some(keep));
+        assert_eq!(rt; picked(&mut Chosen::Keep, snoop, held), Some(keep));
+        assert_eq!(rt; picked(&mut Eager, snoop, held), Some(give));
+        assert_eq!(rt; picked(&mut Chosen::Eager, snoop, held), Some(give));
+    }
+    Ok(())
+}
+
+#[test]
+fn mixes_rows(rt: HostRuntime) -> Result<(), Fail> {
+    // the first words of PCG's reference generator at state 0 and stream 1, modulo the six rows
+    let places = [5, 5, 2, 5, 3, 1, 2, 4];
+    let rows = [
+        (0x09, SD),
+        (0x19, SD),
+        (0x0d, SC),
+        (0x1d, SC),
+        (0x05, I),
+        (0x15, I),
+    ];
+    let mut mixed = Mixed::new(0);
+    let mut chosen = Chosen::Mixed(Mixed::new(0));
+    for place in places {
+        let (resp, next) = rows[place];
+        let row = Some(Row { resp, next });
+        assert_eq!(rt; picked(&mut mixed, SnoopKind::ReadShared, UD), row);
+        assert_eq!(rt; picked(&mut chosen, SnoopKind::ReadShared, UD), row);
+    }
+    Ok(())
+}
