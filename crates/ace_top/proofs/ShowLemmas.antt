@@ -1,13 +1,11 @@
 -- What `show` answers.
-use Rattle.std.proofs.Common.{◌≡◌, ◌≢◌, ◌≤◌, ◌<◌, ◌++◌, ℕ, List, [], ◌∷◌, Option, None, Some, IfSome, length, refl, sym, ap, subst, ◌∙◌, append_assoc, append-nil, arith, inl, inr, codes}
+use Rattle.std.proofs.Common.{◌≡◌, ◌≢◌, ◌≤◌, ◌++◌, ℕ, List, [], ◌∷◌, Option, None, Some, IfSome, length, refl, sym, ap, subst, ◌∙◌, append-nil, inl, inr, codes}
 use Rattle.std.specs.List.{AllByRecursion}
 use Rattle.std.specs.Io.KnownBytes.{Consumes, Appends, IsAtEnd}
 use Rattle.std.proofs.KnownBytes.{Consumes-trans, Appends-trans, Appends-nil}
 use Rattle.ace_event.specs.declared.header.Header.{Header}
 use Rattle.ace_event.specs.declared.event.Event.{Event}
-use Rattle.ace_event.specs.Text.{header_text, events_text, trace_text}
-use Rattle.ace_io.specs.Line.{IsPending}
-use Rattle.ace_grammar.specs.declared.reason.Reason.{Reason}
+use Rattle.ace_event.specs.Text.{header_text, trace_text}
 use Rattle.ace_grammar.specs.declared.error.HeaderErr.{HeaderErr}
 use Rattle.ace_grammar.specs.declared.error.HeaderErr.TheVariants as header_error
 use Rattle.ace_grammar.specs.Errors.{IfMalformedHeader}
@@ -20,7 +18,7 @@ use Rattle.ace_top.specs.Answer.{Answers, BreaksOff, IsBegun}
 use Rattle.ace_top.specs.Copy.{HasWritten, WritesPart, EndsCopy}
 use Rattle.ace_top.specs.HeaderAnswer.{header_answer}
 use Rattle.ace_top.specs.Output.{AppendsPart, AppendsParts}
-use Rattle.ace_top.specs.Show.{IsShown, ShowsFront}
+use Rattle.ace_top.specs.Show.{IsShown}
 use Rattle.ace_top.specs.Texts.{status_of, out_text_of, notes_text_of}
 
 -- after a copy there is no further text for the standard output

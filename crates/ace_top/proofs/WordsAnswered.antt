@@ -1,8 +1,7 @@
 -- From the answer of a command to the answer to a list of words.
-use Rattle.std.proofs.Common.{◌≡◌, ◌⊎◌, ◌++◌, ℕ, List, [], ◌∷◌, Option, String, codes, refl, sym, subst, inl, inr}
+use Rattle.std.proofs.Common.{◌≡◌, ◌++◌, ℕ, List, [], ◌∷◌, Option, String, codes, refl, sym, subst, inl, inr}
 use Rattle.std.specs.Io.KnownBytes.{Appends}
 use Rattle.std.specs.declared.alloc.Global.{Global}
-use Rattle.ace_top.specs.declared.words.Command.{Command}
 use Rattle.ace_top.specs.declared.words.Command.TheVariants.{Check, Show}
 use Rattle.ace_top.specs.Answer.{Answers, AnswersWords, BreaksOff, BreaksOffWords}
 use Rattle.ace_top.specs.declared.answer.Answer.TheVariants.{Usage}

@@ -1,4 +1,4 @@
-use Rattle.std.proofs.Common.{◌≡◌, ◌<◌, ◌+◌, ◌++◌, [], ◌∷◌, length, refl, ap, ◌∙◌, arith, rules, Ok, length-append, subst, sym}
+use Rattle.std.proofs.Common.{◌<◌, ◌+◌, ◌++◌, [], ◌∷◌, length, refl, ap, ◌∙◌, arith, rules, Ok, length-append}
 use Rattle.std.proofs.lemmas.Grind.{common_steps}
 use Rattle.ace_grammar.specs.Reading.{most_events}
 use Rattle.ace_top.proofs.CopyLemmas.{copied_nothing, copied_more}

@@ -1,4 +1,4 @@
-use Rattle.std.proofs.Common.{◌≡◌, ◌≤◌, ◌-◌, ℕ, List, length, false}
+use Rattle.std.proofs.Common.{◌≡◌, ◌≤◌, ◌-◌, List, length, false}
 use Rattle.ace_event.specs.declared.event.Event.{Event}
 use Rattle.ace_io.specs.Reader.{waiting, source_of}
 use Rattle.ace_grammar.specs.Reading.{most_events}
