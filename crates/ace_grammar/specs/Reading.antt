@@ -1,14 +1,15 @@
 -- How bytes read as a trace. The text of a trace is written and compared here, and never cut.
 use Rattle.std.specs.Prelude.{◌≡◌, ◌≢◌, ℕ, ◌+◌, ◌<◌, ◌≤◌, ◌⊎◌, List, [], ◌++◌, length, codes, Option, None, Some}
 use Rattle.std.specs.List.{AllByRecursion}
+use Rattle.std.specs.Io.KnownBytes.{Consumes}
 use Rattle.ace_event.specs.declared.header.Header.{Header}
 use Rattle.ace_event.specs.declared.event.Event.{Event}
 use Rattle.ace_event.specs.Ports.{IsHeader, port_letters}
 use Rattle.ace_event.specs.Range.{InRange}
-use Rattle.ace_event.specs.Text.{line_text, trace_text}
+use Rattle.ace_event.specs.Text.{line_text, header_text, trace_text}
 use Rattle.ace_grammar.specs.declared.reason.Reason.{Reason}
 use Rattle.ace_grammar.specs.declared.reason.Reason.TheVariants.{F1, F7}
-use Rattle.ace_grammar.specs.Lines.{IsFirstLine, HasNoLine}
+use Rattle.ace_grammar.specs.Lines.{BeginsWith, IsFirstLine, HasNoLine}
 use Rattle.ace_grammar.specs.Reasons.{HasReason}
 
 -- an event whose line is read
@@ -38,6 +39,11 @@ abbrev pub HasBadHeader : List ℕ → ℕ → Reason → Type 0
 HasBadHeader bytes number reason =
     ((number ≡ 1) × HasBadHeaderLine (λ line. line ≡ codes "ACE 1") bytes reason)
     ⊎ ((number ≡ 2) × ((rest : List ℕ) × (bytes ≡ line_text (codes "ACE 1") ++ rest) × HasBadHeaderLine IsPortsLine rest reason))
+
+-- What was taken of the bytes holds no header whole.
+abbrev pub TakesNoHeader : Option (List ℕ) → Option (List ℕ) → Type 0
+TakesNoHeader old new = (taken : List ℕ) × Consumes old new taken
+    × ((header : Header) → IsReadableHeader header → ¬ BeginsWith taken (header_text header))
 
 -- A line stands at the front, and it is malformed for this reason, the least that applies.
 abbrev pub HasBadLine : List ℕ → Reason → Type 0

@@ -7,18 +7,20 @@ use ace_codes::LineState;
 use ace_event::{Channel, Line, Outcome};
 
 /// The value of a lower-case hexadecimal digit.
+#[inline(always)]
 pub fn digit_of(byte: u8) -> Option<u8>
     ensures value { result ≡ digit_of byte }
     ensures below { IfSome result (λ digit. digit < 16) }
 {
-    match byte {
-        b'0'..=b'9' => Some(byte - b'0'),
-        b'a'..=b'f' => Some(byte - b'a' + 10),
-        _ => None,
-    }
+    // No branch tells decimal digits from letters, since neither is the likelier.
+    let decimal = byte.wrapping_sub(b'0');
+    let letter = byte.wrapping_sub(b'a').saturating_add(10);
+    let digit = if decimal < 10 { decimal } else { letter };
+    (digit < 16).then_some(digit)
 }
 
 /// The number that these digits write, of which there are at most 32.
+#[inline(always)]
 pub fn number_of(digits: &[u8]) -> Option<u128>
     requires { length digits.now ≤ 32 }
     ensures { result ≡ digits_onto 0 digits.now }
@@ -31,6 +33,7 @@ pub fn number_of(digits: &[u8]) -> Option<u128>
 }
 
 #[tactic(auto, unfolding(crate::specs::Fields::space_at))]
+#[inline(always)]
 fn take_space(bytes: &[u8]) -> Option<&[u8]>
     ensures { option_map (λ rest. rest.now) result ≡ space_at bytes.now }
 {
@@ -41,6 +44,7 @@ fn take_space(bytes: &[u8]) -> Option<&[u8]>
 }
 
 #[tactic(auto, unfolding(crate::specs::Fields::digits_at))]
+#[inline(always)]
 fn take_digits(bytes: &[u8], count: usize, most: u128) -> Option<(u128, &[u8])>
     requires { count ≤ 32 }
     ensures value { option_map (λ x. (x.0, x.1.now)) result ≡ digits_at count most bytes.now }
@@ -59,6 +63,7 @@ fn take_digits(bytes: &[u8], count: usize, most: u128) -> Option<(u128, &[u8])>
 
 /// A number of so many digits, which is at most `most`.
 #[tactic(auto, unfolding(crate::specs::Fields::number_at))]
+#[inline(always)]
 pub fn take_number(bytes: &[u8], count: usize, most: u128) -> Option<(u128, &[u8])>
     requires { count ≤ 32 }
     ensures value { option_map (λ x. (x.0, x.1.now)) result ≡ number_at count most bytes.now }
@@ -69,6 +74,7 @@ pub fn take_number(bytes: &[u8], count: usize, most: u128) -> Option<(u128, &[u8
 
 /// A flag: `0` or `1`.
 #[tactic(auto, unfolding(crate::specs::Fields::flag_at))]
+#[inline(always)]
 pub fn take_flag(bytes: &[u8]) -> Option<(bool, &[u8])>
     ensures { option_map (λ x. (x.0, x.1.now)) result ≡ flag_at bytes.now }
 {

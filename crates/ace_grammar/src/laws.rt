@@ -1,13 +1,14 @@
 //! Facts about the definitions, as contracts of functions that do nothing.
 
-ghost use Rattle.std.specs.Prelude.{◌≡◌, ◌≢◌, ◌⊎◌, ℕ, List};
+ghost use Rattle.std.specs.Prelude.{◌≡◌, ◌≢◌, ◌≤◌, ◌⊎◌, ℕ, List, length};
+ghost use Rattle.std.specs.List.{AllByRecursion};
 ghost use Rattle.ace_event.specs.declared.event.Event.{Event};
 ghost use Rattle.ace_event.specs.declared.header.Header.{Header};
 ghost use Rattle.ace_event.specs.Range.{InRange};
-ghost use Rattle.ace_event.specs.Text.{event_text};
+ghost use Rattle.ace_event.specs.Text.{event_text, trace_text};
 ghost use Rattle.ace_grammar.specs.declared.reason.Reason.{Reason};
 ghost use Rattle.ace_grammar.specs.Reasons.{HasReason};
-ghost use Rattle.ace_grammar.specs.Reading.{Ending, Reads, HasBadHeader};
+ghost use Rattle.ace_grammar.specs.Reading.{Ending, Whole, Reads, IsReadable, IsReadableHeader, HasBadHeader, most_events};
 
 /// The same bytes read in one way: they have one header, one list of events and one ending, or a bad header with one
 /// line and one reason.
@@ -33,4 +34,10 @@ pub fn one_reason()
 pub fn some_reading()
     ensures { (bytes : List ℕ) → ((number : ℕ) × (reason : Reason) × HasBadHeader bytes number reason)
         ⊎ ((header : Header) × (events : List Event) × (end : Ending) × Reads bytes header events end) }
+{}
+
+/// The text of a trace reads as that trace.
+pub fn text_reads_back()
+    ensures { (header : Header) (events : List Event) → IsReadableHeader header → AllByRecursion IsReadable events
+        → length events ≤ most_events → Reads (trace_text header events) header events Whole }
 {}

@@ -7,7 +7,7 @@ ghost use Rattle.ace_io.specs.Reader.{source_of, waiting};
 ghost use Rattle.ace_event.specs.Text.{event_text, line_text, header_text};
 ghost use Rattle.ace_grammar.specs.Errors.{IfMalformed, IfMalformedHeader};
 ghost use Rattle.ace_grammar.specs.Lines.{HasNoLine};
-ghost use Rattle.ace_grammar.specs.Reading.{IsReadable, IsReadableHeader, HasBadHeader, HasBadLine, IfTold};
+ghost use Rattle.ace_grammar.specs.Reading.{IsReadable, IsReadableHeader, HasBadHeader, HasBadLine, IfTold, TakesNoHeader};
 
 use crate::{HeaderErr, ReadErr, Reason, is_version_line, parse_event, parse_ports};
 use ace_event::{Event, Header};
@@ -22,6 +22,7 @@ fn take_line<S: Source>(lines: &mut LineReader<S>, line: &mut LineBuf) -> Result
     ensures none { IfOk result (λ whole. whole ≡ false → IfTold (waiting S.left lines.old) HasNoLine) }
     ensures steady { OnOk result (S.faults (source_of lines.new).now ≡ S.faults (source_of lines.old).now) }
     ensures fault { OnErr result (Rose (S.faults (source_of lines.old).now) (S.faults (source_of lines.new).now)) }
+    ensures pending { OnErr result (IsPending (waiting S.left lines.old) (S.left (source_of lines.new).now)) }
 {
     match lines.next(line) {
         Ok(LineEnd::Whole) => Ok(true),
@@ -31,8 +32,9 @@ fn take_line<S: Source>(lines: &mut LineReader<S>, line: &mut LineBuf) -> Result
 }
 
 /// Reads the two header lines. `Malformed` comes exactly where the first malformed one of them has this number and
-/// reason; `ReadFault` comes only where the source's count of faults rose. After an error read no more. `line` is room
-/// for a line.
+/// reason; `ReadFault` comes only where the source's count of faults rose, and no header stands whole in what was taken
+/// by then. After an error read no more. `line` is room for a line.
+#[tactic(auto, using(crate::proofs::NoHeader::failed_first))]
 pub fn read_header<S: Source>(
     lines: &mut LineReader<S>,
     line: &mut LineBuf,
@@ -46,6 +48,8 @@ pub fn read_header<S: Source>(
     ensures malformed_steady { IfErr result (λ error. IfMalformedHeader error
         (λ number reason. S.faults (source_of lines.new).now ≡ S.faults (source_of lines.old).now)) }
     ensures fault { IsErrOf result HeaderErr.ReadFault → Rose (S.faults (source_of lines.old).now) (S.faults (source_of lines.new).now) }
+    ensures pending { IsErrOf result HeaderErr.ReadFault
+        → TakesNoHeader (waiting S.left lines.old) (S.left (source_of lines.new).now) }
 {
     match take_line(lines, line) {
         Ok(true) => {}

@@ -10,7 +10,7 @@ use Rattle.ace_grammar.specs.declared.error.HeaderErr.{HeaderErr}
 use Rattle.ace_grammar.specs.declared.error.HeaderErr.TheVariants as header_error
 use Rattle.ace_grammar.specs.Errors.{IfMalformedHeader}
 use Rattle.ace_grammar.specs.Lines.{BeginsWith}
-use Rattle.ace_grammar.specs.Reading.{Reads, Whole, Full, Bad, IsReadable, IsReadableHeader, HasBadHeader, HasBadLine, IfTold, most_events}
+use Rattle.ace_grammar.specs.Reading.{Reads, Whole, Full, Bad, IsReadable, IsReadableHeader, HasBadHeader, HasBadLine, TakesNoHeader, IfTold, most_events}
 use Rattle.ace_top.specs.declared.answer.Answer.{Answer}
 use Rattle.ace_top.specs.declared.answer.Answer.TheVariants.{Accepted, Refused, Shown, Usage, Malformed, ReadFault, LimitEvents, NoMemory}
 use Rattle.ace_top.specs.declared.words.Command.TheVariants.{Show}
@@ -102,20 +102,21 @@ silent header_error.ReadFault = refl
 -- there was no header
 pub shows_no_header : (old left out out' notes notes' : Option (List ℕ)) (status : ℕ) (error : HeaderErr) (answer : Answer)
     → answer ≡ header_answer error → IfMalformedHeader error (λ line reason. IfTold old (λ bytes. HasBadHeader bytes line reason))
+    → (error ≡ header_error.ReadFault → TakesNoHeader old left)
     → Appends out out' (out_text_of answer) → Appends notes notes' (notes_text_of answer) → status ≡ status_of answer → Answers Show old left status out out' notes notes'
-shows_no_header old left out out' notes notes' status error answer is bad given told same = (
+shows_no_header old left out out' notes notes' status error answer is bad pending given told same = (
   answer,
   [],
-  subst (λ (a : Answer). IfSome old (λ bytes. IsShown bytes left a [])) (sym is) (shown error old bad),
+  subst (λ (a : Answer). IfSome old (λ bytes. IsShown bytes left a [])) (sym is) (shown error old bad pending),
   same,
   subst (Appends out out') (ap out_text_of is ∙ silent error) given,
   told,
 )
   where
-    shown : (error : HeaderErr) (old : Option (List ℕ)) → IfMalformedHeader error (λ line reason. IfTold old (λ bytes. HasBadHeader bytes line reason)) → IfSome old (λ bytes. IsShown bytes left (header_answer error) [])
-    shown error None bad = tt
-    shown (header_error.Malformed line reason) (Some bytes) bad = inl (bad, refl)
-    shown header_error.ReadFault (Some bytes) bad = inl refl
+    shown : (error : HeaderErr) (old : Option (List ℕ)) → IfMalformedHeader error (λ line reason. IfTold old (λ bytes. HasBadHeader bytes line reason)) → (error ≡ header_error.ReadFault → TakesNoHeader old left) → IfSome old (λ bytes. IsShown bytes left (header_answer error) [])
+    shown error None bad pending = tt
+    shown (header_error.Malformed line reason) (Some bytes) bad pending = inl (bad, refl)
+    shown header_error.ReadFault (Some bytes) bad pending = inl (refl, pending refl)
 
 begun : (old mid next : Option (List ℕ)) (header : Header) (events : List Event) → IsReadableHeader header → Consumes old mid (header_text header) → HasWritten mid next events
     → IfSome old (λ bytes. IsBegun Show bytes (trace_text header events))

@@ -7,7 +7,7 @@ use Rattle.ace_event.specs.declared.header.Header.{Header}
 use Rattle.ace_event.specs.declared.event.Event.{Event}
 use Rattle.ace_event.specs.Text.{trace_text}
 use Rattle.ace_grammar.specs.Lines.{BeginsWith}
-use Rattle.ace_grammar.specs.Reading.{Ending, Whole, Full, Bad, Reads, IsReadable, IsReadableHeader, HasBadHeader, most_events}
+use Rattle.ace_grammar.specs.Reading.{Ending, Whole, Full, Bad, Reads, IsReadable, IsReadableHeader, HasBadHeader, TakesNoHeader, most_events}
 use Rattle.ace_top.specs.declared.answer.Answer.{Answer}
 use Rattle.ace_top.specs.declared.answer.Answer.TheVariants.{Accepted, Refused, Shown, Usage, Malformed, ReadFault, LimitEvents, NoMemory}
 
@@ -28,13 +28,14 @@ ShowsTaken bytes left text = (header : Header) × (events : List Event) × (pend
     × HasNoLf pending × (length pending < 256) × Consumes (Some bytes) left (trace_text header events ++ pending)
     × (text ≡ trace_text header events)
 
--- The answer that `show` gives to these bytes, of which these are left, and the text that it writes. Want of memory may
--- take its place.
+-- The answer that `show` gives to these bytes, of which these are left, and the text that it writes: at a fault of the
+-- input what stands whole in the bytes that were taken, and nothing where the header doesn't. Want of memory may take
+-- its place.
 abbrev pub IsShown : List ℕ → Option (List ℕ) → Answer → List ℕ → Type 0
 IsShown bytes left Shown text = ShowsTrace bytes text Whole
 IsShown bytes left (Malformed line reason) text = (HasBadHeader bytes line reason × (text ≡ [])) ⊎ ShowsTrace bytes text (Bad line reason)
 IsShown bytes left LimitEvents text = ShowsTrace bytes text Full
-IsShown bytes left ReadFault text = (text ≡ []) ⊎ ShowsTaken bytes left text
+IsShown bytes left ReadFault text = ((text ≡ []) × TakesNoHeader (Some bytes) left) ⊎ ShowsTaken bytes left text
 IsShown bytes left NoMemory text = text ≡ []
 IsShown bytes left (Accepted events) text = ⊥
 IsShown bytes left (Refused index rule) text = ⊥

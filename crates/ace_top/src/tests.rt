@@ -158,6 +158,14 @@ fn shown_traces(rt: HostRuntime) -> Result<(), Fail> {
             assert_eq!(rt; notes.bytes(), wanted_notes.as_bytes(), "{trace}");
         }
     }
+    for room in 0..300 {
+        let mut input = HonestSource::new(SIXTEEN.as_bytes());
+        let (given, out, notes) = answer(&rt, alloc, &["show"], &mut input, (room, 99))?;
+        assert_eq!(rt; given, 5);
+        assert_eq!(rt; out.bytes().len(), room);
+        assert!(rt; SIXTEEN.as_bytes().starts_with(out.bytes()), "room {room}");
+        assert_eq!(rt; notes.bytes(), b"write fault\n".as_slice());
+    }
     let mut fails = MemSource::new(alloc, SNOOPED_OUT.as_bytes(), &[8], &[5])?;
     let (given, out, notes) = answer(&rt, alloc, &["show"], &mut fails, (999, 99))?;
     assert_eq!(rt; given, 4);

@@ -1,3 +1,4 @@
+use Rattle.std.proofs.Common.{ap, Err}
 use Rattle.ace_top.proofs.ShowLemmas.{shows_copy, shows_no_header, breaks_in_copy, breaks_after_copy, breaks_without_header}
 use Rattle.ace_top.proofs.show.show_lines.Goals as goal
 
@@ -13,7 +14,7 @@ returns-in-Ok-write_trace-clause-broken_off g c five =
 
 pub returns-in-Err-clause-answer : goal.returns-in-Err-clause-answer
 returns-in-Err-clause-answer g c ne =
-    shows_no_header _ _ _ _ _ _ _ _ _ c.answer_of.ensures c.in-Err.ensures.malformed (c.conclude-in-Err.ensures.out_given ne) (c.conclude-in-Err.ensures.notes_given ne) (c.conclude-in-Err.ensures.status ne)
+    shows_no_header _ _ _ _ _ _ _ _ _ c.answer_of.ensures c.in-Err.ensures.malformed (λ is. c.in-Err.ensures.pending (ap Err is)) (c.conclude-in-Err.ensures.out_given ne) (c.conclude-in-Err.ensures.notes_given ne) (c.conclude-in-Err.ensures.status ne)
 
 pub returns-in-Err-clause-broken_off : goal.returns-in-Err-clause-broken_off
 returns-in-Err-clause-broken_off g c five =

@@ -1,0 +1,31 @@
+-- Where the input failed in the header, no header stands whole in what was taken.
+use Rattle.std.proofs.Common.{◌≡◌, ℕ, List, [], ◌∷◌, ◌++◌, Option, refl, sym, ◌∙◌, append-nil, codes, inr}
+use Rattle.std.specs.Io.KnownBytes.{Consumes}
+use Rattle.std.proofs.KnownBytes.{Consumes-trans}
+use Rattle.ace_event.specs.declared.header.Header.{Header}
+use Rattle.ace_event.specs.Text.{line_text, header_text}
+use Rattle.ace_io.specs.Line.{HasNoLf, IsPending}
+use Rattle.ace_grammar.specs.Reading.{TakesNoHeader, ports_text}
+use Rattle.ace_grammar.proofs.Cut.{clean_line, no_line, header_lines, behind_version, version_taken}
+
+-- bytes without a line feed are no line and what comes after it
+no_lf : (taken line rest : List ℕ) → HasNoLf taken → taken ≡ line_text line ++ rest → ⊥
+no_lf taken line rest none e = no_line taken [] line rest (clean_line taken none) (inr refl) (append-nil taken ∙ e)
+
+-- it failed in the first line
+pub failed_first : (old new : Option (List ℕ)) → IsPending old new → TakesNoHeader old new
+failed_first old new (taken, none, short, consumed) =
+    (taken, consumed, λ header is (rest, e). no_lf taken (codes "ACE 1") (line_text (ports_text header) ++ rest) none (header_lines taken rest header e))
+
+-- it failed in the second line
+pub failed_second : (old mid new : Option (List ℕ)) → Consumes old mid (line_text (codes "ACE 1")) → IsPending mid new → TakesNoHeader old new
+failed_second old mid new first (taken, none, short, consumed) = (
+  line_text (codes "ACE 1") ++ taken,
+  Consumes-trans old mid new _ _ first consumed,
+  λ header is (rest, e).
+      no_lf taken (ports_text header) rest none (behind_version taken (line_text (ports_text header) ++ rest) (header_lines (line_text (codes "ACE 1") ++ taken) rest header e)),
+)
+
+-- the same, with the first line as it was compared
+pub failed_behind_version : (old mid new : Option (List ℕ)) (bytes line : List ℕ) → bytes ≡ codes "ACE 1" → bytes ≡ line → Consumes old mid (line_text line) → IsPending mid new → TakesNoHeader old new
+failed_behind_version old mid new bytes line version is first pending = failed_second old mid new (version_taken old mid bytes line version is first) pending
