@@ -41,8 +41,10 @@ fn picks_rows(rt: HostRuntime) -> Result<(), Fail> {
 
 #[test]
 fn mixes_rows(rt: HostRuntime) -> Result<(), Fail> {
-    // the first words of PCG's reference generator at state 0 and stream 1, modulo the six rows
-    let places = [5, 5, 2, 5, 3, 1, 2, 4];
+    // the first eight words of PCG's reference generator, seeded with 42 on stream 1: 1307692281,
+    // 3850602322, 1491967504, 4091771729, 3882238836, 1795024040, 2266118430 and 1938801432,
+    // modulo the six rows
+    let places = [3, 4, 4, 5, 0, 2, 0, 0];
     let rows = [
         (0x09, SD),
         (0x19, SD),
@@ -51,8 +53,8 @@ fn mixes_rows(rt: HostRuntime) -> Result<(), Fail> {
         (0x05, I),
         (0x15, I),
     ];
-    let mut mixed = Mixed::new(0);
-    let mut chosen = Chosen::Mixed(Mixed::new(0));
+    let mut mixed = Mixed::new(42);
+    let mut chosen = Chosen::Mixed(Mixed::new(42));
     for place in places {
         let (resp, next) = rows[place];
         let row = Some(Row { resp, next });
