@@ -8,5 +8,6 @@ pub mod Exclusives
 pub mod States
 pub mod Rules
 pub mod Accepted
+pub mod Today
 pub mod Unique
 pub mod Rows

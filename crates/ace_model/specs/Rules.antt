@@ -14,7 +14,7 @@ use Rattle.ace_model.specs.Trace.{Trace, port_of, implies, same_test, is_some_an
 use Rattle.ace_codes.specs.Reads.{ar_kind_of}
 use Rattle.ace_codes.specs.Snoops.{ac_kind_of, ac_code}
 use Rattle.ace_codes.specs.Writes.{aw_kind_of}
-use Rattle.ace_model.specs.Kinds.{is_line_read, is_line_write, is_lite_read, is_lite_write, is_read_unique, is_read_unique_snoop, is_read_not_shared_dirty, is_clean_unique, is_make_unique, may_be_exclusive, may_be_shared, takes_passed_data, beats_of}
+use Rattle.ace_model.specs.Kinds.{is_line_read, is_line_write, is_lite_read, is_lite_write, is_read_not_shared_dirty, is_clean_unique, is_make_unique, may_be_exclusive, may_be_shared, takes_passed_data, beats_of}
 use Rattle.ace_codes.specs.Responses.{has_error, passes_dirty, is_shared, low_bits}
 use Rattle.ace_tables.specs.Answers.{is_snoop_row}
 use Rattle.ace_tables.specs.EndStates.{ends_read}
@@ -24,17 +24,6 @@ use Rattle.ace_model.specs.Snoops.{answered, snoops_a_line}
 use Rattle.ace_model.specs.Grants.{granted, is_granted, has_grant, is_begun, was_snooped, has_sharer, has_passed_data, are_passed_data_whole}
 use Rattle.ace_model.specs.Exclusives.{has_failed, has_passed}
 use Rattle.ace_model.specs.States.{state_of, has_store, owes_wack, are_snoops_done}
-
--- Today's limit, in this one place: of transactions and snoops ReadUnique alone is known, and of the sixteen records
--- these six. Any other event breaks K2.
-abbrev pub is_known_today : Event → Bool
-is_known_today (Ar p i addr snoop dom bar lock) = is_some_and (ar_kind_of snoop dom bar) is_read_unique
-is_known_today (Ac p addr snoop) = is_some_and (ac_kind_of snoop) is_read_unique_snoop
-is_known_today (R p i resp last word) = true
-is_known_today (Rk p st) = true
-is_known_today (Cr p resp st) = true
-is_known_today (G p c i) = true
-is_known_today _ = false
 
 -- events that only a master with a cache has: acknowledges, snoops and their answers and data, silent transitions,
 -- loads and stores
@@ -71,10 +60,9 @@ has_known_codes h (Cr p resp st) = not (has_error resp)
 has_known_codes h _ = true
 
 -- K2: the codes of AR, AW and AC have a kind that the port may issue; RRESP and BRESP are OKAY or EXOKAY in their low
--- two bits; the Error bit of CRRESP is 0 (Arm IHI 0022E, C3.1.3, C3.2.1, C3.6.1 and C3.7). And the event is one that is
--- known today.
+-- two bits; the Error bit of CRRESP is 0 (Arm IHI 0022E, C3.1.3, C3.2.1, C3.6.1 and C3.7).
 abbrev pub k2 : Header → Trace → Event → Bool
-k2 h past e = has_known_codes h e && is_known_today e
+k2 h past e = has_known_codes h e
 
 -- the address of the line that the event names
 abbrev pub line_address : Event → Option ℕ

@@ -1,5 +1,5 @@
 -- The transactions of a trace. One is issued by an AR or AW; R and B belong to it by port, channel and identifier, RK
--- and WK by the order of completion (Arm IHI 0022E, A5.3 and C3.3 to C3.4).
+-- and WK by the order of completion (Arm IHI 0022E, A5.3, C3.3 and C3.5).
 use Rattle.std.specs.Prelude.{ℕ, ◌+◌, Bool, true, false, not, ◌&&◌, ◌||◌, ◌==◌, if◌then◌else◌, List, [], ◌∷◌, ◌++◌, Option, Some, None, length, slice_get, nat_lt}
 use Rattle.std.specs.Int.{bit_at}
 use Rattle.ace_codes.specs.declared.kind.ArKind.{ArKind}
