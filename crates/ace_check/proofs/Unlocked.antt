@@ -13,7 +13,7 @@ use Rattle.ace_codes.specs.Reads.{ar_kind_of}
 use Rattle.ace_model.specs.Kinds.{is_read_unique, may_be_exclusive}
 use Rattle.ace_model.specs.Transactions.{is_ace, has_name, is_on, issued, newest_named, transaction_of, transaction_under, next_complete, acknowledged, ended, without, outstanding}
 use Rattle.ace_model.specs.Grants.{given, newest_on, granted}
-use Rattle.ace_model.specs.Rules.{has_known_codes}
+use Rattle.ace_model.specs.AddressRules.{has_known_codes}
 use Rattle.ace_model.specs.Accepted.{IsAcceptedBy, least_of}
 use Rattle.ace_model.specs.Today.{is_known_today, rules_today}
 use Rattle.ace_model.proofs.Kept.{KeptToday, kept_today}

@@ -3,7 +3,9 @@ use Rattle.std.proofs.Common.{◌≡◌, ℕ, Bool, true, false, if◌then◌els
 use Rattle.ace_event.specs.declared.event.Event.{Event}
 use Rattle.ace_event.specs.declared.header.Header.{Header}
 use Rattle.ace_model.specs.Trace.{Trace}
-use Rattle.ace_model.specs.Rules.{k1, k3, k4, k5, k6, k7, k12, k13, k14, k15, k18, k19, k21, k22, k23}
+use Rattle.ace_model.specs.AddressRules.{k1, k3, k4, k5, k6, k7}
+use Rattle.ace_model.specs.SnoopRules.{k12, k13, k14, k15}
+use Rattle.ace_model.specs.ReadRules.{k18, k19, k21, k22, k23}
 use Rattle.ace_model.specs.Accepted.{Rule, least_of}
 use Rattle.ace_model.specs.Today.{k2_today, rules_today}
 

@@ -12,7 +12,7 @@ use Rattle.ace_model.specs.Trace.{Trace, is_some_and}
 use Rattle.ace_codes.specs.Reads.{ar_kind_of}
 use Rattle.ace_model.specs.Kinds.{is_read_unique, is_lite_read}
 use Rattle.ace_model.specs.Transactions.{is_ace, has_name, outstanding}
-use Rattle.ace_model.specs.Rules.{k4, has_known_codes, may_issue_read}
+use Rattle.ace_model.specs.AddressRules.{k4, has_known_codes, may_issue_read}
 use Rattle.ace_model.specs.Today.{k2_today}
 use Rattle.ace_model.proofs.Looks.{none_is, is_some_and-is, Some-injective, has_name-is, newest_named-cases, newest_named-older}
 use Rattle.ace_model.proofs.UniqueFacts.{IsKnown, TransactionsKnown, GrantsStand, TransfersAlone, QueueStands, Inductive}

@@ -5,7 +5,7 @@ use Rattle.ace_event.specs.declared.header.Header.{Header}
 use Rattle.ace_event.specs.declared.event.Event.{Event}
 use Rattle.ace_event.specs.declared.event.Event.TheVariants.{Ar, R, Rk, Aw, W, B, Wk, Ac, Cr, Cd, G, M, S, L, D, Op}
 use Rattle.ace_model.specs.Trace.{Trace}
-use Rattle.ace_model.specs.Rules.{has_known_codes}
+use Rattle.ace_model.specs.AddressRules.{has_known_codes}
 use Rattle.ace_model.specs.Accepted.{IsAcceptedBy}
 use Rattle.ace_model.specs.Today.{is_known_today, rules_today}
 use Rattle.ace_model.specs.Unique.{Unique}

@@ -17,7 +17,8 @@ use Rattle.ace_model.specs.Snoops.{snoop_at, snoops_of, answers, answered, is_sn
 use Rattle.ace_model.specs.Grants.{grant_place, answers_grant}
 use Rattle.ace_model.specs.States.{state_of}
 use Rattle.ace_model.specs.Unique.{UniqueNow}
-use Rattle.ace_model.specs.Rules.{k14, k15, answers_by_row, has_known_codes}
+use Rattle.ace_model.specs.AddressRules.{has_known_codes}
+use Rattle.ace_model.specs.SnoopRules.{k14, k15, answers_by_row}
 use Rattle.ace_model.specs.Today.{k2_today}
 use Rattle.ace_model.proofs.Looks.{some_is, is_some_and-is, is_none_or-at, is_invalid-is, not_unique, Some-injective}
 use Rattle.ace_model.proofs.Places.{slice_get-more}

@@ -4,7 +4,12 @@ use Rattle.ace_event.specs.declared.event.Event.{Event}
 use Rattle.ace_event.specs.declared.header.Header.{Header}
 use Rattle.ace_model.specs.declared.breaks.Break.{Break}
 use Rattle.ace_model.specs.Trace.{Trace}
-use Rattle.ace_model.specs.Rules.{k1, k2, k3, k4, k5, k6, k7, k12, k13, k14, k15, k18, k19, k21, k22, k23}
+use Rattle.ace_model.specs.AddressRules.{k1, k2, k3, k4, k5, k6, k7, k8, k9, k10}
+use Rattle.ace_model.specs.SnoopRules.{k11, k12, k13, k14, k15, k16, k17}
+use Rattle.ace_model.specs.ReadRules.{k18, k19, k20, k21, k22, k23}
+use Rattle.ace_model.specs.WriteRules.{k24, k25, k26, k27, k28}
+use Rattle.ace_model.specs.CacheRules.{k29, k30, k31, k32, k33}
+use Rattle.ace_model.specs.OrderRules.{k34, k35, k36, k37, k38, k39, k40}
 
 -- A rule: its number, and whether an event after a trace keeps it.
 pub record Rule : Type 0 where
@@ -14,11 +19,14 @@ pub record Rule : Type 0 where
 abbrev pub rule : ℕ → (Header → Trace → Event → Bool) → Rule
 rule n keeps = record { number = n; keeps = keeps }
 
--- The rules that are written so far, the least number first.
+-- The forty rules, the least number first.
 abbrev pub rules : List Rule
 rules =
-    rule 1 k1 ∷ rule 2 k2 ∷ rule 3 k3 ∷ rule 4 k4 ∷ rule 5 k5 ∷ rule 6 k6 ∷ rule 7 k7 ∷ rule 12 k12 ∷ rule 13 k13
-    ∷ rule 14 k14 ∷ rule 15 k15 ∷ rule 18 k18 ∷ rule 19 k19 ∷ rule 21 k21 ∷ rule 22 k22 ∷ rule 23 k23 ∷ []
+    rule 1 k1 ∷ rule 2 k2 ∷ rule 3 k3 ∷ rule 4 k4 ∷ rule 5 k5 ∷ rule 6 k6 ∷ rule 7 k7 ∷ rule 8 k8
+    ∷ rule 9 k9 ∷ rule 10 k10 ∷ rule 11 k11 ∷ rule 12 k12 ∷ rule 13 k13 ∷ rule 14 k14 ∷ rule 15 k15 ∷ rule 16 k16
+    ∷ rule 17 k17 ∷ rule 18 k18 ∷ rule 19 k19 ∷ rule 20 k20 ∷ rule 21 k21 ∷ rule 22 k22 ∷ rule 23 k23 ∷ rule 24 k24
+    ∷ rule 25 k25 ∷ rule 26 k26 ∷ rule 27 k27 ∷ rule 28 k28 ∷ rule 29 k29 ∷ rule 30 k30 ∷ rule 31 k31 ∷ rule 32 k32
+    ∷ rule 33 k33 ∷ rule 34 k34 ∷ rule 35 k35 ∷ rule 36 k36 ∷ rule 37 k37 ∷ rule 38 k38 ∷ rule 39 k39 ∷ rule 40 k40 ∷ []
 
 -- the numbers of these rules rise, the first from n on
 abbrev pub rise_from : ℕ → List Rule → Bool

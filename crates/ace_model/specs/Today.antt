@@ -7,7 +7,9 @@ use Rattle.ace_event.specs.declared.event.Event.TheVariants.{Ar, R, Rk, Ac, Cr, 
 use Rattle.ace_event.specs.declared.header.Header.{Header}
 use Rattle.ace_model.specs.Trace.{Trace, is_some_and}
 use Rattle.ace_model.specs.Kinds.{is_read_unique, is_read_unique_snoop}
-use Rattle.ace_model.specs.Rules.{k1, k2, k3, k4, k5, k6, k7, k12, k13, k14, k15, k18, k19, k21, k22, k23}
+use Rattle.ace_model.specs.AddressRules.{k1, k2, k3, k4, k5, k6, k7}
+use Rattle.ace_model.specs.SnoopRules.{k12, k13, k14, k15}
+use Rattle.ace_model.specs.ReadRules.{k18, k19, k21, k22, k23}
 use Rattle.ace_model.specs.Accepted.{Rule, rule}
 
 -- of transactions and snoops ReadUnique alone is known today, and of the sixteen records these six
