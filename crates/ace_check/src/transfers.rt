@@ -5,7 +5,7 @@ ghost use Rattle.ace_tables.specs.Answers.{same_test};
 ghost use Rattle.ace_model.specs.Trace.{is_some_and, is_none_or};
 ghost use Rattle.ace_model.specs.Kinds.{takes_passed_data, is_clean_unique};
 ghost use Rattle.ace_codes.specs.Responses.{passes_dirty, is_shared};
-ghost use Rattle.ace_model.specs.ReadRules.{is_next_transfer, takes_passed, may_transfer, is_due, k18, same_upper_bits, must_be_shared, fits_kind, has_upper_bits, k19, is_exclusive_okay, has_low_bits, k21, k22, is_end, ends_well, k23};
+ghost use Rattle.ace_model.specs.ReadRules.{is_next_transfer, takes_passed, may_transfer, is_due, k18, same_upper_bits, must_be_shared, fits_kind, has_upper_bits, k19, is_exclusive_okay, has_low_bits, k21, k22, held_of, is_end, ends_well, k23};
 ghost use Rattle.ace_model.specs.Accepted.{IsAcceptedBy};
 ghost use Rattle.ace_model.specs.Today.{rules_today};
 
@@ -235,12 +235,23 @@ fn is_dirty_response(first: Option<u8>) -> bool
     }
 }
 
+/// The state that the port holds of the transaction's line; barriers and DVM hold none, which is I.
+fn held_of(h: &Header, past: &[Event], x: Transaction) -> LineState
+    ensures { result ≡ held_of h.now (reverse past.now) x }
+{
+    if is_line(x) {
+        state_of(h, past, x.port, x.addr)
+    } else {
+        LineState::I
+    }
+}
+
 /// The state is an end state of a read of this kind, and a MakeUnique has had its D.
 fn is_end(h: &Header, past: &[Event], x: Transaction, st: LineState, kind: ArKind) -> bool
     requires { x.lock ≡ false }
     ensures { result ≡ is_end h.now (reverse past.now) x st kind }
 {
-    let held = state_of(h, past, x.port, x.addr);
+    let held = held_of(h, past, x);
     let first = first_resp(past, x.port, x.id);
     let failed = has_failed(past, x);
     let ends = end_read(
