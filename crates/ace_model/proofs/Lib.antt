@@ -1,5 +1,10 @@
 pub mod Acceptance
 pub mod FirstBreak
+pub mod HolderFacts
+pub mod HolderSnoop
+pub mod HolderStates
+pub mod HolderStores
+pub mod HolderTables
 pub mod Issued
 pub mod Kept
 pub mod Least
