@@ -1,10 +1,14 @@
 pub mod Acceptance
 pub mod FirstBreak
+pub mod HolderAddress
+pub mod HolderEnds
 pub mod HolderFacts
+pub mod HolderGrant
 pub mod HolderSnoop
 pub mod HolderStates
 pub mod HolderStores
 pub mod HolderTables
+pub mod HolderWrite
 pub mod Issued
 pub mod Kept
 pub mod Least
