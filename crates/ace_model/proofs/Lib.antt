@@ -3,6 +3,7 @@ pub mod FirstBreak
 pub mod HolderAddress
 pub mod HolderEnds
 pub mod HolderFacts
+pub mod HolderFirst
 pub mod HolderGrant
 pub mod HolderSnoop
 pub mod HolderStates
