@@ -9,6 +9,7 @@ pub mod HolderSnoop
 pub mod HolderStates
 pub mod HolderStores
 pub mod HolderTables
+pub mod HolderTransfer
 pub mod HolderWrite
 pub mod Issued
 pub mod Kept
