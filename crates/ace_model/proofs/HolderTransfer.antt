@@ -95,7 +95,7 @@ arrive_here h past q j resp last word f bits m ace line =
               (λ r. Lessens-self (state_of h past r m.one.addr)) (f.arrive q j m.one ace m.out line later)
       | inl zero_before ↦
           let first : first_resp (R q j resp last word ∷ past) q j ≡ Some resp =
-          rw (and_from _ _ (and_from _ _ (eq-eqb q q refl) (eq-eqb j j refl)) (eq-eqb (transfers past q j) 0 zero_before)) refl in
+          rw (and_from _ _ (and_from _ _ (eq-eqb q q (refl {a = q})) (eq-eqb j j (refl {a = j}))) (eq-eqb (transfers past q j) 0 zero_before)) refl in
           let d = is_first zero_before in
           record {
             stands = stands;
@@ -222,7 +222,7 @@ queue_r h past q j resp last word f m p n i ace low e =
     moved new =
         let P : ℕ → ℕ → Type 0 = λ a b. (x : Transaction) × (outstanding h (R q j resp last word ∷ past) a Read b ≡ Some x)
             × (is_some_and (read_kind x) (λ k. transfers (R q j resp last word ∷ past) a b == beats_of k) ≡ true) in
-        let more : transfers (R q j resp last word ∷ past) q j ≡ transfers past q j + 1 = rw (and_from _ _ (eq-eqb q q refl) (eq-eqb j j refl)) refl in
+        let more : transfers (R q j resp last word ∷ past) q j ≡ transfers past q j + 1 = rw (and_from _ _ (eq-eqb q q (refl {a = q})) (eq-eqb j j (refl {a = j}))) refl in
         let whole : (transfers (R q j resp last word ∷ past) q j == beats_of m.kind) ≡ true =
         eq-eqb (transfers (R q j resp last word ∷ past) q j) (beats_of m.kind) (more ∙ m.ends new.is_last) in
         let out = stays_r h past q j resp last word q j m.one (subst (λ a. is_ace h a ≡ true) new.same_port ace) m.out in

@@ -1,5 +1,6 @@
 pub mod Acceptance
 pub mod FirstBreak
+pub mod HolderAcknowledge
 pub mod HolderAddress
 pub mod HolderEnds
 pub mod HolderFacts

@@ -1,0 +1,268 @@
+-- RK: a complete read ends, and its port holds the line in the state that it names.
+use Rattle.std.proofs.Common.{◌≡◌, ◌≢◌, ◌==◌, ℕ, ◌+◌, ◌≤◌, Bool, true, false, if◌then◌else◌, not, ◌&&◌, ◌||◌, nat_eq, nat_lt, ◌∷◌, Some, slice_get, le_refl, refl, sym, ap, subst, ◌∙◌, arith, inl, inr}
+use Rattle.std.proofs.lemmas.Bool.{and_parts, or_cases, cases_Bool, cases_eq, eqb-true, eq-eqb}
+use Rattle.ace_codes.specs.declared.kind.ArKind.{ArKind}
+use Rattle.ace_codes.specs.declared.state.LineState.{LineState}
+use Rattle.ace_codes.specs.declared.state.LineState.TheVariants.{I, UC, UD, SC, SD}
+use Rattle.ace_codes.specs.Responses.{passes_dirty, is_shared}
+use Rattle.ace_event.specs.declared.header.Header.{Header}
+use Rattle.ace_event.specs.declared.event.Channel.TheVariants.{Read}
+use Rattle.ace_event.specs.declared.event.Event.TheVariants.{Rk}
+use Rattle.ace_tables.specs.EndStates.{ends_read}
+use Rattle.ace_tables.specs.States.{is_unique, is_dirty, is_invalid}
+use Rattle.ace_model.specs.declared.transactions.Transaction.{Transaction}
+use Rattle.ace_model.specs.Trace.{Trace, implies, is_some_and}
+use Rattle.ace_model.specs.Kinds.{beats_of, reads_a_line, is_make_unique}
+use Rattle.ace_model.specs.Transactions.{is_ace, is_line, is_on, is_some_on, read_kind, transaction_of, outstanding, completed, acknowledgements, transfers, first_resp, next_complete, acknowledged, transaction_under}
+use Rattle.ace_model.specs.Grants.{granted}
+use Rattle.ace_model.specs.Exclusives.{has_failed}
+use Rattle.ace_model.specs.States.{state_of, has_store}
+use Rattle.ace_model.specs.Unique.{UniqueNow, OneDirtyNow}
+use Rattle.ace_model.specs.AddressRules.{k1}
+use Rattle.ace_model.specs.ReadRules.{k22, k23, ends_well, is_end, held_of}
+use Rattle.ace_model.proofs.Looks.{Some-injective, some_is, is_some_and-is, is_none_or-at, implies-at, is_invalid-is, has_name-is, without-some, without-other}
+use Rattle.ace_model.proofs.Issued.{outstanding-named, transaction_of-stands}
+use Rattle.ace_model.proofs.HolderTables.{is_settled, Lessens-same, takes_alone, takes_shared, read_fits, read_is}
+use Rattle.ace_model.proofs.HolderStates.{arrives_kept}
+use Rattle.ace_model.proofs.HolderEnds.{one_name}
+use Rattle.ace_model.proofs.HolderFacts.{OthersInvalid, OthersNotUnique, AllSettled, Arrives, AnswersFit, PassedOn, TransfersArrive, QueueStands, QueueDistinct, OutsideInvalid, Inductive}
+
+-- The read that an RK of the port belongs to: it is outstanding, and has had a transfer.
+pub record Ends (h : Header) (past : Trace) (q : ℕ) : Type 0 where
+  pub ended_one : Transaction
+  pub id : ℕ
+  pub ace : is_ace h q ≡ true
+  pub next : next_complete past q Read ≡ Some id
+  pub is : acknowledged past q Read ≡ Some ended_one
+  pub out : outstanding h past q Read id ≡ Some ended_one
+  pub named : transaction_of past q Read id ≡ Some ended_one
+  pub port : ended_one.port ≡ q
+  pub is_id : ended_one.id ≡ id
+  pub kind : ArKind
+  pub is_kind : read_kind ended_one ≡ Some kind
+  pub arrives : is_line ended_one ≡ true → Arrives h past q id ended_one
+
+pub ends : (h : Header) (past : Trace) (q : ℕ) (st : LineState) → Inductive h past → k1 h past (Rk q st) ≡ true → k22 h past (Rk q st) ≡ true → Ends h past q
+ends h past q st f known k =
+    let ace : is_ace h q ≡ true = (and_parts (nat_lt q h.ports) (is_ace h q) known).1 in
+    let next = some_is (next_complete past q Read) k in
+    let s = f.queue q (acknowledgements past q Read) next.0 ace (le_refl (acknowledgements past q Read)) next.1 in
+    let named = outstanding-named h past q Read next.0 s.0 s.1 in
+    let name = has_name-is s.0 q Read next.0 (transaction_of-stands past q Read next.0 s.0 named).named in
+    let kind = is_some_and-is (read_kind s.0) (λ k. transfers past q next.0 == beats_of k) s.2 in
+    let some : transfers past q next.0 ≢ 0 = λ z. beats_some (reads_a_line kind.0) (transfers past q next.0) (eqb-true (transfers past q next.0) (beats_of kind.0) kind.2) z in
+    record {
+      ended_one = s.0;
+      id = next.0;
+      ace = ace;
+      next = next.1;
+      is = ap (transaction_under past q Read) next.1 ∙ named;
+      out = s.1;
+      named = named;
+      port = name.port;
+      is_id = name.id;
+      kind = kind.0;
+      is_kind = kind.1;
+      arrives = λ line. f.arrive q next.0 s.0 ace s.1 line some;
+    }
+  where
+    beats_some : (b : Bool) (n : ℕ) → n ≡ (if b then 4 else 1) → n ≡ 0 → ⊥
+    beats_some true n e z = absurd (omega (arith, e, z))
+    beats_some false n e z = absurd (omega (arith, e, z))
+
+-- the test that an RK names the port's state of the line
+abbrev pub is_named_by_rk : Trace → ℕ → ℕ → ℕ → Bool
+is_named_by_rk past q r l = nat_eq r q && is_some_on (acknowledged past r Read) l
+
+-- An RK that names the port's state of the line: what the end states of its read and the other ports' states are.
+pub record EndsLine (h : Header) (past : Trace) (q : ℕ) (st : LineState) (r l : ℕ) : Type 0 where
+  pub port : r ≡ q
+  pub stands : (y : Transaction) × (acknowledged past q Read ≡ Some y) × (granted h past l ≡ Some y)
+  pub kind : ArKind
+  pub shares : Bool
+  pub passes : Bool
+  pub failed : Bool
+  pub fits : read_fits kind (state_of h past r l) shares passes failed st ≡ true
+  pub alone : takes_alone kind shares failed ≡ true → OthersInvalid h past r l
+  pub beside : takes_shared kind ≡ true → OthersNotUnique h past r l
+  pub dirty : passes ≡ true → AllSettled h past l
+
+pub ends_line : (h : Header) (past : Trace) (q : ℕ) (st : LineState) → k23 h past (Rk q st) ≡ true → Ends h past q → (r l : ℕ) → is_named_by_rk past q r l ≡ true
+    → EndsLine h past q st r l
+ends_line h past q st k e r l t =
+    let parts = and_parts (nat_eq r q) _ t in
+    let port = eqb-true r q parts.0 in
+    let y = is_some_and-is (acknowledged past r Read) (λ x. is_on x l) parts.1 in
+    let one : y.0 ≡ e.ended_one = Some-injective y.0 e.ended_one (sym y.1 ∙ ap (λ a. acknowledged past a Read) port ∙ e.is) in
+    let on = and_parts (is_line e.ended_one) (nat_eq e.ended_one.addr l) (subst (λ v. is_on v l ≡ true) one y.2) in
+    let line = eqb-true e.ended_one.addr l on.1 in
+    let a = e.arrives on.0 in
+    let well = is_none_or-at (acknowledged past q Read) (ends_well h past st) e.ended_one k e.is in
+    let end = is_none_or-at (read_kind e.ended_one) (is_end h past e.ended_one st) e.kind well e.is_kind in
+    let o = first_resp past e.ended_one.port e.ended_one.id in
+    let ended = (and_parts (ends_read e.kind (held_of h past e.ended_one) (is_some_and o is_shared) (is_some_and o passes_dirty) (has_failed past e.ended_one) st)
+        (implies (is_make_unique e.kind) (has_store h past e.ended_one.port e.ended_one.id)) end).0 in
+    let fits = read_is e.kind (held_of h past e.ended_one) (is_some_and o is_shared) (is_some_and o passes_dirty) (has_failed past e.ended_one) st ended in
+    let first : o ≡ first_resp past q e.id = ap (λ v. first_resp past v e.ended_one.id) e.port ∙ ap (first_resp past q) e.is_id in
+    let held : held_of h past e.ended_one ≡ state_of h past r l =
+    held_on (is_line e.ended_one) (state_of h past e.ended_one.port e.ended_one.addr) on.0
+    ∙ ap (λ v. state_of h past v e.ended_one.addr) (e.port ∙ sym port) ∙ ap (state_of h past r) line in
+    record {
+      port = port;
+      stands = (e.ended_one, e.is, subst (λ v. granted h past v ≡ Some e.ended_one) line a.stands);
+      kind = e.kind;
+      shares = is_some_and (first_resp past q e.id) is_shared;
+      passes = is_some_and (first_resp past q e.id) passes_dirty;
+      failed = has_failed past e.ended_one;
+      fits = subst (λ v. read_fits e.kind (state_of h past r l) (is_some_and v is_shared) (is_some_and v passes_dirty) (has_failed past e.ended_one) st ≡ true) first
+          (subst (λ s. read_fits e.kind s (is_some_and o is_shared) (is_some_and o passes_dirty) (has_failed past e.ended_one) st ≡ true) held fits);
+      alone = λ taken. subst (OthersInvalid h past r) line (subst (λ v. OthersInvalid h past v e.ended_one.addr) (sym port) (a.alone e.kind e.is_kind taken));
+      beside = λ taken. subst (OthersNotUnique h past r) line (subst (λ v. OthersNotUnique h past v e.ended_one.addr) (sym port) (a.beside e.kind e.is_kind taken));
+      dirty = λ passed. subst (AllSettled h past) line (a.dirty passed);
+    }
+  where
+    held_on : (line : Bool) (s : LineState) → line ≡ true → (if line then s else I) ≡ s
+    held_on true s e = refl
+    held_on false s e = cc
+
+-- the states of a line that is still granted are as they were
+states_rk : (h : Header) (past : Trace) (q : ℕ) (st : LineState) → k23 h past (Rk q st) ≡ true → Ends h past q → (l : ℕ) (x : Transaction)
+    → granted h (Rk q st ∷ past) l ≡ Some x → (r : ℕ) → state_of h (Rk q st ∷ past) r l ≡ state_of h past r l
+states_rk h past q st k e l x g r =
+    elim (cases_Bool (is_named_by_rk past q r l)) [
+      | inr f ↦ rw f refl
+      | inl t ↦
+          let w = without-some (acknowledged past q Read) (granted h past l) x g in
+          let s = (ends_line h past q st k e r l t).stands in
+          absurd (w.1 s.0 s.1 (ap (λ (v : Transaction). v.place) (Some-injective s.0 x (sym s.2 ∙ w.0))))
+    ]
+
+pub answers_rk : (h : Header) (past : Trace) (q : ℕ) (st : LineState) → Inductive h past → k23 h past (Rk q st) ≡ true → Ends h past q → AnswersFit h (Rk q st ∷ past)
+answers_rk h past q st f k e l r x a kind g w causes =
+    rw (states_rk h past q st k e l x g r) (f.answers l r x a kind (without-some (acknowledged past q Read) (granted h past l) x g).0 w causes)
+
+pub passed_rk : (h : Header) (past : Trace) (q : ℕ) (st : LineState) → Inductive h past → k23 h past (Rk q st) ≡ true → Ends h past q → PassedOn h (Rk q st ∷ past)
+passed_rk h past q st f k e l r x a g takes w dirty z =
+    rw (states_rk h past q st k e l x g z) (f.passed l r x a (without-some (acknowledged past q Read) (granted h past l) x g).0 takes w dirty z)
+
+pub arrive_rk : (h : Header) (past : Trace) (q : ℕ) (st : LineState) → Inductive h past → k23 h past (Rk q st) ≡ true → Ends h past q → TransfersArrive h (Rk q st ∷ past)
+arrive_rk h past q st f k e p i x ace o line some =
+    let w = without-some (acknowledged past q Read) (outstanding h past p Read i) x o in
+    let a = f.arrive p i x ace w.0 line some in
+    let g = without-other (acknowledged past q Read) (granted h past x.addr) x a.stands w.1 in
+    arrives_kept h past (Rk q st) p i x g refl refl (λ r. Lessens-same _ _ (states_rk h past q st k e x.addr x g r)) a
+
+pub queue_rk : (h : Header) (past : Trace) (q : ℕ) (st : LineState) → Inductive h past → Ends h past q → QueueStands h (Rk q st ∷ past)
+queue_rk h past q st f d p n i ace low e =
+    let low_before : acknowledgements past p Read ≤ n = below (nat_eq p q) low in
+    let s = f.queue p n i ace low_before e in (
+      s.0,
+      without-other (acknowledged past q Read) (outstanding h past p Read i) s.0 s.1 (λ z is same. absurd (waits_once s.0 low_before s.1 z is same)),
+      s.2,
+    )
+  where
+    below : (b : Bool) → (if b then acknowledgements past p Read + 1 else acknowledgements past p Read) ≤ n → acknowledgements past p Read ≤ n
+    below true l = omega arith
+    below false l = l
+
+    waits_once : (x : Transaction) → acknowledgements past p Read ≤ n → outstanding h past p Read i ≡ Some x → (z : Transaction) → acknowledged past q Read ≡ Some z → z.place ≡ x.place → ⊥
+    waits_once x low_before o z is same =
+        let zd : d.ended_one ≡ z = Some-injective d.ended_one z (sym d.is ∙ is) in
+        let name = one_name past q p Read Read d.id i d.ended_one x d.named (outstanding-named h past p Read i x o) (ap (λ (v : Transaction). v.place) zd ∙ same) in
+        let next : slice_get (completed past p Read) (acknowledgements past p Read) ≡ Some i =
+        subst (λ a. slice_get (completed past a Read) (acknowledgements past a Read) ≡ Some i) name.port (d.next ∙ ap Some name.id) in
+        let at = f.distinct p (acknowledgements past p Read) n i ace (le_refl (acknowledgements past p Read)) low_before next e in
+        let above : acknowledgements past p Read + 1 ≤ n = rw (eq-eqb p q (sym name.port)) at low in
+        omega arith
+
+pub distinct_rk : (h : Header) (past : Trace) (q : ℕ) (st : LineState) → Inductive h past → QueueDistinct h (Rk q st ∷ past)
+distinct_rk h past q st f p m n i ace a b e g = f.distinct p m n i ace (below (nat_eq p q) m a) (below (nat_eq p q) n b) e g
+  where
+    below : (b : Bool) (n : ℕ) → (if b then acknowledgements past p Read + 1 else acknowledgements past p Read) ≤ n → acknowledgements past p Read ≤ n
+    below true n l = omega arith
+    below false n l = l
+
+pub outside_rk : (h : Header) (past : Trace) (q : ℕ) (st : LineState) → Inductive h past → Ends h past q → OutsideInvalid h (Rk q st ∷ past)
+outside_rk h past q st f e r l o =
+    elim (cases_Bool (is_named_by_rk past q r l)) [
+      | inr other ↦ rw other (f.outside r l o)
+      | inl t ↦
+          let ace : is_ace h r ≡ true = ap (is_ace h) (eqb-true r q (and_parts (nat_eq r q) _ t).0) ∙ e.ace in
+          cc
+    ]
+
+-- another port keeps its state
+state_beside : (h : Header) (past : Trace) (q r l : ℕ) (st : LineState) → r ≢ q → state_of h (Rk q st ∷ past) r l ≡ state_of h past r l
+state_beside h past q r l st apart =
+    elim (cases_Bool (is_named_by_rk past q r l)) [
+      | inr other ↦ rw other refl
+      | inl t ↦ absurd (apart (eqb-true r q (and_parts (nat_eq r q) _ t).0))
+    ]
+
+pub unique_rk : (h : Header) (past : Trace) (q : ℕ) (st : LineState) → Inductive h past → k23 h past (Rk q st) ≡ true → Ends h past q → UniqueNow h (Rk q st ∷ past)
+unique_rk h past q st f k e l p r u ne =
+    elim (cases_Bool (is_named_by_rk past q p l)) [
+      | inl t ↦
+          let d = ends_line h past q st k e p l t in
+          let two = and_parts (implies (is_unique st) (is_unique (state_of h past p l) || takes_alone d.kind d.shares d.failed)) _
+              (and_parts (implies (is_unique st) (is_unique (state_of h past p l) || takes_alone d.kind d.shares d.failed)
+              && (is_invalid st || (not (is_invalid (state_of h past p l)) || (takes_alone d.kind d.shares d.failed || takes_shared d.kind)))) _ d.fits).0 in
+          state_beside h past q r l st (λ same. ne (d.port ∙ sym same))
+          ∙ elim (or_cases (is_unique (state_of h past p l)) (takes_alone d.kind d.shares d.failed) (implies-at (is_unique st) _ two.0 (rw t at u))) [
+            | inl was ↦ f.unique l p r was ne
+            | inr taken ↦ d.alone taken r ne
+          ]
+      | inr other ↦ elim (cases_Bool (is_named_by_rk past q r l)) [
+        | inr neither ↦ rw neither (f.unique l p r (rw other at u) ne)
+        | inl t ↦
+            let d = ends_line h past q st k e r l t in
+            let was : is_unique (state_of h past p l) ≡ true = rw other at u in
+            let gone = f.unique l p r was ne in
+            let fits = (and_parts (implies (is_unique st) (is_unique (state_of h past r l) || takes_alone d.kind d.shares d.failed)) _
+                (and_parts (implies (is_unique st) (is_unique (state_of h past r l) || takes_alone d.kind d.shares d.failed)
+                && (is_invalid st || (not (is_invalid (state_of h past r l)) || (takes_alone d.kind d.shares d.failed || takes_shared d.kind)))) _ d.fits).0).1 in
+            rw t (elim (or_cases (is_invalid st) _ fits) [
+              | inl none ↦ is_invalid-is st none
+              | inr held ↦ elim (or_cases (not (is_invalid (state_of h past r l))) _ held) [
+                | inl kept ↦ let bad : not (is_invalid I) ≡ true = subst (λ v. not (is_invalid v) ≡ true) gone kept in cc
+                | inr kinds ↦ elim (or_cases (takes_alone d.kind d.shares d.failed) (takes_shared d.kind) kinds) [
+                  | inl taken ↦
+                      let bad : is_unique I ≡ true = subst (λ v. is_unique v ≡ true) (d.alone taken p (λ same. ne (sym same))) was in cc
+                  | inr taken ↦ let bad = d.beside taken p (λ same. ne (sym same)) in cc
+                ]
+              ]
+            ])
+      ]
+    ]
+
+not_both : (st : LineState) → is_settled st ≡ true → is_dirty st ≡ true → ⊥
+not_both UD s d = cc
+not_both SD s d = cc
+not_both st s d = cc
+
+pub one_dirty_rk : (h : Header) (past : Trace) (q : ℕ) (st : LineState) → Inductive h past → k23 h past (Rk q st) ≡ true → Ends h past q → OneDirtyNow h (Rk q st ∷ past)
+one_dirty_rk h past q st f k e l a b da db =
+    elim (cases_Bool (is_named_by_rk past q a l)) [
+      | inl t ↦ alone a b t da db
+      | inr other ↦ elim (cases_Bool (is_named_by_rk past q b l)) [
+        | inl t ↦ sym (alone b a t db da)
+        | inr neither ↦ f.one_dirty l a b (rw other at da) (rw neither at db)
+      ]
+    ]
+  where
+    alone : (a b : ℕ) → is_named_by_rk past q a l ≡ true → is_dirty (state_of h (Rk q st ∷ past) a l) ≡ true → is_dirty (state_of h (Rk q st ∷ past) b l) ≡ true → a ≡ b
+    alone a b t da db =
+        let d = ends_line h past q st k e a l t in
+        elim (cases_eq a b) [
+          | inl same ↦ same
+          | inr apart ↦
+              let was : is_dirty (state_of h past b l) ≡ true = rw (state_beside h past q b l st (λ same. apart (d.port ∙ sym same))) at db in
+              let fits = (and_parts _ (implies (is_dirty st) (is_dirty (state_of h past a l) || (d.passes || takes_alone d.kind d.shares d.failed))) d.fits).1 in
+              elim (or_cases (is_dirty (state_of h past a l)) _ (implies-at (is_dirty st) _ fits (rw t at da))) [
+                | inl own ↦ f.one_dirty l a b own was
+                | inr came ↦ elim (or_cases d.passes (takes_alone d.kind d.shares d.failed) came) [
+                  | inl passed ↦ absurd (not_both (state_of h past b l) (d.dirty passed b) was)
+                  | inr taken ↦ let bad : is_dirty I ≡ true = subst (λ v. is_dirty v ≡ true) (d.alone taken b apart) was in cc
+                ]
+              ]
+        ]
