@@ -206,7 +206,7 @@ queue_r h past q j resp last word f m p n i ace low e =
             stays_r h past q j resp last word p i base.0 ace base.1,
             elim (cases_Bool (nat_eq p q && nat_eq i j)) [
               | inr other ↦
-                  let same : transfers (R q j resp last word ∷ past) p i ≡ transfers past p i = rw other refl in
+                  let same : transfers (R q j resp last word ∷ past) p i ≡ transfers past p i = rw other (refl {a = transfers past p i}) in
                   subst (λ t. is_some_and (read_kind base.0) (λ k. t == beats_of k) ≡ true) (sym same) base.2
               | inl same ↦
                   let parts = and_parts (nat_eq p q) (nat_eq i j) same in
@@ -222,7 +222,7 @@ queue_r h past q j resp last word f m p n i ace low e =
     moved new =
         let P : ℕ → ℕ → Type 0 = λ a b. (x : Transaction) × (outstanding h (R q j resp last word ∷ past) a Read b ≡ Some x)
             × (is_some_and (read_kind x) (λ k. transfers (R q j resp last word ∷ past) a b == beats_of k) ≡ true) in
-        let more : transfers (R q j resp last word ∷ past) q j ≡ transfers past q j + 1 = rw (and_from _ _ (eq-eqb q q (refl {a = q})) (eq-eqb j j (refl {a = j}))) refl in
+        let more : transfers (R q j resp last word ∷ past) q j ≡ transfers past q j + 1 = rw (and_from _ _ (eq-eqb q q (refl {a = q})) (eq-eqb j j (refl {a = j}))) (refl {a = transfers past q j + 1}) in
         let whole : (transfers (R q j resp last word ∷ past) q j == beats_of m.kind) ≡ true =
         eq-eqb (transfers (R q j resp last word ∷ past) q j) (beats_of m.kind) (more ∙ m.ends new.is_last) in
         let out = stays_r h past q j resp last word q j m.one (subst (λ a. is_ace h a ≡ true) new.same_port ace) m.out in

@@ -6,6 +6,8 @@ pub mod HolderEnds
 pub mod HolderFacts
 pub mod HolderFirst
 pub mod HolderGrant
+pub mod HolderKept
+pub mod HolderLaw
 pub mod HolderSnoop
 pub mod HolderStates
 pub mod HolderStores
