@@ -1,5 +1,5 @@
 -- In an accepted trace a unique line has one holder, and one port at most holds a line dirty.
-use Rattle.std.proofs.Common.{◌≡◌, ◌≢◌, ℕ, true, [], ◌∷◌, None, refl}
+use Rattle.std.proofs.Common.{◌≡◌, ◌≢◌, ℕ, true, List, [], ◌∷◌, None, refl}
 use Rattle.ace_event.specs.declared.header.Header.{Header}
 use Rattle.ace_event.specs.declared.event.Event.{Event}
 use Rattle.ace_event.specs.declared.event.Event.TheVariants.{Ar, R, Rk, Aw, W, B, Wk, Ac, Cr, Cd, G, M, S, L, D, Op}
@@ -9,7 +9,7 @@ use Rattle.ace_model.specs.Transactions.{outstanding, ended, acknowledged}
 use Rattle.ace_event.specs.declared.event.Channel.TheVariants.{Read}
 use Rattle.ace_model.specs.Grants.{granted}
 use Rattle.ace_model.specs.States.{state_of}
-use Rattle.ace_model.specs.Accepted.{IsAcceptedBy, IsAccepted, rules}
+use Rattle.ace_model.specs.Accepted.{Rule, IsAcceptedBy, IsAccepted, rules, least_of}
 use Rattle.ace_model.specs.Today.{rules_today}
 use Rattle.ace_model.specs.Unique.{Unique, OneDirty}
 use Rattle.ace_codes.specs.Responses.{is_shared}
@@ -204,14 +204,24 @@ start h = record {
   one_dirty = λ l p q dp dq. cc;
 }
 
-pub inductive : (h : Header) (t : Trace) → IsAccepted h t → Inductive h t
-inductive h [] a = start h
-inductive h (e ∷ past) a = step h past e (inductive h past a.0) (kept h past e a.1)
+-- by rules which keep those that the laws rest on, the facts hold at each point
+pub inductive : (rs : List Rule) → ((h : Header) (past : Trace) (e : Event) → least_of rs h past e ≡ None → KeptRules h past e)
+    → (h : Header) (t : Trace) → IsAcceptedBy rs h t → Inductive h t
+inductive rs keeps h [] a = start h
+inductive rs keeps h (e ∷ past) a = step h past e (inductive rs keeps h past a.0) (keeps h past e a.1)
+
+pub unique_by : (rs : List Rule) → ((h : Header) (past : Trace) (e : Event) → least_of rs h past e ≡ None → KeptRules h past e)
+    → (h : Header) (t : Trace) → IsAcceptedBy rs h t → Unique h t
+unique_by rs keeps h [] a = (start h).unique
+unique_by rs keeps h (e ∷ past) a = (unique_by rs keeps h past a.0, (inductive rs keeps h (e ∷ past) a).unique)
+
+pub one_dirty_by : (rs : List Rule) → ((h : Header) (past : Trace) (e : Event) → least_of rs h past e ≡ None → KeptRules h past e)
+    → (h : Header) (t : Trace) → IsAcceptedBy rs h t → OneDirty h t
+one_dirty_by rs keeps h [] a = (start h).one_dirty
+one_dirty_by rs keeps h (e ∷ past) a = (one_dirty_by rs keeps h past a.0, (inductive rs keeps h (e ∷ past) a).one_dirty)
 
 pub accepted_unique : (h : Header) (t : Trace) → IsAccepted h t → Unique h t
-accepted_unique h [] a = (start h).unique
-accepted_unique h (e ∷ past) a = (accepted_unique h past a.0, (inductive h (e ∷ past) a).unique)
+accepted_unique = unique_by rules kept
 
 pub accepted_one_dirty : (h : Header) (t : Trace) → IsAccepted h t → OneDirty h t
-accepted_one_dirty h [] a = (start h).one_dirty
-accepted_one_dirty h (e ∷ past) a = (accepted_one_dirty h past a.0, (inductive h (e ∷ past) a).one_dirty)
+accepted_one_dirty = one_dirty_by rules kept

@@ -19,10 +19,4 @@ pub mod Kept
 pub mod Least
 pub mod Looks
 pub mod Places
-pub mod UniqueAcknowledge
-pub mod UniqueAddress
-pub mod UniqueFacts
-pub mod UniqueGrant
 pub mod UniqueLaw
-pub mod UniqueSnoop
-pub mod UniqueTransfer

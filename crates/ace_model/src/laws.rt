@@ -5,9 +5,9 @@ ghost use Rattle.ace_event.specs.declared.event.Event.{Event};
 ghost use Rattle.ace_event.specs.declared.header.Header.{Header};
 ghost use Rattle.ace_model.specs.declared.breaks.Break.{Break};
 ghost use Rattle.ace_model.specs.Trace.{Trace};
-ghost use Rattle.ace_model.specs.Accepted.{Rule, AreInOrder, rules, IsAcceptedBy, FirstBreakBy, first_break_by};
+ghost use Rattle.ace_model.specs.Accepted.{Rule, AreInOrder, rules, IsAccepted, IsAcceptedBy, FirstBreakBy, first_break_by};
 ghost use Rattle.ace_model.specs.Today.{rules_today};
-ghost use Rattle.ace_model.specs.Unique.{Unique};
+ghost use Rattle.ace_model.specs.Unique.{Unique, OneDirty};
 
 /// By rules in order, the break that `first_break_by` computes is the first break of the events. By any rules, where it
 /// computes none, the trace is accepted.
@@ -28,4 +28,11 @@ pub fn rules_are_in_order()
 /// in UC or UD, every other port's state of it is I.
 pub fn unique_line_has_one_holder()
     ensures { (h : Header) (past : Trace) → IsAcceptedBy rules_today h past → Unique h past }
+{}
+
+/// In an accepted trace a line has one holder where one holds it for itself: at every point, where a port holds a line in UC or
+/// UD, every other port's state of it is I, and at most one port holds a line in UD or SD.
+pub fn accepted_line_has_one_holder()
+    ensures unique { (h : Header) (past : Trace) → IsAccepted h past → Unique h past }
+    ensures one_dirty { (h : Header) (past : Trace) → IsAccepted h past → OneDirty h past }
 {}
