@@ -1,4 +1,4 @@
--- No transaction of an accepted trace is exclusive today: ReadUnique has lock 0.
+-- No transaction of a trace that the rules of today accept is exclusive: ReadUnique has lock 0.
 use Rattle.std.proofs.Common.{◌≡◌, ℕ, Bool, true, false, ◌&&◌, if◌then◌else◌, [], ◌∷◌, length, Option, Some, None, refl, sym, subst}
 use Rattle.std.proofs.lemmas.Bool.{and_parts}
 use Rattle.ace_codes.specs.declared.kind.ArKind.{ArKind}
@@ -13,9 +13,10 @@ use Rattle.ace_codes.specs.Reads.{ar_kind_of}
 use Rattle.ace_model.specs.Kinds.{is_read_unique, may_be_exclusive}
 use Rattle.ace_model.specs.Transactions.{is_ace, has_name, is_on, issued, newest_named, transaction_of, transaction_under, next_complete, acknowledged, ended, without, outstanding}
 use Rattle.ace_model.specs.Grants.{given, newest_on, granted}
-use Rattle.ace_model.specs.Rules.{has_known_codes, is_known_today}
-use Rattle.ace_model.specs.Accepted.{IsAccepted, least_broken}
-use Rattle.ace_model.proofs.Kept.{Kept, kept}
+use Rattle.ace_model.specs.AddressRules.{has_known_codes}
+use Rattle.ace_model.specs.Accepted.{IsAcceptedBy, least_of}
+use Rattle.ace_model.specs.Today.{is_known_today, rules_today}
+use Rattle.ace_model.proofs.Kept.{KeptToday, kept_today}
 
 -- there is no transaction, or it isn't exclusive
 abbrev pub Unlocked : Option Transaction → Type 0
@@ -30,9 +31,9 @@ no_lock (Some ReadUnique) true true r h = cc
 no_lock (Some ReadUnique) true false r h = cc
 no_lock (Some _) lock ace r h = cc
 
-issued_unlocked : (h : Header) (past : Trace) (e : Event) → least_broken h past e ≡ None → Unlocked (issued (length past) e)
+issued_unlocked : (h : Header) (past : Trace) (e : Event) → least_of rules_today h past e ≡ None → Unlocked (issued (length past) e)
 issued_unlocked h past (Ar p i addr snoop dom bar lock) none =
-    let k : Kept h past (Ar p i addr snoop dom bar lock) = kept h past (Ar p i addr snoop dom bar lock) none in
+    let k : KeptToday h past (Ar p i addr snoop dom bar lock) = kept_today h past (Ar p i addr snoop dom bar lock) none in
     no_lock (ar_kind_of snoop dom bar) lock (is_ace h p) (and_parts (has_known_codes h (Ar p i addr snoop dom bar lock)) (is_known_today (Ar p i addr snoop dom bar lock)) k.rule_2).1 k.rule_7
 issued_unlocked h past (Aw p i addr snoop dom bar) none = refl
 issued_unlocked h past _ none = tt
@@ -58,28 +59,28 @@ without_unlocked None x old = old
 without_unlocked (Some y) None old = tt
 without_unlocked (Some y) (Some x) old = unless_unlocked _ x old
 
-transaction_of_unlocked : (h : Header) (past : Trace) → IsAccepted h past → (p : ℕ) (c : Channel) (i : ℕ) → Unlocked (transaction_of past p c i)
+transaction_of_unlocked : (h : Header) (past : Trace) → IsAcceptedBy rules_today h past → (p : ℕ) (c : Channel) (i : ℕ) → Unlocked (transaction_of past p c i)
 transaction_of_unlocked h [] a p c i = tt
 transaction_of_unlocked h (e ∷ past) a p c i =
     newest_named_unlocked (issued (length past) e) _ p c i (issued_unlocked h past e a.1) (transaction_of_unlocked h past a.0 p c i)
 
-under_unlocked : (h : Header) (past : Trace) → IsAccepted h past → (p : ℕ) (c : Channel) (o : Option ℕ) → Unlocked (transaction_under past p c o)
+under_unlocked : (h : Header) (past : Trace) → IsAcceptedBy rules_today h past → (p : ℕ) (c : Channel) (o : Option ℕ) → Unlocked (transaction_under past p c o)
 under_unlocked h past a p c None = tt
 under_unlocked h past a p c (Some i) = transaction_of_unlocked h past a p c i
 
-pub acknowledged_unlocked : (h : Header) (past : Trace) → IsAccepted h past → (p : ℕ) (c : Channel) → Unlocked (acknowledged past p c)
+pub acknowledged_unlocked : (h : Header) (past : Trace) → IsAcceptedBy rules_today h past → (p : ℕ) (c : Channel) → Unlocked (acknowledged past p c)
 acknowledged_unlocked h past a p c = under_unlocked h past a p c (next_complete past p c)
 
-pub outstanding_unlocked : (h : Header) (past : Trace) → IsAccepted h past → (p : ℕ) (c : Channel) (i : ℕ) → Unlocked (outstanding h past p c i)
+pub outstanding_unlocked : (h : Header) (past : Trace) → IsAcceptedBy rules_today h past → (p : ℕ) (c : Channel) (i : ℕ) → Unlocked (outstanding h past p c i)
 outstanding_unlocked h [] a p c i = tt
 outstanding_unlocked h (e ∷ past) a p c i =
     newest_named_unlocked (issued (length past) e) _ p c i (issued_unlocked h past e a.1) (without_unlocked (ended h past e) _ (outstanding_unlocked h past a.0 p c i))
 
-given_unlocked : (h : Header) (past : Trace) (e : Event) → IsAccepted h past → Unlocked (given past e)
+given_unlocked : (h : Header) (past : Trace) (e : Event) → IsAcceptedBy rules_today h past → Unlocked (given past e)
 given_unlocked h past (G p c i) a = transaction_of_unlocked h past a p c i
 given_unlocked h past _ a = tt
 
-pub granted_unlocked : (h : Header) (past : Trace) → IsAccepted h past → (l : ℕ) → Unlocked (granted h past l)
+pub granted_unlocked : (h : Header) (past : Trace) → IsAcceptedBy rules_today h past → (l : ℕ) → Unlocked (granted h past l)
 granted_unlocked h [] a l = tt
 granted_unlocked h (e ∷ past) a l =
     newest_on_unlocked (given past e) _ l (given_unlocked h past e a.0) (without_unlocked (ended h past e) _ (granted_unlocked h past a.0 l))

@@ -1,5 +1,6 @@
 ghost use Rattle.std.specs.Prelude.{IsTrue, reverse};
-ghost use Rattle.ace_model.specs.Accepted.{is_accepted};
+ghost use Rattle.ace_model.specs.Accepted.{is_accepted_by};
+ghost use Rattle.ace_model.specs.Today.{rules_today};
 
 use crate::least::least_broken;
 use ace_event::{Event, Header};
@@ -24,19 +25,19 @@ pub enum CheckErr {
     NoMemory,
 }
 
-/// A checker of one trace. It keeps the events that broke no rule and looks back through them; after the first that
-/// breaks one it gives the same answer for good.
+/// A checker of one trace, by the rules of today. It keeps the events that broke none of them and looks back through
+/// them; after the first that breaks one it gives the same answer for good.
 #[derive(Drop)]
 pub struct Checker {
     header: Header,
     events: Vec<Event>,
     broken: Option<Break>,
-    ghost accepted: { IsTrue (is_accepted header (reverse events.items)) },
+    ghost accepted: { IsTrue (is_accepted_by rules_today header (reverse events.items)) },
 }
 
 impl Checker {
     ghost use Rattle.std.specs.Prelude.{◌≡◌, [], None, IfOk, OnErr, length};
-    ghost use Rattle.ace_model.specs.Accepted.{IsAccepted};
+    ghost use Rattle.ace_model.specs.Accepted.{IsAcceptedBy};
     ghost use Rattle.ace_model.specs.Unique.{Unique};
     ghost use Rattle.ace_check.specs.Run.{header_of, past_of, break_of, IsAnswer, past_after, break_after};
 
@@ -65,7 +66,7 @@ impl Checker {
         ensures err_past { OnErr result (past_of self.new ≡ past_of self.old) }
         ensures err_broken { OnErr result (break_of self.new ≡ break_of self.old) }
 
-        ensures accepted { IsAccepted (header_of self.new) (past_of self.new) }
+        ensures accepted { IsAcceptedBy rules_today (header_of self.new) (past_of self.new) }
         ensures unique { Unique (header_of self.new) (past_of self.new) }
     {
         if let Some(Break { index, rule }) = self.broken {

@@ -1,7 +1,8 @@
-//! The least rule that an event breaks.
+//! The least rule of today's that an event breaks.
 
 ghost use Rattle.std.specs.Prelude.{◌≡◌, reverse, drop};
-ghost use Rattle.ace_model.specs.Accepted.{IsAccepted, rules, least_of, least_broken};
+ghost use Rattle.ace_model.specs.Accepted.{IsAcceptedBy, least_of};
+ghost use Rattle.ace_model.specs.Today.{rules_today};
 
 use crate::rules::{
     keeps_alignment, keeps_answer, keeps_codes, keeps_free_line, keeps_free_name, keeps_grant,
@@ -12,10 +13,10 @@ use crate::transfers::{
 };
 use ace_event::{Event, Header};
 
-/// The least rule that the event breaks after these, the oldest first.
+/// The least of today's rules that the event breaks after these, the oldest first.
 pub fn least_broken(h: &Header, past: &[Event], e: &Event) -> Option<u8>
-    requires { IsAccepted h.now (reverse past.now) }
-    ensures { result ≡ least_broken h.now (reverse past.now) e.now }
+    requires { IsAcceptedBy rules_today h.now (reverse past.now) }
+    ensures { result ≡ least_of rules_today h.now (reverse past.now) e.now }
 {
     if !keeps_port(h, past, e) {
         return Some(1);
@@ -41,10 +42,10 @@ pub fn least_broken(h: &Header, past: &[Event], e: &Event) -> Option<u8>
     least_from_grants(h, past, e)
 }
 
-/// The least rule from K12 on that it breaks.
+/// The least of them from K12 on that it breaks.
 fn least_from_grants(h: &Header, past: &[Event], e: &Event) -> Option<u8>
-    requires { IsAccepted h.now (reverse past.now) }
-    ensures { result ≡ least_of (drop 7 rules) h.now (reverse past.now) e.now }
+    requires { IsAcceptedBy rules_today h.now (reverse past.now) }
+    ensures { result ≡ least_of (drop 7 rules_today) h.now (reverse past.now) e.now }
 {
     if !keeps_grant(h, past, e) {
         return Some(12);

@@ -8,8 +8,10 @@ ghost use Rattle.ace_model.specs.Kinds.{is_read_unique, is_read_unique_snoop, ma
 ghost use Rattle.ace_tables.specs.Answers.{is_snoop_row};
 ghost use Rattle.ace_tables.specs.StartStates.{starts_read, starts_write};
 ghost use Rattle.ace_model.specs.States.{state_of};
-ghost use Rattle.ace_model.specs.Rules.{is_known_today, wants_ace, k1, may_issue_read, may_issue_write, has_known_codes, k2, line_address, k3, has_free_name, k4, has_free_line, k5, starts_well, k6, may_lock, k7, may_be_granted, k12, has_snoop_code, may_snoop_for, may_snoop, k13, k14, answers_by_row, k15};
-ghost use Rattle.ace_model.specs.Accepted.{IsAccepted};
+ghost use Rattle.ace_model.specs.AddressRules.{wants_ace, k1, may_issue_read, may_issue_write, has_known_codes, line_address, k3, has_free_name, k4, has_free_line, k5, starts_well, k6, may_lock, k7};
+ghost use Rattle.ace_model.specs.SnoopRules.{may_be_granted, k12, has_snoop_code, may_snoop_for, may_snoop, k13, k14, answers_by_row, k15};
+ghost use Rattle.ace_model.specs.Accepted.{IsAcceptedBy};
+ghost use Rattle.ace_model.specs.Today.{is_known_today, k2_today, rules_today};
 
 use crate::exclusives::has_failed;
 use crate::grants::{granted, has_grant, is_begun, was_snooped};
@@ -159,9 +161,9 @@ fn has_known_codes(h: &Header, e: &Event) -> bool
     }
 }
 
-/// K2
+/// K2, as it is applied today
 pub fn keeps_codes(h: &Header, past: &[Event], e: &Event) -> bool
-    ensures { result ≡ k2 h.now (reverse past.now) e.now }
+    ensures { result ≡ k2_today h.now (reverse past.now) e.now }
 {
     has_known_codes(h, e) && is_known_today(e)
 }
@@ -340,7 +342,7 @@ fn may_snoop_for(past: &[Event], x: Transaction, p: u8, snoop: u8) -> bool
 }
 
 fn may_snoop_granted(h: &Header, past: &[Event], p: u8, addr: u32, snoop: u8) -> bool
-    requires { IsAccepted h.now (reverse past.now) }
+    requires { IsAcceptedBy rules_today h.now (reverse past.now) }
     ensures { result ≡ is_some_and (granted h.now (reverse past.now) addr) (λ x. may_snoop_for (reverse past.now) x p snoop) }
 {
     match granted(h, past, addr) {
@@ -350,7 +352,7 @@ fn may_snoop_granted(h: &Header, past: &[Event], p: u8, addr: u32, snoop: u8) ->
 }
 
 fn may_snoop(h: &Header, past: &[Event], p: u8, addr: u32, snoop: u8) -> bool
-    requires { IsAccepted h.now (reverse past.now) }
+    requires { IsAcceptedBy rules_today h.now (reverse past.now) }
     ensures { result ≡ may_snoop h.now (reverse past.now) p addr snoop }
 {
     may_snoop_granted(h, past, p, addr, snoop)
@@ -360,7 +362,7 @@ fn may_snoop(h: &Header, past: &[Event], p: u8, addr: u32, snoop: u8) -> bool
 
 /// K13
 pub fn keeps_snoop(h: &Header, past: &[Event], e: &Event) -> bool
-    requires { IsAccepted h.now (reverse past.now) }
+    requires { IsAcceptedBy rules_today h.now (reverse past.now) }
     ensures { result ≡ k13 h.now (reverse past.now) e.now }
 {
     match *e {

@@ -1,11 +1,13 @@
 //! The rules of read transfers and of their acknowledge, over the events so far, the oldest first.
 
 ghost use Rattle.std.specs.Prelude.{◌≡◌, reverse, false};
-ghost use Rattle.ace_model.specs.Trace.{is_some_and, is_none_or, same_test};
+ghost use Rattle.ace_tables.specs.Answers.{same_test};
+ghost use Rattle.ace_model.specs.Trace.{is_some_and, is_none_or};
 ghost use Rattle.ace_model.specs.Kinds.{takes_passed_data, is_clean_unique};
 ghost use Rattle.ace_codes.specs.Responses.{passes_dirty, is_shared};
-ghost use Rattle.ace_model.specs.Rules.{is_next_transfer, takes_passed, may_transfer, is_due, k18, same_upper_bits, must_be_shared, fits_kind, has_upper_bits, k19, is_exclusive_okay, has_low_bits, k21, k22, is_end, ends_well, k23};
-ghost use Rattle.ace_model.specs.Accepted.{IsAccepted};
+ghost use Rattle.ace_model.specs.ReadRules.{is_next_transfer, takes_passed, may_transfer, is_due, k18, same_upper_bits, must_be_shared, fits_kind, has_upper_bits, k19, is_exclusive_okay, has_low_bits, k21, k22, is_end, ends_well, k23};
+ghost use Rattle.ace_model.specs.Accepted.{IsAcceptedBy};
+ghost use Rattle.ace_model.specs.Today.{rules_today};
 
 use crate::exclusives::{has_failed, has_passed};
 use crate::grants::{are_passed_data_whole, has_passed_data, has_sharer, is_granted};
@@ -82,7 +84,7 @@ fn is_due(h: &Header, past: &[Event], resp: u8, last: bool, x: Transaction) -> b
 
 /// K18
 pub fn keeps_transfer(h: &Header, past: &[Event], e: &Event) -> bool
-    requires { IsAccepted h.now (reverse past.now) }
+    requires { IsAcceptedBy rules_today h.now (reverse past.now) }
     ensures { result ≡ k18 h.now (reverse past.now) e.now }
 {
     match *e {
@@ -193,7 +195,7 @@ fn has_low_bits(past: &[Event], resp: u8, x: Transaction) -> bool
 
 /// K21
 pub fn keeps_low_bits(h: &Header, past: &[Event], e: &Event) -> bool
-    requires { IsAccepted h.now (reverse past.now) }
+    requires { IsAcceptedBy rules_today h.now (reverse past.now) }
     ensures { result ≡ k21 h.now (reverse past.now) e.now }
 {
     match *e {
@@ -263,7 +265,7 @@ fn ends_well(h: &Header, past: &[Event], st: LineState, x: Transaction) -> bool
 
 /// K23
 pub fn keeps_end(h: &Header, past: &[Event], e: &Event) -> bool
-    requires { IsAccepted h.now (reverse past.now) }
+    requires { IsAcceptedBy rules_today h.now (reverse past.now) }
     ensures { result ≡ k23 h.now (reverse past.now) e.now }
 {
     match *e {

@@ -3,8 +3,11 @@ use Rattle.std.proofs.Common.{◌≡◌, ℕ, Bool, true, false, if◌then◌els
 use Rattle.ace_event.specs.declared.event.Event.{Event}
 use Rattle.ace_event.specs.declared.header.Header.{Header}
 use Rattle.ace_model.specs.Trace.{Trace}
-use Rattle.ace_model.specs.Rules.{k1, k2, k3, k4, k5, k6, k7, k12, k13, k14, k15, k18, k19, k21, k22, k23}
-use Rattle.ace_model.specs.Accepted.{Rule, rules, least_of, least_broken}
+use Rattle.ace_model.specs.AddressRules.{k1, k3, k4, k5, k6, k7}
+use Rattle.ace_model.specs.SnoopRules.{k12, k13, k14, k15}
+use Rattle.ace_model.specs.ReadRules.{k18, k19, k21, k22, k23}
+use Rattle.ace_model.specs.Accepted.{Rule, least_of}
+use Rattle.ace_model.specs.Today.{k2_today, rules_today}
 
 -- the event keeps each rule of the list
 abbrev pub KeepsAll : List Rule → Header → Trace → Event → Type 0
@@ -23,10 +26,10 @@ keeps_all (r ∷ rs) h past e none =
     let k : (r.keeps h past e ≡ true) × (least_of rs h past e ≡ None) = kept_first (r.keeps h past e) r.number (least_of rs h past e) none in
     (k.0, keeps_all rs h past e k.1)
 
--- every rule, by its name
-pub record Kept (h : Header) (past : Trace) (e : Event) : Type 0 where
+-- every rule of today, by its name
+pub record KeptToday (h : Header) (past : Trace) (e : Event) : Type 0 where
   pub rule_1 : k1 h past e ≡ true
-  pub rule_2 : k2 h past e ≡ true
+  pub rule_2 : k2_today h past e ≡ true
   pub rule_3 : k3 h past e ≡ true
   pub rule_4 : k4 h past e ≡ true
   pub rule_5 : k5 h past e ≡ true
@@ -42,10 +45,10 @@ pub record Kept (h : Header) (past : Trace) (e : Event) : Type 0 where
   pub rule_22 : k22 h past e ≡ true
   pub rule_23 : k23 h past e ≡ true
 
--- an event that breaks no rule keeps each
-pub kept : (h : Header) (past : Trace) (e : Event) → least_broken h past e ≡ None → Kept h past e
-kept h past e none =
-    let a : KeepsAll rules h past e = keeps_all rules h past e none in
+-- an event that breaks no rule of today keeps each
+pub kept_today : (h : Header) (past : Trace) (e : Event) → least_of rules_today h past e ≡ None → KeptToday h past e
+kept_today h past e none =
+    let a : KeepsAll rules_today h past e = keeps_all rules_today h past e none in
     record {
       rule_1 = a.0;
       rule_2 = a.1.0;

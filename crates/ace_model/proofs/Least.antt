@@ -5,18 +5,13 @@ use Rattle.ace_event.specs.declared.event.Event.{Event}
 use Rattle.ace_event.specs.declared.header.Header.{Header}
 use Rattle.ace_model.specs.Trace.{Trace}
 use Rattle.ace_model.proofs.Kept.{kept_first}
-use Rattle.ace_model.specs.Accepted.{Rule, rules, breaks_of, breaks, least_of, least_broken}
-
--- the numbers of the rules rise, from n on
-abbrev rises : ℕ → List Rule → Bool
-rises n [] = true
-rises n (r ∷ rs) = nat_le n r.number && rises (r.number + 1) rs
+use Rattle.ace_model.specs.Accepted.{Rule, rise_from, AreInOrder, breaks_of, least_of}
 
 -- no rule of the list has a smaller number
-no_smaller : (n : ℕ) (rs : List Rule) (h : Header) (past : Trace) (e : Event) (j : ℕ) → rises n rs ≡ true → breaks_of rs h past e j ≡ true → n ≤ j
+no_smaller : (n : ℕ) (rs : List Rule) (h : Header) (past : Trace) (e : Event) (j : ℕ) → rise_from n rs ≡ true → breaks_of rs h past e j ≡ true → n ≤ j
 no_smaller n [] h past e j up b = cc
 no_smaller n (r ∷ rs) h past e j up b =
-    let parts : (nat_le n r.number ≡ true) × (rises (r.number + 1) rs ≡ true) = and_parts (nat_le n r.number) (rises (r.number + 1) rs) up in
+    let parts : (nat_le n r.number ≡ true) × (rise_from (r.number + 1) rs ≡ true) = and_parts (nat_le n r.number) (rise_from (r.number + 1) rs) up in
     let low : n ≤ r.number = leb-true n r.number parts.0 in
     elim (or_cases (r.number == j && not (r.keeps h past e)) (breaks_of rs h past e j) b) [
       | inl this ↦
@@ -51,10 +46,10 @@ first_or_rest : (keep : Bool) (n : ℕ) (rest : Option ℕ) (k : ℕ) → (if ke
 first_or_rest true n rest k e = inl (refl, e)
 first_or_rest false n rest k e = inr (refl, cc)
 
-is_least : (n : ℕ) (rs : List Rule) (h : Header) (past : Trace) (e : Event) (k : ℕ) → rises n rs ≡ true → least_of rs h past e ≡ Some k → IsLeast rs h past e k
+is_least : (n : ℕ) (rs : List Rule) (h : Header) (past : Trace) (e : Event) (k : ℕ) → rise_from n rs ≡ true → least_of rs h past e ≡ Some k → IsLeast rs h past e k
 is_least n [] h past e k up l = cc
 is_least n (r ∷ rs) h past e k up l =
-    let parts : (nat_le n r.number ≡ true) × (rises (r.number + 1) rs ≡ true) = and_parts (nat_le n r.number) (rises (r.number + 1) rs) up in
+    let parts : (nat_le n r.number ≡ true) × (rise_from (r.number + 1) rs ≡ true) = and_parts (nat_le n r.number) (rise_from (r.number + 1) rs) up in
     elim (first_or_rest (r.keeps h past e) r.number (least_of rs h past e) k l) [
       | inl kept ↦
           let i : IsLeast rs h past e k = is_least (r.number + 1) rs h past e k parts.1 kept.1 in
@@ -66,7 +61,7 @@ is_least n (r ∷ rs) h past e k up l =
             ];
           }
       | inr broke ↦
-          let again : rises r.number (r ∷ rs) ≡ true = and_from (nat_le r.number r.number) (rises (r.number + 1) rs) (le-leb r.number r.number (omega arith)) parts.1 in
+          let again : rise_from r.number (r ∷ rs) ≡ true = and_from (nat_le r.number r.number) (rise_from (r.number + 1) rs) (le-leb r.number r.number (omega arith)) parts.1 in
           record {
             broken = or_first (r.number == k && not (r.keeps h past e)) (breaks_of rs h past e k) (broken_here (r.keeps h past e) r.number k broke.0 broke.1);
             least = λ j b.
@@ -75,19 +70,16 @@ is_least n (r ∷ rs) h past e k up l =
           }
     ]
 
-none_broken : (rs : List Rule) (h : Header) (past : Trace) (e : Event) (j : ℕ) → least_of rs h past e ≡ None → breaks_of rs h past e j ≡ true → ⊥
-none_broken [] h past e j l b = cc
-none_broken (r ∷ rs) h past e j l b =
+-- the first that an event breaks of rules in order is the least
+pub least_of_is_least : (rs : List Rule) (h : Header) (past : Trace) (e : Event) (k : ℕ) → AreInOrder rs → least_of rs h past e ≡ Some k → IsLeast rs h past e k
+least_of_is_least rs h past e k order l = is_least 0 rs h past e k order l
+
+-- where there is no least one, none is broken
+pub none_is_broken : (rs : List Rule) (h : Header) (past : Trace) (e : Event) (j : ℕ) → least_of rs h past e ≡ None → breaks_of rs h past e j ≡ true → ⊥
+none_is_broken [] h past e j l b = cc
+none_is_broken (r ∷ rs) h past e j l b =
     let k : (r.keeps h past e ≡ true) × (least_of rs h past e ≡ None) = kept_first (r.keeps h past e) r.number (least_of rs h past e) l in
     elim (or_cases (r.number == j && not (r.keeps h past e)) (breaks_of rs h past e j) b) [
       | inl this ↦ kept_not_broken (r.keeps h past e) k.0 (and_parts (r.number == j) (not (r.keeps h past e)) this).1
-      | inr later ↦ none_broken rs h past e j k.1 later
+      | inr later ↦ none_is_broken rs h past e j k.1 later
     ]
-
--- the least rule that an event breaks is broken, and no smaller one is
-pub least_broken_is_least : (h : Header) (past : Trace) (e : Event) (k : ℕ) → least_broken h past e ≡ Some k → IsLeast rules h past e k
-least_broken_is_least h past e k l = is_least 0 rules h past e k refl l
-
--- where there is no least one, none is broken
-pub none_is_broken : (h : Header) (past : Trace) (e : Event) (j : ℕ) → least_broken h past e ≡ None → breaks h past e j ≡ true → ⊥
-none_is_broken h past e j l b = none_broken rules h past e j l b

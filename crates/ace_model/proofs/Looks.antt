@@ -6,7 +6,8 @@ use Rattle.ace_codes.specs.declared.state.LineState.TheVariants.{I, UC, UD, SC, 
 use Rattle.ace_event.specs.declared.event.Channel.{Channel}
 use Rattle.ace_event.specs.declared.event.Channel.TheVariants.{Read, Write}
 use Rattle.ace_model.specs.declared.transactions.Transaction.{Transaction}
-use Rattle.ace_model.specs.Trace.{implies, same_test, is_some_and, is_none_or}
+use Rattle.ace_tables.specs.Answers.{same_test}
+use Rattle.ace_model.specs.Trace.{implies, is_some_and, is_none_or}
 use Rattle.ace_tables.specs.States.{is_invalid, is_unique}
 use Rattle.ace_model.specs.Transactions.{is_read, same_channel, has_name, is_named, is_on, is_some_on, newest_named, without}
 use Rattle.ace_model.specs.Grants.{newest_on}

@@ -12,7 +12,8 @@ use Rattle.ace_model.specs.Transactions.{is_ace, is_on, is_some_on, transaction_
 use Rattle.ace_model.specs.Grants.{granted}
 use Rattle.ace_model.specs.States.{state_of}
 use Rattle.ace_model.specs.Unique.{UniqueNow}
-use Rattle.ace_model.specs.Rules.{k1, k22}
+use Rattle.ace_model.specs.AddressRules.{k1}
+use Rattle.ace_model.specs.ReadRules.{k22}
 use Rattle.ace_model.proofs.Looks.{Some-injective, some_is, is_some_and-is, has_name-is, not_unique, without-some, without-other}
 use Rattle.ace_model.proofs.Issued.{same_place, outstanding-named, transaction_of-stands}
 use Rattle.ace_model.proofs.UniqueFacts.{OthersInvalid, TransactionsKnown, GrantsStand, TransfersAlone, AnsweredGone, QueueStands, QueueDistinct, OutsideInvalid, Inductive}

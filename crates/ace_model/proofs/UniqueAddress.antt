@@ -12,7 +12,8 @@ use Rattle.ace_model.specs.Trace.{Trace, is_some_and}
 use Rattle.ace_codes.specs.Reads.{ar_kind_of}
 use Rattle.ace_model.specs.Kinds.{is_read_unique, is_lite_read}
 use Rattle.ace_model.specs.Transactions.{is_ace, has_name, outstanding}
-use Rattle.ace_model.specs.Rules.{k2, k4, has_known_codes, may_issue_read}
+use Rattle.ace_model.specs.AddressRules.{k4, has_known_codes, may_issue_read}
+use Rattle.ace_model.specs.Today.{k2_today}
 use Rattle.ace_model.proofs.Looks.{none_is, is_some_and-is, Some-injective, has_name-is, newest_named-cases, newest_named-older}
 use Rattle.ace_model.proofs.UniqueFacts.{IsKnown, TransactionsKnown, GrantsStand, TransfersAlone, QueueStands, Inductive}
 
@@ -38,7 +39,7 @@ is_read_unique-is read.DvmMessage e = cc
 is_read_unique-is read.Barrier e = cc
 
 -- it is known
-issued_known : (h : Header) (past : Trace) (q j addr snoop dom bar : ℕ) (lock : Bool) → k2 h past (Ar q j addr snoop dom bar lock) ≡ true
+issued_known : (h : Header) (past : Trace) (q j addr snoop dom bar : ℕ) (lock : Bool) → k2_today h past (Ar q j addr snoop dom bar lock) ≡ true
     → IsKnown h (read_issued past q j addr snoop dom bar lock)
 issued_known h past q j addr snoop dom bar lock k =
     let parts = and_parts (has_known_codes h (Ar q j addr snoop dom bar lock)) _ k in
@@ -96,7 +97,7 @@ outstanding_stays h past q j addr snoop dom bar lock p c i x k o =
       | inr f ↦ (f, newest_named-older (Some (read_issued past q j addr snoop dom bar lock)) p c i (outstanding h past p c i) f ∙ o)
     ]
 
-pub known_ar : (h : Header) (past : Trace) (q j addr snoop dom bar : ℕ) (lock : Bool) → Inductive h past → k2 h past (Ar q j addr snoop dom bar lock) ≡ true → TransactionsKnown h (Ar q j addr snoop dom bar lock ∷ past)
+pub known_ar : (h : Header) (past : Trace) (q j addr snoop dom bar : ℕ) (lock : Bool) → Inductive h past → k2_today h past (Ar q j addr snoop dom bar lock) ≡ true → TransactionsKnown h (Ar q j addr snoop dom bar lock ∷ past)
 known_ar h past q j addr snoop dom bar lock f k p c i x o =
     elim (outstanding_ar h past q j addr snoop dom bar lock p c i x o) [
       | inl new ↦ subst (IsKnown h) new.0 (issued_known h past q j addr snoop dom bar lock k)

@@ -1,4 +1,5 @@
--- What holds at each point of an accepted trace beside the law that a unique line has one holder, and makes it inductive.
+-- What holds at each point of a trace that the rules of today accept, beside the law that a unique line has one holder,
+-- and makes it inductive.
 use Rattle.std.proofs.Common.{ℕ, ◌≡◌, ◌≢◌, ◌≤◌, true, false, Some, slice_get}
 use Rattle.ace_codes.specs.declared.kind.ArKind.TheVariants as read
 use Rattle.ace_codes.specs.declared.kind.SnoopKind.TheVariants as snoop

@@ -8,7 +8,7 @@ use Rattle.ace_model.specs.declared.transactions.Transaction.{Transaction}
 use Rattle.ace_model.specs.Trace.{Trace}
 use Rattle.ace_model.specs.Transactions.{is_on, is_line, is_some_on, has_name, transaction_of, outstanding, takes_grant}
 use Rattle.ace_model.specs.Grants.{granted, has_grant}
-use Rattle.ace_model.specs.Rules.{k12, may_be_granted}
+use Rattle.ace_model.specs.SnoopRules.{k12, may_be_granted}
 use Rattle.ace_model.proofs.Looks.{none_is, is_some_and-is, has_name-is, newest_on-cases, newest_on-older}
 use Rattle.ace_model.proofs.Issued.{outstanding-named, transaction_of-stands}
 use Rattle.ace_model.proofs.UniqueFacts.{GrantsStand, TransfersAlone, AnsweredGone, Inductive}

@@ -1,14 +1,15 @@
--- In an accepted trace a unique line has one holder.
+-- In a trace that the rules of today accept a unique line has one holder.
 use Rattle.std.proofs.Common.{◌≡◌, true, false, [], ◌∷◌, refl, ◌&&◌}
 use Rattle.std.proofs.lemmas.Bool.{and_parts}
 use Rattle.ace_event.specs.declared.header.Header.{Header}
 use Rattle.ace_event.specs.declared.event.Event.{Event}
 use Rattle.ace_event.specs.declared.event.Event.TheVariants.{Ar, R, Rk, Aw, W, B, Wk, Ac, Cr, Cd, G, M, S, L, D, Op}
 use Rattle.ace_model.specs.Trace.{Trace}
-use Rattle.ace_model.specs.Rules.{has_known_codes, is_known_today}
-use Rattle.ace_model.specs.Accepted.{IsAccepted}
+use Rattle.ace_model.specs.AddressRules.{has_known_codes}
+use Rattle.ace_model.specs.Accepted.{IsAcceptedBy}
+use Rattle.ace_model.specs.Today.{is_known_today, rules_today}
 use Rattle.ace_model.specs.Unique.{Unique}
-use Rattle.ace_model.proofs.Kept.{Kept, kept}
+use Rattle.ace_model.proofs.Kept.{KeptToday, kept_today}
 use Rattle.ace_model.proofs.UniqueFacts.{Inductive}
 use Rattle.ace_model.proofs.UniqueAddress.{known_ar, grants_ar, alone_ar, queue_ar}
 use Rattle.ace_model.proofs.UniqueGrant.{grants_g, alone_g, gone_g}
@@ -20,8 +21,8 @@ use Rattle.ace_model.proofs.UniqueSnoop.{snoops_ac, alone_cr, gone_cr, outside_c
 unknown : (h : Header) (e : Event) → is_known_today e ≡ false → (has_known_codes h e && is_known_today e) ≡ true → ⊥
 unknown h e isnt k = let is = (and_parts (has_known_codes h e) (is_known_today e) k).1 in cc
 
--- each event that breaks no rule keeps the facts
-pub step : (h : Header) (past : Trace) (e : Event) → Inductive h past → Kept h past e → Inductive h (e ∷ past)
+-- each event that breaks no rule of today keeps the facts
+pub step : (h : Header) (past : Trace) (e : Event) → Inductive h past → KeptToday h past e → Inductive h (e ∷ past)
 step h past (Ar q j addr snoop dom bar lock) f k = record {
   known = known_ar h past q j addr snoop dom bar lock f k.rule_2;
   snoops = f.snoops;
@@ -115,10 +116,10 @@ start h = record {
   unique = λ l p q u ne. refl;
 }
 
-pub inductive : (h : Header) (t : Trace) → IsAccepted h t → Inductive h t
+pub inductive : (h : Header) (t : Trace) → IsAcceptedBy rules_today h t → Inductive h t
 inductive h [] a = start h
-inductive h (e ∷ past) a = step h past e (inductive h past a.0) (kept h past e a.1)
+inductive h (e ∷ past) a = step h past e (inductive h past a.0) (kept_today h past e a.1)
 
-pub accepted_unique : (h : Header) (t : Trace) → IsAccepted h t → Unique h t
+pub accepted_unique : (h : Header) (t : Trace) → IsAcceptedBy rules_today h t → Unique h t
 accepted_unique h [] a = (start h).unique
 accepted_unique h (e ∷ past) a = (accepted_unique h past a.0, (inductive h (e ∷ past) a).unique)

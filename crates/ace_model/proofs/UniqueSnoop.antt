@@ -17,7 +17,9 @@ use Rattle.ace_model.specs.Snoops.{snoop_at, snoops_of, answers, answered, is_sn
 use Rattle.ace_model.specs.Grants.{grant_place, answers_grant}
 use Rattle.ace_model.specs.States.{state_of}
 use Rattle.ace_model.specs.Unique.{UniqueNow}
-use Rattle.ace_model.specs.Rules.{k2, k14, k15, answers_by_row, has_known_codes}
+use Rattle.ace_model.specs.AddressRules.{has_known_codes}
+use Rattle.ace_model.specs.SnoopRules.{k14, k15, answers_by_row}
+use Rattle.ace_model.specs.Today.{k2_today}
 use Rattle.ace_model.proofs.Looks.{some_is, is_some_and-is, is_none_or-at, is_invalid-is, not_unique, Some-injective}
 use Rattle.ace_model.proofs.Places.{slice_get-more}
 use Rattle.ace_model.proofs.UniqueFacts.{SnoopsKnown, TransfersAlone, AnsweredGone, OutsideInvalid, Inductive}
@@ -34,7 +36,7 @@ is_read_unique_snoop-is snoop.MakeInvalid e = cc
 is_read_unique_snoop-is snoop.DvmComplete e = cc
 is_read_unique_snoop-is snoop.DvmMessage e = cc
 
-pub snoops_ac : (h : Header) (past : Trace) (q addr code : ℕ) → Inductive h past → k2 h past (Ac q addr code) ≡ true → SnoopsKnown (Ac q addr code ∷ past)
+pub snoops_ac : (h : Header) (past : Trace) (q addr code : ℕ) → Inductive h past → k2_today h past (Ac q addr code) ≡ true → SnoopsKnown (Ac q addr code ∷ past)
 snoops_ac h past q addr code f k p n s e =
     elim (slice_get-more (snoops_of past p) (snoop_at (length past) (Ac q addr code) p) n s e) [
       | inl old ↦ f.snoops p n s old

@@ -14,7 +14,7 @@ use Rattle.ace_model.specs.Transactions.{is_ace, read_kind, is_line, is_exclusiv
 use Rattle.ace_model.specs.Grants.{granted, is_granted, was_snooped, answer_of, owes_answer, owes_data, each_port}
 use Rattle.ace_model.specs.States.{state_of, is_port_done, are_snoops_done}
 use Rattle.ace_model.specs.Exclusives.{has_failed}
-use Rattle.ace_model.specs.Rules.{k18, is_due, is_next_transfer, may_transfer}
+use Rattle.ace_model.specs.ReadRules.{k18, is_due, is_next_transfer, may_transfer}
 use Rattle.ace_model.proofs.Looks.{Some-injective, is_some_and-is, implies-at, same_test-at, is_invalid-is, has_name-is}
 use Rattle.ace_model.proofs.Issued.{same_place, outstanding-named, transaction_of-stands}
 use Rattle.ace_model.proofs.Places.{slice_get-more}

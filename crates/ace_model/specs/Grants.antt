@@ -73,7 +73,7 @@ answer_at past (Cr q resp st) p l =
     else None
 answer_at past _ p l = None
 
-abbrev pub unless_given : Bool → Option Answer → Option Answer
+abbrev pub unless_given : {A : Type 0} → Bool → Option A → Option A
 unless_given true answer = None
 unless_given false answer = answer
 

@@ -1,5 +1,5 @@
 -- What the kinds of transactions and snoops have in common.
-use Rattle.std.specs.Prelude.{ℕ, Bool, true, false}
+use Rattle.std.specs.Prelude.{ℕ, Bool, true, false, if◌then◌else◌}
 use Rattle.ace_codes.specs.declared.kind.ArKind.{ArKind}
 use Rattle.ace_codes.specs.declared.kind.ArKind.TheVariants as read
 use Rattle.ace_codes.specs.declared.kind.AwKind.{AwKind}
@@ -23,15 +23,19 @@ is_line_snoop snoop.DvmComplete = false
 is_line_snoop snoop.DvmMessage = false
 is_line_snoop _ = true
 
--- how many R transfers: four for a read of a line, one for a dataless read
+-- reads of a line, which have four R transfers; the others are dataless and have one
+abbrev pub reads_a_line : ArKind → Bool
+reads_a_line read.ReadNoSnoop = true
+reads_a_line read.ReadOnce = true
+reads_a_line read.ReadShared = true
+reads_a_line read.ReadClean = true
+reads_a_line read.ReadNotSharedDirty = true
+reads_a_line read.ReadUnique = true
+reads_a_line _ = false
+
+-- how many R transfers
 abbrev pub beats_of : ArKind → ℕ
-beats_of read.ReadNoSnoop = 4
-beats_of read.ReadOnce = 4
-beats_of read.ReadShared = 4
-beats_of read.ReadClean = 4
-beats_of read.ReadNotSharedDirty = 4
-beats_of read.ReadUnique = 4
-beats_of _ = 1
+beats_of k = if reads_a_line k then 4 else 1
 
 -- memory updates
 abbrev pub is_update : AwKind → Bool
@@ -45,6 +49,53 @@ abbrev pub has_write_data : AwKind → Bool
 has_write_data write.Evict = false
 has_write_data write.Barrier = false
 has_write_data _ = true
+
+-- writes of shared lines that bypass the caches of the port
+abbrev pub is_unique_write : AwKind → Bool
+is_unique_write write.WriteUnique = true
+is_unique_write write.WriteLineUnique = true
+is_unique_write _ = false
+
+abbrev pub is_write_line_unique : AwKind → Bool
+is_write_line_unique write.WriteLineUnique = true
+is_write_line_unique _ = false
+
+abbrev pub is_evict : AwKind → Bool
+is_evict write.Evict = true
+is_evict _ = false
+
+-- transactions of lines that no cache holds
+abbrev pub is_no_snoop_read : ArKind → Bool
+is_no_snoop_read read.ReadNoSnoop = true
+is_no_snoop_read _ = false
+
+abbrev pub is_no_snoop_write : AwKind → Bool
+is_no_snoop_write write.WriteNoSnoop = true
+is_no_snoop_write _ = false
+
+abbrev pub is_read_barrier : ArKind → Bool
+is_read_barrier read.Barrier = true
+is_read_barrier _ = false
+
+abbrev pub is_write_barrier : AwKind → Bool
+is_write_barrier write.Barrier = true
+is_write_barrier _ = false
+
+abbrev pub is_dvm_message : ArKind → Bool
+is_dvm_message read.DvmMessage = true
+is_dvm_message _ = false
+
+abbrev pub is_dvm_complete : ArKind → Bool
+is_dvm_complete read.DvmComplete = true
+is_dvm_complete _ = false
+
+abbrev pub is_message_snoop : SnoopKind → Bool
+is_message_snoop snoop.DvmMessage = true
+is_message_snoop _ = false
+
+abbrev pub is_complete_snoop : SnoopKind → Bool
+is_complete_snoop snoop.DvmComplete = true
+is_complete_snoop _ = false
 
 -- writes that the interconnect grants a line: the line transactions but memory updates and Evict
 abbrev pub is_granted_write : AwKind → Bool

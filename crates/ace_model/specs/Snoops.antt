@@ -4,11 +4,10 @@ use Rattle.std.specs.Prelude.{ℕ, ◌+◌, Bool, ◌&&◌, ◌==◌, if◌then�
 use Rattle.ace_event.specs.declared.event.Event.{Event}
 use Rattle.ace_event.specs.declared.event.Event.TheVariants.{Ac, Cr, Cd}
 use Rattle.ace_model.specs.declared.snoops.Snoop.{Snoop}
-use Rattle.ace_model.specs.Trace.{Trace, is_some_and}
+use Rattle.ace_model.specs.Trace.{Trace, is_some_and, more}
 use Rattle.ace_codes.specs.Snoops.{ac_kind_of}
 use Rattle.ace_model.specs.Kinds.{is_line_snoop}
 use Rattle.ace_codes.specs.Responses.{transfers_data}
-use Rattle.ace_model.specs.Transactions.{more}
 
 -- the snoop of the port that the event is, where so many events came before it
 abbrev pub snoop_at : ℕ → Event → ℕ → Option Snoop

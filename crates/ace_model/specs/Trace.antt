@@ -1,10 +1,23 @@
 -- A trace as definitions see it: the newest event first. `e ∷ past` is the trace `past` and then the event `e`.
-use Rattle.std.specs.Prelude.{ℕ, Bool, true, false, not, ◌||◌, if◌then◌else◌, List, Option, Some, None}
+use Rattle.std.specs.Prelude.{ℕ, ◌-◌, Bool, true, false, not, ◌||◌, List, [], ◌∷◌, ◌++◌, reverse, length, drop, slice_get, Option, Some, None}
 use Rattle.ace_event.specs.declared.event.Event.{Event}
-use Rattle.ace_event.specs.declared.event.Event.TheVariants.{Ar, R, Rk, Aw, W, B, Wk, Ac, Cr, Cd, G, M, S, L, D, Op}
+use Rattle.ace_event.specs.declared.event.Event.TheVariants.{L, Op, Ar, R, Rk, Aw, W, B, Wk, Ac, Cr, Cd, G, M, S, D}
 
 abbrev pub Trace : Type 0
 Trace = List Event
+
+-- The point after the first n events of the trace: the trace as it was then.
+abbrev pub at_point : ℕ → Trace → Trace
+at_point n past = drop (length past - n) past
+
+-- the event that has n events before it
+abbrev pub event_at : Trace → ℕ → Option Event
+event_at past n = slice_get (reverse past) n
+
+-- P holds at every point of the trace
+abbrev pub AtEveryPoint : (Trace → Type 0) → Trace → Type 0
+AtEveryPoint P [] = P []
+AtEveryPoint P (e ∷ past) = AtEveryPoint P past × P (e ∷ past)
 
 -- the port of an event
 abbrev pub port_of : Event → ℕ
@@ -29,10 +42,6 @@ port_of (Op p k res) = p
 abbrev pub implies : Bool → Bool → Bool
 implies a b = not a || b
 
--- both tests hold, or none does
-abbrev pub same_test : Bool → Bool → Bool
-same_test a b = if a then b else not b
-
 -- there is a value, and the test holds of it
 abbrev pub is_some_and : {A : Type 0} → Option A → (A → Bool) → Bool
 is_some_and None test = false
@@ -47,3 +56,8 @@ is_none_or (Some x) test = test x
 abbrev pub newer : {A : Type 0} → Option A → Option A → Option A
 newer None older = older
 newer (Some x) older = Some x
+
+-- the list, and then the value, if there is one
+abbrev pub more : {A : Type 0} → List A → Option A → List A
+more xs None = xs
+more xs (Some x) = xs ++ x ∷ []

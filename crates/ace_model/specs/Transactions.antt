@@ -1,6 +1,6 @@
 -- The transactions of a trace. One is issued by an AR or AW; R and B belong to it by port, channel and identifier, RK
--- and WK by the order of completion (Arm IHI 0022E, A5.3 and C3.3 to C3.4).
-use Rattle.std.specs.Prelude.{ℕ, ◌+◌, Bool, true, false, not, ◌&&◌, ◌||◌, ◌==◌, if◌then◌else◌, List, [], ◌∷◌, ◌++◌, Option, Some, None, length, slice_get, nat_lt}
+-- and WK by the order of completion (Arm IHI 0022E, A5.3, C3.3 and C3.5).
+use Rattle.std.specs.Prelude.{ℕ, ◌+◌, Bool, true, false, not, ◌&&◌, ◌||◌, ◌==◌, if◌then◌else◌, List, [], ◌∷◌, Option, Some, None, length, slice_get, nat_lt}
 use Rattle.std.specs.Int.{bit_at}
 use Rattle.ace_codes.specs.declared.kind.ArKind.{ArKind}
 use Rattle.ace_codes.specs.declared.kind.AwKind.{AwKind}
@@ -11,7 +11,7 @@ use Rattle.ace_event.specs.declared.event.Channel.TheVariants.{Read, Write}
 use Rattle.ace_event.specs.declared.event.Event.{Event}
 use Rattle.ace_event.specs.declared.event.Event.TheVariants.{Ar, R, Rk, Aw, B, Wk}
 use Rattle.ace_model.specs.declared.transactions.Transaction.{Transaction}
-use Rattle.ace_model.specs.Trace.{Trace, is_some_and}
+use Rattle.ace_model.specs.Trace.{Trace, is_some_and, more}
 use Rattle.ace_codes.specs.Reads.{ar_kind_of}
 use Rattle.ace_codes.specs.Writes.{aw_kind_of}
 use Rattle.ace_model.specs.Kinds.{is_line_read, is_line_write, is_granted_write, is_clean_unique, is_make_unique}
@@ -102,11 +102,6 @@ abbrev pub completes : Event → ℕ → Channel → Option ℕ
 completes (R q j resp last word) p c = if is_read c && (p == q) && last then Some j else None
 completes (B q j resp) p c = if not (is_read c) && (p == q) then Some j else None
 completes _ p c = None
-
--- the list, and then the value, if there is one
-abbrev pub more : {A : Type 0} → List A → Option A → List A
-more xs None = xs
-more xs (Some x) = xs ++ x ∷ []
 
 -- the identifiers of the port's complete transactions on the channel, in the order of completion
 abbrev pub completed : Trace → ℕ → Channel → List ℕ

@@ -5,9 +5,9 @@ use Rattle.ace_event.specs.declared.event.Channel.{Channel}
 use Rattle.ace_event.specs.declared.event.Event.{Event}
 use Rattle.ace_event.specs.declared.event.Event.TheVariants.{W, M}
 use Rattle.ace_model.specs.declared.transactions.Transaction.{Transaction}
-use Rattle.ace_model.specs.Trace.{Trace, is_some_and}
+use Rattle.ace_model.specs.Trace.{Trace, is_some_and, more}
 use Rattle.ace_model.specs.Kinds.{has_write_data}
-use Rattle.ace_model.specs.Transactions.{issued, write_kind, more, is_named, same_channel}
+use Rattle.ace_model.specs.Transactions.{issued, write_kind, is_named, same_channel}
 
 -- the transaction, where it is a write of the port with data
 abbrev pub data_write_in : Option Transaction → ℕ → Option Transaction

@@ -5,18 +5,27 @@ ghost use Rattle.ace_event.specs.declared.event.Event.{Event};
 ghost use Rattle.ace_event.specs.declared.header.Header.{Header};
 ghost use Rattle.ace_model.specs.declared.breaks.Break.{Break};
 ghost use Rattle.ace_model.specs.Trace.{Trace};
-ghost use Rattle.ace_model.specs.Accepted.{IsAccepted, FirstBreak, first_break};
+ghost use Rattle.ace_model.specs.Accepted.{Rule, AreInOrder, rules, IsAcceptedBy, FirstBreakBy, first_break_by};
+ghost use Rattle.ace_model.specs.Today.{rules_today};
 ghost use Rattle.ace_model.specs.Unique.{Unique};
 
-/// The break that `first_break` computes is the first break of the events, and where it computes none, the trace is
-/// accepted.
+/// By rules in order, the break that `first_break_by` computes is the first break of the events. By any rules, where it
+/// computes none, the trace is accepted.
 pub fn first_break_is_exact()
-    ensures some { (h : Header) (events : List Event) (b : Break) → (first_break h events ≡ Some b) ↔ FirstBreak h events b.index b.rule }
-    ensures none { (h : Header) (events : List Event) → (first_break h events ≡ None) ↔ IsAccepted h (reverse events) }
+    ensures some { (rs : List Rule) (h : Header) (events : List Event) (b : Break) → AreInOrder rs
+        → (first_break_by rs h events ≡ Some b) ↔ FirstBreakBy rs h events b.index b.rule }
+    ensures none { (rs : List Rule) (h : Header) (events : List Event)
+        → (first_break_by rs h events ≡ None) ↔ IsAcceptedBy rs h (reverse events) }
 {}
 
-/// In an accepted trace a unique line has one holder: at every point, where a port holds a line in UC or UD, every
-/// other port's state of it is I.
+/// The rules are in order, and so are those that the checker of today applies.
+pub fn rules_are_in_order()
+    ensures all { AreInOrder rules }
+    ensures today { AreInOrder rules_today }
+{}
+
+/// In a trace that the checker of today accepts a unique line has one holder: at every point, where a port holds a line
+/// in UC or UD, every other port's state of it is I.
 pub fn unique_line_has_one_holder()
-    ensures { (h : Header) (past : Trace) → IsAccepted h past → Unique h past }
+    ensures { (h : Header) (past : Trace) → IsAcceptedBy rules_today h past → Unique h past }
 {}

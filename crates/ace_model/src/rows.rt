@@ -8,7 +8,8 @@ ghost use Rattle.ace_model.specs.Transactions.{outstanding};
 ghost use Rattle.ace_model.specs.Writes.{next_write, is_burst_whole};
 ghost use Rattle.ace_model.specs.Grants.{granted, has_passed_data, are_passed_data_whole};
 ghost use Rattle.ace_model.specs.States.{state_of, has_store, owes_wack, are_snoops_done};
-ghost use Rattle.ace_model.specs.Accepted.{first_break};
+ghost use Rattle.ace_model.specs.Accepted.{first_break, first_break_by};
+ghost use Rattle.ace_model.specs.Today.{rules_today};
 ghost use Rattle.ace_model.specs.Rows.{two_ace, get, snooped_get, unsnooped_get, stored, written_back, answered_dirty, sent_dirty, second_read, made, made_and_stored};
 
 /// A port gets a line that another port holds: with the snoop the trace is accepted, and without it the first transfer
@@ -16,6 +17,12 @@ ghost use Rattle.ace_model.specs.Rows.{two_ace, get, snooped_get, unsnooped_get,
 pub fn gets_a_held_line()
     ensures snooped { first_break two_ace snooped_get ≡ None }
     ensures unsnooped { first_break two_ace unsnooped_get ≡ Some (record { index = 10; rule = 18 }) }
+{}
+
+/// Today a store breaks K2, whatever came before it.
+pub fn stops_at_a_store_today()
+    ensures got { first_break_by rules_today two_ace (get 0) ≡ None }
+    ensures stored { first_break_by rules_today two_ace stored ≡ Some (record { index = 8; rule = 2 }) }
 {}
 
 /// A store makes a unique line dirty, and the write acknowledge of its WriteBack ends with the line invalid. Between

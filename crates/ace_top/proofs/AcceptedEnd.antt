@@ -1,6 +1,7 @@
 -- What status 0 says.
 use Rattle.std.proofs.Common.{◌≡◌, ℕ, List, Option, None, Some, IfSome, refl, codes, arith}
 use Rattle.std.specs.Io.KnownBytes.{Appends, IsAtEnd}
+use Rattle.ace_model.specs.Today.{rules_today}
 use Rattle.ace_model.proofs.FirstBreak.{no_break_accepted}
 use Rattle.ace_model.proofs.UniqueLaw.{accepted_unique}
 use Rattle.ace_top.specs.declared.answer.Answer.{Answer}
@@ -25,7 +26,7 @@ zero-end NoMemory left s e = absurd (omega arith)
 
 verdict-unique : (bytes : List ℕ) (answer : Answer) → status_of answer ≡ 0 → IsVerdict bytes answer → ReadsUnique bytes
 verdict-unique bytes (Accepted events) s (header, trace, reads, unbroken, count) =
-    (header, trace, reads, accepted_unique header _ (no_break_accepted header trace unbroken))
+    (header, trace, reads, accepted_unique header _ (no_break_accepted rules_today header trace unbroken))
 verdict-unique bytes (Refused index rule) s v = absurd (omega arith)
 verdict-unique bytes Shown s v = absurd v
 verdict-unique bytes Usage s v = absurd (omega arith)

@@ -1,6 +1,5 @@
 pub mod AcceptedEnd
 pub mod CopyLemmas
-pub mod FirstBreakLemmas
 pub mod OneWord
 pub mod Parts
 pub mod ProgressLemmas

@@ -3,19 +3,20 @@ use Rattle.std.proofs.Common.{◌≡◌, ◌≢◌, ◌≤◌, ◌++◌, ℕ, Li
 use Rattle.std.specs.List.{AllByRecursion}
 use Rattle.std.specs.Io.KnownBytes.{Consumes, IsAtEnd}
 use Rattle.std.proofs.KnownBytes.{Consumes-trans}
-use Rattle.std.proofs.lemmas.List.{length-reverse, length-append}
+use Rattle.std.proofs.lemmas.List.{length-reverse, length-append, reverse-append}
 use Rattle.std.proofs.lemmas.Grind.{flat_map-append}
 use Rattle.ace_event.specs.declared.event.Event.{Event}
 use Rattle.ace_event.specs.declared.header.Header.{Header}
 use Rattle.ace_event.specs.Text.{trace_text, events_text, header_text, event_text, line_text}
 use Rattle.ace_grammar.specs.Reading.{Reads, Whole, Full, Bad, IsReadable, IsReadableHeader, HasBadLine, IfTold, most_events}
-use Rattle.ace_model.specs.Accepted.{IsAccepted}
+use Rattle.ace_model.specs.Accepted.{IsAcceptedBy}
+use Rattle.ace_model.specs.Today.{rules_today}
+use Rattle.ace_model.proofs.FirstBreak.{accepted_no_break, next_breaks}
 use Rattle.ace_top.specs.declared.answer.Answer.{Answer}
 use Rattle.ace_top.specs.declared.answer.Answer.TheVariants.{Accepted, Refused, Shown, Usage, Malformed, ReadFault, LimitEvents, NoMemory}
 use Rattle.ace_io.specs.Line.{in_front}
 use Rattle.ace_top.specs.Progress.{StandsAt, TakesEvent, IsNextVerdict, EndsInput}
 use Rattle.ace_top.specs.Verdict.{IsVerdict}
-use Rattle.ace_top.proofs.FirstBreakLemmas.{reverse-cons, no_break, next_breaks}
 
 pub All-more : {A : Type 0} (P : A → Type 0) (xs : List A) (x : A) → AllByRecursion P xs → P x → AllByRecursion P (xs ++ x ∷ [])
 All-more P [] x all one = (one, tt)
@@ -40,12 +41,12 @@ stands_at_start bytes h old left readable told consumed = record {
 pub stands_further : (bytes : List ℕ) (h : Header) (past past' : List Event) (left left' : Option (List ℕ))
     → TakesEvent h past past' left left' → StandsAt bytes h past left → StandsAt bytes h past' left'
 stands_further bytes h past past' left left' (event, is, readable, consumed, kept) s =
-    let e : reverse past' ≡ reverse past ++ event ∷ [] = ap reverse is ∙ reverse-cons event past in
+    let e : reverse past' ≡ reverse past ++ event ∷ [] = ap reverse is ∙ reverse-append (event ∷ []) past in
     record {
       header_is_readable = s.header_is_readable;
       events_are_readable = subst (AllByRecursion IsReadable) (sym e) (All-more IsReadable (reverse past) event s.events_are_readable readable);
       text = subst (Consumes (Some bytes) left') (sym (ap (trace_text h) e ∙ trace_text-more h (reverse past) event)) (Consumes-trans (Some bytes) left left' _ _ s.text consumed);
-      accepted = subst (IsAccepted h) (sym is) (s.accepted, kept);
+      accepted = subst (IsAcceptedBy rules_today h) (sym is) (s.accepted, kept);
     }
 
 -- the bytes are the text that was consumed, and the rest
@@ -63,7 +64,7 @@ verdict_next bytes h past left left' (Accepted events) few next s =
       events_are_readable = s.events_are_readable;
       text = (parts.0, parts.1, ((rw length-reverse few), parts.2));
     } in
-    (h, reverse past, reads, no_break h past s.accepted, length-reverse past ∙ sym next.1)
+    (h, reverse past, reads, accepted_no_break rules_today h past s.accepted, length-reverse past ∙ sym next.1)
   where
     at_end : (left : Option (List ℕ)) → IsAtEnd left → IfTold left (λ rest. rest ≡ [])
     at_end None e = tt
@@ -76,7 +77,7 @@ verdict_next bytes h past left left' (Refused index rule) few (number, (event, r
       All-more IsReadable (reverse past) event s.events_are_readable readable,
       (rw (length-append, length-reverse) (omega arith)),
       (parts.0, parts.1 ∙ ap (λ t. t ++ parts.0) (sym (trace_text-more h (reverse past) event))),
-      next_breaks h past event rule s.accepted broken ∙ ap (λ n. Some (record { index = n; rule = rule })) (sym number),
+      next_breaks rules_today h past event rule s.accepted broken ∙ ap (λ n. Some (record { index = n; rule = rule })) (sym number),
     )
   where
     told : (left : Option (List ℕ)) → IfTold left (λ rest. Unit {0})
@@ -89,7 +90,7 @@ verdict_next bytes h past left left' (Malformed line reason) few next s =
       events_are_readable = s.events_are_readable;
       text = (parts.0, parts.1, ((rw length-reverse next.1), (rw length-reverse next.2), parts.2));
     } in
-    inr (length past, (h, reverse past, reads, no_break h past s.accepted, length-reverse past))
+    inr (length past, (h, reverse past, reads, accepted_no_break rules_today h past s.accepted, length-reverse past))
 verdict_next bytes h past left left' LimitEvents few next s =
     let parts = split bytes _ left (λ rest. rest ≢ []) s.text next.0 in
     let reads : Reads bytes h (reverse past) Full = record {
@@ -97,7 +98,7 @@ verdict_next bytes h past left left' LimitEvents few next s =
       events_are_readable = s.events_are_readable;
       text = (parts.0, parts.1, ((rw length-reverse next.1), parts.2));
     } in
-    (length past, (h, reverse past, reads, no_break h past s.accepted, length-reverse past))
+    (length past, (h, reverse past, reads, accepted_no_break rules_today h past s.accepted, length-reverse past))
 verdict_next bytes h past left left' ReadFault few next s = tt
 verdict_next bytes h past left left' NoMemory few next s = tt
 verdict_next bytes h past left left' Shown few next s = absurd next

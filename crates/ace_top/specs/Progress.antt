@@ -7,7 +7,8 @@ use Rattle.ace_event.specs.declared.header.Header.{Header}
 use Rattle.ace_event.specs.declared.event.Event.{Event}
 use Rattle.ace_event.specs.Text.{trace_text, event_text, line_text}
 use Rattle.ace_grammar.specs.Reading.{IsReadable, IsReadableHeader, HasBadLine, IfTold, most_events}
-use Rattle.ace_model.specs.Accepted.{IsAccepted, least_broken}
+use Rattle.ace_model.specs.Accepted.{IsAcceptedBy, least_of}
+use Rattle.ace_model.specs.Today.{rules_today}
 use Rattle.ace_top.specs.declared.answer.Answer.{Answer}
 use Rattle.ace_top.specs.declared.answer.Answer.TheVariants.{Accepted, Refused, Shown, Usage, Malformed, ReadFault, LimitEvents, NoMemory}
 
@@ -17,17 +18,17 @@ pub record StandsAt (bytes : List ℕ) (header : Header) (past : List Event) (le
   pub header_is_readable : IsReadableHeader header
   pub events_are_readable : AllByRecursion IsReadable (reverse past)
   pub text : Consumes (Some bytes) left (trace_text header (reverse past))
-  pub accepted : IsAccepted header past
+  pub accepted : IsAcceptedBy rules_today header past
 
 -- one more event was read and found fine
 abbrev pub TakesEvent : Header → List Event → List Event → Option (List ℕ) → Option (List ℕ) → Type 0
 TakesEvent header past past' left left' = (event : Event) × (past' ≡ event ∷ past) × IsReadable event
-    × Consumes left left' (line_text (event_text event)) × (least_broken header past event ≡ None)
+    × Consumes left left' (line_text (event_text event)) × (least_of rules_today header past event ≡ None)
 
 -- The next line breaks a rule.
 abbrev pub TakesBroken : Header → List Event → Option (List ℕ) → Option (List ℕ) → ℕ → Type 0
 TakesBroken header past left left' rule = (event : Event) × IsReadable event
-    × Consumes left left' (line_text (event_text event)) × (least_broken header past event ≡ Some rule)
+    × Consumes left left' (line_text (event_text event)) × (least_of rules_today header past event ≡ Some rule)
 
 -- the answer that the next line, or the end of the bytes, gives
 abbrev pub IsNextVerdict : Header → List Event → Option (List ℕ) → Option (List ℕ) → Answer → Type 0
