@@ -4,6 +4,6 @@ use Rattle.ace_codes.specs.Snoops.{ac_kind_of}
 use Rattle.ace_codes.specs.Writes.{aw_kind_of}
 use Rattle.ace_rows.proofs.worked_reads.a_line_has_one_shareability.Goals as goal
 
-pub returns-clause-refused : goal.returns-clause-refused
+pub returns : goal.returns
 unfolding ar_kind_of ac_kind_of aw_kind_of
-returns-clause-refused c = refl
+returns c = record { refused = refl }

@@ -5,6 +5,6 @@ use Rattle.ace_codes.specs.Writes.{aw_kind_of}
 use Rattle.ace_event.specs.Bytes.{merged, number_of_bytes}
 use Rattle.ace_rows.proofs.worked_reads.sharers_give_a_line_up.Goals as goal
 
-pub returns-clause-accepted : goal.returns-clause-accepted
+pub returns : goal.returns
 unfolding ar_kind_of ac_kind_of aw_kind_of merged number_of_bytes
-returns-clause-accepted c = refl
+returns c = record { accepted = refl }

@@ -5,6 +5,6 @@ use Rattle.ace_codes.specs.Writes.{aw_kind_of}
 use Rattle.ace_event.specs.Bytes.{merged, number_of_bytes}
 use Rattle.ace_rows.proofs.worked_updates.a_write_back_has_the_line.Goals as goal
 
-pub returns-clause-refused : goal.returns-clause-refused
+pub returns : goal.returns
 unfolding ar_kind_of ac_kind_of aw_kind_of merged number_of_bytes
-returns-clause-refused c = refl
+returns c = record { refused = refl }
