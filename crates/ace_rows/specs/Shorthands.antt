@@ -95,11 +95,12 @@ abbrev pub line_a : ℕ
 line_a = 0x40
 
 -- the word, and the line of the cache, with this byte in every place
-abbrev pub word_of : ℕ → ℕ
-word_of byte = byte * 0x01010101010101010101010101010101
+abbrev pub repeated_word : ℕ → ℕ
+repeated_word byte = byte * 0x01010101010101010101010101010101
 
-abbrev pub line_of : ℕ → Line
-line_of byte = record { words = word_of byte ∷ word_of byte ∷ word_of byte ∷ word_of byte ∷ [] }
+abbrev pub repeated_line : ℕ → Line
+repeated_line byte =
+    record { words = repeated_word byte ∷ repeated_word byte ∷ repeated_word byte ∷ repeated_word byte ∷ [] }
 
 -- the strobe of a store to the whole line
 abbrev pub whole_line : ℕ
@@ -108,8 +109,8 @@ whole_line = 0xffffffffffffffff
 -- the four transfers of a read of the line, with this response and byte
 abbrev pub four_transfers : ℕ → ℕ → ℕ → List Event
 four_transfers p resp byte =
-    R p 0 resp false (word_of byte) ∷ R p 0 resp false (word_of byte) ∷ R p 0 resp false (word_of byte)
-    ∷ R p 0 resp true (word_of byte) ∷ []
+    R p 0 resp false (repeated_word byte) ∷ R p 0 resp false (repeated_word byte) ∷ R p 0 resp false (repeated_word byte)
+    ∷ R p 0 resp true (repeated_word byte) ∷ []
 
 -- the one transfer of a dataless read, with this response
 abbrev pub one_transfer : ℕ → ℕ → Event
@@ -118,12 +119,14 @@ one_transfer p resp = R p 0 resp true 0
 -- the four transfers of a write of the line
 abbrev pub four_writes : ℕ → ℕ → List Event
 four_writes p byte =
-    W p 0xffff false (word_of byte) ∷ W p 0xffff false (word_of byte) ∷ W p 0xffff false (word_of byte)
-    ∷ W p 0xffff true (word_of byte) ∷ []
+    W p 0xffff false (repeated_word byte) ∷ W p 0xffff false (repeated_word byte) ∷ W p 0xffff false (repeated_word byte)
+    ∷ W p 0xffff true (repeated_word byte) ∷ []
 
 -- the four transfers of snoop data
 abbrev pub four_data : ℕ → ℕ → List Event
-four_data p byte = Cd p false (word_of byte) ∷ Cd p false (word_of byte) ∷ Cd p false (word_of byte) ∷ Cd p true (word_of byte) ∷ []
+four_data p byte =
+    Cd p false (repeated_word byte) ∷ Cd p false (repeated_word byte) ∷ Cd p false (repeated_word byte)
+    ∷ Cd p true (repeated_word byte) ∷ []
 
 -- the port issues a read, an exclusive read, a write of this kind, on the line
 abbrev pub issue_read : ℕ → ℕ → Event
@@ -145,7 +148,7 @@ snoop p kind = Ac p line_a kind
 
 -- the port stores this byte to the whole line
 abbrev pub store : ℕ → ℕ → Event
-store p byte = D p line_a whole_line false (line_of byte)
+store p byte = D p line_a whole_line false (repeated_line byte)
 
 -- the port gets the line of zeros by a ReadUnique, in UniqueClean
 abbrev pub get : ℕ → List Event

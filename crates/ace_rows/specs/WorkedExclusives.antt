@@ -4,7 +4,7 @@ use Rattle.ace_codes.specs.declared.state.LineState.TheVariants.{I, UC, SC}
 use Rattle.ace_event.specs.declared.event.Channel.TheVariants.{Read}
 use Rattle.ace_event.specs.declared.event.Event.{Event}
 use Rattle.ace_event.specs.declared.event.Event.TheVariants.{Rk, Cr, G, L, D}
-use Rattle.ace_rows.specs.Shorthands.{read_shared, read_unique, clean_invalid, clean_unique, line_a, word_of, four_transfers, one_transfer, issue_read, issue_exclusive, ask, snoop, share}
+use Rattle.ace_rows.specs.Shorthands.{read_shared, read_unique, clean_invalid, clean_unique, line_a, repeated_word, four_transfers, one_transfer, issue_read, issue_exclusive, ask, snoop, share}
 
 -- Port 0 shares the line and asks for it to be unique. Port 1 gets it first, so that port 0 has lost it when its answer
 -- comes.
@@ -30,7 +30,7 @@ both_load =
 
 -- the exclusive store of port 0
 abbrev pub exclusive_store : Event
-exclusive_store = D 0 line_a 0xffff true (record { words = word_of 0x55 ∷ 0 ∷ 0 ∷ 0 ∷ [] })
+exclusive_store = D 0 line_a 0xffff true (record { words = repeated_word 0x55 ∷ 0 ∷ 0 ∷ 0 ∷ [] })
 
 -- Both ask to store. Port 0 is granted the line first: its exclusive store passes, and it stores.
 abbrev pub first_store_passes : List Event

@@ -4,7 +4,7 @@ use Rattle.ace_codes.specs.declared.state.LineState.TheVariants.{I, UC, UD, SC, 
 use Rattle.ace_event.specs.declared.event.Channel.TheVariants.{Read, Write}
 use Rattle.ace_event.specs.declared.event.Event.{Event}
 use Rattle.ace_event.specs.declared.event.Event.TheVariants.{Ar, R, Rk, B, Wk, Cr, G, M}
-use Rattle.ace_rows.specs.Shorthands.{line_a, read_once, read_shared, read_clean, read_not_shared_dirty, read_unique, make_invalid, write_line_unique, write_clean, word_of, line_of, four_transfers, four_writes, four_data, issue_read, issue_write, ask, snoop, store, get, share}
+use Rattle.ace_rows.specs.Shorthands.{line_a, read_once, read_shared, read_clean, read_not_shared_dirty, read_unique, make_invalid, write_line_unique, write_clean, repeated_word, repeated_line, four_transfers, four_writes, four_data, issue_read, issue_write, ask, snoop, store, get, share}
 
 -- Port 0 holds the line clean and unique. Port 1 gets it, for which port 0 is snooped and gives it up.
 abbrev pub takes_a_line_over : List Event
@@ -45,18 +45,18 @@ cleans_for_a_read kind =
 
 -- A ReadClean can't take the passed data, and nothing wrote them to memory.
 abbrev pub drops_passed_data : List Event
-drops_passed_data = cleans_for_a_read read_clean ++ R 0 0 8 false (word_of 0x11) ∷ []
+drops_passed_data = cleans_for_a_read read_clean ++ R 0 0 8 false (repeated_word 0x11) ∷ []
 
 -- the interconnect writes them to memory, and answers a clean read
 abbrev pub writes_passed_data : List Event
 writes_passed_data =
-    cleans_for_a_read read_not_shared_dirty ++ M 0 Read 0 (line_of 0x11) ∷ four_transfers 0 8 0x11 ++ Rk 0 SC ∷ []
+    cleans_for_a_read read_not_shared_dirty ++ M 0 Read 0 (repeated_line 0x11) ∷ four_transfers 0 8 0x11 ++ Rk 0 SC ∷ []
 
 -- An ACE-Lite port reads the line once. After its first transfer port 0 stores to the line and writes it to memory.
 abbrev pub stores_during_a_read : List Event
 stores_during_a_read =
     get 0 ++ ask 1 read_once ++ snoop 0 read_once ∷ Cr 0 0x18 UC ∷ R 1 0 0 false 0 ∷ store 0 0x22
-    ∷ issue_write 0 write_clean ∷ four_writes 0 0x22 ++ M 0 Write 0 (line_of 0x22) ∷ []
+    ∷ issue_write 0 write_clean ∷ four_writes 0 0x22 ++ M 0 Write 0 (repeated_line 0x22) ∷ []
 
 abbrev pub rest_of_the_read : List Event
 rest_of_the_read = R 1 0 0 false 0 ∷ R 1 0 0 true 0 ∷ B 0 0 0 ∷ Wk 0 UC ∷ []
@@ -67,7 +67,7 @@ keeps_the_reply = stores_during_a_read ++ R 1 0 0 false 0 ∷ rest_of_the_read
 
 -- or tears
 abbrev pub tears_the_reply : List Event
-tears_the_reply = stores_during_a_read ++ R 1 0 0 false (word_of 0x22) ∷ rest_of_the_read
+tears_the_reply = stores_during_a_read ++ R 1 0 0 false (repeated_word 0x22) ∷ rest_of_the_read
 
 -- the line is granted to port 1 while the read of port 0 is in progress
 abbrev pub grants_before_the_acknowledge : List Event
@@ -85,7 +85,7 @@ three_share =
 abbrev pub writes_a_shared_line : List Event
 writes_a_shared_line =
     three_share ++ issue_write 3 write_line_unique ∷ four_writes 3 0x44 ++ G 3 Write 0 ∷ snoop 0 make_invalid
-    ∷ snoop 1 make_invalid ∷ snoop 2 make_invalid ∷ Cr 0 0 I ∷ Cr 1 0 I ∷ Cr 2 0 I ∷ M 3 Write 0 (line_of 0x44)
+    ∷ snoop 1 make_invalid ∷ snoop 2 make_invalid ∷ Cr 0 0 I ∷ Cr 1 0 I ∷ Cr 2 0 I ∷ M 3 Write 0 (repeated_line 0x44)
     ∷ B 3 0 0 ∷ []
 
 -- a line that was read as Non-shareable is read as shareable

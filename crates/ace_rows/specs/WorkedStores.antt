@@ -4,11 +4,11 @@ use Rattle.ace_codes.specs.declared.state.LineState.TheVariants.{UD}
 use Rattle.ace_event.specs.declared.event.Outcome.TheVariants.{Ok}
 use Rattle.ace_event.specs.declared.event.Event.{Event}
 use Rattle.ace_event.specs.declared.event.Event.TheVariants.{Rk, L, D, Op}
-use Rattle.ace_rows.specs.Shorthands.{make_unique, line_a, word_of, line_of, one_transfer, ask, store, get}
+use Rattle.ace_rows.specs.Shorthands.{make_unique, line_a, repeated_word, repeated_line, one_transfer, ask, store, get}
 
 -- a load gives what was stored
 abbrev pub loads_what_it_stored : List Event
-loads_what_it_stored = get 1 ++ store 1 0x11 ∷ L 1 line_a 2 false (word_of 0x11) ∷ []
+loads_what_it_stored = get 1 ++ store 1 0x11 ∷ L 1 line_a 2 false (repeated_word 0x11) ∷ []
 
 -- or what was there before
 abbrev pub loads_what_was_before : List Event
@@ -24,7 +24,7 @@ makes_without_a_store = makes_a_line ++ Rk 0 UD ∷ []
 
 -- it leaves the last byte out
 abbrev pub makes_all_but_a_byte : List Event
-makes_all_but_a_byte = makes_a_line ++ D 0 line_a 0x7fffffffffffffff false (line_of 0x33) ∷ []
+makes_all_but_a_byte = makes_a_line ++ D 0 line_a 0x7fffffffffffffff false (repeated_line 0x33) ∷ []
 
 -- it stores the whole line
 abbrev pub makes_and_stores : List Event
