@@ -6,3 +6,5 @@ pub mod WorkedUpdates
 pub mod WorkedExclusives
 pub mod WorkedBarriers
 pub mod WorkedMessages
+pub mod Terms
+pub mod Broken
