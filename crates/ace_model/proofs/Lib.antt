@@ -1,10 +1,13 @@
 pub mod Acceptance
 pub mod FirstBreak
+pub mod Forwarding
+pub mod Growth
 pub mod Issued
 pub mod Kept
 pub mod Least
 pub mod Looks
 pub mod Places
+pub mod Points
 pub mod UniqueAcknowledge
 pub mod UniqueAddress
 pub mod UniqueFacts
