@@ -6,8 +6,11 @@ pub mod Issued
 pub mod Kept
 pub mod Least
 pub mod Looks
+pub mod MessageAnswered
 pub mod Places
 pub mod Points
+pub mod SyncCompleted
+pub mod SyncLaw
 pub mod UniqueAcknowledge
 pub mod UniqueAddress
 pub mod UniqueFacts

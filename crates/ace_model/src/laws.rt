@@ -5,7 +5,8 @@ ghost use Rattle.ace_event.specs.declared.event.Event.{Event};
 ghost use Rattle.ace_event.specs.declared.header.Header.{Header};
 ghost use Rattle.ace_model.specs.declared.breaks.Break.{Break};
 ghost use Rattle.ace_model.specs.Trace.{Trace};
-ghost use Rattle.ace_model.specs.Accepted.{Rule, AreInOrder, rules, IsAcceptedBy, FirstBreakBy, first_break_by};
+ghost use Rattle.ace_model.specs.Accepted.{Rule, AreInOrder, rules, IsAccepted, IsAcceptedBy, FirstBreakBy, first_break_by};
+ghost use Rattle.ace_model.specs.DvmHolds.{DvmHolds};
 ghost use Rattle.ace_model.specs.Today.{rules_today};
 ghost use Rattle.ace_model.specs.Unique.{Unique};
 
@@ -28,4 +29,10 @@ pub fn rules_are_in_order()
 /// in UC or UD, every other port's state of it is I.
 pub fn unique_line_has_one_holder()
     ensures { (h : Header) (past : Trace) → IsAcceptedBy rules_today h past → Unique h past }
+{}
+
+/// In every accepted trace a Sync waits for all: where its port is told that it is complete, every other ACE port has
+/// answered it and all that its port sent before it, and has issued a DVM Complete after that answer.
+pub fn a_sync_waits_for_all()
+    ensures { (h : Header) (past : Trace) → IsAccepted h past → DvmHolds h past }
 {}
