@@ -1,7 +1,7 @@
 -- The snoops that forward messages to a port, and the messages that they forward: the k-th forwards the k-th, so that the
 -- Syncs among the one are those among the other.
 use Rattle.std.proofs.Common.{◌≡◌, ℕ, zero, suc, ◌+◌, ◌≤◌, Bool, true, false, ◌&&◌, not, cond, nat_eq, List, [], ◌∷◌, ◌++◌, length, take, count_by, slice_get, Option, Some, None, refl, sym, ap, ap₂, subst, ◌∙◌, arith, inl, inr}
-use Rattle.std.proofs.lemmas.Bool.{cases_Bool, and_parts, and_from, eqb-true}
+use Rattle.std.proofs.lemmas.Bool.{cases_Bool, and_parts, eqb-true}
 use Rattle.ace_event.specs.declared.event.Event.{Event}
 use Rattle.ace_event.specs.declared.event.Event.TheVariants.{Ac}
 use Rattle.ace_event.specs.declared.header.Header.{Header}
@@ -52,7 +52,7 @@ first-now true sync (m ∷ ms) next = let n = next refl in let same : m ≡ n.0 
 
 first-later : (b sync : Bool) (P Q : List Transaction → Type 0) (ms : List Transaction) (k : ℕ) (w : Bool)
     → ((ns : List Transaction) → P ns → IsNext ns k w → Q ns) → ForwardsFirst b sync P ms → IsNext ms (cond b 1 0 + k) w → ForwardsFirst b sync Q ms
-first-later false sync P Q ms k w f p n = 
+first-later false sync P Q ms k w f p n =
     let same : 0 + k ≡ k = omega arith in f ms p (subst (λ j. IsNext ms j w) same n)
 first-later true sync P Q [] k w f p n = p
 first-later true sync P Q (m ∷ ms) k w f p n =

@@ -1,5 +1,5 @@
 -- A complete DVM message was answered by every other ACE port.
-use Rattle.std.proofs.Common.{◌≡◌, ◌≢◌, ℕ, zero, suc, ◌≤◌, ◌<◌, Bool, true, false, ◌&&◌, not, cond, nat_eq, nat_lt, List, [], ◌∷◌, length, Option, Some, None, refl, sym, ap, subst, ◌∙◌, arith, inl, inr}
+use Rattle.std.proofs.Common.{◌≡◌, ◌≢◌, ℕ, zero, suc, ◌<◌, Bool, true, ◌&&◌, nat_eq, nat_lt, [], ◌∷◌, length, Some, None, refl, sym, ap, ◌∙◌, arith, inl, inr}
 use Rattle.std.proofs.lemmas.Bool.{cases_Bool, cases_eq, and_parts, and_from, or_cases, eqb-true, ne_eqb, ltb-true}
 use Rattle.ace_event.specs.declared.event.Channel.TheVariants.{Read, Write}
 use Rattle.ace_event.specs.declared.event.Event.{Event}
@@ -8,7 +8,7 @@ use Rattle.ace_event.specs.declared.header.Header.{Header}
 use Rattle.ace_model.specs.declared.transactions.Transaction.{Transaction}
 use Rattle.ace_model.specs.Trace.{Trace, implies, is_some_and}
 use Rattle.ace_model.specs.Kinds.{is_dvm_message}
-use Rattle.ace_model.specs.Transactions.{is_ace, is_read, read_kind, issued, outstanding, transaction_of}
+use Rattle.ace_model.specs.Transactions.{is_ace, is_read, outstanding}
 use Rattle.ace_model.specs.Progress.{served_by, has_had, is_completion_event, is_completed}
 use Rattle.ace_model.specs.Grants.{each_port}
 use Rattle.ace_model.specs.Messages.{is_message, is_other_ace, has_answered}
@@ -17,7 +17,7 @@ use Rattle.ace_model.specs.OrderRules.{k37, is_answered_by_all}
 use Rattle.ace_model.specs.Accepted.{IsAccepted, rule}
 use Rattle.ace_model.proofs.Kept.{accepted_keeps}
 use Rattle.ace_model.proofs.Looks.{Some-injective, is_some_and-is, is_none_or-at, implies-at, has_name-is}
-use Rattle.ace_model.proofs.Issued.{issued_at, Stands, transaction_of-stands, outstanding-named}
+use Rattle.ace_model.proofs.Issued.{issued_at, transaction_of-stands, outstanding-named}
 use Rattle.ace_model.proofs.Points.{has_answered-grown}
 
 -- what holds of each port holds of this one
@@ -112,6 +112,7 @@ complete_message-answered h (e ∷ past) x a there c m q ace other =
               let lt = (served_by-issued past e y.0 y.1).before in
               let same = eqb-true y.0.place x.place y.2 in omega arith
         ]
+
     now_answered : issued_at past x.place ≡ Some x → (is_completion_event e && is_some_and (served_by past e) (λ y. nat_eq y.place x.place)) ≡ true → has_answered past x q ≡ true
     now_answered old now =
         let parts = and_parts (is_completion_event e) _ now in

@@ -1,5 +1,5 @@
 -- The DVM Completes of a port come after its answers to the Syncs that they complete.
-use Rattle.std.proofs.Common.{◌≡◌, ◌≢◌, ℕ, zero, suc, ◌+◌, ◌-◌, ◌≤◌, ◌<◌, Bool, true, false, ◌&&◌, not, cond, nat_eq, nat_lt, List, [], ◌∷◌, ◌++◌, length, take, drop, filter, slice_get, count_by, Option, Some, None, refl, sym, ap, subst, ◌∙◌, arith, inl, inr}
+use Rattle.std.proofs.Common.{◌≡◌, ℕ, ◌+◌, ◌-◌, ◌≤◌, ◌<◌, Bool, true, ◌&&◌, cond, nat_eq, nat_lt, List, [], ◌∷◌, ◌++◌, length, filter, slice_get, count_by, Option, Some, None, refl, sym, ap, subst, ◌∙◌, arith, inl, inr}
 use Rattle.std.proofs.lemmas.Bool.{cases_Bool, cases_lt, and_parts, eqb-true, ltb-true, lt-ltb}
 use Rattle.std.proofs.lemmas.List.Sums.{sum_by-append, length-filter}
 use Rattle.ace_event.specs.declared.event.Event.{Event}
@@ -17,7 +17,7 @@ use Rattle.ace_model.proofs.Kept.{accepted_keeps}
 use Rattle.ace_model.proofs.Looks.{is_none_or-at, implies-at}
 use Rattle.ace_model.proofs.Places.{slice_get-at_end}
 use Rattle.ace_model.proofs.Issued.{issued-place}
-use Rattle.ace_model.proofs.Growth.{IsStart, start-more, slice_get-start, count_by-cons}
+use Rattle.ace_model.proofs.Growth.{start-more, slice_get-start, count_by-cons}
 use Rattle.ace_model.proofs.Points.{accepted-before, messages-before, fewer_messages-twice, at_point-grown, at_point-now}
 use Rattle.ace_model.proofs.Forwarding.{Forwards, forwards-grow, forwards-take, forwards-syncs, accepted_forwards}
 

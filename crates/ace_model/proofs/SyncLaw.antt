@@ -1,5 +1,5 @@
 -- In an accepted trace a Sync waits for all.
-use Rattle.std.proofs.Common.{◌≡◌, ◌≢◌, ℕ, ◌+◌, ◌-◌, ◌≤◌, ◌<◌, Bool, true, false, ◌&&◌, not, nat_eq, nat_le, [], ◌∷◌, length, Option, Some, None, is_some, refl, sym, ap, subst, ◌∙◌, arith, inl, inr}
+use Rattle.std.proofs.Common.{◌≡◌, ◌≢◌, ℕ, ◌-◌, ◌<◌, true, ◌&&◌, not, nat_eq, nat_le, [], ◌∷◌, length, Option, Some, None, refl, sym, ap, subst, ◌∙◌, arith, inl, inr}
 use Rattle.std.proofs.lemmas.Bool.{cases_Bool, and_parts, eqb-true, eq-eqb, leb-true, ltb-true, lt-ltb}
 use Rattle.ace_codes.specs.Snoops.{ac_kind_of}
 use Rattle.ace_event.specs.declared.event.Event.{Event}
@@ -9,14 +9,14 @@ use Rattle.ace_model.specs.declared.transactions.Transaction.{Transaction}
 use Rattle.ace_model.specs.Trace.{Trace, at_point, implies, newer}
 use Rattle.ace_model.specs.Kinds.{is_complete_snoop}
 use Rattle.ace_model.specs.Transactions.{is_ace, issued}
-use Rattle.ace_model.specs.Progress.{IsTransaction, is_completed}
-use Rattle.ace_model.specs.Messages.{is_message, is_sync, is_sync_word, messages_for, answered_messages, has_answered, sync_number, dvm_completes, sync_in, last_sync, completes_sync, is_sync_completed, is_other_ace}
+use Rattle.ace_model.specs.Progress.{is_completed}
+use Rattle.ace_model.specs.Messages.{is_message, is_sync, is_sync_word, messages_for, answered_messages, has_answered, sync_number, dvm_completes, sync_in, last_sync, is_sync_completed, is_other_ace}
 use Rattle.ace_model.specs.OrderRules.{k39, completes_next, may_complete, has_every_completion}
 use Rattle.ace_model.specs.DvmHolds.{DvmHolds, IsCompletedAt, IsDoneWith}
 use Rattle.ace_model.specs.Accepted.{IsAccepted, rule}
 use Rattle.ace_model.proofs.Kept.{accepted_keeps}
 use Rattle.ace_model.proofs.Looks.{Some-injective, is_some_and-is, is_none_or-at, implies-at}
-use Rattle.ace_model.proofs.Issued.{issued_at, issued-place}
+use Rattle.ace_model.proofs.Issued.{issued-place}
 use Rattle.ace_model.proofs.Points.{fewer_messages}
 use Rattle.ace_model.proofs.MessageAnswered.{IsIssued, issued_at-before, each_port-at, other_ace, complete_message-answered}
 use Rattle.ace_model.proofs.SyncCompleted.{sync-completed}
@@ -40,6 +40,7 @@ last_sync-is (e ∷ past) p x l = step (issued (length past) e) refl l (last_syn
           kind = s.kind;
           port = s.port;
         }
+
     step : (new : Option Transaction) → issued (length past) e ≡ new → newer (sync_in new p) (last_sync past p) ≡ Some x → (last_sync past p ≡ Some x → IsSyncOf past p x) → IsSyncOf (e ∷ past) p x
     step None is l rest = older l rest
     step (Some y) is l rest =
