@@ -35,6 +35,7 @@ abbrev pub Forwards : List Snoop → List Transaction → Type 0
 Forwards [] ms = Unit {0}
 Forwards (s ∷ ss) ms = ForwardsFirst (forwards_message s) (is_sync_word s.addr) (Forwards ss) ms
 
+-- what follows for the rest follows for all, and the same with more messages, no snoop but the first, and one more snoop
 first-map : (b sync : Bool) (P Q : List Transaction → Type 0) (ms : List Transaction) → ((ns : List Transaction) → P ns → Q ns) → ForwardsFirst b sync P ms → ForwardsFirst b sync Q ms
 first-map false sync P Q ms f p = f ms p
 first-map true sync P Q [] f p = p
@@ -60,6 +61,7 @@ first-later true sync P Q (m ∷ ms) k w f p n =
     let after : IsNext (m ∷ ms) (suc k) w = subst (λ j. IsNext (m ∷ ms) j w) same n in
     (p.0, f ms p.1 after)
 
+-- counts of all from counts of the rest
 first-bound : (b sync : Bool) (P : List Transaction → Type 0) (ms : List Transaction) (k : ℕ) → ((ns : List Transaction) → P ns → k ≤ length ns) → ForwardsFirst b sync P ms → cond b 1 0 + k ≤ length ms
 first-bound false sync P ms k f p = let le = f ms p in omega arith
 first-bound true sync P [] k f p = absurd p
@@ -103,6 +105,7 @@ forwards-next (x ∷ ss) s ms f n =
     first-later (forwards_message x) (is_sync_word x.addr) (Forwards ss) (Forwards (ss ++ s ∷ [])) ms (count_by forwards_message ss) (is_sync_word s.addr)
     (λ ns g m. forwards-next ss s ns g m) f (subst (λ j. IsNext ms j (is_sync_word s.addr)) (count_by-cons forwards_message x ss) n)
 
+-- one more snoop, or none
 forwards-more : (ss : List Snoop) (new : Option Snoop) (ms : List Transaction) → Forwards ss ms
     → ((s : Snoop) → new ≡ Some s → forwards_message s ≡ true → IsNext ms (count_by forwards_message ss) (is_sync_word s.addr)) → Forwards (more ss new) ms
 forwards-more ss None ms f next = f

@@ -27,11 +27,8 @@ each_port-at (suc n) test q e lt =
     let parts = and_parts (test n) (each_port n test) e in
     elim (cases_eq q n) [
       | inl same ↦ ap test same ∙ parts.0
-      | inr other ↦ each_port-at n test q parts.1 (below other)
+      | inr other ↦ each_port-at n test q parts.1 (omega (arith, other))
     ]
-  where
-    below : (q ≡ n → ⊥) → q < n
-    below other = elim (cases_eq q n) [ inl same ↦ absurd (other same) | inr not_same ↦ omega (arith, not_same) ]
 
 -- an ACE port other than p is one of the header
 pub other_ace : (h : Header) (p q : ℕ) → is_ace h q ≡ true → q ≢ p → (is_other_ace h p q ≡ true) × (q < h.ports)
@@ -77,8 +74,8 @@ message-reads x m =
     ]
 
 -- what the rules on R say where it completes a message
-completion-answered : (h : Header) (past : Trace) (e : Event) (x : Transaction) → IsAccepted h (e ∷ past) → is_completion_event e ≡ true → served_by past e ≡ Some x → is_message x ≡ true
-    → is_answered_by_all h past x ≡ true
+completion-answered : (h : Header) (past : Trace) (e : Event) (x : Transaction)
+    → IsAccepted h (e ∷ past) → is_completion_event e ≡ true → served_by past e ≡ Some x → is_message x ≡ true → is_answered_by_all h past x ≡ true
 completion-answered h past (R p i resp last word) x a c s m =
     let due = is_some_and-is (outstanding h past p Read i) (is_due h past resp last) (accepted_keeps 17 (rule 18 k18) h past (R p i resp last word) refl a) in
     let same : due.0 ≡ x = Some-injective due.0 x (sym (outstanding-named h past p Read i due.0 due.1) ∙ s) in
@@ -91,7 +88,8 @@ completion-answered h past (B p i resp) x a c s m =
 completion-answered h past _ x a c s m = cc
 
 -- in an accepted trace every other ACE port has answered each complete message
-pub complete_message-answered : (h : Header) (past : Trace) (x : Transaction) → IsAccepted h past → issued_at past x.place ≡ Some x → is_completed past x ≡ true → is_message x ≡ true
+pub complete_message-answered : (h : Header) (past : Trace) (x : Transaction)
+    → IsAccepted h past → issued_at past x.place ≡ Some x → is_completed past x ≡ true → is_message x ≡ true
     → (q : ℕ) → is_ace h q ≡ true → q ≢ x.port → has_answered past x q ≡ true
 complete_message-answered h [] x a there c m q ace other = cc
 complete_message-answered h (e ∷ past) x a there c m q ace other =

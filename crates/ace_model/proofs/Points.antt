@@ -72,6 +72,7 @@ answers-grow (Cr p resp st) past q =
     ]
 answers-grow _ past q = omega arith
 
+-- and no fewer answered messages
 answered-grow : (e : Event) (past : Trace) (q : ℕ) → answered_messages past q ≤ answered_messages (e ∷ past) q
 answered-grow e past q =
     let s = start-more (snoops_of past q) (snoop_at (length past) e q) in

@@ -30,6 +30,7 @@ pub record IsOwed (past : Trace) (q m : ℕ) : Type 0 where
   pub before : completion.place < length past
   pub answered : m < answered_syncs (at_point completion.place past) q
 
+-- it is owed in a longer trace too
 owed-grown : (e : Event) (past : Trace) (q m : ℕ) → IsOwed past q m → IsOwed (e ∷ past) q m
 owed-grown e past q m o = record {
   completion = o.completion;
@@ -41,7 +42,8 @@ owed-grown e past q m o = record {
 }
 
 -- what the rule on DVM Completes says of one that the event issues
-owed-now : (h : Header) (e : Event) (past : Trace) (x : Transaction) → issued (length past) e ≡ Some x → is_dvm_completion x ≡ true → k38 h past e ≡ true → IsOwed (e ∷ past) x.port (dvm_completes past x.port)
+owed-now : (h : Header) (e : Event) (past : Trace) (x : Transaction)
+    → issued (length past) e ≡ Some x → is_dvm_completion x ≡ true → k38 h past e ≡ true → IsOwed (e ∷ past) x.port (dvm_completes past x.port)
 owed-now h e past x new kind k =
     let place = issued-place (length past) e x new in
     let owes = implies-at (is_dvm_completion x) (nat_lt (dvm_completes past x.port) (answered_syncs past x.port)) (is_none_or-at (issued (length past) e) (owes_completion past) x k new) kind in
@@ -55,9 +57,9 @@ owed-now h e past x new kind k =
       answered = rw point (ltb-true _ _ owes);
     }
 
--- one more transaction is one more DVM Complete of the port, or none
-completes-more : (xs : List Transaction) (new : Option Transaction) (test : Transaction → Bool) (m : ℕ) → m < count_by test (more xs new)
-    → (count_by test xs ≤ m) → (x : Transaction) × (new ≡ Some x) × (test x ≡ true) × (m ≡ count_by test xs)
+-- where a count passes m with one more transaction, this one passes the test
+completes-more : (xs : List Transaction) (new : Option Transaction) (test : Transaction → Bool) (m : ℕ) → m < count_by test (more xs new) → count_by test xs ≤ m
+    → (x : Transaction) × (new ≡ Some x) × (test x ≡ true) × (m ≡ count_by test xs)
 completes-more xs None test m lt le = absurd (omega arith)
 completes-more xs (Some x) test m lt le =
     let sum : count_by test (xs ++ x ∷ []) ≡ count_by test xs + count_by test (x ∷ []) = sum_by-append (λ y. cond (test y) 1 0) xs (x ∷ []) in

@@ -85,6 +85,7 @@ done_with h past p x a l may q ace other =
       completed = sync-completed h past x q a (omega arith);
     }
 
+-- what the rule on AC DVM Complete says of one
 completed_at : (h : Header) (past : Trace) (e : Event) → IsAccepted h (e ∷ past) → IsCompletedAt h past e
 completed_at h past (Ac q addr snoop) a p c =
     let parts = and_parts (nat_eq p q) _ c in
@@ -96,6 +97,7 @@ completed_at h past (Ac q addr snoop) a p c =
     (x.0, ap (last_sync past) (sym port) ∙ x.1, λ r ace other. done_with h past q x.0 a.0 x.1 x.2 r ace (λ same. other (same ∙ port)))
 completed_at h past _ a p c = cc
 
+-- it holds at every event of an accepted trace
 pub accepted_dvm_holds : (h : Header) (past : Trace) → IsAccepted h past → DvmHolds h past
 accepted_dvm_holds h [] a = tt
 accepted_dvm_holds h (e ∷ past) a = (accepted_dvm_holds h past a.0, completed_at h past e a)
