@@ -18,7 +18,7 @@ use Rattle.ace_model.specs.OrderRules.{k36, forwards_next}
 use Rattle.ace_model.specs.Accepted.{IsAccepted, rule}
 use Rattle.ace_model.proofs.Kept.{accepted_keeps}
 use Rattle.ace_model.proofs.Looks.{Some-injective, is_some_and-is, is_none_or-at, implies-at}
-use Rattle.ace_model.proofs.Growth.{IsStart, start-more, start-filter, slice_get-filter, count_by-cons}
+use Rattle.ace_model.proofs.Starts.{IsStart, start-more, start-filter, slice_get-filter, count_by-cons}
 
 -- the message at this place is a Sync, or isn't
 abbrev pub IsNext : List Transaction → ℕ → Bool → Type 0

@@ -1,7 +1,7 @@
 pub mod Acceptance
 pub mod FirstBreak
 pub mod Forwarding
-pub mod Growth
+pub mod Starts
 pub mod Issued
 pub mod Kept
 pub mod Least

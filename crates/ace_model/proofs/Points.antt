@@ -12,7 +12,7 @@ use Rattle.ace_model.specs.Progress.{transactions}
 use Rattle.ace_model.specs.Snoops.{snoops_of, answers, snoop_at}
 use Rattle.ace_model.specs.Messages.{is_message, messages_for, forwards_message, answered_messages, has_answered}
 use Rattle.ace_model.specs.Accepted.{IsAccepted}
-use Rattle.ace_model.proofs.Growth.{IsStart, start-self, start-trans, start-more, start-filter, start-length, count_by-take}
+use Rattle.ace_model.proofs.Starts.{IsStart, start-self, start-trans, start-more, start-filter, start-length, count_by-take}
 
 -- the trace without its newest k events is accepted too
 pub accepted-before : (h : Header) (k : ℕ) (past : Trace) → IsAccepted h past → IsAccepted h (drop k past)

@@ -17,7 +17,7 @@ use Rattle.ace_model.proofs.Kept.{accepted_keeps}
 use Rattle.ace_model.proofs.Looks.{is_none_or-at, implies-at}
 use Rattle.ace_model.proofs.Places.{slice_get-at_end}
 use Rattle.ace_model.proofs.Issued.{issued-place}
-use Rattle.ace_model.proofs.Growth.{start-more, slice_get-start, count_by-cons}
+use Rattle.ace_model.proofs.Starts.{start-more, slice_get-start, count_by-cons}
 use Rattle.ace_model.proofs.Points.{accepted-before, messages-before, fewer_messages-twice, at_point-grown, at_point-now}
 use Rattle.ace_model.proofs.Forwarding.{Forwards, forwards-grow, forwards-take, forwards-syncs, accepted_forwards}
 
