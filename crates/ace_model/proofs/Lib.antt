@@ -1,5 +1,7 @@
 pub mod Acceptance
+pub mod BarrierPairs
 pub mod FirstBreak
+pub mod Growth
 pub mod Issued
 pub mod Kept
 pub mod Least
