@@ -1,6 +1,6 @@
 -- A trace that grows: what is in it stays, and what it has had it keeps.
 use Rattle.std.proofs.Common.{◌≡◌, ℕ, zero, suc, ◌+◌, ◌-◌, ◌<◌, ◌≤◌, Bool, true, false, not, ◌&&◌, ◌||◌, nat_eq, List, [], ◌∷◌, ◌++◌, length, drop, Option, Some, None, slice_get, refl, sym, ap, ◌∙◌, arith, inl, inr, length-append}
-use Rattle.std.proofs.lemmas.Bool.{and_parts, or_cases, or_left, or_right, cases_Bool, eqb-true, eq-eqb, ne_eqb}
+use Rattle.std.proofs.lemmas.Bool.{or_left, or_right, cases_Bool, eq-eqb, ne_eqb}
 use Rattle.ace_event.specs.declared.event.Event.{Event}
 use Rattle.ace_event.specs.declared.header.Header.{Header}
 use Rattle.ace_model.specs.declared.transactions.Transaction.{Transaction}
@@ -86,34 +86,6 @@ pub has_had-grown : (test : Event → Bool) (later : List Event) (before : Trace
 has_had-grown test [] before x had = had
 has_had-grown test (e ∷ later) before x had =
     or_right (test e && is_transaction (served_by (later ++ before) e) x) (has_had test (later ++ before) x) (has_had-grown test later before x had)
-
--- the event that the transaction has had, and what came before it
-pub record Served (test : Event → Bool) (past : Trace) (x : Transaction) : Type 0 where
-  pub later : List Event
-  pub event : Event
-  pub before : Trace
-  pub split : past ≡ later ++ event ∷ before
-  pub passes : test event ≡ true
-  pub belongs : is_transaction (served_by before event) x ≡ true
-
-pub has_had-served : (test : Event → Bool) (past : Trace) (x : Transaction) → has_had test past x ≡ true → Served test past x
-has_had-served test [] x had = cc
-has_had-served test (e ∷ past) x had =
-    elim (or_cases (test e && is_transaction (served_by past e) x) (has_had test past x) had) [
-      | inl now ↦
-          let parts = and_parts (test e) (is_transaction (served_by past e) x) now in
-          record { later = []; event = e; before = past; split = refl; passes = parts.0; belongs = parts.1 }
-      | inr earlier ↦
-          let s = has_had-served test past x earlier in
-          record {
-            later = e ∷ s.later;
-            event = s.event;
-            before = s.before;
-            split = ap (λ (t : Trace). e ∷ t) s.split;
-            passes = s.passes;
-            belongs = s.belongs;
-          }
-    ]
 
 -- what came first in an accepted trace is accepted
 pub accepted-before : (h : Header) (later : List Event) (before : Trace) → IsAccepted h (later ++ before) → IsAccepted h before

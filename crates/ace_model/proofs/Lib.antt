@@ -6,7 +6,9 @@ pub mod Issued
 pub mod Kept
 pub mod Least
 pub mod Looks
+pub mod OrderPoints
 pub mod Places
+pub mod Served
 pub mod UniqueAcknowledge
 pub mod UniqueAddress
 pub mod UniqueFacts
