@@ -1,5 +1,5 @@
 -- The halves of a barrier and its pair: which of the port's they are doesn't change while the trace grows.
-use Rattle.std.proofs.Common.{◌≡◌, ℕ, zero, suc, ◌<◌, true, ◌&&◌, ◌==◌, List, [], ◌∷◌, ◌++◌, length, Option, Some, None, slice_get, refl, sym, ap, subst, ◌∙◌, arith, inl, inr}
+use Rattle.std.proofs.Common.{◌≡◌, ℕ, zero, suc, ◌<◌, true, ◌&&◌, ◌==◌, List, [], ◌∷◌, ◌++◌, length, Option, Some, None, slice_get, sym, ap, subst, ◌∙◌, arith, inl, inr}
 use Rattle.std.proofs.lemmas.Bool.{and_parts, cases_Bool, eqb-true}
 use Rattle.ace_event.specs.declared.event.Event.{Event}
 use Rattle.ace_event.specs.declared.event.Channel.{Channel}
@@ -104,10 +104,12 @@ is_barrier_of-is x p c e =
     record { barrier = b.0; port = eqb-true x.port p b.1; chan = same_channel-is x.chan c a.1 }
 
 -- its number is the same at every point after it
-pub half-number : (later : List Event) (before : Trace) (p : ℕ) (c : Channel) (k : ℕ) (x : Transaction) → IsHalf (later ++ before) p c k x → x.place < length before → number_of before x ≡ k
-half-number later before p c k x i low =
+pub half-number : (later : List Event) (e : Event) (before : Trace) (p : ℕ) (c : Channel) (k : ℕ) (x : Transaction) → IsHalf (later ++ e ∷ before) p c k x → x.place < length before → number_of before x ≡ k
+half-number later e before p c k x i low =
     let is = is_barrier_of-is x p c i.barrier in
+    let point : at_point x.place (later ++ e ∷ before) ≡ at_point x.place before =
+    at_point-grown later (e ∷ before) x.place (omega arith) ∙ at_point-before e before x.place (omega arith) in
     ap (λ q. length (barriers (at_point x.place before) q x.chan)) is.port
     ∙ ap (λ (d : Channel). length (barriers (at_point x.place before) p d)) is.chan
-    ∙ ap (λ (t : Trace). length (barriers t p c)) (sym (at_point-grown later before x.place (omega arith)))
+    ∙ ap (λ (t : Trace). length (barriers t p c)) (sym point)
     ∙ i.number

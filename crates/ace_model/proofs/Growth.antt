@@ -1,5 +1,5 @@
 -- A trace that grows: what is in it stays, and what it has had it keeps.
-use Rattle.std.proofs.Common.{◌≡◌, ℕ, zero, suc, ◌+◌, ◌-◌, ◌<◌, ◌≤◌, Bool, true, false, not, ◌&&◌, ◌||◌, nat_eq, List, [], ◌∷◌, ◌++◌, length, drop, Option, Some, None, slice_get, refl, sym, ap, ◌∙◌, arith, inl, inr, length-append}
+use Rattle.std.proofs.Common.{◌≡◌, ℕ, zero, suc, ◌-◌, ◌<◌, ◌≤◌, Bool, true, false, not, ◌&&◌, nat_eq, List, [], ◌∷◌, ◌++◌, length, Option, Some, None, slice_get, refl, sym, ◌∙◌, arith, inl, inr, length-append}
 use Rattle.std.proofs.lemmas.Bool.{or_left, or_right, cases_Bool, eq-eqb, ne_eqb}
 use Rattle.ace_event.specs.declared.event.Event.{Event}
 use Rattle.ace_event.specs.declared.header.Header.{Header}
@@ -86,6 +86,10 @@ pub has_had-grown : (test : Event → Bool) (later : List Event) (before : Trace
 has_had-grown test [] before x had = had
 has_had-grown test (e ∷ later) before x had =
     or_right (test e && is_transaction (served_by (later ++ before) e) x) (has_had test (later ++ before) x) (has_had-grown test later before x had)
+
+-- what a transaction had before an event of the trace, it has had
+pub has_had-later : (test : Event → Bool) (later : List Event) (e : Event) (before : Trace) (x : Transaction) → has_had test before x ≡ true → has_had test (later ++ e ∷ before) x ≡ true
+has_had-later test later e before x had = has_had-grown test later (e ∷ before) x (has_had-grown test (e ∷ []) before x had)
 
 -- what came first in an accepted trace is accepted
 pub accepted-before : (h : Header) (later : List Event) (before : Trace) → IsAccepted h (later ++ before) → IsAccepted h before

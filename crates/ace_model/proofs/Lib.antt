@@ -1,4 +1,5 @@
 pub mod Acceptance
+pub mod BarrierOrder
 pub mod BarrierPairs
 pub mod FirstBreak
 pub mod Growth

@@ -1,5 +1,5 @@
 -- A line transaction that is complete has had its order point.
-use Rattle.std.proofs.Common.{◌≡◌, ◌⊎◌, ℕ, Bool, true, false, not, ◌&&◌, ◌||◌, ◌==◌, nat_eq, if◌then◌else◌, List, [], ◌∷◌, ◌++◌, length, Option, Some, None, refl, sym, ap, subst, ◌∙◌, inl, inr}
+use Rattle.std.proofs.Common.{◌≡◌, ◌⊎◌, ℕ, Bool, true, false, not, ◌&&◌, ◌||◌, ◌==◌, nat_eq, if◌then◌else◌, List, [], ◌∷◌, ◌++◌, length, Some, refl, sym, ap, subst, ◌∙◌, inl, inr}
 use Rattle.std.proofs.lemmas.Bool.{and_parts, or_cases, or_left, or_right, cases_Bool, eqb-true, eq-eqb, not-true}
 use Rattle.ace_codes.specs.declared.kind.AwKind.{AwKind}
 use Rattle.ace_codes.specs.declared.kind.AwKind.TheVariants as kind
@@ -9,20 +9,20 @@ use Rattle.ace_event.specs.declared.event.Channel.{Channel}
 use Rattle.ace_event.specs.declared.event.Channel.TheVariants.{Read, Write}
 use Rattle.ace_event.specs.declared.header.Header.{Header}
 use Rattle.ace_model.specs.declared.transactions.Transaction.{Transaction}
-use Rattle.ace_model.specs.Trace.{Trace, is_some_and, implies}
+use Rattle.ace_model.specs.Trace.{Trace, is_some_and}
 use Rattle.ace_model.specs.Kinds.{is_line_read, is_line_write, is_evict, has_write_data}
-use Rattle.ace_model.specs.Transactions.{is_read, is_line, is_named, is_transaction, issued, read_kind, write_kind, same_channel, transaction_of, transfers, outstanding, ended, without}
+use Rattle.ace_model.specs.Transactions.{is_read, is_line, is_named, is_transaction, issued, read_kind, write_kind, same_channel, transaction_of, ended, without}
 use Rattle.ace_model.specs.Progress.{served_by, has_had, is_completion_event, is_completed, is_grant, is_write_of_memory, updates_memory, evicts, is_ordered}
 use Rattle.ace_model.specs.Writes.{is_memory_write, has_memory_write, is_burst_whole}
-use Rattle.ace_model.specs.Grants.{given, granted, is_granted, has_passed_data, are_passed_data_whole, passer}
+use Rattle.ace_model.specs.Grants.{given, granted, is_granted, has_passed_data, are_passed_data_whole}
 use Rattle.ace_model.specs.ReadRules.{k18, is_due, is_next_transfer, may_transfer}
 use Rattle.ace_model.specs.WriteRules.{k24, k26, may_respond, is_write_due, is_update_due, may_write_passed, may_write_data, may_write_memory}
 use Rattle.ace_model.specs.Accepted.{rule, IsAccepted}
-use Rattle.ace_model.proofs.Growth.{has_had-grown, accepted-before}
+use Rattle.ace_model.proofs.Growth.{has_had-grown, has_had-later, accepted-before}
 use Rattle.ace_model.proofs.Issued.{issued_at}
 use Rattle.ace_model.proofs.Kept.{accepted_keeps}
 use Rattle.ace_model.proofs.Looks.{is_some_and-is, implies-at, same_channel-is, newest_named-older, newest_on-cases, without-some}
-use Rattle.ace_model.proofs.Served.{Served, has_had-served, Outstands, outstands}
+use Rattle.ace_model.proofs.Served.{has_had-served, Outstands, outstands}
 
 -- what a transaction has had depends on its place alone
 has_had-place : (test : Event → Bool) (past : Trace) (x y : Transaction) → x.place ≡ y.place → has_had test past x ≡ has_had test past y
@@ -57,10 +57,10 @@ memory_write-now past (M q d j line) p c i x t now =
     let a = and_parts (nat_eq p q && same_channel c d) (nat_eq i j) now in
     let b = and_parts (nat_eq p q) (same_channel c d) a.0 in
     let there : transaction_of past q d j ≡ Some x =
-        ap (λ a. transaction_of past a d j) (sym (eqb-true p q b.0))
-        ∙ ap (λ (a : Channel). transaction_of past p a j) (sym (same_channel-is c d b.1))
-        ∙ ap (λ a. transaction_of past p c a) (sym (eqb-true i j a.1))
-        ∙ t in
+    ap (λ a. transaction_of past a d j) (sym (eqb-true p q b.0))
+    ∙ ap (λ (a : Channel). transaction_of past p a j) (sym (same_channel-is c d b.1))
+    ∙ ap (λ a. transaction_of past p c a) (sym (eqb-true i j a.1))
+    ∙ t in
     rw there (eq-eqb x.place x.place refl)
 memory_write-now past e p c i x t now = cc
 
@@ -97,10 +97,6 @@ may_write-cases h past x may =
           ]
     ]
 
--- what a transaction had before an event of the trace, it has had
-had-later : (test : Event → Bool) (later : List Event) (e : Event) (before : Trace) (x : Transaction) → has_had test before x ≡ true → has_had test (later ++ e ∷ before) x ≡ true
-had-later test later e before x had = has_had-grown test later (e ∷ before) x (has_had-grown test (e ∷ []) before x had)
-
 -- a transaction that wrote memory is an update, or was granted
 abbrev WasGranted : Header → Transaction → Trace → Type 0
 WasGranted h x past =
@@ -109,11 +105,11 @@ WasGranted h x past =
 written-granted_at : (h : Header) (later : List Event) (e : Event) (before : Trace) (x : Transaction) → is_write_of_memory e ≡ true → is_transaction (served_by before e) x ≡ true → WasGranted h x (later ++ e ∷ before)
 written-granted_at h later (M p c i line) before x passes belongs accepted there =
     let keeps : k24 h before (M p c i line) ≡ true =
-        accepted_keeps 23 (rule 24 k24) h before (M p c i line) refl (accepted-before h later (M p c i line ∷ before) accepted) in
+    accepted_keeps 23 (rule 24 k24) h before (M p c i line) refl (accepted-before h later (M p c i line ∷ before) accepted) in
     let o = outstands h later (M p c i line) before p c i (may_write_memory h before) x keeps belongs there in
     elim (may_write-cases h before x o.1) [
       | inl update ↦ inl update
-      | inr g ↦ inr (had-later is_grant later (M p c i line) before x (is_granted-had h before x g))
+      | inr g ↦ inr (has_had-later is_grant later (M p c i line) before x (is_granted-had h before x g))
     ]
 written-granted_at h later e before x passes belongs accepted there = cc
 
@@ -171,17 +167,17 @@ response-ordered h before p i x accepted o may line =
       | inl evict ↦ or_left (evicts x) _ (rw k.1 evict)
       | inr writes ↦
           let has_data : is_some_and (write_kind x) has_write_data ≡ true = rw k.1 writes in
-          let wrote = implies-at (is_some_and (write_kind x) has_write_data) (has_memory_write before x.port x.chan x.id) (and_parts _ _ may).1 has_data in
+          let wrote : has_memory_write before x.port x.chan x.id ≡ true = implies-at (is_some_and (write_kind x) has_write_data) (has_memory_write before x.port x.chan x.id) (and_parts _ _ may).1 has_data in
           let by_name =
-              ap (λ a. transaction_of before a x.chan x.id) o.name.port
-              ∙ ap (λ (a : Channel). transaction_of before p a x.id) o.name.chan
-              ∙ ap (λ a. transaction_of before p Write a) o.name.id
-              ∙ o.of_name in
-          let had = has_memory_write-had before x.port x.chan x.id x by_name wrote in
+          ap (λ a. transaction_of before a x.chan x.id) o.name.port
+          ∙ ap (λ (a : Channel). transaction_of before p a x.id) o.name.chan
+          ∙ ap (λ a. transaction_of before p Write a) o.name.id
+          ∙ o.of_name in
+          let had : has_had is_write_of_memory before x ≡ true = has_memory_write-had before x.port x.chan x.id x by_name wrote in
           elim (cases_Bool (updates_memory x)) [
             | inl update ↦ ordered-by_memory before x update had
             | inr other ↦ elim (written-granted h before x had accepted o.there) [
-              | inl update ↦ cc
+              | inl update ↦ let no : true ≡ false = sym update ∙ other in cc
               | inr g ↦ ordered-by_grant before x other g
             ]
           ]
@@ -194,7 +190,7 @@ completed-ordered_at h later (R p i resp last word) before x passes belongs acce
     let o = outstands h later e before p Read i (is_due h before resp last) x keeps belongs there in
     let may = implies-at (is_line x) (may_transfer h before x resp) (and_parts (is_some_and (read_kind x) (is_next_transfer before x last)) _ o.1).1 line in
     let g = (and_parts (is_granted h before x) _ (and_parts (is_granted h before x && _) _ may).0).0 in
-    ordered-by_grant (later ++ e ∷ before) x (line_read-no_update x o.0.name.chan) (had-later is_grant later e before x (is_granted-had h before x g))
+    ordered-by_grant (later ++ e ∷ before) x (line_read-no_update x o.0.name.chan) (has_had-later is_grant later e before x (is_granted-had h before x g))
 completed-ordered_at h later (B p i resp) before x passes belongs accepted there line =
     let e : Event = B p i resp in
     let here = accepted-before h later (e ∷ before) accepted in

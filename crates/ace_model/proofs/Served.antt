@@ -1,5 +1,5 @@
 -- What an event did for a transaction: the event that a transaction has had, and the transaction that it names.
-use Rattle.std.proofs.Common.{◌≡◌, ℕ, ◌<◌, Bool, true, ◌&&◌, nat_eq, List, [], ◌∷◌, ◌++◌, length, Option, Some, refl, sym, ap, subst, ◌∙◌, arith, inl, inr}
+use Rattle.std.proofs.Common.{◌≡◌, ℕ, ◌<◌, Bool, true, ◌&&◌, nat_eq, List, [], ◌∷◌, ◌++◌, length, Some, refl, sym, ap, subst, ◌∙◌, arith, inl, inr}
 use Rattle.std.proofs.lemmas.Bool.{and_parts, or_cases, eqb-true}
 use Rattle.ace_event.specs.declared.event.Event.{Event}
 use Rattle.ace_event.specs.declared.event.Channel.{Channel}
@@ -60,9 +60,8 @@ outstands h later e before p c i test x some belongs there =
     let same_place : z.place ≡ x.place = eqb-true z.place x.place same_number in
     let below : z.place < length before = stands.before in
     let there_too : issued_at (later ++ e ∷ before) z.place ≡ Some z =
-        issued_at-grown later (e ∷ before) z.place (omega arith) ∙ issued_at-grown (e ∷ []) before z.place below ∙ stands.there in
-    let same : z ≡ x = Some-injective z x (sym there_too ∙ ap (issued_at (later ++ e ∷ before)) same_place ∙ there) in
-    (
+    issued_at-grown later (e ∷ before) z.place (omega arith) ∙ issued_at-grown (e ∷ []) before z.place below ∙ stands.there in
+    let same : z ≡ x = Some-injective z x (sym there_too ∙ ap (issued_at (later ++ e ∷ before)) same_place ∙ there) in (
       record {
         out = o.1 ∙ ap Some same;
         of_name = of_name ∙ ap Some same;

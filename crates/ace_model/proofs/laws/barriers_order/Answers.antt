@@ -1,7 +1,5 @@
-use Rattle.ace_model.proofs.Growth.{accepted-before}
-use Rattle.ace_model.proofs.OrderPoints.{completed-ordered}
-use Rattle.ace_model.proofs.BarrierPairs.{half-number}
+use Rattle.ace_model.proofs.BarrierOrder.{accepted_barriers_order}
 use Rattle.ace_model.proofs.laws.barriers_order.Goals as goal
 
 pub returns : goal.returns
-returns c = ?
+returns c = accepted_barriers_order
