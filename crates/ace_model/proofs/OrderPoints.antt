@@ -144,11 +144,11 @@ line_write-cases kind.Evict e = inl refl
 line_write-cases kind.Barrier e = cc
 line_write-cases k e = inr refl
 
-line_read-no_update : (x : Transaction) → x.chan ≡ Read → updates_memory x ≡ false
-line_read-no_update x read = let r : is_read x.chan ≡ true = ap is_read read in rw r refl
+read-no_update : (x : Transaction) → x.chan ≡ Read → updates_memory x ≡ false
+read-no_update x read = let r : is_read x.chan ≡ true = ap is_read read in rw r refl
 
-line_write-kind : (x : Transaction) → x.chan ≡ Write → is_line x ≡ true → is_some_and (write_kind x) is_line_write ≡ true
-line_write-kind x write line =
+write-line_kind : (x : Transaction) → x.chan ≡ Write → is_line x ≡ true → is_some_and (write_kind x) is_line_write ≡ true
+write-line_kind x write line =
     let w : is_read x.chan ≡ false = ap is_read write in
     elim (or_cases (is_some_and (read_kind x) is_line_read) (is_some_and (write_kind x) is_line_write) line) [
       | inl read ↦ let no : false ≡ true = rw w at read in cc
@@ -159,28 +159,34 @@ line_write-kind x write line =
 abbrev IsOrderedIn : Header → Transaction → Trace → Type 0
 IsOrderedIn h x past = IsAccepted h past → issued_at past x.place ≡ Some x → is_line x ≡ true → is_ordered past x ≡ true
 
--- at its B
-response-ordered : (h : Header) (before : Trace) (p i : ℕ) (x : Transaction) → IsAccepted h before → Outstands h before p Write i x → may_respond before x ≡ true → is_line x ≡ true → is_ordered before x ≡ true
+-- one that wrote memory is ordered, an update by its M, and any other by its G
+written-ordered : (h : Header) (past : Trace) (x : Transaction) → IsAccepted h past → issued_at past x.place ≡ Some x
+    → has_had is_write_of_memory past x ≡ true → is_ordered past x ≡ true
+written-ordered h past x accepted there had =
+    elim (cases_Bool (updates_memory x)) [
+      | inl update ↦ ordered-by_memory past x update had
+      | inr other ↦ elim (written-granted h past x had accepted there) [
+        | inl update ↦ let no : true ≡ false = sym update ∙ other in cc
+        | inr g ↦ ordered-by_grant past x other g
+      ]
+    ]
+
+-- a write is ordered where it may have its B
+response-ordered : (h : Header) (before : Trace) (p i : ℕ) (x : Transaction) → IsAccepted h before
+    → Outstands h before p Write i x → may_respond before x ≡ true → is_line x ≡ true → is_ordered before x ≡ true
 response-ordered h before p i x accepted o may line =
-    let k = is_some_and-is (write_kind x) is_line_write (line_write-kind x o.name.chan line) in
+    let k = is_some_and-is (write_kind x) is_line_write (write-line_kind x o.name.chan line) in
     elim (line_write-cases k.0 k.2) [
       | inl evict ↦ or_left (evicts x) _ (rw k.1 evict)
       | inr writes ↦
           let has_data : is_some_and (write_kind x) has_write_data ≡ true = rw k.1 writes in
-          let wrote : has_memory_write before x.port x.chan x.id ≡ true = implies-at (is_some_and (write_kind x) has_write_data) (has_memory_write before x.port x.chan x.id) (and_parts _ _ may).1 has_data in
-          let by_name =
+          let wrote = implies-at _ (has_memory_write before x.port x.chan x.id) (and_parts _ _ may).1 has_data in
+          let of_its_name =
           ap (λ a. transaction_of before a x.chan x.id) o.name.port
           ∙ ap (λ (a : Channel). transaction_of before p a x.id) o.name.chan
           ∙ ap (λ a. transaction_of before p Write a) o.name.id
           ∙ o.of_name in
-          let had : has_had is_write_of_memory before x ≡ true = has_memory_write-had before x.port x.chan x.id x by_name wrote in
-          elim (cases_Bool (updates_memory x)) [
-            | inl update ↦ ordered-by_memory before x update had
-            | inr other ↦ elim (written-granted h before x had accepted o.there) [
-              | inl update ↦ let no : true ≡ false = sym update ∙ other in cc
-              | inr g ↦ ordered-by_grant before x other g
-            ]
-          ]
+          written-ordered h before x accepted o.there (has_memory_write-had before x.port x.chan x.id x of_its_name wrote)
     ]
 
 completed-ordered_at : (h : Header) (later : List Event) (e : Event) (before : Trace) (x : Transaction) → is_completion_event e ≡ true → is_transaction (served_by before e) x ≡ true → IsOrderedIn h x (later ++ e ∷ before)
@@ -190,7 +196,7 @@ completed-ordered_at h later (R p i resp last word) before x passes belongs acce
     let o = outstands h later e before p Read i (is_due h before resp last) x keeps belongs there in
     let may = implies-at (is_line x) (may_transfer h before x resp) (and_parts (is_some_and (read_kind x) (is_next_transfer before x last)) _ o.1).1 line in
     let g = (and_parts (is_granted h before x) _ (and_parts (is_granted h before x && _) _ may).0).0 in
-    ordered-by_grant (later ++ e ∷ before) x (line_read-no_update x o.0.name.chan) (has_had-later is_grant later e before x (is_granted-had h before x g))
+    ordered-by_grant (later ++ e ∷ before) x (read-no_update x o.0.name.chan) (has_had-later is_grant later e before x (is_granted-had h before x g))
 completed-ordered_at h later (B p i resp) before x passes belongs accepted there line =
     let e : Event = B p i resp in
     let here = accepted-before h later (e ∷ before) accepted in
