@@ -114,7 +114,8 @@ answered-ordered_at h later e before p k b x passes belongs accepted there stand
           )
     ]
 
-answered-ordered : (h : Header) (past : Trace) (p k : ℕ) (b : Pair) (x : Transaction) → is_completed past b.read ≡ true → IsOrderedIn h p k b x past
+answered-ordered : (h : Header) (past : Trace) (p k : ℕ) (b : Pair) (x : Transaction)
+    → is_completed past b.read ≡ true → IsOrderedIn h p k b x past
 answered-ordered h past p k b x complete =
     let s = has_had-served is_completion_event past b.read complete in
     subst (IsOrderedIn h p k b x) (sym s.split) (answered-ordered_at h s.later s.event s.before p k b x s.passes s.belongs)

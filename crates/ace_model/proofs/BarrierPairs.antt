@@ -13,7 +13,8 @@ use Rattle.ace_model.proofs.Issued.{issued-place}
 use Rattle.ace_model.proofs.Looks.{Some-injective, same_channel-is}
 use Rattle.ace_model.proofs.Places.{slice_get-more}
 
-barrier_in-is : (o : Option Transaction) (p : ℕ) (c : Channel) (x : Transaction) → barrier_in o p c ≡ Some x → (o ≡ Some x) × (is_barrier_of x p c ≡ true)
+barrier_in-is : (o : Option Transaction) (p : ℕ) (c : Channel) (x : Transaction)
+    → barrier_in o p c ≡ Some x → (o ≡ Some x) × (is_barrier_of x p c ≡ true)
 barrier_in-is None p c x e = cc
 barrier_in-is (Some y) p c x e =
     elim (cases_Bool (is_barrier_of y p c)) [
@@ -29,7 +30,8 @@ pub record IsHalf (past : Trace) (p : ℕ) (c : Channel) (k : ℕ) (x : Transact
   pub barrier : is_barrier_of x p c ≡ true
   pub number : length (barriers (at_point x.place past) p c) ≡ k
 
-pub barriers-half : (past : Trace) (p : ℕ) (c : Channel) (k : ℕ) (x : Transaction) → slice_get (barriers past p c) k ≡ Some x → IsHalf past p c k x
+pub barriers-half : (past : Trace) (p : ℕ) (c : Channel) (k : ℕ) (x : Transaction)
+    → slice_get (barriers past p c) k ≡ Some x → IsHalf past p c k x
 barriers-half [] p c k x e = cc
 barriers-half (e ∷ past) p c k x there =
     elim (slice_get-more (barriers past p c) (barrier_in (issued (length past) e) p c) k x there) [
@@ -51,13 +53,15 @@ barriers-half (e ∷ past) p c k x there =
           }
     ]
 
-barriers-grown : (later : List Event) (before : Trace) (p : ℕ) (c : Channel) (k : ℕ) (x : Transaction) → slice_get (barriers before p c) k ≡ Some x → slice_get (barriers (later ++ before) p c) k ≡ Some x
+barriers-grown : (later : List Event) (before : Trace) (p : ℕ) (c : Channel) (k : ℕ) (x : Transaction)
+    → slice_get (barriers before p c) k ≡ Some x → slice_get (barriers (later ++ before) p c) k ≡ Some x
 barriers-grown [] before p c k x there = there
 barriers-grown (e ∷ later) before p c k x there =
     slice_get-grown (barriers (later ++ before) p c) (barrier_in (issued (length (later ++ before)) e) p c) k x (barriers-grown later before p c k x there)
 
 -- the k-th pair has the k-th halves
-paired-halves : (rs ws : List Transaction) (k : ℕ) (b : Pair) → slice_get (paired rs ws) k ≡ Some b → (slice_get rs k ≡ Some b.read) × (slice_get ws k ≡ Some b.write)
+paired-halves : (rs ws : List Transaction) (k : ℕ) (b : Pair)
+    → slice_get (paired rs ws) k ≡ Some b → (slice_get rs k ≡ Some b.read) × (slice_get ws k ≡ Some b.write)
 paired-halves [] ws k b e = cc
 paired-halves (r ∷ rs) [] k b e = cc
 paired-halves (r ∷ rs) (w ∷ ws) zero b e =
@@ -66,7 +70,8 @@ paired-halves (r ∷ rs) (w ∷ ws) zero b e =
     (ap (λ (y : Pair). Some y.read) same, ap (λ (y : Pair). Some y.write) same)
 paired-halves (r ∷ rs) (w ∷ ws) (suc k) b e = paired-halves rs ws k b e
 
-paired-pair : (rs ws : List Transaction) (k : ℕ) (b : Pair) → slice_get rs k ≡ Some b.read → slice_get ws k ≡ Some b.write → slice_get (paired rs ws) k ≡ Some b
+paired-pair : (rs ws : List Transaction) (k : ℕ) (b : Pair)
+    → slice_get rs k ≡ Some b.read → slice_get ws k ≡ Some b.write → slice_get (paired rs ws) k ≡ Some b
 paired-pair [] ws k b r w = cc
 paired-pair (x ∷ rs) [] k b r w = cc
 paired-pair (x ∷ rs) (y ∷ ws) zero b r w =
@@ -86,7 +91,8 @@ pairs-halves past p k b there =
     record { read = barriers-half past p Read k b.read both.0; write = barriers-half past p Write k b.write both.1 }
 
 -- a pair keeps its number
-pub pairs-grown : (later : List Event) (before : Trace) (p k : ℕ) (b : Pair) → slice_get (pairs before p) k ≡ Some b → slice_get (pairs (later ++ before) p) k ≡ Some b
+pub pairs-grown : (later : List Event) (before : Trace) (p k : ℕ) (b : Pair)
+    → slice_get (pairs before p) k ≡ Some b → slice_get (pairs (later ++ before) p) k ≡ Some b
 pairs-grown later before p k b there =
     let both = paired-halves (barriers before p Read) (barriers before p Write) k b there in
     paired-pair (barriers (later ++ before) p Read) (barriers (later ++ before) p Write) k b (barriers-grown later before p Read k b.read both.0) (barriers-grown later before p Write k b.write both.1)
@@ -104,7 +110,8 @@ is_barrier_of-is x p c e =
     record { barrier = b.0; port = eqb-true x.port p b.1; chan = same_channel-is x.chan c a.1 }
 
 -- its number is the same at every point after it
-pub half-number : (later : List Event) (e : Event) (before : Trace) (p : ℕ) (c : Channel) (k : ℕ) (x : Transaction) → IsHalf (later ++ e ∷ before) p c k x → x.place < length before → number_of before x ≡ k
+pub half-number : (later : List Event) (e : Event) (before : Trace) (p : ℕ) (c : Channel) (k : ℕ) (x : Transaction)
+    → IsHalf (later ++ e ∷ before) p c k x → x.place < length before → number_of before x ≡ k
 half-number later e before p c k x i low =
     let is = is_barrier_of-is x p c i.barrier in
     let point : at_point x.place (later ++ e ∷ before) ≡ at_point x.place before =

@@ -25,13 +25,15 @@ at_point-before e past n low = let m : suc (length past) - n ≡ suc (length pas
 pub at_point-end : (past : Trace) (n : ℕ) → n ≡ length past → at_point n past ≡ past
 at_point-end past n end = let m : length past - n ≡ 0 = omega arith in rw m refl
 
-pub at_point-grown : (later : List Event) (before : Trace) (n : ℕ) → n ≤ length before → at_point n (later ++ before) ≡ at_point n before
+pub at_point-grown : (later : List Event) (before : Trace) (n : ℕ)
+    → n ≤ length before → at_point n (later ++ before) ≡ at_point n before
 at_point-grown [] before n low = refl
 at_point-grown (e ∷ later) before n low =
     at_point-before e (later ++ before) n (let m = length-append later before in omega arith) ∙ at_point-grown later before n low
 
 -- what was issued at a place is the same in the longer trace
-pub issued_at-grown : (later : List Event) (before : Trace) (n : ℕ) → n < length before → issued_at (later ++ before) n ≡ issued_at before n
+pub issued_at-grown : (later : List Event) (before : Trace) (n : ℕ)
+    → n < length before → issued_at (later ++ before) n ≡ issued_at before n
 issued_at-grown [] before n low = refl
 issued_at-grown (e ∷ later) before n low =
     rw (ne_eqb (length (later ++ before)) n (λ q. let m = length-append later before in absurd (omega (arith, q)))) (issued_at-grown later before n low)
@@ -59,7 +61,8 @@ transaction-issued (e ∷ past) k x there =
     ]
 
 -- a test that holds of every transaction holds of one that was issued
-some_issued-found : (past : Trace) (test : Transaction → Bool) (n : ℕ) (x : Transaction) → issued_at past n ≡ Some x → test x ≡ true → some_issued past test ≡ true
+some_issued-found : (past : Trace) (test : Transaction → Bool) (n : ℕ) (x : Transaction)
+    → issued_at past n ≡ Some x → test x ≡ true → some_issued past test ≡ true
 some_issued-found [] test n x there t = cc
 some_issued-found (e ∷ past) test n x there t =
     elim (cases_Bool (nat_eq (length past) n)) [
@@ -71,7 +74,8 @@ some_issued-found (e ∷ past) test n x there t =
           or_right (is_some_and (issued (length past) e) test) (some_issued past test) (some_issued-found past test n x old t)
     ]
 
-pub each_issued-at : (past : Trace) (test : Transaction → Bool) (n : ℕ) (x : Transaction) → each_issued past test ≡ true → issued_at past n ≡ Some x → test x ≡ true
+pub each_issued-at : (past : Trace) (test : Transaction → Bool) (n : ℕ) (x : Transaction)
+    → each_issued past test ≡ true → issued_at past n ≡ Some x → test x ≡ true
 each_issued-at past test n x each there =
     elim (cases_Bool (test x)) [
       | inl t ↦ t
@@ -82,13 +86,15 @@ each_issued-at past test n x each there =
     ]
 
 -- what a transaction has had, it has had in the longer trace
-pub has_had-grown : (test : Event → Bool) (later : List Event) (before : Trace) (x : Transaction) → has_had test before x ≡ true → has_had test (later ++ before) x ≡ true
+pub has_had-grown : (test : Event → Bool) (later : List Event) (before : Trace) (x : Transaction)
+    → has_had test before x ≡ true → has_had test (later ++ before) x ≡ true
 has_had-grown test [] before x had = had
 has_had-grown test (e ∷ later) before x had =
     or_right (test e && is_transaction (served_by (later ++ before) e) x) (has_had test (later ++ before) x) (has_had-grown test later before x had)
 
 -- what a transaction had before an event of the trace, it has had
-pub has_had-later : (test : Event → Bool) (later : List Event) (e : Event) (before : Trace) (x : Transaction) → has_had test before x ≡ true → has_had test (later ++ e ∷ before) x ≡ true
+pub has_had-later : (test : Event → Bool) (later : List Event) (e : Event) (before : Trace) (x : Transaction)
+    → has_had test before x ≡ true → has_had test (later ++ e ∷ before) x ≡ true
 has_had-later test later e before x had = has_had-grown test later (e ∷ before) x (has_had-grown test (e ∷ []) before x had)
 
 -- what came first in an accepted trace is accepted

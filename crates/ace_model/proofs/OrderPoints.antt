@@ -25,13 +25,15 @@ use Rattle.ace_model.proofs.Looks.{is_some_and-is, implies-at, same_channel-is, 
 use Rattle.ace_model.proofs.Served.{has_had-served, Outstands, outstands}
 
 -- what a transaction has had depends on its place alone
-has_had-place : (test : Event → Bool) (past : Trace) (x y : Transaction) → x.place ≡ y.place → has_had test past x ≡ has_had test past y
+has_had-place : (test : Event → Bool) (past : Trace) (x y : Transaction)
+    → x.place ≡ y.place → has_had test past x ≡ has_had test past y
 has_had-place test [] x y same = refl
 has_had-place test (e ∷ past) x y same =
     ap (λ n. (test e && is_some_and (served_by past e) (λ z. z.place == n)) || has_had test past x) same
     ∙ ap (λ b. (test e && is_transaction (served_by past e) y) || b) (has_had-place test past x y same)
 
-given-grant : (past : Trace) (e : Event) (x : Transaction) → given past e ≡ Some x → (is_grant e && is_transaction (served_by past e) x) ≡ true
+given-grant : (past : Trace) (e : Event) (x : Transaction)
+    → given past e ≡ Some x → (is_grant e && is_transaction (served_by past e) x) ≡ true
 given-grant past (G p c i) x g = rw g (eq-eqb x.place x.place refl)
 given-grant past e x g = cc
 
@@ -52,7 +54,9 @@ is_granted-had h past x g =
     let same : one.0.place ≡ x.place = eqb-true one.0.place x.place one.2 in
     sym (has_had-place is_grant past one.0 x same) ∙ granted-had h past x.addr one.0 one.1
 
-memory_write-now : (past : Trace) (e : Event) (p : ℕ) (c : Channel) (i : ℕ) (x : Transaction) → transaction_of (e ∷ past) p c i ≡ Some x → is_memory_write e p c i ≡ true → (is_write_of_memory e && is_transaction (served_by past e) x) ≡ true
+memory_write-now : (past : Trace) (e : Event) (p : ℕ) (c : Channel) (i : ℕ) (x : Transaction)
+    → transaction_of (e ∷ past) p c i ≡ Some x → is_memory_write e p c i ≡ true
+    → (is_write_of_memory e && is_transaction (served_by past e) x) ≡ true
 memory_write-now past (M q d j line) p c i x t now =
     let a = and_parts (nat_eq p q && same_channel c d) (nat_eq i j) now in
     let b = and_parts (nat_eq p q) (same_channel c d) a.0 in
@@ -65,7 +69,8 @@ memory_write-now past (M q d j line) p c i x t now =
 memory_write-now past e p c i x t now = cc
 
 -- the last transaction of the name has had the M that the name has had
-has_memory_write-had : (past : Trace) (p : ℕ) (c : Channel) (i : ℕ) (x : Transaction) → transaction_of past p c i ≡ Some x → has_memory_write past p c i ≡ true → has_had is_write_of_memory past x ≡ true
+has_memory_write-had : (past : Trace) (p : ℕ) (c : Channel) (i : ℕ) (x : Transaction)
+    → transaction_of past p c i ≡ Some x → has_memory_write past p c i ≡ true → has_had is_write_of_memory past x ≡ true
 has_memory_write-had [] p c i x t m = cc
 has_memory_write-had (e ∷ past) p c i x t m =
     elim (or_cases (is_memory_write e p c i) (not (is_named (issued (length past) e) p c i) && has_memory_write past p c i) m) [
@@ -83,7 +88,8 @@ chosen true t u e = inl e
 chosen false t u e = inr e
 
 -- a transaction that may write memory is an update, or is granted
-may_write-cases : (h : Header) (past : Trace) (x : Transaction) → may_write_memory h past x ≡ true → (updates_memory x ≡ true) ⊎ (is_granted h past x ≡ true)
+may_write-cases : (h : Header) (past : Trace) (x : Transaction)
+    → may_write_memory h past x ≡ true → (updates_memory x ≡ true) ⊎ (is_granted h past x ≡ true)
 may_write-cases h past x may =
     elim (chosen (is_read x.chan) (may_write_passed h past x) (may_write_data h past x) may) [
       | inl due ↦
@@ -102,7 +108,8 @@ abbrev WasGranted : Header → Transaction → Trace → Type 0
 WasGranted h x past =
     IsAccepted h past → issued_at past x.place ≡ Some x → (updates_memory x ≡ true) ⊎ (has_had is_grant past x ≡ true)
 
-written-granted_at : (h : Header) (later : List Event) (e : Event) (before : Trace) (x : Transaction) → is_write_of_memory e ≡ true → is_transaction (served_by before e) x ≡ true → WasGranted h x (later ++ e ∷ before)
+written-granted_at : (h : Header) (later : List Event) (e : Event) (before : Trace) (x : Transaction)
+    → is_write_of_memory e ≡ true → is_transaction (served_by before e) x ≡ true → WasGranted h x (later ++ e ∷ before)
 written-granted_at h later (M p c i line) before x passes belongs accepted there =
     let keeps : k24 h before (M p c i line) ≡ true =
     accepted_keeps 23 (rule 24 k24) h before (M p c i line) refl (accepted-before h later (M p c i line ∷ before) accepted) in
@@ -119,13 +126,16 @@ written-granted h past x had =
     subst (WasGranted h x) (sym s.split) (written-granted_at h s.later s.event s.before x s.passes s.belongs)
 
 -- the order points
-ordered-by_grant : (past : Trace) (x : Transaction) → updates_memory x ≡ false → has_had is_grant past x ≡ true → is_ordered past x ≡ true
+ordered-by_grant : (past : Trace) (x : Transaction)
+    → updates_memory x ≡ false → has_had is_grant past x ≡ true → is_ordered past x ≡ true
 ordered-by_grant past x update had = or_right (evicts x) _ (rw update had)
 
-ordered-by_memory : (past : Trace) (x : Transaction) → updates_memory x ≡ true → has_had is_write_of_memory past x ≡ true → is_ordered past x ≡ true
+ordered-by_memory : (past : Trace) (x : Transaction)
+    → updates_memory x ≡ true → has_had is_write_of_memory past x ≡ true → is_ordered past x ≡ true
 ordered-by_memory past x update had = or_right (evicts x) _ (rw update had)
 
-pub is_ordered-grown : (later : List Event) (before : Trace) (x : Transaction) → is_ordered before x ≡ true → is_ordered (later ++ before) x ≡ true
+pub is_ordered-grown : (later : List Event) (before : Trace) (x : Transaction)
+    → is_ordered before x ≡ true → is_ordered (later ++ before) x ≡ true
 is_ordered-grown later before x ordered =
     elim (or_cases (evicts x) _ ordered) [
       | inl evict ↦ or_left (evicts x) _ evict
@@ -189,7 +199,8 @@ response-ordered h before p i x accepted o may line =
           written-ordered h before x accepted o.there (has_memory_write-had before x.port x.chan x.id x of_its_name wrote)
     ]
 
-completed-ordered_at : (h : Header) (later : List Event) (e : Event) (before : Trace) (x : Transaction) → is_completion_event e ≡ true → is_transaction (served_by before e) x ≡ true → IsOrderedIn h x (later ++ e ∷ before)
+completed-ordered_at : (h : Header) (later : List Event) (e : Event) (before : Trace) (x : Transaction)
+    → is_completion_event e ≡ true → is_transaction (served_by before e) x ≡ true → IsOrderedIn h x (later ++ e ∷ before)
 completed-ordered_at h later (R p i resp last word) before x passes belongs accepted there line =
     let e : Event = R p i resp last word in
     let keeps : k18 h before e ≡ true = accepted_keeps 17 (rule 18 k18) h before e refl (accepted-before h later (e ∷ before) accepted) in
