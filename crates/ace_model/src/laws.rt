@@ -5,10 +5,11 @@ ghost use Rattle.ace_event.specs.declared.event.Event.{Event};
 ghost use Rattle.ace_event.specs.declared.header.Header.{Header};
 ghost use Rattle.ace_model.specs.declared.breaks.Break.{Break};
 ghost use Rattle.ace_model.specs.Trace.{Trace};
-ghost use Rattle.ace_model.specs.Accepted.{Rule, AreInOrder, rules, IsAccepted, IsAcceptedBy, FirstBreakBy, first_break_by};
-ghost use Rattle.ace_model.specs.DvmHolds.{DvmHolds};
+ghost use Rattle.ace_model.specs.Accepted.{Rule, AreInOrder, rules, IsAcceptedBy, IsAccepted, FirstBreakBy, first_break_by};
 ghost use Rattle.ace_model.specs.Today.{rules_today};
 ghost use Rattle.ace_model.specs.Unique.{Unique};
+ghost use Rattle.ace_model.specs.BarrierHolds.{BarrierHolds};
+ghost use Rattle.ace_model.specs.DvmHolds.{DvmHolds};
 
 /// By rules in order, the break that `first_break_by` computes is the first break of the events. By any rules, where it
 /// computes none, the trace is accepted.
@@ -29,6 +30,12 @@ pub fn rules_are_in_order()
 /// in UC or UD, every other port's state of it is I.
 pub fn unique_line_has_one_holder()
     ensures { (h : Header) (past : Trace) → IsAcceptedBy rules_today h past → Unique h past }
+{}
+
+/// A barrier orders, in every accepted trace: what comes after a barrier pair of a port is granted only once the earlier
+/// line transactions of the port have their order points, and for a synchronisation barrier are complete.
+pub fn barriers_order()
+    ensures { (h : Header) (past : Trace) → IsAccepted h past → BarrierHolds past }
 {}
 
 /// In every accepted trace a Sync waits for all: where its port is told that it is complete, every other ACE port has
