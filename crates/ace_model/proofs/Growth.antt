@@ -31,12 +31,16 @@ at_point-grown [] before n low = refl
 at_point-grown (e ∷ later) before n low =
     at_point-before e (later ++ before) n (let m = length-append later before in omega arith) ∙ at_point-grown later before n low
 
+-- an earlier transaction of a longer trace was there
+pub issued_at-before : (e : Event) (past : Trace) (n : ℕ) → n < length past → issued_at (e ∷ past) n ≡ issued_at past n
+issued_at-before e past n low = rw (ne_eqb (length past) n (λ q. absurd (omega (arith, q)))) refl
+
 -- what was issued at a place is the same in the longer trace
 pub issued_at-grown : (later : List Event) (before : Trace) (n : ℕ)
     → n < length before → issued_at (later ++ before) n ≡ issued_at before n
 issued_at-grown [] before n low = refl
 issued_at-grown (e ∷ later) before n low =
-    rw (ne_eqb (length (later ++ before)) n (λ q. let m = length-append later before in absurd (omega (arith, q)))) (issued_at-grown later before n low)
+    issued_at-before e (later ++ before) n (let m = length-append later before in omega arith) ∙ issued_at-grown later before n low
 
 -- a transaction of the trace stands at its place
 pub record IsIssued (past : Trace) (x : Transaction) : Type 0 where

@@ -17,6 +17,7 @@ use Rattle.ace_model.specs.OrderRules.{k37, is_answered_by_all}
 use Rattle.ace_model.specs.Accepted.{IsAccepted, rule}
 use Rattle.ace_model.proofs.Kept.{accepted_keeps}
 use Rattle.ace_model.proofs.Looks.{Some-injective, is_some_and-is, is_none_or-at, implies-at, has_name-is}
+use Rattle.ace_model.proofs.Growth.{issued_at-before, IsIssued}
 use Rattle.ace_model.proofs.Issued.{issued_at, transaction_of-stands, outstanding-named}
 use Rattle.ace_model.proofs.Points.{has_answered-grown}
 
@@ -35,16 +36,7 @@ pub other_ace : (h : Header) (p q : ℕ) → is_ace h q ≡ true → q ≢ p →
 other_ace h p q ace other =
     (and_from (is_ace h q) _ ace (rw (ne_eqb q p other) refl), ltb-true q h.ports ((and_parts (nat_lt q h.ports) _ ace).0))
 
--- an earlier transaction of a longer trace was there
-pub issued_at-before : (e : Event) (past : Trace) (n : ℕ) → n < length past → issued_at (e ∷ past) n ≡ issued_at past n
-issued_at-before e past n lt = rw (ne_eqb (length past) n (λ q. absurd (omega (arith, q)))) refl
-
--- it stands in the trace
-pub record IsIssued (past : Trace) (x : Transaction) : Type 0 where
-  pub there : issued_at past x.place ≡ Some x
-  pub before : x.place < length past
-
--- the transaction of an R, B, G and M does
+-- the transaction of an R, B, G and M stands in the trace
 served_by-issued : (past : Trace) (e : Event) (y : Transaction) → served_by past e ≡ Some y → IsIssued past y
 served_by-issued past (R p i resp last word) y e = let s = transaction_of-stands past p Read i y e in record { there = s.there; before = s.before }
 served_by-issued past (B p i resp) y e = let s = transaction_of-stands past p Write i y e in record { there = s.there; before = s.before }

@@ -12,6 +12,7 @@ use Rattle.ace_model.specs.Progress.{transactions}
 use Rattle.ace_model.specs.Snoops.{snoops_of, answers, snoop_at}
 use Rattle.ace_model.specs.Messages.{is_message, messages_for, forwards_message, answered_messages, has_answered}
 use Rattle.ace_model.specs.Accepted.{IsAccepted}
+use Rattle.ace_model.proofs.Growth.{at_point-before}
 use Rattle.ace_model.proofs.Starts.{IsStart, start-self, start-trans, start-more, start-filter, start-length, count_by-take}
 
 -- the trace without its newest k events is accepted too
@@ -39,13 +40,6 @@ fewer_messages k m past q le =
     let further : drop (m - k) (drop k past) ≡ drop m past = drop-drop (m - k) k past ∙ ap (λ n. drop n past) (omega arith) in
     let fewer = start-length (messages_for (drop (m - k) (drop k past)) q) (messages_for (drop k past) q) (messages-before (m - k) (drop k past) q) in
     rw (← further) fewer
-
--- a point of the trace is one of the longer trace
-pub at_point-grown : (n : ℕ) (e : Event) (past : Trace) → n ≤ length past → at_point n (e ∷ past) ≡ at_point n past
-at_point-grown n e past le = ap (λ k. drop k (e ∷ past)) (one_more (length past) n le)
-  where
-    one_more : (m n : ℕ) → n ≤ m → suc m - n ≡ suc (m - n)
-    one_more m n le = omega arith
 
 -- the point before the newest event
 pub at_point-now : (e : Event) (past : Trace) → at_point (length past) (e ∷ past) ≡ past
@@ -84,4 +78,4 @@ pub has_answered-grown : (e : Event) (past : Trace) (x : Transaction) (q : ℕ) 
 has_answered-grown e past x q le a =
     let before = ltb-true (length (messages_for (at_point x.place past) q)) (answered_messages past q) a in
     let more = answered-grow e past q in
-    lt-ltb _ _ (rw (at_point-grown x.place e past le) (omega arith))
+    lt-ltb _ _ (rw (at_point-before e past x.place le) (omega arith))

@@ -18,7 +18,8 @@ use Rattle.ace_model.proofs.Looks.{is_none_or-at, implies-at}
 use Rattle.ace_model.proofs.Places.{slice_get-at_end}
 use Rattle.ace_model.proofs.Issued.{issued-place}
 use Rattle.ace_model.proofs.Starts.{start-more, slice_get-start, count_by-cons}
-use Rattle.ace_model.proofs.Points.{accepted-before, messages-before, fewer_messages-twice, at_point-grown, at_point-now}
+use Rattle.ace_model.proofs.Growth.{at_point-before}
+use Rattle.ace_model.proofs.Points.{accepted-before, messages-before, fewer_messages-twice, at_point-now}
 use Rattle.ace_model.proofs.Forwarding.{Forwards, forwards-grow, forwards-take, forwards-syncs, accepted_forwards}
 
 -- the DVM Complete of the port that so many came before: the port had answered more Syncs by then
@@ -38,7 +39,7 @@ owed-grown e past q m o = record {
   kind = o.kind;
   port = o.port;
   before = let b = o.before in omega arith;
-  answered = let b = o.before in let a = o.answered in rw (at_point-grown o.completion.place e past (omega arith)) a;
+  answered = let b = o.before in let a = o.answered in rw (at_point-before e past o.completion.place (omega arith)) a;
 }
 
 -- what the rule on DVM Completes says of one that the event issues

@@ -18,7 +18,8 @@ use Rattle.ace_model.proofs.Kept.{accepted_keeps}
 use Rattle.ace_model.proofs.Looks.{Some-injective, is_some_and-is, is_none_or-at, implies-at}
 use Rattle.ace_model.proofs.Issued.{issued-place}
 use Rattle.ace_model.proofs.Points.{fewer_messages}
-use Rattle.ace_model.proofs.MessageAnswered.{IsIssued, issued_at-before, each_port-at, other_ace, complete_message-answered}
+use Rattle.ace_model.proofs.Growth.{issued_at-before, IsIssued}
+use Rattle.ace_model.proofs.MessageAnswered.{each_port-at, other_ace, complete_message-answered}
 use Rattle.ace_model.proofs.SyncCompleted.{sync-completed}
 
 -- the last Sync of a port stands in the trace, and is one of the port
