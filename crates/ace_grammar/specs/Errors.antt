@@ -30,3 +30,11 @@ StandsNext (Err (Malformed line reason)) count old new left = (count < most_even
 StandsNext (Err TooManyEvents) count old new left = (count ≡ most_events) × IfTold old (λ bytes. bytes ≢ [])
 StandsNext (Err ReadFault) count old new left = IsPending old left
 StandsNext (Err NoMemory) count old new left = ⊥
+
+-- The source's count of faults rose where the answer is that it failed, and else it is the same.
+abbrev pub HasFaultCause : Result (Option Event) ReadErr → ℕ → ℕ → Type 0
+HasFaultCause (Ok next) before now = now ≡ before
+HasFaultCause (Err (Malformed line reason)) before now = now ≡ before
+HasFaultCause (Err TooManyEvents) before now = now ≡ before
+HasFaultCause (Err ReadFault) before now = Rose before now
+HasFaultCause (Err NoMemory) before now = now ≡ before

@@ -1,12 +1,11 @@
 // The header and the events of a trace, line by line.
-ghost use Rattle.std.specs.Prelude.{◌≡◌, ◌≢◌, ◌<◌, ◌≤◌, length, Err, IfOk, IfErr, OnOk, OnErr, IsTrue, false};
+ghost use Rattle.std.specs.Prelude.{◌≡◌, ◌<◌, ◌≤◌, length, IfOk, IfErr, OnOk, OnErr, IsTrue, false};
 ghost use Rattle.std.specs.Io.KnownBytes.{Consumes};
 ghost use Rattle.ace_io.specs.Faults.{Rose};
 ghost use Rattle.ace_io.specs.Line.{HasNoLf, IsPending};
 ghost use Rattle.ace_io.specs.Reader.{source_of, waiting};
 ghost use Rattle.ace_event.specs.Text.{line_text, header_text};
-ghost use Rattle.ace_grammar.specs.declared.error.ReadErr.{ReadErr};
-ghost use Rattle.ace_grammar.specs.Errors.{HasNoHeader, StandsNext, TakesFront};
+ghost use Rattle.ace_grammar.specs.Errors.{HasNoHeader, HasFaultCause, StandsNext, TakesFront};
 ghost use Rattle.ace_grammar.specs.Lines.{HasNoLine};
 ghost use Rattle.ace_grammar.specs.Reading.{IsReadableHeader, IfTold, most_events};
 
@@ -91,8 +90,7 @@ fn read_end<S: Source>(
 ) -> Result<Option<Event>, ReadErr>
     ensures same_source { (source_of lines.new).ghost_name ≡ (source_of lines.old).ghost_name }
     ensures next { StandsNext result most_events (waiting S.left lines.old) (waiting S.left lines.new) (S.left (source_of lines.new).now) }
-    ensures fault { result ≡ Err ReadErr.ReadFault → Rose (S.faults (source_of lines.old).now) (S.faults (source_of lines.new).now) }
-    ensures steady { result ≢ Err ReadErr.ReadFault → S.faults (source_of lines.new).now ≡ S.faults (source_of lines.old).now }
+    ensures cause { HasFaultCause result (S.faults (source_of lines.old).now) (S.faults (source_of lines.new).now) }
 {
     match lines.next(line) {
         Ok(LineEnd::End) => Ok(None),
@@ -111,8 +109,7 @@ pub fn read_event<S: Source>(
     requires { count ≤ most_events }
     ensures same_source { (source_of lines.new).ghost_name ≡ (source_of lines.old).ghost_name }
     ensures next { StandsNext result count (waiting S.left lines.old) (waiting S.left lines.new) (S.left (source_of lines.new).now) }
-    ensures fault { result ≡ Err ReadErr.ReadFault → Rose (S.faults (source_of lines.old).now) (S.faults (source_of lines.new).now) }
-    ensures steady { result ≢ Err ReadErr.ReadFault → S.faults (source_of lines.new).now ≡ S.faults (source_of lines.old).now }
+    ensures cause { HasFaultCause result (S.faults (source_of lines.old).now) (S.faults (source_of lines.new).now) }
 {
     if count == MOST_EVENTS {
         return read_end(lines, line);

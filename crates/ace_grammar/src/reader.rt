@@ -1,15 +1,14 @@
 // A trace is read from a source: its header at once, and then event by event.
-ghost use Rattle.std.specs.Prelude.{◌≡◌, ◌≢◌, ◌≤◌, Option, None, Some, Result, Err, IfOk, IfErr};
+ghost use Rattle.std.specs.Prelude.{◌≡◌, ◌≤◌, Option, None, Some, Result, IfOk, IfErr};
 ghost use Rattle.std.specs.Io.KnownBytes.{Consumes};
-ghost use Rattle.ace_io.specs.Faults.{Rose};
 ghost use Rattle.ace_event.specs.declared.event.Event.{Event};
 ghost use Rattle.ace_event.specs.Text.{header_text};
 ghost use Rattle.ace_grammar.specs.declared.error.ReadErr.{ReadErr};
-ghost use Rattle.ace_grammar.specs.Errors.{HasNoHeader, StandsNext};
+ghost use Rattle.ace_grammar.specs.Errors.{HasNoHeader, HasFaultCause, StandsNext};
 ghost use Rattle.ace_grammar.specs.Reading.{IsReadableHeader};
 
 use crate::ReadErr;
-use crate::lines::{read_header, read_event};
+use crate::lines::{read_event, read_header};
 use ace_event::{Event, Header};
 use ace_io::{LineBuf, LineReader, NoMemory, Source};
 use std::alloc::Global;
@@ -52,7 +51,8 @@ impl<'a, S: Source> Reader<'a, S> {
     ///
     /// `Malformed` exactly where the first malformed one of the two lines has this number and this reason; `ReadFault`
     /// only where the source's count of faults rose in this call, and then what was taken from it holds no header;
-    /// `NoMemory` where there is none for a reader. The error hands the source back.
+    /// `NoMemory` where there is none for a reader, which never comes while its buffer is a part of it. The error hands
+    /// the source back.
     pub fn start(alloc: Global, source: &'a mut S) -> Result<Reader<'a, S>, StartErr<'a, S>>
         ensures same_source { IfOk result (λ r. (source_of r).ghost_name ≡ source.entry.ghost_name) }
         ensures readable { IfOk result (λ r. IsReadableHeader (header_of r)) }
@@ -91,7 +91,15 @@ impl<'a, S: Source> Reader<'a, S> {
         self.header
     }
 
-    /// The next event, or None where the trace is read to its end.
+    /// The next event, or None at the end of the input after a whole line. An answer that is no event stays: each later
+    /// call gives it again, and takes nothing from the source.
+    ///
+    /// # Errors
+    ///
+    /// `Malformed` exactly where a line stands next that is malformed, with its number and the least reason that applies:
+    /// the line of event n, from 1, is line n + 2. `TooManyEvents` exactly where 1,048,576 events were given and a byte
+    /// stands next. `ReadFault` only where the source's count of faults rose in the first call that answers so, and what
+    /// was taken by then and not given is less than a line.
     pub fn next(&mut self) -> Result<Option<Event>, ReadErr>
         ensures same_source { (source_of self.new).ghost_name ≡ (source_of self.old).ghost_name }
         ensures same_header { header_of self.new ≡ header_of self.old }
@@ -101,9 +109,8 @@ impl<'a, S: Source> Reader<'a, S> {
         ensures last { last_answer self.new ≡ lasting result }
         ensures again { (answer : Result (Option Event) ReadErr) → last_answer self.old ≡ Some answer
             → (result ≡ answer) × (self.new ≡ self.old) }
-        ensures fault { last_answer self.old ≡ None → result ≡ Err ReadErr.ReadFault
-            → Rose (S.faults (source_of self.old).now) (S.faults (source_of self.new).now) }
-        ensures steady { result ≢ Err ReadErr.ReadFault → S.faults (source_of self.new).now ≡ S.faults (source_of self.old).now }
+        ensures cause { last_answer self.old ≡ None
+            → HasFaultCause result (S.faults (source_of self.old).now) (S.faults (source_of self.new).now) }
     {
         match self.stage {
             Stage::Reading => {}
