@@ -1,5 +1,6 @@
 pub mod AcceptedEnd
 pub mod CopyLemmas
+pub mod ErrorLemmas
 pub mod FirstBreakLemmas
 pub mod OneWord
 pub mod Parts
