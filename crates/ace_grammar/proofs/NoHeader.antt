@@ -1,9 +1,8 @@
 -- Where the input failed in the header, no header stands whole in what was taken.
-use Rattle.std.proofs.Common.{◌≡◌, ℕ, List, [], ◌∷◌, ◌++◌, Option, refl, sym, ◌∙◌, append-nil, codes, inr}
+use Rattle.std.proofs.Common.{◌≡◌, ℕ, List, [], ◌++◌, Option, refl, ◌∙◌, append-nil, codes, inr}
 use Rattle.std.specs.Io.KnownBytes.{Consumes}
 use Rattle.std.proofs.KnownBytes.{Consumes-trans}
-use Rattle.ace_event.specs.declared.header.Header.{Header}
-use Rattle.ace_event.specs.Text.{line_text, header_text}
+use Rattle.ace_event.specs.Text.{line_text}
 use Rattle.ace_io.specs.Line.{HasNoLf, IsPending}
 use Rattle.ace_grammar.specs.Errors.{TakesFront}
 use Rattle.ace_grammar.specs.Reading.{TakesNoHeader, ports_text}

@@ -1,5 +1,5 @@
 -- What a reader of lines has taken from its source.
-use Rattle.std.proofs.Common.{◌≡◌, ℕ, List, ◌++◌, Option, None, Some, sym, ◌∙◌, append_assoc}
+use Rattle.std.proofs.Common.{ℕ, List, ◌++◌, Option, None, Some, sym, ◌∙◌, append_assoc}
 use Rattle.std.specs.Io.KnownBytes.{Consumes}
 use Rattle.ace_io.specs.Line.{in_front, CutsLine}
 use Rattle.ace_io.specs.declared.line_buf.LineEnd.{LineEnd}

@@ -1,14 +1,20 @@
 -- What a reader of a trace has read, and what it has before it.
-use Rattle.std.specs.Prelude.{ℕ, ◌+◌, List, Option, None, Some, Result, Ok, Err}
+use Rattle.std.specs.Prelude.{◌≡◌, ◌≤◌, ℕ, ◌+◌, List, [], ◌∷◌, ◌++◌, length, Option, None, Some, Result, Ok, Err}
 use Rattle.std.specs.Borrow.{MutBor}
+use Rattle.std.specs.Io.KnownBytes.{Consumes}
+use Rattle.std.specs.List.{AllByRecursion}
 use Rattle.ace_event.specs.declared.event.Event.{Event}
 use Rattle.ace_event.specs.declared.header.Header.{Header}
+use Rattle.ace_event.specs.Text.{trace_text}
+use Rattle.ace_io.specs.Line.{IsPending}
 use Rattle.ace_io.specs.Reader as lines
 use Rattle.ace_io.specs.declared.outside.Source.{Ghosts}
 use Rattle.ace_grammar.specs.declared.error.ReadErr.{ReadErr}
+use Rattle.ace_grammar.specs.declared.error.ReadErr.TheVariants.{Malformed, TooManyEvents, ReadFault, NoMemory}
 use Rattle.ace_grammar.specs.declared.reader.Reader.{Reader}
 use Rattle.ace_grammar.specs.declared.reader.Stage.{Stage}
 use Rattle.ace_grammar.specs.declared.reader.Stage.TheVariants.{Reading, Ended, Failed}
+use Rattle.ace_grammar.specs.Reading.{Reads, Whole, Full, Bad, IsReadable, IsReadableHeader, most_events}
 
 -- the source that it takes bytes from
 abbrev pub source_of : {S : Type 0} {g : Ghosts S} → Reader S g → MutBor S
@@ -46,3 +52,21 @@ abbrev pub count_after : ℕ → Result (Option Event) ReadErr → ℕ
 count_after count (Ok (Some event)) = count + 1
 count_after count (Ok None) = count
 count_after count (Err error) = count
+
+-- Of these bytes the reader has read its header and these events, oldest first, and no more.
+pub record HasRead {S : Type 0} {g : Ghosts S} (left : S → Option (List ℕ)) (bytes : List ℕ) (events : List Event) (reader : Reader S g) : Type 0 where
+  pub header_is_readable : IsReadableHeader (header_of reader)
+  pub events_are_readable : AllByRecursion IsReadable events
+  pub few : length events ≤ most_events
+  pub counted : length events ≡ count_of reader
+  pub text : Consumes (Some bytes) (unread left reader) (trace_text (header_of reader) events)
+
+-- The answer of a reader that had read these events of the bytes is that of their reading: one more event, or how they
+-- end. At a fault what was taken and not given is less than a line.
+abbrev pub IsReading : {S : Type 0} {g : Ghosts S} → (S → Option (List ℕ)) → List ℕ → List Event → Reader S g → Reader S g → Result (Option Event) ReadErr → Type 0
+IsReading left bytes events old new (Ok (Some event)) = HasRead left bytes (events ++ event ∷ []) new
+IsReading left bytes events old new (Ok None) = Reads bytes (header_of old) events Whole
+IsReading left bytes events old new (Err (Malformed line reason)) = Reads bytes (header_of old) events (Bad line reason)
+IsReading left bytes events old new (Err TooManyEvents) = Reads bytes (header_of old) events Full
+IsReading left bytes events old new (Err ReadFault) = IsPending (unread left old) (left (source_of new).now)
+IsReading left bytes events old new (Err NoMemory) = ⊥

@@ -1,5 +1,5 @@
 // A trace is read from a source: its header at once, and then event by event.
-ghost use Rattle.std.specs.Prelude.{◌≡◌, ◌≤◌, Option, None, Some, Result, IfOk, IfErr};
+ghost use Rattle.std.specs.Prelude.{◌≡◌, ◌≤◌, ℕ, List, [], Option, None, Some, Result, IfOk, IfErr, IfSome};
 ghost use Rattle.std.specs.Io.KnownBytes.{Consumes};
 ghost use Rattle.ace_event.specs.declared.event.Event.{Event};
 ghost use Rattle.ace_event.specs.Text.{header_text};
@@ -43,7 +43,7 @@ pub struct Reader<'a, S: Source> {
 }
 
 impl<'a, S: Source> Reader<'a, S> {
-    ghost use Rattle.ace_grammar.specs.Reader.{source_of, unread, header_of, count_of, last_answer, lasting, count_after};
+    ghost use Rattle.ace_grammar.specs.Reader.{source_of, unread, header_of, count_of, last_answer, lasting, count_after, HasRead, IsReading};
 
     /// Reads the two header lines.
     ///
@@ -53,12 +53,14 @@ impl<'a, S: Source> Reader<'a, S> {
     /// only where the source's count of faults rose in this call, and then what was taken from it holds no header;
     /// `NoMemory` where there is none for a reader, which never comes while its buffer is a part of it. The error hands
     /// the source back.
+    #[tactic(auto, using(crate::proofs::Progress::read_header_alone))]
     pub fn start(alloc: Global, source: &'a mut S) -> Result<Reader<'a, S>, StartErr<'a, S>>
         ensures same_source { IfOk result (λ r. (source_of r).ghost_name ≡ source.entry.ghost_name) }
         ensures readable { IfOk result (λ r. IsReadableHeader (header_of r)) }
         ensures header { IfOk result (λ r. Consumes (S.left source.entry.now) (unread S.left r) (header_text (header_of r))) }
         ensures steady { IfOk result (λ r. S.faults (source_of r).now ≡ S.faults source.entry.now) }
         ensures count { IfOk result (λ r. count_of r ≡ 0) }
+        ensures reads { IfOk result (λ r. IfSome (S.left source.entry.now) (λ bytes. HasRead S.left bytes [] r)) }
         ensures reads_on { IfOk result (λ r. last_answer r ≡ None) }
         ensures handed_back { IfErr result (λ e. e.source.ghost_name ≡ source.entry.ghost_name) }
         ensures none { IfErr result (λ e. HasNoHeader e.error (S.left source.entry.now) (S.faults source.entry.now)
@@ -100,11 +102,14 @@ impl<'a, S: Source> Reader<'a, S> {
     /// the line of event n, from 1, is line n + 2. `TooManyEvents` exactly where 1,048,576 events were given and a byte
     /// stands next. `ReadFault` only where the source's count of faults rose in the first call that answers so, and what
     /// was taken by then and not given is less than a line.
+    #[tactic(auto, using(crate::proofs::Progress::reading_next))]
     pub fn next(&mut self) -> Result<Option<Event>, ReadErr>
         ensures same_source { (source_of self.new).ghost_name ≡ (source_of self.old).ghost_name }
         ensures same_header { header_of self.new ≡ header_of self.old }
         ensures next { last_answer self.old ≡ None → StandsNext result (count_of self.old) (unread S.left self.old)
             (unread S.left self.new) (S.left (source_of self.new).now) }
+        ensures reads { last_answer self.old ≡ None → (bytes : List ℕ) (events : List Event)
+            → HasRead S.left bytes events self.old → IsReading S.left bytes events self.old self.new result }
         ensures count { count_of self.new ≡ count_after (count_of self.old) result }
         ensures last { last_answer self.new ≡ lasting result }
         ensures again { (answer : Result (Option Event) ReadErr) → last_answer self.old ≡ Some answer
