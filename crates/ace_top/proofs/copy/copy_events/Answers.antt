@@ -1,4 +1,4 @@
-use Rattle.std.proofs.Common.{◌+◌, ◌++◌, [], ◌∷◌, length, refl, sym, ap, ◌∙◌, rules, Ok, length-append}
+use Rattle.std.proofs.Common.{◌+◌, ◌++◌, [], ◌∷◌, refl, sym, ap, ◌∙◌, rules, Ok, length-append}
 use Rattle.ace_top.proofs.CopyLemmas.{copied_nothing, copied_more}
 use Rattle.ace_top.proofs.copy.copy_events.Goals as goal
 
