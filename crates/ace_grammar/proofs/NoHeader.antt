@@ -1,10 +1,10 @@
 -- Where the input failed in the header, no header stands whole in what was taken.
-use Rattle.std.proofs.Common.{◌≡◌, ℕ, List, [], ◌∷◌, ◌++◌, Option, refl, sym, ◌∙◌, append-nil, codes, inr}
+use Rattle.std.proofs.Common.{◌≡◌, ℕ, List, [], ◌++◌, Option, refl, ◌∙◌, append-nil, codes, inr}
 use Rattle.std.specs.Io.KnownBytes.{Consumes}
 use Rattle.std.proofs.KnownBytes.{Consumes-trans}
-use Rattle.ace_event.specs.declared.header.Header.{Header}
-use Rattle.ace_event.specs.Text.{line_text, header_text}
+use Rattle.ace_event.specs.Text.{line_text}
 use Rattle.ace_io.specs.Line.{HasNoLf, IsPending}
+use Rattle.ace_grammar.specs.Errors.{TakesFront}
 use Rattle.ace_grammar.specs.Reading.{TakesNoHeader, ports_text}
 use Rattle.ace_grammar.proofs.Cut.{clean_line, no_line, header_lines, behind_version, version_taken}
 
@@ -29,3 +29,9 @@ failed_second old mid new first (taken, none, short, consumed) = (
 -- the same, with the first line as it was compared
 pub failed_behind_version : (old mid new : Option (List ℕ)) (bytes line : List ℕ) → bytes ≡ codes "ACE 1" → bytes ≡ line → Consumes old mid (line_text line) → IsPending mid new → TakesNoHeader old new
 failed_behind_version old mid new bytes line version is first pending = failed_second old mid new (version_taken old mid bytes line version is first) pending
+
+-- more was taken behind the first line
+pub front_behind : (old mid new : Option (List ℕ)) (text : List ℕ) → Consumes old mid text → TakesFront mid new → TakesFront old new
+front_behind old mid new text first front = record { taken = text ++ front.taken; consumed = Consumes-trans old mid new _ _ first front.consumed }
+
+pub ruleset no_header = (failed_first, front_behind)

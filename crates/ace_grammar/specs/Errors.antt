@@ -1,17 +1,40 @@
--- What an error of the reader says.
-use Rattle.std.specs.Prelude.{ℕ}
-use Rattle.ace_grammar.specs.declared.reason.Reason.{Reason}
+-- What an answer of the reader says of the bytes and of their source.
+use Rattle.std.specs.Prelude.{◌≡◌, ◌≢◌, ◌<◌, ◌+◌, ℕ, List, [], Option, None, Some, Result, Ok, Err}
+use Rattle.std.specs.Io.KnownBytes.{Consumes, Keeps, IsAtEnd}
+use Rattle.ace_event.specs.declared.event.Event.{Event}
+use Rattle.ace_event.specs.Text.{event_text, line_text}
+use Rattle.ace_io.specs.Faults.{Rose}
+use Rattle.ace_io.specs.Line.{IsPending}
 use Rattle.ace_grammar.specs.declared.error.ReadErr.{ReadErr}
-use Rattle.ace_grammar.specs.declared.error.ReadErr.TheVariants.{Malformed, ReadFault}
-use Rattle.ace_grammar.specs.declared.error.HeaderErr.{HeaderErr}
-use Rattle.ace_grammar.specs.declared.error.HeaderErr.TheVariants.{Malformed as MalformedHeader, ReadFault as HeaderReadFault}
+use Rattle.ace_grammar.specs.declared.error.ReadErr.TheVariants.{Malformed, TooManyEvents, ReadFault, NoMemory}
+use Rattle.ace_grammar.specs.Reading.{IsReadable, HasBadHeader, HasBadLine, TakesNoHeader, IfTold, most_events}
 
--- P of the reason, where the error is a malformed line
-abbrev pub IfMalformed : ReadErr → (Reason → Type 0) → Type 0
-IfMalformed (Malformed reason) P = P reason
-IfMalformed ReadFault P = Unit {0}
+-- some bytes were taken from the front
+pub record TakesFront (old new : Option (List ℕ)) : Type 0 where
+  pub taken : List ℕ
+  pub consumed : Consumes old new taken
 
--- P of the number of the line and the reason, where the error is a malformed header
-abbrev pub IfMalformedHeader : HeaderErr → (ℕ → Reason → Type 0) → Type 0
-IfMalformedHeader (MalformedHeader line reason) P = P line reason
-IfMalformedHeader HeaderReadFault P = Unit {0}
+-- Why there is no header, by the bytes and the count of faults before it was read, and those that the source has then.
+abbrev pub HasNoHeader : ReadErr → Option (List ℕ) → ℕ → Option (List ℕ) → ℕ → Type 0
+HasNoHeader (Malformed line reason) old faults new faults' = IfTold old (λ bytes. HasBadHeader bytes line reason) × TakesFront old new × (faults' ≡ faults)
+HasNoHeader TooManyEvents old faults new faults' = ⊥
+HasNoHeader ReadFault old faults new faults' = TakesNoHeader old new × Rose faults faults'
+HasNoHeader NoMemory old faults new faults' = Keeps old new × (faults' ≡ faults)
+
+-- What stands next after so many events, by the bytes that no line had before and has after it, and those that the
+-- source has left then.
+abbrev pub StandsNext : Result (Option Event) ReadErr → ℕ → Option (List ℕ) → Option (List ℕ) → Option (List ℕ) → Type 0
+StandsNext (Ok (Some event)) count old new left = (count < most_events) × IsReadable event × Consumes old new (line_text (event_text event))
+StandsNext (Ok None) count old new left = IsAtEnd old × IsAtEnd new
+StandsNext (Err (Malformed line reason)) count old new left = (count < most_events) × (line ≡ count + 3) × IfTold old (λ bytes. HasBadLine bytes reason)
+StandsNext (Err TooManyEvents) count old new left = (count ≡ most_events) × IfTold old (λ bytes. bytes ≢ [])
+StandsNext (Err ReadFault) count old new left = IsPending old left
+StandsNext (Err NoMemory) count old new left = ⊥
+
+-- The source's count of faults rose where the answer is that it failed, and else it is the same.
+abbrev pub HasFaultCause : Result (Option Event) ReadErr → ℕ → ℕ → Type 0
+HasFaultCause (Ok next) before now = now ≡ before
+HasFaultCause (Err (Malformed line reason)) before now = now ≡ before
+HasFaultCause (Err TooManyEvents) before now = now ≡ before
+HasFaultCause (Err ReadFault) before now = Rose before now
+HasFaultCause (Err NoMemory) before now = now ≡ before

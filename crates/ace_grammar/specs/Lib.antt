@@ -3,6 +3,7 @@ pub mod Fields
 pub mod Letters
 pub mod Lines
 pub mod Parts
+pub mod Reader
 pub mod Reading
 pub mod Reasons
 pub mod Records

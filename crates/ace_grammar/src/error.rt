@@ -1,24 +1,20 @@
 use crate::Reason;
 use thiserror::Error;
 
-/// Why a header could not be read.
-#[derive(Clone, Copy, Debug, PartialEq, Eq, Error)]
-pub enum HeaderErr {
-    /// The header line of this number, 1 or 2, is the first that is malformed; the reason is `F1` or `F7`.
-    #[error("a malformed header line")]
-    Malformed { line: u64, reason: Reason },
-    /// The source of the bytes failed.
-    #[error("the input failed")]
-    ReadFault,
-}
-
-/// Why an event could not be read.
+/// Why a trace, or its next event, could not be read.
 #[derive(Clone, Copy, Debug, PartialEq, Eq, Error)]
 pub enum ReadErr {
-    /// The next line is malformed; of the reasons `F1` to `F6` this is the least that applies.
+    /// The line of this number, from 1, is the first that is malformed, and of the reasons this is the least that
+    /// applies: `F1` or `F7` of the lines 1 and 2, which are those of the header, and `F1` to `F6` of the others.
     #[error("a malformed line")]
-    Malformed { reason: Reason },
+    Malformed { line: u64, reason: Reason },
+    /// The input goes on after 1,048,576 events.
+    #[error("more events than a trace may have")]
+    TooManyEvents,
     /// The source of the bytes failed.
     #[error("the input failed")]
     ReadFault,
+    /// There was no memory for a reader.
+    #[error("no memory")]
+    NoMemory,
 }

@@ -7,15 +7,16 @@ mod fields;
 mod header;
 pub mod laws;
 mod line_reason;
+mod lines;
 mod reader;
 mod reason;
 mod records;
 mod shapes;
 
-pub use error::{HeaderErr, ReadErr};
+pub use error::ReadErr;
 pub use event::parse_event;
 pub use header::{is_version_line, parse_ports};
-pub use reader::{read_event, read_header};
+pub use reader::{Reader, StartErr};
 pub use reason::Reason;
 pub use shapes::Shape;
 

@@ -1,116 +1,133 @@
-// The header and the events of a source, line by line.
-ghost use Rattle.std.specs.Prelude.{◌≡◌, ◌≢◌, ◌<◌, [], length, IsErrOf, IfOk, IfErr, OnOk, OnErr, IsSome, IsTrue, MatchOption, false};
-ghost use Rattle.std.specs.Io.KnownBytes.{Consumes, IsAtEnd};
-ghost use Rattle.ace_io.specs.Faults.{Rose};
-ghost use Rattle.ace_io.specs.Line.{HasNoLf, IsPending};
-ghost use Rattle.ace_io.specs.Reader.{source_of, waiting};
-ghost use Rattle.ace_event.specs.Text.{event_text, line_text, header_text};
-ghost use Rattle.ace_grammar.specs.Errors.{IfMalformed, IfMalformedHeader};
-ghost use Rattle.ace_grammar.specs.Lines.{HasNoLine};
-ghost use Rattle.ace_grammar.specs.Reading.{IsReadable, IsReadableHeader, HasBadHeader, HasBadLine, IfTold, TakesNoHeader};
+// A trace is read from a source: its header at once, and then event by event.
+ghost use Rattle.std.specs.Prelude.{◌≡◌, ◌≤◌, ℕ, List, [], Option, None, Some, Result, IfOk, IfErr, IfSome};
+ghost use Rattle.std.specs.Io.KnownBytes.{Consumes};
+ghost use Rattle.ace_event.specs.declared.event.Event.{Event};
+ghost use Rattle.ace_event.specs.Text.{header_text};
+ghost use Rattle.ace_grammar.specs.declared.error.ReadErr.{ReadErr};
+ghost use Rattle.ace_grammar.specs.Errors.{HasNoHeader, HasFaultCause, StandsNext};
+ghost use Rattle.ace_grammar.specs.Reading.{IsReadableHeader};
 
-use crate::{HeaderErr, ReadErr, Reason, is_version_line, parse_event, parse_ports};
+use crate::ReadErr;
+use crate::lines::{read_event, read_header};
 use ace_event::{Event, Header};
-use ace_io::{Failed, LineBuf, LineEnd, LineReader, Source};
+use ace_io::{LineBuf, LineReader, NoMemory, Source};
+use std::alloc::Global;
 
-/// Takes the next line with its line feed, and says whether there is one.
-fn take_line<S: Source>(lines: &mut LineReader<S>, line: &mut LineBuf) -> Result<bool, Failed>
-    ensures same_source { (source_of lines.new).ghost_name ≡ (source_of lines.old).ghost_name }
-    ensures no_lf { HasNoLf line.new }
-    ensures taken { IfOk result (λ whole. IsTrue whole →
-        (length line.new < 256) × Consumes (waiting S.left lines.old) (waiting S.left lines.new) (line_text line.new)) }
-    ensures none { IfOk result (λ whole. whole ≡ false → IfTold (waiting S.left lines.old) HasNoLine) }
-    ensures steady { OnOk result (S.faults (source_of lines.new).now ≡ S.faults (source_of lines.old).now) }
-    ensures fault { OnErr result (Rose (S.faults (source_of lines.old).now) (S.faults (source_of lines.new).now)) }
-    ensures pending { OnErr result (IsPending (waiting S.left lines.old) (S.left (source_of lines.new).now)) }
-{
-    match lines.next(line) {
-        Ok(LineEnd::Whole) => Ok(true),
-        Ok(LineEnd::NoLf | LineEnd::End) => Ok(false),
-        Err(failed) => Err(failed),
-    }
+/// How far a reader has come.
+#[derive(Clone, Copy)]
+enum Stage {
+    /// It reads on.
+    Reading,
+    /// It has read the whole trace.
+    Ended,
+    /// It has met this error.
+    Failed(ReadErr),
 }
 
-/// Reads the two header lines. `Malformed` comes exactly where the first malformed one of them has this number and
-/// reason; `ReadFault` comes only where the source's count of faults rose, and no header stands whole in what was taken
-/// by then. After an error read no more. `line` is room for a line.
-#[tactic(auto, using(crate::proofs::NoHeader::failed_first))]
-pub fn read_header<S: Source>(
-    lines: &mut LineReader<S>,
-    line: &mut LineBuf,
-) -> Result<Header, HeaderErr>
-    ensures same_source { (source_of lines.new).ghost_name ≡ (source_of lines.old).ghost_name }
-    ensures readable { IfOk result (λ header. IsReadableHeader header) }
-    ensures header { IfOk result (λ header. Consumes (waiting S.left lines.old) (waiting S.left lines.new) (header_text header)) }
-    ensures steady { OnOk result (S.faults (source_of lines.new).now ≡ S.faults (source_of lines.old).now) }
-    ensures malformed { IfErr result (λ error. IfMalformedHeader error
-        (λ number reason. IfTold (waiting S.left lines.old) (λ bytes. HasBadHeader bytes number reason))) }
-    ensures malformed_steady { IfErr result (λ error. IfMalformedHeader error
-        (λ number reason. S.faults (source_of lines.new).now ≡ S.faults (source_of lines.old).now)) }
-    ensures fault { IsErrOf result HeaderErr.ReadFault → Rose (S.faults (source_of lines.old).now) (S.faults (source_of lines.new).now) }
-    ensures pending { IsErrOf result HeaderErr.ReadFault
-        → TakesNoHeader (waiting S.left lines.old) (S.left (source_of lines.new).now) }
-{
-    match take_line(lines, line) {
-        Ok(true) => {}
-        Ok(false) => return Err(HeaderErr::Malformed {
-            line: 1,
-            reason: Reason::F1,
-        }),
-        Err(_) => return Err(HeaderErr::ReadFault),
-    }
-    if !is_version_line(line.bytes()) {
-        return Err(HeaderErr::Malformed {
-            line: 1,
-            reason: Reason::F7,
-        });
-    }
-    match take_line(lines, line) {
-        Ok(true) => {}
-        Ok(false) => return Err(HeaderErr::Malformed {
-            line: 2,
-            reason: Reason::F1,
-        }),
-        Err(_) => return Err(HeaderErr::ReadFault),
-    }
-    match parse_ports(line.bytes()) {
-        Some(header) => Ok(header),
-        None => Err(HeaderErr::Malformed {
-            line: 2,
-            reason: Reason::F7,
-        }),
-    }
+/// Why there is no reader, and the source that was lent to it.
+#[derive(Drop)]
+pub struct StartErr<'a, S: Source> {
+    pub error: ReadErr,
+    pub source: &'a mut S,
 }
 
-/// Reads the next event, or None at the end of the input after a whole line. `Malformed` comes exactly where a line
-/// stands there that is malformed, with the least reason that applies; `ReadFault` comes only where the source's count
-/// of faults rose, and what was taken by then and not given is less than a line. After an error read no more. `line` is
-/// room for a line.
-pub fn read_event<S: Source>(
-    lines: &mut LineReader<S>,
-    line: &mut LineBuf,
-) -> Result<Option<Event>, ReadErr>
-    ensures same_source { (source_of lines.new).ghost_name ≡ (source_of lines.old).ghost_name }
-    ensures read { IfOk result (λ next. MatchOption next
-        (IsAtEnd (waiting S.left lines.old) × IsAtEnd (waiting S.left lines.new))
-        (λ event. IsReadable event
-        × Consumes (waiting S.left lines.old) (waiting S.left lines.new) (line_text (event_text event)))) }
-    ensures some_left { IfOk result (λ next. IsSome next → IfTold (waiting S.left lines.old) (λ bytes. bytes ≢ [])) }
-    ensures steady { OnOk result (S.faults (source_of lines.new).now ≡ S.faults (source_of lines.old).now) }
-    ensures malformed { IfErr result (λ error. IfMalformed error
-        (λ reason. IfTold (waiting S.left lines.old) (λ bytes. HasBadLine bytes reason))) }
-    ensures malformed_steady { IfErr result (λ error. IfMalformed error
-        (λ reason. S.faults (source_of lines.new).now ≡ S.faults (source_of lines.old).now)) }
-    ensures fault { IsErrOf result ReadErr.ReadFault → Rose (S.faults (source_of lines.old).now) (S.faults (source_of lines.new).now) }
-    ensures pending { IsErrOf result ReadErr.ReadFault → IsPending (waiting S.left lines.old) (S.left (source_of lines.new).now) }
-{
-    match lines.next(line) {
-        Ok(LineEnd::Whole) => match parse_event(line.bytes()) {
-            Ok(event) => Ok(Some(event)),
-            Err(reason) => Err(ReadErr::Malformed { reason }),
-        },
-        Ok(LineEnd::NoLf) => Err(ReadErr::Malformed { reason: Reason::F1 }),
-        Ok(LineEnd::End) => Ok(None),
-        Err(_) => Err(ReadErr::ReadFault),
+/// Reads a trace from a source. It takes up to 4096 bytes at once, and no memory for an event.
+#[derive(Drop)]
+pub struct Reader<'a, S: Source> {
+    lines: LineReader<'a, S>,
+    line: LineBuf,
+    header: Header,
+    count: u64,
+    stage: Stage,
+    ghost few: { count ≤ 1048576 },
+}
+
+impl<'a, S: Source> Reader<'a, S> {
+    ghost use Rattle.ace_grammar.specs.Reader.{source_of, unread, header_of, count_of, last_answer, lasting, count_after, HasRead, IsReading};
+
+    /// Reads the two header lines.
+    ///
+    /// # Errors
+    ///
+    /// `Malformed` exactly where the first malformed one of the two lines has this number and this reason; `ReadFault`
+    /// only where the source's count of faults rose in this call, and then what was taken from it holds no header;
+    /// `NoMemory` where there is none for a reader, which never comes while its buffer is a part of it. The error hands
+    /// the source back.
+    #[tactic(auto, using(crate::proofs::Progress::read_header_alone))]
+    pub fn start(alloc: Global, source: &'a mut S) -> Result<Reader<'a, S>, StartErr<'a, S>>
+        ensures same_source { IfOk result (λ r. (source_of r).ghost_name ≡ source.entry.ghost_name) }
+        ensures readable { IfOk result (λ r. IsReadableHeader (header_of r)) }
+        ensures header { IfOk result (λ r. Consumes (S.left source.entry.now) (unread S.left r) (header_text (header_of r))) }
+        ensures steady { IfOk result (λ r. S.faults (source_of r).now ≡ S.faults source.entry.now) }
+        ensures count { IfOk result (λ r. count_of r ≡ 0) }
+        ensures reads { IfOk result (λ r. IfSome (S.left source.entry.now) (λ bytes. HasRead S.left bytes [] r)) }
+        ensures reads_on { IfOk result (λ r. last_answer r ≡ None) }
+        ensures handed_back { IfErr result (λ e. e.source.ghost_name ≡ source.entry.ghost_name) }
+        ensures none { IfErr result (λ e. HasNoHeader e.error (S.left source.entry.now) (S.faults source.entry.now)
+            (S.left e.source.now) (S.faults e.source.now)) }
+    {
+        let mut lines = match LineReader::start(alloc, source) {
+            Ok(lines) => lines,
+            Err(NoMemory) => unreachable!(),
+        };
+        let mut line = LineBuf::empty();
+        match read_header(&mut lines, &mut line) {
+            Ok(header) => Ok(Reader {
+                lines,
+                line,
+                header,
+                count: 0,
+                stage: Stage::Reading,
+            }),
+            Err(error) => Err(StartErr {
+                error,
+                source: lines.into_source(),
+            }),
+        }
+    }
+
+    /// The header of the trace.
+    pub fn header(&self) -> Header
+        ensures { result ≡ header_of self.now }
+    {
+        self.header
+    }
+
+    /// The next event, or None at the end of the input after a whole line. An answer that is no event stays: each later
+    /// call gives it again, and takes nothing from the source.
+    ///
+    /// # Errors
+    ///
+    /// `Malformed` exactly where a line stands next that is malformed, with its number and the least reason that applies:
+    /// the line of event n, from 1, is line n + 2. `TooManyEvents` exactly where 1,048,576 events were given and a byte
+    /// stands next. `ReadFault` only where the source's count of faults rose in the first call that answers so, and what
+    /// was taken by then and not given is less than a line.
+    #[tactic(auto, using(crate::proofs::Progress::reading_next))]
+    pub fn next(&mut self) -> Result<Option<Event>, ReadErr>
+        ensures same_source { (source_of self.new).ghost_name ≡ (source_of self.old).ghost_name }
+        ensures same_header { header_of self.new ≡ header_of self.old }
+        ensures next { last_answer self.old ≡ None → StandsNext result (count_of self.old) (unread S.left self.old)
+            (unread S.left self.new) (S.left (source_of self.new).now) }
+        ensures reads { last_answer self.old ≡ None → (bytes : List ℕ) (events : List Event)
+            → HasRead S.left bytes events self.old → IsReading S.left bytes events self.old self.new result }
+        ensures count { count_of self.new ≡ count_after (count_of self.old) result }
+        ensures last { last_answer self.new ≡ lasting result }
+        ensures again { (answer : Result (Option Event) ReadErr) → last_answer self.old ≡ Some answer
+            → (result ≡ answer) × (self.new ≡ self.old) }
+        ensures cause { last_answer self.old ≡ None
+            → HasFaultCause result (S.faults (source_of self.old).now) (S.faults (source_of self.new).now) }
+    {
+        match self.stage {
+            Stage::Reading => {}
+            Stage::Ended => return Ok(None),
+            Stage::Failed(error) => return Err(error),
+        }
+        let answer = read_event(&mut self.lines, &mut self.line, self.count);
+        match answer {
+            Ok(Some(_)) => self.count += 1,
+            Ok(None) => self.stage = Stage::Ended,
+            Err(error) => self.stage = Stage::Failed(error),
+        }
+        answer
     }
 }

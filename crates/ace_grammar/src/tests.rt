@@ -1,9 +1,9 @@
 // Lines and traces written out by hand, whole and in pieces.
 
-use crate::{HeaderErr, ReadErr, Reason, parse_event, read_event, read_header};
+use crate::{ReadErr, Reader, Reason, parse_event};
 use ace_codes::LineState;
 use ace_event::{Channel, Event, Header, Line, Outcome};
-use ace_io::{HonestSource, LineBuf, LineReader, MemSource, Source};
+use ace_io::{HonestSource, MemSource, Source};
 use std::alloc::Global;
 use std::test::Fail;
 
@@ -533,34 +533,38 @@ fn tells_each_character(rt: HostRuntime) {
 /// How the reading of a trace ends.
 #[derive(Clone, Copy, Debug, PartialEq, Eq)]
 enum End {
-    BadHeader(HeaderErr),
+    NoHeader(ReadErr),
     /// After so many events.
     After(u32, Result<Header, ReadErr>),
 }
 
 /// A malformed line.
-fn bad(reason: Reason) -> Result<Header, ReadErr> {
-    Err(ReadErr::Malformed { reason })
+fn bad(line: u64, reason: Reason) -> Result<Header, ReadErr> {
+    Err(ReadErr::Malformed { line, reason })
 }
 
 /// A malformed header line.
 fn no_header(line: u64, reason: Reason) -> End {
-    End::BadHeader(HeaderErr::Malformed { line, reason })
+    End::NoHeader(ReadErr::Malformed { line, reason })
 }
 
+/// Reads to the end, and sees that its answer stays.
 fn end_of<S: Source>(alloc: Global, source: &mut S) -> Result<End, Fail> {
-    let mut line = LineBuf::empty();
-    let mut lines = LineReader::start(alloc, source)?;
-    let header = match read_header(&mut lines, &mut line) {
-        Ok(header) => header,
-        Err(error) => return Ok(End::BadHeader(error)),
+    let mut reader = match Reader::start(alloc, source) {
+        Ok(reader) => reader,
+        Err(failed) => return Ok(End::NoHeader(failed.error)),
     };
     for count in 0..100 {
-        match read_event(&mut lines, &mut line) {
-            Ok(Some(_)) => {}
-            Ok(None) => return Ok(End::After(count, Ok(header))),
-            Err(error) => return Ok(End::After(count, Err(error))),
+        let answer = reader.next();
+        if let Ok(Some(_)) = answer {
+            continue;
         }
+        for _ in 0..3 {
+            if reader.next() != answer {
+                return Err("another answer after the last one")?;
+            }
+        }
+        return Ok(End::After(count, answer.map(|_| reader.header())));
     }
     Err("more events than were written")?
 }
@@ -589,35 +593,35 @@ fn reads_traces_in_pieces(rt: HostRuntime) -> Result<(), Fail> {
         (b"ACE 1\nPORTS A\nRK 0 I\nG 0 R 0\n", End::After(2, Ok(one))),
         (
             b"ACE 1\nPORTS A\nRK 0 I\nG 0 R 0",
-            End::After(1, bad(Reason::F1)),
+            End::After(1, bad(4, Reason::F1)),
         ),
         (
             b"ACE 1\nPORTS A\nRK 0 I\n\n",
-            End::After(1, bad(Reason::F2)),
+            End::After(1, bad(4, Reason::F2)),
         ),
         (
             b"ACE 1\nPORTS A\nRK 0 I\nG 0\nR 0\n",
-            End::After(1, bad(Reason::F3)),
+            End::After(1, bad(4, Reason::F3)),
         ),
         (
             b"ACE 1\nPORTS A\nXX\nOP 0 0001 ok\n",
-            End::After(0, bad(Reason::F2)),
+            End::After(0, bad(3, Reason::F2)),
         ),
         (
             b"ACE 1\nPORTS A\nOP 0 0001 ok\nXX\n",
-            End::After(1, bad(Reason::F2)),
+            End::After(1, bad(4, Reason::F2)),
         ),
         (
             b"ACE 1\nPORTS A\nRK 0 I\r\n",
-            End::After(0, bad(Reason::F5)),
+            End::After(0, bad(3, Reason::F5)),
         ),
         (
             b"ACE 1\nPORTS A\nAR 0 0 00000040 7 1 0 2\n",
-            End::After(0, bad(Reason::F6)),
+            End::After(0, bad(3, Reason::F6)),
         ),
         (
             b"ACE 1\nPORTS A\nOP 0 000 ok\nOP",
-            End::After(0, bad(Reason::F4)),
+            End::After(0, bad(3, Reason::F4)),
         ),
         (b"", no_header(1, Reason::F1)),
         (b"ACE 1", no_header(1, Reason::F1)),
@@ -667,7 +671,7 @@ fn refuses_long_lines(rt: HostRuntime) -> Result<(), Fail> {
         let mut source = HonestSource::new(&text);
         assert_eq!(rt;
             end_of(rt.alloc(), &mut source)?,
-            End::After(0, bad(reason))
+            End::After(0, bad(3, reason))
         );
     }
     Ok(())
@@ -678,8 +682,8 @@ fn tells_a_read_fault(rt: HostRuntime) -> Result<(), Fail> {
     let text = b"ACE 1\nPORTS A\nRK 0 I\nG 0 R 0\n";
     let fault = Err(ReadErr::ReadFault);
     let cases = [
-        (0, End::BadHeader(HeaderErr::ReadFault)),
-        (1, End::BadHeader(HeaderErr::ReadFault)),
+        (0, End::NoHeader(ReadErr::ReadFault)),
+        (1, End::NoHeader(ReadErr::ReadFault)),
         (2, End::After(0, fault)),
         (3, End::After(1, fault)),
     ];
@@ -691,6 +695,21 @@ fn tells_a_read_fault(rt: HostRuntime) -> Result<(), Fail> {
             end,
             "where take {failing} fails"
         );
+    }
+    Ok(())
+}
+
+#[test]
+fn hands_the_source_back(rt: HostRuntime) -> Result<(), Fail> {
+    let mut source = MemSource::new(rt.alloc(), b"ACE 1\nPORTS A\n", &[4], &[1])?;
+    match Reader::start(rt.alloc(), &mut source) {
+        Ok(_) => Err("a header over a fault")?,
+        Err(failed) => {
+            let mut into = [0; 8];
+            assert_eq!(rt; failed.error, ReadErr::ReadFault);
+            assert_eq!(rt; failed.source.take(&mut into), Ok(4));
+            assert_eq!(rt; into, *b"1\nPO\0\0\0\0");
+        }
     }
     Ok(())
 }

@@ -50,6 +50,20 @@ impl<'a, S: Source> LineReader<'a, S> {
         })
     }
 
+    /// Hands the source back. What was taken from it and stands in no line is let go.
+    pub fn into_source(self) -> &'a mut S
+        ensures same_source { result.ghost_name ≡ (source_of self.entry).ghost_name }
+        ensures kept { result.now ≡ (source_of self.entry).now }
+    {
+        let LineReader {
+            source,
+            buffer: _,
+            start: _,
+            end: _,
+        } = self;
+        source
+    }
+
     /// Asks the source for more, and says whether there was any.
     #[tactic(auto, using(crate::proofs::Held::held_steps))]
     fn fill(&mut self) -> Result<bool, Failed>

@@ -13,7 +13,7 @@ use Rattle.ace_model.specs.CacheRules.{k29, k32}
 use Rattle.ace_model.specs.Accepted.{Rule, rule, rules, least_of}
 use Rattle.ace_model.specs.Today.{is_known_today, rules_today}
 use Rattle.ace_model.proofs.Looks.{Some-injective}
-use Rattle.ace_model.proofs.Kept.{kept_first, KeptToday, kept_today}
+use Rattle.ace_model.proofs.Kept.{kept_at, kept_today}
 
 pub record KeptRules (h : Header) (past : Trace) (e : Event) : Type 0 where
   pub rule_1 : k1 h past e ≡ true
@@ -28,15 +28,6 @@ pub record KeptRules (h : Header) (past : Trace) (e : Event) : Type 0 where
   pub rule_28 : k28 h past e ≡ true
   pub rule_29 : k29 h past e ≡ true
   pub rule_32 : k32 h past e ≡ true
-
--- where none is broken, the one at a place is kept
-pub kept_at : (rs : List Rule) (n : ℕ) (r : Rule) (h : Header) (past : Trace) (e : Event) → slice_get rs n ≡ Some r → least_of rs h past e ≡ None
-    → r.keeps h past e ≡ true
-kept_at [] n r h past e is none = cc
-kept_at (s ∷ rs) zero r h past e is none =
-    subst (λ (t : Rule). t.keeps h past e ≡ true) (Some-injective s r is) (kept_first (s.keeps h past e) s.number (least_of rs h past e) none).0
-kept_at (s ∷ rs) (suc n) r h past e is none =
-    kept_at rs n r h past e is (kept_first (s.keeps h past e) s.number (least_of rs h past e) none).1
 
 -- an event that breaks no rule keeps these
 pub kept : (h : Header) (past : Trace) (e : Event) → least_of rules h past e ≡ None → KeptRules h past e

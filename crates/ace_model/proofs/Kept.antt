@@ -1,12 +1,12 @@
 -- What it says that an event breaks no rule, rule by rule.
-use Rattle.std.proofs.Common.{◌≡◌, ℕ, Bool, true, false, if◌then◌else◌, List, [], ◌∷◌, Option, Some, None, refl}
+use Rattle.std.proofs.Common.{◌≡◌, ℕ, zero, suc, Bool, true, false, if◌then◌else◌, List, [], ◌∷◌, Option, Some, None, refl, slice_get, ap, sym, ◌∙◌}
 use Rattle.ace_event.specs.declared.event.Event.{Event}
 use Rattle.ace_event.specs.declared.header.Header.{Header}
 use Rattle.ace_model.specs.Trace.{Trace}
 use Rattle.ace_model.specs.AddressRules.{k1, k3, k4, k5, k6, k7}
 use Rattle.ace_model.specs.SnoopRules.{k12, k13, k14, k15}
 use Rattle.ace_model.specs.ReadRules.{k18, k19, k21, k22, k23}
-use Rattle.ace_model.specs.Accepted.{Rule, least_of}
+use Rattle.ace_model.specs.Accepted.{Rule, rules, least_of, IsAccepted}
 use Rattle.ace_model.specs.Today.{k2_today, rules_today}
 
 -- the event keeps each rule of the list
@@ -25,6 +25,22 @@ keeps_all [] h past e none = tt
 keeps_all (r ∷ rs) h past e none =
     let k : (r.keeps h past e ≡ true) × (least_of rs h past e ≡ None) = kept_first (r.keeps h past e) r.number (least_of rs h past e) none in
     (k.0, keeps_all rs h past e k.1)
+
+-- where none is broken, the one at this place is kept
+pub kept_at : (rs : List Rule) (i : ℕ) (r : Rule) (h : Header) (past : Trace) (e : Event)
+    → slice_get rs i ≡ Some r → least_of rs h past e ≡ None → r.keeps h past e ≡ true
+kept_at [] i r h past e there none = cc
+kept_at (x ∷ rs) zero r h past e there none =
+    let k : (x.keeps h past e ≡ true) × (least_of rs h past e ≡ None) = kept_first (x.keeps h past e) x.number (least_of rs h past e) none in
+    let same : x ≡ r = cc in ap (λ y. y.keeps h past e) (sym same) ∙ k.0
+kept_at (x ∷ rs) (suc i) r h past e there none =
+    let k : (x.keeps h past e ≡ true) × (least_of rs h past e ≡ None) = kept_first (x.keeps h past e) x.number (least_of rs h past e) none in
+    kept_at rs i r h past e there k.1
+
+-- an event of an accepted trace keeps the rule at this place
+pub accepted_keeps : (i : ℕ) (r : Rule) (h : Header) (past : Trace) (e : Event)
+    → slice_get rules i ≡ Some r → IsAccepted h (e ∷ past) → r.keeps h past e ≡ true
+accepted_keeps i r h past e there accepted = kept_at rules i r h past e there accepted.1
 
 -- every rule of today, by its name
 pub record KeptToday (h : Header) (past : Trace) (e : Event) : Type 0 where

@@ -1,5 +1,9 @@
 pub mod Acceptance
+pub mod BarrierOrder
+pub mod BarrierPairs
 pub mod FirstBreak
+pub mod Forwarding
+pub mod Growth
 pub mod HolderAcknowledge
 pub mod HolderAddress
 pub mod HolderEnds
@@ -18,5 +22,12 @@ pub mod Issued
 pub mod Kept
 pub mod Least
 pub mod Looks
+pub mod MessageAnswered
+pub mod OrderPoints
 pub mod Places
+pub mod Points
+pub mod Served
+pub mod Starts
+pub mod SyncCompleted
+pub mod SyncLaw
 pub mod UniqueLaw

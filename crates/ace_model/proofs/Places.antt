@@ -3,7 +3,6 @@ use Rattle.std.proofs.Common.{◌≡◌, ◌⊎◌, ℕ, zero, suc, List, [], �
 use Rattle.std.proofs.lemmas.Bool.{cases_eq}
 use Rattle.ace_model.specs.Trace.{more}
 
-
 -- the place behind the last element
 pub slice_get-at_end : {A : Type 0} → (xs : List A) (k : ℕ) (y : A) → k ≡ length xs → slice_get (xs ++ y ∷ []) k ≡ Some y
 slice_get-at_end [] zero y e = refl

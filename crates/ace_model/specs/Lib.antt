@@ -28,4 +28,3 @@ pub mod Coherent
 pub mod ExclusiveHolds
 pub mod BarrierHolds
 pub mod DvmHolds
-pub mod Rows

@@ -11,7 +11,7 @@ use Rattle.ace_model.specs.declared.transactions.Transaction.{Transaction}
 use Rattle.ace_model.specs.Trace.{Trace, implies, is_some_and, is_none_or}
 use Rattle.ace_model.specs.Kinds.{is_message_snoop, is_complete_snoop}
 use Rattle.ace_model.specs.Transactions.{outstanding, issued}
-use Rattle.ace_model.specs.Progress.{has_ended}
+use Rattle.ace_model.specs.Progress.{is_completed}
 use Rattle.ace_model.specs.Grants.{each_port}
 use Rattle.ace_model.specs.Barriers.{may_answer, is_barrier_half, pair_of, place_of, is_pair_complete, pairs}
 use Rattle.ace_model.specs.Messages.{is_message, next_message, is_other_ace, has_answered, is_dvm_completion, dvm_completes, answered_syncs, sync_number, is_sync_completed, last_sync}
@@ -68,12 +68,12 @@ abbrev pub k38 : Header → Trace → Event → Bool
 k38 h past e = is_none_or (issued (length past) e) (owes_completion past)
 
 -- every other ACE port has sent its DVM Complete for the Sync: as many as Syncs reached it up to this one
-abbrev pub is_completed_by_all : Header → Trace → Transaction → Bool
-is_completed_by_all h past x =
+abbrev pub has_every_completion : Header → Trace → Transaction → Bool
+has_every_completion h past x =
     each_port h.ports (λ q. implies (is_other_ace h x.port q) (nat_le (sync_number past x q) (dvm_completes past q)))
 
 abbrev pub may_complete : Header → Trace → ℕ → Transaction → Bool
-may_complete h past p x = has_ended past x && not (is_sync_completed past p) && is_completed_by_all h past x
+may_complete h past p x = is_completed past x && not (is_sync_completed past p) && has_every_completion h past x
 
 abbrev pub completes_next : Header → Trace → ℕ → ℕ → SnoopKind → Bool
 completes_next h past p addr k =

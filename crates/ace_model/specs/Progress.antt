@@ -1,4 +1,5 @@
--- How far a transaction has come, whichever it is: the functions above tell it of the last one under an identifier.
+-- How far any transaction has come. `is_complete`, `has_grant` and `has_memory_write` tell it of the last one under an
+-- identifier, which is the one that an event names.
 use Rattle.std.specs.Prelude.{ℕ, ◌≡◌, Bool, true, false, not, ◌&&◌, ◌||◌, ◌==◌, if◌then◌else◌, List, [], ◌∷◌, length, slice_get, Option, Some, None}
 use Rattle.ace_event.specs.declared.event.Channel.TheVariants.{Read, Write}
 use Rattle.ace_event.specs.declared.event.Event.{Event}
@@ -31,10 +32,6 @@ abbrev pub has_had : (Event → Bool) → Trace → Transaction → Bool
 has_had test [] x = false
 has_had test (e ∷ past) x = (test e && is_transaction (served_by past e) x) || has_had test past x
 
-abbrev pub is_transfer : Event → Bool
-is_transfer (R p i resp last word) = true
-is_transfer _ = false
-
 -- the last R, or the B
 abbrev pub is_completion_event : Event → Bool
 is_completion_event (R p i resp last word) = last
@@ -50,8 +47,8 @@ is_write_of_memory (M p c i line) = true
 is_write_of_memory _ = false
 
 -- it is complete: it has had its last R or its B
-abbrev pub has_ended : Trace → Transaction → Bool
-has_ended past x = has_had is_completion_event past x
+abbrev pub is_completed : Trace → Transaction → Bool
+is_completed past x = has_had is_completion_event past x
 
 -- it is a memory update; an Evict
 abbrev pub updates_memory : Transaction → Bool

@@ -115,7 +115,7 @@ held_of h past x = if is_line x then state_of h past x.port x.addr else I
 abbrev pub is_end : Header → Trace → Transaction → LineState → ArKind → Bool
 is_end h past x st k =
     ends_read k (held_of h past x) (is_some_and (first_resp past x.port x.id) is_shared)
-        (is_some_and (first_resp past x.port x.id) passes_dirty) (has_failed past x) st
+    (is_some_and (first_resp past x.port x.id) passes_dirty) (has_failed past x) st
     && implies (is_make_unique k) (has_store h past x.port x.id)
 
 abbrev pub ends_well : Header → Trace → LineState → Transaction → Bool

@@ -65,4 +65,4 @@ memory_at_first_beat (e ∷ past) p i l =
 abbrev pub reply_of : Trace → Transaction → Line
 reply_of past x =
     unwrap_or (option_and_then (copy_at_answer past x.addr) (first_sender past x.addr))
-        (memory_at_first_beat past x.port x.id x.addr)
+    (memory_at_first_beat past x.port x.id x.addr)

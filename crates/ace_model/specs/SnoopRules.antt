@@ -94,7 +94,7 @@ k15 h past _ = true
 abbrev pub answers_beside_update : Header → Trace → ℕ → ℕ → LineState → Snoop → Bool
 answers_beside_update h past p resp st s =
     implies (has_update h past p s.addr)
-        (is_none_or (ac_kind_of s.snoop) (λ k. is_snoop_row k (state_of h past p s.addr) true resp st))
+    (is_none_or (ac_kind_of s.snoop) (λ k. is_snoop_row k (state_of h past p s.addr) true resp st))
 
 -- K16: where a memory update of the port on the line is outstanding, the response and the state of a CR are a row of the snoop
 -- with an update (our choice; Arm IHI 0022E, C5 and C6, on a snoop that meets a WriteBack).

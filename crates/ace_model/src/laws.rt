@@ -5,9 +5,11 @@ ghost use Rattle.ace_event.specs.declared.event.Event.{Event};
 ghost use Rattle.ace_event.specs.declared.header.Header.{Header};
 ghost use Rattle.ace_model.specs.declared.breaks.Break.{Break};
 ghost use Rattle.ace_model.specs.Trace.{Trace};
-ghost use Rattle.ace_model.specs.Accepted.{Rule, AreInOrder, rules, IsAccepted, IsAcceptedBy, FirstBreakBy, first_break_by};
+ghost use Rattle.ace_model.specs.Accepted.{Rule, AreInOrder, rules, IsAcceptedBy, IsAccepted, FirstBreakBy, first_break_by};
 ghost use Rattle.ace_model.specs.Today.{rules_today};
 ghost use Rattle.ace_model.specs.Unique.{Unique, OneDirty};
+ghost use Rattle.ace_model.specs.BarrierHolds.{BarrierHolds};
+ghost use Rattle.ace_model.specs.DvmHolds.{DvmHolds};
 
 /// By rules in order, the break that `first_break_by` computes is the first break of the events. By any rules, where it
 /// computes none, the trace is accepted.
@@ -35,4 +37,16 @@ pub fn unique_line_has_one_holder()
 pub fn accepted_line_has_one_holder()
     ensures unique { (h : Header) (past : Trace) → IsAccepted h past → Unique h past }
     ensures one_dirty { (h : Header) (past : Trace) → IsAccepted h past → OneDirty h past }
+{}
+
+/// A barrier orders, in every accepted trace: what comes after a barrier pair of a port is granted only once the earlier
+/// line transactions of the port have their order points, and for a synchronisation barrier are complete.
+pub fn barriers_order()
+    ensures { (h : Header) (past : Trace) → IsAccepted h past → BarrierHolds past }
+{}
+
+/// In every accepted trace a Sync waits for all: where its port is told that it is complete, every other ACE port has
+/// answered it and all that its port sent before it, and has issued a DVM Complete after that answer.
+pub fn a_sync_waits_for_all()
+    ensures { (h : Header) (past : Trace) → IsAccepted h past → DvmHolds h past }
 {}

@@ -3,7 +3,6 @@
 
 mod breaks;
 pub mod laws;
-pub mod rows;
 mod snoops;
 mod transactions;
 

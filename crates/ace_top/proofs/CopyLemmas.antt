@@ -1,18 +1,16 @@
 -- A copy of a trace, event by event.
-use Rattle.std.proofs.Common.{◌≡◌, ◌<◌, ◌++◌, ℕ, List, [], ◌∷◌, Option, length, sym, ap, subst, ◌∙◌, append_assoc, append-nil, arith}
+use Rattle.std.proofs.Common.{◌≡◌, ◌++◌, ℕ, List, [], ◌∷◌, Option, length, sym, ap, subst, ◌∙◌, append_assoc, append-nil, arith}
 use Rattle.std.specs.Io.KnownBytes.{Consumes}
 use Rattle.std.proofs.KnownBytes.{Consumes-trans, Consumes-nil}
 use Rattle.std.proofs.lemmas.List.{length-append}
 use Rattle.std.proofs.lemmas.Grind.{flat_map-append}
 use Rattle.ace_event.specs.declared.event.Event.{Event}
 use Rattle.ace_event.specs.Text.{events_text, event_text, line_text}
-use Rattle.ace_grammar.specs.Reading.{IsReadable, most_events}
+use Rattle.ace_grammar.specs.Reading.{IsReadable}
 use Rattle.ace_writer.specs.declared.writer.Writer.{Writer}
 use Rattle.ace_writer.specs.Given.{GivesFront, sink_of}
 use Rattle.ace_top.specs.Output.{AppendsPart}
-use Rattle.ace_top.specs.declared.answer.Answer.{Answer}
-use Rattle.ace_top.specs.declared.answer.Answer.TheVariants.{Accepted, Refused, Shown, Usage, Malformed, ReadFault, LimitEvents, NoMemory}
-use Rattle.ace_top.specs.Copy.{HasCopied, HasWritten, CopiesNext, EndsCopy, StopsCopy}
+use Rattle.ace_top.specs.Copy.{HasCopied, HasWritten, CopiesNext}
 use Rattle.ace_top.proofs.ProgressLemmas.{All-more}
 
 -- the lines of one more event
@@ -30,28 +28,17 @@ copied_nothing held old writer = record {
 }
 
 -- one more event was copied
-pub copied_more : {K : Type 0} (held : K → Option (List ℕ)) (old mid new : Option (List ℕ)) (writer writer' writer'' : Writer K) (events : List Event) (event : Event)
-    → HasCopied held old mid writer writer' events → CopiesNext held mid new writer' writer'' event → length events < most_events
+pub copied_more : {K : Type 0} (held : K → Option (List ℕ)) (old mid new : Option (List ℕ)) (writer writer' writer'' : Writer K) (events : List Event) (event : Event) (count : ℕ)
+    → HasCopied held old mid writer writer' events → CopiesNext held count mid new writer' writer'' event → length events ≡ count
     → HasCopied held old new writer writer'' (events ++ event ∷ [])
-copied_more held old mid new writer writer' writer'' events event c n room = record {
+copied_more held old mid new writer writer' writer'' events event count c n same = record {
   readable = All-more IsReadable events event c.readable n.readable;
-  few = rw length-append (omega arith);
+  few = rw length-append (omega (arith, same, n.room));
   taken = subst (Consumes old new) (sym (events_text-more events event)) (Consumes-trans old mid new _ _ c.taken n.taken);
   put = λ before text g.
       subst (λ t. GivesFront held before t writer'') (append_assoc text (events_text events) (line_text (event_text event)) ∙ ap (λ t. text ++ t) (sym (events_text-more events event)))
       (n.put before (text ++ events_text events) (c.put before text g));
 }
-
--- a copy that stops ends
-pub stops_ends : (answer : Answer) (events : List Event) (count : ℕ) (next left : Option (List ℕ)) → StopsCopy answer count next left → length events ≡ count → count < most_events → EndsCopy answer events next left
-stops_ends Shown events count next left s same room = s
-stops_ends (Malformed line reason) events count next left s same room = (s.0, rw same room, rw same s.1)
-stops_ends ReadFault events count next left s same room = s
-stops_ends LimitEvents events count next left s same room = absurd s
-stops_ends NoMemory events count next left s same room = s
-stops_ends (Accepted n) events count next left s same room = s
-stops_ends (Refused index rule) events count next left s same room = s
-stops_ends Usage events count next left s same room = s
 
 pub written : {K : Type 0} (held : K → Option (List ℕ)) (old new : Option (List ℕ)) (writer writer' : Writer K) (events : List Event) → HasCopied held old new writer writer' events → HasWritten old new events
 written held old new writer writer' events c = record { readable = c.readable; few = c.few; taken = c.taken }
@@ -60,4 +47,4 @@ written held old new writer writer' events c = record { readable = c.readable; f
 pub front_given : {K : Type 0} (held : K → Option (List ℕ)) (before : Option (List ℕ)) (text : List ℕ) (writer : Writer K) → GivesFront held before text writer → AppendsPart before (held (sink_of writer).now) text
 front_given held before text writer g = (g.front, g.rest, g.cut, g.bytes)
 
-pub ruleset copies = (copied_nothing, copied_more, stops_ends, written, front_given)
+pub ruleset copies = (copied_nothing, copied_more, written, front_given)

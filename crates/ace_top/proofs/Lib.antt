@@ -1,5 +1,6 @@
 pub mod AcceptedEnd
 pub mod CopyLemmas
+pub mod ErrorLemmas
 pub mod OneWord
 pub mod Parts
 pub mod ProgressLemmas

@@ -6,31 +6,31 @@ use Rattle.std.proofs.KnownBytes.{Consumes-trans, Appends-trans, Appends-nil}
 use Rattle.ace_event.specs.declared.header.Header.{Header}
 use Rattle.ace_event.specs.declared.event.Event.{Event}
 use Rattle.ace_event.specs.Text.{header_text, trace_text}
-use Rattle.ace_grammar.specs.declared.error.HeaderErr.{HeaderErr}
-use Rattle.ace_grammar.specs.declared.error.HeaderErr.TheVariants as header_error
-use Rattle.ace_grammar.specs.Errors.{IfMalformedHeader}
+use Rattle.ace_grammar.specs.declared.error.ReadErr.{ReadErr}
+use Rattle.ace_grammar.specs.declared.error.ReadErr.TheVariants as error
+use Rattle.ace_grammar.specs.Errors.{HasNoHeader}
 use Rattle.ace_grammar.specs.Lines.{BeginsWith}
-use Rattle.ace_grammar.specs.Reading.{Reads, Whole, Full, Bad, IsReadable, IsReadableHeader, HasBadHeader, HasBadLine, TakesNoHeader, IfTold, most_events}
+use Rattle.ace_grammar.specs.Reading.{Reads, Whole, Full, Bad, IsReadable, IsReadableHeader, HasBadLine, IfTold, most_events}
 use Rattle.ace_top.specs.declared.answer.Answer.{Answer}
 use Rattle.ace_top.specs.declared.answer.Answer.TheVariants.{Accepted, Refused, Shown, Usage, Malformed, ReadFault, LimitEvents, NoMemory}
 use Rattle.ace_top.specs.declared.words.Command.TheVariants.{Show}
 use Rattle.ace_top.specs.Answer.{Answers, BreaksOff, IsBegun}
 use Rattle.ace_top.specs.Copy.{HasWritten, WritesPart, EndsCopy}
-use Rattle.ace_top.specs.HeaderAnswer.{header_answer}
+use Rattle.ace_top.specs.ErrorAnswer.{error_answer}
 use Rattle.ace_top.specs.Output.{AppendsPart, AppendsParts}
 use Rattle.ace_top.specs.Show.{IsShown}
 use Rattle.ace_top.specs.Texts.{status_of, out_text_of, notes_text_of}
 
 -- after a copy there is no further text for the standard output
-quiet : (answer : Answer) (events : List Event) (next left : Option (List ℕ)) → EndsCopy answer events next left → out_text_of answer ≡ []
-quiet Shown events next left e = refl
-quiet (Malformed line reason) events next left e = refl
-quiet LimitEvents events next left e = refl
-quiet ReadFault events next left e = refl
-quiet NoMemory events next left e = refl
-quiet (Accepted count) events next left e = absurd e
-quiet (Refused index rule) events next left e = absurd e
-quiet Usage events next left e = refl
+quiet : (answer : Answer) (count : ℕ) (next left : Option (List ℕ)) → EndsCopy answer count next left → out_text_of answer ≡ []
+quiet Shown count next left e = refl
+quiet (Malformed line reason) count next left e = refl
+quiet LimitEvents count next left e = refl
+quiet ReadFault count next left e = refl
+quiet NoMemory count next left e = refl
+quiet (Accepted events) count next left e = absurd e
+quiet (Refused index rule) count next left e = absurd e
+quiet Usage count next left e = refl
 
 -- the bytes of a trace that was copied, and what stands next
 record Copied (bytes : List ℕ) (header : Header) (events : List Event) (next : Option (List ℕ)) : Type 0 where
@@ -48,7 +48,7 @@ at_end None e = tt
 at_end (Some rest) e = e
 
 copied_shown : (bytes : List ℕ) (header : Header) (events : List Event) (next left : Option (List ℕ)) (answer : Answer)
-    → Copied bytes header events next → EndsCopy answer events next left → IsShown bytes left answer (trace_text header events)
+    → Copied bytes header events next → EndsCopy answer (length events) next left → IsShown bytes left answer (trace_text header events)
 copied_shown bytes header events next left Shown c e =
     let parts = split bytes _ next (λ rest. rest ≡ []) c.text (at_end next e) in
     let reads : Reads bytes header events Whole = record { header_is_readable = c.readable; events_are_readable = c.all; text = (parts.0, parts.1, (c.few, parts.2)) } in
@@ -78,7 +78,7 @@ copied_from bytes header events mid next readable head w = record {
 
 -- no output failed: the trace stands on the standard output
 pub shows_copy : (old mid next left out out' out'' notes notes' : Option (List ℕ)) (header : Header) (events : List Event) (answer : Answer) (status : ℕ)
-    → IsReadableHeader header → Consumes old mid (header_text header) → HasWritten mid next events → EndsCopy answer events next left
+    → IsReadableHeader header → Consumes old mid (header_text header) → HasWritten mid next events → EndsCopy answer (length events) next left
     → Appends out out' (trace_text header events) → Appends out' out'' (out_text_of answer) → Appends notes notes' (notes_text_of answer) → status ≡ status_of answer
     → Answers Show old left status out out'' notes notes'
 shows_copy old mid next left out out' out'' notes notes' header events answer status readable head w e given more told is = (
@@ -86,7 +86,7 @@ shows_copy old mid next left out out' out'' notes notes' header events answer st
   trace_text header events,
   shown old head,
   is,
-  subst (Appends out out'') (ap (λ t. trace_text header events ++ t) (quiet answer events next left e) ∙ append-nil (trace_text header events)) (Appends-trans out out' out'' _ _ given more),
+  subst (Appends out out'') (ap (λ t. trace_text header events ++ t) (quiet answer (length events) next left e) ∙ append-nil (trace_text header events)) (Appends-trans out out' out'' _ _ given more),
   told,
 )
   where
@@ -94,29 +94,43 @@ shows_copy old mid next left out out' out'' notes notes' header events answer st
     shown None head = tt
     shown (Some bytes) head = copied_shown bytes header events next left answer (copied_from bytes header events mid next readable head w) e
 
+-- a header is read, and this is it
+pub head_read : (old mid : Option (List ℕ)) (header header' : Header) → header' ≡ header → IsReadableHeader header → Consumes old mid (header_text header)
+    → IsReadableHeader header' × Consumes old mid (header_text header')
+head_read old mid header header' is readable head =
+    (subst IsReadableHeader (sym is) readable, subst (λ (h : Header). Consumes old mid (header_text h)) (sym is) head)
+
+-- the answer, where what is left is that of a source
+pub shows_left : {S : Type 0} (left : S → Option (List ℕ)) (source source' : S) (old out out' notes notes' : Option (List ℕ)) (status : ℕ)
+    → source' ≡ source → Answers Show old (left source) status out out' notes notes' → Answers Show old (left source') status out out' notes notes'
+shows_left left source source' old out out' notes notes' status is a = subst (λ s. Answers Show old (left s) status out out' notes notes') (sym is) a
+
 -- where there is no header, there is no text for the standard output
-silent : (error : HeaderErr) → out_text_of (header_answer error) ≡ []
-silent (header_error.Malformed line reason) = refl
-silent header_error.ReadFault = refl
+silent : (e : ReadErr) → out_text_of (error_answer e) ≡ []
+silent (error.Malformed line reason) = refl
+silent error.TooManyEvents = refl
+silent error.ReadFault = refl
+silent error.NoMemory = refl
 
 -- there was no header
-pub shows_no_header : (old left out out' notes notes' : Option (List ℕ)) (status : ℕ) (error : HeaderErr) (answer : Answer)
-    → answer ≡ header_answer error → IfMalformedHeader error (λ line reason. IfTold old (λ bytes. HasBadHeader bytes line reason))
-    → (error ≡ header_error.ReadFault → TakesNoHeader old left)
+pub shows_no_header : (old left out out' notes notes' : Option (List ℕ)) (status before now : ℕ) (e : ReadErr) (answer : Answer)
+    → answer ≡ error_answer e → HasNoHeader e old before left now
     → Appends out out' (out_text_of answer) → Appends notes notes' (notes_text_of answer) → status ≡ status_of answer → Answers Show old left status out out' notes notes'
-shows_no_header old left out out' notes notes' status error answer is bad pending given told same = (
+shows_no_header old left out out' notes notes' status before now e answer is none given told same = (
   answer,
   [],
-  subst (λ (a : Answer). IfSome old (λ bytes. IsShown bytes left a [])) (sym is) (shown error old bad pending),
+  subst (λ (a : Answer). IfSome old (λ bytes. IsShown bytes left a [])) (sym is) (shown e old none),
   same,
-  subst (Appends out out') (ap out_text_of is ∙ silent error) given,
+  subst (Appends out out') (ap out_text_of is ∙ silent e) given,
   told,
 )
   where
-    shown : (error : HeaderErr) (old : Option (List ℕ)) → IfMalformedHeader error (λ line reason. IfTold old (λ bytes. HasBadHeader bytes line reason)) → (error ≡ header_error.ReadFault → TakesNoHeader old left) → IfSome old (λ bytes. IsShown bytes left (header_answer error) [])
-    shown error None bad pending = tt
-    shown (header_error.Malformed line reason) (Some bytes) bad pending = inl (bad, refl)
-    shown header_error.ReadFault (Some bytes) bad pending = inl (refl, pending refl)
+    shown : (e : ReadErr) (old : Option (List ℕ)) → HasNoHeader e old before left now → IfSome old (λ bytes. IsShown bytes left (error_answer e) [])
+    shown e None none = tt
+    shown (error.Malformed line reason) (Some bytes) none = inl (none.0, refl)
+    shown error.TooManyEvents (Some bytes) none = absurd none
+    shown error.ReadFault (Some bytes) none = inl (refl, none.0)
+    shown error.NoMemory (Some bytes) none = refl
 
 begun : (old mid next : Option (List ℕ)) (header : Header) (events : List Event) → IsReadableHeader header → Consumes old mid (header_text header) → HasWritten mid next events
     → IfSome old (λ bytes. IsBegun Show bytes (trace_text header events))
@@ -141,11 +155,11 @@ breaks_in_copy old mid out out' notes notes' header readable head w told =
 
 -- an output failed behind the trace
 pub breaks_after_copy : (old mid next left out out' out'' notes notes' : Option (List ℕ)) (header : Header) (events : List Event) (answer : Answer)
-    → IsReadableHeader header → Consumes old mid (header_text header) → HasWritten mid next events → EndsCopy answer events next left
+    → IsReadableHeader header → Consumes old mid (header_text header) → HasWritten mid next events → EndsCopy answer (length events) next left
     → Appends out out' (trace_text header events) → AppendsPart out' out'' (out_text_of answer) → AppendsParts notes notes' (notes_text_of answer) (codes "write fault\n")
     → BreaksOff Show old out out'' notes notes'
 breaks_after_copy old mid next left out out' out'' notes notes' header events answer readable head w e given (part, rest, cut, more) told =
-    let none : part ≡ [] = nothing part rest (sym cut ∙ quiet answer events next left e) in
+    let none : part ≡ [] = nothing part rest (sym cut ∙ quiet answer (length events) next left e) in
     let whole : Appends out out'' (trace_text header events) =
     subst (Appends out out'') (ap (λ t. trace_text header events ++ t) none ∙ append-nil (trace_text header events)) (Appends-trans out out' out'' _ _ given more) in
     (answer, trace_text header events, begun old mid next header events readable head w, (trace_text header events, [], sym (append-nil (trace_text header events)), whole), told)
@@ -155,7 +169,7 @@ breaks_after_copy old mid next left out out' out'' notes notes' header events an
     nothing (b ∷ part) rest e = absurd (cc)
 
 -- an output failed, and there was no header
-pub breaks_without_header : (old out out' notes notes' : Option (List ℕ)) (error : HeaderErr) (answer : Answer) → answer ≡ header_answer error
+pub breaks_without_header : (old out out' notes notes' : Option (List ℕ)) (e : ReadErr) (answer : Answer) → answer ≡ error_answer e
     → AppendsPart out out' (out_text_of answer) → AppendsParts notes notes' (notes_text_of answer) (codes "write fault\n") → BreaksOff Show old out out' notes notes'
 breaks_without_header old out out' notes notes' error answer is part told =
     (answer, [], begun_nothing old, subst (AppendsPart out out') (ap out_text_of is ∙ silent error) part, told)

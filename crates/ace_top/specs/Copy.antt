@@ -38,32 +38,22 @@ pub record WritesPart (before now : Option (List ℕ)) (text : List ℕ) (old : 
   pub written : HasWritten old next events
   pub part : AppendsPart before now (text ++ events_text events)
 
--- this event was read, and its line was added to the text of the writer
-pub record CopiesNext {K : Type 0} (held : K → Option (List ℕ)) (old new : Option (List ℕ)) (writer writer' : Writer K)
+-- after so many events this one was read, and its line was added to the text of the writer
+pub record CopiesNext {K : Type 0} (held : K → Option (List ℕ)) (count : ℕ) (old new : Option (List ℕ)) (writer writer' : Writer K)
     (event : Event) : Type 0 where
+  pub room : count < most_events
   pub readable : IsReadable event
   pub taken : Consumes old new (line_text (event_text event))
   pub put : (before : Option (List ℕ)) (text : List ℕ) → GivesFront held before text writer
       → GivesFront held before (text ++ line_text (event_text event)) writer'
 
--- why the copy ends: by what stands next, and by what is left of the source after that was read
-abbrev pub EndsCopy : Answer → List Event → Option (List ℕ) → Option (List ℕ) → Type 0
-EndsCopy Shown events next left = IsAtEnd next
-EndsCopy (Malformed line reason) events next left = IfTold next (λ bytes. HasBadLine bytes reason) × (length events < most_events) × (line ≡ length events + 3)
-EndsCopy LimitEvents events next left = IfTold next (λ bytes. bytes ≢ []) × (length events ≡ most_events)
-EndsCopy ReadFault events next left = IsPending next left
-EndsCopy NoMemory events next left = ⊥
-EndsCopy (Accepted count) events next left = ⊥
-EndsCopy (Refused index rule) events next left = ⊥
-EndsCopy Usage events next left = ⊥
-
--- the same where so many events were copied, fewer than a trace may have
-abbrev pub StopsCopy : Answer → ℕ → Option (List ℕ) → Option (List ℕ) → Type 0
-StopsCopy Shown count next left = IsAtEnd next
-StopsCopy (Malformed line reason) count next left = IfTold next (λ bytes. HasBadLine bytes reason) × (line ≡ count + 3)
-StopsCopy ReadFault count next left = IsPending next left
-StopsCopy LimitEvents count next left = ⊥
-StopsCopy NoMemory count next left = ⊥
-StopsCopy (Accepted events) count next left = ⊥
-StopsCopy (Refused index rule) count next left = ⊥
-StopsCopy Usage count next left = ⊥
+-- why the copy ends after so many events: by what stands next, and by what is left of the source after that was read
+abbrev pub EndsCopy : Answer → ℕ → Option (List ℕ) → Option (List ℕ) → Type 0
+EndsCopy Shown count next left = IsAtEnd next
+EndsCopy (Malformed line reason) count next left = IfTold next (λ bytes. HasBadLine bytes reason) × (count < most_events) × (line ≡ count + 3)
+EndsCopy LimitEvents count next left = IfTold next (λ bytes. bytes ≢ []) × (count ≡ most_events)
+EndsCopy ReadFault count next left = IsPending next left
+EndsCopy NoMemory count next left = ⊥
+EndsCopy (Accepted events) count next left = ⊥
+EndsCopy (Refused index rule) count next left = ⊥
+EndsCopy Usage count next left = ⊥

@@ -1,7 +1,7 @@
 pub mod Answer
 pub mod Command
 pub mod Copy
-pub mod HeaderAnswer
+pub mod ErrorAnswer
 pub mod Output
 pub mod Progress
 pub mod Show

@@ -1,8 +1,9 @@
 // The answers of the program: their statuses and texts.
 ghost use Rattle.std.specs.Prelude.{◌≡◌, ◌≢◌};
+ghost use Rattle.ace_top.specs.ErrorAnswer.{error_answer};
 ghost use Rattle.ace_top.specs.Texts.{status_of, out_text_of, notes_text_of};
 
-use ace_grammar::Reason;
+use ace_grammar::{ReadErr, Reason};
 use arrayvec::ArrayString;
 use itoa::Buffer;
 
@@ -25,6 +26,18 @@ pub enum Answer {
     LimitEvents,
     /// There was no memory.
     NoMemory,
+}
+
+/// The answer where a trace could not be read on.
+pub fn error_answer(error: ReadErr) -> Answer
+    ensures { result ≡ error_answer error }
+{
+    match error {
+        ReadErr::Malformed { line, reason } => Answer::Malformed { line, reason },
+        ReadErr::TooManyEvents => Answer::LimitEvents,
+        ReadErr::ReadFault => Answer::ReadFault,
+        ReadErr::NoMemory => Answer::NoMemory,
+    }
 }
 
 /// The status with which the program ends.

@@ -2,7 +2,7 @@
 ghost use Rattle.std.specs.Prelude.{◌≡◌, ◌≢◌, ◌<◌, ◌≤◌, ◌-◌, ◌^◌, ◌⊎◌, ℕ, List, None, codes, Some, length, IfSome, IfNone};
 ghost use Rattle.std.specs.Io.KnownBytes.{Appends, IsAtEnd};
 ghost use Rattle.ace_io.specs.Faults.{Rose};
-ghost use Rattle.ace_io.specs.Reader.{waiting, source_of};
+ghost use Rattle.ace_grammar.specs.Reader.{source_of, unread, count_of, last_answer};
 ghost use Rattle.ace_grammar.specs.Reading.{most_events};
 ghost use Rattle.ace_check.specs.Run.{header_of, past_of, break_of};
 ghost use Rattle.ace_top.specs.Progress.{EndsInput, HasReadCause, IsNextVerdict, TakesEvent, StandsAt};
@@ -10,18 +10,12 @@ ghost use Rattle.ace_top.specs.Answer.{Answers, BreaksOff};
 ghost use Rattle.ace_top.specs.Verdict.{IsVerdict, ReadsUnique};
 ghost use Rattle.ace_top.specs.declared.words.Command.TheVariants.{Check};
 
-use crate::answer::Answer;
+use crate::answer::{Answer, error_answer};
 use crate::output::conclude;
 use ace_check::{CheckErr, Checker, Step};
-use ace_grammar::{HeaderErr, ReadErr, read_event, read_header};
-use ace_io::{LineBuf, LineEnd, LineReader, Sink, Source};
+use ace_grammar::Reader;
+use ace_io::{Sink, Source};
 use std::alloc::Global;
-
-/// The most events of a trace.
-pub const MOST_EVENTS: u64 = 1_048_576;
-
-/// The number of the line of the first event, behind those of the header.
-pub const FIRST_EVENT_LINE: u64 = 3;
 
 /// Tells the verdict on the trace that the input gives, and returns the status.
 #[tactic(auto, using(crate::proofs::AcceptedEnd::accepted_end))]
@@ -53,83 +47,63 @@ pub fn tell_verdict<S: Source, K: Sink, E: Sink>(
 }
 
 /// The verdict on the trace that the input gives.
-#[tactic(auto, using(crate::proofs::ProgressLemmas::progress))]
+#[tactic(auto, using(crate::proofs::ProgressLemmas::progress, crate::proofs::ErrorLemmas::errors))]
 fn check<S: Source>(alloc: Global, input: &mut S) -> Answer
     ensures verdict { IfSome (S.left input.old) (λ bytes. IsVerdict bytes result) }
     ensures end { EndsInput result (S.left input.new) }
     ensures cause { HasReadCause (S.faults input.old) (S.faults input.new) result }
     ensures command { result ≢ Answer.Usage }
 {
-    match LineReader::start(alloc, input) {
-        Ok(mut lines) => check_trace(alloc, &mut lines),
-        Err(_) => Answer::NoMemory,
-    }
-}
-
-/// The verdict on the trace that the lines give from here on.
-#[tactic(auto, using(crate::proofs::ProgressLemmas::progress))]
-fn check_trace<S: Source>(alloc: Global, lines: &mut LineReader<S>) -> Answer
-    ensures same_source { (source_of lines.new).ghost_name ≡ (source_of lines.old).ghost_name }
-    ensures verdict { IfSome (waiting S.left lines.old) (λ bytes. IsVerdict bytes result) }
-    ensures end { EndsInput result (waiting S.left lines.new) }
-    ensures cause { HasReadCause (S.faults (source_of lines.old).now) (S.faults (source_of lines.new).now) result }
-    ensures command { result ≢ Answer.Usage }
-{
-    let mut line = LineBuf::empty();
-    match read_header(lines, &mut line) {
-        Ok(header) => match Checker::new(alloc, header) {
-            Ok(mut checker) => check_events(&mut checker, lines, &mut line),
+    match Reader::start(alloc, input) {
+        Ok(mut reader) => match Checker::new(alloc, reader.header()) {
+            Ok(mut checker) => check_events(&mut checker, &mut reader),
             Err(CheckErr::NoMemory) => Answer::NoMemory,
         },
-        Err(HeaderErr::Malformed { line, reason }) => Answer::Malformed { line, reason },
-        Err(HeaderErr::ReadFault) => Answer::ReadFault,
+        Err(failed) => error_answer(failed.error),
     }
 }
 
 /// The verdict on the events from here on, after those that the checker has found fine.
 #[tactic(auto, using(crate::proofs::ProgressLemmas::progress))]
-fn check_events<S: Source>(
-    checker: &mut Checker,
-    lines: &mut LineReader<S>,
-    line: &mut LineBuf,
-) -> Answer
-    requires few { length (past_of checker.old) ≤ most_events }
+fn check_events<S: Source>(checker: &mut Checker, reader: &mut Reader<S>) -> Answer
     requires unbroken { break_of checker.old ≡ None }
-    ensures same_source { (source_of lines.new).ghost_name ≡ (source_of lines.old).ghost_name }
-    ensures verdict { (bytes : List ℕ) → StandsAt bytes (header_of checker.old) (past_of checker.old) (waiting S.left lines.old)
+    requires reads_on { last_answer reader.old ≡ None }
+    requires count { count_of reader.old ≡ length (past_of checker.old) }
+    ensures same_source { (source_of reader.new).ghost_name ≡ (source_of reader.old).ghost_name }
+    ensures verdict { (bytes : List ℕ) → StandsAt bytes (header_of checker.old) (past_of checker.old) (unread S.left reader.old)
         → IsVerdict bytes result }
-    ensures end { EndsInput result (waiting S.left lines.new) }
-    ensures cause { HasReadCause (S.faults (source_of lines.old).now) (S.faults (source_of lines.new).now) result }
+    ensures end { EndsInput result (unread S.left reader.new) }
+    ensures cause { HasReadCause (S.faults (source_of reader.old).now) (S.faults (source_of reader.new).now) result }
     ensures command { result ≢ Answer.Usage }
 {
-    'events: while checker.count() < MOST_EVENTS {
-        if let Some(answer) = check_next(checker, lines, line) {
+    'events: loop {
+        if let Some(answer) = check_next(checker, reader) {
             return answer;
         }
     }
-    check_end(checker, lines, line)
 }
 
 /// Reads one event and checks it. An answer ends the reading.
-fn check_next<S: Source>(
-    checker: &mut Checker,
-    lines: &mut LineReader<S>,
-    line: &mut LineBuf,
-) -> Option<Answer>
-    requires room { length (past_of checker.old) < most_events }
+#[tactic(auto, using(crate::proofs::ErrorLemmas::errors))]
+fn check_next<S: Source>(checker: &mut Checker, reader: &mut Reader<S>) -> Option<Answer>
     requires unbroken { break_of checker.old ≡ None }
-    ensures same_source { (source_of lines.new).ghost_name ≡ (source_of lines.old).ghost_name }
+    requires reads_on { last_answer reader.old ≡ None }
+    requires count { count_of reader.old ≡ length (past_of checker.old) }
+    ensures same_source { (source_of reader.new).ghost_name ≡ (source_of reader.old).ghost_name }
     ensures header { header_of checker.new ≡ header_of checker.old }
     ensures unbroken { IfNone result (break_of checker.new ≡ None) }
+    ensures reads_on { IfNone result (last_answer reader.new ≡ None) }
+    ensures room { IfNone result (length (past_of checker.old) < most_events) }
+    ensures count { IfNone result (count_of reader.new ≡ length (past_of checker.new)) }
     ensures fine { IfNone result (TakesEvent (header_of checker.old) (past_of checker.old) (past_of checker.new)
-        (waiting S.left lines.old) (waiting S.left lines.new)) }
+        (unread S.left reader.old) (unread S.left reader.new)) }
     ensures verdict { IfSome result (IsNextVerdict (header_of checker.old) (past_of checker.old)
-        (waiting S.left lines.old) (waiting S.left lines.new)) }
-    ensures end { IfSome result (λ answer. EndsInput answer (waiting S.left lines.new)) }
-    ensures fine_steady { IfNone result (S.faults (source_of lines.new).now ≡ S.faults (source_of lines.old).now) }
-    ensures cause { IfSome result (HasReadCause (S.faults (source_of lines.old).now) (S.faults (source_of lines.new).now)) }
+        (unread S.left reader.old) (unread S.left reader.new)) }
+    ensures end { IfSome result (λ answer. EndsInput answer (unread S.left reader.new)) }
+    ensures fine_steady { IfNone result (S.faults (source_of reader.new).now ≡ S.faults (source_of reader.old).now) }
+    ensures cause { IfSome result (HasReadCause (S.faults (source_of reader.old).now) (S.faults (source_of reader.new).now)) }
 {
-    match read_event(lines, line) {
+    match reader.next() {
         Ok(Some(event)) => match checker.feed(&event) {
             Ok(Step::Fine) => None,
             Ok(Step::Broken { index, rule }) => Some(Answer::Refused { index, rule }),
@@ -138,29 +112,6 @@ fn check_next<S: Source>(
         Ok(None) => Some(Answer::Accepted {
             events: checker.count(),
         }),
-        Err(ReadErr::Malformed { reason }) => Some(Answer::Malformed {
-            line: checker.count() + FIRST_EVENT_LINE,
-            reason,
-        }),
-        Err(ReadErr::ReadFault) => Some(Answer::ReadFault),
-    }
-}
-
-/// The verdict after as many events as a trace may have: whether the input goes on.
-fn check_end<S: Source>(checker: &Checker, lines: &mut LineReader<S>, line: &mut LineBuf) -> Answer
-    requires { length (past_of checker.now) ≡ most_events }
-    ensures same_source { (source_of lines.new).ghost_name ≡ (source_of lines.old).ghost_name }
-    ensures verdict { IsNextVerdict (header_of checker.now) (past_of checker.now)
-        (waiting S.left lines.old) (waiting S.left lines.new) result }
-    ensures end { EndsInput result (waiting S.left lines.new) }
-    ensures cause { HasReadCause (S.faults (source_of lines.old).now) (S.faults (source_of lines.new).now) result }
-    ensures command { result ≢ Answer.Usage }
-{
-    match lines.next(line) {
-        Ok(LineEnd::End) => Answer::Accepted {
-            events: checker.count(),
-        },
-        Ok(_) => Answer::LimitEvents,
-        Err(_) => Answer::ReadFault,
+        Err(error) => Some(error_answer(error)),
     }
 }

@@ -1,0 +1,8 @@
+use Rattle.std.proofs.Common.{arith, refl}
+use Rattle.ace_grammar.proofs.Cut.{cut_line_is_bad}
+use Rattle.ace_grammar.proofs.lines.read_event.Goals as goal
+
+pub returns-in-Ok-NoLf-clause-next : goal.returns-in-Ok-NoLf-clause-next
+returns-in-Ok-NoLf-clause-next g c =
+    let cut = rw c.in-Ok-NoLf.field-0-is at c.in-Ok-NoLf.ensures.line in
+    (omega arith, refl, cut_line_is_bad _ _ c.next.new.into c.in-Ok-NoLf.ensures.no_lf cut.0 cut.2 cut.3)

@@ -1,7 +1,0 @@
-use Rattle.ace_grammar.proofs.Cut.{cut_line_is_bad}
-use Rattle.ace_grammar.proofs.reader.read_event.Goals as goal
-
-pub returns-in-Ok-NoLf-clause-malformed : goal.returns-in-Ok-NoLf-clause-malformed
-returns-in-Ok-NoLf-clause-malformed g c =
-    let cut = rw c.in-Ok-NoLf.field-0-is at c.in-Ok-NoLf.ensures.line in
-    cut_line_is_bad _ _ c.next.new.into c.in-Ok-NoLf.ensures.no_lf cut.0 cut.2 cut.3

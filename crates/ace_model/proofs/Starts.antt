@@ -1,0 +1,71 @@
+-- A list that a longer one begins with, and counts in both.
+use Rattle.std.proofs.Common.{◌≡◌, ℕ, zero, suc, ◌+◌, ◌≤◌, Bool, true, cond, List, [], ◌∷◌, ◌++◌, length, take, filter, slice_get, count_by, Option, Some, None, refl, sym, ap, ◌∙◌, arith, inl, inr, append_assoc, length-append}
+use Rattle.std.proofs.lemmas.Bool.{cases_Bool}
+use Rattle.std.proofs.lemmas.List.{append-nil}
+use Rattle.std.proofs.lemmas.List.Elements.{filter-append}
+use Rattle.std.proofs.lemmas.List.Sums.{sum_by-cons}
+use Rattle.ace_model.specs.Trace.{more}
+
+-- the second list begins with the first
+pub record IsStart {A : Type 0} (xs ys : List A) : Type 0 where
+  pub rest : List A
+  pub joined : xs ++ rest ≡ ys
+
+pub start-self : {A : Type 0} → (xs : List A) → IsStart xs xs
+start-self xs = record { rest = []; joined = append-nil xs }
+
+pub start-trans : {A : Type 0} → (xs ys zs : List A) → IsStart xs ys → IsStart ys zs → IsStart xs zs
+start-trans xs ys zs s t = record {
+  rest = s.rest ++ t.rest;
+  joined = sym (append_assoc xs s.rest t.rest) ∙ ap (λ l. l ++ t.rest) s.joined ∙ t.joined;
+}
+
+pub start-more : {A : Type 0} → (xs : List A) (new : Option A) → IsStart xs (more xs new)
+start-more xs None = start-self xs
+start-more xs (Some x) = record { rest = x ∷ []; joined = refl }
+
+pub start-filter : {A : Type 0} → (test : A → Bool) (xs ys : List A) → IsStart xs ys → IsStart (filter test xs) (filter test ys)
+start-filter test xs ys s = record {
+  rest = filter test s.rest;
+  joined = sym (filter-append test xs s.rest) ∙ ap (filter test) s.joined;
+}
+
+pub start-length : {A : Type 0} → (xs ys : List A) → IsStart xs ys → length xs ≤ length ys
+start-length xs ys s = let e = ap length s.joined in let l = length-append xs s.rest in omega arith
+
+-- an element of the first list stands at the same place of the second
+slice_get-append : {A : Type 0} → (xs ys : List A) (k : ℕ) (x : A) → slice_get xs k ≡ Some x → slice_get (xs ++ ys) k ≡ Some x
+slice_get-append [] ys k x e = cc
+slice_get-append (z ∷ xs) ys zero x e = e
+slice_get-append (z ∷ xs) ys (suc k) x e = slice_get-append xs ys k x e
+
+pub slice_get-start : {A : Type 0} → (xs ys : List A) (k : ℕ) (x : A) → IsStart xs ys → slice_get xs k ≡ Some x → slice_get ys k ≡ Some x
+slice_get-start xs ys k x s e = sym (ap (λ l. slice_get l k) s.joined) ∙ slice_get-append xs s.rest k x e
+
+-- what stands in the selection passes the test
+pub slice_get-filter : {A : Type 0} → (test : A → Bool) (xs : List A) (k : ℕ) (x : A) → slice_get (filter test xs) k ≡ Some x → test x ≡ true
+slice_get-filter test [] k x e = cc
+slice_get-filter test (y ∷ xs) k x e =
+    elim (cases_Bool (test y)) [
+      | inl t ↦ first t k (λ j. slice_get-filter test xs j x) (rw t at e)
+      | inr f ↦ slice_get-filter test xs k x (rw f at e)
+    ]
+  where
+    first : test y ≡ true → (k : ℕ) → ((j : ℕ) → slice_get (filter test xs) j ≡ Some x → test x ≡ true) → slice_get (y ∷ filter test xs) k ≡ Some x → test x ≡ true
+    first t zero later e = let same : y ≡ x = cc in rw (← same) t
+    first t (suc k) later e = later k e
+
+-- a count with one more element in front
+pub count_by-cons : {A : Type 0} → (test : A → Bool) (x : A) (xs : List A) → count_by test (x ∷ xs) ≡ cond (test x) 1 0 + count_by test xs
+count_by-cons test x xs = sum_by-cons (λ y. cond (test y) 1 0) x xs
+
+-- more of a longer list has at least as many
+pub count_by-take : {A : Type 0} → (test : A → Bool) (xs rest : List A) (n m : ℕ) → n ≤ m → count_by test (take n xs) ≤ count_by test (take m (xs ++ rest))
+count_by-take test xs rest zero m le = omega arith
+count_by-take test [] rest (suc n) m le = omega arith
+count_by-take test (x ∷ xs) rest (suc n) zero le = absurd (omega arith)
+count_by-take test (x ∷ xs) rest (suc n) (suc m) le =
+    let later : count_by test (take n xs) ≤ count_by test (take m (xs ++ rest)) = count_by-take test xs rest n m (omega arith) in
+    let a = count_by-cons test x (take n xs) in
+    let b = count_by-cons test x (take m (xs ++ rest)) in
+    omega arith

@@ -1,0 +1,5 @@
+use Rattle.ace_model.proofs.BarrierOrder.{accepted_barriers_order}
+use Rattle.ace_model.proofs.laws.barriers_order.Goals as goal
+
+pub returns : goal.returns
+returns c = accepted_barriers_order

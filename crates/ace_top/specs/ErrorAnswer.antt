@@ -1,0 +1,11 @@
+-- The answer where a trace could not be read on.
+use Rattle.ace_grammar.specs.declared.error.ReadErr.{ReadErr}
+use Rattle.ace_grammar.specs.declared.error.ReadErr.TheVariants.{Malformed, TooManyEvents, ReadFault, NoMemory}
+use Rattle.ace_top.specs.declared.answer.Answer.{Answer}
+use Rattle.ace_top.specs.declared.answer.Answer.TheVariants as answer
+
+abbrev pub error_answer : ReadErr → Answer
+error_answer (Malformed line reason) = answer.Malformed line reason
+error_answer TooManyEvents = answer.LimitEvents
+error_answer ReadFault = answer.ReadFault
+error_answer NoMemory = answer.NoMemory
