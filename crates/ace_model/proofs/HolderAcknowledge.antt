@@ -3,7 +3,7 @@ use Rattle.std.proofs.Common.{◌≡◌, ◌≢◌, ◌==◌, ℕ, ◌+◌, ◌�
 use Rattle.std.proofs.lemmas.Bool.{and_parts, or_cases, cases_Bool, cases_eq, eqb-true, eq-eqb}
 use Rattle.ace_codes.specs.declared.kind.ArKind.{ArKind}
 use Rattle.ace_codes.specs.declared.state.LineState.{LineState}
-use Rattle.ace_codes.specs.declared.state.LineState.TheVariants.{I, UC, UD, SC, SD}
+use Rattle.ace_codes.specs.declared.state.LineState.TheVariants.{I, UD, SD}
 use Rattle.ace_codes.specs.Responses.{passes_dirty, is_shared}
 use Rattle.ace_event.specs.declared.header.Header.{Header}
 use Rattle.ace_event.specs.declared.event.Channel.TheVariants.{Read}
@@ -23,7 +23,7 @@ use Rattle.ace_model.specs.ReadRules.{k22, k23, ends_well, is_end, held_of}
 use Rattle.ace_model.proofs.Looks.{Some-injective, some_is, is_some_and-is, is_none_or-at, implies-at, is_invalid-is, has_name-is, without-some, without-other}
 use Rattle.ace_model.proofs.Issued.{outstanding-named, transaction_of-stands}
 use Rattle.ace_model.proofs.HolderTables.{is_settled, Lessens-same, takes_alone, takes_shared, read_fits, read_is}
-use Rattle.ace_model.proofs.HolderStates.{arrives_kept}
+use Rattle.ace_model.proofs.HolderStates.{arrives_kept, held_on}
 use Rattle.ace_model.proofs.HolderEnds.{one_name}
 use Rattle.ace_model.proofs.HolderFacts.{OthersInvalid, OthersNotUnique, AllSettled, Arrives, AnswersFit, PassedOn, TransfersArrive, QueueStands, QueueDistinct, OutsideInvalid, Inductive}
 
@@ -101,7 +101,7 @@ ends_line h past q st k e r l t =
     let end = is_none_or-at (read_kind e.ended_one) (is_end h past e.ended_one st) e.kind well e.is_kind in
     let o = first_resp past e.ended_one.port e.ended_one.id in
     let ended = (and_parts (ends_read e.kind (held_of h past e.ended_one) (is_some_and o is_shared) (is_some_and o passes_dirty) (has_failed past e.ended_one) st)
-        (implies (is_make_unique e.kind) (has_store h past e.ended_one.port e.ended_one.id)) end).0 in
+    (implies (is_make_unique e.kind) (has_store h past e.ended_one.port e.ended_one.id)) end).0 in
     let fits = read_is e.kind (held_of h past e.ended_one) (is_some_and o is_shared) (is_some_and o passes_dirty) (has_failed past e.ended_one) st ended in
     let first : o ≡ first_resp past q e.id = ap (λ v. first_resp past v e.ended_one.id) e.port ∙ ap (first_resp past q) e.is_id in
     let held : held_of h past e.ended_one ≡ state_of h past r l =
@@ -120,10 +120,6 @@ ends_line h past q st k e r l t =
       beside = λ taken. subst (OthersNotUnique h past r) line (subst (λ v. OthersNotUnique h past v e.ended_one.addr) (sym port) (a.beside e.kind e.is_kind taken));
       dirty = λ passed. subst (AllSettled h past) line (a.dirty passed);
     }
-  where
-    held_on : (line : Bool) (s : LineState) → line ≡ true → (if line then s else I) ≡ s
-    held_on true s e = refl
-    held_on false s e = cc
 
 -- the states of a line that is still granted are as they were
 states_rk : (h : Header) (past : Trace) (q : ℕ) (st : LineState) → k23 h past (Rk q st) ≡ true → Ends h past q → (l : ℕ) (x : Transaction)
@@ -205,8 +201,8 @@ unique_rk h past q st f k e l p r u ne =
       | inl t ↦
           let d = ends_line h past q st k e p l t in
           let two = and_parts (implies (is_unique st) (is_unique (state_of h past p l) || takes_alone d.kind d.shares d.failed)) _
-              (and_parts (implies (is_unique st) (is_unique (state_of h past p l) || takes_alone d.kind d.shares d.failed)
-              && (is_invalid st || (not (is_invalid (state_of h past p l)) || (takes_alone d.kind d.shares d.failed || takes_shared d.kind)))) _ d.fits).0 in
+          (and_parts (implies (is_unique st) (is_unique (state_of h past p l) || takes_alone d.kind d.shares d.failed)
+          && (is_invalid st || (not (is_invalid (state_of h past p l)) || (takes_alone d.kind d.shares d.failed || takes_shared d.kind)))) _ d.fits).0 in
           state_beside h past q r l st (λ same. ne (d.port ∙ sym same))
           ∙ elim (or_cases (is_unique (state_of h past p l)) (takes_alone d.kind d.shares d.failed) (implies-at (is_unique st) _ two.0 (rw t at u))) [
             | inl was ↦ f.unique l p r was ne
@@ -219,8 +215,8 @@ unique_rk h past q st f k e l p r u ne =
             let was : is_unique (state_of h past p l) ≡ true = rw other at u in
             let gone = f.unique l p r was ne in
             let fits = (and_parts (implies (is_unique st) (is_unique (state_of h past r l) || takes_alone d.kind d.shares d.failed)) _
-                (and_parts (implies (is_unique st) (is_unique (state_of h past r l) || takes_alone d.kind d.shares d.failed)
-                && (is_invalid st || (not (is_invalid (state_of h past r l)) || (takes_alone d.kind d.shares d.failed || takes_shared d.kind)))) _ d.fits).0).1 in
+            (and_parts (implies (is_unique st) (is_unique (state_of h past r l) || takes_alone d.kind d.shares d.failed)
+            && (is_invalid st || (not (is_invalid (state_of h past r l)) || (takes_alone d.kind d.shares d.failed || takes_shared d.kind)))) _ d.fits).0).1 in
             rw t (elim (or_cases (is_invalid st) _ fits) [
               | inl none ↦ is_invalid-is st none
               | inr held ↦ elim (or_cases (not (is_invalid (state_of h past r l))) _ held) [

@@ -1,5 +1,5 @@
 -- AR and AW: a transaction is issued.
-use Rattle.std.proofs.Common.{◌≡◌, ◌⊎◌, ◌==◌, ℕ, Bool, true, false, if◌then◌else◌, ◌&&◌, nat_eq, ◌∷◌, length, Option, Some, None, is_none, slice_get, refl, sym, ap, subst, ◌∙◌, inl, inr}
+use Rattle.std.proofs.Common.{◌≡◌, ◌⊎◌, ◌==◌, ℕ, Bool, true, false, if◌then◌else◌, ◌&&◌, nat_eq, ◌∷◌, length, Option, Some, None, is_none, refl, sym, ap, subst, ◌∙◌, inl, inr}
 use Rattle.std.proofs.lemmas.Bool.{and_parts, and_from, cases_Bool, eqb-true, eq-eqb}
 use Rattle.ace_event.specs.declared.header.Header.{Header}
 use Rattle.ace_event.specs.declared.event.Channel.{Channel}
@@ -8,7 +8,7 @@ use Rattle.ace_event.specs.declared.event.Event.TheVariants.{Ar, Aw}
 use Rattle.ace_model.specs.declared.transactions.Transaction.{Transaction}
 use Rattle.ace_model.specs.Trace.{Trace, is_some_and}
 use Rattle.ace_model.specs.Kinds.{beats_of}
-use Rattle.ace_model.specs.Transactions.{has_name, read_kind, is_on, outstanding, newest_named, transfers, first_resp, is_exclusive_store}
+use Rattle.ace_model.specs.Transactions.{has_name, read_kind, is_on, outstanding, newest_named, transfers, is_exclusive_store}
 use Rattle.ace_model.specs.Grants.{granted}
 use Rattle.ace_model.specs.Exclusives.{is_false, passed_at_grant, has_failed}
 use Rattle.ace_model.specs.States.{state_of}
@@ -107,7 +107,7 @@ arrive_ar h past q j addr snoop dom bar lock f p i x ace o line some =
           let other = named_read past q j addr snoop dom bar lock p i false old.1 in
           let a = f.arrive p i x ace old.0 line (λ z. some (rw other z)) in
           arrives_kept h past (Ar q j addr snoop dom bar lock) p i x a.stands (rw other refl)
-              (failed_issued past y x (other_name h past y p i x old.0 old.1)) (λ r. Lessens-self (state_of h past r x.addr)) a
+          (failed_issued past y x (other_name h past y p i x old.0 old.1)) (λ r. Lessens-self (state_of h past r x.addr)) a
     ]
 
 pub queue_ar : (h : Header) (past : Trace) (q j addr snoop dom bar : ℕ) (lock : Bool) → Inductive h past → k4 h past (Ar q j addr snoop dom bar lock) ≡ true
@@ -131,7 +131,7 @@ arrive_aw h past q j addr snoop dom bar f p i x ace o line some =
       | inr old ↦
           let a = f.arrive p i x ace old.0 line some in
           arrives_kept h past (Aw q j addr snoop dom bar) p i x a.stands refl
-              (failed_issued past y x (other_name h past y p i x old.0 old.1)) (λ r. Lessens-self (state_of h past r x.addr)) a
+          (failed_issued past y x (other_name h past y p i x old.0 old.1)) (λ r. Lessens-self (state_of h past r x.addr)) a
     ]
 
 pub queue_aw : (h : Header) (past : Trace) (q j addr snoop dom bar : ℕ) → Inductive h past → k4 h past (Aw q j addr snoop dom bar) ≡ true

@@ -6,7 +6,6 @@ use Rattle.ace_codes.specs.declared.kind.SnoopKind.{SnoopKind}
 use Rattle.ace_codes.specs.declared.state.LineState.TheVariants.{I}
 use Rattle.ace_codes.specs.Responses.{passes_dirty, is_shared}
 use Rattle.ace_event.specs.declared.header.Header.{Header}
-use Rattle.ace_event.specs.declared.event.Event.{Event}
 use Rattle.ace_event.specs.declared.event.Channel.TheVariants.{Read}
 use Rattle.ace_model.specs.declared.transactions.Transaction.{Transaction}
 use Rattle.ace_model.specs.declared.snoops.Snoop.{Snoop}
@@ -65,8 +64,8 @@ abbrev pub Arrives : Header → Trace → ℕ → ℕ → Transaction → Type 0
 Arrives h past p i x = record {
   stands : granted h past x.addr ≡ Some x;
   alone :
-    (k : ArKind) → read_kind x ≡ Some k → takes_alone k (is_some_and (first_resp past p i) is_shared) (has_failed past x) ≡ true
-    → OthersInvalid h past p x.addr;
+      (k : ArKind) → read_kind x ≡ Some k → takes_alone k (is_some_and (first_resp past p i) is_shared) (has_failed past x) ≡ true
+      → OthersInvalid h past p x.addr;
   beside : (k : ArKind) → read_kind x ≡ Some k → takes_shared k ≡ true → OthersNotUnique h past p x.addr;
   dirty : is_some_and (first_resp past p i) passes_dirty ≡ true → AllSettled h past x.addr;
 }

@@ -1,6 +1,6 @@
 -- The first transfer of a read at an ACE port: what its snoops and its response say of the other ports.
-use Rattle.std.proofs.Common.{◌≡◌, ◌≢◌, ◌⊎◌, ◌==◌, ℕ, zero, suc, ◌+◌, ◌<◌, Bool, true, false, not, ◌&&◌, ◌||◌, nat_eq, nat_lt, Option, Some, None, is_none, is_some, refl, sym, ap, subst, ◌∙◌, arith, inl, inr}
-use Rattle.std.proofs.lemmas.Bool.{and_parts, and_from, or_cases, cases_Bool, cases_eq, eqb-true, eq-eqb, ltb-true, not-true}
+use Rattle.std.proofs.Common.{◌≡◌, ◌≢◌, ◌⊎◌, ℕ, zero, suc, ◌<◌, Bool, true, false, not, ◌&&◌, ◌||◌, nat_eq, nat_lt, Option, Some, None, is_none, is_some, refl, sym, ap, subst, ◌∙◌, arith, inl, inr}
+use Rattle.std.proofs.lemmas.Bool.{and_parts, or_cases, or_left, or_right, cases_Bool, cases_eq, eqb-true, ltb-true, not-true, not_from_false}
 use Rattle.ace_codes.specs.declared.kind.ArKind.{ArKind}
 use Rattle.ace_codes.specs.declared.kind.ArKind.TheVariants as read
 use Rattle.ace_codes.specs.declared.kind.SnoopKind.{SnoopKind}
@@ -14,12 +14,11 @@ use Rattle.ace_model.specs.declared.snoops.Answer.{Answer}
 use Rattle.ace_model.specs.declared.transactions.Transaction.{Transaction}
 use Rattle.ace_model.specs.Trace.{Trace, implies, is_some_and, is_none_or}
 use Rattle.ace_model.specs.Kinds.{is_clean_unique, is_read_not_shared_dirty, may_be_shared, takes_passed_data}
-use Rattle.ace_model.specs.Transactions.{is_ace, read_kind, write_kind, snoop_of, snoop_kind_of, is_exclusive_store, transfers, first_resp}
-use Rattle.ace_model.specs.Writes.{has_memory_write}
+use Rattle.ace_model.specs.Transactions.{is_ace, read_kind, write_kind, snoop_of, snoop_kind_of, is_exclusive_store}
 use Rattle.ace_model.specs.Grants.{granted, is_granted, was_snooped, answer_of, owes_answer, owes_data, each_port, some_port, find_port, shares, passes, has_sharer, passer, has_passed_data, are_passed_data_whole}
 use Rattle.ace_model.specs.Exclusives.{has_failed}
 use Rattle.ace_model.specs.States.{state_of, is_port_done, are_snoops_done}
-use Rattle.ace_model.specs.ReadRules.{has_upper_bits, fits_kind, must_be_shared, same_upper_bits, takes_passed}
+use Rattle.ace_model.specs.ReadRules.{has_upper_bits, fits_kind, must_be_shared, takes_passed}
 use Rattle.ace_model.proofs.Looks.{Some-injective, some_is, is_some_and-is, is_none_or-at, implies-at, is_invalid-is}
 use Rattle.ace_model.proofs.HolderTables.{not_more, invalidates, shares_line, takes_alone, takes_shared}
 use Rattle.ace_model.proofs.HolderFacts.{OthersInvalid, OthersNotUnique, AllSettled, Inductive}
@@ -184,21 +183,9 @@ first_alone h past x k resp f d t r ne =
             | inl all_gone ↦ or_right (not (is_shared a.answer.resp)) (invalidates taken.caused) all_gone
             | inr unshared ↦
                 let kept = no_sharer h past x k resp r a.answer d unshared.0 unshared.1 a.low a.is in
-                or_left (not (is_shared a.answer.resp)) (invalidates taken.caused) (isnt (is_shared a.answer.resp) kept)
+                or_left (not (is_shared a.answer.resp)) (invalidates taken.caused) (not_from_false (is_shared a.answer.resp) kept)
           ])
     ]
-  where
-    or_right : (a b : Bool) → b ≡ true → (a || b) ≡ true
-    or_right true b e = refl
-    or_right false b e = e
-
-    or_left : (a b : Bool) → a ≡ true → (a || b) ≡ true
-    or_left true b e = refl
-    or_left false b e = cc
-
-    isnt : (b : Bool) → b ≡ false → not b ≡ true
-    isnt true e = cc
-    isnt false e = refl
 
 pub first_beside : (h : Header) (past : Trace) (x : Transaction) (k : ArKind) (resp : ℕ) → Inductive h past → IsFirst h past x k resp
     → takes_shared k ≡ true → OthersNotUnique h past x.port x.addr

@@ -1,7 +1,6 @@
 -- G: the line is granted to a transaction.
 use Rattle.std.proofs.Common.{◌≡◌, ℕ, ◌+◌, ◌<◌, ◌≤◌, Bool, true, false, not, if◌then◌else◌, ◌&&◌, nat_eq, [], ◌∷◌, length, Option, Some, None, slice_get, refl, sym, ap, subst, ◌∙◌, arith, inl, inr}
 use Rattle.std.proofs.lemmas.Bool.{and_parts, and_from, cases_Bool, eqb-true, eq-eqb}
-use Rattle.ace_codes.specs.declared.kind.SnoopKind.{SnoopKind}
 use Rattle.ace_event.specs.declared.header.Header.{Header}
 use Rattle.ace_event.specs.declared.event.Channel.{Channel}
 use Rattle.ace_event.specs.declared.event.Channel.TheVariants.{Read}
@@ -13,7 +12,7 @@ use Rattle.ace_model.specs.Trace.{Trace, newer}
 use Rattle.ace_model.specs.Transactions.{is_on, is_line, is_some_on, has_name, transaction_of, outstanding, takes_grant, is_exclusive_store}
 use Rattle.ace_model.specs.Snoops.{snoop_at, snoops_of}
 use Rattle.ace_model.specs.Grants.{granted, has_grant}
-use Rattle.ace_model.specs.Exclusives.{has_failed, is_false, passed_at_grant, store_passes, store_result}
+use Rattle.ace_model.specs.Exclusives.{has_failed, is_false, passed_at_grant, store_result}
 use Rattle.ace_model.specs.States.{state_of}
 use Rattle.ace_model.specs.SnoopRules.{k12, may_be_granted}
 use Rattle.ace_model.proofs.Looks.{Some-injective, none_is, is_some_and-is, has_name-is, newest_on-cases, newest_on-older}
@@ -94,7 +93,7 @@ snoops_g h past q c j f r n l s x e on place g =
           absurd (omega arith)
       | inr other ↦
           f.snoops r n l s x e on (rw other at place)
-              (sym (newest_on-older (transaction_of past q c j) l (granted h past l) other) ∙ g)
+          (sym (newest_on-older (transaction_of past q c j) l (granted h past l) other) ∙ g)
     ]
 
 pub answers_g : (h : Header) (past : Trace) (q : ℕ) (c : Channel) (j : ℕ) → Inductive h past → AnswersFit h (G q c j ∷ past)
@@ -149,4 +148,4 @@ arrive_g h past q c j f k p i x ace o line some =
     let a = f.arrive p i x ace o line some in
     let other = other_line h past q c j x.addr x k a.stands in
     arrives_kept h past (G q c j) p i x (newest_on-older (transaction_of past q c j) x.addr (granted h past x.addr) other ∙ a.stands)
-        refl (failed_g h past q c j p i x o line other) (λ r. Lessens-self (state_of h past r x.addr)) a
+    refl (failed_g h past q c j p i x o line other) (λ r. Lessens-self (state_of h past r x.addr)) a

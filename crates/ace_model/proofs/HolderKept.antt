@@ -1,5 +1,5 @@
 -- The rules that the laws on holders rest on, as an accepted event keeps them.
-use Rattle.std.proofs.Common.{◌≡◌, ℕ, zero, suc, Bool, true, false, List, [], ◌∷◌, Option, Some, None, slice_get, refl, subst}
+use Rattle.std.proofs.Common.{◌≡◌, true, None, refl}
 use Rattle.std.proofs.lemmas.Bool.{and_parts}
 use Rattle.ace_event.specs.declared.event.Event.{Event}
 use Rattle.ace_event.specs.declared.event.Event.TheVariants.{Wk, S, D}
@@ -10,9 +10,8 @@ use Rattle.ace_model.specs.SnoopRules.{k12, k13, k15}
 use Rattle.ace_model.specs.ReadRules.{k18, k19, k22, k23}
 use Rattle.ace_model.specs.WriteRules.{k28}
 use Rattle.ace_model.specs.CacheRules.{k29, k32}
-use Rattle.ace_model.specs.Accepted.{Rule, rule, rules, least_of}
+use Rattle.ace_model.specs.Accepted.{rule, rules, least_of}
 use Rattle.ace_model.specs.Today.{is_known_today, rules_today}
-use Rattle.ace_model.proofs.Looks.{Some-injective}
 use Rattle.ace_model.proofs.Kept.{kept_at, kept_today}
 
 pub record KeptRules (h : Header) (past : Trace) (e : Event) : Type 0 where

@@ -1,19 +1,17 @@
 -- In an accepted trace a unique line has one holder, and one port at most holds a line dirty.
-use Rattle.std.proofs.Common.{◌≡◌, ◌≢◌, ℕ, true, List, [], ◌∷◌, None, refl}
+use Rattle.std.proofs.Common.{◌≡◌, List, [], ◌∷◌, None, refl}
 use Rattle.ace_event.specs.declared.header.Header.{Header}
 use Rattle.ace_event.specs.declared.event.Event.{Event}
 use Rattle.ace_event.specs.declared.event.Event.TheVariants.{Ar, R, Rk, Aw, W, B, Wk, Ac, Cr, Cd, G, M, S, L, D, Op}
 use Rattle.ace_event.specs.declared.event.Channel.TheVariants.{Write}
 use Rattle.ace_model.specs.Trace.{Trace}
-use Rattle.ace_model.specs.Transactions.{outstanding, ended, acknowledged}
+use Rattle.ace_model.specs.Transactions.{ended, acknowledged}
 use Rattle.ace_event.specs.declared.event.Channel.TheVariants.{Read}
 use Rattle.ace_model.specs.Grants.{granted}
-use Rattle.ace_model.specs.States.{state_of}
 use Rattle.ace_model.specs.Accepted.{Rule, IsAcceptedBy, IsAccepted, rules, least_of}
-use Rattle.ace_model.specs.Today.{rules_today}
 use Rattle.ace_model.specs.Unique.{Unique, OneDirty}
 use Rattle.ace_codes.specs.Responses.{is_shared}
-use Rattle.ace_model.proofs.HolderKept.{KeptRules, kept, kept_by_today}
+use Rattle.ace_model.proofs.HolderKept.{KeptRules, kept}
 use Rattle.ace_model.proofs.HolderFacts.{Inductive}
 use Rattle.ace_model.proofs.HolderStates.{less-lessens, less-clean, leaves_kept, arrives_kept, unique_kept, outside_kept, one_dirty_kept}
 use Rattle.ace_model.proofs.HolderEnds.{was_there, grants_ended}

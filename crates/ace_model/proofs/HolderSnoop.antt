@@ -1,12 +1,12 @@
 -- AC and CR: a port is snooped, and answers.
-use Rattle.std.proofs.Common.{◌≡◌, ◌≢◌, ◌≤◌, ℕ, Bool, true, false, not, if◌then◌else◌, ◌&&◌, ◌||◌, nat_eq, nat_le, ◌∷◌, Option, Some, None, length, slice_get, refl, sym, ap, subst, ◌∙◌, inl, inr}
-use Rattle.std.proofs.lemmas.Bool.{and_parts, and_from, or_cases, cases_Bool, cases_eq, eqb-true, leb-true}
+use Rattle.std.proofs.Common.{◌≡◌, ◌≢◌, ℕ, Bool, true, false, not, if◌then◌else◌, ◌&&◌, ◌||◌, nat_eq, nat_le, ◌∷◌, Some, None, length, refl, sym, ap, subst, ◌∙◌, inl, inr}
+use Rattle.std.proofs.lemmas.Bool.{and_parts, and_from, or_cases, or_right, not-true, cases_Bool, cases_eq, eqb-true, leb-true}
 use Rattle.ace_codes.specs.declared.kind.ArKind.{ArKind}
 use Rattle.ace_codes.specs.declared.kind.ArKind.TheVariants as read
 use Rattle.ace_codes.specs.declared.kind.SnoopKind.{SnoopKind}
 use Rattle.ace_codes.specs.declared.kind.SnoopKind.TheVariants as snoop
 use Rattle.ace_codes.specs.declared.state.LineState.{LineState}
-use Rattle.ace_codes.specs.declared.state.LineState.TheVariants.{I, UC, UD, SC, SD}
+use Rattle.ace_codes.specs.declared.state.LineState.TheVariants.{I, SC}
 use Rattle.ace_codes.specs.Responses.{is_shared, passes_dirty}
 use Rattle.ace_codes.specs.Snoops.{ac_code, ac_kind_of}
 use Rattle.ace_event.specs.declared.header.Header.{Header}
@@ -17,19 +17,19 @@ use Rattle.ace_tables.specs.States.{is_unique, is_dirty}
 use Rattle.ace_model.specs.declared.snoops.Answer.{Answer}
 use Rattle.ace_model.specs.declared.snoops.Snoop.{Snoop}
 use Rattle.ace_model.specs.declared.transactions.Transaction.{Transaction}
-use Rattle.ace_model.specs.Trace.{Trace, implies, is_some_and}
+use Rattle.ace_model.specs.Trace.{Trace, is_some_and}
 use Rattle.ace_model.specs.Kinds.{is_line_snoop, takes_passed_data}
 use Rattle.ace_model.specs.Transactions.{read_kind, write_kind, snoop_of, snoop_kind_of}
 use Rattle.ace_model.specs.Snoops.{snoop_at, snoops_of, snoops_a_line, answers, answered, is_snoop_on, answers_line}
-use Rattle.ace_model.specs.Grants.{granted, grant_place, answers_grant, answer_of, was_snooped, is_begun}
+use Rattle.ace_model.specs.Grants.{granted, grant_place, answers_grant, was_snooped}
 use Rattle.ace_model.specs.Exclusives.{has_failed}
-use Rattle.ace_model.specs.States.{state_of, owes_wack}
+use Rattle.ace_model.specs.States.{state_of}
 use Rattle.ace_model.specs.SnoopRules.{k13, k15, answers_by_row, has_snoop_code, may_snoop, may_snoop_for}
-use Rattle.ace_model.proofs.Looks.{Some-injective, is_some_and-is, is_none_or-at, implies-at}
+use Rattle.ace_model.proofs.Looks.{Some-injective, is_some_and-is, is_some_and-at, is_none_or-at, implies-at}
 use Rattle.ace_model.proofs.Places.{slice_get-more}
 use Rattle.ace_model.proofs.HolderTables.{is_settled, invalidates, shares_line, Leaves, Row, row_is}
 use Rattle.ace_model.proofs.HolderStates.{Less, less_where, less-lessens, leaves_kept}
-use Rattle.ace_model.proofs.HolderFacts.{AllSettled, SnoopsFit, AnswersFit, PassedOn, Inductive}
+use Rattle.ace_model.proofs.HolderFacts.{SnoopsFit, AnswersFit, PassedOn, Inductive}
 
 -- the new snoop is the one that the granted transaction causes
 pub snoops_ac : (h : Header) (past : Trace) (q addr code : ℕ) → Inductive h past → k13 h past (Ac q addr code) ≡ true → SnoopsFit h (Ac q addr code ∷ past)
@@ -44,14 +44,10 @@ snoops_ac h past q addr code f k r n l s x e on place g =
         let parts = and_parts (snoops_a_line code) (nat_eq addr l) here in
         let may = implies-at (snoops_a_line code) (may_snoop h past q addr code) k parts.0 in
         let two = and_parts (is_some_and (granted h past addr) (λ y. may_snoop_for past y q code) && not (was_snooped past q addr)) _ may in
-        let for = is_none_or-some (granted h past addr) (λ y. may_snoop_for past y q code) x (and_parts _ (not (was_snooped past q addr)) two.0).0
-            (ap (granted h past) (eqb-true addr l parts.1) ∙ g) in
+        let for = is_some_and-at (granted h past addr) (λ y. may_snoop_for past y q code) x (and_parts _ (not (was_snooped past q addr)) two.0).0
+        (ap (granted h past) (eqb-true addr l parts.1) ∙ g) in
         let three = and_parts ((not (nat_eq x.port q) && has_snoop_code x code) && not (has_failed past x)) _ for in
         (and_parts (not (nat_eq x.port q)) (has_snoop_code x code) (and_parts (not (nat_eq x.port q) && has_snoop_code x code) _ three.0).0).1
-      where
-        is_none_or-some : (o : Option Transaction) (test : Transaction → Bool) (y : Transaction) → is_some_and o test ≡ true → o ≡ Some y → test y ≡ true
-        is_none_or-some None test y t is = cc
-        is_none_or-some (Some z) test y t is = subst (λ v. test v ≡ true) (Some-injective z y is) t
 
     is_new : (b : Bool) → (if b then Some (record { place = length past; addr = addr; snoop = code }) else None) ≡ Some s → has_snoop_code x s.snoop ≡ true
     is_new true is =
@@ -141,7 +137,7 @@ answers_fit_cr h past q resp st f m l r x a k g w causes =
           subst (λ v. Leaves k (is_shared a.resp) v) (sym now.named) (subst (λ n. Leaves k (is_shared n) st) same now.row.leaves)
       | inr other ↦
           leaves_kept k (is_shared a.resp) (state_of h past r l) _ (less-lessens _ _ (less_cr h past q resp st m r l))
-              (f.answers l r x a k g (rw other at w) causes)
+          (f.answers l r x a k g (rw other at w) causes)
     ]
 
 settled : (st : LineState) → is_unique st ≡ false → is_dirty st ≡ false → is_settled st ≡ true
@@ -162,10 +158,6 @@ not_unique_after k shared st e leaves =
       | inl t ↦ ap is_unique (leaves.gone (or_right (not shared) (invalidates k) t))
       | inr t ↦ leaves.not_unique t
     ]
-  where
-    or_right : (a b : Bool) → b ≡ true → (a || b) ≡ true
-    or_right true b e = refl
-    or_right false b e = e
 
 pub passed_cr : (h : Header) (past : Trace) (q resp : ℕ) (st : LineState) → Inductive h past → k15 h past (Cr q resp st) ≡ true → PassedOn h (Cr q resp st ∷ past)
 passed_cr h past q resp st f m l r x a g takes w dirty z =
@@ -182,17 +174,13 @@ passed_cr h past q resp st f m l r x a g takes w dirty z =
           elim (cases_eq z r) [
             | inl own ↦
                 subst (λ v. is_settled (state_of h (Cr q resp st ∷ past) v l) ≡ true) (sym own)
-                    (subst (λ v. is_settled v ≡ true) (sym now.named)
-                        (settled st (not_unique_after snooped.0 (is_shared resp) st snooped.2 now.row.leaves) (isnt (is_dirty st) handed.1)))
+                (subst (λ v. is_settled v ≡ true) (sym now.named)
+                (settled st (not_unique_after snooped.0 (is_shared resp) st snooped.2 now.row.leaves) (not-true (is_dirty st) handed.1)))
             | inr apart ↦ (less-lessens _ _ (less_cr h past q resp st m z l)).settled
                 (settled (state_of h past z l) (not_unique_beside apart handed.0) (not_dirty_beside apart handed.0))
           ]
     ]
   where
-    isnt : (b : Bool) → not b ≡ true → b ≡ false
-    isnt true e = cc
-    isnt false e = refl
-
     not_unique_beside : z ≢ r → is_dirty (state_of h past r l) ≡ true → is_unique (state_of h past z l) ≡ false
     not_unique_beside apart d =
         elim (cases_Bool (is_unique (state_of h past z l))) [

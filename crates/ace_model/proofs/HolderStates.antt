@@ -1,5 +1,5 @@
 -- Where an event lessens the states that the ports hold, the facts stay.
-use Rattle.std.proofs.Common.{◌≡◌, ◌≢◌, ℕ, Bool, true, false, if◌then◌else◌, ◌&&◌, ◌∷◌, Option, Some, None, unwrap_or, refl, sym, ap, subst, ◌∙◌, inl, inr}
+use Rattle.std.proofs.Common.{◌≡◌, ℕ, Bool, true, false, if◌then◌else◌, ◌&&◌, ◌∷◌, Some, None, unwrap_or, refl, sym, ap, ◌∙◌, inl, inr}
 use Rattle.std.proofs.lemmas.Bool.{and_parts, cases_Bool}
 use Rattle.ace_codes.specs.declared.kind.SnoopKind.{SnoopKind}
 use Rattle.ace_codes.specs.declared.state.LineState.{LineState}
@@ -8,7 +8,7 @@ use Rattle.ace_codes.specs.Responses.{passes_dirty, is_shared}
 use Rattle.ace_event.specs.declared.header.Header.{Header}
 use Rattle.ace_event.specs.declared.event.Event.{Event}
 use Rattle.ace_model.specs.declared.transactions.Transaction.{Transaction}
-use Rattle.ace_model.specs.Trace.{Trace, implies, is_some_and}
+use Rattle.ace_model.specs.Trace.{Trace, is_some_and}
 use Rattle.ace_tables.specs.States.{is_unique, is_dirty}
 use Rattle.ace_model.specs.Transactions.{first_resp}
 use Rattle.ace_model.specs.Grants.{granted}
@@ -38,6 +38,11 @@ less-lessens old new e = lessens-is old new (and_parts (lessens old new) (cleans
 
 pub less-clean : (old new : LineState) → Less old new → is_dirty old ≡ false → is_dirty new ≡ false
 less-clean old new e = not_more (is_dirty new) (is_dirty old) (and_parts (lessens old new) (cleans old new) e).1
+
+-- the state that the port holds of a line
+pub held_on : (line : Bool) (s : LineState) → line ≡ true → (if line then s else I) ≡ s
+held_on true s e = refl
+held_on false s e = cc
 
 -- a state that is named where the test holds
 pub less_where : (test : Bool) (held st : LineState) → (test ≡ true → Less held st) → Less held (unwrap_or (if test then Some st else None) held)

@@ -1,17 +1,16 @@
 -- S and D: a silent transition, and a store.
-use Rattle.std.proofs.Common.{◌≡◌, ◌≢◌, ℕ, Bool, true, false, not, if◌then◌else◌, ◌&&◌, ◌||◌, nat_eq, [], ◌∷◌, length, Option, Some, None, unwrap_or, refl, sym, ap, subst, ◌∙◌, inl, inr}
-use Rattle.std.proofs.lemmas.Bool.{and_parts, and_from, or_cases, cases_Bool, cases_eq, eqb-true}
+use Rattle.std.proofs.Common.{◌≡◌, ℕ, Bool, true, false, not, if◌then◌else◌, ◌&&◌, ◌||◌, nat_eq, [], ◌∷◌, length, Option, Some, None, unwrap_or, refl, sym, ap, subst, ◌∙◌, inl, inr}
+use Rattle.std.proofs.lemmas.Bool.{and_parts, or_cases, or_right, cases_Bool, cases_eq, eqb-true}
 use Rattle.ace_codes.specs.declared.state.LineState.{LineState}
-use Rattle.ace_codes.specs.declared.state.LineState.TheVariants.{I, UC, UD, SC, SD}
+use Rattle.ace_codes.specs.declared.state.LineState.TheVariants.{I, UC, UD}
 use Rattle.ace_event.specs.declared.header.Header.{Header}
 use Rattle.ace_event.specs.declared.line.Line.{Line}
 use Rattle.ace_event.specs.declared.event.Event.TheVariants.{S, D}
 use Rattle.ace_model.specs.declared.transactions.Transaction.{Transaction}
 use Rattle.ace_model.specs.Trace.{Trace, is_some_and}
 use Rattle.ace_tables.specs.SilentTransitions.{is_silent_move}
-use Rattle.ace_tables.specs.States.{is_unique, is_dirty, is_invalid}
-use Rattle.ace_model.specs.Transactions.{issued, some_issued, has_outstanding_on}
-use Rattle.ace_model.specs.Progress.{has_update}
+use Rattle.ace_tables.specs.States.{is_unique, is_dirty}
+use Rattle.ace_model.specs.Transactions.{issued, some_issued}
 use Rattle.ace_model.specs.States.{state_of, awaits_store, is_in_make_unique, has_store}
 use Rattle.ace_model.specs.Unique.{UniqueNow, OneDirtyNow}
 use Rattle.ace_model.specs.CacheRules.{k29, k32, may_store, wants_store, full_line}
@@ -43,10 +42,6 @@ some_issued-weaker (e ∷ past) test weaker w some =
     new None t = cc
     new (Some x) t = w x t
 
-    or_right : (a b : Bool) → b ≡ true → (a || b) ≡ true
-    or_right true b e = refl
-    or_right false b e = e
-
 -- A D that names a state is of a port that holds the line in UC or UD.
 pub record Stores (h : Header) (past : Trace) (q addr r l : ℕ) : Type 0 where
   pub port : r ≡ q
@@ -66,7 +61,7 @@ stores h past q addr strobe x line k r l t =
     let at = eqb-true l addr two.1 in
     let here : (may_store h past r l || ((wants_store h past r l && not x) && nat_eq strobe full_line)) ≡ true =
     subst (λ b. (may_store h past r b || ((wants_store h past r b && not x) && nat_eq strobe full_line)) ≡ true) (sym at)
-        (subst (λ a. (may_store h past a addr || ((wants_store h past a addr && not x) && nat_eq strobe full_line)) ≡ true) (sym port) k) in
+    (subst (λ a. (may_store h past a addr || ((wants_store h past a addr && not x) && nat_eq strobe full_line)) ≡ true) (sym port) k) in
     record {
       port = port;
       line = at;
@@ -76,7 +71,7 @@ stores h past q addr strobe x line k r l t =
             let wants = (and_parts (wants_store h past r l) (not x) (and_parts (wants_store h past r l && not x) _ made).0).0 in
             let within : is_in_make_unique h past r l ≡ true =
             some_issued-weaker past (λ y. awaits_store h past r l y && not (has_store h past y.port y.id)) (awaits_store h past r l)
-                (λ y e. (and_parts (awaits_store h past r l y) _ e).0) wants in
+            (λ y e. (and_parts (awaits_store h past r l y) _ e).0) wants in
             let bad : false ≡ true = rw within at parts.1 in cc
       ];
     }

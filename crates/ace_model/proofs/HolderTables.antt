@@ -2,7 +2,7 @@
 -- transaction says what the other ports may hold.
 use Rattle.std.proofs.Common.{◌≡◌, ◌⊎◌, ℕ, Bool, true, false, not, ◌&&◌, ◌||◌, nat_eq, nat_lt, List, [], ◌∷◌, refl, sym, ap, subst, ◌∙◌, inl, inr}
 use Rattle.std.specs.List.{list_all, list_any}
-use Rattle.std.proofs.lemmas.Bool.{and_parts, and_from, or_cases, eqb-true}
+use Rattle.std.proofs.lemmas.Bool.{and_parts, or_cases, not-true, eqb-true}
 use Rattle.ace_codes.specs.declared.kind.ArKind.{ArKind}
 use Rattle.ace_codes.specs.declared.kind.ArKind.TheVariants as read
 use Rattle.ace_codes.specs.declared.kind.AwKind.{AwKind}
@@ -212,7 +212,7 @@ row_is k held resp next e =
                 | inl given ↦ is_invalid-is next (not_shared (is_shared resp) (is_invalid next) shared.0 given)
                 | inr taken ↦ is_invalid-is next (implies-at _ _ kinds.0 taken)
               ];
-              not_unique = λ t. isnt (is_unique next) (implies-at _ _ kinds.1 t);
+              not_unique = λ t. not-true (is_unique next) (implies-at _ _ kinds.1 t);
             };
             passes = λ t. must_pass_parts k held next (sym shared.1 ∙ t);
           }
@@ -226,10 +226,6 @@ row_is k held resp next e =
         let all = and_parts (early && pass && share) _ e in
         let two = and_parts (early && pass) share all.0 in
         (same_test-at _ _ two.1, same_test-at _ _ (and_parts early pass two.0).1)
-
-    isnt : (b : Bool) → not b ≡ true → b ≡ false
-    isnt true e = cc
-    isnt false e = refl
 
     not_shared : (s v : Bool) → s ≡ not v → not s ≡ true → v ≡ true
     not_shared s true e n = refl

@@ -1,5 +1,5 @@
 -- R: a transfer of a read.
-use Rattle.std.proofs.Common.{◌≡◌, ◌≢◌, ◌⊎◌, ◌==◌, ℕ, ◌+◌, ◌<◌, ◌≤◌, Bool, true, false, if◌then◌else◌, not, ◌&&◌, ◌||◌, nat_eq, nat_lt, ◌∷◌, Option, Some, None, length, slice_get, refl, sym, ap, subst, ◌∙◌, arith, inl, inr}
+use Rattle.std.proofs.Common.{◌≡◌, ◌⊎◌, ◌==◌, ℕ, ◌+◌, ◌<◌, ◌≤◌, Bool, true, false, if◌then◌else◌, not, ◌&&◌, nat_eq, nat_lt, ◌∷◌, Some, None, length, slice_get, refl, sym, ap, subst, ◌∙◌, arith, inl, inr}
 use Rattle.std.proofs.lemmas.Bool.{and_parts, and_from, cases_Bool, cases_eq, eqb-true, eq-eqb, ne_eqb, ltb-true}
 use Rattle.ace_codes.specs.declared.kind.ArKind.{ArKind}
 use Rattle.ace_codes.specs.Responses.{passes_dirty, is_shared}
@@ -9,7 +9,7 @@ use Rattle.ace_event.specs.declared.event.Event.TheVariants.{R}
 use Rattle.ace_model.specs.declared.transactions.Transaction.{Transaction}
 use Rattle.ace_model.specs.Trace.{Trace, implies, is_some_and}
 use Rattle.ace_model.specs.Kinds.{beats_of}
-use Rattle.ace_model.specs.Transactions.{is_ace, read_kind, is_line, ended, without, transaction_of, outstanding, transfers, first_resp, completed, completes, acknowledgements}
+use Rattle.ace_model.specs.Transactions.{is_ace, read_kind, is_line, ended, transaction_of, outstanding, transfers, first_resp, completed, completes, acknowledgements}
 use Rattle.ace_model.specs.Grants.{granted, is_granted, has_passed_data}
 use Rattle.ace_model.specs.Exclusives.{has_failed}
 use Rattle.ace_model.specs.States.{state_of, are_snoops_done}
@@ -92,7 +92,7 @@ arrive_here h past q j resp last word f bits m ace line =
     elim (cases_eq (transfers past q j) 0) [
       | inr later ↦
           arrives_kept h past (R q j resp last word) q j m.one stands (rw (not_first (nat_eq q q && nat_eq j j) (ne_eqb (transfers past q j) 0 later)) refl) refl
-              (λ r. Lessens-self (state_of h past r m.one.addr)) (f.arrive q j m.one ace m.out line later)
+          (λ r. Lessens-self (state_of h past r m.one.addr)) (f.arrive q j m.one ace m.out line later)
       | inl zero_before ↦
           let first : first_resp (R q j resp last word ∷ past) q j ≡ Some resp =
           rw (and_from _ _ (and_from _ _ (eq-eqb q q (refl {a = q})) (eq-eqb j j (refl {a = j}))) (eq-eqb (transfers past q j) 0 zero_before)) refl in
@@ -103,7 +103,7 @@ arrive_here h past q j resp last word f bits m ace line =
                 let same : k ≡ m.kind = Some-injective k m.kind (sym is ∙ m.is_kind) in
                 let taken : takes_alone m.kind (is_shared resp) (has_failed past m.one) ≡ true =
                 subst (λ c. takes_alone c (is_shared resp) (has_failed past m.one) ≡ true) same
-                    (subst (λ o. takes_alone k (is_some_and o is_shared) (has_failed past m.one) ≡ true) first t) in
+                (subst (λ o. takes_alone k (is_some_and o is_shared) (has_failed past m.one) ≡ true) first t) in
                 λ r ne. first_alone h past m.one m.kind resp f d taken r (λ e. ne (sym m.port ∙ e));
             beside = λ k is t r ne.
                 let same : k ≡ m.kind = Some-injective k m.kind (sym is ∙ m.is_kind) in
@@ -148,7 +148,7 @@ arrive_r h past q j resp last word f bits m p i x ace o line some =
     elim (cases_Bool (nat_eq p q && nat_eq i j)) [
       | inr other ↦
           arrives_ended h past (R q j resp last word) (ended h past (R q j resp last word)) p i x o refl (rw other refl) refl
-              (λ r. Lessens-self (state_of h past r x.addr)) (f.arrive p i x ace was line (λ z. some (rw other z)))
+          (λ r. Lessens-self (state_of h past r x.addr)) (f.arrive p i x ace was line (λ z. some (rw other z)))
       | inl same ↦
           let parts = and_parts (nat_eq p q) (nat_eq i j) same in
           let pq = eqb-true p q parts.0 in
@@ -157,8 +157,8 @@ arrive_r h past q j resp last word f bits m p i x ace o line some =
           let one : m.one ≡ x = Some-injective m.one x (sym m.out ∙ here) in
           let a = arrive_here h past q j resp last word f bits m (subst (λ a. is_ace h a ≡ true) pq ace) (subst (λ y. is_line y ≡ true) (sym one) line) in
           subst (λ a. Arrives h (R q j resp last word ∷ past) a i x) (sym pq)
-              (subst (λ b. Arrives h (R q j resp last word ∷ past) q b x) (sym ij)
-                  (subst (λ y. Arrives h (R q j resp last word ∷ past) q j y) one a))
+          (subst (λ b. Arrives h (R q j resp last word ∷ past) q b x) (sym ij)
+          (subst (λ y. Arrives h (R q j resp last word ∷ past) q j y) one a))
     ]
 
 -- an identifier in a port's queue after a transfer was there, or is that of the transfer
@@ -221,13 +221,13 @@ queue_r h past q j resp last word f m p n i ace low e =
         × (is_some_and (read_kind x) (λ k. transfers (R q j resp last word ∷ past) p i == beats_of k) ≡ true)
     moved new =
         let P : ℕ → ℕ → Type 0 = λ a b. (x : Transaction) × (outstanding h (R q j resp last word ∷ past) a Read b ≡ Some x)
-            × (is_some_and (read_kind x) (λ k. transfers (R q j resp last word ∷ past) a b == beats_of k) ≡ true) in
+        × (is_some_and (read_kind x) (λ k. transfers (R q j resp last word ∷ past) a b == beats_of k) ≡ true) in
         let more : transfers (R q j resp last word ∷ past) q j ≡ transfers past q j + 1 = rw (and_from _ _ (eq-eqb q q (refl {a = q})) (eq-eqb j j (refl {a = j}))) (refl {a = transfers past q j + 1}) in
         let whole : (transfers (R q j resp last word ∷ past) q j == beats_of m.kind) ≡ true =
         eq-eqb (transfers (R q j resp last word ∷ past) q j) (beats_of m.kind) (more ∙ m.ends new.is_last) in
         let out = stays_r h past q j resp last word q j m.one (subst (λ a. is_ace h a ≡ true) new.same_port ace) m.out in
         subst (λ a. P a i) (sym new.same_port) (subst (λ b. P q b) new.same_id
-            (m.one, out, subst (λ o. is_some_and o (λ k. transfers (R q j resp last word ∷ past) q j == beats_of k) ≡ true) (sym m.is_kind) whole))
+        (m.one, out, subst (λ o. is_some_and o (λ k. transfers (R q j resp last word ∷ past) q j == beats_of k) ≡ true) (sym m.is_kind) whole))
 
 pub distinct_r : (h : Header) (past : Trace) (q j resp : ℕ) (last : Bool) (word : ℕ) → Inductive h past → MayTransfer h past q j resp last → QueueDistinct h (R q j resp last word ∷ past)
 distinct_r h past q j resp last word f m p a b i ace la lb ea eb =

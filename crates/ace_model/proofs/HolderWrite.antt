@@ -1,9 +1,8 @@
 -- B and WK: a write is answered, and ends.
-use Rattle.std.proofs.Common.{◌≡◌, ◌≢◌, ◌≤◌, ◌==◌, ℕ, Bool, true, false, if◌then◌else◌, ◌&&◌, nat_eq, ◌∷◌, Option, Some, None, slice_get, refl, sym, ap, subst, ◌∙◌, inl, inr}
+use Rattle.std.proofs.Common.{◌≡◌, ℕ, Bool, true, false, if◌then◌else◌, ◌&&◌, nat_eq, ◌∷◌, Some, None, refl, sym, ap, subst, ◌∙◌, inl, inr}
 use Rattle.std.proofs.lemmas.Bool.{and_parts, or_cases, eqb-true}
 use Rattle.ace_codes.specs.declared.kind.AwKind.{AwKind}
 use Rattle.ace_codes.specs.declared.state.LineState.{LineState}
-use Rattle.ace_codes.specs.declared.state.LineState.TheVariants.{I}
 use Rattle.ace_event.specs.declared.header.Header.{Header}
 use Rattle.ace_event.specs.declared.event.Channel.TheVariants.{Read, Write}
 use Rattle.ace_event.specs.declared.event.Event.TheVariants.{B, Wk}
@@ -11,14 +10,14 @@ use Rattle.ace_tables.specs.EndStates.{ends_write}
 use Rattle.ace_model.specs.declared.transactions.Transaction.{Transaction}
 use Rattle.ace_model.specs.Trace.{Trace, is_some_and}
 use Rattle.ace_model.specs.Kinds.{is_line_read, is_line_write}
-use Rattle.ace_model.specs.Transactions.{is_ace, is_read, read_kind, write_kind, is_line, is_on, is_some_on, transaction_of, acknowledged, ended, outstanding, without}
+use Rattle.ace_model.specs.Transactions.{is_ace, is_read, read_kind, write_kind, is_line, is_on, is_some_on, transaction_of, acknowledged, ended, outstanding}
 use Rattle.ace_model.specs.States.{state_of}
 use Rattle.ace_model.specs.ReadRules.{held_of}
 use Rattle.ace_model.specs.WriteRules.{k28, ends_write_well}
 use Rattle.ace_model.proofs.Looks.{is_some_and-is, is_none_or-at, has_name-is, without-other}
 use Rattle.ace_model.proofs.Issued.{outstanding-named, transaction_of-stands}
 use Rattle.ace_model.proofs.HolderTables.{Lessens-self, write_lessens}
-use Rattle.ace_model.proofs.HolderStates.{Less, less_where, less-lessens}
+use Rattle.ace_model.proofs.HolderStates.{Less, less_where, less-lessens, held_on}
 use Rattle.ace_model.proofs.HolderEnds.{was_there, arrives_ended, write_apart, acknowledged_is}
 use Rattle.ace_model.proofs.HolderFacts.{TransfersArrive, QueueStands, Inductive}
 
@@ -47,16 +46,12 @@ less_wk h past q st k r l =
     held_on (is_line y.0) (state_of h past y.0.port y.0.addr) on.0
     ∙ ap (λ a. state_of h past a y.0.addr) name.port ∙ ap (state_of h past r) (eqb-true y.0.addr l on.1) in
     subst (λ s. Less s st) held (write_lessens kind.0 (held_of h past y.0) st by))
-  where
-    held_on : (line : Bool) (s : LineState) → line ≡ true → (if line then s else I) ≡ s
-    held_on true s e = refl
-    held_on false s e = cc
 
 pub arrive_wk : (h : Header) (past : Trace) (q : ℕ) (st : LineState) → Inductive h past → k28 h past (Wk q st) ≡ true → TransfersArrive h (Wk q st ∷ past)
 arrive_wk h past q st f k p i x ace o line some =
     arrives_ended h past (Wk q st) (acknowledged past q Write) p i x o refl refl refl
-        (λ r. less-lessens _ _ (less_wk h past q st k r x.addr))
-        (f.arrive p i x ace (was_there (acknowledged past q Write) (outstanding h past p Read i) x o) line some)
+    (λ r. less-lessens _ _ (less_wk h past q st k r x.addr))
+    (f.arrive p i x ace (was_there (acknowledged past q Write) (outstanding h past p Read i) x o) line some)
 
 pub queue_wk : (h : Header) (past : Trace) (q : ℕ) (st : LineState) → Inductive h past → QueueStands h (Wk q st ∷ past)
 queue_wk h past q st f p n i ace low e =
@@ -71,8 +66,8 @@ queue_wk h past q st f p n i ace low e =
 pub arrive_b : (h : Header) (past : Trace) (q j resp : ℕ) → Inductive h past → TransfersArrive h (B q j resp ∷ past)
 arrive_b h past q j resp f p i x ace o line some =
     arrives_ended h past (B q j resp) (ended h past (B q j resp)) p i x o refl refl refl
-        (λ r. Lessens-self (state_of h past r x.addr))
-        (f.arrive p i x ace (was_there (ended h past (B q j resp)) (outstanding h past p Read i) x o) line some)
+    (λ r. Lessens-self (state_of h past r x.addr))
+    (f.arrive p i x ace (was_there (ended h past (B q j resp)) (outstanding h past p Read i) x o) line some)
 
 pub queue_b : (h : Header) (past : Trace) (q j resp : ℕ) → Inductive h past → QueueStands h (B q j resp ∷ past)
 queue_b h past q j resp f p n i ace low e =

@@ -8,7 +8,7 @@ use Rattle.ace_event.specs.declared.event.Channel.TheVariants.{Read, Write}
 use Rattle.ace_model.specs.declared.transactions.Transaction.{Transaction}
 use Rattle.ace_tables.specs.Answers.{same_test}
 use Rattle.ace_model.specs.Trace.{implies, is_some_and, is_none_or}
-use Rattle.ace_tables.specs.States.{is_invalid, is_unique}
+use Rattle.ace_tables.specs.States.{is_invalid}
 use Rattle.ace_model.specs.Transactions.{is_read, same_channel, has_name, is_named, is_on, is_some_on, newest_named, without}
 use Rattle.ace_model.specs.Grants.{newest_on}
 
@@ -26,6 +26,10 @@ Some-injective x y e = cc
 pub is_some_and-is : {A : Type 0} → (o : Option A) (test : A → Bool) → is_some_and o test ≡ true → (x : A) × (o ≡ Some x) × (test x ≡ true)
 is_some_and-is None test e = cc
 is_some_and-is (Some x) test e = (x, refl, e)
+
+pub is_some_and-at : {A : Type 0} → (o : Option A) (test : A → Bool) (x : A) → is_some_and o test ≡ true → o ≡ Some x → test x ≡ true
+is_some_and-at None test x t e = cc
+is_some_and-at (Some y) test x t e = subst (λ z. test z ≡ true) (Some-injective y x e) t
 
 pub is_none_or-at : {A : Type 0} → (o : Option A) (test : A → Bool) (x : A) → is_none_or o test ≡ true → o ≡ Some x → test x ≡ true
 is_none_or-at None test x t e = cc
@@ -47,9 +51,6 @@ is_invalid-is UC e = cc
 is_invalid-is UD e = cc
 is_invalid-is SC e = cc
 is_invalid-is SD e = cc
-
-pub not_unique : (st : LineState) → st ≡ I → is_unique st ≡ true → ⊥
-not_unique st e u = let v : is_unique I ≡ true = subst (λ (s : LineState). is_unique s ≡ true) e u in cc
 
 pub is_read-is : (c : Channel) → is_read c ≡ true → c ≡ Read
 is_read-is Read e = refl

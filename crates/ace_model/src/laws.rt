@@ -32,8 +32,8 @@ pub fn unique_line_has_one_holder()
     ensures { (h : Header) (past : Trace) → IsAcceptedBy rules_today h past → Unique h past }
 {}
 
-/// In an accepted trace a line has one holder where one holds it for itself: at every point, where a port holds a line in UC or
-/// UD, every other port's state of it is I, and at most one port holds a line in UD or SD.
+/// In every accepted trace a unique line has one holder, and a dirty line one owner: at every point, where a port holds a line
+/// in UC or UD, every other port's state of it is I, and at most one port holds a line in UD or SD.
 pub fn accepted_line_has_one_holder()
     ensures unique { (h : Header) (past : Trace) → IsAccepted h past → Unique h past }
     ensures one_dirty { (h : Header) (past : Trace) → IsAccepted h past → OneDirty h past }
