@@ -17,7 +17,8 @@ use Rattle.ace_model.specs.ReadRules.{k18, k19, is_due, is_next_transfer, may_tr
 use Rattle.ace_model.proofs.Looks.{Some-injective, is_some_and-is, is_none_or-at, implies-at, same_test-at, has_name-is, without-other}
 use Rattle.ace_model.proofs.Issued.{same_place, outstanding-named, transaction_of-stands}
 use Rattle.ace_model.proofs.Places.{slice_get-more}
-use Rattle.ace_model.proofs.HolderTables.{Lessens-self, takes_alone}
+use Rattle.ace_model.proofs.HolderTables.{Lessens-self}
+use Rattle.ace_model.proofs.HolderReadEnds.{takes_alone}
 use Rattle.ace_model.proofs.HolderStates.{arrives_kept}
 use Rattle.ace_model.proofs.HolderEnds.{was_there, arrives_ended, one_name}
 use Rattle.ace_model.proofs.HolderFirst.{IsFirst, first_alone, first_beside, first_dirty}

@@ -12,6 +12,7 @@ pub mod HolderFirst
 pub mod HolderGrant
 pub mod HolderKept
 pub mod HolderLaw
+pub mod HolderReadEnds
 pub mod HolderSnoop
 pub mod HolderStates
 pub mod HolderStores
