@@ -79,6 +79,7 @@ pub record EndsLine (h : Header) (past : Trace) (q : ℕ) (st : LineState) (r l 
   pub port : r ≡ q
   pub stands : (y : Transaction) × (acknowledged past q Read ≡ Some y) × (granted h past l ≡ Some y)
   pub kind : ArKind
+  pub is_kind : read_kind stands.0 ≡ Some kind
   pub shares : Bool
   pub passes : Bool
   pub failed : Bool
@@ -111,6 +112,7 @@ ends_line h past q st k e r l t =
       port = port;
       stands = (e.ended_one, e.is, subst (λ v. granted h past v ≡ Some e.ended_one) line a.stands);
       kind = e.kind;
+      is_kind = e.is_kind;
       shares = is_some_and (first_resp past q e.id) is_shared;
       passes = is_some_and (first_resp past q e.id) passes_dirty;
       failed = has_failed past e.ended_one;
