@@ -82,6 +82,11 @@ pub record EndsLine (h : Header) (past : Trace) (q : ℕ) (st : LineState) (r l 
   pub stands : (y : Transaction) × (acknowledged past q Read ≡ Some y) × (granted h past l ≡ Some y)
   pub unique : is_unique st ≡ true → (is_unique (state_of h past r l) ≡ true) ⊎ OthersInvalid h past r l
   pub kept : (st ≡ I) ⊎ ((is_invalid (state_of h past r l) ≡ false) ⊎ OthersNotUnique h past r l)
+  pub kind : ArKind
+  pub is_kind : read_kind stands.0 ≡ Some kind
+  pub failed : Bool
+  pub shared : Bool
+  pub came : (st ≡ I) ⊎ ((is_invalid (state_of h past r l) ≡ false) ⊎ ((takes_alone kind shared failed ≡ true) ⊎ (takes_shared kind ≡ true)))
   pub dirty : is_dirty st ≡ true → (is_dirty (state_of h past r l) ≡ true) ⊎ ((z : ℕ) → r ≢ z → is_dirty (state_of h past z l) ≡ false)
 
 settled_clean : (st : LineState) → is_settled st ≡ true → is_dirty st ≡ false
@@ -108,6 +113,11 @@ ends_line h past q st k e r l t = record {
       ]
     ]
   ];
+  kind = e.kind;
+  is_kind = e.is_kind;
+  failed = has_failed past e.ended_one;
+  shared = is_some_and (first_resp past q e.id) is_shared;
+  came = fits.kept;
   dirty = λ d. elim (fits.dirty d) [
     | inl was ↦ inl was
     | inr came ↦ elim came [

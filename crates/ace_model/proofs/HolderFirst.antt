@@ -62,7 +62,7 @@ pub record Answered (h : Header) (past : Trace) (r l : ℕ) : Type 0 where
   pub is : answer_of past r l ≡ Some answer
 
 -- under the grant, once its snoops are done, another port holds nothing of the line or has answered
-done_port : (h : Header) (past : Trace) (x : Transaction) (r : ℕ) → Inductive h past → each_port h.ports (is_port_done h past x) ≡ true → x.port ≢ r
+pub done_port : (h : Header) (past : Trace) (x : Transaction) (r : ℕ) → Inductive h past → each_port h.ports (is_port_done h past x) ≡ true → x.port ≢ r
     → (state_of h past r x.addr ≡ I) ⊎ Answered h past r x.addr
 done_port h past x r f all ne =
     elim (cases_Bool (is_ace h r)) [

@@ -1,6 +1,7 @@
 pub mod Acceptance
 pub mod BarrierOrder
 pub mod BarrierPairs
+pub mod ExclusiveLaw
 pub mod FirstBreak
 pub mod Forwarding
 pub mod Growth
@@ -28,7 +29,9 @@ pub mod OrderPoints
 pub mod Places
 pub mod Points
 pub mod Served
+pub mod ShareableLines
 pub mod Starts
+pub mod StoresAlone
 pub mod SyncCompleted
 pub mod SyncLaw
 pub mod UniqueLaw
