@@ -2,6 +2,8 @@ pub mod Acceptance
 pub mod BarrierOrder
 pub mod BarrierPairs
 pub mod FirstBreak
+pub mod FollowPlaces
+pub mod FollowOutstanding
 pub mod Forwarding
 pub mod Growth
 pub mod HolderAcknowledge
