@@ -4,6 +4,7 @@ pub mod BarrierPairs
 pub mod FirstBreak
 pub mod FollowPlaces
 pub mod FollowOutstanding
+pub mod FollowOrder
 pub mod Forwarding
 pub mod Growth
 pub mod HolderAcknowledge
