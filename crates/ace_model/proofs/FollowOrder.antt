@@ -129,7 +129,7 @@ issued_at-later (suc k) (e ∷ past) n x there =
     let low = issued_at-below past n x old in
     issued_at-before e past n low ∙ old
 
-beat-issued : (past : Trace) (x : Transaction) → HasBeat past x → issued_at past x.place ≡ Some x
+pub beat-issued : (past : Trace) (x : Transaction) → HasBeat past x → issued_at past x.place ≡ Some x
 beat-issued past x b =
     issued_at-later (length past - b.0) past x.place x
     (transaction_of-stands (at_point b.0 past) x.port Read x.id x b.1.1.1.1.1.1).there

@@ -5,6 +5,8 @@ pub mod FirstBreak
 pub mod FollowPlaces
 pub mod FollowOutstanding
 pub mod FollowOrder
+pub mod FollowBeats
+pub mod FollowPoints
 pub mod Forwarding
 pub mod Growth
 pub mod HolderAcknowledge
