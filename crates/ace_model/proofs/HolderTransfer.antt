@@ -60,7 +60,7 @@ may h past q j resp last word k =
     }
 
 -- the granted transaction at its place is the one itself
-granted_one : (h : Header) (past : Trace) (q j : ℕ) (x : Transaction) → Inductive h past → transaction_of past q Read j ≡ Some x → is_granted h past x ≡ true → granted h past x.addr ≡ Some x
+pub granted_one : (h : Header) (past : Trace) (q j : ℕ) (x : Transaction) → Inductive h past → transaction_of past q Read j ≡ Some x → is_granted h past x ≡ true → granted h past x.addr ≡ Some x
 granted_one h past q j x f named g =
     let y = is_some_and-is (granted h past x.addr) (λ z. nat_eq z.place x.place) g in
     let s = f.grants x.addr y.0 y.1 in

@@ -7,6 +7,7 @@ pub mod FollowOutstanding
 pub mod FollowOrder
 pub mod FollowBeats
 pub mod FollowPoints
+pub mod FollowSnoops
 pub mod Forwarding
 pub mod Growth
 pub mod HolderAcknowledge
