@@ -8,6 +8,8 @@ pub mod FollowOrder
 pub mod FollowBeats
 pub mod FollowPoints
 pub mod FollowSnoops
+pub mod FollowTransfers
+pub mod FollowReply
 pub mod Forwarding
 pub mod Growth
 pub mod HolderAcknowledge
