@@ -50,7 +50,7 @@ answer-stays h past (Cr p resp st) x q once k u = rw (none-to-answer past q x.ad
     no_new false = refl
 answer-stays h past e x q once k u = refl
 
-newer-none : {A : Type 0} → (o : Option A) → newer o None ≡ o
+pub newer-none : {A : Type 0} → (o : Option A) → newer o None ≡ o
 newer-none None = refl
 newer-none (Some v) = refl
 

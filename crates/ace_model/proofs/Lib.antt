@@ -10,6 +10,8 @@ pub mod FollowPoints
 pub mod FollowSnoops
 pub mod FollowTransfers
 pub mod FollowReply
+pub mod FollowSent
+pub mod FollowLaw
 pub mod Forwarding
 pub mod Growth
 pub mod HolderAcknowledge
