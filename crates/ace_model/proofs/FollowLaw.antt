@@ -1,141 +1,138 @@
 -- In an accepted trace in which data newer than memory are with a holder or in flight, all reads follow one order of the stores.
-use Rattle.std.proofs.Common.{◌≡◌, ◌≢◌, ◌⊎◌, ℕ, ◌+◌, ◌<◌, ◌≤◌, Bool, true, false, if◌then◌else◌, nat_eq, [], ◌∷◌, length, Option, Some, None, unwrap_or, option_map, option_and_then, refl, sym, ap, subst, ◌∙◌, arith, inl, inr}
+use Rattle.std.proofs.Common.{◌≡◌, ◌≢◌, ℕ, ◌<◌, ◌≤◌, Bool, true, false, if◌then◌else◌, nat_eq, [], ◌∷◌, length, Option, Some, refl, sym, ap, subst, ◌∙◌, arith, inl, inr}
 use Rattle.std.proofs.lemmas.Bool.{cases_Bool, cases_eq, eq-eqb}
 use Rattle.ace_event.specs.declared.event.Channel.TheVariants.{Read}
 use Rattle.ace_event.specs.declared.event.Event.{Event}
-use Rattle.ace_event.specs.declared.event.Event.TheVariants.{R}
+use Rattle.ace_event.specs.declared.event.Event.TheVariants.{L, R}
 use Rattle.ace_event.specs.declared.header.Header.{Header}
-use Rattle.ace_event.specs.declared.line.Line.{Line}
 use Rattle.ace_model.specs.declared.transactions.Transaction.{Transaction}
-use Rattle.ace_model.specs.declared.snoops.Answer.{Answer}
-use Rattle.ace_model.specs.Trace.{Trace, at_point}
+use Rattle.ace_model.specs.Trace.{Trace}
 use Rattle.ace_model.specs.Transactions.{outstanding, transaction_of, transfers}
-use Rattle.ace_model.specs.Grants.{granted, grant_place, answer_of}
-use Rattle.ace_model.specs.States.{are_snoops_done}
-use Rattle.ace_model.specs.Copies.{is_line_read_transaction, word_of, copy_of, memory_of, zero_line}
-use Rattle.ace_model.specs.Replies.{reply_of, copy_at_answer, first_sender, memory_at_first_beat}
-use Rattle.ace_model.specs.Values.{value_of}
+use Rattle.ace_model.specs.Copies.{is_line_read_transaction}
 use Rattle.ace_model.specs.DirtyPlace.{DirtyPlace}
-use Rattle.ace_model.specs.ReadsFollow.{IsGrantOf, ReadsFollow}
+use Rattle.ace_model.specs.ReadsFollow.{IsBeat, ReadsFollow}
 use Rattle.ace_model.specs.ReadRules.{k18}
 use Rattle.ace_model.specs.Accepted.{rule, IsAccepted}
-use Rattle.ace_model.proofs.Growth.{at_point-before}
-use Rattle.ace_model.proofs.Issued.{outstanding-named, transaction_of-stands}
 use Rattle.ace_model.proofs.Kept.{accepted_keeps}
-use Rattle.ace_model.proofs.Looks.{Some-injective, has_name-is}
-use Rattle.ace_model.proofs.HolderTransfer.{may}
-use Rattle.ace_model.proofs.FollowPlaces.{NewBeat, grant-old}
+use Rattle.ace_model.proofs.Looks.{Some-injective}
+use Rattle.ace_model.proofs.HolderTransfer.{MayTransfer, may}
+use Rattle.ace_model.proofs.FollowPlaces.{NewBeat, event_at-below, beat-below}
 use Rattle.ace_model.proofs.FollowOrder.{points-in_order}
-use Rattle.ace_model.proofs.FollowPoints.{SameWords, IsPointOf, Follows, follows-step, follows-choose}
-use Rattle.ace_model.proofs.FollowOutstanding.{outstanding-cases}
-use Rattle.ace_model.proofs.FollowSnoops.{snooped_once}
-use Rattle.ace_model.proofs.FollowTransfers.{first-under_way, first-transfer, transfers-new}
-use Rattle.ace_model.proofs.FollowReply.{reply-stays}
-use Rattle.ace_model.proofs.FollowSent.{granted-at, sent, dirty-now}
+use Rattle.ace_model.proofs.FollowPoints.{IsPointOf, Follows, follows-choose}
+use Rattle.ace_model.proofs.FollowFirst.{MemoryFollows, first-point, Ready, more}
 
--- At a point since the grant of the line its value had the words that memory has now.
-pub record MemorySince (past : Trace) (l : ℕ) : Type 0 where
-  pub point : ℕ
-  pub after : grant_place past l ≤ point
-  pub low : point ≤ length past
-  pub same : SameWords (memory_of past l) (value_of (at_point point past) l)
+-- the points of the reads of a trace
+abbrev Points : Header → Trace → Type 0
+Points h past = (point : ℕ → ℕ) × Follows h past point
 
--- Where the snoops of a read of a line are done and no port has sent data under its grant, memory was the value at a point since.
-abbrev pub MemoryFollows : Header → Trace → Type 0
-MemoryFollows h past =
-    (x : Transaction) → granted h past x.addr ≡ Some x → is_line_read_transaction x ≡ true → transfers past x.port x.id ≡ 0
-    → are_snoops_done h past x ≡ true → first_sender past x.addr ≡ None → MemorySince past x.addr
+-- a beat is of the read that the rule on transfers speaks of
+record OneBeat (past : Trace) (q j : ℕ) (one x : Transaction) : Type 0 where
+  same : one ≡ x
+  port : q ≡ x.port
+  id : j ≡ x.id
+  line_read : is_line_read_transaction one ≡ true
 
--- memory before the first beat is memory now
-memory-before : (past : Trace) (p i l : ℕ) → transfers past p i ≡ 0 → memory_at_first_beat past p i l ≡ memory_of past l
-memory-before [] p i l none = refl
-memory-before (e ∷ past) p i l none = rw (eq-eqb (transfers (e ∷ past) p i) 0 none) refl
-
--- before the first beat of a read there is a point for it
-first-point : (h : Header) (past : Trace) (p i resp : ℕ) (last : Bool) (word : ℕ) (x : Transaction) → IsAccepted h (R p i resp last word ∷ past)
-    → DirtyPlace h past → MemoryFollows h past → outstanding h past p Read i ≡ Some x → is_line_read_transaction x ≡ true → transfers past p i ≡ 0
-    → (n : ℕ) × IsPointOf past x n
-first-point h past p i resp last word x a d memory o reads none =
-    let u = first-under_way h past p i resp last word x a o reads none in
-    let n = has_name-is x p Read i (transaction_of-stands past p Read i x (outstanding-named h past p Read i x o)).named in
-    let g = granted-at h past x.addr x u.0.stands n.chan in
-    let count : transfers past x.port x.id ≡ 0 = ap (λ v. transfers past v x.id) n.port ∙ ap (transfers past p) n.id ∙ none in
-    let next = g.next in
-    cases g.place g.is next count u.0.stands u.1 (first_sender past x.addr) refl
-  where
-    cases : (place : ℕ) → IsGrantOf past place x → grant_place past x.addr ≡ place + 1 → transfers past x.port x.id ≡ 0 → granted h past x.addr ≡ Some x
-        → are_snoops_done h past x ≡ true → (v : Option ℕ) → first_sender past x.addr ≡ v → (n : ℕ) × IsPointOf past x n
-    cases place is next count stands done None sender =
-        let m = memory x stands reads count done sender in
-        let after = m.after in
-        let reply : reply_of past x ≡ memory_of past x.addr =
-        ap (λ v. unwrap_or (option_and_then (copy_at_answer past x.addr) v) (memory_at_first_beat past x.port x.id x.addr)) sender
-        ∙ memory-before past x.port x.id x.addr count in (
-          m.point,
-          record {
-            granted = (place, (is, omega arith));
-            low = m.low;
-            same = λ k few. ap (λ v. word_of v k) reply ∙ m.same k few;
-          },
-        )
-    cases place is next count stands done (Some q) sender =
-        let s = sent h past a.0 d x.addr q sender in
-        let b = (snooped_once h past a.0).answers_it q x.addr s.answer s.is in
-        let after = b.after in
-        let before = b.before in
-        let reply : reply_of past x ≡ value_of (at_point s.answer.place past) x.addr =
-        ap (λ v. unwrap_or (option_and_then (copy_at_answer past x.addr) v) (memory_at_first_beat past x.port x.id x.addr)) sender
-        ∙ ap (λ o. unwrap_or (option_map (λ (w : Answer). copy_of (at_point w.place past) q x.addr) o) (memory_at_first_beat past x.port x.id x.addr)) s.is
-        ∙ s.true_copy in (
-          s.answer.place,
-          record {
-            granted = (place, (is, omega arith));
-            low = omega arith;
-            same = λ k few. ap (λ v. word_of v k) reply;
-          },
-        )
-
--- the point of a read in a longer trace
-point-grown : (e : Event) (past : Trace) (x : Transaction) (n : ℕ) → reply_of (e ∷ past) x ≡ reply_of past x → IsPointOf past x n → IsPointOf (e ∷ past) x n
-point-grown e past x n reply s =
-    let low = s.low in
-    let g = s.granted in
-    let same : at_point n (e ∷ past) ≡ at_point n past = at_point-before e past n low in
+one-beat : (h : Header) (past : Trace) (q j resp : ℕ) (last : Bool) (word : ℕ) (x : Transaction) (k w : ℕ) → (m : MayTransfer h past q j resp last)
+    → NewBeat past (R q j resp last word) x k w → OneBeat past q j m.one x
+one-beat h past q j resp last word x k w m b =
+    let e = b.event in
+    let port : q ≡ x.port = cc in
+    let id : j ≡ x.id = cc in
+    let same : m.one ≡ x =
+    Some-injective m.one x (sym m.named ∙ ap (λ v. transaction_of past v Read j) port ∙ ap (transaction_of past x.port Read) id ∙ b.named) in
     record {
-      granted = (g.0, (grant-old e past g.0 x g.1.0, g.1.1));
-      low = omega arith;
-      same = λ k few. ap (λ v. word_of v k) reply ∙ s.same k few ∙ ap (λ (t : Trace). word_of (value_of t x.addr) k) (sym same);
+      same = same;
+      port = port;
+      id = id;
+      line_read = subst (λ (v : Transaction). is_line_read_transaction v ≡ true) (sym same) b.line_read;
     }
 
--- What a point of each read needs at an event: it is one for the read whose beat the event is.
-abbrev Ready : Trace → Event → (ℕ → ℕ) → Type 0
-Ready past e point = (x : Transaction) (k word : ℕ) → NewBeat past e x k word → IsPointOf past x (point x.place)
-
--- with its points ready, the event is one more
-more : (h : Header) (past : Trace) (e : Event) (point : ℕ → ℕ) → IsAccepted h (e ∷ past) → DirtyPlace h past → Follows h past point → Ready past e point
-    → Follows h (e ∷ past) point
-more h past e point a d f ready =
-    follows-step h past e point f a (λ l. (dirty-now h past d l).0) ready (λ p i x o reads some.
-    point-grown e past x (point x.place) (reply-stays h past e p i x a o reads some) (was p i x o reads some))
+with-beat : (h : Header) (past : Trace) (q j resp : ℕ) (last : Bool) (word : ℕ) → IsAccepted h (R q j resp last word ∷ past) → DirtyPlace h past
+    → MemoryFollows h past → Points h past → Points h (R q j resp last word ∷ past)
+with-beat h past q j resp last word a d memory points =
+    let due : k18 h past (R q j resp last word) ≡ true = accepted_keeps 17 (rule 18 k18) h past (R q j resp last word) refl a in
+    cases (may h past q j resp last word due)
   where
-    was : (p i : ℕ) (x : Transaction) → outstanding h (e ∷ past) p Read i ≡ Some x → is_line_read_transaction x ≡ true → transfers (e ∷ past) p i ≢ 0
-        → IsPointOf past x (point x.place)
-    was p i x o reads some =
-        elim (outstanding-cases h e past p Read i x o) [
-          | inl new ↦ absurd (some (transfers-new e past p i x new.0 new.1))
-          | inr old ↦ elim (cases_eq (transfers past p i) 0) [
-            | inr earlier ↦ f.replies p i x old.0 reads earlier
-            | inl none ↦
-                let b = first-transfer e past p i none some in
-                let named = outstanding-named h past p Read i x old.0 in
-                let n = has_name-is x p Read i (transaction_of-stands past p Read i x named).named in
-                ready x (transfers past x.port x.id) b.word (record {
-                  resp = b.resp;
-                  last = b.last;
-                  event = b.is ∙ ap (λ v. R v i b.resp b.last b.word) (sym n.port) ∙ ap (λ v. R x.port v b.resp b.last b.word) (sym n.id);
-                  named = ap (λ v. transaction_of past v Read x.id) n.port ∙ ap (transaction_of past p Read) n.id ∙ named;
-                  line_read = reads;
-                  number = refl;
-                })
+    point : ℕ → ℕ
+    point = points.0
+
+    f : Follows h past point
+    f = points.1
+
+    first : (m : MayTransfer h past q j resp last) → is_line_read_transaction m.one ≡ true → transfers past q j ≡ 0 → Points h (R q j resp last word ∷ past)
+    first m reads none =
+        let p = first-point h past q j resp last word m.one a d memory m.out reads none in
+        let out : outstanding h past m.one.port Read m.one.id ≡ Some m.one =
+        ap (λ v. outstanding h past v Read m.one.id) m.port ∙ ap (outstanding h past q Read) m.id ∙ m.out in
+        let count : transfers past m.one.port m.one.id ≡ 0 = ap (λ v. transfers past v m.one.id) m.port ∙ ap (transfers past q) m.id ∙ none in
+        let chosen : ℕ → ℕ = λ n. if nat_eq n m.one.place then p.0 else point n in
+        let ready : Ready past (R q j resp last word) chosen = λ x k w b.
+        let o = one-beat h past q j resp last word x k w m b in
+        subst (λ (v : Transaction). IsPointOf past v (chosen v.place)) o.same (rw (eq-eqb m.one.place m.one.place (refl {a = m.one.place})) p.1) in
+        (chosen, more h past (R q j resp last word) chosen a d (follows-choose h past point m.one p.0 f out count) ready)
+
+    cases : MayTransfer h past q j resp last → Points h (R q j resp last word ∷ past)
+    cases m =
+        elim (cases_Bool (is_line_read_transaction m.one)) [
+          | inr other ↦ (
+            point,
+            more h past (R q j resp last word) point a d f (λ x k w b.
+            let o = one-beat h past q j resp last word x k w m b in
+            let reads = o.line_read in cc),
+          )
+          | inl reads ↦ elim (cases_eq (transfers past q j) 0) [
+            | inl none ↦ first m reads none
+            | inr some ↦ (
+              point,
+              more h past (R q j resp last word) point a d f (λ x k w b.
+              let o = one-beat h past q j resp last word x k w m b in
+              subst (λ (v : Transaction). IsPointOf past v (point v.place)) o.same (f.replies q j m.one m.out reads some)),
+            )
           ]
         ]
+
+-- the points of the trace that is one event longer
+with-event : (h : Header) (past : Trace) (e : Event) → IsAccepted h (e ∷ past) → DirtyPlace h past → MemoryFollows h past → Points h past → Points h (e ∷ past)
+with-event h past (R q j resp last word) a d memory points = with-beat h past q j resp last word a d memory points
+with-event h past e a d memory points = (points.0, more h past e points.0 a d points.1 (λ x k w b. let no = b.event in cc))
+
+start : (h : Header) → Points h []
+start h = (
+  λ n. n,
+  record {
+    set = record {
+      load_now = λ n p l w word load. refl;
+      granted = λ x b. absurd (none b.0 (beat-below [] b.0 x b.1.0 b.1.1.0 b.1.1.1));
+      before_beats = λ n k word x b. absurd (none n (beat-below [] n x k word b));
+    };
+    load_word = λ n p l w word load. absurd (none n (event_at-below [] n (L p l w load.0 word) load.1));
+    beat_word = λ n k word x b. absurd (none n (beat-below [] n x k word b));
+    later = λ n high. refl;
+    replies = λ p i x o. cc;
+  },
+)
+  where
+    none : (n : ℕ) → n < 0 → ⊥
+    none n low = omega arith
+
+all-points : (h : Header) → ((t : Trace) → IsAccepted h t → DirtyPlace h t → MemoryFollows h t) → (past : Trace) → IsAccepted h past → DirtyPlace h past → Points h past
+all-points h memory [] a d = start h
+all-points h memory (e ∷ past) a d =
+    with-event h past e a d.0 (memory past a.0 d.0) (all-points h memory past a.0 d.0)
+
+-- Where memory follows the value while snoops bring no data, all reads do.
+pub reads_follow_memory : (h : Header) → ((t : Trace) → IsAccepted h t → DirtyPlace h t → MemoryFollows h t)
+    → (past : Trace) → IsAccepted h past → DirtyPlace h past → ReadsFollow past
+reads_follow_memory h memory past a d =
+    let p = all-points h memory past a d in
+    let f = p.1 in (
+      p.0,
+      record {
+        load_now = f.set.load_now;
+        load_word = f.load_word;
+        granted = f.set.granted;
+        before_beats = f.set.before_beats;
+        beat_word = f.beat_word;
+        in_order = points-in_order h past p.0 a f.set;
+      },
+    )

@@ -11,6 +11,7 @@ pub mod FollowSnoops
 pub mod FollowTransfers
 pub mod FollowReply
 pub mod FollowSent
+pub mod FollowFirst
 pub mod FollowLaw
 pub mod Forwarding
 pub mod Growth
