@@ -27,24 +27,12 @@ use Rattle.ace_model.proofs.HolderTransfer.{may}
 use Rattle.ace_model.proofs.FollowPlaces.{NewBeat, grant-old}
 use Rattle.ace_model.proofs.FollowOrder.{points-in_order}
 use Rattle.ace_model.proofs.FollowPoints.{SameWords, IsPointOf, Follows, follows-step, follows-choose}
+use Rattle.ace_model.proofs.FollowMemorySince.{MemorySince, MemoryFollows}
 use Rattle.ace_model.proofs.FollowOutstanding.{outstanding-cases}
 use Rattle.ace_model.proofs.FollowSnoops.{snooped_once}
 use Rattle.ace_model.proofs.FollowTransfers.{first-under_way, first-transfer, transfers-new}
 use Rattle.ace_model.proofs.FollowReply.{reply-stays}
 use Rattle.ace_model.proofs.FollowSent.{granted-at, sent, dirty-now}
-
--- At a point since the grant of the line its value had the words that memory has now.
-pub record MemorySince (past : Trace) (l : ℕ) : Type 0 where
-  pub point : ℕ
-  pub after : grant_place past l ≤ point
-  pub low : point ≤ length past
-  pub same : SameWords (memory_of past l) (value_of (at_point point past) l)
-
--- Where the snoops of a read of a line are done and no port has sent data under its grant, memory was the value at a point since.
-abbrev pub MemoryFollows : Header → Trace → Type 0
-MemoryFollows h past =
-    (x : Transaction) → granted h past x.addr ≡ Some x → is_line_read_transaction x ≡ true → transfers past x.port x.id ≡ 0
-    → are_snoops_done h past x ≡ true → first_sender past x.addr ≡ None → MemorySince past x.addr
 
 -- memory before the first beat is memory now
 memory-before : (past : Trace) (p i l : ℕ) → transfers past p i ≡ 0 → memory_at_first_beat past p i l ≡ memory_of past l

@@ -19,7 +19,8 @@ use Rattle.ace_model.proofs.HolderTransfer.{MayTransfer, may}
 use Rattle.ace_model.proofs.FollowPlaces.{NewBeat, event_at-below, beat-below}
 use Rattle.ace_model.proofs.FollowOrder.{points-in_order}
 use Rattle.ace_model.proofs.FollowPoints.{IsPointOf, Follows, follows-choose}
-use Rattle.ace_model.proofs.FollowFirst.{MemoryFollows, first-point, Ready, more}
+use Rattle.ace_model.proofs.FollowFirst.{first-point, Ready, more}
+use Rattle.ace_model.proofs.FollowMemorySince.{MemoryFollows}
 
 -- the points of the reads of a trace
 abbrev Points : Header → Trace → Type 0

@@ -122,7 +122,7 @@ ends_line h past q st k e r l t =
     }
 
 -- the states of a line that is still granted are as they were
-states_rk : (h : Header) (past : Trace) (q : ℕ) (st : LineState) → k23 h past (Rk q st) ≡ true → Ends h past q → (l : ℕ) (x : Transaction)
+pub states_rk : (h : Header) (past : Trace) (q : ℕ) (st : LineState) → k23 h past (Rk q st) ≡ true → Ends h past q → (l : ℕ) (x : Transaction)
     → granted h (Rk q st ∷ past) l ≡ Some x → (r : ℕ) → state_of h (Rk q st ∷ past) r l ≡ state_of h past r l
 states_rk h past q st k e l x g r =
     elim (cases_Bool (is_named_by_rk past q r l)) [

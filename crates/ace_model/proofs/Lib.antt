@@ -13,6 +13,8 @@ pub mod FollowReply
 pub mod FollowSent
 pub mod FollowFirst
 pub mod FollowLaw
+pub mod FollowRows
+pub mod FollowMemorySince
 pub mod Forwarding
 pub mod Growth
 pub mod HolderAcknowledge
