@@ -14,6 +14,7 @@ pub mod FollowSent
 pub mod FollowFirst
 pub mod FollowLaw
 pub mod FollowRows
+pub mod FollowMemory
 pub mod FollowMemorySince
 pub mod Forwarding
 pub mod Growth
