@@ -134,7 +134,7 @@ issued-state h past (Aw q j addr snoop dom bar) x p l new = refl
 issued-state h past e x p l new = cc
 
 -- where the RK doesn't end a read of the port on the line, its state of the line stays I
-state_empty : (h : Header) (past : Trace) (e : Event) (p l : ℕ) → KeptRules h past e
+pub state_empty : (h : Header) (past : Trace) (e : Event) (p l : ℕ) → KeptRules h past e
     → ((q : ℕ) (st : LineState) → e ≡ Rk q st → is_named_by_rk past q p l ≡ false)
     → state_of h past p l ≡ I → state_of h (e ∷ past) p l ≡ I
 state_empty h past (Rk q st) p l k other was = rw (other q st refl) was

@@ -16,6 +16,7 @@ pub mod FollowLaw
 pub mod FollowRows
 pub mod FollowMemory
 pub mod FollowMemorySince
+pub mod FollowNoSnoop
 pub mod Forwarding
 pub mod Growth
 pub mod HolderAcknowledge
