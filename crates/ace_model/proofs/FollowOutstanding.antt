@@ -78,26 +78,22 @@ line-taken h e past p c i x y k new line o line_x addr port =
     let some : has_outstanding_on h past y.port y.addr ≡ true = some_issued-found past (is_outstanding_on h past y.port y.addr) x.place x s.there test in
     cc
 
--- A port has one outstanding read on a line.
-abbrev pub OneRead : Header → Trace → Type 0
-OneRead h past =
-    (p i j : ℕ) (x y : Transaction) → outstanding h past p Read i ≡ Some x → outstanding h past p Read j ≡ Some y
-    → is_line x ≡ true → is_line y ≡ true → x.addr ≡ y.addr → x ≡ y
-
-pub one_read : (h : Header) (past : Trace) → IsAccepted h past → OneRead h past
-one_read h [] a p i j x y o u line_x line_y addr = cc
-one_read h (e ∷ past) a p i j x y o u line_x line_y addr =
+-- a port has one outstanding transaction on a line
+pub one_outstanding : (h : Header) (past : Trace) → IsAccepted h past → (p : ℕ) (c d : Channel) (i j : ℕ) (x y : Transaction)
+    → outstanding h past p c i ≡ Some x → outstanding h past p d j ≡ Some y → is_line x ≡ true → is_line y ≡ true → x.addr ≡ y.addr → x ≡ y
+one_outstanding h [] a p c d i j x y o u line_x line_y addr = cc
+one_outstanding h (e ∷ past) a p c d i j x y o u line_x line_y addr =
     let k : k5 h past e ≡ true = accepted_keeps 4 (rule 5 k5) h past e refl a in
-    elim (outstanding-cases h e past p Read i x o) [
-      | inl new ↦ elim (outstanding-cases h e past p Read j y u) [
+    elim (outstanding-cases h e past p c i x o) [
+      | inl new ↦ elim (outstanding-cases h e past p d j y u) [
         | inl new_y ↦ Some-injective x y (sym new.0 ∙ new_y.0)
         | inr old_y ↦
-            absurd (line-taken h e past p Read j y x k new.0 line_x old_y.0 line_y (sym addr) (sym (has_name-is x p Read i new.1).port))
+            absurd (line-taken h e past p d j y x k new.0 line_x old_y.0 line_y (sym addr) (sym (has_name-is x p c i new.1).port))
       ]
-      | inr old ↦ elim (outstanding-cases h e past p Read j y u) [
+      | inr old ↦ elim (outstanding-cases h e past p d j y u) [
         | inl new_y ↦
-            absurd (line-taken h e past p Read i x y k new_y.0 line_y old.0 line_x addr (sym (has_name-is y p Read j new_y.1).port))
-        | inr old_y ↦ one_read h past a.0 p i j x y old.0 old_y.0 line_x line_y addr
+            absurd (line-taken h e past p c i x y k new_y.0 line_y old.0 line_x addr (sym (has_name-is y p d j new_y.1).port))
+        | inr old_y ↦ one_outstanding h past a.0 p c d i j x y old.0 old_y.0 line_x line_y addr
       ]
     ]
 
@@ -128,7 +124,7 @@ starts_empty read.ReadUnique st t s = cc
 starts_empty k st t s = cc
 
 -- an event that issues a transaction names no state
-issued-state : (h : Header) (past : Trace) (e : Event) (x : Transaction) (p l : ℕ) → issued (length past) e ≡ Some x → state_of h (e ∷ past) p l ≡ state_of h past p l
+pub issued-state : (h : Header) (past : Trace) (e : Event) (x : Transaction) (p l : ℕ) → issued (length past) e ≡ Some x → state_of h (e ∷ past) p l ≡ state_of h past p l
 issued-state h past (Ar q j addr snoop dom bar lock) x p l new = refl
 issued-state h past (Aw q j addr snoop dom bar) x p l new = refl
 issued-state h past e x p l new = cc
@@ -184,7 +180,7 @@ empty_while_read h (e ∷ past) a p i x o reads =
               let on = and_parts (is_line d.ended_one) (nat_eq d.ended_one.addr x.addr) (subst (λ v. is_on v x.addr ≡ true) one y.2) in
               let out : outstanding h past p Read d.id ≡ Some d.ended_one = ap (λ v. outstanding h past v Read d.id) port ∙ d.out in
               let same : x ≡ d.ended_one =
-              one_read h past a.0 p i d.id x d.ended_one old.0 out line on.0 (sym (eqb-true d.ended_one.addr x.addr on.1)) in
+              one_outstanding h past a.0 p Read Read i d.id x d.ended_one old.0 out line on.0 (sym (eqb-true d.ended_one.addr x.addr on.1)) in
               let ends_it : ended h past e ≡ Some d.ended_one = ap (ended h past) is ∙ d.is in
               absurd (old.1 d.ended_one ends_it (ap (λ (v : Transaction). v.place) (sym same)))
         ]

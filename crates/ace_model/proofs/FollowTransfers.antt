@@ -105,7 +105,7 @@ pub record UnderWay (h : Header) (past : Trace) (x : Transaction) : Type 0 where
   pub answered : (q : ℕ) → owes_answer past q x.addr ≡ false
 
 -- a read of a line isn't an exclusive store
-not_store : (past : Trace) (x : Transaction) → is_line_read_transaction x ≡ true → has_failed past x ≡ true → ⊥
+pub not_store : (past : Trace) (x : Transaction) → is_line_read_transaction x ≡ true → has_failed past x ≡ true → ⊥
 not_store past x reads failed =
     let k = is_some_and-is (read_kind x) reads_a_line reads in
     let store = (and_parts x.lock (is_some_and (read_kind x) is_clean_unique) (and_parts (is_exclusive_store x) _ failed).0).1 in

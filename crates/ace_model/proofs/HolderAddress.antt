@@ -41,7 +41,7 @@ outstanding_new h past y p c i x o =
     ]
 
 -- where the name is free, what was outstanding stays so
-outstanding_stays : (h : Header) (past : Trace) (y : Transaction) (p : ℕ) (c : Channel) (i : ℕ) (x : Transaction)
+pub outstanding_stays : (h : Header) (past : Trace) (y : Transaction) (p : ℕ) (c : Channel) (i : ℕ) (x : Transaction)
     → is_none (outstanding h past y.port y.chan y.id) ≡ true → outstanding h past p c i ≡ Some x
     → (has_name y p c i ≡ false) × (newest_named (Some y) p c i (outstanding h past p c i) ≡ Some x)
 outstanding_stays h past y p c i x free o =

@@ -11,12 +11,15 @@ pub mod FollowSnoops
 pub mod FollowTransfers
 pub mod FollowReply
 pub mod FollowSent
+pub mod FollowDone
 pub mod FollowFirst
 pub mod FollowLaw
 pub mod FollowRows
 pub mod FollowMemory
 pub mod FollowMemorySince
 pub mod FollowNoSnoop
+pub mod FollowUpdate
+pub mod FollowWriteQueue
 pub mod Forwarding
 pub mod Growth
 pub mod HolderAcknowledge
