@@ -21,6 +21,8 @@ use Rattle.ace_model.proofs.FollowOrder.{points-in_order}
 use Rattle.ace_model.proofs.FollowPoints.{IsPointOf, Follows, follows-choose}
 use Rattle.ace_model.proofs.FollowFirst.{first-point, Ready, more}
 use Rattle.ace_model.proofs.FollowMemorySince.{MemoryFollows}
+use Rattle.ace_model.proofs.FollowDone.{memory_follows}
+use Rattle.ace_model.proofs.FollowWritten.{writes_value}
 
 -- the points of the reads of a trace
 abbrev Points : Header → Trace → Type 0
@@ -137,3 +139,7 @@ reads_follow_memory h memory past a d =
         in_order = points-in_order h past p.0 a f.set;
       },
     )
+
+-- In an accepted trace in which data newer than memory are with a holder or in flight, all reads follow one order of the stores.
+pub reads_follow : (h : Header) (past : Trace) → IsAccepted h past → DirtyPlace h past → ReadsFollow past
+reads_follow h past a d = reads_follow_memory h (memory_follows h (writes_value h)) past a d

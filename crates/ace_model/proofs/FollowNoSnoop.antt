@@ -33,7 +33,7 @@ use Rattle.ace_model.proofs.HolderLaw.{inductive}
 use Rattle.ace_model.proofs.FollowOutstanding.{state_empty}
 
 -- a transaction of the longer trace is the new one, or was there
-issued-or-new : (e : Event) (past : Trace) (x : Transaction) → IsIssued (e ∷ past) x → (issued (length past) e ≡ Some x) ⊎ IsIssued past x
+pub issued-or-new : (e : Event) (past : Trace) (x : Transaction) → IsIssued (e ∷ past) x → (issued (length past) e ≡ Some x) ⊎ IsIssued past x
 issued-or-new e past x s =
     elim (cases_eq (length past) x.place) [
       | inl here ↦ inl (rw (eq-eqb (length past) x.place here) at s.there)

@@ -69,7 +69,7 @@ other-none h past a p i y u c j z o on =
     let parts = and_parts (is_line z) (nat_eq z.addr y.addr) on in
     one_outstanding h past a p c Write j i z y o u.out parts.0 (update-line y u.update) (eqb-true z.addr y.addr parts.1)
 
-update-named : (h : Header) (past : Trace) (p i : ℕ) (y : Transaction) → outstanding h past p Write i ≡ Some y → (y.port ≡ p) × (y.chan ≡ Write) × (y.id ≡ i)
+pub update-named : (h : Header) (past : Trace) (p i : ℕ) (y : Transaction) → outstanding h past p Write i ≡ Some y → (y.port ≡ p) × (y.chan ≡ Write) × (y.id ≡ i)
 update-named h past p i y o =
     let n = has_name-is y p Write i (transaction_of-stands past p Write i y (outstanding-named h past p Write i y o)).named in
     (n.port, n.chan, n.id)

@@ -11,6 +11,7 @@ pub mod FollowSnoops
 pub mod FollowTransfers
 pub mod FollowReply
 pub mod FollowSent
+pub mod FollowBurst
 pub mod FollowDone
 pub mod FollowFirst
 pub mod FollowLaw
@@ -20,6 +21,7 @@ pub mod FollowMemorySince
 pub mod FollowNoSnoop
 pub mod FollowUpdate
 pub mod FollowWriteQueue
+pub mod FollowWritten
 pub mod Forwarding
 pub mod Growth
 pub mod HolderAcknowledge
