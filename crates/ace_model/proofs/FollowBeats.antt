@@ -1,6 +1,6 @@
 -- A read that has had no transfer has no beat in the trace, and a read is the one that was issued at its place.
-use Rattle.std.proofs.Common.{◌≡◌, ◌≢◌, ◌⊎◌, ℕ, ◌+◌, ◌<◌, Bool, true, false, if◌then◌else◌, ◌&&◌, nat_eq, [], ◌∷◌, length, Option, Some, None, refl, sym, ap, subst, ◌∙◌, arith, inl, inr}
-use Rattle.std.proofs.lemmas.Bool.{and_parts, and_from, cases_Bool, eq-eqb, eqb-true, ne_eqb}
+use Rattle.std.proofs.Common.{◌≡◌, ◌≢◌, ℕ, ◌+◌, ◌<◌, Bool, true, false, if◌then◌else◌, ◌&&◌, nat_eq, [], ◌∷◌, length, Some, None, refl, sym, ap, subst, ◌∙◌, arith, inl, inr}
+use Rattle.std.proofs.lemmas.Bool.{and_from, eq-eqb, ne_eqb}
 use Rattle.ace_event.specs.declared.event.Event.{Event}
 use Rattle.ace_event.specs.declared.event.Event.TheVariants.{Ar, R, L}
 use Rattle.ace_event.specs.declared.event.Channel.TheVariants.{Read}
@@ -11,7 +11,7 @@ use Rattle.ace_model.specs.ReadsFollow.{IsLoad, IsBeat, HasBeat}
 use Rattle.ace_model.proofs.Issued.{issued_at, issued-place, transaction_of-stands}
 use Rattle.ace_model.proofs.Looks.{Some-injective, newest_named-cases}
 use Rattle.ace_model.proofs.HolderAddress.{named_read}
-use Rattle.ace_model.proofs.FollowPlaces.{NewBeat, beat-cases, beat-below, event_at-cases, at_point-length}
+use Rattle.ace_model.proofs.FollowPlaces.{beat-cases, beat-below, event_at-cases, at_point-length}
 use Rattle.ace_model.proofs.FollowOrder.{beat-issued}
 
 -- the name of the read goes on to have transfers

@@ -1,5 +1,5 @@
 -- The burst of a memory update has the words of its port's copy.
-use Rattle.std.proofs.Common.{◌≡◌, ◌≢◌, ◌⊎◌, ℕ, zero, suc, ◌+◌, ◌*◌, ◌-◌, ◌/◌, ◌%◌, ◌<◌, ◌≤◌, Bool, true, false, if◌then◌else◌, ◌&&◌, ◌||◌, not, nat_eq, nat_le, List, [], ◌∷◌, length, take, drop, map, slice_index, Option, Some, None, slice_get, refl, sym, ap, subst, ◌∙◌, arith, inl, inr, length-append}
+use Rattle.std.proofs.Common.{◌≡◌, ℕ, zero, suc, ◌+◌, ◌*◌, ◌-◌, ◌/◌, ◌%◌, ◌<◌, ◌≤◌, Bool, true, ◌&&◌, ◌||◌, nat_eq, nat_le, List, [], ◌∷◌, length, take, drop, map, slice_index, Option, Some, None, slice_get, refl, sym, ap, subst, ◌∙◌, arith, inl, inr, length-append}
 use Rattle.std.proofs.lemmas.Bool.{and_parts, and_from, or_cases, cases_Bool, eqb-true, eq-eqb, leb-true}
 use Rattle.ace_codes.specs.declared.kind.AwKind.{AwKind}
 use Rattle.ace_codes.specs.declared.kind.AwKind.TheVariants as write
@@ -9,9 +9,9 @@ use Rattle.ace_event.specs.declared.event.Event.TheVariants.{Ar, Aw, W}
 use Rattle.ace_event.specs.declared.header.Header.{Header}
 use Rattle.ace_tables.specs.Answers.{same_test}
 use Rattle.ace_model.specs.declared.transactions.Transaction.{Transaction}
-use Rattle.ace_model.specs.Trace.{Trace, at_point, more, implies, is_some_and, is_none_or}
+use Rattle.ace_model.specs.Trace.{Trace, at_point, more, implies, is_some_and}
 use Rattle.ace_model.specs.Kinds.{has_write_data, is_update, is_write_line_unique}
-use Rattle.ace_model.specs.Transactions.{issued, write_kind, outstanding}
+use Rattle.ace_model.specs.Transactions.{issued, write_kind}
 use Rattle.ace_model.specs.Progress.{updates_memory}
 use Rattle.ace_model.specs.Writes.{data_write, data_write_in, data_writes, write_beats, next_write, next_write_beat, stands_before, is_burst_whole}
 use Rattle.ace_model.specs.Copies.{copy_of, word_of}

@@ -1,6 +1,6 @@
 -- Once the snoops of a read of a line are done and no port has sent data, memory was the value at a point since the grant.
-use Rattle.std.proofs.Common.{◌≡◌, ◌≢◌, ◌⊎◌, ℕ, Bool, true, false, ◌||◌, Option, Some, None, is_none, refl, sym, ap, subst, ◌∙◌, inl, inr}
-use Rattle.std.proofs.lemmas.Bool.{and_parts, or_cases, or_left}
+use Rattle.std.proofs.Common.{◌≡◌, true, false, ◌||◌, Some, None, is_none, refl, sym, ap, subst, ◌∙◌, inl, inr}
+use Rattle.std.proofs.lemmas.Bool.{or_cases, or_left}
 use Rattle.ace_codes.specs.declared.kind.ArKind.{ArKind}
 use Rattle.ace_codes.specs.declared.kind.ArKind.TheVariants as read
 use Rattle.ace_codes.specs.declared.state.LineState.TheVariants.{I}
@@ -12,12 +12,11 @@ use Rattle.ace_tables.specs.States.{is_dirty}
 use Rattle.ace_model.specs.declared.transactions.Transaction.{Transaction}
 use Rattle.ace_model.specs.Trace.{Trace, is_some_and}
 use Rattle.ace_model.specs.Kinds.{reads_a_line, is_no_snoop_read, is_no_snoop_write}
-use Rattle.ace_model.specs.Transactions.{is_read, read_kind, write_kind, snoop_of, snoop_kind_of, outstanding, transfers}
-use Rattle.ace_model.specs.Grants.{granted, answer_of, each_port}
+use Rattle.ace_model.specs.Transactions.{is_read, read_kind, write_kind, snoop_of, snoop_kind_of, outstanding}
+use Rattle.ace_model.specs.Grants.{granted, each_port}
 use Rattle.ace_model.specs.States.{state_of, are_snoops_done, is_port_done}
 use Rattle.ace_model.specs.Exclusives.{has_failed}
 use Rattle.ace_model.specs.Copies.{is_line_read_transaction}
-use Rattle.ace_model.specs.Replies.{first_sender}
 use Rattle.ace_model.specs.AddressRules.{is_no_snoop}
 use Rattle.ace_model.specs.DirtyPlace.{DirtyPlace}
 use Rattle.ace_model.specs.Accepted.{rules, IsAccepted}
@@ -29,7 +28,7 @@ use Rattle.ace_model.proofs.HolderLaw.{inductive}
 use Rattle.ace_model.proofs.FollowOutstanding.{empty_while_read}
 use Rattle.ace_model.proofs.FollowTransfers.{not_store}
 use Rattle.ace_model.proofs.FollowMemory.{WritesValue, DirtyUnanswered, memory_or_holder}
-use Rattle.ace_model.proofs.FollowMemorySince.{MemorySince, MemoryFollows}
+use Rattle.ace_model.proofs.FollowMemorySince.{MemoryFollows}
 use Rattle.ace_model.proofs.FollowNoSnoop.{no_snoop-empty}
 
 -- a read of a line is on the read channel

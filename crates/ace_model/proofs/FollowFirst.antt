@@ -1,33 +1,28 @@
 -- The point of a read of a line, chosen at its first beat.
-use Rattle.std.proofs.Common.{◌≡◌, ◌≢◌, ◌⊎◌, ℕ, ◌+◌, ◌<◌, ◌≤◌, Bool, true, false, if◌then◌else◌, nat_eq, [], ◌∷◌, length, Option, Some, None, unwrap_or, option_map, option_and_then, refl, sym, ap, subst, ◌∙◌, arith, inl, inr}
-use Rattle.std.proofs.lemmas.Bool.{cases_Bool, cases_eq, eq-eqb}
+use Rattle.std.proofs.Common.{◌≡◌, ◌≢◌, ℕ, ◌+◌, Bool, true, [], ◌∷◌, Option, Some, None, unwrap_or, option_map, option_and_then, refl, sym, ap, ◌∙◌, arith, inl, inr}
+use Rattle.std.proofs.lemmas.Bool.{cases_eq, eq-eqb}
 use Rattle.ace_event.specs.declared.event.Channel.TheVariants.{Read}
 use Rattle.ace_event.specs.declared.event.Event.{Event}
 use Rattle.ace_event.specs.declared.event.Event.TheVariants.{R}
 use Rattle.ace_event.specs.declared.header.Header.{Header}
-use Rattle.ace_event.specs.declared.line.Line.{Line}
 use Rattle.ace_model.specs.declared.transactions.Transaction.{Transaction}
 use Rattle.ace_model.specs.declared.snoops.Answer.{Answer}
 use Rattle.ace_model.specs.Trace.{Trace, at_point}
 use Rattle.ace_model.specs.Transactions.{outstanding, transaction_of, transfers}
-use Rattle.ace_model.specs.Grants.{granted, grant_place, answer_of}
+use Rattle.ace_model.specs.Grants.{granted, grant_place}
 use Rattle.ace_model.specs.States.{are_snoops_done}
-use Rattle.ace_model.specs.Copies.{is_line_read_transaction, word_of, copy_of, memory_of, zero_line}
+use Rattle.ace_model.specs.Copies.{is_line_read_transaction, word_of, copy_of, memory_of}
 use Rattle.ace_model.specs.Replies.{reply_of, copy_at_answer, first_sender, memory_at_first_beat}
 use Rattle.ace_model.specs.Values.{value_of}
 use Rattle.ace_model.specs.DirtyPlace.{DirtyPlace}
-use Rattle.ace_model.specs.ReadsFollow.{IsGrantOf, ReadsFollow}
-use Rattle.ace_model.specs.ReadRules.{k18}
-use Rattle.ace_model.specs.Accepted.{rule, IsAccepted}
+use Rattle.ace_model.specs.ReadsFollow.{IsGrantOf}
+use Rattle.ace_model.specs.Accepted.{IsAccepted}
 use Rattle.ace_model.proofs.Growth.{at_point-before}
 use Rattle.ace_model.proofs.Issued.{outstanding-named, transaction_of-stands}
-use Rattle.ace_model.proofs.Kept.{accepted_keeps}
-use Rattle.ace_model.proofs.Looks.{Some-injective, has_name-is}
-use Rattle.ace_model.proofs.HolderTransfer.{may}
+use Rattle.ace_model.proofs.Looks.{has_name-is}
 use Rattle.ace_model.proofs.FollowPlaces.{NewBeat, grant-old}
-use Rattle.ace_model.proofs.FollowOrder.{points-in_order}
-use Rattle.ace_model.proofs.FollowPoints.{SameWords, IsPointOf, Follows, follows-step, follows-choose}
-use Rattle.ace_model.proofs.FollowMemorySince.{MemorySince, MemoryFollows}
+use Rattle.ace_model.proofs.FollowPoints.{IsPointOf, Follows, follows-step}
+use Rattle.ace_model.proofs.FollowMemorySince.{MemoryFollows}
 use Rattle.ace_model.proofs.FollowOutstanding.{outstanding-cases}
 use Rattle.ace_model.proofs.FollowSnoops.{snooped_once}
 use Rattle.ace_model.proofs.FollowTransfers.{first-under_way, first-transfer, transfers-new}

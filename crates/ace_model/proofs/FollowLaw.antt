@@ -1,5 +1,5 @@
 -- In an accepted trace in which data newer than memory are with a holder or in flight, all reads follow one order of the stores.
-use Rattle.std.proofs.Common.{◌≡◌, ◌≢◌, ℕ, ◌<◌, ◌≤◌, Bool, true, false, if◌then◌else◌, nat_eq, [], ◌∷◌, length, Option, Some, refl, sym, ap, subst, ◌∙◌, arith, inl, inr}
+use Rattle.std.proofs.Common.{◌≡◌, ℕ, ◌<◌, Bool, true, if◌then◌else◌, nat_eq, [], ◌∷◌, Some, refl, sym, ap, subst, ◌∙◌, arith, inl, inr}
 use Rattle.std.proofs.lemmas.Bool.{cases_Bool, cases_eq, eq-eqb}
 use Rattle.ace_event.specs.declared.event.Channel.TheVariants.{Read}
 use Rattle.ace_event.specs.declared.event.Event.{Event}
@@ -10,7 +10,7 @@ use Rattle.ace_model.specs.Trace.{Trace}
 use Rattle.ace_model.specs.Transactions.{outstanding, transaction_of, transfers}
 use Rattle.ace_model.specs.Copies.{is_line_read_transaction}
 use Rattle.ace_model.specs.DirtyPlace.{DirtyPlace}
-use Rattle.ace_model.specs.ReadsFollow.{IsBeat, ReadsFollow}
+use Rattle.ace_model.specs.ReadsFollow.{ReadsFollow}
 use Rattle.ace_model.specs.ReadRules.{k18}
 use Rattle.ace_model.specs.Accepted.{rule, IsAccepted}
 use Rattle.ace_model.proofs.Kept.{accepted_keeps}
@@ -80,16 +80,16 @@ with-beat h past q j resp last word a d memory points =
           | inr other ↦ (
             point,
             more h past (R q j resp last word) point a d f (λ x k w b.
-            let o = one-beat h past q j resp last word x k w m b in
-            let reads = o.line_read in cc),
+                let o = one-beat h past q j resp last word x k w m b in
+                let reads = o.line_read in cc),
           )
           | inl reads ↦ elim (cases_eq (transfers past q j) 0) [
             | inl none ↦ first m reads none
             | inr some ↦ (
               point,
               more h past (R q j resp last word) point a d f (λ x k w b.
-              let o = one-beat h past q j resp last word x k w m b in
-              subst (λ (v : Transaction). IsPointOf past v (point v.place)) o.same (f.replies q j m.one m.out reads some)),
+                  let o = one-beat h past q j resp last word x k w m b in
+                  subst (λ (v : Transaction). IsPointOf past v (point v.place)) o.same (f.replies q j m.one m.out reads some)),
             )
           ]
         ]

@@ -1,11 +1,11 @@
 -- Under the grant of a read of a line, while no port has sent data, memory was the value at a point since, or a port that holds the
 -- line dirty hasn't answered.
-use Rattle.std.proofs.Common.{◌≡◌, ◌≢◌, ◌⊎◌, ℕ, ◌+◌, ◌≤◌, Bool, true, false, if◌then◌else◌, ◌&&◌, not, nat_eq, [], ◌∷◌, length, Option, Some, None, is_none, unwrap_or, option_and_then, le_refl, refl, sym, ap, subst, ◌∙◌, arith, inl, inr}
-use Rattle.std.proofs.lemmas.Bool.{and_parts, or_cases, cases_Bool, cases_eq, eqb-true, eq-eqb}
+use Rattle.std.proofs.Common.{◌≡◌, ◌⊎◌, ℕ, Bool, true, false, if◌then◌else◌, [], ◌∷◌, length, Option, Some, None, unwrap_or, option_and_then, le_refl, refl, sym, ap, subst, ◌∙◌, arith, inl, inr}
+use Rattle.std.proofs.lemmas.Bool.{or_cases, cases_Bool}
 use Rattle.ace_codes.specs.declared.kind.ArKind.{ArKind}
 use Rattle.ace_codes.specs.declared.kind.ArKind.TheVariants as read
 use Rattle.ace_codes.specs.declared.state.LineState.{LineState}
-use Rattle.ace_codes.specs.declared.state.LineState.TheVariants.{I, UD}
+use Rattle.ace_codes.specs.declared.state.LineState.TheVariants.{UD}
 use Rattle.ace_event.specs.declared.event.Channel.{Channel}
 use Rattle.ace_event.specs.declared.event.Event.{Event}
 use Rattle.ace_event.specs.declared.event.Event.TheVariants.{Rk, Wk, Cr, G, M, S, D}
@@ -16,8 +16,8 @@ use Rattle.ace_model.specs.declared.transactions.Transaction.{Transaction}
 use Rattle.ace_model.specs.declared.snoops.Answer.{Answer}
 use Rattle.ace_model.specs.Trace.{Trace, at_point, is_some_and}
 use Rattle.ace_model.specs.Kinds.{reads_a_line, is_make_unique, is_write_line_unique}
-use Rattle.ace_model.specs.Transactions.{is_line, is_some_on, is_on, is_read, read_kind, write_kind, ended, without}
-use Rattle.ace_model.specs.Grants.{given, granted, grant_place, answer_of, answers_grant, has_passed_data, passer}
+use Rattle.ace_model.specs.Transactions.{is_some_on, is_on, is_read, read_kind, write_kind, ended, without}
+use Rattle.ace_model.specs.Grants.{given, granted, answer_of, answers_grant, has_passed_data, passer}
 use Rattle.ace_model.specs.States.{state_of}
 use Rattle.ace_model.specs.Copies.{is_line_read_transaction, memory_of, written, word_of}
 use Rattle.ace_model.specs.Replies.{first_sender, passed_data, passed_to, copy_at_answer}
@@ -27,7 +27,7 @@ use Rattle.ace_model.specs.DirtyPlace.{replaces_line, HasDirtyHolder, IsValueSaf
 use Rattle.ace_model.specs.Accepted.{rule, rules, IsAccepted}
 use Rattle.ace_model.proofs.Growth.{at_point-before, at_point-end}
 use Rattle.ace_model.proofs.Kept.{accepted_keeps}
-use Rattle.ace_model.proofs.Looks.{Some-injective, is_some_and-is, newest_on-cases, without-some}
+use Rattle.ace_model.proofs.Looks.{is_some_and-is, newest_on-cases, without-some}
 use Rattle.ace_model.proofs.HolderStates.{less-clean}
 use Rattle.ace_model.proofs.HolderStores.{less_s, is_named_by_d}
 use Rattle.ace_model.proofs.HolderSnoop.{less_cr}

@@ -1,6 +1,6 @@
 -- Of a line with a NoSnoop transaction no port holds anything.
-use Rattle.std.proofs.Common.{◌≡◌, ◌≢◌, ◌⊎◌, ℕ, ◌<◌, Bool, true, false, if◌then◌else◌, ◌&&◌, ◌||◌, not, nat_eq, [], ◌∷◌, length, Option, Some, None, refl, sym, ap, subst, ◌∙◌, arith, inl, inr}
-use Rattle.std.proofs.lemmas.Bool.{and_parts, and_from, or_cases, cases_Bool, cases_eq, eqb-true, eq-eqb, ne_eqb}
+use Rattle.std.proofs.Common.{◌≡◌, ◌≢◌, ◌⊎◌, ℕ, Bool, true, false, ◌||◌, nat_eq, [], ◌∷◌, length, Some, None, refl, sym, ap, subst, ◌∙◌, arith, inl, inr}
+use Rattle.std.proofs.lemmas.Bool.{and_parts, cases_Bool, cases_eq, eqb-true, eq-eqb, ne_eqb}
 use Rattle.ace_codes.specs.declared.kind.ArKind.{ArKind}
 use Rattle.ace_codes.specs.declared.kind.ArKind.TheVariants as read
 use Rattle.ace_codes.specs.declared.state.LineState.{LineState}
@@ -20,15 +20,15 @@ use Rattle.ace_model.specs.Progress.{each_issued}
 use Rattle.ace_model.specs.States.{state_of, has_store}
 use Rattle.ace_model.specs.Exclusives.{has_failed}
 use Rattle.ace_model.specs.AddressRules.{k8, is_no_snoop, is_used_alike, fits_line}
-use Rattle.ace_model.specs.ReadRules.{k23, ends_well, is_end, held_of}
+use Rattle.ace_model.specs.ReadRules.{ends_well, is_end, held_of}
 use Rattle.ace_model.specs.Accepted.{rule, rules, IsAccepted}
-use Rattle.ace_model.proofs.Growth.{IsIssued, issued-new, issued-old, each_issued-at}
+use Rattle.ace_model.proofs.Growth.{IsIssued, issued-old, each_issued-at}
 use Rattle.ace_model.proofs.Issued.{transaction_of-stands}
 use Rattle.ace_model.proofs.Kept.{accepted_keeps}
 use Rattle.ace_model.proofs.Looks.{Some-injective, is_some_and-is, is_none_or-at, implies-at, same_test-at, is_invalid-is}
 use Rattle.ace_model.proofs.HolderGrant.{is_on-addr}
 use Rattle.ace_model.proofs.HolderAcknowledge.{ends, is_named_by_rk}
-use Rattle.ace_model.proofs.HolderKept.{KeptRules, kept}
+use Rattle.ace_model.proofs.HolderKept.{kept}
 use Rattle.ace_model.proofs.HolderLaw.{inductive}
 use Rattle.ace_model.proofs.FollowOutstanding.{state_empty}
 

@@ -1,5 +1,5 @@
 -- The points of the reads of a line by one port never go back: an earlier read has all its beats before the later one.
-use Rattle.std.proofs.Common.{◌≡◌, ◌⊎◌, ℕ, zero, suc, ◌-◌, ◌<◌, ◌≤◌, Bool, true, false, cond, nat_eq, [], ◌∷◌, length, drop, Option, Some, refl, sym, ap, subst, ◌∙◌, arith, inl, inr}
+use Rattle.std.proofs.Common.{◌≡◌, ◌⊎◌, ℕ, zero, suc, ◌-◌, ◌<◌, ◌≤◌, true, false, nat_eq, [], ◌∷◌, length, drop, Some, refl, sym, ap, subst, ◌∙◌, arith, inl, inr}
 use Rattle.std.proofs.lemmas.Bool.{cases_Bool, eqb-true, not-true}
 use Rattle.ace_codes.specs.declared.state.LineState.TheVariants.{I}
 use Rattle.ace_tables.specs.States.{is_invalid}
@@ -9,9 +9,8 @@ use Rattle.ace_event.specs.declared.event.Channel.TheVariants.{Read}
 use Rattle.ace_event.specs.declared.header.Header.{Header}
 use Rattle.ace_model.specs.declared.transactions.Transaction.{Transaction}
 use Rattle.ace_model.specs.Trace.{Trace, event_at, at_point}
-use Rattle.ace_model.specs.Transactions.{issued, outstanding, transaction_of}
+use Rattle.ace_model.specs.Transactions.{issued, outstanding}
 use Rattle.ace_model.specs.States.{state_of}
-use Rattle.ace_model.specs.Copies.{is_line_read_transaction}
 use Rattle.ace_model.specs.CacheRules.{k30}
 use Rattle.ace_model.specs.AddressRules.{k5}
 use Rattle.ace_model.specs.ReadRules.{k18}
@@ -21,7 +20,6 @@ use Rattle.ace_model.proofs.Growth.{at_point-before, issued_at-before}
 use Rattle.ace_model.proofs.Points.{accepted-before}
 use Rattle.ace_model.proofs.Issued.{issued_at, transaction_of-stands}
 use Rattle.ace_model.proofs.Kept.{accepted_keeps}
-use Rattle.ace_model.proofs.Looks.{Some-injective}
 use Rattle.ace_model.proofs.HolderTransfer.{may}
 use Rattle.ace_model.proofs.FollowPlaces.{event_at-cases, event_at-below, at_point-last, at_point-twice, at_point-length, beat-below}
 use Rattle.ace_model.proofs.FollowOutstanding.{outstanding-before, line-taken, line_read-line, empty_while_read}

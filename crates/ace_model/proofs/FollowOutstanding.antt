@@ -1,20 +1,20 @@
 -- The outstanding reads of a port: what was outstanding before, one on a line, and none of a line that its port holds.
-use Rattle.std.proofs.Common.{◌≡◌, ◌≢◌, ◌⊎◌, ℕ, zero, suc, ◌<◌, ◌≤◌, unwrap_or, Bool, true, false, not, ◌&&◌, nat_eq, [], ◌∷◌, length, drop, Option, Some, None, refl, sym, ap, subst, ◌∙◌, arith, inl, inr}
+use Rattle.std.proofs.Common.{◌≡◌, ◌≢◌, ◌⊎◌, ℕ, zero, suc, ◌<◌, true, false, not, nat_eq, [], ◌∷◌, length, drop, Some, refl, sym, ap, subst, ◌∙◌, arith, inl, inr}
 use Rattle.std.proofs.lemmas.Bool.{and_parts, and_from, or_left, cases_Bool, eqb-true, eq-eqb, not-true}
 use Rattle.ace_codes.specs.declared.kind.ArKind.{ArKind}
 use Rattle.ace_codes.specs.declared.kind.ArKind.TheVariants as read
 use Rattle.ace_codes.specs.declared.state.LineState.{LineState}
-use Rattle.ace_codes.specs.declared.state.LineState.TheVariants.{I, UC, UD, SC, SD}
+use Rattle.ace_codes.specs.declared.state.LineState.TheVariants.{I}
 use Rattle.ace_event.specs.declared.header.Header.{Header}
 use Rattle.ace_event.specs.declared.event.Channel.{Channel}
 use Rattle.ace_event.specs.declared.event.Channel.TheVariants.{Read}
 use Rattle.ace_event.specs.declared.event.Event.{Event}
-use Rattle.ace_event.specs.declared.event.Event.TheVariants.{Ar, R, Rk, Aw, W, B, Wk, Ac, Cr, Cd, G, M, S, L, D, Op}
-use Rattle.ace_tables.specs.StartStates.{starts_read, starts_write}
+use Rattle.ace_event.specs.declared.event.Event.TheVariants.{Ar, Rk, Aw, Wk, Cr, S, D}
+use Rattle.ace_tables.specs.StartStates.{starts_read}
 use Rattle.ace_model.specs.declared.transactions.Transaction.{Transaction}
 use Rattle.ace_model.specs.Trace.{Trace, implies, is_some_and, is_none_or}
 use Rattle.ace_model.specs.Kinds.{is_line_read, is_line_write, reads_a_line}
-use Rattle.ace_model.specs.Transactions.{is_some_on, has_name, is_line, is_on, is_transaction, issued, read_kind, write_kind, transaction_of, ended, without, outstanding, is_outstanding, is_outstanding_on, has_outstanding_on, acknowledged}
+use Rattle.ace_model.specs.Transactions.{has_name, is_line, is_on, issued, read_kind, write_kind, ended, without, outstanding, is_outstanding, is_outstanding_on, has_outstanding_on, acknowledged}
 use Rattle.ace_model.specs.States.{state_of}
 use Rattle.ace_model.specs.Copies.{is_line_read_transaction}
 use Rattle.ace_model.specs.AddressRules.{k5, k6, has_free_line, starts_well}
@@ -27,7 +27,7 @@ use Rattle.ace_model.proofs.HolderStates.{less-lessens}
 use Rattle.ace_model.proofs.HolderStores.{less_s, lessened_d}
 use Rattle.ace_model.proofs.HolderSnoop.{less_cr}
 use Rattle.ace_model.proofs.HolderWrite.{less_wk}
-use Rattle.ace_model.proofs.HolderAcknowledge.{Ends, ends, is_named_by_rk}
+use Rattle.ace_model.proofs.HolderAcknowledge.{ends, is_named_by_rk}
 use Rattle.ace_model.proofs.HolderKept.{KeptRules, kept}
 use Rattle.ace_model.proofs.HolderLaw.{inductive}
 

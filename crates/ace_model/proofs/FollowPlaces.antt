@@ -1,11 +1,11 @@
 -- The events of a trace by their places, and what a longer trace says of them: loads, beats and grants.
-use Rattle.std.proofs.Common.{◌≡◌, ◌⊎◌, ℕ, zero, suc, ◌-◌, ◌<◌, ◌≤◌, List, Bool, true, [], ◌∷◌, ◌++◌, length, reverse, drop, Option, Some, None, slice_get, refl, sym, ap, subst, ◌∙◌, arith, inl, inr}
+use Rattle.std.proofs.Common.{◌≡◌, ◌⊎◌, ℕ, zero, suc, ◌-◌, ◌<◌, ◌≤◌, List, Bool, true, [], ◌∷◌, ◌++◌, length, reverse, drop, Some, slice_get, sym, ap, subst, ◌∙◌, arith, inl, inr}
 use Rattle.std.proofs.lemmas.List.{reverse-append, length-reverse, drop-drop, length-drop}
 use Rattle.ace_event.specs.declared.event.Event.{Event}
 use Rattle.ace_event.specs.declared.event.Event.TheVariants.{L, R, G}
 use Rattle.ace_event.specs.declared.event.Channel.TheVariants.{Read}
 use Rattle.ace_model.specs.declared.transactions.Transaction.{Transaction}
-use Rattle.ace_model.specs.Trace.{Trace, event_at, at_point, more}
+use Rattle.ace_model.specs.Trace.{Trace, event_at, at_point}
 use Rattle.ace_model.specs.Transactions.{transaction_of, transfers}
 use Rattle.ace_model.specs.Copies.{is_line_read_transaction}
 use Rattle.ace_model.specs.ReadsFollow.{IsLoad, IsBeat, IsGrantOf}
@@ -83,12 +83,18 @@ beat-cases e past n x k word beat =
           let low = old.1 in
           let same : at_point n (e ∷ past) ≡ at_point n past = at_point-before e past n (omega arith) in
           inl (
-            (resp, (last, (
-              old.0,
-              subst (λ (t : Trace). transaction_of t x.port Read x.id ≡ Some x) same b.1,
-              b.2,
-              subst (λ (t : Trace). transfers t x.port x.id ≡ k) same b.3,
-            ))),
+            (
+              resp,
+              (
+                last,
+                (
+                  old.0,
+                  subst (λ (t : Trace). transaction_of t x.port Read x.id ≡ Some x) same b.1,
+                  b.2,
+                  subst (λ (t : Trace). transfers t x.port x.id ≡ k) same b.3,
+                ),
+              ),
+            ),
             old.1,
           )
       | inr new ↦

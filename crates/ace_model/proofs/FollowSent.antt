@@ -1,5 +1,5 @@
 -- The line that the first sender under a grant announced was the line's value at its answer; and the G of a granted read.
-use Rattle.std.proofs.Common.{◌≡◌, ◌≢◌, ◌⊎◌, ℕ, ◌+◌, ◌<◌, ◌≤◌, Bool, true, false, if◌then◌else◌, ◌&&◌, nat_eq, [], ◌∷◌, length, Option, Some, None, le_refl, refl, sym, ap, subst, ◌∙◌, arith, inl, inr}
+use Rattle.std.proofs.Common.{◌≡◌, ◌≢◌, ℕ, ◌+◌, Bool, true, false, if◌then◌else◌, ◌&&◌, nat_eq, [], ◌∷◌, length, Option, Some, None, le_refl, refl, sym, ap, subst, ◌∙◌, arith, inl, inr}
 use Rattle.std.proofs.lemmas.Bool.{and_parts, and_from, cases_Bool, eq-eqb, eqb-true}
 use Rattle.ace_codes.specs.declared.kind.SnoopKind.{SnoopKind}
 use Rattle.ace_codes.specs.declared.kind.SnoopKind.TheVariants as snoop
@@ -17,10 +17,10 @@ use Rattle.ace_tables.specs.States.{is_invalid}
 use Rattle.ace_model.specs.declared.transactions.Transaction.{Transaction}
 use Rattle.ace_model.specs.declared.snoops.Answer.{Answer}
 use Rattle.ace_model.specs.declared.snoops.Snoop.{Snoop}
-use Rattle.ace_model.specs.Trace.{Trace, at_point, event_at, newer, is_some_and}
+use Rattle.ace_model.specs.Trace.{Trace, at_point, newer}
 use Rattle.ace_model.specs.Kinds.{is_line_snoop}
 use Rattle.ace_model.specs.Transactions.{is_on, is_some_on, transaction_of, ended, without}
-use Rattle.ace_model.specs.Snoops.{answers, answered, data_answers, is_snoop_on, snoops_a_line}
+use Rattle.ace_model.specs.Snoops.{answers, answered, data_answers, snoops_a_line}
 use Rattle.ace_model.specs.Grants.{given, granted, grant_place, answer_of, answers_grant}
 use Rattle.ace_model.specs.States.{state_of}
 use Rattle.ace_model.specs.Copies.{copy_of}
@@ -35,7 +35,7 @@ use Rattle.ace_model.proofs.Issued.{transaction_of-stands}
 use Rattle.ace_model.proofs.Kept.{accepted_keeps}
 use Rattle.ace_model.proofs.Looks.{Some-injective, is_some_and-is, is_none_or-at, has_name-is, newest_on-cases, without-some}
 use Rattle.ace_model.proofs.FollowPlaces.{event_at-now, grant-old, at_point-last}
-use Rattle.ace_model.proofs.FollowSnoops.{SnoopedOnce, snooped_once, answers_grant-is, answer_cr}
+use Rattle.ace_model.proofs.FollowSnoops.{SnoopedOnce, snooped_once, answers_grant-is}
 use Rattle.ace_model.proofs.FollowReply.{newer-none}
 
 -- A granted read has had its G, just before its grant.

@@ -1,5 +1,5 @@
 -- From its first beat on a read of a line is granted, and no snoop under its grant is unanswered.
-use Rattle.std.proofs.Common.{◌≡◌, ◌≢◌, ◌⊎◌, ℕ, ◌+◌, Bool, true, false, not, if◌then◌else◌, ◌&&◌, ◌||◌, nat_eq, nat_lt, [], ◌∷◌, length, Option, Some, None, is_none, is_some, refl, sym, ap, subst, ◌∙◌, inl, inr}
+use Rattle.std.proofs.Common.{◌≡◌, ◌≢◌, ℕ, Bool, true, false, not, if◌then◌else◌, ◌&&◌, ◌||◌, nat_eq, [], ◌∷◌, length, Option, Some, None, is_none, is_some, refl, sym, ap, subst, ◌∙◌, inl, inr}
 use Rattle.std.proofs.lemmas.Bool.{and_parts, or_cases, cases_Bool, cases_eq, eq-eqb, ne_eqb, eqb-true, ltb-true, not-true}
 use Rattle.ace_codes.specs.declared.kind.ArKind.{ArKind}
 use Rattle.ace_codes.specs.declared.kind.ArKind.TheVariants as read
@@ -7,16 +7,15 @@ use Rattle.ace_event.specs.declared.event.Channel.TheVariants.{Read, Write}
 use Rattle.ace_event.specs.declared.event.Event.{Event}
 use Rattle.ace_event.specs.declared.event.Event.TheVariants.{Ar, R, Aw, Ac, Cr, G}
 use Rattle.ace_event.specs.declared.header.Header.{Header}
-use Rattle.ace_codes.specs.declared.state.LineState.{LineState}
 use Rattle.ace_model.specs.declared.transactions.Transaction.{Transaction}
 use Rattle.ace_model.specs.declared.snoops.Answer.{Answer}
 use Rattle.ace_model.specs.Trace.{Trace, implies, is_some_and, newer}
 use Rattle.ace_model.specs.Kinds.{reads_a_line, is_clean_unique}
-use Rattle.ace_model.specs.Transactions.{is_read, is_line, is_some_on, has_name, issued, read_kind, transaction_of, ended, snoop_of, is_exclusive_store, outstanding, transfers}
+use Rattle.ace_model.specs.Transactions.{is_read, is_line, has_name, issued, read_kind, transaction_of, ended, snoop_of, is_exclusive_store, outstanding, transfers}
 use Rattle.ace_model.specs.Snoops.{snoops_a_line}
-use Rattle.ace_model.specs.Grants.{given, granted, is_granted, is_begun, was_snooped, answer_of, answer_at, owes_answer, owes_data, each_port, has_passed_data}
+use Rattle.ace_model.specs.Grants.{granted, is_granted, is_begun, was_snooped, answer_of, answer_at, owes_answer, owes_data, each_port, has_passed_data}
 use Rattle.ace_model.specs.Exclusives.{has_failed}
-use Rattle.ace_model.specs.States.{are_snoops_done, is_port_done, state_of}
+use Rattle.ace_model.specs.States.{are_snoops_done, is_port_done}
 use Rattle.ace_model.specs.Copies.{is_line_read_transaction}
 use Rattle.ace_model.specs.SnoopRules.{k12, k13}
 use Rattle.ace_model.specs.ReadRules.{k18, takes_passed}
@@ -27,11 +26,11 @@ use Rattle.ace_model.proofs.Issued.{outstanding-named, transaction_of-stands}
 use Rattle.ace_model.proofs.HolderAddress.{named_read, write_issued}
 use Rattle.ace_model.proofs.HolderGrant.{other_line}
 use Rattle.ace_model.proofs.HolderFirst.{each_at}
-use Rattle.ace_model.proofs.HolderTransfer.{MayTransfer, may, granted_one}
+use Rattle.ace_model.proofs.HolderTransfer.{may, granted_one}
 use Rattle.ace_model.proofs.HolderKept.{kept}
 use Rattle.ace_model.proofs.HolderLaw.{inductive}
 use Rattle.ace_model.proofs.FollowOutstanding.{outstanding-cases, line_read-line}
-use Rattle.ace_model.proofs.FollowSnoops.{SnoopsCaused, snoops_caused, MaySnoop, snoops-for}
+use Rattle.ace_model.proofs.FollowSnoops.{snoops_caused, snoops-for}
 
 -- a new read has had no transfer
 pub transfers-new : (e : Event) (past : Trace) (p i : ℕ) (x : Transaction) → issued (length past) e ≡ Some x → has_name x p Read i ≡ true → transfers (e ∷ past) p i ≡ 0

@@ -1,5 +1,5 @@
 -- While a memory update is outstanding, its port holds the line, and its copy of the line stays the same.
-use Rattle.std.proofs.Common.{◌≡◌, ◌≢◌, ◌⊎◌, ℕ, Bool, true, false, if◌then◌else◌, ◌&&◌, ◌||◌, not, nat_eq, nat_lt, [], ◌∷◌, length, Option, Some, None, unwrap_or, le_refl, refl, sym, ap, subst, ◌∙◌, inl, inr}
+use Rattle.std.proofs.Common.{◌≡◌, ◌≢◌, ℕ, Bool, true, false, if◌then◌else◌, ◌&&◌, not, nat_eq, nat_lt, [], ◌∷◌, length, Some, None, unwrap_or, le_refl, refl, sym, ap, subst, ◌∙◌, inl, inr}
 use Rattle.std.proofs.lemmas.Bool.{and_parts, and_from, or_cases, or_left, or_right, cases_Bool, eqb-true, eq-eqb, not-true}
 use Rattle.ace_codes.specs.declared.kind.AwKind.{AwKind}
 use Rattle.ace_codes.specs.declared.kind.AwKind.TheVariants as write
@@ -16,21 +16,19 @@ use Rattle.ace_event.specs.declared.event.Channel.TheVariants.{Read, Write}
 use Rattle.ace_event.specs.declared.event.Event.{Event}
 use Rattle.ace_event.specs.declared.event.Event.TheVariants.{R, Rk, Wk, Cr, S, D}
 use Rattle.ace_event.specs.declared.header.Header.{Header}
-use Rattle.ace_event.specs.declared.line.Line.{Line}
 use Rattle.ace_tables.specs.Answers.{is_snoop_row, is_line_row, fits_update, goes_with_update, states_after, fits_answer}
 use Rattle.ace_tables.specs.SilentTransitions.{is_silent_move}
 use Rattle.ace_tables.specs.StartStates.{starts_read, starts_write}
 use Rattle.ace_tables.specs.States.{is_invalid, is_unique, is_among}
 use Rattle.ace_model.specs.declared.transactions.Transaction.{Transaction}
-use Rattle.ace_model.specs.declared.snoops.Snoop.{Snoop}
-use Rattle.ace_model.specs.Trace.{Trace, implies, is_some_and, is_none_or}
-use Rattle.ace_model.specs.Kinds.{is_line_snoop, is_line_read, is_line_write, is_update, is_make_unique, reads_a_line}
-use Rattle.ace_model.specs.Transactions.{is_ace, is_read, is_line, is_on, is_some_on, is_make_unique_on, has_name, issued, some_issued, read_kind, write_kind, transaction_of, ended, outstanding, is_outstanding, is_outstanding_on, has_outstanding_on, acknowledged, acknowledgements, is_complete}
+use Rattle.ace_model.specs.Trace.{Trace, is_some_and, is_none_or}
+use Rattle.ace_model.specs.Kinds.{is_line_snoop, is_line_read, is_line_write, is_update, is_make_unique}
+use Rattle.ace_model.specs.Transactions.{is_ace, is_read, is_line, is_on, is_some_on, is_make_unique_on, issued, some_issued, read_kind, write_kind, transaction_of, ended, outstanding, is_outstanding, is_outstanding_on, has_outstanding_on, acknowledged, acknowledgements, is_complete}
 use Rattle.ace_model.specs.Progress.{updates_memory, is_update_on, has_update}
 use Rattle.ace_model.specs.Snoops.{answered, answers_line, is_snoop_on, snoops_a_line}
 use Rattle.ace_model.specs.States.{state_of, awaits_store, has_store, is_in_make_unique}
-use Rattle.ace_model.specs.Copies.{copy_of, received, stored_into, is_line_read_transaction}
-use Rattle.ace_model.specs.AddressRules.{k1, k6, starts_well}
+use Rattle.ace_model.specs.Copies.{copy_of, is_line_read_transaction}
+use Rattle.ace_model.specs.AddressRules.{k6, starts_well}
 use Rattle.ace_model.specs.SnoopRules.{k16, answers_beside_update}
 use Rattle.ace_model.specs.ReadRules.{k18}
 use Rattle.ace_model.specs.CacheRules.{k29, k32, may_store, wants_store, full_line}
@@ -42,10 +40,10 @@ use Rattle.ace_model.proofs.Looks.{Some-injective, is_some_and-is, is_none_or-at
 use Rattle.ace_model.proofs.HolderEnds.{acknowledged_is}
 use Rattle.ace_model.proofs.HolderAcknowledge.{ends, is_named_by_rk}
 use Rattle.ace_model.proofs.HolderTransfer.{may}
-use Rattle.ace_model.proofs.HolderKept.{KeptRules, kept}
+use Rattle.ace_model.proofs.HolderKept.{kept}
 use Rattle.ace_model.proofs.HolderLaw.{inductive}
 use Rattle.ace_model.proofs.FollowOutstanding.{outstanding-cases, one_outstanding, issued-state}
-use Rattle.ace_model.proofs.FollowWriteQueue.{WriteQueue, write_queue}
+use Rattle.ace_model.proofs.FollowWriteQueue.{write_queue}
 
 -- A memory update that is outstanding.
 pub record Updates (h : Header) (past : Trace) (p i : ℕ) (y : Transaction) : Type 0 where

@@ -1,6 +1,6 @@
 -- A complete write of an ACE port that waits for its WK is outstanding.
-use Rattle.std.proofs.Common.{◌≡◌, ◌≢◌, ◌⊎◌, ℕ, ◌+◌, ◌<◌, ◌≤◌, Bool, true, false, if◌then◌else◌, ◌&&◌, ◌||◌, not, nat_eq, nat_lt, [], ◌∷◌, length, Option, Some, None, slice_get, le_refl, refl, sym, ap, subst, ◌∙◌, arith, inl, inr}
-use Rattle.std.proofs.lemmas.Bool.{and_parts, and_from, or_left, or_right, cases_Bool, eqb-true, eq-eqb, not-true}
+use Rattle.std.proofs.Common.{◌≡◌, ◌≢◌, ℕ, ◌+◌, ◌≤◌, Bool, true, false, if◌then◌else◌, ◌&&◌, not, nat_eq, [], ◌∷◌, length, Some, None, slice_get, le_refl, refl, sym, ap, subst, ◌∙◌, arith, inl, inr}
+use Rattle.std.proofs.lemmas.Bool.{and_parts, or_left, or_right, eqb-true, eq-eqb, not-true}
 use Rattle.ace_codes.specs.declared.state.LineState.{LineState}
 use Rattle.ace_event.specs.declared.event.Channel.{Channel}
 use Rattle.ace_event.specs.declared.event.Channel.TheVariants.{Read, Write}
@@ -9,12 +9,12 @@ use Rattle.ace_event.specs.declared.event.Event.TheVariants.{Ar, R, Rk, Aw, B, W
 use Rattle.ace_event.specs.declared.header.Header.{Header}
 use Rattle.ace_model.specs.declared.transactions.Transaction.{Transaction}
 use Rattle.ace_model.specs.Trace.{Trace, is_some_and}
-use Rattle.ace_model.specs.Transactions.{is_ace, is_named, has_name, issued, transaction_of, ended, outstanding, completes, completed, acknowledgements, next_complete, acknowledged, is_complete, is_completion, without}
+use Rattle.ace_model.specs.Transactions.{is_ace, is_named, issued, transaction_of, ended, outstanding, completes, completed, acknowledgements, acknowledged, is_complete, is_completion}
 use Rattle.ace_model.specs.AddressRules.{k4}
 use Rattle.ace_model.specs.WriteRules.{k26, may_respond}
 use Rattle.ace_model.specs.Accepted.{rule, IsAccepted}
 use Rattle.ace_model.proofs.Kept.{accepted_keeps}
-use Rattle.ace_model.proofs.Looks.{Some-injective, is_some_and-is, has_name-is, newest_named-older, without-other}
+use Rattle.ace_model.proofs.Looks.{Some-injective, is_some_and-is, has_name-is, without-other}
 use Rattle.ace_model.proofs.Issued.{outstanding-named, transaction_of-stands}
 use Rattle.ace_model.proofs.Places.{slice_get-more}
 use Rattle.ace_model.proofs.HolderAddress.{outstanding_stays, write_issued}
