@@ -132,7 +132,7 @@ first-under_way h past p i resp last word x a o reads none =
     subst (λ (v : Transaction). are_snoops_done h past v ≡ true) one
     (implies-at (nat_eq (transfers past m.one.port m.one.id) 0) (are_snoops_done h past m.one) two.1 (eq-eqb (transfers past m.one.port m.one.id) 0 zero_before)) in
     let stood : granted h past x.addr ≡ Some x =
-    subst (λ (v : Transaction). granted h past v.addr ≡ Some v) one (granted_one h past p i m.one (inductive rules kept h past a.0) m.named two.0) in
+    subst (λ (v : Transaction). granted h past v.addr ≡ Some v) one (granted_one h past p Read i m.one (inductive rules kept h past a.0) m.named two.0) in
     (record { stands = stood; answered = λ q. all_answered q done stood }, done)
   where
     all_answered : (q : ℕ) → are_snoops_done h past x ≡ true → granted h past x.addr ≡ Some x → owes_answer past q x.addr ≡ false

@@ -1,14 +1,16 @@
 -- A trace that grows: what is in it stays, and what it has had it keeps.
-use Rattle.std.proofs.Common.{◌≡◌, ℕ, zero, suc, ◌-◌, ◌<◌, ◌≤◌, Bool, true, false, not, ◌&&◌, nat_eq, List, [], ◌∷◌, ◌++◌, length, Option, Some, None, slice_get, refl, sym, ◌∙◌, arith, inl, inr, length-append}
-use Rattle.std.proofs.lemmas.Bool.{or_left, or_right, cases_Bool, eq-eqb, ne_eqb}
+use Rattle.std.proofs.Common.{◌≡◌, ◌⊎◌, ℕ, zero, suc, ◌-◌, ◌<◌, ◌≤◌, Bool, true, false, not, ◌&&◌, nat_eq, List, [], ◌∷◌, ◌++◌, length, Option, Some, None, slice_get, refl, sym, ◌∙◌, arith, inl, inr, length-append}
+use Rattle.std.proofs.lemmas.Bool.{or_cases, or_left, or_right, cases_Bool, cases_eq, eq-eqb, ne_eqb}
 use Rattle.ace_event.specs.declared.event.Event.{Event}
+use Rattle.ace_event.specs.declared.event.Channel.{Channel}
 use Rattle.ace_event.specs.declared.header.Header.{Header}
 use Rattle.ace_model.specs.declared.transactions.Transaction.{Transaction}
 use Rattle.ace_model.specs.Trace.{Trace, at_point, is_some_and, more}
-use Rattle.ace_model.specs.Transactions.{issued, is_transaction, some_issued}
+use Rattle.ace_model.specs.Transactions.{issued, is_transaction, some_issued, transaction_of}
 use Rattle.ace_model.specs.Progress.{transactions, served_by, has_had, each_issued}
 use Rattle.ace_model.specs.Accepted.{IsAccepted}
-use Rattle.ace_model.proofs.Issued.{issued-place, issued_at}
+use Rattle.ace_model.proofs.Issued.{issued-place, issued_at, transaction_of-stands}
+use Rattle.ace_model.proofs.Looks.{is_some_and-is}
 use Rattle.ace_model.proofs.Places.{slice_get-more}
 
 -- an element of a list that grows at its end keeps its place
@@ -55,6 +57,36 @@ issued-new e past x new =
 pub issued-old : (e : Event) (past : Trace) (x : Transaction) → IsIssued past x → IsIssued (e ∷ past) x
 issued-old e past x old =
     record { there = issued_at-grown (e ∷ []) past x.place old.before ∙ old.there; before = let b = old.before in omega arith }
+
+-- a transaction of the longer trace is the new one, or was there
+pub issued-cases : (e : Event) (past : Trace) (x : Transaction) → IsIssued (e ∷ past) x → (issued (length past) e ≡ Some x) ⊎ IsIssued past x
+issued-cases e past x s =
+    elim (cases_eq (length past) x.place) [
+      | inl here ↦ inl (rw (eq-eqb (length past) x.place here) at s.there)
+      | inr other ↦
+          let low = s.before in
+          inr (record { there = rw (ne_eqb (length past) x.place other) at s.there; before = omega arith })
+    ]
+
+-- some transaction of which a test holds was issued
+pub some_issued-is : (past : Trace) (test : Transaction → Bool) → some_issued past test ≡ true
+    → (x : Transaction) × IsIssued past x × (test x ≡ true)
+some_issued-is [] test some = cc
+some_issued-is (e ∷ past) test some =
+    elim (or_cases (is_some_and (issued (length past) e) test) (some_issued past test) some) [
+      | inl now ↦
+          let new = is_some_and-is (issued (length past) e) test now in
+          (new.0, issued-new e past new.0 new.1, new.2)
+      | inr earlier ↦
+          let old = some_issued-is past test earlier in
+          (old.0, issued-old e past old.0 old.1, old.2)
+    ]
+
+-- the last transaction of a name was issued
+pub named-issued : (past : Trace) (p : ℕ) (c : Channel) (i : ℕ) (x : Transaction) → transaction_of past p c i ≡ Some x → IsIssued past x
+named-issued past p c i x named =
+    let s = transaction_of-stands past p c i x named in
+    record { there = s.there; before = s.before }
 
 pub transaction-issued : (past : Trace) (k : ℕ) (x : Transaction) → slice_get (transactions past) k ≡ Some x → IsIssued past x
 transaction-issued [] k x e = cc

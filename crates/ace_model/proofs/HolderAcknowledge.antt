@@ -1,9 +1,9 @@
 -- RK: a complete read ends, and its port holds the line in the state that it names.
-use Rattle.std.proofs.Common.{◌≡◌, ◌≢◌, ◌==◌, ℕ, ◌+◌, ◌≤◌, Bool, true, false, if◌then◌else◌, not, ◌&&◌, ◌||◌, nat_eq, nat_lt, ◌∷◌, Some, slice_get, le_refl, refl, sym, ap, subst, ◌∙◌, arith, inl, inr}
-use Rattle.std.proofs.lemmas.Bool.{and_parts, or_cases, cases_Bool, cases_eq, eqb-true, eq-eqb}
+use Rattle.std.proofs.Common.{◌≡◌, ◌≢◌, ◌⊎◌, ◌==◌, ℕ, ◌+◌, ◌≤◌, Bool, true, false, if◌then◌else◌, ◌&&◌, nat_eq, nat_lt, ◌∷◌, Some, slice_get, le_refl, refl, sym, ap, subst, ◌∙◌, arith, inl, inr}
+use Rattle.std.proofs.lemmas.Bool.{and_parts, cases_Bool, cases_eq, eqb-true, eq-eqb}
 use Rattle.ace_codes.specs.declared.kind.ArKind.{ArKind}
 use Rattle.ace_codes.specs.declared.state.LineState.{LineState}
-use Rattle.ace_codes.specs.declared.state.LineState.TheVariants.{I, UD, SD}
+use Rattle.ace_codes.specs.declared.state.LineState.TheVariants.{I, SC}
 use Rattle.ace_codes.specs.Responses.{passes_dirty, is_shared}
 use Rattle.ace_event.specs.declared.header.Header.{Header}
 use Rattle.ace_event.specs.declared.event.Channel.TheVariants.{Read}
@@ -11,18 +11,19 @@ use Rattle.ace_event.specs.declared.event.Event.TheVariants.{Rk}
 use Rattle.ace_tables.specs.EndStates.{ends_read}
 use Rattle.ace_tables.specs.States.{is_unique, is_dirty, is_invalid}
 use Rattle.ace_model.specs.declared.transactions.Transaction.{Transaction}
-use Rattle.ace_model.specs.Trace.{Trace, implies, is_some_and}
-use Rattle.ace_model.specs.Kinds.{beats_of, reads_a_line, is_make_unique}
+use Rattle.ace_model.specs.Trace.{Trace, is_some_and}
+use Rattle.ace_model.specs.Kinds.{beats_of, reads_a_line}
 use Rattle.ace_model.specs.Transactions.{is_ace, is_line, is_on, is_some_on, read_kind, transaction_of, outstanding, completed, acknowledgements, transfers, first_resp, next_complete, acknowledged, transaction_under}
 use Rattle.ace_model.specs.Grants.{granted}
 use Rattle.ace_model.specs.Exclusives.{has_failed}
-use Rattle.ace_model.specs.States.{state_of, has_store}
+use Rattle.ace_model.specs.States.{state_of}
 use Rattle.ace_model.specs.Unique.{UniqueNow, OneDirtyNow}
 use Rattle.ace_model.specs.AddressRules.{k1}
 use Rattle.ace_model.specs.ReadRules.{k22, k23, ends_well, is_end, held_of}
-use Rattle.ace_model.proofs.Looks.{Some-injective, some_is, is_some_and-is, is_none_or-at, implies-at, is_invalid-is, has_name-is, without-some, without-other}
+use Rattle.ace_model.proofs.Looks.{Some-injective, some_is, is_some_and-is, is_none_or-at, has_name-is, without-some, without-other}
 use Rattle.ace_model.proofs.Issued.{outstanding-named, transaction_of-stands}
-use Rattle.ace_model.proofs.HolderTables.{is_settled, Lessens-same, takes_alone, takes_shared, read_fits, read_is}
+use Rattle.ace_model.proofs.HolderTables.{is_settled, Lessens-same}
+use Rattle.ace_model.proofs.HolderReadEnds.{takes_alone, takes_shared, ReadEnds, read_is}
 use Rattle.ace_model.proofs.HolderStates.{arrives_kept, held_on}
 use Rattle.ace_model.proofs.HolderEnds.{one_name}
 use Rattle.ace_model.proofs.HolderFacts.{OthersInvalid, OthersNotUnique, AllSettled, Arrives, AnswersFit, PassedOn, TransfersArrive, QueueStands, QueueDistinct, OutsideInvalid, Inductive}
@@ -74,52 +75,96 @@ ends h past q st f known k =
 abbrev pub is_named_by_rk : Trace → ℕ → ℕ → ℕ → Bool
 is_named_by_rk past q r l = nat_eq r q && is_some_on (acknowledged past r Read) l
 
--- An RK that names the port's state of the line: what the end states of its read and the other ports' states are.
+-- An RK that names the port's state of the line: the line is granted to the read that ends, and what its end state says of the
+-- other ports.
 pub record EndsLine (h : Header) (past : Trace) (q : ℕ) (st : LineState) (r l : ℕ) : Type 0 where
   pub port : r ≡ q
   pub stands : (y : Transaction) × (acknowledged past q Read ≡ Some y) × (granted h past l ≡ Some y)
+  pub unique : is_unique st ≡ true → (is_unique (state_of h past r l) ≡ true) ⊎ OthersInvalid h past r l
+  pub kept : (st ≡ I) ⊎ ((is_invalid (state_of h past r l) ≡ false) ⊎ OthersNotUnique h past r l)
   pub kind : ArKind
-  pub shares : Bool
-  pub passes : Bool
+  pub is_kind : read_kind stands.0 ≡ Some kind
   pub failed : Bool
-  pub fits : read_fits kind (state_of h past r l) shares passes failed st ≡ true
-  pub alone : takes_alone kind shares failed ≡ true → OthersInvalid h past r l
-  pub beside : takes_shared kind ≡ true → OthersNotUnique h past r l
-  pub dirty : passes ≡ true → AllSettled h past l
+  pub shared : Bool
+  pub came : (st ≡ I) ⊎ ((is_invalid (state_of h past r l) ≡ false) ⊎ ((takes_alone kind shared failed ≡ true) ⊎ (takes_shared kind ≡ true)))
+  pub dirty : is_dirty st ≡ true → (is_dirty (state_of h past r l) ≡ true) ⊎ ((z : ℕ) → r ≢ z → is_dirty (state_of h past z l) ≡ false)
+
+settled_clean : (st : LineState) → is_settled st ≡ true → is_dirty st ≡ false
+settled_clean I s = refl
+settled_clean SC s = refl
+settled_clean st s = cc
 
 pub ends_line : (h : Header) (past : Trace) (q : ℕ) (st : LineState) → k23 h past (Rk q st) ≡ true → Ends h past q → (r l : ℕ) → is_named_by_rk past q r l ≡ true
     → EndsLine h past q st r l
-ends_line h past q st k e r l t =
-    let parts = and_parts (nat_eq r q) _ t in
-    let port = eqb-true r q parts.0 in
-    let y = is_some_and-is (acknowledged past r Read) (λ x. is_on x l) parts.1 in
-    let one : y.0 ≡ e.ended_one = Some-injective y.0 e.ended_one (sym y.1 ∙ ap (λ a. acknowledged past a Read) port ∙ e.is) in
-    let on = and_parts (is_line e.ended_one) (nat_eq e.ended_one.addr l) (subst (λ v. is_on v l ≡ true) one y.2) in
-    let line = eqb-true e.ended_one.addr l on.1 in
-    let a = e.arrives on.0 in
-    let well = is_none_or-at (acknowledged past q Read) (ends_well h past st) e.ended_one k e.is in
-    let end = is_none_or-at (read_kind e.ended_one) (is_end h past e.ended_one st) e.kind well e.is_kind in
-    let o = first_resp past e.ended_one.port e.ended_one.id in
-    let ended = (and_parts (ends_read e.kind (held_of h past e.ended_one) (is_some_and o is_shared) (is_some_and o passes_dirty) (has_failed past e.ended_one) st)
-    (implies (is_make_unique e.kind) (has_store h past e.ended_one.port e.ended_one.id)) end).0 in
-    let fits = read_is e.kind (held_of h past e.ended_one) (is_some_and o is_shared) (is_some_and o passes_dirty) (has_failed past e.ended_one) st ended in
-    let first : o ≡ first_resp past q e.id = ap (λ v. first_resp past v e.ended_one.id) e.port ∙ ap (first_resp past q) e.is_id in
-    let held : held_of h past e.ended_one ≡ state_of h past r l =
-    held_on (is_line e.ended_one) (state_of h past e.ended_one.port e.ended_one.addr) on.0
-    ∙ ap (λ v. state_of h past v e.ended_one.addr) (e.port ∙ sym port) ∙ ap (state_of h past r) line in
-    record {
-      port = port;
-      stands = (e.ended_one, e.is, subst (λ v. granted h past v ≡ Some e.ended_one) line a.stands);
-      kind = e.kind;
-      shares = is_some_and (first_resp past q e.id) is_shared;
-      passes = is_some_and (first_resp past q e.id) passes_dirty;
-      failed = has_failed past e.ended_one;
-      fits = subst (λ v. read_fits e.kind (state_of h past r l) (is_some_and v is_shared) (is_some_and v passes_dirty) (has_failed past e.ended_one) st ≡ true) first
-          (subst (λ s. read_fits e.kind s (is_some_and o is_shared) (is_some_and o passes_dirty) (has_failed past e.ended_one) st ≡ true) held fits);
-      alone = λ taken. subst (OthersInvalid h past r) line (subst (λ v. OthersInvalid h past v e.ended_one.addr) (sym port) (a.alone e.kind e.is_kind taken));
-      beside = λ taken. subst (OthersNotUnique h past r) line (subst (λ v. OthersNotUnique h past v e.ended_one.addr) (sym port) (a.beside e.kind e.is_kind taken));
-      dirty = λ passed. subst (AllSettled h past) line (a.dirty passed);
-    }
+ends_line h past q st k e r l t = record {
+  port = port;
+  stands = (e.ended_one, e.is, subst (λ v. granted h past v ≡ Some e.ended_one) line arrived.stands);
+  unique = λ u. elim (fits.unique u) [
+    | inl was ↦ inl was
+    | inr taken ↦ inr (alone taken)
+  ];
+  kept = elim fits.kept [
+    | inl gone ↦ inl gone
+    | inr more ↦ elim more [
+      | inl was ↦ inr (inl was)
+      | inr kinds ↦ elim kinds [
+        | inl taken ↦ inr (inr (λ z ne. ap is_unique (alone taken z ne)))
+        | inr taken ↦ inr (inr (beside taken))
+      ]
+    ]
+  ];
+  kind = e.kind;
+  is_kind = e.is_kind;
+  failed = has_failed past e.ended_one;
+  shared = is_some_and (first_resp past q e.id) is_shared;
+  came = fits.kept;
+  dirty = λ d. elim (fits.dirty d) [
+    | inl was ↦ inl was
+    | inr came ↦ elim came [
+      | inl passed ↦ inr (λ z ne. settled_clean (state_of h past z l) (subst (AllSettled h past) line (arrived.dirty passed) z))
+      | inr taken ↦ inr (λ z ne. ap is_dirty (alone taken z ne))
+    ]
+  ];
+}
+  where
+    port : r ≡ q
+    port = eqb-true r q (and_parts (nat_eq r q) _ t).0
+
+    on : (is_line e.ended_one ≡ true) × (nat_eq e.ended_one.addr l ≡ true)
+    on =
+        let y = is_some_and-is (acknowledged past r Read) (λ x. is_on x l) (and_parts (nat_eq r q) _ t).1 in
+        let one : y.0 ≡ e.ended_one = Some-injective y.0 e.ended_one (sym y.1 ∙ ap (λ a. acknowledged past a Read) port ∙ e.is) in
+        and_parts (is_line e.ended_one) (nat_eq e.ended_one.addr l) (subst (λ v. is_on v l ≡ true) one y.2)
+
+    line : e.ended_one.addr ≡ l
+    line = eqb-true e.ended_one.addr l on.1
+
+    arrived : Arrives h past q e.id e.ended_one
+    arrived = e.arrives on.0
+
+    held : held_of h past e.ended_one ≡ state_of h past r l
+    held =
+        held_on (is_line e.ended_one) (state_of h past e.ended_one.port e.ended_one.addr) on.0
+        ∙ ap (λ v. state_of h past v e.ended_one.addr) (e.port ∙ sym port) ∙ ap (state_of h past r) line
+
+    first : first_resp past e.ended_one.port e.ended_one.id ≡ first_resp past q e.id
+    first = ap (λ v. first_resp past v e.ended_one.id) e.port ∙ ap (first_resp past q) e.is_id
+
+    fits : ReadEnds e.kind (state_of h past r l) (is_some_and (first_resp past q e.id) is_shared) (is_some_and (first_resp past q e.id) passes_dirty) (has_failed past e.ended_one) st
+    fits =
+        let well = is_none_or-at (acknowledged past q Read) (ends_well h past st) e.ended_one k e.is in
+        let end = is_none_or-at (read_kind e.ended_one) (is_end h past e.ended_one st) e.kind well e.is_kind in
+        let o = first_resp past e.ended_one.port e.ended_one.id in
+        let ended = (and_parts (ends_read e.kind (held_of h past e.ended_one) (is_some_and o is_shared) (is_some_and o passes_dirty) (has_failed past e.ended_one) st) _ end).0 in
+        subst (λ v. ReadEnds e.kind (state_of h past r l) (is_some_and v is_shared) (is_some_and v passes_dirty) (has_failed past e.ended_one) st) first
+        (subst (λ s. ReadEnds e.kind s (is_some_and o is_shared) (is_some_and o passes_dirty) (has_failed past e.ended_one) st) held
+        (read_is e.kind (held_of h past e.ended_one) (is_some_and o is_shared) (is_some_and o passes_dirty) (has_failed past e.ended_one) st ended))
+
+    alone : takes_alone e.kind (is_some_and (first_resp past q e.id) is_shared) (has_failed past e.ended_one) ≡ true → OthersInvalid h past r l
+    alone taken = subst (OthersInvalid h past r) line (subst (λ v. OthersInvalid h past v e.ended_one.addr) (sym port) (arrived.alone e.kind e.is_kind taken))
+
+    beside : takes_shared e.kind ≡ true → OthersNotUnique h past r l
+    beside taken = subst (OthersNotUnique h past r) line (subst (λ v. OthersNotUnique h past v e.ended_one.addr) (sym port) (arrived.beside e.kind e.is_kind taken))
 
 -- the states of a line that is still granted are as they were
 pub states_rk : (h : Header) (past : Trace) (q : ℕ) (st : LineState) → k23 h past (Rk q st) ≡ true → Ends h past q → (l : ℕ) (x : Transaction)
@@ -200,41 +245,24 @@ unique_rk h past q st f k e l p r u ne =
     elim (cases_Bool (is_named_by_rk past q p l)) [
       | inl t ↦
           let d = ends_line h past q st k e p l t in
-          let two = and_parts (implies (is_unique st) (is_unique (state_of h past p l) || takes_alone d.kind d.shares d.failed)) _
-          (and_parts (implies (is_unique st) (is_unique (state_of h past p l) || takes_alone d.kind d.shares d.failed)
-          && (is_invalid st || (not (is_invalid (state_of h past p l)) || (takes_alone d.kind d.shares d.failed || takes_shared d.kind)))) _ d.fits).0 in
           state_beside h past q r l st (λ same. ne (d.port ∙ sym same))
-          ∙ elim (or_cases (is_unique (state_of h past p l)) (takes_alone d.kind d.shares d.failed) (implies-at (is_unique st) _ two.0 (rw t at u))) [
+          ∙ elim (d.unique (rw t at u)) [
             | inl was ↦ f.unique l p r was ne
-            | inr taken ↦ d.alone taken r ne
+            | inr alone ↦ alone r ne
           ]
       | inr other ↦ elim (cases_Bool (is_named_by_rk past q r l)) [
         | inr neither ↦ rw neither (f.unique l p r (rw other at u) ne)
         | inl t ↦
-            let d = ends_line h past q st k e r l t in
             let was : is_unique (state_of h past p l) ≡ true = rw other at u in
-            let gone = f.unique l p r was ne in
-            let fits = (and_parts (implies (is_unique st) (is_unique (state_of h past r l) || takes_alone d.kind d.shares d.failed)) _
-            (and_parts (implies (is_unique st) (is_unique (state_of h past r l) || takes_alone d.kind d.shares d.failed)
-            && (is_invalid st || (not (is_invalid (state_of h past r l)) || (takes_alone d.kind d.shares d.failed || takes_shared d.kind)))) _ d.fits).0).1 in
-            rw t (elim (or_cases (is_invalid st) _ fits) [
-              | inl none ↦ is_invalid-is st none
-              | inr held ↦ elim (or_cases (not (is_invalid (state_of h past r l))) _ held) [
-                | inl kept ↦ let bad : not (is_invalid I) ≡ true = subst (λ v. not (is_invalid v) ≡ true) gone kept in cc
-                | inr kinds ↦ elim (or_cases (takes_alone d.kind d.shares d.failed) (takes_shared d.kind) kinds) [
-                  | inl taken ↦
-                      let bad : is_unique I ≡ true = subst (λ v. is_unique v ≡ true) (d.alone taken p (λ same. ne (sym same))) was in cc
-                  | inr taken ↦ let bad = d.beside taken p (λ same. ne (sym same)) in cc
-                ]
+            rw t (elim (ends_line h past q st k e r l t).kept [
+              | inl gone ↦ gone
+              | inr more ↦ elim more [
+                | inl held ↦ let bad : is_invalid I ≡ false = subst (λ v. is_invalid v ≡ false) (f.unique l p r was ne) held in cc
+                | inr beside ↦ let bad = beside p (λ same. ne (sym same)) in cc
               ]
             ])
       ]
     ]
-
-not_both : (st : LineState) → is_settled st ≡ true → is_dirty st ≡ true → ⊥
-not_both UD s d = cc
-not_both SD s d = cc
-not_both st s d = cc
 
 pub one_dirty_rk : (h : Header) (past : Trace) (q : ℕ) (st : LineState) → Inductive h past → k23 h past (Rk q st) ≡ true → Ends h past q → OneDirtyNow h (Rk q st ∷ past)
 one_dirty_rk h past q st f k e l a b da db =
@@ -253,12 +281,8 @@ one_dirty_rk h past q st f k e l a b da db =
           | inl same ↦ same
           | inr apart ↦
               let was : is_dirty (state_of h past b l) ≡ true = rw (state_beside h past q b l st (λ same. apart (d.port ∙ sym same))) at db in
-              let fits = (and_parts _ (implies (is_dirty st) (is_dirty (state_of h past a l) || (d.passes || takes_alone d.kind d.shares d.failed))) d.fits).1 in
-              elim (or_cases (is_dirty (state_of h past a l)) _ (implies-at (is_dirty st) _ fits (rw t at da))) [
+              elim (d.dirty (rw t at da)) [
                 | inl own ↦ f.one_dirty l a b own was
-                | inr came ↦ elim (or_cases d.passes (takes_alone d.kind d.shares d.failed) came) [
-                  | inl passed ↦ absurd (not_both (state_of h past b l) (d.dirty passed b) was)
-                  | inr taken ↦ let bad : is_dirty I ≡ true = subst (λ v. is_dirty v ≡ true) (d.alone taken b apart) was in cc
-                ]
+                | inr clean ↦ let bad = clean b apart in cc
               ]
         ]

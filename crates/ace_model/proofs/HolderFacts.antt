@@ -20,7 +20,8 @@ use Rattle.ace_model.specs.Exclusives.{has_failed}
 use Rattle.ace_model.specs.SnoopRules.{has_snoop_code}
 use Rattle.ace_model.specs.States.{state_of}
 use Rattle.ace_model.specs.Unique.{UniqueNow, OneDirtyNow}
-use Rattle.ace_model.proofs.HolderTables.{is_settled, Leaves, takes_alone, takes_shared}
+use Rattle.ace_model.proofs.HolderTables.{is_settled, Leaves}
+use Rattle.ace_model.proofs.HolderReadEnds.{takes_alone, takes_shared}
 
 -- every other port's state of the line is I
 abbrev pub OthersInvalid : Header → Trace → ℕ → ℕ → Type 0

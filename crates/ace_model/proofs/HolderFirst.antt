@@ -20,7 +20,8 @@ use Rattle.ace_model.specs.Exclusives.{has_failed}
 use Rattle.ace_model.specs.States.{state_of, is_port_done, are_snoops_done}
 use Rattle.ace_model.specs.ReadRules.{has_upper_bits, fits_kind, must_be_shared, takes_passed}
 use Rattle.ace_model.proofs.Looks.{Some-injective, some_is, is_some_and-is, is_none_or-at, implies-at, is_invalid-is}
-use Rattle.ace_model.proofs.HolderTables.{not_more, invalidates, shares_line, takes_alone, takes_shared}
+use Rattle.ace_model.proofs.HolderTables.{not_more, invalidates, shares_line}
+use Rattle.ace_model.proofs.HolderReadEnds.{takes_alone, takes_shared}
 use Rattle.ace_model.proofs.HolderFacts.{OthersInvalid, OthersNotUnique, AllSettled, Inductive}
 
 pub each_at : (n : ℕ) (test : ℕ → Bool) (r : ℕ) → each_port n test ≡ true → r < n → test r ≡ true

@@ -218,6 +218,10 @@ pub one_dirty_by : (rs : List Rule) → ((h : Header) (past : Trace) (e : Event)
 one_dirty_by rs keeps h [] a = (start h).one_dirty
 one_dirty_by rs keeps h (e ∷ past) a = (one_dirty_by rs keeps h past a.0, (inductive rs keeps h (e ∷ past) a).one_dirty)
 
+-- the facts hold at the last point of an accepted trace
+pub accepted_holds : (h : Header) (t : Trace) → IsAccepted h t → Inductive h t
+accepted_holds = inductive rules kept
+
 pub accepted_unique : (h : Header) (t : Trace) → IsAccepted h t → Unique h t
 accepted_unique = unique_by rules kept
 

@@ -15,7 +15,8 @@ use Rattle.ace_model.specs.Grants.{granted}
 use Rattle.ace_model.specs.Exclusives.{has_failed}
 use Rattle.ace_model.specs.States.{state_of}
 use Rattle.ace_model.specs.Unique.{UniqueNow, OneDirtyNow}
-use Rattle.ace_model.proofs.HolderTables.{lessens, cleans, Lessens, lessens-is, not_more, Leaves, takes_alone}
+use Rattle.ace_model.proofs.HolderTables.{lessens, cleans, Lessens, lessens-is, not_more, Leaves}
+use Rattle.ace_model.proofs.HolderReadEnds.{takes_alone}
 use Rattle.ace_model.proofs.HolderFacts.{Arrives, OutsideInvalid}
 
 -- the event lessens each port's state of the line

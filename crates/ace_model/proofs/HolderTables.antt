@@ -3,8 +3,6 @@
 use Rattle.std.proofs.Common.{◌≡◌, ◌⊎◌, ℕ, Bool, true, false, not, ◌&&◌, ◌||◌, nat_eq, nat_lt, List, [], ◌∷◌, refl, sym, ap, subst, ◌∙◌, inl, inr}
 use Rattle.std.specs.List.{list_all, list_any}
 use Rattle.std.proofs.lemmas.Bool.{and_parts, or_cases, not-true, eqb-true}
-use Rattle.ace_codes.specs.declared.kind.ArKind.{ArKind}
-use Rattle.ace_codes.specs.declared.kind.ArKind.TheVariants as read
 use Rattle.ace_codes.specs.declared.kind.AwKind.{AwKind}
 use Rattle.ace_codes.specs.declared.kind.AwKind.TheVariants as write
 use Rattle.ace_codes.specs.declared.kind.SnoopKind.{SnoopKind}
@@ -13,7 +11,7 @@ use Rattle.ace_codes.specs.declared.state.LineState.{LineState}
 use Rattle.ace_codes.specs.declared.state.LineState.TheVariants.{I, UC, UD, SC, SD}
 use Rattle.ace_codes.specs.Responses.{transfers_data, has_error, passes_dirty, is_shared}
 use Rattle.ace_tables.specs.Answers.{same_test, fits_transfer, must_pass_dirty, states_after, fits_answer, is_line_row, is_plain_row, is_snoop_row}
-use Rattle.ace_tables.specs.EndStates.{end_states_of_read, ends_read, end_states_of_write, ends_write}
+use Rattle.ace_tables.specs.EndStates.{end_states_of_write, ends_write}
 use Rattle.ace_tables.specs.SilentTransitions.{is_silent_move}
 use Rattle.ace_tables.specs.States.{is_among, is_invalid, is_unique, is_dirty, same_state}
 use Rattle.ace_model.specs.Trace.{implies}
@@ -57,24 +55,6 @@ pub record Leaves (k : SnoopKind) (shared : Bool) (st : LineState) : Type 0 wher
   pub gone : (not shared || invalidates k) ≡ true → st ≡ I
   pub not_unique : shares_line k ≡ true → is_unique st ≡ false
 
--- reads that may end in a unique state, by IsShared and whether it is an exclusive store that failed
-abbrev pub takes_alone : ArKind → Bool → Bool → Bool
-takes_alone read.ReadUnique shared failed = true
-takes_alone read.MakeUnique shared failed = true
-takes_alone read.CleanUnique shared failed = not failed
-takes_alone read.ReadShared shared failed = not shared
-takes_alone read.ReadClean shared failed = not shared
-takes_alone read.ReadNotSharedDirty shared failed = not shared
-takes_alone read.CleanShared shared failed = not shared
-takes_alone _ shared failed = false
-
--- reads that fetch a line which others may go on to share
-abbrev pub takes_shared : ArKind → Bool
-takes_shared read.ReadShared = true
-takes_shared read.ReadClean = true
-takes_shared read.ReadNotSharedDirty = true
-takes_shared _ = false
-
 each_state : (P : LineState → Type 0) → P I → P UC → P UD → P SC → P SD → (st : LineState) → P st
 each_state P i uc ud sc sd I = i
 each_state P i uc ud sc sd UC = uc
@@ -91,7 +71,7 @@ same_state-is SD SD e = refl
 same_state-is a b e = cc
 
 -- what holds of each state of a list holds of one that is among them
-all_among : (good : LineState → Bool) (xs : List LineState) (st : LineState) → is_among st xs ≡ true → list_all good xs ≡ true → good st ≡ true
+pub all_among : (good : LineState → Bool) (xs : List LineState) (st : LineState) → is_among st xs ≡ true → list_all good xs ≡ true → good st ≡ true
 all_among good [] st e a = cc
 all_among good (x ∷ xs) st e a =
     let parts = and_parts (good x) (list_all good xs) a in
@@ -231,48 +211,3 @@ row_is k held resp next e =
     not_shared s true e n = refl
     not_shared true false e n = cc
     not_shared false false e n = cc
-
--- the end of a read: a state that is more than the one before takes what its kind says
-abbrev pub read_fits : ArKind → LineState → Bool → Bool → Bool → LineState → Bool
-read_fits k held shared pass failed st =
-    (implies (is_unique st) (is_unique held || takes_alone k shared failed)
-    && (is_invalid st || (not (is_invalid held) || (takes_alone k shared failed || takes_shared k))))
-    && implies (is_dirty st) (is_dirty held || (pass || takes_alone k shared failed))
-
-read_ends : (k : ArKind) (held : LineState) (shared pass failed : Bool) → list_all (read_fits k held shared pass failed) (end_states_of_read k held shared pass failed) ≡ true
-read_ends read.ReadClean I false false failed = refl
-read_ends read.ReadNotSharedDirty I false false failed = refl
-read_ends read.ReadShared I false false failed = refl
-read_ends read.ReadUnique I false false failed = refl
-read_ends read.ReadClean I true false failed = refl
-read_ends read.ReadNotSharedDirty I true false failed = refl
-read_ends read.ReadShared I true false failed = refl
-read_ends read.ReadNotSharedDirty I false true failed = refl
-read_ends read.ReadShared I false true failed = refl
-read_ends read.ReadUnique I false true failed = refl
-read_ends read.ReadShared I true true failed = refl
-read_ends read.CleanUnique I false false false = refl
-read_ends read.CleanUnique SC false false false = refl
-read_ends read.CleanUnique SD false false false = refl
-read_ends read.CleanUnique I false false true = refl
-read_ends read.CleanUnique SC false false true = refl
-read_ends read.CleanUnique SD false false true = refl
-read_ends read.MakeUnique I false false failed = refl
-read_ends read.MakeUnique SC false false failed = refl
-read_ends read.MakeUnique SD false false failed = refl
-read_ends read.CleanShared I shared false failed = refl
-read_ends read.CleanShared UC false false failed = refl
-read_ends read.CleanShared SC false false failed = refl
-read_ends read.CleanShared UC true false failed = refl
-read_ends read.CleanShared SC true false failed = refl
-read_ends read.ReadOnce I shared false failed = refl
-read_ends read.ReadNoSnoop I false false failed = refl
-read_ends read.CleanInvalid I false false failed = refl
-read_ends read.MakeInvalid I false false failed = refl
-read_ends read.Barrier I false false failed = refl
-read_ends read.DvmComplete I false false failed = refl
-read_ends read.DvmMessage I false false failed = refl
-read_ends _ held shared pass failed = refl
-
-pub read_is : (k : ArKind) (held : LineState) (shared pass failed : Bool) (st : LineState) → ends_read k held shared pass failed st ≡ true → read_fits k held shared pass failed st ≡ true
-read_is k held shared pass failed st e = all_among (read_fits k held shared pass failed) (end_states_of_read k held shared pass failed) st e (read_ends k held shared pass failed)

@@ -4,6 +4,7 @@ use Rattle.std.proofs.lemmas.Bool.{and_parts, and_from, cases_Bool, cases_eq, eq
 use Rattle.ace_codes.specs.declared.kind.ArKind.{ArKind}
 use Rattle.ace_codes.specs.Responses.{passes_dirty, is_shared}
 use Rattle.ace_event.specs.declared.header.Header.{Header}
+use Rattle.ace_event.specs.declared.event.Channel.{Channel}
 use Rattle.ace_event.specs.declared.event.Channel.TheVariants.{Read}
 use Rattle.ace_event.specs.declared.event.Event.TheVariants.{R}
 use Rattle.ace_model.specs.declared.transactions.Transaction.{Transaction}
@@ -17,7 +18,8 @@ use Rattle.ace_model.specs.ReadRules.{k18, k19, is_due, is_next_transfer, may_tr
 use Rattle.ace_model.proofs.Looks.{Some-injective, is_some_and-is, is_none_or-at, implies-at, same_test-at, has_name-is, without-other}
 use Rattle.ace_model.proofs.Issued.{same_place, outstanding-named, transaction_of-stands}
 use Rattle.ace_model.proofs.Places.{slice_get-more}
-use Rattle.ace_model.proofs.HolderTables.{Lessens-self, takes_alone}
+use Rattle.ace_model.proofs.HolderTables.{Lessens-self}
+use Rattle.ace_model.proofs.HolderReadEnds.{takes_alone}
 use Rattle.ace_model.proofs.HolderStates.{arrives_kept}
 use Rattle.ace_model.proofs.HolderEnds.{was_there, arrives_ended, one_name}
 use Rattle.ace_model.proofs.HolderFirst.{IsFirst, first_alone, first_beside, first_dirty}
@@ -60,11 +62,12 @@ may h past q j resp last word k =
     }
 
 -- the granted transaction at its place is the one itself
-pub granted_one : (h : Header) (past : Trace) (q j : ℕ) (x : Transaction) → Inductive h past → transaction_of past q Read j ≡ Some x → is_granted h past x ≡ true → granted h past x.addr ≡ Some x
-granted_one h past q j x f named g =
+pub granted_one : (h : Header) (past : Trace) (q : ℕ) (c : Channel) (j : ℕ) (x : Transaction) → Inductive h past → transaction_of past q c j ≡ Some x → is_granted h past x ≡ true
+    → granted h past x.addr ≡ Some x
+granted_one h past q c j x f named g =
     let y = is_some_and-is (granted h past x.addr) (λ z. nat_eq z.place x.place) g in
     let s = f.grants x.addr y.0 y.1 in
-    let one : y.0 ≡ x = same_place past y.0.port q y.0.chan Read y.0.id j y.0 x (outstanding-named h past y.0.port y.0.chan y.0.id y.0 s.0) named (eqb-true y.0.place x.place y.2) in
+    let one : y.0 ≡ x = same_place past y.0.port q y.0.chan c y.0.id j y.0 x (outstanding-named h past y.0.port y.0.chan y.0.id y.0 s.0) named (eqb-true y.0.place x.place y.2) in
     y.1 ∙ ap Some one
 
 -- the transaction that a transfer ends is the read of a port that is no ACE port
@@ -117,7 +120,7 @@ arrive_here h past q j resp last word f bits m ace line =
     parts = and_parts (is_granted h past m.one && implies (nat_eq (transfers past m.one.port m.one.id) 0) (are_snoops_done h past m.one)) _ (m.may line)
 
     stood : granted h past m.one.addr ≡ Some m.one
-    stood = granted_one h past q j m.one f m.named (and_parts (is_granted h past m.one) _ parts.0).0
+    stood = granted_one h past q Read j m.one f m.named (and_parts (is_granted h past m.one) _ parts.0).0
 
     stands : granted h (R q j resp last word ∷ past) m.one.addr ≡ Some m.one
     stands =

@@ -1,6 +1,7 @@
 pub mod Acceptance
 pub mod BarrierOrder
 pub mod BarrierPairs
+pub mod ExclusiveLaw
 pub mod FirstBreak
 pub mod FollowPlaces
 pub mod FollowOutstanding
@@ -32,6 +33,7 @@ pub mod HolderFirst
 pub mod HolderGrant
 pub mod HolderKept
 pub mod HolderLaw
+pub mod HolderReadEnds
 pub mod HolderSnoop
 pub mod HolderStates
 pub mod HolderStores
@@ -47,7 +49,9 @@ pub mod OrderPoints
 pub mod Places
 pub mod Points
 pub mod Served
+pub mod ShareableLines
 pub mod Starts
+pub mod StoresAlone
 pub mod SyncCompleted
 pub mod SyncLaw
 pub mod UniqueLaw

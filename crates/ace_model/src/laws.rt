@@ -10,6 +10,7 @@ ghost use Rattle.ace_model.specs.Today.{rules_today};
 ghost use Rattle.ace_model.specs.Unique.{Unique, OneDirty};
 ghost use Rattle.ace_model.specs.BarrierHolds.{BarrierHolds};
 ghost use Rattle.ace_model.specs.DvmHolds.{DvmHolds};
+ghost use Rattle.ace_model.specs.ExclusiveHolds.{ExclusiveHolds};
 
 /// By rules in order, the break that `first_break_by` computes is the first break of the events. By any rules, where it
 /// computes none, the trace is accepted.
@@ -49,4 +50,10 @@ pub fn barriers_order()
 /// answered it and all that its port sent before it, and has issued a DVM Complete after that answer.
 pub fn a_sync_waits_for_all()
     ensures { (h : Header) (past : Trace) → IsAccepted h past → DvmHolds h past }
+{}
+
+/// In every accepted trace an exclusive store is exclusive: between it and the last exclusive load of its port before it no
+/// other port stores to the line, by a D or by the M of a write.
+pub fn exclusive_store_is_exclusive()
+    ensures { (h : Header) (past : Trace) → IsAccepted h past → ExclusiveHolds past }
 {}

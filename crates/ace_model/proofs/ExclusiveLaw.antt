@@ -1,0 +1,107 @@
+-- In an accepted trace an exclusive store is exclusive.
+use Rattle.std.proofs.Common.{◌≡◌, ◌≢◌, ◌⊎◌, ℕ, Bool, true, false, not, ◌&&◌, nat_eq, [], ◌∷◌, Option, Some, None, refl, sym, ap, subst, ◌∙◌, inl, inr}
+use Rattle.std.specs.Option.{option_and_then}
+use Rattle.std.proofs.lemmas.Bool.{and_parts, or_left, or_right, cases_Bool, eqb-true, eq-eqb, ne_eqb, not-true}
+use Rattle.ace_codes.specs.declared.state.LineState.TheVariants.{I}
+use Rattle.ace_event.specs.declared.header.Header.{Header}
+use Rattle.ace_event.specs.declared.event.Event.{Event}
+use Rattle.ace_event.specs.declared.event.Event.TheVariants.{L, D, M}
+use Rattle.ace_tables.specs.States.{is_invalid}
+use Rattle.ace_model.specs.declared.transactions.Transaction.{Transaction}
+use Rattle.ace_model.specs.Trace.{Trace, is_some_and}
+use Rattle.ace_model.specs.Transactions.{is_line, is_on, transaction_of}
+use Rattle.ace_model.specs.States.{state_of}
+use Rattle.ace_model.specs.Monitors.{is_set_by, is_monitored}
+use Rattle.ace_model.specs.Values.{Store, stores_data, store_of}
+use Rattle.ace_model.specs.AddressRules.{k1}
+use Rattle.ace_model.specs.CacheRules.{k32, k33}
+use Rattle.ace_model.specs.WriteRules.{k24}
+use Rattle.ace_model.specs.Accepted.{rule, rules, IsAccepted}
+use Rattle.ace_model.specs.ExclusiveHolds.{is_exclusive_load, disturbs, is_undisturbed, ExclusiveHolds}
+use Rattle.ace_model.proofs.Kept.{accepted_keeps}
+use Rattle.ace_model.proofs.HolderKept.{kept}
+use Rattle.ace_model.proofs.HolderLaw.{inductive}
+use Rattle.ace_model.proofs.StoresAlone.{alone_d, alone_m}
+
+-- What it says that the M of a transaction stores to the line.
+record StoresTo (x : Transaction) (l : ℕ) : Type 0 where
+  stores : stores_data x ≡ true
+  line : is_line x ≡ true
+  addr : x.addr ≡ l
+
+-- the M of another port's transaction
+disturbed_by : (past : Trace) (p l : ℕ) (o : Option Transaction) → is_some_and (option_and_then (store_of past l) o) (λ (s : Store). not (nat_eq s.port p)) ≡ true
+    → (x : Transaction) × (o ≡ Some x) × StoresTo x l × (x.port ≢ p)
+disturbed_by past p l None d = cc
+disturbed_by past p l (Some x) d =
+    elim (cases_Bool (stores_data x && is_on x l)) [
+      | inl t ↦
+          let parts = and_parts (stores_data x) (is_on x l) t in
+          let on = and_parts (is_line x) (nat_eq x.addr l) parts.1 in
+          let other : not (nat_eq x.port p) ≡ true = rw t at d in (
+            x,
+            refl,
+            record { stores = parts.0; line = on.0; addr = eqb-true x.addr l on.1 },
+            λ same. let bad : not true ≡ true = rw (eq-eqb x.port p same) at other in cc,
+          )
+      | inr none ↦ let bad : false ≡ true = rw none at d in cc
+    ]
+
+-- where another port stores to the line, the port holds nothing of it
+gone_at_store : (h : Header) (past : Trace) (e : Event) (p l : ℕ) → IsAccepted h (e ∷ past) → disturbs past e p l ≡ true → state_of h (e ∷ past) p l ≡ I
+gone_at_store h past (D q addr strobe x line) p l a d =
+    elim (cases_Bool (nat_eq l addr)) [
+      | inl here ↦
+          let other : not (nat_eq q p) ≡ true = rw here at d in
+          let apart : q ≢ p = λ same. let bad : not true ≡ true = rw (eq-eqb q p same) at other in cc in
+          let e : Event = D q addr strobe x line in
+          let none = alone_d h past q addr strobe x line (inductive rules kept h past a.0) (accepted_keeps 0 (rule 1 k1) h past e refl a)
+          (accepted_keeps 31 (rule 32 k32) h past e refl a) p apart in
+          let off : nat_eq p q ≡ false = ne_eqb p q (λ same. apart (sym same)) in
+          rw off (ap (state_of h past p) (eqb-true l addr here) ∙ none)
+      | inr other ↦ let bad : false ≡ true = rw other at d in cc
+    ]
+gone_at_store h past (M q c i line) p l a d =
+    let by = disturbed_by past p l (transaction_of past q c i) d in
+    let x = by.0 in
+    let s = by.2 in
+    let e : Event = M q c i line in
+    let none = alone_m h past q c i line x a.0 (inductive rules kept h past a.0) (accepted_keeps 23 (rule 24 k24) h past e refl a) by.1 s.stores s.line p by.3 in
+    ap (state_of h past p) (sym s.addr) ∙ none
+gone_at_store h past e p l a d = cc
+
+-- a port whose monitor was set before the event is undisturbed by it
+stays_undisturbed : (h : Header) (past : Trace) (e : Event) (p l : ℕ) → IsAccepted h (e ∷ past) → is_invalid (state_of h (e ∷ past) p l) ≡ false
+    → is_undisturbed past p l ≡ true → is_undisturbed (e ∷ past) p l ≡ true
+stays_undisturbed h past e p l a held before =
+    elim (cases_Bool (disturbs past e p l)) [
+      | inl d ↦ let bad : is_invalid I ≡ false = subst (λ s. is_invalid s ≡ false) (gone_at_store h past e p l a d) held in cc
+      | inr none ↦ or_right (is_exclusive_load e p) (not (disturbs past e p l) && is_undisturbed past p l) (rw none before)
+    ]
+
+-- what the event says of a monitor that is set after it
+set_by : (e : Event) (p l : ℕ) (was : Bool) → is_set_by e p l was ≡ true → (is_exclusive_load e p ≡ true) ⊎ (was ≡ true)
+set_by (L q addr w x word) p l was s =
+    elim (cases_Bool (nat_eq p q && x)) [
+      | inl load ↦ inl load
+      | inr other ↦ inr (rw other at s)
+    ]
+set_by (D q addr strobe x line) p l was s = inr (and_parts was _ s).0
+set_by e p l was s = inr s
+
+monitored_undisturbed : (h : Header) (past : Trace) (p l : ℕ) → IsAccepted h past → is_monitored h past p l ≡ true → is_undisturbed past p l ≡ true
+monitored_undisturbed h [] p l a m = cc
+monitored_undisturbed h (e ∷ past) p l a m =
+    let parts = and_parts (is_set_by e p l (is_monitored h past p l)) (not (is_invalid (state_of h (e ∷ past) p l))) m in
+    elim (set_by e p l (is_monitored h past p l) parts.0) [
+      | inl load ↦ or_left (is_exclusive_load e p) (not (disturbs past e p l) && is_undisturbed past p l) load
+      | inr was ↦ stays_undisturbed h past e p l a (not-true (is_invalid (state_of h (e ∷ past) p l)) parts.1) (monitored_undisturbed h past p l a.0 was)
+    ]
+
+-- it holds at every event of an accepted trace
+pub accepted_exclusive_holds : (h : Header) (past : Trace) → IsAccepted h past → ExclusiveHolds past
+accepted_exclusive_holds h [] a = tt
+accepted_exclusive_holds h (D p addr strobe true line ∷ past) a =
+    let monitored : is_monitored h past p addr ≡ true = accepted_keeps 32 (rule 33 k33) h past (D p addr strobe true line) refl a in
+    (accepted_exclusive_holds h past a.0, monitored_undisturbed h past p addr a.0 monitored)
+accepted_exclusive_holds h (e ∷ past) a = accepted_exclusive_holds h past a.0
