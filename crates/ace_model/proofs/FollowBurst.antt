@@ -1,6 +1,7 @@
 -- The burst of a memory update has the words of its port's copy.
 use Rattle.std.proofs.Common.{◌≡◌, ℕ, zero, suc, ◌+◌, ◌*◌, ◌-◌, ◌/◌, ◌%◌, ◌<◌, ◌≤◌, Bool, true, ◌&&◌, ◌||◌, nat_eq, nat_le, List, [], ◌∷◌, length, take, drop, map, slice_index, Option, Some, None, slice_get, refl, sym, ap, subst, ◌∙◌, arith, inl, inr, length-append}
 use Rattle.std.proofs.lemmas.Bool.{and_parts, and_from, or_cases, cases_Bool, eqb-true, eq-eqb, leb-true}
+use Rattle.std.proofs.lemmas.Option.{slice_get_within}
 use Rattle.ace_codes.specs.declared.kind.AwKind.{AwKind}
 use Rattle.ace_codes.specs.declared.kind.AwKind.TheVariants as write
 use Rattle.ace_event.specs.declared.event.Channel.TheVariants.{Write}
@@ -18,15 +19,14 @@ use Rattle.ace_model.specs.Copies.{copy_of, word_of}
 use Rattle.ace_model.specs.Values.{Beat, beat_at, beats, burst_of, burst_line}
 use Rattle.ace_model.specs.SnoopRules.{k11, is_next_beat, fits_write, full_beat}
 use Rattle.ace_model.specs.Accepted.{rule, IsAccepted}
-use Rattle.ace_model.proofs.Growth.{IsIssued, issued-new, issued-old, at_point-before, slice_get-grown}
+use Rattle.ace_model.proofs.Growth.{issued-cases, IsIssued, issued-new, issued-old, at_point-before, slice_get-grown}
 use Rattle.ace_model.proofs.Issued.{issued-place, outstanding-named, transaction_of-stands}
 use Rattle.ace_model.proofs.Kept.{accepted_keeps}
 use Rattle.ace_model.proofs.Looks.{Some-injective, is_some_and-is, is_none_or-at, implies-at}
 use Rattle.ace_model.proofs.Places.{slice_get-more, slice_get-at_end}
 use Rattle.ace_model.proofs.Starts.{start-more, start-length}
-use Rattle.ace_model.proofs.FollowPlaces.{slice_get-below, at_point-last}
+use Rattle.ace_model.proofs.FollowPlaces.{at_point-last}
 use Rattle.ace_model.proofs.FollowOutstanding.{outstanding-cases}
-use Rattle.ace_model.proofs.FollowNoSnoop.{issued-or-new}
 use Rattle.ace_model.proofs.FollowUpdate.{Updates, update-named, copy-stays}
 
 length-more : {A : Type 0} → (xs : List A) (x : A) → length (more xs (Some x)) ≡ length xs + 1
@@ -79,7 +79,7 @@ data_write-of : (past : Trace) (z : Transaction) → IsIssued past z → is_some
     → slice_get (data_writes past z.port) (length (data_writes (at_point z.place past) z.port)) ≡ Some z
 data_write-of [] z s kind = let no_event = s.there in cc
 data_write-of (e ∷ past) z s kind =
-    elim (issued-or-new e past z s) [
+    elim (issued-cases e past z s) [
       | inl new ↦
           let place = issued-place (length past) e z new in
           let same : at_point z.place (e ∷ past) ≡ past = at_point-last e past z.place place in
@@ -109,7 +109,7 @@ beats-written h (e ∷ past) a p = step e (accepted_keeps 10 (rule 11 k11) h pas
               let same : p ≡ q = eqb-true p q t in
               let w = is_some_and-is (next_write past q) (is_next_beat past (next_write_beat past q) strb last word) k in
               let there : slice_get (data_writes past p) (write_beats past p / 4) ≡ Some w.0 = ap (next_write past) same ∙ w.1 in
-              let low = slice_get-below (data_writes past p) (write_beats past p / 4) w.0 there in
+              let low = slice_get_within (data_writes past p) (write_beats past p / 4) w.0 there in
               rw t (omega arith)
         ]
     step e k before = let longer = start-length (data_writes past p) (data_writes (e ∷ past) p) (start-more (data_writes past p) (data_write (length past) e p)) in omega arith
@@ -185,7 +185,7 @@ beats-true h (e ∷ past) a p i y u m b is low high =
           let same : at_point y.place (e ∷ past) ≡ past = at_point-last e past y.place place in
           let there : slice_get (beats past p) m ≡ Some b = ap (λ v. slice_get v m) (sym (issued-beats past e y p new.0)) ∙ is in
           let count = beats-count past p in
-          let below = slice_get-below (beats past p) m b there in
+          let below = slice_get_within (beats past p) m b there in
           let most = beats-written h past a.0 p in
           let far : 4 * length (data_writes past p) ≤ m = subst (λ (v : Trace). 4 * length (data_writes v p) ≤ m) same low in
           absurd (omega arith)

@@ -19,17 +19,16 @@ use Rattle.ace_model.specs.Exclusives.{has_failed}
 use Rattle.ace_model.specs.Copies.{is_line_read_transaction}
 use Rattle.ace_model.specs.AddressRules.{is_no_snoop}
 use Rattle.ace_model.specs.DirtyPlace.{DirtyPlace}
-use Rattle.ace_model.specs.Accepted.{rules, IsAccepted}
+use Rattle.ace_model.specs.Accepted.{IsAccepted}
 use Rattle.ace_model.proofs.Issued.{outstanding-named, transaction_of-stands}
 use Rattle.ace_model.proofs.Looks.{is_some_and-is, none_is}
 use Rattle.ace_model.proofs.HolderFirst.{done_port}
-use Rattle.ace_model.proofs.HolderKept.{kept}
-use Rattle.ace_model.proofs.HolderLaw.{inductive}
+use Rattle.ace_model.proofs.HolderLaw.{accepted_holds}
 use Rattle.ace_model.proofs.FollowOutstanding.{empty_while_read}
 use Rattle.ace_model.proofs.FollowTransfers.{not_store}
 use Rattle.ace_model.proofs.FollowMemory.{WritesValue, DirtyUnanswered, memory_or_holder}
 use Rattle.ace_model.proofs.FollowMemorySince.{MemoryFollows}
-use Rattle.ace_model.proofs.FollowNoSnoop.{no_snoop-empty}
+use Rattle.ace_model.proofs.ShareableLines.{no_snoop_unheld}
 
 -- a read of a line is on the read channel
 pub line_read-chan : (x : Transaction) → is_line_read_transaction x ≡ true → x.chan ≡ Read
@@ -52,7 +51,7 @@ unsnooped k t e = cc
 none-dirty : (h : Header) (past : Trace) → IsAccepted h past → (x : Transaction) → granted h past x.addr ≡ Some x → is_line_read_transaction x ≡ true
     → are_snoops_done h past x ≡ true → DirtyUnanswered h past x.addr → ⊥
 none-dirty h past a x g reads done q =
-    let f = inductive rules kept h past a in
+    let f = accepted_holds h past a in
     let s = f.grants x.addr x g in
     let chan = line_read-chan x reads in
     let out : outstanding h past x.port Read x.id ≡ Some x = ap (λ (v : Channel). outstanding h past x.port v x.id) (sym chan) ∙ s.0 in
@@ -70,7 +69,7 @@ none-dirty h past a x g reads done q =
             let caused : snoop_of_read kind.0 ≡ None = sym (ap (λ o. snoop_kind_of o (write_kind x)) kind.1) ∙ none_is (snoop_of x) none_caused in
             let no_snoop : is_no_snoop x ≡ true =
             or_left (is_some_and (read_kind x) is_no_snoop_read) (is_some_and (write_kind x) is_no_snoop_write) (rw kind.1 (unsnooped kind.0 kind.2 caused)) in
-            not_dirty (no_snoop-empty h past a x x.addr q.port (record { there = stands.there; before = stands.before }) s.1 no_snoop)
+            not_dirty (no_snoop_unheld h past x q.port x.addr a (record { there = stands.there; before = stands.before }) s.1 no_snoop)
         | inr failed ↦ not_store past x reads failed
       ]
     ]

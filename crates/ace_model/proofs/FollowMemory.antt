@@ -24,7 +24,7 @@ use Rattle.ace_model.specs.Replies.{first_sender, passed_data, passed_to, copy_a
 use Rattle.ace_model.specs.Values.{value_of}
 use Rattle.ace_model.specs.SnoopRules.{k15}
 use Rattle.ace_model.specs.DirtyPlace.{replaces_line, HasDirtyHolder, IsValueSafe, DirtyPlace}
-use Rattle.ace_model.specs.Accepted.{rule, rules, IsAccepted}
+use Rattle.ace_model.specs.Accepted.{rule, IsAccepted}
 use Rattle.ace_model.proofs.Growth.{at_point-before, at_point-end}
 use Rattle.ace_model.proofs.Kept.{accepted_keeps}
 use Rattle.ace_model.proofs.Looks.{is_some_and-is, newest_on-cases, without-some}
@@ -36,7 +36,7 @@ use Rattle.ace_model.proofs.HolderAcknowledge.{ends, states_rk}
 use Rattle.ace_model.proofs.HolderFacts.{Inductive}
 use Rattle.ace_model.proofs.HolderGrant.{is_on-addr}
 use Rattle.ace_model.proofs.HolderKept.{KeptRules, kept}
-use Rattle.ace_model.proofs.HolderLaw.{inductive}
+use Rattle.ace_model.proofs.HolderLaw.{accepted_holds}
 use Rattle.ace_model.proofs.FollowPoints.{SameWords}
 use Rattle.ace_model.proofs.FollowMemorySince.{MemorySince}
 use Rattle.ace_model.proofs.FollowSnoops.{grant_place-low, answer_cr}
@@ -92,7 +92,7 @@ by-value h past l x a safe g reads none =
     no_passed passed =
         let to : passed_to h past l x ≡ Some (value_of past l) = sym (ap (option_and_then (passed_to h past l)) g) ∙ passed in
         let has = has_passed (has_passed_data h past x) (option_and_then (copy_at_answer past l) (passer h past l)) to in
-        let addr = is_on-addr x l ((inductive rules kept h past a).grants l x g).1 in
+        let addr = is_on-addr x l ((accepted_holds h past a).grants l x g).1 in
         none-passed h past x a has (ap (first_sender past) addr ∙ none)
 
 -- memory is the value now
@@ -225,7 +225,7 @@ memory_or_holder h writes (e ∷ past) a d l x g reads none =
         let k : k15 h past (Cr q n.resp n.st) ≡ true =
         subst (λ (v : Event). k15 h past v ≡ true) n.event (accepted_keeps 14 (rule 15 k15) h past e refl a) in
         let unsent : first_sender (Cr q n.resp n.st ∷ past) l ≡ None = subst (λ (v : Event). first_sender (v ∷ past) l ≡ None) n.event none in
-        absurd (dirty-sent h past q n.resp n.st l x (inductive rules kept h past a.0) k was reads n.under dirty unsent)
+        absurd (dirty-sent h past q n.resp n.st l x (accepted_holds h past a.0) k was reads n.under dirty unsent)
 
     holder : is_some_on (given past e) l ≡ false → granted h past l ≡ Some x → DirtyUnanswered h past l → MemorySince (e ∷ past) l ⊎ DirtyUnanswered h (e ∷ past) l
     holder other was q =
@@ -235,7 +235,7 @@ memory_or_holder h writes (e ∷ past) a d l x g reads none =
           | inr no_store ↦ elim value [
             | inl same ↦ inl (value-now (e ∷ past) l same)
             | inr r ↦
-                let f = inductive rules kept h past a.0 in
+                let f = accepted_holds h past a.0 in
                 let before = dirty-before h past e l r.0 x f (kept h past e a.1) g no_store r.1 in
                 let one = f.one_dirty l r.0 q.port before q.dirty in
                 inr (record {

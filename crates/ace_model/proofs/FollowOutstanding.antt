@@ -18,7 +18,7 @@ use Rattle.ace_model.specs.Transactions.{has_name, is_line, is_on, issued, read_
 use Rattle.ace_model.specs.States.{state_of}
 use Rattle.ace_model.specs.Copies.{is_line_read_transaction}
 use Rattle.ace_model.specs.AddressRules.{k5, k6, has_free_line, starts_well}
-use Rattle.ace_model.specs.Accepted.{rule, rules, IsAccepted}
+use Rattle.ace_model.specs.Accepted.{rule, IsAccepted}
 use Rattle.ace_model.proofs.Growth.{some_issued-found}
 use Rattle.ace_model.proofs.Issued.{issued-place, outstanding-named, transaction_of-stands}
 use Rattle.ace_model.proofs.Kept.{accepted_keeps}
@@ -29,7 +29,7 @@ use Rattle.ace_model.proofs.HolderSnoop.{less_cr}
 use Rattle.ace_model.proofs.HolderWrite.{less_wk}
 use Rattle.ace_model.proofs.HolderAcknowledge.{ends, is_named_by_rk}
 use Rattle.ace_model.proofs.HolderKept.{KeptRules, kept}
-use Rattle.ace_model.proofs.HolderLaw.{inductive}
+use Rattle.ace_model.proofs.HolderLaw.{accepted_holds}
 
 -- what is outstanding after an event is what it issues, or was outstanding and isn't what it ends
 pub outstanding-cases : (h : Header) (e : Event) (past : Trace) (p : ℕ) (c : Channel) (i : ℕ) (x : Transaction) → outstanding h (e ∷ past) p c i ≡ Some x
@@ -172,7 +172,7 @@ empty_while_read h (e ∷ past) a p i x o reads =
           | inr f ↦ f
           | inl t ↦
               let known = subst (λ (v : Event). KeptRules h past v) is rest in
-              let d = ends h past q st (inductive rules kept h past a.0) known.rule_1 known.rule_22 in
+              let d = ends h past q st (accepted_holds h past a.0) known.rule_1 known.rule_22 in
               let parts = and_parts (nat_eq p q) _ t in
               let port = eqb-true p q parts.0 in
               let y = is_some_and-is (acknowledged past p Read) (λ z. is_on z x.addr) parts.1 in

@@ -1,5 +1,6 @@
 -- The events of a trace by their places, and what a longer trace says of them: loads, beats and grants.
-use Rattle.std.proofs.Common.{◌≡◌, ◌⊎◌, ℕ, zero, suc, ◌-◌, ◌<◌, ◌≤◌, List, Bool, true, [], ◌∷◌, ◌++◌, length, reverse, drop, Some, slice_get, sym, ap, subst, ◌∙◌, arith, inl, inr}
+use Rattle.std.proofs.Common.{◌≡◌, ◌⊎◌, ℕ, ◌-◌, ◌<◌, ◌≤◌, Bool, true, [], ◌∷◌, ◌++◌, length, reverse, drop, Some, slice_get, sym, ap, subst, ◌∙◌, arith, inl, inr}
+use Rattle.std.proofs.lemmas.Option.{slice_get_within}
 use Rattle.std.proofs.lemmas.List.{reverse-append, length-reverse, drop-drop, length-drop}
 use Rattle.ace_event.specs.declared.event.Event.{Event}
 use Rattle.ace_event.specs.declared.event.Event.TheVariants.{L, R, G}
@@ -13,17 +14,11 @@ use Rattle.ace_model.proofs.Growth.{slice_get-grown, at_point-before, at_point-e
 use Rattle.ace_model.proofs.Looks.{Some-injective}
 use Rattle.ace_model.proofs.Places.{slice_get-more, slice_get-at_end}
 
--- an element of a list has a place below its length
-pub slice_get-below : {A : Type 0} → (xs : List A) (n : ℕ) (z : A) → slice_get xs n ≡ Some z → n < length xs
-slice_get-below [] n z e = cc
-slice_get-below (x ∷ xs) zero z e = omega arith
-slice_get-below (x ∷ xs) (suc n) z e = let b = slice_get-below xs n z e in omega arith
-
 pub event_at-grown : (e : Event) (past : Trace) (n : ℕ) → event_at (e ∷ past) n ≡ slice_get (reverse past ++ e ∷ []) n
 event_at-grown e past n = ap (λ xs. slice_get xs n) (reverse-append (e ∷ []) past)
 
 pub event_at-below : (past : Trace) (n : ℕ) (z : Event) → event_at past n ≡ Some z → n < length past
-event_at-below past n z there = rw (← length-reverse past) (slice_get-below (reverse past) n z there)
+event_at-below past n z there = rw (← length-reverse past) (slice_get_within (reverse past) n z there)
 
 -- an event of the longer trace was there, or is the new one
 pub event_at-cases : (e : Event) (past : Trace) (n : ℕ) (z : Event) → event_at (e ∷ past) n ≡ Some z

@@ -19,7 +19,7 @@ use Rattle.ace_model.specs.States.{are_snoops_done, is_port_done}
 use Rattle.ace_model.specs.Copies.{is_line_read_transaction}
 use Rattle.ace_model.specs.SnoopRules.{k12, k13}
 use Rattle.ace_model.specs.ReadRules.{k18, takes_passed}
-use Rattle.ace_model.specs.Accepted.{rule, rules, IsAccepted}
+use Rattle.ace_model.specs.Accepted.{rule, IsAccepted}
 use Rattle.ace_model.proofs.Kept.{accepted_keeps}
 use Rattle.ace_model.proofs.Looks.{Some-injective, is_some_and-is, implies-at, newest_on-older, without-other, has_name-is}
 use Rattle.ace_model.proofs.Issued.{outstanding-named, transaction_of-stands}
@@ -27,8 +27,7 @@ use Rattle.ace_model.proofs.HolderAddress.{named_read, write_issued}
 use Rattle.ace_model.proofs.HolderGrant.{other_line}
 use Rattle.ace_model.proofs.HolderFirst.{each_at}
 use Rattle.ace_model.proofs.HolderTransfer.{may, granted_one}
-use Rattle.ace_model.proofs.HolderKept.{kept}
-use Rattle.ace_model.proofs.HolderLaw.{inductive}
+use Rattle.ace_model.proofs.HolderLaw.{accepted_holds}
 use Rattle.ace_model.proofs.FollowOutstanding.{outstanding-cases, line_read-line}
 use Rattle.ace_model.proofs.FollowSnoops.{snoops_caused, snoops-for}
 
@@ -132,7 +131,7 @@ first-under_way h past p i resp last word x a o reads none =
     subst (λ (v : Transaction). are_snoops_done h past v ≡ true) one
     (implies-at (nat_eq (transfers past m.one.port m.one.id) 0) (are_snoops_done h past m.one) two.1 (eq-eqb (transfers past m.one.port m.one.id) 0 zero_before)) in
     let stood : granted h past x.addr ≡ Some x =
-    subst (λ (v : Transaction). granted h past v.addr ≡ Some v) one (granted_one h past p Read i m.one (inductive rules kept h past a.0) m.named two.0) in
+    subst (λ (v : Transaction). granted h past v.addr ≡ Some v) one (granted_one h past p Read i m.one (accepted_holds h past a.0) m.named two.0) in
     (record { stands = stood; answered = λ q. all_answered q done stood }, done)
   where
     all_answered : (q : ℕ) → are_snoops_done h past x ≡ true → granted h past x.addr ≡ Some x → owes_answer past q x.addr ≡ false

@@ -23,7 +23,7 @@ use Rattle.ace_tables.specs.States.{is_invalid, is_unique, is_among}
 use Rattle.ace_model.specs.declared.transactions.Transaction.{Transaction}
 use Rattle.ace_model.specs.Trace.{Trace, is_some_and, is_none_or}
 use Rattle.ace_model.specs.Kinds.{is_line_snoop, is_line_read, is_line_write, is_update, is_make_unique}
-use Rattle.ace_model.specs.Transactions.{is_ace, is_read, is_line, is_on, is_some_on, is_make_unique_on, issued, some_issued, read_kind, write_kind, transaction_of, ended, outstanding, is_outstanding, is_outstanding_on, has_outstanding_on, acknowledged, acknowledgements, is_complete}
+use Rattle.ace_model.specs.Transactions.{is_ace, is_read, is_line, is_on, is_some_on, is_make_unique_on, issued, read_kind, write_kind, transaction_of, ended, outstanding, is_outstanding, is_outstanding_on, has_outstanding_on, acknowledged, acknowledgements, is_complete}
 use Rattle.ace_model.specs.Progress.{updates_memory, is_update_on, has_update}
 use Rattle.ace_model.specs.Snoops.{answered, answers_line, is_snoop_on, snoops_a_line}
 use Rattle.ace_model.specs.States.{state_of, awaits_store, has_store, is_in_make_unique}
@@ -32,8 +32,8 @@ use Rattle.ace_model.specs.AddressRules.{k6, starts_well}
 use Rattle.ace_model.specs.SnoopRules.{k16, answers_beside_update}
 use Rattle.ace_model.specs.ReadRules.{k18}
 use Rattle.ace_model.specs.CacheRules.{k29, k32, may_store, wants_store, full_line}
-use Rattle.ace_model.specs.Accepted.{rule, rules, IsAccepted}
-use Rattle.ace_model.proofs.Growth.{IsIssued, issued-new, issued-old, some_issued-found}
+use Rattle.ace_model.specs.Accepted.{rule, IsAccepted}
+use Rattle.ace_model.proofs.Growth.{some_issued-is, some_issued-found}
 use Rattle.ace_model.proofs.Issued.{issued_at, outstanding-named, transaction_of-stands}
 use Rattle.ace_model.proofs.Kept.{accepted_keeps}
 use Rattle.ace_model.proofs.Looks.{Some-injective, is_some_and-is, is_none_or-at, implies-at, has_name-is}
@@ -41,7 +41,7 @@ use Rattle.ace_model.proofs.HolderEnds.{acknowledged_is}
 use Rattle.ace_model.proofs.HolderAcknowledge.{ends, is_named_by_rk}
 use Rattle.ace_model.proofs.HolderTransfer.{may}
 use Rattle.ace_model.proofs.HolderKept.{kept}
-use Rattle.ace_model.proofs.HolderLaw.{inductive}
+use Rattle.ace_model.proofs.HolderLaw.{accepted_holds}
 use Rattle.ace_model.proofs.FollowOutstanding.{outstanding-cases, one_outstanding, issued-state}
 use Rattle.ace_model.proofs.FollowWriteQueue.{write_queue}
 
@@ -131,7 +131,7 @@ held_step : (h : Header) (past : Trace) (e : Event) (p i : ℕ) (y : Transaction
 held_step h past (Rk q st) p i y a u other was =
     named-where (is_named_by_rk past q p y.addr) (state_of h past p y.addr) st (λ t.
     let rest = kept h past (Rk q st) a.1 in
-    let d = ends h past q st (inductive rules kept h past a.0) rest.rule_1 rest.rule_22 in
+    let d = ends h past q st (accepted_holds h past a.0) rest.rule_1 rest.rule_22 in
     let parts = and_parts (nat_eq p q) _ t in
     let port = eqb-true p q parts.0 in
     let z = is_some_and-is (acknowledged past p Read) (λ v. is_on v y.addr) parts.1 in
@@ -199,15 +199,6 @@ update-held h (e ∷ past) a p i y u =
       | inr old ↦
           let before : Updates h past p i y = record { out = old.0; update = u.update } in
           held_step h past e p i y a before old.1 (update-held h past a.0 p i y before)
-    ]
-
--- some transaction of which a test holds was issued
-some_issued-is : (past : Trace) (test : Transaction → Bool) → some_issued past test ≡ true → (x : Transaction) × IsIssued past x × (test x ≡ true)
-some_issued-is [] test some = cc
-some_issued-is (e ∷ past) test some =
-    elim (or_cases (is_some_and (issued (length past) e) test) (some_issued past test) some) [
-      | inl now ↦ let new = is_some_and-is (issued (length past) e) test now in (new.0, issued-new e past new.0 new.1, new.2)
-      | inr earlier ↦ let old = some_issued-is past test earlier in (old.0, issued-old e past old.0 old.1, old.2)
     ]
 
 -- no store to the line waits at its port

@@ -21,13 +21,12 @@ use Rattle.ace_model.specs.Replies.{passed_data, first_sender}
 use Rattle.ace_model.specs.Values.{value_of, burst_line, burst_of}
 use Rattle.ace_model.specs.WriteRules.{k24, k25, may_write_memory, may_write_passed, may_write_data, is_write_due, is_update_due, has_data, data_of, data_of_write}
 use Rattle.ace_model.specs.DirtyPlace.{DirtyPlace}
-use Rattle.ace_model.specs.Accepted.{rule, rules, IsAccepted}
+use Rattle.ace_model.specs.Accepted.{rule, IsAccepted}
 use Rattle.ace_model.proofs.Issued.{outstanding-named, transaction_of-stands, same_place}
 use Rattle.ace_model.proofs.Kept.{accepted_keeps}
 use Rattle.ace_model.proofs.Looks.{Some-injective, is_some_and-is, is_none_or-at, has_name-is}
 use Rattle.ace_model.proofs.HolderGrant.{is_on-addr}
-use Rattle.ace_model.proofs.HolderKept.{kept}
-use Rattle.ace_model.proofs.HolderLaw.{inductive}
+use Rattle.ace_model.proofs.HolderLaw.{accepted_holds}
 use Rattle.ace_model.proofs.FollowPoints.{SameWords}
 use Rattle.ace_model.proofs.FollowSent.{dirty-now}
 use Rattle.ace_model.proofs.FollowRows.{none-passed}
@@ -118,7 +117,7 @@ writes_value h past before d q c j line wl l x a g reads none is =
         granted_read y named addr writes t =
             let z = is_some_and-is (granted h past y.addr) (λ v. nat_eq v.place y.place) t in
             let same_x : z.0 ≡ x = Some-injective z.0 x (sym z.1 ∙ ap (granted h past) addr ∙ g) in
-            let s = (inductive rules kept h past before).grants l x g in
+            let s = (accepted_holds h past before).grants l x g in
             let place : x.place ≡ y.place = ap (λ (v : Transaction). v.place) (sym same_x) ∙ eqb-true z.0.place y.place z.2 in
             let one : x ≡ y = same_place past x.port q x.chan c x.id j x y (outstanding-named h past x.port x.chan x.id x s.0) named place in
             let chan = line_read-chan x reads in

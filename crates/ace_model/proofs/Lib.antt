@@ -19,7 +19,6 @@ pub mod FollowLaw
 pub mod FollowRows
 pub mod FollowMemory
 pub mod FollowMemorySince
-pub mod FollowNoSnoop
 pub mod FollowUpdate
 pub mod FollowWriteQueue
 pub mod FollowWritten
