@@ -167,7 +167,7 @@ ends_line h past q st k e r l t = record {
     beside taken = subst (OthersNotUnique h past r) line (subst (λ v. OthersNotUnique h past v e.ended_one.addr) (sym port) (arrived.beside e.kind e.is_kind taken))
 
 -- the states of a line that is still granted are as they were
-states_rk : (h : Header) (past : Trace) (q : ℕ) (st : LineState) → k23 h past (Rk q st) ≡ true → Ends h past q → (l : ℕ) (x : Transaction)
+pub states_rk : (h : Header) (past : Trace) (q : ℕ) (st : LineState) → k23 h past (Rk q st) ≡ true → Ends h past q → (l : ℕ) (x : Transaction)
     → granted h (Rk q st ∷ past) l ≡ Some x → (r : ℕ) → state_of h (Rk q st ∷ past) r l ≡ state_of h past r l
 states_rk h past q st k e l x g r =
     elim (cases_Bool (is_named_by_rk past q r l)) [

@@ -41,7 +41,7 @@ outstanding_new h past y p c i x o =
     ]
 
 -- where the name is free, what was outstanding stays so
-outstanding_stays : (h : Header) (past : Trace) (y : Transaction) (p : ℕ) (c : Channel) (i : ℕ) (x : Transaction)
+pub outstanding_stays : (h : Header) (past : Trace) (y : Transaction) (p : ℕ) (c : Channel) (i : ℕ) (x : Transaction)
     → is_none (outstanding h past y.port y.chan y.id) ≡ true → outstanding h past p c i ≡ Some x
     → (has_name y p c i ≡ false) × (newest_named (Some y) p c i (outstanding h past p c i) ≡ Some x)
 outstanding_stays h past y p c i x free o =
@@ -79,7 +79,7 @@ other_name h past y p i x o other =
     ap (λ a. has_name y a Read x.id) name.port ∙ ap (has_name y p Read) name.id ∙ other
 
 -- the count of transfers begins anew for the name of the read
-named_read : (past : Trace) (q j addr snoop dom bar : ℕ) (lock : Bool) (p i : ℕ) (b : Bool)
+pub named_read : (past : Trace) (q j addr snoop dom bar : ℕ) (lock : Bool) (p i : ℕ) (b : Bool)
     → has_name (read_issued past q j addr snoop dom bar lock) p Read i ≡ b → (nat_eq p q && nat_eq i j) ≡ b
 named_read past q j addr snoop dom bar lock p i true e =
     let n = has_name-is (read_issued past q j addr snoop dom bar lock) p Read i e in

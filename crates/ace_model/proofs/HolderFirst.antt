@@ -47,7 +47,7 @@ none_at (suc n) test r e l =
     neither true b e = cc
     neither false b e = (refl, e)
 
-found_passes : (n : ℕ) (test : ℕ → Bool) (r : ℕ) → find_port n test ≡ Some r → test r ≡ true
+pub found_passes : (n : ℕ) (test : ℕ → Bool) (r : ℕ) → find_port n test ≡ Some r → test r ≡ true
 found_passes zero test r e = cc
 found_passes (suc n) test r e =
     elim (cases_Bool (test n)) [

@@ -56,7 +56,7 @@ snoops_ac h past q addr code f k r n l s x e on place g =
     is_new false is = cc
 
 -- the kind with the code of a kind is that kind
-kind_of_code : (k : SnoopKind) → ac_kind_of (ac_code k) ≡ Some k
+pub kind_of_code : (k : SnoopKind) → ac_kind_of (ac_code k) ≡ Some k
 unfolding ac_kind_of
 kind_of_code snoop.ReadOnce = refl
 kind_of_code snoop.ReadShared = refl

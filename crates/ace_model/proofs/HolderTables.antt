@@ -144,7 +144,7 @@ answer_states snoop.DvmComplete = each_state _ refl refl refl refl refl
 answer_states snoop.DvmMessage = each_state _ refl refl refl refl refl
 
 -- a row is plain, or one of a line
-row_cases : (k : SnoopKind) (resp : ℕ) (next held : LineState) → is_snoop_row k held false resp next ≡ true
+pub row_cases : (k : SnoopKind) (resp : ℕ) (next held : LineState) → is_snoop_row k held false resp next ≡ true
     → (is_plain_row resp next ≡ true) ⊎ (is_line_row k held false resp next ≡ true)
 row_cases snoop.DvmComplete resp next = λ held e. inl e
 row_cases snoop.DvmMessage resp next = λ held e. inl e
@@ -157,7 +157,7 @@ row_cases snoop.CleanShared resp next = each_state _ (λ e. inl e) (λ e. inr e)
 row_cases snoop.CleanInvalid resp next = each_state _ (λ e. inl e) (λ e. inr e) (λ e. inr e) (λ e. inr e) (λ e. inr e)
 row_cases snoop.MakeInvalid resp next = each_state _ (λ e. inl e) (λ e. inr e) (λ e. inr e) (λ e. inr e) (λ e. inr e)
 
-must_pass_parts : (k : SnoopKind) (held next : LineState) → must_pass_dirty k held next ≡ true → (is_dirty held ≡ true) × (not (is_dirty next) ≡ true)
+pub must_pass_parts : (k : SnoopKind) (held next : LineState) → must_pass_dirty k held next ≡ true → (is_dirty held ≡ true) × (not (is_dirty next) ≡ true)
 must_pass_parts snoop.MakeInvalid held next e = cc
 must_pass_parts k held next e = and_parts (is_dirty held) (not (is_dirty next)) e
 

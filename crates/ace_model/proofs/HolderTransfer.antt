@@ -71,7 +71,7 @@ granted_one h past q c j x f named g =
     y.1 ∙ ap Some one
 
 -- the transaction that a transfer ends is the read of a port that is no ACE port
-ends_lite : (h : Header) (past : Trace) (q j resp : ℕ) (last : Bool) (word : ℕ) (z : Transaction) → ended h past (R q j resp last word) ≡ Some z
+pub ends_lite : (h : Header) (past : Trace) (q j resp : ℕ) (last : Bool) (word : ℕ) (z : Transaction) → ended h past (R q j resp last word) ≡ Some z
     → (is_ace h q ≡ false) × (transaction_of past q Read j ≡ Some z)
 ends_lite h past q j resp last word z e = lite last (is_ace h q) e
   where

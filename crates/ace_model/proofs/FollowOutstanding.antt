@@ -1,0 +1,186 @@
+-- The outstanding reads of a port: what was outstanding before, one on a line, and none of a line that its port holds.
+use Rattle.std.proofs.Common.{◌≡◌, ◌≢◌, ◌⊎◌, ℕ, zero, suc, ◌<◌, true, false, not, nat_eq, [], ◌∷◌, length, drop, Some, refl, sym, ap, subst, ◌∙◌, arith, inl, inr}
+use Rattle.std.proofs.lemmas.Bool.{and_parts, and_from, or_left, cases_Bool, eqb-true, eq-eqb, not-true}
+use Rattle.ace_codes.specs.declared.kind.ArKind.{ArKind}
+use Rattle.ace_codes.specs.declared.kind.ArKind.TheVariants as read
+use Rattle.ace_codes.specs.declared.state.LineState.{LineState}
+use Rattle.ace_codes.specs.declared.state.LineState.TheVariants.{I}
+use Rattle.ace_event.specs.declared.header.Header.{Header}
+use Rattle.ace_event.specs.declared.event.Channel.{Channel}
+use Rattle.ace_event.specs.declared.event.Channel.TheVariants.{Read}
+use Rattle.ace_event.specs.declared.event.Event.{Event}
+use Rattle.ace_event.specs.declared.event.Event.TheVariants.{Ar, Rk, Aw, Wk, Cr, S, D}
+use Rattle.ace_tables.specs.StartStates.{starts_read}
+use Rattle.ace_model.specs.declared.transactions.Transaction.{Transaction}
+use Rattle.ace_model.specs.Trace.{Trace, implies, is_some_and, is_none_or}
+use Rattle.ace_model.specs.Kinds.{is_line_read, is_line_write, reads_a_line}
+use Rattle.ace_model.specs.Transactions.{has_name, is_line, is_on, issued, read_kind, write_kind, ended, without, outstanding, is_outstanding, is_outstanding_on, has_outstanding_on, acknowledged}
+use Rattle.ace_model.specs.States.{state_of}
+use Rattle.ace_model.specs.Copies.{is_line_read_transaction}
+use Rattle.ace_model.specs.AddressRules.{k5, k6, has_free_line, starts_well}
+use Rattle.ace_model.specs.Accepted.{rule, IsAccepted}
+use Rattle.ace_model.proofs.Growth.{some_issued-found}
+use Rattle.ace_model.proofs.Issued.{issued-place, outstanding-named, transaction_of-stands}
+use Rattle.ace_model.proofs.Kept.{accepted_keeps}
+use Rattle.ace_model.proofs.Looks.{Some-injective, is_some_and-is, is_none_or-at, implies-at, has_name-is, newest_named-cases, without-some}
+use Rattle.ace_model.proofs.HolderStates.{less-lessens}
+use Rattle.ace_model.proofs.HolderStores.{less_s, lessened_d}
+use Rattle.ace_model.proofs.HolderSnoop.{less_cr}
+use Rattle.ace_model.proofs.HolderWrite.{less_wk}
+use Rattle.ace_model.proofs.HolderAcknowledge.{ends, is_named_by_rk}
+use Rattle.ace_model.proofs.HolderKept.{KeptRules, kept}
+use Rattle.ace_model.proofs.HolderLaw.{accepted_holds}
+
+-- what is outstanding after an event is what it issues, or was outstanding and isn't what it ends
+pub outstanding-cases : (h : Header) (e : Event) (past : Trace) (p : ℕ) (c : Channel) (i : ℕ) (x : Transaction) → outstanding h (e ∷ past) p c i ≡ Some x
+    → ((issued (length past) e ≡ Some x) × (has_name x p c i ≡ true))
+    ⊎ ((outstanding h past p c i ≡ Some x) × ((z : Transaction) → ended h past e ≡ Some z → z.place ≢ x.place))
+outstanding-cases h e past p c i x o =
+    elim (newest_named-cases (issued (length past) e) p c i (without (ended h past e) (outstanding h past p c i)) x o) [
+      | inl new ↦ inl new
+      | inr old ↦ inr (without-some (ended h past e) (outstanding h past p c i) x old.0)
+    ]
+
+-- what is outstanding was outstanding at each point since it was issued
+pub outstanding-before : (h : Header) (k : ℕ) (past : Trace) (p : ℕ) (c : Channel) (i : ℕ) (x : Transaction) → outstanding h past p c i ≡ Some x
+    → x.place < length (drop k past) → outstanding h (drop k past) p c i ≡ Some x
+outstanding-before h zero past p c i x o low = o
+outstanding-before h (suc k) [] p c i x o low = o
+outstanding-before h (suc k) (e ∷ past) p c i x o low =
+    elim (outstanding-cases h e past p c i x o) [
+      | inl new ↦
+          let at = issued-place (length past) e x new.0 in
+          absurd (shorter k past x.place at low)
+      | inr old ↦ outstanding-before h k past p c i x old.0 low
+    ]
+  where
+    shorter : (k : ℕ) (past : Trace) (n : ℕ) → n ≡ length past → n < length (drop k past) → ⊥
+    shorter zero past n at low = absurd (omega arith)
+    shorter (suc k) [] n at low = absurd (omega arith)
+    shorter (suc k) (e ∷ past) n at low = shorter k past (length past) refl (below k past n at low)
+      where
+        below : (k : ℕ) (past : Trace) (n : ℕ) → n ≡ suc (length past) → n < length (drop k past) → length past < length (drop k past)
+        below k past n at low = omega arith
+
+-- where a transaction of the port on the line is outstanding, its next one on the line breaks the rule
+pub line-taken : (h : Header) (e : Event) (past : Trace) (p : ℕ) (c : Channel) (i : ℕ) (x y : Transaction) → k5 h past e ≡ true
+    → issued (length past) e ≡ Some y → is_line y ≡ true → outstanding h past p c i ≡ Some x → is_line x ≡ true → x.addr ≡ y.addr → p ≡ y.port → ⊥
+line-taken h e past p c i x y k new line o line_x addr port =
+    let free : implies (is_line y) (not (has_outstanding_on h past y.port y.addr)) ≡ true = is_none_or-at (issued (length past) e) (has_free_line h past) y k new in
+    let none = not-true (has_outstanding_on h past y.port y.addr) (implies-at (is_line y) _ free line) in
+    let s = transaction_of-stands past p c i x (outstanding-named h past p c i x o) in
+    let n = has_name-is x p c i s.named in
+    let out : outstanding h past x.port x.chan x.id ≡ Some x =
+    ap (λ a. outstanding h past a x.chan x.id) n.port ∙ ap (λ (a : Channel). outstanding h past p a x.id) n.chan ∙ ap (outstanding h past p c) n.id ∙ o in
+    let is : is_outstanding h past x ≡ true = rw out (eq-eqb x.place x.place refl) in
+    let test : is_outstanding_on h past y.port y.addr x ≡ true =
+    and_from _ _ (and_from _ _ (eq-eqb x.port y.port (n.port ∙ port)) (and_from _ _ line_x (eq-eqb x.addr y.addr addr))) is in
+    let some : has_outstanding_on h past y.port y.addr ≡ true = some_issued-found past (is_outstanding_on h past y.port y.addr) x.place x s.there test in
+    cc
+
+-- a port has one outstanding transaction on a line
+pub one_outstanding : (h : Header) (past : Trace) → IsAccepted h past → (p : ℕ) (c d : Channel) (i j : ℕ) (x y : Transaction)
+    → outstanding h past p c i ≡ Some x → outstanding h past p d j ≡ Some y → is_line x ≡ true → is_line y ≡ true → x.addr ≡ y.addr → x ≡ y
+one_outstanding h [] a p c d i j x y o u line_x line_y addr = cc
+one_outstanding h (e ∷ past) a p c d i j x y o u line_x line_y addr =
+    let k : k5 h past e ≡ true = accepted_keeps 4 (rule 5 k5) h past e refl a in
+    elim (outstanding-cases h e past p c i x o) [
+      | inl new ↦ elim (outstanding-cases h e past p d j y u) [
+        | inl new_y ↦ Some-injective x y (sym new.0 ∙ new_y.0)
+        | inr old_y ↦
+            absurd (line-taken h e past p d j y x k new.0 line_x old_y.0 line_y (sym addr) (sym (has_name-is x p c i new.1).port))
+      ]
+      | inr old ↦ elim (outstanding-cases h e past p d j y u) [
+        | inl new_y ↦
+            absurd (line-taken h e past p c i x y k new_y.0 line_y old.0 line_x addr (sym (has_name-is y p d j new_y.1).port))
+        | inr old_y ↦ one_outstanding h past a.0 p c d i j x y old.0 old_y.0 line_x line_y addr
+      ]
+    ]
+
+-- a read of a line has a kind, and names a line
+pub line_read-line : (x : Transaction) → is_line_read_transaction x ≡ true → is_line x ≡ true
+line_read-line x reads =
+    let k = is_some_and-is (read_kind x) reads_a_line reads in
+    rw k.1 (or_left (is_line_read k.0) (is_some_and (write_kind x) is_line_write) (of_kind k.0 k.2))
+  where
+    of_kind : (k : ArKind) → reads_a_line k ≡ true → is_line_read k ≡ true
+    of_kind read.ReadNoSnoop t = refl
+    of_kind read.ReadOnce t = refl
+    of_kind read.ReadShared t = refl
+    of_kind read.ReadClean t = refl
+    of_kind read.ReadNotSharedDirty t = refl
+    of_kind read.ReadUnique t = refl
+    of_kind k t = cc
+
+-- a read of a line starts where its port holds nothing
+starts_empty : (k : ArKind) (st : LineState) → reads_a_line k ≡ true → starts_read k st ≡ true → st ≡ I
+starts_empty k I t s = refl
+starts_empty read.ReadNoSnoop st t s = cc
+starts_empty read.ReadOnce st t s = cc
+starts_empty read.ReadShared st t s = cc
+starts_empty read.ReadClean st t s = cc
+starts_empty read.ReadNotSharedDirty st t s = cc
+starts_empty read.ReadUnique st t s = cc
+starts_empty k st t s = cc
+
+-- an event that issues a transaction names no state
+pub issued-state : (h : Header) (past : Trace) (e : Event) (x : Transaction) (p l : ℕ) → issued (length past) e ≡ Some x → state_of h (e ∷ past) p l ≡ state_of h past p l
+issued-state h past (Ar q j addr snoop dom bar lock) x p l new = refl
+issued-state h past (Aw q j addr snoop dom bar) x p l new = refl
+issued-state h past e x p l new = cc
+
+-- where the RK doesn't end a read of the port on the line, its state of the line stays I
+pub state_empty : (h : Header) (past : Trace) (e : Event) (p l : ℕ) → KeptRules h past e
+    → ((q : ℕ) (st : LineState) → e ≡ Rk q st → is_named_by_rk past q p l ≡ false)
+    → state_of h past p l ≡ I → state_of h (e ∷ past) p l ≡ I
+state_empty h past (Rk q st) p l k other was = rw (other q st refl) was
+state_empty h past (Wk q st) p l k other was = (less-lessens _ _ (less_wk h past q st k.rule_28 p l)).gone was
+state_empty h past (Cr q resp st) p l k other was = (less-lessens _ _ (less_cr h past q resp st k.rule_15 p l)).gone was
+state_empty h past (S q addr st) p l k other was = (less-lessens _ _ (less_s h past q addr st k.rule_29 p l)).gone was
+state_empty h past (D q addr strobe x line) p l k other was = (lessened_d h past q addr strobe x line k.rule_32 l p).gone was
+state_empty h past e p l k other was = was
+
+-- while a read of a line is outstanding, its port holds nothing of the line
+pub empty_while_read : (h : Header) (past : Trace) → IsAccepted h past → (p i : ℕ) (x : Transaction) → outstanding h past p Read i ≡ Some x
+    → is_line_read_transaction x ≡ true → state_of h past p x.addr ≡ I
+empty_while_read h [] a p i x o reads = refl
+empty_while_read h (e ∷ past) a p i x o reads =
+    let line = line_read-line x reads in
+    elim (outstanding-cases h e past p Read i x o) [
+      | inl new ↦
+          let k : k6 h past e ≡ true = accepted_keeps 5 (rule 6 k6) h past e refl a in
+          let well = is_none_or-at (issued (length past) e) (starts_well h past) x k new.0 in
+          let kind = is_some_and-is (read_kind x) reads_a_line reads in
+          let starts = (and_parts (is_none_or (read_kind x) (λ k. starts_read k (state_of h past x.port x.addr))) _ (implies-at (is_line x) _ well line)).0 in
+          let by = is_none_or-at (read_kind x) (λ k. starts_read k (state_of h past x.port x.addr)) kind.0 starts kind.1 in
+          let port = (has_name-is x p Read i new.1).port in
+          issued-state h past e x p x.addr new.0
+          ∙ ap (λ v. state_of h past v x.addr) (sym port)
+          ∙ starts_empty kind.0 (state_of h past x.port x.addr) kind.2 by
+      | inr old ↦
+          let rest = kept h past e a.1 in
+          state_empty h past e p x.addr rest
+          (λ q st is. other q st is old rest line)
+          (empty_while_read h past a.0 p i x old.0 reads)
+    ]
+  where
+    other : (q : ℕ) (st : LineState) → e ≡ Rk q st
+        → ((outstanding h past p Read i ≡ Some x) × ((z : Transaction) → ended h past e ≡ Some z → z.place ≢ x.place))
+        → KeptRules h past e → is_line x ≡ true → is_named_by_rk past q p x.addr ≡ false
+    other q st is old rest line =
+        elim (cases_Bool (is_named_by_rk past q p x.addr)) [
+          | inr f ↦ f
+          | inl t ↦
+              let known = subst (λ (v : Event). KeptRules h past v) is rest in
+              let d = ends h past q st (accepted_holds h past a.0) known.rule_1 known.rule_22 in
+              let parts = and_parts (nat_eq p q) _ t in
+              let port = eqb-true p q parts.0 in
+              let y = is_some_and-is (acknowledged past p Read) (λ z. is_on z x.addr) parts.1 in
+              let one : y.0 ≡ d.ended_one = Some-injective y.0 d.ended_one (sym y.1 ∙ ap (λ v. acknowledged past v Read) port ∙ d.is) in
+              let on = and_parts (is_line d.ended_one) (nat_eq d.ended_one.addr x.addr) (subst (λ v. is_on v x.addr ≡ true) one y.2) in
+              let out : outstanding h past p Read d.id ≡ Some d.ended_one = ap (λ v. outstanding h past v Read d.id) port ∙ d.out in
+              let same : x ≡ d.ended_one =
+              one_outstanding h past a.0 p Read Read i d.id x d.ended_one old.0 out line on.0 (sym (eqb-true d.ended_one.addr x.addr on.1)) in
+              let ends_it : ended h past e ≡ Some d.ended_one = ap (ended h past) is ∙ d.is in
+              absurd (old.1 d.ended_one ends_it (ap (λ (v : Transaction). v.place) (sym same)))
+        ]
