@@ -8,6 +8,8 @@ ghost use Rattle.ace_model.specs.Trace.{Trace};
 ghost use Rattle.ace_model.specs.Accepted.{Rule, AreInOrder, rules, IsAcceptedBy, IsAccepted, FirstBreakBy, first_break_by};
 ghost use Rattle.ace_model.specs.Today.{rules_today};
 ghost use Rattle.ace_model.specs.Unique.{Unique, OneDirty};
+ghost use Rattle.ace_model.specs.DirtyPlace.{DirtyPlace};
+ghost use Rattle.ace_model.specs.ReadsFollow.{ReadsFollow};
 ghost use Rattle.ace_model.specs.BarrierHolds.{BarrierHolds};
 ghost use Rattle.ace_model.specs.DvmHolds.{DvmHolds};
 ghost use Rattle.ace_model.specs.ExclusiveHolds.{ExclusiveHolds};
@@ -56,4 +58,10 @@ pub fn a_sync_waits_for_all()
 /// other port stores to the line, by a D or by the M of a write.
 pub fn exclusive_store_is_exclusive()
     ensures { (h : Header) (past : Trace) → IsAccepted h past → ExclusiveHolds past }
+{}
+
+/// In an accepted trace all reads follow one order of their line's stores, which is that of the trace, if at every point data
+/// newer than memory have a place and every valid copy is the line's value.
+pub fn reads_follow_one_order()
+    ensures { (h : Header) (past : Trace) → IsAccepted h past → DirtyPlace h past → ReadsFollow past }
 {}
