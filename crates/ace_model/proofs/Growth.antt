@@ -65,7 +65,7 @@ transaction-issued (e ∷ past) k x there =
     ]
 
 -- a test that holds of every transaction holds of one that was issued
-some_issued-found : (past : Trace) (test : Transaction → Bool) (n : ℕ) (x : Transaction)
+pub some_issued-found : (past : Trace) (test : Transaction → Bool) (n : ℕ) (x : Transaction)
     → issued_at past n ≡ Some x → test x ≡ true → some_issued past test ≡ true
 some_issued-found [] test n x there t = cc
 some_issued-found (e ∷ past) test n x there t =

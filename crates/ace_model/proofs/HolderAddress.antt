@@ -29,7 +29,7 @@ write_issued past q j addr snoop dom bar =
     record { place = length past; port = q; chan = Write; id = j; addr = addr; snoop = snoop; dom = dom; bar = bar; lock = false }
 
 -- what is outstanding is the new transaction, or was outstanding before under another name
-outstanding_new : (h : Header) (past : Trace) (y : Transaction) (p : ℕ) (c : Channel) (i : ℕ) (x : Transaction)
+pub outstanding_new : (h : Header) (past : Trace) (y : Transaction) (p : ℕ) (c : Channel) (i : ℕ) (x : Transaction)
     → newest_named (Some y) p c i (outstanding h past p c i) ≡ Some x
     → ((y ≡ x) × (has_name y p c i ≡ true)) ⊎ ((outstanding h past p c i ≡ Some x) × (has_name y p c i ≡ false))
 outstanding_new h past y p c i x o =
@@ -41,7 +41,7 @@ outstanding_new h past y p c i x o =
     ]
 
 -- where the name is free, what was outstanding stays so
-outstanding_stays : (h : Header) (past : Trace) (y : Transaction) (p : ℕ) (c : Channel) (i : ℕ) (x : Transaction)
+pub outstanding_stays : (h : Header) (past : Trace) (y : Transaction) (p : ℕ) (c : Channel) (i : ℕ) (x : Transaction)
     → is_none (outstanding h past y.port y.chan y.id) ≡ true → outstanding h past p c i ≡ Some x
     → (has_name y p c i ≡ false) × (newest_named (Some y) p c i (outstanding h past p c i) ≡ Some x)
 outstanding_stays h past y p c i x free o =

@@ -58,7 +58,7 @@ grants_g h past q c j f k l x g =
         ap (λ a. outstanding h past a x.chan x.id) name.port ∙ ap (λ a. outstanding h past q a x.id) name.chan ∙ ap (λ a. outstanding h past q c a) name.id ∙ out ∙ same
 
 -- where the line of the grant is one that was granted, the rule is broken
-other_line : (h : Header) (past : Trace) (q : ℕ) (c : Channel) (j l : ℕ) (x : Transaction) → k12 h past (G q c j) ≡ true → granted h past l ≡ Some x
+pub other_line : (h : Header) (past : Trace) (q : ℕ) (c : Channel) (j l : ℕ) (x : Transaction) → k12 h past (G q c j) ≡ true → granted h past l ≡ Some x
     → is_some_on (transaction_of past q c j) l ≡ false
 other_line h past q c j l x k g =
     let m = may_grant h past q c j k in
@@ -68,7 +68,7 @@ other_line h past q c j l x k g =
     ]
 
 -- a snoop knows how many events came before it
-snoop_at-place : (n : ℕ) (e : Event) (r : ℕ) (s : Snoop) → snoop_at n e r ≡ Some s → s.place ≡ n
+pub snoop_at-place : (n : ℕ) (e : Event) (r : ℕ) (s : Snoop) → snoop_at n e r ≡ Some s → s.place ≡ n
 snoop_at-place n (Ac q addr code) r s is = new (nat_eq r q) is
   where
     new : (b : Bool) → (if b then Some (record { place = n; addr = addr; snoop = code }) else None) ≡ Some s → s.place ≡ n
@@ -76,7 +76,7 @@ snoop_at-place n (Ac q addr code) r s is = new (nat_eq r q) is
     new false is = cc
 snoop_at-place n e r s is = cc
 
-snoops-before : (past : Trace) (r n : ℕ) (s : Snoop) → slice_get (snoops_of past r) n ≡ Some s → s.place < length past
+pub snoops-before : (past : Trace) (r n : ℕ) (s : Snoop) → slice_get (snoops_of past r) n ≡ Some s → s.place < length past
 snoops-before [] r n s e = cc
 snoops-before (e ∷ past) r n s is =
     elim (slice_get-more (snoops_of past r) (snoop_at (length past) e r) n s is) [
@@ -113,7 +113,7 @@ passed_g h past q c j f l r x a g takes w dirty =
     ]
 
 -- the grant of another line isn't that of the exclusive store
-failed_g : (h : Header) (past : Trace) (q : ℕ) (c : Channel) (j p i : ℕ) (x : Transaction) → outstanding h past p Read i ≡ Some x → is_line x ≡ true
+pub failed_g : (h : Header) (past : Trace) (q : ℕ) (c : Channel) (j p i : ℕ) (x : Transaction) → outstanding h past p Read i ≡ Some x → is_line x ≡ true
     → is_some_on (transaction_of past q c j) x.addr ≡ false → has_failed (G q c j ∷ past) x ≡ has_failed past x
 failed_g h past q c j p i x o line other =
     ap (λ v. is_exclusive_store x && is_false (newer v (passed_at_grant past x.port x.id))) (unmoved (transaction_of past q c j) refl)

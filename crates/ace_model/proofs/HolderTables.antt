@@ -75,14 +75,14 @@ takes_shared read.ReadClean = true
 takes_shared read.ReadNotSharedDirty = true
 takes_shared _ = false
 
-each_state : (P : LineState → Type 0) → P I → P UC → P UD → P SC → P SD → (st : LineState) → P st
+pub each_state : (P : LineState → Type 0) → P I → P UC → P UD → P SC → P SD → (st : LineState) → P st
 each_state P i uc ud sc sd I = i
 each_state P i uc ud sc sd UC = uc
 each_state P i uc ud sc sd UD = ud
 each_state P i uc ud sc sd SC = sc
 each_state P i uc ud sc sd SD = sd
 
-same_state-is : (a b : LineState) → same_state a b ≡ true → a ≡ b
+pub same_state-is : (a b : LineState) → same_state a b ≡ true → a ≡ b
 same_state-is I I e = refl
 same_state-is UC UC e = refl
 same_state-is UD UD e = refl
@@ -91,7 +91,7 @@ same_state-is SD SD e = refl
 same_state-is a b e = cc
 
 -- what holds of each state of a list holds of one that is among them
-all_among : (good : LineState → Bool) (xs : List LineState) (st : LineState) → is_among st xs ≡ true → list_all good xs ≡ true → good st ≡ true
+pub all_among : (good : LineState → Bool) (xs : List LineState) (st : LineState) → is_among st xs ≡ true → list_all good xs ≡ true → good st ≡ true
 all_among good [] st e a = cc
 all_among good (x ∷ xs) st e a =
     let parts = and_parts (good x) (list_all good xs) a in

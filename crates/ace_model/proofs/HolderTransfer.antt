@@ -60,7 +60,7 @@ may h past q j resp last word k =
     }
 
 -- the granted transaction at its place is the one itself
-granted_one : (h : Header) (past : Trace) (q j : ℕ) (x : Transaction) → Inductive h past → transaction_of past q Read j ≡ Some x → is_granted h past x ≡ true → granted h past x.addr ≡ Some x
+pub granted_one : (h : Header) (past : Trace) (q j : ℕ) (x : Transaction) → Inductive h past → transaction_of past q Read j ≡ Some x → is_granted h past x ≡ true → granted h past x.addr ≡ Some x
 granted_one h past q j x f named g =
     let y = is_some_and-is (granted h past x.addr) (λ z. nat_eq z.place x.place) g in
     let s = f.grants x.addr y.0 y.1 in
@@ -68,7 +68,7 @@ granted_one h past q j x f named g =
     y.1 ∙ ap Some one
 
 -- the transaction that a transfer ends is the read of a port that is no ACE port
-ends_lite : (h : Header) (past : Trace) (q j resp : ℕ) (last : Bool) (word : ℕ) (z : Transaction) → ended h past (R q j resp last word) ≡ Some z
+pub ends_lite : (h : Header) (past : Trace) (q j resp : ℕ) (last : Bool) (word : ℕ) (z : Transaction) → ended h past (R q j resp last word) ≡ Some z
     → (is_ace h q ≡ false) × (transaction_of past q Read j ≡ Some z)
 ends_lite h past q j resp last word z e = lite last (is_ace h q) e
   where
@@ -77,7 +77,7 @@ ends_lite h past q j resp last word z e = lite last (is_ace h q) e
     lite l b e = cc
 
 -- a read of an ACE port stays outstanding
-stays_r : (h : Header) (past : Trace) (q j resp : ℕ) (last : Bool) (word p i : ℕ) (x : Transaction) → is_ace h p ≡ true → outstanding h past p Read i ≡ Some x
+pub stays_r : (h : Header) (past : Trace) (q j resp : ℕ) (last : Bool) (word p i : ℕ) (x : Transaction) → is_ace h p ≡ true → outstanding h past p Read i ≡ Some x
     → outstanding h (R q j resp last word ∷ past) p Read i ≡ Some x
 stays_r h past q j resp last word p i x ace o =
     without-other (ended h past (R q j resp last word)) (outstanding h past p Read i) x o (λ z is same.

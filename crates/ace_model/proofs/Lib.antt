@@ -21,6 +21,7 @@ pub mod HolderWrite
 pub mod Issued
 pub mod Kept
 pub mod Least
+pub mod LineOnce
 pub mod Looks
 pub mod MessageAnswered
 pub mod OrderPoints
@@ -28,6 +29,8 @@ pub mod Places
 pub mod Points
 pub mod Served
 pub mod Starts
+pub mod StateRises
 pub mod SyncCompleted
 pub mod SyncLaw
 pub mod UniqueLaw
+pub mod WriteQueue
