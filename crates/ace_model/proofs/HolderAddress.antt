@@ -62,7 +62,7 @@ grants_issued h past y f free l x g =
     ((outstanding_stays h past y x.port x.chan x.id x free s.0).1, s.1)
 
 -- the answer to the exclusive store under a name stays where another name is issued
-failed_issued : (past : Trace) (y : Transaction) (x : Transaction) → has_name y x.port Read x.id ≡ false
+pub failed_issued : (past : Trace) (y : Transaction) (x : Transaction) → has_name y x.port Read x.id ≡ false
     → (is_exclusive_store x && is_false (if has_name y x.port Read x.id then None else passed_at_grant past x.port x.id)) ≡ has_failed past x
 failed_issued past y x other =
     ap (λ v. is_exclusive_store x && is_false v) (kept (has_name y x.port Read x.id) (passed_at_grant past x.port x.id) other)
@@ -79,7 +79,7 @@ other_name h past y p i x o other =
     ap (λ a. has_name y a Read x.id) name.port ∙ ap (has_name y p Read) name.id ∙ other
 
 -- the count of transfers begins anew for the name of the read
-named_read : (past : Trace) (q j addr snoop dom bar : ℕ) (lock : Bool) (p i : ℕ) (b : Bool)
+pub named_read : (past : Trace) (q j addr snoop dom bar : ℕ) (lock : Bool) (p i : ℕ) (b : Bool)
     → has_name (read_issued past q j addr snoop dom bar lock) p Read i ≡ b → (nat_eq p q && nat_eq i j) ≡ b
 named_read past q j addr snoop dom bar lock p i true e =
     let n = has_name-is (read_issued past q j addr snoop dom bar lock) p Read i e in

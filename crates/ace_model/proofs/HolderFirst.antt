@@ -33,7 +33,7 @@ each_at (suc n) test r e l =
     ]
 
 -- where no port passes the test, this one doesn't
-none_at : (n : ℕ) (test : ℕ → Bool) (r : ℕ) → some_port n test ≡ false → r < n → test r ≡ false
+pub none_at : (n : ℕ) (test : ℕ → Bool) (r : ℕ) → some_port n test ≡ false → r < n → test r ≡ false
 none_at zero test r e l = absurd (omega arith)
 none_at (suc n) test r e l =
     let parts = neither (test n) (some_port n test) e in
@@ -46,7 +46,7 @@ none_at (suc n) test r e l =
     neither true b e = cc
     neither false b e = (refl, e)
 
-found_passes : (n : ℕ) (test : ℕ → Bool) (r : ℕ) → find_port n test ≡ Some r → test r ≡ true
+pub found_passes : (n : ℕ) (test : ℕ → Bool) (r : ℕ) → find_port n test ≡ Some r → test r ≡ true
 found_passes zero test r e = cc
 found_passes (suc n) test r e =
     elim (cases_Bool (test n)) [
@@ -61,7 +61,7 @@ pub record Answered (h : Header) (past : Trace) (r l : ℕ) : Type 0 where
   pub is : answer_of past r l ≡ Some answer
 
 -- under the grant, once its snoops are done, another port holds nothing of the line or has answered
-done_port : (h : Header) (past : Trace) (x : Transaction) (r : ℕ) → Inductive h past → each_port h.ports (is_port_done h past x) ≡ true → x.port ≢ r
+pub done_port : (h : Header) (past : Trace) (x : Transaction) (r : ℕ) → Inductive h past → each_port h.ports (is_port_done h past x) ≡ true → x.port ≢ r
     → (state_of h past r x.addr ≡ I) ⊎ Answered h past r x.addr
 done_port h past x r f all ne =
     elim (cases_Bool (is_ace h r)) [

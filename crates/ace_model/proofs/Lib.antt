@@ -2,7 +2,9 @@ pub mod Acceptance
 pub mod BarrierOrder
 pub mod BarrierPairs
 pub mod FirstBreak
+pub mod FirstBegins
 pub mod Forwarding
+pub mod GrantStays
 pub mod Growth
 pub mod HolderAcknowledge
 pub mod HolderAddress

@@ -216,3 +216,93 @@ write_queue h (Rk q st ∷ past) a p ace =
 write_queue h (B q j resp ∷ past) a p ace = queue_b h past q j resp p ace (responds_of h past q j resp a) (write_queue h past a.0 p ace)
 write_queue h (Wk q st ∷ past) a p ace = queue_wk h past q st p (write_queue h past a.0 p ace)
 write_queue h (_ ∷ past) a p ace = let f = write_queue h past a.0 p ace in record { stands = f.stands; distinct = f.distinct }
+
+-- an event that issues a transaction completes none
+issue_completes : (n : ℕ) (e : Event) (x : Transaction) (p : ℕ) (c : Channel) (i : ℕ) → issued n e ≡ Some x → is_completion e p c i ≡ false
+issue_completes n (Ar q j addr snoop dom bar lock) x p c i s = refl
+issue_completes n (Aw q j addr snoop dom bar) x p c i s = refl
+issue_completes n e x p c i s = cc
+
+-- a response that completes the write comes after its M
+completion_written : (h : Header) (past : Trace) (e : Event) → IsAccepted h (e ∷ past) → (p i : ℕ) (x : Transaction) → outstanding h past p Write i ≡ Some x
+    → is_completion e p Write i ≡ true → is_some_and (write_kind x) has_write_data ≡ true → has_memory_write past p Write i ≡ true
+completion_written h past (B q j resp) a p i x o c sends =
+    elim (cases_Bool (nat_eq p q)) [
+      | inr other ↦ let bad : false ≡ true = rw other at c in cc
+      | inl t ↦
+          let id : nat_eq i j ≡ true = rw t at c in
+          let m = responds_of h past q j resp a in
+          let same : outstanding h past p Write i ≡ outstanding h past q Write j =
+          ap (λ b. outstanding h past b Write i) (eqb-true p q t) ∙ ap (outstanding h past q Write) (eqb-true i j id) in
+          let one : m.one ≡ x = Some-injective m.one x (sym m.out ∙ sym same ∙ o) in
+          ap (λ b. has_memory_write past b Write i) (eqb-true p q t) ∙ ap (has_memory_write past q Write) (eqb-true i j id)
+          ∙ m.written (subst (λ (y : Transaction). is_some_and (write_kind y) has_write_data ≡ true) (sym one) sends)
+    ]
+completion_written h past e a p i x o c sends = cc
+
+-- a complete write with data that is outstanding has written memory
+pub done_write : (h : Header) (past : Trace) → IsAccepted h past → (p i : ℕ) (x : Transaction) → outstanding h past p Write i ≡ Some x
+    → is_complete past p Write i ≡ true → is_some_and (write_kind x) has_write_data ≡ true → has_memory_write past p Write i ≡ true
+done_write h [] a p i x o c sends = cc
+done_write h (e ∷ past) a p i x o c sends =
+    elim (newest_named-cases (issued (length past) e) p Write i _ x o) [
+      | inl new ↦
+          let none = issue_completes (length past) e x p Write i new.0 in
+          let bad : false ≡ true = rw (new.0, new.1, none) at c in cc
+      | inr old ↦
+          let was = (without-some (ended h past e) (outstanding h past p Write i) x old.0).0 in
+          let before : has_memory_write past p Write i ≡ true =
+          elim (or_cases (is_completion e p Write i) (not (is_named (issued (length past) e) p Write i) && is_complete past p Write i) c) [
+            | inl now ↦ completion_written h past e a p i x was now sends
+            | inr earlier ↦ done_write h past a.0 p i x was (and_parts (not (is_named (issued (length past) e) p Write i)) _ earlier).1 sends
+          ] in
+          or_right (is_memory_write e p Write i) (not (is_named (issued (length past) e) p Write i) && has_memory_write past p Write i) (rw old.1 before)
+    ]
+
+-- The write that a WK of the port belongs to.
+pub record EndsWrite (h : Header) (past : Trace) (q : ℕ) (z : Transaction) : Type 0 where
+  pub id : ℕ
+  pub out : outstanding h past q Write id ≡ Some z
+  pub port : z.port ≡ q
+  pub chan : z.chan ≡ Write
+  pub is_id : z.id ≡ id
+  pub written : is_some_and (write_kind z) has_write_data ≡ true → has_memory_write past z.port z.chan z.id ≡ true
+
+pub ends_write_of : (h : Header) (past : Trace) (q : ℕ) (st : LineState) → IsAccepted h (Wk q st ∷ past) → (z : Transaction) → acknowledged past q Write ≡ Some z → EndsWrite h past q z
+ends_write_of h past q st a z is =
+    let ace : is_ace h q ≡ true = (and_parts (nat_lt q h.ports) (is_ace h q) (accepted_keeps 0 (rule 1 k1) h past (Wk q st) refl a)).1 in
+    let f = write_queue h past a.0 q ace in
+    let next = acknowledged_is past q Write z is in
+    let w = f.stands (acknowledgements past q Write) next.id (le_refl (acknowledgements past q Write)) next.next in
+    let one : w.0 ≡ z = Some-injective w.0 z (sym (outstanding-named h past q Write next.id w.0 w.1) ∙ next.named) in
+    let out : outstanding h past q Write next.id ≡ Some z = w.1 ∙ ap Some one in
+    let name = has_name-is z q Write next.id (transaction_of-stands past q Write next.id z next.named).named in
+    record {
+      id = next.id;
+      out = out;
+      port = name.port;
+      chan = name.chan;
+      is_id = name.id;
+      written = λ sends.
+          ap (λ b. has_memory_write past b z.chan z.id) name.port ∙ ap (λ (c : Channel). has_memory_write past q c z.id) name.chan ∙ ap (has_memory_write past q Write) name.id
+          ∙ done_write h past a.0 q next.id z out w.2 sends;
+    }
+
+-- a response ends a write of a port that is no ACE port, which has written memory
+pub ends_lite_written : (h : Header) (past : Trace) (q j resp : ℕ) → IsAccepted h (B q j resp ∷ past) → (z : Transaction) → ended h past (B q j resp) ≡ Some z
+    → EndsWrite h past q z
+ends_lite_written h past q j resp a z is =
+    let m = responds_of h past q j resp a in
+    let e = ends_lite_write h past q j resp z is in
+    let one : m.one ≡ z = Some-injective m.one z (sym (outstanding-named h past q Write j m.one m.out) ∙ e.1) in
+    let name = has_name-is z q Write j (transaction_of-stands past q Write j z e.1).named in
+    record {
+      id = j;
+      out = m.out ∙ ap Some one;
+      port = name.port;
+      chan = name.chan;
+      is_id = name.id;
+      written = λ sends.
+          ap (λ b. has_memory_write past b z.chan z.id) name.port ∙ ap (λ (c : Channel). has_memory_write past q c z.id) name.chan ∙ ap (has_memory_write past q Write) name.id
+          ∙ m.written (subst (λ (y : Transaction). is_some_and (write_kind y) has_write_data ≡ true) (sym one) sends);
+    }
