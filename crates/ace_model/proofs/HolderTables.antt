@@ -164,7 +164,7 @@ answer_states snoop.DvmComplete = each_state _ refl refl refl refl refl
 answer_states snoop.DvmMessage = each_state _ refl refl refl refl refl
 
 -- a row is plain, or one of a line
-row_cases : (k : SnoopKind) (resp : ℕ) (next held : LineState) → is_snoop_row k held false resp next ≡ true
+pub row_cases : (k : SnoopKind) (resp : ℕ) (next held : LineState) → is_snoop_row k held false resp next ≡ true
     → (is_plain_row resp next ≡ true) ⊎ (is_line_row k held false resp next ≡ true)
 row_cases snoop.DvmComplete resp next = λ held e. inl e
 row_cases snoop.DvmMessage resp next = λ held e. inl e

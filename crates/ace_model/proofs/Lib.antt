@@ -4,6 +4,7 @@ pub mod BarrierPairs
 pub mod FirstBreak
 pub mod FirstBegins
 pub mod Forwarding
+pub mod GrantAnswers
 pub mod GrantStays
 pub mod Growth
 pub mod HolderAcknowledge
@@ -25,14 +26,19 @@ pub mod Kept
 pub mod Least
 pub mod LineOnce
 pub mod Looks
+pub mod MergedLines
 pub mod MessageAnswered
 pub mod OrderPoints
 pub mod Places
 pub mod Points
 pub mod Served
 pub mod Starts
+pub mod SnoopAnswers
+pub mod SnoopRows
+pub mod SnoopsPending
 pub mod StateRises
 pub mod SyncCompleted
 pub mod SyncLaw
 pub mod UniqueLaw
+pub mod UpdateHolds
 pub mod WriteQueue

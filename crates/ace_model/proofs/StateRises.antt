@@ -1,5 +1,5 @@
 -- A port comes to hold more of a line by the RK of its own read alone, and makes it dirty by that or by a store alone.
-use Rattle.std.proofs.Common.{◌≡◌, ◌⊎◌, ℕ, Bool, true, false, ◌&&◌, ◌||◌, nat_eq, [], ◌∷◌, length, Some, refl, sym, ap, subst, ◌∙◌, inl, inr}
+use Rattle.std.proofs.Common.{◌≡◌, ◌⊎◌, ℕ, Bool, true, false, not, ◌&&◌, ◌||◌, nat_eq, [], ◌∷◌, length, Some, refl, sym, ap, subst, ◌∙◌, inl, inr}
 use Rattle.std.proofs.lemmas.Bool.{and_parts, or_cases, cases_Bool, eqb-true}
 use Rattle.ace_codes.specs.declared.kind.ArKind.{ArKind}
 use Rattle.ace_codes.specs.declared.kind.ArKind.TheVariants as read
@@ -12,26 +12,27 @@ use Rattle.ace_event.specs.declared.event.Channel.TheVariants.{Read}
 use Rattle.ace_event.specs.declared.event.Event.{Event}
 use Rattle.ace_event.specs.declared.event.Event.TheVariants.{Ar, Rk, Aw, Wk, Cr, S, D}
 use Rattle.ace_event.specs.declared.header.Header.{Header}
+use Rattle.ace_event.specs.declared.line.Line.{Line}
 use Rattle.ace_tables.specs.StartStates.{starts_read, starts_write}
-use Rattle.ace_tables.specs.States.{is_among, is_dirty, is_unique}
+use Rattle.ace_tables.specs.States.{is_among, is_dirty}
 use Rattle.ace_model.specs.declared.transactions.Transaction.{Transaction}
 use Rattle.ace_model.specs.Trace.{Trace, implies, is_some_and, is_none_or}
 use Rattle.ace_model.specs.Kinds.{reads_a_line, is_granted_write}
 use Rattle.ace_model.specs.Transactions.{is_line, is_on, is_some_on, has_name, issued, ended, read_kind, write_kind, outstanding, acknowledged}
 use Rattle.ace_model.specs.Grants.{granted}
-use Rattle.ace_model.specs.States.{state_of}
+use Rattle.ace_model.specs.States.{state_of, awaits_store, is_in_make_unique, has_store}
 use Rattle.ace_model.specs.Copies.{is_line_read_transaction}
 use Rattle.ace_model.specs.AddressRules.{k1, k6, starts_well}
 use Rattle.ace_model.specs.SnoopRules.{k15}
 use Rattle.ace_model.specs.ReadRules.{k22, k23}
 use Rattle.ace_model.specs.WriteRules.{k28}
-use Rattle.ace_model.specs.CacheRules.{k29, k32}
+use Rattle.ace_model.specs.CacheRules.{k29, k32, may_store, wants_store, full_line}
 use Rattle.ace_model.specs.Accepted.{rule, rules, IsAccepted}
 use Rattle.ace_model.proofs.Looks.{Some-injective, is_some_and-is, is_none_or-at, implies-at, has_name-is, newest_named-cases, without-some}
 use Rattle.ace_model.proofs.Kept.{accepted_keeps}
 use Rattle.ace_model.proofs.HolderTables.{Lessens, Lessens-self, Lessens-same}
 use Rattle.ace_model.proofs.HolderStates.{less-lessens, less-clean}
-use Rattle.ace_model.proofs.HolderStores.{less_s, lessened_d, stores, is_named_by_d}
+use Rattle.ace_model.proofs.HolderStores.{less_s, lessened_d, stores, is_named_by_d, some_issued-weaker}
 use Rattle.ace_model.proofs.HolderSnoop.{less_cr}
 use Rattle.ace_model.proofs.HolderWrite.{less_wk}
 use Rattle.ace_model.proofs.HolderAcknowledge.{Ends, ends, ends_line, is_named_by_rk}
@@ -87,9 +88,28 @@ state_moves h past (S q addr st) a p l = inl (less-lessens _ _ (less_s h past q 
 state_moves h past (D q addr strobe x line) a p l = inl (lessened_d h past q addr strobe x line (accepted_keeps 31 (rule 32 k32) h past (D q addr strobe x line) refl a) l p)
 state_moves h past _ a p l = inl (Lessens-self (state_of h past p l))
 
--- what becomes dirty was unique, or it is the RK of its read
+-- a store that names a state is of a port that may store
+pub may_store_d : (h : Header) (past : Trace) (q addr strobe : ℕ) (x : Bool) (line : Line) → k32 h past (D q addr strobe x line) ≡ true → (r l : ℕ)
+    → is_named_by_d h past q addr r l ≡ true → may_store h past r l ≡ true
+may_store_d h past q addr strobe x line k r l t =
+    let parts = and_parts (nat_eq r q && nat_eq l addr) _ t in
+    let s = stores h past q addr strobe x line k r l t in
+    let here : (may_store h past r l || ((wants_store h past r l && not x) && nat_eq strobe full_line)) ≡ true =
+    subst (λ b. (may_store h past r b || ((wants_store h past r b && not x) && nat_eq strobe full_line)) ≡ true) (sym s.line)
+    (subst (λ a. (may_store h past a addr || ((wants_store h past a addr && not x) && nat_eq strobe full_line)) ≡ true) (sym s.port) k) in
+    elim (or_cases (may_store h past r l) _ here) [
+      | inl may ↦ may
+      | inr made ↦
+          let wants = (and_parts (wants_store h past r l) (not x) (and_parts (wants_store h past r l && not x) _ made).0).0 in
+          let within : is_in_make_unique h past r l ≡ true =
+          some_issued-weaker past (λ y. awaits_store h past r l y && not (has_store h past y.port y.id)) (awaits_store h past r l)
+          (λ y e. (and_parts (awaits_store h past r l y) _ e).0) wants in
+          let bad : false ≡ true = rw within at parts.1 in cc
+    ]
+
+-- where a line becomes dirty its port may store, or it is the RK of its read
 pub dirty_moves : (h : Header) (past : Trace) (e : Event) → IsAccepted h (e ∷ past) → (p l : ℕ) → is_dirty (state_of h past p l) ≡ false
-    → (is_dirty (state_of h (e ∷ past) p l) ≡ false) ⊎ (is_unique (state_of h past p l) ≡ true) ⊎ Raised h past e p l
+    → (is_dirty (state_of h (e ∷ past) p l) ≡ false) ⊎ (may_store h past p l ≡ true) ⊎ Raised h past e p l
 dirty_moves h past (Rk q st) a p l d =
     elim (cases_Bool (is_named_by_rk past q p l)) [
       | inr f ↦ inl (rw f d)
@@ -101,7 +121,7 @@ dirty_moves h past (S q addr st) a p l d = inl (less-clean _ _ (less_s h past q 
 dirty_moves h past (D q addr strobe x line) a p l d =
     elim (cases_Bool (is_named_by_d h past q addr p l)) [
       | inr f ↦ inl (rw f d)
-      | inl t ↦ inr (inl (stores h past q addr strobe x line (accepted_keeps 31 (rule 32 k32) h past (D q addr strobe x line) refl a) p l t).unique)
+      | inl t ↦ inr (inl (may_store_d h past q addr strobe x line (accepted_keeps 31 (rule 32 k32) h past (D q addr strobe x line) refl a) p l t))
     ]
 dirty_moves h past _ a p l d = inl d
 
