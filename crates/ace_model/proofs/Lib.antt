@@ -25,6 +25,7 @@ pub mod Issued
 pub mod Kept
 pub mod Least
 pub mod LineOnce
+pub mod LineStores
 pub mod Looks
 pub mod MergedLines
 pub mod MessageAnswered
@@ -41,4 +42,5 @@ pub mod SyncCompleted
 pub mod SyncLaw
 pub mod UniqueLaw
 pub mod UpdateHolds
+pub mod WriteBursts
 pub mod WriteQueue
