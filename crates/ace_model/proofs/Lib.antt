@@ -29,6 +29,7 @@ pub mod LineStores
 pub mod Looks
 pub mod MergedLines
 pub mod MessageAnswered
+pub mod NoSnoopLines
 pub mod OrderPoints
 pub mod Places
 pub mod Points

@@ -218,7 +218,7 @@ write_queue h (Wk q st ∷ past) a p ace = queue_wk h past q st p (write_queue h
 write_queue h (_ ∷ past) a p ace = let f = write_queue h past a.0 p ace in record { stands = f.stands; distinct = f.distinct }
 
 -- an event that issues a transaction completes none
-issue_completes : (n : ℕ) (e : Event) (x : Transaction) (p : ℕ) (c : Channel) (i : ℕ) → issued n e ≡ Some x → is_completion e p c i ≡ false
+pub issue_completes : (n : ℕ) (e : Event) (x : Transaction) (p : ℕ) (c : Channel) (i : ℕ) → issued n e ≡ Some x → is_completion e p c i ≡ false
 issue_completes n (Ar q j addr snoop dom bar lock) x p c i s = refl
 issue_completes n (Aw q j addr snoop dom bar) x p c i s = refl
 issue_completes n e x p c i s = cc
