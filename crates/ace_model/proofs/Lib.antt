@@ -3,6 +3,7 @@ pub mod BarrierOrder
 pub mod BarrierPairs
 pub mod FirstBreak
 pub mod FirstBegins
+pub mod CopiesTrue
 pub mod Forwarding
 pub mod GrantAnswers
 pub mod GrantStays
@@ -43,5 +44,8 @@ pub mod SyncCompleted
 pub mod SyncLaw
 pub mod UniqueLaw
 pub mod UpdateHolds
+pub mod ValueFacts
+pub mod ValueStays
 pub mod WriteBursts
 pub mod WriteQueue
+pub mod WritesAlone

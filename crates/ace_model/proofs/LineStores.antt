@@ -41,7 +41,7 @@ use Rattle.ace_model.proofs.WriteQueue.{issue_completes}
 use Rattle.ace_model.proofs.HolderTransfer.{granted_one}
 
 -- a test that some transaction of the trace passes
-some_issued-is : (past : Trace) (test : Transaction → Bool) → some_issued past test ≡ true → (x : Transaction) × IsIssued past x × (test x ≡ true)
+pub some_issued-is : (past : Trace) (test : Transaction → Bool) → some_issued past test ≡ true → (x : Transaction) × IsIssued past x × (test x ≡ true)
 some_issued-is [] test s = cc
 some_issued-is (e ∷ past) test s =
     elim (or_cases (is_some_and (issued (length past) e) test) (some_issued past test) s) [
@@ -50,7 +50,7 @@ some_issued-is (e ∷ past) test s =
     ]
 
 -- an issued transaction that is outstanding is so by its name
-outstanding_is : (h : Header) (past : Trace) (x : Transaction) → IsIssued past x → is_outstanding h past x ≡ true → outstanding h past x.port x.chan x.id ≡ Some x
+pub outstanding_is : (h : Header) (past : Trace) (x : Transaction) → IsIssued past x → is_outstanding h past x ≡ true → outstanding h past x.port x.chan x.id ≡ Some x
 outstanding_is h past x i o =
     let y = is_some_and-is (outstanding h past x.port x.chan x.id) (λ y. nat_eq y.place x.place) o in
     let s = transaction_of-stands past x.port x.chan x.id y.0 (outstanding-named h past x.port x.chan x.id y.0 y.1) in
@@ -223,7 +223,7 @@ stores_write x s =
       | inl t ↦ let bad : false ≡ true = rw t at s in cc
     ]
 
-stores_kind : (x : Transaction) → stores_data x ≡ true → (k : AwKind) × (write_kind x ≡ Some k) × ((is_unique_write k || is_no_snoop_write k) ≡ true)
+pub stores_kind : (x : Transaction) → stores_data x ≡ true → (k : AwKind) × (write_kind x ≡ Some k) × ((is_unique_write k || is_no_snoop_write k) ≡ true)
 stores_kind x s = by (write_kind x) refl s
   where
     by : (o : Option AwKind) → write_kind x ≡ o → (is_some_and o is_unique_write || is_some_and o is_no_snoop_write) ≡ true

@@ -1,5 +1,5 @@
 -- What an RK leaves, and that no port holds a line of NoSnoop transactions.
-use Rattle.std.proofs.Common.{◌≡◌, ◌⊎◌, ℕ, ◌<◌, Bool, true, false, not, ◌&&◌, ◌||◌, nat_eq, [], ◌∷◌, length, Option, Some, None, refl, sym, ap, subst, ◌∙◌, arith, inl, inr}
+use Rattle.std.proofs.Common.{◌≡◌, ◌⊎◌, ℕ, ◌<◌, Bool, true, false, not, ◌&&◌, ◌||◌, nat_eq, [], ◌∷◌, length, Option, Some, None, le_refl, refl, sym, ap, subst, ◌∙◌, arith, inl, inr}
 use Rattle.std.proofs.lemmas.Bool.{and_parts, or_cases, not-true, cases_Bool, eqb-true}
 use Rattle.ace_codes.specs.declared.kind.ArKind.{ArKind}
 use Rattle.ace_codes.specs.declared.kind.ArKind.TheVariants as read
@@ -17,7 +17,7 @@ use Rattle.ace_tables.specs.States.{is_invalid}
 use Rattle.ace_model.specs.declared.transactions.Transaction.{Transaction}
 use Rattle.ace_model.specs.Trace.{Trace, implies, is_some_and}
 use Rattle.ace_model.specs.Kinds.{is_make_unique, is_no_snoop_read, is_no_snoop_write}
-use Rattle.ace_model.specs.Transactions.{is_line, is_on, is_read, read_kind, write_kind, issued, ended, outstanding, acknowledged, first_resp, transaction_of}
+use Rattle.ace_model.specs.Transactions.{is_line, is_on, is_read, read_kind, write_kind, issued, ended, outstanding, acknowledged, first_resp, transaction_of, acknowledgements}
 use Rattle.ace_model.specs.Progress.{each_issued}
 use Rattle.ace_model.specs.Grants.{granted}
 use Rattle.ace_model.specs.Exclusives.{has_failed}
@@ -32,7 +32,8 @@ use Rattle.ace_model.proofs.Kept.{accepted_keeps}
 use Rattle.ace_model.proofs.HolderStates.{held_on}
 use Rattle.ace_model.proofs.HolderAcknowledge.{Ends, is_named_by_rk}
 use Rattle.ace_model.proofs.HolderFacts.{Arrives}
-use Rattle.ace_model.proofs.StateRises.{ends_of, state_moves, stays_empty}
+use Rattle.ace_model.proofs.StateRises.{holders, ends_of, state_moves}
+use Rattle.ace_model.proofs.LineStores.{IsFull}
 
 -- The read of the line that an RK of the port ends.
 pub record ReadEnds (h : Header) (past : Trace) (q : ℕ) (st : LineState) (p l : ℕ) : Type 0 where
@@ -48,6 +49,7 @@ pub record ReadEnds (h : Header) (past : Trace) (q : ℕ) (st : LineState) (p l 
   pub state : ends_read kind (state_of h past p l) (is_some_and (first_resp past p id) is_shared) (is_some_and (first_resp past p id) passes_dirty) (has_failed past one) st ≡ true
   pub stored : is_make_unique kind ≡ true → has_store h past p id ≡ true
   pub arrives : Arrives h past p id one
+  pub full : IsFull past p id one
 
 pub read_ends : (h : Header) (past : Trace) (q : ℕ) (st : LineState) → IsAccepted h (Rk q st ∷ past) → (p l : ℕ) → is_named_by_rk past q p l ≡ true → ReadEnds h past q st p l
 read_ends h past q st a p l t =
@@ -83,7 +85,14 @@ read_ends h past q st a p l t =
           (subst (λ s. ends_read e.kind s (is_some_and o is_shared) (is_some_and o passes_dirty) (has_failed past e.ended_one) st ≡ true) held both.0);
       stored = λ m. sym stored ∙ implies-at (is_make_unique e.kind) _ both.1 m;
       arrives = subst (λ v. Arrives h past v e.id e.ended_one) (sym port) (e.arrives two.0);
+      full = subst (λ v. IsFull past v e.id e.ended_one) (sym port) (queued e);
     }
+  where
+    queued : (e : Ends h past q) → IsFull past q e.id e.ended_one
+    queued e =
+        let s = (holders h past a.0).queue q (acknowledgements past q Read) e.id e.ace (le_refl (acknowledgements past q Read)) e.next in
+        let one : s.0 ≡ e.ended_one = Some-injective s.0 e.ended_one (sym s.1 ∙ e.out) in
+        subst (λ (y : Transaction). IsFull past q e.id y) one s.2
 
 issued_cases : (e : Event) (past : Trace) (x : Transaction) → IsIssued (e ∷ past) x → (issued (length past) e ≡ Some x) ⊎ IsIssued past x
 issued_cases e past x i =
@@ -140,7 +149,38 @@ no_snoop_ends read.ReadNoSnoop false false failed I n e = refl
 no_snoop_ends read.ReadNoSnoop shared pass failed st n e = cc
 no_snoop_ends k shared pass failed st n e = cc
 
+pub read_writes_none : (x : Transaction) (k : ArKind) → read_kind x ≡ Some k → (write_kind x ≡ None) × (is_read x.chan ≡ true)
+read_writes_none x k kind =
+    elim (cases_Bool (is_read x.chan)) [
+      | inl t ↦ (rw t refl, t)
+      | inr f ↦ let none : read_kind x ≡ None = rw f refl in cc
+    ]
+
+no_snoop_read : (x : Transaction) (k : ArKind) → read_kind x ≡ Some k → is_no_snoop_read k ≡ false → is_no_snoop x ≡ false
+no_snoop_read x k kind f = let none = (read_writes_none x k kind).0 in rw (kind, none) (rw f refl)
+
 -- what a port holds comes by such a transaction
+held_by_rk : (h : Header) (past : Trace) (q : ℕ) (st : LineState) (p l : ℕ) → IsAccepted h (Rk q st ∷ past) → is_named_by_rk past q p l ≡ true
+    → (state_of h (Rk q st ∷ past) p l ≡ I → ⊥) → state_of h past p l ≡ I → Snooping (Rk q st ∷ past) l
+held_by_rk h past q st p l a t held gone =
+    let r = read_ends h past q st a p l t in
+    let s = transaction_of-stands past p Read r.id r.one r.named in
+    let after : state_of h (Rk q st ∷ past) p l ≡ st = rw t refl in
+    let o = first_resp past p r.id in
+    record {
+      one = r.one;
+      issued_one = issued-old (Rk q st) past r.one (record { there = s.there; before = s.before });
+      on = r.on;
+      snoops = elim (cases_Bool (is_no_snoop_read r.kind)) [
+        | inr f ↦ no_snoop_read r.one r.kind r.is_kind f
+        | inl n ↦
+            let ended : ends_read r.kind I (is_some_and o is_shared) (is_some_and o passes_dirty) (has_failed past r.one) st ≡ true =
+            subst (λ v. ends_read r.kind v (is_some_and o is_shared) (is_some_and o passes_dirty) (has_failed past r.one) st ≡ true) gone r.state in
+            let nothing = is_invalid-is st (no_snoop_ends r.kind (is_some_and o is_shared) (is_some_and o passes_dirty) (has_failed past r.one) st n ended) in
+            absurd (held (after ∙ nothing))
+      ];
+    }
+
 pub held_by : (h : Header) (past : Trace) → IsAccepted h past → (p l : ℕ) → (state_of h past p l ≡ I → ⊥) → Snooping past l
 held_by h [] a p l held = absurd (held refl)
 held_by h (e ∷ past) a p l held =
@@ -148,34 +188,24 @@ held_by h (e ∷ past) a p l held =
       | inr was ↦
           let s = held_by h past a.0 p l (λ gone. let bad : true ≡ false = sym (ap is_invalid gone) ∙ was in cc) in
           record { one = s.one; issued_one = issued-old e past s.one s.issued_one; on = s.on; snoops = s.snoops }
-      | inl gone ↦ by e a held (is_invalid-is (state_of h past p l) gone)
+      | inl v ↦
+          let gone = is_invalid-is (state_of h past p l) v in
+          elim (state_moves h past e a p l) [
+            | inl less ↦ absurd (held (less.gone gone))
+            | inr up ↦
+                subst (λ d. Snooping (d ∷ past) l) (sym up.is)
+                (held_by_rk h past up.port up.st p l (subst (λ d. IsAccepted h (d ∷ past)) up.is a) up.named
+                (subst (λ d. state_of h (d ∷ past) p l ≡ I → ⊥) up.is held) gone)
+          ]
     ]
-  where
-    by : (d : Event) → IsAccepted h (d ∷ past) → (state_of h (d ∷ past) p l ≡ I → ⊥) → state_of h past p l ≡ I → Snooping (d ∷ past) l
-    by (Rk q st) a held gone =
-        elim (cases_Bool (is_named_by_rk past q p l)) [
-          | inr f ↦ absurd (held (rw f gone))
-          | inl t ↦
-              let r = read_ends h past q st a p l t in
-              let s = transaction_of-stands past p Read r.id r.one r.named in
-              let after : state_of h (Rk q st ∷ past) p l ≡ st = rw t refl in
-              record {
-                one = r.one;
-                issued_one = issued-old (Rk q st) past r.one (record { there = s.there; before = s.before });
-                on = r.on;
-                snoops = elim (cases_Bool (is_no_snoop_read r.kind)) [
-                  | inr f ↦ no_snoop_read r.one r.kind r.is_kind f
-                  | inl n ↦
-                      let ended : ends_read r.kind I _ _ _ st ≡ true = rw gone at r.state in
-                      absurd (held (after ∙ is_invalid-is st (no_snoop_ends r.kind _ _ _ st n ended)))
-                ];
-              }
-        ]
-    by d a held gone =
-        elim (state_moves h past d a p l) [
-          | inl less ↦ absurd (held (less.gone gone))
-          | inr up ↦ ?
-        ]
 
-    no_snoop_read : (x : Transaction) (k : ArKind) → read_kind x ≡ Some k → is_no_snoop_read k ≡ false → is_no_snoop x ≡ false
-    no_snoop_read x k kind f = ?
+-- no port holds a line of NoSnoop transactions
+pub no_snoop_empty : (h : Header) (past : Trace) → IsAccepted h past → (p l : ℕ) (x : Transaction) → IsIssued past x → is_on x l ≡ true → is_no_snoop x ≡ true
+    → state_of h past p l ≡ I
+no_snoop_empty h past a p l x i on quiet =
+    elim (cases_Bool (is_invalid (state_of h past p l))) [
+      | inl v ↦ is_invalid-is (state_of h past p l) v
+      | inr was ↦
+          let s = held_by h past a p l (λ gone. let bad : true ≡ false = sym (ap is_invalid gone) ∙ was in cc) in
+          let bad = sym quiet ∙ alike h past a l x s.one i s.issued_one on s.on ∙ s.snoops in cc
+    ]

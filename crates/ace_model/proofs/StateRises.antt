@@ -53,6 +53,10 @@ pub record Raised (h : Header) (past : Trace) (e : Event) (p l : ℕ) : Type 0 w
   pub on : is_on read_one l ≡ true
   pub ends_it : ended h past e ≡ Some read_one
   pub arrives : Arrives h past p id read_one
+  pub port : ℕ
+  pub st : LineState
+  pub is : e ≡ Rk port st
+  pub named : is_named_by_rk past port p l ≡ true
 
 pub ends_of : (h : Header) (past : Trace) (q : ℕ) (st : LineState) → IsAccepted h (Rk q st ∷ past) → Ends h past q
 ends_of h past q st a =
@@ -72,6 +76,10 @@ raised h past q st e p l t =
       on = on;
       ends_it = e.is;
       arrives = subst (λ a. Arrives h past a e.id e.ended_one) (sym port) (e.arrives (and_parts (is_line e.ended_one) _ on).0);
+      port = q;
+      st = st;
+      is = refl;
+      named = t;
     }
 
 -- an event lessens the port's state of the line, or is the RK of its read
