@@ -157,6 +157,51 @@ received_empty h past q j resp last word p l a t =
     let both = and_parts (is_on x.0 l) (is_line_read_transaction x.0) x.2 in
     stays_empty h past a.0 p Read j l x.0 (out ∙ one) both.0 (or_left (is_line_read_transaction x.0) (is_some_and (write_kind x.0) is_granted_write) both.1)
 
+-- The event completes a read of the line at the port.
+pub record Receives (h : Header) (past : Trace) (e : Event) (p l : ℕ) : Type 0 where
+  pub id : ℕ
+  pub one : Transaction
+  pub out : outstanding h past p Read id ≡ Some one
+  pub on : is_on one l ≡ true
+  pub reads : is_line_read_transaction one ≡ true
+
+-- The event is a store of the port to the line.
+pub record StoresLine (e : Event) (p l : ℕ) : Type 0 where
+  pub strobe : ℕ
+  pub ex : Bool
+  pub line : Line
+  pub is : e ≡ D p l strobe ex line
+
+-- an event leaves the copy, or completes a read of the line, or stores to it
+pub copy_moves : (h : Header) (past : Trace) (e : Event) → IsAccepted h (e ∷ past) → (p l : ℕ)
+    → (copy_of (e ∷ past) p l ≡ copy_of past p l) ⊎ Receives h past e p l ⊎ StoresLine e p l
+copy_moves h past (R q j resp last word) a p l =
+    elim (cases_Bool ((nat_eq p q && last) && is_some_and (transaction_of past p Read j) (λ x. is_on x l && is_line_read_transaction x))) [
+      | inr f ↦ inl (rw f refl)
+      | inl t ↦
+          let parts = and_parts (nat_eq p q && last) _ t in
+          let port = eqb-true p q (and_parts (nat_eq p q) last parts.0).0 in
+          let x = is_some_and-is (transaction_of past p Read j) (λ x. is_on x l && is_line_read_transaction x) parts.1 in
+          let m = may_of h past q j resp last word a in
+          let out : outstanding h past p Read j ≡ Some m.one = ap (λ v. outstanding h past v Read j) port ∙ m.out in
+          let one : Some m.one ≡ Some x.0 = sym m.named ∙ ap (λ v. transaction_of past v Read j) (sym port) ∙ x.1 in
+          let both = and_parts (is_on x.0 l) (is_line_read_transaction x.0) x.2 in
+          inr (inl (record { id = j; one = x.0; out = out ∙ one; on = both.0; reads = both.1 }))
+    ]
+copy_moves h past (D q addr strobe b line) a p l =
+    elim (cases_Bool (nat_eq p q && nat_eq l addr)) [
+      | inr f ↦ inl (rw f refl)
+      | inl t ↦
+          let parts = and_parts (nat_eq p q) (nat_eq l addr) t in
+          inr (inr (record {
+            strobe = strobe;
+            ex = b;
+            line = line;
+            is = ap (λ v. D v addr strobe b line) (sym (eqb-true p q parts.0)) ∙ ap (λ v. D p v strobe b line) (sym (eqb-true l addr parts.1));
+          }))
+    ]
+copy_moves h past _ a p l = inl refl
+
 pub copies_step : (h : Header) (past : Trace) (e : Event) → IsAccepted h (e ∷ past) → Facts h past → (l : ℕ) → AreCopiesTrue h (e ∷ past) l
 copies_step h past (D q addr strobe b line) a f l p held =
     elim (cases_Bool (nat_eq l addr)) [

@@ -28,6 +28,7 @@ pub mod Least
 pub mod LineOnce
 pub mod LineStores
 pub mod Looks
+pub mod MadeTrue
 pub mod MergedLines
 pub mod MessageAnswered
 pub mod NoSnoopLines
