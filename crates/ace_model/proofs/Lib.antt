@@ -35,6 +35,7 @@ pub mod NoSnoopLines
 pub mod OrderPoints
 pub mod Places
 pub mod Points
+pub mod RepliesTrue
 pub mod Served
 pub mod Starts
 pub mod SnoopAnswers

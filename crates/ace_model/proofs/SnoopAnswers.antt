@@ -86,6 +86,7 @@ pub record NewAnswer (past : Trace) (e : Event) (r l : ℕ) (w : Answer) : Type 
   pub st : LineState
   pub is : e ≡ Cr r resp st
   pub line : answers_line past r l ≡ true
+  pub under : answers_grant past r l ≡ true
   pub now : w ≡ record { place = length past; resp = resp; bursts = data_answers past r }
 
 -- an answer under the grant was there, or is the event
@@ -107,6 +108,7 @@ answer_cases past e r l w gives is =
                 st = st;
                 is = ap (λ b. Cr b resp st) (sym (eqb-true r q parts.0));
                 line = under_line past r l parts.1;
+                under = parts.1;
                 now = sym (Some-injective _ w now);
               })
         ]
