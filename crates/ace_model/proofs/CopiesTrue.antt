@@ -164,6 +164,10 @@ pub record Receives (h : Header) (past : Trace) (e : Event) (p l : ℕ) : Type 0
   pub out : outstanding h past p Read id ≡ Some one
   pub on : is_on one l ≡ true
   pub reads : is_line_read_transaction one ≡ true
+  pub resp : ℕ
+  pub last : Bool
+  pub word : ℕ
+  pub is : e ≡ R p id resp last word
 
 -- The event is a store of the port to the line.
 pub record StoresLine (e : Event) (p l : ℕ) : Type 0 where
@@ -186,7 +190,7 @@ copy_moves h past (R q j resp last word) a p l =
           let out : outstanding h past p Read j ≡ Some m.one = ap (λ v. outstanding h past v Read j) port ∙ m.out in
           let one : Some m.one ≡ Some x.0 = sym m.named ∙ ap (λ v. transaction_of past v Read j) (sym port) ∙ x.1 in
           let both = and_parts (is_on x.0 l) (is_line_read_transaction x.0) x.2 in
-          inr (inl (record { id = j; one = x.0; out = out ∙ one; on = both.0; reads = both.1 }))
+          inr (inl (record { id = j; one = x.0; out = out ∙ one; on = both.0; reads = both.1; resp = resp; last = last; word = word; is = ap (λ v. R v j resp last word) (sym port) }))
     ]
 copy_moves h past (D q addr strobe b line) a p l =
     elim (cases_Bool (nat_eq p q && nat_eq l addr)) [

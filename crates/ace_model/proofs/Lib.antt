@@ -2,6 +2,7 @@ pub mod Acceptance
 pub mod BarrierOrder
 pub mod BarrierPairs
 pub mod FirstBreak
+pub mod FetchesTrue
 pub mod FirstBegins
 pub mod CopiesTrue
 pub mod Forwarding
