@@ -1,14 +1,13 @@
 -- The copies of the ports that hold a line stay its value.
-use Rattle.std.proofs.Common.{◌≡◌, ◌≢◌, ◌⊎◌, ℕ, Bool, true, false, not, if◌then◌else◌, ◌&&◌, ◌||◌, ◌==◌, nat_eq, [], ◌∷◌, ◌++◌, length, Option, Some, None, unwrap_or, refl, sym, ap, subst, ◌∙◌, inl, inr}
-use Rattle.std.proofs.lemmas.Bool.{and_parts, and_from, or_cases, or_left, cases_Bool, cases_eq, not-true, eqb-true, eq-eqb}
+use Rattle.std.proofs.Common.{◌≡◌, ◌⊎◌, ℕ, Bool, true, false, ◌&&◌, ◌||◌, ◌==◌, nat_eq, ◌∷◌, Some, refl, sym, ap, subst, ◌∙◌, inl, inr}
+use Rattle.std.proofs.lemmas.Bool.{and_parts, or_cases, or_left, cases_Bool, eqb-true, eq-eqb}
 use Rattle.std.specs.List.{list_all}
 use Rattle.ace_codes.specs.declared.kind.ArKind.{ArKind}
 use Rattle.ace_codes.specs.declared.kind.ArKind.TheVariants as read
-use Rattle.ace_codes.specs.declared.kind.AwKind.{AwKind}
 use Rattle.ace_codes.specs.declared.state.LineState.{LineState}
 use Rattle.ace_codes.specs.declared.state.LineState.TheVariants.{I, UC, UD, SC, SD}
 use Rattle.ace_codes.specs.Responses.{passes_dirty, is_shared}
-use Rattle.ace_event.specs.declared.event.Channel.TheVariants.{Read, Write}
+use Rattle.ace_event.specs.declared.event.Channel.TheVariants.{Read}
 use Rattle.ace_event.specs.declared.event.Event.{Event}
 use Rattle.ace_event.specs.declared.event.Event.TheVariants.{R, Rk, M, D}
 use Rattle.ace_event.specs.declared.header.Header.{Header}
@@ -18,26 +17,22 @@ use Rattle.ace_tables.specs.EndStates.{end_states_of_read, ends_read, is_fetch}
 use Rattle.ace_tables.specs.States.{is_invalid, is_unique}
 use Rattle.ace_model.specs.declared.transactions.Transaction.{Transaction}
 use Rattle.ace_model.specs.Trace.{Trace, is_some_and}
-use Rattle.ace_model.specs.Kinds.{is_make_unique, beats_of, reads_a_line, is_granted_write}
-use Rattle.ace_model.specs.Transactions.{is_read, is_on, read_kind, write_kind, outstanding, transaction_of, transfers, first_resp, has_outstanding_on}
-use Rattle.ace_model.specs.Progress.{updates_memory}
+use Rattle.ace_model.specs.Kinds.{is_make_unique, beats_of, is_granted_write}
+use Rattle.ace_model.specs.Transactions.{is_on, write_kind, outstanding, transaction_of, transfers, first_resp}
 use Rattle.ace_model.specs.Exclusives.{has_failed}
-use Rattle.ace_model.specs.States.{state_of, has_store}
-use Rattle.ace_model.specs.Copies.{is_line_read_transaction, words_read, copy_of}
+use Rattle.ace_model.specs.States.{state_of}
+use Rattle.ace_model.specs.Copies.{is_line_read_transaction, copy_of}
 use Rattle.ace_model.specs.Values.{value_of}
-use Rattle.ace_model.specs.CacheRules.{may_store, full_line}
 use Rattle.ace_model.specs.Accepted.{IsAccepted}
 use Rattle.ace_model.specs.DirtyPlace.{AreCopiesTrue}
 use Rattle.ace_model.proofs.Looks.{is_some_and-is, is_invalid-is}
 use Rattle.ace_model.proofs.HolderTables.{all_among}
-use Rattle.ace_model.proofs.HolderStores.{is_named_by_d}
 use Rattle.ace_model.proofs.HolderAcknowledge.{is_named_by_rk}
-use Rattle.ace_model.proofs.LineOnce.{outstanding_found}
 use Rattle.ace_model.proofs.StateRises.{holders, state_moves, stays_empty}
 use Rattle.ace_model.proofs.FirstBegins.{may_of}
 use Rattle.ace_model.proofs.MergedLines.{merged-whole}
-use Rattle.ace_model.proofs.LineStores.{Made, Writes, ByPort, ByMake, ByWrite, stores_d, value_moves, IsFull, full_some}
-use Rattle.ace_model.proofs.NoSnoopLines.{ReadEnds, read_ends}
+use Rattle.ace_model.proofs.LineStores.{stores_d, value_moves, full_some}
+use Rattle.ace_model.proofs.NoSnoopLines.{read_ends}
 use Rattle.ace_model.proofs.WritesAlone.{all_empty}
 use Rattle.ace_model.proofs.ValueFacts.{Facts}
 

@@ -1,5 +1,5 @@
 -- A read that keeps the line receives its value.
-use Rattle.std.proofs.Common.{◌≡◌, ◌≢◌, ◌⊎◌, ◌==◌, ℕ, zero, suc, ◌+◌, ◌<◌, Bool, true, false, not, if◌then◌else◌, ◌&&◌, ◌||◌, nat_eq, nat_lt, List, [], ◌∷◌, ◌++◌, length, Option, Some, None, slice_get, slice_index, unwrap_or, option_and_then, refl, sym, ap, subst, ◌∙◌, arith, inl, inr, length-append}
+use Rattle.std.proofs.Common.{◌≡◌, ◌≢◌, ◌⊎◌, ◌==◌, ℕ, zero, suc, ◌+◌, ◌<◌, Bool, true, false, if◌then◌else◌, ◌&&◌, nat_eq, nat_lt, List, [], ◌∷◌, ◌++◌, length, Option, Some, None, slice_get, slice_index, refl, sym, ap, subst, ◌∙◌, arith, inl, inr, length-append}
 use Rattle.std.proofs.lemmas.Bool.{and_parts, and_from, or_cases, cases_Bool, cases_eq, eqb-true, eq-eqb, ne_eqb}
 use Rattle.ace_codes.specs.declared.kind.ArKind.{ArKind}
 use Rattle.ace_codes.specs.declared.kind.ArKind.TheVariants as read
@@ -13,34 +13,34 @@ use Rattle.ace_tables.specs.Answers.{same_test}
 use Rattle.ace_tables.specs.EndStates.{is_fetch}
 use Rattle.ace_tables.specs.States.{is_unique}
 use Rattle.ace_model.specs.declared.transactions.Transaction.{Transaction}
-use Rattle.ace_model.specs.Trace.{Trace, is_some_and, more}
+use Rattle.ace_model.specs.Trace.{Trace, is_some_and}
 use Rattle.ace_model.specs.Kinds.{is_lite_read, beats_of, reads_a_line}
-use Rattle.ace_model.specs.Transactions.{is_ace, is_line, is_on, is_named, has_name, read_kind, issued, ended, transfers, outstanding, transaction_of}
-use Rattle.ace_model.specs.Grants.{gives_line, granted}
+use Rattle.ace_model.specs.Transactions.{is_ace, is_line, is_named, has_name, read_kind, issued, ended, transfers, outstanding}
+use Rattle.ace_model.specs.Grants.{granted}
 use Rattle.ace_model.specs.Exclusives.{has_failed}
 use Rattle.ace_model.specs.States.{state_of}
-use Rattle.ace_model.specs.Copies.{is_line_read_transaction, words_read, word_of, copy_of, zero_line}
-use Rattle.ace_model.specs.Replies.{copy_at_answer, first_sender, memory_at_first_beat, reply_of}
+use Rattle.ace_model.specs.Copies.{is_line_read_transaction, words_read, word_of}
+use Rattle.ace_model.specs.Replies.{first_sender, memory_at_first_beat, reply_of}
 use Rattle.ace_model.specs.Values.{value_of, after_store, store_at, Store}
 use Rattle.ace_model.specs.AddressRules.{k2, may_issue_read}
 use Rattle.ace_model.specs.CacheRules.{may_store}
 use Rattle.ace_model.specs.ReadRules.{k18, k20, is_due, is_next_transfer, has_word, may_transfer}
 use Rattle.ace_model.specs.Accepted.{rule, IsAccepted}
-use Rattle.ace_model.proofs.Looks.{Some-injective, is_some_and-is, is_some_and-at, is_none_or-at, same_test-at, has_name-is, newest_named-cases, without-some}
+use Rattle.ace_model.proofs.Looks.{Some-injective, is_some_and-at, is_none_or-at, same_test-at, has_name-is, newest_named-cases, without-some}
 use Rattle.ace_model.proofs.Issued.{outstanding-named, transaction_of-stands}
 use Rattle.ace_model.proofs.Kept.{accepted_keeps}
 use Rattle.ace_model.proofs.Places.{slice_get-more}
 use Rattle.ace_model.proofs.HolderTables.{takes_alone, takes_shared}
-use Rattle.ace_model.proofs.HolderAddress.{read_issued, named_read}
+use Rattle.ace_model.proofs.HolderAddress.{named_read}
 use Rattle.ace_model.proofs.HolderFacts.{Arrives}
 use Rattle.ace_model.proofs.LineOnce.{outstanding_found, one_on_line}
 use Rattle.ace_model.proofs.StateRises.{holders}
 use Rattle.ace_model.proofs.GrantStays.{gives_none}
 use Rattle.ace_model.proofs.FirstBegins.{may_of, line_transfer}
 use Rattle.ace_model.proofs.MergedLines.{merged-length, lines_by_words}
-use Rattle.ace_model.proofs.LineStores.{Made, stores_d}
+use Rattle.ace_model.proofs.LineStores.{stores_d}
 use Rattle.ace_model.proofs.NoSnoopLines.{read_writes_none}
-use Rattle.ace_model.proofs.CopiesTrue.{Receives, copy_moves}
+use Rattle.ace_model.proofs.CopiesTrue.{copy_moves}
 use Rattle.ace_model.proofs.ValueStays.{may_unique, may_free, value_stays, made_apart, sent_step}
 use Rattle.ace_model.proofs.RepliesTrue.{sender_before, reply_true, memory_first, memory_true}
 use Rattle.ace_model.proofs.ValueFacts.{SentTrue, Fetches, FetchesTrue, Facts}

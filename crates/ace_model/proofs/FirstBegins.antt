@@ -1,23 +1,23 @@
 -- A granted transaction begins, by the first transfer of a read or the M of a write, once its snoops are done.
-use Rattle.std.proofs.Common.{◌≡◌, ◌⊎◌, ℕ, Bool, true, false, not, if◌then◌else◌, ◌&&◌, ◌||◌, nat_eq, ◌∷◌, length, Some, refl, sym, ap, subst, ◌∙◌, inl, inr}
-use Rattle.std.proofs.lemmas.Bool.{and_parts, or_cases, not-true, cases_Bool, eqb-true, eq-eqb}
+use Rattle.std.proofs.Common.{◌≡◌, ◌⊎◌, ℕ, Bool, true, false, not, if◌then◌else◌, ◌&&◌, ◌||◌, nat_eq, ◌∷◌, Some, refl, sym, ap, subst, ◌∙◌, inl, inr}
+use Rattle.std.proofs.lemmas.Bool.{and_parts, or_cases, cases_Bool, eqb-true}
 use Rattle.ace_event.specs.declared.event.Channel.{Channel}
-use Rattle.ace_event.specs.declared.event.Channel.TheVariants.{Read, Write}
+use Rattle.ace_event.specs.declared.event.Channel.TheVariants.{Read}
 use Rattle.ace_event.specs.declared.event.Event.{Event}
 use Rattle.ace_event.specs.declared.event.Event.TheVariants.{Ar, R, Aw, M}
 use Rattle.ace_event.specs.declared.header.Header.{Header}
 use Rattle.ace_event.specs.declared.line.Line.{Line}
 use Rattle.ace_model.specs.declared.transactions.Transaction.{Transaction}
-use Rattle.ace_model.specs.Trace.{Trace, implies, is_some_and}
-use Rattle.ace_model.specs.Transactions.{is_read, is_line, is_named, has_name, issued, same_channel, transfers, outstanding}
+use Rattle.ace_model.specs.Trace.{Trace, implies}
+use Rattle.ace_model.specs.Transactions.{is_read, is_line, has_name, same_channel, transfers, outstanding}
 use Rattle.ace_model.specs.Progress.{updates_memory}
-use Rattle.ace_model.specs.Writes.{is_memory_write, has_memory_write, is_burst_whole}
+use Rattle.ace_model.specs.Writes.{has_memory_write, is_burst_whole}
 use Rattle.ace_model.specs.Grants.{is_granted, is_begun, has_passed_data}
 use Rattle.ace_model.specs.States.{are_snoops_done}
 use Rattle.ace_model.specs.ReadRules.{k18, may_transfer, takes_passed}
 use Rattle.ace_model.specs.WriteRules.{k24, may_write_memory, may_write_passed, may_write_data, is_write_due, is_update_due}
 use Rattle.ace_model.specs.Accepted.{rule, IsAccepted}
-use Rattle.ace_model.proofs.Looks.{Some-injective, is_some_and-is, is_some_and-at, implies-at, is_read-is, same_channel-is}
+use Rattle.ace_model.proofs.Looks.{Some-injective, is_some_and-at, implies-at, is_read-is, same_channel-is}
 use Rattle.ace_model.proofs.Kept.{accepted_keeps}
 use Rattle.ace_model.proofs.HolderAddress.{read_issued, write_issued, named_read}
 use Rattle.ace_model.proofs.HolderTransfer.{MayTransfer, may}

@@ -1,6 +1,6 @@
 -- What the answers under a grant say of the states of the ports.
-use Rattle.std.proofs.Common.{◌≡◌, ◌≢◌, ◌⊎◌, ℕ, Bool, true, false, not, ◌&&◌, ◌||◌, nat_eq, [], ◌∷◌, length, Some, None, refl, sym, ap, subst, ◌∙◌, inl, inr}
-use Rattle.std.proofs.lemmas.Bool.{and_parts, or_cases, or_right, cases_Bool, cases_eq, not-true}
+use Rattle.std.proofs.Common.{◌≡◌, ◌≢◌, ℕ, Bool, true, false, not, ◌||◌, [], ◌∷◌, Some, None, refl, sym, ap, subst, ◌∙◌, inl, inr}
+use Rattle.std.proofs.lemmas.Bool.{and_parts, or_cases, or_right, cases_Bool, cases_eq}
 use Rattle.ace_codes.specs.declared.kind.SnoopKind.{SnoopKind}
 use Rattle.ace_codes.specs.declared.kind.SnoopKind.TheVariants as snoop
 use Rattle.ace_codes.specs.declared.state.LineState.{LineState}
@@ -14,19 +14,18 @@ use Rattle.ace_model.specs.declared.snoops.Answer.{Answer}
 use Rattle.ace_model.specs.declared.transactions.Transaction.{Transaction}
 use Rattle.ace_model.specs.Trace.{Trace}
 use Rattle.ace_model.specs.Transactions.{snoop_of, has_outstanding_on}
-use Rattle.ace_model.specs.Grants.{gives_line, granted, answer_of}
+use Rattle.ace_model.specs.Grants.{granted, answer_of}
 use Rattle.ace_model.specs.States.{state_of}
-use Rattle.ace_model.specs.CacheRules.{may_store}
 use Rattle.ace_model.specs.SnoopRules.{k15}
 use Rattle.ace_model.specs.Accepted.{rule, IsAccepted}
-use Rattle.ace_model.proofs.Looks.{Some-injective, is_invalid-is}
+use Rattle.ace_model.proofs.Looks.{Some-injective}
 use Rattle.ace_model.proofs.HolderTables.{is_settled, invalidates, shares_line, Leaves, row_is}
 use Rattle.ace_model.proofs.HolderFacts.{Inductive}
 use Rattle.ace_model.proofs.HolderSnoop.{less_cr}
 use Rattle.ace_model.proofs.HolderStates.{less-clean}
 use Rattle.ace_model.proofs.Kept.{accepted_keeps}
-use Rattle.ace_model.proofs.StateRises.{holders, state_moves, dirty_moves, Raised}
-use Rattle.ace_model.proofs.GrantStays.{Stays, granted_before}
+use Rattle.ace_model.proofs.StateRises.{holders, state_moves, dirty_moves}
+use Rattle.ace_model.proofs.GrantStays.{granted_before}
 use Rattle.ace_model.proofs.SnoopRows.{is_make_invalid, dirty_sends, sends_held, passes_other}
 use Rattle.ace_model.proofs.SnoopAnswers.{Answering, answering_cr, NewAnswer, answer_cases, no_rise}
 

@@ -1,25 +1,22 @@
 -- An event grants a line, ends the granted transaction, or leaves the grant as it is.
-use Rattle.std.proofs.Common.{◌≡◌, ◌≢◌, ◌⊎◌, ℕ, Bool, true, false, not, ◌&&◌, nat_eq, ◌∷◌, length, Option, Some, None, refl, sym, ap, subst, ◌∙◌, inl, inr}
-use Rattle.std.proofs.lemmas.Bool.{and_parts, cases_Bool, eqb-true, eq-eqb}
+use Rattle.std.proofs.Common.{◌≡◌, ◌≢◌, ◌⊎◌, ℕ, Bool, true, false, ◌&&◌, nat_eq, ◌∷◌, length, Option, Some, None, refl, sym, ap, ◌∙◌, inl, inr}
+use Rattle.std.proofs.lemmas.Bool.{and_parts, cases_Bool, eqb-true}
 use Rattle.ace_event.specs.declared.event.Channel.{Channel}
-use Rattle.ace_event.specs.declared.event.Channel.TheVariants.{Read, Write}
 use Rattle.ace_event.specs.declared.event.Event.{Event}
 use Rattle.ace_event.specs.declared.event.Event.TheVariants.{Ar, Aw, G}
 use Rattle.ace_event.specs.declared.header.Header.{Header}
 use Rattle.ace_model.specs.declared.transactions.Transaction.{Transaction}
-use Rattle.ace_model.specs.Trace.{Trace, is_some_and}
-use Rattle.ace_model.specs.Kinds.{is_clean_unique}
-use Rattle.ace_model.specs.Transactions.{is_read, is_on, is_line, is_some_on, has_name, is_named, issued, ended, transaction_of, outstanding, without, is_exclusive_store}
+use Rattle.ace_model.specs.Trace.{Trace}
+use Rattle.ace_model.specs.Transactions.{is_read, is_line, is_some_on, has_name, issued, ended, transaction_of, outstanding, without, is_exclusive_store}
 use Rattle.ace_model.specs.Grants.{given, gives_line, granted}
 use Rattle.ace_model.specs.Exclusives.{has_failed, is_false, passed_at_grant}
 use Rattle.ace_model.specs.AddressRules.{k4, has_free_name}
 use Rattle.ace_model.specs.SnoopRules.{k12}
 use Rattle.ace_model.specs.Accepted.{rule, IsAccepted}
-use Rattle.ace_model.proofs.Looks.{Some-injective, none_is, is_none_or-at, is_read-is, has_name-is, newest_on-cases, newest_on-older, without-some, without-other}
+use Rattle.ace_model.proofs.Looks.{Some-injective, is_none_or-at, is_read-is, newest_on-cases, newest_on-older, without-some}
 use Rattle.ace_model.proofs.Kept.{accepted_keeps}
 use Rattle.ace_model.proofs.HolderAddress.{read_issued, write_issued, outstanding_stays, failed_issued}
 use Rattle.ace_model.proofs.HolderGrant.{other_line, failed_g}
-use Rattle.ace_model.proofs.LineOnce.{outstanding_own}
 use Rattle.ace_model.proofs.StateRises.{holders}
 
 -- a granted line is not given again

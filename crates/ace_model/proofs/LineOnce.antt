@@ -4,7 +4,7 @@ use Rattle.std.proofs.lemmas.Bool.{and_parts, and_from, eq-eqb, eqb-true}
 use Rattle.ace_event.specs.declared.event.Channel.{Channel}
 use Rattle.ace_event.specs.declared.header.Header.{Header}
 use Rattle.ace_model.specs.declared.transactions.Transaction.{Transaction}
-use Rattle.ace_model.specs.Trace.{Trace, implies}
+use Rattle.ace_model.specs.Trace.{Trace}
 use Rattle.ace_model.specs.Transactions.{is_line, is_on, has_name, issued, ended, outstanding, is_outstanding, is_outstanding_on, has_outstanding_on}
 use Rattle.ace_model.specs.AddressRules.{k5, has_free_line}
 use Rattle.ace_model.specs.Accepted.{rule, IsAccepted}

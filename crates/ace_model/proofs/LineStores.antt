@@ -1,44 +1,39 @@
 -- The stores to a line: a D of a port that may store, the D of a MakeUnique, and the M of a write.
 use Rattle.std.proofs.Common.{◌≡◌, ◌≢◌, ◌⊎◌, ◌==◌, ℕ, ◌+◌, Bool, true, false, not, if◌then◌else◌, ◌&&◌, ◌||◌, nat_eq, nat_lt, [], ◌∷◌, length, Option, Some, None, refl, sym, ap, subst, ◌∙◌, arith, inl, inr}
-use Rattle.std.proofs.lemmas.Bool.{and_parts, and_from, or_cases, or_left, or_right, not-true, cases_Bool, cases_eq, eqb-true, eq-eqb}
+use Rattle.std.proofs.lemmas.Bool.{and_parts, and_from, or_cases, not-true, cases_Bool, eqb-true, eq-eqb}
 use Rattle.ace_codes.specs.declared.kind.ArKind.{ArKind}
 use Rattle.ace_codes.specs.declared.kind.ArKind.TheVariants as read
 use Rattle.ace_codes.specs.declared.kind.AwKind.{AwKind}
 use Rattle.ace_codes.specs.declared.kind.AwKind.TheVariants as write
-use Rattle.ace_codes.specs.declared.state.LineState.TheVariants.{I}
 use Rattle.ace_event.specs.declared.event.Channel.{Channel}
 use Rattle.ace_event.specs.declared.event.Channel.TheVariants.{Read, Write}
 use Rattle.ace_event.specs.declared.event.Event.{Event}
-use Rattle.ace_event.specs.declared.event.Event.TheVariants.{Ar, R, Aw, M, D}
+use Rattle.ace_event.specs.declared.event.Event.TheVariants.{Ar, R, M, D}
 use Rattle.ace_event.specs.declared.header.Header.{Header}
 use Rattle.ace_event.specs.declared.line.Line.{Line}
-use Rattle.ace_tables.specs.States.{is_unique}
 use Rattle.ace_model.specs.declared.transactions.Transaction.{Transaction}
 use Rattle.ace_model.specs.Trace.{Trace, is_some_and}
 use Rattle.ace_model.specs.Kinds.{beats_of, reads_a_line, is_make_unique, is_update, is_unique_write, is_no_snoop_write}
-use Rattle.ace_model.specs.Transactions.{is_ace, is_read, is_line, is_on, is_named, read_kind, write_kind, issued, ended, transfers, outstanding, transaction_of, is_outstanding, has_outstanding_on, is_make_unique_on, some_issued, is_completion, is_complete}
+use Rattle.ace_model.specs.Transactions.{is_ace, is_read, is_line, is_on, is_named, read_kind, write_kind, issued, ended, transfers, outstanding, transaction_of, is_outstanding, is_make_unique_on, some_issued, is_completion, is_complete}
 use Rattle.ace_model.specs.Progress.{updates_memory}
 use Rattle.ace_model.specs.Writes.{has_memory_write, is_burst_whole}
 use Rattle.ace_model.specs.Grants.{granted, is_granted}
-use Rattle.ace_model.specs.Exclusives.{has_failed}
-use Rattle.ace_model.specs.States.{state_of, awaits_store, has_store, are_snoops_done}
-use Rattle.ace_model.specs.Values.{Store, stores_data, store_of, store_at, after_store, value_of}
+use Rattle.ace_model.specs.States.{awaits_store, has_store, are_snoops_done}
+use Rattle.ace_model.specs.Values.{stores_data, value_of}
 use Rattle.ace_model.specs.AddressRules.{k1}
 use Rattle.ace_model.specs.CacheRules.{k32, may_store, wants_store, full_line}
 use Rattle.ace_model.specs.WriteRules.{k24, may_write_memory, may_write_passed, may_write_data, is_write_due, is_update_due}
 use Rattle.ace_model.specs.Accepted.{rule, IsAccepted}
-use Rattle.ace_model.proofs.Looks.{Some-injective, is_some_and-is, has_name-is, newest_named-cases, without-some}
-use Rattle.ace_model.proofs.Issued.{issued_at, issued-place, same_place, outstanding-named, transaction_of-stands}
+use Rattle.ace_model.proofs.Looks.{Some-injective, is_some_and-is, newest_named-cases, without-some}
+use Rattle.ace_model.proofs.Issued.{issued_at, same_place, outstanding-named, transaction_of-stands}
 use Rattle.ace_model.proofs.Growth.{issued-new, issued-old, IsIssued}
 use Rattle.ace_model.proofs.Kept.{accepted_keeps}
-use Rattle.ace_model.proofs.HolderAddress.{read_issued, write_issued, named_read}
-use Rattle.ace_model.proofs.HolderFacts.{OthersInvalid, Arrives}
-use Rattle.ace_model.proofs.HolderTransfer.{MayTransfer}
+use Rattle.ace_model.proofs.HolderAddress.{named_read}
+use Rattle.ace_model.proofs.HolderFacts.{OthersInvalid}
 use Rattle.ace_model.proofs.StateRises.{holders}
 use Rattle.ace_model.proofs.LineOnce.{outstanding_own}
 use Rattle.ace_model.proofs.FirstBegins.{may_of, else_of, write_due}
 use Rattle.ace_model.proofs.WriteQueue.{issue_completes}
-use Rattle.ace_model.proofs.HolderTransfer.{granted_one}
 
 -- a test that some transaction of the trace passes
 pub some_issued-is : (past : Trace) (test : Transaction → Bool) → some_issued past test ≡ true → (x : Transaction) × IsIssued past x × (test x ≡ true)

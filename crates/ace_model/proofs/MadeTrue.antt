@@ -1,6 +1,6 @@
 -- A MakeUnique that has had its store leaves its port with the value.
-use Rattle.std.proofs.Common.{◌≡◌, ◌≢◌, ◌⊎◌, ℕ, Bool, true, false, not, if◌then◌else◌, ◌&&◌, ◌||◌, nat_eq, nat_lt, [], ◌∷◌, length, Option, Some, None, refl, sym, ap, subst, ◌∙◌, inl, inr}
-use Rattle.std.proofs.lemmas.Bool.{and_parts, and_from, or_cases, or_right, cases_Bool, cases_eq, not-true, eqb-true, eq-eqb}
+use Rattle.std.proofs.Common.{◌≡◌, ℕ, Bool, true, false, not, ◌&&◌, nat_eq, nat_lt, [], ◌∷◌, length, Some, refl, sym, ap, subst, ◌∙◌, inl, inr}
+use Rattle.std.proofs.lemmas.Bool.{and_parts, or_cases, or_right, cases_eq, eqb-true, eq-eqb}
 use Rattle.ace_codes.specs.declared.kind.ArKind.TheVariants as read
 use Rattle.ace_codes.specs.declared.state.LineState.TheVariants.{I}
 use Rattle.ace_event.specs.declared.event.Channel.{Channel}
@@ -13,7 +13,7 @@ use Rattle.ace_event.specs.Bytes.{merged}
 use Rattle.ace_model.specs.declared.transactions.Transaction.{Transaction}
 use Rattle.ace_model.specs.Trace.{Trace, is_some_and}
 use Rattle.ace_model.specs.Kinds.{is_make_unique, reads_a_line}
-use Rattle.ace_model.specs.Transactions.{is_ace, is_line, is_on, is_named, issued, ended, read_kind, outstanding, is_outstanding, is_make_unique_on, is_completion, is_complete}
+use Rattle.ace_model.specs.Transactions.{is_ace, is_line, is_named, issued, ended, read_kind, outstanding, is_outstanding, is_make_unique_on, is_completion, is_complete}
 use Rattle.ace_model.specs.Grants.{granted}
 use Rattle.ace_model.specs.States.{state_of, awaits_store, is_store_of, has_store}
 use Rattle.ace_model.specs.Copies.{copy_of}
@@ -21,7 +21,7 @@ use Rattle.ace_model.specs.Values.{value_of}
 use Rattle.ace_model.specs.AddressRules.{k1}
 use Rattle.ace_model.specs.CacheRules.{may_store}
 use Rattle.ace_model.specs.Accepted.{rule, IsAccepted}
-use Rattle.ace_model.proofs.Looks.{Some-injective, is_some_and-at, has_name-is, newest_named-cases, without-some}
+use Rattle.ace_model.proofs.Looks.{is_some_and-at, has_name-is, newest_named-cases, without-some}
 use Rattle.ace_model.proofs.Issued.{outstanding-named, transaction_of-stands}
 use Rattle.ace_model.proofs.Kept.{accepted_keeps}
 use Rattle.ace_model.proofs.LineOnce.{outstanding_found, one_on_line}
@@ -29,7 +29,7 @@ use Rattle.ace_model.proofs.StateRises.{holders}
 use Rattle.ace_model.proofs.MergedLines.{merged-whole}
 use Rattle.ace_model.proofs.LineStores.{Made, stores_d, done_read, full_some}
 use Rattle.ace_model.proofs.NoSnoopLines.{read_writes_none}
-use Rattle.ace_model.proofs.CopiesTrue.{Receives, copy_moves, unique_valid}
+use Rattle.ace_model.proofs.CopiesTrue.{copy_moves, unique_valid}
 use Rattle.ace_model.proofs.ValueStays.{may_unique, may_free, value_stays}
 use Rattle.ace_model.proofs.ValueFacts.{MadeTrue, Facts}
 

@@ -1,5 +1,5 @@
 -- Stores of a whole line, and lines by their words.
-use Rattle.std.proofs.Common.{◌≡◌, ℕ, zero, suc, ◌+◌, ◌-◌, ◌*◌, ◌/◌, ◌%◌, ◌^◌, ◌<◌, ◌&&◌, ◌==◌, true, nat_eq, List, [], ◌∷◌, length, refl, sym, ap, ◌∙◌, arith}
+use Rattle.std.proofs.Common.{◌≡◌, ℕ, zero, suc, ◌+◌, ◌-◌, ◌*◌, ◌/◌, ◌%◌, ◌^◌, ◌<◌, ◌&&◌, true, nat_eq, List, [], ◌∷◌, length, refl, sym, ap, ◌∙◌, arith}
 use Rattle.std.proofs.lemmas.Bool.{and_parts, eqb-true}
 use Rattle.std.proofs.Math.Nat.{pow-suc, div-div-eq-div-mul, div-eq_of_lt}
 use Rattle.std.specs.Int.{byte_at}
@@ -76,7 +76,7 @@ four_words xs ys m n e f g i =
     let x = four_is xs m in
     let y = four_is ys n in
     let same : (k : ℕ) → word_of (record { words = xs }) k ≡ word_of (record { words = ys }) k
-        → word_of (line_of x.a x.b x.c x.d) k ≡ word_of (line_of y.a y.b y.c y.d) k = λ k o.
+    → word_of (line_of x.a x.b x.c x.d) k ≡ word_of (line_of y.a y.b y.c y.d) k = λ k o.
     ap (λ ws. word_of (record { words = ws }) k) (sym x.is) ∙ o ∙ ap (λ ws. word_of (record { words = ws }) k) y.is in
     x.is ∙ join (same 0 e) (same 1 f) (same 2 g) (same 3 i) ∙ sym y.is
   where

@@ -1,25 +1,22 @@
 -- What an RK leaves, and that no port holds a line of NoSnoop transactions.
-use Rattle.std.proofs.Common.{◌≡◌, ◌⊎◌, ℕ, ◌<◌, Bool, true, false, not, ◌&&◌, ◌||◌, nat_eq, [], ◌∷◌, length, Option, Some, None, le_refl, refl, sym, ap, subst, ◌∙◌, arith, inl, inr}
-use Rattle.std.proofs.lemmas.Bool.{and_parts, or_cases, not-true, cases_Bool, eqb-true}
+use Rattle.std.proofs.Common.{◌≡◌, ◌⊎◌, ℕ, ◌<◌, Bool, true, false, nat_eq, [], ◌∷◌, length, Some, None, le_refl, refl, sym, ap, subst, ◌∙◌, arith, inl, inr}
+use Rattle.std.proofs.lemmas.Bool.{and_parts, cases_Bool, eqb-true}
 use Rattle.ace_codes.specs.declared.kind.ArKind.{ArKind}
 use Rattle.ace_codes.specs.declared.kind.ArKind.TheVariants as read
-use Rattle.ace_codes.specs.declared.kind.AwKind.{AwKind}
 use Rattle.ace_codes.specs.declared.state.LineState.{LineState}
-use Rattle.ace_codes.specs.declared.state.LineState.TheVariants.{I, UC, UD, SC, SD}
+use Rattle.ace_codes.specs.declared.state.LineState.TheVariants.{I}
 use Rattle.ace_codes.specs.Responses.{passes_dirty, is_shared}
 use Rattle.ace_event.specs.declared.event.Event.{Event}
 use Rattle.ace_event.specs.declared.event.Event.TheVariants.{Rk}
 use Rattle.ace_event.specs.declared.event.Channel.TheVariants.{Read}
 use Rattle.ace_event.specs.declared.header.Header.{Header}
-use Rattle.ace_tables.specs.Answers.{same_test}
 use Rattle.ace_tables.specs.EndStates.{ends_read}
 use Rattle.ace_tables.specs.States.{is_invalid}
 use Rattle.ace_model.specs.declared.transactions.Transaction.{Transaction}
 use Rattle.ace_model.specs.Trace.{Trace, implies, is_some_and}
-use Rattle.ace_model.specs.Kinds.{is_make_unique, is_no_snoop_read, is_no_snoop_write}
-use Rattle.ace_model.specs.Transactions.{is_line, is_on, is_read, read_kind, write_kind, issued, ended, outstanding, acknowledged, first_resp, transaction_of, acknowledgements}
+use Rattle.ace_model.specs.Kinds.{is_make_unique, is_no_snoop_read}
+use Rattle.ace_model.specs.Transactions.{is_line, is_on, is_read, read_kind, write_kind, issued, outstanding, acknowledged, first_resp, transaction_of, acknowledgements}
 use Rattle.ace_model.specs.Progress.{each_issued}
-use Rattle.ace_model.specs.Grants.{granted}
 use Rattle.ace_model.specs.Exclusives.{has_failed}
 use Rattle.ace_model.specs.States.{state_of, has_store}
 use Rattle.ace_model.specs.AddressRules.{k8, is_no_snoop, is_used_alike, fits_line}
@@ -27,7 +24,7 @@ use Rattle.ace_model.specs.ReadRules.{k23, ends_well, is_end, held_of}
 use Rattle.ace_model.specs.Accepted.{rule, IsAccepted}
 use Rattle.ace_model.proofs.Looks.{Some-injective, is_some_and-is, is_none_or-at, implies-at, same_test-at, is_invalid-is}
 use Rattle.ace_model.proofs.Issued.{issued_at, transaction_of-stands}
-use Rattle.ace_model.proofs.Growth.{issued-old, issued-new, each_issued-at, IsIssued}
+use Rattle.ace_model.proofs.Growth.{issued-old, each_issued-at, IsIssued}
 use Rattle.ace_model.proofs.Kept.{accepted_keeps}
 use Rattle.ace_model.proofs.HolderStates.{held_on}
 use Rattle.ace_model.proofs.HolderAcknowledge.{Ends, is_named_by_rk}

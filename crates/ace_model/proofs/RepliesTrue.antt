@@ -1,6 +1,6 @@
 -- The reply to a read that keeps the line is the line's value.
-use Rattle.std.proofs.Common.{◌≡◌, ◌≢◌, ◌⊎◌, ℕ, Bool, true, false, not, if◌then◌else◌, ◌&&◌, ◌||◌, nat_eq, [], ◌∷◌, length, Option, Some, None, is_some, is_none, option_map, option_and_then, unwrap_or, refl, sym, ap, subst, ◌∙◌, inl, inr}
-use Rattle.std.proofs.lemmas.Bool.{and_parts, and_from, or_cases, or_left, cases_Bool, cases_eq, not-true, eqb-true, eq-eqb}
+use Rattle.std.proofs.Common.{◌≡◌, ℕ, true, false, not, ◌&&◌, ◌||◌, nat_eq, [], ◌∷◌, length, Option, Some, None, is_some, is_none, option_and_then, unwrap_or, refl, sym, ap, subst, ◌∙◌, inl, inr}
+use Rattle.std.proofs.lemmas.Bool.{and_parts, and_from, or_cases, or_left, cases_Bool, cases_eq, eqb-true, eq-eqb}
 use Rattle.ace_codes.specs.declared.kind.ArKind.{ArKind}
 use Rattle.ace_codes.specs.declared.kind.ArKind.TheVariants as read
 use Rattle.ace_codes.specs.declared.kind.SnoopKind.{SnoopKind}
@@ -9,19 +9,17 @@ use Rattle.ace_codes.specs.declared.state.LineState.TheVariants.{I}
 use Rattle.ace_codes.specs.Responses.{passes_dirty, transfers_data}
 use Rattle.ace_event.specs.declared.event.Event.{Event}
 use Rattle.ace_event.specs.declared.event.Event.TheVariants.{Cr}
-use Rattle.ace_event.specs.declared.event.Channel.TheVariants.{Read}
 use Rattle.ace_event.specs.declared.header.Header.{Header}
-use Rattle.ace_event.specs.declared.line.Line.{Line}
 use Rattle.ace_tables.specs.EndStates.{is_fetch}
 use Rattle.ace_tables.specs.States.{is_dirty}
 use Rattle.ace_model.specs.declared.snoops.Answer.{Answer}
 use Rattle.ace_model.specs.declared.transactions.Transaction.{Transaction}
 use Rattle.ace_model.specs.Trace.{Trace, at_point, is_some_and, newer}
-use Rattle.ace_model.specs.Kinds.{reads_a_line, is_clean_unique, is_make_unique, is_write_line_unique, is_granted_write}
+use Rattle.ace_model.specs.Kinds.{reads_a_line, is_clean_unique, is_make_unique, is_granted_write}
 use Rattle.ace_model.specs.Transactions.{is_on, is_line, read_kind, write_kind, snoop_of, snoop_kind_of, transfers, outstanding, is_exclusive_store}
 use Rattle.ace_model.specs.Writes.{has_memory_write}
 use Rattle.ace_model.specs.Snoops.{data_answers}
-use Rattle.ace_model.specs.Grants.{gives_line, granted, is_granted, answers_grant, answer_at, answer_of, unless_given, passes, passer, has_passed_data, each_port}
+use Rattle.ace_model.specs.Grants.{gives_line, granted, is_granted, answers_grant, answer_at, answer_of, passes, passer, has_passed_data, each_port}
 use Rattle.ace_model.specs.Exclusives.{has_failed}
 use Rattle.ace_model.specs.States.{state_of, are_snoops_done, is_port_done}
 use Rattle.ace_model.specs.Copies.{is_line_read_transaction, copy_of, memory_of}
@@ -32,12 +30,10 @@ use Rattle.ace_model.specs.DirtyPlace.{replaces_line}
 use Rattle.ace_model.proofs.Looks.{Some-injective, some_is, is_some_and-is}
 use Rattle.ace_model.proofs.HolderFirst.{done_port, found_passes}
 use Rattle.ace_model.proofs.StateRises.{holders, stays_empty}
-use Rattle.ace_model.proofs.GrantStays.{gives_none}
-use Rattle.ace_model.proofs.SnoopsPending.{IsPending, answering, snoops}
-use Rattle.ace_model.proofs.SnoopAnswers.{NewAnswer, answer_cases, under_line}
+use Rattle.ace_model.proofs.SnoopsPending.{answering, snoops}
+use Rattle.ace_model.proofs.SnoopAnswers.{answer_cases}
 use Rattle.ace_model.proofs.GrantAnswers.{is_levelling, unsent_clean, passed_kind}
 use Rattle.ace_model.proofs.NoSnoopLines.{read_writes_none}
-use Rattle.ace_model.proofs.LineOnce.{outstanding_own}
 use Rattle.ace_model.proofs.ValueStays.{fetch_snoops}
 use Rattle.ace_model.proofs.ValueFacts.{SentTrue, Facts}
 

@@ -1,5 +1,5 @@
 -- An answer to a line snoop is under the present grant, and a row of the snoop that the granted transaction causes.
-use Rattle.std.proofs.Common.{◌≡◌, ◌≢◌, ◌⊎◌, ◌≤◌, ℕ, Bool, true, false, not, if◌then◌else◌, ◌&&◌, ◌||◌, nat_eq, nat_le, [], ◌∷◌, length, Option, Some, None, slice_get, refl, sym, ap, subst, ◌∙◌, arith, inl, inr}
+use Rattle.std.proofs.Common.{◌≡◌, ◌⊎◌, ◌≤◌, ℕ, true, false, ◌&&◌, nat_eq, nat_le, ◌∷◌, length, Some, None, refl, sym, ap, subst, ◌∙◌, arith, inl, inr}
 use Rattle.std.proofs.lemmas.Bool.{and_parts, and_from, cases_Bool, eqb-true, eq-eqb, le-leb}
 use Rattle.ace_codes.specs.declared.kind.SnoopKind.{SnoopKind}
 use Rattle.ace_codes.specs.declared.state.LineState.{LineState}
@@ -11,12 +11,12 @@ use Rattle.ace_tables.specs.Answers.{is_snoop_row}
 use Rattle.ace_model.specs.declared.snoops.Snoop.{Snoop}
 use Rattle.ace_model.specs.declared.snoops.Answer.{Answer}
 use Rattle.ace_model.specs.declared.transactions.Transaction.{Transaction}
-use Rattle.ace_model.specs.Trace.{Trace, implies, is_some_and, newer}
+use Rattle.ace_model.specs.Trace.{Trace, is_some_and, newer}
 use Rattle.ace_model.specs.Kinds.{is_line_snoop}
 use Rattle.ace_model.specs.Transactions.{snoop_of}
 use Rattle.ace_model.specs.Progress.{has_update}
 use Rattle.ace_model.specs.Snoops.{snoops_a_line, answers, answered, is_snoop_on, answers_line, data_answers}
-use Rattle.ace_model.specs.Grants.{gives_line, granted, grant_place, answers_grant, answer_at, answer_of, unless_given}
+use Rattle.ace_model.specs.Grants.{gives_line, granted, grant_place, answers_grant, answer_at, answer_of}
 use Rattle.ace_model.specs.States.{state_of}
 use Rattle.ace_model.specs.SnoopRules.{k15, k16, answers_by_row, answers_beside_update}
 use Rattle.ace_model.specs.Accepted.{rule, IsAccepted}

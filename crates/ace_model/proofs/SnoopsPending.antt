@@ -1,28 +1,25 @@
 -- A line snoop that isn't answered yet is of the present grant, whose transaction hasn't begun, and its port has no other.
-use Rattle.std.proofs.Common.{◌≡◌, ◌≢◌, ◌⊎◌, ℕ, ◌+◌, ◌<◌, ◌≤◌, Bool, true, false, not, if◌then◌else◌, ◌&&◌, ◌||◌, nat_eq, nat_le, nat_lt, [], ◌∷◌, length, Option, Some, None, is_some, is_none, slice_get, refl, sym, ap, subst, ◌∙◌, arith, inl, inr}
-use Rattle.std.proofs.lemmas.Bool.{and_parts, and_from, or_cases, or_left, or_right, not-true, cases_Bool, cases_eq, eqb-true, eq-eqb, ltb-true, leb-true, le-leb}
-use Rattle.ace_codes.specs.declared.kind.ArKind.{ArKind}
+use Rattle.std.proofs.Common.{◌≡◌, ◌⊎◌, ℕ, ◌+◌, ◌≤◌, Bool, true, false, not, if◌then◌else◌, ◌&&◌, ◌||◌, nat_eq, nat_le, nat_lt, [], ◌∷◌, length, Option, Some, None, is_none, slice_get, refl, sym, ap, subst, ◌∙◌, arith, inl, inr}
+use Rattle.std.proofs.lemmas.Bool.{and_parts, and_from, or_cases, or_left, or_right, not-true, cases_Bool, eqb-true, eq-eqb, ltb-true}
 use Rattle.ace_codes.specs.declared.kind.AwKind.{AwKind}
 use Rattle.ace_codes.specs.declared.kind.AwKind.TheVariants as write
 use Rattle.ace_codes.specs.declared.kind.SnoopKind.{SnoopKind}
-use Rattle.ace_codes.specs.declared.state.LineState.{LineState}
 use Rattle.ace_event.specs.declared.event.Channel.TheVariants.{Read, Write}
 use Rattle.ace_event.specs.declared.event.Event.{Event}
-use Rattle.ace_event.specs.declared.event.Event.TheVariants.{R, Rk, B, Wk, Ac, Cr, G}
+use Rattle.ace_event.specs.declared.event.Event.TheVariants.{R, Rk, B, Wk, Ac, Cr}
 use Rattle.ace_event.specs.declared.header.Header.{Header}
 use Rattle.ace_tables.specs.SnoopKinds.{snoop_of_write}
 use Rattle.ace_model.specs.declared.snoops.Snoop.{Snoop}
-use Rattle.ace_model.specs.declared.snoops.Answer.{Answer}
 use Rattle.ace_model.specs.declared.transactions.Transaction.{Transaction}
-use Rattle.ace_model.specs.Trace.{Trace, implies, is_some_and, newer}
+use Rattle.ace_model.specs.Trace.{Trace, is_some_and, newer}
 use Rattle.ace_model.specs.Kinds.{is_update, has_write_data, beats_of, reads_a_line}
-use Rattle.ace_model.specs.Transactions.{is_ace, is_read, is_line, is_on, read_kind, write_kind, snoop_of, snoop_kind_of, ended, transaction_of, transfers, outstanding, acknowledged, acknowledgements}
+use Rattle.ace_model.specs.Transactions.{is_read, is_line, read_kind, write_kind, snoop_of, snoop_kind_of, ended, transfers, acknowledgements}
 use Rattle.ace_model.specs.Progress.{updates_memory}
 use Rattle.ace_model.specs.Writes.{has_memory_write}
 use Rattle.ace_model.specs.Snoops.{snoop_at, snoops_of, snoops_a_line, answers, answered, is_snoop_on}
-use Rattle.ace_model.specs.Grants.{gives_line, granted, grant_place, is_begun, is_snoop_to, was_snooped, answers_grant, answer_at, answer_of, unless_given, owes_answer, owes_data, each_port}
+use Rattle.ace_model.specs.Grants.{gives_line, granted, grant_place, is_begun, is_snoop_to, was_snooped, answers_grant, answer_at, answer_of, owes_answer, owes_data, each_port}
 use Rattle.ace_model.specs.Exclusives.{has_failed}
-use Rattle.ace_model.specs.States.{are_snoops_done, is_port_done}
+use Rattle.ace_model.specs.States.{is_port_done}
 use Rattle.ace_model.specs.AddressRules.{k1}
 use Rattle.ace_model.specs.ReadRules.{may_transfer}
 use Rattle.ace_model.specs.SnoopRules.{k13, has_snoop_code, may_snoop, may_snoop_for}
@@ -32,12 +29,12 @@ use Rattle.ace_model.proofs.Issued.{same_place, outstanding-named, transaction_o
 use Rattle.ace_model.proofs.Places.{slice_get-more}
 use Rattle.ace_model.proofs.Points.{answers-grow}
 use Rattle.ace_model.proofs.Kept.{accepted_keeps}
-use Rattle.ace_model.proofs.HolderGrant.{is_on-addr, snoops-before, snoop_at-place}
+use Rattle.ace_model.proofs.HolderGrant.{is_on-addr}
 use Rattle.ace_model.proofs.HolderFirst.{each_at}
 use Rattle.ace_model.proofs.HolderTransfer.{ends_lite}
 use Rattle.ace_model.proofs.StateRises.{holders, ends_of}
 use Rattle.ace_model.proofs.WriteQueue.{EndsWrite, ends_write_of, ends_lite_written}
-use Rattle.ace_model.proofs.GrantStays.{Stays, granted_after, failed_stays, gives_none}
+use Rattle.ace_model.proofs.GrantStays.{granted_after, failed_stays}
 use Rattle.ace_model.proofs.FirstBegins.{MayBegin, begins, may_of, line_transfer, then_of}
 
 -- An unanswered snoop of the line.
@@ -244,8 +241,7 @@ new_pending h past (Ac q addr code) a r l s first is on =
           let five = and_parts (not (nat_eq x.0.port q) && has_snoop_code x.0 code) (not (has_failed past x.0)) four.0 in
           let six = and_parts (not (nat_eq x.0.port q)) (has_snoop_code x.0 code) five.0 in
           let before : was_snooped past r l ≡ false =
-          ap (λ b. was_snooped past b l) port ∙ ap (was_snooped past q) (sym line) ∙ not-true (was_snooped past q addr) three.1 in
-          (
+          ap (λ b. was_snooped past b l) port ∙ ap (was_snooped past q) (sym line) ∙ not-true (was_snooped past q addr) three.1 in (
             record {
               one = x.0;
               stands = ap (granted h past) (sym line) ∙ x.1;

@@ -16,15 +16,14 @@ use Rattle.ace_event.specs.declared.line.Line.{Line}
 use Rattle.ace_tables.specs.StartStates.{starts_read, starts_write}
 use Rattle.ace_tables.specs.States.{is_among, is_dirty}
 use Rattle.ace_model.specs.declared.transactions.Transaction.{Transaction}
-use Rattle.ace_model.specs.Trace.{Trace, implies, is_some_and, is_none_or}
+use Rattle.ace_model.specs.Trace.{Trace, is_some_and, is_none_or}
 use Rattle.ace_model.specs.Kinds.{reads_a_line, is_granted_write}
-use Rattle.ace_model.specs.Transactions.{is_line, is_on, is_some_on, has_name, issued, ended, read_kind, write_kind, outstanding, acknowledged}
-use Rattle.ace_model.specs.Grants.{granted}
+use Rattle.ace_model.specs.Transactions.{is_line, is_on, issued, ended, read_kind, write_kind, outstanding, acknowledged}
 use Rattle.ace_model.specs.States.{state_of, awaits_store, is_in_make_unique, has_store}
 use Rattle.ace_model.specs.Copies.{is_line_read_transaction}
 use Rattle.ace_model.specs.AddressRules.{k1, k6, starts_well}
 use Rattle.ace_model.specs.SnoopRules.{k15}
-use Rattle.ace_model.specs.ReadRules.{k22, k23}
+use Rattle.ace_model.specs.ReadRules.{k22}
 use Rattle.ace_model.specs.WriteRules.{k28}
 use Rattle.ace_model.specs.CacheRules.{k29, k32, may_store, wants_store, full_line}
 use Rattle.ace_model.specs.Accepted.{rule, rules, IsAccepted}
@@ -35,7 +34,7 @@ use Rattle.ace_model.proofs.HolderStates.{less-lessens, less-clean}
 use Rattle.ace_model.proofs.HolderStores.{less_s, lessened_d, stores, is_named_by_d, some_issued-weaker}
 use Rattle.ace_model.proofs.HolderSnoop.{less_cr}
 use Rattle.ace_model.proofs.HolderWrite.{less_wk}
-use Rattle.ace_model.proofs.HolderAcknowledge.{Ends, ends, ends_line, is_named_by_rk}
+use Rattle.ace_model.proofs.HolderAcknowledge.{Ends, ends, is_named_by_rk}
 use Rattle.ace_model.proofs.HolderKept.{kept}
 use Rattle.ace_model.proofs.HolderFacts.{Inductive, Arrives}
 use Rattle.ace_model.proofs.HolderLaw.{inductive}

@@ -1,7 +1,7 @@
 -- While a memory update of a port is outstanding, the port holds the line, and holds it dirty for a WriteBack and WriteClean; for
 -- a WriteEvict and an Evict the line stays clean.
-use Rattle.std.proofs.Common.{◌≡◌, ◌≢◌, ◌⊎◌, ℕ, Bool, true, false, not, if◌then◌else◌, ◌&&◌, ◌||◌, nat_eq, [], ◌∷◌, length, Option, Some, None, unwrap_or, refl, sym, ap, subst, ◌∙◌, inl, inr}
-use Rattle.std.proofs.lemmas.Bool.{and_parts, and_from, or_cases, not-true, cases_Bool, eqb-true, eq-eqb}
+use Rattle.std.proofs.Common.{◌≡◌, ◌≢◌, ℕ, Bool, true, false, not, if◌then◌else◌, ◌&&◌, nat_eq, [], ◌∷◌, length, Some, None, unwrap_or, refl, sym, ap, subst, ◌∙◌, inl, inr}
+use Rattle.std.proofs.lemmas.Bool.{and_parts, and_from, not-true, eqb-true, eq-eqb}
 use Rattle.ace_codes.specs.declared.kind.AwKind.{AwKind}
 use Rattle.ace_codes.specs.declared.kind.AwKind.TheVariants as write
 use Rattle.ace_codes.specs.declared.state.LineState.{LineState}
@@ -16,13 +16,13 @@ use Rattle.ace_tables.specs.StartStates.{starts_read, starts_write}
 use Rattle.ace_tables.specs.States.{is_invalid, is_dirty, is_unique}
 use Rattle.ace_model.specs.declared.transactions.Transaction.{Transaction}
 use Rattle.ace_model.specs.Trace.{Trace, is_some_and, is_none_or}
-use Rattle.ace_model.specs.Kinds.{is_update, is_evict}
-use Rattle.ace_model.specs.Transactions.{is_line, is_on, is_some_on, is_read, issued, ended, read_kind, write_kind, outstanding, is_outstanding, acknowledged, has_outstanding_on}
+use Rattle.ace_model.specs.Kinds.{is_update}
+use Rattle.ace_model.specs.Transactions.{is_line, is_on, is_some_on, issued, ended, read_kind, write_kind, outstanding, is_outstanding, acknowledged, has_outstanding_on}
 use Rattle.ace_model.specs.Progress.{updates_memory, is_update_on, has_update}
 use Rattle.ace_model.specs.Snoops.{answers_line}
 use Rattle.ace_model.specs.States.{state_of}
 use Rattle.ace_model.specs.AddressRules.{k6, starts_well}
-use Rattle.ace_model.specs.CacheRules.{k29, may_store}
+use Rattle.ace_model.specs.CacheRules.{k29}
 use Rattle.ace_model.specs.Accepted.{rule, IsAccepted}
 use Rattle.ace_model.proofs.Looks.{Some-injective, is_some_and-is, is_none_or-at, implies-at, has_name-is, newest_named-cases, without-some}
 use Rattle.ace_model.proofs.Issued.{outstanding-named, transaction_of-stands}
@@ -30,10 +30,10 @@ use Rattle.ace_model.proofs.Growth.{some_issued-found}
 use Rattle.ace_model.proofs.Kept.{accepted_keeps}
 use Rattle.ace_model.proofs.HolderStores.{is_named_by_d}
 use Rattle.ace_model.proofs.LineOnce.{outstanding_own, outstanding_found, one_on_line}
-use Rattle.ace_model.proofs.StateRises.{state_moves, dirty_moves, issue_leaves, ends_of}
+use Rattle.ace_model.proofs.StateRises.{dirty_moves, issue_leaves, ends_of}
 use Rattle.ace_model.proofs.HolderAcknowledge.{is_named_by_rk}
 use Rattle.ace_model.proofs.WriteQueue.{ends_write_of}
-use Rattle.ace_model.proofs.SnoopRows.{Beside, beside_update, dirty_stays, silent_dirty}
+use Rattle.ace_model.proofs.SnoopRows.{beside_update, dirty_stays, silent_dirty}
 use Rattle.ace_model.proofs.SnoopAnswers.{Answering, answering_cr}
 
 -- updates of a dirty line; writes that tell of a clean one

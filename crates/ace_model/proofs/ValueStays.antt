@@ -1,20 +1,17 @@
 -- The value of a line stays while a port's data of it are on their way.
-use Rattle.std.proofs.Common.{◌≡◌, ◌≢◌, ◌⊎◌, ℕ, ◌<◌, Bool, true, false, not, if◌then◌else◌, ◌&&◌, ◌||◌, ◌==◌, nat_eq, [], ◌∷◌, length, Option, Some, None, slice_get, unwrap_or, refl, sym, ap, subst, ◌∙◌, arith, inl, inr}
-use Rattle.std.proofs.lemmas.Bool.{and_parts, and_from, or_cases, or_left, or_right, cases_Bool, cases_eq, not-true, eqb-true, eq-eqb}
+use Rattle.std.proofs.Common.{◌≡◌, ◌≢◌, ℕ, ◌<◌, Bool, true, false, not, ◌||◌, ◌==◌, nat_eq, [], ◌∷◌, length, Some, None, refl, sym, ap, subst, ◌∙◌, arith, inl, inr}
+use Rattle.std.proofs.lemmas.Bool.{and_parts, cases_Bool, cases_eq, not-true, eqb-true}
 use Rattle.ace_codes.specs.declared.kind.ArKind.{ArKind}
 use Rattle.ace_codes.specs.declared.kind.ArKind.TheVariants as read
 use Rattle.ace_codes.specs.declared.kind.AwKind.{AwKind}
 use Rattle.ace_codes.specs.declared.kind.AwKind.TheVariants as write
 use Rattle.ace_codes.specs.declared.kind.SnoopKind.{SnoopKind}
 use Rattle.ace_codes.specs.declared.kind.SnoopKind.TheVariants as snoop
-use Rattle.ace_codes.specs.declared.state.LineState.{LineState}
-use Rattle.ace_codes.specs.declared.state.LineState.TheVariants.{I, UC, UD, SC, SD}
-use Rattle.ace_codes.specs.Responses.{passes_dirty, is_shared, transfers_data}
+use Rattle.ace_codes.specs.declared.state.LineState.TheVariants.{I}
 use Rattle.ace_event.specs.declared.event.Channel.TheVariants.{Read, Write}
 use Rattle.ace_event.specs.declared.event.Event.{Event}
-use Rattle.ace_event.specs.declared.event.Event.TheVariants.{R, Rk, W, Cr, M, D}
+use Rattle.ace_event.specs.declared.event.Event.TheVariants.{W}
 use Rattle.ace_event.specs.declared.header.Header.{Header}
-use Rattle.ace_event.specs.declared.line.Line.{Line}
 use Rattle.ace_tables.specs.EndStates.{is_fetch}
 use Rattle.ace_tables.specs.SnoopKinds.{snoop_of_read}
 use Rattle.ace_tables.specs.States.{is_invalid, is_unique}
@@ -28,7 +25,7 @@ use Rattle.ace_model.specs.Writes.{next_write, next_write_beat}
 use Rattle.ace_model.specs.Grants.{gives_line, granted, answer_of}
 use Rattle.ace_model.specs.States.{state_of}
 use Rattle.ace_model.specs.Copies.{word_of, copy_of}
-use Rattle.ace_model.specs.Values.{Beat, burst_of, value_of}
+use Rattle.ace_model.specs.Values.{Beat, value_of}
 use Rattle.ace_model.specs.CacheRules.{may_store}
 use Rattle.ace_model.specs.SnoopRules.{k11, is_next_beat, fits_write, full_beat}
 use Rattle.ace_model.specs.Accepted.{rule, IsAccepted}
@@ -36,19 +33,17 @@ use Rattle.ace_model.proofs.Looks.{Some-injective, is_some_and-is, is_some_and-a
 use Rattle.ace_model.proofs.Issued.{outstanding-named, transaction_of-stands}
 use Rattle.ace_model.proofs.Growth.{at_point-before, at_point-end}
 use Rattle.ace_model.proofs.Kept.{accepted_keeps}
-use Rattle.ace_model.proofs.HolderTables.{invalidates, shares_line}
 use Rattle.ace_model.proofs.LineOnce.{outstanding_found, one_on_line}
 use Rattle.ace_model.proofs.StateRises.{holders}
-use Rattle.ace_model.proofs.GrantStays.{Stays, granted_before}
+use Rattle.ace_model.proofs.GrantStays.{granted_before}
 use Rattle.ace_model.proofs.SnoopRows.{sends_held}
-use Rattle.ace_model.proofs.SnoopAnswers.{Answering, NewAnswer, answer_cases}
+use Rattle.ace_model.proofs.SnoopAnswers.{NewAnswer, answer_cases}
 use Rattle.ace_model.proofs.GrantAnswers.{new_answer, is_levelling, none_unique}
 use Rattle.ace_model.proofs.UpdateHolds.{keeps}
-use Rattle.ace_model.proofs.WriteBursts.{IsBeat, burst_grows, burst_new}
-use Rattle.ace_model.proofs.LineStores.{Made, Writes, Stored, value_moves}
+use Rattle.ace_model.proofs.WriteBursts.{burst_grows, burst_new}
+use Rattle.ace_model.proofs.LineStores.{Made, value_moves}
 use Rattle.ace_model.proofs.NoSnoopLines.{read_writes_none}
 use Rattle.ace_model.proofs.WritesAlone.{all_empty}
-use Rattle.ace_model.proofs.CopiesTrue.{unique_valid}
 use Rattle.ace_model.proofs.ValueFacts.{SentTrue, UpdatesTrue, Facts}
 
 pub may_unique : (h : Header) (past : Trace) (q l : ℕ) → may_store h past q l ≡ true → is_unique (state_of h past q l) ≡ true

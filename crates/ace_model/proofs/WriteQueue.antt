@@ -1,21 +1,21 @@
 -- The complete writes of a port that wait for their WK: they are outstanding, each once, and those with data have written memory.
-use Rattle.std.proofs.Common.{◌≡◌, ◌≢◌, ◌⊎◌, ℕ, ◌+◌, ◌≤◌, Bool, true, false, not, if◌then◌else◌, ◌&&◌, ◌||◌, nat_eq, nat_lt, [], ◌∷◌, length, Some, None, slice_get, le_refl, refl, sym, ap, subst, ◌∙◌, arith, inl, inr}
-use Rattle.std.proofs.lemmas.Bool.{and_parts, and_from, or_cases, or_left, or_right, not-true, cases_Bool, eqb-true, eq-eqb}
+use Rattle.std.proofs.Common.{◌≡◌, ◌≢◌, ◌⊎◌, ℕ, ◌+◌, ◌≤◌, Bool, true, false, not, if◌then◌else◌, ◌&&◌, nat_eq, nat_lt, [], ◌∷◌, length, Some, None, slice_get, le_refl, refl, sym, ap, subst, ◌∙◌, arith, inl, inr}
+use Rattle.std.proofs.lemmas.Bool.{and_parts, or_cases, or_right, not-true, cases_Bool, eqb-true, eq-eqb}
 use Rattle.ace_codes.specs.declared.state.LineState.{LineState}
 use Rattle.ace_event.specs.declared.event.Channel.{Channel}
 use Rattle.ace_event.specs.declared.event.Channel.TheVariants.{Read, Write}
 use Rattle.ace_event.specs.declared.event.Event.{Event}
-use Rattle.ace_event.specs.declared.event.Event.TheVariants.{Ar, R, Rk, Aw, W, B, Wk, Ac, Cr, Cd, G, M, S, L, D, Op}
+use Rattle.ace_event.specs.declared.event.Event.TheVariants.{Ar, R, Rk, Aw, B, Wk}
 use Rattle.ace_event.specs.declared.header.Header.{Header}
 use Rattle.ace_model.specs.declared.transactions.Transaction.{Transaction}
-use Rattle.ace_model.specs.Trace.{Trace, implies, is_some_and}
+use Rattle.ace_model.specs.Trace.{Trace, is_some_and}
 use Rattle.ace_model.specs.Kinds.{has_write_data}
-use Rattle.ace_model.specs.Transactions.{is_ace, is_named, issued, ended, write_kind, transaction_of, outstanding, completed, completes, acknowledgements, acknowledged, next_complete, is_completion, is_complete}
+use Rattle.ace_model.specs.Transactions.{is_ace, is_named, issued, ended, write_kind, transaction_of, outstanding, completed, completes, acknowledgements, acknowledged, is_completion, is_complete}
 use Rattle.ace_model.specs.Writes.{is_memory_write, has_memory_write}
 use Rattle.ace_model.specs.AddressRules.{k1, k4}
 use Rattle.ace_model.specs.WriteRules.{k26, may_respond}
 use Rattle.ace_model.specs.Accepted.{rule, IsAccepted}
-use Rattle.ace_model.proofs.Looks.{Some-injective, some_is, is_some_and-is, is_some_and-at, implies-at, has_name-is, newest_named-cases, without-some, without-other}
+use Rattle.ace_model.proofs.Looks.{Some-injective, is_some_and-is, implies-at, has_name-is, newest_named-cases, without-some, without-other}
 use Rattle.ace_model.proofs.Issued.{outstanding-named, transaction_of-stands}
 use Rattle.ace_model.proofs.Places.{slice_get-more}
 use Rattle.ace_model.proofs.Kept.{accepted_keeps}
