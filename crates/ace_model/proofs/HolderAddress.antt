@@ -29,7 +29,7 @@ write_issued past q j addr snoop dom bar =
     record { place = length past; port = q; chan = Write; id = j; addr = addr; snoop = snoop; dom = dom; bar = bar; lock = false }
 
 -- what is outstanding is the new transaction, or was outstanding before under another name
-outstanding_new : (h : Header) (past : Trace) (y : Transaction) (p : ℕ) (c : Channel) (i : ℕ) (x : Transaction)
+pub outstanding_new : (h : Header) (past : Trace) (y : Transaction) (p : ℕ) (c : Channel) (i : ℕ) (x : Transaction)
     → newest_named (Some y) p c i (outstanding h past p c i) ≡ Some x
     → ((y ≡ x) × (has_name y p c i ≡ true)) ⊎ ((outstanding h past p c i ≡ Some x) × (has_name y p c i ≡ false))
 outstanding_new h past y p c i x o =
@@ -62,7 +62,7 @@ grants_issued h past y f free l x g =
     ((outstanding_stays h past y x.port x.chan x.id x free s.0).1, s.1)
 
 -- the answer to the exclusive store under a name stays where another name is issued
-failed_issued : (past : Trace) (y : Transaction) (x : Transaction) → has_name y x.port Read x.id ≡ false
+pub failed_issued : (past : Trace) (y : Transaction) (x : Transaction) → has_name y x.port Read x.id ≡ false
     → (is_exclusive_store x && is_false (if has_name y x.port Read x.id then None else passed_at_grant past x.port x.id)) ≡ has_failed past x
 failed_issued past y x other =
     ap (λ v. is_exclusive_store x && is_false v) (kept (has_name y x.port Read x.id) (passed_at_grant past x.port x.id) other)

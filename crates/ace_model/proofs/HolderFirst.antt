@@ -34,7 +34,7 @@ each_at (suc n) test r e l =
     ]
 
 -- where no port passes the test, this one doesn't
-none_at : (n : ℕ) (test : ℕ → Bool) (r : ℕ) → some_port n test ≡ false → r < n → test r ≡ false
+pub none_at : (n : ℕ) (test : ℕ → Bool) (r : ℕ) → some_port n test ≡ false → r < n → test r ≡ false
 none_at zero test r e l = absurd (omega arith)
 none_at (suc n) test r e l =
     let parts = neither (test n) (some_port n test) e in

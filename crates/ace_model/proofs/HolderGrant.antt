@@ -113,7 +113,7 @@ passed_g h past q c j f l r x a g takes w dirty =
     ]
 
 -- the grant of another line isn't that of the exclusive store
-failed_g : (h : Header) (past : Trace) (q : ℕ) (c : Channel) (j p i : ℕ) (x : Transaction) → outstanding h past p Read i ≡ Some x → is_line x ≡ true
+pub failed_g : (h : Header) (past : Trace) (q : ℕ) (c : Channel) (j p i : ℕ) (x : Transaction) → outstanding h past p Read i ≡ Some x → is_line x ≡ true
     → is_some_on (transaction_of past q c j) x.addr ≡ false → has_failed (G q c j ∷ past) x ≡ has_failed past x
 failed_g h past q c j p i x o line other =
     ap (λ v. is_exclusive_store x && is_false (newer v (passed_at_grant past x.port x.id))) (unmoved (transaction_of past q c j) refl)

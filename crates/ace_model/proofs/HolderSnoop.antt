@@ -77,7 +77,7 @@ pub record Answers (h : Header) (past : Trace) (resp : ℕ) (st : LineState) (r 
   pub is_kind : ac_kind_of snooped.snoop ≡ Some kind
   pub row : Row kind (state_of h past r l) resp st
 
-answers_cr : (h : Header) (past : Trace) (q resp : ℕ) (st : LineState) → k15 h past (Cr q resp st) ≡ true → (r l : ℕ) → (nat_eq r q && answers_line past r l) ≡ true
+pub answers_cr : (h : Header) (past : Trace) (q resp : ℕ) (st : LineState) → k15 h past (Cr q resp st) ≡ true → (r l : ℕ) → (nat_eq r q && answers_line past r l) ≡ true
     → Answers h past resp st r l
 answers_cr h past q resp st k r l t =
     let parts = and_parts (nat_eq r q) _ t in
@@ -107,7 +107,7 @@ pub record AnswersGrant (h : Header) (past : Trace) (q resp : ℕ) (st : LineSta
   pub row : Row k (state_of h past r l) resp st
   pub named : state_of h (Cr q resp st ∷ past) r l ≡ st
 
-answers_grant_cr : (h : Header) (past : Trace) (q resp : ℕ) (st : LineState) → Inductive h past → k15 h past (Cr q resp st) ≡ true
+pub answers_grant_cr : (h : Header) (past : Trace) (q resp : ℕ) (st : LineState) → Inductive h past → k15 h past (Cr q resp st) ≡ true
     → (r l : ℕ) (x : Transaction) (k : SnoopKind) → (nat_eq r q && answers_grant past r l) ≡ true → granted h past l ≡ Some x → snoop_of x ≡ Some k
     → AnswersGrant h past q resp st r l k
 answers_grant_cr h past q resp st f k15 r l x k t g causes =

@@ -29,7 +29,7 @@ less_s h past q addr st k r l =
     subst (λ s. Less s st) here (silent_lessens (state_of h past q addr) st moves))
 
 -- what one test says of some transaction, a weaker one says too
-some_issued-weaker : (past : Trace) (test weaker : Transaction → Bool) → ((x : Transaction) → test x ≡ true → weaker x ≡ true)
+pub some_issued-weaker : (past : Trace) (test weaker : Transaction → Bool) → ((x : Transaction) → test x ≡ true → weaker x ≡ true)
     → some_issued past test ≡ true → some_issued past weaker ≡ true
 some_issued-weaker [] test weaker w e = cc
 some_issued-weaker (e ∷ past) test weaker w some =

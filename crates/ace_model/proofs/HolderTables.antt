@@ -55,14 +55,14 @@ pub record Leaves (k : SnoopKind) (shared : Bool) (st : LineState) : Type 0 wher
   pub gone : (not shared || invalidates k) ≡ true → st ≡ I
   pub not_unique : shares_line k ≡ true → is_unique st ≡ false
 
-each_state : (P : LineState → Type 0) → P I → P UC → P UD → P SC → P SD → (st : LineState) → P st
+pub each_state : (P : LineState → Type 0) → P I → P UC → P UD → P SC → P SD → (st : LineState) → P st
 each_state P i uc ud sc sd I = i
 each_state P i uc ud sc sd UC = uc
 each_state P i uc ud sc sd UD = ud
 each_state P i uc ud sc sd SC = sc
 each_state P i uc ud sc sd SD = sd
 
-same_state-is : (a b : LineState) → same_state a b ≡ true → a ≡ b
+pub same_state-is : (a b : LineState) → same_state a b ≡ true → a ≡ b
 same_state-is I I e = refl
 same_state-is UC UC e = refl
 same_state-is UD UD e = refl

@@ -80,7 +80,7 @@ ends_lite h past q j resp last word z e = lite last (is_ace h q) e
     lite l b e = cc
 
 -- a read of an ACE port stays outstanding
-stays_r : (h : Header) (past : Trace) (q j resp : ℕ) (last : Bool) (word p i : ℕ) (x : Transaction) → is_ace h p ≡ true → outstanding h past p Read i ≡ Some x
+pub stays_r : (h : Header) (past : Trace) (q j resp : ℕ) (last : Bool) (word p i : ℕ) (x : Transaction) → is_ace h p ≡ true → outstanding h past p Read i ≡ Some x
     → outstanding h (R q j resp last word ∷ past) p Read i ≡ Some x
 stays_r h past q j resp last word p i x ace o =
     without-other (ended h past (R q j resp last word)) (outstanding h past p Read i) x o (λ z is same.

@@ -22,7 +22,7 @@ use Rattle.ace_model.proofs.HolderEnds.{was_there, arrives_ended, write_apart, a
 use Rattle.ace_model.proofs.HolderFacts.{TransfersArrive, QueueStands, Inductive}
 
 -- a write of a line has a kind
-line_write : (y : Transaction) → y.chan ≡ Write → is_line y ≡ true → (k : AwKind) × (write_kind y ≡ Some k)
+pub line_write : (y : Transaction) → y.chan ≡ Write → is_line y ≡ true → (k : AwKind) × (write_kind y ≡ Some k)
 line_write y chan line =
     elim (or_cases (is_some_and (read_kind y) is_line_read) (is_some_and (write_kind y) is_line_write) line) [
       | inl reads ↦ let bad : false ≡ true = rw (ap is_read chan) at reads in cc

@@ -58,7 +58,7 @@ fewer_messages-twice n m past q =
     rw same fewer
 
 -- a longer trace has no fewer answers
-answers-grow : (e : Event) (past : Trace) (q : ℕ) → answers past q ≤ answers (e ∷ past) q
+pub answers-grow : (e : Event) (past : Trace) (q : ℕ) → answers past q ≤ answers (e ∷ past) q
 answers-grow (Cr p resp st) past q =
     elim (cases_Bool (nat_eq q p)) [
       | inl t ↦ rw t (omega arith)

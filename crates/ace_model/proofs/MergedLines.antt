@@ -1,0 +1,96 @@
+-- Stores of a whole line, and lines by their words.
+use Rattle.std.proofs.Common.{◌≡◌, ℕ, zero, suc, ◌+◌, ◌-◌, ◌*◌, ◌/◌, ◌%◌, ◌^◌, ◌<◌, ◌&&◌, true, nat_eq, List, [], ◌∷◌, length, refl, sym, ap, ◌∙◌, arith}
+use Rattle.std.proofs.lemmas.Bool.{and_parts, eqb-true}
+use Rattle.std.proofs.Math.Nat.{pow-suc, div-div-eq-div-mul, div-eq_of_lt}
+use Rattle.std.specs.Int.{byte_at}
+use Rattle.ace_event.specs.declared.line.Line.{Line}
+use Rattle.ace_event.specs.Bytes.{number_of_bytes, merged}
+use Rattle.ace_model.specs.Copies.{word_of, same_line}
+use Rattle.ace_model.specs.CacheRules.{full_line}
+
+-- a store of all bytes leaves nothing of the line before
+pub merged-whole : (a c bytes : Line) → merged a full_line bytes ≡ merged c full_line bytes
+unfolding merged number_of_bytes
+merged-whole a c bytes = refl
+
+low_byte : (i n : ℕ) → byte_at i n ≡ n / 256 ^ i % 256
+low_byte zero n = omega arith
+low_byte (suc i) n = refl
+
+-- the first bytes of a word
+digits : (w n i : ℕ) → i + n ≡ 16 → w < 2 ^ 128 → number_of_bytes (λ j. byte_at (15 - j) w) n ≡ w / 256 ^ i
+unfolding number_of_bytes
+digits w zero i e small = let at : i ≡ 16 = omega arith in rw at (sym (div-eq_of_lt {n = w} {m = 256 ^ 16} small))
+digits w (suc m) i e small =
+    let before = digits w m (suc i) (omega arith) small in
+    let place : 15 - m ≡ i = omega arith in
+    let q = w / 256 ^ i in
+    let high : w / 256 ^ suc i ≡ q / 256 = ap (λ d. w / d) (pow-suc 256 i) ∙ sym (div-div-eq-div-mul w (256 ^ i) 256) in
+    ap (λ n. n * 256 + byte_at (15 - m) w) (before ∙ high) ∙ ap (λ n. q / 256 * 256 + n) (ap (λ p. byte_at p w) place ∙ low_byte i w) ∙ back q
+  where
+    back : (q : ℕ) → q / 256 * 256 + q % 256 ≡ q
+    back q = omega arith
+
+-- the line of these words
+abbrev pub line_of : ℕ → ℕ → ℕ → ℕ → Line
+line_of a b c d = record { words = a ∷ b ∷ c ∷ d ∷ [] }
+
+-- the line of four words, each of sixteen bytes, stored whole
+pub merged-all : (a : Line) (w x y z : ℕ) → w < 2 ^ 128 → x < 2 ^ 128 → y < 2 ^ 128 → z < 2 ^ 128
+    → merged a full_line (line_of w x y z) ≡ line_of w x y z
+unfolding merged number_of_bytes
+merged-all a w x y z lw lx ly lz =
+    let one : (v : ℕ) → v < 2 ^ 128 → number_of_bytes (λ j. byte_at (15 - j) v) 16 ≡ v = λ v l. digits v 16 0 refl l ∙ whole v in
+    four (one w lw) (one x lx) (one y ly) (one z lz)
+  where
+    whole : (v : ℕ) → v / 256 ^ 0 ≡ v
+    whole v = omega arith
+
+    four : {a b c d w x y z : ℕ} → a ≡ w → b ≡ x → c ≡ y → d ≡ z → line_of a b c d ≡ line_of w x y z
+    four p q r s = cc
+
+-- a line after a store has four words
+pub merged-length : (a : Line) (strobe : ℕ) (bytes : Line) → length (merged a strobe bytes).words ≡ 4
+unfolding merged
+merged-length a strobe bytes = refl
+
+record Four (xs : List ℕ) : Type 0 where
+  a : ℕ
+  b : ℕ
+  c : ℕ
+  d : ℕ
+  is : xs ≡ a ∷ b ∷ c ∷ d ∷ []
+
+four_is : (xs : List ℕ) → length xs ≡ 4 → Four xs
+four_is [] m = absurd (omega arith)
+four_is (a ∷ []) m = absurd (omega arith)
+four_is (a ∷ b ∷ []) m = absurd (omega arith)
+four_is (a ∷ b ∷ c ∷ []) m = absurd (omega arith)
+four_is (a ∷ b ∷ c ∷ d ∷ []) m = record { a = a; b = b; c = c; d = d; is = refl }
+four_is (a ∷ b ∷ c ∷ d ∷ e ∷ xs) m = absurd (omega arith)
+
+four_words : (xs ys : List ℕ) → length xs ≡ 4 → length ys ≡ 4
+    → word_of (record { words = xs }) 0 ≡ word_of (record { words = ys }) 0 → word_of (record { words = xs }) 1 ≡ word_of (record { words = ys }) 1
+    → word_of (record { words = xs }) 2 ≡ word_of (record { words = ys }) 2 → word_of (record { words = xs }) 3 ≡ word_of (record { words = ys }) 3 → xs ≡ ys
+four_words xs ys m n e f g i =
+    let x = four_is xs m in
+    let y = four_is ys n in
+    let same : (k : ℕ) → word_of (record { words = xs }) k ≡ word_of (record { words = ys }) k
+    → word_of (line_of x.a x.b x.c x.d) k ≡ word_of (line_of y.a y.b y.c y.d) k = λ k o.
+    ap (λ ws. word_of (record { words = ws }) k) (sym x.is) ∙ o ∙ ap (λ ws. word_of (record { words = ws }) k) y.is in
+    x.is ∙ join (same 0 e) (same 1 f) (same 2 g) (same 3 i) ∙ sym y.is
+  where
+    join : {a b c d w x y z : ℕ} → a ≡ w → b ≡ x → c ≡ y → d ≡ z → ◌≡◌ {A = List ℕ} (a ∷ b ∷ c ∷ d ∷ []) (w ∷ x ∷ y ∷ z ∷ [])
+    join p q r s = cc
+
+-- lines of four words that have the same words
+pub lines_by_words : (a b : Line) → length a.words ≡ 4 → length b.words ≡ 4 → word_of a 0 ≡ word_of b 0 → word_of a 1 ≡ word_of b 1
+    → word_of a 2 ≡ word_of b 2 → word_of a 3 ≡ word_of b 3 → a ≡ b
+lines_by_words a b m n e f g i = ap (λ ws. record { words = ws }) (four_words a.words b.words m n e f g i)
+
+pub same_line-is : (a b : Line) → length a.words ≡ 4 → length b.words ≡ 4 → same_line a b ≡ true → a ≡ b
+same_line-is a b m n e =
+    let all = and_parts ((nat_eq (word_of a 0) (word_of b 0) && nat_eq (word_of a 1) (word_of b 1)) && nat_eq (word_of a 2) (word_of b 2)) _ e in
+    let three = and_parts (nat_eq (word_of a 0) (word_of b 0) && nat_eq (word_of a 1) (word_of b 1)) _ all.0 in
+    let two = and_parts (nat_eq (word_of a 0) (word_of b 0)) _ three.0 in
+    lines_by_words a b m n (eqb-true _ _ two.0) (eqb-true _ _ two.1) (eqb-true _ _ three.1) (eqb-true _ _ all.1)

@@ -1,0 +1,208 @@
+-- What an RK leaves, and that no port holds a line of NoSnoop transactions.
+use Rattle.std.proofs.Common.{◌≡◌, ◌⊎◌, ℕ, ◌<◌, Bool, true, false, nat_eq, [], ◌∷◌, length, Some, None, le_refl, refl, sym, ap, subst, ◌∙◌, arith, inl, inr}
+use Rattle.std.proofs.lemmas.Bool.{and_parts, cases_Bool, eqb-true}
+use Rattle.ace_codes.specs.declared.kind.ArKind.{ArKind}
+use Rattle.ace_codes.specs.declared.kind.ArKind.TheVariants as read
+use Rattle.ace_codes.specs.declared.state.LineState.{LineState}
+use Rattle.ace_codes.specs.declared.state.LineState.TheVariants.{I}
+use Rattle.ace_codes.specs.Responses.{passes_dirty, is_shared}
+use Rattle.ace_event.specs.declared.event.Event.{Event}
+use Rattle.ace_event.specs.declared.event.Event.TheVariants.{Rk}
+use Rattle.ace_event.specs.declared.event.Channel.TheVariants.{Read}
+use Rattle.ace_event.specs.declared.header.Header.{Header}
+use Rattle.ace_tables.specs.EndStates.{ends_read}
+use Rattle.ace_tables.specs.States.{is_invalid}
+use Rattle.ace_model.specs.declared.transactions.Transaction.{Transaction}
+use Rattle.ace_model.specs.Trace.{Trace, implies, is_some_and}
+use Rattle.ace_model.specs.Kinds.{is_make_unique, is_no_snoop_read}
+use Rattle.ace_model.specs.Transactions.{is_line, is_on, is_read, read_kind, write_kind, issued, outstanding, acknowledged, first_resp, transaction_of, acknowledgements}
+use Rattle.ace_model.specs.Progress.{each_issued}
+use Rattle.ace_model.specs.Exclusives.{has_failed}
+use Rattle.ace_model.specs.States.{state_of, has_store}
+use Rattle.ace_model.specs.AddressRules.{k8, is_no_snoop, is_used_alike, fits_line}
+use Rattle.ace_model.specs.ReadRules.{k23, ends_well, is_end, held_of}
+use Rattle.ace_model.specs.Accepted.{rule, IsAccepted}
+use Rattle.ace_model.proofs.Looks.{Some-injective, is_some_and-is, is_none_or-at, implies-at, same_test-at, is_invalid-is}
+use Rattle.ace_model.proofs.Issued.{issued_at, transaction_of-stands}
+use Rattle.ace_model.proofs.Growth.{issued-old, each_issued-at, IsIssued}
+use Rattle.ace_model.proofs.Kept.{accepted_keeps}
+use Rattle.ace_model.proofs.HolderStates.{held_on}
+use Rattle.ace_model.proofs.HolderAcknowledge.{Ends, is_named_by_rk}
+use Rattle.ace_model.proofs.HolderFacts.{Arrives}
+use Rattle.ace_model.proofs.StateRises.{holders, ends_of, state_moves}
+use Rattle.ace_model.proofs.LineStores.{IsFull}
+
+-- The read of the line that an RK of the port ends.
+pub record ReadEnds (h : Header) (past : Trace) (q : ℕ) (st : LineState) (p l : ℕ) : Type 0 where
+  pub port : p ≡ q
+  pub one : Transaction
+  pub id : ℕ
+  pub out : outstanding h past p Read id ≡ Some one
+  pub named : transaction_of past p Read id ≡ Some one
+  pub on : is_on one l ≡ true
+  pub kind : ArKind
+  pub is_kind : read_kind one ≡ Some kind
+  pub ends_it : acknowledged past q Read ≡ Some one
+  pub state : ends_read kind (state_of h past p l) (is_some_and (first_resp past p id) is_shared) (is_some_and (first_resp past p id) passes_dirty) (has_failed past one) st ≡ true
+  pub stored : is_make_unique kind ≡ true → has_store h past p id ≡ true
+  pub arrives : Arrives h past p id one
+  pub full : IsFull past p id one
+
+pub read_ends : (h : Header) (past : Trace) (q : ℕ) (st : LineState) → IsAccepted h (Rk q st ∷ past) → (p l : ℕ) → is_named_by_rk past q p l ≡ true → ReadEnds h past q st p l
+read_ends h past q st a p l t =
+    let e = ends_of h past q st a in
+    let parts = and_parts (nat_eq p q) _ t in
+    let port = eqb-true p q parts.0 in
+    let y = is_some_and-is (acknowledged past p Read) (λ x. is_on x l) parts.1 in
+    let one : y.0 ≡ e.ended_one = Some-injective y.0 e.ended_one (sym y.1 ∙ ap (λ a. acknowledged past a Read) port ∙ e.is) in
+    let on : is_on e.ended_one l ≡ true = subst (λ (x : Transaction). is_on x l ≡ true) one y.2 in
+    let two = and_parts (is_line e.ended_one) (nat_eq e.ended_one.addr l) on in
+    let well = is_none_or-at (acknowledged past q Read) (ends_well h past st) e.ended_one (accepted_keeps 22 (rule 23 k23) h past (Rk q st) refl a) e.is in
+    let end = is_none_or-at (read_kind e.ended_one) (is_end h past e.ended_one st) e.kind well e.is_kind in
+    let o = first_resp past e.ended_one.port e.ended_one.id in
+    let both = and_parts (ends_read e.kind (held_of h past e.ended_one) (is_some_and o is_shared) (is_some_and o passes_dirty) (has_failed past e.ended_one) st)
+    (implies (is_make_unique e.kind) (has_store h past e.ended_one.port e.ended_one.id)) end in
+    let first : o ≡ first_resp past p e.id = ap (λ v. first_resp past v e.ended_one.id) (e.port ∙ sym port) ∙ ap (first_resp past p) e.is_id in
+    let held : held_of h past e.ended_one ≡ state_of h past p l =
+    held_on (is_line e.ended_one) (state_of h past e.ended_one.port e.ended_one.addr) two.0
+    ∙ ap (λ v. state_of h past v e.ended_one.addr) (e.port ∙ sym port) ∙ ap (state_of h past p) (eqb-true e.ended_one.addr l two.1) in
+    let stored : has_store h past e.ended_one.port e.ended_one.id ≡ has_store h past p e.id =
+    ap (λ v. has_store h past v e.ended_one.id) (e.port ∙ sym port) ∙ ap (has_store h past p) e.is_id in
+    record {
+      port = port;
+      one = e.ended_one;
+      id = e.id;
+      out = ap (λ v. outstanding h past v Read e.id) port ∙ e.out;
+      named = ap (λ v. transaction_of past v Read e.id) port ∙ e.named;
+      on = on;
+      kind = e.kind;
+      is_kind = e.is_kind;
+      ends_it = e.is;
+      state = subst (λ v. ends_read e.kind (state_of h past p l) (is_some_and v is_shared) (is_some_and v passes_dirty) (has_failed past e.ended_one) st ≡ true) first
+          (subst (λ s. ends_read e.kind s (is_some_and o is_shared) (is_some_and o passes_dirty) (has_failed past e.ended_one) st ≡ true) held both.0);
+      stored = λ m. sym stored ∙ implies-at (is_make_unique e.kind) _ both.1 m;
+      arrives = subst (λ v. Arrives h past v e.id e.ended_one) (sym port) (e.arrives two.0);
+      full = subst (λ v. IsFull past v e.id e.ended_one) (sym port) (queued e);
+    }
+  where
+    queued : (e : Ends h past q) → IsFull past q e.id e.ended_one
+    queued e =
+        let s = (holders h past a.0).queue q (acknowledgements past q Read) e.id e.ace (le_refl (acknowledgements past q Read)) e.next in
+        let one : s.0 ≡ e.ended_one = Some-injective s.0 e.ended_one (sym s.1 ∙ e.out) in
+        subst (λ (y : Transaction). IsFull past q e.id y) one s.2
+
+issued_cases : (e : Event) (past : Trace) (x : Transaction) → IsIssued (e ∷ past) x → (issued (length past) e ≡ Some x) ⊎ IsIssued past x
+issued_cases e past x i =
+    elim (cases_Bool (nat_eq (length past) x.place)) [
+      | inl here ↦ inl (rw here at i.there)
+      | inr other ↦
+          let there : issued_at past x.place ≡ Some x = rw other at i.there in
+          inr (record { there = there; before = issued_at-low past x.place there })
+    ]
+  where
+    issued_at-low : (t : Trace) (n : ℕ) → issued_at t n ≡ Some x → n < length t
+    issued_at-low [] n e = cc
+    issued_at-low (d ∷ t) n e =
+        elim (cases_Bool (nat_eq (length t) n)) [
+          | inl here ↦ let same = eqb-true (length t) n here in omega (arith, same)
+          | inr other ↦ let l = issued_at-low t n (rw other at e) in omega (arith, l)
+        ]
+
+used_alike : (h : Header) (past : Trace) (e : Event) → IsAccepted h (e ∷ past) → (l : ℕ) (x y : Transaction) → issued (length past) e ≡ Some x → IsIssued past y
+    → is_on x l ≡ true → is_on y l ≡ true → is_no_snoop x ≡ is_no_snoop y
+used_alike h past e a l x y new i nx ny =
+    let parts = and_parts (is_line x) (nat_eq x.addr l) nx in
+    let fits = is_none_or-at (issued (length past) e) (fits_line past) x (accepted_keeps 7 (rule 8 k8) h past e refl a) new in
+    let each = implies-at (is_line x) (each_issued past (is_used_alike x)) fits parts.0 in
+    let one = each_issued-at past (is_used_alike x) y.place y each i.there in
+    same_test-at _ _ (implies-at (is_on y x.addr) _ one (subst (λ b. is_on y b ≡ true) (sym (eqb-true x.addr l parts.1)) ny))
+
+-- the transactions of a line are all NoSnoop, or none is
+pub alike : (h : Header) (past : Trace) → IsAccepted h past → (l : ℕ) (x y : Transaction) → IsIssued past x → IsIssued past y → is_on x l ≡ true → is_on y l ≡ true
+    → is_no_snoop x ≡ is_no_snoop y
+alike h [] a l x y i j nx ny = let there = i.there in cc
+alike h (e ∷ past) a l x y i j nx ny =
+    elim (issued_cases e past x i) [
+      | inl new ↦ elim (issued_cases e past y j) [
+        | inl newer ↦ ap is_no_snoop (Some-injective x y (sym new ∙ newer))
+        | inr old ↦ used_alike h past e a l x y new old nx ny
+      ]
+      | inr old ↦ elim (issued_cases e past y j) [
+        | inl new ↦ sym (used_alike h past e a l y x new old ny nx)
+        | inr older ↦ alike h past a.0 l x y old older nx ny
+      ]
+    ]
+
+-- A transaction of the line that isn't NoSnoop.
+pub record Snooping (past : Trace) (l : ℕ) : Type 0 where
+  pub one : Transaction
+  pub issued_one : IsIssued past one
+  pub on : is_on one l ≡ true
+  pub snoops : is_no_snoop one ≡ false
+
+-- a ReadNoSnoop ends with nothing
+no_snoop_ends : (k : ArKind) (shared pass failed : Bool) (st : LineState) → is_no_snoop_read k ≡ true → ends_read k I shared pass failed st ≡ true → is_invalid st ≡ true
+no_snoop_ends read.ReadNoSnoop false false failed I n e = refl
+no_snoop_ends read.ReadNoSnoop shared pass failed st n e = cc
+no_snoop_ends k shared pass failed st n e = cc
+
+pub read_writes_none : (x : Transaction) (k : ArKind) → read_kind x ≡ Some k → (write_kind x ≡ None) × (is_read x.chan ≡ true)
+read_writes_none x k kind =
+    elim (cases_Bool (is_read x.chan)) [
+      | inl t ↦ (rw t refl, t)
+      | inr f ↦ let none : read_kind x ≡ None = rw f refl in cc
+    ]
+
+no_snoop_read : (x : Transaction) (k : ArKind) → read_kind x ≡ Some k → is_no_snoop_read k ≡ false → is_no_snoop x ≡ false
+no_snoop_read x k kind f = let none = (read_writes_none x k kind).0 in rw (kind, none) (rw f refl)
+
+-- what a port holds comes by such a transaction
+held_by_rk : (h : Header) (past : Trace) (q : ℕ) (st : LineState) (p l : ℕ) → IsAccepted h (Rk q st ∷ past) → is_named_by_rk past q p l ≡ true
+    → (state_of h (Rk q st ∷ past) p l ≡ I → ⊥) → state_of h past p l ≡ I → Snooping (Rk q st ∷ past) l
+held_by_rk h past q st p l a t held gone =
+    let r = read_ends h past q st a p l t in
+    let s = transaction_of-stands past p Read r.id r.one r.named in
+    let after : state_of h (Rk q st ∷ past) p l ≡ st = rw t refl in
+    let o = first_resp past p r.id in
+    record {
+      one = r.one;
+      issued_one = issued-old (Rk q st) past r.one (record { there = s.there; before = s.before });
+      on = r.on;
+      snoops = elim (cases_Bool (is_no_snoop_read r.kind)) [
+        | inr f ↦ no_snoop_read r.one r.kind r.is_kind f
+        | inl n ↦
+            let ended : ends_read r.kind I (is_some_and o is_shared) (is_some_and o passes_dirty) (has_failed past r.one) st ≡ true =
+            subst (λ v. ends_read r.kind v (is_some_and o is_shared) (is_some_and o passes_dirty) (has_failed past r.one) st ≡ true) gone r.state in
+            let nothing = is_invalid-is st (no_snoop_ends r.kind (is_some_and o is_shared) (is_some_and o passes_dirty) (has_failed past r.one) st n ended) in
+            absurd (held (after ∙ nothing))
+      ];
+    }
+
+pub held_by : (h : Header) (past : Trace) → IsAccepted h past → (p l : ℕ) → (state_of h past p l ≡ I → ⊥) → Snooping past l
+held_by h [] a p l held = absurd (held refl)
+held_by h (e ∷ past) a p l held =
+    elim (cases_Bool (is_invalid (state_of h past p l))) [
+      | inr was ↦
+          let s = held_by h past a.0 p l (λ gone. let bad : true ≡ false = sym (ap is_invalid gone) ∙ was in cc) in
+          record { one = s.one; issued_one = issued-old e past s.one s.issued_one; on = s.on; snoops = s.snoops }
+      | inl v ↦
+          let gone = is_invalid-is (state_of h past p l) v in
+          elim (state_moves h past e a p l) [
+            | inl less ↦ absurd (held (less.gone gone))
+            | inr up ↦
+                subst (λ d. Snooping (d ∷ past) l) (sym up.is)
+                (held_by_rk h past up.port up.st p l (subst (λ d. IsAccepted h (d ∷ past)) up.is a) up.named
+                (subst (λ d. state_of h (d ∷ past) p l ≡ I → ⊥) up.is held) gone)
+          ]
+    ]
+
+-- no port holds a line of NoSnoop transactions
+pub no_snoop_empty : (h : Header) (past : Trace) → IsAccepted h past → (p l : ℕ) (x : Transaction) → IsIssued past x → is_on x l ≡ true → is_no_snoop x ≡ true
+    → state_of h past p l ≡ I
+no_snoop_empty h past a p l x i on quiet =
+    elim (cases_Bool (is_invalid (state_of h past p l))) [
+      | inl v ↦ is_invalid-is (state_of h past p l) v
+      | inr was ↦
+          let s = held_by h past a p l (λ gone. let bad : true ≡ false = sym (ap is_invalid gone) ∙ was in cc) in
+          let bad = sym quiet ∙ alike h past a l x s.one i s.issued_one on s.on ∙ s.snoops in cc
+    ]
