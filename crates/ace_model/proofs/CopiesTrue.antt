@@ -32,7 +32,7 @@ use Rattle.ace_model.proofs.StateRises.{holders, state_moves, stays_empty}
 use Rattle.ace_model.proofs.FirstBegins.{may_of}
 use Rattle.ace_model.proofs.MergedLines.{merged-whole}
 use Rattle.ace_model.proofs.LineStores.{stores_d, value_moves, full_some}
-use Rattle.ace_model.proofs.NoSnoopLines.{read_ends}
+use Rattle.ace_model.proofs.LineReadEnds.{read_ends}
 use Rattle.ace_model.proofs.WritesAlone.{all_empty}
 use Rattle.ace_model.proofs.ValueFacts.{Facts}
 

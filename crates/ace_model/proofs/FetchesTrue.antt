@@ -39,10 +39,11 @@ use Rattle.ace_model.proofs.GrantStays.{gives_none}
 use Rattle.ace_model.proofs.FirstBegins.{may_of, line_transfer}
 use Rattle.ace_model.proofs.MergedLines.{merged-length, lines_by_words}
 use Rattle.ace_model.proofs.LineStores.{stores_d}
-use Rattle.ace_model.proofs.NoSnoopLines.{read_writes_none}
+use Rattle.ace_model.proofs.LineReadEnds.{read_writes_none}
 use Rattle.ace_model.proofs.CopiesTrue.{copy_moves}
 use Rattle.ace_model.proofs.ValueStays.{may_unique, may_free, value_stays, made_apart, sent_step}
-use Rattle.ace_model.proofs.RepliesTrue.{sender_before, reply_true, memory_first, memory_true}
+use Rattle.ace_model.proofs.RepliesTrue.{sender_before, reply_true, memory_true}
+use Rattle.ace_model.proofs.FollowFirst.{memory-before}
 use Rattle.ace_model.proofs.ValueFacts.{SentTrue, Fetches, FetchesTrue, Facts}
 
 -- only an ACE port issues what an ACE-Lite port may not
@@ -267,7 +268,7 @@ fetches_step h past e a f p i l x k o on kind fetch some =
           | inr later ↦ (f.fetches p i l x k was on kind fetch later).replies
           | inl z ↦
               let done = due.first (eq-eqb (transfers past x.port x.id) 0 (first_name ∙ z)) in
-              reply_true h past a.0 f.sent l x k g addr kind fetch (λ none. memory_first past x.port x.id l (first_name ∙ z) ∙ memory_true h past a.0 f l x k g kind fetch done none)
+              reply_true h past a.0 f.sent l x k g addr kind fetch (λ none. memory-before past x.port x.id l (first_name ∙ z) ∙ memory_true h past a.0 f l x k g kind fetch done none)
         ] in
         let reads : is_line_read_transaction x ≡ true = subst (λ v. is_some_and v reads_a_line ≡ true) (sym kind) tables.2 in
         let has = is_none_or-at (outstanding h past p Read i) (has_word past word) x (accepted_keeps 19 (rule 20 k20) h past (R p i resp last word) refl b) was in

@@ -30,7 +30,7 @@ use Rattle.ace_model.proofs.FollowReply.{reply-stays}
 use Rattle.ace_model.proofs.FollowSent.{granted-at, sent, dirty-now}
 
 -- memory before the first beat is memory now
-memory-before : (past : Trace) (p i l : ℕ) → transfers past p i ≡ 0 → memory_at_first_beat past p i l ≡ memory_of past l
+pub memory-before : (past : Trace) (p i l : ℕ) → transfers past p i ≡ 0 → memory_at_first_beat past p i l ≡ memory_of past l
 memory-before [] p i l none = refl
 memory-before (e ∷ past) p i l none = rw (eq-eqb (transfers (e ∷ past) p i) 0 none) refl
 

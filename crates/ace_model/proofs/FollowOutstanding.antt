@@ -30,6 +30,7 @@ use Rattle.ace_model.proofs.HolderWrite.{less_wk}
 use Rattle.ace_model.proofs.HolderAcknowledge.{ends, is_named_by_rk}
 use Rattle.ace_model.proofs.HolderKept.{KeptRules, kept}
 use Rattle.ace_model.proofs.HolderLaw.{accepted_holds}
+use Rattle.ace_model.proofs.StateRises.{stays_empty}
 
 -- what is outstanding after an event is what it issues, or was outstanding and isn't what it ends
 pub outstanding-cases : (h : Header) (e : Event) (past : Trace) (p : ℕ) (c : Channel) (i : ℕ) (x : Transaction) → outstanding h (e ∷ past) p c i ≡ Some x
@@ -78,25 +79,6 @@ line-taken h e past p c i x y k new line o line_x addr port =
     let some : has_outstanding_on h past y.port y.addr ≡ true = some_issued-found past (is_outstanding_on h past y.port y.addr) x.place x s.there test in
     cc
 
--- a port has one outstanding transaction on a line
-pub one_outstanding : (h : Header) (past : Trace) → IsAccepted h past → (p : ℕ) (c d : Channel) (i j : ℕ) (x y : Transaction)
-    → outstanding h past p c i ≡ Some x → outstanding h past p d j ≡ Some y → is_line x ≡ true → is_line y ≡ true → x.addr ≡ y.addr → x ≡ y
-one_outstanding h [] a p c d i j x y o u line_x line_y addr = cc
-one_outstanding h (e ∷ past) a p c d i j x y o u line_x line_y addr =
-    let k : k5 h past e ≡ true = accepted_keeps 4 (rule 5 k5) h past e refl a in
-    elim (outstanding-cases h e past p c i x o) [
-      | inl new ↦ elim (outstanding-cases h e past p d j y u) [
-        | inl new_y ↦ Some-injective x y (sym new.0 ∙ new_y.0)
-        | inr old_y ↦
-            absurd (line-taken h e past p d j y x k new.0 line_x old_y.0 line_y (sym addr) (sym (has_name-is x p c i new.1).port))
-      ]
-      | inr old ↦ elim (outstanding-cases h e past p d j y u) [
-        | inl new_y ↦
-            absurd (line-taken h e past p c i x y k new_y.0 line_y old.0 line_x addr (sym (has_name-is y p d j new_y.1).port))
-        | inr old_y ↦ one_outstanding h past a.0 p c d i j x y old.0 old_y.0 line_x line_y addr
-      ]
-    ]
-
 -- a read of a line has a kind, and names a line
 pub line_read-line : (x : Transaction) → is_line_read_transaction x ≡ true → is_line x ≡ true
 line_read-line x reads =
@@ -112,75 +94,9 @@ line_read-line x reads =
     of_kind read.ReadUnique t = refl
     of_kind k t = cc
 
--- a read of a line starts where its port holds nothing
-starts_empty : (k : ArKind) (st : LineState) → reads_a_line k ≡ true → starts_read k st ≡ true → st ≡ I
-starts_empty k I t s = refl
-starts_empty read.ReadNoSnoop st t s = cc
-starts_empty read.ReadOnce st t s = cc
-starts_empty read.ReadShared st t s = cc
-starts_empty read.ReadClean st t s = cc
-starts_empty read.ReadNotSharedDirty st t s = cc
-starts_empty read.ReadUnique st t s = cc
-starts_empty k st t s = cc
-
--- an event that issues a transaction names no state
-pub issued-state : (h : Header) (past : Trace) (e : Event) (x : Transaction) (p l : ℕ) → issued (length past) e ≡ Some x → state_of h (e ∷ past) p l ≡ state_of h past p l
-issued-state h past (Ar q j addr snoop dom bar lock) x p l new = refl
-issued-state h past (Aw q j addr snoop dom bar) x p l new = refl
-issued-state h past e x p l new = cc
-
--- where the RK doesn't end a read of the port on the line, its state of the line stays I
-pub state_empty : (h : Header) (past : Trace) (e : Event) (p l : ℕ) → KeptRules h past e
-    → ((q : ℕ) (st : LineState) → e ≡ Rk q st → is_named_by_rk past q p l ≡ false)
-    → state_of h past p l ≡ I → state_of h (e ∷ past) p l ≡ I
-state_empty h past (Rk q st) p l k other was = rw (other q st refl) was
-state_empty h past (Wk q st) p l k other was = (less-lessens _ _ (less_wk h past q st k.rule_28 p l)).gone was
-state_empty h past (Cr q resp st) p l k other was = (less-lessens _ _ (less_cr h past q resp st k.rule_15 p l)).gone was
-state_empty h past (S q addr st) p l k other was = (less-lessens _ _ (less_s h past q addr st k.rule_29 p l)).gone was
-state_empty h past (D q addr strobe x line) p l k other was = (lessened_d h past q addr strobe x line k.rule_32 l p).gone was
-state_empty h past e p l k other was = was
-
 -- while a read of a line is outstanding, its port holds nothing of the line
 pub empty_while_read : (h : Header) (past : Trace) → IsAccepted h past → (p i : ℕ) (x : Transaction) → outstanding h past p Read i ≡ Some x
     → is_line_read_transaction x ≡ true → state_of h past p x.addr ≡ I
-empty_while_read h [] a p i x o reads = refl
-empty_while_read h (e ∷ past) a p i x o reads =
-    let line = line_read-line x reads in
-    elim (outstanding-cases h e past p Read i x o) [
-      | inl new ↦
-          let k : k6 h past e ≡ true = accepted_keeps 5 (rule 6 k6) h past e refl a in
-          let well = is_none_or-at (issued (length past) e) (starts_well h past) x k new.0 in
-          let kind = is_some_and-is (read_kind x) reads_a_line reads in
-          let starts = (and_parts (is_none_or (read_kind x) (λ k. starts_read k (state_of h past x.port x.addr))) _ (implies-at (is_line x) _ well line)).0 in
-          let by = is_none_or-at (read_kind x) (λ k. starts_read k (state_of h past x.port x.addr)) kind.0 starts kind.1 in
-          let port = (has_name-is x p Read i new.1).port in
-          issued-state h past e x p x.addr new.0
-          ∙ ap (λ v. state_of h past v x.addr) (sym port)
-          ∙ starts_empty kind.0 (state_of h past x.port x.addr) kind.2 by
-      | inr old ↦
-          let rest = kept h past e a.1 in
-          state_empty h past e p x.addr rest
-          (λ q st is. other q st is old rest line)
-          (empty_while_read h past a.0 p i x old.0 reads)
-    ]
-  where
-    other : (q : ℕ) (st : LineState) → e ≡ Rk q st
-        → ((outstanding h past p Read i ≡ Some x) × ((z : Transaction) → ended h past e ≡ Some z → z.place ≢ x.place))
-        → KeptRules h past e → is_line x ≡ true → is_named_by_rk past q p x.addr ≡ false
-    other q st is old rest line =
-        elim (cases_Bool (is_named_by_rk past q p x.addr)) [
-          | inr f ↦ f
-          | inl t ↦
-              let known = subst (λ (v : Event). KeptRules h past v) is rest in
-              let d = ends h past q st (accepted_holds h past a.0) known.rule_1 known.rule_22 in
-              let parts = and_parts (nat_eq p q) _ t in
-              let port = eqb-true p q parts.0 in
-              let y = is_some_and-is (acknowledged past p Read) (λ z. is_on z x.addr) parts.1 in
-              let one : y.0 ≡ d.ended_one = Some-injective y.0 d.ended_one (sym y.1 ∙ ap (λ v. acknowledged past v Read) port ∙ d.is) in
-              let on = and_parts (is_line d.ended_one) (nat_eq d.ended_one.addr x.addr) (subst (λ v. is_on v x.addr ≡ true) one y.2) in
-              let out : outstanding h past p Read d.id ≡ Some d.ended_one = ap (λ v. outstanding h past v Read d.id) port ∙ d.out in
-              let same : x ≡ d.ended_one =
-              one_outstanding h past a.0 p Read Read i d.id x d.ended_one old.0 out line on.0 (sym (eqb-true d.ended_one.addr x.addr on.1)) in
-              let ends_it : ended h past e ≡ Some d.ended_one = ap (ended h past) is ∙ d.is in
-              absurd (old.1 d.ended_one ends_it (ap (λ (v : Transaction). v.place) (sym same)))
-        ]
+empty_while_read h past a p i x o reads =
+    stays_empty h past a p Read i x.addr x o (and_from (is_line x) (nat_eq x.addr x.addr) (line_read-line x reads) (eq-eqb x.addr x.addr refl))
+    (or_left (is_line_read_transaction x) _ reads)

@@ -42,8 +42,10 @@ use Rattle.ace_model.proofs.HolderAcknowledge.{ends, is_named_by_rk}
 use Rattle.ace_model.proofs.HolderTransfer.{may}
 use Rattle.ace_model.proofs.HolderKept.{kept}
 use Rattle.ace_model.proofs.HolderLaw.{accepted_holds}
-use Rattle.ace_model.proofs.FollowOutstanding.{outstanding-cases, one_outstanding, issued-state}
-use Rattle.ace_model.proofs.FollowWriteQueue.{write_queue}
+use Rattle.ace_model.proofs.FollowOutstanding.{outstanding-cases}
+use Rattle.ace_model.proofs.LineOnce.{one_on_line}
+use Rattle.ace_model.proofs.WriteQueue.{write_queue}
+use Rattle.ace_model.proofs.StateRises.{issue_leaves}
 
 -- A memory update that is outstanding.
 pub record Updates (h : Header) (past : Trace) (p i : ℕ) (y : Transaction) : Type 0 where
@@ -64,8 +66,7 @@ update-line y u =
 other-none : (h : Header) (past : Trace) → IsAccepted h past → (p i : ℕ) (y : Transaction) → Updates h past p i y → (c : Channel) (j : ℕ) (z : Transaction)
     → outstanding h past p c j ≡ Some z → is_on z y.addr ≡ true → z ≡ y
 other-none h past a p i y u c j z o on =
-    let parts = and_parts (is_line z) (nat_eq z.addr y.addr) on in
-    one_outstanding h past a p c Write j i z y o u.out parts.0 (update-line y u.update) (eqb-true z.addr y.addr parts.1)
+    one_on_line h past a p c Write j i y.addr z y o u.out on (and_from (is_line y) (nat_eq y.addr y.addr) (update-line y u.update) (eq-eqb y.addr y.addr refl))
 
 pub update-named : (h : Header) (past : Trace) (p i : ℕ) (y : Transaction) → outstanding h past p Write i ≡ Some y → (y.port ≡ p) × (y.chan ≡ Write) × (y.id ≡ i)
 update-named h past p i y o =
@@ -146,9 +147,9 @@ held_step h past (Wk q st) p i y a u other was =
     let ace : is_ace h p ≡ true = ap (is_ace h) port ∙ (and_parts (nat_lt q h.ports) (is_ace h q) known).1 in
     let z = is_some_and-is (acknowledged past p Write) (λ v. is_on v y.addr) parts.1 in
     let next = acknowledged_is past p Write z.0 z.1 in
-    let w = (write_queue h past a.0).waits p (acknowledgements past p Write) next.id ace (le_refl (acknowledgements past p Write)) next.next in
-    let one : w.one ≡ z.0 = Some-injective w.one z.0 (sym (outstanding-named h past p Write next.id w.one w.out) ∙ next.named) in
-    let same = other-none h past a.0 p i y u Write next.id z.0 (w.out ∙ ap Some one) z.2 in
+    let w = (write_queue h past a.0 p ace).stands (acknowledgements past p Write) next.id (le_refl (acknowledgements past p Write)) next.next in
+    let one : w.0 ≡ z.0 = Some-injective w.0 z.0 (sym (outstanding-named h past p Write next.id w.0 w.1) ∙ next.named) in
+    let same = other-none h past a.0 p i y u Write next.id z.0 (w.1 ∙ ap Some one) z.2 in
     absurd (other z.0 (ap (λ v. acknowledged past v Write) (sym port) ∙ z.1) (ap (λ (v : Transaction). v.place) same))) was
 held_step h past (Cr q resp st) p i y a u other was =
     named-where (nat_eq p q && answers_line past p y.addr) (state_of h past p y.addr) st (λ t.
@@ -195,7 +196,7 @@ update-held h (e ∷ past) a p i y u =
           let by = is_none_or-at (write_kind y) (λ k. starts_write k (state_of h past y.port y.addr)) kind.0 starts kind.1 in
           let port = (has_name-is y p Write i new.1).port in
           λ gone. starts-held kind.0 (state_of h past y.port y.addr) kind.2 by
-          (ap (λ v. state_of h past v y.addr) port ∙ sym (issued-state h past e y p y.addr new.0) ∙ gone)
+          (ap (λ v. state_of h past v y.addr) port ∙ sym (issue_leaves h past e y p y.addr new.0) ∙ gone)
       | inr old ↦
           let before : Updates h past p i y = record { out = old.0; update = u.update } in
           held_step h past e p i y a before old.1 (update-held h past a.0 p i y before)

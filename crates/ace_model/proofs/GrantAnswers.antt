@@ -21,18 +21,13 @@ use Rattle.ace_model.specs.Accepted.{rule, IsAccepted}
 use Rattle.ace_model.proofs.Looks.{Some-injective}
 use Rattle.ace_model.proofs.HolderTables.{is_settled, invalidates, shares_line, Leaves, row_is}
 use Rattle.ace_model.proofs.HolderFacts.{Inductive}
-use Rattle.ace_model.proofs.HolderSnoop.{less_cr}
+use Rattle.ace_model.proofs.HolderSnoop.{less_cr, settled}
 use Rattle.ace_model.proofs.HolderStates.{less-clean}
 use Rattle.ace_model.proofs.Kept.{accepted_keeps}
 use Rattle.ace_model.proofs.StateRises.{holders, state_moves, dirty_moves}
 use Rattle.ace_model.proofs.GrantStays.{granted_before}
 use Rattle.ace_model.proofs.SnoopRows.{is_make_invalid, dirty_sends, sends_held, passes_other}
 use Rattle.ace_model.proofs.SnoopAnswers.{Answering, answering_cr, NewAnswer, answer_cases, no_rise}
-
-settled : (st : LineState) → is_unique st ≡ false → is_dirty st ≡ false → is_settled st ≡ true
-settled I u d = refl
-settled SC u d = refl
-settled st u d = cc
 
 -- beside a dirty port no other is unique or dirty
 pub beside_dirty : (h : Header) (past : Trace) → Inductive h past → (l r z : ℕ) → is_dirty (state_of h past r l) ≡ true → z ≢ r → is_settled (state_of h past z l) ≡ true

@@ -140,7 +140,7 @@ answers_fit_cr h past q resp st f m l r x a k g w causes =
           (f.answers l r x a k g (rw other at w) causes)
     ]
 
-settled : (st : LineState) → is_unique st ≡ false → is_dirty st ≡ false → is_settled st ≡ true
+pub settled : (st : LineState) → is_unique st ≡ false → is_dirty st ≡ false → is_settled st ≡ true
 settled I u d = refl
 settled SC u d = refl
 settled st u d = cc

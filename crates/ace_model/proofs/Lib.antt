@@ -23,7 +23,6 @@ pub mod FollowSent
 pub mod FollowSnoops
 pub mod FollowTransfers
 pub mod FollowUpdate
-pub mod FollowWriteQueue
 pub mod FollowWritten
 pub mod Forwarding
 pub mod GrantAnswers
@@ -48,12 +47,12 @@ pub mod Issued
 pub mod Kept
 pub mod Least
 pub mod LineOnce
+pub mod LineReadEnds
 pub mod LineStores
 pub mod Looks
 pub mod MadeTrue
 pub mod MergedLines
 pub mod MessageAnswered
-pub mod NoSnoopLines
 pub mod OrderPoints
 pub mod Places
 pub mod Points

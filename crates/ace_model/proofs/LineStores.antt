@@ -26,7 +26,7 @@ use Rattle.ace_model.specs.WriteRules.{k24, may_write_memory, may_write_passed, 
 use Rattle.ace_model.specs.Accepted.{rule, IsAccepted}
 use Rattle.ace_model.proofs.Looks.{Some-injective, is_some_and-is, newest_named-cases, without-some}
 use Rattle.ace_model.proofs.Issued.{issued_at, same_place, outstanding-named, transaction_of-stands}
-use Rattle.ace_model.proofs.Growth.{issued-new, issued-old, IsIssued}
+use Rattle.ace_model.proofs.Growth.{issued-new, issued-old, IsIssued, some_issued-is}
 use Rattle.ace_model.proofs.Kept.{accepted_keeps}
 use Rattle.ace_model.proofs.HolderAddress.{named_read}
 use Rattle.ace_model.proofs.HolderFacts.{OthersInvalid}
@@ -34,15 +34,6 @@ use Rattle.ace_model.proofs.StateRises.{holders}
 use Rattle.ace_model.proofs.LineOnce.{outstanding_own}
 use Rattle.ace_model.proofs.FirstBegins.{may_of, else_of, write_due}
 use Rattle.ace_model.proofs.WriteQueue.{issue_completes}
-
--- a test that some transaction of the trace passes
-pub some_issued-is : (past : Trace) (test : Transaction → Bool) → some_issued past test ≡ true → (x : Transaction) × IsIssued past x × (test x ≡ true)
-some_issued-is [] test s = cc
-some_issued-is (e ∷ past) test s =
-    elim (or_cases (is_some_and (issued (length past) e) test) (some_issued past test) s) [
-      | inl now ↦ let x = is_some_and-is (issued (length past) e) test now in (x.0, issued-new e past x.0 x.1, x.2)
-      | inr old ↦ let x = some_issued-is past test old in (x.0, issued-old e past x.0 x.1, x.2)
-    ]
 
 -- an issued transaction that is outstanding is so by its name
 pub outstanding_is : (h : Header) (past : Trace) (x : Transaction) → IsIssued past x → is_outstanding h past x ≡ true → outstanding h past x.port x.chan x.id ≡ Some x

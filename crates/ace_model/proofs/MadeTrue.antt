@@ -28,7 +28,7 @@ use Rattle.ace_model.proofs.LineOnce.{outstanding_found, one_on_line}
 use Rattle.ace_model.proofs.StateRises.{holders}
 use Rattle.ace_model.proofs.MergedLines.{merged-whole}
 use Rattle.ace_model.proofs.LineStores.{Made, stores_d, done_read, full_some}
-use Rattle.ace_model.proofs.NoSnoopLines.{read_writes_none}
+use Rattle.ace_model.proofs.LineReadEnds.{read_writes_none}
 use Rattle.ace_model.proofs.CopiesTrue.{copy_moves, unique_valid}
 use Rattle.ace_model.proofs.ValueStays.{may_unique, may_free, value_stays}
 use Rattle.ace_model.proofs.ValueFacts.{MadeTrue, Facts}

@@ -33,9 +33,10 @@ use Rattle.ace_model.proofs.StateRises.{holders, stays_empty}
 use Rattle.ace_model.proofs.SnoopsPending.{answering, snoops}
 use Rattle.ace_model.proofs.SnoopAnswers.{answer_cases}
 use Rattle.ace_model.proofs.GrantAnswers.{is_levelling, unsent_clean, passed_kind}
-use Rattle.ace_model.proofs.NoSnoopLines.{read_writes_none}
+use Rattle.ace_model.proofs.LineReadEnds.{read_writes_none}
 use Rattle.ace_model.proofs.ValueStays.{fetch_snoops}
 use Rattle.ace_model.proofs.ValueFacts.{SentTrue, Facts}
+use Rattle.ace_model.proofs.FollowFirst.{memory-before}
 
 -- a port that has answered under the grant answers no more
 pub answered_once : (h : Header) (past : Trace) → IsAccepted h past → (d : Event) (r l : ℕ) (w : Answer) → answer_of past r l ≡ Some w → answer_at past d r l ≡ None
@@ -127,11 +128,6 @@ reply_true h past a sent l x k g addr kind fetch memory =
         let w = sender_sent h past a s l is in
         let same : copy_at_answer past l s ≡ Some (copy_of (at_point w.answer.place past) s l) = let there = w.is in rw there refl in
         ap (λ o. unwrap_or o (memory_at_first_beat past x.port x.id l)) same ∙ sent l s x w.answer k g w.is w.sends kind fetch
-
--- up to the first transfer, memory at the first beat is memory
-pub memory_first : (past : Trace) (p i l : ℕ) → transfers past p i ≡ 0 → memory_at_first_beat past p i l ≡ memory_of past l
-memory_first [] p i l z = refl
-memory_first (e ∷ past) p i l z = rw z refl
 
 fetch_line : (k : ArKind) → is_fetch k ≡ true → (reads_a_line k ≡ true) × (is_clean_unique k ≡ false) × (is_make_unique k ≡ false)
 fetch_line read.ReadClean e = (refl, refl, refl)

@@ -93,7 +93,7 @@ takes_snoops read.ReadNoSnoop shared failed (inl t) = cc
 takes_snoops read.ReadNoSnoop shared failed (inr t) = cc
 takes_snoops k shared failed t = refl
 
-read_snoops : (x : Transaction) (k : ArKind) → read_kind x ≡ Some k → is_no_snoop_read k ≡ false → is_no_snoop x ≡ false
+pub read_snoops : (x : Transaction) (k : ArKind) → read_kind x ≡ Some k → is_no_snoop_read k ≡ false → is_no_snoop x ≡ false
 read_snoops x k is snoops =
     elim (cases_Bool (is_read x.chan)) [
       | inl reads ↦

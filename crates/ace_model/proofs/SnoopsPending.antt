@@ -36,6 +36,7 @@ use Rattle.ace_model.proofs.StateRises.{holders, ends_of}
 use Rattle.ace_model.proofs.WriteQueue.{EndsWrite, ends_write_of, ends_lite_written}
 use Rattle.ace_model.proofs.GrantStays.{granted_after, failed_stays}
 use Rattle.ace_model.proofs.FirstBegins.{MayBegin, begins, may_of, line_transfer, then_of}
+use Rattle.ace_model.proofs.FollowSnoops.{grant_place-low}
 
 -- An unanswered snoop of the line.
 pub record IsPending (past : Trace) (r n l : ℕ) (s : Snoop) : Type 0 where
@@ -211,14 +212,6 @@ answering past q r l t =
     le_self : (n : ℕ) → n ≤ n
     le_self n = omega arith
 
-grant_place-le : (past : Trace) (l : ℕ) → grant_place past l ≤ length past
-grant_place-le [] l = omega arith
-grant_place-le (e ∷ past) l =
-    elim (cases_Bool (gives_line past e l)) [
-      | inl t ↦ rw t (omega arith)
-      | inr f ↦ rw f (let b = grant_place-le past l in omega arith)
-    ]
-
 -- a new snoop of the line is pending, and its port wasn't snooped before
 new_pending : (h : Header) (past : Trace) (e : Event) → IsAccepted h (e ∷ past) → (r l : ℕ) (s : Snoop)
     → ((b m : ℕ) → was_snooped past b m ≡ false → answer_of past b m ≡ None) → snoop_at (length past) e r ≡ Some s → is_snoop_on s l ≡ true
@@ -245,7 +238,7 @@ new_pending h past (Ac q addr code) a r l s first is on =
             record {
               one = x.0;
               stands = ap (granted h past) (sym line) ∙ x.1;
-              under = rw (← same) (grant_place-le past l);
+              under = rw (← same) (grant_place-low past l);
               unfailed = not-true (has_failed past x.0) five.1;
               unbegun = not-true (is_begun past x.0) four.1;
               snooped = or_left ((nat_eq r q && snoops_a_line code) && nat_eq l addr) (was_snooped past r l) (and_from _ _ (and_from _ _ t parts.0) (eq-eqb l addr (sym line)));

@@ -149,7 +149,7 @@ only_invalid UD e = cc
 only_invalid SC e = cc
 only_invalid SD e = cc
 
-read_starts : (k : ArKind) (st : LineState) → reads_a_line k ≡ true → starts_read k st ≡ true → st ≡ I
+pub read_starts : (k : ArKind) (st : LineState) → reads_a_line k ≡ true → starts_read k st ≡ true → st ≡ I
 read_starts read.ReadNoSnoop st r s = only_invalid st s
 read_starts read.ReadOnce st r s = only_invalid st s
 read_starts read.ReadShared st r s = only_invalid st s

@@ -124,7 +124,7 @@ write_stores write.WriteClean e = cc
 write_stores write.WriteEvict e = cc
 write_stores k e = refl
 
-unique_write_snoops : (k : AwKind) → is_unique_write k ≡ true → (s : SnoopKind) × (snoop_of_write k ≡ Some s) × (invalidates s ≡ true)
+pub unique_write_snoops : (k : AwKind) → is_unique_write k ≡ true → (s : SnoopKind) × (snoop_of_write k ≡ Some s) × (invalidates s ≡ true)
 unique_write_snoops write.WriteUnique e = (snoop.CleanInvalid, refl, refl)
 unique_write_snoops write.WriteLineUnique e = (snoop.MakeInvalid, refl, refl)
 unique_write_snoops k e = cc

@@ -42,7 +42,7 @@ use Rattle.ace_model.proofs.GrantAnswers.{new_answer, is_levelling, none_unique}
 use Rattle.ace_model.proofs.UpdateHolds.{keeps}
 use Rattle.ace_model.proofs.WriteBursts.{burst_grows, burst_new}
 use Rattle.ace_model.proofs.LineStores.{Made, value_moves}
-use Rattle.ace_model.proofs.NoSnoopLines.{read_writes_none}
+use Rattle.ace_model.proofs.LineReadEnds.{read_writes_none}
 use Rattle.ace_model.proofs.WritesAlone.{all_empty}
 use Rattle.ace_model.proofs.ValueFacts.{SentTrue, UpdatesTrue, Facts}
 

@@ -24,12 +24,8 @@ use Rattle.ace_model.proofs.HolderTables.{invalidates}
 use Rattle.ace_model.proofs.HolderFirst.{done_port}
 use Rattle.ace_model.proofs.StateRises.{holders, stays_empty}
 use Rattle.ace_model.proofs.LineStores.{Writes, stores_kind}
-use Rattle.ace_model.proofs.NoSnoopLines.{no_snoop_empty}
-
-write_snoops : (k : AwKind) → is_unique_write k ≡ true → (s : SnoopKind) × (snoop_of_write k ≡ Some s) × (invalidates s ≡ true)
-write_snoops write.WriteUnique u = (snoop.CleanInvalid, refl, refl)
-write_snoops write.WriteLineUnique u = (snoop.MakeInvalid, refl, refl)
-write_snoops k u = cc
+use Rattle.ace_model.proofs.ShareableLines.{no_snoop_unheld}
+use Rattle.ace_model.proofs.StoresAlone.{unique_write_snoops}
 
 granted_kind : (k : AwKind) → (is_unique_write k || is_no_snoop_write k) ≡ true → is_granted_write k ≡ true
 granted_kind write.WriteNoSnoop u = refl
@@ -50,10 +46,10 @@ all_empty h past a q c j l w p =
     elim (or_cases (is_unique_write k.0) (is_no_snoop_write k.0) k.2) [
       | inr quiet ↦
           let s = transaction_of-stands past x.port x.chan x.id x (outstanding-named h past x.port x.chan x.id x w.out) in
-          no_snoop_empty h past a p l x (record { there = s.there; before = s.before }) w.on
+          no_snoop_unheld h past x p l a (record { there = s.there; before = s.before }) w.on
           (or_right (is_some_and (read_kind x) _) (is_some_and (write_kind x) is_no_snoop_write) (subst (λ o. is_some_and o is_no_snoop_write ≡ true) (sym k.1) quiet))
       | inl unique ↦
-          let s = write_snoops k.0 unique in
+          let s = unique_write_snoops k.0 unique in
           let causes = snoop_of_kind x k.0 s.0 w.writes k.1 s.1 in
           elim (cases_eq x.port p) [
             | inl own ↦

@@ -1,4 +1,4 @@
--- What an RK leaves, and that no port holds a line of NoSnoop transactions.
+-- What an RK leaves of the line of its read.
 use Rattle.std.proofs.Common.{◌≡◌, ◌⊎◌, ℕ, ◌<◌, Bool, true, false, nat_eq, [], ◌∷◌, length, Some, None, le_refl, refl, sym, ap, subst, ◌∙◌, arith, inl, inr}
 use Rattle.std.proofs.lemmas.Bool.{and_parts, cases_Bool, eqb-true}
 use Rattle.ace_codes.specs.declared.kind.ArKind.{ArKind}
@@ -24,13 +24,14 @@ use Rattle.ace_model.specs.ReadRules.{k23, ends_well, is_end, held_of}
 use Rattle.ace_model.specs.Accepted.{rule, IsAccepted}
 use Rattle.ace_model.proofs.Looks.{Some-injective, is_some_and-is, is_none_or-at, implies-at, same_test-at, is_invalid-is}
 use Rattle.ace_model.proofs.Issued.{issued_at, transaction_of-stands}
-use Rattle.ace_model.proofs.Growth.{issued-old, each_issued-at, IsIssued}
+use Rattle.ace_model.proofs.Growth.{issued-old, each_issued-at, IsIssued, issued-cases}
 use Rattle.ace_model.proofs.Kept.{accepted_keeps}
 use Rattle.ace_model.proofs.HolderStates.{held_on}
 use Rattle.ace_model.proofs.HolderAcknowledge.{Ends, is_named_by_rk}
 use Rattle.ace_model.proofs.HolderFacts.{Arrives}
 use Rattle.ace_model.proofs.StateRises.{holders, ends_of, state_moves}
 use Rattle.ace_model.proofs.LineStores.{IsFull}
+use Rattle.ace_model.proofs.ShareableLines.{read_snoops}
 
 -- The read of the line that an RK of the port ends.
 pub record ReadEnds (h : Header) (past : Trace) (q : ℕ) (st : LineState) (p l : ℕ) : Type 0 where
@@ -91,118 +92,9 @@ read_ends h past q st a p l t =
         let one : s.0 ≡ e.ended_one = Some-injective s.0 e.ended_one (sym s.1 ∙ e.out) in
         subst (λ (y : Transaction). IsFull past q e.id y) one s.2
 
-issued_cases : (e : Event) (past : Trace) (x : Transaction) → IsIssued (e ∷ past) x → (issued (length past) e ≡ Some x) ⊎ IsIssued past x
-issued_cases e past x i =
-    elim (cases_Bool (nat_eq (length past) x.place)) [
-      | inl here ↦ inl (rw here at i.there)
-      | inr other ↦
-          let there : issued_at past x.place ≡ Some x = rw other at i.there in
-          inr (record { there = there; before = issued_at-low past x.place there })
-    ]
-  where
-    issued_at-low : (t : Trace) (n : ℕ) → issued_at t n ≡ Some x → n < length t
-    issued_at-low [] n e = cc
-    issued_at-low (d ∷ t) n e =
-        elim (cases_Bool (nat_eq (length t) n)) [
-          | inl here ↦ let same = eqb-true (length t) n here in omega (arith, same)
-          | inr other ↦ let l = issued_at-low t n (rw other at e) in omega (arith, l)
-        ]
-
-used_alike : (h : Header) (past : Trace) (e : Event) → IsAccepted h (e ∷ past) → (l : ℕ) (x y : Transaction) → issued (length past) e ≡ Some x → IsIssued past y
-    → is_on x l ≡ true → is_on y l ≡ true → is_no_snoop x ≡ is_no_snoop y
-used_alike h past e a l x y new i nx ny =
-    let parts = and_parts (is_line x) (nat_eq x.addr l) nx in
-    let fits = is_none_or-at (issued (length past) e) (fits_line past) x (accepted_keeps 7 (rule 8 k8) h past e refl a) new in
-    let each = implies-at (is_line x) (each_issued past (is_used_alike x)) fits parts.0 in
-    let one = each_issued-at past (is_used_alike x) y.place y each i.there in
-    same_test-at _ _ (implies-at (is_on y x.addr) _ one (subst (λ b. is_on y b ≡ true) (sym (eqb-true x.addr l parts.1)) ny))
-
--- the transactions of a line are all NoSnoop, or none is
-pub alike : (h : Header) (past : Trace) → IsAccepted h past → (l : ℕ) (x y : Transaction) → IsIssued past x → IsIssued past y → is_on x l ≡ true → is_on y l ≡ true
-    → is_no_snoop x ≡ is_no_snoop y
-alike h [] a l x y i j nx ny = let there = i.there in cc
-alike h (e ∷ past) a l x y i j nx ny =
-    elim (issued_cases e past x i) [
-      | inl new ↦ elim (issued_cases e past y j) [
-        | inl newer ↦ ap is_no_snoop (Some-injective x y (sym new ∙ newer))
-        | inr old ↦ used_alike h past e a l x y new old nx ny
-      ]
-      | inr old ↦ elim (issued_cases e past y j) [
-        | inl new ↦ sym (used_alike h past e a l y x new old ny nx)
-        | inr older ↦ alike h past a.0 l x y old older nx ny
-      ]
-    ]
-
--- A transaction of the line that isn't NoSnoop.
-pub record Snooping (past : Trace) (l : ℕ) : Type 0 where
-  pub one : Transaction
-  pub issued_one : IsIssued past one
-  pub on : is_on one l ≡ true
-  pub snoops : is_no_snoop one ≡ false
-
--- a ReadNoSnoop ends with nothing
-no_snoop_ends : (k : ArKind) (shared pass failed : Bool) (st : LineState) → is_no_snoop_read k ≡ true → ends_read k I shared pass failed st ≡ true → is_invalid st ≡ true
-no_snoop_ends read.ReadNoSnoop false false failed I n e = refl
-no_snoop_ends read.ReadNoSnoop shared pass failed st n e = cc
-no_snoop_ends k shared pass failed st n e = cc
-
 pub read_writes_none : (x : Transaction) (k : ArKind) → read_kind x ≡ Some k → (write_kind x ≡ None) × (is_read x.chan ≡ true)
 read_writes_none x k kind =
     elim (cases_Bool (is_read x.chan)) [
       | inl t ↦ (rw t refl, t)
       | inr f ↦ let none : read_kind x ≡ None = rw f refl in cc
-    ]
-
-no_snoop_read : (x : Transaction) (k : ArKind) → read_kind x ≡ Some k → is_no_snoop_read k ≡ false → is_no_snoop x ≡ false
-no_snoop_read x k kind f = let none = (read_writes_none x k kind).0 in rw (kind, none) (rw f refl)
-
--- what a port holds comes by such a transaction
-held_by_rk : (h : Header) (past : Trace) (q : ℕ) (st : LineState) (p l : ℕ) → IsAccepted h (Rk q st ∷ past) → is_named_by_rk past q p l ≡ true
-    → (state_of h (Rk q st ∷ past) p l ≡ I → ⊥) → state_of h past p l ≡ I → Snooping (Rk q st ∷ past) l
-held_by_rk h past q st p l a t held gone =
-    let r = read_ends h past q st a p l t in
-    let s = transaction_of-stands past p Read r.id r.one r.named in
-    let after : state_of h (Rk q st ∷ past) p l ≡ st = rw t refl in
-    let o = first_resp past p r.id in
-    record {
-      one = r.one;
-      issued_one = issued-old (Rk q st) past r.one (record { there = s.there; before = s.before });
-      on = r.on;
-      snoops = elim (cases_Bool (is_no_snoop_read r.kind)) [
-        | inr f ↦ no_snoop_read r.one r.kind r.is_kind f
-        | inl n ↦
-            let ended : ends_read r.kind I (is_some_and o is_shared) (is_some_and o passes_dirty) (has_failed past r.one) st ≡ true =
-            subst (λ v. ends_read r.kind v (is_some_and o is_shared) (is_some_and o passes_dirty) (has_failed past r.one) st ≡ true) gone r.state in
-            let nothing = is_invalid-is st (no_snoop_ends r.kind (is_some_and o is_shared) (is_some_and o passes_dirty) (has_failed past r.one) st n ended) in
-            absurd (held (after ∙ nothing))
-      ];
-    }
-
-pub held_by : (h : Header) (past : Trace) → IsAccepted h past → (p l : ℕ) → (state_of h past p l ≡ I → ⊥) → Snooping past l
-held_by h [] a p l held = absurd (held refl)
-held_by h (e ∷ past) a p l held =
-    elim (cases_Bool (is_invalid (state_of h past p l))) [
-      | inr was ↦
-          let s = held_by h past a.0 p l (λ gone. let bad : true ≡ false = sym (ap is_invalid gone) ∙ was in cc) in
-          record { one = s.one; issued_one = issued-old e past s.one s.issued_one; on = s.on; snoops = s.snoops }
-      | inl v ↦
-          let gone = is_invalid-is (state_of h past p l) v in
-          elim (state_moves h past e a p l) [
-            | inl less ↦ absurd (held (less.gone gone))
-            | inr up ↦
-                subst (λ d. Snooping (d ∷ past) l) (sym up.is)
-                (held_by_rk h past up.port up.st p l (subst (λ d. IsAccepted h (d ∷ past)) up.is a) up.named
-                (subst (λ d. state_of h (d ∷ past) p l ≡ I → ⊥) up.is held) gone)
-          ]
-    ]
-
--- no port holds a line of NoSnoop transactions
-pub no_snoop_empty : (h : Header) (past : Trace) → IsAccepted h past → (p l : ℕ) (x : Transaction) → IsIssued past x → is_on x l ≡ true → is_no_snoop x ≡ true
-    → state_of h past p l ≡ I
-no_snoop_empty h past a p l x i on quiet =
-    elim (cases_Bool (is_invalid (state_of h past p l))) [
-      | inl v ↦ is_invalid-is (state_of h past p l) v
-      | inr was ↦
-          let s = held_by h past a p l (λ gone. let bad : true ≡ false = sym (ap is_invalid gone) ∙ was in cc) in
-          let bad = sym quiet ∙ alike h past a l x s.one i s.issued_one on s.on ∙ s.snoops in cc
     ]
