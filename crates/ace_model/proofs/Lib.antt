@@ -8,6 +8,7 @@ pub mod CopiesTrue
 pub mod Forwarding
 pub mod GrantAnswers
 pub mod GrantStays
+pub mod GrantedOnes
 pub mod Growth
 pub mod HolderAcknowledge
 pub mod HolderAddress
