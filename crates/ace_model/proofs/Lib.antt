@@ -5,6 +5,7 @@ pub mod FirstBreak
 pub mod FetchesTrue
 pub mod FirstBegins
 pub mod CopiesTrue
+pub mod DirtMoves
 pub mod Forwarding
 pub mod GrantAnswers
 pub mod GrantStays
@@ -35,6 +36,7 @@ pub mod MergedLines
 pub mod MessageAnswered
 pub mod NoSnoopLines
 pub mod OrderPoints
+pub mod PassedTrue
 pub mod Places
 pub mod Points
 pub mod RepliesTrue

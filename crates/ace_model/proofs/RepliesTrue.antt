@@ -140,7 +140,7 @@ fetch_line read.ReadShared e = (refl, refl, refl)
 fetch_line read.ReadUnique e = (refl, refl, refl)
 fetch_line k e = cc
 
-dirty_valid : (st : LineState) → is_dirty st ≡ true → (st ≡ I → ⊥)
+pub dirty_valid : (st : LineState) → is_dirty st ≡ true → (st ≡ I → ⊥)
 dirty_valid I d e = cc
 dirty_valid st d e = let bad : is_dirty I ≡ true = subst (λ v. is_dirty v ≡ true) e d in cc
 
