@@ -32,6 +32,7 @@ pub mod LineOnce
 pub mod LineStores
 pub mod Looks
 pub mod MadeTrue
+pub mod MemoryWrites
 pub mod MergedLines
 pub mod MessageAnswered
 pub mod NoSnoopLines
@@ -50,8 +51,10 @@ pub mod SyncCompleted
 pub mod SyncLaw
 pub mod UniqueLaw
 pub mod UpdateHolds
+pub mod UpdatedTrue
 pub mod ValueFacts
 pub mod ValueStays
 pub mod WriteBursts
 pub mod WriteQueue
 pub mod WritesAlone
+pub mod WrittenTrue

@@ -226,7 +226,7 @@ stores_kind x s = by (write_kind x) refl s
     by None is t = cc
     by (Some k) is t = (k, is, t)
 
-stores_m : (h : Header) (past : Trace) (q : ℕ) (c : Channel) (j : ℕ) (line : Line) (l : ℕ) → IsAccepted h (M q c j line ∷ past) → (x : Transaction)
+pub stores_m : (h : Header) (past : Trace) (q : ℕ) (c : Channel) (j : ℕ) (line : Line) (l : ℕ) → IsAccepted h (M q c j line ∷ past) → (x : Transaction)
     → transaction_of past q c j ≡ Some x → (stores_data x && is_on x l) ≡ true → Writes h past q c j l
 stores_m h past q c j line l a x named t =
     let parts = and_parts (stores_data x) (is_on x l) t in
