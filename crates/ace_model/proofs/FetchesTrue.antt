@@ -110,7 +110,7 @@ transfer_moves past (R q j resp last word) p i other =
     ]
 transfer_moves past _ p i other = inl (refl, refl)
 
-issue_transfers : (past : Trace) (e : Event) (p i : ℕ) (x : Transaction) → issued (length past) e ≡ Some x → has_name x p Read i ≡ true → transfers (e ∷ past) p i ≡ 0
+pub issue_transfers : (past : Trace) (e : Event) (p i : ℕ) (x : Transaction) → issued (length past) e ≡ Some x → has_name x p Read i ≡ true → transfers (e ∷ past) p i ≡ 0
 issue_transfers past (Ar q j addr snoop dom bar lock) p i x new named =
     let same = Some-injective _ x new in
     rw (named_read past q j addr snoop dom bar lock p i true (subst (λ (y : Transaction). has_name y p Read i ≡ true) (sym same) named)) refl

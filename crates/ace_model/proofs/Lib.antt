@@ -6,6 +6,7 @@ pub mod FetchesTrue
 pub mod FirstBegins
 pub mod CopiesTrue
 pub mod DirtMoves
+pub mod DirtyLaw
 pub mod Forwarding
 pub mod GrantAnswers
 pub mod GrantStays
@@ -37,6 +38,7 @@ pub mod MergedLines
 pub mod MessageAnswered
 pub mod NoSnoopLines
 pub mod OrderPoints
+pub mod PassedFirst
 pub mod PassedTrue
 pub mod Places
 pub mod Points
@@ -53,6 +55,7 @@ pub mod UniqueLaw
 pub mod UpdateHolds
 pub mod UpdatedTrue
 pub mod ValueFacts
+pub mod ValueSafe
 pub mod ValueStays
 pub mod WriteBursts
 pub mod WriteQueue

@@ -1,6 +1,8 @@
 //! Laws of the definitions. These functions do no work: what they promise is the law.
 
 ghost use Rattle.std.specs.Prelude.{◌≡◌, ◌↔◌, List, reverse, None, Some};
+ghost use Rattle.std.specs.List.{AllByRecursion};
+ghost use Rattle.ace_event.specs.Range.{InRange};
 ghost use Rattle.ace_event.specs.declared.event.Event.{Event};
 ghost use Rattle.ace_event.specs.declared.header.Header.{Header};
 ghost use Rattle.ace_model.specs.declared.breaks.Break.{Break};
@@ -10,6 +12,7 @@ ghost use Rattle.ace_model.specs.Today.{rules_today};
 ghost use Rattle.ace_model.specs.Unique.{Unique, OneDirty};
 ghost use Rattle.ace_model.specs.BarrierHolds.{BarrierHolds};
 ghost use Rattle.ace_model.specs.DvmHolds.{DvmHolds};
+ghost use Rattle.ace_model.specs.DirtyPlace.{DirtyPlace};
 
 /// By rules in order, the break that `first_break_by` computes is the first break of the events. By any rules, where it
 /// computes none, the trace is accepted.
@@ -49,4 +52,9 @@ pub fn barriers_order()
 /// answered it and all that its port sent before it, and has issued a DVM Complete after that answer.
 pub fn a_sync_waits_for_all()
     ensures { (h : Header) (past : Trace) → IsAccepted h past → DvmHolds h past }
+{}
+
+/// Data newer than memory have a place, in every accepted trace whose events are in range: every valid copy is the line's value, and memory is the value unless a port holds the line dirty, the data are passed on under the grant, or the granted transaction replaces the whole line.
+pub fn dirty_data_have_a_place()
+    ensures { (h : Header) (past : Trace) → IsAccepted h past → AllByRecursion InRange past → DirtyPlace h past }
 {}
