@@ -7,10 +7,10 @@ use Rattle.ace_codes.specs.declared.kind.ArKind.TheVariants as read
 use Rattle.ace_codes.specs.declared.kind.AwKind.{AwKind}
 use Rattle.ace_codes.specs.declared.kind.AwKind.TheVariants as write
 use Rattle.ace_codes.specs.declared.state.LineState.{LineState}
-use Rattle.ace_codes.specs.declared.state.LineState.TheVariants.{I, UC, UD, SC, SD}
+use Rattle.ace_codes.specs.declared.state.LineState.TheVariants.{I, UC, SC, SD}
 use Rattle.ace_codes.specs.Responses.{passes_dirty, is_shared}
 use Rattle.ace_event.specs.declared.event.Channel.{Channel}
-use Rattle.ace_event.specs.declared.event.Channel.TheVariants.{Read, Write}
+use Rattle.ace_event.specs.declared.event.Channel.TheVariants.{Write}
 use Rattle.ace_event.specs.declared.event.Event.{Event}
 use Rattle.ace_event.specs.declared.event.Event.TheVariants.{Rk, Wk, Cr, S, D}
 use Rattle.ace_event.specs.declared.header.Header.{Header}
@@ -20,7 +20,7 @@ use Rattle.ace_tables.specs.States.{is_invalid, is_dirty}
 use Rattle.ace_model.specs.declared.transactions.Transaction.{Transaction}
 use Rattle.ace_model.specs.Trace.{Trace, is_some_and}
 use Rattle.ace_model.specs.Kinds.{is_line_read, is_line_write, is_granted_write, has_write_data}
-use Rattle.ace_model.specs.Transactions.{is_read, is_line, is_on, is_some_on, read_kind, write_kind, outstanding, acknowledged, first_resp}
+use Rattle.ace_model.specs.Transactions.{is_line, is_on, is_some_on, read_kind, write_kind, outstanding, acknowledged, first_resp}
 use Rattle.ace_model.specs.Progress.{has_update}
 use Rattle.ace_model.specs.Writes.{has_memory_write}
 use Rattle.ace_model.specs.Snoops.{answers_line}

@@ -1,29 +1,27 @@
 -- Data newer than memory have a place, at every point of an accepted trace.
-use Rattle.std.proofs.Common.{◌≡◌, ◌≢◌, ◌⊎◌, ℕ, Bool, true, false, not, ◌&&◌, ◌||◌, nat_eq, [], ◌∷◌, length, Option, Some, None, option_and_then, refl, sym, ap, subst, ◌∙◌, inl, inr}
+use Rattle.std.proofs.Common.{◌≡◌, ℕ, true, false, nat_eq, [], ◌∷◌, Option, Some, None, option_and_then, refl, sym, ap, subst, ◌∙◌, inl, inr}
 use Rattle.std.proofs.lemmas.Bool.{and_parts, or_left, cases_Bool, eqb-true}
 use Rattle.std.specs.List.{AllByRecursion}
-use Rattle.ace_codes.specs.declared.kind.ArKind.TheVariants as read
-use Rattle.ace_codes.specs.declared.state.LineState.TheVariants.{I}
 use Rattle.ace_event.specs.Range.{InRange}
 use Rattle.ace_event.specs.declared.event.Channel.{Channel}
 use Rattle.ace_event.specs.declared.event.Event.{Event}
-use Rattle.ace_event.specs.declared.event.Event.TheVariants.{Cr, M, D}
+use Rattle.ace_event.specs.declared.event.Event.TheVariants.{M, D}
 use Rattle.ace_event.specs.declared.header.Header.{Header}
 use Rattle.ace_event.specs.declared.line.Line.{Line}
 use Rattle.ace_tables.specs.States.{is_dirty}
 use Rattle.ace_model.specs.declared.transactions.Transaction.{Transaction}
-use Rattle.ace_model.specs.Trace.{Trace, is_some_and, AtEveryPoint}
+use Rattle.ace_model.specs.Trace.{Trace, is_some_and}
 use Rattle.ace_model.specs.Kinds.{is_make_unique, is_write_line_unique}
-use Rattle.ace_model.specs.Transactions.{is_read, is_line, is_on, read_kind, write_kind, ended, outstanding}
+use Rattle.ace_model.specs.Transactions.{is_read, is_line, read_kind, write_kind, outstanding}
 use Rattle.ace_model.specs.Writes.{has_memory_write}
 use Rattle.ace_model.specs.Grants.{granted, has_passed_data}
 use Rattle.ace_model.specs.States.{state_of}
 use Rattle.ace_model.specs.Copies.{memory_of}
 use Rattle.ace_model.specs.Replies.{passed_to, passed_data}
 use Rattle.ace_model.specs.Values.{value_of}
-use Rattle.ace_model.specs.WriteRules.{k24, data_of, data_of_write, may_write_memory}
+use Rattle.ace_model.specs.WriteRules.{k24, data_of, may_write_memory}
 use Rattle.ace_model.specs.Accepted.{rule, IsAccepted}
-use Rattle.ace_model.specs.DirtyPlace.{replaces_line, IsValueSafe, AreCopiesTrue, DirtyPlace}
+use Rattle.ace_model.specs.DirtyPlace.{replaces_line, IsValueSafe, DirtyPlace}
 use Rattle.ace_model.proofs.Looks.{Some-injective, is_some_and-is, is_some_and-at, has_name-is}
 use Rattle.ace_model.proofs.Issued.{transaction_of-stands}
 use Rattle.ace_model.proofs.Kept.{accepted_keeps}
@@ -36,8 +34,8 @@ use Rattle.ace_model.proofs.CopiesTrue.{copies_step}
 use Rattle.ace_model.proofs.MadeTrue.{made_step}
 use Rattle.ace_model.proofs.ValueStays.{sent_step, updates_step}
 use Rattle.ace_model.proofs.RepliesTrue.{answer_kept}
-use Rattle.ace_model.proofs.GrantedOnes.{WritesNow, written_cases, has_passed, Passes, passes_of}
-use Rattle.ace_model.proofs.DirtMoves.{AnswersNow, dirt_moves}
+use Rattle.ace_model.proofs.GrantedOnes.{written_cases, has_passed, Passes, passes_of}
+use Rattle.ace_model.proofs.DirtMoves.{dirt_moves}
 use Rattle.ace_model.proofs.PassedTrue.{store_dirty, passed_true, passed_safe, passed_step}
 use Rattle.ace_model.proofs.MemoryWrites.{WritesLine, memory_now, memory_moves, writer, line_is, update_true, ByPassed}
 use Rattle.ace_model.proofs.WrittenTrue.{store_true, written_step}

@@ -1,20 +1,19 @@
 -- A granted transaction has had its G, which comes before its M; a port has passed on the data of a granted read that has had its M.
-use Rattle.std.proofs.Common.{◌≡◌, ◌≢◌, ◌⊎◌, ℕ, zero, suc, ◌<◌, Bool, true, false, not, if◌then◌else◌, ◌&&◌, ◌||◌, nat_eq, nat_lt, [], ◌∷◌, length, Option, Some, None, is_some, refl, sym, ap, subst, ◌∙◌, arith, inl, inr}
+use Rattle.std.proofs.Common.{◌≡◌, ◌⊎◌, ℕ, zero, suc, ◌<◌, Bool, true, false, not, ◌&&◌, ◌||◌, nat_eq, [], ◌∷◌, length, Option, Some, None, is_some, refl, sym, ap, subst, ◌∙◌, arith, inl, inr}
 use Rattle.std.proofs.lemmas.Bool.{and_parts, and_from, or_cases, or_left, or_right, not-true, not_from_false, cases_Bool, cases_eq, eqb-true, eq-eqb, ltb-true}
 use Rattle.ace_codes.specs.declared.kind.AwKind.{AwKind}
 use Rattle.ace_codes.specs.declared.kind.AwKind.TheVariants as write
 use Rattle.ace_codes.specs.Responses.{passes_dirty}
 use Rattle.ace_event.specs.declared.event.Channel.{Channel}
-use Rattle.ace_event.specs.declared.event.Channel.TheVariants.{Read, Write}
 use Rattle.ace_event.specs.declared.event.Event.{Event}
 use Rattle.ace_event.specs.declared.event.Event.TheVariants.{Ar, Aw, G, M}
 use Rattle.ace_event.specs.declared.header.Header.{Header}
 use Rattle.ace_event.specs.declared.line.Line.{Line}
 use Rattle.ace_model.specs.declared.snoops.Answer.{Answer}
 use Rattle.ace_model.specs.declared.transactions.Transaction.{Transaction}
-use Rattle.ace_model.specs.Trace.{Trace, is_some_and, is_none_or}
+use Rattle.ace_model.specs.Trace.{Trace, is_some_and}
 use Rattle.ace_model.specs.Kinds.{is_update, is_granted_write, is_line_read}
-use Rattle.ace_model.specs.Transactions.{is_read, is_line, is_on, is_named, read_kind, write_kind, same_channel, issued, ended, outstanding, without, takes_grant}
+use Rattle.ace_model.specs.Transactions.{is_read, is_line, is_named, read_kind, write_kind, same_channel, issued, ended, outstanding, without, takes_grant}
 use Rattle.ace_model.specs.Progress.{updates_memory}
 use Rattle.ace_model.specs.Writes.{is_memory_write, has_memory_write, is_burst_whole}
 use Rattle.ace_model.specs.Grants.{given, granted, is_granted, has_grant, answer_of, find_port, passes, passer, has_passed_data, gives_line}
@@ -26,7 +25,7 @@ use Rattle.ace_model.proofs.Issued.{same_place, outstanding-named, transaction_o
 use Rattle.ace_model.proofs.Kept.{accepted_keeps}
 use Rattle.ace_model.proofs.HolderFirst.{found_passes}
 use Rattle.ace_model.proofs.StateRises.{holders}
-use Rattle.ace_model.proofs.GrantStays.{issued_apart, gives_none, granted_before}
+use Rattle.ace_model.proofs.GrantStays.{issued_apart, granted_before}
 use Rattle.ace_model.proofs.FirstBegins.{then_of, else_of}
 use Rattle.ace_model.proofs.SnoopsPending.{answering, snoops}
 use Rattle.ace_model.proofs.SnoopAnswers.{answer_cases}

@@ -1,6 +1,6 @@
 -- What an M writes: passed data, the burst of an update, which is the value, or a store, which makes memory the value.
-use Rattle.std.proofs.Common.{◌≡◌, ◌≢◌, ◌⊎◌, ℕ, ◌<◌, ◌^◌, Bool, true, false, not, if◌then◌else◌, ◌&&◌, ◌||◌, nat_eq, [], ◌∷◌, length, Option, Some, None, option_map, unwrap_or, slice_get, refl, sym, ap, subst, ◌∙◌, inl, inr}
-use Rattle.std.proofs.lemmas.Bool.{and_parts, and_from, or_cases, or_left, or_right, cases_Bool, cases_eq, eqb-true, eq-eqb}
+use Rattle.std.proofs.Common.{◌≡◌, ◌⊎◌, ℕ, ◌<◌, ◌^◌, Bool, true, false, not, if◌then◌else◌, ◌||◌, nat_eq, [], ◌∷◌, length, Option, Some, None, option_map, slice_get, refl, sym, ap, subst, ◌∙◌, inl, inr}
+use Rattle.std.proofs.lemmas.Bool.{and_parts, and_from, or_right, cases_Bool, eqb-true}
 use Rattle.std.specs.List.{AllByRecursion}
 use Rattle.ace_codes.specs.declared.kind.AwKind.{AwKind}
 use Rattle.ace_codes.specs.declared.kind.AwKind.TheVariants as write
@@ -14,14 +14,14 @@ use Rattle.ace_event.specs.declared.line.Line.{Line}
 use Rattle.ace_model.specs.declared.transactions.Transaction.{Transaction}
 use Rattle.ace_model.specs.Trace.{Trace, implies, is_some_and, is_none_or}
 use Rattle.ace_model.specs.Kinds.{is_update, is_write_line_unique, has_write_data, is_granted_write, is_unique_write, is_no_snoop_write}
-use Rattle.ace_model.specs.Transactions.{is_read, is_line, is_on, is_some_on, read_kind, write_kind, issued, ended, outstanding, transaction_of}
+use Rattle.ace_model.specs.Transactions.{is_read, is_line, is_on, write_kind, issued, ended, outstanding, transaction_of}
 use Rattle.ace_model.specs.Progress.{updates_memory}
-use Rattle.ace_model.specs.Writes.{has_memory_write, is_burst_whole, next_write, next_write_beat}
+use Rattle.ace_model.specs.Writes.{is_burst_whole, next_write, next_write_beat}
 use Rattle.ace_model.specs.Grants.{granted, is_granted, has_passed_data}
-use Rattle.ace_model.specs.Copies.{memory_of, word_of, same_line}
-use Rattle.ace_model.specs.Values.{Beat, burst_of, burst_line, burst_strobe, stores_data, value_of}
+use Rattle.ace_model.specs.Copies.{memory_of, same_line}
+use Rattle.ace_model.specs.Values.{Beat, burst_of, burst_line, stores_data, value_of}
 use Rattle.ace_model.specs.SnoopRules.{k11, is_next_beat, fits_write, full_beat}
-use Rattle.ace_model.specs.WriteRules.{k24, k25, may_write_memory, data_of, data_of_write, has_data, is_write_due, is_update_due}
+use Rattle.ace_model.specs.WriteRules.{k24, k25, may_write_memory, data_of, data_of_write, has_data}
 use Rattle.ace_model.specs.Accepted.{rule, IsAccepted}
 use Rattle.ace_model.proofs.Looks.{Some-injective, is_some_and-is, is_some_and-at, is_none_or-at, implies-at, has_name-is, newest_named-cases, without-some}
 use Rattle.ace_model.proofs.Issued.{outstanding-named, transaction_of-stands}

@@ -1,6 +1,6 @@
 -- Passed data are the value of their line, or their port has stored since and holds the line dirty.
-use Rattle.std.proofs.Common.{◌≡◌, ◌≢◌, ◌⊎◌, ℕ, Bool, true, false, not, if◌then◌else◌, ◌&&◌, ◌||◌, nat_eq, [], ◌∷◌, length, Option, Some, None, option_and_then, option_map, refl, sym, ap, subst, ◌∙◌, inl, inr}
-use Rattle.std.proofs.lemmas.Bool.{and_parts, and_from, or_left, or_cases, cases_Bool, cases_eq, eqb-true, eq-eqb}
+use Rattle.std.proofs.Common.{◌≡◌, ◌⊎◌, ℕ, Bool, true, false, ◌&&◌, nat_eq, ◌∷◌, length, Option, Some, None, option_and_then, option_map, refl, sym, ap, subst, ◌∙◌, inl, inr}
+use Rattle.std.proofs.lemmas.Bool.{and_parts, and_from, or_left, cases_Bool, cases_eq, eqb-true, eq-eqb}
 use Rattle.ace_codes.specs.declared.kind.ArKind.{ArKind}
 use Rattle.ace_codes.specs.declared.kind.ArKind.TheVariants as read
 use Rattle.ace_codes.specs.declared.kind.SnoopKind.TheVariants as snoop
@@ -17,10 +17,10 @@ use Rattle.ace_model.specs.declared.snoops.Answer.{Answer}
 use Rattle.ace_model.specs.declared.transactions.Transaction.{Transaction}
 use Rattle.ace_model.specs.Trace.{Trace, at_point, is_some_and}
 use Rattle.ace_model.specs.Kinds.{is_make_unique}
-use Rattle.ace_model.specs.Transactions.{is_line, is_on, is_named, read_kind, write_kind, snoop_of, snoop_kind_of, same_channel, issued, transaction_of, has_outstanding_on, is_outstanding, is_outstanding_on, is_make_unique_on, is_complete}
+use Rattle.ace_model.specs.Transactions.{is_line, read_kind, write_kind, snoop_of, snoop_kind_of, transaction_of, has_outstanding_on, is_outstanding, is_outstanding_on, is_make_unique_on, is_complete}
 use Rattle.ace_model.specs.Writes.{is_memory_write, has_memory_write}
 use Rattle.ace_model.specs.Snoops.{data_answers}
-use Rattle.ace_model.specs.Grants.{gives_line, granted, answers_grant, answer_at, answer_of, passer, has_passed_data}
+use Rattle.ace_model.specs.Grants.{granted, answers_grant, answer_at, answer_of, passer, has_passed_data}
 use Rattle.ace_model.specs.States.{state_of, is_in_make_unique, awaits_store}
 use Rattle.ace_model.specs.Copies.{copy_of}
 use Rattle.ace_model.specs.Replies.{copy_at_answer, passed_to, passed_data}
@@ -35,7 +35,7 @@ use Rattle.ace_model.proofs.HolderStores.{some_issued-weaker}
 use Rattle.ace_model.proofs.StateRises.{holders}
 use Rattle.ace_model.proofs.GrantStays.{granted_before}
 use Rattle.ace_model.proofs.FirstBegins.{then_of}
-use Rattle.ace_model.proofs.SnoopRows.{is_make_invalid, sends_held}
+use Rattle.ace_model.proofs.SnoopRows.{is_make_invalid}
 use Rattle.ace_model.proofs.SnoopAnswers.{answer_cases}
 use Rattle.ace_model.proofs.GrantAnswers.{new_answer, others_settled, passed_kind}
 use Rattle.ace_model.proofs.LineStores.{value_moves}

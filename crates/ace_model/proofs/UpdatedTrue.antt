@@ -1,28 +1,23 @@
 -- Once the update of a dirty line has written memory, memory is the value, and no passed data are on their way.
-use Rattle.std.proofs.Common.{◌≡◌, ◌≢◌, ◌⊎◌, ℕ, Bool, true, false, not, ◌&&◌, nat_eq, ◌∷◌, length, Some, None, refl, sym, ap, subst, ◌∙◌, inl, inr}
+use Rattle.std.proofs.Common.{◌≡◌, ℕ, true, false, not, nat_eq, ◌∷◌, length, Some, None, refl, sym, ap, subst, ◌∙◌, inl, inr}
 use Rattle.std.proofs.lemmas.Bool.{and_parts, not-true, cases_Bool, eqb-true}
 use Rattle.std.specs.List.{AllByRecursion}
 use Rattle.ace_codes.specs.declared.kind.AwKind.{AwKind}
 use Rattle.ace_codes.specs.declared.kind.AwKind.TheVariants as write
-use Rattle.ace_codes.specs.declared.state.LineState.TheVariants.{I}
 use Rattle.ace_codes.specs.Responses.{passes_dirty}
 use Rattle.ace_event.specs.Range.{InRange}
 use Rattle.ace_event.specs.declared.event.Channel.TheVariants.{Write}
 use Rattle.ace_event.specs.declared.event.Event.{Event}
-use Rattle.ace_event.specs.declared.event.Event.TheVariants.{M}
 use Rattle.ace_event.specs.declared.header.Header.{Header}
-use Rattle.ace_tables.specs.States.{is_invalid, is_dirty}
+use Rattle.ace_tables.specs.States.{is_invalid}
 use Rattle.ace_model.specs.declared.snoops.Answer.{Answer}
 use Rattle.ace_model.specs.declared.transactions.Transaction.{Transaction}
-use Rattle.ace_model.specs.Trace.{Trace, is_some_and, is_none_or}
+use Rattle.ace_model.specs.Trace.{Trace, is_some_and}
 use Rattle.ace_model.specs.Kinds.{is_update}
-use Rattle.ace_model.specs.Transactions.{is_read, is_line, is_on, write_kind, issued, ended, outstanding}
+use Rattle.ace_model.specs.Transactions.{is_read, is_line, write_kind, issued, ended, outstanding}
 use Rattle.ace_model.specs.Progress.{updates_memory, has_update}
-use Rattle.ace_model.specs.Writes.{has_memory_write}
 use Rattle.ace_model.specs.Grants.{granted, has_passed_data}
 use Rattle.ace_model.specs.States.{state_of}
-use Rattle.ace_model.specs.Copies.{memory_of}
-use Rattle.ace_model.specs.Values.{value_of}
 use Rattle.ace_model.specs.Accepted.{IsAccepted}
 use Rattle.ace_model.proofs.Looks.{Some-injective, is_some_and-is, is_none_or-at, has_name-is, newest_named-cases, without-some}
 use Rattle.ace_model.proofs.Issued.{outstanding-named, transaction_of-stands}
@@ -33,7 +28,6 @@ use Rattle.ace_model.proofs.SnoopRows.{beside_update}
 use Rattle.ace_model.proofs.SnoopAnswers.{NewAnswer, answer_cases}
 use Rattle.ace_model.proofs.GrantAnswers.{new_answer}
 use Rattle.ace_model.proofs.UpdateHolds.{is_dirty_update, update_found, keeps}
-use Rattle.ace_model.proofs.LineStores.{Writes}
 use Rattle.ace_model.proofs.WritesAlone.{all_empty}
 use Rattle.ace_model.proofs.ValueStays.{value_updating}
 use Rattle.ace_model.proofs.GrantedOnes.{new_unwritten, unwritten_before, written_cases, has_passed, Passes, passes_of, passes_data, granted_given, updates_ungranted}

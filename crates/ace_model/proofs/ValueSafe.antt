@@ -1,7 +1,6 @@
 -- The value of a line is in memory, dirty at a port, passed on, or to be replaced whole.
-use Rattle.std.proofs.Common.{◌≡◌, ◌≢◌, ◌⊎◌, ℕ, Bool, true, false, not, if◌then◌else◌, ◌&&◌, ◌||◌, nat_eq, [], ◌∷◌, length, Option, Some, None, option_and_then, refl, sym, ap, subst, ◌∙◌, inl, inr}
-use Rattle.std.proofs.lemmas.Bool.{and_parts, and_from, or_cases, or_left, or_right, cases_Bool, cases_eq, eqb-true, eq-eqb}
-use Rattle.std.specs.List.{AllByRecursion}
+use Rattle.std.proofs.Common.{◌≡◌, ◌⊎◌, ℕ, true, false, ◌&&◌, ◌||◌, nat_eq, ◌∷◌, length, Option, Some, None, refl, sym, ap, subst, ◌∙◌, inl, inr}
+use Rattle.std.proofs.lemmas.Bool.{and_parts, and_from, or_cases, or_left, or_right, cases_Bool, cases_eq, eq-eqb}
 use Rattle.ace_codes.specs.declared.kind.ArKind.{ArKind}
 use Rattle.ace_codes.specs.declared.kind.ArKind.TheVariants as read
 use Rattle.ace_codes.specs.declared.kind.AwKind.{AwKind}
@@ -10,13 +9,10 @@ use Rattle.ace_codes.specs.declared.kind.SnoopKind.{SnoopKind}
 use Rattle.ace_codes.specs.declared.state.LineState.{LineState}
 use Rattle.ace_codes.specs.declared.state.LineState.TheVariants.{I, UC, UD, SC, SD}
 use Rattle.ace_codes.specs.Responses.{passes_dirty, is_shared}
-use Rattle.ace_event.specs.Range.{InRange}
-use Rattle.ace_event.specs.declared.event.Channel.{Channel}
 use Rattle.ace_event.specs.declared.event.Channel.TheVariants.{Read, Write}
 use Rattle.ace_event.specs.declared.event.Event.{Event}
-use Rattle.ace_event.specs.declared.event.Event.TheVariants.{R, Rk, B, Wk, Cr, M, D}
+use Rattle.ace_event.specs.declared.event.Event.TheVariants.{R, Rk, B, Wk, Cr}
 use Rattle.ace_event.specs.declared.header.Header.{Header}
-use Rattle.ace_event.specs.declared.line.Line.{Line}
 use Rattle.ace_tables.specs.EndStates.{ends_read}
 use Rattle.ace_tables.specs.SnoopKinds.{snoop_of_read, snoop_of_write}
 use Rattle.ace_tables.specs.States.{is_dirty}
@@ -24,43 +20,37 @@ use Rattle.ace_model.specs.declared.snoops.Answer.{Answer}
 use Rattle.ace_model.specs.declared.transactions.Transaction.{Transaction}
 use Rattle.ace_model.specs.Trace.{Trace, implies, is_some_and, is_none_or}
 use Rattle.ace_model.specs.Kinds.{is_make_unique, is_write_line_unique, is_granted_write, has_write_data}
-use Rattle.ace_model.specs.Transactions.{is_ace, is_read, is_line, is_on, is_some_on, read_kind, write_kind, snoop_of, snoop_kind_of, ended, outstanding, acknowledged, transaction_of, first_resp}
+use Rattle.ace_model.specs.Transactions.{is_ace, is_read, is_line, is_on, is_some_on, read_kind, write_kind, snoop_of, snoop_kind_of, ended, outstanding, acknowledged, first_resp}
 use Rattle.ace_model.specs.Writes.{has_memory_write}
 use Rattle.ace_model.specs.Snoops.{data_answers}
-use Rattle.ace_model.specs.Grants.{granted, answers_grant, answer_of, passer, has_passed_data}
+use Rattle.ace_model.specs.Grants.{granted, answers_grant, answer_of, has_passed_data}
 use Rattle.ace_model.specs.Exclusives.{has_failed}
 use Rattle.ace_model.specs.States.{state_of}
 use Rattle.ace_model.specs.Copies.{memory_of}
-use Rattle.ace_model.specs.Replies.{passed_to, passed_data}
 use Rattle.ace_model.specs.Values.{value_of}
-use Rattle.ace_model.specs.ReadRules.{k19, may_transfer, has_upper_bits, fits_kind, same_upper_bits}
-use Rattle.ace_model.specs.WriteRules.{k24, data_of, data_of_write, may_write_memory}
+use Rattle.ace_model.specs.ReadRules.{k19, may_transfer, has_upper_bits, fits_kind}
 use Rattle.ace_model.specs.Accepted.{rule, IsAccepted}
-use Rattle.ace_model.specs.DirtyPlace.{replaces_line, HasDirtyHolder, IsValueSafe}
-use Rattle.ace_model.proofs.Looks.{Some-injective, is_some_and-is, is_some_and-at, is_none_or-at, implies-at, has_name-is}
-use Rattle.ace_model.proofs.Issued.{same_place, outstanding-named, transaction_of-stands}
+use Rattle.ace_model.specs.DirtyPlace.{replaces_line, IsValueSafe}
+use Rattle.ace_model.proofs.Looks.{Some-injective, is_none_or-at, implies-at}
+use Rattle.ace_model.proofs.Issued.{same_place, outstanding-named}
 use Rattle.ace_model.proofs.Kept.{accepted_keeps}
 use Rattle.ace_model.proofs.HolderTables.{is_settled}
 use Rattle.ace_model.proofs.HolderEnds.{acknowledged_is}
 use Rattle.ace_model.proofs.HolderTransfer.{ends_lite}
 use Rattle.ace_model.proofs.HolderAcknowledge.{is_named_by_rk}
 use Rattle.ace_model.proofs.StateRises.{holders}
-use Rattle.ace_model.proofs.GrantStays.{Stays, granted_after}
-use Rattle.ace_model.proofs.FirstBegins.{may_of, line_transfer, then_of}
+use Rattle.ace_model.proofs.FirstBegins.{may_of, line_transfer}
 use Rattle.ace_model.proofs.WriteQueue.{EndsWrite, ends_write_of, ends_lite_written}
 use Rattle.ace_model.proofs.SnoopRows.{is_make_invalid, dirty_stays}
 use Rattle.ace_model.proofs.SnoopAnswers.{Answering}
 use Rattle.ace_model.proofs.GrantAnswers.{others_settled}
-use Rattle.ace_model.proofs.LineStores.{Writes, full_some, value_moves}
+use Rattle.ace_model.proofs.LineStores.{full_some}
 use Rattle.ace_model.proofs.NoSnoopLines.{ReadEnds, read_ends, read_writes_none}
-use Rattle.ace_model.proofs.FetchesTrue.{ace_read, value-length}
-use Rattle.ace_model.proofs.RepliesTrue.{answer_kept}
-use Rattle.ace_model.proofs.GrantedOnes.{written_cases, has_passed, Passes, passes_of, granted_given, granted_write, written_passed}
-use Rattle.ace_model.proofs.DirtMoves.{AnswersNow, dirt_moves, passed_dirty, made_dirty}
-use Rattle.ace_model.proofs.PassedTrue.{store_dirty, passed_true, passed_safe, passed_step}
+use Rattle.ace_model.proofs.FetchesTrue.{ace_read}
+use Rattle.ace_model.proofs.GrantedOnes.{granted_given, granted_write, written_passed}
+use Rattle.ace_model.proofs.DirtMoves.{passed_dirty, made_dirty}
+use Rattle.ace_model.proofs.PassedTrue.{passed_safe, passed_step}
 use Rattle.ace_model.proofs.PassedFirst.{first_passes}
-use Rattle.ace_model.proofs.MemoryWrites.{WritesLine, memory_now, memory_moves, writer, line_is, update_true, ByPassed}
-use Rattle.ace_model.proofs.WrittenTrue.{store_true}
 use Rattle.ace_model.proofs.ValueFacts.{WrittenTrue, Facts}
 
 -- The read of a granted line that an RK ends.

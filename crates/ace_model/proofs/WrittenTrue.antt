@@ -1,11 +1,10 @@
 -- Once a granted write has written memory, memory is the value and no port holds the line.
-use Rattle.std.proofs.Common.{◌≡◌, ◌≢◌, ◌⊎◌, ℕ, ◌+◌, ◌*◌, Bool, true, false, not, if◌then◌else◌, ◌&&◌, ◌||◌, nat_eq, [], ◌∷◌, length, Option, Some, None, option_map, unwrap_or, option_and_then, slice_get, refl, sym, ap, subst, ◌∙◌, inl, inr}
-use Rattle.std.proofs.lemmas.Bool.{and_parts, and_from, or_cases, or_left, or_right, cases_Bool, cases_eq, eqb-true, eq-eqb}
+use Rattle.std.proofs.Common.{◌≡◌, ℕ, ◌+◌, ◌*◌, Bool, true, false, if◌then◌else◌, ◌||◌, nat_eq, [], ◌∷◌, length, Option, Some, None, option_map, unwrap_or, option_and_then, slice_get, refl, sym, ap, subst, ◌∙◌, inl, inr}
+use Rattle.std.proofs.lemmas.Bool.{and_parts, and_from, cases_Bool, eqb-true}
 use Rattle.std.specs.List.{AllByRecursion}
 use Rattle.ace_codes.specs.declared.kind.ArKind.TheVariants as read
 use Rattle.ace_codes.specs.declared.kind.AwKind.{AwKind}
 use Rattle.ace_codes.specs.declared.kind.AwKind.TheVariants as write
-use Rattle.ace_codes.specs.declared.state.LineState.{LineState}
 use Rattle.ace_codes.specs.declared.state.LineState.TheVariants.{I}
 use Rattle.ace_event.specs.Range.{InRange}
 use Rattle.ace_event.specs.declared.event.Channel.{Channel}
@@ -15,11 +14,10 @@ use Rattle.ace_event.specs.declared.event.Event.TheVariants.{M}
 use Rattle.ace_event.specs.declared.header.Header.{Header}
 use Rattle.ace_event.specs.declared.line.Line.{Line}
 use Rattle.ace_event.specs.Bytes.{merged}
-use Rattle.ace_tables.specs.States.{is_invalid, is_unique, is_dirty}
 use Rattle.ace_model.specs.declared.transactions.Transaction.{Transaction}
 use Rattle.ace_model.specs.Trace.{Trace, is_some_and}
-use Rattle.ace_model.specs.Kinds.{is_write_line_unique, has_write_data, is_unique_write, is_no_snoop_write, is_make_unique}
-use Rattle.ace_model.specs.Transactions.{is_read, is_line, is_on, read_kind, write_kind, snoop_of, snoop_kind_of, outstanding}
+use Rattle.ace_model.specs.Kinds.{is_write_line_unique, has_write_data, is_unique_write, is_no_snoop_write}
+use Rattle.ace_model.specs.Transactions.{is_read, is_line, read_kind, write_kind, snoop_of, snoop_kind_of, outstanding}
 use Rattle.ace_model.specs.Writes.{has_memory_write}
 use Rattle.ace_model.specs.Grants.{granted, has_passed_data}
 use Rattle.ace_model.specs.States.{state_of}
@@ -30,14 +28,13 @@ use Rattle.ace_model.specs.SnoopRules.{full_beat}
 use Rattle.ace_model.specs.CacheRules.{full_line}
 use Rattle.ace_model.specs.WriteRules.{data_of, data_of_write, burst_into}
 use Rattle.ace_model.specs.Accepted.{IsAccepted}
-use Rattle.ace_model.specs.DirtyPlace.{replaces_line, HasDirtyHolder, IsValueSafe}
-use Rattle.ace_model.proofs.Looks.{Some-injective, is_some_and-is, has_name-is}
+use Rattle.ace_model.specs.DirtyPlace.{replaces_line, HasDirtyHolder}
+use Rattle.ace_model.proofs.Looks.{Some-injective, has_name-is}
 use Rattle.ace_model.proofs.Issued.{outstanding-named, transaction_of-stands}
 use Rattle.ace_model.proofs.StateRises.{holders, state_moves}
 use Rattle.ace_model.proofs.GrantStays.{granted_before}
 use Rattle.ace_model.proofs.SnoopAnswers.{no_rise}
 use Rattle.ace_model.proofs.GrantAnswers.{passed_kind}
-use Rattle.ace_model.proofs.UpdateHolds.{keeps}
 use Rattle.ace_model.proofs.MergedLines.{line_of, merged-length, merged-all}
 use Rattle.ace_model.proofs.WriteBursts.{four_beats}
 use Rattle.ace_model.proofs.LineStores.{Writes, stores_m, stores_kind, value_moves}

@@ -54,7 +54,9 @@ pub fn a_sync_waits_for_all()
     ensures { (h : Header) (past : Trace) → IsAccepted h past → DvmHolds h past }
 {}
 
-/// Data newer than memory have a place, in every accepted trace whose events are in range: every valid copy is the line's value, and memory is the value unless a port holds the line dirty, the data are passed on under the grant, or the granted transaction replaces the whole line.
+/// Data newer than memory have a place, in every accepted trace whose events are in range: every valid copy is the line's
+/// value, and memory is the value unless a port holds the line dirty, the data are passed on under the grant, or the granted
+/// transaction replaces the whole line.
 pub fn dirty_data_have_a_place()
     ensures { (h : Header) (past : Trace) → IsAccepted h past → AllByRecursion InRange past → DirtyPlace h past }
 {}
