@@ -1,6 +1,6 @@
--- A granted transaction has had its G, which comes before its M; a port has passed on the data of a granted read that has had its M.
-use Rattle.std.proofs.Common.{◌≡◌, ◌⊎◌, ℕ, zero, suc, ◌<◌, Bool, true, false, not, ◌&&◌, ◌||◌, nat_eq, [], ◌∷◌, length, Option, Some, None, is_some, refl, sym, ap, subst, ◌∙◌, arith, inl, inr}
-use Rattle.std.proofs.lemmas.Bool.{and_parts, and_from, or_cases, or_left, or_right, not-true, not_from_false, cases_Bool, cases_eq, eqb-true, eq-eqb, ltb-true}
+-- A granted transaction has had its G, which comes before its M.
+use Rattle.std.proofs.Common.{◌≡◌, ◌⊎◌, ℕ, true, false, not, ◌&&◌, ◌||◌, nat_eq, [], ◌∷◌, length, Option, Some, None, is_some, refl, sym, ap, subst, ◌∙◌, inl, inr}
+use Rattle.std.proofs.lemmas.Bool.{and_parts, or_cases, or_left, or_right, not-true, cases_Bool, eqb-true, eq-eqb}
 use Rattle.ace_codes.specs.declared.kind.AwKind.{AwKind}
 use Rattle.ace_codes.specs.declared.kind.AwKind.TheVariants as write
 use Rattle.ace_codes.specs.Responses.{passes_dirty}
@@ -13,10 +13,10 @@ use Rattle.ace_model.specs.declared.snoops.Answer.{Answer}
 use Rattle.ace_model.specs.declared.transactions.Transaction.{Transaction}
 use Rattle.ace_model.specs.Trace.{Trace, is_some_and}
 use Rattle.ace_model.specs.Kinds.{is_update, is_granted_write, is_line_read}
-use Rattle.ace_model.specs.Transactions.{is_read, is_line, is_named, read_kind, write_kind, same_channel, issued, ended, outstanding, without, takes_grant}
+use Rattle.ace_model.specs.Transactions.{is_read, is_named, read_kind, write_kind, same_channel, issued, ended, outstanding, without, takes_grant}
 use Rattle.ace_model.specs.Progress.{updates_memory}
 use Rattle.ace_model.specs.Writes.{is_memory_write, has_memory_write, is_burst_whole}
-use Rattle.ace_model.specs.Grants.{given, granted, is_granted, has_grant, answer_of, find_port, passes, passer, has_passed_data, gives_line}
+use Rattle.ace_model.specs.Grants.{given, granted, is_granted, has_grant, answer_of, passes, passer, has_passed_data, gives_line}
 use Rattle.ace_model.specs.SnoopRules.{k12, may_be_granted}
 use Rattle.ace_model.specs.WriteRules.{k24, may_write_memory, may_write_passed, may_write_data, is_write_due, is_update_due}
 use Rattle.ace_model.specs.Accepted.{rule, IsAccepted}
@@ -25,11 +25,8 @@ use Rattle.ace_model.proofs.Issued.{same_place, outstanding-named, transaction_o
 use Rattle.ace_model.proofs.Kept.{accepted_keeps}
 use Rattle.ace_model.proofs.HolderFirst.{found_passes}
 use Rattle.ace_model.proofs.StateRises.{holders}
-use Rattle.ace_model.proofs.GrantStays.{issued_apart, granted_before}
+use Rattle.ace_model.proofs.GrantStays.{issued_apart}
 use Rattle.ace_model.proofs.FirstBegins.{then_of, else_of}
-use Rattle.ace_model.proofs.SnoopsPending.{answering, snoops}
-use Rattle.ace_model.proofs.SnoopAnswers.{answer_cases}
-use Rattle.ace_model.proofs.RepliesTrue.{answer_kept}
 
 -- an event gives no other transaction the name of an outstanding one
 pub not_named : (h : Header) (past : Trace) (e : Event) → IsAccepted h (e ∷ past) → (p : ℕ) (c : Channel) (i : ℕ) (x : Transaction)
@@ -265,64 +262,3 @@ given_unwritten h past e a l x g gives m =
         let had = written_given h past a.0 x.port x.chan x.id x own two.0 m in
         let none = not-true (has_grant past x.port x.chan x.id) two.1 in cc
     by d a n m = cc
-
--- A port that answered with PassDirty under the grant.
-pub record PassedBy (past : Trace) (l : ℕ) : Type 0 where
-  pub port : ℕ
-  pub answer : Answer
-  pub is : answer_of past port l ≡ Some answer
-  pub dirty : passes_dirty answer.resp ≡ true
-
--- a granted read that has had its M has one
-pub written_passed : (h : Header) (past : Trace) → IsAccepted h past → (l : ℕ) (x : Transaction) → granted h past l ≡ Some x → is_read x.chan ≡ true
-    → has_memory_write past x.port x.chan x.id ≡ true → PassedBy past l
-written_passed h [] a l x g reads m = cc
-written_passed h (e ∷ past) a l x g reads m =
-    elim (granted_before h past e l x g) [
-      | inr gives ↦ absurd (given_unwritten h past e a l x g gives m)
-      | inl stays ↦
-          let o = (holders h past a.0).grants l x stays.was in
-          let before : PassedBy past l = elim (written_cases h past e a x.port x.chan x.id x o.0 m) [
-            | inl now ↦
-                let w = passes_of h past x.addr (has_passed h past x (passed_may h past x now.may reads)).some in
-                let addr = eqb-true x.addr l (and_parts (is_line x) (nat_eq x.addr l) o.1).1 in
-                record { port = w.port; answer = w.answer; is = ap (answer_of past w.port) (sym addr) ∙ w.is; dirty = w.dirty }
-            | inr earlier ↦ written_passed h past a.0 l x stays.was reads earlier
-          ] in
-          record { port = before.port; answer = before.answer; is = answer_kept h past a.0 e before.port l before.answer stays.gives before.is; dirty = before.dirty }
-    ]
-
--- a port that has answered is a port of the header
-pub answered_low : (h : Header) (past : Trace) → IsAccepted h past → (r l : ℕ) (w : Answer) → answer_of past r l ≡ Some w → r < h.ports
-answered_low h [] a r l w is = cc
-answered_low h (e ∷ past) a r l w is =
-    elim (cases_Bool (gives_line past e l)) [
-      | inl t ↦ let none : None ≡ Some w = rw t at is in cc
-      | inr f ↦ elim (answer_cases past e r l w f is) [
-        | inl old ↦ answered_low h past a.0 r l w old
-        | inr new ↦
-            let s = answering past r r l (and_from _ _ (eq-eqb r r refl) new.under) in
-            ltb-true r h.ports ((snoops h past a.0).pending r _ l s.0 s.1).within
-      ]
-    ]
-
-found_some : (n : ℕ) (test : ℕ → Bool) (r : ℕ) → test r ≡ true → r < n → is_some (find_port n test) ≡ true
-found_some zero test r t l = absurd (omega arith)
-found_some (suc n) test r t l =
-    elim (cases_Bool (test n)) [
-      | inl y ↦ rw y refl
-      | inr f ↦ elim (cases_eq r n) [
-        | inl same ↦ let bad : false ≡ true = sym f ∙ ap test (sym same) ∙ t in cc
-        | inr apart ↦ rw f (found_some n test r t (omega arith))
-      ]
-    ]
-
--- until its M, the granted transaction has the data that a port has passed on
-pub passes_data : (h : Header) (past : Trace) → IsAccepted h past → (l r : ℕ) (x : Transaction) (w : Answer) → granted h past l ≡ Some x
-    → has_memory_write past x.port x.chan x.id ≡ false → answer_of past r l ≡ Some w → passes_dirty w.resp ≡ true → has_passed_data h past x ≡ true
-passes_data h past a l r x w g none is dirty =
-    let o = (holders h past a).grants l x g in
-    let addr = eqb-true x.addr l (and_parts (is_line x) (nat_eq x.addr l) o.1).1 in
-    let here : passes past l r ≡ true = rw is dirty in
-    let some : is_some (passer h past x.addr) ≡ true = ap (λ v. is_some (passer h past v)) addr ∙ found_some h.ports (passes past l) r here (answered_low h past a r l w is) in
-    and_from _ _ (and_from _ _ (granted_is h past l x g addr) some) (not_from_false (has_memory_write past x.port x.chan x.id) none)

@@ -38,6 +38,7 @@ pub mod MergedLines
 pub mod MessageAnswered
 pub mod NoSnoopLines
 pub mod OrderPoints
+pub mod PassedData
 pub mod PassedFirst
 pub mod PassedTrue
 pub mod Places

@@ -22,7 +22,8 @@ use Rattle.ace_model.proofs.FirstBegins.{may_of, line_transfer}
 use Rattle.ace_model.proofs.SnoopAnswers.{NewAnswer, answer_cases}
 use Rattle.ace_model.proofs.GrantAnswers.{new_answer}
 use Rattle.ace_model.proofs.FetchesTrue.{issue_transfers}
-use Rattle.ace_model.proofs.GrantedOnes.{granted_at, unwritten_before, has_passed, passes_of, passes_data}
+use Rattle.ace_model.proofs.GrantedOnes.{granted_at, unwritten_before, has_passed, passes_of}
+use Rattle.ace_model.proofs.PassedData.{passes_data}
 
 -- The event is a transfer under the name.
 record Transfer (e : Event) (p i : ℕ) : Type 0 where

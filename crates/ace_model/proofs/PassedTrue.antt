@@ -41,7 +41,8 @@ use Rattle.ace_model.proofs.GrantAnswers.{new_answer, others_settled, passed_kin
 use Rattle.ace_model.proofs.LineStores.{value_moves}
 use Rattle.ace_model.proofs.ValueStays.{may_unique, may_free, copy_at-old, copy_at-new, value_cr}
 use Rattle.ace_model.proofs.RepliesTrue.{answered_once, dirty_valid}
-use Rattle.ace_model.proofs.GrantedOnes.{unwritten_before, has_passed, Passes, passes_of, passes_data}
+use Rattle.ace_model.proofs.GrantedOnes.{unwritten_before, has_passed, Passes, passes_of}
+use Rattle.ace_model.proofs.PassedData.{passes_data}
 use Rattle.ace_model.proofs.DirtMoves.{dirt_moves}
 use Rattle.ace_model.proofs.ValueFacts.{PassedTrue, Facts}
 

@@ -30,7 +30,8 @@ use Rattle.ace_model.proofs.GrantAnswers.{new_answer}
 use Rattle.ace_model.proofs.UpdateHolds.{is_dirty_update, update_found, keeps}
 use Rattle.ace_model.proofs.WritesAlone.{all_empty}
 use Rattle.ace_model.proofs.ValueStays.{value_updating}
-use Rattle.ace_model.proofs.GrantedOnes.{new_unwritten, unwritten_before, written_cases, has_passed, Passes, passes_of, passes_data, granted_given, updates_ungranted}
+use Rattle.ace_model.proofs.GrantedOnes.{new_unwritten, unwritten_before, written_cases, has_passed, Passes, passes_of, granted_given, updates_ungranted}
+use Rattle.ace_model.proofs.PassedData.{passes_data}
 use Rattle.ace_model.proofs.MemoryWrites.{WritesLine, memory_moves, writer, update_true}
 use Rattle.ace_model.proofs.ValueFacts.{Updated, UpdatedTrue, Facts}
 

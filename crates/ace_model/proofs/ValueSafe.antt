@@ -47,7 +47,8 @@ use Rattle.ace_model.proofs.GrantAnswers.{others_settled}
 use Rattle.ace_model.proofs.LineStores.{full_some}
 use Rattle.ace_model.proofs.NoSnoopLines.{ReadEnds, read_ends, read_writes_none}
 use Rattle.ace_model.proofs.FetchesTrue.{ace_read}
-use Rattle.ace_model.proofs.GrantedOnes.{granted_given, granted_write, written_passed}
+use Rattle.ace_model.proofs.GrantedOnes.{granted_given, granted_write}
+use Rattle.ace_model.proofs.PassedData.{written_passed}
 use Rattle.ace_model.proofs.DirtMoves.{passed_dirty, made_dirty}
 use Rattle.ace_model.proofs.PassedTrue.{passed_safe, passed_step}
 use Rattle.ace_model.proofs.PassedFirst.{first_passes}
