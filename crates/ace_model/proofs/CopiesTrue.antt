@@ -28,13 +28,14 @@ use Rattle.ace_model.specs.DirtyPlace.{AreCopiesTrue}
 use Rattle.ace_model.proofs.Looks.{is_some_and-is, is_invalid-is}
 use Rattle.ace_model.proofs.HolderTables.{all_among}
 use Rattle.ace_model.proofs.HolderAcknowledge.{is_named_by_rk}
-use Rattle.ace_model.proofs.StateRises.{holders, state_moves, stays_empty}
+use Rattle.ace_model.proofs.StateRises.{state_moves, stays_empty}
 use Rattle.ace_model.proofs.FirstBegins.{may_of}
 use Rattle.ace_model.proofs.MergedLines.{merged-whole}
 use Rattle.ace_model.proofs.LineStores.{stores_d, value_moves, full_some}
 use Rattle.ace_model.proofs.LineReadEnds.{read_ends}
 use Rattle.ace_model.proofs.WritesAlone.{all_empty}
 use Rattle.ace_model.proofs.ValueFacts.{Facts}
+use Rattle.ace_model.proofs.HolderLaw.{accepted_holds}
 
 -- a port that held nothing ends a fetch or a MakeUnique, or holds nothing
 gains : (k : ArKind) (shared pass failed : Bool) → ((is_fetch k || is_make_unique k) || list_all is_invalid (end_states_of_read k I shared pass failed)) ≡ true
@@ -93,7 +94,7 @@ copies_d h past q l strobe b line a f p held =
           let apart : q ≡ p → ⊥ = λ same. let t = eq-eqb p q (sym same) in cc in
           let gone : state_of h past p l ≡ I =
           elim (stores_d h past q l strobe b line a) [
-            | inl may ↦ (holders h past a.0).unique l q p (and_parts (is_unique (state_of h past q l)) _ may).0 apart
+            | inl may ↦ (accepted_holds h past a.0).unique l q p (and_parts (is_unique (state_of h past q l)) _ may).0 apart
             | inr m ↦ m.alone p apart
           ] in
           let not_named : (nat_eq p q && nat_eq l l) ≡ false = rw other refl in

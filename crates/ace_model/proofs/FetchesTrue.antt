@@ -34,7 +34,6 @@ use Rattle.ace_model.proofs.HolderReadEnds.{takes_alone, takes_shared}
 use Rattle.ace_model.proofs.HolderAddress.{named_read}
 use Rattle.ace_model.proofs.HolderFacts.{Arrives}
 use Rattle.ace_model.proofs.LineOnce.{outstanding_found, one_on_line}
-use Rattle.ace_model.proofs.StateRises.{holders}
 use Rattle.ace_model.proofs.GrantStays.{gives_none}
 use Rattle.ace_model.proofs.FirstBegins.{may_of, line_transfer}
 use Rattle.ace_model.proofs.MergedLines.{merged-length, lines_by_words}
@@ -45,6 +44,7 @@ use Rattle.ace_model.proofs.ValueStays.{may_unique, may_free, value_stays, made_
 use Rattle.ace_model.proofs.RepliesTrue.{sender_before, reply_true, memory_true}
 use Rattle.ace_model.proofs.FollowFirst.{memory-before}
 use Rattle.ace_model.proofs.ValueFacts.{SentTrue, Fetches, FetchesTrue, Facts}
+use Rattle.ace_model.proofs.HolderLaw.{accepted_holds}
 
 -- only an ACE port issues what an ACE-Lite port may not
 pub ace_read : (h : Header) (past : Trace) → IsAccepted h past → (p i : ℕ) (x : Transaction) (k : ArKind) → outstanding h past p Read i ≡ Some x → read_kind x ≡ Some k
@@ -111,7 +111,7 @@ transfer_moves past (R q j resp last word) p i other =
     ]
 transfer_moves past _ p i other = inl (refl, refl)
 
-issue_transfers : (past : Trace) (e : Event) (p i : ℕ) (x : Transaction) → issued (length past) e ≡ Some x → has_name x p Read i ≡ true → transfers (e ∷ past) p i ≡ 0
+pub issue_transfers : (past : Trace) (e : Event) (p i : ℕ) (x : Transaction) → issued (length past) e ≡ Some x → has_name x p Read i ≡ true → transfers (e ∷ past) p i ≡ 0
 issue_transfers past (Ar q j addr snoop dom bar lock) p i x new named =
     let same = Some-injective _ x new in
     rw (named_read past q j addr snoop dom bar lock p i true (subst (λ (y : Transaction). has_name y p Read i ≡ true) (sym same) named)) refl
@@ -198,7 +198,7 @@ fetches_step h past e a f p i l x k o on kind fetch some =
     addr = eqb-true x.addr l line.1
 
     stands : (t : Trace) → IsAccepted h t → outstanding h t p Read i ≡ Some x → transfers t p i ≢ 0 → Arrives h t p i x
-    stands t b out n = (holders h t b).arrive p i x (ace_read h t b p i x k out kind tables.0) out line.0 n
+    stands t b out n = (accepted_holds h t b).arrive p i x (ace_read h t b p i x k out kind tables.0) out line.0 n
 
     waits : outstanding h past p Read i ≡ Some x → transfers (e ∷ past) p i ≡ transfers past p i → words_read (e ∷ past) p i ≡ words_read past p i → Fetches h (e ∷ past) p i l x
     waits was same same_words =

@@ -21,8 +21,8 @@ use Rattle.ace_model.proofs.Looks.{Some-injective, is_some_and-at, implies-at, i
 use Rattle.ace_model.proofs.Kept.{accepted_keeps}
 use Rattle.ace_model.proofs.HolderAddress.{read_issued, write_issued, named_read}
 use Rattle.ace_model.proofs.HolderTransfer.{MayTransfer, may}
-use Rattle.ace_model.proofs.StateRises.{holders}
 use Rattle.ace_model.proofs.GrantStays.{Stays, issued_apart}
+use Rattle.ace_model.proofs.HolderLaw.{accepted_holds}
 
 pub begun_same : (past longer : Trace) (x : Transaction)
     → (is_read x.chan ≡ true → transfers longer x.port x.id ≡ transfers past x.port x.id)
@@ -100,7 +100,7 @@ pub begins : (h : Header) (past : Trace) (e : Event) → IsAccepted h (e ∷ pas
 begins h past (Ar q j addr snoop dom bar lock) a l x s b =
     let e = Ar q j addr snoop dom bar lock in
     let y = read_issued past q j addr snoop dom bar lock in
-    let o = (holders h past a.0).grants l x s.was in
+    let o = (accepted_holds h past a.0).grants l x s.was in
     let apart : has_name y x.port x.chan x.id ≡ false = issued_apart h past e a x.port x.chan x.id x y o.0 refl in
     inl (begun_same past (e ∷ past) x
     (λ t. let named : has_name y x.port Read x.id ≡ false = ap (λ (c : Channel). has_name y x.port c x.id) (sym (is_read-is x.chan t)) ∙ apart in rw (named_read past q j addr snoop dom bar lock x.port x.id false named) refl)
@@ -108,12 +108,12 @@ begins h past (Ar q j addr snoop dom bar lock) a l x s b =
 begins h past (Aw q j addr snoop dom bar) a l x s b =
     let e = Aw q j addr snoop dom bar in
     let y = write_issued past q j addr snoop dom bar in
-    let o = (holders h past a.0).grants l x s.was in
+    let o = (accepted_holds h past a.0).grants l x s.was in
     let apart : has_name y x.port x.chan x.id ≡ false = issued_apart h past e a x.port x.chan x.id x y o.0 refl in
     inl (begun_same past (e ∷ past) x (λ t. refl) (λ f. rw apart refl) ∙ b)
 begins h past (R q j resp last word) a l x s b =
     let e = R q j resp last word in
-    let o = (holders h past a.0).grants l x s.was in
+    let o = (accepted_holds h past a.0).grants l x s.was in
     elim (cases_Bool (is_read x.chan)) [
       | inr f ↦ inl (begun_same past (e ∷ past) x (λ t. cc) (λ g. refl) ∙ b)
       | inl reads ↦ elim (cases_Bool (nat_eq x.port q && nat_eq x.id j)) [
@@ -132,7 +132,7 @@ begins h past (R q j resp last word) a l x s b =
     false_not false e = cc
 begins h past (M q c j line) a l x s b =
     let e = M q c j line in
-    let o = (holders h past a.0).grants l x s.was in
+    let o = (accepted_holds h past a.0).grants l x s.was in
     elim (cases_Bool (is_read x.chan)) [
       | inl reads ↦ inl (begun_same past (e ∷ past) x (λ t. refl) (λ g. cc) ∙ b)
       | inr writes ↦ elim (cases_Bool ((nat_eq x.port q && same_channel x.chan c) && nat_eq x.id j)) [

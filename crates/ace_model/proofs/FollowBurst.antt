@@ -24,7 +24,6 @@ use Rattle.ace_model.proofs.Issued.{issued-place, outstanding-named, transaction
 use Rattle.ace_model.proofs.Kept.{accepted_keeps}
 use Rattle.ace_model.proofs.Looks.{Some-injective, is_some_and-is, is_none_or-at, implies-at}
 use Rattle.ace_model.proofs.Places.{slice_get-more, slice_get-at_end}
-use Rattle.ace_model.proofs.Starts.{start-more, start-length}
 use Rattle.ace_model.proofs.FollowPlaces.{at_point-last}
 use Rattle.ace_model.proofs.FollowOutstanding.{outstanding-cases}
 use Rattle.ace_model.proofs.FollowUpdate.{Updates, update-named, copy-stays}

@@ -1,35 +1,24 @@
 -- The outstanding reads of a port: what was outstanding before, one on a line, and none of a line that its port holds.
-use Rattle.std.proofs.Common.{◌≡◌, ◌≢◌, ◌⊎◌, ℕ, zero, suc, ◌<◌, true, false, not, nat_eq, [], ◌∷◌, length, drop, Some, refl, sym, ap, subst, ◌∙◌, arith, inl, inr}
-use Rattle.std.proofs.lemmas.Bool.{and_parts, and_from, or_left, cases_Bool, eqb-true, eq-eqb, not-true}
+use Rattle.std.proofs.Common.{◌≡◌, ◌≢◌, ◌⊎◌, ℕ, zero, suc, ◌<◌, true, not, nat_eq, [], ◌∷◌, length, drop, Some, refl, ap, ◌∙◌, arith, inl, inr}
+use Rattle.std.proofs.lemmas.Bool.{and_from, or_left, eq-eqb, not-true}
 use Rattle.ace_codes.specs.declared.kind.ArKind.{ArKind}
 use Rattle.ace_codes.specs.declared.kind.ArKind.TheVariants as read
-use Rattle.ace_codes.specs.declared.state.LineState.{LineState}
 use Rattle.ace_codes.specs.declared.state.LineState.TheVariants.{I}
 use Rattle.ace_event.specs.declared.header.Header.{Header}
 use Rattle.ace_event.specs.declared.event.Channel.{Channel}
 use Rattle.ace_event.specs.declared.event.Channel.TheVariants.{Read}
 use Rattle.ace_event.specs.declared.event.Event.{Event}
-use Rattle.ace_event.specs.declared.event.Event.TheVariants.{Ar, Rk, Aw, Wk, Cr, S, D}
-use Rattle.ace_tables.specs.StartStates.{starts_read}
 use Rattle.ace_model.specs.declared.transactions.Transaction.{Transaction}
-use Rattle.ace_model.specs.Trace.{Trace, implies, is_some_and, is_none_or}
+use Rattle.ace_model.specs.Trace.{Trace, implies, is_some_and}
 use Rattle.ace_model.specs.Kinds.{is_line_read, is_line_write, reads_a_line}
-use Rattle.ace_model.specs.Transactions.{has_name, is_line, is_on, issued, read_kind, write_kind, ended, without, outstanding, is_outstanding, is_outstanding_on, has_outstanding_on, acknowledged}
+use Rattle.ace_model.specs.Transactions.{has_name, is_line, issued, read_kind, write_kind, ended, without, outstanding, is_outstanding, is_outstanding_on, has_outstanding_on}
 use Rattle.ace_model.specs.States.{state_of}
 use Rattle.ace_model.specs.Copies.{is_line_read_transaction}
-use Rattle.ace_model.specs.AddressRules.{k5, k6, has_free_line, starts_well}
-use Rattle.ace_model.specs.Accepted.{rule, IsAccepted}
+use Rattle.ace_model.specs.AddressRules.{k5, has_free_line}
+use Rattle.ace_model.specs.Accepted.{IsAccepted}
 use Rattle.ace_model.proofs.Growth.{some_issued-found}
 use Rattle.ace_model.proofs.Issued.{issued-place, outstanding-named, transaction_of-stands}
-use Rattle.ace_model.proofs.Kept.{accepted_keeps}
-use Rattle.ace_model.proofs.Looks.{Some-injective, is_some_and-is, is_none_or-at, implies-at, has_name-is, newest_named-cases, without-some}
-use Rattle.ace_model.proofs.HolderStates.{less-lessens}
-use Rattle.ace_model.proofs.HolderStores.{less_s, lessened_d}
-use Rattle.ace_model.proofs.HolderSnoop.{less_cr}
-use Rattle.ace_model.proofs.HolderWrite.{less_wk}
-use Rattle.ace_model.proofs.HolderAcknowledge.{ends, is_named_by_rk}
-use Rattle.ace_model.proofs.HolderKept.{KeptRules, kept}
-use Rattle.ace_model.proofs.HolderLaw.{accepted_holds}
+use Rattle.ace_model.proofs.Looks.{is_some_and-is, is_none_or-at, implies-at, has_name-is, newest_named-cases, without-some}
 use Rattle.ace_model.proofs.StateRises.{stays_empty}
 
 -- what is outstanding after an event is what it issues, or was outstanding and isn't what it ends

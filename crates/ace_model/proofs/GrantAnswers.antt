@@ -24,10 +24,11 @@ use Rattle.ace_model.proofs.HolderFacts.{Inductive}
 use Rattle.ace_model.proofs.HolderSnoop.{less_cr, settled}
 use Rattle.ace_model.proofs.HolderStates.{less-clean}
 use Rattle.ace_model.proofs.Kept.{accepted_keeps}
-use Rattle.ace_model.proofs.StateRises.{holders, state_moves, dirty_moves}
+use Rattle.ace_model.proofs.StateRises.{state_moves, dirty_moves}
 use Rattle.ace_model.proofs.GrantStays.{granted_before}
 use Rattle.ace_model.proofs.SnoopRows.{is_make_invalid, dirty_sends, sends_held, passes_other}
 use Rattle.ace_model.proofs.SnoopAnswers.{Answering, answering_cr, NewAnswer, answer_cases, no_rise}
+use Rattle.ace_model.proofs.HolderLaw.{accepted_holds}
 
 -- beside a dirty port no other is unique or dirty
 pub beside_dirty : (h : Header) (past : Trace) → Inductive h past → (l r z : ℕ) → is_dirty (state_of h past r l) ≡ true → z ≢ r → is_settled (state_of h past z l) ≡ true
@@ -70,7 +71,7 @@ others_settled h (e ∷ past) a l r z x w g is d apart =
           | inr new ↦
               let n = new_answer h past e a r l w new in
               let row = row_is n.1.kind (state_of h past r l) w.resp n.0 n.1.row in
-              beside_dirty h past (holders h past a.0) l r z (row.passes d).0 apart
+              beside_dirty h past (accepted_holds h past a.0) l r z (row.passes d).0 apart
         ])
       ]
     ]
@@ -105,10 +106,10 @@ none_unique h (e ∷ past) a l r z x w k g is d c lev =
         | inl less ↦ elim (answer_cases past e r l w stays.gives is) [
           | inl old ↦ less.not_unique (none_unique h past a.0 l r z x w k stays.was old d c lev)
           | inr new ↦
-              let f = holders h past a.0 in
+              let f = accepted_holds h past a.0 in
               let n = new_answer h past e a r l w new in
               elim (cases_eq r z) [
-                | inl same ↦ subst (λ v. is_unique (state_of h (e ∷ past) v l) ≡ false) same (level k _ _ lev ((holders h (e ∷ past) a).answers l r x w k g is c))
+                | inl same ↦ subst (λ v. is_unique (state_of h (e ∷ past) v l) ≡ false) same (level k _ _ lev ((accepted_holds h (e ∷ past) a).answers l r x w k g is c))
                 | inr apart ↦ less.not_unique (elim (cases_Bool (is_unique (state_of h past z l))) [
                   | inr fine ↦ fine
                   | inl u ↦
@@ -134,7 +135,7 @@ unsent_clean h (e ∷ past) a l r x w k g is d c lev =
             | inr up ↦ absurd (no_rise h past e l r x stays up)
             | inl may ↦
                 let unique = (and_parts (is_unique (state_of h past r l)) (not (has_outstanding_on h past r l)) may).0 in
-                let levelled = level k _ _ lev ((holders h past a.0).answers l r x w k stays.was old c) in
+                let levelled = level k _ _ lev ((accepted_holds h past a.0).answers l r x w k stays.was old c) in
                 cc
           ]
         ]
@@ -143,7 +144,7 @@ unsent_clean h (e ∷ past) a l r x w k g is d c lev =
             let one : n.1.pending.one ≡ x = Some-injective n.1.pending.one x (sym n.1.pending.stands ∙ stays.was) in
             let kind : n.1.kind ≡ k = Some-injective n.1.kind k (sym n.1.causes ∙ ap snoop_of one ∙ c) in
             elim (cases_Bool (is_make_invalid k)) [
-              | inl m ↦ ap is_dirty (((holders h (e ∷ past) a).answers l r x w k g is c).gone (or_right (not (is_shared w.resp)) (invalidates k) (make_gone k m)))
+              | inl m ↦ ap is_dirty (((accepted_holds h (e ∷ past) a).answers l r x w k g is c).gone (or_right (not (is_shared w.resp)) (invalidates k) (make_gone k m)))
               | inr m ↦ stays_clean new (was_clean n kind m)
             ]
       ]

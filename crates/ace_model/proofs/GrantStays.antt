@@ -17,7 +17,7 @@ use Rattle.ace_model.proofs.Looks.{Some-injective, is_none_or-at, is_read-is, ne
 use Rattle.ace_model.proofs.Kept.{accepted_keeps}
 use Rattle.ace_model.proofs.HolderAddress.{read_issued, write_issued, outstanding_stays, failed_issued}
 use Rattle.ace_model.proofs.HolderGrant.{other_line, failed_g}
-use Rattle.ace_model.proofs.StateRises.{holders}
+use Rattle.ace_model.proofs.HolderLaw.{accepted_holds}
 
 -- a granted line is not given again
 pub gives_none : (h : Header) (past : Trace) (e : Event) → IsAccepted h (e ∷ past) → (l : ℕ) (x : Transaction) → granted h past l ≡ Some x → gives_line past e l ≡ false
@@ -97,18 +97,18 @@ pub failed_stays : (h : Header) (past : Trace) (e : Event) → IsAccepted h (e �
     → has_failed (e ∷ past) x ≡ has_failed past x
 failed_stays h past (Ar q j addr snoop dom bar lock) a l x s =
     let e = Ar q j addr snoop dom bar lock in
-    let o = (holders h past a.0).grants l x s.was in
+    let o = (accepted_holds h past a.0).grants l x s.was in
     failed_read past (e ∷ past) x (λ t.
     let y = read_issued past q j addr snoop dom bar lock in
     failed_issued past y x (ap (λ (c : Channel). has_name y x.port c x.id) (sym (is_read-is x.chan t)) ∙ issued_apart h past e a x.port x.chan x.id x y o.0 refl))
 failed_stays h past (Aw q j addr snoop dom bar) a l x s =
     let e = Aw q j addr snoop dom bar in
-    let o = (holders h past a.0).grants l x s.was in
+    let o = (accepted_holds h past a.0).grants l x s.was in
     failed_read past (e ∷ past) x (λ t.
     let y = write_issued past q j addr snoop dom bar in
     failed_issued past y x (ap (λ (c : Channel). has_name y x.port c x.id) (sym (is_read-is x.chan t)) ∙ issued_apart h past e a x.port x.chan x.id x y o.0 refl))
 failed_stays h past (G q c j) a l x s =
-    let o = (holders h past a.0).grants l x s.was in
+    let o = (accepted_holds h past a.0).grants l x s.was in
     let on = and_parts (is_line x) (nat_eq x.addr l) o.1 in
     failed_read past (G q c j ∷ past) x (λ t.
     failed_g h past q c j x.port x.id x (ap (λ (d : Channel). outstanding h past x.port d x.id) (sym (is_read-is x.chan t)) ∙ o.0) on.0

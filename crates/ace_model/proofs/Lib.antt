@@ -1,7 +1,10 @@
 pub mod Acceptance
 pub mod BarrierOrder
 pub mod BarrierPairs
+pub mod CoherenceLaw
 pub mod CopiesTrue
+pub mod DirtMoves
+pub mod DirtyLaw
 pub mod ExclusiveLaw
 pub mod FetchesTrue
 pub mod FirstBegins
@@ -27,6 +30,7 @@ pub mod FollowWritten
 pub mod Forwarding
 pub mod GrantAnswers
 pub mod GrantStays
+pub mod GrantedOnes
 pub mod Growth
 pub mod HolderAcknowledge
 pub mod HolderAddress
@@ -51,9 +55,13 @@ pub mod LineReadEnds
 pub mod LineStores
 pub mod Looks
 pub mod MadeTrue
+pub mod MemoryWrites
 pub mod MergedLines
 pub mod MessageAnswered
 pub mod OrderPoints
+pub mod PassedData
+pub mod PassedFirst
+pub mod PassedTrue
 pub mod Places
 pub mod Points
 pub mod RepliesTrue
@@ -69,8 +77,11 @@ pub mod SyncCompleted
 pub mod SyncLaw
 pub mod UniqueLaw
 pub mod UpdateHolds
+pub mod UpdatedTrue
 pub mod ValueFacts
+pub mod ValueSafe
 pub mod ValueStays
 pub mod WriteBursts
 pub mod WriteQueue
 pub mod WritesAlone
+pub mod WrittenTrue

@@ -1,37 +1,29 @@
 -- What an RK leaves of the line of its read.
-use Rattle.std.proofs.Common.{◌≡◌, ◌⊎◌, ℕ, ◌<◌, Bool, true, false, nat_eq, [], ◌∷◌, length, Some, None, le_refl, refl, sym, ap, subst, ◌∙◌, arith, inl, inr}
+use Rattle.std.proofs.Common.{◌≡◌, ℕ, true, nat_eq, ◌∷◌, Some, None, le_refl, refl, sym, ap, subst, ◌∙◌, inl, inr}
 use Rattle.std.proofs.lemmas.Bool.{and_parts, cases_Bool, eqb-true}
 use Rattle.ace_codes.specs.declared.kind.ArKind.{ArKind}
-use Rattle.ace_codes.specs.declared.kind.ArKind.TheVariants as read
 use Rattle.ace_codes.specs.declared.state.LineState.{LineState}
-use Rattle.ace_codes.specs.declared.state.LineState.TheVariants.{I}
 use Rattle.ace_codes.specs.Responses.{passes_dirty, is_shared}
-use Rattle.ace_event.specs.declared.event.Event.{Event}
 use Rattle.ace_event.specs.declared.event.Event.TheVariants.{Rk}
 use Rattle.ace_event.specs.declared.event.Channel.TheVariants.{Read}
 use Rattle.ace_event.specs.declared.header.Header.{Header}
 use Rattle.ace_tables.specs.EndStates.{ends_read}
-use Rattle.ace_tables.specs.States.{is_invalid}
 use Rattle.ace_model.specs.declared.transactions.Transaction.{Transaction}
 use Rattle.ace_model.specs.Trace.{Trace, implies, is_some_and}
-use Rattle.ace_model.specs.Kinds.{is_make_unique, is_no_snoop_read}
-use Rattle.ace_model.specs.Transactions.{is_line, is_on, is_read, read_kind, write_kind, issued, outstanding, acknowledged, first_resp, transaction_of, acknowledgements}
-use Rattle.ace_model.specs.Progress.{each_issued}
+use Rattle.ace_model.specs.Kinds.{is_make_unique}
+use Rattle.ace_model.specs.Transactions.{is_line, is_on, is_read, read_kind, write_kind, outstanding, acknowledged, first_resp, transaction_of, acknowledgements}
 use Rattle.ace_model.specs.Exclusives.{has_failed}
 use Rattle.ace_model.specs.States.{state_of, has_store}
-use Rattle.ace_model.specs.AddressRules.{k8, is_no_snoop, is_used_alike, fits_line}
 use Rattle.ace_model.specs.ReadRules.{k23, ends_well, is_end, held_of}
 use Rattle.ace_model.specs.Accepted.{rule, IsAccepted}
-use Rattle.ace_model.proofs.Looks.{Some-injective, is_some_and-is, is_none_or-at, implies-at, same_test-at, is_invalid-is}
-use Rattle.ace_model.proofs.Issued.{issued_at, transaction_of-stands}
-use Rattle.ace_model.proofs.Growth.{issued-old, each_issued-at, IsIssued, issued-cases}
+use Rattle.ace_model.proofs.Looks.{Some-injective, is_some_and-is, is_none_or-at, implies-at}
 use Rattle.ace_model.proofs.Kept.{accepted_keeps}
 use Rattle.ace_model.proofs.HolderStates.{held_on}
 use Rattle.ace_model.proofs.HolderAcknowledge.{Ends, is_named_by_rk}
 use Rattle.ace_model.proofs.HolderFacts.{Arrives}
-use Rattle.ace_model.proofs.StateRises.{holders, ends_of, state_moves}
+use Rattle.ace_model.proofs.StateRises.{ends_of}
 use Rattle.ace_model.proofs.LineStores.{IsFull}
-use Rattle.ace_model.proofs.ShareableLines.{read_snoops}
+use Rattle.ace_model.proofs.HolderLaw.{accepted_holds}
 
 -- The read of the line that an RK of the port ends.
 pub record ReadEnds (h : Header) (past : Trace) (q : ℕ) (st : LineState) (p l : ℕ) : Type 0 where
@@ -88,7 +80,7 @@ read_ends h past q st a p l t =
   where
     queued : (e : Ends h past q) → IsFull past q e.id e.ended_one
     queued e =
-        let s = (holders h past a.0).queue q (acknowledgements past q Read) e.id e.ace (le_refl (acknowledgements past q Read)) e.next in
+        let s = (accepted_holds h past a.0).queue q (acknowledgements past q Read) e.id e.ace (le_refl (acknowledgements past q Read)) e.next in
         let one : s.0 ≡ e.ended_one = Some-injective s.0 e.ended_one (sym s.1 ∙ e.out) in
         subst (λ (y : Transaction). IsFull past q e.id y) one s.2
 

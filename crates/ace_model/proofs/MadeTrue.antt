@@ -25,13 +25,13 @@ use Rattle.ace_model.proofs.Looks.{is_some_and-at, has_name-is, newest_named-cas
 use Rattle.ace_model.proofs.Issued.{outstanding-named, transaction_of-stands}
 use Rattle.ace_model.proofs.Kept.{accepted_keeps}
 use Rattle.ace_model.proofs.LineOnce.{outstanding_found, one_on_line}
-use Rattle.ace_model.proofs.StateRises.{holders}
 use Rattle.ace_model.proofs.MergedLines.{merged-whole}
 use Rattle.ace_model.proofs.LineStores.{Made, stores_d, done_read, full_some}
 use Rattle.ace_model.proofs.LineReadEnds.{read_writes_none}
 use Rattle.ace_model.proofs.CopiesTrue.{copy_moves, unique_valid}
 use Rattle.ace_model.proofs.ValueStays.{may_unique, may_free, value_stays}
 use Rattle.ace_model.proofs.ValueFacts.{MadeTrue, Facts}
+use Rattle.ace_model.proofs.HolderLaw.{accepted_holds}
 
 -- The store of a MakeUnique.
 pub record StoresNow (h : Header) (past : Trace) (e : Event) (p i : ℕ) (x : Transaction) : Type 0 where
@@ -129,7 +129,7 @@ made_step h past e a f p i l x o on kind s =
         let done = stored_complete h past a.0 p i x was stored in
         let line = and_parts (is_line x) (nat_eq x.addr l) on in
         let addr = eqb-true x.addr l line.1 in
-        let arrives = (holders h past a.0).arrive p i x done.1 was line.0 (full_some past p i x (done_read h past a.0 p i x was done.0)) in
+        let arrives = (accepted_holds h past a.0).arrive p i x done.1 was line.0 (full_some past p i x (done_read h past a.0 p i x was done.0)) in
         let stands : granted h past l ≡ Some x = ap (granted h past) (sym addr) ∙ arrives.stands in
         let name = has_name-is x p Read i (transaction_of-stands past p Read i x (outstanding-named h past p Read i x was)).named in
         let no_port : (q : ℕ) → may_store h past q l ≡ true → ⊥ = λ q may. elim (cases_eq p q) [

@@ -16,7 +16,7 @@ use Rattle.ace_model.specs.declared.snoops.Answer.{Answer}
 use Rattle.ace_model.specs.declared.transactions.Transaction.{Transaction}
 use Rattle.ace_model.specs.Trace.{Trace, at_point, is_some_and, newer}
 use Rattle.ace_model.specs.Kinds.{reads_a_line, is_clean_unique, is_make_unique, is_granted_write}
-use Rattle.ace_model.specs.Transactions.{is_on, is_line, read_kind, write_kind, snoop_of, snoop_kind_of, transfers, outstanding, is_exclusive_store}
+use Rattle.ace_model.specs.Transactions.{is_on, is_line, read_kind, write_kind, snoop_of, snoop_kind_of, outstanding, is_exclusive_store}
 use Rattle.ace_model.specs.Writes.{has_memory_write}
 use Rattle.ace_model.specs.Snoops.{data_answers}
 use Rattle.ace_model.specs.Grants.{gives_line, granted, is_granted, answers_grant, answer_at, answer_of, passes, passer, has_passed_data, each_port}
@@ -29,14 +29,14 @@ use Rattle.ace_model.specs.Accepted.{IsAccepted}
 use Rattle.ace_model.specs.DirtyPlace.{replaces_line}
 use Rattle.ace_model.proofs.Looks.{Some-injective, some_is, is_some_and-is}
 use Rattle.ace_model.proofs.HolderFirst.{done_port, found_passes}
-use Rattle.ace_model.proofs.StateRises.{holders, stays_empty}
+use Rattle.ace_model.proofs.StateRises.{stays_empty}
 use Rattle.ace_model.proofs.SnoopsPending.{answering, snoops}
 use Rattle.ace_model.proofs.SnoopAnswers.{answer_cases}
 use Rattle.ace_model.proofs.GrantAnswers.{is_levelling, unsent_clean, passed_kind}
 use Rattle.ace_model.proofs.LineReadEnds.{read_writes_none}
 use Rattle.ace_model.proofs.ValueStays.{fetch_snoops}
 use Rattle.ace_model.proofs.ValueFacts.{SentTrue, Facts}
-use Rattle.ace_model.proofs.FollowFirst.{memory-before}
+use Rattle.ace_model.proofs.HolderLaw.{accepted_holds}
 
 -- a port that has answered under the grant answers no more
 pub answered_once : (h : Header) (past : Trace) → IsAccepted h past → (d : Event) (r l : ℕ) (w : Answer) → answer_of past r l ≡ Some w → answer_at past d r l ≡ None
@@ -136,7 +136,7 @@ fetch_line read.ReadShared e = (refl, refl, refl)
 fetch_line read.ReadUnique e = (refl, refl, refl)
 fetch_line k e = cc
 
-dirty_valid : (st : LineState) → is_dirty st ≡ true → (st ≡ I → ⊥)
+pub dirty_valid : (st : LineState) → is_dirty st ≡ true → (st ≡ I → ⊥)
 dirty_valid I d e = cc
 dirty_valid st d e = let bad : is_dirty I ≡ true = subst (λ v. is_dirty v ≡ true) e d in cc
 
@@ -163,7 +163,7 @@ memory_true h past a f l x k g kind fetch done none =
     snoop = let s = fetch_snoops k fetch in (s.0, ap (λ o. snoop_kind_of o (write_kind x)) kind ∙ s.1, s.2)
 
     outs : (outstanding h past x.port x.chan x.id ≡ Some x) × (is_on x l ≡ true)
-    outs = (holders h past a).grants l x g
+    outs = (accepted_holds h past a).grants l x g
 
     addr : x.addr ≡ l
     addr = eqb-true x.addr l (and_parts (is_line x) (nat_eq x.addr l) outs.1).1
@@ -188,7 +188,7 @@ memory_true h past a f l x k g kind fetch done none =
               let reads : is_line_read_transaction x ≡ true = subst (λ o. is_some_and o reads_a_line ≡ true) (sym kind) (fetch_line k fetch).0 in
               let gone = stays_empty h past a x.port x.chan x.id l x outs.0 outs.1 (or_left (is_line_read_transaction x) (is_some_and (write_kind x) is_granted_write) reads) in
               dirty_valid (state_of h past q l) d (ap (λ b. state_of h past b l) (sym own) ∙ gone)
-          | inr apart ↦ elim (done_port h past x q (holders h past a) all apart) [
+          | inr apart ↦ elim (done_port h past x q (accepted_holds h past a) all apart) [
             | inl gone ↦ dirty_valid (state_of h past q l) d (ap (state_of h past q) (sym addr) ∙ gone)
             | inr w ↦
                 let is : answer_of past q l ≡ Some w.answer = ap (answer_of past q) (sym addr) ∙ w.is in

@@ -23,9 +23,10 @@ use Rattle.ace_model.specs.Accepted.{rule, IsAccepted}
 use Rattle.ace_model.proofs.Looks.{Some-injective, is_some_and-is, is_none_or-at, implies-at}
 use Rattle.ace_model.proofs.Kept.{accepted_keeps}
 use Rattle.ace_model.proofs.HolderSnoop.{kind_of_code}
-use Rattle.ace_model.proofs.StateRises.{holders, Raised}
+use Rattle.ace_model.proofs.StateRises.{Raised}
 use Rattle.ace_model.proofs.GrantStays.{Stays}
 use Rattle.ace_model.proofs.SnoopsPending.{IsPending, Pending, snoops}
+use Rattle.ace_model.proofs.HolderLaw.{accepted_holds}
 
 -- The answer of the port to a snoop of the line.
 pub record Answering (h : Header) (past : Trace) (q resp : ℕ) (st : LineState) (l : ℕ) : Type 0 where
@@ -45,7 +46,7 @@ answering_cr h past q resp st a l t =
     let s = is_some_and-is (answered past q) (λ s. is_snoop_on s l) t in
     let i : IsPending past q (answers past q) l s.0 = record { late = le_self (answers past q); there = s.1; on = s.2 } in
     let p = (snoops h past a.0).pending q (answers past q) l s.0 i in
-    let code = (holders h past a.0).snoops q (answers past q) l s.0 p.one s.1 s.2 p.under p.stands in
+    let code = (accepted_holds h past a.0).snoops q (answers past q) l s.0 p.one s.1 s.2 p.under p.stands in
     let k = is_some_and-is (snoop_of p.one) (λ c. nat_eq (ac_code c) s.0.snoop) code in
     let is_kind : ac_kind_of s.0.snoop ≡ Some k.0 = ap ac_kind_of (sym (eqb-true (ac_code k.0) s.0.snoop k.2)) ∙ kind_of_code k.0 in
     let on = and_parts (snoops_a_line s.0.snoop) (nat_eq s.0.addr l) s.2 in

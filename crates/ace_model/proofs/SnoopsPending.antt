@@ -32,11 +32,12 @@ use Rattle.ace_model.proofs.Kept.{accepted_keeps}
 use Rattle.ace_model.proofs.HolderGrant.{is_on-addr}
 use Rattle.ace_model.proofs.HolderFirst.{each_at}
 use Rattle.ace_model.proofs.HolderTransfer.{ends_lite}
-use Rattle.ace_model.proofs.StateRises.{holders, ends_of}
+use Rattle.ace_model.proofs.StateRises.{ends_of}
 use Rattle.ace_model.proofs.WriteQueue.{EndsWrite, ends_write_of, ends_lite_written}
 use Rattle.ace_model.proofs.GrantStays.{granted_after, failed_stays}
 use Rattle.ace_model.proofs.FirstBegins.{MayBegin, begins, may_of, line_transfer, then_of}
 use Rattle.ace_model.proofs.FollowSnoops.{grant_place-low}
+use Rattle.ace_model.proofs.HolderLaw.{accepted_holds}
 
 -- An unanswered snoop of the line.
 pub record IsPending (past : Trace) (r n l : ℕ) (s : Snoop) : Type 0 where
@@ -64,7 +65,7 @@ pub record Snooped (h : Header) (past : Trace) : Type 0 where
 pub causes_some : (h : Header) (past : Trace) → IsAccepted h past → (r n l : ℕ) (s : Snoop) → IsPending past r n l s → (p : Pending h past r l s)
     → (k : SnoopKind) × (snoop_of p.one ≡ Some k)
 causes_some h past a r n l s i p =
-    let code = (holders h past a).snoops r n l s p.one i.there i.on p.under p.stands in
+    let code = (accepted_holds h past a).snoops r n l s p.one i.there i.on p.under p.stands in
     let k = is_some_and-is (snoop_of p.one) _ code in
     (k.0, k.1)
 
@@ -116,7 +117,7 @@ undone h past a r n l s i p may =
             let here = each_at h.ports (is_port_done h past p.one) r all (ltb-true r h.ports p.within) in
             let parts = and_parts (not (owes_answer past r p.one.addr) && not (owes_data past r p.one.addr)) _ here in
             let owes_none = not-true (owes_answer past r p.one.addr) (and_parts (not (owes_answer past r p.one.addr)) _ parts.0).0 in
-            let addr = is_on-addr p.one l ((holders h past a).grants l p.one p.stands).1 in
+            let addr = is_on-addr p.one l ((accepted_holds h past a).grants l p.one p.stands).1 in
             let owes : owes_answer past r l ≡ true = and_from _ _ p.snooped (ap is_none p.unanswered) in
             let owes_there : owes_answer past r l ≡ false = subst (λ b. owes_answer past r b ≡ false) addr owes_none in
             cc
@@ -126,7 +127,7 @@ undone h past a r n l s i p may =
 written_begun : (h : Header) (past : Trace) → IsAccepted h past → (l q : ℕ) (x z : Transaction) (k : SnoopKind) → granted h past l ≡ Some x → snoop_of x ≡ Some k
     → z.place ≡ x.place → EndsWrite h past q z → (is_begun past x ≡ true) ⊎ MayBegin h past x
 written_begun h past a l q x z k g c same w =
-    let o = (holders h past a).grants l x g in
+    let o = (accepted_holds h past a).grants l x g in
     let one : z ≡ x = same_place past q x.port Write x.chan w.id x.id z x (outstanding-named h past q Write w.id z w.out) (outstanding-named h past x.port x.chan x.id x o.0) same in
     let writes : is_read x.chan ≡ false = ap (λ (y : Transaction). is_read y.chan) (sym one) ∙ ap is_read w.chan in
     let kind = write_causes x k writes c in
@@ -138,7 +139,7 @@ written_begun h past a l q x z k g c same w =
 ends_begun : (h : Header) (past : Trace) (e : Event) → IsAccepted h (e ∷ past) → (l : ℕ) (x z : Transaction) (k : SnoopKind) → granted h past l ≡ Some x → snoop_of x ≡ Some k
     → ended h past e ≡ Some z → z.place ≡ x.place → (is_begun past x ≡ true) ⊎ MayBegin h past x
 ends_begun h past (R q j resp last word) a l x z k g c is same =
-    let f = holders h past a.0 in
+    let f = accepted_holds h past a.0 in
     let m = may_of h past q j resp last word a in
     let o = f.grants l x g in
     let lite = ends_lite h past q j resp last word z is in
@@ -153,7 +154,7 @@ ends_begun h past (R q j resp last word) a l x z k g c is same =
       | inr some ↦ inl (then_of (is_read x.chan) _ _ reads ∙ ap not some)
     ]
 ends_begun h past (Rk q st) a l x z k g c is same =
-    let f = holders h past a.0 in
+    let f = accepted_holds h past a.0 in
     let e = ends_of h past q st a in
     let o = f.grants l x g in
     let zd : e.ended_one ≡ z = Some-injective e.ended_one z (sym e.is ∙ is) in

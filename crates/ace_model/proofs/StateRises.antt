@@ -26,7 +26,7 @@ use Rattle.ace_model.specs.SnoopRules.{k15}
 use Rattle.ace_model.specs.ReadRules.{k22}
 use Rattle.ace_model.specs.WriteRules.{k28}
 use Rattle.ace_model.specs.CacheRules.{k29, k32, may_store, wants_store, full_line}
-use Rattle.ace_model.specs.Accepted.{rule, rules, IsAccepted}
+use Rattle.ace_model.specs.Accepted.{rule, IsAccepted}
 use Rattle.ace_model.proofs.Looks.{Some-injective, is_some_and-is, is_none_or-at, implies-at, has_name-is, newest_named-cases, without-some}
 use Rattle.ace_model.proofs.Kept.{accepted_keeps}
 use Rattle.ace_model.proofs.HolderTables.{Lessens, Lessens-self, Lessens-same}
@@ -35,14 +35,9 @@ use Rattle.ace_model.proofs.HolderStores.{less_s, lessened_d, stores, is_named_b
 use Rattle.ace_model.proofs.HolderSnoop.{less_cr}
 use Rattle.ace_model.proofs.HolderWrite.{less_wk}
 use Rattle.ace_model.proofs.HolderAcknowledge.{Ends, ends, is_named_by_rk}
-use Rattle.ace_model.proofs.HolderKept.{kept}
-use Rattle.ace_model.proofs.HolderFacts.{Inductive, Arrives}
-use Rattle.ace_model.proofs.HolderLaw.{inductive}
+use Rattle.ace_model.proofs.HolderFacts.{Arrives}
+use Rattle.ace_model.proofs.HolderLaw.{accepted_holds}
 use Rattle.ace_model.proofs.LineOnce.{one_on_line}
-
--- what holds beside the laws on holders, at each point of an accepted trace
-pub holders : (h : Header) (past : Trace) → IsAccepted h past → Inductive h past
-holders = inductive rules kept
 
 -- The read of the port on the line that the event ends by its RK.
 pub record Raised (h : Header) (past : Trace) (e : Event) (p l : ℕ) : Type 0 where
@@ -59,7 +54,7 @@ pub record Raised (h : Header) (past : Trace) (e : Event) (p l : ℕ) : Type 0 w
 
 pub ends_of : (h : Header) (past : Trace) (q : ℕ) (st : LineState) → IsAccepted h (Rk q st ∷ past) → Ends h past q
 ends_of h past q st a =
-    ends h past q st (holders h past a.0) (accepted_keeps 0 (rule 1 k1) h past (Rk q st) refl a) (accepted_keeps 21 (rule 22 k22) h past (Rk q st) refl a)
+    ends h past q st (accepted_holds h past a.0) (accepted_keeps 0 (rule 1 k1) h past (Rk q st) refl a) (accepted_keeps 21 (rule 22 k22) h past (Rk q st) refl a)
 
 raised : (h : Header) (past : Trace) (q : ℕ) (st : LineState) → Ends h past q → (p l : ℕ) → is_named_by_rk past q p l ≡ true → Raised h past (Rk q st) p l
 raised h past q st e p l t =

@@ -34,7 +34,6 @@ use Rattle.ace_model.proofs.Issued.{outstanding-named, transaction_of-stands}
 use Rattle.ace_model.proofs.Growth.{at_point-before, at_point-end}
 use Rattle.ace_model.proofs.Kept.{accepted_keeps}
 use Rattle.ace_model.proofs.LineOnce.{outstanding_found, one_on_line}
-use Rattle.ace_model.proofs.StateRises.{holders}
 use Rattle.ace_model.proofs.GrantStays.{granted_before}
 use Rattle.ace_model.proofs.SnoopRows.{sends_held}
 use Rattle.ace_model.proofs.SnoopAnswers.{NewAnswer, answer_cases}
@@ -45,6 +44,7 @@ use Rattle.ace_model.proofs.LineStores.{Made, value_moves}
 use Rattle.ace_model.proofs.LineReadEnds.{read_writes_none}
 use Rattle.ace_model.proofs.WritesAlone.{all_empty}
 use Rattle.ace_model.proofs.ValueFacts.{SentTrue, UpdatesTrue, Facts}
+use Rattle.ace_model.proofs.HolderLaw.{accepted_holds}
 
 pub may_unique : (h : Header) (past : Trace) (q l : ℕ) → may_store h past q l ≡ true → is_unique (state_of h past q l) ≡ true
 may_unique h past q l may = (and_parts (is_unique (state_of h past q l)) (not (has_outstanding_on h past q l)) may).0
@@ -82,7 +82,7 @@ value_updating h past e a p i l x o on updates =
           | inl own ↦
               let some = outstanding_found h past p Write i l x o on in
               let none = may_free h past p l (subst (λ v. may_store h past v l ≡ true) own d.may) in cc
-          | inr apart ↦ absurd (valid ((holders h past a.0).unique l d.port p (may_unique h past d.port l d.may) apart))
+          | inr apart ↦ absurd (valid ((accepted_holds h past a.0).unique l d.port p (may_unique h past d.port l d.may) apart))
         ]
         | inr s ↦ elim s [
           | inl d ↦ elim (cases_eq d.port p) [

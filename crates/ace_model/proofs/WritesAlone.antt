@@ -4,7 +4,6 @@ use Rattle.std.proofs.lemmas.Bool.{and_parts, or_cases, or_right, cases_eq, eqb-
 use Rattle.ace_codes.specs.declared.kind.AwKind.{AwKind}
 use Rattle.ace_codes.specs.declared.kind.AwKind.TheVariants as write
 use Rattle.ace_codes.specs.declared.kind.SnoopKind.{SnoopKind}
-use Rattle.ace_codes.specs.declared.kind.SnoopKind.TheVariants as snoop
 use Rattle.ace_codes.specs.declared.state.LineState.TheVariants.{I}
 use Rattle.ace_codes.specs.Responses.{is_shared}
 use Rattle.ace_event.specs.declared.event.Channel.{Channel}
@@ -22,10 +21,11 @@ use Rattle.ace_model.specs.Accepted.{IsAccepted}
 use Rattle.ace_model.proofs.Issued.{outstanding-named, transaction_of-stands}
 use Rattle.ace_model.proofs.HolderTables.{invalidates}
 use Rattle.ace_model.proofs.HolderFirst.{done_port}
-use Rattle.ace_model.proofs.StateRises.{holders, stays_empty}
+use Rattle.ace_model.proofs.StateRises.{stays_empty}
 use Rattle.ace_model.proofs.LineStores.{Writes, stores_kind}
 use Rattle.ace_model.proofs.ShareableLines.{no_snoop_unheld}
 use Rattle.ace_model.proofs.StoresAlone.{unique_write_snoops}
+use Rattle.ace_model.proofs.HolderLaw.{accepted_holds}
 
 granted_kind : (k : AwKind) → (is_unique_write k || is_no_snoop_write k) ≡ true → is_granted_write k ≡ true
 granted_kind write.WriteNoSnoop u = refl
@@ -57,7 +57,7 @@ all_empty h past a q c j l w p =
                 ∙ stays_empty h past a x.port x.chan x.id l x w.out w.on
                 (or_right (is_line_read_transaction x) (is_some_and (write_kind x) is_granted_write) (subst (λ o. is_some_and o is_granted_write ≡ true) (sym k.1) (granted_kind k.0 k.2)))
             | inr other ↦
-                let f = holders h past a in
+                let f = accepted_holds h past a in
                 let stands : granted h past x.addr ≡ Some x = ap (granted h past) addr ∙ w.stands in
                 subst (λ b. state_of h past p b ≡ I) addr (elim (done_port h past x p f (all causes) other) [
                   | inl gone ↦ gone

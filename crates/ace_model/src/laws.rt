@@ -1,6 +1,8 @@
 //! Laws of the definitions. These functions do no work: what they promise is the law.
 
 ghost use Rattle.std.specs.Prelude.{◌≡◌, ◌↔◌, List, reverse, None, Some};
+ghost use Rattle.std.specs.List.{AllByRecursion};
+ghost use Rattle.ace_event.specs.Range.{InRange};
 ghost use Rattle.ace_event.specs.declared.event.Event.{Event};
 ghost use Rattle.ace_event.specs.declared.header.Header.{Header};
 ghost use Rattle.ace_model.specs.declared.breaks.Break.{Break};
@@ -8,11 +10,10 @@ ghost use Rattle.ace_model.specs.Trace.{Trace};
 ghost use Rattle.ace_model.specs.Accepted.{Rule, AreInOrder, rules, IsAcceptedBy, IsAccepted, FirstBreakBy, first_break_by};
 ghost use Rattle.ace_model.specs.Today.{rules_today};
 ghost use Rattle.ace_model.specs.Unique.{Unique, OneDirty};
-ghost use Rattle.ace_model.specs.DirtyPlace.{DirtyPlace};
-ghost use Rattle.ace_model.specs.ReadsFollow.{ReadsFollow};
+ghost use Rattle.ace_model.specs.Coherent.{Coherent};
+ghost use Rattle.ace_model.specs.ExclusiveHolds.{ExclusiveHolds};
 ghost use Rattle.ace_model.specs.BarrierHolds.{BarrierHolds};
 ghost use Rattle.ace_model.specs.DvmHolds.{DvmHolds};
-ghost use Rattle.ace_model.specs.ExclusiveHolds.{ExclusiveHolds};
 
 /// By rules in order, the break that `first_break_by` computes is the first break of the events. By any rules, where it
 /// computes none, the trace is accepted.
@@ -29,17 +30,30 @@ pub fn rules_are_in_order()
     ensures today { AreInOrder rules_today }
 {}
 
+/// An accepted trace is coherent, if the numbers of its events are in range: at every point a unique line has one holder, a line
+/// has at most one dirty holder, and data newer than memory are with that holder or in flight; and all reads follow one
+/// order of the line's stores. The definitions know no widths of numbers; the events that a program holds are in range.
+pub fn accepted_trace_is_coherent()
+    ensures { (h : Header) (past : Trace) → IsAccepted h past → AllByRecursion InRange past → Coherent h past }
+{}
+
+/// In every accepted trace, whatever its numbers, a unique line has one holder, and a dirty line one owner: at every point, where
+/// a port holds a line in UC or UD, every other port's state of it is I, and at most one port holds a line in UD or SD.
+pub fn accepted_line_has_one_holder()
+    ensures unique { (h : Header) (past : Trace) → IsAccepted h past → Unique h past }
+    ensures one_dirty { (h : Header) (past : Trace) → IsAccepted h past → OneDirty h past }
+{}
+
 /// In a trace that the checker of today accepts a unique line has one holder: at every point, where a port holds a line
 /// in UC or UD, every other port's state of it is I.
 pub fn unique_line_has_one_holder()
     ensures { (h : Header) (past : Trace) → IsAcceptedBy rules_today h past → Unique h past }
 {}
 
-/// In every accepted trace a unique line has one holder, and a dirty line one owner: at every point, where a port holds a line
-/// in UC or UD, every other port's state of it is I, and at most one port holds a line in UD or SD.
-pub fn accepted_line_has_one_holder()
-    ensures unique { (h : Header) (past : Trace) → IsAccepted h past → Unique h past }
-    ensures one_dirty { (h : Header) (past : Trace) → IsAccepted h past → OneDirty h past }
+/// In every accepted trace an exclusive store is exclusive: between it and the last exclusive load of its port before it no
+/// other port stores to the line.
+pub fn exclusive_store_is_exclusive()
+    ensures { (h : Header) (past : Trace) → IsAccepted h past → ExclusiveHolds past }
 {}
 
 /// A barrier orders, in every accepted trace: what comes after a barrier pair of a port is granted only once the earlier
@@ -52,16 +66,4 @@ pub fn barriers_order()
 /// answered it and all that its port sent before it, and has issued a DVM Complete after that answer.
 pub fn a_sync_waits_for_all()
     ensures { (h : Header) (past : Trace) → IsAccepted h past → DvmHolds h past }
-{}
-
-/// In every accepted trace an exclusive store is exclusive: between it and the last exclusive load of its port before it no
-/// other port stores to the line, by a D or by the M of a write.
-pub fn exclusive_store_is_exclusive()
-    ensures { (h : Header) (past : Trace) → IsAccepted h past → ExclusiveHolds past }
-{}
-
-/// In an accepted trace all reads follow one order of their line's stores, which is that of the trace, if at every point data
-/// newer than memory have a place and every valid copy is the line's value.
-pub fn reads_follow_one_order()
-    ensures { (h : Header) (past : Trace) → IsAccepted h past → DirtyPlace h past → ReadsFollow past }
 {}
