@@ -4,7 +4,8 @@ use Rattle.ace_codes.specs.declared.state.LineState.TheVariants.{I}
 use Rattle.ace_event.specs.declared.event.Channel.TheVariants.{Read}
 use Rattle.ace_event.specs.declared.event.Event.{Event}
 use Rattle.ace_event.specs.declared.event.Event.TheVariants.{Ar, Ac, G, S, L, D}
-use Rattle.ace_rows.specs.Shorthands.{line_a, read_once, dvm_complete, dvm_message, whole_line, repeated_line, store, get}
+use Rattle.ace_model.specs.CacheRules.{full_line}
+use Rattle.ace_rows.specs.Shorthands.{line_a, read_once, dvm_complete, dvm_message, repeated_line, store, get}
 use Rattle.ace_rows.specs.Shortest.{read_half, write_half}
 
 -- both ports get the line in UniqueClean
@@ -26,7 +27,7 @@ loads_old_data = both_unique ++ store 1 0x22 ∷ L 0 line_a 0 false 0 ∷ []
 -- port 1 stores to the line between the exclusive load and the exclusive store of port 0
 abbrev pub stores_between : List Event
 stores_between =
-    both_unique ++ L 0 line_a 0 true 0 ∷ store 1 0x22 ∷ D 0 line_a whole_line true (repeated_line 0x11) ∷ []
+    both_unique ++ L 0 line_a 0 true 0 ∷ store 1 0x22 ∷ D 0 line_a full_line true (repeated_line 0x11) ∷ []
 
 -- a read is granted its line while one that was issued before the barrier waits for its own
 abbrev pub overtakes_a_barrier : List Event

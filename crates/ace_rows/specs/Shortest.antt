@@ -6,7 +6,8 @@ use Rattle.ace_event.specs.declared.event.Channel.TheVariants.{Read, Write}
 use Rattle.ace_event.specs.declared.event.Outcome.TheVariants.{Ok}
 use Rattle.ace_event.specs.declared.event.Event.{Event}
 use Rattle.ace_event.specs.declared.event.Event.TheVariants.{Ar, R, Rk, Aw, W, B, Wk, Ac, Cr, Cd, G, M, S, L, D, Op}
-use Rattle.ace_rows.specs.Shorthands.{read_once, read_unique, write_unique, write_back, dvm_complete, dvm_message, memory_barrier, line_a, repeated_line, whole_line, one_transfer, four_writes, issue_read, issue_exclusive, issue_write, ask, snoop, store, make}
+use Rattle.ace_model.specs.CacheRules.{full_line}
+use Rattle.ace_rows.specs.Shorthands.{read_once, read_unique, write_unique, write_back, dvm_complete, dvm_message, memory_barrier, line_a, repeated_line, one_transfer, four_writes, issue_read, issue_exclusive, issue_write, ask, snoop, store, make}
 
 -- port 0 issues the half of a memory barrier on the read channel, on the write channel
 abbrev pub read_half : Event
@@ -156,7 +157,7 @@ breaks_k32 = store 0 0 ∷ []
 
 -- an exclusive store with no exclusive load
 abbrev pub breaks_k33 : List Event
-breaks_k33 = make 0 0 ++ D 0 line_a whole_line true (repeated_line 0) ∷ []
+breaks_k33 = make 0 0 ++ D 0 line_a full_line true (repeated_line 0) ∷ []
 
 -- a barrier is answered before its other half is issued
 abbrev pub breaks_k34 : List Event

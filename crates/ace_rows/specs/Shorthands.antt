@@ -7,6 +7,7 @@ use Rattle.ace_event.specs.declared.line.Line.{Line}
 use Rattle.ace_event.specs.declared.event.Channel.TheVariants.{Read}
 use Rattle.ace_event.specs.declared.event.Event.{Event}
 use Rattle.ace_event.specs.declared.event.Event.TheVariants.{Ar, R, Rk, Aw, W, Ac, Cd, G, D}
+use Rattle.ace_model.specs.CacheRules.{full_line}
 
 -- the ports of a trace, port 0 the last bit
 abbrev pub one_ace : Header
@@ -102,10 +103,6 @@ abbrev pub repeated_line : ℕ → Line
 repeated_line byte =
     record { words = repeated_word byte ∷ repeated_word byte ∷ repeated_word byte ∷ repeated_word byte ∷ [] }
 
--- the strobe of a store to the whole line
-abbrev pub whole_line : ℕ
-whole_line = 0xffffffffffffffff
-
 -- the four transfers of a read of the line, with this response and byte
 abbrev pub four_transfers : ℕ → ℕ → ℕ → List Event
 four_transfers p resp byte =
@@ -148,7 +145,7 @@ snoop p kind = Ac p line_a kind
 
 -- the port stores this byte to the whole line
 abbrev pub store : ℕ → ℕ → Event
-store p byte = D p line_a whole_line false (repeated_line byte)
+store p byte = D p line_a full_line false (repeated_line byte)
 
 -- the port gets the line of zeros by a ReadUnique, in UniqueClean
 abbrev pub get : ℕ → List Event
