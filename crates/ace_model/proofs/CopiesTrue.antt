@@ -31,7 +31,7 @@ use Rattle.ace_model.proofs.HolderAcknowledge.{is_named_by_rk}
 use Rattle.ace_model.proofs.StateRises.{state_moves, stays_empty}
 use Rattle.ace_model.proofs.FirstBegins.{may_of}
 use Rattle.ace_model.proofs.MergedLines.{merged-whole}
-use Rattle.ace_model.proofs.LineStores.{stores_d, value_moves, full_some}
+use Rattle.ace_model.proofs.LineStores.{stores_d, value_moves, full_some, make_unique_is}
 use Rattle.ace_model.proofs.LineReadEnds.{read_ends}
 use Rattle.ace_model.proofs.WritesAlone.{all_empty}
 use Rattle.ace_model.proofs.ValueFacts.{Facts}
@@ -118,7 +118,7 @@ copies_rk h past q st a f l p t held =
                 let beats : nat_eq (transfers past p r.id) (beats_of r.kind) ≡ true = subst (λ v. is_some_and v (λ k. transfers past p r.id == beats_of k) ≡ true) r.is_kind r.full in
                 let four : transfers past p r.id ≡ 4 = eqb-true (transfers past p r.id) (beats_of r.kind) beats ∙ fetch_beats r.kind fetch in
                 (f.fetches p r.id l r.one r.kind r.out r.on r.is_kind fetch (full_some past p r.id r.one r.full)).whole four
-            | inr make ↦ f.made p r.id l r.one r.out r.on (r.is_kind ∙ ap (λ v. Some v) (make_is r.kind make)) (r.stored make)
+            | inr make ↦ f.made p r.id l r.one r.out r.on (r.is_kind ∙ ap (λ v. Some v) (make_unique_is r.kind make)) (r.stored make)
           ]
     ]
   where
@@ -135,10 +135,6 @@ copies_rk h past q st a f l p t held =
     fetch_beats read.ReadShared e = refl
     fetch_beats read.ReadUnique e = refl
     fetch_beats k e = cc
-
-    make_is : (k : ArKind) → is_make_unique k ≡ true → k ≡ read.MakeUnique
-    make_is read.MakeUnique e = refl
-    make_is k e = cc
 
 -- the line read that a transfer completes finds its port with nothing
 pub received_empty : (h : Header) (past : Trace) (q j resp : ℕ) (last : Bool) (word p l : ℕ) → IsAccepted h (R q j resp last word ∷ past)

@@ -6,44 +6,28 @@ use Rattle.ace_codes.specs.declared.state.LineState.TheVariants.{I}
 use Rattle.ace_event.specs.declared.header.Header.{Header}
 use Rattle.ace_event.specs.declared.event.Event.{Event}
 use Rattle.ace_event.specs.declared.event.Event.TheVariants.{L, D, M}
-use Rattle.ace_tables.specs.States.{is_invalid}
+use Rattle.ace_tables.specs.States.{is_invalid, is_unique}
 use Rattle.ace_model.specs.declared.transactions.Transaction.{Transaction}
 use Rattle.ace_model.specs.Trace.{Trace, is_some_and}
-use Rattle.ace_model.specs.Transactions.{is_line, is_on, transaction_of}
+use Rattle.ace_model.specs.Transactions.{is_on, transaction_of}
 use Rattle.ace_model.specs.States.{state_of}
 use Rattle.ace_model.specs.Monitors.{is_set_by, is_monitored}
 use Rattle.ace_model.specs.Values.{Store, stores_data, store_of}
-use Rattle.ace_model.specs.AddressRules.{k1}
-use Rattle.ace_model.specs.CacheRules.{k32, k33}
-use Rattle.ace_model.specs.WriteRules.{k24}
-use Rattle.ace_model.specs.Accepted.{rule, rules, IsAccepted}
+use Rattle.ace_model.specs.CacheRules.{k33}
+use Rattle.ace_model.specs.Accepted.{rule, IsAccepted}
 use Rattle.ace_model.specs.ExclusiveHolds.{is_exclusive_load, disturbs, is_undisturbed, ExclusiveHolds}
 use Rattle.ace_model.proofs.Kept.{accepted_keeps}
-use Rattle.ace_model.proofs.HolderKept.{kept}
-use Rattle.ace_model.proofs.HolderLaw.{inductive}
-use Rattle.ace_model.proofs.StoresAlone.{alone_d, alone_m}
+use Rattle.ace_model.proofs.HolderLaw.{accepted_holds}
+use Rattle.ace_model.proofs.LineStores.{stores_d, stores_m}
+use Rattle.ace_model.proofs.WritesAlone.{all_empty}
 
--- What it says that the M of a transaction stores to the line.
-record StoresTo (x : Transaction) (l : ℕ) : Type 0 where
-  stores : stores_data x ≡ true
-  line : is_line x ≡ true
-  addr : x.addr ≡ l
-
--- the M of another port's transaction
-disturbed_by : (past : Trace) (p l : ℕ) (o : Option Transaction) → is_some_and (option_and_then (store_of past l) o) (λ (s : Store). not (nat_eq s.port p)) ≡ true
-    → (x : Transaction) × (o ≡ Some x) × StoresTo x l × (x.port ≢ p)
-disturbed_by past p l None d = cc
-disturbed_by past p l (Some x) d =
+-- the write whose M stores to the line
+stored_by : (past : Trace) (l : ℕ) (o : Option Transaction) (test : Store → Bool) → is_some_and (option_and_then (store_of past l) o) test ≡ true
+    → (x : Transaction) × (o ≡ Some x) × ((stores_data x && is_on x l) ≡ true)
+stored_by past l None test d = cc
+stored_by past l (Some x) test d =
     elim (cases_Bool (stores_data x && is_on x l)) [
-      | inl t ↦
-          let parts = and_parts (stores_data x) (is_on x l) t in
-          let on = and_parts (is_line x) (nat_eq x.addr l) parts.1 in
-          let other : not (nat_eq x.port p) ≡ true = rw t at d in (
-            x,
-            refl,
-            record { stores = parts.0; line = on.0; addr = eqb-true x.addr l on.1 },
-            λ same. let bad : not true ≡ true = rw (eq-eqb x.port p same) at other in cc,
-          )
+      | inl t ↦ (x, refl, t)
       | inr none ↦ let bad : false ≡ true = rw none at d in cc
     ]
 
@@ -54,20 +38,18 @@ gone_at_store h past (D q addr strobe x line) p l a d =
       | inl here ↦
           let other : not (nat_eq q p) ≡ true = rw here at d in
           let apart : q ≢ p = λ same. let bad : not true ≡ true = rw (eq-eqb q p same) at other in cc in
-          let e : Event = D q addr strobe x line in
-          let none = alone_d h past q addr strobe x line (inductive rules kept h past a.0) (accepted_keeps 0 (rule 1 k1) h past e refl a)
-          (accepted_keeps 31 (rule 32 k32) h past e refl a) p apart in
+          let none : state_of h past p addr ≡ I =
+          elim (stores_d h past q addr strobe x line a) [
+            | inl may ↦ (accepted_holds h past a.0).unique addr q p (and_parts (is_unique (state_of h past q addr)) _ may).0 apart
+            | inr made ↦ made.alone p apart
+          ] in
           let off : nat_eq p q ≡ false = ne_eqb p q (λ same. apart (sym same)) in
           rw off (ap (state_of h past p) (eqb-true l addr here) ∙ none)
       | inr other ↦ let bad : false ≡ true = rw other at d in cc
     ]
 gone_at_store h past (M q c i line) p l a d =
-    let by = disturbed_by past p l (transaction_of past q c i) d in
-    let x = by.0 in
-    let s = by.2 in
-    let e : Event = M q c i line in
-    let none = alone_m h past q c i line x a.0 (inductive rules kept h past a.0) (accepted_keeps 23 (rule 24 k24) h past e refl a) by.1 s.stores s.line p by.3 in
-    ap (state_of h past p) (sym s.addr) ∙ none
+    let by = stored_by past l (transaction_of past q c i) _ d in
+    all_empty h past a.0 q c i l (stores_m h past q c i line l a by.0 by.1 by.2) p
 gone_at_store h past e p l a d = cc
 
 -- a port whose monitor was set before the event is undisturbed by it

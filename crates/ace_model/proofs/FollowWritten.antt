@@ -52,7 +52,7 @@ same_line-words a b t k few =
     word (suc (suc (suc (suc k)))) few e f g i = absurd (omega arith)
 
 -- a memory update writes its burst
-update-writes : (h : Header) (past : Trace) (y : Transaction) (k : AwKind) → is_update k ≡ true → data_of_write h past y k ≡ burst_line (burst_of past y)
+pub update-writes : (h : Header) (past : Trace) (y : Transaction) (k : AwKind) → is_update k ≡ true → data_of_write h past y k ≡ burst_line (burst_of past y)
 update-writes h past y write.WriteBack u = refl
 update-writes h past y write.WriteClean u = refl
 update-writes h past y write.WriteEvict u = refl

@@ -72,7 +72,6 @@ pub mod SnoopRows
 pub mod SnoopsPending
 pub mod Starts
 pub mod StateRises
-pub mod StoresAlone
 pub mod SyncCompleted
 pub mod SyncLaw
 pub mod UniqueLaw

@@ -130,7 +130,7 @@ pub record Made (h : Header) (past : Trace) (q l strobe : ℕ) : Type 0 where
   pub first : has_store h past q id ≡ false
   pub whole : strobe ≡ full_line
 
-make_unique_is : (k : ArKind) → is_make_unique k ≡ true → k ≡ read.MakeUnique
+pub make_unique_is : (k : ArKind) → is_make_unique k ≡ true → k ≡ read.MakeUnique
 make_unique_is read.MakeUnique e = refl
 make_unique_is k e = cc
 

@@ -33,6 +33,7 @@ use Rattle.ace_model.proofs.FetchesTrue.{value-length}
 use Rattle.ace_model.proofs.ValueStays.{value_updating}
 use Rattle.ace_model.proofs.GrantedOnes.{granted_at, passed_may, data_may, has_passed, granted_given, granted_write}
 use Rattle.ace_model.proofs.ValueFacts.{UpdatesTrue}
+use Rattle.ace_model.proofs.FollowWritten.{update-writes}
 
 -- The M of a transaction on the line.
 pub record WritesLine (h : Header) (past : Trace) (e : Event) (l : ℕ) : Type 0 where
@@ -162,12 +163,6 @@ update_is h past a f p i l x o on updates whole =
     (f p i l x 0 four.b0 o on updates (ap (λ bs. slice_get bs 0) four.is)) (f p i l x 1 four.b1 o on updates (ap (λ bs. slice_get bs 1) four.is))
     (f p i l x 2 four.b2 o on updates (ap (λ bs. slice_get bs 2) four.is)) (f p i l x 3 four.b3 o on updates (ap (λ bs. slice_get bs 3) four.is))
 
-update_data : (h : Header) (past : Trace) (x : Transaction) (k : AwKind) → is_update k ≡ true → data_of_write h past x k ≡ burst_line (burst_of past x)
-update_data h past x write.WriteBack u = refl
-update_data h past x write.WriteClean u = refl
-update_data h past x write.WriteEvict u = refl
-update_data h past x k u = cc
-
 -- an update makes memory the value
 pub update_true : (h : Header) (past : Trace) (e : Event) → IsAccepted h (e ∷ past) → InRange e → UpdatesTrue h past → (l : ℕ) (w : WritesLine h past e l) → ByUpdate h past w.one
     → memory_of (e ∷ past) l ≡ value_of (e ∷ past) l
@@ -178,7 +173,7 @@ update_true h past e a r f l w u =
     let out : outstanding h past w.port Write w.id ≡ Some x = ap (λ (c : Channel). outstanding h past w.port c w.id) (sym chan) ∙ w.out in
     let k = is_some_and-is (write_kind x) is_update u.updates in
     let is : data_of h past x ≡ Some (burst_line (burst_of past x)) =
-    from (is_read x.chan) u.writes _ _ ∙ ap (option_map (data_of_write h past x)) k.1 ∙ ap (λ v. Some v) (update_data h past x k.0 k.2) in
+    from (is_read x.chan) u.writes _ _ ∙ ap (option_map (data_of_write h past x)) k.1 ∙ ap (λ v. Some v) (update-writes h past x k.0 k.2) in
     let value = update_is h past a.0 f w.port w.id l x out w.on u.updates u.whole in
     let line = line_is h past e a r l w (burst_line (burst_of past x)) is (ap (λ (v : Line). length v.words) value ∙ value-length past l) in
     memory_now h past e l w ∙ line ∙ value ∙ sym (value_updating h past e a w.port w.id l x out w.on u.updates)

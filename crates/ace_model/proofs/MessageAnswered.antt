@@ -1,6 +1,6 @@
 -- A complete DVM message was answered by every other ACE port.
-use Rattle.std.proofs.Common.{◌≡◌, ◌≢◌, ℕ, zero, suc, ◌<◌, Bool, true, ◌&&◌, nat_eq, nat_lt, [], ◌∷◌, length, Some, None, refl, sym, ap, ◌∙◌, arith, inl, inr}
-use Rattle.std.proofs.lemmas.Bool.{cases_Bool, cases_eq, and_parts, and_from, or_cases, eqb-true, ne_eqb, ltb-true}
+use Rattle.std.proofs.Common.{◌≡◌, ◌≢◌, ℕ, ◌<◌, Bool, true, ◌&&◌, nat_eq, nat_lt, [], ◌∷◌, length, Some, None, refl, sym, ap, ◌∙◌, arith, inl, inr}
+use Rattle.std.proofs.lemmas.Bool.{cases_Bool, and_parts, and_from, or_cases, eqb-true, ne_eqb, ltb-true}
 use Rattle.ace_event.specs.declared.event.Channel.TheVariants.{Read, Write}
 use Rattle.ace_event.specs.declared.event.Event.{Event}
 use Rattle.ace_event.specs.declared.event.Event.TheVariants.{R, B, G, M}
@@ -10,7 +10,6 @@ use Rattle.ace_model.specs.Trace.{Trace, implies, is_some_and}
 use Rattle.ace_model.specs.Kinds.{is_dvm_message}
 use Rattle.ace_model.specs.Transactions.{is_ace, is_read, outstanding}
 use Rattle.ace_model.specs.Progress.{served_by, has_had, is_completion_event, is_completed}
-use Rattle.ace_model.specs.Grants.{each_port}
 use Rattle.ace_model.specs.Messages.{is_message, is_other_ace, has_answered}
 use Rattle.ace_model.specs.ReadRules.{k18, is_due}
 use Rattle.ace_model.specs.OrderRules.{k37, is_answered_by_all}
@@ -20,16 +19,7 @@ use Rattle.ace_model.proofs.Looks.{Some-injective, is_some_and-is, is_none_or-at
 use Rattle.ace_model.proofs.Growth.{issued_at-before, IsIssued}
 use Rattle.ace_model.proofs.Issued.{issued_at, transaction_of-stands, outstanding-named}
 use Rattle.ace_model.proofs.Points.{has_answered-grown}
-
--- what holds of each port holds of this one
-pub each_port-at : (n : ℕ) (test : ℕ → Bool) (q : ℕ) → each_port n test ≡ true → q < n → test q ≡ true
-each_port-at zero test q e lt = absurd (omega arith)
-each_port-at (suc n) test q e lt =
-    let parts = and_parts (test n) (each_port n test) e in
-    elim (cases_eq q n) [
-      | inl same ↦ ap test same ∙ parts.0
-      | inr other ↦ each_port-at n test q parts.1 (omega (arith, other))
-    ]
+use Rattle.ace_model.proofs.HolderFirst.{each_at}
 
 -- an ACE port other than p is one of the header
 pub other_ace : (h : Header) (p q : ℕ) → is_ace h q ≡ true → q ≢ p → (is_other_ace h p q ≡ true) × (q < h.ports)
@@ -111,4 +101,4 @@ complete_message-answered h (e ∷ past) x a there c m q ace other =
         let same : y.0 ≡ x = Some-injective y.0 x (sym (served_by-issued past e y.0 y.1).there ∙ ap (issued_at past) place ∙ old) in
         let all = completion-answered h past e x a parts.0 (y.1 ∙ ap Some same) m in
         let is = other_ace h x.port q ace other in
-        implies-at (is_other_ace h x.port q) (has_answered past x q) (each_port-at h.ports (λ r. implies (is_other_ace h x.port r) (has_answered past x r)) q all is.1) is.0
+        implies-at (is_other_ace h x.port q) (has_answered past x q) (each_at h.ports (λ r. implies (is_other_ace h x.port r) (has_answered past x r)) q all is.1) is.0

@@ -19,8 +19,9 @@ use Rattle.ace_model.proofs.Looks.{Some-injective, is_some_and-is, is_none_or-at
 use Rattle.ace_model.proofs.Issued.{issued-place}
 use Rattle.ace_model.proofs.Points.{fewer_messages}
 use Rattle.ace_model.proofs.Growth.{issued_at-before, IsIssued}
-use Rattle.ace_model.proofs.MessageAnswered.{each_port-at, other_ace, complete_message-answered}
+use Rattle.ace_model.proofs.MessageAnswered.{other_ace, complete_message-answered}
 use Rattle.ace_model.proofs.SyncCompleted.{sync-completed}
+use Rattle.ace_model.proofs.HolderFirst.{each_at}
 
 -- the last Sync of a port stands in the trace, and is one of the port
 record IsSyncOf (past : Trace) (p : ℕ) (x : Transaction) : Type 0 where
@@ -78,7 +79,7 @@ done_with h past p x a l may q ace other =
     let sync = complete_message-answered h past x a s.issued.there completed message q ace apart in
     let is = other_ace h x.port q ace apart in
     let counts = implies-at (is_other_ace h x.port q) (nat_le (sync_number past x q) (dvm_completes past q))
-    (each_port-at h.ports (λ r. implies (is_other_ace h x.port r) (nat_le (sync_number past x r) (dvm_completes past r))) q parts.1 is.1) is.0 in
+    (each_at h.ports (λ r. implies (is_other_ace h x.port r) (nat_le (sync_number past x r) (dvm_completes past r))) q parts.1 is.1) is.0 in
     let enough = leb-true (sync_number past x q) (dvm_completes past q) counts in
     record {
       sync = sync;

@@ -53,6 +53,7 @@ use Rattle.ace_model.proofs.PassedTrue.{passed_safe, passed_step}
 use Rattle.ace_model.proofs.PassedFirst.{first_passes}
 use Rattle.ace_model.proofs.ValueFacts.{WrittenTrue, Facts}
 use Rattle.ace_model.proofs.HolderLaw.{accepted_holds}
+use Rattle.ace_model.proofs.LineStores.{make_unique_is}
 
 -- The read of a granted line that an RK ends.
 record EndsGranted (h : Header) (past : Trace) (q : ℕ) (st : LineState) (l : ℕ) (x : Transaction) : Type 0 where
@@ -71,16 +72,12 @@ ends_granted h past q st a l x g z is same =
     let r = read_ends h past q st a q l t in
     record { r = r; same = Some-injective r.one x (sym r.ends_it ∙ is ∙ ap Some one); after = rw t refl }
 
-make_is : (k : ArKind) → is_make_unique k ≡ true → k ≡ read.MakeUnique
-make_is read.MakeUnique e = refl
-make_is k e = cc
-
 -- a read that replaces the line is a MakeUnique
 read_replaces : (x : Transaction) (k : ArKind) → read_kind x ≡ Some k → replaces_line x ≡ true → k ≡ read.MakeUnique
 read_replaces x k kind t =
     let none = (read_writes_none x k kind).0 in
     elim (or_cases (is_some_and (read_kind x) is_make_unique) (is_some_and (write_kind x) is_write_line_unique) t) [
-      | inl make ↦ make_is k (subst (λ o. is_some_and o is_make_unique ≡ true) kind make)
+      | inl make ↦ make_unique_is k (subst (λ o. is_some_and o is_make_unique ≡ true) kind make)
       | inr line ↦ let bad : false ≡ true = rw none at line in cc
     ]
 

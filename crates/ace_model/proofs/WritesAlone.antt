@@ -24,8 +24,13 @@ use Rattle.ace_model.proofs.HolderFirst.{done_port}
 use Rattle.ace_model.proofs.StateRises.{stays_empty}
 use Rattle.ace_model.proofs.LineStores.{Writes, stores_kind}
 use Rattle.ace_model.proofs.ShareableLines.{no_snoop_unheld}
-use Rattle.ace_model.proofs.StoresAlone.{unique_write_snoops}
 use Rattle.ace_model.proofs.HolderLaw.{accepted_holds}
+use Rattle.ace_codes.specs.declared.kind.SnoopKind.TheVariants as snoop
+
+unique_write_snoops : (k : AwKind) → is_unique_write k ≡ true → (s : SnoopKind) × (snoop_of_write k ≡ Some s) × (invalidates s ≡ true)
+unique_write_snoops write.WriteUnique e = (snoop.CleanInvalid, refl, refl)
+unique_write_snoops write.WriteLineUnique e = (snoop.MakeInvalid, refl, refl)
+unique_write_snoops k e = cc
 
 granted_kind : (k : AwKind) → (is_unique_write k || is_no_snoop_write k) ≡ true → is_granted_write k ≡ true
 granted_kind write.WriteNoSnoop u = refl
