@@ -16,7 +16,7 @@ use Rattle.ace_model.specs.Grants.{given, newest_on, granted}
 use Rattle.ace_model.specs.AddressRules.{has_known_codes}
 use Rattle.ace_model.specs.Accepted.{IsAcceptedBy, least_of}
 use Rattle.ace_model.specs.Today.{is_known_today, rules_today}
-use Rattle.ace_model.proofs.Kept.{KeptToday, kept_today}
+use Rattle.ace_model.proofs.Rules.Keeps.{kept}
 
 -- there is no transaction, or it isn't exclusive
 abbrev pub Unlocked : Option Transaction → Type 0
@@ -33,8 +33,8 @@ no_lock (Some _) lock ace r h = cc
 
 issued_unlocked : (h : Header) (past : Trace) (e : Event) → least_of rules_today h past e ≡ None → Unlocked (issued (length past) e)
 issued_unlocked h past (Ar p i addr snoop dom bar lock) none =
-    let k : KeptToday h past (Ar p i addr snoop dom bar lock) = kept_today h past (Ar p i addr snoop dom bar lock) none in
-    no_lock (ar_kind_of snoop dom bar) lock (is_ace h p) (and_parts (has_known_codes h (Ar p i addr snoop dom bar lock)) (is_known_today (Ar p i addr snoop dom bar lock)) k.rule_2).1 k.rule_7
+    let known = kept rules_today 2 h past (Ar p i addr snoop dom bar lock) none in
+    no_lock (ar_kind_of snoop dom bar) lock (is_ace h p) (and_parts (has_known_codes h (Ar p i addr snoop dom bar lock)) (is_known_today (Ar p i addr snoop dom bar lock)) known).1 (kept rules_today 7 h past (Ar p i addr snoop dom bar lock) none)
 issued_unlocked h past (Aw p i addr snoop dom bar) none = refl
 issued_unlocked h past _ none = tt
 

@@ -2,8 +2,8 @@
 use Rattle.std.proofs.Common.{◌≡◌, ℕ, List, Option, None, Some, IfSome, refl, codes, arith}
 use Rattle.std.specs.Io.KnownBytes.{Appends, IsAtEnd}
 use Rattle.ace_model.specs.Today.{rules_today}
-use Rattle.ace_model.proofs.FirstBreak.{no_break_accepted}
-use Rattle.ace_model.proofs.UniqueLaw.{accepted_unique}
+use Rattle.ace_model.proofs.Rules.FirstBreak.{no_break_accepted}
+use Rattle.ace_model.proofs.Holders.Today.{accepted_unique}
 use Rattle.ace_top.specs.declared.answer.Answer.{Answer}
 use Rattle.ace_top.specs.declared.answer.Answer.TheVariants.{Accepted, Refused, Shown, Usage, Malformed, ReadFault, LimitEvents, NoMemory}
 use Rattle.ace_top.specs.declared.words.Command.TheVariants.{Check}

@@ -11,7 +11,7 @@ use Rattle.ace_event.specs.Text.{trace_text, events_text, header_text, event_tex
 use Rattle.ace_grammar.specs.Reading.{Reads, Whole, Full, Bad, IsReadable, IsReadableHeader, HasBadLine, IfTold, most_events}
 use Rattle.ace_model.specs.Accepted.{IsAcceptedBy}
 use Rattle.ace_model.specs.Today.{rules_today}
-use Rattle.ace_model.proofs.FirstBreak.{accepted_no_break, next_breaks}
+use Rattle.ace_model.proofs.Rules.FirstBreak.{accepted_no_break, next_breaks}
 use Rattle.ace_top.specs.declared.answer.Answer.{Answer}
 use Rattle.ace_top.specs.declared.answer.Answer.TheVariants.{Accepted, Refused, Shown, Usage, Malformed, ReadFault, LimitEvents, NoMemory}
 use Rattle.ace_io.specs.Line.{in_front}

@@ -1,4 +1,4 @@
-use Rattle.ace_model.proofs.HolderLaw.{accepted_unique, accepted_one_dirty}
+use Rattle.ace_model.proofs.Holders.Law.{accepted_unique, accepted_one_dirty}
 use Rattle.ace_model.proofs.laws.accepted_line_has_one_holder.Goals as goal
 
 pub returns-clause-unique : goal.returns-clause-unique

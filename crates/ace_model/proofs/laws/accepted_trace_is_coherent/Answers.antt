@@ -1,4 +1,4 @@
-use Rattle.ace_model.proofs.CoherenceLaw.{accepted_coherent}
+use Rattle.ace_model.proofs.Coherence.{accepted_coherent}
 use Rattle.ace_model.proofs.laws.accepted_trace_is_coherent.Goals as goal
 
 pub returns : goal.returns

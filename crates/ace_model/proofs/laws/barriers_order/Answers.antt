@@ -1,4 +1,4 @@
-use Rattle.ace_model.proofs.BarrierOrder.{accepted_barriers_order}
+use Rattle.ace_model.proofs.Barriers.Law.{accepted_barriers_order}
 use Rattle.ace_model.proofs.laws.barriers_order.Goals as goal
 
 pub returns : goal.returns

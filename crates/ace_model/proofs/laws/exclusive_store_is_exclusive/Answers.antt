@@ -1,4 +1,4 @@
-use Rattle.ace_model.proofs.ExclusiveLaw.{accepted_exclusive_holds}
+use Rattle.ace_model.proofs.Exclusives.Law.{accepted_exclusive_holds}
 use Rattle.ace_model.proofs.laws.exclusive_store_is_exclusive.Goals as goal
 
 pub returns : goal.returns

@@ -1,7 +1,7 @@
 use Rattle.std.proofs.Common.{◌≡◌, None, reverse, subst}
 use Rattle.std.proofs.lemmas.List.{reverse-reverse}
 use Rattle.ace_model.specs.Accepted.{first_break_by}
-use Rattle.ace_model.proofs.FirstBreak.{first_break_is_first, first_is_first_break, no_break_accepted, accepted_no_break}
+use Rattle.ace_model.proofs.Rules.FirstBreak.{first_break_is_first, first_is_first_break, no_break_accepted, accepted_no_break}
 use Rattle.ace_model.proofs.laws.first_break_is_exact.Goals as goal
 
 pub returns-clause-some : goal.returns-clause-some

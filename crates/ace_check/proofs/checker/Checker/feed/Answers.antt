@@ -5,8 +5,8 @@ use Rattle.ace_model.specs.Trace.{Trace}
 use Rattle.ace_model.specs.Accepted.{is_accepted_by}
 use Rattle.ace_model.specs.Today.{rules_today}
 use Rattle.ace_model.specs.Unique.{Unique}
-use Rattle.ace_model.proofs.Acceptance.{accepted_of}
-use Rattle.ace_model.proofs.UniqueLaw.{accepted_unique}
+use Rattle.ace_model.proofs.Rules.Acceptance.{accepted_of}
+use Rattle.ace_model.proofs.Holders.Today.{accepted_unique}
 use Rattle.ace_check.proofs.checker.Checker.feed.Goals as goal
 
 -- a trace that passes the test is unique

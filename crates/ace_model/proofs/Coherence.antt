@@ -1,0 +1,18 @@
+-- An accepted trace in range is coherent.
+use Rattle.std.specs.List.{AllByRecursion}
+use Rattle.ace_event.specs.declared.header.Header.{Header}
+use Rattle.ace_event.specs.Range.{InRange}
+use Rattle.ace_model.specs.Trace.{Trace}
+use Rattle.ace_model.specs.Accepted.{IsAccepted}
+use Rattle.ace_model.specs.Coherent.{Coherent}
+use Rattle.ace_model.proofs.Holders.Law.{accepted_unique, accepted_one_dirty}
+use Rattle.ace_model.proofs.Values.Law.{dirty_data_placed}
+use Rattle.ace_model.proofs.ReadsFollow.Law.{reads_follow}
+
+pub accepted_coherent : (h : Header) (past : Trace) → IsAccepted h past → AllByRecursion InRange past → Coherent h past
+accepted_coherent h past a r = record {
+  unique = accepted_unique h past a;
+  one_dirty = accepted_one_dirty h past a;
+  dirty_place = dirty_data_placed h past a r;
+  reads_follow = reads_follow h past a (dirty_data_placed h past a r);
+}

@@ -1,0 +1,4 @@
+pub mod Answered
+pub mod Completed
+pub mod Forwarding
+pub mod Law

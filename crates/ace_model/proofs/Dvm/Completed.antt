@@ -1,0 +1,114 @@
+-- The DVM Completes of a port come after its answers to the Syncs that they complete.
+use Rattle.std.proofs.Common.{◌≡◌, ℕ, ◌+◌, ◌-◌, ◌≤◌, ◌<◌, Bool, true, ◌&&◌, cond, nat_eq, nat_lt, List, [], ◌∷◌, ◌++◌, length, filter, slice_get, count_by, Option, Some, None, refl, sym, ap, subst, ◌∙◌, arith, inl, inr}
+use Rattle.std.proofs.lemmas.Bool.{cases_Bool, cases_lt, and_parts, eqb-true, ltb-true, lt-ltb}
+use Rattle.std.proofs.lemmas.List.Sums.{sum_by-append, length-filter}
+use Rattle.ace_event.specs.declared.event.Event.{Event}
+use Rattle.ace_event.specs.declared.header.Header.{Header}
+use Rattle.ace_model.specs.declared.transactions.Transaction.{Transaction}
+use Rattle.ace_model.specs.Trace.{Trace, at_point, more}
+use Rattle.ace_model.specs.Transactions.{issued}
+use Rattle.ace_model.specs.Progress.{transactions, IsTransaction}
+use Rattle.ace_model.specs.Snoops.{snoops_of, answers}
+use Rattle.ace_model.specs.Messages.{is_sync, messages_for, syncs_for, is_dvm_completion, dvm_completes, answered_snoops, answered_messages, answered_syncs, has_answered}
+use Rattle.ace_model.specs.DvmHolds.{HasCompleted}
+use Rattle.ace_model.specs.OrderRules.{k38, owes_completion}
+use Rattle.ace_model.specs.Accepted.{IsAccepted}
+use Rattle.ace_model.proofs.Rules.Keeps.{accepted_keeps}
+use Rattle.ace_model.proofs.Trace.Looks.{is_none_or-at, implies-at}
+use Rattle.ace_model.proofs.Trace.OneMore.{slice_get-at_end}
+use Rattle.ace_model.proofs.Trace.Issued.{issued-place}
+use Rattle.ace_model.proofs.Trace.Starts.{start-more, slice_get-start, count_by-cons}
+use Rattle.ace_model.proofs.Trace.Growth.{at_point-before}
+use Rattle.ace_model.proofs.Trace.Points.{accepted-before, messages-before, fewer_messages-twice, at_point-now}
+use Rattle.ace_model.proofs.Dvm.Forwarding.{Forwards, forwards-grow, forwards-take, forwards-syncs, accepted_forwards}
+
+-- the DVM Complete of the port that so many came before: the port had answered more Syncs by then
+pub record IsOwed (past : Trace) (q m : ℕ) : Type 0 where
+  pub completion : Transaction
+  pub there : IsTransaction past completion
+  pub kind : is_dvm_completion completion ≡ true
+  pub port : completion.port ≡ q
+  pub before : completion.place < length past
+  pub answered : m < answered_syncs (at_point completion.place past) q
+
+-- it is owed in a longer trace too
+owed-grown : (e : Event) (past : Trace) (q m : ℕ) → IsOwed past q m → IsOwed (e ∷ past) q m
+owed-grown e past q m o = record {
+  completion = o.completion;
+  there = (o.there.0, slice_get-start (transactions past) (transactions (e ∷ past)) o.there.0 o.completion (start-more (transactions past) (issued (length past) e)) o.there.1);
+  kind = o.kind;
+  port = o.port;
+  before = let b = o.before in omega arith;
+  answered = let b = o.before in let a = o.answered in rw (at_point-before e past o.completion.place (omega arith)) a;
+}
+
+-- what the rule on DVM Completes says of one that the event issues
+owed-now : (h : Header) (e : Event) (past : Trace) (x : Transaction)
+    → issued (length past) e ≡ Some x → is_dvm_completion x ≡ true → k38 h past e ≡ true → IsOwed (e ∷ past) x.port (dvm_completes past x.port)
+owed-now h e past x new kind k =
+    let place = issued-place (length past) e x new in
+    let owes = implies-at (is_dvm_completion x) (nat_lt (dvm_completes past x.port) (answered_syncs past x.port)) (is_none_or-at (issued (length past) e) (owes_completion past) x k new) kind in
+    let point : at_point x.place (e ∷ past) ≡ past = ap (λ n. at_point n (e ∷ past)) place ∙ at_point-now e past in
+    record {
+      completion = x;
+      there = (length (transactions past), ap (λ o. slice_get (more (transactions past) o) (length (transactions past))) new ∙ slice_get-at_end (transactions past) (length (transactions past)) x refl);
+      kind = kind;
+      port = refl;
+      before = omega (arith, place);
+      answered = rw point (ltb-true _ _ owes);
+    }
+
+-- where a count passes m with one more transaction, this one passes the test
+completes-more : (xs : List Transaction) (new : Option Transaction) (test : Transaction → Bool) (m : ℕ) → m < count_by test (more xs new) → count_by test xs ≤ m
+    → (x : Transaction) × (new ≡ Some x) × (test x ≡ true) × (m ≡ count_by test xs)
+completes-more xs None test m lt le = absurd (omega arith)
+completes-more xs (Some x) test m lt le =
+    let sum : count_by test (xs ++ x ∷ []) ≡ count_by test xs + count_by test (x ∷ []) = sum_by-append (λ y. cond (test y) 1 0) xs (x ∷ []) in
+    let one = count_by-cons test x [] in
+    let none : count_by test [] ≡ 0 = refl in
+    elim (cases_Bool (test x)) [
+      | inl t ↦ let is : cond {A = ℕ} (test x) 1 0 ≡ 1 = rw t refl in (x, refl, t, omega arith)
+      | inr f ↦ let is : cond {A = ℕ} (test x) 1 0 ≡ 0 = rw f refl in absurd (omega arith)
+    ]
+
+-- in an accepted trace each DVM Complete of a port is owed
+pub completes-owed : (h : Header) (past : Trace) (q m : ℕ) → IsAccepted h past → m < dvm_completes past q → IsOwed past q m
+completes-owed h [] q m a lt = absurd (omega arith)
+completes-owed h (e ∷ past) q m a lt =
+    elim (cases_lt m (dvm_completes past q)) [
+      | inl old ↦ owed-grown e past q m (completes-owed h past q m a.0 old)
+      | inr new ↦
+          let x = completes-more (transactions past) (issued (length past) e) (λ x. is_dvm_completion x && nat_eq x.port q) m lt new in
+          let parts = and_parts (is_dvm_completion x.0) (nat_eq x.0.port q) x.2 in
+          let port : x.0.port ≡ q = eqb-true x.0.port q parts.1 in
+          let owed = owed-now h e past x.0 x.1 parts.0 (accepted_keeps h past e a).rule_38 in
+          let here : IsOwed (e ∷ past) q (dvm_completes past q) = subst (λ r. IsOwed (e ∷ past) r (dvm_completes past r)) port owed in
+          subst (λ n. IsOwed (e ∷ past) q n) (sym x.3) here
+    ]
+
+-- a port that has answered more Syncs than came before this one, among its messages, has answered this one
+answered-by_count : (h : Header) (past : Trace) (x : Transaction) (q n : ℕ) → IsAccepted h past
+    → length (syncs_for (at_point x.place past) q) < answered_syncs (at_point n past) q → has_answered (at_point n past) x q ≡ true
+answered-by_count h past x q n a lt =
+    let then = at_point n past in
+    let first = messages_for (at_point x.place past) q in
+    let start = messages-before (length past - x.place) past q in
+    let forwards : Forwards (snoops_of then q) (messages_for then q) = accepted_forwards h then q (accepted-before h (length past - n) past a) in
+    let of_all : Forwards (snoops_of then q) (messages_for past q) = forwards-grow (snoops_of then q) (messages_for then q) (messages_for past q) (messages-before (length past - n) past q) forwards in
+    let of_answered : Forwards (answered_snoops then q) (messages_for past q) = forwards-take (answers then q) (snoops_of then q) (messages_for past q) of_all in
+    let fewer = fewer_messages-twice x.place n past q in
+    let counted : length (filter is_sync first) ≡ count_by is_sync first = length-filter is_sync first in
+    elim (cases_lt (length first) (answered_messages then q)) [
+      | inl more_messages ↦ lt-ltb (length (messages_for (at_point x.place then) q)) (answered_messages then q) (omega arith)
+      | inr as_few ↦
+          let syncs : answered_syncs then q ≤ count_by is_sync first =
+          forwards-syncs (answered_snoops then q) first start.rest (subst (Forwards (answered_snoops then q)) (sym start.joined) of_answered) as_few in
+          absurd (omega arith)
+    ]
+
+-- a port that has issued more DVM Completes than Syncs came before this one has completed this one
+pub sync-completed : (h : Header) (past : Trace) (x : Transaction) (q : ℕ) → IsAccepted h past
+    → length (syncs_for (at_point x.place past) q) < dvm_completes past q → HasCompleted past x q
+sync-completed h past x q a lt =
+    let o = completes-owed h past q (length (syncs_for (at_point x.place past) q)) a lt in
+    (o.completion, o.there, o.kind, o.port, answered-by_count h past x q o.completion.place a o.answered)

@@ -1,0 +1,7 @@
+pub mod Answers
+pub mod Begins
+pub mod Granted
+pub mod Pending
+pub mod SnoopAnswers
+pub mod SnoopedOnce
+pub mod Stays

@@ -1,0 +1,264 @@
+-- A granted transaction has had its G, which comes before its M.
+use Rattle.std.proofs.Common.{◌≡◌, ◌⊎◌, ℕ, true, false, not, ◌&&◌, ◌||◌, nat_eq, [], ◌∷◌, length, Option, Some, None, is_some, refl, sym, ap, subst, ◌∙◌, inl, inr}
+use Rattle.std.proofs.lemmas.Bool.{and_parts, or_cases, or_left, or_right, not-true, cases_Bool, eqb-true, eq-eqb}
+use Rattle.ace_codes.specs.declared.kind.AwKind.{AwKind}
+use Rattle.ace_codes.specs.declared.kind.AwKind.TheVariants as write
+use Rattle.ace_codes.specs.Responses.{passes_dirty}
+use Rattle.ace_event.specs.declared.event.Channel.{Channel}
+use Rattle.ace_event.specs.declared.event.Event.{Event}
+use Rattle.ace_event.specs.declared.event.Event.TheVariants.{Ar, Aw, G, M}
+use Rattle.ace_event.specs.declared.header.Header.{Header}
+use Rattle.ace_event.specs.declared.line.Line.{Line}
+use Rattle.ace_model.specs.declared.snoops.Answer.{Answer}
+use Rattle.ace_model.specs.declared.transactions.Transaction.{Transaction}
+use Rattle.ace_model.specs.Trace.{Trace, is_some_and}
+use Rattle.ace_model.specs.Kinds.{is_update, is_granted_write, is_line_read}
+use Rattle.ace_model.specs.Transactions.{is_read, is_named, read_kind, write_kind, same_channel, issued, ended, outstanding, without, takes_grant}
+use Rattle.ace_model.specs.Progress.{updates_memory}
+use Rattle.ace_model.specs.Writes.{is_memory_write, has_memory_write, is_burst_whole}
+use Rattle.ace_model.specs.Grants.{given, granted, is_granted, has_grant, answer_of, passes, passer, has_passed_data, gives_line}
+use Rattle.ace_model.specs.SnoopRules.{may_be_granted}
+use Rattle.ace_model.specs.WriteRules.{may_write_memory, may_write_passed, may_write_data, is_write_due, is_update_due}
+use Rattle.ace_model.specs.Accepted.{IsAccepted}
+use Rattle.ace_model.proofs.Trace.Looks.{Some-injective, some_is, is_some_and-is, is_some_and-at, same_channel-is, has_name-self, has_name-is, newest_named-cases, newest_on-cases, without-some}
+use Rattle.ace_model.proofs.Trace.Issued.{same_place, outstanding-named, transaction_of-stands}
+use Rattle.ace_model.proofs.Rules.Keeps.{accepted_keeps}
+use Rattle.ace_model.proofs.Holders.FirstTransfer.{found_passes}
+use Rattle.ace_model.proofs.Grants.Stays.{issued_apart}
+use Rattle.ace_model.proofs.Grants.Begins.{then_of, else_of}
+use Rattle.ace_model.proofs.Holders.Law.{accepted_holds}
+
+-- an event gives no other transaction the name of an outstanding one
+pub not_named : (h : Header) (past : Trace) (e : Event) → IsAccepted h (e ∷ past) → (p : ℕ) (c : Channel) (i : ℕ) (x : Transaction)
+    → outstanding h past p c i ≡ Some x → is_named (issued (length past) e) p c i ≡ false
+not_named h past e a p c i x o = by (issued (length past) e) refl
+  where
+    by : (n : Option Transaction) → issued (length past) e ≡ n → is_named n p c i ≡ false
+    by None s = refl
+    by (Some y) s = issued_apart h past e a p c i x y o s
+
+-- A granted transaction is of a kind that is granted, and has had its G.
+pub record Given (past : Trace) (x : Transaction) : Type 0 where
+  pub kind : takes_grant x ≡ true
+  pub had : has_grant past x.port x.chan x.id ≡ true
+
+pub granted_given : (h : Header) (past : Trace) → IsAccepted h past → (l : ℕ) (x : Transaction) → granted h past l ≡ Some x → Given past x
+granted_given h [] a l x g = cc
+granted_given h (e ∷ past) a l x g =
+    elim (newest_on-cases (given past e) l (without (ended h past e) (granted h past l)) x g) [
+      | inl new ↦ by e a new.0
+      | inr old ↦
+          let was = (without-some (ended h past e) (granted h past l) x old.0).0 in
+          let r = granted_given h past a.0 l x was in
+          let o = ((accepted_holds h past a.0).grants l x was).0 in
+          record {
+            kind = r.kind;
+            had = or_right (is_named (given past e) x.port x.chan x.id) (not (is_named (issued (length past) e) x.port x.chan x.id) && has_grant past x.port x.chan x.id)
+                (rw (not_named h past e a x.port x.chan x.id x o) r.had);
+          }
+    ]
+  where
+    by : (d : Event) → IsAccepted h (d ∷ past) → given past d ≡ Some x → Given (d ∷ past) x
+    by (G q c j) a n =
+        let z = is_some_and-is (outstanding h past q c j) (may_be_granted h past) (accepted_keeps h past (G q c j) a).rule_12 in
+        let one : z.0 ≡ x = Some-injective z.0 x (sym (outstanding-named h past q c j z.0 z.1) ∙ n) in
+        let m : may_be_granted h past x ≡ true = subst (λ y. may_be_granted h past y ≡ true) one z.2 in
+        let parts = and_parts (takes_grant x && not (has_grant past x.port x.chan x.id)) _ m in
+        record {
+          kind = (and_parts (takes_grant x) _ parts.0).0;
+          had = or_left (is_named (given past (G q c j)) x.port x.chan x.id) (not (is_named (issued (length past) (G q c j)) x.port x.chan x.id) && has_grant past x.port x.chan x.id)
+              (subst (λ o. is_named o x.port x.chan x.id ≡ true) (sym n) (has_name-self x));
+        }
+    by d a n = cc
+
+-- the granted transaction at its place is the outstanding one itself
+pub granted_at : (h : Header) (past : Trace) → IsAccepted h past → (p : ℕ) (c : Channel) (i : ℕ) (x : Transaction) → outstanding h past p c i ≡ Some x
+    → is_granted h past x ≡ true → granted h past x.addr ≡ Some x
+granted_at h past a p c i x o g =
+    let y = is_some_and-is (granted h past x.addr) (λ z. nat_eq z.place x.place) g in
+    let s = (accepted_holds h past a).grants x.addr y.0 y.1 in
+    let one : y.0 ≡ x = same_place past y.0.port p y.0.chan c y.0.id i y.0 x (outstanding-named h past y.0.port y.0.chan y.0.id y.0 s.0)
+    (outstanding-named h past p c i x o) (eqb-true y.0.place x.place y.2) in
+    y.1 ∙ ap Some one
+
+pub granted_is : (h : Header) (past : Trace) (l : ℕ) (x : Transaction) → granted h past l ≡ Some x → x.addr ≡ l → is_granted h past x ≡ true
+granted_is h past l x g addr =
+    let here : granted h past x.addr ≡ Some x = ap (granted h past) addr ∙ g in
+    rw here (eq-eqb x.place x.place refl)
+
+-- The M of the outstanding transaction.
+pub record WritesNow (h : Header) (past : Trace) (e : Event) (p : ℕ) (c : Channel) (i : ℕ) (x : Transaction) : Type 0 where
+  pub line : Line
+  pub is : e ≡ M p c i line
+  pub may : may_write_memory h past x ≡ true
+
+pub writes_now : (h : Header) (past : Trace) (e : Event) → IsAccepted h (e ∷ past) → (p : ℕ) (c : Channel) (i : ℕ) (x : Transaction)
+    → outstanding h past p c i ≡ Some x → is_memory_write e p c i ≡ true → WritesNow h past e p c i x
+writes_now h past (M q d j line) a p c i x o t =
+    let all = and_parts (nat_eq p q && same_channel c d) (nat_eq i j) t in
+    let two = and_parts (nat_eq p q) (same_channel c d) all.0 in
+    let is : M q d j line ≡ M p c i line =
+    ap (λ v. M v d j line) (sym (eqb-true p q two.0)) ∙ ap (λ (v : Channel). M p v j line) (sym (same_channel-is c d two.1)) ∙ ap (λ v. M p c v line) (sym (eqb-true i j all.1)) in
+    record {
+      line = line;
+      is = is;
+      may = is_some_and-at (outstanding h past p c i) (may_write_memory h past) x
+          (accepted_keeps h past (M p c i line) (subst (λ v. IsAccepted h (v ∷ past)) is a)).rule_24 o;
+    }
+writes_now h past e a p c i x o t = cc
+
+-- what the rule on memory says of a read
+pub passed_may : (h : Header) (past : Trace) (x : Transaction) → may_write_memory h past x ≡ true → is_read x.chan ≡ true → has_passed_data h past x ≡ true
+passed_may h past x m reads =
+    let by : may_write_passed h past x ≡ true = sym (then_of (is_read x.chan) (may_write_passed h past x) (may_write_data h past x) reads) ∙ m in
+    (and_parts (has_passed_data h past x) _ (and_parts (has_passed_data h past x && _) _ by).0).0
+
+-- what it says of a write
+pub record MayWriteData (h : Header) (past : Trace) (x : Transaction) : Type 0 where
+  pub whole : is_burst_whole past x ≡ true
+  pub first : has_memory_write past x.port x.chan x.id ≡ false
+  pub how : (is_write_due h past x ≡ true) ⊎ (is_update_due h past x ≡ true)
+
+pub data_may : (h : Header) (past : Trace) (x : Transaction) → may_write_memory h past x ≡ true → is_read x.chan ≡ false → MayWriteData h past x
+data_may h past x m writes =
+    let by = else_of (is_read x.chan) (may_write_passed h past x) (may_write_data h past x) writes m in
+    let all = and_parts (is_burst_whole past x && not (has_memory_write past x.port x.chan x.id)) (is_write_due h past x || is_update_due h past x) by in
+    let two = and_parts (is_burst_whole past x) (not (has_memory_write past x.port x.chan x.id)) all.0 in
+    record {
+      whole = two.0;
+      first = not-true (has_memory_write past x.port x.chan x.id) two.1;
+      how = or_cases (is_write_due h past x) (is_update_due h past x) all.1;
+    }
+
+-- The parts of passed data.
+pub record HasPassed (h : Header) (past : Trace) (x : Transaction) : Type 0 where
+  pub stands : is_granted h past x ≡ true
+  pub some : is_some (passer h past x.addr) ≡ true
+  pub unwritten : has_memory_write past x.port x.chan x.id ≡ false
+
+pub has_passed : (h : Header) (past : Trace) (x : Transaction) → has_passed_data h past x ≡ true → HasPassed h past x
+has_passed h past x t =
+    let all = and_parts (is_granted h past x && is_some (passer h past x.addr)) (not (has_memory_write past x.port x.chan x.id)) t in
+    let two = and_parts (is_granted h past x) (is_some (passer h past x.addr)) all.0 in
+    record { stands = two.0; some = two.1; unwritten = not-true (has_memory_write past x.port x.chan x.id) all.1 }
+
+-- The port that passed on the line.
+pub record Passes (h : Header) (past : Trace) (l : ℕ) : Type 0 where
+  pub port : ℕ
+  pub found : passer h past l ≡ Some port
+  pub answer : Answer
+  pub is : answer_of past port l ≡ Some answer
+  pub dirty : passes_dirty answer.resp ≡ true
+
+pub passes_of : (h : Header) (past : Trace) (l : ℕ) → is_some (passer h past l) ≡ true → Passes h past l
+passes_of h past l t =
+    let r = some_is (passer h past l) t in
+    let w = is_some_and-is (answer_of past r.0 l) (λ v. passes_dirty v.resp) (found_passes h.ports (passes past l) r.0 r.1) in
+    record { port = r.0; found = r.1; answer = w.0; is = w.1; dirty = w.2 }
+
+-- a write that is granted
+pub granted_write : (x : Transaction) → takes_grant x ≡ true → is_read x.chan ≡ false → (k : AwKind) × (write_kind x ≡ Some k) × (is_granted_write k ≡ true)
+granted_write x t writes =
+    let none : read_kind x ≡ None = rw writes refl in
+    elim (or_cases (is_some_and (read_kind x) is_line_read) (is_some_and (write_kind x) is_granted_write) t) [
+      | inl reads ↦ let bad : false ≡ true = rw none at reads in cc
+      | inr granted ↦ is_some_and-is (write_kind x) is_granted_write granted
+    ]
+
+update_apart : (k : AwKind) → is_granted_write k ≡ true → is_update k ≡ true → ⊥
+update_apart write.WriteNoSnoop g u = cc
+update_apart write.WriteUnique g u = cc
+update_apart write.WriteLineUnique g u = cc
+update_apart k g u = cc
+
+-- an update is not granted
+pub updates_ungranted : (x : Transaction) → takes_grant x ≡ true → is_read x.chan ≡ false → updates_memory x ≡ true → ⊥
+updates_ungranted x t writes u =
+    let k = granted_write x t writes in
+    update_apart k.0 k.2 (subst (λ o. is_some_and o is_update ≡ true) k.1 u)
+
+-- what may write memory is granted, if it is of a kind that is
+pub writer_granted : (h : Header) (past : Trace) (x : Transaction) → may_write_memory h past x ≡ true → takes_grant x ≡ true → is_granted h past x ≡ true
+writer_granted h past x m kind =
+    elim (cases_Bool (is_read x.chan)) [
+      | inl reads ↦ (has_passed h past x (passed_may h past x m reads)).stands
+      | inr writes ↦ elim (data_may h past x m writes).how [
+        | inl due ↦ (and_parts (is_granted h past x) _ due).0
+        | inr update ↦ absurd (updates_ungranted x kind writes (and_parts (updates_memory x) _ update).0)
+      ]
+    ]
+
+issue_writes : (n : ℕ) (e : Event) (x : Transaction) (p : ℕ) (c : Channel) (i : ℕ) → issued n e ≡ Some x → is_memory_write e p c i ≡ false
+issue_writes n (Ar q j addr snoop dom bar lock) x p c i s = refl
+issue_writes n (Aw q j addr snoop dom bar) x p c i s = refl
+issue_writes n e x p c i s = cc
+
+-- a new transaction has had no M
+pub new_unwritten : (past : Trace) (e : Event) (x : Transaction) (p : ℕ) (c : Channel) (i : ℕ) → issued (length past) e ≡ Some x → is_named (Some x) p c i ≡ true
+    → has_memory_write (e ∷ past) p c i ≡ true → ⊥
+new_unwritten past e x p c i new named m =
+    let none = issue_writes (length past) e x p c i new in
+    let bad : false ≡ true = rw (new, named, none) at m in cc
+
+-- The M of a transaction that was outstanding is the event, or came before.
+pub written_cases : (h : Header) (past : Trace) (e : Event) → IsAccepted h (e ∷ past) → (p : ℕ) (c : Channel) (i : ℕ) (x : Transaction)
+    → outstanding h past p c i ≡ Some x → has_memory_write (e ∷ past) p c i ≡ true → WritesNow h past e p c i x ⊎ (has_memory_write past p c i ≡ true)
+written_cases h past e a p c i x o m =
+    elim (or_cases (is_memory_write e p c i) (not (is_named (issued (length past) e) p c i) && has_memory_write past p c i) m) [
+      | inl now ↦ inl (writes_now h past e a p c i x o now)
+      | inr earlier ↦ inr (and_parts (not (is_named (issued (length past) e) p c i)) _ earlier).1
+    ]
+
+-- where it has had none, it had none before
+pub unwritten_before : (h : Header) (past : Trace) (e : Event) → IsAccepted h (e ∷ past) → (p : ℕ) (c : Channel) (i : ℕ) (x : Transaction)
+    → outstanding h past p c i ≡ Some x → has_memory_write (e ∷ past) p c i ≡ false → has_memory_write past p c i ≡ false
+unwritten_before h past e a p c i x o m =
+    elim (cases_Bool (has_memory_write past p c i)) [
+      | inr f ↦ f
+      | inl t ↦
+          let more : has_memory_write (e ∷ past) p c i ≡ true =
+          or_right (is_memory_write e p c i) (not (is_named (issued (length past) e) p c i) && has_memory_write past p c i) (rw (not_named h past e a p c i x o) t) in cc
+    ]
+
+-- a transaction of a kind that is granted has had its G before its M
+pub written_given : (h : Header) (past : Trace) → IsAccepted h past → (p : ℕ) (c : Channel) (i : ℕ) (x : Transaction) → outstanding h past p c i ≡ Some x
+    → takes_grant x ≡ true → has_memory_write past p c i ≡ true → has_grant past p c i ≡ true
+written_given h [] a p c i x o kind m = cc
+written_given h (e ∷ past) a p c i x o kind m =
+    elim (newest_named-cases (issued (length past) e) p c i _ x o) [
+      | inl new ↦ absurd (new_unwritten past e x p c i new.0 new.1 m)
+      | inr old ↦
+          let was = (without-some (ended h past e) (outstanding h past p c i) x old.0).0 in
+          let before : has_grant past p c i ≡ true = elim (written_cases h past e a p c i x was m) [
+            | inl now ↦
+                let stands = granted_at h past a.0 p c i x was (writer_granted h past x now.may kind) in
+                let name = has_name-is x p c i (transaction_of-stands past p c i x (outstanding-named h past p c i x was)).named in
+                sym (ap (λ v. has_grant past v x.chan x.id) name.port ∙ ap (λ (v : Channel). has_grant past p v x.id) name.chan ∙ ap (has_grant past p c) name.id)
+                ∙ (granted_given h past a.0 x.addr x stands).had
+            | inr earlier ↦ written_given h past a.0 p c i x was kind earlier
+          ] in
+          or_right (is_named (given past e) p c i) (not (is_named (issued (length past) e) p c i) && has_grant past p c i) (rw old.1 before)
+    ]
+
+-- a transaction has had no M at its G
+pub given_unwritten : (h : Header) (past : Trace) (e : Event) → IsAccepted h (e ∷ past) → (l : ℕ) (x : Transaction) → granted h (e ∷ past) l ≡ Some x
+    → gives_line past e l ≡ true → has_memory_write (e ∷ past) x.port x.chan x.id ≡ true → ⊥
+given_unwritten h past e a l x g gives m =
+    elim (newest_on-cases (given past e) l (without (ended h past e) (granted h past l)) x g) [
+      | inl new ↦ by e a new.0 m
+      | inr old ↦ let bad = sym gives ∙ old.1 in cc
+    ]
+  where
+    by : (d : Event) → IsAccepted h (d ∷ past) → given past d ≡ Some x → has_memory_write (d ∷ past) x.port x.chan x.id ≡ true → ⊥
+    by (G q c j) a n m =
+        let z = is_some_and-is (outstanding h past q c j) (may_be_granted h past) (accepted_keeps h past (G q c j) a).rule_12 in
+        let one : z.0 ≡ x = Some-injective z.0 x (sym (outstanding-named h past q c j z.0 z.1) ∙ n) in
+        let m_x : may_be_granted h past x ≡ true = subst (λ y. may_be_granted h past y ≡ true) one z.2 in
+        let two = and_parts (takes_grant x) _ (and_parts (takes_grant x && not (has_grant past x.port x.chan x.id)) _ m_x).0 in
+        let out : outstanding h past q c j ≡ Some x = z.1 ∙ ap Some one in
+        let name = has_name-is x q c j (transaction_of-stands past q c j x n).named in
+        let own : outstanding h past x.port x.chan x.id ≡ Some x =
+        ap (λ v. outstanding h past v x.chan x.id) name.port ∙ ap (λ (v : Channel). outstanding h past q v x.id) name.chan ∙ ap (outstanding h past q c) name.id ∙ out in
+        let had = written_given h past a.0 x.port x.chan x.id x own two.0 m in
+        let none = not-true (has_grant past x.port x.chan x.id) two.1 in cc
+    by d a n m = cc

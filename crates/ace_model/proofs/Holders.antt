@@ -1,0 +1,16 @@
+pub mod Acknowledge
+pub mod Address
+pub mod Ends
+pub mod Facts
+pub mod FirstTransfer
+pub mod Grant
+pub mod Law
+pub mod RestsOn
+pub mod Rises
+pub mod ShareableLines
+pub mod Snoop
+pub mod States
+pub mod Stores
+pub mod Today
+pub mod Transfer
+pub mod Write

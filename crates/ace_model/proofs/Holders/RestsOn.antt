@@ -1,0 +1,62 @@
+-- The rules that the law of the holders rests on: accepted traces keep them, and those that the rules of today accept do.
+use Rattle.std.proofs.Common.{◌≡◌, ℕ, true, List, [], ◌∷◌, refl}
+use Rattle.std.proofs.lemmas.Bool.{and_parts}
+use Rattle.ace_event.specs.declared.event.Event.{Event}
+use Rattle.ace_event.specs.declared.event.Event.TheVariants.{Wk, S, D}
+use Rattle.ace_event.specs.declared.header.Header.{Header}
+use Rattle.ace_model.specs.Trace.{Trace}
+use Rattle.ace_model.specs.AddressRules.{k1, k4, has_known_codes}
+use Rattle.ace_model.specs.SnoopRules.{k12, k13, k15}
+use Rattle.ace_model.specs.ReadRules.{k18, k19, k22, k23}
+use Rattle.ace_model.specs.WriteRules.{k28}
+use Rattle.ace_model.specs.CacheRules.{k29, k32}
+use Rattle.ace_model.specs.Accepted.{Rule, rule, IsAcceptedBy, IsAccepted}
+use Rattle.ace_model.specs.Today.{is_known_today, rules_today}
+use Rattle.ace_model.proofs.Rules.Keeps.{Kept, kept, accepted_keeps}
+
+abbrev pub holder_rules : List Rule
+holder_rules =
+    rule 1 k1 ∷ rule 4 k4 ∷ rule 12 k12 ∷ rule 13 k13 ∷ rule 15 k15 ∷ rule 18 k18 ∷ rule 19 k19 ∷ rule 22 k22
+    ∷ rule 23 k23 ∷ rule 28 k28 ∷ rule 29 k29 ∷ rule 32 k32 ∷ []
+
+-- the event keeps each of them
+abbrev pub KeepsEach : Header → Trace → Event → Type 0
+KeepsEach h past e = (n : ℕ) → Kept holder_rules n h past e
+
+-- what is accepted by all rules is accepted by these
+pub of_accepted : (h : Header) (t : Trace) → IsAccepted h t → IsAcceptedBy holder_rules h t
+of_accepted h [] a = tt
+of_accepted h (e ∷ past) a =
+    let k = accepted_keeps h past e a in
+    (of_accepted h past a.0, rw (k.rule_1, k.rule_4, k.rule_12, k.rule_13, k.rule_15, k.rule_18, k.rule_19, k.rule_22, k.rule_23, k.rule_28, k.rule_29, k.rule_32) refl)
+
+-- events that are known today keep the rules of WK, S and D, since they are none
+known_28 : (h : Header) (past : Trace) (e : Event) → is_known_today e ≡ true → k28 h past e ≡ true
+known_28 h past (Wk q st) t = cc
+known_28 h past e t = refl
+
+known_29 : (h : Header) (past : Trace) (e : Event) → is_known_today e ≡ true → k29 h past e ≡ true
+known_29 h past (S q addr st) t = cc
+known_29 h past e t = refl
+
+known_32 : (h : Header) (past : Trace) (e : Event) → is_known_today e ≡ true → k32 h past e ≡ true
+known_32 h past (D q addr strobe x line) t = cc
+known_32 h past e t = refl
+
+-- what is accepted by the rules of today is accepted by these
+pub of_accepted_today : (h : Header) (t : Trace) → IsAcceptedBy rules_today h t → IsAcceptedBy holder_rules h t
+of_accepted_today h [] a = tt
+of_accepted_today h (e ∷ past) a =
+    let known = (and_parts (has_known_codes h e) (is_known_today e) (kept rules_today 2 h past e a.1)).1 in
+    let k1' = kept rules_today 1 h past e a.1 in
+    let k4' = kept rules_today 4 h past e a.1 in
+    let k12' = kept rules_today 12 h past e a.1 in
+    let k13' = kept rules_today 13 h past e a.1 in
+    let k15' = kept rules_today 15 h past e a.1 in
+    let k18' = kept rules_today 18 h past e a.1 in
+    let k19' = kept rules_today 19 h past e a.1 in
+    let k22' = kept rules_today 22 h past e a.1 in
+    let k23' = kept rules_today 23 h past e a.1 in (
+      of_accepted_today h past a.0,
+      rw (k1', k4', k12', k13', k15', k18', k19', k22', k23', known_28 h past e known, known_29 h past e known, known_32 h past e known) refl,
+    )

@@ -1,0 +1,194 @@
+-- A port comes to hold more of a line by the RK of its own read alone, and makes it dirty by that or by a store alone.
+use Rattle.std.proofs.Common.{◌≡◌, ◌⊎◌, ℕ, Bool, true, false, not, ◌&&◌, ◌||◌, nat_eq, [], ◌∷◌, length, Some, refl, sym, ap, subst, ◌∙◌, inl, inr}
+use Rattle.std.proofs.lemmas.Bool.{and_parts, or_cases, cases_Bool, eqb-true}
+use Rattle.ace_codes.specs.declared.kind.ArKind.{ArKind}
+use Rattle.ace_codes.specs.declared.kind.ArKind.TheVariants as read
+use Rattle.ace_codes.specs.declared.kind.AwKind.{AwKind}
+use Rattle.ace_codes.specs.declared.kind.AwKind.TheVariants as write
+use Rattle.ace_codes.specs.declared.state.LineState.{LineState}
+use Rattle.ace_codes.specs.declared.state.LineState.TheVariants.{I, UC, UD, SC, SD}
+use Rattle.ace_event.specs.declared.event.Channel.{Channel}
+use Rattle.ace_event.specs.declared.event.Channel.TheVariants.{Read}
+use Rattle.ace_event.specs.declared.event.Event.{Event}
+use Rattle.ace_event.specs.declared.event.Event.TheVariants.{Ar, Rk, Aw, Wk, Cr, S, D}
+use Rattle.ace_event.specs.declared.header.Header.{Header}
+use Rattle.ace_event.specs.declared.line.Line.{Line}
+use Rattle.ace_tables.specs.StartStates.{starts_read, starts_write}
+use Rattle.ace_tables.specs.States.{is_among, is_dirty}
+use Rattle.ace_model.specs.declared.transactions.Transaction.{Transaction}
+use Rattle.ace_model.specs.Trace.{Trace, is_some_and, is_none_or}
+use Rattle.ace_model.specs.Kinds.{reads_a_line, is_granted_write}
+use Rattle.ace_model.specs.Transactions.{is_line, is_on, issued, ended, read_kind, write_kind, outstanding, acknowledged}
+use Rattle.ace_model.specs.States.{state_of, awaits_store, is_in_make_unique, has_store}
+use Rattle.ace_model.specs.Copies.{is_line_read_transaction}
+use Rattle.ace_model.specs.AddressRules.{starts_well}
+use Rattle.ace_model.specs.CacheRules.{k32, may_store, wants_store, full_line}
+use Rattle.ace_model.specs.Accepted.{IsAccepted}
+use Rattle.ace_model.proofs.Trace.Looks.{Some-injective, is_some_and-is, is_none_or-at, implies-at, has_name-is, newest_named-cases, without-some}
+use Rattle.ace_model.proofs.Rules.Keeps.{accepted_keeps}
+use Rattle.ace_model.proofs.Tables.States.{Lessens, Lessens-self, Lessens-same}
+use Rattle.ace_model.proofs.Holders.States.{less-lessens, less-clean}
+use Rattle.ace_model.proofs.Holders.Stores.{less_s, lessened_d, stores, is_named_by_d, some_issued-weaker}
+use Rattle.ace_model.proofs.Holders.Snoop.{less_cr}
+use Rattle.ace_model.proofs.Holders.Write.{less_wk}
+use Rattle.ace_model.proofs.Holders.Acknowledge.{Ends, ends, is_named_by_rk}
+use Rattle.ace_model.proofs.Holders.Facts.{Arrives}
+use Rattle.ace_model.proofs.Holders.Law.{accepted_holds}
+use Rattle.ace_model.proofs.Trace.LineOnce.{one_on_line}
+
+-- The read of the port on the line that the event ends by its RK.
+pub record Raised (h : Header) (past : Trace) (e : Event) (p l : ℕ) : Type 0 where
+  pub read_one : Transaction
+  pub id : ℕ
+  pub out : outstanding h past p Read id ≡ Some read_one
+  pub on : is_on read_one l ≡ true
+  pub ends_it : ended h past e ≡ Some read_one
+  pub arrives : Arrives h past p id read_one
+  pub port : ℕ
+  pub st : LineState
+  pub is : e ≡ Rk port st
+  pub named : is_named_by_rk past port p l ≡ true
+
+pub ends_of : (h : Header) (past : Trace) (q : ℕ) (st : LineState) → IsAccepted h (Rk q st ∷ past) → Ends h past q
+ends_of h past q st a =
+    ends h past q st (accepted_holds h past a.0) (accepted_keeps h past (Rk q st) a).rule_1 (accepted_keeps h past (Rk q st) a).rule_22
+
+raised : (h : Header) (past : Trace) (q : ℕ) (st : LineState) → Ends h past q → (p l : ℕ) → is_named_by_rk past q p l ≡ true → Raised h past (Rk q st) p l
+raised h past q st e p l t =
+    let parts = and_parts (nat_eq p q) _ t in
+    let port = eqb-true p q parts.0 in
+    let y = is_some_and-is (acknowledged past p Read) (λ x. is_on x l) parts.1 in
+    let one : y.0 ≡ e.ended_one = Some-injective y.0 e.ended_one (sym y.1 ∙ ap (λ a. acknowledged past a Read) port ∙ e.is) in
+    let on : is_on e.ended_one l ≡ true = subst (λ (x : Transaction). is_on x l ≡ true) one y.2 in
+    record {
+      read_one = e.ended_one;
+      id = e.id;
+      out = ap (λ a. outstanding h past a Read e.id) port ∙ e.out;
+      on = on;
+      ends_it = e.is;
+      arrives = subst (λ a. Arrives h past a e.id e.ended_one) (sym port) (e.arrives (and_parts (is_line e.ended_one) _ on).0);
+      port = q;
+      st = st;
+      is = refl;
+      named = t;
+    }
+
+-- an event lessens the port's state of the line, or is the RK of its read
+pub state_moves : (h : Header) (past : Trace) (e : Event) → IsAccepted h (e ∷ past) → (p l : ℕ)
+    → Lessens (state_of h past p l) (state_of h (e ∷ past) p l) ⊎ Raised h past e p l
+state_moves h past (Rk q st) a p l =
+    elim (cases_Bool (is_named_by_rk past q p l)) [
+      | inr f ↦ inl (Lessens-same _ _ (rw f refl))
+      | inl t ↦ inr (raised h past q st (ends_of h past q st a) p l t)
+    ]
+state_moves h past (Wk q st) a p l = inl (less-lessens _ _ (less_wk h past q st (accepted_keeps h past (Wk q st) a).rule_28 p l))
+state_moves h past (Cr q resp st) a p l = inl (less-lessens _ _ (less_cr h past q resp st (accepted_keeps h past (Cr q resp st) a).rule_15 p l))
+state_moves h past (S q addr st) a p l = inl (less-lessens _ _ (less_s h past q addr st (accepted_keeps h past (S q addr st) a).rule_29 p l))
+state_moves h past (D q addr strobe x line) a p l = inl (lessened_d h past q addr strobe x line (accepted_keeps h past (D q addr strobe x line) a).rule_32 l p)
+state_moves h past _ a p l = inl (Lessens-self (state_of h past p l))
+
+-- a store that names a state is of a port that may store
+pub may_store_d : (h : Header) (past : Trace) (q addr strobe : ℕ) (x : Bool) (line : Line) → k32 h past (D q addr strobe x line) ≡ true → (r l : ℕ)
+    → is_named_by_d h past q addr r l ≡ true → may_store h past r l ≡ true
+may_store_d h past q addr strobe x line k r l t =
+    let parts = and_parts (nat_eq r q && nat_eq l addr) _ t in
+    let s = stores h past q addr strobe x line k r l t in
+    let here : (may_store h past r l || ((wants_store h past r l && not x) && nat_eq strobe full_line)) ≡ true =
+    subst (λ b. (may_store h past r b || ((wants_store h past r b && not x) && nat_eq strobe full_line)) ≡ true) (sym s.line)
+    (subst (λ a. (may_store h past a addr || ((wants_store h past a addr && not x) && nat_eq strobe full_line)) ≡ true) (sym s.port) k) in
+    elim (or_cases (may_store h past r l) _ here) [
+      | inl may ↦ may
+      | inr made ↦
+          let wants = (and_parts (wants_store h past r l) (not x) (and_parts (wants_store h past r l && not x) _ made).0).0 in
+          let within : is_in_make_unique h past r l ≡ true =
+          some_issued-weaker past (λ y. awaits_store h past r l y && not (has_store h past y.port y.id)) (awaits_store h past r l)
+          (λ y e. (and_parts (awaits_store h past r l y) _ e).0) wants in
+          let bad : false ≡ true = rw within at parts.1 in cc
+    ]
+
+-- where a line becomes dirty its port may store, or it is the RK of its read
+pub dirty_moves : (h : Header) (past : Trace) (e : Event) → IsAccepted h (e ∷ past) → (p l : ℕ) → is_dirty (state_of h past p l) ≡ false
+    → (is_dirty (state_of h (e ∷ past) p l) ≡ false) ⊎ (may_store h past p l ≡ true) ⊎ Raised h past e p l
+dirty_moves h past (Rk q st) a p l d =
+    elim (cases_Bool (is_named_by_rk past q p l)) [
+      | inr f ↦ inl (rw f d)
+      | inl t ↦ inr (inr (raised h past q st (ends_of h past q st a) p l t))
+    ]
+dirty_moves h past (Wk q st) a p l d = inl (less-clean _ _ (less_wk h past q st (accepted_keeps h past (Wk q st) a).rule_28 p l) d)
+dirty_moves h past (Cr q resp st) a p l d = inl (less-clean _ _ (less_cr h past q resp st (accepted_keeps h past (Cr q resp st) a).rule_15 p l) d)
+dirty_moves h past (S q addr st) a p l d = inl (less-clean _ _ (less_s h past q addr st (accepted_keeps h past (S q addr st) a).rule_29 p l) d)
+dirty_moves h past (D q addr strobe x line) a p l d =
+    elim (cases_Bool (is_named_by_d h past q addr p l)) [
+      | inr f ↦ inl (rw f d)
+      | inl t ↦ inr (inl (may_store_d h past q addr strobe x line (accepted_keeps h past (D q addr strobe x line) a).rule_32 p l t))
+    ]
+dirty_moves h past _ a p l d = inl d
+
+-- an event that issues a transaction leaves the states as they are
+pub issue_leaves : (h : Header) (past : Trace) (e : Event) (x : Transaction) (p l : ℕ) → issued (length past) e ≡ Some x → state_of h (e ∷ past) p l ≡ state_of h past p l
+issue_leaves h past (Ar q i addr snoop dom bar lock) x p l s = refl
+issue_leaves h past (Aw q i addr snoop dom bar) x p l s = refl
+issue_leaves h past e x p l s = cc
+
+-- the transaction starts where its port holds nothing
+abbrev pub starts_empty : Transaction → Bool
+starts_empty x = is_line_read_transaction x || is_some_and (write_kind x) is_granted_write
+
+only_invalid : (st : LineState) → is_among st (I ∷ []) ≡ true → st ≡ I
+only_invalid I e = refl
+only_invalid UC e = cc
+only_invalid UD e = cc
+only_invalid SC e = cc
+only_invalid SD e = cc
+
+pub read_starts : (k : ArKind) (st : LineState) → reads_a_line k ≡ true → starts_read k st ≡ true → st ≡ I
+read_starts read.ReadNoSnoop st r s = only_invalid st s
+read_starts read.ReadOnce st r s = only_invalid st s
+read_starts read.ReadShared st r s = only_invalid st s
+read_starts read.ReadClean st r s = only_invalid st s
+read_starts read.ReadNotSharedDirty st r s = only_invalid st s
+read_starts read.ReadUnique st r s = only_invalid st s
+read_starts k st r s = cc
+
+write_starts : (k : AwKind) (st : LineState) → is_granted_write k ≡ true → starts_write k st ≡ true → st ≡ I
+write_starts write.WriteNoSnoop st r s = only_invalid st s
+write_starts write.WriteUnique st r s = only_invalid st s
+write_starts write.WriteLineUnique st r s = only_invalid st s
+write_starts k st r s = cc
+
+-- such a transaction finds its port with nothing
+starts : (h : Header) (past : Trace) (x : Transaction) → starts_well h past x ≡ true → is_line x ≡ true → starts_empty x ≡ true → state_of h past x.port x.addr ≡ I
+starts h past x well line empty =
+    let both = implies-at (is_line x) _ well line in
+    let parts = and_parts (is_none_or (read_kind x) (λ k. starts_read k (state_of h past x.port x.addr))) _ both in
+    elim (or_cases (is_line_read_transaction x) (is_some_and (write_kind x) is_granted_write) empty) [
+      | inl reads ↦
+          let k = is_some_and-is (read_kind x) reads_a_line reads in
+          read_starts k.0 _ k.2 (is_none_or-at (read_kind x) (λ k. starts_read k (state_of h past x.port x.addr)) k.0 parts.0 k.1)
+      | inr writes ↦
+          let k = is_some_and-is (write_kind x) is_granted_write writes in
+          write_starts k.0 _ k.2 (is_none_or-at (write_kind x) (λ k. starts_write k (state_of h past x.port x.addr)) k.0 parts.1 k.1)
+    ]
+
+-- and its port holds nothing as long as it is outstanding
+pub stays_empty : (h : Header) (past : Trace) → IsAccepted h past → (p : ℕ) (c : Channel) (i l : ℕ) (x : Transaction)
+    → outstanding h past p c i ≡ Some x → is_on x l ≡ true → starts_empty x ≡ true → state_of h past p l ≡ I
+stays_empty h [] a p c i l x o on empty = refl
+stays_empty h (e ∷ past) a p c i l x o on empty =
+    elim (newest_named-cases (issued (length past) e) p c i _ x o) [
+      | inl new ↦
+          let parts = and_parts (is_line x) _ on in
+          let well = is_none_or-at (issued (length past) e) (starts_well h past) x (accepted_keeps h past e a).rule_6 new.0 in
+          issue_leaves h past e x p l new.0
+          ∙ ap (λ b. state_of h past b l) (sym (has_name-is x p c i new.1).port) ∙ ap (state_of h past x.port) (sym (eqb-true x.addr l parts.1))
+          ∙ starts h past x well parts.0 empty
+      | inr old ↦
+          let w = without-some (ended h past e) (outstanding h past p c i) x old.0 in
+          let was = stays_empty h past a.0 p c i l x w.0 on empty in
+          elim (state_moves h past e a p l) [
+            | inl less ↦ less.gone was
+            | inr up ↦
+                let one = one_on_line h past a.0 p Read c up.id i l up.read_one x up.out w.0 up.on on in
+                absurd (w.1 up.read_one up.ends_it (ap (λ (v : Transaction). v.place) one))
+          ]
+    ]

@@ -1,0 +1,152 @@
+-- A line that a port holds is shareable: a transaction of it was issued that isn't NoSnoop, and then each one is.
+use Rattle.std.proofs.Common.{◌⊎◌, ◌≡◌, ℕ, Bool, true, false, nat_eq, [], ◌∷◌, length, Some, None, refl, sym, ap, subst, ◌∙◌, inl, inr}
+use Rattle.std.proofs.lemmas.Bool.{and_parts, cases_Bool, eqb-true}
+use Rattle.ace_codes.specs.declared.kind.ArKind.{ArKind}
+use Rattle.ace_codes.specs.declared.kind.ArKind.TheVariants as read
+use Rattle.ace_codes.specs.declared.state.LineState.{LineState}
+use Rattle.ace_codes.specs.declared.state.LineState.TheVariants.{I}
+use Rattle.ace_event.specs.declared.header.Header.{Header}
+use Rattle.ace_event.specs.declared.event.Event.{Event}
+use Rattle.ace_event.specs.declared.event.Event.TheVariants.{Rk, Wk, Cr, S, D}
+use Rattle.ace_tables.specs.States.{is_invalid}
+use Rattle.ace_model.specs.declared.transactions.Transaction.{Transaction}
+use Rattle.ace_model.specs.Trace.{Trace}
+use Rattle.ace_model.specs.Kinds.{is_no_snoop_read}
+use Rattle.ace_model.specs.Transactions.{is_line, is_on, is_read, issued, read_kind, write_kind}
+use Rattle.ace_model.specs.Progress.{each_issued}
+use Rattle.ace_model.specs.States.{state_of}
+use Rattle.ace_model.specs.AddressRules.{k8, is_no_snoop, is_used_alike, fits_line}
+use Rattle.ace_model.specs.Accepted.{IsAccepted}
+use Rattle.ace_model.proofs.Trace.Growth.{IsIssued, issued-old, issued-cases, named-issued, each_issued-at}
+use Rattle.ace_model.proofs.Trace.Issued.{outstanding-named}
+use Rattle.ace_model.proofs.Rules.Keeps.{Keeps, accepted_keeps}
+use Rattle.ace_model.proofs.Trace.Looks.{Some-injective, is_none_or-at, implies-at, same_test-at, is_invalid-is}
+use Rattle.ace_model.proofs.Tables.States.{Lessens-self}
+use Rattle.ace_model.proofs.Tables.ReadEnds.{takes_alone, takes_shared}
+use Rattle.ace_model.proofs.Holders.States.{LessenedAt, less-lessens}
+use Rattle.ace_model.proofs.Holders.Stores.{less_s, lessened_d}
+use Rattle.ace_model.proofs.Holders.Snoop.{less_cr}
+use Rattle.ace_model.proofs.Holders.Write.{less_wk}
+use Rattle.ace_model.proofs.Holders.Acknowledge.{ends, is_named_by_rk, ends_line}
+use Rattle.ace_model.proofs.Holders.Facts.{Inductive}
+use Rattle.ace_model.proofs.Holders.Law.{accepted_holds}
+
+-- Transactions of one line are all NoSnoop, or none is.
+abbrev pub UsedAlike : Trace → Type 0
+UsedAlike past =
+    (x y : Transaction) (l : ℕ) → IsIssued past x → IsIssued past y → is_on x l ≡ true → is_on y l ≡ true → is_no_snoop x ≡ is_no_snoop y
+
+-- the new transaction is like an earlier one of its line
+alike_new : (h : Header) (past : Trace) (e : Event) (x y : Transaction) (l : ℕ) → k8 h past e ≡ true → issued (length past) e ≡ Some x → IsIssued past y
+    → is_on x l ≡ true → is_on y l ≡ true → is_no_snoop x ≡ is_no_snoop y
+alike_new h past e x y l k new old on_x on_y =
+    let fits = is_none_or-at (issued (length past) e) (fits_line past) x k new in
+    let parts = and_parts (is_line x) (nat_eq x.addr l) on_x in
+    let each = implies-at (is_line x) (each_issued past (is_used_alike x)) fits parts.0 in
+    let alike = each_issued-at past (is_used_alike x) y.place y each old.there in
+    let here : is_on y x.addr ≡ true = subst (λ a. is_on y a ≡ true) (sym (eqb-true x.addr l parts.1)) on_y in
+    same_test-at (is_no_snoop x) (is_no_snoop y) (implies-at (is_on y x.addr) _ alike here)
+
+pub used_alike : (h : Header) (past : Trace) → IsAccepted h past → UsedAlike past
+used_alike h [] a x y l is_x is_y on_x on_y = let none = is_x.there in cc
+used_alike h (e ∷ past) a x y l is_x is_y on_x on_y =
+    let k : k8 h past e ≡ true = (accepted_keeps h past e a).rule_8 in
+    elim (issued-cases e past x is_x) [
+      | inl new_x ↦ elim (issued-cases e past y is_y) [
+        | inl new_y ↦ let same : x ≡ y = Some-injective x y (sym new_x ∙ new_y) in ap is_no_snoop same
+        | inr old_y ↦ alike_new h past e x y l k new_x old_y on_x on_y
+      ]
+      | inr old_x ↦ elim (issued-cases e past y is_y) [
+        | inl new_y ↦ sym (alike_new h past e y x l k new_y old_x on_y on_x)
+        | inr old_y ↦ used_alike h past a.0 x y l old_x old_y on_x on_y
+      ]
+    ]
+
+-- A transaction of the line was issued that isn't NoSnoop.
+pub record IsShareable (past : Trace) (l : ℕ) : Type 0 where
+  pub one : Transaction
+  pub stands : IsIssued past one
+  pub on : is_on one l ≡ true
+  pub snoops : is_no_snoop one ≡ false
+
+later : (e : Event) (past : Trace) (l : ℕ) → IsShareable past l → IsShareable (e ∷ past) l
+later e past l s = record { one = s.one; stands = issued-old e past s.one s.stands; on = s.on; snoops = s.snoops }
+
+-- A line that a port holds is shareable.
+abbrev pub HeldIsShareable : Header → Trace → Type 0
+HeldIsShareable h past = (p l : ℕ) → is_invalid (state_of h past p l) ≡ false → IsShareable past l
+
+-- an event that lessens what the ports hold
+shareable_kept : (h : Header) (past : Trace) (e : Event) → ((l : ℕ) → LessenedAt h past e l) → HeldIsShareable h past → HeldIsShareable h (e ∷ past)
+shareable_kept h past e less f p l held =
+    elim (cases_Bool (is_invalid (state_of h past p l))) [
+      | inl none ↦
+          let gone : state_of h (e ∷ past) p l ≡ I = (less l p).gone (is_invalid-is (state_of h past p l) none) in
+          let bad : is_invalid I ≡ false = subst (λ s. is_invalid s ≡ false) gone held in cc
+      | inr was ↦ later e past l (f p l was)
+    ]
+
+-- a read that brings a line to its port isn't NoSnoop
+takes_snoops : (k : ArKind) (shared failed : Bool) → (takes_alone k shared failed ≡ true) ⊎ (takes_shared k ≡ true) → is_no_snoop_read k ≡ false
+takes_snoops read.ReadNoSnoop shared failed (inl t) = cc
+takes_snoops read.ReadNoSnoop shared failed (inr t) = cc
+takes_snoops k shared failed t = refl
+
+pub read_snoops : (x : Transaction) (k : ArKind) → read_kind x ≡ Some k → is_no_snoop_read k ≡ false → is_no_snoop x ≡ false
+read_snoops x k is snoops =
+    elim (cases_Bool (is_read x.chan)) [
+      | inl reads ↦
+          let none : write_kind x ≡ None = rw reads refl in
+          rw (is, none) (rw snoops refl)
+      | inr writes ↦ let bad : None ≡ Some k = rw writes at is in cc
+    ]
+
+-- the end of a read
+shareable_rk : (h : Header) (past : Trace) (q : ℕ) (st : LineState) → Inductive h past → Keeps h past (Rk q st) → HeldIsShareable h past → HeldIsShareable h (Rk q st ∷ past)
+shareable_rk h past q st f k s p l held =
+    elim (cases_Bool (is_named_by_rk past q p l)) [
+      | inr other ↦ later (Rk q st) past l (s p l (rw other at held))
+      | inl t ↦
+          let d = ends_line h past q st k.rule_23 (ends h past q st f k.rule_1 k.rule_22) p l t in
+          let some : is_invalid st ≡ false = rw t at held in
+          elim d.came [
+            | inl none ↦ let bad : is_invalid st ≡ true = ap is_invalid none in cc
+            | inr more ↦ elim more [
+              | inl was ↦ later (Rk q st) past l (s p l was)
+              | inr taken ↦
+                  let y = d.stands.0 in
+                  let g = f.grants l y d.stands.2 in
+                  record {
+                    one = y;
+                    stands = issued-old (Rk q st) past y (named-issued past y.port y.chan y.id y (outstanding-named h past y.port y.chan y.id y g.0));
+                    on = g.1;
+                    snoops = read_snoops y d.kind d.is_kind (takes_snoops d.kind d.shared d.failed taken);
+                  }
+            ]
+          ]
+    ]
+
+shareable_step : (h : Header) (past : Trace) (e : Event) → Inductive h past → Keeps h past e → HeldIsShareable h past → HeldIsShareable h (e ∷ past)
+shareable_step h past (Rk q st) f k s = shareable_rk h past q st f k s
+shareable_step h past (Wk q st) f k s = shareable_kept h past (Wk q st) (λ l r. less-lessens _ _ (less_wk h past q st k.rule_28 r l)) s
+shareable_step h past (Cr q resp st) f k s = shareable_kept h past (Cr q resp st) (λ l r. less-lessens _ _ (less_cr h past q resp st k.rule_15 r l)) s
+shareable_step h past (S q addr st) f k s = shareable_kept h past (S q addr st) (λ l r. less-lessens _ _ (less_s h past q addr st k.rule_29 r l)) s
+shareable_step h past (D q addr strobe x line) f k s = shareable_kept h past (D q addr strobe x line) (lessened_d h past q addr strobe x line k.rule_32) s
+shareable_step h past e f k s = shareable_kept h past e (λ l r. Lessens-self (state_of h past r l)) s
+
+pub held_is_shareable : (h : Header) (past : Trace) → IsAccepted h past → HeldIsShareable h past
+held_is_shareable h [] a = λ p l held. cc
+held_is_shareable h (e ∷ past) a =
+    shareable_step h past e (accepted_holds h past a.0) (accepted_keeps h past e a) (held_is_shareable h past a.0)
+
+-- no port holds a line with a transaction that is NoSnoop
+pub no_snoop_unheld : (h : Header) (past : Trace) (x : Transaction) (p l : ℕ) → IsAccepted h past → IsIssued past x → is_on x l ≡ true → is_no_snoop x ≡ true
+    → state_of h past p l ≡ I
+no_snoop_unheld h past x p l a is on unshared =
+    elim (cases_Bool (is_invalid (state_of h past p l))) [
+      | inl none ↦ is_invalid-is (state_of h past p l) none
+      | inr held ↦
+          let s = held_is_shareable h past a p l held in
+          let alike = used_alike h past a x s.one l is s.stands on s.on in
+          let other = s.snoops in cc
+    ]

@@ -1,0 +1,85 @@
+-- A read that has had no transfer has no beat in the trace, and a read is the one that was issued at its place.
+use Rattle.std.proofs.Common.{◌≡◌, ◌≢◌, ℕ, ◌+◌, ◌<◌, Bool, true, false, if◌then◌else◌, ◌&&◌, nat_eq, [], ◌∷◌, length, Some, None, refl, sym, ap, subst, ◌∙◌, arith, inl, inr}
+use Rattle.std.proofs.lemmas.Bool.{and_from, eq-eqb, ne_eqb}
+use Rattle.ace_event.specs.declared.event.Event.{Event}
+use Rattle.ace_event.specs.declared.event.Event.TheVariants.{Ar, R, L}
+use Rattle.ace_event.specs.declared.event.Channel.TheVariants.{Read}
+use Rattle.ace_model.specs.declared.transactions.Transaction.{Transaction}
+use Rattle.ace_model.specs.Trace.{Trace, event_at, at_point}
+use Rattle.ace_model.specs.Transactions.{is_named, issued, transaction_of, transfers}
+use Rattle.ace_model.specs.ReadsFollow.{IsLoad, IsBeat, HasBeat}
+use Rattle.ace_model.proofs.Trace.Issued.{issued_at, issued-place, transaction_of-stands}
+use Rattle.ace_model.proofs.Trace.Looks.{Some-injective, newest_named-cases}
+use Rattle.ace_model.proofs.Holders.Address.{named_read}
+use Rattle.ace_model.proofs.Trace.Places.{beat-cases, beat-below, event_at-cases, at_point-length}
+use Rattle.ace_model.proofs.ReadsFollow.Order.{beat-issued}
+
+-- the name of the read goes on to have transfers
+transfers-stay : (e : Event) (past : Trace) (p i : ℕ) → is_named (issued (length past) e) p Read i ≡ false → transfers past p i ≢ 0 → transfers (e ∷ past) p i ≢ 0
+transfers-stay (Ar q j addr snoop dom bar lock) past p i other some =
+    rw (named_read past q j addr snoop dom bar lock p i false other) some
+transfers-stay (R q j resp last word) past p i other some = counted (nat_eq p q && nat_eq i j)
+  where
+    counted : (b : Bool) → (if b then transfers past p i + 1 else transfers past p i) ≢ 0
+    counted true = λ z. absurd (omega arith)
+    counted false = some
+transfers-stay e past p i other some = some
+
+-- the newest transfer of the name is counted
+pub transfers-more : (past : Trace) (p i resp : ℕ) (last : Bool) (word : ℕ) → transfers (R p i resp last word ∷ past) p i ≡ transfers past p i + 1
+transfers-more past p i resp last word = rw (and_from _ _ (eq-eqb p p (refl {a = p})) (eq-eqb i i (refl {a = i}))) (refl {a = transfers past p i + 1})
+
+-- a read with a beat has had a transfer, while it is the last of its name
+pub beat-transfers : (past : Trace) (n : ℕ) (x : Transaction) (k word : ℕ) → IsBeat past n x k word → transaction_of past x.port Read x.id ≡ Some x
+    → transfers past x.port x.id ≢ 0
+beat-transfers [] n x k word beat named = absurd (none (beat-below [] n x k word beat))
+  where
+    none : n < 0 → ⊥
+    none low = omega arith
+beat-transfers (e ∷ past) n x k word beat named =
+    elim (beat-cases e past n x k word beat) [
+      | inr new ↦
+          let b = new.1 in
+          subst (λ (v : Event). transfers (v ∷ past) x.port x.id ≢ 0) (sym b.event) (λ z.
+          let more = transfers-more past x.port x.id b.resp b.last word in absurd (omega (arith, more, z)))
+      | inl old ↦
+          elim (newest_named-cases (issued (length past) e) x.port Read x.id (transaction_of past x.port Read x.id) x named) [
+            | inl new ↦
+                let at = issued-place (length past) e x new.0 in
+                let low = issued_before past n x k word old.0 in
+                absurd (omega arith)
+            | inr earlier ↦ transfers-stay e past x.port x.id earlier.1 (beat-transfers past n x k word old.0 earlier.0)
+          ]
+    ]
+  where
+    issued_before : (past : Trace) (n : ℕ) (x : Transaction) (k word : ℕ) → IsBeat past n x k word → x.place < length past
+    issued_before past n x k word b =
+        let low = beat-below past n x k word b in
+        let s = (transaction_of-stands (at_point n past) x.port Read x.id x b.1.1.1).before in
+        let long = at_point-length past n (omega arith) in
+        omega arith
+
+-- what was issued at the place of an event is what the event issues
+pub event-issues : (past : Trace) (n : ℕ) (z : Event) → event_at past n ≡ Some z → issued_at past n ≡ issued n z
+event-issues [] n z there = cc
+event-issues (e ∷ past) n z there =
+    elim (event_at-cases e past n z there) [
+      | inl old ↦
+          let low = old.1 in
+          rw (ne_eqb (length past) n (λ q. absurd (omega (arith, q)))) (event-issues past n z old.0)
+      | inr new ↦ rw (eq-eqb (length past) n (sym new.0)) (ap (λ m. issued m e) (sym new.0) ∙ ap (issued n) new.1)
+    ]
+
+-- a load issues no transaction
+pub load-elsewhere : (past : Trace) (n p l w word : ℕ) (x : Transaction) → IsLoad past n p l w word → issued_at past x.place ≡ Some x → n ≢ x.place
+load-elsewhere past n p l w word x load there same =
+    let none : issued_at past n ≡ None = event-issues past n (L p l w load.0 word) load.1 in
+    let bad : None ≡ Some x = sym none ∙ ap (issued_at past) same ∙ there in cc
+
+-- a read with a beat stands at another place than one that has had no transfer
+pub beat-elsewhere : (past : Trace) (x y : Transaction) → transaction_of past x.port Read x.id ≡ Some x → transfers past x.port x.id ≡ 0 → HasBeat past y → y.place ≢ x.place
+beat-elsewhere past x y named none b same =
+    let there = (transaction_of-stands past x.port Read x.id x named).there in
+    let one : y ≡ x = Some-injective y x (sym (beat-issued past y b) ∙ ap (issued_at past) same ∙ there) in
+    let beat : IsBeat past b.0 x b.1.0 b.1.1.0 = subst (λ (v : Transaction). IsBeat past b.0 v b.1.0 b.1.1.0) one b.1.1.1 in
+    beat-transfers past b.0 x b.1.0 b.1.1.0 beat named none

@@ -1,0 +1,145 @@
+-- In an accepted trace in which data newer than memory are with a holder or in flight, all reads follow one order of the stores.
+use Rattle.std.proofs.Common.{◌≡◌, ℕ, ◌<◌, Bool, true, if◌then◌else◌, nat_eq, [], ◌∷◌, Some, refl, sym, ap, subst, ◌∙◌, arith, inl, inr}
+use Rattle.std.proofs.lemmas.Bool.{cases_Bool, cases_eq, eq-eqb}
+use Rattle.ace_event.specs.declared.event.Channel.TheVariants.{Read}
+use Rattle.ace_event.specs.declared.event.Event.{Event}
+use Rattle.ace_event.specs.declared.event.Event.TheVariants.{L, R}
+use Rattle.ace_event.specs.declared.header.Header.{Header}
+use Rattle.ace_model.specs.declared.transactions.Transaction.{Transaction}
+use Rattle.ace_model.specs.Trace.{Trace}
+use Rattle.ace_model.specs.Transactions.{outstanding, transaction_of, transfers}
+use Rattle.ace_model.specs.Copies.{is_line_read_transaction}
+use Rattle.ace_model.specs.DirtyPlace.{DirtyPlace}
+use Rattle.ace_model.specs.ReadsFollow.{ReadsFollow}
+use Rattle.ace_model.specs.ReadRules.{k18}
+use Rattle.ace_model.specs.Accepted.{IsAccepted}
+use Rattle.ace_model.proofs.Rules.Keeps.{accepted_keeps}
+use Rattle.ace_model.proofs.Trace.Looks.{Some-injective}
+use Rattle.ace_model.proofs.Holders.Transfer.{MayTransfer, may}
+use Rattle.ace_model.proofs.Trace.Places.{NewBeat, event_at-below, beat-below}
+use Rattle.ace_model.proofs.ReadsFollow.Order.{points-in_order}
+use Rattle.ace_model.proofs.ReadsFollow.Points.{IsPointOf, Follows, follows-choose}
+use Rattle.ace_model.proofs.ReadsFollow.First.{first-point, Ready, more}
+use Rattle.ace_model.proofs.ReadsFollow.MemorySince.{MemoryFollows}
+use Rattle.ace_model.proofs.ReadsFollow.Done.{memory_follows}
+use Rattle.ace_model.proofs.ReadsFollow.Written.{writes_value}
+
+-- the points of the reads of a trace
+abbrev Points : Header → Trace → Type 0
+Points h past = (point : ℕ → ℕ) × Follows h past point
+
+-- a beat is of the read that the rule on transfers speaks of
+record OneBeat (past : Trace) (q j : ℕ) (one x : Transaction) : Type 0 where
+  same : one ≡ x
+  port : q ≡ x.port
+  id : j ≡ x.id
+  line_read : is_line_read_transaction one ≡ true
+
+one-beat : (h : Header) (past : Trace) (q j resp : ℕ) (last : Bool) (word : ℕ) (x : Transaction) (k w : ℕ) → (m : MayTransfer h past q j resp last)
+    → NewBeat past (R q j resp last word) x k w → OneBeat past q j m.one x
+one-beat h past q j resp last word x k w m b =
+    let e = b.event in
+    let port : q ≡ x.port = cc in
+    let id : j ≡ x.id = cc in
+    let same : m.one ≡ x =
+    Some-injective m.one x (sym m.named ∙ ap (λ v. transaction_of past v Read j) port ∙ ap (transaction_of past x.port Read) id ∙ b.named) in
+    record {
+      same = same;
+      port = port;
+      id = id;
+      line_read = subst (λ (v : Transaction). is_line_read_transaction v ≡ true) (sym same) b.line_read;
+    }
+
+with-beat : (h : Header) (past : Trace) (q j resp : ℕ) (last : Bool) (word : ℕ) → IsAccepted h (R q j resp last word ∷ past) → DirtyPlace h past
+    → MemoryFollows h past → Points h past → Points h (R q j resp last word ∷ past)
+with-beat h past q j resp last word a d memory points =
+    let due : k18 h past (R q j resp last word) ≡ true = (accepted_keeps h past (R q j resp last word) a).rule_18 in
+    cases (may h past q j resp last word due)
+  where
+    point : ℕ → ℕ
+    point = points.0
+
+    f : Follows h past point
+    f = points.1
+
+    first : (m : MayTransfer h past q j resp last) → is_line_read_transaction m.one ≡ true → transfers past q j ≡ 0 → Points h (R q j resp last word ∷ past)
+    first m reads none =
+        let p = first-point h past q j resp last word m.one a d memory m.out reads none in
+        let out : outstanding h past m.one.port Read m.one.id ≡ Some m.one =
+        ap (λ v. outstanding h past v Read m.one.id) m.port ∙ ap (outstanding h past q Read) m.id ∙ m.out in
+        let count : transfers past m.one.port m.one.id ≡ 0 = ap (λ v. transfers past v m.one.id) m.port ∙ ap (transfers past q) m.id ∙ none in
+        let chosen : ℕ → ℕ = λ n. if nat_eq n m.one.place then p.0 else point n in
+        let ready : Ready past (R q j resp last word) chosen = λ x k w b.
+        let o = one-beat h past q j resp last word x k w m b in
+        subst (λ (v : Transaction). IsPointOf past v (chosen v.place)) o.same (rw (eq-eqb m.one.place m.one.place (refl {a = m.one.place})) p.1) in
+        (chosen, more h past (R q j resp last word) chosen a d (follows-choose h past point m.one p.0 f out count) ready)
+
+    cases : MayTransfer h past q j resp last → Points h (R q j resp last word ∷ past)
+    cases m =
+        elim (cases_Bool (is_line_read_transaction m.one)) [
+          | inr other ↦ (
+            point,
+            more h past (R q j resp last word) point a d f (λ x k w b.
+                let o = one-beat h past q j resp last word x k w m b in
+                let reads = o.line_read in cc),
+          )
+          | inl reads ↦ elim (cases_eq (transfers past q j) 0) [
+            | inl none ↦ first m reads none
+            | inr some ↦ (
+              point,
+              more h past (R q j resp last word) point a d f (λ x k w b.
+                  let o = one-beat h past q j resp last word x k w m b in
+                  subst (λ (v : Transaction). IsPointOf past v (point v.place)) o.same (f.replies q j m.one m.out reads some)),
+            )
+          ]
+        ]
+
+-- the points of the trace that is one event longer
+with-event : (h : Header) (past : Trace) (e : Event) → IsAccepted h (e ∷ past) → DirtyPlace h past → MemoryFollows h past → Points h past → Points h (e ∷ past)
+with-event h past (R q j resp last word) a d memory points = with-beat h past q j resp last word a d memory points
+with-event h past e a d memory points = (points.0, more h past e points.0 a d points.1 (λ x k w b. let no = b.event in cc))
+
+start : (h : Header) → Points h []
+start h = (
+  λ n. n,
+  record {
+    set = record {
+      load_now = λ n p l w word load. refl;
+      granted = λ x b. absurd (none b.0 (beat-below [] b.0 x b.1.0 b.1.1.0 b.1.1.1));
+      before_beats = λ n k word x b. absurd (none n (beat-below [] n x k word b));
+    };
+    load_word = λ n p l w word load. absurd (none n (event_at-below [] n (L p l w load.0 word) load.1));
+    beat_word = λ n k word x b. absurd (none n (beat-below [] n x k word b));
+    later = λ n high. refl;
+    replies = λ p i x o. cc;
+  },
+)
+  where
+    none : (n : ℕ) → n < 0 → ⊥
+    none n low = omega arith
+
+all-points : (h : Header) → ((t : Trace) → IsAccepted h t → DirtyPlace h t → MemoryFollows h t) → (past : Trace) → IsAccepted h past → DirtyPlace h past → Points h past
+all-points h memory [] a d = start h
+all-points h memory (e ∷ past) a d =
+    with-event h past e a d.0 (memory past a.0 d.0) (all-points h memory past a.0 d.0)
+
+-- Where memory follows the value while snoops bring no data, all reads do.
+pub reads_follow_memory : (h : Header) → ((t : Trace) → IsAccepted h t → DirtyPlace h t → MemoryFollows h t)
+    → (past : Trace) → IsAccepted h past → DirtyPlace h past → ReadsFollow past
+reads_follow_memory h memory past a d =
+    let p = all-points h memory past a d in
+    let f = p.1 in (
+      p.0,
+      record {
+        load_now = f.set.load_now;
+        load_word = f.load_word;
+        granted = f.set.granted;
+        before_beats = f.set.before_beats;
+        beat_word = f.beat_word;
+        in_order = points-in_order h past p.0 a f.set;
+      },
+    )
+
+-- In an accepted trace in which data newer than memory are with a holder or in flight, all reads follow one order of the stores.
+pub reads_follow : (h : Header) (past : Trace) → IsAccepted h past → DirtyPlace h past → ReadsFollow past
+reads_follow h past a d = reads_follow_memory h (memory_follows h (writes_value h)) past a d

@@ -1,0 +1,4 @@
+pub mod Acceptance
+pub mod FirstBreak
+pub mod Keeps
+pub mod Least

@@ -1,0 +1,3 @@
+pub mod ReadEnds
+pub mod SnoopRows
+pub mod States

@@ -1,0 +1,119 @@
+-- The events of a trace by their places, and what a longer trace says of them: loads, beats and grants.
+use Rattle.std.proofs.Common.{◌≡◌, ◌⊎◌, ℕ, ◌-◌, ◌<◌, ◌≤◌, Bool, true, [], ◌∷◌, ◌++◌, length, reverse, drop, Some, slice_get, sym, ap, subst, ◌∙◌, arith, inl, inr}
+use Rattle.std.proofs.lemmas.Option.{slice_get_within}
+use Rattle.std.proofs.lemmas.List.{reverse-append, length-reverse, drop-drop, length-drop}
+use Rattle.ace_event.specs.declared.event.Event.{Event}
+use Rattle.ace_event.specs.declared.event.Event.TheVariants.{L, R, G}
+use Rattle.ace_event.specs.declared.event.Channel.TheVariants.{Read}
+use Rattle.ace_model.specs.declared.transactions.Transaction.{Transaction}
+use Rattle.ace_model.specs.Trace.{Trace, event_at, at_point}
+use Rattle.ace_model.specs.Transactions.{transaction_of, transfers}
+use Rattle.ace_model.specs.Copies.{is_line_read_transaction}
+use Rattle.ace_model.specs.ReadsFollow.{IsLoad, IsBeat, IsGrantOf}
+use Rattle.ace_model.proofs.Trace.Growth.{slice_get-grown, at_point-before, at_point-end}
+use Rattle.ace_model.proofs.Trace.Looks.{Some-injective}
+use Rattle.ace_model.proofs.Trace.OneMore.{slice_get-more, slice_get-at_end}
+
+pub event_at-grown : (e : Event) (past : Trace) (n : ℕ) → event_at (e ∷ past) n ≡ slice_get (reverse past ++ e ∷ []) n
+event_at-grown e past n = ap (λ xs. slice_get xs n) (reverse-append (e ∷ []) past)
+
+pub event_at-below : (past : Trace) (n : ℕ) (z : Event) → event_at past n ≡ Some z → n < length past
+event_at-below past n z there = rw (← length-reverse past) (slice_get_within (reverse past) n z there)
+
+-- an event of the longer trace was there, or is the new one
+pub event_at-cases : (e : Event) (past : Trace) (n : ℕ) (z : Event) → event_at (e ∷ past) n ≡ Some z
+    → ((event_at past n ≡ Some z) × (n < length past)) ⊎ ((n ≡ length past) × (e ≡ z))
+event_at-cases e past n z there =
+    elim (slice_get-more (reverse past) (Some e) n z (sym (event_at-grown e past n) ∙ there)) [
+      | inl old ↦ inl (old, event_at-below past n z old)
+      | inr new ↦ inr (new.0 ∙ length-reverse past, Some-injective e z new.1)
+    ]
+
+pub event_at-old : (e : Event) (past : Trace) (n : ℕ) (z : Event) → event_at past n ≡ Some z → event_at (e ∷ past) n ≡ Some z
+event_at-old e past n z there = event_at-grown e past n ∙ slice_get-grown (reverse past) (Some e) n z there
+
+pub event_at-now : (e : Event) (past : Trace) → event_at (e ∷ past) (length past) ≡ Some e
+event_at-now e past = event_at-grown e past (length past) ∙ slice_get-at_end (reverse past) (length past) e (sym (length-reverse past))
+
+-- the point before the newest event
+pub at_point-last : (e : Event) (past : Trace) (n : ℕ) → n ≡ length past → at_point n (e ∷ past) ≡ past
+at_point-last e past n end = at_point-before e past n (omega arith) ∙ at_point-end past n end
+
+-- a point of the trace as it was at a later point
+pub at_point-twice : (past : Trace) (n m : ℕ) → n ≤ m → m ≤ length past → at_point n (at_point m past) ≡ at_point n past
+at_point-twice past n m le within =
+    let k = length past - m in
+    let long = length-drop k past in
+    drop-drop (length (drop k past) - n) k past ∙ ap (λ j. drop j past) (omega arith)
+
+pub at_point-length : (past : Trace) (n : ℕ) → n ≤ length past → length (at_point n past) ≡ n
+at_point-length past n le = let long = length-drop (length past - n) past in omega arith
+
+-- a load of the longer trace was there, or is the new event
+pub load-cases : (e : Event) (past : Trace) (n p l w word : ℕ) → IsLoad (e ∷ past) n p l w word
+    → IsLoad past n p l w word ⊎ ((n ≡ length past) × ((x : Bool) × (e ≡ L p l w x word)))
+load-cases e past n p l w word load =
+    elim (event_at-cases e past n (L p l w load.0 word) load.1) [
+      | inl old ↦ inl (load.0, old.0)
+      | inr new ↦ inr (new.0, (load.0, new.1))
+    ]
+
+-- The newest event is a beat of the line read.
+pub record NewBeat (past : Trace) (e : Event) (x : Transaction) (k word : ℕ) : Type 0 where
+  pub resp : ℕ
+  pub last : Bool
+  pub event : e ≡ R x.port x.id resp last word
+  pub named : transaction_of past x.port Read x.id ≡ Some x
+  pub line_read : is_line_read_transaction x ≡ true
+  pub number : transfers past x.port x.id ≡ k
+
+pub beat-cases : (e : Event) (past : Trace) (n : ℕ) (x : Transaction) (k word : ℕ) → IsBeat (e ∷ past) n x k word
+    → (IsBeat past n x k word × (n < length past)) ⊎ ((n ≡ length past) × NewBeat past e x k word)
+beat-cases e past n x k word beat =
+    let resp = beat.0 in
+    let last = beat.1.0 in
+    let b = beat.1.1 in
+    elim (event_at-cases e past n (R x.port x.id resp last word) b.0) [
+      | inl old ↦
+          let low = old.1 in
+          let same : at_point n (e ∷ past) ≡ at_point n past = at_point-before e past n (omega arith) in
+          inl (
+            (
+              resp,
+              (
+                last,
+                (
+                  old.0,
+                  subst (λ (t : Trace). transaction_of t x.port Read x.id ≡ Some x) same b.1,
+                  b.2,
+                  subst (λ (t : Trace). transfers t x.port x.id ≡ k) same b.3,
+                ),
+              ),
+            ),
+            old.1,
+          )
+      | inr new ↦
+          let same : at_point n (e ∷ past) ≡ past = at_point-last e past n new.0 in
+          inr (
+            new.0,
+            record {
+              resp = resp;
+              last = last;
+              event = new.1;
+              named = subst (λ (t : Trace). transaction_of t x.port Read x.id ≡ Some x) same b.1;
+              line_read = b.2;
+              number = subst (λ (t : Trace). transfers t x.port x.id ≡ k) same b.3;
+            },
+          )
+    ]
+
+-- a grant of the trace stands in the longer one
+pub grant-old : (e : Event) (past : Trace) (n : ℕ) (x : Transaction) → IsGrantOf past n x → IsGrantOf (e ∷ past) n x
+grant-old e past n x g =
+    let low = event_at-below past n (G x.port Read x.id) g.0 in (
+      event_at-old e past n (G x.port Read x.id) g.0,
+      subst (λ (t : Trace). transaction_of t x.port Read x.id ≡ Some x) (sym (at_point-before e past n (omega arith))) g.1,
+    )
+
+pub beat-below : (past : Trace) (n : ℕ) (x : Transaction) (k word : ℕ) → IsBeat past n x k word → n < length past
+beat-below past n x k word b = event_at-below past n (R x.port x.id b.0 b.1.0 word) b.1.1.0

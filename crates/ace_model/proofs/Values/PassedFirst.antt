@@ -1,0 +1,117 @@
+-- While there are passed data, the first response of their read has PassDirty.
+use Rattle.std.proofs.Common.{◌≡◌, ◌≢◌, ◌⊎◌, ℕ, Bool, true, false, not, ◌&&◌, nat_eq, [], ◌∷◌, length, Some, None, refl, sym, ap, subst, ◌∙◌, inl, inr}
+use Rattle.std.proofs.lemmas.Bool.{and_parts, and_from, cases_Bool, cases_eq, eqb-true, eq-eqb, ne_eqb}
+use Rattle.ace_codes.specs.Responses.{passes_dirty}
+use Rattle.ace_event.specs.declared.event.Channel.TheVariants.{Read}
+use Rattle.ace_event.specs.declared.event.Event.{Event}
+use Rattle.ace_event.specs.declared.event.Event.TheVariants.{Ar, R}
+use Rattle.ace_event.specs.declared.header.Header.{Header}
+use Rattle.ace_model.specs.declared.snoops.Answer.{Answer}
+use Rattle.ace_model.specs.declared.transactions.Transaction.{Transaction}
+use Rattle.ace_model.specs.Trace.{Trace, is_some_and}
+use Rattle.ace_model.specs.Transactions.{is_line, is_named, is_read, issued, ended, transfers, first_resp, outstanding}
+use Rattle.ace_model.specs.Grants.{granted, has_passed_data, is_begun}
+use Rattle.ace_model.specs.ReadRules.{may_transfer}
+use Rattle.ace_model.specs.Accepted.{IsAccepted}
+use Rattle.ace_model.proofs.Trace.Looks.{Some-injective, has_name-is, newest_named-cases, without-some}
+use Rattle.ace_model.proofs.Trace.Issued.{outstanding-named, transaction_of-stands}
+use Rattle.ace_model.proofs.Holders.Address.{named_read}
+use Rattle.ace_model.proofs.Grants.Stays.{granted_before}
+use Rattle.ace_model.proofs.Grants.Begins.{may_of, line_transfer}
+use Rattle.ace_model.proofs.Grants.SnoopAnswers.{NewAnswer, answer_cases}
+use Rattle.ace_model.proofs.Grants.Answers.{new_answer}
+use Rattle.ace_model.proofs.Values.Fetches.{issue_transfers}
+use Rattle.ace_model.proofs.Grants.Granted.{granted_at, unwritten_before, has_passed, passes_of}
+use Rattle.ace_model.proofs.Values.PassedData.{passes_data}
+use Rattle.ace_model.proofs.Holders.Law.{accepted_holds}
+
+-- The event is a transfer under the name.
+record Transfer (e : Event) (p i : ℕ) : Type 0 where
+  resp : ℕ
+  last : Bool
+  word : ℕ
+  is : e ≡ R p i resp last word
+
+first_moves : (past : Trace) (e : Event) (p i : ℕ) → is_named (issued (length past) e) p Read i ≡ false
+    → ((transfers (e ∷ past) p i ≡ transfers past p i) × (first_resp (e ∷ past) p i ≡ first_resp past p i)) ⊎ Transfer e p i
+first_moves past (Ar q j addr snoop dom bar lock) p i other = let f = named_read past q j addr snoop dom bar lock p i false other in inl (rw f refl, rw f refl)
+first_moves past (R q j resp last word) p i other =
+    elim (cases_Bool (nat_eq p q && nat_eq i j)) [
+      | inr f ↦ inl (rw f refl, rw f refl)
+      | inl t ↦
+          let parts = and_parts (nat_eq p q) (nat_eq i j) t in
+          inr (record { resp = resp; last = last; word = word; is = ap (λ v. R v j resp last word) (sym (eqb-true p q parts.0)) ∙ ap (λ v. R p v resp last word) (sym (eqb-true i j parts.1)) })
+    ]
+first_moves past _ p i other = inl (refl, refl)
+
+-- passed data were there, or come by an answer
+passed_before : (h : Header) (past : Trace) (e : Event) → IsAccepted h (e ∷ past) → (p i : ℕ) (x : Transaction) → outstanding h (e ∷ past) p Read i ≡ Some x
+    → ((r : ℕ) (w : Answer) → NewAnswer past e r x.addr w → granted h past x.addr ≡ Some x → ⊥) → has_passed_data h (e ∷ past) x ≡ true → has_passed_data h past x ≡ true
+passed_before h past e a p i x o no_new has =
+    let parts = has_passed h (e ∷ past) x has in
+    let g = granted_at h (e ∷ past) a p Read i x o parts.stands in
+    let w = passes_of h (e ∷ past) x.addr parts.some in
+    elim (granted_before h past e x.addr x g) [
+      | inr gives ↦ let bad : None ≡ Some w.answer = rw gives at w.is in cc
+      | inl stays ↦ elim (answer_cases past e w.port x.addr w.answer stays.gives w.is) [
+        | inl old ↦
+            let before = unwritten_before h past e a x.port x.chan x.id x ((accepted_holds h past a.0).grants x.addr x stays.was).0 parts.unwritten in
+            passes_data h past a.0 x.addr w.port x w.answer stays.was before old w.dirty
+        | inr new ↦ absurd (no_new w.port w.answer new stays.was)
+      ]
+    ]
+
+pub first_passes : (h : Header) (past : Trace) → IsAccepted h past → (p i : ℕ) (x : Transaction) → outstanding h past p Read i ≡ Some x → is_line x ≡ true
+    → transfers past p i ≢ 0 → has_passed_data h past x ≡ true → is_some_and (first_resp past p i) passes_dirty ≡ true
+first_passes h [] a p i x o line some has = cc
+first_passes h (e ∷ past) a p i x o line some has =
+    elim (newest_named-cases (issued (length past) e) p Read i _ x o) [
+      | inl new ↦ absurd (some (issue_transfers past e p i x new.0 new.1))
+      | inr old ↦
+          let was = (without-some (ended h past e) (outstanding h past p Read i) x old.0).0 in
+          elim (first_moves past e p i old.1) [
+            | inl same ↦
+                let before : transfers past p i ≢ 0 = λ z. some (same.0 ∙ z) in
+                let had = passed_before h past e a p i x o (λ r w new g. begun was before r w new g) has in
+                subst (λ v. is_some_and v passes_dirty ≡ true) (sym same.1) (first_passes h past a.0 p i x was line before had)
+            | inr t ↦
+                let had = passed_before h past e a p i x o (λ r w new g. let bad = sym t.is ∙ new.is in cc) has in
+                subst (λ d. is_some_and (first_resp (d ∷ past) p i) passes_dirty ≡ true) (sym t.is)
+                (transfer t.resp t.last t.word (subst (λ d. IsAccepted h (d ∷ past)) t.is a) was had (λ later. first_passes h past a.0 p i x was line later had))
+          ]
+    ]
+  where
+    begun : outstanding h past p Read i ≡ Some x → transfers past p i ≢ 0 → (r : ℕ) (w : Answer) → NewAnswer past e r x.addr w → granted h past x.addr ≡ Some x → ⊥
+    begun was before r w new g =
+        let n = new_answer h past e a r x.addr w new in
+        let one : n.1.pending.one ≡ x = Some-injective n.1.pending.one x (sym n.1.pending.stands ∙ g) in
+        let unbegun : is_begun past x ≡ false = subst (λ (y : Transaction). is_begun past y ≡ false) one n.1.pending.unbegun in
+        let name = has_name-is x p Read i (transaction_of-stands past p Read i x (outstanding-named h past p Read i x was)).named in
+        let count : transfers past x.port x.id ≡ transfers past p i = ap (λ v. transfers past v x.id) name.port ∙ ap (transfers past p) name.id in
+        let reads : is_read x.chan ≡ true = ap is_read name.chan in
+        let none : not (nat_eq (transfers past x.port x.id) 0) ≡ false = rw reads at unbegun in
+        let some_now : nat_eq (transfers past x.port x.id) 0 ≡ false = ne_eqb (transfers past x.port x.id) 0 (λ z. before (sym count ∙ z)) in
+        let bad : true ≡ false = sym (ap not some_now) ∙ none in cc
+
+    and_no : (b : Bool) → (b && false) ≡ false
+    and_no true = refl
+    and_no false = refl
+
+    transfer : (resp : ℕ) (last : Bool) (word : ℕ) → IsAccepted h (R p i resp last word ∷ past) → outstanding h past p Read i ≡ Some x → has_passed_data h past x ≡ true
+        → (transfers past p i ≢ 0 → is_some_and (first_resp past p i) passes_dirty ≡ true) → is_some_and (first_resp (R p i resp last word ∷ past) p i) passes_dirty ≡ true
+    transfer resp last word b was had before =
+        elim (cases_eq (transfers past p i) 0) [
+          | inl z ↦
+              let m = may_of h past p i resp last word b in
+              let one : m.one ≡ x = Some-injective m.one x (sym m.out ∙ was) in
+              let may_x = subst (λ (y : Transaction). may_transfer h past y resp ≡ true) one (m.may (subst (λ (y : Transaction). is_line y ≡ true) (sym one) line)) in
+              let takes = (line_transfer h past x resp may_x).takes had in
+              let pass : passes_dirty resp ≡ true = (and_parts _ (passes_dirty resp) takes).1 in
+              let first : first_resp (R p i resp last word ∷ past) p i ≡ Some resp =
+              rw (and_from _ _ (and_from _ _ (eq-eqb p p (refl {a = p})) (eq-eqb i i (refl {a = i}))) (eq-eqb (transfers past p i) 0 z)) refl in
+              subst (λ v. is_some_and v passes_dirty ≡ true) (sym first) pass
+          | inr later ↦
+              let cond : ((nat_eq p p && nat_eq i i) && nat_eq (transfers past p i) 0) ≡ false = ap (λ v. (nat_eq p p && nat_eq i i) && v) (ne_eqb (transfers past p i) 0 later) ∙ and_no (nat_eq p p && nat_eq i i) in
+              let first : first_resp (R p i resp last word ∷ past) p i ≡ first_resp past p i = rw cond refl in
+              subst (λ v. is_some_and v passes_dirty ≡ true) (sym first) (before later)
+        ]

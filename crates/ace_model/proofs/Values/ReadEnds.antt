@@ -1,0 +1,92 @@
+-- What an RK leaves of the line of its read.
+use Rattle.std.proofs.Common.{◌≡◌, ℕ, true, nat_eq, ◌∷◌, Some, None, le_refl, refl, sym, ap, subst, ◌∙◌, inl, inr}
+use Rattle.std.proofs.lemmas.Bool.{and_parts, cases_Bool, eqb-true}
+use Rattle.ace_codes.specs.declared.kind.ArKind.{ArKind}
+use Rattle.ace_codes.specs.declared.state.LineState.{LineState}
+use Rattle.ace_codes.specs.Responses.{passes_dirty, is_shared}
+use Rattle.ace_event.specs.declared.event.Event.TheVariants.{Rk}
+use Rattle.ace_event.specs.declared.event.Channel.TheVariants.{Read}
+use Rattle.ace_event.specs.declared.header.Header.{Header}
+use Rattle.ace_tables.specs.EndStates.{ends_read}
+use Rattle.ace_model.specs.declared.transactions.Transaction.{Transaction}
+use Rattle.ace_model.specs.Trace.{Trace, implies, is_some_and}
+use Rattle.ace_model.specs.Kinds.{is_make_unique}
+use Rattle.ace_model.specs.Transactions.{is_line, is_on, is_read, read_kind, write_kind, outstanding, acknowledged, first_resp, transaction_of, acknowledgements}
+use Rattle.ace_model.specs.Exclusives.{has_failed}
+use Rattle.ace_model.specs.States.{state_of, has_store}
+use Rattle.ace_model.specs.ReadRules.{ends_well, is_end, held_of}
+use Rattle.ace_model.specs.Accepted.{IsAccepted}
+use Rattle.ace_model.proofs.Trace.Looks.{Some-injective, is_some_and-is, is_none_or-at, implies-at}
+use Rattle.ace_model.proofs.Rules.Keeps.{accepted_keeps}
+use Rattle.ace_model.proofs.Holders.States.{held_on}
+use Rattle.ace_model.proofs.Holders.Acknowledge.{Ends, is_named_by_rk}
+use Rattle.ace_model.proofs.Holders.Facts.{Arrives}
+use Rattle.ace_model.proofs.Holders.Rises.{ends_of}
+use Rattle.ace_model.proofs.Values.Stores.{IsFull}
+use Rattle.ace_model.proofs.Holders.Law.{accepted_holds}
+
+-- The read of the line that an RK of the port ends.
+pub record ReadEnds (h : Header) (past : Trace) (q : ℕ) (st : LineState) (p l : ℕ) : Type 0 where
+  pub port : p ≡ q
+  pub one : Transaction
+  pub id : ℕ
+  pub out : outstanding h past p Read id ≡ Some one
+  pub named : transaction_of past p Read id ≡ Some one
+  pub on : is_on one l ≡ true
+  pub kind : ArKind
+  pub is_kind : read_kind one ≡ Some kind
+  pub ends_it : acknowledged past q Read ≡ Some one
+  pub state : ends_read kind (state_of h past p l) (is_some_and (first_resp past p id) is_shared) (is_some_and (first_resp past p id) passes_dirty) (has_failed past one) st ≡ true
+  pub stored : is_make_unique kind ≡ true → has_store h past p id ≡ true
+  pub arrives : Arrives h past p id one
+  pub full : IsFull past p id one
+
+pub read_ends : (h : Header) (past : Trace) (q : ℕ) (st : LineState) → IsAccepted h (Rk q st ∷ past) → (p l : ℕ) → is_named_by_rk past q p l ≡ true → ReadEnds h past q st p l
+read_ends h past q st a p l t =
+    let e = ends_of h past q st a in
+    let parts = and_parts (nat_eq p q) _ t in
+    let port = eqb-true p q parts.0 in
+    let y = is_some_and-is (acknowledged past p Read) (λ x. is_on x l) parts.1 in
+    let one : y.0 ≡ e.ended_one = Some-injective y.0 e.ended_one (sym y.1 ∙ ap (λ a. acknowledged past a Read) port ∙ e.is) in
+    let on : is_on e.ended_one l ≡ true = subst (λ (x : Transaction). is_on x l ≡ true) one y.2 in
+    let two = and_parts (is_line e.ended_one) (nat_eq e.ended_one.addr l) on in
+    let well = is_none_or-at (acknowledged past q Read) (ends_well h past st) e.ended_one (accepted_keeps h past (Rk q st) a).rule_23 e.is in
+    let end = is_none_or-at (read_kind e.ended_one) (is_end h past e.ended_one st) e.kind well e.is_kind in
+    let o = first_resp past e.ended_one.port e.ended_one.id in
+    let both = and_parts (ends_read e.kind (held_of h past e.ended_one) (is_some_and o is_shared) (is_some_and o passes_dirty) (has_failed past e.ended_one) st)
+    (implies (is_make_unique e.kind) (has_store h past e.ended_one.port e.ended_one.id)) end in
+    let first : o ≡ first_resp past p e.id = ap (λ v. first_resp past v e.ended_one.id) (e.port ∙ sym port) ∙ ap (first_resp past p) e.is_id in
+    let held : held_of h past e.ended_one ≡ state_of h past p l =
+    held_on (is_line e.ended_one) (state_of h past e.ended_one.port e.ended_one.addr) two.0
+    ∙ ap (λ v. state_of h past v e.ended_one.addr) (e.port ∙ sym port) ∙ ap (state_of h past p) (eqb-true e.ended_one.addr l two.1) in
+    let stored : has_store h past e.ended_one.port e.ended_one.id ≡ has_store h past p e.id =
+    ap (λ v. has_store h past v e.ended_one.id) (e.port ∙ sym port) ∙ ap (has_store h past p) e.is_id in
+    record {
+      port = port;
+      one = e.ended_one;
+      id = e.id;
+      out = ap (λ v. outstanding h past v Read e.id) port ∙ e.out;
+      named = ap (λ v. transaction_of past v Read e.id) port ∙ e.named;
+      on = on;
+      kind = e.kind;
+      is_kind = e.is_kind;
+      ends_it = e.is;
+      state = subst (λ v. ends_read e.kind (state_of h past p l) (is_some_and v is_shared) (is_some_and v passes_dirty) (has_failed past e.ended_one) st ≡ true) first
+          (subst (λ s. ends_read e.kind s (is_some_and o is_shared) (is_some_and o passes_dirty) (has_failed past e.ended_one) st ≡ true) held both.0);
+      stored = λ m. sym stored ∙ implies-at (is_make_unique e.kind) _ both.1 m;
+      arrives = subst (λ v. Arrives h past v e.id e.ended_one) (sym port) (e.arrives two.0);
+      full = subst (λ v. IsFull past v e.id e.ended_one) (sym port) (queued e);
+    }
+  where
+    queued : (e : Ends h past q) → IsFull past q e.id e.ended_one
+    queued e =
+        let s = (accepted_holds h past a.0).queue q (acknowledgements past q Read) e.id e.ace (le_refl (acknowledgements past q Read)) e.next in
+        let one : s.0 ≡ e.ended_one = Some-injective s.0 e.ended_one (sym s.1 ∙ e.out) in
+        subst (λ (y : Transaction). IsFull past q e.id y) one s.2
+
+pub read_writes_none : (x : Transaction) (k : ArKind) → read_kind x ≡ Some k → (write_kind x ≡ None) × (is_read x.chan ≡ true)
+read_writes_none x k kind =
+    elim (cases_Bool (is_read x.chan)) [
+      | inl t ↦ (rw t refl, t)
+      | inr f ↦ let none : read_kind x ≡ None = rw f refl in cc
+    ]

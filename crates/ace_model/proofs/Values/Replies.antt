@@ -1,0 +1,213 @@
+-- The reply to a read that keeps the line is the line's value.
+use Rattle.std.proofs.Common.{◌≡◌, ℕ, true, false, not, ◌&&◌, ◌||◌, nat_eq, [], ◌∷◌, length, Option, Some, None, is_some, is_none, option_and_then, unwrap_or, refl, sym, ap, subst, ◌∙◌, inl, inr}
+use Rattle.std.proofs.lemmas.Bool.{and_parts, and_from, or_cases, or_left, cases_Bool, cases_eq, eqb-true, eq-eqb}
+use Rattle.ace_codes.specs.declared.kind.ArKind.{ArKind}
+use Rattle.ace_codes.specs.declared.kind.ArKind.TheVariants as read
+use Rattle.ace_codes.specs.declared.kind.SnoopKind.{SnoopKind}
+use Rattle.ace_codes.specs.declared.state.LineState.{LineState}
+use Rattle.ace_codes.specs.declared.state.LineState.TheVariants.{I}
+use Rattle.ace_codes.specs.Responses.{passes_dirty, transfers_data}
+use Rattle.ace_event.specs.declared.event.Event.{Event}
+use Rattle.ace_event.specs.declared.event.Event.TheVariants.{Cr}
+use Rattle.ace_event.specs.declared.header.Header.{Header}
+use Rattle.ace_tables.specs.EndStates.{is_fetch}
+use Rattle.ace_tables.specs.States.{is_dirty}
+use Rattle.ace_model.specs.declared.snoops.Answer.{Answer}
+use Rattle.ace_model.specs.declared.transactions.Transaction.{Transaction}
+use Rattle.ace_model.specs.Trace.{Trace, at_point, is_some_and, newer}
+use Rattle.ace_model.specs.Kinds.{reads_a_line, is_clean_unique, is_make_unique, is_granted_write}
+use Rattle.ace_model.specs.Transactions.{is_on, is_line, read_kind, write_kind, snoop_of, snoop_kind_of, outstanding, is_exclusive_store}
+use Rattle.ace_model.specs.Writes.{has_memory_write}
+use Rattle.ace_model.specs.Snoops.{data_answers}
+use Rattle.ace_model.specs.Grants.{gives_line, granted, is_granted, answers_grant, answer_at, answer_of, passes, passer, has_passed_data, each_port}
+use Rattle.ace_model.specs.Exclusives.{has_failed}
+use Rattle.ace_model.specs.States.{state_of, are_snoops_done, is_port_done}
+use Rattle.ace_model.specs.Copies.{is_line_read_transaction, copy_of, memory_of}
+use Rattle.ace_model.specs.Replies.{copy_at_answer, passed_to, passed_data, sender_at, first_sender, memory_at_first_beat, reply_of}
+use Rattle.ace_model.specs.Values.{value_of}
+use Rattle.ace_model.specs.Accepted.{IsAccepted}
+use Rattle.ace_model.specs.DirtyPlace.{replaces_line}
+use Rattle.ace_model.proofs.Trace.Looks.{Some-injective, some_is, is_some_and-is}
+use Rattle.ace_model.proofs.Holders.FirstTransfer.{done_port, found_passes}
+use Rattle.ace_model.proofs.Holders.Rises.{stays_empty}
+use Rattle.ace_model.proofs.Grants.Pending.{answering, snoops}
+use Rattle.ace_model.proofs.Grants.SnoopAnswers.{answer_cases}
+use Rattle.ace_model.proofs.Grants.Answers.{is_levelling, unsent_clean, passed_kind}
+use Rattle.ace_model.proofs.Values.ReadEnds.{read_writes_none}
+use Rattle.ace_model.proofs.Values.Stays.{fetch_snoops}
+use Rattle.ace_model.proofs.Values.Facts.{SentTrue, Facts}
+use Rattle.ace_model.proofs.Holders.Law.{accepted_holds}
+
+-- a port that has answered under the grant answers no more
+pub answered_once : (h : Header) (past : Trace) → IsAccepted h past → (d : Event) (r l : ℕ) (w : Answer) → answer_of past r l ≡ Some w → answer_at past d r l ≡ None
+answered_once h past a (Cr q resp st) r l w is =
+    elim (cases_Bool (nat_eq r q && answers_grant past r l)) [
+      | inr f ↦ rw f refl
+      | inl t ↦
+          let s = answering past q r l t in
+          let none = ((snoops h past a).pending r _ l s.0 s.1).unanswered in cc
+    ]
+answered_once h past a d r l w is = refl
+
+pub answer_kept : (h : Header) (past : Trace) → IsAccepted h past → (e : Event) (r l : ℕ) (w : Answer) → gives_line past e l ≡ false → answer_of past r l ≡ Some w
+    → answer_of (e ∷ past) r l ≡ Some w
+answer_kept h past a e r l w gives is = let none = answered_once h past a e r l w is in rw (gives, none) is
+
+-- The answer with data of the first sender.
+pub record Sends (past : Trace) (s l : ℕ) : Type 0 where
+  pub answer : Answer
+  pub is : answer_of past s l ≡ Some answer
+  pub sends : transfers_data answer.resp ≡ true
+
+new_sender : (past : Trace) (e : Event) (s l : ℕ) → gives_line past e l ≡ false → sender_at past e l ≡ Some s → Sends (e ∷ past) s l
+new_sender past (Cr q resp st) s l gives is =
+    elim (cases_Bool (transfers_data resp && answers_grant past q l)) [
+      | inr f ↦ let bad : None ≡ Some s = rw f at is in cc
+      | inl t ↦
+          let parts = and_parts (transfers_data resp) (answers_grant past q l) t in
+          let same : Some q ≡ Some s = rw t at is in
+          let port : q ≡ s = Some-injective q s same in
+          let here : (nat_eq q q && answers_grant past q l) ≡ true = and_from _ _ (eq-eqb q q refl) parts.1 in
+          subst (λ v. Sends (Cr q resp st ∷ past) v l) port
+          (record { answer = record { place = length past; resp = resp; bursts = data_answers past q }; is = rw here refl; sends = parts.0 })
+    ]
+new_sender past e s l gives is = cc
+
+pub sender_sent : (h : Header) (past : Trace) → IsAccepted h past → (s l : ℕ) → first_sender past l ≡ Some s → Sends past s l
+sender_sent h [] a s l is = cc
+sender_sent h (e ∷ past) a s l is =
+    elim (cases_Bool (gives_line past e l)) [
+      | inl t ↦ let bad : None ≡ Some s = rw t at is in cc
+      | inr f ↦
+          let n : newer (first_sender past l) (sender_at past e l) ≡ Some s = rw f at is in
+          by f (first_sender past l) refl n (λ o. sender_sent h past a.0 s l o)
+    ]
+  where
+    by : gives_line past e l ≡ false → (o : Option ℕ) → first_sender past l ≡ o → newer o (sender_at past e l) ≡ Some s → (first_sender past l ≡ Some s → Sends past s l) → Sends (e ∷ past) s l
+    by gives None o n before = new_sender past e s l gives n
+    by gives (Some r) o n before =
+        let w = before (o ∙ n) in
+        record { answer = w.answer; is = answer_kept h past a.0 e s l w.answer gives w.is; sends = w.sends }
+
+newer_none : (o p : Option ℕ) → newer o p ≡ None → (o ≡ None) × (p ≡ None)
+newer_none None p e = (refl, e)
+newer_none (Some x) p e = cc
+
+-- the first sender of a longer trace under the same grant
+pub sender_before : (past : Trace) (e : Event) (l : ℕ) → gives_line past e l ≡ false → first_sender (e ∷ past) l ≡ None → (first_sender past l ≡ None) × (sender_at past e l ≡ None)
+sender_before past e l gives none = newer_none (first_sender past l) (sender_at past e l) (rw gives at none)
+
+-- where there is no sender, no port has sent
+pub sent_sender : (past : Trace) (r l : ℕ) (w : Answer) → answer_of past r l ≡ Some w → transfers_data w.resp ≡ true → first_sender past l ≡ None → ⊥
+sent_sender [] r l w is d none = cc
+sent_sender (e ∷ past) r l w is d none =
+    elim (cases_Bool (gives_line past e l)) [
+      | inl t ↦ let bad : None ≡ Some w = rw t at is in cc
+      | inr f ↦
+          let before = sender_before past e l f none in
+          elim (answer_cases past e r l w f is) [
+            | inl old ↦ sent_sender past r l w old d before.0
+            | inr new ↦
+                let bits : new.resp ≡ w.resp = ap (λ (v : Answer). v.resp) (sym new.now) in
+                let both : (transfers_data new.resp && answers_grant past r l) ≡ true = and_from _ _ (ap transfers_data bits ∙ d) new.under in
+                let silent : sender_at past (Cr r new.resp new.st) l ≡ None = subst (λ e. sender_at past e l ≡ None) new.is before.1 in
+                let bad : Some r ≡ None = rw both at silent in cc
+          ]
+    ]
+
+-- where memory has the value if no port has sent, the reply is the value
+pub reply_true : (h : Header) (past : Trace) → IsAccepted h past → SentTrue h past → (l : ℕ) (x : Transaction) (k : ArKind) → granted h past l ≡ Some x → x.addr ≡ l
+    → read_kind x ≡ Some k → is_fetch k ≡ true → (first_sender past l ≡ None → memory_at_first_beat past x.port x.id l ≡ value_of past l) → reply_of past x ≡ value_of past l
+reply_true h past a sent l x k g addr kind fetch memory =
+    ap (λ b. unwrap_or (option_and_then (copy_at_answer past b) (first_sender past b)) (memory_at_first_beat past x.port x.id b)) addr
+    ∙ by (first_sender past l) refl
+  where
+    by : (o : Option ℕ) → first_sender past l ≡ o → unwrap_or (option_and_then (copy_at_answer past l) o) (memory_at_first_beat past x.port x.id l) ≡ value_of past l
+    by None is = memory is
+    by (Some s) is =
+        let w = sender_sent h past a s l is in
+        let same : copy_at_answer past l s ≡ Some (copy_of (at_point w.answer.place past) s l) = let there = w.is in rw there refl in
+        ap (λ o. unwrap_or o (memory_at_first_beat past x.port x.id l)) same ∙ sent l s x w.answer k g w.is w.sends kind fetch
+
+fetch_line : (k : ArKind) → is_fetch k ≡ true → (reads_a_line k ≡ true) × (is_clean_unique k ≡ false) × (is_make_unique k ≡ false)
+fetch_line read.ReadClean e = (refl, refl, refl)
+fetch_line read.ReadNotSharedDirty e = (refl, refl, refl)
+fetch_line read.ReadShared e = (refl, refl, refl)
+fetch_line read.ReadUnique e = (refl, refl, refl)
+fetch_line k e = cc
+
+pub dirty_valid : (st : LineState) → is_dirty st ≡ true → (st ≡ I → ⊥)
+dirty_valid I d e = cc
+dirty_valid st d e = let bad : is_dirty I ≡ true = subst (λ v. is_dirty v ≡ true) e d in cc
+
+-- where the snoops of the read are done and no port has sent data, memory is the value
+pub memory_true : (h : Header) (past : Trace) → IsAccepted h past → Facts h past → (l : ℕ) (x : Transaction) (k : ArKind) → granted h past l ≡ Some x → read_kind x ≡ Some k
+    → is_fetch k ≡ true → are_snoops_done h past x ≡ true → first_sender past l ≡ None → memory_of past l ≡ value_of past l
+memory_true h past a f l x k g kind fetch done none =
+    elim (f.safe l) [
+      | inl same ↦ same
+      | inr s ↦ elim s [
+        | inl dirty ↦ absurd (no_holder dirty.0 dirty.1)
+        | inr s ↦ elim s [
+          | inl passed ↦ absurd (no_passed passed)
+          | inr replaces ↦
+              let r : replaces_line x ≡ true = subst (λ o. is_some_and o replaces_line ≡ true) g replaces in
+              let writes = (read_writes_none x k kind).0 in
+              let reads : is_some_and (read_kind x) is_make_unique ≡ false = ap (λ o. is_some_and o is_make_unique) kind ∙ (fetch_line k fetch).2 in
+              let bad : false ≡ true = rw (reads, writes) at r in cc
+        ]
+      ]
+    ]
+  where
+    snoop : (s : SnoopKind) × (snoop_of x ≡ Some s) × (is_levelling s ≡ true)
+    snoop = let s = fetch_snoops k fetch in (s.0, ap (λ o. snoop_kind_of o (write_kind x)) kind ∙ s.1, s.2)
+
+    outs : (outstanding h past x.port x.chan x.id ≡ Some x) × (is_on x l ≡ true)
+    outs = (accepted_holds h past a).grants l x g
+
+    addr : x.addr ≡ l
+    addr = eqb-true x.addr l (and_parts (is_line x) (nat_eq x.addr l) outs.1).1
+
+    all : each_port h.ports (is_port_done h past x) ≡ true
+    all =
+        elim (or_cases (is_none (snoop_of x) || has_failed past x) (each_port h.ports (is_port_done h past x)) done) [
+          | inr t ↦ t
+          | inl early ↦ elim (or_cases (is_none (snoop_of x)) (has_failed past x) early) [
+            | inl t ↦ let c = snoop.1 in let bad : false ≡ true = rw c at t in cc
+            | inr failed ↦
+                let store = (and_parts (is_exclusive_store x) _ failed).0 in
+                let clean : is_clean_unique k ≡ true = subst (λ o. is_some_and o is_clean_unique ≡ true) kind (and_parts x.lock (is_some_and (read_kind x) is_clean_unique) store).1 in
+                let no_clean = (fetch_line k fetch).1 in cc
+          ]
+        ]
+
+    no_holder : (q : ℕ) → is_dirty (state_of h past q l) ≡ true → ⊥
+    no_holder q d =
+        elim (cases_eq x.port q) [
+          | inl own ↦
+              let reads : is_line_read_transaction x ≡ true = subst (λ o. is_some_and o reads_a_line ≡ true) (sym kind) (fetch_line k fetch).0 in
+              let gone = stays_empty h past a x.port x.chan x.id l x outs.0 outs.1 (or_left (is_line_read_transaction x) (is_some_and (write_kind x) is_granted_write) reads) in
+              dirty_valid (state_of h past q l) d (ap (λ b. state_of h past b l) (sym own) ∙ gone)
+          | inr apart ↦ elim (done_port h past x q (accepted_holds h past a) all apart) [
+            | inl gone ↦ dirty_valid (state_of h past q l) d (ap (state_of h past q) (sym addr) ∙ gone)
+            | inr w ↦
+                let is : answer_of past q l ≡ Some w.answer = ap (answer_of past q) (sym addr) ∙ w.is in
+                elim (cases_Bool (transfers_data w.answer.resp)) [
+                  | inl sends ↦ absurd (sent_sender past q l w.answer is sends none)
+                  | inr silent ↦ let clean = unsent_clean h past a l q x w.answer snoop.0 g is silent snoop.1 snoop.2 in cc
+                ]
+          ]
+        ]
+
+    no_passed : passed_data h past l ≡ Some (value_of past l) → ⊥
+    no_passed passed =
+        let to : passed_to h past l x ≡ Some (value_of past l) = subst (λ o. option_and_then (passed_to h past l) o ≡ Some (value_of past l)) g passed in
+        elim (cases_Bool (has_passed_data h past x)) [
+          | inr f ↦ let bad : None ≡ Some (value_of past l) = rw f at to in cc
+          | inl t ↦
+              let two = and_parts (is_granted h past x && is_some (passer h past x.addr)) (not (has_memory_write past x.port x.chan x.id)) t in
+              let r = some_is (passer h past x.addr) (and_parts (is_granted h past x) (is_some (passer h past x.addr)) two.0).1 in
+              let w = is_some_and-is (answer_of past r.0 x.addr) (λ v. passes_dirty v.resp) (found_passes h.ports (passes past x.addr) r.0 r.1) in
+              let is : answer_of past r.0 l ≡ Some w.0 = ap (answer_of past r.0) (sym addr) ∙ w.1 in
+              sent_sender past r.0 l w.0 is (passed_kind h past a l r.0 x w.0 g is w.2).3 none
+        ]

@@ -1,0 +1,128 @@
+-- Once the update of a dirty line has written memory, memory is the value, and no passed data are on their way.
+use Rattle.std.proofs.Common.{◌≡◌, ℕ, true, false, not, nat_eq, ◌∷◌, length, Some, None, refl, sym, ap, subst, ◌∙◌, inl, inr}
+use Rattle.std.proofs.lemmas.Bool.{and_parts, not-true, cases_Bool, eqb-true}
+use Rattle.std.specs.List.{AllByRecursion}
+use Rattle.ace_codes.specs.declared.kind.AwKind.{AwKind}
+use Rattle.ace_codes.specs.declared.kind.AwKind.TheVariants as write
+use Rattle.ace_codes.specs.Responses.{passes_dirty}
+use Rattle.ace_event.specs.Range.{InRange}
+use Rattle.ace_event.specs.declared.event.Channel.TheVariants.{Write}
+use Rattle.ace_event.specs.declared.event.Event.{Event}
+use Rattle.ace_event.specs.declared.header.Header.{Header}
+use Rattle.ace_tables.specs.States.{is_invalid}
+use Rattle.ace_model.specs.declared.snoops.Answer.{Answer}
+use Rattle.ace_model.specs.declared.transactions.Transaction.{Transaction}
+use Rattle.ace_model.specs.Trace.{Trace, is_some_and}
+use Rattle.ace_model.specs.Kinds.{is_update}
+use Rattle.ace_model.specs.Transactions.{is_read, is_line, write_kind, issued, ended, outstanding}
+use Rattle.ace_model.specs.Progress.{updates_memory, has_update}
+use Rattle.ace_model.specs.Grants.{granted, has_passed_data}
+use Rattle.ace_model.specs.States.{state_of}
+use Rattle.ace_model.specs.Accepted.{IsAccepted}
+use Rattle.ace_model.proofs.Trace.Looks.{Some-injective, is_some_and-is, is_none_or-at, has_name-is, newest_named-cases, without-some}
+use Rattle.ace_model.proofs.Trace.Issued.{outstanding-named, transaction_of-stands}
+use Rattle.ace_model.proofs.Tables.States.{row_is}
+use Rattle.ace_model.proofs.Grants.Stays.{granted_before}
+use Rattle.ace_model.proofs.Tables.SnoopRows.{beside_update}
+use Rattle.ace_model.proofs.Grants.SnoopAnswers.{NewAnswer, answer_cases}
+use Rattle.ace_model.proofs.Grants.Answers.{new_answer}
+use Rattle.ace_model.proofs.Values.UpdateHolds.{is_dirty_update, update_found, keeps}
+use Rattle.ace_model.proofs.Values.WritesAlone.{all_empty}
+use Rattle.ace_model.proofs.Values.Stays.{value_updating}
+use Rattle.ace_model.proofs.Grants.Granted.{new_unwritten, unwritten_before, written_cases, has_passed, Passes, passes_of, granted_given, updates_ungranted}
+use Rattle.ace_model.proofs.Values.PassedData.{passes_data}
+use Rattle.ace_model.proofs.Values.MemoryWrites.{WritesLine, memory_moves, writer, update_true}
+use Rattle.ace_model.proofs.Values.Facts.{Updated, UpdatedTrue, Facts}
+use Rattle.ace_model.proofs.Holders.Law.{accepted_holds}
+
+-- no passed data come but by an answer with PassDirty
+still_none : (h : Header) (past : Trace) (e : Event) → IsAccepted h (e ∷ past) → (l : ℕ) → ((y : Transaction) → granted h past l ≡ Some y → has_passed_data h past y ≡ false)
+    → ((r : ℕ) (w : Answer) → NewAnswer past e r l w → passes_dirty w.resp ≡ true → ⊥)
+    → (y : Transaction) → granted h (e ∷ past) l ≡ Some y → has_passed_data h (e ∷ past) y ≡ false
+still_none h past e a l none no_new y g =
+    elim (cases_Bool (has_passed_data h (e ∷ past) y)) [
+      | inr f ↦ f
+      | inl t ↦ absurd (some t)
+    ]
+  where
+    some : has_passed_data h (e ∷ past) y ≡ true → ⊥
+    some t =
+        let parts = has_passed h (e ∷ past) y t in
+        let o = (accepted_holds h (e ∷ past) a).grants l y g in
+        let addr = eqb-true y.addr l (and_parts (is_line y) (nat_eq y.addr l) o.1).1 in
+        let w = subst (λ v. Passes h (e ∷ past) v) addr (passes_of h (e ∷ past) y.addr parts.some) in
+        elim (granted_before h past e l y g) [
+          | inr gives ↦ let bad : None ≡ Some w.answer = rw gives at w.is in cc
+          | inl stays ↦ elim (answer_cases past e w.port l w.answer stays.gives w.is) [
+            | inl old ↦
+                let before = unwritten_before h past e a y.port y.chan y.id y ((accepted_holds h past a.0).grants l y stays.was).0 parts.unwritten in
+                let bad : true ≡ false = sym (passes_data h past a.0 l w.port y w.answer stays.was before old w.dirty) ∙ none y stays.was in cc
+            | inr new ↦ no_new w.port w.answer new w.dirty
+          ]
+        ]
+
+dirty_updates : (k : AwKind) → is_dirty_update k ≡ true → is_update k ≡ true
+dirty_updates write.WriteBack d = refl
+dirty_updates write.WriteClean d = refl
+dirty_updates k d = cc
+
+pub updated_step : (h : Header) (past : Trace) (e : Event) → IsAccepted h (e ∷ past) → AllByRecursion InRange (e ∷ past) → Facts h past → UpdatedTrue h (e ∷ past)
+updated_step h past e a r f p i l x o on dirty m =
+    elim (newest_named-cases (issued (length past) e) p Write i _ x o) [
+      | inl new ↦ absurd (new_unwritten past e x p Write i new.0 new.1 m)
+      | inr old ↦
+          let was = (without-some (ended h past e) (outstanding h past p Write i) x old.0).0 in
+          elim (written_cases h past e a p Write i x was m) [
+            | inl now ↦ written was (record { port = p; chan = Write; id = i; line = now.line; is = now.is; one = x; out = was; on = on; may = now.may }) refl
+            | inr earlier ↦ later was (f.updated p i l x was on dirty earlier)
+          ]
+    ]
+  where
+    updates : updates_memory x ≡ true
+    updates = let k = is_some_and-is (write_kind x) is_dirty_update dirty in subst (λ o. is_some_and o is_update ≡ true) (sym k.1) (dirty_updates k.0 k.2)
+
+    written : outstanding h past p Write i ≡ Some x → (w : WritesLine h past e l) → w.one ≡ x → Updated h (e ∷ past) l
+    written was w same =
+        let chan = (has_name-is x p Write i (transaction_of-stands past p Write i x (outstanding-named h past p Write i x was)).named).chan in
+        let writes : is_read x.chan ≡ false = ap is_read chan in
+        elim (writer h past e a l w) [
+          | inl passed ↦ let bad : true ≡ false = sym passed.reads ∙ ap (λ (y : Transaction). is_read y.chan) same ∙ writes in cc
+          | inr s ↦ elim s [
+            | inl u ↦
+                let addr = eqb-true w.one.addr l (and_parts (is_line w.one) (nat_eq w.one.addr l) w.on).1 in
+                record {
+                  stored = update_true h past e a r.0 f.updates l w u;
+                  none = still_none h past e a l
+                      (λ y g. not-true (has_passed_data h past y) (is_none_or-at (granted h past w.one.addr) (λ y. not (has_passed_data h past y)) y u.clear (ap (granted h past) addr ∙ g)))
+                      (λ q v new d. let bad = sym w.is ∙ new.is in cc);
+                }
+            | inr s ↦
+                let one : s.one ≡ x = Some-injective s.one w.one (sym s.named ∙ outstanding-named h past w.port w.chan w.id w.one w.out) ∙ same in
+                let kind = (granted_given h past a.0 l x (s.stands ∙ ap (λ v. Some v) one)).kind in
+                absurd (updates_ungranted x kind writes updates)
+          ]
+        ]
+
+    later : outstanding h past p Write i ≡ Some x → Updated h past l → Updated h (e ∷ past) l
+    later was q =
+        let value = value_updating h past e a p i l x was on updates in
+        let k = keeps h past a.0 p i l x was on updates in
+        record {
+          stored = elim (memory_moves h past e a l) [
+            | inl kept ↦ kept ∙ q.stored ∙ sym value
+            | inr w ↦ elim (writer h past e a l w) [
+              | inl passed ↦ let bad : true ≡ false = sym passed.has ∙ q.none w.one passed.stands in cc
+              | inr s ↦ elim s [
+                | inl u ↦ update_true h past e a r.0 f.updates l w u
+                | inr s ↦ let bad : true ≡ false = sym (ap is_invalid (all_empty h past a.0 w.port w.chan w.id l s p)) ∙ k.held in cc
+              ]
+            ]
+          ];
+          none = still_none h past e a l q.none (λ z v new d.
+              let n = new_answer h past e a z l v new in
+              let there = ((row_is n.1.kind (state_of h past z l) v.resp n.0 n.1.row).passes d).0 in
+              let port : p ≡ z = (accepted_holds h past a.0).one_dirty l p z (k.dirty dirty) there in
+              let row = n.1.beside (subst (λ b. has_update h past b l ≡ true) port (update_found h past p Write i l x was on updates)) in
+              let b = beside_update n.1.kind (state_of h past z l) v.resp n.0 n.1.of_line (subst (λ b. is_invalid (state_of h past b l) ≡ false) port k.held) row in
+              let bad : true ≡ false = sym d ∙ b.no_pass in cc);
+        }
