@@ -1,10 +1,6 @@
 -- An accepted trace in range is coherent.
 use Rattle.std.specs.List.{AllByRecursion}
-use Rattle.ace_event.specs.declared.header.Header.{Header}
-use Rattle.ace_event.specs.Range.{InRange}
-use Rattle.ace_model.specs.Trace.{Trace}
-use Rattle.ace_model.specs.Accepted.{IsAccepted}
-use Rattle.ace_model.specs.Coherent.{Coherent}
+use Rattle.ace_model.proofs.Terms.{Header, InRange, Trace, IsAccepted, Coherent}
 use Rattle.ace_model.proofs.Holders.Law.{accepted_unique, accepted_one_dirty}
 use Rattle.ace_model.proofs.Values.Law.{dirty_data_placed}
 use Rattle.ace_model.proofs.ReadsFollow.Law.{reads_follow}

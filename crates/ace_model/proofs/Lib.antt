@@ -1,3 +1,4 @@
+pub mod Terms
 pub mod Trace
 pub mod Rules
 pub mod Tables

@@ -2,21 +2,9 @@
 use Rattle.std.proofs.Common.{◌≡◌, ℕ, zero, suc, ◌<◌, Bool, true, false, ◌&&◌, ◌==◌, nat_lt, List, [], ◌∷◌, ◌++◌, length, Some, slice_get, sym, ap, subst, ◌∙◌, arith, inl, inr}
 use Rattle.std.proofs.lemmas.Bool.{and_parts, cases_Bool, eq-eqb, ltb-true, lt-ltb}
 use Rattle.std.specs.List.{list_all}
-use Rattle.ace_event.specs.declared.event.Event.{Event}
-use Rattle.ace_event.specs.declared.event.Event.TheVariants.{R, B, G}
-use Rattle.ace_event.specs.declared.event.Channel.TheVariants.{Read, Write}
-use Rattle.ace_event.specs.declared.header.Header.{Header}
-use Rattle.ace_model.specs.declared.transactions.Transaction.{Transaction}
-use Rattle.ace_model.specs.Trace.{Trace, implies}
-use Rattle.ace_model.specs.Transactions.{is_line, is_transaction, outstanding}
-use Rattle.ace_model.specs.Progress.{served_by, is_completion_event, is_completed, is_ordered}
-use Rattle.ace_model.specs.Barriers.{is_barrier_half, Pair, pairs, pair_of, number_of, place_of, is_pair_complete, is_synchronisation, is_before, is_awaited, may_answer}
-use Rattle.ace_model.specs.SnoopRules.{k12, may_be_granted}
-use Rattle.ace_model.specs.ReadRules.{k18, is_due}
-use Rattle.ace_model.specs.WriteRules.{k26, may_respond}
-use Rattle.ace_model.specs.OrderRules.{k34, k35, may_answer_half, is_past_barriers}
-use Rattle.ace_model.specs.Accepted.{IsAccepted}
-use Rattle.ace_model.specs.BarrierHolds.{IsOrderedBy, IsOrderedAt, BarrierHolds}
+use Rattle.ace_model.proofs.Terms.{Event, R, B, G, Read, Write, Header, Transaction, Trace, implies, is_line, is_transaction, outstanding, served_by, is_completion_event, is_completed, is_ordered}
+use Rattle.ace_model.proofs.Terms.{is_barrier_half, Pair, pairs, pair_of, number_of, place_of, is_pair_complete, is_synchronisation, is_before, is_awaited, may_answer, k12, may_be_granted, k18, is_due, k26}
+use Rattle.ace_model.proofs.Terms.{may_respond, k34, k35, may_answer_half, is_past_barriers, IsAccepted, IsOrderedBy, IsOrderedAt, BarrierHolds}
 use Rattle.ace_model.proofs.Trace.Growth.{issued_at-grown, IsIssued, transaction-issued, each_issued-at, has_had-later, accepted-before}
 use Rattle.ace_model.proofs.Trace.Issued.{issued_at, transaction_of-stands, outstanding-named}
 use Rattle.ace_model.proofs.Rules.Keeps.{accepted_keeps}

@@ -1,23 +1,12 @@
 -- A line transaction that is complete has had its order point.
 use Rattle.std.proofs.Common.{◌≡◌, ◌⊎◌, ℕ, Bool, true, false, not, ◌&&◌, ◌||◌, ◌==◌, nat_eq, if◌then◌else◌, List, [], ◌∷◌, ◌++◌, length, Some, refl, sym, ap, subst, ◌∙◌, inl, inr}
 use Rattle.std.proofs.lemmas.Bool.{and_parts, or_cases, or_left, or_right, cases_Bool, eqb-true, eq-eqb, not-true}
-use Rattle.ace_codes.specs.declared.kind.AwKind.{AwKind}
+use Rattle.ace_model.proofs.Terms.{AwKind, Event, R, B, G, M, Channel, Read, Write, Header, Transaction, Trace, is_some_and, is_line_read, is_line_write, is_evict, has_write_data, is_read, is_line}
+use Rattle.ace_model.proofs.Terms.{is_named, is_transaction, issued, read_kind, write_kind, same_channel, transaction_of, ended, without, served_by, has_had, is_completion_event, is_completed, is_grant}
+use Rattle.ace_model.proofs.Terms.{is_write_of_memory, updates_memory, evicts, is_ordered, is_memory_write, has_memory_write, is_burst_whole, given, granted, is_granted, has_passed_data}
+use Rattle.ace_model.proofs.Terms.{are_passed_data_whole, k18, is_due, is_next_transfer, may_transfer, k24, k26, may_respond, is_write_due, is_update_due, may_write_passed, may_write_data, may_write_memory}
+use Rattle.ace_model.proofs.Terms.{IsAccepted}
 use Rattle.ace_codes.specs.declared.kind.AwKind.TheVariants as kind
-use Rattle.ace_event.specs.declared.event.Event.{Event}
-use Rattle.ace_event.specs.declared.event.Event.TheVariants.{R, B, G, M}
-use Rattle.ace_event.specs.declared.event.Channel.{Channel}
-use Rattle.ace_event.specs.declared.event.Channel.TheVariants.{Read, Write}
-use Rattle.ace_event.specs.declared.header.Header.{Header}
-use Rattle.ace_model.specs.declared.transactions.Transaction.{Transaction}
-use Rattle.ace_model.specs.Trace.{Trace, is_some_and}
-use Rattle.ace_model.specs.Kinds.{is_line_read, is_line_write, is_evict, has_write_data}
-use Rattle.ace_model.specs.Transactions.{is_read, is_line, is_named, is_transaction, issued, read_kind, write_kind, same_channel, transaction_of, ended, without}
-use Rattle.ace_model.specs.Progress.{served_by, has_had, is_completion_event, is_completed, is_grant, is_write_of_memory, updates_memory, evicts, is_ordered}
-use Rattle.ace_model.specs.Writes.{is_memory_write, has_memory_write, is_burst_whole}
-use Rattle.ace_model.specs.Grants.{given, granted, is_granted, has_passed_data, are_passed_data_whole}
-use Rattle.ace_model.specs.ReadRules.{k18, is_due, is_next_transfer, may_transfer}
-use Rattle.ace_model.specs.WriteRules.{k24, k26, may_respond, is_write_due, is_update_due, may_write_passed, may_write_data, may_write_memory}
-use Rattle.ace_model.specs.Accepted.{IsAccepted}
 use Rattle.ace_model.proofs.Trace.Growth.{has_had-grown, has_had-later, accepted-before}
 use Rattle.ace_model.proofs.Trace.Issued.{issued_at}
 use Rattle.ace_model.proofs.Rules.Keeps.{accepted_keeps}

@@ -1,13 +1,7 @@
 -- The halves of a barrier and its pair: which of the port's they are doesn't change while the trace grows.
 use Rattle.std.proofs.Common.{◌≡◌, ℕ, zero, suc, ◌<◌, true, ◌&&◌, ◌==◌, List, [], ◌∷◌, ◌++◌, length, Option, Some, None, slice_get, sym, ap, subst, ◌∙◌, arith, inl, inr}
 use Rattle.std.proofs.lemmas.Bool.{and_parts, cases_Bool, eqb-true}
-use Rattle.ace_event.specs.declared.event.Event.{Event}
-use Rattle.ace_event.specs.declared.event.Channel.{Channel}
-use Rattle.ace_event.specs.declared.event.Channel.TheVariants.{Read, Write}
-use Rattle.ace_model.specs.declared.transactions.Transaction.{Transaction}
-use Rattle.ace_model.specs.Trace.{Trace, at_point}
-use Rattle.ace_model.specs.Transactions.{issued, same_channel}
-use Rattle.ace_model.specs.Barriers.{is_barrier_half, is_barrier_of, barrier_in, barriers, Pair, paired, pairs, number_of}
+use Rattle.ace_model.proofs.Terms.{Event, Channel, Read, Write, Transaction, Trace, at_point, issued, same_channel, is_barrier_half, is_barrier_of, barrier_in, barriers, Pair, paired, pairs, number_of}
 use Rattle.ace_model.proofs.Trace.Growth.{slice_get-grown, at_point-before, at_point-end, at_point-grown, IsIssued, issued-new, issued-old}
 use Rattle.ace_model.proofs.Trace.Issued.{issued-place}
 use Rattle.ace_model.proofs.Trace.Looks.{Some-injective, same_channel-is}

@@ -1,19 +1,8 @@
 -- A complete DVM message was answered by every other ACE port.
 use Rattle.std.proofs.Common.{◌≡◌, ◌≢◌, ℕ, ◌<◌, Bool, true, ◌&&◌, nat_eq, nat_lt, [], ◌∷◌, length, Some, None, refl, sym, ap, ◌∙◌, arith, inl, inr}
 use Rattle.std.proofs.lemmas.Bool.{cases_Bool, and_parts, and_from, or_cases, eqb-true, ne_eqb, ltb-true}
-use Rattle.ace_event.specs.declared.event.Channel.TheVariants.{Read, Write}
-use Rattle.ace_event.specs.declared.event.Event.{Event}
-use Rattle.ace_event.specs.declared.event.Event.TheVariants.{R, B, G, M}
-use Rattle.ace_event.specs.declared.header.Header.{Header}
-use Rattle.ace_model.specs.declared.transactions.Transaction.{Transaction}
-use Rattle.ace_model.specs.Trace.{Trace, implies, is_some_and}
-use Rattle.ace_model.specs.Kinds.{is_dvm_message}
-use Rattle.ace_model.specs.Transactions.{is_ace, is_read, outstanding}
-use Rattle.ace_model.specs.Progress.{served_by, has_had, is_completion_event, is_completed}
-use Rattle.ace_model.specs.Messages.{is_message, is_other_ace, has_answered}
-use Rattle.ace_model.specs.ReadRules.{is_due}
-use Rattle.ace_model.specs.OrderRules.{is_answered_by_all}
-use Rattle.ace_model.specs.Accepted.{IsAccepted}
+use Rattle.ace_model.proofs.Terms.{Read, Write, Event, R, B, G, M, Header, Transaction, Trace, implies, is_some_and, is_dvm_message, is_ace, is_read, outstanding, served_by, has_had, is_completion_event}
+use Rattle.ace_model.proofs.Terms.{is_completed, is_message, is_other_ace, has_answered, is_due, is_answered_by_all, IsAccepted}
 use Rattle.ace_model.proofs.Rules.Keeps.{accepted_keeps}
 use Rattle.ace_model.proofs.Trace.Looks.{Some-injective, is_some_and-is, is_none_or-at, implies-at, has_name-is}
 use Rattle.ace_model.proofs.Trace.Growth.{issued_at-before, IsIssued}

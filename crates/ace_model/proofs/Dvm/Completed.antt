@@ -2,17 +2,8 @@
 use Rattle.std.proofs.Common.{◌≡◌, ℕ, ◌+◌, ◌-◌, ◌≤◌, ◌<◌, Bool, true, ◌&&◌, cond, nat_eq, nat_lt, List, [], ◌∷◌, ◌++◌, length, filter, slice_get, count_by, Option, Some, None, refl, sym, ap, subst, ◌∙◌, arith, inl, inr}
 use Rattle.std.proofs.lemmas.Bool.{cases_Bool, cases_lt, and_parts, eqb-true, ltb-true, lt-ltb}
 use Rattle.std.proofs.lemmas.List.Sums.{sum_by-append, length-filter}
-use Rattle.ace_event.specs.declared.event.Event.{Event}
-use Rattle.ace_event.specs.declared.header.Header.{Header}
-use Rattle.ace_model.specs.declared.transactions.Transaction.{Transaction}
-use Rattle.ace_model.specs.Trace.{Trace, at_point, more}
-use Rattle.ace_model.specs.Transactions.{issued}
-use Rattle.ace_model.specs.Progress.{transactions, IsTransaction}
-use Rattle.ace_model.specs.Snoops.{snoops_of, answers}
-use Rattle.ace_model.specs.Messages.{is_sync, messages_for, syncs_for, is_dvm_completion, dvm_completes, answered_snoops, answered_messages, answered_syncs, has_answered}
-use Rattle.ace_model.specs.DvmHolds.{HasCompleted}
-use Rattle.ace_model.specs.OrderRules.{k38, owes_completion}
-use Rattle.ace_model.specs.Accepted.{IsAccepted}
+use Rattle.ace_model.proofs.Terms.{Event, Header, Transaction, Trace, at_point, more, issued, transactions, IsTransaction, snoops_of, answers, is_sync, messages_for, syncs_for, is_dvm_completion}
+use Rattle.ace_model.proofs.Terms.{dvm_completes, answered_snoops, answered_messages, answered_syncs, has_answered, HasCompleted, k38, owes_completion, IsAccepted}
 use Rattle.ace_model.proofs.Rules.Keeps.{accepted_keeps}
 use Rattle.ace_model.proofs.Trace.Looks.{is_none_or-at, implies-at}
 use Rattle.ace_model.proofs.Trace.OneMore.{slice_get-at_end}

@@ -2,20 +2,8 @@
 -- Syncs among the one are those among the other.
 use Rattle.std.proofs.Common.{◌≡◌, ℕ, zero, suc, ◌+◌, ◌≤◌, Bool, true, false, ◌&&◌, not, cond, nat_eq, List, [], ◌∷◌, ◌++◌, length, take, count_by, slice_get, Option, Some, None, refl, sym, ap, ap₂, subst, ◌∙◌, arith, inl, inr}
 use Rattle.std.proofs.lemmas.Bool.{cases_Bool, and_parts, eqb-true}
-use Rattle.ace_event.specs.declared.event.Event.{Event}
-use Rattle.ace_event.specs.declared.event.Event.TheVariants.{Ac}
-use Rattle.ace_event.specs.declared.header.Header.{Header}
-use Rattle.ace_codes.specs.Snoops.{ac_kind_of}
-use Rattle.ace_model.specs.declared.snoops.Snoop.{Snoop}
-use Rattle.ace_model.specs.declared.transactions.Transaction.{Transaction}
-use Rattle.ace_model.specs.Trace.{Trace, more}
-use Rattle.ace_model.specs.Kinds.{is_message_snoop}
-use Rattle.ace_model.specs.Transactions.{issued}
-use Rattle.ace_model.specs.Progress.{transactions}
-use Rattle.ace_model.specs.Snoops.{snoops_of, snoop_at}
-use Rattle.ace_model.specs.Messages.{is_message, is_sync, is_sync_word, messages_for, next_message, forwarded, forwards_message, forwards_sync}
-use Rattle.ace_model.specs.OrderRules.{k36, forwards_next}
-use Rattle.ace_model.specs.Accepted.{IsAccepted}
+use Rattle.ace_model.proofs.Terms.{Event, Ac, Header, ac_kind_of, Snoop, Transaction, Trace, more, is_message_snoop, issued, transactions, snoops_of, snoop_at, is_message, is_sync, is_sync_word}
+use Rattle.ace_model.proofs.Terms.{messages_for, next_message, forwarded, forwards_message, forwards_sync, k36, forwards_next, IsAccepted}
 use Rattle.ace_model.proofs.Rules.Keeps.{accepted_keeps}
 use Rattle.ace_model.proofs.Trace.Looks.{Some-injective, is_some_and-is, is_none_or-at, implies-at}
 use Rattle.ace_model.proofs.Trace.Starts.{IsStart, start-more, start-filter, slice_get-filter, count_by-cons}

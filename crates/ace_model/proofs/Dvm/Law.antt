@@ -1,19 +1,9 @@
 -- In an accepted trace a Sync waits for all.
 use Rattle.std.proofs.Common.{◌≡◌, ◌≢◌, ℕ, ◌-◌, ◌<◌, true, ◌&&◌, not, nat_eq, nat_le, [], ◌∷◌, length, Option, Some, None, refl, sym, ap, subst, ◌∙◌, arith, inl, inr}
 use Rattle.std.proofs.lemmas.Bool.{cases_Bool, and_parts, eqb-true, eq-eqb, leb-true, ltb-true, lt-ltb}
-use Rattle.ace_codes.specs.Snoops.{ac_kind_of}
-use Rattle.ace_event.specs.declared.event.Event.{Event}
-use Rattle.ace_event.specs.declared.event.Event.TheVariants.{Ac}
-use Rattle.ace_event.specs.declared.header.Header.{Header}
-use Rattle.ace_model.specs.declared.transactions.Transaction.{Transaction}
-use Rattle.ace_model.specs.Trace.{Trace, at_point, implies, newer}
-use Rattle.ace_model.specs.Kinds.{is_complete_snoop}
-use Rattle.ace_model.specs.Transactions.{is_ace, issued}
-use Rattle.ace_model.specs.Progress.{is_completed}
-use Rattle.ace_model.specs.Messages.{is_message, is_sync, is_sync_word, messages_for, answered_messages, has_answered, sync_number, dvm_completes, sync_in, last_sync, is_sync_completed, is_other_ace}
-use Rattle.ace_model.specs.OrderRules.{completes_next, may_complete, has_every_completion}
-use Rattle.ace_model.specs.DvmHolds.{DvmHolds, IsCompletedAt, IsDoneWith}
-use Rattle.ace_model.specs.Accepted.{IsAccepted}
+use Rattle.ace_model.proofs.Terms.{ac_kind_of, Event, Ac, Header, Transaction, Trace, at_point, implies, newer, is_complete_snoop, is_ace, issued, is_completed, is_message, is_sync, is_sync_word}
+use Rattle.ace_model.proofs.Terms.{messages_for, answered_messages, has_answered, sync_number, dvm_completes, sync_in, last_sync, is_sync_completed, is_other_ace, completes_next, may_complete}
+use Rattle.ace_model.proofs.Terms.{has_every_completion, DvmHolds, IsCompletedAt, IsDoneWith, IsAccepted}
 use Rattle.ace_model.proofs.Rules.Keeps.{accepted_keeps}
 use Rattle.ace_model.proofs.Trace.Looks.{Some-injective, is_some_and-is, is_none_or-at, implies-at}
 use Rattle.ace_model.proofs.Trace.Issued.{issued-place}

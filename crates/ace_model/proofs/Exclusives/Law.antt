@@ -2,19 +2,8 @@
 use Rattle.std.proofs.Common.{◌≡◌, ◌≢◌, ◌⊎◌, ℕ, Bool, true, false, not, ◌&&◌, nat_eq, [], ◌∷◌, Option, Some, None, refl, sym, ap, subst, ◌∙◌, inl, inr}
 use Rattle.std.specs.Option.{option_and_then}
 use Rattle.std.proofs.lemmas.Bool.{and_parts, or_left, or_right, cases_Bool, eqb-true, eq-eqb, ne_eqb, not-true}
-use Rattle.ace_codes.specs.declared.state.LineState.TheVariants.{I}
-use Rattle.ace_event.specs.declared.header.Header.{Header}
-use Rattle.ace_event.specs.declared.event.Event.{Event}
-use Rattle.ace_event.specs.declared.event.Event.TheVariants.{L, D, M}
-use Rattle.ace_tables.specs.States.{is_invalid, is_unique}
-use Rattle.ace_model.specs.declared.transactions.Transaction.{Transaction}
-use Rattle.ace_model.specs.Trace.{Trace, is_some_and}
-use Rattle.ace_model.specs.Transactions.{is_on, transaction_of}
-use Rattle.ace_model.specs.States.{state_of}
-use Rattle.ace_model.specs.Monitors.{is_set_by, is_monitored}
-use Rattle.ace_model.specs.Values.{Store, stores_data, store_of}
-use Rattle.ace_model.specs.Accepted.{IsAccepted}
-use Rattle.ace_model.specs.ExclusiveHolds.{is_exclusive_load, disturbs, is_undisturbed, ExclusiveHolds}
+use Rattle.ace_model.proofs.Terms.{I, Header, Event, L, D, M, is_invalid, is_unique, Transaction, Trace, is_some_and, is_on, transaction_of, state_of, is_set_by, is_monitored, Store, stores_data, store_of}
+use Rattle.ace_model.proofs.Terms.{IsAccepted, is_exclusive_load, disturbs, is_undisturbed, ExclusiveHolds}
 use Rattle.ace_model.proofs.Rules.Keeps.{accepted_keeps}
 use Rattle.ace_model.proofs.Holders.Law.{accepted_holds}
 use Rattle.ace_model.proofs.Values.Stores.{stores_d, stores_m}

@@ -1,22 +1,9 @@
 -- What the answers under a grant say of the states of the ports.
 use Rattle.std.proofs.Common.{◌≡◌, ◌≢◌, ℕ, Bool, true, false, not, ◌||◌, [], ◌∷◌, Some, None, refl, sym, ap, subst, ◌∙◌, inl, inr}
 use Rattle.std.proofs.lemmas.Bool.{and_parts, or_cases, or_right, cases_Bool, cases_eq}
-use Rattle.ace_codes.specs.declared.kind.SnoopKind.{SnoopKind}
+use Rattle.ace_model.proofs.Terms.{SnoopKind, LineState, I, UC, UD, SC, SD, passes_dirty, transfers_data, is_shared, Event, Cr, Header, is_unique, is_dirty, is_invalid, Answer, Transaction, Trace, snoop_of}
+use Rattle.ace_model.proofs.Terms.{has_outstanding_on, granted, answer_of, state_of, IsAccepted}
 use Rattle.ace_codes.specs.declared.kind.SnoopKind.TheVariants as snoop
-use Rattle.ace_codes.specs.declared.state.LineState.{LineState}
-use Rattle.ace_codes.specs.declared.state.LineState.TheVariants.{I, UC, UD, SC, SD}
-use Rattle.ace_codes.specs.Responses.{passes_dirty, transfers_data, is_shared}
-use Rattle.ace_event.specs.declared.event.Event.{Event}
-use Rattle.ace_event.specs.declared.event.Event.TheVariants.{Cr}
-use Rattle.ace_event.specs.declared.header.Header.{Header}
-use Rattle.ace_tables.specs.States.{is_unique, is_dirty, is_invalid}
-use Rattle.ace_model.specs.declared.snoops.Answer.{Answer}
-use Rattle.ace_model.specs.declared.transactions.Transaction.{Transaction}
-use Rattle.ace_model.specs.Trace.{Trace}
-use Rattle.ace_model.specs.Transactions.{snoop_of, has_outstanding_on}
-use Rattle.ace_model.specs.Grants.{granted, answer_of}
-use Rattle.ace_model.specs.States.{state_of}
-use Rattle.ace_model.specs.Accepted.{IsAccepted}
 use Rattle.ace_model.proofs.Trace.Looks.{Some-injective}
 use Rattle.ace_model.proofs.Tables.States.{is_settled, invalidates, shares_line, Leaves, row_is}
 use Rattle.ace_model.proofs.Holders.Facts.{Inductive}

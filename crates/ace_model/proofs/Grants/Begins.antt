@@ -1,22 +1,9 @@
 -- A granted transaction begins, by the first transfer of a read or the M of a write, once its snoops are done.
 use Rattle.std.proofs.Common.{◌≡◌, ◌⊎◌, ℕ, Bool, true, false, not, if◌then◌else◌, ◌&&◌, ◌||◌, nat_eq, ◌∷◌, Some, refl, sym, ap, subst, ◌∙◌, inl, inr}
 use Rattle.std.proofs.lemmas.Bool.{and_parts, or_cases, cases_Bool, eqb-true}
-use Rattle.ace_event.specs.declared.event.Channel.{Channel}
-use Rattle.ace_event.specs.declared.event.Channel.TheVariants.{Read}
-use Rattle.ace_event.specs.declared.event.Event.{Event}
-use Rattle.ace_event.specs.declared.event.Event.TheVariants.{Ar, R, Aw, M}
-use Rattle.ace_event.specs.declared.header.Header.{Header}
-use Rattle.ace_event.specs.declared.line.Line.{Line}
-use Rattle.ace_model.specs.declared.transactions.Transaction.{Transaction}
-use Rattle.ace_model.specs.Trace.{Trace, implies}
-use Rattle.ace_model.specs.Transactions.{is_read, is_line, has_name, same_channel, transfers, outstanding}
-use Rattle.ace_model.specs.Progress.{updates_memory}
-use Rattle.ace_model.specs.Writes.{has_memory_write, is_burst_whole}
-use Rattle.ace_model.specs.Grants.{is_granted, is_begun, has_passed_data}
-use Rattle.ace_model.specs.States.{are_snoops_done}
-use Rattle.ace_model.specs.ReadRules.{may_transfer, takes_passed}
-use Rattle.ace_model.specs.WriteRules.{k24, may_write_memory, may_write_passed, may_write_data, is_write_due, is_update_due}
-use Rattle.ace_model.specs.Accepted.{IsAccepted}
+use Rattle.ace_model.proofs.Terms.{Channel, Read, Event, Ar, R, Aw, M, Header, Line, Transaction, Trace, implies, is_read, is_line, has_name, same_channel, transfers, outstanding, updates_memory}
+use Rattle.ace_model.proofs.Terms.{has_memory_write, is_burst_whole, is_granted, is_begun, has_passed_data, are_snoops_done, may_transfer, takes_passed, k24, may_write_memory, may_write_passed}
+use Rattle.ace_model.proofs.Terms.{may_write_data, is_write_due, is_update_due, IsAccepted}
 use Rattle.ace_model.proofs.Trace.Looks.{Some-injective, is_some_and-at, implies-at, is_read-is, same_channel-is}
 use Rattle.ace_model.proofs.Rules.Keeps.{accepted_keeps}
 use Rattle.ace_model.proofs.Holders.Address.{read_issued, write_issued, named_read}
@@ -34,35 +21,36 @@ begun_same past longer x reads writes =
       | inr f ↦ rw f (writes f)
     ]
 
--- the transfer that the event is
-pub may_of : (h : Header) (past : Trace) (q j resp : ℕ) (last : Bool) (word : ℕ) → IsAccepted h (R q j resp last word ∷ past) → MayTransfer h past q j resp last
-may_of h past q j resp last word a = may h past q j resp last word (accepted_keeps h past (R q j resp last word) a).rule_18
+module _ (h : Header) (past : Trace) where
+  -- the transfer that the event is
+  pub may_of : (q j resp : ℕ) (last : Bool) (word : ℕ) → IsAccepted h (R q j resp last word ∷ past) → MayTransfer h past q j resp last
+  may_of q j resp last word a = may h past q j resp last word (accepted_keeps h past (R q j resp last word) a).rule_18
 
--- what the rule on transfers says of a line transaction
-pub record LineTransfer (h : Header) (past : Trace) (x : Transaction) (resp : ℕ) : Type 0 where
-  pub stands : is_granted h past x ≡ true
-  pub first : nat_eq (transfers past x.port x.id) 0 ≡ true → are_snoops_done h past x ≡ true
-  pub takes : has_passed_data h past x ≡ true → takes_passed h past x resp ≡ true
+  -- what the rule on transfers says of a line transaction
+  pub record LineTransfer (x : Transaction) (resp : ℕ) : Type 0 where
+    pub stands : is_granted h past x ≡ true
+    pub first : nat_eq (transfers past x.port x.id) 0 ≡ true → are_snoops_done h past x ≡ true
+    pub takes : has_passed_data h past x ≡ true → takes_passed h past x resp ≡ true
 
-pub line_transfer : (h : Header) (past : Trace) (x : Transaction) (resp : ℕ) → may_transfer h past x resp ≡ true → LineTransfer h past x resp
-line_transfer h past x resp m =
-    let all = and_parts (is_granted h past x && implies (nat_eq (transfers past x.port x.id) 0) (are_snoops_done h past x)) _ m in
-    let two = and_parts (is_granted h past x) _ all.0 in
-    record {
-      stands = two.0;
-      first = λ t. implies-at _ _ two.1 t;
-      takes = λ t. implies-at _ _ all.1 t;
-    }
+  pub line_transfer : (x : Transaction) (resp : ℕ) → may_transfer h past x resp ≡ true → LineTransfer x resp
+  line_transfer x resp m =
+      let all = and_parts (is_granted h past x && implies (nat_eq (transfers past x.port x.id) 0) (are_snoops_done h past x)) _ m in
+      let two = and_parts (is_granted h past x) _ all.0 in
+      record {
+        stands = two.0;
+        first = λ t. implies-at _ _ two.1 t;
+        takes = λ t. implies-at _ _ all.1 t;
+      }
 
--- the read of the transfer by its own name
-pub transfer_of : (h : Header) (past : Trace) (q j resp : ℕ) (last : Bool) (x : Transaction) → MayTransfer h past q j resp last
-    → outstanding h past x.port x.chan x.id ≡ Some x → is_read x.chan ≡ true → (nat_eq x.port q && nat_eq x.id j) ≡ true → (m : MayTransfer h past q j resp last) × (m.one ≡ x)
-transfer_of h past q j resp last x m o reads t =
-    let parts = and_parts (nat_eq x.port q) (nat_eq x.id j) t in
-    let same : outstanding h past x.port x.chan x.id ≡ outstanding h past q Read j =
-    ap (λ a. outstanding h past a x.chan x.id) (eqb-true x.port q parts.0) ∙ ap (λ (c : Channel). outstanding h past q c x.id) (is_read-is x.chan reads)
-    ∙ ap (outstanding h past q Read) (eqb-true x.id j parts.1) in
-    (m, Some-injective m.one x (sym m.out ∙ sym same ∙ o))
+  -- the read of the transfer by its own name
+  pub transfer_of : (q j resp : ℕ) (last : Bool) (x : Transaction) → MayTransfer h past q j resp last
+      → outstanding h past x.port x.chan x.id ≡ Some x → is_read x.chan ≡ true → (nat_eq x.port q && nat_eq x.id j) ≡ true → (m : MayTransfer h past q j resp last) × (m.one ≡ x)
+  transfer_of q j resp last x m o reads t =
+      let parts = and_parts (nat_eq x.port q) (nat_eq x.id j) t in
+      let same : outstanding h past x.port x.chan x.id ≡ outstanding h past q Read j =
+      ap (λ a. outstanding h past a x.chan x.id) (eqb-true x.port q parts.0) ∙ ap (λ (c : Channel). outstanding h past q c x.id) (is_read-is x.chan reads)
+      ∙ ap (outstanding h past q Read) (eqb-true x.id j parts.1) in
+      (m, Some-injective m.one x (sym m.out ∙ sym same ∙ o))
 
 pub then_of : {A : Type 0} → (b : Bool) (t u : A) → b ≡ true → (if b then t else u) ≡ t
 then_of true t u e = refl

@@ -1,25 +1,11 @@
 -- A granted transaction has had its G, which comes before its M.
 use Rattle.std.proofs.Common.{◌≡◌, ◌⊎◌, ℕ, true, false, not, ◌&&◌, ◌||◌, nat_eq, [], ◌∷◌, length, Option, Some, None, is_some, refl, sym, ap, subst, ◌∙◌, inl, inr}
 use Rattle.std.proofs.lemmas.Bool.{and_parts, or_cases, or_left, or_right, not-true, cases_Bool, eqb-true, eq-eqb}
-use Rattle.ace_codes.specs.declared.kind.AwKind.{AwKind}
+use Rattle.ace_model.proofs.Terms.{AwKind, passes_dirty, Channel, Event, Ar, Aw, G, M, Header, Line, Answer, Transaction, Trace, is_some_and, is_update, is_granted_write, is_line_read, is_read, is_named}
+use Rattle.ace_model.proofs.Terms.{read_kind, write_kind, same_channel, issued, ended, outstanding, without, takes_grant, updates_memory, is_memory_write, has_memory_write, is_burst_whole, given, granted}
+use Rattle.ace_model.proofs.Terms.{is_granted, has_grant, answer_of, passes, passer, has_passed_data, gives_line, may_be_granted, may_write_memory, may_write_passed, may_write_data, is_write_due}
+use Rattle.ace_model.proofs.Terms.{is_update_due, IsAccepted}
 use Rattle.ace_codes.specs.declared.kind.AwKind.TheVariants as write
-use Rattle.ace_codes.specs.Responses.{passes_dirty}
-use Rattle.ace_event.specs.declared.event.Channel.{Channel}
-use Rattle.ace_event.specs.declared.event.Event.{Event}
-use Rattle.ace_event.specs.declared.event.Event.TheVariants.{Ar, Aw, G, M}
-use Rattle.ace_event.specs.declared.header.Header.{Header}
-use Rattle.ace_event.specs.declared.line.Line.{Line}
-use Rattle.ace_model.specs.declared.snoops.Answer.{Answer}
-use Rattle.ace_model.specs.declared.transactions.Transaction.{Transaction}
-use Rattle.ace_model.specs.Trace.{Trace, is_some_and}
-use Rattle.ace_model.specs.Kinds.{is_update, is_granted_write, is_line_read}
-use Rattle.ace_model.specs.Transactions.{is_read, is_named, read_kind, write_kind, same_channel, issued, ended, outstanding, without, takes_grant}
-use Rattle.ace_model.specs.Progress.{updates_memory}
-use Rattle.ace_model.specs.Writes.{is_memory_write, has_memory_write, is_burst_whole}
-use Rattle.ace_model.specs.Grants.{given, granted, is_granted, has_grant, answer_of, passes, passer, has_passed_data, gives_line}
-use Rattle.ace_model.specs.SnoopRules.{may_be_granted}
-use Rattle.ace_model.specs.WriteRules.{may_write_memory, may_write_passed, may_write_data, is_write_due, is_update_due}
-use Rattle.ace_model.specs.Accepted.{IsAccepted}
 use Rattle.ace_model.proofs.Trace.Looks.{Some-injective, some_is, is_some_and-is, is_some_and-at, same_channel-is, has_name-self, has_name-is, newest_named-cases, newest_on-cases, without-some}
 use Rattle.ace_model.proofs.Trace.Issued.{same_place, outstanding-named, transaction_of-stands}
 use Rattle.ace_model.proofs.Rules.Keeps.{accepted_keeps}
@@ -71,90 +57,91 @@ granted_given h (e ∷ past) a l x g =
         }
     by d a n = cc
 
--- the granted transaction at its place is the outstanding one itself
-pub granted_at : (h : Header) (past : Trace) → IsAccepted h past → (p : ℕ) (c : Channel) (i : ℕ) (x : Transaction) → outstanding h past p c i ≡ Some x
-    → is_granted h past x ≡ true → granted h past x.addr ≡ Some x
-granted_at h past a p c i x o g =
-    let y = is_some_and-is (granted h past x.addr) (λ z. nat_eq z.place x.place) g in
-    let s = (accepted_holds h past a).grants x.addr y.0 y.1 in
-    let one : y.0 ≡ x = same_place past y.0.port p y.0.chan c y.0.id i y.0 x (outstanding-named h past y.0.port y.0.chan y.0.id y.0 s.0)
-    (outstanding-named h past p c i x o) (eqb-true y.0.place x.place y.2) in
-    y.1 ∙ ap Some one
+module _ (h : Header) (past : Trace) where
+  -- the granted transaction at its place is the outstanding one itself
+  pub granted_at : IsAccepted h past → (p : ℕ) (c : Channel) (i : ℕ) (x : Transaction) → outstanding h past p c i ≡ Some x
+      → is_granted h past x ≡ true → granted h past x.addr ≡ Some x
+  granted_at a p c i x o g =
+      let y = is_some_and-is (granted h past x.addr) (λ z. nat_eq z.place x.place) g in
+      let s = (accepted_holds h past a).grants x.addr y.0 y.1 in
+      let one : y.0 ≡ x = same_place past y.0.port p y.0.chan c y.0.id i y.0 x (outstanding-named h past y.0.port y.0.chan y.0.id y.0 s.0)
+      (outstanding-named h past p c i x o) (eqb-true y.0.place x.place y.2) in
+      y.1 ∙ ap Some one
 
-pub granted_is : (h : Header) (past : Trace) (l : ℕ) (x : Transaction) → granted h past l ≡ Some x → x.addr ≡ l → is_granted h past x ≡ true
-granted_is h past l x g addr =
-    let here : granted h past x.addr ≡ Some x = ap (granted h past) addr ∙ g in
-    rw here (eq-eqb x.place x.place refl)
+  pub granted_is : (l : ℕ) (x : Transaction) → granted h past l ≡ Some x → x.addr ≡ l → is_granted h past x ≡ true
+  granted_is l x g addr =
+      let here : granted h past x.addr ≡ Some x = ap (granted h past) addr ∙ g in
+      rw here (eq-eqb x.place x.place refl)
 
--- The M of the outstanding transaction.
-pub record WritesNow (h : Header) (past : Trace) (e : Event) (p : ℕ) (c : Channel) (i : ℕ) (x : Transaction) : Type 0 where
-  pub line : Line
-  pub is : e ≡ M p c i line
-  pub may : may_write_memory h past x ≡ true
+  -- The M of the outstanding transaction.
+  pub record WritesNow (e : Event) (p : ℕ) (c : Channel) (i : ℕ) (x : Transaction) : Type 0 where
+    pub line : Line
+    pub is : e ≡ M p c i line
+    pub may : may_write_memory h past x ≡ true
 
-pub writes_now : (h : Header) (past : Trace) (e : Event) → IsAccepted h (e ∷ past) → (p : ℕ) (c : Channel) (i : ℕ) (x : Transaction)
-    → outstanding h past p c i ≡ Some x → is_memory_write e p c i ≡ true → WritesNow h past e p c i x
-writes_now h past (M q d j line) a p c i x o t =
-    let all = and_parts (nat_eq p q && same_channel c d) (nat_eq i j) t in
-    let two = and_parts (nat_eq p q) (same_channel c d) all.0 in
-    let is : M q d j line ≡ M p c i line =
-    ap (λ v. M v d j line) (sym (eqb-true p q two.0)) ∙ ap (λ (v : Channel). M p v j line) (sym (same_channel-is c d two.1)) ∙ ap (λ v. M p c v line) (sym (eqb-true i j all.1)) in
-    record {
-      line = line;
-      is = is;
-      may = is_some_and-at (outstanding h past p c i) (may_write_memory h past) x
-          (accepted_keeps h past (M p c i line) (subst (λ v. IsAccepted h (v ∷ past)) is a)).rule_24 o;
-    }
-writes_now h past e a p c i x o t = cc
+  pub writes_now : (e : Event) → IsAccepted h (e ∷ past) → (p : ℕ) (c : Channel) (i : ℕ) (x : Transaction)
+      → outstanding h past p c i ≡ Some x → is_memory_write e p c i ≡ true → WritesNow e p c i x
+  writes_now (M q d j line) a p c i x o t =
+      let all = and_parts (nat_eq p q && same_channel c d) (nat_eq i j) t in
+      let two = and_parts (nat_eq p q) (same_channel c d) all.0 in
+      let is : M q d j line ≡ M p c i line =
+      ap (λ v. M v d j line) (sym (eqb-true p q two.0)) ∙ ap (λ (v : Channel). M p v j line) (sym (same_channel-is c d two.1)) ∙ ap (λ v. M p c v line) (sym (eqb-true i j all.1)) in
+      record {
+        line = line;
+        is = is;
+        may = is_some_and-at (outstanding h past p c i) (may_write_memory h past) x
+            (accepted_keeps h past (M p c i line) (subst (λ v. IsAccepted h (v ∷ past)) is a)).rule_24 o;
+      }
+  writes_now e a p c i x o t = cc
 
--- what the rule on memory says of a read
-pub passed_may : (h : Header) (past : Trace) (x : Transaction) → may_write_memory h past x ≡ true → is_read x.chan ≡ true → has_passed_data h past x ≡ true
-passed_may h past x m reads =
-    let by : may_write_passed h past x ≡ true = sym (then_of (is_read x.chan) (may_write_passed h past x) (may_write_data h past x) reads) ∙ m in
-    (and_parts (has_passed_data h past x) _ (and_parts (has_passed_data h past x && _) _ by).0).0
+  -- what the rule on memory says of a read
+  pub passed_may : (x : Transaction) → may_write_memory h past x ≡ true → is_read x.chan ≡ true → has_passed_data h past x ≡ true
+  passed_may x m reads =
+      let by : may_write_passed h past x ≡ true = sym (then_of (is_read x.chan) (may_write_passed h past x) (may_write_data h past x) reads) ∙ m in
+      (and_parts (has_passed_data h past x) _ (and_parts (has_passed_data h past x && _) _ by).0).0
 
--- what it says of a write
-pub record MayWriteData (h : Header) (past : Trace) (x : Transaction) : Type 0 where
-  pub whole : is_burst_whole past x ≡ true
-  pub first : has_memory_write past x.port x.chan x.id ≡ false
-  pub how : (is_write_due h past x ≡ true) ⊎ (is_update_due h past x ≡ true)
+  -- what it says of a write
+  pub record MayWriteData (x : Transaction) : Type 0 where
+    pub whole : is_burst_whole past x ≡ true
+    pub first : has_memory_write past x.port x.chan x.id ≡ false
+    pub how : (is_write_due h past x ≡ true) ⊎ (is_update_due h past x ≡ true)
 
-pub data_may : (h : Header) (past : Trace) (x : Transaction) → may_write_memory h past x ≡ true → is_read x.chan ≡ false → MayWriteData h past x
-data_may h past x m writes =
-    let by = else_of (is_read x.chan) (may_write_passed h past x) (may_write_data h past x) writes m in
-    let all = and_parts (is_burst_whole past x && not (has_memory_write past x.port x.chan x.id)) (is_write_due h past x || is_update_due h past x) by in
-    let two = and_parts (is_burst_whole past x) (not (has_memory_write past x.port x.chan x.id)) all.0 in
-    record {
-      whole = two.0;
-      first = not-true (has_memory_write past x.port x.chan x.id) two.1;
-      how = or_cases (is_write_due h past x) (is_update_due h past x) all.1;
-    }
+  pub data_may : (x : Transaction) → may_write_memory h past x ≡ true → is_read x.chan ≡ false → MayWriteData x
+  data_may x m writes =
+      let by = else_of (is_read x.chan) (may_write_passed h past x) (may_write_data h past x) writes m in
+      let all = and_parts (is_burst_whole past x && not (has_memory_write past x.port x.chan x.id)) (is_write_due h past x || is_update_due h past x) by in
+      let two = and_parts (is_burst_whole past x) (not (has_memory_write past x.port x.chan x.id)) all.0 in
+      record {
+        whole = two.0;
+        first = not-true (has_memory_write past x.port x.chan x.id) two.1;
+        how = or_cases (is_write_due h past x) (is_update_due h past x) all.1;
+      }
 
--- The parts of passed data.
-pub record HasPassed (h : Header) (past : Trace) (x : Transaction) : Type 0 where
-  pub stands : is_granted h past x ≡ true
-  pub some : is_some (passer h past x.addr) ≡ true
-  pub unwritten : has_memory_write past x.port x.chan x.id ≡ false
+  -- The parts of passed data.
+  pub record HasPassed (x : Transaction) : Type 0 where
+    pub stands : is_granted h past x ≡ true
+    pub some : is_some (passer h past x.addr) ≡ true
+    pub unwritten : has_memory_write past x.port x.chan x.id ≡ false
 
-pub has_passed : (h : Header) (past : Trace) (x : Transaction) → has_passed_data h past x ≡ true → HasPassed h past x
-has_passed h past x t =
-    let all = and_parts (is_granted h past x && is_some (passer h past x.addr)) (not (has_memory_write past x.port x.chan x.id)) t in
-    let two = and_parts (is_granted h past x) (is_some (passer h past x.addr)) all.0 in
-    record { stands = two.0; some = two.1; unwritten = not-true (has_memory_write past x.port x.chan x.id) all.1 }
+  pub has_passed : (x : Transaction) → has_passed_data h past x ≡ true → HasPassed x
+  has_passed x t =
+      let all = and_parts (is_granted h past x && is_some (passer h past x.addr)) (not (has_memory_write past x.port x.chan x.id)) t in
+      let two = and_parts (is_granted h past x) (is_some (passer h past x.addr)) all.0 in
+      record { stands = two.0; some = two.1; unwritten = not-true (has_memory_write past x.port x.chan x.id) all.1 }
 
--- The port that passed on the line.
-pub record Passes (h : Header) (past : Trace) (l : ℕ) : Type 0 where
-  pub port : ℕ
-  pub found : passer h past l ≡ Some port
-  pub answer : Answer
-  pub is : answer_of past port l ≡ Some answer
-  pub dirty : passes_dirty answer.resp ≡ true
+  -- The port that passed on the line.
+  pub record Passes (l : ℕ) : Type 0 where
+    pub port : ℕ
+    pub found : passer h past l ≡ Some port
+    pub answer : Answer
+    pub is : answer_of past port l ≡ Some answer
+    pub dirty : passes_dirty answer.resp ≡ true
 
-pub passes_of : (h : Header) (past : Trace) (l : ℕ) → is_some (passer h past l) ≡ true → Passes h past l
-passes_of h past l t =
-    let r = some_is (passer h past l) t in
-    let w = is_some_and-is (answer_of past r.0 l) (λ v. passes_dirty v.resp) (found_passes h.ports (passes past l) r.0 r.1) in
-    record { port = r.0; found = r.1; answer = w.0; is = w.1; dirty = w.2 }
+  pub passes_of : (l : ℕ) → is_some (passer h past l) ≡ true → Passes l
+  passes_of l t =
+      let r = some_is (passer h past l) t in
+      let w = is_some_and-is (answer_of past r.0 l) (λ v. passes_dirty v.resp) (found_passes h.ports (passes past l) r.0 r.1) in
+      record { port = r.0; found = r.1; answer = w.0; is = w.1; dirty = w.2 }
 
 -- a write that is granted
 pub granted_write : (x : Transaction) → takes_grant x ≡ true → is_read x.chan ≡ false → (k : AwKind) × (write_kind x ≡ Some k) × (is_granted_write k ≡ true)

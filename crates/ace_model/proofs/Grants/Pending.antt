@@ -1,28 +1,11 @@
 -- A line snoop that isn't answered yet is of the present grant, whose transaction hasn't begun, and its port has no other.
 use Rattle.std.proofs.Common.{◌≡◌, ◌⊎◌, ℕ, ◌+◌, ◌≤◌, Bool, true, false, not, if◌then◌else◌, ◌&&◌, ◌||◌, nat_eq, nat_le, nat_lt, [], ◌∷◌, length, Option, Some, None, is_none, slice_get, refl, sym, ap, subst, ◌∙◌, arith, inl, inr}
 use Rattle.std.proofs.lemmas.Bool.{and_parts, and_from, or_cases, or_left, or_right, not-true, cases_Bool, eqb-true, eq-eqb, ltb-true}
-use Rattle.ace_codes.specs.declared.kind.AwKind.{AwKind}
+use Rattle.ace_model.proofs.Terms.{AwKind, SnoopKind, Read, Write, Event, R, Rk, B, Wk, Ac, Cr, Header, snoop_of_write, Snoop, Transaction, Trace, is_some_and, newer, is_update, has_write_data, beats_of}
+use Rattle.ace_model.proofs.Terms.{reads_a_line, is_read, is_line, read_kind, write_kind, snoop_of, snoop_kind_of, ended, transfers, acknowledgements, updates_memory, has_memory_write, snoop_at, snoops_of}
+use Rattle.ace_model.proofs.Terms.{snoops_a_line, answers, answered, is_snoop_on, gives_line, granted, grant_place, is_begun, is_snoop_to, was_snooped, answers_grant, answer_at, answer_of, owes_answer}
+use Rattle.ace_model.proofs.Terms.{owes_data, each_port, has_failed, is_port_done, may_transfer, has_snoop_code, may_snoop, may_snoop_for, IsAccepted}
 use Rattle.ace_codes.specs.declared.kind.AwKind.TheVariants as write
-use Rattle.ace_codes.specs.declared.kind.SnoopKind.{SnoopKind}
-use Rattle.ace_event.specs.declared.event.Channel.TheVariants.{Read, Write}
-use Rattle.ace_event.specs.declared.event.Event.{Event}
-use Rattle.ace_event.specs.declared.event.Event.TheVariants.{R, Rk, B, Wk, Ac, Cr}
-use Rattle.ace_event.specs.declared.header.Header.{Header}
-use Rattle.ace_tables.specs.SnoopKinds.{snoop_of_write}
-use Rattle.ace_model.specs.declared.snoops.Snoop.{Snoop}
-use Rattle.ace_model.specs.declared.transactions.Transaction.{Transaction}
-use Rattle.ace_model.specs.Trace.{Trace, is_some_and, newer}
-use Rattle.ace_model.specs.Kinds.{is_update, has_write_data, beats_of, reads_a_line}
-use Rattle.ace_model.specs.Transactions.{is_read, is_line, read_kind, write_kind, snoop_of, snoop_kind_of, ended, transfers, acknowledgements}
-use Rattle.ace_model.specs.Progress.{updates_memory}
-use Rattle.ace_model.specs.Writes.{has_memory_write}
-use Rattle.ace_model.specs.Snoops.{snoop_at, snoops_of, snoops_a_line, answers, answered, is_snoop_on}
-use Rattle.ace_model.specs.Grants.{gives_line, granted, grant_place, is_begun, is_snoop_to, was_snooped, answers_grant, answer_at, answer_of, owes_answer, owes_data, each_port}
-use Rattle.ace_model.specs.Exclusives.{has_failed}
-use Rattle.ace_model.specs.States.{is_port_done}
-use Rattle.ace_model.specs.ReadRules.{may_transfer}
-use Rattle.ace_model.specs.SnoopRules.{has_snoop_code, may_snoop, may_snoop_for}
-use Rattle.ace_model.specs.Accepted.{IsAccepted}
 use Rattle.ace_model.proofs.Trace.Looks.{Some-injective, is_some_and-is, implies-at, has_name-is}
 use Rattle.ace_model.proofs.Trace.Issued.{same_place, outstanding-named, transaction_of-stands}
 use Rattle.ace_model.proofs.Trace.OneMore.{slice_get-more}
@@ -98,110 +81,111 @@ updates_write x u =
       | inl t ↦ let bad : false ≡ true = rw t at u in cc
     ]
 
--- with a snoop pending, the transaction can't begin
-pub undone : (h : Header) (past : Trace) → IsAccepted h past → (r n l : ℕ) (s : Snoop) → IsPending past r n l s → (p : Pending h past r l s) → MayBegin h past p.one → ⊥
-undone h past a r n l s i p may =
-    let c = causes_some h past a r n l s i p in
-    elim may [
-      | inr updates ↦
-          let k = write_causes p.one c.0 (updates_write p.one updates) c.1 in
-          let u : is_update k.0 ≡ true = subst (λ o. is_some_and o is_update ≡ true) k.1 updates in
-          update_none k.0 c.0 u k.2
-      | inl done ↦ elim (or_cases (is_none (snoop_of p.one) || has_failed past p.one) (each_port h.ports (is_port_done h past p.one)) done) [
-        | inl early ↦ elim (or_cases (is_none (snoop_of p.one)) (has_failed past p.one) early) [
-          | inl none ↦ let bad : false ≡ true = rw c.1 at none in cc
-          | inr failed ↦ let unfailed = p.unfailed in cc
+module _ (h : Header) (past : Trace) where
+  -- with a snoop pending, the transaction can't begin
+  pub undone : IsAccepted h past → (r n l : ℕ) (s : Snoop) → IsPending past r n l s → (p : Pending h past r l s) → MayBegin h past p.one → ⊥
+  undone a r n l s i p may =
+      let c = causes_some h past a r n l s i p in
+      elim may [
+        | inr updates ↦
+            let k = write_causes p.one c.0 (updates_write p.one updates) c.1 in
+            let u : is_update k.0 ≡ true = subst (λ o. is_some_and o is_update ≡ true) k.1 updates in
+            update_none k.0 c.0 u k.2
+        | inl done ↦ elim (or_cases (is_none (snoop_of p.one) || has_failed past p.one) (each_port h.ports (is_port_done h past p.one)) done) [
+          | inl early ↦ elim (or_cases (is_none (snoop_of p.one)) (has_failed past p.one) early) [
+            | inl none ↦ let bad : false ≡ true = rw c.1 at none in cc
+            | inr failed ↦ let unfailed = p.unfailed in cc
+          ]
+          | inr all ↦
+              let here = each_at h.ports (is_port_done h past p.one) r all (ltb-true r h.ports p.within) in
+              let parts = and_parts (not (owes_answer past r p.one.addr) && not (owes_data past r p.one.addr)) _ here in
+              let owes_none = not-true (owes_answer past r p.one.addr) (and_parts (not (owes_answer past r p.one.addr)) _ parts.0).0 in
+              let addr = is_on-addr p.one l ((accepted_holds h past a).grants l p.one p.stands).1 in
+              let owes : owes_answer past r l ≡ true = and_from _ _ p.snooped (ap is_none p.unanswered) in
+              let owes_there : owes_answer past r l ≡ false = subst (λ b. owes_answer past r b ≡ false) addr owes_none in
+              cc
         ]
-        | inr all ↦
-            let here = each_at h.ports (is_port_done h past p.one) r all (ltb-true r h.ports p.within) in
-            let parts = and_parts (not (owes_answer past r p.one.addr) && not (owes_data past r p.one.addr)) _ here in
-            let owes_none = not-true (owes_answer past r p.one.addr) (and_parts (not (owes_answer past r p.one.addr)) _ parts.0).0 in
-            let addr = is_on-addr p.one l ((accepted_holds h past a).grants l p.one p.stands).1 in
-            let owes : owes_answer past r l ≡ true = and_from _ _ p.snooped (ap is_none p.unanswered) in
-            let owes_there : owes_answer past r l ≡ false = subst (λ b. owes_answer past r b ≡ false) addr owes_none in
-            cc
       ]
-    ]
 
-written_begun : (h : Header) (past : Trace) → IsAccepted h past → (l q : ℕ) (x z : Transaction) (k : SnoopKind) → granted h past l ≡ Some x → snoop_of x ≡ Some k
-    → z.place ≡ x.place → EndsWrite h past q z → (is_begun past x ≡ true) ⊎ MayBegin h past x
-written_begun h past a l q x z k g c same w =
-    let o = (accepted_holds h past a).grants l x g in
-    let one : z ≡ x = same_place past q x.port Write x.chan w.id x.id z x (outstanding-named h past q Write w.id z w.out) (outstanding-named h past x.port x.chan x.id x o.0) same in
-    let writes : is_read x.chan ≡ false = ap (λ (y : Transaction). is_read y.chan) (sym one) ∙ ap is_read w.chan in
-    let kind = write_causes x k writes c in
-    let sends : is_some_and (write_kind z) has_write_data ≡ true = ap (λ (y : Transaction). is_some_and (write_kind y) has_write_data) one ∙ ap (λ o. is_some_and o has_write_data) kind.1 ∙ snoops_data kind.0 k kind.2 in
-    let written : has_memory_write past x.port x.chan x.id ≡ true = ap (λ (y : Transaction). has_memory_write past y.port y.chan y.id) (sym one) ∙ w.written sends in
-    inl (rw writes written)
+  written_begun : IsAccepted h past → (l q : ℕ) (x z : Transaction) (k : SnoopKind) → granted h past l ≡ Some x → snoop_of x ≡ Some k
+      → z.place ≡ x.place → EndsWrite h past q z → (is_begun past x ≡ true) ⊎ MayBegin h past x
+  written_begun a l q x z k g c same w =
+      let o = (accepted_holds h past a).grants l x g in
+      let one : z ≡ x = same_place past q x.port Write x.chan w.id x.id z x (outstanding-named h past q Write w.id z w.out) (outstanding-named h past x.port x.chan x.id x o.0) same in
+      let writes : is_read x.chan ≡ false = ap (λ (y : Transaction). is_read y.chan) (sym one) ∙ ap is_read w.chan in
+      let kind = write_causes x k writes c in
+      let sends : is_some_and (write_kind z) has_write_data ≡ true = ap (λ (y : Transaction). is_some_and (write_kind y) has_write_data) one ∙ ap (λ o. is_some_and o has_write_data) kind.1 ∙ snoops_data kind.0 k kind.2 in
+      let written : has_memory_write past x.port x.chan x.id ≡ true = ap (λ (y : Transaction). has_memory_write past y.port y.chan y.id) (sym one) ∙ w.written sends in
+      inl (rw writes written)
 
--- nor end
-ends_begun : (h : Header) (past : Trace) (e : Event) → IsAccepted h (e ∷ past) → (l : ℕ) (x z : Transaction) (k : SnoopKind) → granted h past l ≡ Some x → snoop_of x ≡ Some k
-    → ended h past e ≡ Some z → z.place ≡ x.place → (is_begun past x ≡ true) ⊎ MayBegin h past x
-ends_begun h past (R q j resp last word) a l x z k g c is same =
-    let f = accepted_holds h past a.0 in
-    let m = may_of h past q j resp last word a in
-    let o = f.grants l x g in
-    let lite = ends_lite h past q j resp last word z is in
-    let one : z ≡ x = same_place past q x.port Read x.chan j x.id z x lite.1 (outstanding-named h past x.port x.chan x.id x o.0) same in
-    let one' : m.one ≡ x = Some-injective m.one z (sym m.named ∙ lite.1) ∙ one in
-    let line = (and_parts (is_line x) _ o.1).0 in
-    let t = line_transfer h past x resp (subst (λ (y : Transaction). may_transfer h past y resp ≡ true) one' (m.may (subst (λ (y : Transaction). is_line y ≡ true) (sym one') line))) in
-    let name = has_name-is m.one q Read j (transaction_of-stands past q Read j m.one m.named).named in
-    let reads : is_read x.chan ≡ true = ap (λ (y : Transaction). is_read y.chan) (sym one') ∙ ap is_read name.chan in
-    elim (cases_Bool (nat_eq (transfers past x.port x.id) 0)) [
-      | inl zero ↦ inr (inl (t.first zero))
-      | inr some ↦ inl (then_of (is_read x.chan) _ _ reads ∙ ap not some)
-    ]
-ends_begun h past (Rk q st) a l x z k g c is same =
-    let f = accepted_holds h past a.0 in
-    let e = ends_of h past q st a in
-    let o = f.grants l x g in
-    let zd : e.ended_one ≡ z = Some-injective e.ended_one z (sym e.is ∙ is) in
-    let one : e.ended_one ≡ x = same_place past q x.port Read x.chan e.id x.id e.ended_one x e.named (outstanding-named h past x.port x.chan x.id x o.0) (ap (λ (y : Transaction). y.place) zd ∙ same) in
-    let s = f.queue q (acknowledgements past q Read) e.id e.ace (le_self (acknowledgements past q Read)) e.next in
-    let kind = is_some_and-is (read_kind s.0) (λ c. nat_eq (transfers past q e.id) (beats_of c)) s.2 in
-    let some : nat_eq (transfers past q e.id) 0 ≡ false = beats_some (reads_a_line kind.0) (transfers past q e.id) (eqb-true (transfers past q e.id) (beats_of kind.0) kind.2) in
-    let name = has_name-is e.ended_one q Read e.id (transaction_of-stands past q Read e.id e.ended_one e.named).named in
-    let reads : is_read x.chan ≡ true = ap (λ (y : Transaction). is_read y.chan) (sym one) ∙ ap is_read name.chan in
-    let here : transfers past x.port x.id ≡ transfers past q e.id =
-    ap (λ (y : Transaction). transfers past y.port y.id) (sym one) ∙ ap (λ b. transfers past b e.ended_one.id) e.port ∙ ap (transfers past q) e.is_id in
-    inl (then_of (is_read x.chan) _ _ reads ∙ ap (λ n. not (nat_eq n 0)) here ∙ ap not some)
-  where
-    le_self : (n : ℕ) → n ≤ n
-    le_self n = omega arith
-
-    beats_some : (b : Bool) (n : ℕ) → n ≡ (if b then 4 else 1) → nat_eq n 0 ≡ false
-    beats_some true n e = rw e refl
-    beats_some false n e = rw e refl
-ends_begun h past (B q j resp) a l x z k g c is same = written_begun h past a.0 l q x z k g c same (ends_lite_written h past q j resp a z is)
-ends_begun h past (Wk q st) a l x z k g c is same = written_begun h past a.0 l q x z k g c same (ends_write_of h past q st a z is)
-ends_begun h past e a l x z k g c is same = cc
-
--- the snoop stays pending as long as it isn't answered
-pending_stays : (h : Header) (past : Trace) (e : Event) → IsAccepted h (e ∷ past) → (r n l : ℕ) (s : Snoop) → IsPending past r n l s → Pending h past r l s
-    → answer_at past e r l ≡ None → Pending h (e ∷ past) r l s
-pending_stays h past e a r n l s i p none_now =
-    let c = causes_some h past a.0 r n l s i p in
-    elim (granted_after h past e a l p.one p.stands) [
-      | inr ends ↦ elim (ends_begun h past e a l p.one ends.0 c.0 p.stands c.1 ends.1 ends.2) [
-        | inl begun ↦ let unbegun = p.unbegun in cc
-        | inr may ↦ absurd (undone h past a.0 r n l s i p may)
+  -- nor end
+  ends_begun : (e : Event) → IsAccepted h (e ∷ past) → (l : ℕ) (x z : Transaction) (k : SnoopKind) → granted h past l ≡ Some x → snoop_of x ≡ Some k
+      → ended h past e ≡ Some z → z.place ≡ x.place → (is_begun past x ≡ true) ⊎ MayBegin h past x
+  ends_begun (R q j resp last word) a l x z k g c is same =
+      let f = accepted_holds h past a.0 in
+      let m = may_of h past q j resp last word a in
+      let o = f.grants l x g in
+      let lite = ends_lite h past q j resp last word z is in
+      let one : z ≡ x = same_place past q x.port Read x.chan j x.id z x lite.1 (outstanding-named h past x.port x.chan x.id x o.0) same in
+      let one' : m.one ≡ x = Some-injective m.one z (sym m.named ∙ lite.1) ∙ one in
+      let line = (and_parts (is_line x) _ o.1).0 in
+      let t = line_transfer h past x resp (subst (λ (y : Transaction). may_transfer h past y resp ≡ true) one' (m.may (subst (λ (y : Transaction). is_line y ≡ true) (sym one') line))) in
+      let name = has_name-is m.one q Read j (transaction_of-stands past q Read j m.one m.named).named in
+      let reads : is_read x.chan ≡ true = ap (λ (y : Transaction). is_read y.chan) (sym one') ∙ ap is_read name.chan in
+      elim (cases_Bool (nat_eq (transfers past x.port x.id) 0)) [
+        | inl zero ↦ inr (inl (t.first zero))
+        | inr some ↦ inl (then_of (is_read x.chan) _ _ reads ∙ ap not some)
       ]
-      | inl stays ↦ elim (begins h past e a l p.one stays p.unbegun) [
-        | inr may ↦ absurd (undone h past a.0 r n l s i p may)
-        | inl unbegun ↦ record {
-          one = p.one;
-          stands = stays.is;
-          under = rw stays.gives p.under;
-          unfailed = failed_stays h past e a l p.one stays ∙ p.unfailed;
-          unbegun = unbegun;
-          snooped = rw stays.gives (or_right (is_snoop_to e r l) (was_snooped past r l) p.snooped);
-          unanswered = let none = p.unanswered in rw (stays.gives, none_now, none) refl;
-          within = p.within;
-          other = p.other;
-        }
+  ends_begun (Rk q st) a l x z k g c is same =
+      let f = accepted_holds h past a.0 in
+      let e = ends_of h past q st a in
+      let o = f.grants l x g in
+      let zd : e.ended_one ≡ z = Some-injective e.ended_one z (sym e.is ∙ is) in
+      let one : e.ended_one ≡ x = same_place past q x.port Read x.chan e.id x.id e.ended_one x e.named (outstanding-named h past x.port x.chan x.id x o.0) (ap (λ (y : Transaction). y.place) zd ∙ same) in
+      let s = f.queue q (acknowledgements past q Read) e.id e.ace (le_self (acknowledgements past q Read)) e.next in
+      let kind = is_some_and-is (read_kind s.0) (λ c. nat_eq (transfers past q e.id) (beats_of c)) s.2 in
+      let some : nat_eq (transfers past q e.id) 0 ≡ false = beats_some (reads_a_line kind.0) (transfers past q e.id) (eqb-true (transfers past q e.id) (beats_of kind.0) kind.2) in
+      let name = has_name-is e.ended_one q Read e.id (transaction_of-stands past q Read e.id e.ended_one e.named).named in
+      let reads : is_read x.chan ≡ true = ap (λ (y : Transaction). is_read y.chan) (sym one) ∙ ap is_read name.chan in
+      let here : transfers past x.port x.id ≡ transfers past q e.id =
+      ap (λ (y : Transaction). transfers past y.port y.id) (sym one) ∙ ap (λ b. transfers past b e.ended_one.id) e.port ∙ ap (transfers past q) e.is_id in
+      inl (then_of (is_read x.chan) _ _ reads ∙ ap (λ n. not (nat_eq n 0)) here ∙ ap not some)
+    where
+      le_self : (n : ℕ) → n ≤ n
+      le_self n = omega arith
+
+      beats_some : (b : Bool) (n : ℕ) → n ≡ (if b then 4 else 1) → nat_eq n 0 ≡ false
+      beats_some true n e = rw e refl
+      beats_some false n e = rw e refl
+  ends_begun (B q j resp) a l x z k g c is same = written_begun a.0 l q x z k g c same (ends_lite_written h past q j resp a z is)
+  ends_begun (Wk q st) a l x z k g c is same = written_begun a.0 l q x z k g c same (ends_write_of h past q st a z is)
+  ends_begun e a l x z k g c is same = cc
+
+  -- the snoop stays pending as long as it isn't answered
+  pending_stays : (e : Event) → IsAccepted h (e ∷ past) → (r n l : ℕ) (s : Snoop) → IsPending past r n l s → Pending h past r l s
+      → answer_at past e r l ≡ None → Pending h (e ∷ past) r l s
+  pending_stays e a r n l s i p none_now =
+      let c = causes_some h past a.0 r n l s i p in
+      elim (granted_after h past e a l p.one p.stands) [
+        | inr ends ↦ elim (ends_begun e a l p.one ends.0 c.0 p.stands c.1 ends.1 ends.2) [
+          | inl begun ↦ let unbegun = p.unbegun in cc
+          | inr may ↦ absurd (undone a.0 r n l s i p may)
+        ]
+        | inl stays ↦ elim (begins h past e a l p.one stays p.unbegun) [
+          | inr may ↦ absurd (undone a.0 r n l s i p may)
+          | inl unbegun ↦ record {
+            one = p.one;
+            stands = stays.is;
+            under = rw stays.gives p.under;
+            unfailed = failed_stays h past e a l p.one stays ∙ p.unfailed;
+            unbegun = unbegun;
+            snooped = rw stays.gives (or_right (is_snoop_to e r l) (was_snooped past r l) p.snooped);
+            unanswered = let none = p.unanswered in rw (stays.gives, none_now, none) refl;
+            within = p.within;
+            other = p.other;
+          }
+        ]
       ]
-    ]
 
 -- an answer under the grant is to a pending snoop
 pub answering : (past : Trace) (q r l : ℕ) → (nat_eq r q && answers_grant past r l) ≡ true → (s : Snoop) × IsPending past r (answers past r) l s

@@ -1,25 +1,9 @@
 -- An answer to a line snoop is under the present grant, and a row of the snoop that the granted transaction causes.
 use Rattle.std.proofs.Common.{◌≡◌, ◌⊎◌, ◌≤◌, ℕ, true, false, ◌&&◌, nat_eq, nat_le, ◌∷◌, length, Some, None, refl, sym, ap, subst, ◌∙◌, arith, inl, inr}
 use Rattle.std.proofs.lemmas.Bool.{and_parts, and_from, cases_Bool, eqb-true, eq-eqb, le-leb}
-use Rattle.ace_codes.specs.declared.kind.SnoopKind.{SnoopKind}
-use Rattle.ace_codes.specs.declared.state.LineState.{LineState}
-use Rattle.ace_codes.specs.Snoops.{ac_code, ac_kind_of}
-use Rattle.ace_event.specs.declared.event.Event.{Event}
-use Rattle.ace_event.specs.declared.event.Event.TheVariants.{Cr}
-use Rattle.ace_event.specs.declared.header.Header.{Header}
-use Rattle.ace_tables.specs.Answers.{is_snoop_row}
-use Rattle.ace_model.specs.declared.snoops.Snoop.{Snoop}
-use Rattle.ace_model.specs.declared.snoops.Answer.{Answer}
-use Rattle.ace_model.specs.declared.transactions.Transaction.{Transaction}
-use Rattle.ace_model.specs.Trace.{Trace, is_some_and, newer}
-use Rattle.ace_model.specs.Kinds.{is_line_snoop}
-use Rattle.ace_model.specs.Transactions.{snoop_of}
-use Rattle.ace_model.specs.Progress.{has_update}
-use Rattle.ace_model.specs.Snoops.{snoops_a_line, answers, answered, is_snoop_on, answers_line, data_answers}
-use Rattle.ace_model.specs.Grants.{gives_line, granted, grant_place, answers_grant, answer_at, answer_of}
-use Rattle.ace_model.specs.States.{state_of}
-use Rattle.ace_model.specs.SnoopRules.{answers_by_row, answers_beside_update}
-use Rattle.ace_model.specs.Accepted.{IsAccepted}
+use Rattle.ace_model.proofs.Terms.{SnoopKind, LineState, ac_code, ac_kind_of, Event, Cr, Header, is_snoop_row, Snoop, Answer, Transaction, Trace, is_some_and, newer, is_line_snoop, snoop_of, has_update}
+use Rattle.ace_model.proofs.Terms.{snoops_a_line, answers, answered, is_snoop_on, answers_line, data_answers, gives_line, granted, grant_place, answers_grant, answer_at, answer_of, state_of, answers_by_row}
+use Rattle.ace_model.proofs.Terms.{answers_beside_update, IsAccepted}
 use Rattle.ace_model.proofs.Trace.Looks.{Some-injective, is_some_and-is, is_none_or-at, implies-at}
 use Rattle.ace_model.proofs.Rules.Keeps.{accepted_keeps}
 use Rattle.ace_model.proofs.Holders.Snoop.{kind_of_code}
@@ -75,49 +59,50 @@ answering_cr h past q resp st a l t =
     le_self : (n : ℕ) → n ≤ n
     le_self n = omega arith
 
--- under the grant is on the line
-pub under_line : (past : Trace) (q l : ℕ) → answers_grant past q l ≡ true → answers_line past q l ≡ true
-under_line past q l t =
-    let s = is_some_and-is (answered past q) (λ s. is_snoop_on s l && nat_le (grant_place past l) s.place) t in
-    rw s.1 (and_parts (is_snoop_on s.0 l) _ s.2).0
+module _ (past : Trace) where
+  -- under the grant is on the line
+  pub under_line : (q l : ℕ) → answers_grant past q l ≡ true → answers_line past q l ≡ true
+  under_line q l t =
+      let s = is_some_and-is (answered past q) (λ s. is_snoop_on s l && nat_le (grant_place past l) s.place) t in
+      rw s.1 (and_parts (is_snoop_on s.0 l) _ s.2).0
 
--- The answer that the event is.
-pub record NewAnswer (past : Trace) (e : Event) (r l : ℕ) (w : Answer) : Type 0 where
-  pub resp : ℕ
-  pub st : LineState
-  pub is : e ≡ Cr r resp st
-  pub line : answers_line past r l ≡ true
-  pub under : answers_grant past r l ≡ true
-  pub now : w ≡ record { place = length past; resp = resp; bursts = data_answers past r }
+  -- The answer that the event is.
+  pub record NewAnswer (e : Event) (r l : ℕ) (w : Answer) : Type 0 where
+    pub resp : ℕ
+    pub st : LineState
+    pub is : e ≡ Cr r resp st
+    pub line : answers_line past r l ≡ true
+    pub under : answers_grant past r l ≡ true
+    pub now : w ≡ record { place = length past; resp = resp; bursts = data_answers past r }
 
--- an answer under the grant was there, or is the event
-pub answer_cases : (past : Trace) (e : Event) (r l : ℕ) (w : Answer) → gives_line past e l ≡ false → answer_of (e ∷ past) r l ≡ Some w
-    → (answer_of past r l ≡ Some w) ⊎ NewAnswer past e r l w
-answer_cases past e r l w gives is =
-    let here : newer (answer_at past e r l) (answer_of past r l) ≡ Some w = rw gives at is in
-    by e here
-  where
-    by : (d : Event) → newer (answer_at past d r l) (answer_of past r l) ≡ Some w → (answer_of past r l ≡ Some w) ⊎ NewAnswer past d r l w
-    by (Cr q resp st) n =
-        elim (cases_Bool (nat_eq r q && answers_grant past r l)) [
-          | inr f ↦ inl (rw f at n)
-          | inl t ↦
-              let parts = and_parts (nat_eq r q) (answers_grant past r l) t in
-              let now : Some (record { place = length past; resp = resp; bursts = data_answers past r }) ≡ Some w = rw t at n in
-              inr (record {
-                resp = resp;
-                st = st;
-                is = ap (λ b. Cr b resp st) (sym (eqb-true r q parts.0));
-                line = under_line past r l parts.1;
-                under = parts.1;
-                now = sym (Some-injective _ w now);
-              })
-        ]
-    by d n = inl n
+  -- an answer under the grant was there, or is the event
+  pub answer_cases : (e : Event) (r l : ℕ) (w : Answer) → gives_line past e l ≡ false → answer_of (e ∷ past) r l ≡ Some w
+      → (answer_of past r l ≡ Some w) ⊎ NewAnswer e r l w
+  answer_cases e r l w gives is =
+      let here : newer (answer_at past e r l) (answer_of past r l) ≡ Some w = rw gives at is in
+      by e here
+    where
+      by : (d : Event) → newer (answer_at past d r l) (answer_of past r l) ≡ Some w → (answer_of past r l ≡ Some w) ⊎ NewAnswer d r l w
+      by (Cr q resp st) n =
+          elim (cases_Bool (nat_eq r q && answers_grant past r l)) [
+            | inr f ↦ inl (rw f at n)
+            | inl t ↦
+                let parts = and_parts (nat_eq r q) (answers_grant past r l) t in
+                let now : Some (record { place = length past; resp = resp; bursts = data_answers past r }) ≡ Some w = rw t at n in
+                inr (record {
+                  resp = resp;
+                  st = st;
+                  is = ap (λ b. Cr b resp st) (sym (eqb-true r q parts.0));
+                  line = under_line r l parts.1;
+                  under = parts.1;
+                  now = sym (Some-injective _ w now);
+                })
+          ]
+      by d n = inl n
 
--- an answer that was there stays, as long as the grant does and its port isn't asked again
-pub answer_given : (past : Trace) (e : Event) (r l : ℕ) → gives_line past e l ≡ true → answer_of (e ∷ past) r l ≡ None
-answer_given past e r l t = rw t refl
+  -- an answer that was there stays, as long as the grant does and its port isn't asked again
+  pub answer_given : (e : Event) (r l : ℕ) → gives_line past e l ≡ true → answer_of (e ∷ past) r l ≡ None
+  answer_given e r l t = rw t refl
 
 -- as long as the grant stays, no port comes to hold more
 pub no_rise : (h : Header) (past : Trace) (e : Event) (l p : ℕ) (x : Transaction) → Stays h past e l x → Raised h past e p l → ⊥

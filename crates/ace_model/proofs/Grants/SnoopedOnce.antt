@@ -1,24 +1,9 @@
 -- A port is snooped once under a grant, and answers once.
 use Rattle.std.proofs.Common.{◌≡◌, ◌⊎◌, ℕ, suc, ◌+◌, ◌<◌, ◌≤◌, Bool, true, false, not, if◌then◌else◌, ◌&&◌, nat_eq, nat_lt, nat_le, [], ◌∷◌, length, Option, Some, None, is_some, slice_get, refl, sym, ap, subst, ◌∙◌, arith, inl, inr}
 use Rattle.std.proofs.lemmas.Bool.{and_parts, and_from, or_cases, or_left, or_right, cases_Bool, eq-eqb, eqb-true, leb-true, not-true}
-use Rattle.ace_event.specs.declared.event.Channel.{Channel}
-use Rattle.ace_event.specs.declared.event.Event.{Event}
-use Rattle.ace_event.specs.declared.event.Event.TheVariants.{Ac, Cr, G}
-use Rattle.ace_event.specs.declared.header.Header.{Header}
-use Rattle.ace_codes.specs.declared.state.LineState.{LineState}
-use Rattle.ace_codes.specs.Snoops.{ac_code}
-use Rattle.ace_model.specs.declared.transactions.Transaction.{Transaction}
-use Rattle.ace_model.specs.declared.snoops.Answer.{Answer}
-use Rattle.ace_model.specs.declared.snoops.Snoop.{Snoop}
-use Rattle.ace_model.specs.Trace.{Trace, is_some_and, newer}
-use Rattle.ace_model.specs.Transactions.{is_ace, is_some_on, transaction_of, ended, snoop_of}
-use Rattle.ace_model.specs.Snoops.{snoop_at, snoops_of, answers, answered, snoops_a_line, is_snoop_on, data_answers}
-use Rattle.ace_model.specs.Grants.{given, granted, grant_place, was_snooped, answers_grant, answer_of}
-use Rattle.ace_model.specs.Exclusives.{has_failed}
-use Rattle.ace_model.specs.AddressRules.{k1}
-use Rattle.ace_model.specs.SnoopRules.{k13, may_snoop, may_snoop_for, has_snoop_code}
-use Rattle.ace_model.specs.Grants.{is_begun}
-use Rattle.ace_model.specs.Accepted.{IsAccepted}
+use Rattle.ace_model.proofs.Terms.{Channel, Event, Ac, Cr, G, Header, LineState, ac_code, Transaction, Answer, Snoop, Trace, is_some_and, newer, is_ace, is_some_on, transaction_of, ended, snoop_of}
+use Rattle.ace_model.proofs.Terms.{snoop_at, snoops_of, answers, answered, snoops_a_line, is_snoop_on, data_answers, given, granted, grant_place, was_snooped, answers_grant, answer_of, has_failed, k1, k13}
+use Rattle.ace_model.proofs.Terms.{may_snoop, may_snoop_for, has_snoop_code, is_begun, IsAccepted}
 use Rattle.ace_model.proofs.Rules.Keeps.{accepted_keeps}
 use Rattle.ace_model.proofs.Trace.Looks.{Some-injective, is_some_and-is, implies-at, newest_on-older}
 use Rattle.ace_model.proofs.Trace.OneMore.{slice_get-more}

@@ -1,75 +1,67 @@
 -- An event grants a line, ends the granted transaction, or leaves the grant as it is.
 use Rattle.std.proofs.Common.{◌≡◌, ◌≢◌, ◌⊎◌, ℕ, Bool, true, false, ◌&&◌, nat_eq, ◌∷◌, length, Option, Some, None, refl, sym, ap, ◌∙◌, inl, inr}
 use Rattle.std.proofs.lemmas.Bool.{and_parts, cases_Bool, eqb-true}
-use Rattle.ace_event.specs.declared.event.Channel.{Channel}
-use Rattle.ace_event.specs.declared.event.Event.{Event}
-use Rattle.ace_event.specs.declared.event.Event.TheVariants.{Ar, Aw, G}
-use Rattle.ace_event.specs.declared.header.Header.{Header}
-use Rattle.ace_model.specs.declared.transactions.Transaction.{Transaction}
-use Rattle.ace_model.specs.Trace.{Trace}
-use Rattle.ace_model.specs.Transactions.{is_read, is_line, is_some_on, has_name, issued, ended, transaction_of, outstanding, without, is_exclusive_store}
-use Rattle.ace_model.specs.Grants.{given, gives_line, granted}
-use Rattle.ace_model.specs.Exclusives.{has_failed, is_false, passed_at_grant}
-use Rattle.ace_model.specs.AddressRules.{has_free_name}
-use Rattle.ace_model.specs.Accepted.{IsAccepted}
+use Rattle.ace_model.proofs.Terms.{Channel, Event, Ar, Aw, G, Header, Transaction, Trace, is_read, is_line, is_some_on, has_name, issued, ended, transaction_of, outstanding, without, is_exclusive_store}
+use Rattle.ace_model.proofs.Terms.{given, gives_line, granted, has_failed, is_false, passed_at_grant, has_free_name, IsAccepted}
 use Rattle.ace_model.proofs.Trace.Looks.{Some-injective, is_none_or-at, is_read-is, newest_on-cases, newest_on-older, without-some}
 use Rattle.ace_model.proofs.Rules.Keeps.{accepted_keeps}
 use Rattle.ace_model.proofs.Holders.Address.{read_issued, write_issued, outstanding_stays, failed_issued}
 use Rattle.ace_model.proofs.Holders.Grant.{other_line, failed_g}
 use Rattle.ace_model.proofs.Holders.Law.{accepted_holds}
 
--- a granted line is not given again
-pub gives_none : (h : Header) (past : Trace) (e : Event) → IsAccepted h (e ∷ past) → (l : ℕ) (x : Transaction) → granted h past l ≡ Some x → gives_line past e l ≡ false
-gives_none h past (G q c j) a l x g = other_line h past q c j l x (accepted_keeps h past (G q c j) a).rule_12 g
-gives_none h past _ a l x g = refl
+module _ (h : Header) (past : Trace) where
+  -- a granted line is not given again
+  pub gives_none : (e : Event) → IsAccepted h (e ∷ past) → (l : ℕ) (x : Transaction) → granted h past l ≡ Some x → gives_line past e l ≡ false
+  gives_none (G q c j) a l x g = other_line h past q c j l x (accepted_keeps h past (G q c j) a).rule_12 g
+  gives_none _ a l x g = refl
 
--- The grant of the line stays.
-pub record Stays (h : Header) (past : Trace) (e : Event) (l : ℕ) (x : Transaction) : Type 0 where
-  pub was : granted h past l ≡ Some x
-  pub is : granted h (e ∷ past) l ≡ Some x
-  pub gives : gives_line past e l ≡ false
-  pub lasts : (z : Transaction) → ended h past e ≡ Some z → z.place ≢ x.place
+  -- The grant of the line stays.
+  pub record Stays (e : Event) (l : ℕ) (x : Transaction) : Type 0 where
+    pub was : granted h past l ≡ Some x
+    pub is : granted h (e ∷ past) l ≡ Some x
+    pub gives : gives_line past e l ≡ false
+    pub lasts : (z : Transaction) → ended h past e ≡ Some z → z.place ≢ x.place
 
--- what is granted after an event was so before, or is new
-pub granted_before : (h : Header) (past : Trace) (e : Event) (l : ℕ) (x : Transaction) → granted h (e ∷ past) l ≡ Some x
-    → Stays h past e l x ⊎ (gives_line past e l ≡ true)
-granted_before h past e l x g =
-    elim (newest_on-cases (given past e) l (without (ended h past e) (granted h past l)) x g) [
-      | inl new ↦ inr (rw new.0 new.1)
-      | inr old ↦
-          let w = without-some (ended h past e) (granted h past l) x old.0 in
-          inl (record { was = w.0; is = g; gives = old.1; lasts = w.1 })
-    ]
+  -- what is granted after an event was so before, or is new
+  pub granted_before : (e : Event) (l : ℕ) (x : Transaction) → granted h (e ∷ past) l ≡ Some x
+      → Stays e l x ⊎ (gives_line past e l ≡ true)
+  granted_before e l x g =
+      elim (newest_on-cases (given past e) l (without (ended h past e) (granted h past l)) x g) [
+        | inl new ↦ inr (rw new.0 new.1)
+        | inr old ↦
+            let w = without-some (ended h past e) (granted h past l) x old.0 in
+            inl (record { was = w.0; is = g; gives = old.1; lasts = w.1 })
+      ]
 
--- what is granted before an event is so after it, or ends
-pub granted_after : (h : Header) (past : Trace) (e : Event) → IsAccepted h (e ∷ past) → (l : ℕ) (x : Transaction) → granted h past l ≡ Some x
-    → Stays h past e l x ⊎ ((z : Transaction) × (ended h past e ≡ Some z) × (z.place ≡ x.place))
-granted_after h past e a l x g =
-    let gives = gives_none h past e a l x g in
-    let same : granted h (e ∷ past) l ≡ without (ended h past e) (granted h past l) = newest_on-older (given past e) l (without (ended h past e) (granted h past l)) gives in
-    elim (ends_or (ended h past e) (granted h past l) g) [
-      | inl stays ↦
-          let w = without-some (ended h past e) (granted h past l) x stays in
-          inl (record { was = g; is = same ∙ stays; gives = gives; lasts = w.1 })
-      | inr ends ↦ inr ends
-    ]
-  where
-    ends_or : (y o : Option Transaction) → o ≡ Some x → (without y o ≡ Some x) ⊎ ((z : Transaction) × (y ≡ Some z) × (z.place ≡ x.place))
-    ends_or None o e = inl e
-    ends_or (Some z) None e = cc
-    ends_or (Some z) (Some w) e =
-        let one : w ≡ x = Some-injective w x e in
-        elim (cases_Bool (nat_eq w.place z.place)) [
-          | inl t ↦ inr (z, refl, sym (eqb-true w.place z.place t) ∙ ap (λ (v : Transaction). v.place) one)
-          | inr f ↦ inl (rw f e)
-        ]
+  -- what is granted before an event is so after it, or ends
+  pub granted_after : (e : Event) → IsAccepted h (e ∷ past) → (l : ℕ) (x : Transaction) → granted h past l ≡ Some x
+      → Stays e l x ⊎ ((z : Transaction) × (ended h past e ≡ Some z) × (z.place ≡ x.place))
+  granted_after e a l x g =
+      let gives = gives_none e a l x g in
+      let same : granted h (e ∷ past) l ≡ without (ended h past e) (granted h past l) = newest_on-older (given past e) l (without (ended h past e) (granted h past l)) gives in
+      elim (ends_or (ended h past e) (granted h past l) g) [
+        | inl stays ↦
+            let w = without-some (ended h past e) (granted h past l) x stays in
+            inl (record { was = g; is = same ∙ stays; gives = gives; lasts = w.1 })
+        | inr ends ↦ inr ends
+      ]
+    where
+      ends_or : (y o : Option Transaction) → o ≡ Some x → (without y o ≡ Some x) ⊎ ((z : Transaction) × (y ≡ Some z) × (z.place ≡ x.place))
+      ends_or None o e = inl e
+      ends_or (Some z) None e = cc
+      ends_or (Some z) (Some w) e =
+          let one : w ≡ x = Some-injective w x e in
+          elim (cases_Bool (nat_eq w.place z.place)) [
+            | inl t ↦ inr (z, refl, sym (eqb-true w.place z.place t) ∙ ap (λ (v : Transaction). v.place) one)
+            | inr f ↦ inl (rw f e)
+          ]
 
--- a new transaction has another name than an outstanding one
-pub issued_apart : (h : Header) (past : Trace) (e : Event) → IsAccepted h (e ∷ past) → (p : ℕ) (c : Channel) (i : ℕ) (x y : Transaction)
-    → outstanding h past p c i ≡ Some x → issued (length past) e ≡ Some y → has_name y p c i ≡ false
-issued_apart h past e a p c i x y o new =
-    let free = is_none_or-at (issued (length past) e) (has_free_name h past) y (accepted_keeps h past e a).rule_4 new in
-    (outstanding_stays h past y p c i x free o).0
+  -- a new transaction has another name than an outstanding one
+  pub issued_apart : (e : Event) → IsAccepted h (e ∷ past) → (p : ℕ) (c : Channel) (i : ℕ) (x y : Transaction)
+      → outstanding h past p c i ≡ Some x → issued (length past) e ≡ Some y → has_name y p c i ≡ false
+  issued_apart e a p c i x y o new =
+      let free = is_none_or-at (issued (length past) e) (has_free_name h past) y (accepted_keeps h past e a).rule_4 new in
+      (outstanding_stays h past y p c i x free o).0
 
 and_no : (b : Bool) → (b && false) ≡ false
 and_no true = refl

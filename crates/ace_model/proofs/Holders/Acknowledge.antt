@@ -1,25 +1,9 @@
 -- RK: a complete read ends, and its port holds the line in the state that it names.
 use Rattle.std.proofs.Common.{◌≡◌, ◌≢◌, ◌⊎◌, ◌==◌, ℕ, ◌+◌, ◌≤◌, Bool, true, false, if◌then◌else◌, ◌&&◌, nat_eq, nat_lt, ◌∷◌, Some, slice_get, le_refl, refl, sym, ap, subst, ◌∙◌, arith, inl, inr}
 use Rattle.std.proofs.lemmas.Bool.{and_parts, cases_Bool, cases_eq, eqb-true, eq-eqb}
-use Rattle.ace_codes.specs.declared.kind.ArKind.{ArKind}
-use Rattle.ace_codes.specs.declared.state.LineState.{LineState}
-use Rattle.ace_codes.specs.declared.state.LineState.TheVariants.{I, SC}
-use Rattle.ace_codes.specs.Responses.{passes_dirty, is_shared}
-use Rattle.ace_event.specs.declared.header.Header.{Header}
-use Rattle.ace_event.specs.declared.event.Channel.TheVariants.{Read}
-use Rattle.ace_event.specs.declared.event.Event.TheVariants.{Rk}
-use Rattle.ace_tables.specs.EndStates.{ends_read}
-use Rattle.ace_tables.specs.States.{is_unique, is_dirty, is_invalid}
-use Rattle.ace_model.specs.declared.transactions.Transaction.{Transaction}
-use Rattle.ace_model.specs.Trace.{Trace, is_some_and}
-use Rattle.ace_model.specs.Kinds.{beats_of, reads_a_line}
-use Rattle.ace_model.specs.Transactions.{is_ace, is_line, is_on, is_some_on, read_kind, transaction_of, outstanding, completed, acknowledgements, transfers, first_resp, next_complete, acknowledged, transaction_under}
-use Rattle.ace_model.specs.Grants.{granted}
-use Rattle.ace_model.specs.Exclusives.{has_failed}
-use Rattle.ace_model.specs.States.{state_of}
-use Rattle.ace_model.specs.Unique.{UniqueNow, OneDirtyNow}
-use Rattle.ace_model.specs.AddressRules.{k1}
-use Rattle.ace_model.specs.ReadRules.{k22, k23, ends_well, is_end, held_of}
+use Rattle.ace_model.proofs.Terms.{ArKind, LineState, I, SC, passes_dirty, is_shared, Header, Read, Rk, ends_read, is_unique, is_dirty, is_invalid, Transaction, Trace, is_some_and, beats_of, reads_a_line}
+use Rattle.ace_model.proofs.Terms.{is_ace, is_line, is_on, is_some_on, read_kind, transaction_of, outstanding, completed, acknowledgements, transfers, first_resp, next_complete, acknowledged}
+use Rattle.ace_model.proofs.Terms.{transaction_under, granted, has_failed, state_of, UniqueNow, OneDirtyNow, k1, k22, k23, ends_well, is_end, held_of}
 use Rattle.ace_model.proofs.Trace.Looks.{Some-injective, some_is, is_some_and-is, is_none_or-at, has_name-is, without-some, without-other}
 use Rattle.ace_model.proofs.Trace.Issued.{outstanding-named, transaction_of-stands}
 use Rattle.ace_model.proofs.Tables.States.{is_settled, Lessens-same}
@@ -94,195 +78,197 @@ settled_clean I s = refl
 settled_clean SC s = refl
 settled_clean st s = cc
 
-pub ends_line : (h : Header) (past : Trace) (q : ℕ) (st : LineState) → k23 h past (Rk q st) ≡ true → Ends h past q → (r l : ℕ) → is_named_by_rk past q r l ≡ true
-    → EndsLine h past q st r l
-ends_line h past q st k e r l t = record {
-  port = port;
-  stands = (e.ended_one, e.is, subst (λ v. granted h past v ≡ Some e.ended_one) line arrived.stands);
-  unique = λ u. elim (fits.unique u) [
-    | inl was ↦ inl was
-    | inr taken ↦ inr (alone taken)
-  ];
-  kept = elim fits.kept [
-    | inl gone ↦ inl gone
-    | inr more ↦ elim more [
-      | inl was ↦ inr (inl was)
-      | inr kinds ↦ elim kinds [
-        | inl taken ↦ inr (inr (λ z ne. ap is_unique (alone taken z ne)))
-        | inr taken ↦ inr (inr (beside taken))
-      ]
-    ]
-  ];
-  kind = e.kind;
-  is_kind = e.is_kind;
-  failed = has_failed past e.ended_one;
-  shared = is_some_and (first_resp past q e.id) is_shared;
-  came = fits.kept;
-  dirty = λ d. elim (fits.dirty d) [
-    | inl was ↦ inl was
-    | inr came ↦ elim came [
-      | inl passed ↦ inr (λ z ne. settled_clean (state_of h past z l) (subst (AllSettled h past) line (arrived.dirty passed) z))
-      | inr taken ↦ inr (λ z ne. ap is_dirty (alone taken z ne))
-    ]
-  ];
-}
-  where
-    port : r ≡ q
-    port = eqb-true r q (and_parts (nat_eq r q) _ t).0
-
-    on : (is_line e.ended_one ≡ true) × (nat_eq e.ended_one.addr l ≡ true)
-    on =
-        let y = is_some_and-is (acknowledged past r Read) (λ x. is_on x l) (and_parts (nat_eq r q) _ t).1 in
-        let one : y.0 ≡ e.ended_one = Some-injective y.0 e.ended_one (sym y.1 ∙ ap (λ a. acknowledged past a Read) port ∙ e.is) in
-        and_parts (is_line e.ended_one) (nat_eq e.ended_one.addr l) (subst (λ v. is_on v l ≡ true) one y.2)
-
-    line : e.ended_one.addr ≡ l
-    line = eqb-true e.ended_one.addr l on.1
-
-    arrived : Arrives h past q e.id e.ended_one
-    arrived = e.arrives on.0
-
-    held : held_of h past e.ended_one ≡ state_of h past r l
-    held =
-        held_on (is_line e.ended_one) (state_of h past e.ended_one.port e.ended_one.addr) on.0
-        ∙ ap (λ v. state_of h past v e.ended_one.addr) (e.port ∙ sym port) ∙ ap (state_of h past r) line
-
-    first : first_resp past e.ended_one.port e.ended_one.id ≡ first_resp past q e.id
-    first = ap (λ v. first_resp past v e.ended_one.id) e.port ∙ ap (first_resp past q) e.is_id
-
-    fits : ReadEnds e.kind (state_of h past r l) (is_some_and (first_resp past q e.id) is_shared) (is_some_and (first_resp past q e.id) passes_dirty) (has_failed past e.ended_one) st
-    fits =
-        let well = is_none_or-at (acknowledged past q Read) (ends_well h past st) e.ended_one k e.is in
-        let end = is_none_or-at (read_kind e.ended_one) (is_end h past e.ended_one st) e.kind well e.is_kind in
-        let o = first_resp past e.ended_one.port e.ended_one.id in
-        let ended = (and_parts (ends_read e.kind (held_of h past e.ended_one) (is_some_and o is_shared) (is_some_and o passes_dirty) (has_failed past e.ended_one) st) _ end).0 in
-        subst (λ v. ReadEnds e.kind (state_of h past r l) (is_some_and v is_shared) (is_some_and v passes_dirty) (has_failed past e.ended_one) st) first
-        (subst (λ s. ReadEnds e.kind s (is_some_and o is_shared) (is_some_and o passes_dirty) (has_failed past e.ended_one) st) held
-        (read_is e.kind (held_of h past e.ended_one) (is_some_and o is_shared) (is_some_and o passes_dirty) (has_failed past e.ended_one) st ended))
-
-    alone : takes_alone e.kind (is_some_and (first_resp past q e.id) is_shared) (has_failed past e.ended_one) ≡ true → OthersInvalid h past r l
-    alone taken = subst (OthersInvalid h past r) line (subst (λ v. OthersInvalid h past v e.ended_one.addr) (sym port) (arrived.alone e.kind e.is_kind taken))
-
-    beside : takes_shared e.kind ≡ true → OthersNotUnique h past r l
-    beside taken = subst (OthersNotUnique h past r) line (subst (λ v. OthersNotUnique h past v e.ended_one.addr) (sym port) (arrived.beside e.kind e.is_kind taken))
-
--- the states of a line that is still granted are as they were
-pub states_rk : (h : Header) (past : Trace) (q : ℕ) (st : LineState) → k23 h past (Rk q st) ≡ true → Ends h past q → (l : ℕ) (x : Transaction)
-    → granted h (Rk q st ∷ past) l ≡ Some x → (r : ℕ) → state_of h (Rk q st ∷ past) r l ≡ state_of h past r l
-states_rk h past q st k e l x g r =
-    elim (cases_Bool (is_named_by_rk past q r l)) [
-      | inr f ↦ rw f refl
-      | inl t ↦
-          let w = without-some (acknowledged past q Read) (granted h past l) x g in
-          let s = (ends_line h past q st k e r l t).stands in
-          absurd (w.1 s.0 s.1 (ap (λ (v : Transaction). v.place) (Some-injective s.0 x (sym s.2 ∙ w.0))))
-    ]
-
-pub answers_rk : (h : Header) (past : Trace) (q : ℕ) (st : LineState) → Inductive h past → k23 h past (Rk q st) ≡ true → Ends h past q → AnswersFit h (Rk q st ∷ past)
-answers_rk h past q st f k e l r x a kind g w causes =
-    rw (states_rk h past q st k e l x g r) (f.answers l r x a kind (without-some (acknowledged past q Read) (granted h past l) x g).0 w causes)
-
-pub passed_rk : (h : Header) (past : Trace) (q : ℕ) (st : LineState) → Inductive h past → k23 h past (Rk q st) ≡ true → Ends h past q → PassedOn h (Rk q st ∷ past)
-passed_rk h past q st f k e l r x a g takes w dirty z =
-    rw (states_rk h past q st k e l x g z) (f.passed l r x a (without-some (acknowledged past q Read) (granted h past l) x g).0 takes w dirty z)
-
-pub arrive_rk : (h : Header) (past : Trace) (q : ℕ) (st : LineState) → Inductive h past → k23 h past (Rk q st) ≡ true → Ends h past q → TransfersArrive h (Rk q st ∷ past)
-arrive_rk h past q st f k e p i x ace o line some =
-    let w = without-some (acknowledged past q Read) (outstanding h past p Read i) x o in
-    let a = f.arrive p i x ace w.0 line some in
-    let g = without-other (acknowledged past q Read) (granted h past x.addr) x a.stands w.1 in
-    arrives_kept h past (Rk q st) p i x g refl refl (λ r. Lessens-same _ _ (states_rk h past q st k e x.addr x g r)) a
-
-pub queue_rk : (h : Header) (past : Trace) (q : ℕ) (st : LineState) → Inductive h past → Ends h past q → QueueStands h (Rk q st ∷ past)
-queue_rk h past q st f d p n i ace low e =
-    let low_before : acknowledgements past p Read ≤ n = below (nat_eq p q) low in
-    let s = f.queue p n i ace low_before e in (
-      s.0,
-      without-other (acknowledged past q Read) (outstanding h past p Read i) s.0 s.1 (λ z is same. absurd (waits_once s.0 low_before s.1 z is same)),
-      s.2,
-    )
-  where
-    below : (b : Bool) → (if b then acknowledgements past p Read + 1 else acknowledgements past p Read) ≤ n → acknowledgements past p Read ≤ n
-    below true l = omega arith
-    below false l = l
-
-    waits_once : (x : Transaction) → acknowledgements past p Read ≤ n → outstanding h past p Read i ≡ Some x → (z : Transaction) → acknowledged past q Read ≡ Some z → z.place ≡ x.place → ⊥
-    waits_once x low_before o z is same =
-        let zd : d.ended_one ≡ z = Some-injective d.ended_one z (sym d.is ∙ is) in
-        let name = one_name past q p Read Read d.id i d.ended_one x d.named (outstanding-named h past p Read i x o) (ap (λ (v : Transaction). v.place) zd ∙ same) in
-        let next : slice_get (completed past p Read) (acknowledgements past p Read) ≡ Some i =
-        subst (λ a. slice_get (completed past a Read) (acknowledgements past a Read) ≡ Some i) name.port (d.next ∙ ap Some name.id) in
-        let at = f.distinct p (acknowledgements past p Read) n i ace (le_refl (acknowledgements past p Read)) low_before next e in
-        let above : acknowledgements past p Read + 1 ≤ n = rw (eq-eqb p q (sym name.port)) at low in
-        omega arith
-
-pub distinct_rk : (h : Header) (past : Trace) (q : ℕ) (st : LineState) → Inductive h past → QueueDistinct h (Rk q st ∷ past)
-distinct_rk h past q st f p m n i ace a b e g = f.distinct p m n i ace (below (nat_eq p q) m a) (below (nat_eq p q) n b) e g
-  where
-    below : (b : Bool) (n : ℕ) → (if b then acknowledgements past p Read + 1 else acknowledgements past p Read) ≤ n → acknowledgements past p Read ≤ n
-    below true n l = omega arith
-    below false n l = l
-
-pub outside_rk : (h : Header) (past : Trace) (q : ℕ) (st : LineState) → Inductive h past → Ends h past q → OutsideInvalid h (Rk q st ∷ past)
-outside_rk h past q st f e r l o =
-    elim (cases_Bool (is_named_by_rk past q r l)) [
-      | inr other ↦ rw other (f.outside r l o)
-      | inl t ↦
-          let ace : is_ace h r ≡ true = ap (is_ace h) (eqb-true r q (and_parts (nat_eq r q) _ t).0) ∙ e.ace in
-          cc
-    ]
-
--- another port keeps its state
-state_beside : (h : Header) (past : Trace) (q r l : ℕ) (st : LineState) → r ≢ q → state_of h (Rk q st ∷ past) r l ≡ state_of h past r l
-state_beside h past q r l st apart =
-    elim (cases_Bool (is_named_by_rk past q r l)) [
-      | inr other ↦ rw other refl
-      | inl t ↦ absurd (apart (eqb-true r q (and_parts (nat_eq r q) _ t).0))
-    ]
-
-pub unique_rk : (h : Header) (past : Trace) (q : ℕ) (st : LineState) → Inductive h past → k23 h past (Rk q st) ≡ true → Ends h past q → UniqueNow h (Rk q st ∷ past)
-unique_rk h past q st f k e l p r u ne =
-    elim (cases_Bool (is_named_by_rk past q p l)) [
-      | inl t ↦
-          let d = ends_line h past q st k e p l t in
-          state_beside h past q r l st (λ same. ne (d.port ∙ sym same))
-          ∙ elim (d.unique (rw t at u)) [
-            | inl was ↦ f.unique l p r was ne
-            | inr alone ↦ alone r ne
+module _ (h : Header) (past : Trace) where
+  module _ (q : ℕ) (st : LineState) where
+    pub ends_line : k23 h past (Rk q st) ≡ true → Ends h past q → (r l : ℕ) → is_named_by_rk past q r l ≡ true
+        → EndsLine h past q st r l
+    ends_line k e r l t = record {
+      port = port;
+      stands = (e.ended_one, e.is, subst (λ v. granted h past v ≡ Some e.ended_one) line arrived.stands);
+      unique = λ u. elim (fits.unique u) [
+        | inl was ↦ inl was
+        | inr taken ↦ inr (alone taken)
+      ];
+      kept = elim fits.kept [
+        | inl gone ↦ inl gone
+        | inr more ↦ elim more [
+          | inl was ↦ inr (inl was)
+          | inr kinds ↦ elim kinds [
+            | inl taken ↦ inr (inr (λ z ne. ap is_unique (alone taken z ne)))
+            | inr taken ↦ inr (inr (beside taken))
           ]
-      | inr other ↦ elim (cases_Bool (is_named_by_rk past q r l)) [
-        | inr neither ↦ rw neither (f.unique l p r (rw other at u) ne)
-        | inl t ↦
-            let was : is_unique (state_of h past p l) ≡ true = rw other at u in
-            rw t (elim (ends_line h past q st k e r l t).kept [
-              | inl gone ↦ gone
-              | inr more ↦ elim more [
-                | inl held ↦ let bad : is_invalid I ≡ false = subst (λ v. is_invalid v ≡ false) (f.unique l p r was ne) held in cc
-                | inr beside ↦ let bad = beside p (λ same. ne (sym same)) in cc
-              ]
-            ])
-      ]
-    ]
-
-pub one_dirty_rk : (h : Header) (past : Trace) (q : ℕ) (st : LineState) → Inductive h past → k23 h past (Rk q st) ≡ true → Ends h past q → OneDirtyNow h (Rk q st ∷ past)
-one_dirty_rk h past q st f k e l a b da db =
-    elim (cases_Bool (is_named_by_rk past q a l)) [
-      | inl t ↦ alone a b t da db
-      | inr other ↦ elim (cases_Bool (is_named_by_rk past q b l)) [
-        | inl t ↦ sym (alone b a t db da)
-        | inr neither ↦ f.one_dirty l a b (rw other at da) (rw neither at db)
-      ]
-    ]
-  where
-    alone : (a b : ℕ) → is_named_by_rk past q a l ≡ true → is_dirty (state_of h (Rk q st ∷ past) a l) ≡ true → is_dirty (state_of h (Rk q st ∷ past) b l) ≡ true → a ≡ b
-    alone a b t da db =
-        let d = ends_line h past q st k e a l t in
-        elim (cases_eq a b) [
-          | inl same ↦ same
-          | inr apart ↦
-              let was : is_dirty (state_of h past b l) ≡ true = rw (state_beside h past q b l st (λ same. apart (d.port ∙ sym same))) at db in
-              elim (d.dirty (rw t at da)) [
-                | inl own ↦ f.one_dirty l a b own was
-                | inr clean ↦ let bad = clean b apart in cc
-              ]
         ]
+      ];
+      kind = e.kind;
+      is_kind = e.is_kind;
+      failed = has_failed past e.ended_one;
+      shared = is_some_and (first_resp past q e.id) is_shared;
+      came = fits.kept;
+      dirty = λ d. elim (fits.dirty d) [
+        | inl was ↦ inl was
+        | inr came ↦ elim came [
+          | inl passed ↦ inr (λ z ne. settled_clean (state_of h past z l) (subst (AllSettled h past) line (arrived.dirty passed) z))
+          | inr taken ↦ inr (λ z ne. ap is_dirty (alone taken z ne))
+        ]
+      ];
+    }
+      where
+        port : r ≡ q
+        port = eqb-true r q (and_parts (nat_eq r q) _ t).0
+
+        on : (is_line e.ended_one ≡ true) × (nat_eq e.ended_one.addr l ≡ true)
+        on =
+            let y = is_some_and-is (acknowledged past r Read) (λ x. is_on x l) (and_parts (nat_eq r q) _ t).1 in
+            let one : y.0 ≡ e.ended_one = Some-injective y.0 e.ended_one (sym y.1 ∙ ap (λ a. acknowledged past a Read) port ∙ e.is) in
+            and_parts (is_line e.ended_one) (nat_eq e.ended_one.addr l) (subst (λ v. is_on v l ≡ true) one y.2)
+
+        line : e.ended_one.addr ≡ l
+        line = eqb-true e.ended_one.addr l on.1
+
+        arrived : Arrives h past q e.id e.ended_one
+        arrived = e.arrives on.0
+
+        held : held_of h past e.ended_one ≡ state_of h past r l
+        held =
+            held_on (is_line e.ended_one) (state_of h past e.ended_one.port e.ended_one.addr) on.0
+            ∙ ap (λ v. state_of h past v e.ended_one.addr) (e.port ∙ sym port) ∙ ap (state_of h past r) line
+
+        first : first_resp past e.ended_one.port e.ended_one.id ≡ first_resp past q e.id
+        first = ap (λ v. first_resp past v e.ended_one.id) e.port ∙ ap (first_resp past q) e.is_id
+
+        fits : ReadEnds e.kind (state_of h past r l) (is_some_and (first_resp past q e.id) is_shared) (is_some_and (first_resp past q e.id) passes_dirty) (has_failed past e.ended_one) st
+        fits =
+            let well = is_none_or-at (acknowledged past q Read) (ends_well h past st) e.ended_one k e.is in
+            let end = is_none_or-at (read_kind e.ended_one) (is_end h past e.ended_one st) e.kind well e.is_kind in
+            let o = first_resp past e.ended_one.port e.ended_one.id in
+            let ended = (and_parts (ends_read e.kind (held_of h past e.ended_one) (is_some_and o is_shared) (is_some_and o passes_dirty) (has_failed past e.ended_one) st) _ end).0 in
+            subst (λ v. ReadEnds e.kind (state_of h past r l) (is_some_and v is_shared) (is_some_and v passes_dirty) (has_failed past e.ended_one) st) first
+            (subst (λ s. ReadEnds e.kind s (is_some_and o is_shared) (is_some_and o passes_dirty) (has_failed past e.ended_one) st) held
+            (read_is e.kind (held_of h past e.ended_one) (is_some_and o is_shared) (is_some_and o passes_dirty) (has_failed past e.ended_one) st ended))
+
+        alone : takes_alone e.kind (is_some_and (first_resp past q e.id) is_shared) (has_failed past e.ended_one) ≡ true → OthersInvalid h past r l
+        alone taken = subst (OthersInvalid h past r) line (subst (λ v. OthersInvalid h past v e.ended_one.addr) (sym port) (arrived.alone e.kind e.is_kind taken))
+
+        beside : takes_shared e.kind ≡ true → OthersNotUnique h past r l
+        beside taken = subst (OthersNotUnique h past r) line (subst (λ v. OthersNotUnique h past v e.ended_one.addr) (sym port) (arrived.beside e.kind e.is_kind taken))
+
+    -- the states of a line that is still granted are as they were
+    pub states_rk : k23 h past (Rk q st) ≡ true → Ends h past q → (l : ℕ) (x : Transaction)
+        → granted h (Rk q st ∷ past) l ≡ Some x → (r : ℕ) → state_of h (Rk q st ∷ past) r l ≡ state_of h past r l
+    states_rk k e l x g r =
+        elim (cases_Bool (is_named_by_rk past q r l)) [
+          | inr f ↦ rw f refl
+          | inl t ↦
+              let w = without-some (acknowledged past q Read) (granted h past l) x g in
+              let s = (ends_line k e r l t).stands in
+              absurd (w.1 s.0 s.1 (ap (λ (v : Transaction). v.place) (Some-injective s.0 x (sym s.2 ∙ w.0))))
+        ]
+
+    pub answers_rk : Inductive h past → k23 h past (Rk q st) ≡ true → Ends h past q → AnswersFit h (Rk q st ∷ past)
+    answers_rk f k e l r x a kind g w causes =
+        rw (states_rk k e l x g r) (f.answers l r x a kind (without-some (acknowledged past q Read) (granted h past l) x g).0 w causes)
+
+    pub passed_rk : Inductive h past → k23 h past (Rk q st) ≡ true → Ends h past q → PassedOn h (Rk q st ∷ past)
+    passed_rk f k e l r x a g takes w dirty z =
+        rw (states_rk k e l x g z) (f.passed l r x a (without-some (acknowledged past q Read) (granted h past l) x g).0 takes w dirty z)
+
+    pub arrive_rk : Inductive h past → k23 h past (Rk q st) ≡ true → Ends h past q → TransfersArrive h (Rk q st ∷ past)
+    arrive_rk f k e p i x ace o line some =
+        let w = without-some (acknowledged past q Read) (outstanding h past p Read i) x o in
+        let a = f.arrive p i x ace w.0 line some in
+        let g = without-other (acknowledged past q Read) (granted h past x.addr) x a.stands w.1 in
+        arrives_kept h past (Rk q st) p i x g refl refl (λ r. Lessens-same _ _ (states_rk k e x.addr x g r)) a
+
+    pub queue_rk : Inductive h past → Ends h past q → QueueStands h (Rk q st ∷ past)
+    queue_rk f d p n i ace low e =
+        let low_before : acknowledgements past p Read ≤ n = below (nat_eq p q) low in
+        let s = f.queue p n i ace low_before e in (
+          s.0,
+          without-other (acknowledged past q Read) (outstanding h past p Read i) s.0 s.1 (λ z is same. absurd (waits_once s.0 low_before s.1 z is same)),
+          s.2,
+        )
+      where
+        below : (b : Bool) → (if b then acknowledgements past p Read + 1 else acknowledgements past p Read) ≤ n → acknowledgements past p Read ≤ n
+        below true l = omega arith
+        below false l = l
+
+        waits_once : (x : Transaction) → acknowledgements past p Read ≤ n → outstanding h past p Read i ≡ Some x → (z : Transaction) → acknowledged past q Read ≡ Some z → z.place ≡ x.place → ⊥
+        waits_once x low_before o z is same =
+            let zd : d.ended_one ≡ z = Some-injective d.ended_one z (sym d.is ∙ is) in
+            let name = one_name past q p Read Read d.id i d.ended_one x d.named (outstanding-named h past p Read i x o) (ap (λ (v : Transaction). v.place) zd ∙ same) in
+            let next : slice_get (completed past p Read) (acknowledgements past p Read) ≡ Some i =
+            subst (λ a. slice_get (completed past a Read) (acknowledgements past a Read) ≡ Some i) name.port (d.next ∙ ap Some name.id) in
+            let at = f.distinct p (acknowledgements past p Read) n i ace (le_refl (acknowledgements past p Read)) low_before next e in
+            let above : acknowledgements past p Read + 1 ≤ n = rw (eq-eqb p q (sym name.port)) at low in
+            omega arith
+
+    pub distinct_rk : Inductive h past → QueueDistinct h (Rk q st ∷ past)
+    distinct_rk f p m n i ace a b e g = f.distinct p m n i ace (below (nat_eq p q) m a) (below (nat_eq p q) n b) e g
+      where
+        below : (b : Bool) (n : ℕ) → (if b then acknowledgements past p Read + 1 else acknowledgements past p Read) ≤ n → acknowledgements past p Read ≤ n
+        below true n l = omega arith
+        below false n l = l
+
+    pub outside_rk : Inductive h past → Ends h past q → OutsideInvalid h (Rk q st ∷ past)
+    outside_rk f e r l o =
+        elim (cases_Bool (is_named_by_rk past q r l)) [
+          | inr other ↦ rw other (f.outside r l o)
+          | inl t ↦
+              let ace : is_ace h r ≡ true = ap (is_ace h) (eqb-true r q (and_parts (nat_eq r q) _ t).0) ∙ e.ace in
+              cc
+        ]
+
+  -- another port keeps its state
+  state_beside : (q r l : ℕ) (st : LineState) → r ≢ q → state_of h (Rk q st ∷ past) r l ≡ state_of h past r l
+  state_beside q r l st apart =
+      elim (cases_Bool (is_named_by_rk past q r l)) [
+        | inr other ↦ rw other refl
+        | inl t ↦ absurd (apart (eqb-true r q (and_parts (nat_eq r q) _ t).0))
+      ]
+
+  pub unique_rk : (q : ℕ) (st : LineState) → Inductive h past → k23 h past (Rk q st) ≡ true → Ends h past q → UniqueNow h (Rk q st ∷ past)
+  unique_rk q st f k e l p r u ne =
+      elim (cases_Bool (is_named_by_rk past q p l)) [
+        | inl t ↦
+            let d = ends_line q st k e p l t in
+            state_beside q r l st (λ same. ne (d.port ∙ sym same))
+            ∙ elim (d.unique (rw t at u)) [
+              | inl was ↦ f.unique l p r was ne
+              | inr alone ↦ alone r ne
+            ]
+        | inr other ↦ elim (cases_Bool (is_named_by_rk past q r l)) [
+          | inr neither ↦ rw neither (f.unique l p r (rw other at u) ne)
+          | inl t ↦
+              let was : is_unique (state_of h past p l) ≡ true = rw other at u in
+              rw t (elim (ends_line q st k e r l t).kept [
+                | inl gone ↦ gone
+                | inr more ↦ elim more [
+                  | inl held ↦ let bad : is_invalid I ≡ false = subst (λ v. is_invalid v ≡ false) (f.unique l p r was ne) held in cc
+                  | inr beside ↦ let bad = beside p (λ same. ne (sym same)) in cc
+                ]
+              ])
+        ]
+      ]
+
+  pub one_dirty_rk : (q : ℕ) (st : LineState) → Inductive h past → k23 h past (Rk q st) ≡ true → Ends h past q → OneDirtyNow h (Rk q st ∷ past)
+  one_dirty_rk q st f k e l a b da db =
+      elim (cases_Bool (is_named_by_rk past q a l)) [
+        | inl t ↦ alone a b t da db
+        | inr other ↦ elim (cases_Bool (is_named_by_rk past q b l)) [
+          | inl t ↦ sym (alone b a t db da)
+          | inr neither ↦ f.one_dirty l a b (rw other at da) (rw neither at db)
+        ]
+      ]
+    where
+      alone : (a b : ℕ) → is_named_by_rk past q a l ≡ true → is_dirty (state_of h (Rk q st ∷ past) a l) ≡ true → is_dirty (state_of h (Rk q st ∷ past) b l) ≡ true → a ≡ b
+      alone a b t da db =
+          let d = ends_line q st k e a l t in
+          elim (cases_eq a b) [
+            | inl same ↦ same
+            | inr apart ↦
+                let was : is_dirty (state_of h past b l) ≡ true = rw (state_beside q b l st (λ same. apart (d.port ∙ sym same))) at db in
+                elim (d.dirty (rw t at da)) [
+                  | inl own ↦ f.one_dirty l a b own was
+                  | inr clean ↦ let bad = clean b apart in cc
+                ]
+          ]

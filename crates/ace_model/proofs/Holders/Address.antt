@@ -1,18 +1,8 @@
 -- AR and AW: a transaction is issued.
 use Rattle.std.proofs.Common.{◌≡◌, ◌⊎◌, ◌==◌, ℕ, Bool, true, false, if◌then◌else◌, ◌&&◌, nat_eq, ◌∷◌, length, Option, Some, None, is_none, refl, sym, ap, subst, ◌∙◌, inl, inr}
 use Rattle.std.proofs.lemmas.Bool.{and_parts, and_from, cases_Bool, eqb-true, eq-eqb}
-use Rattle.ace_event.specs.declared.header.Header.{Header}
-use Rattle.ace_event.specs.declared.event.Channel.{Channel}
-use Rattle.ace_event.specs.declared.event.Channel.TheVariants.{Read, Write}
-use Rattle.ace_event.specs.declared.event.Event.TheVariants.{Ar, Aw}
-use Rattle.ace_model.specs.declared.transactions.Transaction.{Transaction}
-use Rattle.ace_model.specs.Trace.{Trace, is_some_and}
-use Rattle.ace_model.specs.Kinds.{beats_of}
-use Rattle.ace_model.specs.Transactions.{has_name, read_kind, is_on, outstanding, newest_named, transfers, is_exclusive_store}
-use Rattle.ace_model.specs.Grants.{granted}
-use Rattle.ace_model.specs.Exclusives.{is_false, passed_at_grant, has_failed}
-use Rattle.ace_model.specs.States.{state_of}
-use Rattle.ace_model.specs.AddressRules.{k4}
+use Rattle.ace_model.proofs.Terms.{Header, Channel, Read, Write, Ar, Aw, Transaction, Trace, is_some_and, beats_of, has_name, read_kind, is_on, outstanding, newest_named, transfers, is_exclusive_store}
+use Rattle.ace_model.proofs.Terms.{granted, is_false, passed_at_grant, has_failed, state_of, k4}
 use Rattle.ace_model.proofs.Trace.Looks.{none_is, Some-injective, has_name-is, newest_named-cases, newest_named-older}
 use Rattle.ace_model.proofs.Trace.Issued.{outstanding-named, transaction_of-stands}
 use Rattle.ace_model.proofs.Tables.States.{Lessens-self}
@@ -94,48 +84,50 @@ named_read past q j addr snoop dom bar lock p i false e =
           cc
     ]
 
-pub grants_ar : (h : Header) (past : Trace) (q j addr snoop dom bar : ℕ) (lock : Bool) → Inductive h past → k4 h past (Ar q j addr snoop dom bar lock) ≡ true
-    → GrantsStand h (Ar q j addr snoop dom bar lock ∷ past)
-grants_ar h past q j addr snoop dom bar lock f k = grants_issued h past (read_issued past q j addr snoop dom bar lock) f.grants k
+module _ (h : Header) (past : Trace) where
+  module _ (q j addr snoop dom bar : ℕ) where
+    pub grants_ar : (lock : Bool) → Inductive h past → k4 h past (Ar q j addr snoop dom bar lock) ≡ true
+        → GrantsStand h (Ar q j addr snoop dom bar lock ∷ past)
+    grants_ar lock f k = grants_issued h past (read_issued past q j addr snoop dom bar lock) f.grants k
 
-pub arrive_ar : (h : Header) (past : Trace) (q j addr snoop dom bar : ℕ) (lock : Bool) → Inductive h past → TransfersArrive h (Ar q j addr snoop dom bar lock ∷ past)
-arrive_ar h past q j addr snoop dom bar lock f p i x ace o line some =
-    let y = read_issued past q j addr snoop dom bar lock in
-    elim (outstanding_new h past y p Read i x o) [
-      | inl new ↦ absurd (some (rw (named_read past q j addr snoop dom bar lock p i true new.1) refl))
-      | inr old ↦
-          let other = named_read past q j addr snoop dom bar lock p i false old.1 in
-          let a = f.arrive p i x ace old.0 line (λ z. some (rw other z)) in
-          arrives_kept h past (Ar q j addr snoop dom bar lock) p i x a.stands (rw other refl)
-          (failed_issued past y x (other_name h past y p i x old.0 old.1)) (λ r. Lessens-self (state_of h past r x.addr)) a
-    ]
+    pub arrive_ar : (lock : Bool) → Inductive h past → TransfersArrive h (Ar q j addr snoop dom bar lock ∷ past)
+    arrive_ar lock f p i x ace o line some =
+        let y = read_issued past q j addr snoop dom bar lock in
+        elim (outstanding_new h past y p Read i x o) [
+          | inl new ↦ absurd (some (rw (named_read past q j addr snoop dom bar lock p i true new.1) refl))
+          | inr old ↦
+              let other = named_read past q j addr snoop dom bar lock p i false old.1 in
+              let a = f.arrive p i x ace old.0 line (λ z. some (rw other z)) in
+              arrives_kept h past (Ar q j addr snoop dom bar lock) p i x a.stands (rw other refl)
+              (failed_issued past y x (other_name h past y p i x old.0 old.1)) (λ r. Lessens-self (state_of h past r x.addr)) a
+        ]
 
-pub queue_ar : (h : Header) (past : Trace) (q j addr snoop dom bar : ℕ) (lock : Bool) → Inductive h past → k4 h past (Ar q j addr snoop dom bar lock) ≡ true
-    → QueueStands h (Ar q j addr snoop dom bar lock ∷ past)
-queue_ar h past q j addr snoop dom bar lock f k p n i ace low e =
-    let s = f.queue p n i ace low e in
-    let stays = outstanding_stays h past (read_issued past q j addr snoop dom bar lock) p Read i s.0 k s.1 in
-    let other = named_read past q j addr snoop dom bar lock p i false stays.0 in
-    let same : transfers (Ar q j addr snoop dom bar lock ∷ past) p i ≡ transfers past p i = rw other refl in
-    (s.0, stays.1, subst (λ m. is_some_and (read_kind s.0) (λ c. m == beats_of c) ≡ true) (sym same) s.2)
+    pub queue_ar : (lock : Bool) → Inductive h past → k4 h past (Ar q j addr snoop dom bar lock) ≡ true
+        → QueueStands h (Ar q j addr snoop dom bar lock ∷ past)
+    queue_ar lock f k p n i ace low e =
+        let s = f.queue p n i ace low e in
+        let stays = outstanding_stays h past (read_issued past q j addr snoop dom bar lock) p Read i s.0 k s.1 in
+        let other = named_read past q j addr snoop dom bar lock p i false stays.0 in
+        let same : transfers (Ar q j addr snoop dom bar lock ∷ past) p i ≡ transfers past p i = rw other refl in
+        (s.0, stays.1, subst (λ m. is_some_and (read_kind s.0) (λ c. m == beats_of c) ≡ true) (sym same) s.2)
 
-pub grants_aw : (h : Header) (past : Trace) (q j addr snoop dom bar : ℕ) → Inductive h past → k4 h past (Aw q j addr snoop dom bar) ≡ true
-    → GrantsStand h (Aw q j addr snoop dom bar ∷ past)
-grants_aw h past q j addr snoop dom bar f k = grants_issued h past (write_issued past q j addr snoop dom bar) f.grants k
+    pub grants_aw : Inductive h past → k4 h past (Aw q j addr snoop dom bar) ≡ true
+        → GrantsStand h (Aw q j addr snoop dom bar ∷ past)
+    grants_aw f k = grants_issued h past (write_issued past q j addr snoop dom bar) f.grants k
 
-pub arrive_aw : (h : Header) (past : Trace) (q j addr snoop dom bar : ℕ) → Inductive h past → TransfersArrive h (Aw q j addr snoop dom bar ∷ past)
-arrive_aw h past q j addr snoop dom bar f p i x ace o line some =
-    let y = write_issued past q j addr snoop dom bar in
-    elim (outstanding_new h past y p Read i x o) [
-      | inl new ↦ let chan = (has_name-is y p Read i new.1).chan in cc
-      | inr old ↦
-          let a = f.arrive p i x ace old.0 line some in
-          arrives_kept h past (Aw q j addr snoop dom bar) p i x a.stands refl
-          (failed_issued past y x (other_name h past y p i x old.0 old.1)) (λ r. Lessens-self (state_of h past r x.addr)) a
-    ]
+    pub arrive_aw : Inductive h past → TransfersArrive h (Aw q j addr snoop dom bar ∷ past)
+    arrive_aw f p i x ace o line some =
+        let y = write_issued past q j addr snoop dom bar in
+        elim (outstanding_new h past y p Read i x o) [
+          | inl new ↦ let chan = (has_name-is y p Read i new.1).chan in cc
+          | inr old ↦
+              let a = f.arrive p i x ace old.0 line some in
+              arrives_kept h past (Aw q j addr snoop dom bar) p i x a.stands refl
+              (failed_issued past y x (other_name h past y p i x old.0 old.1)) (λ r. Lessens-self (state_of h past r x.addr)) a
+        ]
 
-pub queue_aw : (h : Header) (past : Trace) (q j addr snoop dom bar : ℕ) → Inductive h past → k4 h past (Aw q j addr snoop dom bar) ≡ true
-    → QueueStands h (Aw q j addr snoop dom bar ∷ past)
-queue_aw h past q j addr snoop dom bar f k p n i ace low e =
-    let s = f.queue p n i ace low e in
-    (s.0, (outstanding_stays h past (write_issued past q j addr snoop dom bar) p Read i s.0 k s.1).1, s.2)
+    pub queue_aw : Inductive h past → k4 h past (Aw q j addr snoop dom bar) ≡ true
+        → QueueStands h (Aw q j addr snoop dom bar ∷ past)
+    queue_aw f k p n i ace low e =
+        let s = f.queue p n i ace low e in
+        (s.0, (outstanding_stays h past (write_issued past q j addr snoop dom bar) p Read i s.0 k s.1).1, s.2)

@@ -1,14 +1,7 @@
 -- Where an event ends a transaction, the facts of the others stay.
 use Rattle.std.proofs.Common.{◌≡◌, ◌≢◌, ℕ, true, ◌∷◌, Option, Some, None, refl, sym, ap, ◌∙◌}
-use Rattle.ace_event.specs.declared.header.Header.{Header}
-use Rattle.ace_event.specs.declared.event.Channel.{Channel}
-use Rattle.ace_event.specs.declared.event.Channel.TheVariants.{Read, Write}
-use Rattle.ace_event.specs.declared.event.Event.{Event}
-use Rattle.ace_model.specs.declared.transactions.Transaction.{Transaction}
-use Rattle.ace_model.specs.Trace.{Trace}
-use Rattle.ace_model.specs.Transactions.{is_on, transaction_of, transaction_under, next_complete, acknowledged, outstanding, without, first_resp}
-use Rattle.ace_model.specs.Grants.{granted}
-use Rattle.ace_model.specs.Exclusives.{has_failed}
+use Rattle.ace_model.proofs.Terms.{Header, Channel, Read, Write, Event, Transaction, Trace, is_on, transaction_of, transaction_under, next_complete, acknowledged, outstanding, without, first_resp, granted}
+use Rattle.ace_model.proofs.Terms.{has_failed}
 use Rattle.ace_model.proofs.Trace.Looks.{has_name-is, without-some, without-other}
 use Rattle.ace_model.proofs.Trace.Issued.{same_place, transaction_of-stands}
 use Rattle.ace_model.proofs.Holders.States.{LessenedAt, arrives_kept}
@@ -40,31 +33,32 @@ pub record OneName (p : ℕ) (c : Channel) (i q : ℕ) (d : Channel) (j : ℕ) :
   pub chan : c ≡ d
   pub id : i ≡ j
 
-pub one_name : (past : Trace) (p q : ℕ) (c d : Channel) (i j : ℕ) (x y : Transaction)
-    → transaction_of past p c i ≡ Some x → transaction_of past q d j ≡ Some y → x.place ≡ y.place → OneName p c i q d j
-one_name past p q c d i j x y a b e =
-    let one = same_place past p q c d i j x y a b e in
-    let n = has_name-is x p c i (transaction_of-stands past p c i x a).named in
-    let m = has_name-is y q d j (transaction_of-stands past q d j y b).named in
-    record {
-      port = sym n.port ∙ ap (λ (v : Transaction). v.port) one ∙ m.port;
-      chan = sym n.chan ∙ ap (λ (v : Transaction). v.chan) one ∙ m.chan;
-      id = sym n.id ∙ ap (λ (v : Transaction). v.id) one ∙ m.id;
-    }
+module _ (past : Trace) where
+  pub one_name : (p q : ℕ) (c d : Channel) (i j : ℕ) (x y : Transaction)
+      → transaction_of past p c i ≡ Some x → transaction_of past q d j ≡ Some y → x.place ≡ y.place → OneName p c i q d j
+  one_name p q c d i j x y a b e =
+      let one = same_place past p q c d i j x y a b e in
+      let n = has_name-is x p c i (transaction_of-stands past p c i x a).named in
+      let m = has_name-is y q d j (transaction_of-stands past q d j y b).named in
+      record {
+        port = sym n.port ∙ ap (λ (v : Transaction). v.port) one ∙ m.port;
+        chan = sym n.chan ∙ ap (λ (v : Transaction). v.chan) one ∙ m.chan;
+        id = sym n.id ∙ ap (λ (v : Transaction). v.id) one ∙ m.id;
+      }
 
--- a write is no read
-pub write_apart : (past : Trace) (p q i j : ℕ) (x z : Transaction) → transaction_of past p Read i ≡ Some x → transaction_of past q Write j ≡ Some z → z.place ≢ x.place
-write_apart past p q i j x z a b e = let chan = (one_name past q p Write Read j i z x b a e).chan in cc
+  -- a write is no read
+  pub write_apart : (p q i j : ℕ) (x z : Transaction) → transaction_of past p Read i ≡ Some x → transaction_of past q Write j ≡ Some z → z.place ≢ x.place
+  write_apart p q i j x z a b e = let chan = (one_name q p Write Read j i z x b a e).chan in cc
 
--- the transaction that an acknowledge belongs to is the one under the identifier that waits next
-pub record IsNext (past : Trace) (q : ℕ) (c : Channel) (y : Transaction) : Type 0 where
-  pub id : ℕ
-  pub next : next_complete past q c ≡ Some id
-  pub named : transaction_of past q c id ≡ Some y
+  -- the transaction that an acknowledge belongs to is the one under the identifier that waits next
+  pub record IsNext (q : ℕ) (c : Channel) (y : Transaction) : Type 0 where
+    pub id : ℕ
+    pub next : next_complete past q c ≡ Some id
+    pub named : transaction_of past q c id ≡ Some y
 
-pub acknowledged_is : (past : Trace) (q : ℕ) (c : Channel) (y : Transaction) → acknowledged past q c ≡ Some y → IsNext past q c y
-acknowledged_is past q c y e = under (next_complete past q c) refl e
-  where
-    under : (o : Option ℕ) → next_complete past q c ≡ o → transaction_under past q c o ≡ Some y → IsNext past q c y
-    under None is e = cc
-    under (Some id) is e = record { id = id; next = is; named = e }
+  pub acknowledged_is : (q : ℕ) (c : Channel) (y : Transaction) → acknowledged past q c ≡ Some y → IsNext q c y
+  acknowledged_is q c y e = under (next_complete past q c) refl e
+    where
+      under : (o : Option ℕ) → next_complete past q c ≡ o → transaction_under past q c o ≡ Some y → IsNext q c y
+      under None is e = cc
+      under (Some id) is e = record { id = id; next = is; named = e }

@@ -1,25 +1,9 @@
 -- What holds at each point of an accepted trace, beside the laws that a unique line has one holder and that one port holds it
 -- dirty, and makes them inductive.
 use Rattle.std.proofs.Common.{ℕ, ◌≡◌, ◌≢◌, ◌≤◌, ◌==◌, true, false, Some, slice_get}
-use Rattle.ace_codes.specs.declared.kind.ArKind.{ArKind}
-use Rattle.ace_codes.specs.declared.kind.SnoopKind.{SnoopKind}
-use Rattle.ace_codes.specs.declared.state.LineState.TheVariants.{I}
-use Rattle.ace_codes.specs.Responses.{passes_dirty, is_shared}
-use Rattle.ace_event.specs.declared.header.Header.{Header}
-use Rattle.ace_event.specs.declared.event.Channel.TheVariants.{Read}
-use Rattle.ace_model.specs.declared.transactions.Transaction.{Transaction}
-use Rattle.ace_model.specs.declared.snoops.Snoop.{Snoop}
-use Rattle.ace_model.specs.declared.snoops.Answer.{Answer}
-use Rattle.ace_model.specs.Trace.{Trace, is_some_and}
-use Rattle.ace_model.specs.Kinds.{beats_of, takes_passed_data}
-use Rattle.ace_tables.specs.States.{is_unique}
-use Rattle.ace_model.specs.Transactions.{is_ace, read_kind, is_on, is_line, snoop_of, outstanding, completed, acknowledgements, transfers, first_resp}
-use Rattle.ace_model.specs.Snoops.{snoops_of, is_snoop_on}
-use Rattle.ace_model.specs.Grants.{granted, answer_of, grant_place}
-use Rattle.ace_model.specs.Exclusives.{has_failed}
-use Rattle.ace_model.specs.SnoopRules.{has_snoop_code}
-use Rattle.ace_model.specs.States.{state_of}
-use Rattle.ace_model.specs.Unique.{UniqueNow, OneDirtyNow}
+use Rattle.ace_model.proofs.Terms.{ArKind, SnoopKind, I, passes_dirty, is_shared, Header, Read, Transaction, Snoop, Answer, Trace, is_some_and, beats_of, takes_passed_data, is_unique, is_ace, read_kind}
+use Rattle.ace_model.proofs.Terms.{is_on, is_line, snoop_of, outstanding, completed, acknowledgements, transfers, first_resp, snoops_of, is_snoop_on, granted, answer_of, grant_place, has_failed}
+use Rattle.ace_model.proofs.Terms.{has_snoop_code, state_of, UniqueNow, OneDirtyNow}
 use Rattle.ace_model.proofs.Tables.States.{is_settled, Leaves}
 use Rattle.ace_model.proofs.Tables.ReadEnds.{takes_alone, takes_shared}
 

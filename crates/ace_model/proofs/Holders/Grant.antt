@@ -1,20 +1,8 @@
 -- G: the line is granted to a transaction.
 use Rattle.std.proofs.Common.{◌≡◌, ℕ, ◌+◌, ◌<◌, ◌≤◌, Bool, true, false, not, if◌then◌else◌, ◌&&◌, nat_eq, [], ◌∷◌, length, Option, Some, None, slice_get, refl, sym, ap, subst, ◌∙◌, arith, inl, inr}
 use Rattle.std.proofs.lemmas.Bool.{and_parts, and_from, cases_Bool, eqb-true, eq-eqb}
-use Rattle.ace_event.specs.declared.header.Header.{Header}
-use Rattle.ace_event.specs.declared.event.Channel.{Channel}
-use Rattle.ace_event.specs.declared.event.Channel.TheVariants.{Read}
-use Rattle.ace_event.specs.declared.event.Event.{Event}
-use Rattle.ace_event.specs.declared.event.Event.TheVariants.{Ac, G}
-use Rattle.ace_model.specs.declared.snoops.Snoop.{Snoop}
-use Rattle.ace_model.specs.declared.transactions.Transaction.{Transaction}
-use Rattle.ace_model.specs.Trace.{Trace, newer}
-use Rattle.ace_model.specs.Transactions.{is_on, is_line, is_some_on, has_name, transaction_of, outstanding, takes_grant, is_exclusive_store}
-use Rattle.ace_model.specs.Snoops.{snoop_at, snoops_of}
-use Rattle.ace_model.specs.Grants.{granted, has_grant}
-use Rattle.ace_model.specs.Exclusives.{has_failed, is_false, passed_at_grant, store_result}
-use Rattle.ace_model.specs.States.{state_of}
-use Rattle.ace_model.specs.SnoopRules.{k12, may_be_granted}
+use Rattle.ace_model.proofs.Terms.{Header, Channel, Read, Event, Ac, G, Snoop, Transaction, Trace, newer, is_on, is_line, is_some_on, has_name, transaction_of, outstanding, takes_grant, is_exclusive_store}
+use Rattle.ace_model.proofs.Terms.{snoop_at, snoops_of, granted, has_grant, has_failed, is_false, passed_at_grant, store_result, state_of, k12, may_be_granted}
 use Rattle.ace_model.proofs.Trace.Looks.{Some-injective, none_is, is_some_and-is, has_name-is, newest_on-cases, newest_on-older}
 use Rattle.ace_model.proofs.Trace.Issued.{outstanding-named, transaction_of-stands}
 use Rattle.ace_model.proofs.Trace.OneMore.{slice_get-more}
@@ -84,68 +72,70 @@ snoops-before (e ∷ past) r n s is =
       | inr new ↦ let at = snoop_at-place (length past) e r s new.1 in omega (arith, at)
     ]
 
-pub snoops_g : (h : Header) (past : Trace) (q : ℕ) (c : Channel) (j : ℕ) → Inductive h past → SnoopsFit h (G q c j ∷ past)
-snoops_g h past q c j f r n l s x e on place g =
-    elim (cases_Bool (is_some_on (transaction_of past q c j) l)) [
-      | inl t ↦
-          let before = snoops-before past r n s e in
-          let after : length past + 1 ≤ s.place = rw t at place in
-          absurd (omega arith)
-      | inr other ↦
-          f.snoops r n l s x e on (rw other at place)
-          (sym (newest_on-older (transaction_of past q c j) l (granted h past l) other) ∙ g)
-    ]
-
-pub answers_g : (h : Header) (past : Trace) (q : ℕ) (c : Channel) (j : ℕ) → Inductive h past → AnswersFit h (G q c j ∷ past)
-answers_g h past q c j f l r x a k g w causes =
-    elim (cases_Bool (is_some_on (transaction_of past q c j) l)) [
-      | inl t ↦ let none : None ≡ Some a = rw t at w in cc
-      | inr other ↦
-          f.answers l r x a k (sym (newest_on-older (transaction_of past q c j) l (granted h past l) other) ∙ g) (rw other at w) causes
-    ]
-
-pub passed_g : (h : Header) (past : Trace) (q : ℕ) (c : Channel) (j : ℕ) → Inductive h past → PassedOn h (G q c j ∷ past)
-passed_g h past q c j f l r x a g takes w dirty =
-    elim (cases_Bool (is_some_on (transaction_of past q c j) l)) [
-      | inl t ↦ let none : None ≡ Some a = rw t at w in cc
-      | inr other ↦
-          f.passed l r x a (sym (newest_on-older (transaction_of past q c j) l (granted h past l) other) ∙ g) takes (rw other at w) dirty
-    ]
-
--- the grant of another line isn't that of the exclusive store
-pub failed_g : (h : Header) (past : Trace) (q : ℕ) (c : Channel) (j p i : ℕ) (x : Transaction) → outstanding h past p Read i ≡ Some x → is_line x ≡ true
-    → is_some_on (transaction_of past q c j) x.addr ≡ false → has_failed (G q c j ∷ past) x ≡ has_failed past x
-failed_g h past q c j p i x o line other =
-    ap (λ v. is_exclusive_store x && is_false (newer v (passed_at_grant past x.port x.id))) (unmoved (transaction_of past q c j) refl)
-  where
-    is_x : (y : Transaction) → transaction_of past q c j ≡ Some y → has_name y x.port Read x.id ≡ true → y ≡ x
-    is_x y is named =
-        let mine = has_name-is y x.port Read x.id named in
-        let its = has_name-is y q c j (transaction_of-stands past q c j y is).named in
-        let named_x = outstanding-named h past p Read i x o in
-        let name = has_name-is x p Read i (transaction_of-stands past p Read i x named_x).named in
-        let same : transaction_of past q c j ≡ transaction_of past p Read i =
-        ap (λ a. transaction_of past a c j) (sym its.port ∙ mine.port ∙ name.port)
-        ∙ ap (λ a. transaction_of past p a j) (sym its.chan ∙ mine.chan)
-        ∙ ap (transaction_of past p Read) (sym its.id ∙ mine.id ∙ name.id) in
-        Some-injective y x (sym is ∙ same ∙ named_x)
-
-    unmoved : (v : Option Transaction) → transaction_of past q c j ≡ v → store_result past v x.port x.id ≡ None
-    unmoved None is = refl
-    unmoved (Some y) is =
-        elim (cases_Bool (has_name y x.port Read x.id && is_exclusive_store y)) [
-          | inr f ↦ rw f refl
+module _ (h : Header) (past : Trace) where
+  module _ (q : ℕ) (c : Channel) (j : ℕ) where
+    pub snoops_g : Inductive h past → SnoopsFit h (G q c j ∷ past)
+    snoops_g f r n l s x e on place g =
+        elim (cases_Bool (is_some_on (transaction_of past q c j) l)) [
           | inl t ↦
-              let one = is_x y is (and_parts (has_name y x.port Read x.id) _ t).0 in
-              let here : is_on x x.addr ≡ true = and_from _ _ line (eq-eqb x.addr x.addr refl) in
-              let there : is_on y x.addr ≡ true = subst (λ v. is_on v x.addr ≡ true) (sym one) here in
-              let isnt : is_on y x.addr ≡ false = subst (λ v. is_some_on v x.addr ≡ false) is other in
-              cc
+              let before = snoops-before past r n s e in
+              let after : length past + 1 ≤ s.place = rw t at place in
+              absurd (omega arith)
+          | inr other ↦
+              f.snoops r n l s x e on (rw other at place)
+              (sym (newest_on-older (transaction_of past q c j) l (granted h past l) other) ∙ g)
         ]
 
-pub arrive_g : (h : Header) (past : Trace) (q : ℕ) (c : Channel) (j : ℕ) → Inductive h past → k12 h past (G q c j) ≡ true → TransfersArrive h (G q c j ∷ past)
-arrive_g h past q c j f k p i x ace o line some =
-    let a = f.arrive p i x ace o line some in
-    let other = other_line h past q c j x.addr x k a.stands in
-    arrives_kept h past (G q c j) p i x (newest_on-older (transaction_of past q c j) x.addr (granted h past x.addr) other ∙ a.stands)
-    refl (failed_g h past q c j p i x o line other) (λ r. Lessens-self (state_of h past r x.addr)) a
+    pub answers_g : Inductive h past → AnswersFit h (G q c j ∷ past)
+    answers_g f l r x a k g w causes =
+        elim (cases_Bool (is_some_on (transaction_of past q c j) l)) [
+          | inl t ↦ let none : None ≡ Some a = rw t at w in cc
+          | inr other ↦
+              f.answers l r x a k (sym (newest_on-older (transaction_of past q c j) l (granted h past l) other) ∙ g) (rw other at w) causes
+        ]
+
+    pub passed_g : Inductive h past → PassedOn h (G q c j ∷ past)
+    passed_g f l r x a g takes w dirty =
+        elim (cases_Bool (is_some_on (transaction_of past q c j) l)) [
+          | inl t ↦ let none : None ≡ Some a = rw t at w in cc
+          | inr other ↦
+              f.passed l r x a (sym (newest_on-older (transaction_of past q c j) l (granted h past l) other) ∙ g) takes (rw other at w) dirty
+        ]
+
+    -- the grant of another line isn't that of the exclusive store
+    pub failed_g : (p i : ℕ) (x : Transaction) → outstanding h past p Read i ≡ Some x → is_line x ≡ true
+        → is_some_on (transaction_of past q c j) x.addr ≡ false → has_failed (G q c j ∷ past) x ≡ has_failed past x
+    failed_g p i x o line other =
+        ap (λ v. is_exclusive_store x && is_false (newer v (passed_at_grant past x.port x.id))) (unmoved (transaction_of past q c j) refl)
+      where
+        is_x : (y : Transaction) → transaction_of past q c j ≡ Some y → has_name y x.port Read x.id ≡ true → y ≡ x
+        is_x y is named =
+            let mine = has_name-is y x.port Read x.id named in
+            let its = has_name-is y q c j (transaction_of-stands past q c j y is).named in
+            let named_x = outstanding-named h past p Read i x o in
+            let name = has_name-is x p Read i (transaction_of-stands past p Read i x named_x).named in
+            let same : transaction_of past q c j ≡ transaction_of past p Read i =
+            ap (λ a. transaction_of past a c j) (sym its.port ∙ mine.port ∙ name.port)
+            ∙ ap (λ a. transaction_of past p a j) (sym its.chan ∙ mine.chan)
+            ∙ ap (transaction_of past p Read) (sym its.id ∙ mine.id ∙ name.id) in
+            Some-injective y x (sym is ∙ same ∙ named_x)
+
+        unmoved : (v : Option Transaction) → transaction_of past q c j ≡ v → store_result past v x.port x.id ≡ None
+        unmoved None is = refl
+        unmoved (Some y) is =
+            elim (cases_Bool (has_name y x.port Read x.id && is_exclusive_store y)) [
+              | inr f ↦ rw f refl
+              | inl t ↦
+                  let one = is_x y is (and_parts (has_name y x.port Read x.id) _ t).0 in
+                  let here : is_on x x.addr ≡ true = and_from _ _ line (eq-eqb x.addr x.addr refl) in
+                  let there : is_on y x.addr ≡ true = subst (λ v. is_on v x.addr ≡ true) (sym one) here in
+                  let isnt : is_on y x.addr ≡ false = subst (λ v. is_some_on v x.addr ≡ false) is other in
+                  cc
+            ]
+
+    pub arrive_g : Inductive h past → k12 h past (G q c j) ≡ true → TransfersArrive h (G q c j ∷ past)
+    arrive_g f k p i x ace o line some =
+        let a = f.arrive p i x ace o line some in
+        let other = other_line h past q c j x.addr x k a.stands in
+        arrives_kept h past (G q c j) p i x (newest_on-older (transaction_of past q c j) x.addr (granted h past x.addr) other ∙ a.stands)
+        refl (failed_g p i x o line other) (λ r. Lessens-self (state_of h past r x.addr)) a

@@ -1,16 +1,7 @@
 -- In an accepted trace a unique line has one holder, and one port at most holds a line dirty.
 use Rattle.std.proofs.Common.{[], ◌∷◌, refl}
-use Rattle.ace_event.specs.declared.header.Header.{Header}
-use Rattle.ace_event.specs.declared.event.Event.{Event}
-use Rattle.ace_event.specs.declared.event.Event.TheVariants.{Ar, R, Rk, Aw, W, B, Wk, Ac, Cr, Cd, G, M, S, L, D, Op}
-use Rattle.ace_event.specs.declared.event.Channel.TheVariants.{Write}
-use Rattle.ace_model.specs.Trace.{Trace}
-use Rattle.ace_model.specs.Transactions.{ended, acknowledged}
-use Rattle.ace_event.specs.declared.event.Channel.TheVariants.{Read}
-use Rattle.ace_model.specs.Grants.{granted}
-use Rattle.ace_model.specs.Accepted.{IsAcceptedBy, IsAccepted}
-use Rattle.ace_model.specs.Unique.{Unique, OneDirty}
-use Rattle.ace_codes.specs.Responses.{is_shared}
+use Rattle.ace_model.proofs.Terms.{Header, Event, Ar, R, Rk, Aw, W, B, Wk, Ac, Cr, Cd, G, M, S, L, D, Op, Write, Trace, ended, acknowledged, Read, granted, IsAcceptedBy, IsAccepted, Unique, OneDirty}
+use Rattle.ace_model.proofs.Terms.{is_shared}
 use Rattle.ace_model.proofs.Rules.Keeps.{kept}
 use Rattle.ace_model.proofs.Holders.RestsOn.{holder_rules, KeepsEach, of_accepted}
 use Rattle.ace_model.proofs.Holders.Facts.{Inductive}

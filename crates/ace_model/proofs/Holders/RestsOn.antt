@@ -1,17 +1,8 @@
 -- The rules that the law of the holders rests on: accepted traces keep them, and those that the rules of today accept do.
 use Rattle.std.proofs.Common.{◌≡◌, ℕ, true, List, [], ◌∷◌, refl}
 use Rattle.std.proofs.lemmas.Bool.{and_parts}
-use Rattle.ace_event.specs.declared.event.Event.{Event}
-use Rattle.ace_event.specs.declared.event.Event.TheVariants.{Wk, S, D}
-use Rattle.ace_event.specs.declared.header.Header.{Header}
-use Rattle.ace_model.specs.Trace.{Trace}
-use Rattle.ace_model.specs.AddressRules.{k1, k4, has_known_codes}
-use Rattle.ace_model.specs.SnoopRules.{k12, k13, k15}
-use Rattle.ace_model.specs.ReadRules.{k18, k19, k22, k23}
-use Rattle.ace_model.specs.WriteRules.{k28}
-use Rattle.ace_model.specs.CacheRules.{k29, k32}
-use Rattle.ace_model.specs.Accepted.{Rule, rule, IsAcceptedBy, IsAccepted}
-use Rattle.ace_model.specs.Today.{is_known_today, rules_today}
+use Rattle.ace_model.proofs.Terms.{Event, Wk, S, D, Header, Trace, k1, k4, has_known_codes, k12, k13, k15, k18, k19, k22, k23, k28, k29, k32, Rule, rule, IsAcceptedBy, IsAccepted, is_known_today}
+use Rattle.ace_model.proofs.Terms.{rules_today}
 use Rattle.ace_model.proofs.Rules.Keeps.{Kept, kept, accepted_keeps}
 
 abbrev pub holder_rules : List Rule

@@ -1,29 +1,11 @@
 -- A port comes to hold more of a line by the RK of its own read alone, and makes it dirty by that or by a store alone.
 use Rattle.std.proofs.Common.{◌≡◌, ◌⊎◌, ℕ, Bool, true, false, not, ◌&&◌, ◌||◌, nat_eq, [], ◌∷◌, length, Some, refl, sym, ap, subst, ◌∙◌, inl, inr}
 use Rattle.std.proofs.lemmas.Bool.{and_parts, or_cases, cases_Bool, eqb-true}
-use Rattle.ace_codes.specs.declared.kind.ArKind.{ArKind}
+use Rattle.ace_model.proofs.Terms.{ArKind, AwKind, LineState, I, UC, UD, SC, SD, Channel, Read, Event, Ar, Rk, Aw, Wk, Cr, S, D, Header, Line, starts_read, starts_write, is_among, is_dirty, Transaction}
+use Rattle.ace_model.proofs.Terms.{Trace, is_some_and, is_none_or, reads_a_line, is_granted_write, is_line, is_on, issued, ended, read_kind, write_kind, outstanding, acknowledged, state_of, awaits_store}
+use Rattle.ace_model.proofs.Terms.{is_in_make_unique, has_store, is_line_read_transaction, starts_well, k32, may_store, wants_store, full_line, IsAccepted}
 use Rattle.ace_codes.specs.declared.kind.ArKind.TheVariants as read
-use Rattle.ace_codes.specs.declared.kind.AwKind.{AwKind}
 use Rattle.ace_codes.specs.declared.kind.AwKind.TheVariants as write
-use Rattle.ace_codes.specs.declared.state.LineState.{LineState}
-use Rattle.ace_codes.specs.declared.state.LineState.TheVariants.{I, UC, UD, SC, SD}
-use Rattle.ace_event.specs.declared.event.Channel.{Channel}
-use Rattle.ace_event.specs.declared.event.Channel.TheVariants.{Read}
-use Rattle.ace_event.specs.declared.event.Event.{Event}
-use Rattle.ace_event.specs.declared.event.Event.TheVariants.{Ar, Rk, Aw, Wk, Cr, S, D}
-use Rattle.ace_event.specs.declared.header.Header.{Header}
-use Rattle.ace_event.specs.declared.line.Line.{Line}
-use Rattle.ace_tables.specs.StartStates.{starts_read, starts_write}
-use Rattle.ace_tables.specs.States.{is_among, is_dirty}
-use Rattle.ace_model.specs.declared.transactions.Transaction.{Transaction}
-use Rattle.ace_model.specs.Trace.{Trace, is_some_and, is_none_or}
-use Rattle.ace_model.specs.Kinds.{reads_a_line, is_granted_write}
-use Rattle.ace_model.specs.Transactions.{is_line, is_on, issued, ended, read_kind, write_kind, outstanding, acknowledged}
-use Rattle.ace_model.specs.States.{state_of, awaits_store, is_in_make_unique, has_store}
-use Rattle.ace_model.specs.Copies.{is_line_read_transaction}
-use Rattle.ace_model.specs.AddressRules.{starts_well}
-use Rattle.ace_model.specs.CacheRules.{k32, may_store, wants_store, full_line}
-use Rattle.ace_model.specs.Accepted.{IsAccepted}
 use Rattle.ace_model.proofs.Trace.Looks.{Some-injective, is_some_and-is, is_none_or-at, implies-at, has_name-is, newest_named-cases, without-some}
 use Rattle.ace_model.proofs.Rules.Keeps.{accepted_keeps}
 use Rattle.ace_model.proofs.Tables.States.{Lessens, Lessens-self, Lessens-same}
@@ -36,99 +18,100 @@ use Rattle.ace_model.proofs.Holders.Facts.{Arrives}
 use Rattle.ace_model.proofs.Holders.Law.{accepted_holds}
 use Rattle.ace_model.proofs.Trace.LineOnce.{one_on_line}
 
--- The read of the port on the line that the event ends by its RK.
-pub record Raised (h : Header) (past : Trace) (e : Event) (p l : ℕ) : Type 0 where
-  pub read_one : Transaction
-  pub id : ℕ
-  pub out : outstanding h past p Read id ≡ Some read_one
-  pub on : is_on read_one l ≡ true
-  pub ends_it : ended h past e ≡ Some read_one
-  pub arrives : Arrives h past p id read_one
-  pub port : ℕ
-  pub st : LineState
-  pub is : e ≡ Rk port st
-  pub named : is_named_by_rk past port p l ≡ true
+module _ (h : Header) (past : Trace) where
+  -- The read of the port on the line that the event ends by its RK.
+  pub record Raised (e : Event) (p l : ℕ) : Type 0 where
+    pub read_one : Transaction
+    pub id : ℕ
+    pub out : outstanding h past p Read id ≡ Some read_one
+    pub on : is_on read_one l ≡ true
+    pub ends_it : ended h past e ≡ Some read_one
+    pub arrives : Arrives h past p id read_one
+    pub port : ℕ
+    pub st : LineState
+    pub is : e ≡ Rk port st
+    pub named : is_named_by_rk past port p l ≡ true
 
-pub ends_of : (h : Header) (past : Trace) (q : ℕ) (st : LineState) → IsAccepted h (Rk q st ∷ past) → Ends h past q
-ends_of h past q st a =
-    ends h past q st (accepted_holds h past a.0) (accepted_keeps h past (Rk q st) a).rule_1 (accepted_keeps h past (Rk q st) a).rule_22
+  pub ends_of : (q : ℕ) (st : LineState) → IsAccepted h (Rk q st ∷ past) → Ends h past q
+  ends_of q st a =
+      ends h past q st (accepted_holds h past a.0) (accepted_keeps h past (Rk q st) a).rule_1 (accepted_keeps h past (Rk q st) a).rule_22
 
-raised : (h : Header) (past : Trace) (q : ℕ) (st : LineState) → Ends h past q → (p l : ℕ) → is_named_by_rk past q p l ≡ true → Raised h past (Rk q st) p l
-raised h past q st e p l t =
-    let parts = and_parts (nat_eq p q) _ t in
-    let port = eqb-true p q parts.0 in
-    let y = is_some_and-is (acknowledged past p Read) (λ x. is_on x l) parts.1 in
-    let one : y.0 ≡ e.ended_one = Some-injective y.0 e.ended_one (sym y.1 ∙ ap (λ a. acknowledged past a Read) port ∙ e.is) in
-    let on : is_on e.ended_one l ≡ true = subst (λ (x : Transaction). is_on x l ≡ true) one y.2 in
-    record {
-      read_one = e.ended_one;
-      id = e.id;
-      out = ap (λ a. outstanding h past a Read e.id) port ∙ e.out;
-      on = on;
-      ends_it = e.is;
-      arrives = subst (λ a. Arrives h past a e.id e.ended_one) (sym port) (e.arrives (and_parts (is_line e.ended_one) _ on).0);
-      port = q;
-      st = st;
-      is = refl;
-      named = t;
-    }
+  raised : (q : ℕ) (st : LineState) → Ends h past q → (p l : ℕ) → is_named_by_rk past q p l ≡ true → Raised (Rk q st) p l
+  raised q st e p l t =
+      let parts = and_parts (nat_eq p q) _ t in
+      let port = eqb-true p q parts.0 in
+      let y = is_some_and-is (acknowledged past p Read) (λ x. is_on x l) parts.1 in
+      let one : y.0 ≡ e.ended_one = Some-injective y.0 e.ended_one (sym y.1 ∙ ap (λ a. acknowledged past a Read) port ∙ e.is) in
+      let on : is_on e.ended_one l ≡ true = subst (λ (x : Transaction). is_on x l ≡ true) one y.2 in
+      record {
+        read_one = e.ended_one;
+        id = e.id;
+        out = ap (λ a. outstanding h past a Read e.id) port ∙ e.out;
+        on = on;
+        ends_it = e.is;
+        arrives = subst (λ a. Arrives h past a e.id e.ended_one) (sym port) (e.arrives (and_parts (is_line e.ended_one) _ on).0);
+        port = q;
+        st = st;
+        is = refl;
+        named = t;
+      }
 
--- an event lessens the port's state of the line, or is the RK of its read
-pub state_moves : (h : Header) (past : Trace) (e : Event) → IsAccepted h (e ∷ past) → (p l : ℕ)
-    → Lessens (state_of h past p l) (state_of h (e ∷ past) p l) ⊎ Raised h past e p l
-state_moves h past (Rk q st) a p l =
-    elim (cases_Bool (is_named_by_rk past q p l)) [
-      | inr f ↦ inl (Lessens-same _ _ (rw f refl))
-      | inl t ↦ inr (raised h past q st (ends_of h past q st a) p l t)
-    ]
-state_moves h past (Wk q st) a p l = inl (less-lessens _ _ (less_wk h past q st (accepted_keeps h past (Wk q st) a).rule_28 p l))
-state_moves h past (Cr q resp st) a p l = inl (less-lessens _ _ (less_cr h past q resp st (accepted_keeps h past (Cr q resp st) a).rule_15 p l))
-state_moves h past (S q addr st) a p l = inl (less-lessens _ _ (less_s h past q addr st (accepted_keeps h past (S q addr st) a).rule_29 p l))
-state_moves h past (D q addr strobe x line) a p l = inl (lessened_d h past q addr strobe x line (accepted_keeps h past (D q addr strobe x line) a).rule_32 l p)
-state_moves h past _ a p l = inl (Lessens-self (state_of h past p l))
+  -- an event lessens the port's state of the line, or is the RK of its read
+  pub state_moves : (e : Event) → IsAccepted h (e ∷ past) → (p l : ℕ)
+      → Lessens (state_of h past p l) (state_of h (e ∷ past) p l) ⊎ Raised e p l
+  state_moves (Rk q st) a p l =
+      elim (cases_Bool (is_named_by_rk past q p l)) [
+        | inr f ↦ inl (Lessens-same _ _ (rw f refl))
+        | inl t ↦ inr (raised q st (ends_of q st a) p l t)
+      ]
+  state_moves (Wk q st) a p l = inl (less-lessens _ _ (less_wk h past q st (accepted_keeps h past (Wk q st) a).rule_28 p l))
+  state_moves (Cr q resp st) a p l = inl (less-lessens _ _ (less_cr h past q resp st (accepted_keeps h past (Cr q resp st) a).rule_15 p l))
+  state_moves (S q addr st) a p l = inl (less-lessens _ _ (less_s h past q addr st (accepted_keeps h past (S q addr st) a).rule_29 p l))
+  state_moves (D q addr strobe x line) a p l = inl (lessened_d h past q addr strobe x line (accepted_keeps h past (D q addr strobe x line) a).rule_32 l p)
+  state_moves _ a p l = inl (Lessens-self (state_of h past p l))
 
--- a store that names a state is of a port that may store
-pub may_store_d : (h : Header) (past : Trace) (q addr strobe : ℕ) (x : Bool) (line : Line) → k32 h past (D q addr strobe x line) ≡ true → (r l : ℕ)
-    → is_named_by_d h past q addr r l ≡ true → may_store h past r l ≡ true
-may_store_d h past q addr strobe x line k r l t =
-    let parts = and_parts (nat_eq r q && nat_eq l addr) _ t in
-    let s = stores h past q addr strobe x line k r l t in
-    let here : (may_store h past r l || ((wants_store h past r l && not x) && nat_eq strobe full_line)) ≡ true =
-    subst (λ b. (may_store h past r b || ((wants_store h past r b && not x) && nat_eq strobe full_line)) ≡ true) (sym s.line)
-    (subst (λ a. (may_store h past a addr || ((wants_store h past a addr && not x) && nat_eq strobe full_line)) ≡ true) (sym s.port) k) in
-    elim (or_cases (may_store h past r l) _ here) [
-      | inl may ↦ may
-      | inr made ↦
-          let wants = (and_parts (wants_store h past r l) (not x) (and_parts (wants_store h past r l && not x) _ made).0).0 in
-          let within : is_in_make_unique h past r l ≡ true =
-          some_issued-weaker past (λ y. awaits_store h past r l y && not (has_store h past y.port y.id)) (awaits_store h past r l)
-          (λ y e. (and_parts (awaits_store h past r l y) _ e).0) wants in
-          let bad : false ≡ true = rw within at parts.1 in cc
-    ]
+  -- a store that names a state is of a port that may store
+  pub may_store_d : (q addr strobe : ℕ) (x : Bool) (line : Line) → k32 h past (D q addr strobe x line) ≡ true → (r l : ℕ)
+      → is_named_by_d h past q addr r l ≡ true → may_store h past r l ≡ true
+  may_store_d q addr strobe x line k r l t =
+      let parts = and_parts (nat_eq r q && nat_eq l addr) _ t in
+      let s = stores h past q addr strobe x line k r l t in
+      let here : (may_store h past r l || ((wants_store h past r l && not x) && nat_eq strobe full_line)) ≡ true =
+      subst (λ b. (may_store h past r b || ((wants_store h past r b && not x) && nat_eq strobe full_line)) ≡ true) (sym s.line)
+      (subst (λ a. (may_store h past a addr || ((wants_store h past a addr && not x) && nat_eq strobe full_line)) ≡ true) (sym s.port) k) in
+      elim (or_cases (may_store h past r l) _ here) [
+        | inl may ↦ may
+        | inr made ↦
+            let wants = (and_parts (wants_store h past r l) (not x) (and_parts (wants_store h past r l && not x) _ made).0).0 in
+            let within : is_in_make_unique h past r l ≡ true =
+            some_issued-weaker past (λ y. awaits_store h past r l y && not (has_store h past y.port y.id)) (awaits_store h past r l)
+            (λ y e. (and_parts (awaits_store h past r l y) _ e).0) wants in
+            let bad : false ≡ true = rw within at parts.1 in cc
+      ]
 
--- where a line becomes dirty its port may store, or it is the RK of its read
-pub dirty_moves : (h : Header) (past : Trace) (e : Event) → IsAccepted h (e ∷ past) → (p l : ℕ) → is_dirty (state_of h past p l) ≡ false
-    → (is_dirty (state_of h (e ∷ past) p l) ≡ false) ⊎ (may_store h past p l ≡ true) ⊎ Raised h past e p l
-dirty_moves h past (Rk q st) a p l d =
-    elim (cases_Bool (is_named_by_rk past q p l)) [
-      | inr f ↦ inl (rw f d)
-      | inl t ↦ inr (inr (raised h past q st (ends_of h past q st a) p l t))
-    ]
-dirty_moves h past (Wk q st) a p l d = inl (less-clean _ _ (less_wk h past q st (accepted_keeps h past (Wk q st) a).rule_28 p l) d)
-dirty_moves h past (Cr q resp st) a p l d = inl (less-clean _ _ (less_cr h past q resp st (accepted_keeps h past (Cr q resp st) a).rule_15 p l) d)
-dirty_moves h past (S q addr st) a p l d = inl (less-clean _ _ (less_s h past q addr st (accepted_keeps h past (S q addr st) a).rule_29 p l) d)
-dirty_moves h past (D q addr strobe x line) a p l d =
-    elim (cases_Bool (is_named_by_d h past q addr p l)) [
-      | inr f ↦ inl (rw f d)
-      | inl t ↦ inr (inl (may_store_d h past q addr strobe x line (accepted_keeps h past (D q addr strobe x line) a).rule_32 p l t))
-    ]
-dirty_moves h past _ a p l d = inl d
+  -- where a line becomes dirty its port may store, or it is the RK of its read
+  pub dirty_moves : (e : Event) → IsAccepted h (e ∷ past) → (p l : ℕ) → is_dirty (state_of h past p l) ≡ false
+      → (is_dirty (state_of h (e ∷ past) p l) ≡ false) ⊎ (may_store h past p l ≡ true) ⊎ Raised e p l
+  dirty_moves (Rk q st) a p l d =
+      elim (cases_Bool (is_named_by_rk past q p l)) [
+        | inr f ↦ inl (rw f d)
+        | inl t ↦ inr (inr (raised q st (ends_of q st a) p l t))
+      ]
+  dirty_moves (Wk q st) a p l d = inl (less-clean _ _ (less_wk h past q st (accepted_keeps h past (Wk q st) a).rule_28 p l) d)
+  dirty_moves (Cr q resp st) a p l d = inl (less-clean _ _ (less_cr h past q resp st (accepted_keeps h past (Cr q resp st) a).rule_15 p l) d)
+  dirty_moves (S q addr st) a p l d = inl (less-clean _ _ (less_s h past q addr st (accepted_keeps h past (S q addr st) a).rule_29 p l) d)
+  dirty_moves (D q addr strobe x line) a p l d =
+      elim (cases_Bool (is_named_by_d h past q addr p l)) [
+        | inr f ↦ inl (rw f d)
+        | inl t ↦ inr (inl (may_store_d q addr strobe x line (accepted_keeps h past (D q addr strobe x line) a).rule_32 p l t))
+      ]
+  dirty_moves _ a p l d = inl d
 
--- an event that issues a transaction leaves the states as they are
-pub issue_leaves : (h : Header) (past : Trace) (e : Event) (x : Transaction) (p l : ℕ) → issued (length past) e ≡ Some x → state_of h (e ∷ past) p l ≡ state_of h past p l
-issue_leaves h past (Ar q i addr snoop dom bar lock) x p l s = refl
-issue_leaves h past (Aw q i addr snoop dom bar) x p l s = refl
-issue_leaves h past e x p l s = cc
+  -- an event that issues a transaction leaves the states as they are
+  pub issue_leaves : (e : Event) (x : Transaction) (p l : ℕ) → issued (length past) e ≡ Some x → state_of h (e ∷ past) p l ≡ state_of h past p l
+  issue_leaves (Ar q i addr snoop dom bar lock) x p l s = refl
+  issue_leaves (Aw q i addr snoop dom bar) x p l s = refl
+  issue_leaves e x p l s = cc
 
 -- the transaction starts where its port holds nothing
 abbrev pub starts_empty : Transaction → Bool

@@ -1,22 +1,9 @@
 -- A line that a port holds is shareable: a transaction of it was issued that isn't NoSnoop, and then each one is.
 use Rattle.std.proofs.Common.{◌⊎◌, ◌≡◌, ℕ, Bool, true, false, nat_eq, [], ◌∷◌, length, Some, None, refl, sym, ap, subst, ◌∙◌, inl, inr}
 use Rattle.std.proofs.lemmas.Bool.{and_parts, cases_Bool, eqb-true}
-use Rattle.ace_codes.specs.declared.kind.ArKind.{ArKind}
+use Rattle.ace_model.proofs.Terms.{ArKind, LineState, I, Header, Event, Rk, Wk, Cr, S, D, is_invalid, Transaction, Trace, is_no_snoop_read, is_line, is_on, is_read, issued, read_kind, write_kind}
+use Rattle.ace_model.proofs.Terms.{each_issued, state_of, k8, is_no_snoop, is_used_alike, fits_line, IsAccepted}
 use Rattle.ace_codes.specs.declared.kind.ArKind.TheVariants as read
-use Rattle.ace_codes.specs.declared.state.LineState.{LineState}
-use Rattle.ace_codes.specs.declared.state.LineState.TheVariants.{I}
-use Rattle.ace_event.specs.declared.header.Header.{Header}
-use Rattle.ace_event.specs.declared.event.Event.{Event}
-use Rattle.ace_event.specs.declared.event.Event.TheVariants.{Rk, Wk, Cr, S, D}
-use Rattle.ace_tables.specs.States.{is_invalid}
-use Rattle.ace_model.specs.declared.transactions.Transaction.{Transaction}
-use Rattle.ace_model.specs.Trace.{Trace}
-use Rattle.ace_model.specs.Kinds.{is_no_snoop_read}
-use Rattle.ace_model.specs.Transactions.{is_line, is_on, is_read, issued, read_kind, write_kind}
-use Rattle.ace_model.specs.Progress.{each_issued}
-use Rattle.ace_model.specs.States.{state_of}
-use Rattle.ace_model.specs.AddressRules.{k8, is_no_snoop, is_used_alike, fits_line}
-use Rattle.ace_model.specs.Accepted.{IsAccepted}
 use Rattle.ace_model.proofs.Trace.Growth.{IsIssued, issued-old, issued-cases, named-issued, each_issued-at}
 use Rattle.ace_model.proofs.Trace.Issued.{outstanding-named}
 use Rattle.ace_model.proofs.Rules.Keeps.{Keeps, accepted_keeps}

@@ -1,30 +1,11 @@
 -- AC and CR: a port is snooped, and answers.
 use Rattle.std.proofs.Common.{◌≡◌, ◌≢◌, ℕ, Bool, true, false, not, if◌then◌else◌, ◌&&◌, ◌||◌, nat_eq, nat_le, ◌∷◌, Some, None, length, refl, sym, ap, subst, ◌∙◌, inl, inr}
 use Rattle.std.proofs.lemmas.Bool.{and_parts, and_from, or_cases, or_right, not-true, cases_Bool, cases_eq, eqb-true, leb-true}
-use Rattle.ace_codes.specs.declared.kind.ArKind.{ArKind}
+use Rattle.ace_model.proofs.Terms.{ArKind, SnoopKind, LineState, I, SC, is_shared, passes_dirty, ac_code, ac_kind_of, Header, Ac, Cr, is_snoop_row, snoop_of_read, is_unique, is_dirty, Answer, Snoop}
+use Rattle.ace_model.proofs.Terms.{Transaction, Trace, is_some_and, is_line_snoop, takes_passed_data, read_kind, write_kind, snoop_of, snoop_kind_of, snoop_at, snoops_of, snoops_a_line, answers, answered}
+use Rattle.ace_model.proofs.Terms.{is_snoop_on, answers_line, granted, grant_place, answers_grant, was_snooped, has_failed, state_of, k13, k15, answers_by_row, has_snoop_code, may_snoop, may_snoop_for}
 use Rattle.ace_codes.specs.declared.kind.ArKind.TheVariants as read
-use Rattle.ace_codes.specs.declared.kind.SnoopKind.{SnoopKind}
 use Rattle.ace_codes.specs.declared.kind.SnoopKind.TheVariants as snoop
-use Rattle.ace_codes.specs.declared.state.LineState.{LineState}
-use Rattle.ace_codes.specs.declared.state.LineState.TheVariants.{I, SC}
-use Rattle.ace_codes.specs.Responses.{is_shared, passes_dirty}
-use Rattle.ace_codes.specs.Snoops.{ac_code, ac_kind_of}
-use Rattle.ace_event.specs.declared.header.Header.{Header}
-use Rattle.ace_event.specs.declared.event.Event.TheVariants.{Ac, Cr}
-use Rattle.ace_tables.specs.Answers.{is_snoop_row}
-use Rattle.ace_tables.specs.SnoopKinds.{snoop_of_read}
-use Rattle.ace_tables.specs.States.{is_unique, is_dirty}
-use Rattle.ace_model.specs.declared.snoops.Answer.{Answer}
-use Rattle.ace_model.specs.declared.snoops.Snoop.{Snoop}
-use Rattle.ace_model.specs.declared.transactions.Transaction.{Transaction}
-use Rattle.ace_model.specs.Trace.{Trace, is_some_and}
-use Rattle.ace_model.specs.Kinds.{is_line_snoop, takes_passed_data}
-use Rattle.ace_model.specs.Transactions.{read_kind, write_kind, snoop_of, snoop_kind_of}
-use Rattle.ace_model.specs.Snoops.{snoop_at, snoops_of, snoops_a_line, answers, answered, is_snoop_on, answers_line}
-use Rattle.ace_model.specs.Grants.{granted, grant_place, answers_grant, was_snooped}
-use Rattle.ace_model.specs.Exclusives.{has_failed}
-use Rattle.ace_model.specs.States.{state_of}
-use Rattle.ace_model.specs.SnoopRules.{k13, k15, answers_by_row, has_snoop_code, may_snoop, may_snoop_for}
 use Rattle.ace_model.proofs.Trace.Looks.{Some-injective, is_some_and-is, is_some_and-at, is_none_or-at, implies-at}
 use Rattle.ace_model.proofs.Trace.OneMore.{slice_get-more}
 use Rattle.ace_model.proofs.Tables.States.{is_settled, invalidates, shares_line, Leaves, Row, row_is}
@@ -69,76 +50,78 @@ kind_of_code snoop.MakeInvalid = refl
 kind_of_code snoop.DvmComplete = refl
 kind_of_code snoop.DvmMessage = refl
 
--- A CR that names the port's state of the line is a row of the snoop that it answers.
-pub record Answers (h : Header) (past : Trace) (resp : ℕ) (st : LineState) (r l : ℕ) : Type 0 where
-  pub snooped : Snoop
-  pub is : answered past r ≡ Some snooped
-  pub kind : SnoopKind
-  pub is_kind : ac_kind_of snooped.snoop ≡ Some kind
-  pub row : Row kind (state_of h past r l) resp st
+module _ (h : Header) (past : Trace) where
+  -- A CR that names the port's state of the line is a row of the snoop that it answers.
+  pub record Answers (resp : ℕ) (st : LineState) (r l : ℕ) : Type 0 where
+    pub snooped : Snoop
+    pub is : answered past r ≡ Some snooped
+    pub kind : SnoopKind
+    pub is_kind : ac_kind_of snooped.snoop ≡ Some kind
+    pub row : Row kind (state_of h past r l) resp st
 
-pub answers_cr : (h : Header) (past : Trace) (q resp : ℕ) (st : LineState) → k15 h past (Cr q resp st) ≡ true → (r l : ℕ) → (nat_eq r q && answers_line past r l) ≡ true
-    → Answers h past resp st r l
-answers_cr h past q resp st k r l t =
-    let parts = and_parts (nat_eq r q) _ t in
-    let port = eqb-true r q parts.0 in
-    let s = is_some_and-is (answered past r) (λ s. is_snoop_on s l) parts.1 in
-    let on = and_parts (snoops_a_line s.0.snoop) _ s.2 in
-    let kind = is_some_and-is (ac_kind_of s.0.snoop) is_line_snoop on.0 in
-    let by = is_none_or-at (answered past q) (answers_by_row h past q resp st) s.0 k (ap (answered past) (sym port) ∙ s.1) in
-    let row = is_none_or-at (ac_kind_of s.0.snoop) (λ c. is_snoop_row c (state_of h past q s.0.addr) false resp st) kind.0 by kind.1 in
-    let here : state_of h past q s.0.addr ≡ state_of h past r l =
-    ap (λ a. state_of h past a s.0.addr) (sym port) ∙ ap (state_of h past r) (eqb-true s.0.addr l on.1) in
-    record {
-      snooped = s.0;
-      is = s.1;
-      kind = kind.0;
-      is_kind = kind.1;
-      row = subst (λ v. Row kind.0 v resp st) here (row_is kind.0 (state_of h past q s.0.addr) resp st row);
-    }
+  module _ (q resp : ℕ) (st : LineState) where
+    pub answers_cr : k15 h past (Cr q resp st) ≡ true → (r l : ℕ) → (nat_eq r q && answers_line past r l) ≡ true
+        → Answers resp st r l
+    answers_cr k r l t =
+        let parts = and_parts (nat_eq r q) _ t in
+        let port = eqb-true r q parts.0 in
+        let s = is_some_and-is (answered past r) (λ s. is_snoop_on s l) parts.1 in
+        let on = and_parts (snoops_a_line s.0.snoop) _ s.2 in
+        let kind = is_some_and-is (ac_kind_of s.0.snoop) is_line_snoop on.0 in
+        let by = is_none_or-at (answered past q) (answers_by_row h past q resp st) s.0 k (ap (answered past) (sym port) ∙ s.1) in
+        let row = is_none_or-at (ac_kind_of s.0.snoop) (λ c. is_snoop_row c (state_of h past q s.0.addr) false resp st) kind.0 by kind.1 in
+        let here : state_of h past q s.0.addr ≡ state_of h past r l =
+        ap (λ a. state_of h past a s.0.addr) (sym port) ∙ ap (state_of h past r) (eqb-true s.0.addr l on.1) in
+        record {
+          snooped = s.0;
+          is = s.1;
+          kind = kind.0;
+          is_kind = kind.1;
+          row = subst (λ v. Row kind.0 v resp st) here (row_is kind.0 (state_of h past q s.0.addr) resp st row);
+        }
 
-pub less_cr : (h : Header) (past : Trace) (q resp : ℕ) (st : LineState) → k15 h past (Cr q resp st) ≡ true → (r l : ℕ)
-    → Less (state_of h past r l) (state_of h (Cr q resp st ∷ past) r l)
-less_cr h past q resp st k r l =
-    less_where (nat_eq r q && answers_line past r l) (state_of h past r l) st (λ t. (answers_cr h past q resp st k r l t).row.less)
+    pub less_cr : k15 h past (Cr q resp st) ≡ true → (r l : ℕ)
+        → Less (state_of h past r l) (state_of h (Cr q resp st ∷ past) r l)
+    less_cr k r l =
+        less_where (nat_eq r q && answers_line past r l) (state_of h past r l) st (λ t. (answers_cr k r l t).row.less)
 
--- A CR under the grant of the line is a row of the snoop that the granted transaction causes, and names the state of its port.
-pub record AnswersGrant (h : Header) (past : Trace) (q resp : ℕ) (st : LineState) (r l : ℕ) (k : SnoopKind) : Type 0 where
-  pub row : Row k (state_of h past r l) resp st
-  pub named : state_of h (Cr q resp st ∷ past) r l ≡ st
+    -- A CR under the grant of the line is a row of the snoop that the granted transaction causes, and names the state of its port.
+    pub record AnswersGrant (r l : ℕ) (k : SnoopKind) : Type 0 where
+      pub row : Row k (state_of h past r l) resp st
+      pub named : state_of h (Cr q resp st ∷ past) r l ≡ st
 
-pub answers_grant_cr : (h : Header) (past : Trace) (q resp : ℕ) (st : LineState) → Inductive h past → k15 h past (Cr q resp st) ≡ true
-    → (r l : ℕ) (x : Transaction) (k : SnoopKind) → (nat_eq r q && answers_grant past r l) ≡ true → granted h past l ≡ Some x → snoop_of x ≡ Some k
-    → AnswersGrant h past q resp st r l k
-answers_grant_cr h past q resp st f k15 r l x k t g causes =
-    let parts = and_parts (nat_eq r q) _ t in
-    let s = is_some_and-is (answered past r) (λ s. is_snoop_on s l && nat_le (grant_place past l) s.place) parts.1 in
-    let under = and_parts (is_snoop_on s.0 l) _ s.2 in
-    let line : answers_line past r l ≡ true = rw s.1 under.0 in
-    let here : (nat_eq r q && answers_line past r l) ≡ true = and_from _ _ parts.0 line in
-    let a = answers_cr h past q resp st k15 r l here in
-    let code = f.snoops r (answers past r) l s.0 x s.1 under.0 (leb-true (grant_place past l) s.0.place under.1) g in
-    let same_code : nat_eq (ac_code k) s.0.snoop ≡ true = subst (λ o. is_some_and o (λ c. nat_eq (ac_code c) s.0.snoop) ≡ true) causes code in
-    let one : s.0 ≡ a.snooped = Some-injective s.0 a.snooped (sym s.1 ∙ a.is) in
-    let kinds : Some k ≡ Some a.kind =
-    sym (kind_of_code k) ∙ ap ac_kind_of (eqb-true (ac_code k) s.0.snoop same_code) ∙ ap (λ (v : Snoop). ac_kind_of v.snoop) one ∙ a.is_kind in
-    record {
-      row = subst (λ c. Row c (state_of h past r l) resp st) (sym (Some-injective k a.kind kinds)) a.row;
-      named = rw here refl;
-    }
+    pub answers_grant_cr : Inductive h past → k15 h past (Cr q resp st) ≡ true
+        → (r l : ℕ) (x : Transaction) (k : SnoopKind) → (nat_eq r q && answers_grant past r l) ≡ true → granted h past l ≡ Some x → snoop_of x ≡ Some k
+        → AnswersGrant r l k
+    answers_grant_cr f k15 r l x k t g causes =
+        let parts = and_parts (nat_eq r q) _ t in
+        let s = is_some_and-is (answered past r) (λ s. is_snoop_on s l && nat_le (grant_place past l) s.place) parts.1 in
+        let under = and_parts (is_snoop_on s.0 l) _ s.2 in
+        let line : answers_line past r l ≡ true = rw s.1 under.0 in
+        let here : (nat_eq r q && answers_line past r l) ≡ true = and_from _ _ parts.0 line in
+        let a = answers_cr k15 r l here in
+        let code = f.snoops r (answers past r) l s.0 x s.1 under.0 (leb-true (grant_place past l) s.0.place under.1) g in
+        let same_code : nat_eq (ac_code k) s.0.snoop ≡ true = subst (λ o. is_some_and o (λ c. nat_eq (ac_code c) s.0.snoop) ≡ true) causes code in
+        let one : s.0 ≡ a.snooped = Some-injective s.0 a.snooped (sym s.1 ∙ a.is) in
+        let kinds : Some k ≡ Some a.kind =
+        sym (kind_of_code k) ∙ ap ac_kind_of (eqb-true (ac_code k) s.0.snoop same_code) ∙ ap (λ (v : Snoop). ac_kind_of v.snoop) one ∙ a.is_kind in
+        record {
+          row = subst (λ c. Row c (state_of h past r l) resp st) (sym (Some-injective k a.kind kinds)) a.row;
+          named = rw here refl;
+        }
 
-pub answers_fit_cr : (h : Header) (past : Trace) (q resp : ℕ) (st : LineState) → Inductive h past → k15 h past (Cr q resp st) ≡ true → AnswersFit h (Cr q resp st ∷ past)
-answers_fit_cr h past q resp st f m l r x a k g w causes =
-    elim (cases_Bool (nat_eq r q && answers_grant past r l)) [
-      | inl t ↦
-          let now = answers_grant_cr h past q resp st f m r l x k t g causes in
-          let is : Some (record { place = length past; resp = resp; bursts = _ }) ≡ Some a = rw t at w in
-          let same : resp ≡ a.resp = ap (λ (v : Answer). v.resp) (Some-injective _ a is) in
-          subst (λ v. Leaves k (is_shared a.resp) v) (sym now.named) (subst (λ n. Leaves k (is_shared n) st) same now.row.leaves)
-      | inr other ↦
-          leaves_kept k (is_shared a.resp) (state_of h past r l) _ (less-lessens _ _ (less_cr h past q resp st m r l))
-          (f.answers l r x a k g (rw other at w) causes)
-    ]
+    pub answers_fit_cr : Inductive h past → k15 h past (Cr q resp st) ≡ true → AnswersFit h (Cr q resp st ∷ past)
+    answers_fit_cr f m l r x a k g w causes =
+        elim (cases_Bool (nat_eq r q && answers_grant past r l)) [
+          | inl t ↦
+              let now = answers_grant_cr f m r l x k t g causes in
+              let is : Some (record { place = length past; resp = resp; bursts = _ }) ≡ Some a = rw t at w in
+              let same : resp ≡ a.resp = ap (λ (v : Answer). v.resp) (Some-injective _ a is) in
+              subst (λ v. Leaves k (is_shared a.resp) v) (sym now.named) (subst (λ n. Leaves k (is_shared n) st) same now.row.leaves)
+          | inr other ↦
+              leaves_kept k (is_shared a.resp) (state_of h past r l) _ (less-lessens _ _ (less_cr m r l))
+              (f.answers l r x a k g (rw other at w) causes)
+        ]
 
 pub settled : (st : LineState) → is_unique st ≡ false → is_dirty st ≡ false → is_settled st ≡ true
 settled I u d = refl

@@ -1,20 +1,8 @@
 -- Where an event lessens the states that the ports hold, the facts stay.
 use Rattle.std.proofs.Common.{◌≡◌, ℕ, Bool, true, false, if◌then◌else◌, ◌&&◌, ◌∷◌, Some, None, unwrap_or, refl, sym, ap, ◌∙◌, inl, inr}
 use Rattle.std.proofs.lemmas.Bool.{and_parts, cases_Bool}
-use Rattle.ace_codes.specs.declared.kind.SnoopKind.{SnoopKind}
-use Rattle.ace_codes.specs.declared.state.LineState.{LineState}
-use Rattle.ace_codes.specs.declared.state.LineState.TheVariants.{I, UC, UD, SC, SD}
-use Rattle.ace_codes.specs.Responses.{passes_dirty, is_shared}
-use Rattle.ace_event.specs.declared.header.Header.{Header}
-use Rattle.ace_event.specs.declared.event.Event.{Event}
-use Rattle.ace_model.specs.declared.transactions.Transaction.{Transaction}
-use Rattle.ace_model.specs.Trace.{Trace, is_some_and}
-use Rattle.ace_tables.specs.States.{is_unique, is_dirty}
-use Rattle.ace_model.specs.Transactions.{first_resp}
-use Rattle.ace_model.specs.Grants.{granted}
-use Rattle.ace_model.specs.Exclusives.{has_failed}
-use Rattle.ace_model.specs.States.{state_of}
-use Rattle.ace_model.specs.Unique.{UniqueNow, OneDirtyNow}
+use Rattle.ace_model.proofs.Terms.{SnoopKind, LineState, I, UC, UD, SC, SD, passes_dirty, is_shared, Header, Event, Transaction, Trace, is_some_and, is_unique, is_dirty, first_resp, granted, has_failed}
+use Rattle.ace_model.proofs.Terms.{state_of, UniqueNow, OneDirtyNow}
 use Rattle.ace_model.proofs.Tables.States.{lessens, cleans, Lessens, lessens-is, not_more, Leaves}
 use Rattle.ace_model.proofs.Tables.ReadEnds.{takes_alone}
 use Rattle.ace_model.proofs.Holders.Facts.{Arrives, OutsideInvalid}
@@ -56,39 +44,40 @@ leaves_kept k shared old new less leaves = record {
   not_unique = λ t. less.not_unique (leaves.not_unique t);
 }
 
-pub arrives_kept : (h : Header) (past : Trace) (e : Event) (p i : ℕ) (x : Transaction) → granted h (e ∷ past) x.addr ≡ Some x
-    → first_resp (e ∷ past) p i ≡ first_resp past p i → has_failed (e ∷ past) x ≡ has_failed past x → LessenedAt h past e x.addr
-    → Arrives h past p i x → Arrives h (e ∷ past) p i x
-arrives_kept h past e p i x g first failed less a = record {
-  stands = g;
-  alone = λ k is t r ne. (less r).gone
-      (a.alone k is
-      (sym (ap (λ o. takes_alone k (is_some_and o is_shared) (has_failed past x)) first)
-      ∙ sym (ap (λ b. takes_alone k (is_some_and (first_resp (e ∷ past) p i) is_shared) b) failed)
-      ∙ t)
-      r ne);
-  beside = λ k is t r ne. (less r).not_unique (a.beside k is t r ne);
-  dirty = λ t r. (less r).settled (a.dirty (sym (ap (λ o. is_some_and o passes_dirty) first) ∙ t) r);
-}
+module _ (h : Header) (past : Trace) where
+  pub arrives_kept : (e : Event) (p i : ℕ) (x : Transaction) → granted h (e ∷ past) x.addr ≡ Some x
+      → first_resp (e ∷ past) p i ≡ first_resp past p i → has_failed (e ∷ past) x ≡ has_failed past x → LessenedAt h past e x.addr
+      → Arrives h past p i x → Arrives h (e ∷ past) p i x
+  arrives_kept e p i x g first failed less a = record {
+    stands = g;
+    alone = λ k is t r ne. (less r).gone
+        (a.alone k is
+        (sym (ap (λ o. takes_alone k (is_some_and o is_shared) (has_failed past x)) first)
+        ∙ sym (ap (λ b. takes_alone k (is_some_and (first_resp (e ∷ past) p i) is_shared) b) failed)
+        ∙ t)
+        r ne);
+    beside = λ k is t r ne. (less r).not_unique (a.beside k is t r ne);
+    dirty = λ t r. (less r).settled (a.dirty (sym (ap (λ o. is_some_and o passes_dirty) first) ∙ t) r);
+  }
 
-pub unique_kept : (h : Header) (past : Trace) (e : Event) → ((l : ℕ) → LessenedAt h past e l) → UniqueNow h past → UniqueNow h (e ∷ past)
-unique_kept h past e less f l p q u ne =
-    elim (cases_Bool (is_unique (state_of h past p l))) [
-      | inl t ↦ (less l q).gone (f l p q t ne)
-      | inr not_before ↦ let not_now = (less l p).not_unique not_before in cc
-    ]
+  pub unique_kept : (e : Event) → ((l : ℕ) → LessenedAt h past e l) → UniqueNow h past → UniqueNow h (e ∷ past)
+  unique_kept e less f l p q u ne =
+      elim (cases_Bool (is_unique (state_of h past p l))) [
+        | inl t ↦ (less l q).gone (f l p q t ne)
+        | inr not_before ↦ let not_now = (less l p).not_unique not_before in cc
+      ]
 
-pub outside_kept : (h : Header) (past : Trace) (e : Event) → ((l : ℕ) → LessenedAt h past e l) → OutsideInvalid h past → OutsideInvalid h (e ∷ past)
-outside_kept h past e less f q l o = (less l q).gone (f q l o)
+  pub outside_kept : (e : Event) → ((l : ℕ) → LessenedAt h past e l) → OutsideInvalid h past → OutsideInvalid h (e ∷ past)
+  outside_kept e less f q l o = (less l q).gone (f q l o)
 
-pub one_dirty_kept : (h : Header) (past : Trace) (e : Event)
-    → ((r l : ℕ) → is_dirty (state_of h past r l) ≡ false → is_dirty (state_of h (e ∷ past) r l) ≡ false)
-    → OneDirtyNow h past → OneDirtyNow h (e ∷ past)
-one_dirty_kept h past e clean f l p q dp dq = f l p q (was p dp) (was q dq)
-  where
-    was : (r : ℕ) → is_dirty (state_of h (e ∷ past) r l) ≡ true → is_dirty (state_of h past r l) ≡ true
-    was r d =
-        elim (cases_Bool (is_dirty (state_of h past r l))) [
-          | inl t ↦ t
-          | inr not_before ↦ let not_now = clean r l not_before in cc
-        ]
+  pub one_dirty_kept : (e : Event)
+      → ((r l : ℕ) → is_dirty (state_of h past r l) ≡ false → is_dirty (state_of h (e ∷ past) r l) ≡ false)
+      → OneDirtyNow h past → OneDirtyNow h (e ∷ past)
+  one_dirty_kept e clean f l p q dp dq = f l p q (was p dp) (was q dq)
+    where
+      was : (r : ℕ) → is_dirty (state_of h (e ∷ past) r l) ≡ true → is_dirty (state_of h past r l) ≡ true
+      was r d =
+          elim (cases_Bool (is_dirty (state_of h past r l))) [
+            | inl t ↦ t
+            | inr not_before ↦ let not_now = clean r l not_before in cc
+          ]

@@ -1,19 +1,8 @@
 -- S and D: a silent transition, and a store.
 use Rattle.std.proofs.Common.{◌≡◌, ℕ, Bool, true, false, not, if◌then◌else◌, ◌&&◌, ◌||◌, nat_eq, [], ◌∷◌, length, Option, Some, None, unwrap_or, refl, sym, ap, subst, ◌∙◌, inl, inr}
 use Rattle.std.proofs.lemmas.Bool.{and_parts, or_cases, or_right, cases_Bool, cases_eq, eqb-true}
-use Rattle.ace_codes.specs.declared.state.LineState.{LineState}
-use Rattle.ace_codes.specs.declared.state.LineState.TheVariants.{I, UC, UD}
-use Rattle.ace_event.specs.declared.header.Header.{Header}
-use Rattle.ace_event.specs.declared.line.Line.{Line}
-use Rattle.ace_event.specs.declared.event.Event.TheVariants.{S, D}
-use Rattle.ace_model.specs.declared.transactions.Transaction.{Transaction}
-use Rattle.ace_model.specs.Trace.{Trace, is_some_and}
-use Rattle.ace_tables.specs.SilentTransitions.{is_silent_move}
-use Rattle.ace_tables.specs.States.{is_unique, is_dirty}
-use Rattle.ace_model.specs.Transactions.{issued, some_issued}
-use Rattle.ace_model.specs.States.{state_of, awaits_store, is_in_make_unique, has_store}
-use Rattle.ace_model.specs.Unique.{UniqueNow, OneDirtyNow}
-use Rattle.ace_model.specs.CacheRules.{k29, k32, may_store, wants_store, full_line}
+use Rattle.ace_model.proofs.Terms.{LineState, I, UC, UD, Header, Line, S, D, Transaction, Trace, is_some_and, is_silent_move, is_unique, is_dirty, issued, some_issued, state_of, awaits_store}
+use Rattle.ace_model.proofs.Terms.{is_in_make_unique, has_store, UniqueNow, OneDirtyNow, k29, k32, may_store, wants_store, full_line}
 use Rattle.ace_model.proofs.Tables.States.{lessens, Lessens, Lessens-self, lessens-is, silent_lessens}
 use Rattle.ace_model.proofs.Holders.States.{Less, less_where, LessenedAt}
 use Rattle.ace_model.proofs.Holders.Facts.{Inductive}

@@ -1,9 +1,5 @@
 -- In a trace that the rules of today accept a unique line has one holder.
-use Rattle.ace_event.specs.declared.header.Header.{Header}
-use Rattle.ace_model.specs.Trace.{Trace}
-use Rattle.ace_model.specs.Accepted.{IsAcceptedBy}
-use Rattle.ace_model.specs.Today.{rules_today}
-use Rattle.ace_model.specs.Unique.{Unique}
+use Rattle.ace_model.proofs.Terms.{Header, Trace, IsAcceptedBy, rules_today, Unique}
 use Rattle.ace_model.proofs.Holders.RestsOn.{of_accepted_today}
 use Rattle.ace_model.proofs.Holders.Law.{unique_of}
 

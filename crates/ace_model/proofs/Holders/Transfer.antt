@@ -1,20 +1,9 @@
 -- R: a transfer of a read.
 use Rattle.std.proofs.Common.{◌≡◌, ◌⊎◌, ◌==◌, ℕ, ◌+◌, ◌<◌, ◌≤◌, Bool, true, false, if◌then◌else◌, not, ◌&&◌, nat_eq, nat_lt, ◌∷◌, Some, None, length, slice_get, refl, sym, ap, subst, ◌∙◌, arith, inl, inr}
 use Rattle.std.proofs.lemmas.Bool.{and_parts, and_from, cases_Bool, cases_eq, eqb-true, eq-eqb, ne_eqb, ltb-true}
-use Rattle.ace_codes.specs.declared.kind.ArKind.{ArKind}
-use Rattle.ace_codes.specs.Responses.{passes_dirty, is_shared}
-use Rattle.ace_event.specs.declared.header.Header.{Header}
-use Rattle.ace_event.specs.declared.event.Channel.{Channel}
-use Rattle.ace_event.specs.declared.event.Channel.TheVariants.{Read}
-use Rattle.ace_event.specs.declared.event.Event.TheVariants.{R}
-use Rattle.ace_model.specs.declared.transactions.Transaction.{Transaction}
-use Rattle.ace_model.specs.Trace.{Trace, implies, is_some_and}
-use Rattle.ace_model.specs.Kinds.{beats_of}
-use Rattle.ace_model.specs.Transactions.{is_ace, read_kind, is_line, ended, transaction_of, outstanding, transfers, first_resp, completed, completes, acknowledgements}
-use Rattle.ace_model.specs.Grants.{granted, is_granted, has_passed_data}
-use Rattle.ace_model.specs.Exclusives.{has_failed}
-use Rattle.ace_model.specs.States.{state_of, are_snoops_done}
-use Rattle.ace_model.specs.ReadRules.{k18, k19, is_due, is_next_transfer, may_transfer, takes_passed, has_upper_bits}
+use Rattle.ace_model.proofs.Terms.{ArKind, passes_dirty, is_shared, Header, Channel, Read, R, Transaction, Trace, implies, is_some_and, beats_of, is_ace, read_kind, is_line, ended, transaction_of}
+use Rattle.ace_model.proofs.Terms.{outstanding, transfers, first_resp, completed, completes, acknowledgements, granted, is_granted, has_passed_data, has_failed, state_of, are_snoops_done, k18, k19, is_due}
+use Rattle.ace_model.proofs.Terms.{is_next_transfer, may_transfer, takes_passed, has_upper_bits}
 use Rattle.ace_model.proofs.Trace.Looks.{Some-injective, is_some_and-is, is_none_or-at, implies-at, same_test-at, has_name-is, without-other}
 use Rattle.ace_model.proofs.Trace.Issued.{same_place, outstanding-named, transaction_of-stands}
 use Rattle.ace_model.proofs.Trace.OneMore.{slice_get-more}
@@ -25,144 +14,146 @@ use Rattle.ace_model.proofs.Holders.Ends.{was_there, arrives_ended, one_name}
 use Rattle.ace_model.proofs.Holders.FirstTransfer.{IsFirst, first_alone, first_beside, first_dirty}
 use Rattle.ace_model.proofs.Holders.Facts.{Arrives, TransfersArrive, QueueStands, QueueDistinct, Inductive}
 
--- what the rule on transfers says of the read that the event names
-pub record MayTransfer (h : Header) (past : Trace) (q j resp : ℕ) (last : Bool) : Type 0 where
-  pub one : Transaction
-  pub out : outstanding h past q Read j ≡ Some one
-  pub named : transaction_of past q Read j ≡ Some one
-  pub port : one.port ≡ q
-  pub id : one.id ≡ j
-  pub kind : ArKind
-  pub is_kind : read_kind one ≡ Some kind
-  pub few : transfers past q j < beats_of kind
-  pub ends : last ≡ true → transfers past q j + 1 ≡ beats_of kind
-  pub may : is_line one ≡ true → may_transfer h past one resp ≡ true
+module _ (h : Header) (past : Trace) where
+  -- what the rule on transfers says of the read that the event names
+  pub record MayTransfer (q j resp : ℕ) (last : Bool) : Type 0 where
+    pub one : Transaction
+    pub out : outstanding h past q Read j ≡ Some one
+    pub named : transaction_of past q Read j ≡ Some one
+    pub port : one.port ≡ q
+    pub id : one.id ≡ j
+    pub kind : ArKind
+    pub is_kind : read_kind one ≡ Some kind
+    pub few : transfers past q j < beats_of kind
+    pub ends : last ≡ true → transfers past q j + 1 ≡ beats_of kind
+    pub may : is_line one ≡ true → may_transfer h past one resp ≡ true
 
-pub may : (h : Header) (past : Trace) (q j resp : ℕ) (last : Bool) (word : ℕ) → k18 h past (R q j resp last word) ≡ true → MayTransfer h past q j resp last
-may h past q j resp last word k =
-    let o = is_some_and-is (outstanding h past q Read j) (is_due h past resp last) k in
-    let x = o.0 in
-    let named = outstanding-named h past q Read j x o.1 in
-    let name = has_name-is x q Read j (transaction_of-stands past q Read j x named).named in
-    let due = and_parts (is_some_and (read_kind x) (is_next_transfer past x last)) _ o.2 in
-    let kind = is_some_and-is (read_kind x) (is_next_transfer past x last) due.0 in
-    let beats = and_parts (nat_lt (transfers past x.port x.id) (beats_of kind.0)) _ kind.2 in
-    let same : transfers past x.port x.id ≡ transfers past q j = ap (λ a. transfers past a x.id) name.port ∙ ap (transfers past q) name.id in
-    record {
-      one = x;
-      out = o.1;
-      named = named;
-      port = name.port;
-      id = name.id;
-      kind = kind.0;
-      is_kind = kind.1;
-      few = subst (λ n. n < beats_of kind.0) same (ltb-true (transfers past x.port x.id) (beats_of kind.0) beats.0);
-      ends = λ e. ap (λ n. n + 1) (sym same) ∙ eqb-true (transfers past x.port x.id + 1) (beats_of kind.0) (sym (same_test-at last _ beats.1) ∙ e);
-      may = λ line. implies-at (is_line x) (may_transfer h past x resp) due.1 line;
-    }
+  pub may : (q j resp : ℕ) (last : Bool) (word : ℕ) → k18 h past (R q j resp last word) ≡ true → MayTransfer q j resp last
+  may q j resp last word k =
+      let o = is_some_and-is (outstanding h past q Read j) (is_due h past resp last) k in
+      let x = o.0 in
+      let named = outstanding-named h past q Read j x o.1 in
+      let name = has_name-is x q Read j (transaction_of-stands past q Read j x named).named in
+      let due = and_parts (is_some_and (read_kind x) (is_next_transfer past x last)) _ o.2 in
+      let kind = is_some_and-is (read_kind x) (is_next_transfer past x last) due.0 in
+      let beats = and_parts (nat_lt (transfers past x.port x.id) (beats_of kind.0)) _ kind.2 in
+      let same : transfers past x.port x.id ≡ transfers past q j = ap (λ a. transfers past a x.id) name.port ∙ ap (transfers past q) name.id in
+      record {
+        one = x;
+        out = o.1;
+        named = named;
+        port = name.port;
+        id = name.id;
+        kind = kind.0;
+        is_kind = kind.1;
+        few = subst (λ n. n < beats_of kind.0) same (ltb-true (transfers past x.port x.id) (beats_of kind.0) beats.0);
+        ends = λ e. ap (λ n. n + 1) (sym same) ∙ eqb-true (transfers past x.port x.id + 1) (beats_of kind.0) (sym (same_test-at last _ beats.1) ∙ e);
+        may = λ line. implies-at (is_line x) (may_transfer h past x resp) due.1 line;
+      }
 
--- the granted transaction at its place is the one itself
-pub granted_one : (h : Header) (past : Trace) (q : ℕ) (c : Channel) (j : ℕ) (x : Transaction) → Inductive h past → transaction_of past q c j ≡ Some x → is_granted h past x ≡ true
-    → granted h past x.addr ≡ Some x
-granted_one h past q c j x f named g =
-    let y = is_some_and-is (granted h past x.addr) (λ z. nat_eq z.place x.place) g in
-    let s = f.grants x.addr y.0 y.1 in
-    let one : y.0 ≡ x = same_place past y.0.port q y.0.chan c y.0.id j y.0 x (outstanding-named h past y.0.port y.0.chan y.0.id y.0 s.0) named (eqb-true y.0.place x.place y.2) in
-    y.1 ∙ ap Some one
+  -- the granted transaction at its place is the one itself
+  pub granted_one : (q : ℕ) (c : Channel) (j : ℕ) (x : Transaction) → Inductive h past → transaction_of past q c j ≡ Some x → is_granted h past x ≡ true
+      → granted h past x.addr ≡ Some x
+  granted_one q c j x f named g =
+      let y = is_some_and-is (granted h past x.addr) (λ z. nat_eq z.place x.place) g in
+      let s = f.grants x.addr y.0 y.1 in
+      let one : y.0 ≡ x = same_place past y.0.port q y.0.chan c y.0.id j y.0 x (outstanding-named h past y.0.port y.0.chan y.0.id y.0 s.0) named (eqb-true y.0.place x.place y.2) in
+      y.1 ∙ ap Some one
 
--- the transaction that a transfer ends is the read of a port that is no ACE port
-pub ends_lite : (h : Header) (past : Trace) (q j resp : ℕ) (last : Bool) (word : ℕ) (z : Transaction) → ended h past (R q j resp last word) ≡ Some z
-    → (is_ace h q ≡ false) × (transaction_of past q Read j ≡ Some z)
-ends_lite h past q j resp last word z e = lite last (is_ace h q) e
-  where
-    lite : (l b : Bool) → (if l && not b then transaction_of past q Read j else None) ≡ Some z → (b ≡ false) × (transaction_of past q Read j ≡ Some z)
-    lite true false e = (refl, e)
-    lite l b e = cc
+  module _ (q j resp : ℕ) (last : Bool) (word : ℕ) where
+    -- the transaction that a transfer ends is the read of a port that is no ACE port
+    pub ends_lite : (z : Transaction) → ended h past (R q j resp last word) ≡ Some z
+        → (is_ace h q ≡ false) × (transaction_of past q Read j ≡ Some z)
+    ends_lite z e = lite last (is_ace h q) e
+      where
+        lite : (l b : Bool) → (if l && not b then transaction_of past q Read j else None) ≡ Some z → (b ≡ false) × (transaction_of past q Read j ≡ Some z)
+        lite true false e = (refl, e)
+        lite l b e = cc
 
--- a read of an ACE port stays outstanding
-pub stays_r : (h : Header) (past : Trace) (q j resp : ℕ) (last : Bool) (word p i : ℕ) (x : Transaction) → is_ace h p ≡ true → outstanding h past p Read i ≡ Some x
-    → outstanding h (R q j resp last word ∷ past) p Read i ≡ Some x
-stays_r h past q j resp last word p i x ace o =
-    without-other (ended h past (R q j resp last word)) (outstanding h past p Read i) x o (λ z is same.
-    let lite = ends_lite h past q j resp last word z is in
-    let port = (one_name past q p Read Read j i z x lite.1 (outstanding-named h past p Read i x o) same).port in
-    let isnt : is_ace h p ≡ false = ap (is_ace h) (sym port) ∙ lite.0 in cc)
+    -- a read of an ACE port stays outstanding
+    pub stays_r : (p i : ℕ) (x : Transaction) → is_ace h p ≡ true → outstanding h past p Read i ≡ Some x
+        → outstanding h (R q j resp last word ∷ past) p Read i ≡ Some x
+    stays_r p i x ace o =
+        without-other (ended h past (R q j resp last word)) (outstanding h past p Read i) x o (λ z is same.
+        let lite = ends_lite z is in
+        let port = (one_name past q p Read Read j i z x lite.1 (outstanding-named h past p Read i x o) same).port in
+        let isnt : is_ace h p ≡ false = ap (is_ace h) (sym port) ∙ lite.0 in cc)
 
--- the read of the transfer, at an ACE port
-arrive_here : (h : Header) (past : Trace) (q j resp : ℕ) (last : Bool) (word : ℕ) → Inductive h past → k19 h past (R q j resp last word) ≡ true
-    → (m : MayTransfer h past q j resp last) → is_ace h q ≡ true → is_line m.one ≡ true → Arrives h (R q j resp last word ∷ past) q j m.one
-arrive_here h past q j resp last word f bits m ace line =
-    elim (cases_eq (transfers past q j) 0) [
-      | inr later ↦
-          arrives_kept h past (R q j resp last word) q j m.one stands (rw (not_first (nat_eq q q && nat_eq j j) (ne_eqb (transfers past q j) 0 later)) refl) refl
-          (λ r. Lessens-self (state_of h past r m.one.addr)) (f.arrive q j m.one ace m.out line later)
-      | inl zero_before ↦
-          let first : first_resp (R q j resp last word ∷ past) q j ≡ Some resp =
-          rw (and_from _ _ (and_from _ _ (eq-eqb q q (refl {a = q})) (eq-eqb j j (refl {a = j}))) (eq-eqb (transfers past q j) 0 zero_before)) refl in
-          let d = is_first zero_before in
-          record {
-            stands = stands;
-            alone = λ k is t.
-                let same : k ≡ m.kind = Some-injective k m.kind (sym is ∙ m.is_kind) in
-                let taken : takes_alone m.kind (is_shared resp) (has_failed past m.one) ≡ true =
-                subst (λ c. takes_alone c (is_shared resp) (has_failed past m.one) ≡ true) same
-                (subst (λ o. takes_alone k (is_some_and o is_shared) (has_failed past m.one) ≡ true) first t) in
-                λ r ne. first_alone h past m.one m.kind resp f d taken r (λ e. ne (sym m.port ∙ e));
-            beside = λ k is t r ne.
-                let same : k ≡ m.kind = Some-injective k m.kind (sym is ∙ m.is_kind) in
-                first_beside h past m.one m.kind resp f d (rw (sym same) t) r (λ e. ne (sym m.port ∙ e));
-            dirty = λ t. first_dirty h past m.one m.kind resp f d (subst (λ o. is_some_and o passes_dirty ≡ true) first t);
-          }
-    ]
-  where
-    parts : (is_granted h past m.one && implies (nat_eq (transfers past m.one.port m.one.id) 0) (are_snoops_done h past m.one) ≡ true)
-        × (implies (has_passed_data h past m.one) (takes_passed h past m.one resp) ≡ true)
-    parts = and_parts (is_granted h past m.one && implies (nat_eq (transfers past m.one.port m.one.id) 0) (are_snoops_done h past m.one)) _ (m.may line)
+    -- the read of the transfer, at an ACE port
+    arrive_here : Inductive h past → k19 h past (R q j resp last word) ≡ true
+        → (m : MayTransfer q j resp last) → is_ace h q ≡ true → is_line m.one ≡ true → Arrives h (R q j resp last word ∷ past) q j m.one
+    arrive_here f bits m ace line =
+        elim (cases_eq (transfers past q j) 0) [
+          | inr later ↦
+              arrives_kept h past (R q j resp last word) q j m.one stands (rw (not_first (nat_eq q q && nat_eq j j) (ne_eqb (transfers past q j) 0 later)) refl) refl
+              (λ r. Lessens-self (state_of h past r m.one.addr)) (f.arrive q j m.one ace m.out line later)
+          | inl zero_before ↦
+              let first : first_resp (R q j resp last word ∷ past) q j ≡ Some resp =
+              rw (and_from _ _ (and_from _ _ (eq-eqb q q (refl {a = q})) (eq-eqb j j (refl {a = j}))) (eq-eqb (transfers past q j) 0 zero_before)) refl in
+              let d = is_first zero_before in
+              record {
+                stands = stands;
+                alone = λ k is t.
+                    let same : k ≡ m.kind = Some-injective k m.kind (sym is ∙ m.is_kind) in
+                    let taken : takes_alone m.kind (is_shared resp) (has_failed past m.one) ≡ true =
+                    subst (λ c. takes_alone c (is_shared resp) (has_failed past m.one) ≡ true) same
+                    (subst (λ o. takes_alone k (is_some_and o is_shared) (has_failed past m.one) ≡ true) first t) in
+                    λ r ne. first_alone h past m.one m.kind resp f d taken r (λ e. ne (sym m.port ∙ e));
+                beside = λ k is t r ne.
+                    let same : k ≡ m.kind = Some-injective k m.kind (sym is ∙ m.is_kind) in
+                    first_beside h past m.one m.kind resp f d (rw (sym same) t) r (λ e. ne (sym m.port ∙ e));
+                dirty = λ t. first_dirty h past m.one m.kind resp f d (subst (λ o. is_some_and o passes_dirty ≡ true) first t);
+              }
+        ]
+      where
+        parts : (is_granted h past m.one && implies (nat_eq (transfers past m.one.port m.one.id) 0) (are_snoops_done h past m.one) ≡ true)
+            × (implies (has_passed_data h past m.one) (takes_passed h past m.one resp) ≡ true)
+        parts = and_parts (is_granted h past m.one && implies (nat_eq (transfers past m.one.port m.one.id) 0) (are_snoops_done h past m.one)) _ (m.may line)
 
-    stood : granted h past m.one.addr ≡ Some m.one
-    stood = granted_one h past q Read j m.one f m.named (and_parts (is_granted h past m.one) _ parts.0).0
+        stood : granted h past m.one.addr ≡ Some m.one
+        stood = granted_one q Read j m.one f m.named (and_parts (is_granted h past m.one) _ parts.0).0
 
-    stands : granted h (R q j resp last word ∷ past) m.one.addr ≡ Some m.one
-    stands =
-        without-other (ended h past (R q j resp last word)) (granted h past m.one.addr) m.one stood (λ z is same.
-        let isnt = (ends_lite h past q j resp last word z is).0 in cc)
+        stands : granted h (R q j resp last word ∷ past) m.one.addr ≡ Some m.one
+        stands =
+            without-other (ended h past (R q j resp last word)) (granted h past m.one.addr) m.one stood (λ z is same.
+            let isnt = (ends_lite z is).0 in cc)
 
-    not_first : (b : Bool) → nat_eq (transfers past q j) 0 ≡ false → (b && nat_eq (transfers past q j) 0) ≡ false
-    not_first true e = e
-    not_first false e = refl
+        not_first : (b : Bool) → nat_eq (transfers past q j) 0 ≡ false → (b && nat_eq (transfers past q j) 0) ≡ false
+        not_first true e = e
+        not_first false e = refl
 
-    is_first : transfers past q j ≡ 0 → IsFirst h past m.one m.kind resp
-    is_first z =
-        let same : transfers past m.one.port m.one.id ≡ transfers past q j = ap (λ a. transfers past a m.one.id) m.port ∙ ap (transfers past q) m.id in
-        record {
-          ace = ap (is_ace h) m.port ∙ ace;
-          kind = m.is_kind;
-          stands = stood;
-          done = implies-at (nat_eq (transfers past m.one.port m.one.id) 0) (are_snoops_done h past m.one)
-              (and_parts (is_granted h past m.one) _ parts.0).1 (eq-eqb (transfers past m.one.port m.one.id) 0 (same ∙ z));
-          takes = implies-at (has_passed_data h past m.one) (takes_passed h past m.one resp) parts.1;
-          bits = is_none_or-at (outstanding h past q Read j) (has_upper_bits h past resp) m.one bits m.out;
-        }
+        is_first : transfers past q j ≡ 0 → IsFirst h past m.one m.kind resp
+        is_first z =
+            let same : transfers past m.one.port m.one.id ≡ transfers past q j = ap (λ a. transfers past a m.one.id) m.port ∙ ap (transfers past q) m.id in
+            record {
+              ace = ap (is_ace h) m.port ∙ ace;
+              kind = m.is_kind;
+              stands = stood;
+              done = implies-at (nat_eq (transfers past m.one.port m.one.id) 0) (are_snoops_done h past m.one)
+                  (and_parts (is_granted h past m.one) _ parts.0).1 (eq-eqb (transfers past m.one.port m.one.id) 0 (same ∙ z));
+              takes = implies-at (has_passed_data h past m.one) (takes_passed h past m.one resp) parts.1;
+              bits = is_none_or-at (outstanding h past q Read j) (has_upper_bits h past resp) m.one bits m.out;
+            }
 
-pub arrive_r : (h : Header) (past : Trace) (q j resp : ℕ) (last : Bool) (word : ℕ) → Inductive h past → k19 h past (R q j resp last word) ≡ true
-    → MayTransfer h past q j resp last → TransfersArrive h (R q j resp last word ∷ past)
-arrive_r h past q j resp last word f bits m p i x ace o line some =
-    let was = was_there (ended h past (R q j resp last word)) (outstanding h past p Read i) x o in
-    elim (cases_Bool (nat_eq p q && nat_eq i j)) [
-      | inr other ↦
-          arrives_ended h past (R q j resp last word) (ended h past (R q j resp last word)) p i x o refl (rw other refl) refl
-          (λ r. Lessens-self (state_of h past r x.addr)) (f.arrive p i x ace was line (λ z. some (rw other z)))
-      | inl same ↦
-          let parts = and_parts (nat_eq p q) (nat_eq i j) same in
-          let pq = eqb-true p q parts.0 in
-          let ij = eqb-true i j parts.1 in
-          let here : outstanding h past q Read j ≡ Some x = subst (λ a. outstanding h past a Read j ≡ Some x) pq (subst (λ b. outstanding h past p Read b ≡ Some x) ij was) in
-          let one : m.one ≡ x = Some-injective m.one x (sym m.out ∙ here) in
-          let a = arrive_here h past q j resp last word f bits m (subst (λ a. is_ace h a ≡ true) pq ace) (subst (λ y. is_line y ≡ true) (sym one) line) in
-          subst (λ a. Arrives h (R q j resp last word ∷ past) a i x) (sym pq)
-          (subst (λ b. Arrives h (R q j resp last word ∷ past) q b x) (sym ij)
-          (subst (λ y. Arrives h (R q j resp last word ∷ past) q j y) one a))
-    ]
+    pub arrive_r : Inductive h past → k19 h past (R q j resp last word) ≡ true
+        → MayTransfer q j resp last → TransfersArrive h (R q j resp last word ∷ past)
+    arrive_r f bits m p i x ace o line some =
+        let was = was_there (ended h past (R q j resp last word)) (outstanding h past p Read i) x o in
+        elim (cases_Bool (nat_eq p q && nat_eq i j)) [
+          | inr other ↦
+              arrives_ended h past (R q j resp last word) (ended h past (R q j resp last word)) p i x o refl (rw other refl) refl
+              (λ r. Lessens-self (state_of h past r x.addr)) (f.arrive p i x ace was line (λ z. some (rw other z)))
+          | inl same ↦
+              let parts = and_parts (nat_eq p q) (nat_eq i j) same in
+              let pq = eqb-true p q parts.0 in
+              let ij = eqb-true i j parts.1 in
+              let here : outstanding h past q Read j ≡ Some x = subst (λ a. outstanding h past a Read j ≡ Some x) pq (subst (λ b. outstanding h past p Read b ≡ Some x) ij was) in
+              let one : m.one ≡ x = Some-injective m.one x (sym m.out ∙ here) in
+              let a = arrive_here f bits m (subst (λ a. is_ace h a ≡ true) pq ace) (subst (λ y. is_line y ≡ true) (sym one) line) in
+              subst (λ a. Arrives h (R q j resp last word ∷ past) a i x) (sym pq)
+              (subst (λ b. Arrives h (R q j resp last word ∷ past) q b x) (sym ij)
+              (subst (λ y. Arrives h (R q j resp last word ∷ past) q j y) one a))
+        ]
 
 -- an identifier in a port's queue after a transfer was there, or is that of the transfer
 record IsNew (past : Trace) (p q j n i : ℕ) (last : Bool) : Type 0 where

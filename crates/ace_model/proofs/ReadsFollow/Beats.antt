@@ -1,13 +1,7 @@
 -- A read that has had no transfer has no beat in the trace, and a read is the one that was issued at its place.
 use Rattle.std.proofs.Common.{◌≡◌, ◌≢◌, ℕ, ◌+◌, ◌<◌, Bool, true, false, if◌then◌else◌, ◌&&◌, nat_eq, [], ◌∷◌, length, Some, None, refl, sym, ap, subst, ◌∙◌, arith, inl, inr}
 use Rattle.std.proofs.lemmas.Bool.{and_from, eq-eqb, ne_eqb}
-use Rattle.ace_event.specs.declared.event.Event.{Event}
-use Rattle.ace_event.specs.declared.event.Event.TheVariants.{Ar, R, L}
-use Rattle.ace_event.specs.declared.event.Channel.TheVariants.{Read}
-use Rattle.ace_model.specs.declared.transactions.Transaction.{Transaction}
-use Rattle.ace_model.specs.Trace.{Trace, event_at, at_point}
-use Rattle.ace_model.specs.Transactions.{is_named, issued, transaction_of, transfers}
-use Rattle.ace_model.specs.ReadsFollow.{IsLoad, IsBeat, HasBeat}
+use Rattle.ace_model.proofs.Terms.{Event, Ar, R, L, Read, Transaction, Trace, event_at, at_point, is_named, issued, transaction_of, transfers, IsLoad, IsBeat, HasBeat}
 use Rattle.ace_model.proofs.Trace.Issued.{issued_at, issued-place, transaction_of-stands}
 use Rattle.ace_model.proofs.Trace.Looks.{Some-injective, newest_named-cases}
 use Rattle.ace_model.proofs.Holders.Address.{named_read}

@@ -1,25 +1,10 @@
 -- Once the snoops of a read of a line are done and no port has sent data, memory was the value at a point since the grant.
 use Rattle.std.proofs.Common.{◌≡◌, true, false, ◌||◌, Some, None, is_none, refl, sym, ap, subst, ◌∙◌, inl, inr}
 use Rattle.std.proofs.lemmas.Bool.{or_cases, or_left}
-use Rattle.ace_codes.specs.declared.kind.ArKind.{ArKind}
+use Rattle.ace_model.proofs.Terms.{ArKind, I, Channel, Read, Write, Header, snoop_of_read, is_dirty, Transaction, Trace, is_some_and, reads_a_line, is_no_snoop_read, is_no_snoop_write, is_read, read_kind}
+use Rattle.ace_model.proofs.Terms.{write_kind, snoop_of, snoop_kind_of, outstanding, granted, each_port, state_of, are_snoops_done, is_port_done, has_failed, is_line_read_transaction, is_no_snoop}
+use Rattle.ace_model.proofs.Terms.{DirtyPlace, IsAccepted}
 use Rattle.ace_codes.specs.declared.kind.ArKind.TheVariants as read
-use Rattle.ace_codes.specs.declared.state.LineState.TheVariants.{I}
-use Rattle.ace_event.specs.declared.event.Channel.{Channel}
-use Rattle.ace_event.specs.declared.event.Channel.TheVariants.{Read, Write}
-use Rattle.ace_event.specs.declared.header.Header.{Header}
-use Rattle.ace_tables.specs.SnoopKinds.{snoop_of_read}
-use Rattle.ace_tables.specs.States.{is_dirty}
-use Rattle.ace_model.specs.declared.transactions.Transaction.{Transaction}
-use Rattle.ace_model.specs.Trace.{Trace, is_some_and}
-use Rattle.ace_model.specs.Kinds.{reads_a_line, is_no_snoop_read, is_no_snoop_write}
-use Rattle.ace_model.specs.Transactions.{is_read, read_kind, write_kind, snoop_of, snoop_kind_of, outstanding}
-use Rattle.ace_model.specs.Grants.{granted, each_port}
-use Rattle.ace_model.specs.States.{state_of, are_snoops_done, is_port_done}
-use Rattle.ace_model.specs.Exclusives.{has_failed}
-use Rattle.ace_model.specs.Copies.{is_line_read_transaction}
-use Rattle.ace_model.specs.AddressRules.{is_no_snoop}
-use Rattle.ace_model.specs.DirtyPlace.{DirtyPlace}
-use Rattle.ace_model.specs.Accepted.{IsAccepted}
 use Rattle.ace_model.proofs.Trace.Issued.{outstanding-named, transaction_of-stands}
 use Rattle.ace_model.proofs.Trace.Looks.{is_some_and-is, none_is}
 use Rattle.ace_model.proofs.Holders.FirstTransfer.{done_port}

@@ -1,22 +1,8 @@
 -- The point of a read of a line, chosen at its first beat.
 use Rattle.std.proofs.Common.{◌≡◌, ◌≢◌, ℕ, ◌+◌, Bool, true, [], ◌∷◌, Option, Some, None, unwrap_or, option_map, option_and_then, refl, sym, ap, ◌∙◌, arith, inl, inr}
 use Rattle.std.proofs.lemmas.Bool.{cases_eq, eq-eqb}
-use Rattle.ace_event.specs.declared.event.Channel.TheVariants.{Read}
-use Rattle.ace_event.specs.declared.event.Event.{Event}
-use Rattle.ace_event.specs.declared.event.Event.TheVariants.{R}
-use Rattle.ace_event.specs.declared.header.Header.{Header}
-use Rattle.ace_model.specs.declared.transactions.Transaction.{Transaction}
-use Rattle.ace_model.specs.declared.snoops.Answer.{Answer}
-use Rattle.ace_model.specs.Trace.{Trace, at_point}
-use Rattle.ace_model.specs.Transactions.{outstanding, transaction_of, transfers}
-use Rattle.ace_model.specs.Grants.{granted, grant_place}
-use Rattle.ace_model.specs.States.{are_snoops_done}
-use Rattle.ace_model.specs.Copies.{is_line_read_transaction, word_of, copy_of, memory_of}
-use Rattle.ace_model.specs.Replies.{reply_of, copy_at_answer, first_sender, memory_at_first_beat}
-use Rattle.ace_model.specs.Values.{value_of}
-use Rattle.ace_model.specs.DirtyPlace.{DirtyPlace}
-use Rattle.ace_model.specs.ReadsFollow.{IsGrantOf}
-use Rattle.ace_model.specs.Accepted.{IsAccepted}
+use Rattle.ace_model.proofs.Terms.{Read, Event, R, Header, Transaction, Answer, Trace, at_point, outstanding, transaction_of, transfers, granted, grant_place, are_snoops_done, is_line_read_transaction}
+use Rattle.ace_model.proofs.Terms.{word_of, copy_of, memory_of, reply_of, copy_at_answer, first_sender, memory_at_first_beat, value_of, DirtyPlace, IsGrantOf, IsAccepted}
 use Rattle.ace_model.proofs.Trace.Growth.{at_point-before}
 use Rattle.ace_model.proofs.Trace.Issued.{outstanding-named, transaction_of-stands}
 use Rattle.ace_model.proofs.Trace.Looks.{has_name-is}

@@ -1,18 +1,7 @@
 -- In an accepted trace in which data newer than memory are with a holder or in flight, all reads follow one order of the stores.
 use Rattle.std.proofs.Common.{◌≡◌, ℕ, ◌<◌, Bool, true, if◌then◌else◌, nat_eq, [], ◌∷◌, Some, refl, sym, ap, subst, ◌∙◌, arith, inl, inr}
 use Rattle.std.proofs.lemmas.Bool.{cases_Bool, cases_eq, eq-eqb}
-use Rattle.ace_event.specs.declared.event.Channel.TheVariants.{Read}
-use Rattle.ace_event.specs.declared.event.Event.{Event}
-use Rattle.ace_event.specs.declared.event.Event.TheVariants.{L, R}
-use Rattle.ace_event.specs.declared.header.Header.{Header}
-use Rattle.ace_model.specs.declared.transactions.Transaction.{Transaction}
-use Rattle.ace_model.specs.Trace.{Trace}
-use Rattle.ace_model.specs.Transactions.{outstanding, transaction_of, transfers}
-use Rattle.ace_model.specs.Copies.{is_line_read_transaction}
-use Rattle.ace_model.specs.DirtyPlace.{DirtyPlace}
-use Rattle.ace_model.specs.ReadsFollow.{ReadsFollow}
-use Rattle.ace_model.specs.ReadRules.{k18}
-use Rattle.ace_model.specs.Accepted.{IsAccepted}
+use Rattle.ace_model.proofs.Terms.{Read, Event, L, R, Header, Transaction, Trace, outstanding, transaction_of, transfers, is_line_read_transaction, DirtyPlace, ReadsFollow, k18, IsAccepted}
 use Rattle.ace_model.proofs.Rules.Keeps.{accepted_keeps}
 use Rattle.ace_model.proofs.Trace.Looks.{Some-injective}
 use Rattle.ace_model.proofs.Holders.Transfer.{MayTransfer, may}

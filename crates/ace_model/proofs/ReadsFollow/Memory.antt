@@ -2,29 +2,11 @@
 -- line dirty hasn't answered.
 use Rattle.std.proofs.Common.{◌≡◌, ◌⊎◌, ℕ, Bool, true, false, if◌then◌else◌, [], ◌∷◌, length, Option, Some, None, unwrap_or, option_and_then, le_refl, refl, sym, ap, subst, ◌∙◌, arith, inl, inr}
 use Rattle.std.proofs.lemmas.Bool.{or_cases, cases_Bool}
-use Rattle.ace_codes.specs.declared.kind.ArKind.{ArKind}
+use Rattle.ace_model.proofs.Terms.{ArKind, LineState, UD, Channel, Event, Rk, Wk, Cr, G, M, S, D, Header, Line, is_dirty, Transaction, Answer, Trace, at_point, is_some_and, reads_a_line, is_make_unique}
+use Rattle.ace_model.proofs.Terms.{is_write_line_unique, is_some_on, is_on, is_read, read_kind, write_kind, ended, without, given, granted, answer_of, answers_grant, has_passed_data, passer, state_of}
+use Rattle.ace_model.proofs.Terms.{is_line_read_transaction, memory_of, written, word_of, first_sender, passed_data, passed_to, copy_at_answer, value_of, k15, replaces_line, HasDirtyHolder, IsValueSafe}
+use Rattle.ace_model.proofs.Terms.{DirtyPlace, IsAccepted}
 use Rattle.ace_codes.specs.declared.kind.ArKind.TheVariants as read
-use Rattle.ace_codes.specs.declared.state.LineState.{LineState}
-use Rattle.ace_codes.specs.declared.state.LineState.TheVariants.{UD}
-use Rattle.ace_event.specs.declared.event.Channel.{Channel}
-use Rattle.ace_event.specs.declared.event.Event.{Event}
-use Rattle.ace_event.specs.declared.event.Event.TheVariants.{Rk, Wk, Cr, G, M, S, D}
-use Rattle.ace_event.specs.declared.header.Header.{Header}
-use Rattle.ace_event.specs.declared.line.Line.{Line}
-use Rattle.ace_tables.specs.States.{is_dirty}
-use Rattle.ace_model.specs.declared.transactions.Transaction.{Transaction}
-use Rattle.ace_model.specs.declared.snoops.Answer.{Answer}
-use Rattle.ace_model.specs.Trace.{Trace, at_point, is_some_and}
-use Rattle.ace_model.specs.Kinds.{reads_a_line, is_make_unique, is_write_line_unique}
-use Rattle.ace_model.specs.Transactions.{is_some_on, is_on, is_read, read_kind, write_kind, ended, without}
-use Rattle.ace_model.specs.Grants.{given, granted, answer_of, answers_grant, has_passed_data, passer}
-use Rattle.ace_model.specs.States.{state_of}
-use Rattle.ace_model.specs.Copies.{is_line_read_transaction, memory_of, written, word_of}
-use Rattle.ace_model.specs.Replies.{first_sender, passed_data, passed_to, copy_at_answer}
-use Rattle.ace_model.specs.Values.{value_of}
-use Rattle.ace_model.specs.SnoopRules.{k15}
-use Rattle.ace_model.specs.DirtyPlace.{replaces_line, HasDirtyHolder, IsValueSafe, DirtyPlace}
-use Rattle.ace_model.specs.Accepted.{IsAccepted}
 use Rattle.ace_model.proofs.Trace.Growth.{at_point-before, at_point-end}
 use Rattle.ace_model.proofs.Rules.Keeps.{Keeps, accepted_keeps}
 use Rattle.ace_model.proofs.Trace.Looks.{is_some_and-is, newest_on-cases, without-some}

@@ -1,14 +1,6 @@
 -- What memory has of a line under a grant.
 use Rattle.std.proofs.Common.{◌≡◌, ℕ, ◌≤◌, true, length, Some, None}
-use Rattle.ace_event.specs.declared.header.Header.{Header}
-use Rattle.ace_model.specs.declared.transactions.Transaction.{Transaction}
-use Rattle.ace_model.specs.Trace.{Trace, at_point}
-use Rattle.ace_model.specs.Transactions.{transfers}
-use Rattle.ace_model.specs.Grants.{granted, grant_place}
-use Rattle.ace_model.specs.States.{are_snoops_done}
-use Rattle.ace_model.specs.Copies.{is_line_read_transaction, memory_of}
-use Rattle.ace_model.specs.Replies.{first_sender}
-use Rattle.ace_model.specs.Values.{value_of}
+use Rattle.ace_model.proofs.Terms.{Header, Transaction, Trace, at_point, transfers, granted, grant_place, are_snoops_done, is_line_read_transaction, memory_of, first_sender, value_of}
 use Rattle.ace_model.proofs.ReadsFollow.Points.{SameWords}
 
 -- At a point since the grant of the line its value had the words that memory has now.

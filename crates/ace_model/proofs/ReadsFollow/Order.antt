@@ -1,21 +1,8 @@
 -- The points of the reads of a line by one port never go back: an earlier read has all its beats before the later one.
 use Rattle.std.proofs.Common.{◌≡◌, ◌⊎◌, ℕ, zero, suc, ◌-◌, ◌<◌, ◌≤◌, true, false, nat_eq, [], ◌∷◌, length, drop, Some, sym, ap, subst, ◌∙◌, arith, inl, inr}
 use Rattle.std.proofs.lemmas.Bool.{cases_Bool, eqb-true, not-true}
-use Rattle.ace_codes.specs.declared.state.LineState.TheVariants.{I}
-use Rattle.ace_tables.specs.States.{is_invalid}
-use Rattle.ace_event.specs.declared.event.Event.{Event}
-use Rattle.ace_event.specs.declared.event.Event.TheVariants.{L, R, G}
-use Rattle.ace_event.specs.declared.event.Channel.TheVariants.{Read}
-use Rattle.ace_event.specs.declared.header.Header.{Header}
-use Rattle.ace_model.specs.declared.transactions.Transaction.{Transaction}
-use Rattle.ace_model.specs.Trace.{Trace, event_at, at_point}
-use Rattle.ace_model.specs.Transactions.{issued, outstanding}
-use Rattle.ace_model.specs.States.{state_of}
-use Rattle.ace_model.specs.CacheRules.{k30}
-use Rattle.ace_model.specs.AddressRules.{k5}
-use Rattle.ace_model.specs.ReadRules.{k18}
-use Rattle.ace_model.specs.ReadsFollow.{IsLoad, IsBeat, IsGrantOf, HasBeat, IsReadBy}
-use Rattle.ace_model.specs.Accepted.{IsAccepted}
+use Rattle.ace_model.proofs.Terms.{I, is_invalid, Event, L, R, G, Read, Header, Transaction, Trace, event_at, at_point, issued, outstanding, state_of, k30, k5, k18, IsLoad, IsBeat, IsGrantOf, HasBeat}
+use Rattle.ace_model.proofs.Terms.{IsReadBy, IsAccepted}
 use Rattle.ace_model.proofs.Trace.Growth.{at_point-before, issued_at-before}
 use Rattle.ace_model.proofs.Trace.Points.{accepted-before}
 use Rattle.ace_model.proofs.Trace.Issued.{issued_at, transaction_of-stands}

@@ -1,21 +1,9 @@
 -- The outstanding reads of a port: what was outstanding before, one on a line, and none of a line that its port holds.
 use Rattle.std.proofs.Common.{◌≡◌, ◌≢◌, ◌⊎◌, ℕ, zero, suc, ◌<◌, true, not, nat_eq, [], ◌∷◌, length, drop, Some, refl, ap, ◌∙◌, arith, inl, inr}
 use Rattle.std.proofs.lemmas.Bool.{and_from, or_left, eq-eqb, not-true}
-use Rattle.ace_codes.specs.declared.kind.ArKind.{ArKind}
+use Rattle.ace_model.proofs.Terms.{ArKind, I, Header, Channel, Read, Event, Transaction, Trace, implies, is_some_and, is_line_read, is_line_write, reads_a_line, has_name, is_line, issued, read_kind}
+use Rattle.ace_model.proofs.Terms.{write_kind, ended, without, outstanding, is_outstanding, is_outstanding_on, has_outstanding_on, state_of, is_line_read_transaction, k5, has_free_line, IsAccepted}
 use Rattle.ace_codes.specs.declared.kind.ArKind.TheVariants as read
-use Rattle.ace_codes.specs.declared.state.LineState.TheVariants.{I}
-use Rattle.ace_event.specs.declared.header.Header.{Header}
-use Rattle.ace_event.specs.declared.event.Channel.{Channel}
-use Rattle.ace_event.specs.declared.event.Channel.TheVariants.{Read}
-use Rattle.ace_event.specs.declared.event.Event.{Event}
-use Rattle.ace_model.specs.declared.transactions.Transaction.{Transaction}
-use Rattle.ace_model.specs.Trace.{Trace, implies, is_some_and}
-use Rattle.ace_model.specs.Kinds.{is_line_read, is_line_write, reads_a_line}
-use Rattle.ace_model.specs.Transactions.{has_name, is_line, issued, read_kind, write_kind, ended, without, outstanding, is_outstanding, is_outstanding_on, has_outstanding_on}
-use Rattle.ace_model.specs.States.{state_of}
-use Rattle.ace_model.specs.Copies.{is_line_read_transaction}
-use Rattle.ace_model.specs.AddressRules.{k5, has_free_line}
-use Rattle.ace_model.specs.Accepted.{IsAccepted}
 use Rattle.ace_model.proofs.Trace.Growth.{some_issued-found}
 use Rattle.ace_model.proofs.Trace.Issued.{issued-place, outstanding-named, transaction_of-stands}
 use Rattle.ace_model.proofs.Trace.Looks.{is_some_and-is, is_none_or-at, implies-at, has_name-is, newest_named-cases, without-some}

@@ -1,27 +1,8 @@
 -- The points of the reads of a trace, as the trace grows by an event, and as the point of a read is chosen before its first beat.
 use Rattle.std.proofs.Common.{◌≡◌, ◌≢◌, ℕ, ◌<◌, ◌≤◌, Bool, true, false, if◌then◌else◌, nat_eq, ◌∷◌, length, Some, refl, sym, ap, subst, ◌∙◌, arith, inl, inr}
 use Rattle.std.proofs.lemmas.Bool.{eqb-true, ne_eqb, not-true}
-use Rattle.ace_codes.specs.declared.state.LineState.TheVariants.{I}
-use Rattle.ace_tables.specs.States.{is_invalid}
-use Rattle.ace_event.specs.declared.event.Event.{Event}
-use Rattle.ace_event.specs.declared.event.Event.TheVariants.{L, R}
-use Rattle.ace_event.specs.declared.event.Channel.TheVariants.{Read}
-use Rattle.ace_event.specs.declared.header.Header.{Header}
-use Rattle.ace_event.specs.declared.line.Line.{Line}
-use Rattle.ace_model.specs.declared.transactions.Transaction.{Transaction}
-use Rattle.ace_model.specs.Trace.{Trace, at_point}
-use Rattle.ace_codes.specs.declared.kind.ArKind.{ArKind}
-use Rattle.ace_model.specs.Kinds.{beats_of, reads_a_line}
-use Rattle.ace_model.specs.Transactions.{read_kind, outstanding, transaction_of, transfers}
-use Rattle.ace_model.specs.States.{state_of}
-use Rattle.ace_model.specs.Copies.{is_line_read_transaction, word_of, copy_of}
-use Rattle.ace_model.specs.Replies.{reply_of}
-use Rattle.ace_model.specs.Values.{value_of}
-use Rattle.ace_model.specs.CacheRules.{k30, k31}
-use Rattle.ace_model.specs.ReadRules.{k18, k20, has_word}
-use Rattle.ace_model.specs.DirtyPlace.{AreCopiesTrue}
-use Rattle.ace_model.specs.ReadsFollow.{IsLoad, IsBeat, IsGrantOf}
-use Rattle.ace_model.specs.Accepted.{IsAccepted}
+use Rattle.ace_model.proofs.Terms.{I, is_invalid, Event, L, R, Read, Header, Line, Transaction, Trace, at_point, ArKind, beats_of, reads_a_line, read_kind, outstanding, transaction_of, transfers, state_of}
+use Rattle.ace_model.proofs.Terms.{is_line_read_transaction, word_of, copy_of, reply_of, value_of, k30, k31, k18, k20, has_word, AreCopiesTrue, IsLoad, IsBeat, IsGrantOf, IsAccepted}
 use Rattle.ace_model.proofs.Trace.Growth.{at_point-before}
 use Rattle.ace_model.proofs.Trace.Issued.{issued_at, outstanding-named, transaction_of-stands, same_place}
 use Rattle.ace_model.proofs.Rules.Keeps.{accepted_keeps}

@@ -1,21 +1,8 @@
 -- The reply to a read stays the same from its first beat on.
 use Rattle.std.proofs.Common.{◌≡◌, ◌≢◌, ◌⊎◌, ℕ, Bool, true, false, if◌then◌else◌, ◌&&◌, nat_eq, ◌∷◌, length, Option, Some, None, unwrap_or, option_map, option_and_then, le_refl, refl, sym, ap, subst, ◌∙◌, arith, inl, inr}
 use Rattle.std.proofs.lemmas.Bool.{cases_Bool, cases_eq, ne_eqb}
-use Rattle.ace_codes.specs.Responses.{transfers_data}
-use Rattle.ace_event.specs.declared.event.Channel.TheVariants.{Read}
-use Rattle.ace_event.specs.declared.event.Event.{Event}
-use Rattle.ace_event.specs.declared.event.Event.TheVariants.{R, Cr, G}
-use Rattle.ace_event.specs.declared.header.Header.{Header}
-use Rattle.ace_model.specs.declared.transactions.Transaction.{Transaction}
-use Rattle.ace_model.specs.declared.snoops.Answer.{Answer}
-use Rattle.ace_model.specs.Trace.{Trace, at_point, newer}
-use Rattle.ace_model.specs.Transactions.{has_name, issued, ended, outstanding, transfers}
-use Rattle.ace_model.specs.Snoops.{answers, data_answers}
-use Rattle.ace_model.specs.Grants.{answer_of, answers_grant, owes_answer}
-use Rattle.ace_model.specs.Copies.{is_line_read_transaction, copy_of}
-use Rattle.ace_model.specs.Replies.{copy_at_answer, first_sender, memory_at_first_beat, reply_of}
-use Rattle.ace_model.specs.SnoopRules.{k12}
-use Rattle.ace_model.specs.Accepted.{IsAccepted}
+use Rattle.ace_model.proofs.Terms.{transfers_data, Read, Event, R, Cr, G, Header, Transaction, Answer, Trace, at_point, newer, has_name, issued, ended, outstanding, transfers, answers, data_answers}
+use Rattle.ace_model.proofs.Terms.{answer_of, answers_grant, owes_answer, is_line_read_transaction, copy_of, copy_at_answer, first_sender, memory_at_first_beat, reply_of, k12, IsAccepted}
 use Rattle.ace_model.proofs.Trace.Growth.{at_point-before}
 use Rattle.ace_model.proofs.Rules.Keeps.{accepted_keeps}
 use Rattle.ace_model.proofs.Holders.Grant.{other_line}

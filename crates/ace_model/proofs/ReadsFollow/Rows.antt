@@ -1,33 +1,12 @@
 -- A port that holds the line dirty, or passes it on dirty, sends data to the snoop of a read of a line.
 use Rattle.std.proofs.Common.{◌≡◌, ℕ, Bool, true, false, not, ◌&&◌, ◌||◌, nat_eq, nat_lt, [], ◌∷◌, Option, Some, None, is_some, refl, sym, ap, subst, ◌∙◌, inl, inr}
 use Rattle.std.proofs.lemmas.Bool.{and_parts, cases_Bool, eqb-true}
-use Rattle.ace_codes.specs.declared.kind.ArKind.{ArKind}
+use Rattle.ace_model.proofs.Terms.{ArKind, SnoopKind, LineState, I, transfers_data, has_error, passes_dirty, is_shared, was_unique, ac_code, ac_kind_of, Event, Cr, G, Header, same_test, fits_transfer}
+use Rattle.ace_model.proofs.Terms.{must_pass_dirty, states_after, fits_answer, is_line_row, is_snoop_row, snoop_of_read, is_among, is_invalid, is_unique, is_dirty, Transaction, Answer, Snoop, Trace, newer}
+use Rattle.ace_model.proofs.Terms.{reads_a_line, is_line_snoop, is_some_on, read_kind, write_kind, snoop_of, snoop_kind_of, transaction_of, answered, answers, snoops_a_line, given, granted, answer_of}
+use Rattle.ace_model.proofs.Terms.{answers_grant, passes, passer, is_granted, has_passed_data, state_of, is_line_read_transaction, first_sender, sender_at, k15, answers_by_row, IsAccepted}
 use Rattle.ace_codes.specs.declared.kind.ArKind.TheVariants as read
-use Rattle.ace_codes.specs.declared.kind.SnoopKind.{SnoopKind}
 use Rattle.ace_codes.specs.declared.kind.SnoopKind.TheVariants as snoop
-use Rattle.ace_codes.specs.declared.state.LineState.{LineState}
-use Rattle.ace_codes.specs.declared.state.LineState.TheVariants.{I}
-use Rattle.ace_codes.specs.Responses.{transfers_data, has_error, passes_dirty, is_shared, was_unique}
-use Rattle.ace_codes.specs.Snoops.{ac_code, ac_kind_of}
-use Rattle.ace_event.specs.declared.event.Event.{Event}
-use Rattle.ace_event.specs.declared.event.Event.TheVariants.{Cr, G}
-use Rattle.ace_event.specs.declared.header.Header.{Header}
-use Rattle.ace_tables.specs.Answers.{same_test, fits_transfer, must_pass_dirty, states_after, fits_answer, is_line_row, is_snoop_row}
-use Rattle.ace_tables.specs.SnoopKinds.{snoop_of_read}
-use Rattle.ace_tables.specs.States.{is_among, is_invalid, is_unique, is_dirty}
-use Rattle.ace_model.specs.declared.transactions.Transaction.{Transaction}
-use Rattle.ace_model.specs.declared.snoops.Answer.{Answer}
-use Rattle.ace_model.specs.declared.snoops.Snoop.{Snoop}
-use Rattle.ace_model.specs.Trace.{Trace, newer}
-use Rattle.ace_model.specs.Kinds.{reads_a_line, is_line_snoop}
-use Rattle.ace_model.specs.Transactions.{is_some_on, read_kind, write_kind, snoop_of, snoop_kind_of, transaction_of}
-use Rattle.ace_model.specs.Snoops.{answered, answers, snoops_a_line}
-use Rattle.ace_model.specs.Grants.{given, granted, answer_of, answers_grant, passes, passer, is_granted, has_passed_data}
-use Rattle.ace_model.specs.States.{state_of}
-use Rattle.ace_model.specs.Copies.{is_line_read_transaction}
-use Rattle.ace_model.specs.Replies.{first_sender, sender_at}
-use Rattle.ace_model.specs.SnoopRules.{k15, answers_by_row}
-use Rattle.ace_model.specs.Accepted.{IsAccepted}
 use Rattle.ace_model.proofs.Rules.Keeps.{accepted_keeps}
 use Rattle.ace_model.proofs.Trace.Looks.{Some-injective, some_is, is_some_and-is, is_none_or-at, same_test-at}
 use Rattle.ace_model.proofs.Tables.States.{row_cases}

@@ -1,35 +1,10 @@
 -- The line that the first sender under a grant announced was the line's value at its answer; and the G of a granted read.
 use Rattle.std.proofs.Common.{◌≡◌, ◌≢◌, ℕ, ◌+◌, Bool, true, false, if◌then◌else◌, ◌&&◌, nat_eq, [], ◌∷◌, length, Option, Some, None, le_refl, refl, sym, ap, subst, ◌∙◌, arith, inl, inr}
 use Rattle.std.proofs.lemmas.Bool.{and_parts, and_from, cases_Bool, eq-eqb, eqb-true}
-use Rattle.ace_codes.specs.declared.kind.SnoopKind.{SnoopKind}
+use Rattle.ace_model.proofs.Terms.{SnoopKind, LineState, I, transfers_data, ac_kind_of, Channel, Read, Event, Cr, G, Header, is_snoop_row, is_plain_row, is_invalid, Transaction, Answer, Snoop, Trace}
+use Rattle.ace_model.proofs.Terms.{at_point, newer, is_line_snoop, is_on, is_some_on, transaction_of, ended, without, answers, answered, data_answers, snoops_a_line, given, granted, grant_place, answer_of}
+use Rattle.ace_model.proofs.Terms.{answers_grant, state_of, copy_of, first_sender, sender_at, value_of, k15, answers_by_row, AreCopiesTrue, IsValueSafe, DirtyPlace, IsGrantOf, IsAccepted}
 use Rattle.ace_codes.specs.declared.kind.SnoopKind.TheVariants as snoop
-use Rattle.ace_codes.specs.declared.state.LineState.{LineState}
-use Rattle.ace_codes.specs.declared.state.LineState.TheVariants.{I}
-use Rattle.ace_codes.specs.Responses.{transfers_data}
-use Rattle.ace_codes.specs.Snoops.{ac_kind_of}
-use Rattle.ace_event.specs.declared.event.Channel.{Channel}
-use Rattle.ace_event.specs.declared.event.Channel.TheVariants.{Read}
-use Rattle.ace_event.specs.declared.event.Event.{Event}
-use Rattle.ace_event.specs.declared.event.Event.TheVariants.{Cr, G}
-use Rattle.ace_event.specs.declared.header.Header.{Header}
-use Rattle.ace_tables.specs.Answers.{is_snoop_row, is_plain_row}
-use Rattle.ace_tables.specs.States.{is_invalid}
-use Rattle.ace_model.specs.declared.transactions.Transaction.{Transaction}
-use Rattle.ace_model.specs.declared.snoops.Answer.{Answer}
-use Rattle.ace_model.specs.declared.snoops.Snoop.{Snoop}
-use Rattle.ace_model.specs.Trace.{Trace, at_point, newer}
-use Rattle.ace_model.specs.Kinds.{is_line_snoop}
-use Rattle.ace_model.specs.Transactions.{is_on, is_some_on, transaction_of, ended, without}
-use Rattle.ace_model.specs.Snoops.{answers, answered, data_answers, snoops_a_line}
-use Rattle.ace_model.specs.Grants.{given, granted, grant_place, answer_of, answers_grant}
-use Rattle.ace_model.specs.States.{state_of}
-use Rattle.ace_model.specs.Copies.{copy_of}
-use Rattle.ace_model.specs.Replies.{first_sender, sender_at}
-use Rattle.ace_model.specs.Values.{value_of}
-use Rattle.ace_model.specs.SnoopRules.{k15, answers_by_row}
-use Rattle.ace_model.specs.DirtyPlace.{AreCopiesTrue, IsValueSafe, DirtyPlace}
-use Rattle.ace_model.specs.ReadsFollow.{IsGrantOf}
-use Rattle.ace_model.specs.Accepted.{IsAccepted}
 use Rattle.ace_model.proofs.Trace.Growth.{at_point-before}
 use Rattle.ace_model.proofs.Trace.Issued.{transaction_of-stands}
 use Rattle.ace_model.proofs.Rules.Keeps.{accepted_keeps}

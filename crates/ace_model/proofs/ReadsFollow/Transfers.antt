@@ -1,25 +1,11 @@
 -- From its first beat on a read of a line is granted, and no snoop under its grant is unanswered.
 use Rattle.std.proofs.Common.{◌≡◌, ◌≢◌, ℕ, Bool, true, false, not, if◌then◌else◌, ◌&&◌, ◌||◌, nat_eq, [], ◌∷◌, length, Option, Some, None, is_none, is_some, refl, sym, ap, subst, ◌∙◌, inl, inr}
 use Rattle.std.proofs.lemmas.Bool.{and_parts, or_cases, cases_Bool, cases_eq, eq-eqb, ne_eqb, eqb-true, ltb-true, not-true}
-use Rattle.ace_codes.specs.declared.kind.ArKind.{ArKind}
+use Rattle.ace_model.proofs.Terms.{ArKind, Read, Write, Event, Ar, R, Aw, Ac, Cr, G, Header, Transaction, Answer, Trace, implies, is_some_and, newer, reads_a_line, is_clean_unique, is_read, is_line}
+use Rattle.ace_model.proofs.Terms.{has_name, issued, read_kind, transaction_of, ended, snoop_of, is_exclusive_store, outstanding, transfers, snoops_a_line, granted, is_granted, is_begun, was_snooped}
+use Rattle.ace_model.proofs.Terms.{answer_of, answer_at, owes_answer, owes_data, each_port, has_passed_data, has_failed, are_snoops_done, is_port_done, is_line_read_transaction, k12, k13, k18, takes_passed}
+use Rattle.ace_model.proofs.Terms.{IsAccepted}
 use Rattle.ace_codes.specs.declared.kind.ArKind.TheVariants as read
-use Rattle.ace_event.specs.declared.event.Channel.TheVariants.{Read, Write}
-use Rattle.ace_event.specs.declared.event.Event.{Event}
-use Rattle.ace_event.specs.declared.event.Event.TheVariants.{Ar, R, Aw, Ac, Cr, G}
-use Rattle.ace_event.specs.declared.header.Header.{Header}
-use Rattle.ace_model.specs.declared.transactions.Transaction.{Transaction}
-use Rattle.ace_model.specs.declared.snoops.Answer.{Answer}
-use Rattle.ace_model.specs.Trace.{Trace, implies, is_some_and, newer}
-use Rattle.ace_model.specs.Kinds.{reads_a_line, is_clean_unique}
-use Rattle.ace_model.specs.Transactions.{is_read, is_line, has_name, issued, read_kind, transaction_of, ended, snoop_of, is_exclusive_store, outstanding, transfers}
-use Rattle.ace_model.specs.Snoops.{snoops_a_line}
-use Rattle.ace_model.specs.Grants.{granted, is_granted, is_begun, was_snooped, answer_of, answer_at, owes_answer, owes_data, each_port, has_passed_data}
-use Rattle.ace_model.specs.Exclusives.{has_failed}
-use Rattle.ace_model.specs.States.{are_snoops_done, is_port_done}
-use Rattle.ace_model.specs.Copies.{is_line_read_transaction}
-use Rattle.ace_model.specs.SnoopRules.{k12, k13}
-use Rattle.ace_model.specs.ReadRules.{k18, takes_passed}
-use Rattle.ace_model.specs.Accepted.{IsAccepted}
 use Rattle.ace_model.proofs.Rules.Keeps.{accepted_keeps}
 use Rattle.ace_model.proofs.Trace.Looks.{Some-injective, is_some_and-is, implies-at, newest_on-older, without-other, has_name-is}
 use Rattle.ace_model.proofs.Trace.Issued.{outstanding-named, transaction_of-stands}

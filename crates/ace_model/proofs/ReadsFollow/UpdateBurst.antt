@@ -2,23 +2,10 @@
 use Rattle.std.proofs.Common.{◌≡◌, ℕ, zero, suc, ◌+◌, ◌*◌, ◌-◌, ◌/◌, ◌%◌, ◌<◌, ◌≤◌, Bool, true, ◌&&◌, ◌||◌, nat_eq, nat_le, List, [], ◌∷◌, length, take, drop, map, slice_index, Option, Some, None, slice_get, refl, sym, ap, subst, ◌∙◌, arith, inl, inr, length-append}
 use Rattle.std.proofs.lemmas.Bool.{and_parts, and_from, or_cases, cases_Bool, eqb-true, eq-eqb, leb-true}
 use Rattle.std.proofs.lemmas.Option.{slice_get_within}
-use Rattle.ace_codes.specs.declared.kind.AwKind.{AwKind}
+use Rattle.ace_model.proofs.Terms.{AwKind, Write, Event, Ar, Aw, W, Header, same_test, Transaction, Trace, at_point, more, implies, is_some_and, has_write_data, is_update, is_write_line_unique, issued}
+use Rattle.ace_model.proofs.Terms.{write_kind, updates_memory, data_write, data_write_in, data_writes, write_beats, next_write, next_write_beat, stands_before, is_burst_whole, copy_of, word_of, Beat}
+use Rattle.ace_model.proofs.Terms.{beat_at, beats, burst_of, burst_line, k11, is_next_beat, fits_write, full_beat, IsAccepted}
 use Rattle.ace_codes.specs.declared.kind.AwKind.TheVariants as write
-use Rattle.ace_event.specs.declared.event.Channel.TheVariants.{Write}
-use Rattle.ace_event.specs.declared.event.Event.{Event}
-use Rattle.ace_event.specs.declared.event.Event.TheVariants.{Ar, Aw, W}
-use Rattle.ace_event.specs.declared.header.Header.{Header}
-use Rattle.ace_tables.specs.Answers.{same_test}
-use Rattle.ace_model.specs.declared.transactions.Transaction.{Transaction}
-use Rattle.ace_model.specs.Trace.{Trace, at_point, more, implies, is_some_and}
-use Rattle.ace_model.specs.Kinds.{has_write_data, is_update, is_write_line_unique}
-use Rattle.ace_model.specs.Transactions.{issued, write_kind}
-use Rattle.ace_model.specs.Progress.{updates_memory}
-use Rattle.ace_model.specs.Writes.{data_write, data_write_in, data_writes, write_beats, next_write, next_write_beat, stands_before, is_burst_whole}
-use Rattle.ace_model.specs.Copies.{copy_of, word_of}
-use Rattle.ace_model.specs.Values.{Beat, beat_at, beats, burst_of, burst_line}
-use Rattle.ace_model.specs.SnoopRules.{k11, is_next_beat, fits_write, full_beat}
-use Rattle.ace_model.specs.Accepted.{IsAccepted}
 use Rattle.ace_model.proofs.Trace.Growth.{issued-cases, IsIssued, issued-new, issued-old, at_point-before, slice_get-grown}
 use Rattle.ace_model.proofs.Trace.Issued.{issued-place, outstanding-named, transaction_of-stands}
 use Rattle.ace_model.proofs.Rules.Keeps.{accepted_keeps}

@@ -1,38 +1,15 @@
 -- While a memory update is outstanding, its port holds the line, and its copy of the line stays the same.
 use Rattle.std.proofs.Common.{◌≡◌, ◌≢◌, ℕ, Bool, true, false, if◌then◌else◌, ◌&&◌, not, nat_eq, nat_lt, [], ◌∷◌, length, Some, None, unwrap_or, le_refl, refl, sym, ap, subst, ◌∙◌, inl, inr}
 use Rattle.std.proofs.lemmas.Bool.{and_parts, and_from, or_cases, or_left, or_right, cases_Bool, eqb-true, eq-eqb, not-true}
-use Rattle.ace_codes.specs.declared.kind.AwKind.{AwKind}
+use Rattle.ace_model.proofs.Terms.{AwKind, SnoopKind, LineState, I, UC, UD, SC, SD, ac_kind_of, passes_dirty, ArKind, Channel, Read, Write, Event, R, Rk, Wk, Cr, S, D, Header, is_snoop_row, is_line_row}
+use Rattle.ace_model.proofs.Terms.{fits_update, goes_with_update, states_after, fits_answer, is_silent_move, starts_read, starts_write, is_invalid, is_unique, is_among, Transaction, Trace, is_some_and}
+use Rattle.ace_model.proofs.Terms.{is_none_or, is_line_snoop, is_line_read, is_line_write, is_update, is_make_unique, is_ace, is_read, is_line, is_on, is_some_on, is_make_unique_on, issued, read_kind}
+use Rattle.ace_model.proofs.Terms.{write_kind, transaction_of, ended, outstanding, is_outstanding, is_outstanding_on, has_outstanding_on, acknowledged, acknowledgements, is_complete, updates_memory}
+use Rattle.ace_model.proofs.Terms.{is_update_on, has_update, answered, answers_line, is_snoop_on, snoops_a_line, state_of, awaits_store, has_store, is_in_make_unique, copy_of, is_line_read_transaction, k6}
+use Rattle.ace_model.proofs.Terms.{starts_well, k16, answers_beside_update, k18, k29, k32, may_store, wants_store, full_line, IsAccepted}
 use Rattle.ace_codes.specs.declared.kind.AwKind.TheVariants as write
-use Rattle.ace_codes.specs.declared.kind.SnoopKind.{SnoopKind}
 use Rattle.ace_codes.specs.declared.kind.SnoopKind.TheVariants as snoop
-use Rattle.ace_codes.specs.declared.state.LineState.{LineState}
-use Rattle.ace_codes.specs.declared.state.LineState.TheVariants.{I, UC, UD, SC, SD}
-use Rattle.ace_codes.specs.Snoops.{ac_kind_of}
-use Rattle.ace_codes.specs.Responses.{passes_dirty}
-use Rattle.ace_codes.specs.declared.kind.ArKind.{ArKind}
 use Rattle.ace_codes.specs.declared.kind.ArKind.TheVariants as read
-use Rattle.ace_event.specs.declared.event.Channel.{Channel}
-use Rattle.ace_event.specs.declared.event.Channel.TheVariants.{Read, Write}
-use Rattle.ace_event.specs.declared.event.Event.{Event}
-use Rattle.ace_event.specs.declared.event.Event.TheVariants.{R, Rk, Wk, Cr, S, D}
-use Rattle.ace_event.specs.declared.header.Header.{Header}
-use Rattle.ace_tables.specs.Answers.{is_snoop_row, is_line_row, fits_update, goes_with_update, states_after, fits_answer}
-use Rattle.ace_tables.specs.SilentTransitions.{is_silent_move}
-use Rattle.ace_tables.specs.StartStates.{starts_read, starts_write}
-use Rattle.ace_tables.specs.States.{is_invalid, is_unique, is_among}
-use Rattle.ace_model.specs.declared.transactions.Transaction.{Transaction}
-use Rattle.ace_model.specs.Trace.{Trace, is_some_and, is_none_or}
-use Rattle.ace_model.specs.Kinds.{is_line_snoop, is_line_read, is_line_write, is_update, is_make_unique}
-use Rattle.ace_model.specs.Transactions.{is_ace, is_read, is_line, is_on, is_some_on, is_make_unique_on, issued, read_kind, write_kind, transaction_of, ended, outstanding, is_outstanding, is_outstanding_on, has_outstanding_on, acknowledged, acknowledgements, is_complete}
-use Rattle.ace_model.specs.Progress.{updates_memory, is_update_on, has_update}
-use Rattle.ace_model.specs.Snoops.{answered, answers_line, is_snoop_on, snoops_a_line}
-use Rattle.ace_model.specs.States.{state_of, awaits_store, has_store, is_in_make_unique}
-use Rattle.ace_model.specs.Copies.{copy_of, is_line_read_transaction}
-use Rattle.ace_model.specs.AddressRules.{k6, starts_well}
-use Rattle.ace_model.specs.SnoopRules.{k16, answers_beside_update}
-use Rattle.ace_model.specs.ReadRules.{k18}
-use Rattle.ace_model.specs.CacheRules.{k29, k32, may_store, wants_store, full_line}
-use Rattle.ace_model.specs.Accepted.{IsAccepted}
 use Rattle.ace_model.proofs.Trace.Growth.{some_issued-is, some_issued-found}
 use Rattle.ace_model.proofs.Trace.Issued.{issued_at, outstanding-named, transaction_of-stands}
 use Rattle.ace_model.proofs.Rules.Keeps.{accepted_keeps}
@@ -61,48 +38,50 @@ update-line y u =
     of_kind write.Barrier u = cc
     of_kind k u = refl
 
--- its port has no other transaction of the line outstanding
-other-none : (h : Header) (past : Trace) → IsAccepted h past → (p i : ℕ) (y : Transaction) → Updates h past p i y → (c : Channel) (j : ℕ) (z : Transaction)
-    → outstanding h past p c j ≡ Some z → is_on z y.addr ≡ true → z ≡ y
-other-none h past a p i y u c j z o on =
-    one_on_line h past a p c Write j i y.addr z y o u.out on (and_from (is_line y) (nat_eq y.addr y.addr) (update-line y u.update) (eq-eqb y.addr y.addr refl))
+module _ (h : Header) (past : Trace) where
+  -- its port has no other transaction of the line outstanding
+  other-none : IsAccepted h past → (p i : ℕ) (y : Transaction) → Updates h past p i y → (c : Channel) (j : ℕ) (z : Transaction)
+      → outstanding h past p c j ≡ Some z → is_on z y.addr ≡ true → z ≡ y
+  other-none a p i y u c j z o on =
+      one_on_line h past a p c Write j i y.addr z y o u.out on (and_from (is_line y) (nat_eq y.addr y.addr) (update-line y u.update) (eq-eqb y.addr y.addr refl))
 
-pub update-named : (h : Header) (past : Trace) (p i : ℕ) (y : Transaction) → outstanding h past p Write i ≡ Some y → (y.port ≡ p) × (y.chan ≡ Write) × (y.id ≡ i)
-update-named h past p i y o =
-    let n = has_name-is y p Write i (transaction_of-stands past p Write i y (outstanding-named h past p Write i y o)).named in
-    (n.port, n.chan, n.id)
+  pub update-named : (p i : ℕ) (y : Transaction) → outstanding h past p Write i ≡ Some y → (y.port ≡ p) × (y.chan ≡ Write) × (y.id ≡ i)
+  update-named p i y o =
+      let n = has_name-is y p Write i (transaction_of-stands past p Write i y (outstanding-named h past p Write i y o)).named in
+      (n.port, n.chan, n.id)
 
--- no read of the line is outstanding at its port
-read-none : (h : Header) (past : Trace) → IsAccepted h past → (p i : ℕ) (y : Transaction) → Updates h past p i y → (j : ℕ) (z : Transaction)
-    → outstanding h past p Read j ≡ Some z → is_on z y.addr ≡ true → ⊥
-read-none h past a p i y u j z o on =
-    let same = other-none h past a p i y u Read j z o on in
-    let n = has_name-is z p Read j (transaction_of-stands past p Read j z (outstanding-named h past p Read j z o)).named in
-    let m = update-named h past p i y u.out in
-    let chan : Read ≡ Write = sym n.chan ∙ ap (λ (v : Transaction). v.chan) same ∙ m.1 in cc
+  -- no read of the line is outstanding at its port
+  read-none : IsAccepted h past → (p i : ℕ) (y : Transaction) → Updates h past p i y → (j : ℕ) (z : Transaction)
+      → outstanding h past p Read j ≡ Some z → is_on z y.addr ≡ true → ⊥
+  read-none a p i y u j z o on =
+      let same = other-none a p i y u Read j z o on in
+      let n = has_name-is z p Read j (transaction_of-stands past p Read j z (outstanding-named h past p Read j z o)).named in
+      let m = update-named p i y u.out in
+      let chan : Read ≡ Write = sym n.chan ∙ ap (λ (v : Transaction). v.chan) same ∙ m.1 in cc
 
-is-outstanding : (h : Header) (past : Trace) (p i : ℕ) (y : Transaction) → outstanding h past p Write i ≡ Some y → is_outstanding h past y ≡ true
-is-outstanding h past p i y o =
-    let m = update-named h past p i y o in
-    let out : outstanding h past y.port y.chan y.id ≡ Some y =
-    ap (λ v. outstanding h past v y.chan y.id) m.0 ∙ ap (λ (v : Channel). outstanding h past p v y.id) m.1 ∙ ap (outstanding h past p Write) m.2 ∙ o in
-    rw out (eq-eqb y.place y.place (refl {a = y.place}))
+  module _ (p i : ℕ) (y : Transaction) where
+    is-outstanding : outstanding h past p Write i ≡ Some y → is_outstanding h past y ≡ true
+    is-outstanding o =
+        let m = update-named p i y o in
+        let out : outstanding h past y.port y.chan y.id ≡ Some y =
+        ap (λ v. outstanding h past v y.chan y.id) m.0 ∙ ap (λ (v : Channel). outstanding h past p v y.id) m.1 ∙ ap (outstanding h past p Write) m.2 ∙ o in
+        rw out (eq-eqb y.place y.place (refl {a = y.place}))
 
-has-update : (h : Header) (past : Trace) (p i : ℕ) (y : Transaction) → Updates h past p i y → has_update h past p y.addr ≡ true
-has-update h past p i y u =
-    let m = update-named h past p i y u.out in
-    let s = transaction_of-stands past p Write i y (outstanding-named h past p Write i y u.out) in
-    some_issued-found past (is_update_on h past p y.addr) y.place y s.there
-    (and_from _ _ (and_from _ _ (and_from _ _ (eq-eqb y.port p m.0) u.update)
-    (and_from _ _ (update-line y u.update) (eq-eqb y.addr y.addr (refl {a = y.addr})))) (is-outstanding h past p i y u.out))
+    has-update : Updates h past p i y → has_update h past p y.addr ≡ true
+    has-update u =
+        let m = update-named p i y u.out in
+        let s = transaction_of-stands past p Write i y (outstanding-named h past p Write i y u.out) in
+        some_issued-found past (is_update_on h past p y.addr) y.place y s.there
+        (and_from _ _ (and_from _ _ (and_from _ _ (eq-eqb y.port p m.0) u.update)
+        (and_from _ _ (update-line y u.update) (eq-eqb y.addr y.addr (refl {a = y.addr})))) (is-outstanding u.out))
 
-has-outstanding : (h : Header) (past : Trace) (p i : ℕ) (y : Transaction) → Updates h past p i y → has_outstanding_on h past p y.addr ≡ true
-has-outstanding h past p i y u =
-    let m = update-named h past p i y u.out in
-    let s = transaction_of-stands past p Write i y (outstanding-named h past p Write i y u.out) in
-    some_issued-found past (is_outstanding_on h past p y.addr) y.place y s.there
-    (and_from _ _ (and_from _ _ (eq-eqb y.port p m.0) (and_from _ _ (update-line y u.update) (eq-eqb y.addr y.addr (refl {a = y.addr}))))
-    (is-outstanding h past p i y u.out))
+    has-outstanding : Updates h past p i y → has_outstanding_on h past p y.addr ≡ true
+    has-outstanding u =
+        let m = update-named p i y u.out in
+        let s = transaction_of-stands past p Write i y (outstanding-named h past p Write i y u.out) in
+        some_issued-found past (is_outstanding_on h past p y.addr) y.place y s.there
+        (and_from _ _ (and_from _ _ (eq-eqb y.port p m.0) (and_from _ _ (update-line y u.update) (eq-eqb y.addr y.addr (refl {a = y.addr}))))
+        (is-outstanding u.out))
 
 -- an answer beside an update keeps the line
 keeps-line : (k : SnoopKind) (held : LineState) (resp : ℕ) (st : LineState) → is_line_snoop k ≡ true → is_snoop_row k held true resp st ≡ true → held ≢ I → st ≢ I

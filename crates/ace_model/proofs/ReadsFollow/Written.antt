@@ -1,27 +1,10 @@
 -- What is written to memory under the grant of a read, while no port has sent data, is the value of the line.
 use Rattle.std.proofs.Common.{◌≡◌, ◌⊎◌, ℕ, zero, suc, ◌<◌, Bool, true, false, if◌then◌else◌, ◌&&◌, ◌||◌, not, nat_eq, ◌∷◌, Some, None, option_map, refl, sym, ap, subst, ◌∙◌, arith, inl, inr}
 use Rattle.std.proofs.lemmas.Bool.{and_parts, or_cases, eqb-true}
-use Rattle.ace_codes.specs.declared.kind.AwKind.{AwKind}
+use Rattle.ace_model.proofs.Terms.{AwKind, Channel, Read, Write, M, Header, Line, Transaction, Trace, is_update, is_read, is_on, is_some_on, write_kind, transaction_of, outstanding, updates_memory}
+use Rattle.ace_model.proofs.Terms.{is_burst_whole, has_memory_write, granted, is_granted, has_passed_data, are_passed_data_whole, are_snoops_done, word_of, same_line, passed_data, first_sender, value_of}
+use Rattle.ace_model.proofs.Terms.{burst_line, burst_of, k24, k25, may_write_memory, may_write_passed, may_write_data, is_write_due, is_update_due, has_data, data_of, data_of_write, DirtyPlace, IsAccepted}
 use Rattle.ace_codes.specs.declared.kind.AwKind.TheVariants as write
-use Rattle.ace_event.specs.declared.event.Channel.{Channel}
-use Rattle.ace_event.specs.declared.event.Channel.TheVariants.{Read, Write}
-use Rattle.ace_event.specs.declared.event.Event.TheVariants.{M}
-use Rattle.ace_event.specs.declared.header.Header.{Header}
-use Rattle.ace_event.specs.declared.line.Line.{Line}
-use Rattle.ace_model.specs.declared.transactions.Transaction.{Transaction}
-use Rattle.ace_model.specs.Trace.{Trace}
-use Rattle.ace_model.specs.Kinds.{is_update}
-use Rattle.ace_model.specs.Transactions.{is_read, is_on, is_some_on, write_kind, transaction_of, outstanding}
-use Rattle.ace_model.specs.Progress.{updates_memory}
-use Rattle.ace_model.specs.Writes.{is_burst_whole, has_memory_write}
-use Rattle.ace_model.specs.Grants.{granted, is_granted, has_passed_data, are_passed_data_whole}
-use Rattle.ace_model.specs.States.{are_snoops_done}
-use Rattle.ace_model.specs.Copies.{word_of, same_line}
-use Rattle.ace_model.specs.Replies.{passed_data, first_sender}
-use Rattle.ace_model.specs.Values.{value_of, burst_line, burst_of}
-use Rattle.ace_model.specs.WriteRules.{k24, k25, may_write_memory, may_write_passed, may_write_data, is_write_due, is_update_due, has_data, data_of, data_of_write}
-use Rattle.ace_model.specs.DirtyPlace.{DirtyPlace}
-use Rattle.ace_model.specs.Accepted.{IsAccepted}
 use Rattle.ace_model.proofs.Trace.Issued.{outstanding-named, transaction_of-stands, same_place}
 use Rattle.ace_model.proofs.Rules.Keeps.{accepted_keeps}
 use Rattle.ace_model.proofs.Trace.Looks.{Some-injective, is_some_and-is, is_none_or-at, has_name-is}

@@ -1,9 +1,7 @@
 -- The fact that a trace is accepted, and its test.
 use Rattle.std.proofs.Common.{◌≡◌, true, List, [], ◌∷◌, is_none}
 use Rattle.std.proofs.lemmas.Bool.{and_parts}
-use Rattle.ace_event.specs.declared.header.Header.{Header}
-use Rattle.ace_model.specs.Trace.{Trace}
-use Rattle.ace_model.specs.Accepted.{Rule, IsAcceptedBy, is_accepted_by, least_of}
+use Rattle.ace_model.proofs.Terms.{Header, Trace, Rule, IsAcceptedBy, is_accepted_by, least_of}
 use Rattle.ace_model.proofs.Trace.Looks.{none_is}
 
 -- a trace that passes the test is accepted

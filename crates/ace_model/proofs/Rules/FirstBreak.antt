@@ -3,11 +3,7 @@ use Rattle.std.proofs.Common.{◌≡◌, ◌⊎◌, ℕ, zero, suc, ◌+◌, ◌
 use Rattle.std.proofs.lemmas.Bool.{cases_lt}
 use Rattle.std.proofs.lemmas.List.{reverse-append}
 use mathlib.Core.List.{reverse_aux}
-use Rattle.ace_event.specs.declared.event.Event.{Event}
-use Rattle.ace_event.specs.declared.header.Header.{Header}
-use Rattle.ace_model.specs.declared.breaks.Break.{Break}
-use Rattle.ace_model.specs.Trace.{Trace}
-use Rattle.ace_model.specs.Accepted.{Rule, AreInOrder, breaks_of, least_of, IsAcceptedBy, break_or, first_break_after, first_break_by, BreaksAt, FirstBreakBy}
+use Rattle.ace_model.proofs.Terms.{Event, Header, Break, Trace, Rule, AreInOrder, breaks_of, least_of, IsAcceptedBy, break_or, first_break_after, first_break_by, BreaksAt, FirstBreakBy}
 use Rattle.ace_model.proofs.Rules.Least.{IsLeast, least_of_is_least, none_is_broken}
 
 -- after `past`, the event with n events before it in the list breaks rule k

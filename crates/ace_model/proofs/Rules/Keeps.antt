@@ -1,16 +1,8 @@
 -- What it says that an event breaks no rule, rule by rule.
 use Rattle.std.proofs.Common.{◌≡◌, ℕ, ◌==◌, Bool, true, false, if◌then◌else◌, List, [], ◌∷◌, Option, Some, None, refl}
 use Rattle.std.specs.Bool.{⊤}
-use Rattle.ace_event.specs.declared.event.Event.{Event}
-use Rattle.ace_event.specs.declared.header.Header.{Header}
-use Rattle.ace_model.specs.Trace.{Trace}
-use Rattle.ace_model.specs.AddressRules.{k1, k2, k3, k4, k5, k6, k7, k8, k9, k10}
-use Rattle.ace_model.specs.SnoopRules.{k11, k12, k13, k14, k15, k16, k17}
-use Rattle.ace_model.specs.ReadRules.{k18, k19, k20, k21, k22, k23}
-use Rattle.ace_model.specs.WriteRules.{k24, k25, k26, k27, k28}
-use Rattle.ace_model.specs.CacheRules.{k29, k30, k31, k32, k33}
-use Rattle.ace_model.specs.OrderRules.{k34, k35, k36, k37, k38, k39, k40}
-use Rattle.ace_model.specs.Accepted.{Rule, rules, least_of, IsAccepted}
+use Rattle.ace_model.proofs.Terms.{Event, Header, Trace, k1, k2, k3, k4, k5, k6, k7, k8, k9, k10, k11, k12, k13, k14, k15, k16, k17, k18, k19, k20, k21, k22, k23, k24, k25, k26, k27, k28, k29, k30, k31}
+use Rattle.ace_model.proofs.Terms.{k32, k33, k34, k35, k36, k37, k38, k39, k40, Rule, rules, least_of, IsAccepted}
 
 -- where the least broken one is none, the first is kept, and none of the others is broken
 pub kept_first : (k : Bool) (n : ℕ) (rest : Option ℕ) → (if k then rest else Some n) ≡ None → (k ≡ true) × (rest ≡ None)

@@ -1,11 +1,8 @@
 -- The first rule of a list in order that an event breaks is the least.
 use Rattle.std.proofs.Common.{◌≡◌, ◌⊎◌, ℕ, ◌+◌, ◌≤◌, Bool, true, false, not, ◌&&◌, ◌||◌, ◌==◌, nat_le, if◌then◌else◌, List, [], ◌∷◌, Option, Some, None, refl, arith, inl, inr}
 use Rattle.std.proofs.lemmas.Bool.{and_parts, and_from, or_cases, eqb-true, eq-eqb, leb-true, le-leb}
-use Rattle.ace_event.specs.declared.event.Event.{Event}
-use Rattle.ace_event.specs.declared.header.Header.{Header}
-use Rattle.ace_model.specs.Trace.{Trace}
+use Rattle.ace_model.proofs.Terms.{Event, Header, Trace, Rule, rise_from, AreInOrder, breaks_of, least_of}
 use Rattle.ace_model.proofs.Rules.Keeps.{kept_first}
-use Rattle.ace_model.specs.Accepted.{Rule, rise_from, AreInOrder, breaks_of, least_of}
 
 -- no rule of the list has a smaller number
 no_smaller : (n : ℕ) (rs : List Rule) (h : Header) (past : Trace) (e : Event) (j : ℕ) → rise_from n rs ≡ true → breaks_of rs h past e j ≡ true → n ≤ j

@@ -2,13 +2,8 @@
 use Rattle.std.proofs.Common.{◌≡◌, ◌⊎◌, Bool, true, false, not, ◌&&◌, ◌||◌, refl, inl, inr}
 use Rattle.std.specs.List.{list_all}
 use Rattle.std.proofs.lemmas.Bool.{and_parts, or_cases, not-true}
-use Rattle.ace_codes.specs.declared.kind.ArKind.{ArKind}
+use Rattle.ace_model.proofs.Terms.{ArKind, LineState, I, UC, SC, SD, end_states_of_read, ends_read, is_invalid, is_unique, is_dirty, implies}
 use Rattle.ace_codes.specs.declared.kind.ArKind.TheVariants as read
-use Rattle.ace_codes.specs.declared.state.LineState.{LineState}
-use Rattle.ace_codes.specs.declared.state.LineState.TheVariants.{I, UC, SC, SD}
-use Rattle.ace_tables.specs.EndStates.{end_states_of_read, ends_read}
-use Rattle.ace_tables.specs.States.{is_invalid, is_unique, is_dirty}
-use Rattle.ace_model.specs.Trace.{implies}
 use Rattle.ace_model.proofs.Trace.Looks.{implies-at, is_invalid-is}
 use Rattle.ace_model.proofs.Tables.States.{all_among}
 

@@ -1,15 +1,9 @@
 -- What a row of a snoop says of the data: a dirty line is sent, and stays with the port or is passed on.
 use Rattle.std.proofs.Common.{◌≡◌, ℕ, Bool, true, false, not, ◌&&◌, ◌||◌, nat_eq, nat_lt, refl, sym, subst, ◌∙◌}
 use Rattle.std.proofs.lemmas.Bool.{and_parts, not-true, eqb-true}
-use Rattle.ace_codes.specs.declared.kind.SnoopKind.{SnoopKind}
+use Rattle.ace_model.proofs.Terms.{SnoopKind, LineState, I, UD, SD, transfers_data, has_error, passes_dirty, is_shared, same_test, states_after, fits_transfer, must_pass_dirty, fits_answer, fits_update}
+use Rattle.ace_model.proofs.Terms.{goes_with_update, is_line_row, is_plain_row, is_snoop_row, is_among, is_invalid, is_dirty, is_silent_move, is_line_snoop}
 use Rattle.ace_codes.specs.declared.kind.SnoopKind.TheVariants as snoop
-use Rattle.ace_codes.specs.declared.state.LineState.{LineState}
-use Rattle.ace_codes.specs.declared.state.LineState.TheVariants.{I, UD, SD}
-use Rattle.ace_codes.specs.Responses.{transfers_data, has_error, passes_dirty, is_shared}
-use Rattle.ace_tables.specs.Answers.{same_test, states_after, fits_transfer, must_pass_dirty, fits_answer, fits_update, goes_with_update, is_line_row, is_plain_row, is_snoop_row}
-use Rattle.ace_tables.specs.States.{is_among, is_invalid, is_dirty}
-use Rattle.ace_tables.specs.SilentTransitions.{is_silent_move}
-use Rattle.ace_model.specs.Kinds.{is_line_snoop}
 use Rattle.ace_model.proofs.Trace.Looks.{same_test-at}
 
 abbrev pub is_make_invalid : SnoopKind → Bool

@@ -3,18 +3,10 @@
 use Rattle.std.proofs.Common.{◌≡◌, ◌⊎◌, ℕ, Bool, true, false, not, ◌&&◌, ◌||◌, nat_eq, nat_lt, List, [], ◌∷◌, refl, sym, ap, subst, ◌∙◌, inl, inr}
 use Rattle.std.specs.List.{list_all, list_any}
 use Rattle.std.proofs.lemmas.Bool.{and_parts, or_cases, not-true, eqb-true}
-use Rattle.ace_codes.specs.declared.kind.AwKind.{AwKind}
+use Rattle.ace_model.proofs.Terms.{AwKind, SnoopKind, LineState, I, UC, UD, SC, SD, transfers_data, has_error, passes_dirty, is_shared, same_test, fits_transfer, must_pass_dirty, states_after, fits_answer}
+use Rattle.ace_model.proofs.Terms.{is_line_row, is_plain_row, is_snoop_row, end_states_of_write, ends_write, is_silent_move, is_among, is_invalid, is_unique, is_dirty, same_state, implies}
 use Rattle.ace_codes.specs.declared.kind.AwKind.TheVariants as write
-use Rattle.ace_codes.specs.declared.kind.SnoopKind.{SnoopKind}
 use Rattle.ace_codes.specs.declared.kind.SnoopKind.TheVariants as snoop
-use Rattle.ace_codes.specs.declared.state.LineState.{LineState}
-use Rattle.ace_codes.specs.declared.state.LineState.TheVariants.{I, UC, UD, SC, SD}
-use Rattle.ace_codes.specs.Responses.{transfers_data, has_error, passes_dirty, is_shared}
-use Rattle.ace_tables.specs.Answers.{same_test, fits_transfer, must_pass_dirty, states_after, fits_answer, is_line_row, is_plain_row, is_snoop_row}
-use Rattle.ace_tables.specs.EndStates.{end_states_of_write, ends_write}
-use Rattle.ace_tables.specs.SilentTransitions.{is_silent_move}
-use Rattle.ace_tables.specs.States.{is_among, is_invalid, is_unique, is_dirty, same_state}
-use Rattle.ace_model.specs.Trace.{implies}
 use Rattle.ace_model.proofs.Trace.Looks.{implies-at, same_test-at, is_invalid-is}
 
 -- I and SC: the port may not store, and owes no write

@@ -1,14 +1,8 @@
 -- A trace that grows: what is in it stays, and what it has had it keeps.
 use Rattle.std.proofs.Common.{◌≡◌, ◌⊎◌, ℕ, zero, suc, ◌-◌, ◌<◌, ◌≤◌, Bool, true, false, not, ◌&&◌, nat_eq, List, [], ◌∷◌, ◌++◌, length, Option, Some, None, slice_get, refl, sym, ◌∙◌, arith, inl, inr, length-append}
 use Rattle.std.proofs.lemmas.Bool.{or_cases, or_left, or_right, cases_Bool, cases_eq, eq-eqb, ne_eqb}
-use Rattle.ace_event.specs.declared.event.Event.{Event}
-use Rattle.ace_event.specs.declared.event.Channel.{Channel}
-use Rattle.ace_event.specs.declared.header.Header.{Header}
-use Rattle.ace_model.specs.declared.transactions.Transaction.{Transaction}
-use Rattle.ace_model.specs.Trace.{Trace, at_point, is_some_and, more}
-use Rattle.ace_model.specs.Transactions.{issued, is_transaction, some_issued, transaction_of}
-use Rattle.ace_model.specs.Progress.{transactions, served_by, has_had, each_issued}
-use Rattle.ace_model.specs.Accepted.{IsAccepted}
+use Rattle.ace_model.proofs.Terms.{Event, Channel, Header, Transaction, Trace, at_point, is_some_and, more, issued, is_transaction, some_issued, transaction_of, transactions, served_by, has_had}
+use Rattle.ace_model.proofs.Terms.{each_issued, IsAccepted}
 use Rattle.ace_model.proofs.Trace.Issued.{issued-place, issued_at, transaction_of-stands}
 use Rattle.ace_model.proofs.Trace.Looks.{is_some_and-is}
 use Rattle.ace_model.proofs.Trace.OneMore.{slice_get-more}

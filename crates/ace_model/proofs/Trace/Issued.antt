@@ -1,13 +1,7 @@
 -- Which transaction a name means: it stands at its place, and what is outstanding is the last of its name.
 use Rattle.std.proofs.Common.{◌≡◌, ℕ, ◌<◌, true, cond, nat_eq, [], ◌∷◌, length, Option, Some, None, sym, ap, ◌∙◌, arith, inl, inr}
 use Rattle.std.proofs.lemmas.Bool.{eq-eqb, ne_eqb}
-use Rattle.ace_event.specs.declared.event.Event.{Event}
-use Rattle.ace_event.specs.declared.event.Event.TheVariants.{Ar, R, Rk, Aw, W, B, Wk, Ac, Cr, Cd, G, M, S, L, D, Op}
-use Rattle.ace_event.specs.declared.event.Channel.{Channel}
-use Rattle.ace_event.specs.declared.header.Header.{Header}
-use Rattle.ace_model.specs.declared.transactions.Transaction.{Transaction}
-use Rattle.ace_model.specs.Trace.{Trace}
-use Rattle.ace_model.specs.Transactions.{has_name, issued, ended, transaction_of, outstanding}
+use Rattle.ace_model.proofs.Terms.{Event, Ar, R, Rk, Aw, W, B, Wk, Ac, Cr, Cd, G, M, S, L, D, Op, Channel, Header, Transaction, Trace, has_name, issued, ended, transaction_of, outstanding}
 use Rattle.ace_model.proofs.Trace.Looks.{Some-injective, newest_named-cases, newest_named-first, newest_named-older, without-some}
 
 -- a transaction knows how many events came before it

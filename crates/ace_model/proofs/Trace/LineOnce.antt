@@ -1,13 +1,8 @@
 -- A port has one outstanding transaction on a line.
 use Rattle.std.proofs.Common.{◌≡◌, ℕ, true, not, [], ◌∷◌, length, Some, refl, sym, ap, ◌∙◌, inl, inr}
 use Rattle.std.proofs.lemmas.Bool.{and_parts, and_from, eq-eqb, eqb-true}
-use Rattle.ace_event.specs.declared.event.Channel.{Channel}
-use Rattle.ace_event.specs.declared.header.Header.{Header}
-use Rattle.ace_model.specs.declared.transactions.Transaction.{Transaction}
-use Rattle.ace_model.specs.Trace.{Trace}
-use Rattle.ace_model.specs.Transactions.{is_line, is_on, has_name, issued, ended, outstanding, is_outstanding, is_outstanding_on, has_outstanding_on}
-use Rattle.ace_model.specs.AddressRules.{has_free_line}
-use Rattle.ace_model.specs.Accepted.{IsAccepted}
+use Rattle.ace_model.proofs.Terms.{Channel, Header, Transaction, Trace, is_line, is_on, has_name, issued, ended, outstanding, is_outstanding, is_outstanding_on, has_outstanding_on, has_free_line}
+use Rattle.ace_model.proofs.Terms.{IsAccepted}
 use Rattle.ace_model.proofs.Trace.Looks.{Some-injective, is_none_or-at, implies-at, has_name-is, newest_named-cases, without-some}
 use Rattle.ace_model.proofs.Trace.Issued.{outstanding-named, transaction_of-stands}
 use Rattle.ace_model.proofs.Trace.Growth.{some_issued-found}

@@ -1,16 +1,8 @@
 -- What the small tests of the looks at a trace say.
 use Rattle.std.proofs.Common.{◌≡◌, ◌≢◌, ◌⊎◌, ℕ, Bool, true, false, ◌&&◌, nat_eq, Option, Some, None, is_some, is_none, refl, sym, ap, subst, ◌∙◌, inl, inr}
 use Rattle.std.proofs.lemmas.Bool.{and_parts, and_from, cases_Bool, eqb-true, eq-eqb}
-use Rattle.ace_codes.specs.declared.state.LineState.{LineState}
-use Rattle.ace_codes.specs.declared.state.LineState.TheVariants.{I, UC, UD, SC, SD}
-use Rattle.ace_event.specs.declared.event.Channel.{Channel}
-use Rattle.ace_event.specs.declared.event.Channel.TheVariants.{Read, Write}
-use Rattle.ace_model.specs.declared.transactions.Transaction.{Transaction}
-use Rattle.ace_tables.specs.Answers.{same_test}
-use Rattle.ace_model.specs.Trace.{implies, is_some_and, is_none_or}
-use Rattle.ace_tables.specs.States.{is_invalid}
-use Rattle.ace_model.specs.Transactions.{is_read, same_channel, has_name, is_named, is_on, is_some_on, newest_named, without}
-use Rattle.ace_model.specs.Grants.{newest_on}
+use Rattle.ace_model.proofs.Terms.{LineState, I, UC, UD, SC, SD, Channel, Read, Write, Transaction, same_test, implies, is_some_and, is_none_or, is_invalid, is_read, same_channel, has_name, is_named, is_on}
+use Rattle.ace_model.proofs.Terms.{is_some_on, newest_named, without, newest_on}
 
 pub some_is : {A : Type 0} → (o : Option A) → is_some o ≡ true → (x : A) × (o ≡ Some x)
 some_is None e = cc

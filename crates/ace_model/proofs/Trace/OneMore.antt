@@ -1,7 +1,7 @@
 -- A list with one more element at its end.
 use Rattle.std.proofs.Common.{◌≡◌, ◌⊎◌, ℕ, zero, suc, List, [], ◌∷◌, ◌++◌, length, Option, Some, None, slice_get, refl, sym, ◌∙◌, arith, inl, inr}
 use Rattle.std.proofs.lemmas.Bool.{cases_eq}
-use Rattle.ace_model.specs.Trace.{more}
+use Rattle.ace_model.proofs.Terms.{more}
 
 -- the place behind the last element
 pub slice_get-at_end : {A : Type 0} → (xs : List A) (k : ℕ) (y : A) → k ≡ length xs → slice_get (xs ++ y ∷ []) k ≡ Some y

@@ -2,14 +2,7 @@
 use Rattle.std.proofs.Common.{◌≡◌, ◌⊎◌, ℕ, ◌-◌, ◌<◌, ◌≤◌, Bool, true, [], ◌∷◌, ◌++◌, length, reverse, drop, Some, slice_get, sym, ap, subst, ◌∙◌, arith, inl, inr}
 use Rattle.std.proofs.lemmas.Option.{slice_get_within}
 use Rattle.std.proofs.lemmas.List.{reverse-append, length-reverse, drop-drop, length-drop}
-use Rattle.ace_event.specs.declared.event.Event.{Event}
-use Rattle.ace_event.specs.declared.event.Event.TheVariants.{L, R, G}
-use Rattle.ace_event.specs.declared.event.Channel.TheVariants.{Read}
-use Rattle.ace_model.specs.declared.transactions.Transaction.{Transaction}
-use Rattle.ace_model.specs.Trace.{Trace, event_at, at_point}
-use Rattle.ace_model.specs.Transactions.{transaction_of, transfers}
-use Rattle.ace_model.specs.Copies.{is_line_read_transaction}
-use Rattle.ace_model.specs.ReadsFollow.{IsLoad, IsBeat, IsGrantOf}
+use Rattle.ace_model.proofs.Terms.{Event, L, R, G, Read, Transaction, Trace, event_at, at_point, transaction_of, transfers, is_line_read_transaction, IsLoad, IsBeat, IsGrantOf}
 use Rattle.ace_model.proofs.Trace.Growth.{slice_get-grown, at_point-before, at_point-end}
 use Rattle.ace_model.proofs.Trace.Looks.{Some-injective}
 use Rattle.ace_model.proofs.Trace.OneMore.{slice_get-more, slice_get-at_end}

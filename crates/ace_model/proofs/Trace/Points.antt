@@ -2,16 +2,8 @@
 use Rattle.std.proofs.Common.{◌≡◌, ℕ, zero, suc, ◌+◌, ◌-◌, ◌≤◌, true, ◌&&◌, not, nat_eq, [], ◌∷◌, length, drop, ap, ◌∙◌, arith, inl, inr}
 use Rattle.std.proofs.lemmas.Bool.{cases_Bool, ltb-true, lt-ltb}
 use Rattle.std.proofs.lemmas.List.{drop-drop, length-drop}
-use Rattle.ace_event.specs.declared.event.Event.{Event}
-use Rattle.ace_event.specs.declared.event.Event.TheVariants.{Cr}
-use Rattle.ace_event.specs.declared.header.Header.{Header}
-use Rattle.ace_model.specs.declared.transactions.Transaction.{Transaction}
-use Rattle.ace_model.specs.Trace.{Trace, at_point}
-use Rattle.ace_model.specs.Transactions.{issued}
-use Rattle.ace_model.specs.Progress.{transactions}
-use Rattle.ace_model.specs.Snoops.{snoops_of, answers, snoop_at}
-use Rattle.ace_model.specs.Messages.{is_message, messages_for, forwards_message, answered_messages, has_answered}
-use Rattle.ace_model.specs.Accepted.{IsAccepted}
+use Rattle.ace_model.proofs.Terms.{Event, Cr, Header, Transaction, Trace, at_point, issued, transactions, snoops_of, answers, snoop_at, is_message, messages_for, forwards_message, answered_messages}
+use Rattle.ace_model.proofs.Terms.{has_answered, IsAccepted}
 use Rattle.ace_model.proofs.Trace.Growth.{at_point-before}
 use Rattle.ace_model.proofs.Trace.Starts.{IsStart, start-self, start-trans, start-more, start-filter, start-length, count_by-take}
 

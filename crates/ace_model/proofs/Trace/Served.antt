@@ -1,13 +1,7 @@
 -- What an event did for a transaction: the event that a transaction has had, and the transaction that it names.
 use Rattle.std.proofs.Common.{◌≡◌, ℕ, ◌<◌, Bool, true, ◌&&◌, nat_eq, List, [], ◌∷◌, ◌++◌, length, Some, refl, sym, ap, subst, ◌∙◌, arith, inl, inr}
 use Rattle.std.proofs.lemmas.Bool.{and_parts, or_cases, eqb-true}
-use Rattle.ace_event.specs.declared.event.Event.{Event}
-use Rattle.ace_event.specs.declared.event.Channel.{Channel}
-use Rattle.ace_event.specs.declared.header.Header.{Header}
-use Rattle.ace_model.specs.declared.transactions.Transaction.{Transaction}
-use Rattle.ace_model.specs.Trace.{Trace, is_some_and}
-use Rattle.ace_model.specs.Transactions.{is_transaction, transaction_of, outstanding}
-use Rattle.ace_model.specs.Progress.{served_by, has_had}
+use Rattle.ace_model.proofs.Terms.{Event, Channel, Header, Transaction, Trace, is_some_and, is_transaction, transaction_of, outstanding, served_by, has_had}
 use Rattle.ace_model.proofs.Trace.Growth.{issued_at-grown}
 use Rattle.ace_model.proofs.Trace.Issued.{issued_at, transaction_of-stands, outstanding-named}
 use Rattle.ace_model.proofs.Trace.Looks.{Some-injective, is_some_and-is, Named, has_name-is}

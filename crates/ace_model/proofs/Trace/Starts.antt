@@ -4,7 +4,7 @@ use Rattle.std.proofs.lemmas.Bool.{cases_Bool}
 use Rattle.std.proofs.lemmas.List.{append-nil}
 use Rattle.std.proofs.lemmas.List.Elements.{filter-append}
 use Rattle.std.proofs.lemmas.List.Sums.{sum_by-cons}
-use Rattle.ace_model.specs.Trace.{more}
+use Rattle.ace_model.proofs.Terms.{more}
 
 -- the second list begins with the first
 pub record IsStart {A : Type 0} (xs ys : List A) : Type 0 where

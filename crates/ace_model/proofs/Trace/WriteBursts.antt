@@ -1,17 +1,8 @@
 -- The burst of a write: which beat of it an event adds, and that it has four once it is whole.
 use Rattle.std.proofs.Common.{◌≡◌, ◌⊎◌, ℕ, zero, suc, ◌+◌, ◌-◌, ◌*◌, ◌/◌, ◌%◌, ◌<◌, ◌≤◌, Bool, true, false, ◌&&◌, nat_eq, nat_le, List, [], ◌∷◌, length, take, drop, Option, Some, None, slice_get, refl, sym, ap, ◌∙◌, arith, inl, inr, length-append}
 use Rattle.std.proofs.lemmas.Bool.{and_parts, or_cases, cases_Bool, eqb-true, eq-eqb, leb-true}
-use Rattle.ace_event.specs.declared.event.Event.{Event}
-use Rattle.ace_event.specs.declared.event.Event.TheVariants.{W}
-use Rattle.ace_event.specs.declared.header.Header.{Header}
-use Rattle.ace_model.specs.declared.transactions.Transaction.{Transaction}
-use Rattle.ace_model.specs.Trace.{Trace, at_point, is_some_and, more}
-use Rattle.ace_model.specs.Kinds.{has_write_data}
-use Rattle.ace_model.specs.Transactions.{issued, write_kind}
-use Rattle.ace_model.specs.Writes.{data_write_in, data_write, data_writes, write_beats, next_write, next_write_beat, stands_before, is_burst_whole}
-use Rattle.ace_model.specs.Values.{Beat, beat_at, beats, burst_of}
-use Rattle.ace_model.specs.SnoopRules.{is_next_beat}
-use Rattle.ace_model.specs.Accepted.{IsAccepted}
+use Rattle.ace_model.proofs.Terms.{Event, W, Header, Transaction, Trace, at_point, is_some_and, more, has_write_data, issued, write_kind, data_write_in, data_write, data_writes, write_beats, next_write}
+use Rattle.ace_model.proofs.Terms.{next_write_beat, stands_before, is_burst_whole, Beat, beat_at, beats, burst_of, is_next_beat, IsAccepted}
 use Rattle.ace_model.proofs.Trace.Looks.{Some-injective, is_some_and-is}
 use Rattle.ace_model.proofs.Trace.Growth.{slice_get-grown, at_point-before, at_point-end, IsIssued}
 use Rattle.ace_model.proofs.Trace.Issued.{issued_at, issued-place}

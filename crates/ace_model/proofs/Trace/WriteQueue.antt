@@ -1,20 +1,9 @@
 -- The complete writes of a port that wait for their WK: they are outstanding, each once, and those with data have written memory.
 use Rattle.std.proofs.Common.{◌≡◌, ◌≢◌, ◌⊎◌, ℕ, ◌+◌, ◌≤◌, Bool, true, false, not, if◌then◌else◌, ◌&&◌, nat_eq, nat_lt, [], ◌∷◌, length, Some, None, slice_get, le_refl, refl, sym, ap, subst, ◌∙◌, arith, inl, inr}
 use Rattle.std.proofs.lemmas.Bool.{and_parts, or_cases, or_right, not-true, cases_Bool, eqb-true, eq-eqb}
-use Rattle.ace_codes.specs.declared.state.LineState.{LineState}
-use Rattle.ace_event.specs.declared.event.Channel.{Channel}
-use Rattle.ace_event.specs.declared.event.Channel.TheVariants.{Read, Write}
-use Rattle.ace_event.specs.declared.event.Event.{Event}
-use Rattle.ace_event.specs.declared.event.Event.TheVariants.{Ar, R, Rk, Aw, B, Wk}
-use Rattle.ace_event.specs.declared.header.Header.{Header}
-use Rattle.ace_model.specs.declared.transactions.Transaction.{Transaction}
-use Rattle.ace_model.specs.Trace.{Trace, is_some_and}
-use Rattle.ace_model.specs.Kinds.{has_write_data}
-use Rattle.ace_model.specs.Transactions.{is_ace, is_named, issued, ended, write_kind, transaction_of, outstanding, completed, completes, acknowledgements, acknowledged, is_completion, is_complete}
-use Rattle.ace_model.specs.Writes.{is_memory_write, has_memory_write}
-use Rattle.ace_model.specs.AddressRules.{k4}
-use Rattle.ace_model.specs.WriteRules.{k26, may_respond}
-use Rattle.ace_model.specs.Accepted.{IsAccepted}
+use Rattle.ace_model.proofs.Terms.{LineState, Channel, Read, Write, Event, Ar, R, Rk, Aw, B, Wk, Header, Transaction, Trace, is_some_and, has_write_data, is_ace, is_named, issued, ended, write_kind}
+use Rattle.ace_model.proofs.Terms.{transaction_of, outstanding, completed, completes, acknowledgements, acknowledged, is_completion, is_complete, is_memory_write, has_memory_write, k4, k26, may_respond}
+use Rattle.ace_model.proofs.Terms.{IsAccepted}
 use Rattle.ace_model.proofs.Trace.Looks.{Some-injective, is_some_and-is, implies-at, has_name-is, newest_named-cases, without-some, without-other}
 use Rattle.ace_model.proofs.Trace.Issued.{outstanding-named, transaction_of-stands}
 use Rattle.ace_model.proofs.Trace.OneMore.{slice_get-more}
@@ -36,55 +25,56 @@ pub record Queue (h : Header) (past : Trace) (p : ℕ) : Type 0 where
 read_apart : (past : Trace) (p q i j : ℕ) (x z : Transaction) → transaction_of past p Write i ≡ Some x → transaction_of past q Read j ≡ Some z → z.place ≢ x.place
 read_apart past p q i j x z a b e = let chan = (one_name past q p Read Write j i z x b a e).chan in cc
 
--- what the rule on responses says of the write that the event names
-record Responds (h : Header) (past : Trace) (q j : ℕ) : Type 0 where
-  one : Transaction
-  out : outstanding h past q Write j ≡ Some one
-  unanswered : is_complete past q Write j ≡ false
-  written : is_some_and (write_kind one) has_write_data ≡ true → has_memory_write past q Write j ≡ true
+module _ (h : Header) (past : Trace) where
+  -- what the rule on responses says of the write that the event names
+  record Responds (q j : ℕ) : Type 0 where
+    one : Transaction
+    out : outstanding h past q Write j ≡ Some one
+    unanswered : is_complete past q Write j ≡ false
+    written : is_some_and (write_kind one) has_write_data ≡ true → has_memory_write past q Write j ≡ true
 
-responds : (h : Header) (past : Trace) (q j resp : ℕ) → k26 h past (B q j resp) ≡ true → Responds h past q j
-responds h past q j resp k =
-    let o = is_some_and-is (outstanding h past q Write j) (may_respond past) (and_parts (nat_eq resp 0) _ k).1 in
-    let x = o.0 in
-    let name = has_name-is x q Write j (transaction_of-stands past q Write j x (outstanding-named h past q Write j x o.1)).named in
-    let parts = and_parts (not (is_complete past x.port x.chan x.id)) _ o.2 in
-    let same : is_complete past x.port x.chan x.id ≡ is_complete past q Write j =
-    ap (λ a. is_complete past a x.chan x.id) name.port ∙ ap (λ a. is_complete past q a x.id) name.chan ∙ ap (is_complete past q Write) name.id in
-    let same_write : has_memory_write past x.port x.chan x.id ≡ has_memory_write past q Write j =
-    ap (λ a. has_memory_write past a x.chan x.id) name.port ∙ ap (λ a. has_memory_write past q a x.id) name.chan ∙ ap (has_memory_write past q Write) name.id in
-    record {
-      one = x;
-      out = o.1;
-      unanswered = sym same ∙ not-true (is_complete past x.port x.chan x.id) parts.0;
-      written = λ t. sym same_write ∙ implies-at (is_some_and (write_kind x) has_write_data) (has_memory_write past x.port x.chan x.id) parts.1 t;
-    }
+  responds : (q j resp : ℕ) → k26 h past (B q j resp) ≡ true → Responds q j
+  responds q j resp k =
+      let o = is_some_and-is (outstanding h past q Write j) (may_respond past) (and_parts (nat_eq resp 0) _ k).1 in
+      let x = o.0 in
+      let name = has_name-is x q Write j (transaction_of-stands past q Write j x (outstanding-named h past q Write j x o.1)).named in
+      let parts = and_parts (not (is_complete past x.port x.chan x.id)) _ o.2 in
+      let same : is_complete past x.port x.chan x.id ≡ is_complete past q Write j =
+      ap (λ a. is_complete past a x.chan x.id) name.port ∙ ap (λ a. is_complete past q a x.id) name.chan ∙ ap (is_complete past q Write) name.id in
+      let same_write : has_memory_write past x.port x.chan x.id ≡ has_memory_write past q Write j =
+      ap (λ a. has_memory_write past a x.chan x.id) name.port ∙ ap (λ a. has_memory_write past q a x.id) name.chan ∙ ap (has_memory_write past q Write) name.id in
+      record {
+        one = x;
+        out = o.1;
+        unanswered = sym same ∙ not-true (is_complete past x.port x.chan x.id) parts.0;
+        written = λ t. sym same_write ∙ implies-at (is_some_and (write_kind x) has_write_data) (has_memory_write past x.port x.chan x.id) parts.1 t;
+      }
 
-responds_of : (h : Header) (past : Trace) (q j resp : ℕ) → IsAccepted h (B q j resp ∷ past) → Responds h past q j
-responds_of h past q j resp a = responds h past q j resp (accepted_keeps h past (B q j resp) a).rule_26
+  responds_of : (q j resp : ℕ) → IsAccepted h (B q j resp ∷ past) → Responds q j
+  responds_of q j resp a = responds q j resp (accepted_keeps h past (B q j resp) a).rule_26
 
--- another transaction is issued
-waiting_issued : (h : Header) (past : Trace) (e : Event) (y : Transaction) (p i : ℕ) → issued (length past) e ≡ Some y → k4 h past e ≡ true
-    → ((x : Transaction) → outstanding h past p Write i ≡ Some x → (is_named (issued (length past) e) p Write i ≡ false) × (outstanding h (e ∷ past) p Write i ≡ Some x))
-    → IsWaiting h past p i → IsWaiting h (e ∷ past) p i
-waiting_issued h past e y p i new k stays w =
-    let s = stays w.0 w.1 in
-    (w.0, s.1, or_right (is_completion e p Write i) (not (is_named (issued (length past) e) p Write i) && is_complete past p Write i) (rw s.0 w.2))
+  -- another transaction is issued
+  waiting_issued : (e : Event) (y : Transaction) (p i : ℕ) → issued (length past) e ≡ Some y → k4 h past e ≡ true
+      → ((x : Transaction) → outstanding h past p Write i ≡ Some x → (is_named (issued (length past) e) p Write i ≡ false) × (outstanding h (e ∷ past) p Write i ≡ Some x))
+      → IsWaiting h past p i → IsWaiting h (e ∷ past) p i
+  waiting_issued e y p i new k stays w =
+      let s = stays w.0 w.1 in
+      (w.0, s.1, or_right (is_completion e p Write i) (not (is_named (issued (length past) e) p Write i) && is_complete past p Write i) (rw s.0 w.2))
 
-ends_lite_write : (h : Header) (past : Trace) (q j resp : ℕ) (z : Transaction) → ended h past (B q j resp) ≡ Some z → (is_ace h q ≡ false) × (transaction_of past q Write j ≡ Some z)
-ends_lite_write h past q j resp z e = lite (is_ace h q) e
-  where
-    lite : (b : Bool) → (if b then None else transaction_of past q Write j) ≡ Some z → (b ≡ false) × (transaction_of past q Write j ≡ Some z)
-    lite true e = cc
-    lite false e = (refl, e)
+  ends_lite_write : (q j resp : ℕ) (z : Transaction) → ended h past (B q j resp) ≡ Some z → (is_ace h q ≡ false) × (transaction_of past q Write j ≡ Some z)
+  ends_lite_write q j resp z e = lite (is_ace h q) e
+    where
+      lite : (b : Bool) → (if b then None else transaction_of past q Write j) ≡ Some z → (b ≡ false) × (transaction_of past q Write j ≡ Some z)
+      lite true e = cc
+      lite false e = (refl, e)
 
-waiting_b : (h : Header) (past : Trace) (q j resp p i : ℕ) (x : Transaction) → is_ace h p ≡ true → outstanding h past p Write i ≡ Some x
-    → outstanding h (B q j resp ∷ past) p Write i ≡ Some x
-waiting_b h past q j resp p i x ace o =
-    without-other (ended h past (B q j resp)) (outstanding h past p Write i) x o (λ z is same.
-    let e = ends_lite_write h past q j resp z is in
-    let name = one_name past q p Write Write j i z x e.1 (outstanding-named h past p Write i x o) same in
-    let bad : is_ace h q ≡ true = ap (is_ace h) name.port ∙ ace in cc)
+  waiting_b : (q j resp p i : ℕ) (x : Transaction) → is_ace h p ≡ true → outstanding h past p Write i ≡ Some x
+      → outstanding h (B q j resp ∷ past) p Write i ≡ Some x
+  waiting_b q j resp p i x ace o =
+      without-other (ended h past (B q j resp)) (outstanding h past p Write i) x o (λ z is same.
+      let e = ends_lite_write q j resp z is in
+      let name = one_name past q p Write Write j i z x e.1 (outstanding-named h past p Write i x o) same in
+      let bad : is_ace h q ≡ true = ap (is_ace h) name.port ∙ ace in cc)
 
 -- an identifier in the queue after a response was there, or is that of the response
 record IsNewest (past : Trace) (p q j n i : ℕ) : Type 0 where

@@ -2,29 +2,10 @@
 use Rattle.std.proofs.Common.{◌≡◌, ◌⊎◌, ℕ, Bool, true, false, ◌&&◌, ◌||◌, ◌==◌, nat_eq, ◌∷◌, Some, refl, sym, ap, subst, ◌∙◌, inl, inr}
 use Rattle.std.proofs.lemmas.Bool.{and_parts, or_cases, or_left, cases_Bool, eqb-true, eq-eqb}
 use Rattle.std.specs.List.{list_all}
-use Rattle.ace_codes.specs.declared.kind.ArKind.{ArKind}
+use Rattle.ace_model.proofs.Terms.{ArKind, LineState, I, UC, UD, SC, SD, passes_dirty, is_shared, Read, Event, R, Rk, M, D, Header, Line, merged, end_states_of_read, ends_read, is_fetch, is_invalid}
+use Rattle.ace_model.proofs.Terms.{is_unique, Transaction, Trace, is_some_and, is_make_unique, beats_of, is_granted_write, is_on, write_kind, outstanding, transaction_of, transfers, first_resp, has_failed}
+use Rattle.ace_model.proofs.Terms.{state_of, is_line_read_transaction, copy_of, value_of, IsAccepted, AreCopiesTrue}
 use Rattle.ace_codes.specs.declared.kind.ArKind.TheVariants as read
-use Rattle.ace_codes.specs.declared.state.LineState.{LineState}
-use Rattle.ace_codes.specs.declared.state.LineState.TheVariants.{I, UC, UD, SC, SD}
-use Rattle.ace_codes.specs.Responses.{passes_dirty, is_shared}
-use Rattle.ace_event.specs.declared.event.Channel.TheVariants.{Read}
-use Rattle.ace_event.specs.declared.event.Event.{Event}
-use Rattle.ace_event.specs.declared.event.Event.TheVariants.{R, Rk, M, D}
-use Rattle.ace_event.specs.declared.header.Header.{Header}
-use Rattle.ace_event.specs.declared.line.Line.{Line}
-use Rattle.ace_event.specs.Bytes.{merged}
-use Rattle.ace_tables.specs.EndStates.{end_states_of_read, ends_read, is_fetch}
-use Rattle.ace_tables.specs.States.{is_invalid, is_unique}
-use Rattle.ace_model.specs.declared.transactions.Transaction.{Transaction}
-use Rattle.ace_model.specs.Trace.{Trace, is_some_and}
-use Rattle.ace_model.specs.Kinds.{is_make_unique, beats_of, is_granted_write}
-use Rattle.ace_model.specs.Transactions.{is_on, write_kind, outstanding, transaction_of, transfers, first_resp}
-use Rattle.ace_model.specs.Exclusives.{has_failed}
-use Rattle.ace_model.specs.States.{state_of}
-use Rattle.ace_model.specs.Copies.{is_line_read_transaction, copy_of}
-use Rattle.ace_model.specs.Values.{value_of}
-use Rattle.ace_model.specs.Accepted.{IsAccepted}
-use Rattle.ace_model.specs.DirtyPlace.{AreCopiesTrue}
 use Rattle.ace_model.proofs.Trace.Looks.{is_some_and-is, is_invalid-is}
 use Rattle.ace_model.proofs.Tables.States.{all_among}
 use Rattle.ace_model.proofs.Holders.Acknowledge.{is_named_by_rk}
@@ -73,93 +54,94 @@ unique_valid UD u e = cc
 unique_valid SC u e = cc
 unique_valid SD u e = cc
 
--- a store changes the copy of its port as it does the value, and finds no other port with the line
-copies_d : (h : Header) (past : Trace) (q l strobe : ℕ) (b : Bool) (line : Line) → IsAccepted h (D q l strobe b line ∷ past) → AreCopiesTrue h past l
-    → AreCopiesTrue h (D q l strobe b line ∷ past) l
-copies_d h past q l strobe b line a f p held =
-    elim (cases_Bool (nat_eq p q)) [
-      | inl own ↦
-          let port = eqb-true p q own in
-          let here : nat_eq l l ≡ true = eq-eqb l l refl in
-          let goal : merged (copy_of past p l) strobe line ≡ merged (value_of past l) strobe line =
-          elim (stores_d h past q l strobe b line a) [
-            | inl may ↦
-                let unique = (and_parts (is_unique (state_of h past q l)) _ may).0 in
-                ap (λ c. merged c strobe line) (f p (subst (λ v. state_of h past v l ≡ I → ⊥) (sym port) (unique_valid (state_of h past q l) unique)))
-            | inr m ↦
-                subst (λ s. merged (copy_of past p l) s line ≡ merged (value_of past l) s line) (sym m.whole) (merged-whole (copy_of past p l) (value_of past l) line)
-          ] in
-          rw (own, here) goal
-      | inr other ↦
-          let apart : q ≡ p → ⊥ = λ same. let t = eq-eqb p q (sym same) in cc in
-          let gone : state_of h past p l ≡ I =
-          elim (stores_d h past q l strobe b line a) [
-            | inl may ↦ (accepted_holds h past a.0).unique l q p (and_parts (is_unique (state_of h past q l)) _ may).0 apart
-            | inr m ↦ m.alone p apart
-          ] in
-          let not_named : (nat_eq p q && nat_eq l l) ≡ false = rw other refl in
-          absurd (held (state_d h past q l strobe b line p l not_named ∙ gone))
-    ]
+module _ (h : Header) (past : Trace) where
+  -- a store changes the copy of its port as it does the value, and finds no other port with the line
+  copies_d : (q l strobe : ℕ) (b : Bool) (line : Line) → IsAccepted h (D q l strobe b line ∷ past) → AreCopiesTrue h past l
+      → AreCopiesTrue h (D q l strobe b line ∷ past) l
+  copies_d q l strobe b line a f p held =
+      elim (cases_Bool (nat_eq p q)) [
+        | inl own ↦
+            let port = eqb-true p q own in
+            let here : nat_eq l l ≡ true = eq-eqb l l refl in
+            let goal : merged (copy_of past p l) strobe line ≡ merged (value_of past l) strobe line =
+            elim (stores_d h past q l strobe b line a) [
+              | inl may ↦
+                  let unique = (and_parts (is_unique (state_of h past q l)) _ may).0 in
+                  ap (λ c. merged c strobe line) (f p (subst (λ v. state_of h past v l ≡ I → ⊥) (sym port) (unique_valid (state_of h past q l) unique)))
+              | inr m ↦
+                  subst (λ s. merged (copy_of past p l) s line ≡ merged (value_of past l) s line) (sym m.whole) (merged-whole (copy_of past p l) (value_of past l) line)
+            ] in
+            rw (own, here) goal
+        | inr other ↦
+            let apart : q ≡ p → ⊥ = λ same. let t = eq-eqb p q (sym same) in cc in
+            let gone : state_of h past p l ≡ I =
+            elim (stores_d h past q l strobe b line a) [
+              | inl may ↦ (accepted_holds h past a.0).unique l q p (and_parts (is_unique (state_of h past q l)) _ may).0 apart
+              | inr m ↦ m.alone p apart
+            ] in
+            let not_named : (nat_eq p q && nat_eq l l) ≡ false = rw other refl in
+            absurd (held (state_d h past q l strobe b line p l not_named ∙ gone))
+      ]
 
--- an RK of a read of the line
-copies_rk : (h : Header) (past : Trace) (q : ℕ) (st : LineState) → IsAccepted h (Rk q st ∷ past) → Facts h past → (l p : ℕ) → is_named_by_rk past q p l ≡ true
-    → (st ≡ I → ⊥) → copy_of past p l ≡ value_of past l
-copies_rk h past q st a f l p t held =
-    elim (cases_Bool (is_invalid (state_of h past p l))) [
-      | inr was ↦ f.copies l p (invalid_not (state_of h past p l) was)
-      | inl gone ↦
-          let r = read_ends h past q st a p l t in
-          let o = first_resp past p r.id in
-          let ended : ends_read r.kind I (is_some_and o is_shared) (is_some_and o passes_dirty) (has_failed past r.one) st ≡ true =
-          subst (λ v. ends_read r.kind v (is_some_and o is_shared) (is_some_and o passes_dirty) (has_failed past r.one) st ≡ true) (is_invalid-is (state_of h past p l) gone) r.state in
-          let valid : is_invalid st ≡ false = valid_not st held in
-          elim (or_cases (is_fetch r.kind) (is_make_unique r.kind) (gains_by r.kind (is_some_and o is_shared) (is_some_and o passes_dirty) (has_failed past r.one) st ended valid)) [
-            | inl fetch ↦
-                let beats : nat_eq (transfers past p r.id) (beats_of r.kind) ≡ true = subst (λ v. is_some_and v (λ k. transfers past p r.id == beats_of k) ≡ true) r.is_kind r.full in
-                let four : transfers past p r.id ≡ 4 = eqb-true (transfers past p r.id) (beats_of r.kind) beats ∙ fetch_beats r.kind fetch in
-                (f.fetches p r.id l r.one r.kind r.out r.on r.is_kind fetch (full_some past p r.id r.one r.full)).whole four
-            | inr make ↦ f.made p r.id l r.one r.out r.on (r.is_kind ∙ ap (λ v. Some v) (make_unique_is r.kind make)) (r.stored make)
-          ]
-    ]
-  where
-    valid_not : (s : LineState) → (s ≡ I → ⊥) → is_invalid s ≡ false
-    valid_not I n = absurd (n refl)
-    valid_not UC n = refl
-    valid_not UD n = refl
-    valid_not SC n = refl
-    valid_not SD n = refl
+  -- an RK of a read of the line
+  copies_rk : (q : ℕ) (st : LineState) → IsAccepted h (Rk q st ∷ past) → Facts h past → (l p : ℕ) → is_named_by_rk past q p l ≡ true
+      → (st ≡ I → ⊥) → copy_of past p l ≡ value_of past l
+  copies_rk q st a f l p t held =
+      elim (cases_Bool (is_invalid (state_of h past p l))) [
+        | inr was ↦ f.copies l p (invalid_not (state_of h past p l) was)
+        | inl gone ↦
+            let r = read_ends h past q st a p l t in
+            let o = first_resp past p r.id in
+            let ended : ends_read r.kind I (is_some_and o is_shared) (is_some_and o passes_dirty) (has_failed past r.one) st ≡ true =
+            subst (λ v. ends_read r.kind v (is_some_and o is_shared) (is_some_and o passes_dirty) (has_failed past r.one) st ≡ true) (is_invalid-is (state_of h past p l) gone) r.state in
+            let valid : is_invalid st ≡ false = valid_not st held in
+            elim (or_cases (is_fetch r.kind) (is_make_unique r.kind) (gains_by r.kind (is_some_and o is_shared) (is_some_and o passes_dirty) (has_failed past r.one) st ended valid)) [
+              | inl fetch ↦
+                  let beats : nat_eq (transfers past p r.id) (beats_of r.kind) ≡ true = subst (λ v. is_some_and v (λ k. transfers past p r.id == beats_of k) ≡ true) r.is_kind r.full in
+                  let four : transfers past p r.id ≡ 4 = eqb-true (transfers past p r.id) (beats_of r.kind) beats ∙ fetch_beats r.kind fetch in
+                  (f.fetches p r.id l r.one r.kind r.out r.on r.is_kind fetch (full_some past p r.id r.one r.full)).whole four
+              | inr make ↦ f.made p r.id l r.one r.out r.on (r.is_kind ∙ ap (λ v. Some v) (make_unique_is r.kind make)) (r.stored make)
+            ]
+      ]
+    where
+      valid_not : (s : LineState) → (s ≡ I → ⊥) → is_invalid s ≡ false
+      valid_not I n = absurd (n refl)
+      valid_not UC n = refl
+      valid_not UD n = refl
+      valid_not SC n = refl
+      valid_not SD n = refl
 
-    fetch_beats : (k : ArKind) → is_fetch k ≡ true → beats_of k ≡ 4
-    fetch_beats read.ReadClean e = refl
-    fetch_beats read.ReadNotSharedDirty e = refl
-    fetch_beats read.ReadShared e = refl
-    fetch_beats read.ReadUnique e = refl
-    fetch_beats k e = cc
+      fetch_beats : (k : ArKind) → is_fetch k ≡ true → beats_of k ≡ 4
+      fetch_beats read.ReadClean e = refl
+      fetch_beats read.ReadNotSharedDirty e = refl
+      fetch_beats read.ReadShared e = refl
+      fetch_beats read.ReadUnique e = refl
+      fetch_beats k e = cc
 
--- the line read that a transfer completes finds its port with nothing
-pub received_empty : (h : Header) (past : Trace) (q j resp : ℕ) (last : Bool) (word p l : ℕ) → IsAccepted h (R q j resp last word ∷ past)
-    → ((nat_eq p q && last) && is_some_and (transaction_of past p Read j) (λ x. is_on x l && is_line_read_transaction x)) ≡ true → state_of h past p l ≡ I
-received_empty h past q j resp last word p l a t =
-    let parts = and_parts (nat_eq p q && last) _ t in
-    let port = eqb-true p q (and_parts (nat_eq p q) last parts.0).0 in
-    let x = is_some_and-is (transaction_of past p Read j) (λ x. is_on x l && is_line_read_transaction x) parts.1 in
-    let m = may_of h past q j resp last word a in
-    let out : outstanding h past p Read j ≡ Some m.one = ap (λ v. outstanding h past v Read j) port ∙ m.out in
-    let one : Some m.one ≡ Some x.0 = sym m.named ∙ ap (λ v. transaction_of past v Read j) (sym port) ∙ x.1 in
-    let both = and_parts (is_on x.0 l) (is_line_read_transaction x.0) x.2 in
-    stays_empty h past a.0 p Read j l x.0 (out ∙ one) both.0 (or_left (is_line_read_transaction x.0) (is_some_and (write_kind x.0) is_granted_write) both.1)
+  -- the line read that a transfer completes finds its port with nothing
+  pub received_empty : (q j resp : ℕ) (last : Bool) (word p l : ℕ) → IsAccepted h (R q j resp last word ∷ past)
+      → ((nat_eq p q && last) && is_some_and (transaction_of past p Read j) (λ x. is_on x l && is_line_read_transaction x)) ≡ true → state_of h past p l ≡ I
+  received_empty q j resp last word p l a t =
+      let parts = and_parts (nat_eq p q && last) _ t in
+      let port = eqb-true p q (and_parts (nat_eq p q) last parts.0).0 in
+      let x = is_some_and-is (transaction_of past p Read j) (λ x. is_on x l && is_line_read_transaction x) parts.1 in
+      let m = may_of h past q j resp last word a in
+      let out : outstanding h past p Read j ≡ Some m.one = ap (λ v. outstanding h past v Read j) port ∙ m.out in
+      let one : Some m.one ≡ Some x.0 = sym m.named ∙ ap (λ v. transaction_of past v Read j) (sym port) ∙ x.1 in
+      let both = and_parts (is_on x.0 l) (is_line_read_transaction x.0) x.2 in
+      stays_empty h past a.0 p Read j l x.0 (out ∙ one) both.0 (or_left (is_line_read_transaction x.0) (is_some_and (write_kind x.0) is_granted_write) both.1)
 
--- The event completes a read of the line at the port.
-pub record Receives (h : Header) (past : Trace) (e : Event) (p l : ℕ) : Type 0 where
-  pub id : ℕ
-  pub one : Transaction
-  pub out : outstanding h past p Read id ≡ Some one
-  pub on : is_on one l ≡ true
-  pub reads : is_line_read_transaction one ≡ true
-  pub resp : ℕ
-  pub last : Bool
-  pub word : ℕ
-  pub is : e ≡ R p id resp last word
+  -- The event completes a read of the line at the port.
+  pub record Receives (e : Event) (p l : ℕ) : Type 0 where
+    pub id : ℕ
+    pub one : Transaction
+    pub out : outstanding h past p Read id ≡ Some one
+    pub on : is_on one l ≡ true
+    pub reads : is_line_read_transaction one ≡ true
+    pub resp : ℕ
+    pub last : Bool
+    pub word : ℕ
+    pub is : e ≡ R p id resp last word
 
 -- The event is a store of the port to the line.
 pub record StoresLine (e : Event) (p l : ℕ) : Type 0 where

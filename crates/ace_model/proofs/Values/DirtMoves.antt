@@ -2,32 +2,11 @@
 use Rattle.std.proofs.Common.{◌≡◌, ◌⊎◌, ℕ, Bool, true, false, not, ◌&&◌, ◌||◌, nat_eq, ◌∷◌, Some, None, refl, sym, ap, subst, ◌∙◌, inl, inr}
 use Rattle.std.proofs.lemmas.Bool.{and_parts, or_cases, or_right, cases_Bool, eqb-true}
 use Rattle.std.specs.List.{list_all}
-use Rattle.ace_codes.specs.declared.kind.ArKind.{ArKind}
+use Rattle.ace_model.proofs.Terms.{ArKind, AwKind, LineState, I, UC, SC, SD, passes_dirty, is_shared, Channel, Write, Event, Rk, Wk, Cr, S, D, Header, end_states_of_read, ends_read, is_silent_move}
+use Rattle.ace_model.proofs.Terms.{is_invalid, is_dirty, Transaction, Trace, is_some_and, is_line_read, is_line_write, is_granted_write, has_write_data, is_line, is_on, is_some_on, read_kind, write_kind}
+use Rattle.ace_model.proofs.Terms.{outstanding, acknowledged, first_resp, has_update, has_memory_write, answers_line, has_failed, state_of, is_line_read_transaction, IsAccepted}
 use Rattle.ace_codes.specs.declared.kind.ArKind.TheVariants as read
-use Rattle.ace_codes.specs.declared.kind.AwKind.{AwKind}
 use Rattle.ace_codes.specs.declared.kind.AwKind.TheVariants as write
-use Rattle.ace_codes.specs.declared.state.LineState.{LineState}
-use Rattle.ace_codes.specs.declared.state.LineState.TheVariants.{I, UC, SC, SD}
-use Rattle.ace_codes.specs.Responses.{passes_dirty, is_shared}
-use Rattle.ace_event.specs.declared.event.Channel.{Channel}
-use Rattle.ace_event.specs.declared.event.Channel.TheVariants.{Write}
-use Rattle.ace_event.specs.declared.event.Event.{Event}
-use Rattle.ace_event.specs.declared.event.Event.TheVariants.{Rk, Wk, Cr, S, D}
-use Rattle.ace_event.specs.declared.header.Header.{Header}
-use Rattle.ace_tables.specs.EndStates.{end_states_of_read, ends_read}
-use Rattle.ace_tables.specs.SilentTransitions.{is_silent_move}
-use Rattle.ace_tables.specs.States.{is_invalid, is_dirty}
-use Rattle.ace_model.specs.declared.transactions.Transaction.{Transaction}
-use Rattle.ace_model.specs.Trace.{Trace, is_some_and}
-use Rattle.ace_model.specs.Kinds.{is_line_read, is_line_write, is_granted_write, has_write_data}
-use Rattle.ace_model.specs.Transactions.{is_line, is_on, is_some_on, read_kind, write_kind, outstanding, acknowledged, first_resp}
-use Rattle.ace_model.specs.Progress.{has_update}
-use Rattle.ace_model.specs.Writes.{has_memory_write}
-use Rattle.ace_model.specs.Snoops.{answers_line}
-use Rattle.ace_model.specs.Exclusives.{has_failed}
-use Rattle.ace_model.specs.States.{state_of}
-use Rattle.ace_model.specs.Copies.{is_line_read_transaction}
-use Rattle.ace_model.specs.Accepted.{IsAccepted}
 use Rattle.ace_model.proofs.Trace.Looks.{is_some_and-is}
 use Rattle.ace_model.proofs.Rules.Keeps.{accepted_keeps}
 use Rattle.ace_model.proofs.Tables.States.{all_among}

@@ -1,25 +1,9 @@
 -- What holds at each point of an accepted trace, beside the law that data newer than memory have a place, and makes it inductive.
 use Rattle.std.proofs.Common.{◌≡◌, ◌≢◌, ◌⊎◌, ℕ, true, false, Some, slice_get}
-use Rattle.ace_codes.specs.declared.kind.ArKind.{ArKind}
+use Rattle.ace_model.proofs.Terms.{ArKind, I, passes_dirty, transfers_data, Header, Read, Write, is_fetch, is_dirty, Answer, Transaction, Trace, at_point, is_some_and, is_read, is_on, read_kind, write_kind}
+use Rattle.ace_model.proofs.Terms.{outstanding, transfers, updates_memory, has_memory_write, granted, answer_of, has_passed_data, state_of, has_store, words_read, word_of, copy_of, memory_of, reply_of}
+use Rattle.ace_model.proofs.Terms.{Beat, burst_of, value_of, AreCopiesTrue, IsValueSafe}
 use Rattle.ace_codes.specs.declared.kind.ArKind.TheVariants as read
-use Rattle.ace_codes.specs.declared.state.LineState.TheVariants.{I}
-use Rattle.ace_codes.specs.Responses.{passes_dirty, transfers_data}
-use Rattle.ace_event.specs.declared.header.Header.{Header}
-use Rattle.ace_event.specs.declared.event.Channel.TheVariants.{Read, Write}
-use Rattle.ace_tables.specs.EndStates.{is_fetch}
-use Rattle.ace_tables.specs.States.{is_dirty}
-use Rattle.ace_model.specs.declared.snoops.Answer.{Answer}
-use Rattle.ace_model.specs.declared.transactions.Transaction.{Transaction}
-use Rattle.ace_model.specs.Trace.{Trace, at_point, is_some_and}
-use Rattle.ace_model.specs.Transactions.{is_read, is_on, read_kind, write_kind, outstanding, transfers}
-use Rattle.ace_model.specs.Progress.{updates_memory}
-use Rattle.ace_model.specs.Writes.{has_memory_write}
-use Rattle.ace_model.specs.Grants.{granted, answer_of, has_passed_data}
-use Rattle.ace_model.specs.States.{state_of, has_store}
-use Rattle.ace_model.specs.Copies.{words_read, word_of, copy_of, memory_of}
-use Rattle.ace_model.specs.Replies.{reply_of}
-use Rattle.ace_model.specs.Values.{Beat, burst_of, value_of}
-use Rattle.ace_model.specs.DirtyPlace.{AreCopiesTrue, IsValueSafe}
 use Rattle.ace_model.proofs.Values.UpdateHolds.{is_dirty_update}
 
 -- Passed data are the value, or their port has stored since and holds the line dirty.

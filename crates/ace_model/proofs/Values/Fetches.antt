@@ -1,31 +1,11 @@
 -- A read that keeps the line receives its value.
 use Rattle.std.proofs.Common.{◌≡◌, ◌≢◌, ◌⊎◌, ◌==◌, ℕ, zero, suc, ◌+◌, ◌<◌, Bool, true, false, if◌then◌else◌, ◌&&◌, nat_eq, nat_lt, List, [], ◌∷◌, ◌++◌, length, Option, Some, None, slice_get, slice_index, refl, sym, ap, subst, ◌∙◌, arith, inl, inr, length-append}
 use Rattle.std.proofs.lemmas.Bool.{and_parts, and_from, or_cases, cases_Bool, cases_eq, eqb-true, eq-eqb, ne_eqb}
-use Rattle.ace_codes.specs.declared.kind.ArKind.{ArKind}
+use Rattle.ace_model.proofs.Terms.{ArKind, ar_kind_of, Event, Ar, R, Aw, Read, Write, Header, Line, same_test, is_fetch, is_unique, Transaction, Trace, is_some_and, is_lite_read, beats_of, reads_a_line}
+use Rattle.ace_model.proofs.Terms.{is_ace, is_line, is_named, has_name, read_kind, issued, ended, transfers, outstanding, granted, has_failed, state_of, is_line_read_transaction, words_read, word_of}
+use Rattle.ace_model.proofs.Terms.{first_sender, memory_at_first_beat, reply_of, value_of, after_store, store_at, Store, may_issue_read, may_store, k18, is_due, is_next_transfer, has_word, may_transfer}
+use Rattle.ace_model.proofs.Terms.{IsAccepted}
 use Rattle.ace_codes.specs.declared.kind.ArKind.TheVariants as read
-use Rattle.ace_codes.specs.Reads.{ar_kind_of}
-use Rattle.ace_event.specs.declared.event.Event.{Event}
-use Rattle.ace_event.specs.declared.event.Event.TheVariants.{Ar, R, Aw}
-use Rattle.ace_event.specs.declared.event.Channel.TheVariants.{Read, Write}
-use Rattle.ace_event.specs.declared.header.Header.{Header}
-use Rattle.ace_event.specs.declared.line.Line.{Line}
-use Rattle.ace_tables.specs.Answers.{same_test}
-use Rattle.ace_tables.specs.EndStates.{is_fetch}
-use Rattle.ace_tables.specs.States.{is_unique}
-use Rattle.ace_model.specs.declared.transactions.Transaction.{Transaction}
-use Rattle.ace_model.specs.Trace.{Trace, is_some_and}
-use Rattle.ace_model.specs.Kinds.{is_lite_read, beats_of, reads_a_line}
-use Rattle.ace_model.specs.Transactions.{is_ace, is_line, is_named, has_name, read_kind, issued, ended, transfers, outstanding}
-use Rattle.ace_model.specs.Grants.{granted}
-use Rattle.ace_model.specs.Exclusives.{has_failed}
-use Rattle.ace_model.specs.States.{state_of}
-use Rattle.ace_model.specs.Copies.{is_line_read_transaction, words_read, word_of}
-use Rattle.ace_model.specs.Replies.{first_sender, memory_at_first_beat, reply_of}
-use Rattle.ace_model.specs.Values.{value_of, after_store, store_at, Store}
-use Rattle.ace_model.specs.AddressRules.{may_issue_read}
-use Rattle.ace_model.specs.CacheRules.{may_store}
-use Rattle.ace_model.specs.ReadRules.{k18, is_due, is_next_transfer, has_word, may_transfer}
-use Rattle.ace_model.specs.Accepted.{IsAccepted}
 use Rattle.ace_model.proofs.Trace.Looks.{Some-injective, is_some_and-at, is_none_or-at, same_test-at, has_name-is, newest_named-cases, without-some}
 use Rattle.ace_model.proofs.Trace.Issued.{outstanding-named, transaction_of-stands}
 use Rattle.ace_model.proofs.Rules.Keeps.{accepted_keeps}

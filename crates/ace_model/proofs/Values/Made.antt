@@ -2,24 +2,9 @@
 use Rattle.std.proofs.Common.{◌≡◌, ℕ, Bool, true, false, not, ◌&&◌, nat_eq, nat_lt, [], ◌∷◌, length, Some, refl, sym, ap, subst, ◌∙◌, inl, inr}
 use Rattle.std.proofs.lemmas.Bool.{and_parts, or_cases, or_right, cases_eq, eqb-true, eq-eqb}
 use Rattle.ace_codes.specs.declared.kind.ArKind.TheVariants as read
-use Rattle.ace_codes.specs.declared.state.LineState.TheVariants.{I}
-use Rattle.ace_event.specs.declared.event.Channel.{Channel}
-use Rattle.ace_event.specs.declared.event.Channel.TheVariants.{Read}
-use Rattle.ace_event.specs.declared.event.Event.{Event}
-use Rattle.ace_event.specs.declared.event.Event.TheVariants.{Ar, Aw, D}
-use Rattle.ace_event.specs.declared.header.Header.{Header}
-use Rattle.ace_event.specs.declared.line.Line.{Line}
-use Rattle.ace_event.specs.Bytes.{merged}
-use Rattle.ace_model.specs.declared.transactions.Transaction.{Transaction}
-use Rattle.ace_model.specs.Trace.{Trace, is_some_and}
-use Rattle.ace_model.specs.Kinds.{is_make_unique, reads_a_line}
-use Rattle.ace_model.specs.Transactions.{is_ace, is_line, is_named, issued, ended, read_kind, outstanding, is_outstanding, is_make_unique_on, is_completion, is_complete}
-use Rattle.ace_model.specs.Grants.{granted}
-use Rattle.ace_model.specs.States.{state_of, awaits_store, is_store_of, has_store}
-use Rattle.ace_model.specs.Copies.{copy_of}
-use Rattle.ace_model.specs.Values.{value_of}
-use Rattle.ace_model.specs.CacheRules.{may_store}
-use Rattle.ace_model.specs.Accepted.{IsAccepted}
+use Rattle.ace_model.proofs.Terms.{I, Channel, Read, Event, Ar, Aw, D, Header, Line, merged, Transaction, Trace, is_some_and, is_make_unique, reads_a_line, is_ace, is_line, is_named, issued, ended}
+use Rattle.ace_model.proofs.Terms.{read_kind, outstanding, is_outstanding, is_make_unique_on, is_completion, is_complete, granted, state_of, awaits_store, is_store_of, has_store, copy_of, value_of}
+use Rattle.ace_model.proofs.Terms.{may_store, IsAccepted}
 use Rattle.ace_model.proofs.Trace.Looks.{is_some_and-at, has_name-is, newest_named-cases, without-some}
 use Rattle.ace_model.proofs.Trace.Issued.{outstanding-named, transaction_of-stands}
 use Rattle.ace_model.proofs.Rules.Keeps.{accepted_keeps}

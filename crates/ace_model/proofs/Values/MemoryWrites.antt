@@ -2,27 +2,11 @@
 use Rattle.std.proofs.Common.{◌≡◌, ◌⊎◌, ℕ, ◌<◌, ◌^◌, Bool, true, false, not, if◌then◌else◌, ◌||◌, nat_eq, [], ◌∷◌, length, Option, Some, None, option_map, slice_get, refl, sym, ap, subst, ◌∙◌, inl, inr}
 use Rattle.std.proofs.lemmas.Bool.{and_parts, and_from, or_right, cases_Bool, eqb-true}
 use Rattle.std.specs.List.{AllByRecursion}
-use Rattle.ace_codes.specs.declared.kind.AwKind.{AwKind}
+use Rattle.ace_model.proofs.Terms.{AwKind, IsDigit, IsWord, IsLine, InRange, Channel, Read, Write, Event, W, M, Header, Line, Transaction, Trace, implies, is_some_and, is_none_or, is_update}
+use Rattle.ace_model.proofs.Terms.{is_write_line_unique, has_write_data, is_granted_write, is_unique_write, is_no_snoop_write, is_read, is_line, is_on, write_kind, issued, ended, outstanding}
+use Rattle.ace_model.proofs.Terms.{transaction_of, updates_memory, is_burst_whole, next_write, next_write_beat, granted, is_granted, has_passed_data, memory_of, same_line, Beat, burst_of, burst_line}
+use Rattle.ace_model.proofs.Terms.{stores_data, value_of, is_next_beat, fits_write, full_beat, may_write_memory, data_of, data_of_write, has_data, IsAccepted}
 use Rattle.ace_codes.specs.declared.kind.AwKind.TheVariants as write
-use Rattle.ace_event.specs.Range.{IsDigit, IsWord, IsLine, InRange}
-use Rattle.ace_event.specs.declared.event.Channel.{Channel}
-use Rattle.ace_event.specs.declared.event.Channel.TheVariants.{Read, Write}
-use Rattle.ace_event.specs.declared.event.Event.{Event}
-use Rattle.ace_event.specs.declared.event.Event.TheVariants.{W, M}
-use Rattle.ace_event.specs.declared.header.Header.{Header}
-use Rattle.ace_event.specs.declared.line.Line.{Line}
-use Rattle.ace_model.specs.declared.transactions.Transaction.{Transaction}
-use Rattle.ace_model.specs.Trace.{Trace, implies, is_some_and, is_none_or}
-use Rattle.ace_model.specs.Kinds.{is_update, is_write_line_unique, has_write_data, is_granted_write, is_unique_write, is_no_snoop_write}
-use Rattle.ace_model.specs.Transactions.{is_read, is_line, is_on, write_kind, issued, ended, outstanding, transaction_of}
-use Rattle.ace_model.specs.Progress.{updates_memory}
-use Rattle.ace_model.specs.Writes.{is_burst_whole, next_write, next_write_beat}
-use Rattle.ace_model.specs.Grants.{granted, is_granted, has_passed_data}
-use Rattle.ace_model.specs.Copies.{memory_of, same_line}
-use Rattle.ace_model.specs.Values.{Beat, burst_of, burst_line, stores_data, value_of}
-use Rattle.ace_model.specs.SnoopRules.{is_next_beat, fits_write, full_beat}
-use Rattle.ace_model.specs.WriteRules.{may_write_memory, data_of, data_of_write, has_data}
-use Rattle.ace_model.specs.Accepted.{IsAccepted}
 use Rattle.ace_model.proofs.Trace.Looks.{Some-injective, is_some_and-is, is_some_and-at, is_none_or-at, implies-at, has_name-is, newest_named-cases, without-some}
 use Rattle.ace_model.proofs.Trace.Issued.{outstanding-named, transaction_of-stands}
 use Rattle.ace_model.proofs.Rules.Keeps.{accepted_keeps}
@@ -90,64 +74,65 @@ granted_stores k g = cc
 pub grant_stores : (x : Transaction) → (k : AwKind) → write_kind x ≡ Some k → is_granted_write k ≡ true → stores_data x ≡ true
 grant_stores x k kind g = rw kind (granted_stores k g)
 
--- The M of a read, of passed data.
-pub record ByPassed (h : Header) (past : Trace) (l : ℕ) (x : Transaction) : Type 0 where
-  pub reads : is_read x.chan ≡ true
-  pub has : has_passed_data h past x ≡ true
-  pub stands : granted h past l ≡ Some x
+module _ (h : Header) (past : Trace) where
+  -- The M of a read, of passed data.
+  pub record ByPassed (l : ℕ) (x : Transaction) : Type 0 where
+    pub reads : is_read x.chan ≡ true
+    pub has : has_passed_data h past x ≡ true
+    pub stands : granted h past l ≡ Some x
 
--- The M of an update.
-pub record ByUpdate (h : Header) (past : Trace) (x : Transaction) : Type 0 where
-  pub writes : is_read x.chan ≡ false
-  pub updates : updates_memory x ≡ true
-  pub whole : is_burst_whole past x ≡ true
-  pub clear : is_none_or (granted h past x.addr) (λ y. not (has_passed_data h past y)) ≡ true
+  -- The M of an update.
+  pub record ByUpdate (x : Transaction) : Type 0 where
+    pub writes : is_read x.chan ≡ false
+    pub updates : updates_memory x ≡ true
+    pub whole : is_burst_whole past x ≡ true
+    pub clear : is_none_or (granted h past x.addr) (λ y. not (has_passed_data h past y)) ≡ true
 
-pub writer : (h : Header) (past : Trace) (e : Event) → IsAccepted h (e ∷ past) → (l : ℕ) (w : WritesLine h past e l)
-    → ByPassed h past l w.one ⊎ ByUpdate h past w.one ⊎ Writes h past w.port w.chan w.id l
-writer h past e a l w =
-    let x = w.one in
-    let addr = eqb-true x.addr l (and_parts (is_line x) (nat_eq x.addr l) w.on).1 in
-    elim (cases_Bool (is_read x.chan)) [
-      | inl reads ↦
-          let has = passed_may h past x w.may reads in
-          let stands = granted_at h past a.0 w.port w.chan w.id x w.out (has_passed h past x has).stands in
-          inl (record { reads = reads; has = has; stands = ap (granted h past) (sym addr) ∙ stands })
-      | inr writes ↦
-          let d = data_may h past x w.may writes in
-          elim d.how [
-            | inr update ↦
-                let two = and_parts (updates_memory x) _ update in
-                inr (inl (record { writes = writes; updates = two.0; whole = d.whole; clear = two.1 }))
-            | inl due ↦
-                let stands = granted_at h past a.0 w.port w.chan w.id x w.out (and_parts (is_granted h past x) _ due).0 in
-                let k = granted_write x (granted_given h past a.0 x.addr x stands).kind writes in
-                let stores = grant_stores x k.0 k.1 k.2 in
-                inr (inr (stores_m h past w.port w.chan w.id w.line l (subst (λ v. IsAccepted h (v ∷ past)) w.is a) x
-                (outstanding-named h past w.port w.chan w.id x w.out) (and_from _ _ stores w.on)))
-          ]
-    ]
+  pub writer : (e : Event) → IsAccepted h (e ∷ past) → (l : ℕ) (w : WritesLine h past e l)
+      → ByPassed l w.one ⊎ ByUpdate w.one ⊎ Writes h past w.port w.chan w.id l
+  writer e a l w =
+      let x = w.one in
+      let addr = eqb-true x.addr l (and_parts (is_line x) (nat_eq x.addr l) w.on).1 in
+      elim (cases_Bool (is_read x.chan)) [
+        | inl reads ↦
+            let has = passed_may h past x w.may reads in
+            let stands = granted_at h past a.0 w.port w.chan w.id x w.out (has_passed h past x has).stands in
+            inl (record { reads = reads; has = has; stands = ap (granted h past) (sym addr) ∙ stands })
+        | inr writes ↦
+            let d = data_may h past x w.may writes in
+            elim d.how [
+              | inr update ↦
+                  let two = and_parts (updates_memory x) _ update in
+                  inr (inl (record { writes = writes; updates = two.0; whole = d.whole; clear = two.1 }))
+              | inl due ↦
+                  let stands = granted_at h past a.0 w.port w.chan w.id x w.out (and_parts (is_granted h past x) _ due).0 in
+                  let k = granted_write x (granted_given h past a.0 x.addr x stands).kind writes in
+                  let stores = grant_stores x k.0 k.1 k.2 in
+                  inr (inr (stores_m h past w.port w.chan w.id w.line l (subst (λ v. IsAccepted h (v ∷ past)) w.is a) x
+                  (outstanding-named h past w.port w.chan w.id x w.out) (and_from _ _ stores w.on)))
+            ]
+      ]
 
--- the line of an M has four words
-pub line_length : (h : Header) (past : Trace) (e : Event) (l : ℕ) (w : WritesLine h past e l) → InRange e → length w.line.words ≡ 4
-line_length h past e l w r =
-    let here : InRange (M w.port w.chan w.id w.line) = subst InRange w.is r in
-    in_line w.port w.chan w.id w.line here
-  where
-    in_line : (p : ℕ) (c : Channel) (i : ℕ) (line : Line) → InRange (M p c i line) → length line.words ≡ 4
-    in_line p c i line r =
-        let all : IsDigit p × IsDigit i × IsLine line = r in
-        let both : (length line.words ≡ 4) × AllByRecursion IsWord line.words = all.2 in
-        both.0
+  -- the line of an M has four words
+  pub line_length : (e : Event) (l : ℕ) (w : WritesLine h past e l) → InRange e → length w.line.words ≡ 4
+  line_length e l w r =
+      let here : InRange (M w.port w.chan w.id w.line) = subst InRange w.is r in
+      in_line w.port w.chan w.id w.line here
+    where
+      in_line : (p : ℕ) (c : Channel) (i : ℕ) (line : Line) → InRange (M p c i line) → length line.words ≡ 4
+      in_line p c i line r =
+          let all : IsDigit p × IsDigit i × IsLine line = r in
+          let both : (length line.words ≡ 4) × AllByRecursion IsWord line.words = all.2 in
+          both.0
 
--- it is the data that the transaction writes
-pub line_is : (h : Header) (past : Trace) (e : Event) → IsAccepted h (e ∷ past) → InRange e → (l : ℕ) (w : WritesLine h past e l) (d : Line) → data_of h past w.one ≡ Some d
-    → length d.words ≡ 4 → w.line ≡ d
-line_is h past e a r l w d is n =
-    let keeps = (accepted_keeps h past (M w.port w.chan w.id w.line) (subst (λ v. IsAccepted h (v ∷ past)) w.is a)).rule_25 in
-    let has = is_none_or-at (outstanding h past w.port w.chan w.id) (has_data h past w.line) w.one keeps w.out in
-    let same = is_none_or-at (data_of h past w.one) (same_line w.line) d has is in
-    same_line-is w.line d (line_length h past e l w r) n same
+  -- it is the data that the transaction writes
+  pub line_is : (e : Event) → IsAccepted h (e ∷ past) → InRange e → (l : ℕ) (w : WritesLine h past e l) (d : Line) → data_of h past w.one ≡ Some d
+      → length d.words ≡ 4 → w.line ≡ d
+  line_is e a r l w d is n =
+      let keeps = (accepted_keeps h past (M w.port w.chan w.id w.line) (subst (λ v. IsAccepted h (v ∷ past)) w.is a)).rule_25 in
+      let has = is_none_or-at (outstanding h past w.port w.chan w.id) (has_data h past w.line) w.one keeps w.out in
+      let same = is_none_or-at (data_of h past w.one) (same_line w.line) d has is in
+      same_line-is w.line d (line_length e l w r) n same
 
 pub is_write-is : (c : Channel) → is_read c ≡ false → c ≡ Write
 is_write-is Read e = cc

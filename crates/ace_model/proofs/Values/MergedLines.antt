@@ -3,10 +3,7 @@ use Rattle.std.proofs.Common.{◌≡◌, ℕ, zero, suc, ◌+◌, ◌-◌, ◌*�
 use Rattle.std.proofs.lemmas.Bool.{and_parts, eqb-true}
 use Rattle.std.proofs.Math.Nat.{pow-suc, div-div-eq-div-mul, div-eq_of_lt}
 use Rattle.std.specs.Int.{byte_at}
-use Rattle.ace_event.specs.declared.line.Line.{Line}
-use Rattle.ace_event.specs.Bytes.{number_of_bytes, merged}
-use Rattle.ace_model.specs.Copies.{word_of, same_line}
-use Rattle.ace_model.specs.CacheRules.{full_line}
+use Rattle.ace_model.proofs.Terms.{Line, number_of_bytes, merged, word_of, same_line, full_line}
 
 -- a store of all bytes leaves nothing of the line before
 pub merged-whole : (a c bytes : Line) → merged a full_line bytes ≡ merged c full_line bytes

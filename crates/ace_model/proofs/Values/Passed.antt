@@ -1,33 +1,12 @@
 -- Passed data are the value of their line, or their port has stored since and holds the line dirty.
 use Rattle.std.proofs.Common.{◌≡◌, ◌⊎◌, ℕ, Bool, true, false, ◌&&◌, nat_eq, ◌∷◌, length, Option, Some, None, option_and_then, option_map, refl, sym, ap, subst, ◌∙◌, inl, inr}
 use Rattle.std.proofs.lemmas.Bool.{and_parts, and_from, or_left, cases_Bool, cases_eq, eqb-true, eq-eqb}
-use Rattle.ace_codes.specs.declared.kind.ArKind.{ArKind}
+use Rattle.ace_model.proofs.Terms.{ArKind, LineState, I, UC, UD, SC, SD, passes_dirty, Channel, Event, Cr, D, M, Header, Line, is_unique, is_dirty, Answer, Transaction, Trace, at_point, is_some_and}
+use Rattle.ace_model.proofs.Terms.{is_make_unique, is_line, read_kind, write_kind, snoop_of, snoop_kind_of, transaction_of, has_outstanding_on, is_outstanding, is_outstanding_on, is_make_unique_on}
+use Rattle.ace_model.proofs.Terms.{is_complete, is_memory_write, has_memory_write, data_answers, granted, answers_grant, answer_at, answer_of, passer, has_passed_data, state_of, is_in_make_unique}
+use Rattle.ace_model.proofs.Terms.{awaits_store, copy_of, copy_at_answer, passed_to, passed_data, value_of, may_store, IsAccepted, HasDirtyHolder, IsValueSafe}
 use Rattle.ace_codes.specs.declared.kind.ArKind.TheVariants as read
 use Rattle.ace_codes.specs.declared.kind.SnoopKind.TheVariants as snoop
-use Rattle.ace_codes.specs.declared.state.LineState.{LineState}
-use Rattle.ace_codes.specs.declared.state.LineState.TheVariants.{I, UC, UD, SC, SD}
-use Rattle.ace_codes.specs.Responses.{passes_dirty}
-use Rattle.ace_event.specs.declared.event.Channel.{Channel}
-use Rattle.ace_event.specs.declared.event.Event.{Event}
-use Rattle.ace_event.specs.declared.event.Event.TheVariants.{Cr, D, M}
-use Rattle.ace_event.specs.declared.header.Header.{Header}
-use Rattle.ace_event.specs.declared.line.Line.{Line}
-use Rattle.ace_tables.specs.States.{is_unique, is_dirty}
-use Rattle.ace_model.specs.declared.snoops.Answer.{Answer}
-use Rattle.ace_model.specs.declared.transactions.Transaction.{Transaction}
-use Rattle.ace_model.specs.Trace.{Trace, at_point, is_some_and}
-use Rattle.ace_model.specs.Kinds.{is_make_unique}
-use Rattle.ace_model.specs.Transactions.{is_line, read_kind, write_kind, snoop_of, snoop_kind_of, transaction_of, has_outstanding_on, is_outstanding, is_outstanding_on, is_make_unique_on, is_complete}
-use Rattle.ace_model.specs.Writes.{is_memory_write, has_memory_write}
-use Rattle.ace_model.specs.Snoops.{data_answers}
-use Rattle.ace_model.specs.Grants.{granted, answers_grant, answer_at, answer_of, passer, has_passed_data}
-use Rattle.ace_model.specs.States.{state_of, is_in_make_unique, awaits_store}
-use Rattle.ace_model.specs.Copies.{copy_of}
-use Rattle.ace_model.specs.Replies.{copy_at_answer, passed_to, passed_data}
-use Rattle.ace_model.specs.Values.{value_of}
-use Rattle.ace_model.specs.CacheRules.{may_store}
-use Rattle.ace_model.specs.Accepted.{IsAccepted}
-use Rattle.ace_model.specs.DirtyPlace.{HasDirtyHolder, IsValueSafe}
 use Rattle.ace_model.proofs.Trace.Looks.{Some-injective, has_name-is, same_channel-self}
 use Rattle.ace_model.proofs.Trace.Issued.{transaction_of-stands}
 use Rattle.ace_model.proofs.Tables.States.{is_settled, row_is}
@@ -87,106 +66,107 @@ unique_unsettled UD u s = cc
 unique_unsettled SC u s = cc
 unique_unsettled SD u s = cc
 
--- with the passed copy at its answer, the passed data are there
-pub passed_is : (h : Header) (past : Trace) (l : ℕ) (x : Transaction) → granted h past l ≡ Some x → has_passed_data h past x ≡ true → (w : Passes h past l)
-    → passed_data h past l ≡ Some (copy_of (at_point w.answer.place past) w.port l)
-passed_is h past l x g has w =
-    ap (option_and_then (passed_to h past l)) g
-    ∙ then_of (has_passed_data h past x) (option_and_then (copy_at_answer past l) (passer h past l)) None has
-    ∙ ap (option_and_then (copy_at_answer past l)) w.found
-    ∙ ap (option_map (λ (a : Answer). copy_of (at_point a.place past) w.port l)) w.is
+module _ (h : Header) (past : Trace) where
+  -- with the passed copy at its answer, the passed data are there
+  pub passed_is : (l : ℕ) (x : Transaction) → granted h past l ≡ Some x → has_passed_data h past x ≡ true → (w : Passes h past l)
+      → passed_data h past l ≡ Some (copy_of (at_point w.answer.place past) w.port l)
+  passed_is l x g has w =
+      ap (option_and_then (passed_to h past l)) g
+      ∙ then_of (has_passed_data h past x) (option_and_then (copy_at_answer past l) (passer h past l)) None has
+      ∙ ap (option_and_then (copy_at_answer past l)) w.found
+      ∙ ap (option_map (λ (a : Answer). copy_of (at_point a.place past) w.port l)) w.is
 
--- the granted transaction's passed data are the value, or their port holds the line dirty
-pub passed_true : (h : Header) (past : Trace) → IsAccepted h past → PassedTrue h past → (l : ℕ) (x : Transaction) → granted h past l ≡ Some x → has_passed_data h past x ≡ true
-    → (passed_data h past l ≡ Some (value_of past l)) ⊎ HasDirtyHolder h past l
-passed_true h past a f l x g has =
-    let o = (accepted_holds h past a).grants l x g in
-    let addr = eqb-true x.addr l (and_parts (is_line x) (nat_eq x.addr l) o.1).1 in
-    let parts = has_passed h past x has in
-    let w = subst (λ v. Passes h past v) addr (passes_of h past x.addr parts.some) in
-    elim (f l w.port x w.answer g parts.unwritten w.is w.dirty) [
-      | inl same ↦ inl (passed_is h past l x g has w ∙ ap (λ v. Some v) same)
-      | inr dirty ↦ inr (w.port, dirty)
-    ]
+  -- the granted transaction's passed data are the value, or their port holds the line dirty
+  pub passed_true : IsAccepted h past → PassedTrue h past → (l : ℕ) (x : Transaction) → granted h past l ≡ Some x → has_passed_data h past x ≡ true
+      → (passed_data h past l ≡ Some (value_of past l)) ⊎ HasDirtyHolder h past l
+  passed_true a f l x g has =
+      let o = (accepted_holds h past a).grants l x g in
+      let addr = eqb-true x.addr l (and_parts (is_line x) (nat_eq x.addr l) o.1).1 in
+      let parts = has_passed h past x has in
+      let w = subst (λ v. Passes h past v) addr (passes_of h past x.addr parts.some) in
+      elim (f l w.port x w.answer g parts.unwritten w.is w.dirty) [
+        | inl same ↦ inl (passed_is l x g has w ∙ ap (λ v. Some v) same)
+        | inr dirty ↦ inr (w.port, dirty)
+      ]
 
--- so data that a port has passed on are safe
-pub passed_safe : (h : Header) (past : Trace) → IsAccepted h past → PassedTrue h past → (l r : ℕ) (x : Transaction) (w : Answer) → granted h past l ≡ Some x
-    → has_memory_write past x.port x.chan x.id ≡ false → answer_of past r l ≡ Some w → passes_dirty w.resp ≡ true → IsValueSafe h past l
-passed_safe h past a f l r x w g none is dirty =
-    elim (passed_true h past a f l x g (passes_data h past a l r x w g none is dirty)) [
-      | inl same ↦ inr (inr (inl same))
-      | inr holder ↦ inr (inl holder)
-    ]
+  -- so data that a port has passed on are safe
+  pub passed_safe : IsAccepted h past → PassedTrue h past → (l r : ℕ) (x : Transaction) (w : Answer) → granted h past l ≡ Some x
+      → has_memory_write past x.port x.chan x.id ≡ false → answer_of past r l ≡ Some w → passes_dirty w.resp ≡ true → IsValueSafe h past l
+  passed_safe a f l r x w g none is dirty =
+      elim (passed_true a f l x g (passes_data h past a l r x w g none is dirty)) [
+        | inl same ↦ inr (inr (inl same))
+        | inr holder ↦ inr (inl holder)
+      ]
 
-pub passed_step : (h : Header) (past : Trace) (e : Event) → IsAccepted h (e ∷ past) → Facts h past → PassedTrue h (e ∷ past)
-passed_step h past e a f l r x w g none is d =
-    elim (granted_before h past e l x g) [
-      | inr gives ↦ let bad : None ≡ Some w = rw gives at is in cc
-      | inl stays ↦
-          let o = (accepted_holds h past a.0).grants l x stays.was in
-          let before = unwritten_before h past e a x.port x.chan x.id x o.0 none in
-          elim (answer_cases past e r l w stays.gives is) [
-            | inl old ↦ elim (f.passed l r x w stays.was before old d) [
-              | inl same ↦ keeps_value stays.was old same
-              | inr dirty ↦ elim (dirt_moves h past e a f.updated r l dirty) [
-                | inl still ↦ inr still
-                | inr s ↦ elim s [
-                  | inl u ↦
-                      let yes = passes_data h past a.0 l r x w stays.was before old d in
-                      let no = u.none x stays.was in cc
-                  | inr c ↦
-                      let once = answered_once h past a.0 e r l w old in
-                      absurd (answers_twice c.resp c.st c.answering.under (subst (λ v. answer_at past v r l ≡ None) c.is once))
+  pub passed_step : (e : Event) → IsAccepted h (e ∷ past) → Facts h past → PassedTrue h (e ∷ past)
+  passed_step e a f l r x w g none is d =
+      elim (granted_before h past e l x g) [
+        | inr gives ↦ let bad : None ≡ Some w = rw gives at is in cc
+        | inl stays ↦
+            let o = (accepted_holds h past a.0).grants l x stays.was in
+            let before = unwritten_before h past e a x.port x.chan x.id x o.0 none in
+            elim (answer_cases past e r l w stays.gives is) [
+              | inl old ↦ elim (f.passed l r x w stays.was before old d) [
+                | inl same ↦ keeps_value stays.was old same
+                | inr dirty ↦ elim (dirt_moves h past e a f.updated r l dirty) [
+                  | inl still ↦ inr still
+                  | inr s ↦ elim s [
+                    | inl u ↦
+                        let yes = passes_data h past a.0 l r x w stays.was before old d in
+                        let no = u.none x stays.was in cc
+                    | inr c ↦
+                        let once = answered_once h past a.0 e r l w old in
+                        absurd (answers_twice c.resp c.st c.answering.under (subst (λ v. answer_at past v r l ≡ None) c.is once))
+                  ]
                 ]
               ]
+              | inr new ↦
+                  let n = new_answer h past e a r l w new in
+                  let dirty = ((row_is n.1.kind (state_of h past r l) w.resp n.0 n.1.row).passes d).0 in
+                  inl (copy_at-new past e r l w new ∙ f.copies l r (dirty_valid (state_of h past r l) dirty) ∙ sym (value_cr past e r l w new))
             ]
-            | inr new ↦
-                let n = new_answer h past e a r l w new in
-                let dirty = ((row_is n.1.kind (state_of h past r l) w.resp n.0 n.1.row).passes d).0 in
-                inl (copy_at-new past e r l w new ∙ f.copies l r (dirty_valid (state_of h past r l) dirty) ∙ sym (value_cr past e r l w new))
-          ]
-    ]
-  where
-    answers_twice : (resp : ℕ) (st : LineState) → answers_grant past r l ≡ true → answer_at past (Cr r resp st) r l ≡ None → ⊥
-    answers_twice resp st under once =
-        let both : (nat_eq r r && answers_grant past r l) ≡ true = and_from _ _ (eq-eqb r r refl) under in
-        let now : Answer = record { place = length past; resp = resp; bursts = data_answers past r } in
-        let there : answer_at past (Cr r resp st) r l ≡ Some now = rw both refl in
-        not_both (answer_at past (Cr r resp st) r l) now there once
-      where
-        not_both : (o : Option Answer) (v : Answer) → o ≡ Some v → o ≡ None → ⊥
-        not_both o v s n = cc
+      ]
+    where
+      answers_twice : (resp : ℕ) (st : LineState) → answers_grant past r l ≡ true → answer_at past (Cr r resp st) r l ≡ None → ⊥
+      answers_twice resp st under once =
+          let both : (nat_eq r r && answers_grant past r l) ≡ true = and_from _ _ (eq-eqb r r refl) under in
+          let now : Answer = record { place = length past; resp = resp; bursts = data_answers past r } in
+          let there : answer_at past (Cr r resp st) r l ≡ Some now = rw both refl in
+          not_both (answer_at past (Cr r resp st) r l) now there once
+        where
+          not_both : (o : Option Answer) (v : Answer) → o ≡ Some v → o ≡ None → ⊥
+          not_both o v s n = cc
 
-    keeps_value : granted h past l ≡ Some x → answer_of past r l ≡ Some w → copy_of (at_point w.place past) r l ≡ value_of past l
-        → (copy_of (at_point w.place (e ∷ past)) r l ≡ value_of (e ∷ past) l) ⊎ (is_dirty (state_of h (e ∷ past) r l) ≡ true)
-    keeps_value was old same =
-        elim (value_moves h past e a l) [
-          | inl kept ↦ inl (copy_at-old past e r l w old ∙ same ∙ sym kept)
-          | inr s ↦ elim s [
-            | inl p ↦ elim (cases_eq p.port r) [
-              | inl own ↦ inr (subst (λ v. is_dirty (state_of h (e ∷ past) v l) ≡ true) own
-                  (subst (λ v. is_dirty (state_of h (v ∷ past) p.port l) ≡ true) (sym p.is) (store_dirty h past p.port l p.strobe p.ex p.line p.may)))
-              | inr apart ↦ absurd (unique_unsettled (state_of h past p.port l) (may_unique h past p.port l p.may) (others_settled h past a.0 l r p.port x w was old d apart))
-            ]
+      keeps_value : granted h past l ≡ Some x → answer_of past r l ≡ Some w → copy_of (at_point w.place past) r l ≡ value_of past l
+          → (copy_of (at_point w.place (e ∷ past)) r l ≡ value_of (e ∷ past) l) ⊎ (is_dirty (state_of h (e ∷ past) r l) ≡ true)
+      keeps_value was old same =
+          elim (value_moves h past e a l) [
+            | inl kept ↦ inl (copy_at-old past e r l w old ∙ same ∙ sym kept)
             | inr s ↦ elim s [
-              | inl m ↦
-                  let one : m.made.one ≡ x = Some-injective m.made.one x (sym m.made.stands ∙ was) in
-                  let k = passed_kind h past a.0 l r x w was old d in
-                  let causes : snoop_of x ≡ Some snoop.MakeInvalid = ap snoop_of (sym one) ∙ ap (λ v. snoop_kind_of v (write_kind m.made.one)) m.made.kind in
-                  let kind : k.0 ≡ snoop.MakeInvalid = Some-injective k.0 snoop.MakeInvalid (sym k.1 ∙ causes) in
-                  let bad : true ≡ false = sym (ap is_make_invalid kind) ∙ k.2 in cc
-              | inr m ↦
-                  let one : m.by.one ≡ x = Some-injective m.by.one x (sym m.by.stands ∙ was) in
-                  let named = ap (transaction_of past m.port m.chan) (refl {a = m.id}) ∙ m.by.named ∙ ap (λ v. Some v) one in
-                  let name = has_name-is x m.port m.chan m.id (transaction_of-stands past m.port m.chan m.id x named).named in
-                  let now : is_memory_write (M m.port m.chan m.id m.line) m.port m.chan m.id ≡ true =
-                  and_from _ _ (and_from _ _ (eq-eqb m.port m.port refl) (same_channel-self m.chan)) (eq-eqb m.id m.id refl) in
-                  let here : has_memory_write (e ∷ past) m.port m.chan m.id ≡ true =
-                  subst (λ v. has_memory_write (v ∷ past) m.port m.chan m.id ≡ true) (sym m.is) (or_left (is_memory_write (M m.port m.chan m.id m.line) m.port m.chan m.id) _ now) in
-                  let own : has_memory_write (e ∷ past) x.port x.chan x.id ≡ true =
-                  ap (λ v. has_memory_write (e ∷ past) v x.chan x.id) name.port ∙ ap (λ (v : Channel). has_memory_write (e ∷ past) m.port v x.id) name.chan
-                  ∙ ap (has_memory_write (e ∷ past) m.port m.chan) name.id ∙ here in
-                  cc
+              | inl p ↦ elim (cases_eq p.port r) [
+                | inl own ↦ inr (subst (λ v. is_dirty (state_of h (e ∷ past) v l) ≡ true) own
+                    (subst (λ v. is_dirty (state_of h (v ∷ past) p.port l) ≡ true) (sym p.is) (store_dirty h past p.port l p.strobe p.ex p.line p.may)))
+                | inr apart ↦ absurd (unique_unsettled (state_of h past p.port l) (may_unique h past p.port l p.may) (others_settled h past a.0 l r p.port x w was old d apart))
+              ]
+              | inr s ↦ elim s [
+                | inl m ↦
+                    let one : m.made.one ≡ x = Some-injective m.made.one x (sym m.made.stands ∙ was) in
+                    let k = passed_kind h past a.0 l r x w was old d in
+                    let causes : snoop_of x ≡ Some snoop.MakeInvalid = ap snoop_of (sym one) ∙ ap (λ v. snoop_kind_of v (write_kind m.made.one)) m.made.kind in
+                    let kind : k.0 ≡ snoop.MakeInvalid = Some-injective k.0 snoop.MakeInvalid (sym k.1 ∙ causes) in
+                    let bad : true ≡ false = sym (ap is_make_invalid kind) ∙ k.2 in cc
+                | inr m ↦
+                    let one : m.by.one ≡ x = Some-injective m.by.one x (sym m.by.stands ∙ was) in
+                    let named = ap (transaction_of past m.port m.chan) (refl {a = m.id}) ∙ m.by.named ∙ ap (λ v. Some v) one in
+                    let name = has_name-is x m.port m.chan m.id (transaction_of-stands past m.port m.chan m.id x named).named in
+                    let now : is_memory_write (M m.port m.chan m.id m.line) m.port m.chan m.id ≡ true =
+                    and_from _ _ (and_from _ _ (eq-eqb m.port m.port refl) (same_channel-self m.chan)) (eq-eqb m.id m.id refl) in
+                    let here : has_memory_write (e ∷ past) m.port m.chan m.id ≡ true =
+                    subst (λ v. has_memory_write (v ∷ past) m.port m.chan m.id ≡ true) (sym m.is) (or_left (is_memory_write (M m.port m.chan m.id m.line) m.port m.chan m.id) _ now) in
+                    let own : has_memory_write (e ∷ past) x.port x.chan x.id ≡ true =
+                    ap (λ v. has_memory_write (e ∷ past) v x.chan x.id) name.port ∙ ap (λ (v : Channel). has_memory_write (e ∷ past) m.port v x.id) name.chan
+                    ∙ ap (has_memory_write (e ∷ past) m.port m.chan) name.id ∙ here in
+                    cc
+              ]
             ]
           ]
-        ]

@@ -1,15 +1,8 @@
 -- The data that a port passes on are there until the M, and a granted read that has had its M had such a port.
 use Rattle.std.proofs.Common.{◌≡◌, ℕ, zero, suc, ◌<◌, Bool, true, false, nat_eq, [], ◌∷◌, Some, None, is_some, refl, sym, ap, ◌∙◌, arith, inl, inr}
 use Rattle.std.proofs.lemmas.Bool.{and_parts, and_from, not_from_false, cases_Bool, cases_eq, eqb-true, eq-eqb, ltb-true}
-use Rattle.ace_codes.specs.Responses.{passes_dirty}
-use Rattle.ace_event.specs.declared.header.Header.{Header}
-use Rattle.ace_model.specs.declared.snoops.Answer.{Answer}
-use Rattle.ace_model.specs.declared.transactions.Transaction.{Transaction}
-use Rattle.ace_model.specs.Trace.{Trace}
-use Rattle.ace_model.specs.Transactions.{is_read, is_line}
-use Rattle.ace_model.specs.Writes.{has_memory_write}
-use Rattle.ace_model.specs.Grants.{granted, answer_of, find_port, passes, passer, has_passed_data, gives_line}
-use Rattle.ace_model.specs.Accepted.{IsAccepted}
+use Rattle.ace_model.proofs.Terms.{passes_dirty, Header, Answer, Transaction, Trace, is_read, is_line, has_memory_write, granted, answer_of, find_port, passes, passer, has_passed_data, gives_line}
+use Rattle.ace_model.proofs.Terms.{IsAccepted}
 use Rattle.ace_model.proofs.Grants.Stays.{granted_before}
 use Rattle.ace_model.proofs.Grants.Pending.{answering, snoops}
 use Rattle.ace_model.proofs.Grants.SnoopAnswers.{answer_cases}

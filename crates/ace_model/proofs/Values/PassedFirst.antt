@@ -1,18 +1,8 @@
 -- While there are passed data, the first response of their read has PassDirty.
 use Rattle.std.proofs.Common.{◌≡◌, ◌≢◌, ◌⊎◌, ℕ, Bool, true, false, not, ◌&&◌, nat_eq, [], ◌∷◌, length, Some, None, refl, sym, ap, subst, ◌∙◌, inl, inr}
 use Rattle.std.proofs.lemmas.Bool.{and_parts, and_from, cases_Bool, cases_eq, eqb-true, eq-eqb, ne_eqb}
-use Rattle.ace_codes.specs.Responses.{passes_dirty}
-use Rattle.ace_event.specs.declared.event.Channel.TheVariants.{Read}
-use Rattle.ace_event.specs.declared.event.Event.{Event}
-use Rattle.ace_event.specs.declared.event.Event.TheVariants.{Ar, R}
-use Rattle.ace_event.specs.declared.header.Header.{Header}
-use Rattle.ace_model.specs.declared.snoops.Answer.{Answer}
-use Rattle.ace_model.specs.declared.transactions.Transaction.{Transaction}
-use Rattle.ace_model.specs.Trace.{Trace, is_some_and}
-use Rattle.ace_model.specs.Transactions.{is_line, is_named, is_read, issued, ended, transfers, first_resp, outstanding}
-use Rattle.ace_model.specs.Grants.{granted, has_passed_data, is_begun}
-use Rattle.ace_model.specs.ReadRules.{may_transfer}
-use Rattle.ace_model.specs.Accepted.{IsAccepted}
+use Rattle.ace_model.proofs.Terms.{passes_dirty, Read, Event, Ar, R, Header, Answer, Transaction, Trace, is_some_and, is_line, is_named, is_read, issued, ended, transfers, first_resp, outstanding, granted}
+use Rattle.ace_model.proofs.Terms.{has_passed_data, is_begun, may_transfer, IsAccepted}
 use Rattle.ace_model.proofs.Trace.Looks.{Some-injective, has_name-is, newest_named-cases, without-some}
 use Rattle.ace_model.proofs.Trace.Issued.{outstanding-named, transaction_of-stands}
 use Rattle.ace_model.proofs.Holders.Address.{named_read}

@@ -1,21 +1,8 @@
 -- What an RK leaves of the line of its read.
 use Rattle.std.proofs.Common.{◌≡◌, ℕ, true, nat_eq, ◌∷◌, Some, None, le_refl, refl, sym, ap, subst, ◌∙◌, inl, inr}
 use Rattle.std.proofs.lemmas.Bool.{and_parts, cases_Bool, eqb-true}
-use Rattle.ace_codes.specs.declared.kind.ArKind.{ArKind}
-use Rattle.ace_codes.specs.declared.state.LineState.{LineState}
-use Rattle.ace_codes.specs.Responses.{passes_dirty, is_shared}
-use Rattle.ace_event.specs.declared.event.Event.TheVariants.{Rk}
-use Rattle.ace_event.specs.declared.event.Channel.TheVariants.{Read}
-use Rattle.ace_event.specs.declared.header.Header.{Header}
-use Rattle.ace_tables.specs.EndStates.{ends_read}
-use Rattle.ace_model.specs.declared.transactions.Transaction.{Transaction}
-use Rattle.ace_model.specs.Trace.{Trace, implies, is_some_and}
-use Rattle.ace_model.specs.Kinds.{is_make_unique}
-use Rattle.ace_model.specs.Transactions.{is_line, is_on, is_read, read_kind, write_kind, outstanding, acknowledged, first_resp, transaction_of, acknowledgements}
-use Rattle.ace_model.specs.Exclusives.{has_failed}
-use Rattle.ace_model.specs.States.{state_of, has_store}
-use Rattle.ace_model.specs.ReadRules.{ends_well, is_end, held_of}
-use Rattle.ace_model.specs.Accepted.{IsAccepted}
+use Rattle.ace_model.proofs.Terms.{ArKind, LineState, passes_dirty, is_shared, Rk, Read, Header, ends_read, Transaction, Trace, implies, is_some_and, is_make_unique, is_line, is_on, is_read, read_kind}
+use Rattle.ace_model.proofs.Terms.{write_kind, outstanding, acknowledged, first_resp, transaction_of, acknowledgements, has_failed, state_of, has_store, ends_well, is_end, held_of, IsAccepted}
 use Rattle.ace_model.proofs.Trace.Looks.{Some-injective, is_some_and-is, is_none_or-at, implies-at}
 use Rattle.ace_model.proofs.Rules.Keeps.{accepted_keeps}
 use Rattle.ace_model.proofs.Holders.States.{held_on}

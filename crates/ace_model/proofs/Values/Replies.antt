@@ -1,32 +1,12 @@
 -- The reply to a read that keeps the line is the line's value.
 use Rattle.std.proofs.Common.{◌≡◌, ℕ, true, false, not, ◌&&◌, ◌||◌, nat_eq, [], ◌∷◌, length, Option, Some, None, is_some, is_none, option_and_then, unwrap_or, refl, sym, ap, subst, ◌∙◌, inl, inr}
 use Rattle.std.proofs.lemmas.Bool.{and_parts, and_from, or_cases, or_left, cases_Bool, cases_eq, eqb-true, eq-eqb}
-use Rattle.ace_codes.specs.declared.kind.ArKind.{ArKind}
+use Rattle.ace_model.proofs.Terms.{ArKind, SnoopKind, LineState, I, passes_dirty, transfers_data, Event, Cr, Header, is_fetch, is_dirty, Answer, Transaction, Trace, at_point, is_some_and, newer}
+use Rattle.ace_model.proofs.Terms.{reads_a_line, is_clean_unique, is_make_unique, is_granted_write, is_on, is_line, read_kind, write_kind, snoop_of, snoop_kind_of, outstanding, is_exclusive_store}
+use Rattle.ace_model.proofs.Terms.{has_memory_write, data_answers, gives_line, granted, is_granted, answers_grant, answer_at, answer_of, passes, passer, has_passed_data, each_port, has_failed, state_of}
+use Rattle.ace_model.proofs.Terms.{are_snoops_done, is_port_done, is_line_read_transaction, copy_of, memory_of, copy_at_answer, passed_to, passed_data, sender_at, first_sender, memory_at_first_beat}
+use Rattle.ace_model.proofs.Terms.{reply_of, value_of, IsAccepted, replaces_line}
 use Rattle.ace_codes.specs.declared.kind.ArKind.TheVariants as read
-use Rattle.ace_codes.specs.declared.kind.SnoopKind.{SnoopKind}
-use Rattle.ace_codes.specs.declared.state.LineState.{LineState}
-use Rattle.ace_codes.specs.declared.state.LineState.TheVariants.{I}
-use Rattle.ace_codes.specs.Responses.{passes_dirty, transfers_data}
-use Rattle.ace_event.specs.declared.event.Event.{Event}
-use Rattle.ace_event.specs.declared.event.Event.TheVariants.{Cr}
-use Rattle.ace_event.specs.declared.header.Header.{Header}
-use Rattle.ace_tables.specs.EndStates.{is_fetch}
-use Rattle.ace_tables.specs.States.{is_dirty}
-use Rattle.ace_model.specs.declared.snoops.Answer.{Answer}
-use Rattle.ace_model.specs.declared.transactions.Transaction.{Transaction}
-use Rattle.ace_model.specs.Trace.{Trace, at_point, is_some_and, newer}
-use Rattle.ace_model.specs.Kinds.{reads_a_line, is_clean_unique, is_make_unique, is_granted_write}
-use Rattle.ace_model.specs.Transactions.{is_on, is_line, read_kind, write_kind, snoop_of, snoop_kind_of, outstanding, is_exclusive_store}
-use Rattle.ace_model.specs.Writes.{has_memory_write}
-use Rattle.ace_model.specs.Snoops.{data_answers}
-use Rattle.ace_model.specs.Grants.{gives_line, granted, is_granted, answers_grant, answer_at, answer_of, passes, passer, has_passed_data, each_port}
-use Rattle.ace_model.specs.Exclusives.{has_failed}
-use Rattle.ace_model.specs.States.{state_of, are_snoops_done, is_port_done}
-use Rattle.ace_model.specs.Copies.{is_line_read_transaction, copy_of, memory_of}
-use Rattle.ace_model.specs.Replies.{copy_at_answer, passed_to, passed_data, sender_at, first_sender, memory_at_first_beat, reply_of}
-use Rattle.ace_model.specs.Values.{value_of}
-use Rattle.ace_model.specs.Accepted.{IsAccepted}
-use Rattle.ace_model.specs.DirtyPlace.{replaces_line}
 use Rattle.ace_model.proofs.Trace.Looks.{Some-injective, some_is, is_some_and-is}
 use Rattle.ace_model.proofs.Holders.FirstTransfer.{done_port, found_passes}
 use Rattle.ace_model.proofs.Holders.Rises.{stays_empty}

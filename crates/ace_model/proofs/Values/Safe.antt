@@ -1,36 +1,12 @@
 -- The value of a line is in memory, dirty at a port, passed on, or to be replaced whole.
 use Rattle.std.proofs.Common.{◌≡◌, ◌⊎◌, ℕ, true, false, ◌&&◌, ◌||◌, nat_eq, ◌∷◌, length, Option, Some, None, refl, sym, ap, subst, ◌∙◌, inl, inr}
 use Rattle.std.proofs.lemmas.Bool.{and_parts, and_from, or_cases, or_left, or_right, cases_Bool, cases_eq, eq-eqb}
-use Rattle.ace_codes.specs.declared.kind.ArKind.{ArKind}
+use Rattle.ace_model.proofs.Terms.{ArKind, AwKind, SnoopKind, LineState, I, UC, UD, SC, SD, passes_dirty, is_shared, Read, Write, Event, R, Rk, B, Wk, Cr, Header, ends_read, snoop_of_read, snoop_of_write}
+use Rattle.ace_model.proofs.Terms.{is_dirty, Answer, Transaction, Trace, implies, is_some_and, is_none_or, is_make_unique, is_write_line_unique, is_granted_write, has_write_data, is_ace, is_read, is_line}
+use Rattle.ace_model.proofs.Terms.{is_on, is_some_on, read_kind, write_kind, snoop_of, snoop_kind_of, ended, outstanding, acknowledged, first_resp, has_memory_write, data_answers, granted, answers_grant}
+use Rattle.ace_model.proofs.Terms.{answer_of, has_passed_data, has_failed, state_of, memory_of, value_of, may_transfer, has_upper_bits, fits_kind, IsAccepted, replaces_line, IsValueSafe}
 use Rattle.ace_codes.specs.declared.kind.ArKind.TheVariants as read
-use Rattle.ace_codes.specs.declared.kind.AwKind.{AwKind}
 use Rattle.ace_codes.specs.declared.kind.AwKind.TheVariants as write
-use Rattle.ace_codes.specs.declared.kind.SnoopKind.{SnoopKind}
-use Rattle.ace_codes.specs.declared.state.LineState.{LineState}
-use Rattle.ace_codes.specs.declared.state.LineState.TheVariants.{I, UC, UD, SC, SD}
-use Rattle.ace_codes.specs.Responses.{passes_dirty, is_shared}
-use Rattle.ace_event.specs.declared.event.Channel.TheVariants.{Read, Write}
-use Rattle.ace_event.specs.declared.event.Event.{Event}
-use Rattle.ace_event.specs.declared.event.Event.TheVariants.{R, Rk, B, Wk, Cr}
-use Rattle.ace_event.specs.declared.header.Header.{Header}
-use Rattle.ace_tables.specs.EndStates.{ends_read}
-use Rattle.ace_tables.specs.SnoopKinds.{snoop_of_read, snoop_of_write}
-use Rattle.ace_tables.specs.States.{is_dirty}
-use Rattle.ace_model.specs.declared.snoops.Answer.{Answer}
-use Rattle.ace_model.specs.declared.transactions.Transaction.{Transaction}
-use Rattle.ace_model.specs.Trace.{Trace, implies, is_some_and, is_none_or}
-use Rattle.ace_model.specs.Kinds.{is_make_unique, is_write_line_unique, is_granted_write, has_write_data}
-use Rattle.ace_model.specs.Transactions.{is_ace, is_read, is_line, is_on, is_some_on, read_kind, write_kind, snoop_of, snoop_kind_of, ended, outstanding, acknowledged, first_resp}
-use Rattle.ace_model.specs.Writes.{has_memory_write}
-use Rattle.ace_model.specs.Snoops.{data_answers}
-use Rattle.ace_model.specs.Grants.{granted, answers_grant, answer_of, has_passed_data}
-use Rattle.ace_model.specs.Exclusives.{has_failed}
-use Rattle.ace_model.specs.States.{state_of}
-use Rattle.ace_model.specs.Copies.{memory_of}
-use Rattle.ace_model.specs.Values.{value_of}
-use Rattle.ace_model.specs.ReadRules.{may_transfer, has_upper_bits, fits_kind}
-use Rattle.ace_model.specs.Accepted.{IsAccepted}
-use Rattle.ace_model.specs.DirtyPlace.{replaces_line, IsValueSafe}
 use Rattle.ace_model.proofs.Trace.Looks.{Some-injective, is_none_or-at, implies-at}
 use Rattle.ace_model.proofs.Trace.Issued.{same_place, outstanding-named}
 use Rattle.ace_model.proofs.Rules.Keeps.{accepted_keeps}

@@ -1,34 +1,13 @@
 -- The value of a line stays while a port's data of it are on their way.
 use Rattle.std.proofs.Common.{◌≡◌, ◌≢◌, ℕ, ◌<◌, Bool, true, false, not, ◌||◌, ◌==◌, nat_eq, [], ◌∷◌, length, Some, None, refl, sym, ap, subst, ◌∙◌, arith, inl, inr}
 use Rattle.std.proofs.lemmas.Bool.{and_parts, cases_Bool, cases_eq, not-true, eqb-true}
-use Rattle.ace_codes.specs.declared.kind.ArKind.{ArKind}
+use Rattle.ace_model.proofs.Terms.{ArKind, AwKind, SnoopKind, I, Read, Write, Event, W, Header, is_fetch, snoop_of_read, is_invalid, is_unique, Answer, Transaction, Trace, at_point, implies, is_some_and}
+use Rattle.ace_model.proofs.Terms.{is_none_or, is_update, is_write_line_unique, has_write_data, is_read, is_line, is_on, issued, ended, read_kind, write_kind, snoop_of, snoop_kind_of, outstanding}
+use Rattle.ace_model.proofs.Terms.{has_outstanding_on, updates_memory, next_write, next_write_beat, gives_line, granted, answer_of, state_of, word_of, copy_of, Beat, value_of, may_store, k11, is_next_beat}
+use Rattle.ace_model.proofs.Terms.{fits_write, full_beat, IsAccepted}
 use Rattle.ace_codes.specs.declared.kind.ArKind.TheVariants as read
-use Rattle.ace_codes.specs.declared.kind.AwKind.{AwKind}
 use Rattle.ace_codes.specs.declared.kind.AwKind.TheVariants as write
-use Rattle.ace_codes.specs.declared.kind.SnoopKind.{SnoopKind}
 use Rattle.ace_codes.specs.declared.kind.SnoopKind.TheVariants as snoop
-use Rattle.ace_codes.specs.declared.state.LineState.TheVariants.{I}
-use Rattle.ace_event.specs.declared.event.Channel.TheVariants.{Read, Write}
-use Rattle.ace_event.specs.declared.event.Event.{Event}
-use Rattle.ace_event.specs.declared.event.Event.TheVariants.{W}
-use Rattle.ace_event.specs.declared.header.Header.{Header}
-use Rattle.ace_tables.specs.EndStates.{is_fetch}
-use Rattle.ace_tables.specs.SnoopKinds.{snoop_of_read}
-use Rattle.ace_tables.specs.States.{is_invalid, is_unique}
-use Rattle.ace_model.specs.declared.snoops.Answer.{Answer}
-use Rattle.ace_model.specs.declared.transactions.Transaction.{Transaction}
-use Rattle.ace_model.specs.Trace.{Trace, at_point, implies, is_some_and, is_none_or}
-use Rattle.ace_model.specs.Kinds.{is_update, is_write_line_unique, has_write_data}
-use Rattle.ace_model.specs.Transactions.{is_read, is_line, is_on, issued, ended, read_kind, write_kind, snoop_of, snoop_kind_of, outstanding, has_outstanding_on}
-use Rattle.ace_model.specs.Progress.{updates_memory}
-use Rattle.ace_model.specs.Writes.{next_write, next_write_beat}
-use Rattle.ace_model.specs.Grants.{gives_line, granted, answer_of}
-use Rattle.ace_model.specs.States.{state_of}
-use Rattle.ace_model.specs.Copies.{word_of, copy_of}
-use Rattle.ace_model.specs.Values.{Beat, value_of}
-use Rattle.ace_model.specs.CacheRules.{may_store}
-use Rattle.ace_model.specs.SnoopRules.{k11, is_next_beat, fits_write, full_beat}
-use Rattle.ace_model.specs.Accepted.{IsAccepted}
 use Rattle.ace_model.proofs.Trace.Looks.{Some-injective, is_some_and-is, is_some_and-at, is_none_or-at, implies-at, has_name-is, newest_named-cases, without-some}
 use Rattle.ace_model.proofs.Trace.Issued.{outstanding-named, transaction_of-stands}
 use Rattle.ace_model.proofs.Trace.Growth.{at_point-before, at_point-end}
@@ -46,58 +25,59 @@ use Rattle.ace_model.proofs.Values.WritesAlone.{all_empty}
 use Rattle.ace_model.proofs.Values.Facts.{SentTrue, UpdatesTrue, Facts}
 use Rattle.ace_model.proofs.Holders.Law.{accepted_holds}
 
-pub may_unique : (h : Header) (past : Trace) (q l : ℕ) → may_store h past q l ≡ true → is_unique (state_of h past q l) ≡ true
-may_unique h past q l may = (and_parts (is_unique (state_of h past q l)) (not (has_outstanding_on h past q l)) may).0
+module _ (h : Header) (past : Trace) where
+  pub may_unique : (q l : ℕ) → may_store h past q l ≡ true → is_unique (state_of h past q l) ≡ true
+  may_unique q l may = (and_parts (is_unique (state_of h past q l)) (not (has_outstanding_on h past q l)) may).0
 
-pub may_free : (h : Header) (past : Trace) (q l : ℕ) → may_store h past q l ≡ true → has_outstanding_on h past q l ≡ false
-may_free h past q l may = not-true (has_outstanding_on h past q l) (and_parts (is_unique (state_of h past q l)) (not (has_outstanding_on h past q l)) may).1
+  pub may_free : (q l : ℕ) → may_store h past q l ≡ true → has_outstanding_on h past q l ≡ false
+  may_free q l may = not-true (has_outstanding_on h past q l) (and_parts (is_unique (state_of h past q l)) (not (has_outstanding_on h past q l)) may).1
 
--- under the grant of a read, where no port may store and its own MakeUnique doesn't
-pub value_stays : (h : Header) (past : Trace) (e : Event) → IsAccepted h (e ∷ past) → (l : ℕ) (x : Transaction) → granted h past l ≡ Some x → is_read x.chan ≡ true
-    → ((q : ℕ) → may_store h past q l ≡ true → ⊥) → ((q s : ℕ) (m : Made h past q l s) → m.one ≡ x → ⊥) → value_of (e ∷ past) l ≡ value_of past l
-value_stays h past e a l x g reads no_port no_make =
-    elim (value_moves h past e a l) [
-      | inl same ↦ same
-      | inr s ↦ elim s [
-        | inl d ↦ absurd (no_port d.port d.may)
+  -- under the grant of a read, where no port may store and its own MakeUnique doesn't
+  pub value_stays : (e : Event) → IsAccepted h (e ∷ past) → (l : ℕ) (x : Transaction) → granted h past l ≡ Some x → is_read x.chan ≡ true
+      → ((q : ℕ) → may_store h past q l ≡ true → ⊥) → ((q s : ℕ) (m : Made h past q l s) → m.one ≡ x → ⊥) → value_of (e ∷ past) l ≡ value_of past l
+  value_stays e a l x g reads no_port no_make =
+      elim (value_moves h past e a l) [
+        | inl same ↦ same
         | inr s ↦ elim s [
-          | inl d ↦ absurd (no_make d.port d.strobe d.made (Some-injective d.made.one x (sym d.made.stands ∙ g)))
-          | inr w ↦
-              let one : w.by.one ≡ x = Some-injective w.by.one x (sym w.by.stands ∙ g) in
-              let bad : false ≡ true = sym w.by.writes ∙ ap (λ (y : Transaction). is_read y.chan) one ∙ reads in cc
+          | inl d ↦ absurd (no_port d.port d.may)
+          | inr s ↦ elim s [
+            | inl d ↦ absurd (no_make d.port d.strobe d.made (Some-injective d.made.one x (sym d.made.stands ∙ g)))
+            | inr w ↦
+                let one : w.by.one ≡ x = Some-injective w.by.one x (sym w.by.stands ∙ g) in
+                let bad : false ≡ true = sym w.by.writes ∙ ap (λ (y : Transaction). is_read y.chan) one ∙ reads in cc
+          ]
         ]
       ]
-    ]
 
--- while an update of a port that holds the line is outstanding
-pub value_updating : (h : Header) (past : Trace) (e : Event) → IsAccepted h (e ∷ past) → (p i l : ℕ) (x : Transaction) → outstanding h past p Write i ≡ Some x
-    → is_on x l ≡ true → updates_memory x ≡ true → value_of (e ∷ past) l ≡ value_of past l
-value_updating h past e a p i l x o on updates =
-    let held = (keeps h past a.0 p i l x o on updates).held in
-    let valid : state_of h past p l ≡ I → ⊥ = λ gone. let bad : true ≡ false = sym (ap is_invalid gone) ∙ held in cc in
-    elim (value_moves h past e a l) [
-      | inl same ↦ same
-      | inr s ↦ elim s [
-        | inl d ↦ elim (cases_eq d.port p) [
-          | inl own ↦
-              let some = outstanding_found h past p Write i l x o on in
-              let none = may_free h past p l (subst (λ v. may_store h past v l ≡ true) own d.may) in cc
-          | inr apart ↦ absurd (valid ((accepted_holds h past a.0).unique l d.port p (may_unique h past d.port l d.may) apart))
-        ]
+  -- while an update of a port that holds the line is outstanding
+  pub value_updating : (e : Event) → IsAccepted h (e ∷ past) → (p i l : ℕ) (x : Transaction) → outstanding h past p Write i ≡ Some x
+      → is_on x l ≡ true → updates_memory x ≡ true → value_of (e ∷ past) l ≡ value_of past l
+  value_updating e a p i l x o on updates =
+      let held = (keeps h past a.0 p i l x o on updates).held in
+      let valid : state_of h past p l ≡ I → ⊥ = λ gone. let bad : true ≡ false = sym (ap is_invalid gone) ∙ held in cc in
+      elim (value_moves h past e a l) [
+        | inl same ↦ same
         | inr s ↦ elim s [
           | inl d ↦ elim (cases_eq d.port p) [
             | inl own ↦
-                let out : outstanding h past p Read d.made.id ≡ Some d.made.one = ap (λ v. outstanding h past v Read d.made.id) (sym own) ∙ d.made.out in
-                let one = one_on_line h past a.0 p Read Write d.made.id i l d.made.one x out o d.made.on on in
-                let chan = (has_name-is x p Write i (transaction_of-stands past p Write i x (outstanding-named h past p Write i x o)).named).chan in
-                let reads = (read_writes_none d.made.one read.MakeUnique d.made.kind).1 in
-                let bad : true ≡ false = sym reads ∙ ap (λ (y : Transaction). is_read y.chan) one ∙ ap is_read chan in cc
-            | inr apart ↦ absurd (valid (d.made.alone p apart))
+                let some = outstanding_found h past p Write i l x o on in
+                let none = may_free p l (subst (λ v. may_store h past v l ≡ true) own d.may) in cc
+            | inr apart ↦ absurd (valid ((accepted_holds h past a.0).unique l d.port p (may_unique d.port l d.may) apart))
           ]
-          | inr w ↦ absurd (valid (all_empty h past a.0 w.port w.chan w.id l w.by p))
+          | inr s ↦ elim s [
+            | inl d ↦ elim (cases_eq d.port p) [
+              | inl own ↦
+                  let out : outstanding h past p Read d.made.id ≡ Some d.made.one = ap (λ v. outstanding h past v Read d.made.id) (sym own) ∙ d.made.out in
+                  let one = one_on_line h past a.0 p Read Write d.made.id i l d.made.one x out o d.made.on on in
+                  let chan = (has_name-is x p Write i (transaction_of-stands past p Write i x (outstanding-named h past p Write i x o)).named).chan in
+                  let reads = (read_writes_none d.made.one read.MakeUnique d.made.kind).1 in
+                  let bad : true ≡ false = sym reads ∙ ap (λ (y : Transaction). is_read y.chan) one ∙ ap is_read chan in cc
+              | inr apart ↦ absurd (valid (d.made.alone p apart))
+            ]
+            | inr w ↦ absurd (valid (all_empty h past a.0 w.port w.chan w.id l w.by p))
+          ]
         ]
       ]
-    ]
 
 -- an answer knows how many events came before it
 pub answer-before : (past : Trace) (r l : ℕ) (w : Answer) → answer_of past r l ≡ Some w → w.place < length past

@@ -1,28 +1,12 @@
 -- The stores to a line: a D of a port that may store, the D of a MakeUnique, and the M of a write.
 use Rattle.std.proofs.Common.{◌≡◌, ◌≢◌, ◌⊎◌, ◌==◌, ℕ, ◌+◌, Bool, true, false, not, if◌then◌else◌, ◌&&◌, ◌||◌, nat_eq, nat_lt, [], ◌∷◌, length, Option, Some, None, refl, sym, ap, subst, ◌∙◌, arith, inl, inr}
 use Rattle.std.proofs.lemmas.Bool.{and_parts, and_from, or_cases, not-true, cases_Bool, eqb-true, eq-eqb}
-use Rattle.ace_codes.specs.declared.kind.ArKind.{ArKind}
+use Rattle.ace_model.proofs.Terms.{ArKind, AwKind, Channel, Read, Write, Event, Ar, R, M, D, Header, Line, Transaction, Trace, is_some_and, beats_of, reads_a_line, is_make_unique, is_update}
+use Rattle.ace_model.proofs.Terms.{is_unique_write, is_no_snoop_write, is_ace, is_read, is_line, is_on, is_named, read_kind, write_kind, issued, ended, transfers, outstanding, transaction_of}
+use Rattle.ace_model.proofs.Terms.{is_outstanding, is_make_unique_on, is_completion, is_complete, updates_memory, has_memory_write, is_burst_whole, granted, is_granted, awaits_store, has_store}
+use Rattle.ace_model.proofs.Terms.{are_snoops_done, stores_data, value_of, may_store, wants_store, full_line, may_write_memory, may_write_passed, may_write_data, is_write_due, is_update_due, IsAccepted}
 use Rattle.ace_codes.specs.declared.kind.ArKind.TheVariants as read
-use Rattle.ace_codes.specs.declared.kind.AwKind.{AwKind}
 use Rattle.ace_codes.specs.declared.kind.AwKind.TheVariants as write
-use Rattle.ace_event.specs.declared.event.Channel.{Channel}
-use Rattle.ace_event.specs.declared.event.Channel.TheVariants.{Read, Write}
-use Rattle.ace_event.specs.declared.event.Event.{Event}
-use Rattle.ace_event.specs.declared.event.Event.TheVariants.{Ar, R, M, D}
-use Rattle.ace_event.specs.declared.header.Header.{Header}
-use Rattle.ace_event.specs.declared.line.Line.{Line}
-use Rattle.ace_model.specs.declared.transactions.Transaction.{Transaction}
-use Rattle.ace_model.specs.Trace.{Trace, is_some_and}
-use Rattle.ace_model.specs.Kinds.{beats_of, reads_a_line, is_make_unique, is_update, is_unique_write, is_no_snoop_write}
-use Rattle.ace_model.specs.Transactions.{is_ace, is_read, is_line, is_on, is_named, read_kind, write_kind, issued, ended, transfers, outstanding, transaction_of, is_outstanding, is_make_unique_on, is_completion, is_complete}
-use Rattle.ace_model.specs.Progress.{updates_memory}
-use Rattle.ace_model.specs.Writes.{has_memory_write, is_burst_whole}
-use Rattle.ace_model.specs.Grants.{granted, is_granted}
-use Rattle.ace_model.specs.States.{awaits_store, has_store, are_snoops_done}
-use Rattle.ace_model.specs.Values.{stores_data, value_of}
-use Rattle.ace_model.specs.CacheRules.{may_store, wants_store, full_line}
-use Rattle.ace_model.specs.WriteRules.{may_write_memory, may_write_passed, may_write_data, is_write_due, is_update_due}
-use Rattle.ace_model.specs.Accepted.{IsAccepted}
 use Rattle.ace_model.proofs.Trace.Looks.{Some-injective, is_some_and-is, newest_named-cases, without-some}
 use Rattle.ace_model.proofs.Trace.Issued.{issued_at, same_place, outstanding-named, transaction_of-stands}
 use Rattle.ace_model.proofs.Trace.Growth.{IsIssued, some_issued-is}
@@ -216,69 +200,70 @@ stores_kind x s = by (write_kind x) refl s
     by None is t = cc
     by (Some k) is t = (k, is, t)
 
-pub stores_m : (h : Header) (past : Trace) (q : ℕ) (c : Channel) (j : ℕ) (line : Line) (l : ℕ) → IsAccepted h (M q c j line ∷ past) → (x : Transaction)
-    → transaction_of past q c j ≡ Some x → (stores_data x && is_on x l) ≡ true → Writes h past q c j l
-stores_m h past q c j line l a x named t =
-    let parts = and_parts (stores_data x) (is_on x l) t in
-    let z = is_some_and-is (outstanding h past q c j) (may_write_memory h past) (accepted_keeps h past (M q c j line) a).rule_24 in
-    let one : z.0 ≡ x = Some-injective z.0 x (sym (outstanding-named h past q c j z.0 z.1) ∙ named) in
-    let o : outstanding h past q c j ≡ Some x = z.1 ∙ ap (λ v. Some v) one in
-    let out = outstanding_own h past q c j x o in
-    let may : may_write_memory h past x ≡ true = subst (λ y. may_write_memory h past y ≡ true) one z.2 in
-    let writes = stores_write x parts.0 in
-    let by = else_of (is_read x.chan) (may_write_passed h past x) (may_write_data h past x) writes may in
-    let early = and_parts (is_burst_whole past x) (not (has_memory_write past x.port x.chan x.id))
-    (and_parts (is_burst_whole past x && not (has_memory_write past x.port x.chan x.id)) (is_write_due h past x || is_update_due h past x) by).0 in
-    let due : is_write_due h past x ≡ true =
-    elim (write_due h past x may writes) [
-      | inl d ↦ d
-      | inr u ↦
-          let k = stores_kind x parts.0 in
-          let updates : is_update k.0 ≡ true = subst (λ o. is_some_and o is_update ≡ true) k.1 (and_parts (updates_memory x) _ u).0 in
-          absurd (update_stores_none k.0 updates k.2)
-    ] in
-    let two = and_parts (is_granted h past x) (are_snoops_done h past x) due in
-    let addr = eqb-true x.addr l (and_parts (is_line x) _ parts.1).1 in
-    let y = is_some_and-is (granted h past x.addr) (λ y. nat_eq y.place x.place) two.0 in
-    let s = (accepted_holds h past a.0).grants x.addr y.0 y.1 in
-    let same : y.0 ≡ x = same_place past y.0.port x.port y.0.chan x.chan y.0.id x.id y.0 x (outstanding-named h past y.0.port y.0.chan y.0.id y.0 s.0)
-    (outstanding-named h past x.port x.chan x.id x out) (eqb-true y.0.place x.place y.2) in
-    record {
-      one = x;
-      named = named;
-      out = out;
-      on = parts.1;
-      writes = writes;
-      stands = ap (granted h past) (sym addr) ∙ y.1 ∙ ap (λ v. Some v) same;
-      done = two.1;
-      whole = early.0;
-      first = not-true (has_memory_write past x.port x.chan x.id) early.1;
-      stores = parts.0;
-    }
+module _ (h : Header) (past : Trace) where
+  pub stores_m : (q : ℕ) (c : Channel) (j : ℕ) (line : Line) (l : ℕ) → IsAccepted h (M q c j line ∷ past) → (x : Transaction)
+      → transaction_of past q c j ≡ Some x → (stores_data x && is_on x l) ≡ true → Writes h past q c j l
+  stores_m q c j line l a x named t =
+      let parts = and_parts (stores_data x) (is_on x l) t in
+      let z = is_some_and-is (outstanding h past q c j) (may_write_memory h past) (accepted_keeps h past (M q c j line) a).rule_24 in
+      let one : z.0 ≡ x = Some-injective z.0 x (sym (outstanding-named h past q c j z.0 z.1) ∙ named) in
+      let o : outstanding h past q c j ≡ Some x = z.1 ∙ ap (λ v. Some v) one in
+      let out = outstanding_own h past q c j x o in
+      let may : may_write_memory h past x ≡ true = subst (λ y. may_write_memory h past y ≡ true) one z.2 in
+      let writes = stores_write x parts.0 in
+      let by = else_of (is_read x.chan) (may_write_passed h past x) (may_write_data h past x) writes may in
+      let early = and_parts (is_burst_whole past x) (not (has_memory_write past x.port x.chan x.id))
+      (and_parts (is_burst_whole past x && not (has_memory_write past x.port x.chan x.id)) (is_write_due h past x || is_update_due h past x) by).0 in
+      let due : is_write_due h past x ≡ true =
+      elim (write_due h past x may writes) [
+        | inl d ↦ d
+        | inr u ↦
+            let k = stores_kind x parts.0 in
+            let updates : is_update k.0 ≡ true = subst (λ o. is_some_and o is_update ≡ true) k.1 (and_parts (updates_memory x) _ u).0 in
+            absurd (update_stores_none k.0 updates k.2)
+      ] in
+      let two = and_parts (is_granted h past x) (are_snoops_done h past x) due in
+      let addr = eqb-true x.addr l (and_parts (is_line x) _ parts.1).1 in
+      let y = is_some_and-is (granted h past x.addr) (λ y. nat_eq y.place x.place) two.0 in
+      let s = (accepted_holds h past a.0).grants x.addr y.0 y.1 in
+      let same : y.0 ≡ x = same_place past y.0.port x.port y.0.chan x.chan y.0.id x.id y.0 x (outstanding-named h past y.0.port y.0.chan y.0.id y.0 s.0)
+      (outstanding-named h past x.port x.chan x.id x out) (eqb-true y.0.place x.place y.2) in
+      record {
+        one = x;
+        named = named;
+        out = out;
+        on = parts.1;
+        writes = writes;
+        stands = ap (granted h past) (sym addr) ∙ y.1 ∙ ap (λ v. Some v) same;
+        done = two.1;
+        whole = early.0;
+        first = not-true (has_memory_write past x.port x.chan x.id) early.1;
+        stores = parts.0;
+      }
 
-pub record ByPort (h : Header) (past : Trace) (e : Event) (l : ℕ) : Type 0 where
-  pub port : ℕ
-  pub strobe : ℕ
-  pub ex : Bool
-  pub line : Line
-  pub is : e ≡ D port l strobe ex line
-  pub may : may_store h past port l ≡ true
+  pub record ByPort (e : Event) (l : ℕ) : Type 0 where
+    pub port : ℕ
+    pub strobe : ℕ
+    pub ex : Bool
+    pub line : Line
+    pub is : e ≡ D port l strobe ex line
+    pub may : may_store h past port l ≡ true
 
-pub record ByMake (h : Header) (past : Trace) (e : Event) (l : ℕ) : Type 0 where
-  pub port : ℕ
-  pub strobe : ℕ
-  pub ex : Bool
-  pub line : Line
-  pub is : e ≡ D port l strobe ex line
-  pub made : Made h past port l strobe
+  pub record ByMake (e : Event) (l : ℕ) : Type 0 where
+    pub port : ℕ
+    pub strobe : ℕ
+    pub ex : Bool
+    pub line : Line
+    pub is : e ≡ D port l strobe ex line
+    pub made : Made h past port l strobe
 
-pub record ByWrite (h : Header) (past : Trace) (e : Event) (l : ℕ) : Type 0 where
-  pub port : ℕ
-  pub chan : Channel
-  pub id : ℕ
-  pub line : Line
-  pub is : e ≡ M port chan id line
-  pub by : Writes h past port chan id l
+  pub record ByWrite (e : Event) (l : ℕ) : Type 0 where
+    pub port : ℕ
+    pub chan : Channel
+    pub id : ℕ
+    pub line : Line
+    pub is : e ≡ M port chan id line
+    pub by : Writes h past port chan id l
 
 abbrev pub Stored : Header → Trace → Event → ℕ → Type 0
 Stored h past e l = ByPort h past e l ⊎ ByMake h past e l ⊎ ByWrite h past e l

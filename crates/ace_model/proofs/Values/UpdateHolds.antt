@@ -2,27 +2,10 @@
 -- a WriteEvict and an Evict the line stays clean.
 use Rattle.std.proofs.Common.{◌≡◌, ◌≢◌, ℕ, Bool, true, false, not, if◌then◌else◌, ◌&&◌, nat_eq, [], ◌∷◌, length, Some, None, unwrap_or, refl, sym, ap, subst, ◌∙◌, inl, inr}
 use Rattle.std.proofs.lemmas.Bool.{and_parts, and_from, not-true, eqb-true, eq-eqb}
-use Rattle.ace_codes.specs.declared.kind.AwKind.{AwKind}
+use Rattle.ace_model.proofs.Terms.{AwKind, LineState, I, UC, UD, SC, SD, Channel, Read, Write, Event, Rk, Wk, Cr, S, D, Header, is_silent_move, starts_read, starts_write, is_invalid, is_dirty, is_unique}
+use Rattle.ace_model.proofs.Terms.{Transaction, Trace, is_some_and, is_none_or, is_update, is_line, is_on, is_some_on, issued, ended, read_kind, write_kind, outstanding, is_outstanding, acknowledged}
+use Rattle.ace_model.proofs.Terms.{has_outstanding_on, updates_memory, is_update_on, has_update, answers_line, state_of, starts_well, IsAccepted}
 use Rattle.ace_codes.specs.declared.kind.AwKind.TheVariants as write
-use Rattle.ace_codes.specs.declared.state.LineState.{LineState}
-use Rattle.ace_codes.specs.declared.state.LineState.TheVariants.{I, UC, UD, SC, SD}
-use Rattle.ace_event.specs.declared.event.Channel.{Channel}
-use Rattle.ace_event.specs.declared.event.Channel.TheVariants.{Read, Write}
-use Rattle.ace_event.specs.declared.event.Event.{Event}
-use Rattle.ace_event.specs.declared.event.Event.TheVariants.{Rk, Wk, Cr, S, D}
-use Rattle.ace_event.specs.declared.header.Header.{Header}
-use Rattle.ace_tables.specs.SilentTransitions.{is_silent_move}
-use Rattle.ace_tables.specs.StartStates.{starts_read, starts_write}
-use Rattle.ace_tables.specs.States.{is_invalid, is_dirty, is_unique}
-use Rattle.ace_model.specs.declared.transactions.Transaction.{Transaction}
-use Rattle.ace_model.specs.Trace.{Trace, is_some_and, is_none_or}
-use Rattle.ace_model.specs.Kinds.{is_update}
-use Rattle.ace_model.specs.Transactions.{is_line, is_on, is_some_on, issued, ended, read_kind, write_kind, outstanding, is_outstanding, acknowledged, has_outstanding_on}
-use Rattle.ace_model.specs.Progress.{updates_memory, is_update_on, has_update}
-use Rattle.ace_model.specs.Snoops.{answers_line}
-use Rattle.ace_model.specs.States.{state_of}
-use Rattle.ace_model.specs.AddressRules.{starts_well}
-use Rattle.ace_model.specs.Accepted.{IsAccepted}
 use Rattle.ace_model.proofs.Trace.Looks.{Some-injective, is_some_and-is, is_none_or-at, implies-at, has_name-is, newest_named-cases, without-some}
 use Rattle.ace_model.proofs.Trace.Issued.{outstanding-named, transaction_of-stands}
 use Rattle.ace_model.proofs.Trace.Growth.{some_issued-found}

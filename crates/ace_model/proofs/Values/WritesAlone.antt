@@ -1,23 +1,9 @@
 -- Where a write stores to its line, no port holds the line.
 use Rattle.std.proofs.Common.{◌≡◌, ℕ, Bool, true, false, not, ◌&&◌, ◌||◌, nat_eq, Some, None, is_none, refl, sym, ap, subst, ◌∙◌, inl, inr}
 use Rattle.std.proofs.lemmas.Bool.{and_parts, or_cases, or_right, cases_eq, eqb-true}
-use Rattle.ace_codes.specs.declared.kind.AwKind.{AwKind}
+use Rattle.ace_model.proofs.Terms.{AwKind, SnoopKind, I, is_shared, Channel, Header, snoop_of_write, Transaction, Trace, is_some_and, is_unique_write, is_no_snoop_write, is_granted_write, is_read, is_line}
+use Rattle.ace_model.proofs.Terms.{read_kind, write_kind, snoop_of, snoop_kind_of, is_exclusive_store, granted, each_port, has_failed, state_of, is_port_done, is_line_read_transaction, IsAccepted}
 use Rattle.ace_codes.specs.declared.kind.AwKind.TheVariants as write
-use Rattle.ace_codes.specs.declared.kind.SnoopKind.{SnoopKind}
-use Rattle.ace_codes.specs.declared.state.LineState.TheVariants.{I}
-use Rattle.ace_codes.specs.Responses.{is_shared}
-use Rattle.ace_event.specs.declared.event.Channel.{Channel}
-use Rattle.ace_event.specs.declared.header.Header.{Header}
-use Rattle.ace_tables.specs.SnoopKinds.{snoop_of_write}
-use Rattle.ace_model.specs.declared.transactions.Transaction.{Transaction}
-use Rattle.ace_model.specs.Trace.{Trace, is_some_and}
-use Rattle.ace_model.specs.Kinds.{is_unique_write, is_no_snoop_write, is_granted_write}
-use Rattle.ace_model.specs.Transactions.{is_read, is_line, read_kind, write_kind, snoop_of, snoop_kind_of, is_exclusive_store}
-use Rattle.ace_model.specs.Grants.{granted, each_port}
-use Rattle.ace_model.specs.Exclusives.{has_failed}
-use Rattle.ace_model.specs.States.{state_of, is_port_done}
-use Rattle.ace_model.specs.Copies.{is_line_read_transaction}
-use Rattle.ace_model.specs.Accepted.{IsAccepted}
 use Rattle.ace_model.proofs.Trace.Issued.{outstanding-named, transaction_of-stands}
 use Rattle.ace_model.proofs.Tables.States.{invalidates}
 use Rattle.ace_model.proofs.Holders.FirstTransfer.{done_port}

@@ -3,32 +3,11 @@ use Rattle.std.proofs.Common.{◌≡◌, ℕ, ◌+◌, ◌*◌, Bool, true, fals
 use Rattle.std.proofs.lemmas.Bool.{and_parts, and_from, cases_Bool, eqb-true}
 use Rattle.std.specs.List.{AllByRecursion}
 use Rattle.ace_codes.specs.declared.kind.ArKind.TheVariants as read
-use Rattle.ace_codes.specs.declared.kind.AwKind.{AwKind}
+use Rattle.ace_model.proofs.Terms.{AwKind, I, InRange, Channel, Write, Event, M, Header, Line, merged, Transaction, Trace, is_some_and, is_write_line_unique, has_write_data, is_unique_write}
+use Rattle.ace_model.proofs.Terms.{is_no_snoop_write, is_read, is_line, read_kind, write_kind, snoop_of, snoop_kind_of, outstanding, has_memory_write, granted, has_passed_data, state_of, memory_of}
+use Rattle.ace_model.proofs.Terms.{passed_to, passed_data, Beat, burst_of, burst_line, burst_strobe, value_of, full_beat, full_line, data_of, data_of_write, burst_into, IsAccepted, replaces_line}
+use Rattle.ace_model.proofs.Terms.{HasDirtyHolder}
 use Rattle.ace_codes.specs.declared.kind.AwKind.TheVariants as write
-use Rattle.ace_codes.specs.declared.state.LineState.TheVariants.{I}
-use Rattle.ace_event.specs.Range.{InRange}
-use Rattle.ace_event.specs.declared.event.Channel.{Channel}
-use Rattle.ace_event.specs.declared.event.Channel.TheVariants.{Write}
-use Rattle.ace_event.specs.declared.event.Event.{Event}
-use Rattle.ace_event.specs.declared.event.Event.TheVariants.{M}
-use Rattle.ace_event.specs.declared.header.Header.{Header}
-use Rattle.ace_event.specs.declared.line.Line.{Line}
-use Rattle.ace_event.specs.Bytes.{merged}
-use Rattle.ace_model.specs.declared.transactions.Transaction.{Transaction}
-use Rattle.ace_model.specs.Trace.{Trace, is_some_and}
-use Rattle.ace_model.specs.Kinds.{is_write_line_unique, has_write_data, is_unique_write, is_no_snoop_write}
-use Rattle.ace_model.specs.Transactions.{is_read, is_line, read_kind, write_kind, snoop_of, snoop_kind_of, outstanding}
-use Rattle.ace_model.specs.Writes.{has_memory_write}
-use Rattle.ace_model.specs.Grants.{granted, has_passed_data}
-use Rattle.ace_model.specs.States.{state_of}
-use Rattle.ace_model.specs.Copies.{memory_of}
-use Rattle.ace_model.specs.Replies.{passed_to, passed_data}
-use Rattle.ace_model.specs.Values.{Beat, burst_of, burst_line, burst_strobe, value_of}
-use Rattle.ace_model.specs.SnoopRules.{full_beat}
-use Rattle.ace_model.specs.CacheRules.{full_line}
-use Rattle.ace_model.specs.WriteRules.{data_of, data_of_write, burst_into}
-use Rattle.ace_model.specs.Accepted.{IsAccepted}
-use Rattle.ace_model.specs.DirtyPlace.{replaces_line, HasDirtyHolder}
 use Rattle.ace_model.proofs.Trace.Looks.{Some-injective, has_name-is}
 use Rattle.ace_model.proofs.Trace.Issued.{outstanding-named, transaction_of-stands}
 use Rattle.ace_model.proofs.Holders.Rises.{state_moves}
