@@ -6,7 +6,7 @@ use Rattle.ace_model.proofs.Terms.{has_outstanding_on, granted, answer_of, state
 use Rattle.ace_codes.specs.declared.kind.SnoopKind.TheVariants as snoop
 use Rattle.ace_model.proofs.Trace.Looks.{Some-injective}
 use Rattle.ace_model.proofs.Tables.States.{is_settled, invalidates, shares_line, Leaves, row_is}
-use Rattle.ace_model.proofs.Holders.Facts.{Inductive}
+use Rattle.ace_model.proofs.Holders.Facts.{OneHolder}
 use Rattle.ace_model.proofs.Holders.Snoop.{less_cr, settled}
 use Rattle.ace_model.proofs.Holders.States.{less-clean}
 use Rattle.ace_model.proofs.Rules.Keeps.{accepted_keeps}
@@ -17,7 +17,7 @@ use Rattle.ace_model.proofs.Grants.SnoopAnswers.{Answering, answering_cr, NewAns
 use Rattle.ace_model.proofs.Holders.Law.{accepted_holds}
 
 -- beside a dirty port no other is unique or dirty
-pub beside_dirty : (h : Header) (past : Trace) → Inductive h past → (l r z : ℕ) → is_dirty (state_of h past r l) ≡ true → z ≢ r → is_settled (state_of h past z l) ≡ true
+pub beside_dirty : (h : Header) (past : Trace) → OneHolder h past → (l r z : ℕ) → is_dirty (state_of h past r l) ≡ true → z ≢ r → is_settled (state_of h past z l) ≡ true
 beside_dirty h past f l r z d apart = settled (state_of h past z l) unique dirty
   where
     unique : is_unique (state_of h past z l) ≡ false

@@ -10,7 +10,7 @@ use Rattle.ace_model.proofs.Tables.States.{is_settled, Lessens-same}
 use Rattle.ace_model.proofs.Tables.ReadEnds.{takes_alone, takes_shared, ReadEnds, read_is}
 use Rattle.ace_model.proofs.Holders.States.{arrives_kept, held_on}
 use Rattle.ace_model.proofs.Holders.Ends.{one_name}
-use Rattle.ace_model.proofs.Holders.Facts.{OthersInvalid, OthersNotUnique, AllSettled, Arrives, AnswersFit, PassedOn, TransfersArrive, QueueStands, QueueDistinct, OutsideInvalid, Inductive}
+use Rattle.ace_model.proofs.Holders.Facts.{OthersInvalid, OthersNotUnique, AllSettled, Arrives, AnswersFit, PassedOn, TransfersArrive, QueueStands, QueueDistinct, OutsideInvalid, OneHolder}
 
 -- The read that an RK of the port belongs to: it is outstanding, and has had a transfer.
 pub record Ends (h : Header) (past : Trace) (q : ℕ) : Type 0 where
@@ -27,7 +27,7 @@ pub record Ends (h : Header) (past : Trace) (q : ℕ) : Type 0 where
   pub is_kind : read_kind ended_one ≡ Some kind
   pub arrives : is_line ended_one ≡ true → Arrives h past q id ended_one
 
-pub ends : (h : Header) (past : Trace) (q : ℕ) (st : LineState) → Inductive h past → k1 h past (Rk q st) ≡ true → k22 h past (Rk q st) ≡ true → Ends h past q
+pub ends : (h : Header) (past : Trace) (q : ℕ) (st : LineState) → OneHolder h past → k1 h past (Rk q st) ≡ true → k22 h past (Rk q st) ≡ true → Ends h past q
 ends h past q st f known k =
     let ace : is_ace h q ≡ true = (and_parts (nat_lt q h.ports) (is_ace h q) known).1 in
     let next = some_is (next_complete past q Read) k in
@@ -164,22 +164,22 @@ module _ (h : Header) (past : Trace) where
               absurd (w.1 s.0 s.1 (ap (λ (v : Transaction). v.place) (Some-injective s.0 x (sym s.2 ∙ w.0))))
         ]
 
-    pub answers_rk : Inductive h past → k23 h past (Rk q st) ≡ true → Ends h past q → AnswersFit h (Rk q st ∷ past)
+    pub answers_rk : OneHolder h past → k23 h past (Rk q st) ≡ true → Ends h past q → AnswersFit h (Rk q st ∷ past)
     answers_rk f k e l r x a kind g w causes =
         rw (states_rk k e l x g r) (f.answers l r x a kind (without-some (acknowledged past q Read) (granted h past l) x g).0 w causes)
 
-    pub passed_rk : Inductive h past → k23 h past (Rk q st) ≡ true → Ends h past q → PassedOn h (Rk q st ∷ past)
+    pub passed_rk : OneHolder h past → k23 h past (Rk q st) ≡ true → Ends h past q → PassedOn h (Rk q st ∷ past)
     passed_rk f k e l r x a g takes w dirty z =
         rw (states_rk k e l x g z) (f.passed l r x a (without-some (acknowledged past q Read) (granted h past l) x g).0 takes w dirty z)
 
-    pub arrive_rk : Inductive h past → k23 h past (Rk q st) ≡ true → Ends h past q → TransfersArrive h (Rk q st ∷ past)
+    pub arrive_rk : OneHolder h past → k23 h past (Rk q st) ≡ true → Ends h past q → TransfersArrive h (Rk q st ∷ past)
     arrive_rk f k e p i x ace o line some =
         let w = without-some (acknowledged past q Read) (outstanding h past p Read i) x o in
         let a = f.arrive p i x ace w.0 line some in
         let g = without-other (acknowledged past q Read) (granted h past x.addr) x a.stands w.1 in
         arrives_kept h past (Rk q st) p i x g refl refl (λ r. Lessens-same _ _ (states_rk k e x.addr x g r)) a
 
-    pub queue_rk : Inductive h past → Ends h past q → QueueStands h (Rk q st ∷ past)
+    pub queue_rk : OneHolder h past → Ends h past q → QueueStands h (Rk q st ∷ past)
     queue_rk f d p n i ace low e =
         let low_before : acknowledgements past p Read ≤ n = below (nat_eq p q) low in
         let s = f.queue p n i ace low_before e in (
@@ -202,14 +202,14 @@ module _ (h : Header) (past : Trace) where
             let above : acknowledgements past p Read + 1 ≤ n = rw (eq-eqb p q (sym name.port)) at low in
             omega arith
 
-    pub distinct_rk : Inductive h past → QueueDistinct h (Rk q st ∷ past)
+    pub distinct_rk : OneHolder h past → QueueDistinct h (Rk q st ∷ past)
     distinct_rk f p m n i ace a b e g = f.distinct p m n i ace (below (nat_eq p q) m a) (below (nat_eq p q) n b) e g
       where
         below : (b : Bool) (n : ℕ) → (if b then acknowledgements past p Read + 1 else acknowledgements past p Read) ≤ n → acknowledgements past p Read ≤ n
         below true n l = omega arith
         below false n l = l
 
-    pub outside_rk : Inductive h past → Ends h past q → OutsideInvalid h (Rk q st ∷ past)
+    pub outside_rk : OneHolder h past → Ends h past q → OutsideInvalid h (Rk q st ∷ past)
     outside_rk f e r l o =
         elim (cases_Bool (is_named_by_rk past q r l)) [
           | inr other ↦ rw other (f.outside r l o)
@@ -226,7 +226,7 @@ module _ (h : Header) (past : Trace) where
         | inl t ↦ absurd (apart (eqb-true r q (and_parts (nat_eq r q) _ t).0))
       ]
 
-  pub unique_rk : (q : ℕ) (st : LineState) → Inductive h past → k23 h past (Rk q st) ≡ true → Ends h past q → UniqueNow h (Rk q st ∷ past)
+  pub unique_rk : (q : ℕ) (st : LineState) → OneHolder h past → k23 h past (Rk q st) ≡ true → Ends h past q → UniqueNow h (Rk q st ∷ past)
   unique_rk q st f k e l p r u ne =
       elim (cases_Bool (is_named_by_rk past q p l)) [
         | inl t ↦
@@ -250,7 +250,7 @@ module _ (h : Header) (past : Trace) where
         ]
       ]
 
-  pub one_dirty_rk : (q : ℕ) (st : LineState) → Inductive h past → k23 h past (Rk q st) ≡ true → Ends h past q → OneDirtyNow h (Rk q st ∷ past)
+  pub one_dirty_rk : (q : ℕ) (st : LineState) → OneHolder h past → k23 h past (Rk q st) ≡ true → Ends h past q → OneDirtyNow h (Rk q st ∷ past)
   one_dirty_rk q st f k e l a b da db =
       elim (cases_Bool (is_named_by_rk past q a l)) [
         | inl t ↦ alone a b t da db

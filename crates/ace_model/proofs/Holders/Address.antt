@@ -7,7 +7,7 @@ use Rattle.ace_model.proofs.Trace.Looks.{none_is, Some-injective, has_name-is, n
 use Rattle.ace_model.proofs.Trace.Issued.{outstanding-named, transaction_of-stands}
 use Rattle.ace_model.proofs.Tables.States.{Lessens-self}
 use Rattle.ace_model.proofs.Holders.States.{arrives_kept}
-use Rattle.ace_model.proofs.Holders.Facts.{GrantsStand, TransfersArrive, QueueStands, Inductive}
+use Rattle.ace_model.proofs.Holders.Facts.{GrantsStand, TransfersArrive, QueueStands, OneHolder}
 
 -- the transaction of the AR, of the AW
 abbrev pub read_issued : Trace → ℕ → ℕ → ℕ → ℕ → ℕ → ℕ → Bool → Transaction
@@ -86,11 +86,11 @@ named_read past q j addr snoop dom bar lock p i false e =
 
 module _ (h : Header) (past : Trace) where
   module _ (q j addr snoop dom bar : ℕ) where
-    pub grants_ar : (lock : Bool) → Inductive h past → k4 h past (Ar q j addr snoop dom bar lock) ≡ true
+    pub grants_ar : (lock : Bool) → OneHolder h past → k4 h past (Ar q j addr snoop dom bar lock) ≡ true
         → GrantsStand h (Ar q j addr snoop dom bar lock ∷ past)
     grants_ar lock f k = grants_issued h past (read_issued past q j addr snoop dom bar lock) f.grants k
 
-    pub arrive_ar : (lock : Bool) → Inductive h past → TransfersArrive h (Ar q j addr snoop dom bar lock ∷ past)
+    pub arrive_ar : (lock : Bool) → OneHolder h past → TransfersArrive h (Ar q j addr snoop dom bar lock ∷ past)
     arrive_ar lock f p i x ace o line some =
         let y = read_issued past q j addr snoop dom bar lock in
         elim (outstanding_new h past y p Read i x o) [
@@ -102,7 +102,7 @@ module _ (h : Header) (past : Trace) where
               (failed_issued past y x (other_name h past y p i x old.0 old.1)) (λ r. Lessens-self (state_of h past r x.addr)) a
         ]
 
-    pub queue_ar : (lock : Bool) → Inductive h past → k4 h past (Ar q j addr snoop dom bar lock) ≡ true
+    pub queue_ar : (lock : Bool) → OneHolder h past → k4 h past (Ar q j addr snoop dom bar lock) ≡ true
         → QueueStands h (Ar q j addr snoop dom bar lock ∷ past)
     queue_ar lock f k p n i ace low e =
         let s = f.queue p n i ace low e in
@@ -111,11 +111,11 @@ module _ (h : Header) (past : Trace) where
         let same : transfers (Ar q j addr snoop dom bar lock ∷ past) p i ≡ transfers past p i = rw other refl in
         (s.0, stays.1, subst (λ m. is_some_and (read_kind s.0) (λ c. m == beats_of c) ≡ true) (sym same) s.2)
 
-    pub grants_aw : Inductive h past → k4 h past (Aw q j addr snoop dom bar) ≡ true
+    pub grants_aw : OneHolder h past → k4 h past (Aw q j addr snoop dom bar) ≡ true
         → GrantsStand h (Aw q j addr snoop dom bar ∷ past)
     grants_aw f k = grants_issued h past (write_issued past q j addr snoop dom bar) f.grants k
 
-    pub arrive_aw : Inductive h past → TransfersArrive h (Aw q j addr snoop dom bar ∷ past)
+    pub arrive_aw : OneHolder h past → TransfersArrive h (Aw q j addr snoop dom bar ∷ past)
     arrive_aw f p i x ace o line some =
         let y = write_issued past q j addr snoop dom bar in
         elim (outstanding_new h past y p Read i x o) [
@@ -126,7 +126,7 @@ module _ (h : Header) (past : Trace) where
               (failed_issued past y x (other_name h past y p i x old.0 old.1)) (λ r. Lessens-self (state_of h past r x.addr)) a
         ]
 
-    pub queue_aw : Inductive h past → k4 h past (Aw q j addr snoop dom bar) ≡ true
+    pub queue_aw : OneHolder h past → k4 h past (Aw q j addr snoop dom bar) ≡ true
         → QueueStands h (Aw q j addr snoop dom bar ∷ past)
     queue_aw f k p n i ace low e =
         let s = f.queue p n i ace low e in

@@ -76,8 +76,8 @@ QueueDistinct h past =
 abbrev pub OutsideInvalid : Header → Trace → Type 0
 OutsideInvalid h past = (q l : ℕ) → is_ace h q ≡ false → state_of h past q l ≡ I
 
-abbrev pub Inductive : Header → Trace → Type 0
-Inductive h past = record {
+abbrev pub OneHolder : Header → Trace → Type 0
+OneHolder h past = record {
   grants : GrantsStand h past;
   snoops : SnoopsFit h past;
   answers : AnswersFit h past;

@@ -10,7 +10,7 @@ use Rattle.ace_codes.specs.declared.kind.SnoopKind.TheVariants as snoop
 use Rattle.ace_model.proofs.Trace.Looks.{Some-injective, some_is, is_some_and-is, is_none_or-at, implies-at, is_invalid-is}
 use Rattle.ace_model.proofs.Tables.States.{not_more, invalidates, shares_line}
 use Rattle.ace_model.proofs.Tables.ReadEnds.{takes_alone, takes_shared}
-use Rattle.ace_model.proofs.Holders.Facts.{OthersInvalid, OthersNotUnique, AllSettled, Inductive}
+use Rattle.ace_model.proofs.Holders.Facts.{OthersInvalid, OthersNotUnique, AllSettled, OneHolder}
 
 pub each_at : (n : ℕ) (test : ℕ → Bool) (r : ℕ) → each_port n test ≡ true → r < n → test r ≡ true
 each_at zero test r e l = absurd (omega arith)
@@ -51,7 +51,7 @@ module _ (h : Header) (past : Trace) where
     pub is : answer_of past r l ≡ Some answer
 
   -- under the grant, once its snoops are done, another port holds nothing of the line or has answered
-  pub done_port : (x : Transaction) (r : ℕ) → Inductive h past → each_port h.ports (is_port_done h past x) ≡ true → x.port ≢ r
+  pub done_port : (x : Transaction) (r : ℕ) → OneHolder h past → each_port h.ports (is_port_done h past x) ≡ true → x.port ≢ r
       → (state_of h past r x.addr ≡ I) ⊎ Answered r x.addr
   done_port x r f all ne =
       elim (cases_Bool (is_ace h r)) [
@@ -161,7 +161,7 @@ module _ (h : Header) (past : Trace) where
         third true false c e g n = cc
         third false b c e g n = cc
 
-    pub first_alone : Inductive h past → IsFirst h past x k resp
+    pub first_alone : OneHolder h past → IsFirst h past x k resp
         → takes_alone k (is_shared resp) (has_failed past x) ≡ true → OthersInvalid h past x.port x.addr
     first_alone f d t r ne =
         let taken = takes_alone_is k (is_shared resp) (has_failed past x) t in
@@ -179,7 +179,7 @@ module _ (h : Header) (past : Trace) where
               ])
         ]
 
-    pub first_beside : Inductive h past → IsFirst h past x k resp
+    pub first_beside : OneHolder h past → IsFirst h past x k resp
         → takes_shared k ≡ true → OthersNotUnique h past x.port x.addr
     first_beside f d t r ne =
         let taken = takes_shared_is k t in
@@ -191,7 +191,7 @@ module _ (h : Header) (past : Trace) where
               (f.answers x.addr r x a.answer taken.0 d.stands a.is causes).not_unique taken.2
         ]
 
-    pub first_dirty : Inductive h past → IsFirst h past x k resp
+    pub first_dirty : OneHolder h past → IsFirst h past x k resp
         → passes_dirty resp ≡ true → AllSettled h past x.addr
     first_dirty f d t =
         let share = implies (passes_dirty resp || is_shared resp) (is_ace h x.port) in

@@ -8,7 +8,7 @@ use Rattle.ace_model.proofs.Trace.Issued.{outstanding-named, transaction_of-stan
 use Rattle.ace_model.proofs.Trace.OneMore.{slice_get-more}
 use Rattle.ace_model.proofs.Tables.States.{Lessens-self}
 use Rattle.ace_model.proofs.Holders.States.{arrives_kept}
-use Rattle.ace_model.proofs.Holders.Facts.{GrantsStand, SnoopsFit, AnswersFit, PassedOn, TransfersArrive, Inductive}
+use Rattle.ace_model.proofs.Holders.Facts.{GrantsStand, SnoopsFit, AnswersFit, PassedOn, TransfersArrive, OneHolder}
 
 -- what the rule on grants says of the transaction that the event grants
 pub record MayGrant (h : Header) (past : Trace) (q : ℕ) (c : Channel) (j : ℕ) : Type 0 where
@@ -32,7 +32,7 @@ may_grant h past q c j k =
 pub is_on-addr : (x : Transaction) (l : ℕ) → is_on x l ≡ true → x.addr ≡ l
 is_on-addr x l e = eqb-true x.addr l ((and_parts (is_line x) _ e).1)
 
-pub grants_g : (h : Header) (past : Trace) (q : ℕ) (c : Channel) (j : ℕ) → Inductive h past → k12 h past (G q c j) ≡ true → GrantsStand h (G q c j ∷ past)
+pub grants_g : (h : Header) (past : Trace) (q : ℕ) (c : Channel) (j : ℕ) → OneHolder h past → k12 h past (G q c j) ≡ true → GrantsStand h (G q c j ∷ past)
 grants_g h past q c j f k l x g =
     let m = may_grant h past q c j k in
     elim (newest_on-cases (transaction_of past q c j) l (granted h past l) x g) [
@@ -74,7 +74,7 @@ snoops-before (e ∷ past) r n s is =
 
 module _ (h : Header) (past : Trace) where
   module _ (q : ℕ) (c : Channel) (j : ℕ) where
-    pub snoops_g : Inductive h past → SnoopsFit h (G q c j ∷ past)
+    pub snoops_g : OneHolder h past → SnoopsFit h (G q c j ∷ past)
     snoops_g f r n l s x e on place g =
         elim (cases_Bool (is_some_on (transaction_of past q c j) l)) [
           | inl t ↦
@@ -86,7 +86,7 @@ module _ (h : Header) (past : Trace) where
               (sym (newest_on-older (transaction_of past q c j) l (granted h past l) other) ∙ g)
         ]
 
-    pub answers_g : Inductive h past → AnswersFit h (G q c j ∷ past)
+    pub answers_g : OneHolder h past → AnswersFit h (G q c j ∷ past)
     answers_g f l r x a k g w causes =
         elim (cases_Bool (is_some_on (transaction_of past q c j) l)) [
           | inl t ↦ let none : None ≡ Some a = rw t at w in cc
@@ -94,7 +94,7 @@ module _ (h : Header) (past : Trace) where
               f.answers l r x a k (sym (newest_on-older (transaction_of past q c j) l (granted h past l) other) ∙ g) (rw other at w) causes
         ]
 
-    pub passed_g : Inductive h past → PassedOn h (G q c j ∷ past)
+    pub passed_g : OneHolder h past → PassedOn h (G q c j ∷ past)
     passed_g f l r x a g takes w dirty =
         elim (cases_Bool (is_some_on (transaction_of past q c j) l)) [
           | inl t ↦ let none : None ≡ Some a = rw t at w in cc
@@ -133,7 +133,7 @@ module _ (h : Header) (past : Trace) where
                   cc
             ]
 
-    pub arrive_g : Inductive h past → k12 h past (G q c j) ≡ true → TransfersArrive h (G q c j ∷ past)
+    pub arrive_g : OneHolder h past → k12 h past (G q c j) ≡ true → TransfersArrive h (G q c j ∷ past)
     arrive_g f k p i x ace o line some =
         let a = f.arrive p i x ace o line some in
         let other = other_line h past q c j x.addr x k a.stands in

@@ -4,7 +4,7 @@ use Rattle.ace_model.proofs.Terms.{Header, Event, Ar, R, Rk, Aw, W, B, Wk, Ac, C
 use Rattle.ace_model.proofs.Terms.{is_shared}
 use Rattle.ace_model.proofs.Rules.Keeps.{kept}
 use Rattle.ace_model.proofs.Holders.RestsOn.{holder_rules, KeepsEach, of_accepted}
-use Rattle.ace_model.proofs.Holders.Facts.{Inductive}
+use Rattle.ace_model.proofs.Holders.Facts.{OneHolder}
 use Rattle.ace_model.proofs.Holders.States.{less-lessens, less-clean, leaves_kept, arrives_kept, unique_kept, outside_kept, one_dirty_kept}
 use Rattle.ace_model.proofs.Holders.Ends.{was_there, grants_ended}
 use Rattle.ace_model.proofs.Holders.Stores.{less_s, lessened_d, one_dirty_d}
@@ -16,7 +16,7 @@ use Rattle.ace_model.proofs.Holders.Transfer.{may, arrive_r, queue_r, distinct_r
 use Rattle.ace_model.proofs.Holders.Acknowledge.{ends, answers_rk, passed_rk, arrive_rk, queue_rk, distinct_rk, outside_rk, unique_rk, one_dirty_rk}
 
 -- each event that keeps the rules keeps the facts
-pub step : (h : Header) (past : Trace) (e : Event) → Inductive h past → KeepsEach h past e → Inductive h (e ∷ past)
+pub step : (h : Header) (past : Trace) (e : Event) → OneHolder h past → KeepsEach h past e → OneHolder h (e ∷ past)
 step h past (Ar q j addr snoop dom bar lock) f k = record {
   grants = grants_ar h past q j addr snoop dom bar lock f (k 4);
   snoops = f.snoops;
@@ -180,7 +180,7 @@ step h past (D q addr strobe x' line) f k =
 step h past (Op q n res) f k = f
 
 -- the empty trace
-pub start : (h : Header) → Inductive h []
+pub start : (h : Header) → OneHolder h []
 start h = record {
   grants = λ l x g. cc;
   snoops = λ r n l s x e on place g. cc;
@@ -195,7 +195,7 @@ start h = record {
 }
 
 -- the facts hold at each point of what the rules that they rest on accept
-inductive : (h : Header) (t : Trace) → IsAcceptedBy holder_rules h t → Inductive h t
+inductive : (h : Header) (t : Trace) → IsAcceptedBy holder_rules h t → OneHolder h t
 inductive h [] a = start h
 inductive h (e ∷ past) a = step h past e (inductive h past a.0) (λ n. kept holder_rules n h past e a.1)
 
@@ -208,7 +208,7 @@ one_dirty_of h [] a = (start h).one_dirty
 one_dirty_of h (e ∷ past) a = (one_dirty_of h past a.0, (inductive h (e ∷ past) a).one_dirty)
 
 -- the facts hold at the last point of an accepted trace
-pub accepted_holds : (h : Header) (t : Trace) → IsAccepted h t → Inductive h t
+pub accepted_holds : (h : Header) (t : Trace) → IsAccepted h t → OneHolder h t
 accepted_holds h t a = inductive h t (of_accepted h t a)
 
 pub accepted_unique : (h : Header) (t : Trace) → IsAccepted h t → Unique h t

@@ -15,7 +15,7 @@ use Rattle.ace_model.proofs.Holders.Stores.{less_s, lessened_d}
 use Rattle.ace_model.proofs.Holders.Snoop.{less_cr}
 use Rattle.ace_model.proofs.Holders.Write.{less_wk}
 use Rattle.ace_model.proofs.Holders.Acknowledge.{ends, is_named_by_rk, ends_line}
-use Rattle.ace_model.proofs.Holders.Facts.{Inductive}
+use Rattle.ace_model.proofs.Holders.Facts.{OneHolder}
 use Rattle.ace_model.proofs.Holders.Law.{accepted_holds}
 
 -- Transactions of one line are all NoSnoop, or none is.
@@ -89,7 +89,7 @@ read_snoops x k is snoops =
     ]
 
 -- the end of a read
-shareable_rk : (h : Header) (past : Trace) (q : ℕ) (st : LineState) → Inductive h past → Keeps h past (Rk q st) → HeldIsShareable h past → HeldIsShareable h (Rk q st ∷ past)
+shareable_rk : (h : Header) (past : Trace) (q : ℕ) (st : LineState) → OneHolder h past → Keeps h past (Rk q st) → HeldIsShareable h past → HeldIsShareable h (Rk q st ∷ past)
 shareable_rk h past q st f k s p l held =
     elim (cases_Bool (is_named_by_rk past q p l)) [
       | inr other ↦ later (Rk q st) past l (s p l (rw other at held))
@@ -113,7 +113,7 @@ shareable_rk h past q st f k s p l held =
           ]
     ]
 
-shareable_step : (h : Header) (past : Trace) (e : Event) → Inductive h past → Keeps h past e → HeldIsShareable h past → HeldIsShareable h (e ∷ past)
+shareable_step : (h : Header) (past : Trace) (e : Event) → OneHolder h past → Keeps h past e → HeldIsShareable h past → HeldIsShareable h (e ∷ past)
 shareable_step h past (Rk q st) f k s = shareable_rk h past q st f k s
 shareable_step h past (Wk q st) f k s = shareable_kept h past (Wk q st) (λ l r. less-lessens _ _ (less_wk h past q st k.rule_28 r l)) s
 shareable_step h past (Cr q resp st) f k s = shareable_kept h past (Cr q resp st) (λ l r. less-lessens _ _ (less_cr h past q resp st k.rule_15 r l)) s

@@ -10,10 +10,10 @@ use Rattle.ace_model.proofs.Trace.Looks.{Some-injective, is_some_and-is, is_some
 use Rattle.ace_model.proofs.Trace.OneMore.{slice_get-more}
 use Rattle.ace_model.proofs.Tables.States.{is_settled, invalidates, shares_line, Leaves, Row, row_is}
 use Rattle.ace_model.proofs.Holders.States.{Less, less_where, less-lessens, leaves_kept}
-use Rattle.ace_model.proofs.Holders.Facts.{SnoopsFit, AnswersFit, PassedOn, Inductive}
+use Rattle.ace_model.proofs.Holders.Facts.{SnoopsFit, AnswersFit, PassedOn, OneHolder}
 
 -- the new snoop is the one that the granted transaction causes
-pub snoops_ac : (h : Header) (past : Trace) (q addr code : ℕ) → Inductive h past → k13 h past (Ac q addr code) ≡ true → SnoopsFit h (Ac q addr code ∷ past)
+pub snoops_ac : (h : Header) (past : Trace) (q addr code : ℕ) → OneHolder h past → k13 h past (Ac q addr code) ≡ true → SnoopsFit h (Ac q addr code ∷ past)
 snoops_ac h past q addr code f k r n l s x e on place g =
     elim (slice_get-more (snoops_of past r) (snoop_at (length past) (Ac q addr code) r) n s e) [
       | inl old ↦ f.snoops r n l s x old on place g
@@ -90,7 +90,7 @@ module _ (h : Header) (past : Trace) where
       pub row : Row k (state_of h past r l) resp st
       pub named : state_of h (Cr q resp st ∷ past) r l ≡ st
 
-    pub answers_grant_cr : Inductive h past → k15 h past (Cr q resp st) ≡ true
+    pub answers_grant_cr : OneHolder h past → k15 h past (Cr q resp st) ≡ true
         → (r l : ℕ) (x : Transaction) (k : SnoopKind) → (nat_eq r q && answers_grant past r l) ≡ true → granted h past l ≡ Some x → snoop_of x ≡ Some k
         → AnswersGrant r l k
     answers_grant_cr f k15 r l x k t g causes =
@@ -110,7 +110,7 @@ module _ (h : Header) (past : Trace) where
           named = rw here refl;
         }
 
-    pub answers_fit_cr : Inductive h past → k15 h past (Cr q resp st) ≡ true → AnswersFit h (Cr q resp st ∷ past)
+    pub answers_fit_cr : OneHolder h past → k15 h past (Cr q resp st) ≡ true → AnswersFit h (Cr q resp st ∷ past)
     answers_fit_cr f m l r x a k g w causes =
         elim (cases_Bool (nat_eq r q && answers_grant past r l)) [
           | inl t ↦
@@ -142,7 +142,7 @@ not_unique_after k shared st e leaves =
       | inr t ↦ leaves.not_unique t
     ]
 
-pub passed_cr : (h : Header) (past : Trace) (q resp : ℕ) (st : LineState) → Inductive h past → k15 h past (Cr q resp st) ≡ true → PassedOn h (Cr q resp st ∷ past)
+pub passed_cr : (h : Header) (past : Trace) (q resp : ℕ) (st : LineState) → OneHolder h past → k15 h past (Cr q resp st) ≡ true → PassedOn h (Cr q resp st ∷ past)
 passed_cr h past q resp st f m l r x a g takes w dirty z =
     elim (cases_Bool (nat_eq r q && answers_grant past r l)) [
       | inr other ↦ (less-lessens _ _ (less_cr h past q resp st m z l)).settled (f.passed l r x a g takes (rw other at w) dirty z)

@@ -5,7 +5,7 @@ use Rattle.ace_model.proofs.Terms.{LineState, I, UC, UD, Header, Line, S, D, Tra
 use Rattle.ace_model.proofs.Terms.{is_in_make_unique, has_store, UniqueNow, OneDirtyNow, k29, k32, may_store, wants_store, full_line}
 use Rattle.ace_model.proofs.Tables.States.{lessens, Lessens, Lessens-self, lessens-is, silent_lessens}
 use Rattle.ace_model.proofs.Holders.States.{Less, less_where, LessenedAt}
-use Rattle.ace_model.proofs.Holders.Facts.{Inductive}
+use Rattle.ace_model.proofs.Holders.Facts.{OneHolder}
 
 pub less_s : (h : Header) (past : Trace) (q addr : ℕ) (st : LineState) → k29 h past (S q addr st) ≡ true → (r l : ℕ)
     → Less (state_of h past r l) (state_of h (S q addr st ∷ past) r l)
@@ -97,7 +97,7 @@ alone_d h past q addr strobe x line f k l a b t d =
           ]
     ]
 
-pub one_dirty_d : (h : Header) (past : Trace) (q addr strobe : ℕ) (x : Bool) (line : Line) → Inductive h past → k32 h past (D q addr strobe x line) ≡ true
+pub one_dirty_d : (h : Header) (past : Trace) (q addr strobe : ℕ) (x : Bool) (line : Line) → OneHolder h past → k32 h past (D q addr strobe x line) ≡ true
     → OneDirtyNow h (D q addr strobe x line ∷ past)
 one_dirty_d h past q addr strobe x line f k l a b da db =
     elim (cases_Bool (is_named_by_d h past q addr a l)) [

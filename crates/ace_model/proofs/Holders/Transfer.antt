@@ -12,7 +12,7 @@ use Rattle.ace_model.proofs.Tables.ReadEnds.{takes_alone}
 use Rattle.ace_model.proofs.Holders.States.{arrives_kept}
 use Rattle.ace_model.proofs.Holders.Ends.{was_there, arrives_ended, one_name}
 use Rattle.ace_model.proofs.Holders.FirstTransfer.{IsFirst, first_alone, first_beside, first_dirty}
-use Rattle.ace_model.proofs.Holders.Facts.{Arrives, TransfersArrive, QueueStands, QueueDistinct, Inductive}
+use Rattle.ace_model.proofs.Holders.Facts.{Arrives, TransfersArrive, QueueStands, QueueDistinct, OneHolder}
 
 module _ (h : Header) (past : Trace) where
   -- what the rule on transfers says of the read that the event names
@@ -52,7 +52,7 @@ module _ (h : Header) (past : Trace) where
       }
 
   -- the granted transaction at its place is the one itself
-  pub granted_one : (q : ℕ) (c : Channel) (j : ℕ) (x : Transaction) → Inductive h past → transaction_of past q c j ≡ Some x → is_granted h past x ≡ true
+  pub granted_one : (q : ℕ) (c : Channel) (j : ℕ) (x : Transaction) → OneHolder h past → transaction_of past q c j ≡ Some x → is_granted h past x ≡ true
       → granted h past x.addr ≡ Some x
   granted_one q c j x f named g =
       let y = is_some_and-is (granted h past x.addr) (λ z. nat_eq z.place x.place) g in
@@ -80,7 +80,7 @@ module _ (h : Header) (past : Trace) where
         let isnt : is_ace h p ≡ false = ap (is_ace h) (sym port) ∙ lite.0 in cc)
 
     -- the read of the transfer, at an ACE port
-    arrive_here : Inductive h past → k19 h past (R q j resp last word) ≡ true
+    arrive_here : OneHolder h past → k19 h past (R q j resp last word) ≡ true
         → (m : MayTransfer q j resp last) → is_ace h q ≡ true → is_line m.one ≡ true → Arrives h (R q j resp last word ∷ past) q j m.one
     arrive_here f bits m ace line =
         elim (cases_eq (transfers past q j) 0) [
@@ -135,7 +135,7 @@ module _ (h : Header) (past : Trace) where
               bits = is_none_or-at (outstanding h past q Read j) (has_upper_bits h past resp) m.one bits m.out;
             }
 
-    pub arrive_r : Inductive h past → k19 h past (R q j resp last word) ≡ true
+    pub arrive_r : OneHolder h past → k19 h past (R q j resp last word) ≡ true
         → MayTransfer q j resp last → TransfersArrive h (R q j resp last word ∷ past)
     arrive_r f bits m p i x ace o line some =
         let was = was_there (ended h past (R q j resp last word)) (outstanding h past p Read i) x o in
@@ -178,7 +178,7 @@ entry past q j resp last word p n i e =
         record { at = at; same_id = Some-injective j i id; same_port = eqb-true p q parts.0; is_last = parts.1 }
 
 -- the read of the transfer did not wait in the queue
-not_queued : (h : Header) (past : Trace) (q j resp n i p : ℕ) (last : Bool) → Inductive h past → MayTransfer h past q j resp last → is_ace h p ≡ true
+not_queued : (h : Header) (past : Trace) (q j resp n i p : ℕ) (last : Bool) → OneHolder h past → MayTransfer h past q j resp last → is_ace h p ≡ true
     → acknowledgements past p Read ≤ n → slice_get (completed past p Read) n ≡ Some i → p ≡ q → j ≡ i → ⊥
 not_queued h past q j resp n i p last f m ace low e pq ji =
     let Q : ℕ → ℕ → Type 0 = λ a b. (x : Transaction) × (outstanding h past a Read b ≡ Some x) × (is_some_and (read_kind x) (λ k. transfers past a b == beats_of k) ≡ true) in
@@ -191,7 +191,7 @@ not_queued h past q j resp n i p last f m ace low e pq ji =
     above : (a b : ℕ) → a < b → a ≡ b → ⊥
     above a b less same = absurd (omega (arith, less, same))
 
-pub queue_r : (h : Header) (past : Trace) (q j resp : ℕ) (last : Bool) (word : ℕ) → Inductive h past → MayTransfer h past q j resp last → QueueStands h (R q j resp last word ∷ past)
+pub queue_r : (h : Header) (past : Trace) (q j resp : ℕ) (last : Bool) (word : ℕ) → OneHolder h past → MayTransfer h past q j resp last → QueueStands h (R q j resp last word ∷ past)
 queue_r h past q j resp last word f m p n i ace low e =
     elim (entry past q j resp last word p n i e) [
       | inl old ↦
@@ -223,7 +223,7 @@ queue_r h past q j resp last word f m p n i ace low e =
         subst (λ a. P a i) (sym new.same_port) (subst (λ b. P q b) new.same_id
         (m.one, out, subst (λ o. is_some_and o (λ k. transfers (R q j resp last word ∷ past) q j == beats_of k) ≡ true) (sym m.is_kind) whole))
 
-pub distinct_r : (h : Header) (past : Trace) (q j resp : ℕ) (last : Bool) (word : ℕ) → Inductive h past → MayTransfer h past q j resp last → QueueDistinct h (R q j resp last word ∷ past)
+pub distinct_r : (h : Header) (past : Trace) (q j resp : ℕ) (last : Bool) (word : ℕ) → OneHolder h past → MayTransfer h past q j resp last → QueueDistinct h (R q j resp last word ∷ past)
 distinct_r h past q j resp last word f m p a b i ace la lb ea eb =
     elim (entry past q j resp last word p a i ea) [
       | inl olda ↦ elim (entry past q j resp last word p b i eb) [

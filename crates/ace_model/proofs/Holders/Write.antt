@@ -8,7 +8,7 @@ use Rattle.ace_model.proofs.Trace.Issued.{outstanding-named, transaction_of-stan
 use Rattle.ace_model.proofs.Tables.States.{Lessens-self, write_lessens}
 use Rattle.ace_model.proofs.Holders.States.{Less, less_where, less-lessens, held_on}
 use Rattle.ace_model.proofs.Holders.Ends.{was_there, arrives_ended, write_apart, acknowledged_is}
-use Rattle.ace_model.proofs.Holders.Facts.{TransfersArrive, QueueStands, Inductive}
+use Rattle.ace_model.proofs.Holders.Facts.{TransfersArrive, QueueStands, OneHolder}
 
 -- a write of a line has a kind
 pub line_write : (y : Transaction) → y.chan ≡ Write → is_line y ≡ true → (k : AwKind) × (write_kind y ≡ Some k)
@@ -37,13 +37,13 @@ module _ (h : Header) (past : Trace) where
       ∙ ap (λ a. state_of h past a y.0.addr) name.port ∙ ap (state_of h past r) (eqb-true y.0.addr l on.1) in
       subst (λ s. Less s st) held (write_lessens kind.0 (held_of h past y.0) st by))
 
-  pub arrive_wk : (q : ℕ) (st : LineState) → Inductive h past → k28 h past (Wk q st) ≡ true → TransfersArrive h (Wk q st ∷ past)
+  pub arrive_wk : (q : ℕ) (st : LineState) → OneHolder h past → k28 h past (Wk q st) ≡ true → TransfersArrive h (Wk q st ∷ past)
   arrive_wk q st f k p i x ace o line some =
       arrives_ended h past (Wk q st) (acknowledged past q Write) p i x o refl refl refl
       (λ r. less-lessens _ _ (less_wk q st k r x.addr))
       (f.arrive p i x ace (was_there (acknowledged past q Write) (outstanding h past p Read i) x o) line some)
 
-  pub queue_wk : (q : ℕ) (st : LineState) → Inductive h past → QueueStands h (Wk q st ∷ past)
+  pub queue_wk : (q : ℕ) (st : LineState) → OneHolder h past → QueueStands h (Wk q st ∷ past)
   queue_wk q st f p n i ace low e =
       let s = f.queue p n i ace low e in (
         s.0,
@@ -53,13 +53,13 @@ module _ (h : Header) (past : Trace) where
         s.2,
       )
 
-  pub arrive_b : (q j resp : ℕ) → Inductive h past → TransfersArrive h (B q j resp ∷ past)
+  pub arrive_b : (q j resp : ℕ) → OneHolder h past → TransfersArrive h (B q j resp ∷ past)
   arrive_b q j resp f p i x ace o line some =
       arrives_ended h past (B q j resp) (ended h past (B q j resp)) p i x o refl refl refl
       (λ r. Lessens-self (state_of h past r x.addr))
       (f.arrive p i x ace (was_there (ended h past (B q j resp)) (outstanding h past p Read i) x o) line some)
 
-  pub queue_b : (q j resp : ℕ) → Inductive h past → QueueStands h (B q j resp ∷ past)
+  pub queue_b : (q j resp : ℕ) → OneHolder h past → QueueStands h (B q j resp ∷ past)
   queue_b q j resp f p n i ace low e =
       let s = f.queue p n i ace low e in (
         s.0,

@@ -15,7 +15,7 @@ use Rattle.ace_model.proofs.Holders.Stores.{less_s, is_named_by_d}
 use Rattle.ace_model.proofs.Holders.Snoop.{less_cr}
 use Rattle.ace_model.proofs.Holders.Write.{less_wk}
 use Rattle.ace_model.proofs.Holders.Acknowledge.{ends, states_rk}
-use Rattle.ace_model.proofs.Holders.Facts.{Inductive}
+use Rattle.ace_model.proofs.Holders.Facts.{OneHolder}
 use Rattle.ace_model.proofs.Holders.Grant.{is_on-addr}
 use Rattle.ace_model.proofs.Holders.Law.{accepted_holds}
 use Rattle.ace_model.proofs.ReadsFollow.Points.{SameWords}
@@ -97,7 +97,7 @@ was_dirty old new clean dirty =
     ]
 
 -- under the grant no port becomes dirty but by a store
-dirty-before : (h : Header) (past : Trace) (e : Event) (l r : ℕ) (x : Transaction) → Inductive h past → Keeps h past e → granted h (e ∷ past) l ≡ Some x
+dirty-before : (h : Header) (past : Trace) (e : Event) (l r : ℕ) (x : Transaction) → OneHolder h past → Keeps h past e → granted h (e ∷ past) l ≡ Some x
     → is_store e ≡ false → is_dirty (state_of h (e ∷ past) r l) ≡ true → is_dirty (state_of h past r l) ≡ true
 dirty-before h past (Rk q st) l r x f k g store dirty =
     subst (λ s. is_dirty s ≡ true) (states_rk h past q st k.rule_23 (ends h past q st f k.rule_1 k.rule_22) l x g r) dirty

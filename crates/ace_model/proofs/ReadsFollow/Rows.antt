@@ -12,7 +12,7 @@ use Rattle.ace_model.proofs.Trace.Looks.{Some-injective, some_is, is_some_and-is
 use Rattle.ace_model.proofs.Tables.States.{row_cases}
 use Rattle.ace_model.proofs.Holders.Snoop.{kind_of_code}
 use Rattle.ace_model.proofs.Holders.FirstTransfer.{found_passes}
-use Rattle.ace_model.proofs.Holders.Facts.{Inductive}
+use Rattle.ace_model.proofs.Holders.Facts.{OneHolder}
 use Rattle.ace_model.proofs.Grants.SnoopedOnce.{answers_grant-is, answer_cr}
 
 -- snoops of reads of a line
@@ -96,7 +96,7 @@ dirty_sends k held resp next row fetch dirty = sends k (bits k held next resp (r
 pub record GrantRow (h : Header) (past : Trace) (q resp : ℕ) (st : LineState) (l : ℕ) : Type 0 where
   pub kind : SnoopKind
   pub row : is_snoop_row kind (state_of h past q l) false resp st ≡ true
-  pub causes : (x : Transaction) → Inductive h past → granted h past l ≡ Some x → snoop_of x ≡ Some kind
+  pub causes : (x : Transaction) → OneHolder h past → granted h past l ≡ Some x → snoop_of x ≡ Some kind
 
 pub grant-row : (h : Header) (past : Trace) (q resp : ℕ) (st : LineState) (l : ℕ) → k15 h past (Cr q resp st) ≡ true → answers_grant past q l ≡ true
     → GrantRow h past q resp st l
@@ -168,7 +168,7 @@ none-passed h past x a has none =
     passing-sent h past a r.0 x.addr w.0 w.1 w.2 none
 
 -- an answer under the grant of a read of a line by a dirty holder
-pub dirty-sent : (h : Header) (past : Trace) (q resp : ℕ) (st : LineState) (l : ℕ) (x : Transaction) → Inductive h past → k15 h past (Cr q resp st) ≡ true
+pub dirty-sent : (h : Header) (past : Trace) (q resp : ℕ) (st : LineState) (l : ℕ) (x : Transaction) → OneHolder h past → k15 h past (Cr q resp st) ≡ true
     → granted h past l ≡ Some x → is_line_read_transaction x ≡ true → answers_grant past q l ≡ true → is_dirty (state_of h past q l) ≡ true
     → first_sender (Cr q resp st ∷ past) l ≡ None → ⊥
 dirty-sent h past q resp st l x f k g reads t dirty none =

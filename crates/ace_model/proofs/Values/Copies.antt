@@ -15,7 +15,7 @@ use Rattle.ace_model.proofs.Values.MergedLines.{merged-whole}
 use Rattle.ace_model.proofs.Values.Stores.{stores_d, value_moves, full_some, make_unique_is}
 use Rattle.ace_model.proofs.Values.ReadEnds.{read_ends}
 use Rattle.ace_model.proofs.Values.WritesAlone.{all_empty}
-use Rattle.ace_model.proofs.Values.Facts.{Facts}
+use Rattle.ace_model.proofs.Values.Facts.{DirtyPlaced}
 use Rattle.ace_model.proofs.Holders.Law.{accepted_holds}
 
 -- a port that held nothing ends a fetch or a MakeUnique, or holds nothing
@@ -84,7 +84,7 @@ module _ (h : Header) (past : Trace) where
       ]
 
   -- an RK of a read of the line
-  copies_rk : (q : ℕ) (st : LineState) → IsAccepted h (Rk q st ∷ past) → Facts h past → (l p : ℕ) → is_named_by_rk past q p l ≡ true
+  copies_rk : (q : ℕ) (st : LineState) → IsAccepted h (Rk q st ∷ past) → DirtyPlaced h past → (l p : ℕ) → is_named_by_rk past q p l ≡ true
       → (st ≡ I → ⊥) → copy_of past p l ≡ value_of past l
   copies_rk q st a f l p t held =
       elim (cases_Bool (is_invalid (state_of h past p l))) [
@@ -180,7 +180,7 @@ copy_moves h past (D q addr strobe b line) a p l =
     ]
 copy_moves h past _ a p l = inl refl
 
-pub copies_step : (h : Header) (past : Trace) (e : Event) → IsAccepted h (e ∷ past) → Facts h past → (l : ℕ) → AreCopiesTrue h (e ∷ past) l
+pub copies_step : (h : Header) (past : Trace) (e : Event) → IsAccepted h (e ∷ past) → DirtyPlaced h past → (l : ℕ) → AreCopiesTrue h (e ∷ past) l
 copies_step h past (D q addr strobe b line) a f l p held =
     elim (cases_Bool (nat_eq l addr)) [
       | inl t ↦

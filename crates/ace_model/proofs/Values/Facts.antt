@@ -61,7 +61,7 @@ UpdatedTrue h past =
     (p i l : ℕ) (x : Transaction) → outstanding h past p Write i ≡ Some x → is_on x l ≡ true → is_some_and (write_kind x) is_dirty_update ≡ true
     → has_memory_write past p Write i ≡ true → Updated h past l
 
-pub record Facts (h : Header) (past : Trace) : Type 0 where
+pub record DirtyPlaced (h : Header) (past : Trace) : Type 0 where
   pub copies : (l : ℕ) → AreCopiesTrue h past l
   pub safe : (l : ℕ) → IsValueSafe h past l
   pub passed : PassedTrue h past

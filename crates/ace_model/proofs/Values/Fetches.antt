@@ -23,7 +23,7 @@ use Rattle.ace_model.proofs.Values.Copies.{copy_moves}
 use Rattle.ace_model.proofs.Values.Stays.{may_unique, may_free, value_stays, made_apart, sent_step}
 use Rattle.ace_model.proofs.Values.Replies.{sender_before, reply_true, memory_true}
 use Rattle.ace_model.proofs.ReadsFollow.First.{memory-before}
-use Rattle.ace_model.proofs.Values.Facts.{SentTrue, Fetches, FetchesTrue, Facts}
+use Rattle.ace_model.proofs.Values.Facts.{SentTrue, Fetches, FetchesTrue, DirtyPlaced}
 use Rattle.ace_model.proofs.Holders.Law.{accepted_holds}
 
 -- only an ACE port issues what an ACE-Lite port may not
@@ -154,7 +154,7 @@ reply_next h past e a sent l x k g g' addr kind fetch same some replies =
     let here : memory_at_first_beat past x.port x.id l ≡ value_of past l = ap (memory_at_first_beat past x.port x.id) (sym addr) ∙ sym memory ∙ replies in
     rw some (here ∙ sym same))
 
-pub fetches_step : (h : Header) (past : Trace) (e : Event) → IsAccepted h (e ∷ past) → Facts h past → FetchesTrue h (e ∷ past)
+pub fetches_step : (h : Header) (past : Trace) (e : Event) → IsAccepted h (e ∷ past) → DirtyPlaced h past → FetchesTrue h (e ∷ past)
 fetches_step h past e a f p i l x k o on kind fetch some =
     elim (newest_named-cases (issued (length past) e) p Read i _ x o) [
       | inl new ↦ absurd (some (issue_transfers past e p i x new.0 new.1))

@@ -23,12 +23,12 @@ use Rattle.ace_model.proofs.Values.MemoryWrites.{WritesLine, memory_now, memory_
 use Rattle.ace_model.proofs.Values.Written.{store_true, written_step}
 use Rattle.ace_model.proofs.Values.Updated.{updated_step}
 use Rattle.ace_model.proofs.Values.Safe.{ended_safe, answered_safe}
-use Rattle.ace_model.proofs.Values.Facts.{Facts}
+use Rattle.ace_model.proofs.Values.Facts.{DirtyPlaced}
 use Rattle.ace_model.proofs.Holders.Law.{accepted_holds}
 
 module _ (h : Header) (past : Trace) where
   -- the M of passed data makes memory the value, or a port holds the line dirty
-  passed_written : (e : Event) → IsAccepted h (e ∷ past) → InRange e → Facts h past → (l : ℕ) (w : WritesLine h past e l) → ByPassed h past l w.one
+  passed_written : (e : Event) → IsAccepted h (e ∷ past) → InRange e → DirtyPlaced h past → (l : ℕ) (w : WritesLine h past e l) → ByPassed h past l w.one
       → IsValueSafe h (e ∷ past) l
   passed_written e a r f l w b =
       elim (passed_true h past a.0 f.passed l w.one b.stands b.has) [
@@ -55,7 +55,7 @@ module _ (h : Header) (past : Trace) where
             ]
           ]
 
-  memory_written : (e : Event) → IsAccepted h (e ∷ past) → AllByRecursion InRange (e ∷ past) → Facts h past → (l : ℕ) → WritesLine h past e l
+  memory_written : (e : Event) → IsAccepted h (e ∷ past) → AllByRecursion InRange (e ∷ past) → DirtyPlaced h past → (l : ℕ) → WritesLine h past e l
       → IsValueSafe h (e ∷ past) l
   memory_written e a r f l w =
       elim (writer h past e a l w) [
@@ -102,7 +102,7 @@ module _ (h : Header) (past : Trace) where
         ],
       )
 
-  safe_step : (e : Event) → IsAccepted h (e ∷ past) → AllByRecursion InRange (e ∷ past) → Facts h past → (l : ℕ) → IsValueSafe h (e ∷ past) l
+  safe_step : (e : Event) → IsAccepted h (e ∷ past) → AllByRecursion InRange (e ∷ past) → DirtyPlaced h past → (l : ℕ) → IsValueSafe h (e ∷ past) l
   safe_step e a r f l =
       elim (memory_moves h past e a l) [
         | inr w ↦ memory_written e a r f l w
@@ -173,7 +173,7 @@ module _ (h : Header) (past : Trace) where
           ]
 
   -- each event keeps the facts
-  facts_step : (e : Event) → IsAccepted h (e ∷ past) → AllByRecursion InRange (e ∷ past) → Facts h past → Facts h (e ∷ past)
+  facts_step : (e : Event) → IsAccepted h (e ∷ past) → AllByRecursion InRange (e ∷ past) → DirtyPlaced h past → DirtyPlaced h (e ∷ past)
   facts_step e a r f = record {
     copies = copies_step h past e a f;
     safe = safe_step e a r f;
@@ -186,7 +186,7 @@ module _ (h : Header) (past : Trace) where
     updated = updated_step h past e a r f;
   }
 
-facts_start : (h : Header) → Facts h []
+facts_start : (h : Header) → DirtyPlaced h []
 facts_start h = record {
   copies = λ l p held. absurd (held refl);
   safe = λ l. inl refl;
@@ -200,7 +200,7 @@ facts_start h = record {
 }
 
 -- at each point of an accepted trace whose events are in range
-pub facts : (h : Header) (past : Trace) → IsAccepted h past → AllByRecursion InRange past → Facts h past
+pub facts : (h : Header) (past : Trace) → IsAccepted h past → AllByRecursion InRange past → DirtyPlaced h past
 facts h [] a r = facts_start h
 facts h (e ∷ past) a r = facts_step h past e a r (facts h past a.0 r.1)
 

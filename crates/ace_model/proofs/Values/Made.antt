@@ -14,7 +14,7 @@ use Rattle.ace_model.proofs.Values.Stores.{Made, stores_d, done_read, full_some}
 use Rattle.ace_model.proofs.Values.ReadEnds.{read_writes_none}
 use Rattle.ace_model.proofs.Values.Copies.{copy_moves, unique_valid}
 use Rattle.ace_model.proofs.Values.Stays.{may_unique, may_free, value_stays}
-use Rattle.ace_model.proofs.Values.Facts.{MadeTrue, Facts}
+use Rattle.ace_model.proofs.Values.Facts.{MadeTrue, DirtyPlaced}
 use Rattle.ace_model.proofs.Holders.Law.{accepted_holds}
 
 -- The store of a MakeUnique.
@@ -79,7 +79,7 @@ made_d h past p l strobe b line m =
     subst (λ s. merged (copy_of past p l) s line ≡ merged (value_of past l) s line) (sym m.whole) (merged-whole (copy_of past p l) (value_of past l) line) in
     rw (own, here) goal
 
-pub made_step : (h : Header) (past : Trace) (e : Event) → IsAccepted h (e ∷ past) → Facts h past → MadeTrue h (e ∷ past)
+pub made_step : (h : Header) (past : Trace) (e : Event) → IsAccepted h (e ∷ past) → DirtyPlaced h past → MadeTrue h (e ∷ past)
 made_step h past e a f p i l x o on kind s =
     elim (newest_named-cases (issued (length past) e) p Read i _ x o) [
       | inl new ↦

@@ -22,7 +22,7 @@ use Rattle.ace_model.proofs.Values.Replies.{answered_once, dirty_valid}
 use Rattle.ace_model.proofs.Grants.Granted.{unwritten_before, has_passed, Passes, passes_of}
 use Rattle.ace_model.proofs.Values.PassedData.{passes_data}
 use Rattle.ace_model.proofs.Values.DirtMoves.{dirt_moves}
-use Rattle.ace_model.proofs.Values.Facts.{PassedTrue, Facts}
+use Rattle.ace_model.proofs.Values.Facts.{PassedTrue, DirtyPlaced}
 use Rattle.ace_model.proofs.Holders.Law.{accepted_holds}
 
 -- a line that a port may store to is in no MakeUnique of the port
@@ -98,7 +98,7 @@ module _ (h : Header) (past : Trace) where
         | inr holder ↦ inr (inl holder)
       ]
 
-  pub passed_step : (e : Event) → IsAccepted h (e ∷ past) → Facts h past → PassedTrue h (e ∷ past)
+  pub passed_step : (e : Event) → IsAccepted h (e ∷ past) → DirtyPlaced h past → PassedTrue h (e ∷ past)
   passed_step e a f l r x w g none is d =
       elim (granted_before h past e l x g) [
         | inr gives ↦ let bad : None ≡ Some w = rw gives at is in cc

@@ -15,7 +15,7 @@ use Rattle.ace_model.proofs.Grants.SnoopAnswers.{answer_cases}
 use Rattle.ace_model.proofs.Grants.Answers.{is_levelling, unsent_clean, passed_kind}
 use Rattle.ace_model.proofs.Values.ReadEnds.{read_writes_none}
 use Rattle.ace_model.proofs.Values.Stays.{fetch_snoops}
-use Rattle.ace_model.proofs.Values.Facts.{SentTrue, Facts}
+use Rattle.ace_model.proofs.Values.Facts.{SentTrue, DirtyPlaced}
 use Rattle.ace_model.proofs.Holders.Law.{accepted_holds}
 
 -- a port that has answered under the grant answers no more
@@ -121,7 +121,7 @@ dirty_valid I d e = cc
 dirty_valid st d e = let bad : is_dirty I ≡ true = subst (λ v. is_dirty v ≡ true) e d in cc
 
 -- where the snoops of the read are done and no port has sent data, memory is the value
-pub memory_true : (h : Header) (past : Trace) → IsAccepted h past → Facts h past → (l : ℕ) (x : Transaction) (k : ArKind) → granted h past l ≡ Some x → read_kind x ≡ Some k
+pub memory_true : (h : Header) (past : Trace) → IsAccepted h past → DirtyPlaced h past → (l : ℕ) (x : Transaction) (k : ArKind) → granted h past l ≡ Some x → read_kind x ≡ Some k
     → is_fetch k ≡ true → are_snoops_done h past x ≡ true → first_sender past l ≡ None → memory_of past l ≡ value_of past l
 memory_true h past a f l x k g kind fetch done none =
     elim (f.safe l) [

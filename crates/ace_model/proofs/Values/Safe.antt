@@ -27,7 +27,7 @@ use Rattle.ace_model.proofs.Values.PassedData.{written_passed}
 use Rattle.ace_model.proofs.Values.DirtMoves.{passed_dirty, made_dirty}
 use Rattle.ace_model.proofs.Values.Passed.{passed_safe, passed_step}
 use Rattle.ace_model.proofs.Values.PassedFirst.{first_passes}
-use Rattle.ace_model.proofs.Values.Facts.{WrittenTrue, Facts}
+use Rattle.ace_model.proofs.Values.Facts.{WrittenTrue, DirtyPlaced}
 use Rattle.ace_model.proofs.Holders.Law.{accepted_holds}
 use Rattle.ace_model.proofs.Values.Stores.{make_unique_is}
 
@@ -151,7 +151,7 @@ dirty_unsettled SC d t = cc
 dirty_unsettled SD d t = cc
 
 -- a port that answers a snoop of its dirty line keeps it dirty, passes it on, or the line is replaced
-pub answered_safe : (h : Header) (past : Trace) (p resp : ℕ) (st : LineState) → IsAccepted h (Cr p resp st ∷ past) → Facts h past → (l : ℕ) → is_dirty (state_of h past p l) ≡ true
+pub answered_safe : (h : Header) (past : Trace) (p resp : ℕ) (st : LineState) → IsAccepted h (Cr p resp st ∷ past) → DirtyPlaced h past → (l : ℕ) → is_dirty (state_of h past p l) ≡ true
     → Answering h past p resp st l → IsValueSafe h (Cr p resp st ∷ past) l
 answered_safe h past p resp st a f l d n =
     elim (cases_Bool (is_make_invalid n.kind)) [

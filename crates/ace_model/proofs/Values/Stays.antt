@@ -22,7 +22,7 @@ use Rattle.ace_model.proofs.Trace.WriteBursts.{burst_grows, burst_new}
 use Rattle.ace_model.proofs.Values.Stores.{Made, value_moves}
 use Rattle.ace_model.proofs.Values.ReadEnds.{read_writes_none}
 use Rattle.ace_model.proofs.Values.WritesAlone.{all_empty}
-use Rattle.ace_model.proofs.Values.Facts.{SentTrue, UpdatesTrue, Facts}
+use Rattle.ace_model.proofs.Values.Facts.{SentTrue, UpdatesTrue, DirtyPlaced}
 use Rattle.ace_model.proofs.Holders.Law.{accepted_holds}
 
 module _ (h : Header) (past : Trace) where
@@ -119,7 +119,7 @@ pub made_apart : (h : Header) (past : Trace) (l : ℕ) (x : Transaction) (k : Ar
 made_apart h past l x k kind fetch q s m one =
     fetch_no_make k fetch (Some-injective k read.MakeUnique (sym kind ∙ ap read_kind (sym one) ∙ m.kind))
 
-pub sent_step : (h : Header) (past : Trace) (e : Event) → IsAccepted h (e ∷ past) → Facts h past → SentTrue h (e ∷ past)
+pub sent_step : (h : Header) (past : Trace) (e : Event) → IsAccepted h (e ∷ past) → DirtyPlaced h past → SentTrue h (e ∷ past)
 sent_step h past e a f l r x w k g is d kind fetch =
     elim (granted_before h past e l x g) [
       | inr gives ↦ let none : None ≡ Some w = rw gives at is in cc
@@ -156,7 +156,7 @@ update_beat h past x k b last keeps next number updates =
     (implies (is_update kind.0) (b.word == word_of (copy_of past x.port x.addr) (next_write_beat past x.port))) by in
     eqb-true b.word _ (implies-at (is_update kind.0) _ both.1 kind.2) ∙ ap (word_of (copy_of past x.port x.addr)) number
 
-pub updates_step : (h : Header) (past : Trace) (e : Event) → IsAccepted h (e ∷ past) → Facts h past → UpdatesTrue h (e ∷ past)
+pub updates_step : (h : Header) (past : Trace) (e : Event) → IsAccepted h (e ∷ past) → DirtyPlaced h past → UpdatesTrue h (e ∷ past)
 updates_step h past e a f p i l x k b o on updates is =
     elim (newest_named-cases (issued (length past) e) p Write i _ x o) [
       | inl new ↦ absurd (burst_new h past e a.0 x k b new.0 is)

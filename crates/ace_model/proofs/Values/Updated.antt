@@ -18,7 +18,7 @@ use Rattle.ace_model.proofs.Values.Stays.{value_updating}
 use Rattle.ace_model.proofs.Grants.Granted.{new_unwritten, unwritten_before, written_cases, has_passed, Passes, passes_of, granted_given, updates_ungranted}
 use Rattle.ace_model.proofs.Values.PassedData.{passes_data}
 use Rattle.ace_model.proofs.Values.MemoryWrites.{WritesLine, memory_moves, writer, update_true}
-use Rattle.ace_model.proofs.Values.Facts.{Updated, UpdatedTrue, Facts}
+use Rattle.ace_model.proofs.Values.Facts.{Updated, UpdatedTrue, DirtyPlaced}
 use Rattle.ace_model.proofs.Holders.Law.{accepted_holds}
 
 -- no passed data come but by an answer with PassDirty
@@ -52,7 +52,7 @@ dirty_updates write.WriteBack d = refl
 dirty_updates write.WriteClean d = refl
 dirty_updates k d = cc
 
-pub updated_step : (h : Header) (past : Trace) (e : Event) → IsAccepted h (e ∷ past) → AllByRecursion InRange (e ∷ past) → Facts h past → UpdatedTrue h (e ∷ past)
+pub updated_step : (h : Header) (past : Trace) (e : Event) → IsAccepted h (e ∷ past) → AllByRecursion InRange (e ∷ past) → DirtyPlaced h past → UpdatedTrue h (e ∷ past)
 updated_step h past e a r f p i l x o on dirty m =
     elim (newest_named-cases (issued (length past) e) p Write i _ x o) [
       | inl new ↦ absurd (new_unwritten past e x p Write i new.0 new.1 m)

@@ -25,7 +25,7 @@ use Rattle.ace_model.proofs.Values.Replies.{dirty_valid}
 use Rattle.ace_model.proofs.Grants.Granted.{given_unwritten, granted_given, granted_write, has_passed, passes_of, Passes, written_cases}
 use Rattle.ace_model.proofs.Values.Passed.{passed_true}
 use Rattle.ace_model.proofs.Values.MemoryWrites.{WritesLine, memory_now, memory_moves, grant_stores, writer, line_is, is_write-is, update_true, beats_fit}
-use Rattle.ace_model.proofs.Values.Facts.{Quiet, WrittenTrue, Facts}
+use Rattle.ace_model.proofs.Values.Facts.{Quiet, WrittenTrue, DirtyPlaced}
 use Rattle.ace_model.proofs.Holders.Law.{accepted_holds}
 
 -- What a store writes.
@@ -43,7 +43,7 @@ kind_data h past x k writes kind = from (is_read x.chan) writes _ _ ∙ ap (opti
     from false f s t = refl
 
 -- where no port holds the line, the passed data are the value, else memory is
-base_is : (h : Header) (past : Trace) → IsAccepted h past → Facts h past → (l : ℕ) (x : Transaction) → granted h past l ≡ Some x → replaces_line x ≡ false
+base_is : (h : Header) (past : Trace) → IsAccepted h past → DirtyPlaced h past → (l : ℕ) (x : Transaction) → granted h past l ≡ Some x → replaces_line x ≡ false
     → ((p : ℕ) → state_of h past p l ≡ I) → unwrap_or (passed_data h past l) (memory_of past l) ≡ value_of past l
 base_is h past a f l x g replaces empty = by (passed_data h past l) refl
   where
@@ -81,7 +81,7 @@ full_burst b0 b1 b2 b3 e0 e1 e2 e3 = joined b0.strobe b1.strobe b2.strobe b3.str
     joined : (s t u v : ℕ) → s ≡ full_beat → t ≡ full_beat → u ≡ full_beat → v ≡ full_beat → s + 65536 * (t + 65536 * (u + 65536 * (v + 65536 * 0))) ≡ full_line
     joined s t u v e0 e1 e2 e3 = rw (e0, e1, e2, e3) refl
 
-writing : (h : Header) (past : Trace) → IsAccepted h past → AllByRecursion InRange past → Facts h past → (q : ℕ) (c : Channel) (j l : ℕ) → (w : Writes h past q c j l)
+writing : (h : Header) (past : Trace) → IsAccepted h past → AllByRecursion InRange past → DirtyPlaced h past → (q : ℕ) (c : Channel) (j l : ℕ) → (w : Writes h past q c j l)
     → Writing h past l w.one
 writing h past a r f q c j l w =
     let k = stores_kind w.one w.stores in by k.0 k.1 k.2
@@ -152,7 +152,7 @@ writing h past a r f q c j l w =
     by k kind s = cc
 
 -- a store makes memory the value
-pub store_true : (h : Header) (past : Trace) (e : Event) → IsAccepted h (e ∷ past) → AllByRecursion InRange (e ∷ past) → Facts h past → (l : ℕ) (w : WritesLine h past e l)
+pub store_true : (h : Header) (past : Trace) (e : Event) → IsAccepted h (e ∷ past) → AllByRecursion InRange (e ∷ past) → DirtyPlaced h past → (l : ℕ) (w : WritesLine h past e l)
     → (s : Writes h past w.port w.chan w.id l) → memory_of (e ∷ past) l ≡ value_of (e ∷ past) l
 store_true h past e a r f l w s =
     let one : w.one ≡ s.one = Some-injective w.one s.one (sym (outstanding-named h past w.port w.chan w.id w.one w.out) ∙ s.named) in
@@ -163,7 +163,7 @@ store_true h past e a r f l w s =
     let value : value_of (M w.port w.chan w.id w.line ∷ past) l ≡ burst_into past s.one (value_of past l) = rw (named, both) refl in
     memory_now h past e l w ∙ line ∙ d.stores ∙ sym (subst (λ v. value_of (v ∷ past) l ≡ burst_into past s.one (value_of past l)) (sym w.is) value)
 
-pub written_step : (h : Header) (past : Trace) (e : Event) → IsAccepted h (e ∷ past) → AllByRecursion InRange (e ∷ past) → Facts h past → WrittenTrue h (e ∷ past)
+pub written_step : (h : Header) (past : Trace) (e : Event) → IsAccepted h (e ∷ past) → AllByRecursion InRange (e ∷ past) → DirtyPlaced h past → WrittenTrue h (e ∷ past)
 written_step h past e a r f l x g writes m =
     elim (granted_before h past e l x g) [
       | inr gives ↦ absurd (given_unwritten h past e a l x g gives m)
