@@ -1,3 +1,4 @@
+pub mod General
 pub mod Terms
 pub mod Trace
 pub mod Rules

@@ -2,10 +2,8 @@ pub mod Growth
 pub mod Issued
 pub mod LineOnce
 pub mod Looks
-pub mod OneMore
 pub mod Places
 pub mod Points
 pub mod Served
-pub mod Starts
 pub mod WriteBursts
 pub mod WriteQueue

@@ -8,10 +8,11 @@ use Rattle.ace_model.proofs.Terms.{may_respond, k34, k35, may_answer_half, is_pa
 use Rattle.ace_model.proofs.Trace.Growth.{issued_at-grown, IsIssued, transaction-issued, each_issued-at, has_had-later, accepted-before}
 use Rattle.ace_model.proofs.Trace.Issued.{issued_at, transaction_of-stands, outstanding-named}
 use Rattle.ace_model.proofs.Rules.Keeps.{accepted_keeps}
-use Rattle.ace_model.proofs.Trace.Looks.{Some-injective, is_some_and-is, is_none_or-at, implies-at}
 use Rattle.ace_model.proofs.Trace.Served.{has_had-served, outstands}
 use Rattle.ace_model.proofs.Barriers.OrderPoints.{is_ordered-grown, completed-ordered}
 use Rattle.ace_model.proofs.Barriers.Pairs.{pairs-halves, pairs-grown, is_barrier_of-is, half-number}
+use Rattle.ace_model.proofs.General.Options.{Some-injective, is_some_and-is, is_none_or-at}
+use Rattle.ace_model.proofs.General.Booleans.{implies-at}
 
 -- where an event completed a barrier half, the half was there before it, and might be answered
 record MightAnswer (before : Trace) (x : Transaction) : Type 0 where

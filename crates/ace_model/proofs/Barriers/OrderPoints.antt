@@ -10,8 +10,10 @@ use Rattle.ace_codes.specs.declared.kind.AwKind.TheVariants as kind
 use Rattle.ace_model.proofs.Trace.Growth.{has_had-grown, has_had-later, accepted-before}
 use Rattle.ace_model.proofs.Trace.Issued.{issued_at}
 use Rattle.ace_model.proofs.Rules.Keeps.{accepted_keeps}
-use Rattle.ace_model.proofs.Trace.Looks.{is_some_and-is, implies-at, same_channel-is, newest_named-older, newest_on-cases, without-some}
+use Rattle.ace_model.proofs.Trace.Looks.{same_channel-is, newest_named-older, newest_on-cases, without-some}
 use Rattle.ace_model.proofs.Trace.Served.{has_had-served, Outstands, outstands}
+use Rattle.ace_model.proofs.General.Options.{is_some_and-is}
+use Rattle.ace_model.proofs.General.Booleans.{implies-at}
 
 -- what a transaction has had depends on its place alone
 has_had-place : (test : Event → Bool) (past : Trace) (x y : Transaction)

@@ -4,11 +4,13 @@ use Rattle.std.proofs.lemmas.Bool.{cases_Bool, and_parts, and_from, or_cases, eq
 use Rattle.ace_model.proofs.Terms.{Read, Write, Event, R, B, G, M, Header, Transaction, Trace, implies, is_some_and, is_dvm_message, is_ace, is_read, outstanding, served_by, has_had, is_completion_event}
 use Rattle.ace_model.proofs.Terms.{is_completed, is_message, is_other_ace, has_answered, is_due, is_answered_by_all, IsAccepted}
 use Rattle.ace_model.proofs.Rules.Keeps.{accepted_keeps}
-use Rattle.ace_model.proofs.Trace.Looks.{Some-injective, is_some_and-is, is_none_or-at, implies-at, has_name-is}
+use Rattle.ace_model.proofs.Trace.Looks.{has_name-is}
 use Rattle.ace_model.proofs.Trace.Growth.{issued_at-before, IsIssued}
 use Rattle.ace_model.proofs.Trace.Issued.{issued_at, transaction_of-stands, outstanding-named}
 use Rattle.ace_model.proofs.Trace.Points.{has_answered-grown}
 use Rattle.ace_model.proofs.Holders.FirstTransfer.{each_at}
+use Rattle.ace_model.proofs.General.Options.{Some-injective, is_some_and-is, is_none_or-at}
+use Rattle.ace_model.proofs.General.Booleans.{implies-at}
 
 -- an ACE port other than p is one of the header
 pub other_ace : (h : Header) (p q : ℕ) → is_ace h q ≡ true → q ≢ p → (is_other_ace h p q ≡ true) × (q < h.ports)

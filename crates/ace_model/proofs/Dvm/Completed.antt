@@ -5,13 +5,13 @@ use Rattle.std.proofs.lemmas.List.Sums.{sum_by-append, length-filter}
 use Rattle.ace_model.proofs.Terms.{Event, Header, Transaction, Trace, at_point, more, issued, transactions, IsTransaction, snoops_of, answers, is_sync, messages_for, syncs_for, is_dvm_completion}
 use Rattle.ace_model.proofs.Terms.{dvm_completes, answered_snoops, answered_messages, answered_syncs, has_answered, HasCompleted, k38, owes_completion, IsAccepted}
 use Rattle.ace_model.proofs.Rules.Keeps.{accepted_keeps}
-use Rattle.ace_model.proofs.Trace.Looks.{is_none_or-at, implies-at}
-use Rattle.ace_model.proofs.Trace.OneMore.{slice_get-at_end}
+use Rattle.ace_model.proofs.General.Lists.{slice_get-at_end, start-more, slice_get-start, count_by-cons}
 use Rattle.ace_model.proofs.Trace.Issued.{issued-place}
-use Rattle.ace_model.proofs.Trace.Starts.{start-more, slice_get-start, count_by-cons}
 use Rattle.ace_model.proofs.Trace.Growth.{at_point-before}
 use Rattle.ace_model.proofs.Trace.Points.{accepted-before, messages-before, fewer_messages-twice, at_point-now}
 use Rattle.ace_model.proofs.Dvm.Forwarding.{Forwards, forwards-grow, forwards-take, forwards-syncs, accepted_forwards}
+use Rattle.ace_model.proofs.General.Options.{is_none_or-at}
+use Rattle.ace_model.proofs.General.Booleans.{implies-at}
 
 -- the DVM Complete of the port that so many came before: the port had answered more Syncs by then
 pub record IsOwed (past : Trace) (q m : ℕ) : Type 0 where

@@ -5,8 +5,9 @@ use Rattle.std.proofs.lemmas.Bool.{cases_Bool, and_parts, eqb-true}
 use Rattle.ace_model.proofs.Terms.{Event, Ac, Header, ac_kind_of, Snoop, Transaction, Trace, more, is_message_snoop, issued, transactions, snoops_of, snoop_at, is_message, is_sync, is_sync_word}
 use Rattle.ace_model.proofs.Terms.{messages_for, next_message, forwarded, forwards_message, forwards_sync, k36, forwards_next, IsAccepted}
 use Rattle.ace_model.proofs.Rules.Keeps.{accepted_keeps}
-use Rattle.ace_model.proofs.Trace.Looks.{Some-injective, is_some_and-is, is_none_or-at, implies-at}
-use Rattle.ace_model.proofs.Trace.Starts.{IsStart, start-more, start-filter, slice_get-filter, count_by-cons}
+use Rattle.ace_model.proofs.General.Options.{Some-injective, is_some_and-is, is_none_or-at}
+use Rattle.ace_model.proofs.General.Booleans.{implies-at}
+use Rattle.ace_model.proofs.General.Lists.{IsStart, start-more, start-filter, slice_get-filter, count_by-cons}
 
 -- the message at this place is a Sync, or isn't
 abbrev pub IsNext : List Transaction → ℕ → Bool → Type 0

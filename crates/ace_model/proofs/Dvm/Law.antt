@@ -5,13 +5,14 @@ use Rattle.ace_model.proofs.Terms.{ac_kind_of, Event, Ac, Header, Transaction, T
 use Rattle.ace_model.proofs.Terms.{messages_for, answered_messages, has_answered, sync_number, dvm_completes, sync_in, last_sync, is_sync_completed, is_other_ace, completes_next, may_complete}
 use Rattle.ace_model.proofs.Terms.{has_every_completion, DvmHolds, IsCompletedAt, IsDoneWith, IsAccepted}
 use Rattle.ace_model.proofs.Rules.Keeps.{accepted_keeps}
-use Rattle.ace_model.proofs.Trace.Looks.{Some-injective, is_some_and-is, is_none_or-at, implies-at}
 use Rattle.ace_model.proofs.Trace.Issued.{issued-place}
 use Rattle.ace_model.proofs.Trace.Points.{fewer_messages}
 use Rattle.ace_model.proofs.Trace.Growth.{issued_at-before, IsIssued}
 use Rattle.ace_model.proofs.Dvm.Answered.{other_ace, complete_message-answered}
 use Rattle.ace_model.proofs.Dvm.Completed.{sync-completed}
 use Rattle.ace_model.proofs.Holders.FirstTransfer.{each_at}
+use Rattle.ace_model.proofs.General.Options.{Some-injective, is_some_and-is, is_none_or-at}
+use Rattle.ace_model.proofs.General.Booleans.{implies-at}
 
 -- the last Sync of a port stands in the trace, and is one of the port
 record IsSyncOf (past : Trace) (p : ℕ) (x : Transaction) : Type 0 where

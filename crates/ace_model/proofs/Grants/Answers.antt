@@ -4,7 +4,6 @@ use Rattle.std.proofs.lemmas.Bool.{and_parts, or_cases, or_right, cases_Bool, ca
 use Rattle.ace_model.proofs.Terms.{SnoopKind, LineState, I, UC, UD, SC, SD, passes_dirty, transfers_data, is_shared, Event, Cr, Header, is_unique, is_dirty, is_invalid, Answer, Transaction, Trace, snoop_of}
 use Rattle.ace_model.proofs.Terms.{has_outstanding_on, granted, answer_of, state_of, IsAccepted}
 use Rattle.ace_codes.specs.declared.kind.SnoopKind.TheVariants as snoop
-use Rattle.ace_model.proofs.Trace.Looks.{Some-injective}
 use Rattle.ace_model.proofs.Tables.States.{is_settled, invalidates, shares_line, Leaves, row_is}
 use Rattle.ace_model.proofs.Holders.Facts.{OneHolder}
 use Rattle.ace_model.proofs.Holders.Snoop.{less_cr, settled}
@@ -15,6 +14,7 @@ use Rattle.ace_model.proofs.Grants.Stays.{granted_before}
 use Rattle.ace_model.proofs.Tables.SnoopRows.{is_make_invalid, dirty_sends, sends_held, passes_other}
 use Rattle.ace_model.proofs.Grants.SnoopAnswers.{Answering, answering_cr, NewAnswer, answer_cases, no_rise}
 use Rattle.ace_model.proofs.Holders.Law.{accepted_holds}
+use Rattle.ace_model.proofs.General.Options.{Some-injective}
 
 -- beside a dirty port no other is unique or dirty
 pub beside_dirty : (h : Header) (past : Trace) → OneHolder h past → (l r z : ℕ) → is_dirty (state_of h past r l) ≡ true → z ≢ r → is_settled (state_of h past z l) ≡ true

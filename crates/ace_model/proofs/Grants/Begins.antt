@@ -4,12 +4,14 @@ use Rattle.std.proofs.lemmas.Bool.{and_parts, or_cases, cases_Bool, eqb-true}
 use Rattle.ace_model.proofs.Terms.{Channel, Read, Event, Ar, R, Aw, M, Header, Line, Transaction, Trace, implies, is_read, is_line, has_name, same_channel, transfers, outstanding, updates_memory}
 use Rattle.ace_model.proofs.Terms.{has_memory_write, is_burst_whole, is_granted, is_begun, has_passed_data, are_snoops_done, may_transfer, takes_passed, k24, may_write_memory, may_write_passed}
 use Rattle.ace_model.proofs.Terms.{may_write_data, is_write_due, is_update_due, IsAccepted}
-use Rattle.ace_model.proofs.Trace.Looks.{Some-injective, is_some_and-at, implies-at, is_read-is, same_channel-is}
+use Rattle.ace_model.proofs.Trace.Looks.{is_read-is, same_channel-is}
 use Rattle.ace_model.proofs.Rules.Keeps.{accepted_keeps}
 use Rattle.ace_model.proofs.Holders.Address.{read_issued, write_issued, named_read}
 use Rattle.ace_model.proofs.Holders.Transfer.{MayTransfer, may}
 use Rattle.ace_model.proofs.Grants.Stays.{Stays, issued_apart}
 use Rattle.ace_model.proofs.Holders.Law.{accepted_holds}
+use Rattle.ace_model.proofs.General.Options.{Some-injective, is_some_and-at}
+use Rattle.ace_model.proofs.General.Booleans.{implies-at}
 
 pub begun_same : (past longer : Trace) (x : Transaction)
     → (is_read x.chan ≡ true → transfers longer x.port x.id ≡ transfers past x.port x.id)

@@ -3,11 +3,12 @@ use Rattle.std.proofs.Common.{◌≡◌, ◌≢◌, ◌⊎◌, ℕ, Bool, true, 
 use Rattle.std.proofs.lemmas.Bool.{and_parts, cases_Bool, eqb-true}
 use Rattle.ace_model.proofs.Terms.{Channel, Event, Ar, Aw, G, Header, Transaction, Trace, is_read, is_line, is_some_on, has_name, issued, ended, transaction_of, outstanding, without, is_exclusive_store}
 use Rattle.ace_model.proofs.Terms.{given, gives_line, granted, has_failed, is_false, passed_at_grant, has_free_name, IsAccepted}
-use Rattle.ace_model.proofs.Trace.Looks.{Some-injective, is_none_or-at, is_read-is, newest_on-cases, newest_on-older, without-some}
+use Rattle.ace_model.proofs.Trace.Looks.{is_read-is, newest_on-cases, newest_on-older, without-some}
 use Rattle.ace_model.proofs.Rules.Keeps.{accepted_keeps}
 use Rattle.ace_model.proofs.Holders.Address.{read_issued, write_issued, outstanding_stays, failed_issued}
 use Rattle.ace_model.proofs.Holders.Grant.{other_line, failed_g}
 use Rattle.ace_model.proofs.Holders.Law.{accepted_holds}
+use Rattle.ace_model.proofs.General.Options.{Some-injective, is_none_or-at}
 
 module _ (h : Header) (past : Trace) where
   -- a granted line is not given again

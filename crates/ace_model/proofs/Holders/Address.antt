@@ -3,11 +3,12 @@ use Rattle.std.proofs.Common.{◌≡◌, ◌⊎◌, ◌==◌, ℕ, Bool, true, f
 use Rattle.std.proofs.lemmas.Bool.{and_parts, and_from, cases_Bool, eqb-true, eq-eqb}
 use Rattle.ace_model.proofs.Terms.{Header, Channel, Read, Write, Ar, Aw, Transaction, Trace, is_some_and, beats_of, has_name, read_kind, is_on, outstanding, newest_named, transfers, is_exclusive_store}
 use Rattle.ace_model.proofs.Terms.{granted, is_false, passed_at_grant, has_failed, state_of, k4}
-use Rattle.ace_model.proofs.Trace.Looks.{none_is, Some-injective, has_name-is, newest_named-cases, newest_named-older}
+use Rattle.ace_model.proofs.Trace.Looks.{has_name-is, newest_named-cases, newest_named-older}
 use Rattle.ace_model.proofs.Trace.Issued.{outstanding-named, transaction_of-stands}
 use Rattle.ace_model.proofs.Tables.States.{Lessens-self}
 use Rattle.ace_model.proofs.Holders.States.{arrives_kept}
 use Rattle.ace_model.proofs.Holders.Facts.{GrantsStand, TransfersArrive, QueueStands, OneHolder}
+use Rattle.ace_model.proofs.General.Options.{none_is, Some-injective}
 
 -- the transaction of the AR, of the AW
 abbrev pub read_issued : Trace → ℕ → ℕ → ℕ → ℕ → ℕ → ℕ → Bool → Transaction

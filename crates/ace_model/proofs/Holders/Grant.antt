@@ -3,12 +3,13 @@ use Rattle.std.proofs.Common.{◌≡◌, ℕ, ◌+◌, ◌<◌, ◌≤◌, Bool,
 use Rattle.std.proofs.lemmas.Bool.{and_parts, and_from, cases_Bool, eqb-true, eq-eqb}
 use Rattle.ace_model.proofs.Terms.{Header, Channel, Read, Event, Ac, G, Snoop, Transaction, Trace, newer, is_on, is_line, is_some_on, has_name, transaction_of, outstanding, takes_grant, is_exclusive_store}
 use Rattle.ace_model.proofs.Terms.{snoop_at, snoops_of, granted, has_grant, has_failed, is_false, passed_at_grant, store_result, state_of, k12, may_be_granted}
-use Rattle.ace_model.proofs.Trace.Looks.{Some-injective, none_is, is_some_and-is, has_name-is, newest_on-cases, newest_on-older}
+use Rattle.ace_model.proofs.Trace.Looks.{has_name-is, newest_on-cases, newest_on-older}
 use Rattle.ace_model.proofs.Trace.Issued.{outstanding-named, transaction_of-stands}
-use Rattle.ace_model.proofs.Trace.OneMore.{slice_get-more}
+use Rattle.ace_model.proofs.General.Lists.{slice_get-more}
 use Rattle.ace_model.proofs.Tables.States.{Lessens-self}
 use Rattle.ace_model.proofs.Holders.States.{arrives_kept}
 use Rattle.ace_model.proofs.Holders.Facts.{GrantsStand, SnoopsFit, AnswersFit, PassedOn, TransfersArrive, OneHolder}
+use Rattle.ace_model.proofs.General.Options.{Some-injective, none_is, is_some_and-is}
 
 -- what the rule on grants says of the transaction that the event grants
 pub record MayGrant (h : Header) (past : Trace) (q : ℕ) (c : Channel) (j : ℕ) : Type 0 where

@@ -6,7 +6,7 @@ use Rattle.ace_model.proofs.Terms.{Trace, is_some_and, is_none_or, reads_a_line,
 use Rattle.ace_model.proofs.Terms.{is_in_make_unique, has_store, is_line_read_transaction, starts_well, k32, may_store, wants_store, full_line, IsAccepted}
 use Rattle.ace_codes.specs.declared.kind.ArKind.TheVariants as read
 use Rattle.ace_codes.specs.declared.kind.AwKind.TheVariants as write
-use Rattle.ace_model.proofs.Trace.Looks.{Some-injective, is_some_and-is, is_none_or-at, implies-at, has_name-is, newest_named-cases, without-some}
+use Rattle.ace_model.proofs.Trace.Looks.{has_name-is, newest_named-cases, without-some}
 use Rattle.ace_model.proofs.Rules.Keeps.{accepted_keeps}
 use Rattle.ace_model.proofs.Tables.States.{Lessens, Lessens-self, Lessens-same}
 use Rattle.ace_model.proofs.Holders.States.{less-lessens, less-clean}
@@ -17,6 +17,8 @@ use Rattle.ace_model.proofs.Holders.Acknowledge.{Ends, ends, is_named_by_rk}
 use Rattle.ace_model.proofs.Holders.Facts.{Arrives}
 use Rattle.ace_model.proofs.Holders.Law.{accepted_holds}
 use Rattle.ace_model.proofs.Trace.LineOnce.{one_on_line}
+use Rattle.ace_model.proofs.General.Options.{Some-injective, is_some_and-is, is_none_or-at}
+use Rattle.ace_model.proofs.General.Booleans.{implies-at}
 
 module _ (h : Header) (past : Trace) where
   -- The read of the port on the line that the event ends by its RK.

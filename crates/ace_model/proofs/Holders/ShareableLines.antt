@@ -7,7 +7,7 @@ use Rattle.ace_codes.specs.declared.kind.ArKind.TheVariants as read
 use Rattle.ace_model.proofs.Trace.Growth.{IsIssued, issued-old, issued-cases, named-issued, each_issued-at}
 use Rattle.ace_model.proofs.Trace.Issued.{outstanding-named}
 use Rattle.ace_model.proofs.Rules.Keeps.{Keeps, accepted_keeps}
-use Rattle.ace_model.proofs.Trace.Looks.{Some-injective, is_none_or-at, implies-at, same_test-at, is_invalid-is}
+use Rattle.ace_model.proofs.Trace.Looks.{is_invalid-is}
 use Rattle.ace_model.proofs.Tables.States.{Lessens-self}
 use Rattle.ace_model.proofs.Tables.ReadEnds.{takes_alone, takes_shared}
 use Rattle.ace_model.proofs.Holders.States.{LessenedAt, less-lessens}
@@ -17,6 +17,8 @@ use Rattle.ace_model.proofs.Holders.Write.{less_wk}
 use Rattle.ace_model.proofs.Holders.Acknowledge.{ends, is_named_by_rk, ends_line}
 use Rattle.ace_model.proofs.Holders.Facts.{OneHolder}
 use Rattle.ace_model.proofs.Holders.Law.{accepted_holds}
+use Rattle.ace_model.proofs.General.Options.{Some-injective, is_none_or-at}
+use Rattle.ace_model.proofs.General.Booleans.{implies-at, same_test-at}
 
 -- Transactions of one line are all NoSnoop, or none is.
 abbrev pub UsedAlike : Trace → Type 0

@@ -6,11 +6,12 @@ use Rattle.ace_model.proofs.Terms.{Transaction, Trace, is_some_and, is_line_snoo
 use Rattle.ace_model.proofs.Terms.{is_snoop_on, answers_line, granted, grant_place, answers_grant, was_snooped, has_failed, state_of, k13, k15, answers_by_row, has_snoop_code, may_snoop, may_snoop_for}
 use Rattle.ace_codes.specs.declared.kind.ArKind.TheVariants as read
 use Rattle.ace_codes.specs.declared.kind.SnoopKind.TheVariants as snoop
-use Rattle.ace_model.proofs.Trace.Looks.{Some-injective, is_some_and-is, is_some_and-at, is_none_or-at, implies-at}
-use Rattle.ace_model.proofs.Trace.OneMore.{slice_get-more}
+use Rattle.ace_model.proofs.General.Lists.{slice_get-more}
 use Rattle.ace_model.proofs.Tables.States.{is_settled, invalidates, shares_line, Leaves, Row, row_is}
 use Rattle.ace_model.proofs.Holders.States.{Less, less_where, less-lessens, leaves_kept}
 use Rattle.ace_model.proofs.Holders.Facts.{SnoopsFit, AnswersFit, PassedOn, OneHolder}
+use Rattle.ace_model.proofs.General.Options.{Some-injective, is_some_and-is, is_some_and-at, is_none_or-at}
+use Rattle.ace_model.proofs.General.Booleans.{implies-at}
 
 -- the new snoop is the one that the granted transaction causes
 pub snoops_ac : (h : Header) (past : Trace) (q addr code : ℕ) → OneHolder h past → k13 h past (Ac q addr code) ≡ true → SnoopsFit h (Ac q addr code ∷ past)

@@ -4,15 +4,17 @@ use Rattle.std.proofs.lemmas.Bool.{and_parts, and_from, cases_Bool, cases_eq, eq
 use Rattle.ace_model.proofs.Terms.{ArKind, passes_dirty, is_shared, Header, Channel, Read, R, Transaction, Trace, implies, is_some_and, beats_of, is_ace, read_kind, is_line, ended, transaction_of}
 use Rattle.ace_model.proofs.Terms.{outstanding, transfers, first_resp, completed, completes, acknowledgements, granted, is_granted, has_passed_data, has_failed, state_of, are_snoops_done, k18, k19, is_due}
 use Rattle.ace_model.proofs.Terms.{is_next_transfer, may_transfer, takes_passed, has_upper_bits}
-use Rattle.ace_model.proofs.Trace.Looks.{Some-injective, is_some_and-is, is_none_or-at, implies-at, same_test-at, has_name-is, without-other}
+use Rattle.ace_model.proofs.Trace.Looks.{has_name-is, without-other}
 use Rattle.ace_model.proofs.Trace.Issued.{same_place, outstanding-named, transaction_of-stands}
-use Rattle.ace_model.proofs.Trace.OneMore.{slice_get-more}
+use Rattle.ace_model.proofs.General.Lists.{slice_get-more}
 use Rattle.ace_model.proofs.Tables.States.{Lessens-self}
 use Rattle.ace_model.proofs.Tables.ReadEnds.{takes_alone}
 use Rattle.ace_model.proofs.Holders.States.{arrives_kept}
 use Rattle.ace_model.proofs.Holders.Ends.{was_there, arrives_ended, one_name}
 use Rattle.ace_model.proofs.Holders.FirstTransfer.{IsFirst, first_alone, first_beside, first_dirty}
 use Rattle.ace_model.proofs.Holders.Facts.{Arrives, TransfersArrive, QueueStands, QueueDistinct, OneHolder}
+use Rattle.ace_model.proofs.General.Options.{Some-injective, is_some_and-is, is_none_or-at}
+use Rattle.ace_model.proofs.General.Booleans.{implies-at, same_test-at}
 
 module _ (h : Header) (past : Trace) where
   -- what the rule on transfers says of the read that the event names

@@ -6,7 +6,6 @@ use Rattle.ace_model.proofs.Terms.{write_kind, snoop_of, snoop_kind_of, outstand
 use Rattle.ace_model.proofs.Terms.{DirtyPlace, IsAccepted}
 use Rattle.ace_codes.specs.declared.kind.ArKind.TheVariants as read
 use Rattle.ace_model.proofs.Trace.Issued.{outstanding-named, transaction_of-stands}
-use Rattle.ace_model.proofs.Trace.Looks.{is_some_and-is, none_is}
 use Rattle.ace_model.proofs.Holders.FirstTransfer.{done_port}
 use Rattle.ace_model.proofs.Holders.Law.{accepted_holds}
 use Rattle.ace_model.proofs.ReadsFollow.Outstanding.{empty_while_read}
@@ -14,6 +13,7 @@ use Rattle.ace_model.proofs.ReadsFollow.Transfers.{not_store}
 use Rattle.ace_model.proofs.ReadsFollow.Memory.{WritesValue, DirtyUnanswered, memory_or_holder}
 use Rattle.ace_model.proofs.ReadsFollow.MemorySince.{MemoryFollows}
 use Rattle.ace_model.proofs.Holders.ShareableLines.{no_snoop_unheld}
+use Rattle.ace_model.proofs.General.Options.{is_some_and-is, none_is}
 
 -- a read of a line is on the read channel
 pub line_read-chan : (x : Transaction) → is_line_read_transaction x ≡ true → x.chan ≡ Read

@@ -3,7 +3,6 @@ use Rattle.std.proofs.Common.{◌≡◌, ℕ, ◌<◌, Bool, true, if◌then◌e
 use Rattle.std.proofs.lemmas.Bool.{cases_Bool, cases_eq, eq-eqb}
 use Rattle.ace_model.proofs.Terms.{Read, Event, L, R, Header, Transaction, Trace, outstanding, transaction_of, transfers, is_line_read_transaction, DirtyPlace, ReadsFollow, k18, IsAccepted}
 use Rattle.ace_model.proofs.Rules.Keeps.{accepted_keeps}
-use Rattle.ace_model.proofs.Trace.Looks.{Some-injective}
 use Rattle.ace_model.proofs.Holders.Transfer.{MayTransfer, may}
 use Rattle.ace_model.proofs.Trace.Places.{NewBeat, event_at-below, beat-below}
 use Rattle.ace_model.proofs.ReadsFollow.Order.{points-in_order}
@@ -12,6 +11,7 @@ use Rattle.ace_model.proofs.ReadsFollow.First.{first-point, Ready, more}
 use Rattle.ace_model.proofs.ReadsFollow.MemorySince.{MemoryFollows}
 use Rattle.ace_model.proofs.ReadsFollow.Done.{memory_follows}
 use Rattle.ace_model.proofs.ReadsFollow.Written.{writes_value}
+use Rattle.ace_model.proofs.General.Options.{Some-injective}
 
 -- the points of the reads of a trace
 abbrev Points : Header → Trace → Type 0

@@ -6,8 +6,10 @@ use Rattle.ace_model.proofs.Terms.{write_kind, ended, without, outstanding, is_o
 use Rattle.ace_codes.specs.declared.kind.ArKind.TheVariants as read
 use Rattle.ace_model.proofs.Trace.Growth.{some_issued-found}
 use Rattle.ace_model.proofs.Trace.Issued.{issued-place, outstanding-named, transaction_of-stands}
-use Rattle.ace_model.proofs.Trace.Looks.{is_some_and-is, is_none_or-at, implies-at, has_name-is, newest_named-cases, without-some}
+use Rattle.ace_model.proofs.Trace.Looks.{has_name-is, newest_named-cases, without-some}
 use Rattle.ace_model.proofs.Holders.Rises.{stays_empty}
+use Rattle.ace_model.proofs.General.Options.{is_some_and-is, is_none_or-at}
+use Rattle.ace_model.proofs.General.Booleans.{implies-at}
 
 -- what is outstanding after an event is what it issues, or was outstanding and isn't what it ends
 pub outstanding-cases : (h : Header) (e : Event) (past : Trace) (p : ℕ) (c : Channel) (i : ℕ) (x : Transaction) → outstanding h (e ∷ past) p c i ≡ Some x

@@ -6,11 +6,12 @@ use Rattle.ace_model.proofs.Terms.{is_line_read_transaction, word_of, copy_of, r
 use Rattle.ace_model.proofs.Trace.Growth.{at_point-before}
 use Rattle.ace_model.proofs.Trace.Issued.{issued_at, outstanding-named, transaction_of-stands, same_place}
 use Rattle.ace_model.proofs.Rules.Keeps.{accepted_keeps}
-use Rattle.ace_model.proofs.Trace.Looks.{Some-injective, is_none_or-at, has_name-is}
+use Rattle.ace_model.proofs.Trace.Looks.{has_name-is}
 use Rattle.ace_model.proofs.Holders.Transfer.{may}
 use Rattle.ace_model.proofs.Trace.Places.{NewBeat, load-cases, beat-cases, grant-old, event_at-below, at_point-last}
 use Rattle.ace_model.proofs.ReadsFollow.Order.{PointsSet}
 use Rattle.ace_model.proofs.ReadsFollow.Beats.{load-elsewhere, beat-elsewhere}
+use Rattle.ace_model.proofs.General.Options.{Some-injective, is_none_or-at}
 
 -- the words of both lines are the same
 abbrev pub SameWords : Line → Line → Type 0

@@ -8,10 +8,11 @@ use Rattle.ace_codes.specs.declared.kind.SnoopKind.TheVariants as snoop
 use Rattle.ace_model.proofs.Trace.Growth.{at_point-before}
 use Rattle.ace_model.proofs.Trace.Issued.{transaction_of-stands}
 use Rattle.ace_model.proofs.Rules.Keeps.{accepted_keeps}
-use Rattle.ace_model.proofs.Trace.Looks.{Some-injective, is_some_and-is, is_none_or-at, has_name-is, newest_on-cases, without-some}
+use Rattle.ace_model.proofs.Trace.Looks.{has_name-is, newest_on-cases, without-some}
 use Rattle.ace_model.proofs.Trace.Places.{event_at-now, grant-old, at_point-last}
 use Rattle.ace_model.proofs.Grants.SnoopedOnce.{SnoopedOnce, snooped_once, answers_grant-is}
 use Rattle.ace_model.proofs.ReadsFollow.Reply.{newer-none}
+use Rattle.ace_model.proofs.General.Options.{Some-injective, is_some_and-is, is_none_or-at}
 
 -- A granted read has had its G, just before its grant.
 pub record GrantedAt (past : Trace) (l : ℕ) (x : Transaction) : Type 0 where

@@ -9,12 +9,13 @@ use Rattle.ace_codes.specs.declared.kind.AwKind.TheVariants as write
 use Rattle.ace_model.proofs.Trace.Growth.{issued-cases, IsIssued, issued-new, issued-old, at_point-before, slice_get-grown}
 use Rattle.ace_model.proofs.Trace.Issued.{issued-place, outstanding-named, transaction_of-stands}
 use Rattle.ace_model.proofs.Rules.Keeps.{accepted_keeps}
-use Rattle.ace_model.proofs.Trace.Looks.{Some-injective, is_some_and-is, is_none_or-at, implies-at}
-use Rattle.ace_model.proofs.Trace.OneMore.{slice_get-more, slice_get-at_end}
+use Rattle.ace_model.proofs.General.Lists.{slice_get-more, slice_get-at_end}
 use Rattle.ace_model.proofs.Trace.Places.{at_point-last}
 use Rattle.ace_model.proofs.ReadsFollow.Outstanding.{outstanding-cases}
 use Rattle.ace_model.proofs.ReadsFollow.UpdateCopy.{Updates, update-named, copy-stays}
 use Rattle.ace_model.proofs.Trace.WriteBursts.{few_beats, beats-length}
+use Rattle.ace_model.proofs.General.Options.{Some-injective, is_some_and-is, is_none_or-at}
+use Rattle.ace_model.proofs.General.Booleans.{implies-at}
 
 length-more : {A : Type 0} → (xs : List A) (x : A) → length (more xs (Some x)) ≡ length xs + 1
 length-more xs x = length-append xs (x ∷ [])

@@ -13,7 +13,7 @@ use Rattle.ace_codes.specs.declared.kind.ArKind.TheVariants as read
 use Rattle.ace_model.proofs.Trace.Growth.{some_issued-is, some_issued-found}
 use Rattle.ace_model.proofs.Trace.Issued.{issued_at, outstanding-named, transaction_of-stands}
 use Rattle.ace_model.proofs.Rules.Keeps.{accepted_keeps}
-use Rattle.ace_model.proofs.Trace.Looks.{Some-injective, is_some_and-is, is_none_or-at, implies-at, has_name-is}
+use Rattle.ace_model.proofs.Trace.Looks.{has_name-is}
 use Rattle.ace_model.proofs.Holders.Ends.{acknowledged_is}
 use Rattle.ace_model.proofs.Holders.Acknowledge.{ends, is_named_by_rk}
 use Rattle.ace_model.proofs.Holders.Transfer.{may}
@@ -22,6 +22,8 @@ use Rattle.ace_model.proofs.ReadsFollow.Outstanding.{outstanding-cases}
 use Rattle.ace_model.proofs.Trace.LineOnce.{one_on_line}
 use Rattle.ace_model.proofs.Trace.WriteQueue.{write_queue}
 use Rattle.ace_model.proofs.Holders.Rises.{issue_leaves}
+use Rattle.ace_model.proofs.General.Options.{Some-injective, is_some_and-is, is_none_or-at}
+use Rattle.ace_model.proofs.General.Booleans.{implies-at}
 
 -- A memory update that is outstanding.
 pub record Updates (h : Header) (past : Trace) (p i : ℕ) (y : Transaction) : Type 0 where

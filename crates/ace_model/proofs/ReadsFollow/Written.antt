@@ -7,7 +7,7 @@ use Rattle.ace_model.proofs.Terms.{burst_line, burst_of, k24, k25, may_write_mem
 use Rattle.ace_codes.specs.declared.kind.AwKind.TheVariants as write
 use Rattle.ace_model.proofs.Trace.Issued.{outstanding-named, transaction_of-stands, same_place}
 use Rattle.ace_model.proofs.Rules.Keeps.{accepted_keeps}
-use Rattle.ace_model.proofs.Trace.Looks.{Some-injective, is_some_and-is, is_none_or-at, has_name-is}
+use Rattle.ace_model.proofs.Trace.Looks.{has_name-is}
 use Rattle.ace_model.proofs.Holders.Grant.{is_on-addr}
 use Rattle.ace_model.proofs.Holders.Law.{accepted_holds}
 use Rattle.ace_model.proofs.ReadsFollow.Points.{SameWords}
@@ -17,6 +17,7 @@ use Rattle.ace_model.proofs.ReadsFollow.Memory.{WritesValue}
 use Rattle.ace_model.proofs.ReadsFollow.Done.{line_read-chan}
 use Rattle.ace_model.proofs.ReadsFollow.UpdateCopy.{Updates, update-held}
 use Rattle.ace_model.proofs.ReadsFollow.UpdateBurst.{burst-words}
+use Rattle.ace_model.proofs.General.Options.{Some-injective, is_some_and-is, is_none_or-at}
 
 -- lines that are the same word by word
 same_line-words : (a b : Line) → same_line a b ≡ true → SameWords a b

@@ -2,7 +2,7 @@
 use Rattle.std.proofs.Common.{◌≡◌, true, List, [], ◌∷◌, is_none}
 use Rattle.std.proofs.lemmas.Bool.{and_parts}
 use Rattle.ace_model.proofs.Terms.{Header, Trace, Rule, IsAcceptedBy, is_accepted_by, least_of}
-use Rattle.ace_model.proofs.Trace.Looks.{none_is}
+use Rattle.ace_model.proofs.General.Options.{none_is}
 
 -- a trace that passes the test is accepted
 pub accepted_of : (rs : List Rule) (h : Header) (past : Trace) → is_accepted_by rs h past ≡ true → IsAcceptedBy rs h past

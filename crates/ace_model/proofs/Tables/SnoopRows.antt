@@ -4,7 +4,7 @@ use Rattle.std.proofs.lemmas.Bool.{and_parts, not-true, eqb-true}
 use Rattle.ace_model.proofs.Terms.{SnoopKind, LineState, I, UD, SD, transfers_data, has_error, passes_dirty, is_shared, same_test, states_after, fits_transfer, must_pass_dirty, fits_answer, fits_update}
 use Rattle.ace_model.proofs.Terms.{goes_with_update, is_line_row, is_plain_row, is_snoop_row, is_among, is_invalid, is_dirty, is_silent_move, is_line_snoop}
 use Rattle.ace_codes.specs.declared.kind.SnoopKind.TheVariants as snoop
-use Rattle.ace_model.proofs.Trace.Looks.{same_test-at}
+use Rattle.ace_model.proofs.General.Booleans.{same_test-at}
 
 abbrev pub is_make_invalid : SnoopKind → Bool
 is_make_invalid snoop.MakeInvalid = true

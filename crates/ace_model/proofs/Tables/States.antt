@@ -7,7 +7,8 @@ use Rattle.ace_model.proofs.Terms.{AwKind, SnoopKind, LineState, I, UC, UD, SC, 
 use Rattle.ace_model.proofs.Terms.{is_line_row, is_plain_row, is_snoop_row, end_states_of_write, ends_write, is_silent_move, is_among, is_invalid, is_unique, is_dirty, same_state, implies}
 use Rattle.ace_codes.specs.declared.kind.AwKind.TheVariants as write
 use Rattle.ace_codes.specs.declared.kind.SnoopKind.TheVariants as snoop
-use Rattle.ace_model.proofs.Trace.Looks.{implies-at, same_test-at, is_invalid-is}
+use Rattle.ace_model.proofs.Trace.Looks.{is_invalid-is}
+use Rattle.ace_model.proofs.General.Booleans.{implies-at, same_test-at}
 
 -- I and SC: the port may not store, and owes no write
 abbrev pub is_settled : LineState → Bool

@@ -4,8 +4,8 @@ use Rattle.std.proofs.lemmas.Bool.{or_cases, or_left, or_right, cases_Bool, case
 use Rattle.ace_model.proofs.Terms.{Event, Channel, Header, Transaction, Trace, at_point, is_some_and, more, issued, is_transaction, some_issued, transaction_of, transactions, served_by, has_had}
 use Rattle.ace_model.proofs.Terms.{each_issued, IsAccepted}
 use Rattle.ace_model.proofs.Trace.Issued.{issued-place, issued_at, transaction_of-stands}
-use Rattle.ace_model.proofs.Trace.Looks.{is_some_and-is}
-use Rattle.ace_model.proofs.Trace.OneMore.{slice_get-more}
+use Rattle.ace_model.proofs.General.Lists.{slice_get-more}
+use Rattle.ace_model.proofs.General.Options.{is_some_and-is}
 
 -- an element of a list that grows at its end keeps its place
 pub slice_get-grown : {A : Type 0} → (xs : List A) (new : Option A) (k : ℕ) (z : A) → slice_get xs k ≡ Some z → slice_get (more xs new) k ≡ Some z

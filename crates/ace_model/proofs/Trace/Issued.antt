@@ -2,7 +2,8 @@
 use Rattle.std.proofs.Common.{◌≡◌, ℕ, ◌<◌, true, cond, nat_eq, [], ◌∷◌, length, Option, Some, None, sym, ap, ◌∙◌, arith, inl, inr}
 use Rattle.std.proofs.lemmas.Bool.{eq-eqb, ne_eqb}
 use Rattle.ace_model.proofs.Terms.{Event, Ar, R, Rk, Aw, W, B, Wk, Ac, Cr, Cd, G, M, S, L, D, Op, Channel, Header, Transaction, Trace, has_name, issued, ended, transaction_of, outstanding}
-use Rattle.ace_model.proofs.Trace.Looks.{Some-injective, newest_named-cases, newest_named-first, newest_named-older, without-some}
+use Rattle.ace_model.proofs.Trace.Looks.{newest_named-cases, newest_named-first, newest_named-older, without-some}
+use Rattle.ace_model.proofs.General.Options.{Some-injective}
 
 -- a transaction knows how many events came before it
 pub issued-place : (n : ℕ) (e : Event) (x : Transaction) → issued n e ≡ Some x → x.place ≡ n

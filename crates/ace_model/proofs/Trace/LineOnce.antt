@@ -3,10 +3,12 @@ use Rattle.std.proofs.Common.{◌≡◌, ℕ, true, not, [], ◌∷◌, length, 
 use Rattle.std.proofs.lemmas.Bool.{and_parts, and_from, eq-eqb, eqb-true}
 use Rattle.ace_model.proofs.Terms.{Channel, Header, Transaction, Trace, is_line, is_on, has_name, issued, ended, outstanding, is_outstanding, is_outstanding_on, has_outstanding_on, has_free_line}
 use Rattle.ace_model.proofs.Terms.{IsAccepted}
-use Rattle.ace_model.proofs.Trace.Looks.{Some-injective, is_none_or-at, implies-at, has_name-is, newest_named-cases, without-some}
+use Rattle.ace_model.proofs.Trace.Looks.{has_name-is, newest_named-cases, without-some}
 use Rattle.ace_model.proofs.Trace.Issued.{outstanding-named, transaction_of-stands}
 use Rattle.ace_model.proofs.Trace.Growth.{some_issued-found}
 use Rattle.ace_model.proofs.Rules.Keeps.{accepted_keeps}
+use Rattle.ace_model.proofs.General.Options.{Some-injective, is_none_or-at}
+use Rattle.ace_model.proofs.General.Booleans.{implies-at}
 
 -- an outstanding transaction is so by its own name
 pub outstanding_own : (h : Header) (past : Trace) (p : ℕ) (c : Channel) (i : ℕ) (x : Transaction)

@@ -1,41 +1,9 @@
 -- What the small tests of the looks at a trace say.
-use Rattle.std.proofs.Common.{◌≡◌, ◌≢◌, ◌⊎◌, ℕ, Bool, true, false, ◌&&◌, nat_eq, Option, Some, None, is_some, is_none, refl, sym, ap, subst, ◌∙◌, inl, inr}
+use Rattle.std.proofs.Common.{◌≡◌, ◌≢◌, ◌⊎◌, ℕ, true, false, ◌&&◌, nat_eq, Option, Some, None, refl, sym, ap, subst, ◌∙◌, inl, inr}
 use Rattle.std.proofs.lemmas.Bool.{and_parts, and_from, cases_Bool, eqb-true, eq-eqb}
-use Rattle.ace_model.proofs.Terms.{LineState, I, UC, UD, SC, SD, Channel, Read, Write, Transaction, same_test, implies, is_some_and, is_none_or, is_invalid, is_read, same_channel, has_name, is_named, is_on}
+use Rattle.ace_model.proofs.Terms.{LineState, I, UC, UD, SC, SD, Channel, Read, Write, Transaction, is_invalid, is_read, same_channel, has_name, is_named, is_on}
 use Rattle.ace_model.proofs.Terms.{is_some_on, newest_named, without, newest_on}
-
-pub some_is : {A : Type 0} → (o : Option A) → is_some o ≡ true → (x : A) × (o ≡ Some x)
-some_is None e = cc
-some_is (Some x) e = (x, refl)
-
-pub none_is : {A : Type 0} → (o : Option A) → is_none o ≡ true → o ≡ None
-none_is None e = refl
-none_is (Some x) e = cc
-
-pub Some-injective : {A : Type 0} → (x y : A) → Some x ≡ Some y → x ≡ y
-Some-injective x y e = cc
-
-pub is_some_and-is : {A : Type 0} → (o : Option A) (test : A → Bool) → is_some_and o test ≡ true → (x : A) × (o ≡ Some x) × (test x ≡ true)
-is_some_and-is None test e = cc
-is_some_and-is (Some x) test e = (x, refl, e)
-
-pub is_some_and-at : {A : Type 0} → (o : Option A) (test : A → Bool) (x : A) → is_some_and o test ≡ true → o ≡ Some x → test x ≡ true
-is_some_and-at None test x t e = cc
-is_some_and-at (Some y) test x t e = subst (λ z. test z ≡ true) (Some-injective y x e) t
-
-pub is_none_or-at : {A : Type 0} → (o : Option A) (test : A → Bool) (x : A) → is_none_or o test ≡ true → o ≡ Some x → test x ≡ true
-is_none_or-at None test x t e = cc
-is_none_or-at (Some y) test x t e = subst (λ z. test z ≡ true) (Some-injective y x e) t
-
-pub implies-at : (a b : Bool) → implies a b ≡ true → a ≡ true → b ≡ true
-implies-at true b e f = e
-implies-at false b e f = cc
-
-pub same_test-at : (a b : Bool) → same_test a b ≡ true → a ≡ b
-same_test-at true true e = refl
-same_test-at true false e = cc
-same_test-at false true e = cc
-same_test-at false false e = refl
+use Rattle.ace_model.proofs.General.Options.{Some-injective}
 
 pub is_invalid-is : (st : LineState) → is_invalid st ≡ true → st ≡ I
 is_invalid-is I e = refl

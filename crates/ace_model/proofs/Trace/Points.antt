@@ -5,7 +5,7 @@ use Rattle.std.proofs.lemmas.List.{drop-drop, length-drop}
 use Rattle.ace_model.proofs.Terms.{Event, Cr, Header, Transaction, Trace, at_point, issued, transactions, snoops_of, answers, snoop_at, is_message, messages_for, forwards_message, answered_messages}
 use Rattle.ace_model.proofs.Terms.{has_answered, IsAccepted}
 use Rattle.ace_model.proofs.Trace.Growth.{at_point-before}
-use Rattle.ace_model.proofs.Trace.Starts.{IsStart, start-self, start-trans, start-more, start-filter, start-length, count_by-take}
+use Rattle.ace_model.proofs.General.Lists.{IsStart, start-self, start-trans, start-more, start-filter, start-length, count_by-take}
 
 -- the trace without its newest k events is accepted too
 pub accepted-before : (h : Header) (k : ℕ) (past : Trace) → IsAccepted h past → IsAccepted h (drop k past)

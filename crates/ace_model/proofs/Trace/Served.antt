@@ -4,7 +4,8 @@ use Rattle.std.proofs.lemmas.Bool.{and_parts, or_cases, eqb-true}
 use Rattle.ace_model.proofs.Terms.{Event, Channel, Header, Transaction, Trace, is_some_and, is_transaction, transaction_of, outstanding, served_by, has_had}
 use Rattle.ace_model.proofs.Trace.Growth.{issued_at-grown}
 use Rattle.ace_model.proofs.Trace.Issued.{issued_at, transaction_of-stands, outstanding-named}
-use Rattle.ace_model.proofs.Trace.Looks.{Some-injective, is_some_and-is, Named, has_name-is}
+use Rattle.ace_model.proofs.Trace.Looks.{Named, has_name-is}
+use Rattle.ace_model.proofs.General.Options.{Some-injective, is_some_and-is}
 
 -- the event that the transaction has had, and what came before it
 pub record Served (test : Event → Bool) (past : Trace) (x : Transaction) : Type 0 where

@@ -3,11 +3,11 @@ use Rattle.std.proofs.Common.{◌≡◌, ◌⊎◌, ℕ, zero, suc, ◌+◌, ◌
 use Rattle.std.proofs.lemmas.Bool.{and_parts, or_cases, cases_Bool, eqb-true, eq-eqb, leb-true}
 use Rattle.ace_model.proofs.Terms.{Event, W, Header, Transaction, Trace, at_point, is_some_and, more, has_write_data, issued, write_kind, data_write_in, data_write, data_writes, write_beats, next_write}
 use Rattle.ace_model.proofs.Terms.{next_write_beat, stands_before, is_burst_whole, Beat, beat_at, beats, burst_of, is_next_beat, IsAccepted}
-use Rattle.ace_model.proofs.Trace.Looks.{Some-injective, is_some_and-is}
 use Rattle.ace_model.proofs.Trace.Growth.{slice_get-grown, at_point-before, at_point-end, IsIssued}
 use Rattle.ace_model.proofs.Trace.Issued.{issued_at, issued-place}
-use Rattle.ace_model.proofs.Trace.OneMore.{slice_get-more, slice_get-at_end}
+use Rattle.ace_model.proofs.General.Lists.{slice_get-more, slice_get-at_end}
 use Rattle.ace_model.proofs.Rules.Keeps.{accepted_keeps}
+use Rattle.ace_model.proofs.General.Options.{Some-injective, is_some_and-is}
 
 -- an element of the first four behind a place
 first_taken : {A : Type 0} → (xs : List A) (n k : ℕ) (b : A) → slice_get (take n xs) k ≡ Some b → (k < n) × (slice_get xs k ≡ Some b)

@@ -4,13 +4,15 @@ use Rattle.std.proofs.lemmas.Bool.{and_parts, or_cases, or_right, not-true, case
 use Rattle.ace_model.proofs.Terms.{LineState, Channel, Read, Write, Event, Ar, R, Rk, Aw, B, Wk, Header, Transaction, Trace, is_some_and, has_write_data, is_ace, is_named, issued, ended, write_kind}
 use Rattle.ace_model.proofs.Terms.{transaction_of, outstanding, completed, completes, acknowledgements, acknowledged, is_completion, is_complete, is_memory_write, has_memory_write, k4, k26, may_respond}
 use Rattle.ace_model.proofs.Terms.{IsAccepted}
-use Rattle.ace_model.proofs.Trace.Looks.{Some-injective, is_some_and-is, implies-at, has_name-is, newest_named-cases, without-some, without-other}
+use Rattle.ace_model.proofs.Trace.Looks.{has_name-is, newest_named-cases, without-some, without-other}
 use Rattle.ace_model.proofs.Trace.Issued.{outstanding-named, transaction_of-stands}
-use Rattle.ace_model.proofs.Trace.OneMore.{slice_get-more}
+use Rattle.ace_model.proofs.General.Lists.{slice_get-more}
 use Rattle.ace_model.proofs.Rules.Keeps.{accepted_keeps}
 use Rattle.ace_model.proofs.Holders.Ends.{one_name, acknowledged_is}
 use Rattle.ace_model.proofs.Holders.Address.{read_issued, write_issued, outstanding_stays}
 use Rattle.ace_model.proofs.Holders.Transfer.{ends_lite}
+use Rattle.ace_model.proofs.General.Options.{Some-injective, is_some_and-is}
+use Rattle.ace_model.proofs.General.Booleans.{implies-at}
 
 -- a complete write that waits for its WK
 abbrev pub IsWaiting : Header → Trace → ℕ → ℕ → Type 0

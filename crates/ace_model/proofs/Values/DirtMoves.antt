@@ -7,7 +7,6 @@ use Rattle.ace_model.proofs.Terms.{is_invalid, is_dirty, Transaction, Trace, is_
 use Rattle.ace_model.proofs.Terms.{outstanding, acknowledged, first_resp, has_update, has_memory_write, answers_line, has_failed, state_of, is_line_read_transaction, IsAccepted}
 use Rattle.ace_codes.specs.declared.kind.ArKind.TheVariants as read
 use Rattle.ace_codes.specs.declared.kind.AwKind.TheVariants as write
-use Rattle.ace_model.proofs.Trace.Looks.{is_some_and-is}
 use Rattle.ace_model.proofs.Rules.Keeps.{accepted_keeps}
 use Rattle.ace_model.proofs.Tables.States.{all_among}
 use Rattle.ace_model.proofs.Holders.Stores.{is_named_by_d}
@@ -19,6 +18,7 @@ use Rattle.ace_model.proofs.Grants.SnoopAnswers.{Answering, answering_cr}
 use Rattle.ace_model.proofs.Values.UpdateHolds.{is_dirty_update, is_clean_write, stays_clean}
 use Rattle.ace_model.proofs.Values.ReadEnds.{read_ends}
 use Rattle.ace_model.proofs.Values.Facts.{Updated, UpdatedTrue}
+use Rattle.ace_model.proofs.General.Options.{is_some_and-is}
 
 -- a read of a dirty line, or one that takes passed data, leaves the line dirty
 dirty_rows : (k : ArKind) (held : LineState) (shared pass failed : Bool) → (list_all is_dirty (end_states_of_read k held shared pass failed) || not (pass || is_dirty held)) ≡ true

@@ -6,10 +6,10 @@ use Rattle.ace_model.proofs.Terms.{is_ace, is_line, is_named, has_name, read_kin
 use Rattle.ace_model.proofs.Terms.{first_sender, memory_at_first_beat, reply_of, value_of, after_store, store_at, Store, may_issue_read, may_store, k18, is_due, is_next_transfer, has_word, may_transfer}
 use Rattle.ace_model.proofs.Terms.{IsAccepted}
 use Rattle.ace_codes.specs.declared.kind.ArKind.TheVariants as read
-use Rattle.ace_model.proofs.Trace.Looks.{Some-injective, is_some_and-at, is_none_or-at, same_test-at, has_name-is, newest_named-cases, without-some}
+use Rattle.ace_model.proofs.Trace.Looks.{has_name-is, newest_named-cases, without-some}
 use Rattle.ace_model.proofs.Trace.Issued.{outstanding-named, transaction_of-stands}
 use Rattle.ace_model.proofs.Rules.Keeps.{accepted_keeps}
-use Rattle.ace_model.proofs.Trace.OneMore.{slice_get-more}
+use Rattle.ace_model.proofs.General.Lists.{slice_get-more}
 use Rattle.ace_model.proofs.Tables.ReadEnds.{takes_alone, takes_shared}
 use Rattle.ace_model.proofs.Holders.Address.{named_read}
 use Rattle.ace_model.proofs.Holders.Facts.{Arrives}
@@ -25,6 +25,8 @@ use Rattle.ace_model.proofs.Values.Replies.{sender_before, reply_true, memory_tr
 use Rattle.ace_model.proofs.ReadsFollow.First.{memory-before}
 use Rattle.ace_model.proofs.Values.Facts.{SentTrue, Fetches, FetchesTrue, DirtyPlaced}
 use Rattle.ace_model.proofs.Holders.Law.{accepted_holds}
+use Rattle.ace_model.proofs.General.Options.{Some-injective, is_some_and-at, is_none_or-at}
+use Rattle.ace_model.proofs.General.Booleans.{same_test-at}
 
 -- only an ACE port issues what an ACE-Lite port may not
 pub ace_read : (h : Header) (past : Trace) → IsAccepted h past → (p i : ℕ) (x : Transaction) (k : ArKind) → outstanding h past p Read i ≡ Some x → read_kind x ≡ Some k

@@ -5,7 +5,7 @@ use Rattle.std.specs.List.{AllByRecursion}
 use Rattle.ace_model.proofs.Terms.{InRange, Channel, Event, M, D, Header, Line, is_dirty, Transaction, Trace, is_some_and, is_make_unique, is_write_line_unique, is_read, is_line, read_kind, write_kind}
 use Rattle.ace_model.proofs.Terms.{outstanding, has_memory_write, granted, has_passed_data, state_of, memory_of, passed_to, passed_data, value_of, data_of, may_write_memory, IsAccepted, replaces_line}
 use Rattle.ace_model.proofs.Terms.{IsValueSafe, DirtyPlace}
-use Rattle.ace_model.proofs.Trace.Looks.{Some-injective, is_some_and-is, is_some_and-at, has_name-is}
+use Rattle.ace_model.proofs.Trace.Looks.{has_name-is}
 use Rattle.ace_model.proofs.Trace.Issued.{transaction_of-stands}
 use Rattle.ace_model.proofs.Rules.Keeps.{accepted_keeps}
 use Rattle.ace_model.proofs.Grants.Stays.{Stays, granted_after}
@@ -25,6 +25,7 @@ use Rattle.ace_model.proofs.Values.Updated.{updated_step}
 use Rattle.ace_model.proofs.Values.Safe.{ended_safe, answered_safe}
 use Rattle.ace_model.proofs.Values.Facts.{DirtyPlaced}
 use Rattle.ace_model.proofs.Holders.Law.{accepted_holds}
+use Rattle.ace_model.proofs.General.Options.{Some-injective, is_some_and-is, is_some_and-at}
 
 module _ (h : Header) (past : Trace) where
   -- the M of passed data makes memory the value, or a port holds the line dirty

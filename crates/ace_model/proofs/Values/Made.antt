@@ -5,7 +5,7 @@ use Rattle.ace_codes.specs.declared.kind.ArKind.TheVariants as read
 use Rattle.ace_model.proofs.Terms.{I, Channel, Read, Event, Ar, Aw, D, Header, Line, merged, Transaction, Trace, is_some_and, is_make_unique, reads_a_line, is_ace, is_line, is_named, issued, ended}
 use Rattle.ace_model.proofs.Terms.{read_kind, outstanding, is_outstanding, is_make_unique_on, is_completion, is_complete, granted, state_of, awaits_store, is_store_of, has_store, copy_of, value_of}
 use Rattle.ace_model.proofs.Terms.{may_store, IsAccepted}
-use Rattle.ace_model.proofs.Trace.Looks.{is_some_and-at, has_name-is, newest_named-cases, without-some}
+use Rattle.ace_model.proofs.Trace.Looks.{has_name-is, newest_named-cases, without-some}
 use Rattle.ace_model.proofs.Trace.Issued.{outstanding-named, transaction_of-stands}
 use Rattle.ace_model.proofs.Rules.Keeps.{accepted_keeps}
 use Rattle.ace_model.proofs.Trace.LineOnce.{outstanding_found, one_on_line}
@@ -16,6 +16,7 @@ use Rattle.ace_model.proofs.Values.Copies.{copy_moves, unique_valid}
 use Rattle.ace_model.proofs.Values.Stays.{may_unique, may_free, value_stays}
 use Rattle.ace_model.proofs.Values.Facts.{MadeTrue, DirtyPlaced}
 use Rattle.ace_model.proofs.Holders.Law.{accepted_holds}
+use Rattle.ace_model.proofs.General.Options.{is_some_and-at}
 
 -- The store of a MakeUnique.
 pub record StoresNow (h : Header) (past : Trace) (e : Event) (p i : ℕ) (x : Transaction) : Type 0 where

@@ -7,7 +7,7 @@ use Rattle.ace_model.proofs.Terms.{is_write_line_unique, has_write_data, is_gran
 use Rattle.ace_model.proofs.Terms.{transaction_of, updates_memory, is_burst_whole, next_write, next_write_beat, granted, is_granted, has_passed_data, memory_of, same_line, Beat, burst_of, burst_line}
 use Rattle.ace_model.proofs.Terms.{stores_data, value_of, is_next_beat, fits_write, full_beat, may_write_memory, data_of, data_of_write, has_data, IsAccepted}
 use Rattle.ace_codes.specs.declared.kind.AwKind.TheVariants as write
-use Rattle.ace_model.proofs.Trace.Looks.{Some-injective, is_some_and-is, is_some_and-at, is_none_or-at, implies-at, has_name-is, newest_named-cases, without-some}
+use Rattle.ace_model.proofs.Trace.Looks.{has_name-is, newest_named-cases, without-some}
 use Rattle.ace_model.proofs.Trace.Issued.{outstanding-named, transaction_of-stands}
 use Rattle.ace_model.proofs.Rules.Keeps.{accepted_keeps}
 use Rattle.ace_model.proofs.Values.MergedLines.{same_line-is, lines_by_words}
@@ -18,6 +18,8 @@ use Rattle.ace_model.proofs.Values.Stays.{value_updating}
 use Rattle.ace_model.proofs.Grants.Granted.{granted_at, passed_may, data_may, has_passed, granted_given, granted_write}
 use Rattle.ace_model.proofs.Values.Facts.{UpdatesTrue}
 use Rattle.ace_model.proofs.ReadsFollow.Written.{update-writes}
+use Rattle.ace_model.proofs.General.Options.{Some-injective, is_some_and-is, is_some_and-at, is_none_or-at}
+use Rattle.ace_model.proofs.General.Booleans.{implies-at}
 
 -- The M of a transaction on the line.
 pub record WritesLine (h : Header) (past : Trace) (e : Event) (l : ℕ) : Type 0 where

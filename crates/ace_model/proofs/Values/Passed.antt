@@ -7,7 +7,7 @@ use Rattle.ace_model.proofs.Terms.{is_complete, is_memory_write, has_memory_writ
 use Rattle.ace_model.proofs.Terms.{awaits_store, copy_of, copy_at_answer, passed_to, passed_data, value_of, may_store, IsAccepted, HasDirtyHolder, IsValueSafe}
 use Rattle.ace_codes.specs.declared.kind.ArKind.TheVariants as read
 use Rattle.ace_codes.specs.declared.kind.SnoopKind.TheVariants as snoop
-use Rattle.ace_model.proofs.Trace.Looks.{Some-injective, has_name-is, same_channel-self}
+use Rattle.ace_model.proofs.Trace.Looks.{has_name-is, same_channel-self}
 use Rattle.ace_model.proofs.Trace.Issued.{transaction_of-stands}
 use Rattle.ace_model.proofs.Tables.States.{is_settled, row_is}
 use Rattle.ace_model.proofs.Holders.Stores.{some_issued-weaker}
@@ -24,6 +24,7 @@ use Rattle.ace_model.proofs.Values.PassedData.{passes_data}
 use Rattle.ace_model.proofs.Values.DirtMoves.{dirt_moves}
 use Rattle.ace_model.proofs.Values.Facts.{PassedTrue, DirtyPlaced}
 use Rattle.ace_model.proofs.Holders.Law.{accepted_holds}
+use Rattle.ace_model.proofs.General.Options.{Some-injective}
 
 -- a line that a port may store to is in no MakeUnique of the port
 pub no_make_unique : (h : Header) (past : Trace) (p l : ℕ) → may_store h past p l ≡ true → is_in_make_unique h past p l ≡ false

@@ -3,7 +3,7 @@ use Rattle.std.proofs.Common.{◌≡◌, ◌≢◌, ◌⊎◌, ℕ, Bool, true, 
 use Rattle.std.proofs.lemmas.Bool.{and_parts, and_from, cases_Bool, cases_eq, eqb-true, eq-eqb, ne_eqb}
 use Rattle.ace_model.proofs.Terms.{passes_dirty, Read, Event, Ar, R, Header, Answer, Transaction, Trace, is_some_and, is_line, is_named, is_read, issued, ended, transfers, first_resp, outstanding, granted}
 use Rattle.ace_model.proofs.Terms.{has_passed_data, is_begun, may_transfer, IsAccepted}
-use Rattle.ace_model.proofs.Trace.Looks.{Some-injective, has_name-is, newest_named-cases, without-some}
+use Rattle.ace_model.proofs.Trace.Looks.{has_name-is, newest_named-cases, without-some}
 use Rattle.ace_model.proofs.Trace.Issued.{outstanding-named, transaction_of-stands}
 use Rattle.ace_model.proofs.Holders.Address.{named_read}
 use Rattle.ace_model.proofs.Grants.Stays.{granted_before}
@@ -14,6 +14,7 @@ use Rattle.ace_model.proofs.Values.Fetches.{issue_transfers}
 use Rattle.ace_model.proofs.Grants.Granted.{granted_at, unwritten_before, has_passed, passes_of}
 use Rattle.ace_model.proofs.Values.PassedData.{passes_data}
 use Rattle.ace_model.proofs.Holders.Law.{accepted_holds}
+use Rattle.ace_model.proofs.General.Options.{Some-injective}
 
 -- The event is a transfer under the name.
 record Transfer (e : Event) (p i : ℕ) : Type 0 where

@@ -7,7 +7,6 @@ use Rattle.ace_model.proofs.Terms.{is_on, is_some_on, read_kind, write_kind, sno
 use Rattle.ace_model.proofs.Terms.{answer_of, has_passed_data, has_failed, state_of, memory_of, value_of, may_transfer, has_upper_bits, fits_kind, IsAccepted, replaces_line, IsValueSafe}
 use Rattle.ace_codes.specs.declared.kind.ArKind.TheVariants as read
 use Rattle.ace_codes.specs.declared.kind.AwKind.TheVariants as write
-use Rattle.ace_model.proofs.Trace.Looks.{Some-injective, is_none_or-at, implies-at}
 use Rattle.ace_model.proofs.Trace.Issued.{same_place, outstanding-named}
 use Rattle.ace_model.proofs.Rules.Keeps.{accepted_keeps}
 use Rattle.ace_model.proofs.Tables.States.{is_settled}
@@ -30,6 +29,8 @@ use Rattle.ace_model.proofs.Values.PassedFirst.{first_passes}
 use Rattle.ace_model.proofs.Values.Facts.{WrittenTrue, DirtyPlaced}
 use Rattle.ace_model.proofs.Holders.Law.{accepted_holds}
 use Rattle.ace_model.proofs.Values.Stores.{make_unique_is}
+use Rattle.ace_model.proofs.General.Options.{Some-injective, is_none_or-at}
+use Rattle.ace_model.proofs.General.Booleans.{implies-at}
 
 -- The read of a granted line that an RK ends.
 record EndsGranted (h : Header) (past : Trace) (q : ℕ) (st : LineState) (l : ℕ) (x : Transaction) : Type 0 where

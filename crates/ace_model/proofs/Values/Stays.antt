@@ -8,7 +8,7 @@ use Rattle.ace_model.proofs.Terms.{fits_write, full_beat, IsAccepted}
 use Rattle.ace_codes.specs.declared.kind.ArKind.TheVariants as read
 use Rattle.ace_codes.specs.declared.kind.AwKind.TheVariants as write
 use Rattle.ace_codes.specs.declared.kind.SnoopKind.TheVariants as snoop
-use Rattle.ace_model.proofs.Trace.Looks.{Some-injective, is_some_and-is, is_some_and-at, is_none_or-at, implies-at, has_name-is, newest_named-cases, without-some}
+use Rattle.ace_model.proofs.Trace.Looks.{has_name-is, newest_named-cases, without-some}
 use Rattle.ace_model.proofs.Trace.Issued.{outstanding-named, transaction_of-stands}
 use Rattle.ace_model.proofs.Trace.Growth.{at_point-before, at_point-end}
 use Rattle.ace_model.proofs.Rules.Keeps.{accepted_keeps}
@@ -24,6 +24,8 @@ use Rattle.ace_model.proofs.Values.ReadEnds.{read_writes_none}
 use Rattle.ace_model.proofs.Values.WritesAlone.{all_empty}
 use Rattle.ace_model.proofs.Values.Facts.{SentTrue, UpdatesTrue, DirtyPlaced}
 use Rattle.ace_model.proofs.Holders.Law.{accepted_holds}
+use Rattle.ace_model.proofs.General.Options.{Some-injective, is_some_and-is, is_some_and-at, is_none_or-at}
+use Rattle.ace_model.proofs.General.Booleans.{implies-at}
 
 module _ (h : Header) (past : Trace) where
   pub may_unique : (q l : ℕ) → may_store h past q l ≡ true → is_unique (state_of h past q l) ≡ true

@@ -7,7 +7,7 @@ use Rattle.ace_model.proofs.Terms.{is_outstanding, is_make_unique_on, is_complet
 use Rattle.ace_model.proofs.Terms.{are_snoops_done, stores_data, value_of, may_store, wants_store, full_line, may_write_memory, may_write_passed, may_write_data, is_write_due, is_update_due, IsAccepted}
 use Rattle.ace_codes.specs.declared.kind.ArKind.TheVariants as read
 use Rattle.ace_codes.specs.declared.kind.AwKind.TheVariants as write
-use Rattle.ace_model.proofs.Trace.Looks.{Some-injective, is_some_and-is, newest_named-cases, without-some}
+use Rattle.ace_model.proofs.Trace.Looks.{newest_named-cases, without-some}
 use Rattle.ace_model.proofs.Trace.Issued.{issued_at, same_place, outstanding-named, transaction_of-stands}
 use Rattle.ace_model.proofs.Trace.Growth.{IsIssued, some_issued-is}
 use Rattle.ace_model.proofs.Rules.Keeps.{accepted_keeps}
@@ -17,6 +17,7 @@ use Rattle.ace_model.proofs.Trace.LineOnce.{outstanding_own}
 use Rattle.ace_model.proofs.Grants.Begins.{may_of, else_of, write_due}
 use Rattle.ace_model.proofs.Trace.WriteQueue.{issue_completes}
 use Rattle.ace_model.proofs.Holders.Law.{accepted_holds}
+use Rattle.ace_model.proofs.General.Options.{Some-injective, is_some_and-is}
 
 -- an issued transaction that is outstanding is so by its name
 pub outstanding_is : (h : Header) (past : Trace) (x : Transaction) → IsIssued past x → is_outstanding h past x ≡ true → outstanding h past x.port x.chan x.id ≡ Some x

@@ -6,7 +6,7 @@ use Rattle.ace_model.proofs.Terms.{AwKind, LineState, I, UC, UD, SC, SD, Channel
 use Rattle.ace_model.proofs.Terms.{Transaction, Trace, is_some_and, is_none_or, is_update, is_line, is_on, is_some_on, issued, ended, read_kind, write_kind, outstanding, is_outstanding, acknowledged}
 use Rattle.ace_model.proofs.Terms.{has_outstanding_on, updates_memory, is_update_on, has_update, answers_line, state_of, starts_well, IsAccepted}
 use Rattle.ace_codes.specs.declared.kind.AwKind.TheVariants as write
-use Rattle.ace_model.proofs.Trace.Looks.{Some-injective, is_some_and-is, is_none_or-at, implies-at, has_name-is, newest_named-cases, without-some}
+use Rattle.ace_model.proofs.Trace.Looks.{has_name-is, newest_named-cases, without-some}
 use Rattle.ace_model.proofs.Trace.Issued.{outstanding-named, transaction_of-stands}
 use Rattle.ace_model.proofs.Trace.Growth.{some_issued-found}
 use Rattle.ace_model.proofs.Rules.Keeps.{accepted_keeps}
@@ -17,6 +17,8 @@ use Rattle.ace_model.proofs.Holders.Acknowledge.{is_named_by_rk}
 use Rattle.ace_model.proofs.Trace.WriteQueue.{ends_write_of}
 use Rattle.ace_model.proofs.Tables.SnoopRows.{beside_update, dirty_stays, silent_dirty}
 use Rattle.ace_model.proofs.Grants.SnoopAnswers.{Answering, answering_cr}
+use Rattle.ace_model.proofs.General.Options.{Some-injective, is_some_and-is, is_none_or-at}
+use Rattle.ace_model.proofs.General.Booleans.{implies-at}
 
 -- updates of a dirty line; writes that tell of a clean one
 abbrev pub is_dirty_update : AwKind → Bool

@@ -5,7 +5,7 @@ use Rattle.std.specs.List.{AllByRecursion}
 use Rattle.ace_model.proofs.Terms.{AwKind, passes_dirty, InRange, Write, Event, Header, is_invalid, Answer, Transaction, Trace, is_some_and, is_update, is_read, is_line, write_kind, issued, ended}
 use Rattle.ace_model.proofs.Terms.{outstanding, updates_memory, has_update, granted, has_passed_data, state_of, IsAccepted}
 use Rattle.ace_codes.specs.declared.kind.AwKind.TheVariants as write
-use Rattle.ace_model.proofs.Trace.Looks.{Some-injective, is_some_and-is, is_none_or-at, has_name-is, newest_named-cases, without-some}
+use Rattle.ace_model.proofs.Trace.Looks.{has_name-is, newest_named-cases, without-some}
 use Rattle.ace_model.proofs.Trace.Issued.{outstanding-named, transaction_of-stands}
 use Rattle.ace_model.proofs.Tables.States.{row_is}
 use Rattle.ace_model.proofs.Grants.Stays.{granted_before}
@@ -20,6 +20,7 @@ use Rattle.ace_model.proofs.Values.PassedData.{passes_data}
 use Rattle.ace_model.proofs.Values.MemoryWrites.{WritesLine, memory_moves, writer, update_true}
 use Rattle.ace_model.proofs.Values.Facts.{Updated, UpdatedTrue, DirtyPlaced}
 use Rattle.ace_model.proofs.Holders.Law.{accepted_holds}
+use Rattle.ace_model.proofs.General.Options.{Some-injective, is_some_and-is, is_none_or-at}
 
 -- no passed data come but by an answer with PassDirty
 still_none : (h : Header) (past : Trace) (e : Event) → IsAccepted h (e ∷ past) → (l : ℕ) → ((y : Transaction) → granted h past l ≡ Some y → has_passed_data h past y ≡ false)

@@ -8,7 +8,7 @@ use Rattle.ace_model.proofs.Terms.{is_no_snoop_write, is_read, is_line, read_kin
 use Rattle.ace_model.proofs.Terms.{passed_to, passed_data, Beat, burst_of, burst_line, burst_strobe, value_of, full_beat, full_line, data_of, data_of_write, burst_into, IsAccepted, replaces_line}
 use Rattle.ace_model.proofs.Terms.{HasDirtyHolder}
 use Rattle.ace_codes.specs.declared.kind.AwKind.TheVariants as write
-use Rattle.ace_model.proofs.Trace.Looks.{Some-injective, has_name-is}
+use Rattle.ace_model.proofs.Trace.Looks.{has_name-is}
 use Rattle.ace_model.proofs.Trace.Issued.{outstanding-named, transaction_of-stands}
 use Rattle.ace_model.proofs.Holders.Rises.{state_moves}
 use Rattle.ace_model.proofs.Grants.Stays.{granted_before}
@@ -27,6 +27,7 @@ use Rattle.ace_model.proofs.Values.Passed.{passed_true}
 use Rattle.ace_model.proofs.Values.MemoryWrites.{WritesLine, memory_now, memory_moves, grant_stores, writer, line_is, is_write-is, update_true, beats_fit}
 use Rattle.ace_model.proofs.Values.Facts.{Quiet, WrittenTrue, DirtyPlaced}
 use Rattle.ace_model.proofs.Holders.Law.{accepted_holds}
+use Rattle.ace_model.proofs.General.Options.{Some-injective}
 
 -- What a store writes.
 record Writing (h : Header) (past : Trace) (l : ℕ) (x : Transaction) : Type 0 where

@@ -1,10 +1,33 @@
--- A list that a longer one begins with, and counts in both.
-use Rattle.std.proofs.Common.{◌≡◌, ℕ, zero, suc, ◌+◌, ◌≤◌, Bool, true, cond, List, [], ◌∷◌, ◌++◌, length, take, filter, slice_get, count_by, Option, Some, None, refl, sym, ap, ◌∙◌, arith, inl, inr, append_assoc, length-append}
-use Rattle.std.proofs.lemmas.Bool.{cases_Bool}
+-- Lists: one more element at the end, a list that a longer one begins with, and counts in both.
+use Rattle.std.proofs.Common.{◌≡◌, ◌⊎◌, ℕ, zero, suc, List, [], ◌∷◌, ◌++◌, length, Option, Some, None, slice_get, refl, sym, ◌∙◌, arith, inl, inr, ◌+◌, ◌≤◌, Bool, true, cond, take, filter, count_by, ap, append_assoc, length-append}
+use Rattle.std.proofs.lemmas.Bool.{cases_eq, cases_Bool}
+use Rattle.ace_model.proofs.Terms.{more}
 use Rattle.std.proofs.lemmas.List.{append-nil}
 use Rattle.std.proofs.lemmas.List.Elements.{filter-append}
 use Rattle.std.proofs.lemmas.List.Sums.{sum_by-cons}
-use Rattle.ace_model.proofs.Terms.{more}
+
+-- the place behind the last element
+pub slice_get-at_end : {A : Type 0} → (xs : List A) (k : ℕ) (y : A) → k ≡ length xs → slice_get (xs ++ y ∷ []) k ≡ Some y
+slice_get-at_end [] zero y e = refl
+slice_get-at_end [] (suc k) y e = cc
+slice_get-at_end (x ∷ xs) zero y e = absurd (omega arith)
+slice_get-at_end (x ∷ xs) (suc k) y e = slice_get-at_end xs k y (omega arith)
+
+-- any other place
+pub slice_get-not_at_end : {A : Type 0} → (xs : List A) (k : ℕ) (y : A) → (k ≡ length xs → ⊥) → slice_get (xs ++ y ∷ []) k ≡ slice_get xs k
+slice_get-not_at_end [] zero y e = absurd (e refl)
+slice_get-not_at_end [] (suc k) y e = refl
+slice_get-not_at_end (x ∷ xs) zero y e = refl
+slice_get-not_at_end (x ∷ xs) (suc k) y e = slice_get-not_at_end xs k y (λ q. e (omega arith))
+
+-- an element of the longer list was there, or is the new one
+pub slice_get-more : {A : Type 0} → (xs : List A) (new : Option A) (k : ℕ) (z : A) → slice_get (more xs new) k ≡ Some z → (slice_get xs k ≡ Some z) ⊎ ((k ≡ length xs) × (new ≡ Some z))
+slice_get-more xs None k z e = inl e
+slice_get-more xs (Some y) k z e =
+    elim (cases_eq k (length xs)) [
+      | inl at ↦ inr (at, sym (slice_get-at_end xs k y at) ∙ e)
+      | inr off ↦ inl (sym (slice_get-not_at_end xs k y off) ∙ e)
+    ]
 
 -- the second list begins with the first
 pub record IsStart {A : Type 0} (xs ys : List A) : Type 0 where
@@ -34,7 +57,7 @@ pub start-length : {A : Type 0} → (xs ys : List A) → IsStart xs ys → lengt
 start-length xs ys s = let e = ap length s.joined in let l = length-append xs s.rest in omega arith
 
 -- an element of the first list stands at the same place of the second
-slice_get-append : {A : Type 0} → (xs ys : List A) (k : ℕ) (x : A) → slice_get xs k ≡ Some x → slice_get (xs ++ ys) k ≡ Some x
+pub slice_get-append : {A : Type 0} → (xs ys : List A) (k : ℕ) (x : A) → slice_get xs k ≡ Some x → slice_get (xs ++ ys) k ≡ Some x
 slice_get-append [] ys k x e = cc
 slice_get-append (z ∷ xs) ys zero x e = e
 slice_get-append (z ∷ xs) ys (suc k) x e = slice_get-append xs ys k x e

@@ -1,0 +1,26 @@
+-- What a look that may find nothing says where it finds something.
+use Rattle.std.proofs.Common.{◌≡◌, Bool, true, Option, Some, None, is_some, is_none, refl, subst}
+use Rattle.ace_model.proofs.Terms.{is_some_and, is_none_or}
+
+pub some_is : {A : Type 0} → (o : Option A) → is_some o ≡ true → (x : A) × (o ≡ Some x)
+some_is None e = cc
+some_is (Some x) e = (x, refl)
+
+pub none_is : {A : Type 0} → (o : Option A) → is_none o ≡ true → o ≡ None
+none_is None e = refl
+none_is (Some x) e = cc
+
+pub Some-injective : {A : Type 0} → (x y : A) → Some x ≡ Some y → x ≡ y
+Some-injective x y e = cc
+
+pub is_some_and-is : {A : Type 0} → (o : Option A) (test : A → Bool) → is_some_and o test ≡ true → (x : A) × (o ≡ Some x) × (test x ≡ true)
+is_some_and-is None test e = cc
+is_some_and-is (Some x) test e = (x, refl, e)
+
+pub is_some_and-at : {A : Type 0} → (o : Option A) (test : A → Bool) (x : A) → is_some_and o test ≡ true → o ≡ Some x → test x ≡ true
+is_some_and-at None test x t e = cc
+is_some_and-at (Some y) test x t e = subst (λ z. test z ≡ true) (Some-injective y x e) t
+
+pub is_none_or-at : {A : Type 0} → (o : Option A) (test : A → Bool) (x : A) → is_none_or o test ≡ true → o ≡ Some x → test x ≡ true
+is_none_or-at None test x t e = cc
+is_none_or-at (Some y) test x t e = subst (λ z. test z ≡ true) (Some-injective y x e) t
