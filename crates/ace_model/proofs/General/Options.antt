@@ -1,6 +1,6 @@
 -- What a look that may find nothing says where it finds something.
 use Rattle.std.proofs.Common.{◌≡◌, Bool, true, Option, Some, None, is_some, is_none, refl, subst}
-use Rattle.ace_model.proofs.Terms.{is_some_and, is_none_or}
+use Rattle.ace_model.proofs.Terms.{is_some_and, is_none_or, newer}
 
 pub some_is : {A : Type 0} → (o : Option A) → is_some o ≡ true → (x : A) × (o ≡ Some x)
 some_is None e = cc
@@ -24,3 +24,7 @@ is_some_and-at (Some y) test x t e = subst (λ z. test z ≡ true) (Some-injecti
 pub is_none_or-at : {A : Type 0} → (o : Option A) (test : A → Bool) (x : A) → is_none_or o test ≡ true → o ≡ Some x → test x ≡ true
 is_none_or-at None test x t e = cc
 is_none_or-at (Some y) test x t e = subst (λ z. test z ≡ true) (Some-injective y x e) t
+
+pub newer-none : {A : Type 0} → (o : Option A) → newer o None ≡ o
+newer-none None = refl
+newer-none (Some v) = refl

@@ -16,9 +16,8 @@ use Rattle.ace_model.proofs.Holders.FirstTransfer.{each_at}
 use Rattle.ace_model.proofs.Holders.Transfer.{ends_lite}
 use Rattle.ace_model.proofs.Holders.Rises.{ends_of}
 use Rattle.ace_model.proofs.Trace.WriteQueue.{EndsWrite, ends_write_of, ends_lite_written}
-use Rattle.ace_model.proofs.Grants.Stays.{granted_after, failed_stays}
+use Rattle.ace_model.proofs.Grants.Stays.{granted_after, failed_stays, grant_place-low}
 use Rattle.ace_model.proofs.Grants.Begins.{MayBegin, begins, may_of, line_transfer, then_of}
-use Rattle.ace_model.proofs.Grants.SnoopedOnce.{grant_place-low}
 use Rattle.ace_model.proofs.Holders.Law.{accepted_holds}
 use Rattle.ace_model.proofs.General.Options.{Some-injective, is_some_and-is}
 use Rattle.ace_model.proofs.General.Booleans.{implies-at}

@@ -1,4 +1,8 @@
 -- An event grants a line, ends the granted transaction, or leaves the grant as it is.
+use Rattle.std.proofs.Common.{[]}
+use Rattle.std.proofs.Common.{arith, if◌then◌else◌, suc, ◌+◌, ◌≤◌}
+use Rattle.ace_model.proofs.Terms.{grant_place}
+use Rattle.ace_model.proofs.Holders.Acknowledge.{ends}
 use Rattle.std.proofs.Common.{◌≡◌, ◌≢◌, ◌⊎◌, ℕ, Bool, true, false, ◌&&◌, nat_eq, ◌∷◌, length, Option, Some, None, refl, sym, ap, ◌∙◌, inl, inr}
 use Rattle.std.proofs.lemmas.Bool.{and_parts, cases_Bool, eqb-true}
 use Rattle.ace_model.proofs.Terms.{Channel, Event, Ar, Aw, G, Header, Transaction, Trace, is_read, is_line, is_some_on, has_name, issued, ended, transaction_of, outstanding, without, is_exclusive_store}
@@ -106,3 +110,12 @@ failed_stays h past (G q c j) a l x s =
     failed_g h past q c j x.port x.id x (ap (λ (d : Channel). outstanding h past x.port d x.id) (sym (is_read-is x.chan t)) ∙ o.0) on.0
     (ap (is_some_on (transaction_of past q c j)) (eqb-true x.addr l on.1) ∙ s.gives))
 failed_stays h past _ a l x s = refl
+
+-- the present grant of a line came within the trace
+pub grant_place-low : (past : Trace) (l : ℕ) → grant_place past l ≤ length past
+grant_place-low [] l = omega arith
+grant_place-low (e ∷ past) l = chosen (is_some_on (given past e) l) (grant_place-low past l)
+  where
+    chosen : (b : Bool) → grant_place past l ≤ length past → (if b then length past + 1 else grant_place past l) ≤ suc (length past)
+    chosen true low = omega arith
+    chosen false low = omega arith

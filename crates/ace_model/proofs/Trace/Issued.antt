@@ -1,4 +1,5 @@
 -- Which transaction a name means: it stands at its place, and what is outstanding is the last of its name.
+use Rattle.ace_model.proofs.Trace.Looks.{Named, has_name-is}
 use Rattle.std.proofs.Common.{◌≡◌, ℕ, ◌<◌, true, cond, nat_eq, [], ◌∷◌, length, Option, Some, None, sym, ap, ◌∙◌, arith, inl, inr}
 use Rattle.std.proofs.lemmas.Bool.{eq-eqb, ne_eqb}
 use Rattle.ace_model.proofs.Terms.{Event, Ar, R, Rk, Aw, W, B, Wk, Ac, Cr, Cd, G, M, S, L, D, Op, Channel, Header, Transaction, Trace, has_name, issued, ended, transaction_of, outstanding}
@@ -73,3 +74,7 @@ outstanding-named h (e ∷ past) p c i x o =
           newest_named-older (issued (length past) e) p c i (transaction_of past p c i) old.1
           ∙ outstanding-named h past p c i x (without-some (ended h past e) (outstanding h past p c i) x old.0).0
     ]
+
+-- and it has that name
+pub outstanding-name : (h : Header) (past : Trace) (p : ℕ) (c : Channel) (i : ℕ) (x : Transaction) → outstanding h past p c i ≡ Some x → Named x p c i
+outstanding-name h past p c i x o = has_name-is x p c i (transaction_of-stands past p c i x (outstanding-named h past p c i x o)).named
