@@ -1,12 +1,9 @@
 -- An event grants a line, ends the granted transaction, or leaves the grant as it is.
-use Rattle.std.proofs.Common.{[]}
-use Rattle.std.proofs.Common.{arith, if◌then◌else◌, suc, ◌+◌, ◌≤◌}
-use Rattle.ace_model.proofs.Terms.{grant_place}
-use Rattle.ace_model.proofs.Holders.Acknowledge.{ends}
-use Rattle.std.proofs.Common.{◌≡◌, ◌≢◌, ◌⊎◌, ℕ, Bool, true, false, ◌&&◌, nat_eq, ◌∷◌, length, Option, Some, None, refl, sym, ap, ◌∙◌, inl, inr}
+use Rattle.std.proofs.Common.{[], arith, if◌then◌else◌, suc, ◌+◌, ◌≤◌, ◌≡◌, ◌≢◌, ◌⊎◌, ℕ, Bool, true, false, ◌&&◌, nat_eq, ◌∷◌, length, Option, Some, None, refl, sym, ap, ◌∙◌, inl, inr}
 use Rattle.std.proofs.lemmas.Bool.{and_parts, cases_Bool, eqb-true}
-use Rattle.ace_model.proofs.Terms.{Channel, Event, Ar, Aw, G, Header, Transaction, Trace, is_read, is_line, is_some_on, has_name, issued, ended, transaction_of, outstanding, without, is_exclusive_store}
-use Rattle.ace_model.proofs.Terms.{given, gives_line, granted, has_failed, is_false, passed_at_grant, has_free_name, IsAccepted}
+use Rattle.ace_model.proofs.Terms.{grant_place, Channel, Event, Ar, Aw, G, Header, Transaction, Trace, is_read, is_line, is_some_on, has_name, issued, ended, transaction_of, outstanding, without}
+use Rattle.ace_model.proofs.Terms.{is_exclusive_store, given, gives_line, granted, has_failed, is_false, passed_at_grant, has_free_name, IsAccepted}
+use Rattle.ace_model.proofs.Holders.Acknowledge.{ends}
 use Rattle.ace_model.proofs.Trace.Looks.{is_read-is, newest_on-cases, newest_on-older, without-some}
 use Rattle.ace_model.proofs.Rules.Keeps.{accepted_keeps}
 use Rattle.ace_model.proofs.Holders.Address.{read_issued, write_issued, outstanding_stays, failed_issued}

@@ -2,7 +2,8 @@
 use Rattle.std.proofs.Common.{Bool, None, Option, Some, ap, arith, inl, inr, option_and_then, option_map, refl, sym, true, unwrap_or, ℕ, ◌∙◌, ◌∷◌, ◌≡◌, ◌≢◌}
 use Rattle.std.proofs.lemmas.Bool.{cases_eq}
 use Rattle.std.specs.List.{AllByRecursion}
-use Rattle.ace_model.proofs.Terms.{Answer, Event, Header, InRange, IsAccepted, R, Read, Trace, Transaction, at_point, copy_at_answer, copy_of, first_sender, is_line_read_transaction, memory_at_first_beat, outstanding, reply_of, transaction_of, transfers, value_of}
+use Rattle.ace_model.proofs.Terms.{Answer, Event, Header, InRange, IsAccepted, R, Read, Trace, Transaction, at_point, copy_at_answer, copy_of, first_sender, is_line_read_transaction}
+use Rattle.ace_model.proofs.Terms.{memory_at_first_beat, outstanding, reply_of, transaction_of, transfers, value_of}
 use Rattle.ace_model.proofs.Trace.Growth.{at_point-before}
 use Rattle.ace_model.proofs.Trace.Issued.{outstanding-named, outstanding-name}
 use Rattle.ace_model.proofs.Trace.Places.{NewBeat, grant-old}

@@ -1,9 +1,8 @@
 -- The points of the reads of a line by one port never go back: an earlier read has all its beats before the later one.
-use Rattle.ace_model.proofs.Terms.{has_free_line, is_on, more}
 use Rattle.std.proofs.Common.{◌≡◌, ◌⊎◌, ℕ, zero, suc, ◌-◌, ◌<◌, ◌≤◌, true, false, nat_eq, [], ◌∷◌, length, drop, Some, sym, ap, subst, ◌∙◌, arith, inl, inr}
 use Rattle.std.proofs.lemmas.Bool.{cases_Bool, eqb-true, not-true}
-use Rattle.ace_model.proofs.Terms.{I, is_invalid, Event, L, R, G, Read, Header, Transaction, Trace, event_at, at_point, issued, outstanding, state_of, k30, k18, IsLoad, IsBeat, IsGrantOf, HasBeat}
-use Rattle.ace_model.proofs.Terms.{IsReadBy, IsAccepted}
+use Rattle.ace_model.proofs.Terms.{has_free_line, is_on, more, I, is_invalid, Event, L, R, G, Read, Header, Transaction, Trace, event_at, at_point, issued, outstanding, state_of, k30, k18, IsLoad}
+use Rattle.ace_model.proofs.Terms.{IsBeat, IsGrantOf, HasBeat, IsReadBy, IsAccepted}
 use Rattle.ace_model.proofs.Trace.Growth.{at_point-before, issued_at-before}
 use Rattle.ace_model.proofs.Trace.Points.{accepted-before}
 use Rattle.ace_model.proofs.Trace.Issued.{issued_at, transaction_of-stands}

@@ -1,11 +1,9 @@
 -- The outstanding reads of a port: what was outstanding before, and that a port holds nothing of a line that it reads.
-use Rattle.std.proofs.Common.{ap, false, nat_eq}
-use Rattle.std.proofs.lemmas.List.{length-drop}
-use Rattle.ace_model.proofs.Terms.{is_on, is_read}
-use Rattle.std.proofs.Common.{◌≡◌, ◌≢◌, ◌⊎◌, ℕ, zero, suc, ◌<◌, true, [], ◌∷◌, length, drop, Some, refl, arith, inl, inr}
+use Rattle.std.proofs.Common.{ap, false, nat_eq, ◌≡◌, ◌≢◌, ◌⊎◌, ℕ, zero, suc, ◌<◌, true, [], ◌∷◌, length, drop, Some, refl, arith, inl, inr}
 use Rattle.std.proofs.lemmas.Bool.{and_from, or_left, eq-eqb}
-use Rattle.ace_model.proofs.Terms.{ArKind, I, Header, Channel, Read, Write, Event, Transaction, Trace, is_some_and, is_line_read, is_line_write, reads_a_line, has_name, is_line, issued, read_kind}
-use Rattle.ace_model.proofs.Terms.{write_kind, ended, without, outstanding, state_of, is_line_read_transaction, IsAccepted}
+use Rattle.std.proofs.lemmas.List.{length-drop}
+use Rattle.ace_model.proofs.Terms.{is_on, is_read, ArKind, I, Header, Channel, Read, Write, Event, Transaction, Trace, is_some_and, is_line_read, is_line_write, reads_a_line, has_name, is_line}
+use Rattle.ace_model.proofs.Terms.{issued, read_kind, write_kind, ended, without, outstanding, state_of, is_line_read_transaction, IsAccepted}
 use Rattle.ace_codes.specs.declared.kind.ArKind.TheVariants as read
 use Rattle.ace_model.proofs.Trace.Issued.{issued-place}
 use Rattle.ace_model.proofs.Trace.Looks.{newest_named-cases, without-some}

@@ -1,8 +1,8 @@
 -- The points of the reads of a trace, as the trace grows by an event, and as the point of a read is chosen before its first beat.
 use Rattle.std.proofs.Common.{◌≡◌, ◌≢◌, ℕ, ◌<◌, ◌≤◌, Bool, true, false, if◌then◌else◌, nat_eq, ◌∷◌, length, Some, sym, ap, subst, ◌∙◌, arith, inl, inr}
 use Rattle.std.proofs.lemmas.Bool.{eqb-true, ne_eqb, not-true}
-use Rattle.ace_model.proofs.Terms.{I, is_invalid, Event, L, R, Read, Header, Transaction, Trace, at_point, outstanding, transaction_of, transfers, state_of}
-use Rattle.ace_model.proofs.Terms.{is_line_read_transaction, word_of, copy_of, reply_of, value_of, k30, k31, has_word, AreCopiesTrue, IsLoad, IsBeat, IsGrantOf, IsAccepted}
+use Rattle.ace_model.proofs.Terms.{I, is_invalid, Event, L, R, Read, Header, Transaction, Trace, at_point, outstanding, transaction_of, transfers, state_of, is_line_read_transaction, word_of, copy_of}
+use Rattle.ace_model.proofs.Terms.{reply_of, value_of, k30, k31, has_word, AreCopiesTrue, IsLoad, IsBeat, IsGrantOf, IsAccepted}
 use Rattle.ace_model.proofs.Trace.Growth.{at_point-before}
 use Rattle.ace_model.proofs.Trace.Issued.{issued_at, outstanding-named, transaction_of-stands, same_place}
 use Rattle.ace_model.proofs.Rules.Keeps.{accepted_keeps}

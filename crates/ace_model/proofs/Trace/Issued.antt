@@ -1,9 +1,8 @@
 -- Which transaction a name means: it stands at its place, and what is outstanding is the last of its name.
-use Rattle.ace_model.proofs.Trace.Looks.{Named, has_name-is}
 use Rattle.std.proofs.Common.{◌≡◌, ℕ, ◌<◌, true, cond, nat_eq, [], ◌∷◌, length, Option, Some, None, sym, ap, ◌∙◌, arith, inl, inr}
 use Rattle.std.proofs.lemmas.Bool.{eq-eqb, ne_eqb}
 use Rattle.ace_model.proofs.Terms.{Event, Ar, R, Rk, Aw, W, B, Wk, Ac, Cr, Cd, G, M, S, L, D, Op, Channel, Header, Transaction, Trace, has_name, issued, ended, transaction_of, outstanding}
-use Rattle.ace_model.proofs.Trace.Looks.{newest_named-cases, newest_named-first, newest_named-older, without-some}
+use Rattle.ace_model.proofs.Trace.Looks.{Named, has_name-is, newest_named-cases, newest_named-first, newest_named-older, without-some}
 use Rattle.ace_model.proofs.General.Options.{Some-injective}
 
 -- a transaction knows how many events came before it
