@@ -11,7 +11,7 @@ use Rattle.ace_model.proofs.Holders.Transfer.{MayTransfer, may}
 use Rattle.ace_model.proofs.Grants.Stays.{Stays, issued_apart}
 use Rattle.ace_model.proofs.Holders.Law.{accepted_holds}
 use Rattle.ace_model.proofs.General.Options.{Some-injective, is_some_and-at}
-use Rattle.ace_model.proofs.General.Booleans.{implies-at}
+use Rattle.ace_model.proofs.General.Booleans.{implies-at, else_of}
 
 pub begun_same : (past longer : Trace) (x : Transaction)
     → (is_read x.chan ≡ true → transfers longer x.port x.id ≡ transfers past x.port x.id)
@@ -53,14 +53,6 @@ module _ (h : Header) (past : Trace) where
       ap (λ a. outstanding h past a x.chan x.id) (eqb-true x.port q parts.0) ∙ ap (λ (c : Channel). outstanding h past q c x.id) (is_read-is x.chan reads)
       ∙ ap (outstanding h past q Read) (eqb-true x.id j parts.1) in
       (m, Some-injective m.one x (sym m.out ∙ sym same ∙ o))
-
-pub then_of : {A : Type 0} → (b : Bool) (t u : A) → b ≡ true → (if b then t else u) ≡ t
-then_of true t u e = refl
-then_of false t u e = cc
-
-pub else_of : (b t u : Bool) → b ≡ false → (if b then t else u) ≡ true → u ≡ true
-else_of true t u e i = cc
-else_of false t u e i = i
 
 -- what the rule on memory says of a write
 pub write_due : (h : Header) (past : Trace) (x : Transaction) → may_write_memory h past x ≡ true → is_read x.chan ≡ false
