@@ -41,7 +41,7 @@ first-point h past p i resp last word x a range o reads none =
         )
     cases g u (Some q) sender =
         let s = sender_sent h past a.0 q x.addr sender in
-        let after = answer-after past q x.addr s.answer s.is in
+        let after = answer-after h past a.0 q x.addr x s.answer u.stands s.is in
         let before = answer-before past q x.addr s.answer s.is in
         let next = g.next in (
           s.answer.place,
@@ -50,7 +50,7 @@ first-point h past p i resp last word x a range o reads none =
             low = omega arith;
             same = reply (Some q) sender
                 ∙ ap (λ o. unwrap_or (option_map (λ (w : Answer). copy_of (at_point w.place past) q x.addr) o) (memory_at_first_beat past x.port x.id x.addr)) s.is
-                ∙ sent_value h past a.0 range q x.addr s.answer s.is s.sends;
+                ∙ sent_value h past a.0 range q x.addr x s.answer u.stands s.is s.sends;
           },
         )
 

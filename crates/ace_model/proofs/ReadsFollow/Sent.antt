@@ -4,13 +4,13 @@ use Rattle.std.proofs.lemmas.Bool.{cases_Bool}
 use Rattle.std.specs.List.{AllByRecursion}
 use Rattle.ace_model.proofs.Terms.{Answer, Channel, Event, G, Header, I, InRange, IsAccepted, IsGrantOf, Read, Trace, Transaction, answer_of, at_point, copy_of, ended, given, gives_line, grant_place}
 use Rattle.ace_model.proofs.Terms.{granted, is_on, state_of, transaction_of, transfers_data, value_of, without}
+use Rattle.ace_model.proofs.Grants.SnoopAnswers.{since_answer, answer_cases}
 use Rattle.ace_model.proofs.Trace.Growth.{at_point-before}
 use Rattle.ace_model.proofs.Trace.Issued.{transaction_of-stands}
 use Rattle.ace_model.proofs.Trace.Looks.{has_name-is, newest_on-cases, without-some}
 use Rattle.ace_model.proofs.Trace.Places.{event_at-now, grant-old, at_point-last}
 use Rattle.ace_model.proofs.Tables.SnoopRows.{sends_held}
 use Rattle.ace_model.proofs.Grants.Stays.{grant_place-low}
-use Rattle.ace_model.proofs.Grants.SnoopAnswers.{answer_cases}
 use Rattle.ace_model.proofs.Grants.Answers.{new_answer}
 use Rattle.ace_model.proofs.Values.Stays.{answer-before}
 use Rattle.ace_model.proofs.Values.Law.{facts}
@@ -49,36 +49,26 @@ granted-at h (e ∷ past) l x g reads =
     now v new on = cc
 
 -- an answer under the grant comes after it
-pub answer-after : (past : Trace) (r l : ℕ) (w : Answer) → answer_of past r l ≡ Some w → grant_place past l ≤ w.place
-answer-after [] r l w is = cc
-answer-after (e ∷ past) r l w is =
-    elim (cases_Bool (gives_line past e l)) [
-      | inl t ↦ let none : None ≡ Some w = rw t at is in cc
-      | inr f ↦ elim (answer_cases past e r l w f is) [
-        | inl old ↦ rw f (answer-after past r l w old)
-        | inr new ↦
-            let place : w.place ≡ length past = ap (λ (v : Answer). v.place) new.now in
-            let low = grant_place-low past l in
-            let most : grant_place past l ≤ w.place = omega arith in
-            rw f most
-      ]
-    ]
+pub answer-after : (h : Header) (past : Trace) → IsAccepted h past → (r l : ℕ) (x : Transaction) (w : Answer) → granted h past l ≡ Some x → answer_of past r l ≡ Some w
+    → grant_place past l ≤ w.place
+answer-after h past a r l x w g is =
+    since_answer h l r x w (λ t. grant_place t l ≤ w.place)
+    (λ past e a stays new now.
+    let place : w.place ≡ length past = ap (λ (v : Answer). v.place) new.now in
+    let low = grant_place-low past l in
+    let most : grant_place past l ≤ w.place = omega arith in
+    rw stays.gives most)
+    (λ past e a stays was before. rw stays.gives before) past a g is
 
 -- the line that an answer with data sends is the value at that point
-pub sent_value : (h : Header) (past : Trace) → IsAccepted h past → AllByRecursion InRange past → (r l : ℕ) (w : Answer) → answer_of past r l ≡ Some w
-    → transfers_data w.resp ≡ true → copy_of (at_point w.place past) r l ≡ value_of (at_point w.place past) l
-sent_value h [] a range r l w is sends = cc
-sent_value h (e ∷ past) a range r l w is sends =
-    elim (cases_Bool (gives_line past e l)) [
-      | inl t ↦ let none : None ≡ Some w = rw t at is in cc
-      | inr f ↦ elim (answer_cases past e r l w f is) [
-        | inl old ↦
-            let low = answer-before past r l w old in
-            subst (λ (t : Trace). copy_of t r l ≡ value_of t l) (sym (at_point-before e past w.place (omega arith))) (sent_value h past a.0 range.1 r l w old sends)
-        | inr new ↦
-            let n = new_answer h past e a r l w new in
-            let held : state_of h past r l ≢ I = λ gone. sends_held n.1.kind w.resp n.0 (rw gone at n.1.row) sends in
-            subst (λ (t : Trace). copy_of t r l ≡ value_of t l) (sym (at_point-last e past w.place (ap (λ (v : Answer). v.place) new.now)))
-            ((facts h past a.0 range.1).copies l r held)
-      ]
-    ]
+pub sent_value : (h : Header) (past : Trace) → IsAccepted h past → AllByRecursion InRange past → (r l : ℕ) (x : Transaction) (w : Answer) → granted h past l ≡ Some x
+    → answer_of past r l ≡ Some w → transfers_data w.resp ≡ true → copy_of (at_point w.place past) r l ≡ value_of (at_point w.place past) l
+sent_value h past a range r l x w g is sends =
+    since_answer h l r x w (λ t. AllByRecursion InRange t → copy_of (at_point w.place t) r l ≡ value_of (at_point w.place t) l)
+    (λ past e a stays new now range.
+    let n = new_answer h past e a r l w new in
+    let held : state_of h past r l ≢ I = λ gone. sends_held n.1.kind w.resp n.0 (rw gone at n.1.row) sends in
+    subst (λ (t : Trace). copy_of t r l ≡ value_of t l) (sym (at_point-last e past w.place (ap (λ (v : Answer). v.place) new.now))) ((facts h past a.0 range.1).copies l r held))
+    (λ past e a stays was before range.
+    let low = answer-before past r l w was in
+    subst (λ (t : Trace). copy_of t r l ≡ value_of t l) (sym (at_point-before e past w.place (omega arith))) (before range.1)) past a g is range
