@@ -1,18 +1,17 @@
 -- What the answers under a grant say of the states of the ports.
-use Rattle.std.proofs.Common.{◌≡◌, ◌≢◌, ℕ, Bool, true, false, not, ◌||◌, [], ◌∷◌, Some, None, refl, sym, ap, subst, ◌∙◌, inl, inr}
+use Rattle.std.proofs.Common.{◌≡◌, ◌≢◌, ℕ, Bool, true, false, not, ◌||◌, ◌∷◌, Some, refl, sym, ap, subst, ◌∙◌, inl, inr}
 use Rattle.std.proofs.lemmas.Bool.{and_parts, or_cases, or_right, cases_Bool, cases_eq}
-use Rattle.ace_model.proofs.Terms.{answers, more, passes, SnoopKind, LineState, I, UC, UD, SC, SD, passes_dirty, transfers_data, is_shared, Event, Cr, Header, is_unique, is_dirty, is_invalid, Answer}
+use Rattle.ace_model.proofs.Terms.{SnoopKind, LineState, I, passes_dirty, transfers_data, is_shared, Event, Cr, Header, is_unique, is_dirty, Answer}
 use Rattle.ace_model.proofs.Terms.{Transaction, Trace, snoop_of, has_outstanding_on, granted, answer_of, state_of, IsAccepted}
 use Rattle.ace_codes.specs.declared.kind.SnoopKind.TheVariants as snoop
-use Rattle.ace_model.proofs.Grants.SnoopAnswers.{since_answer, stays_less, Answering, answering_cr, NewAnswer, answer_cases, no_rise}
-use Rattle.ace_model.proofs.Grants.Stays.{Stays, granted_before}
-use Rattle.ace_model.proofs.Values.UpdateHolds.{keeps}
+use Rattle.ace_model.proofs.Grants.SnoopAnswers.{since_answer, stays_less, Answering, answering_cr, NewAnswer, no_rise}
+use Rattle.ace_model.proofs.Grants.Stays.{Stays}
 use Rattle.ace_model.proofs.Tables.States.{is_settled, invalidates, shares_line, Leaves, row_is}
 use Rattle.ace_model.proofs.Holders.Facts.{OneHolder}
 use Rattle.ace_model.proofs.Holders.Snoop.{less_cr, settled}
 use Rattle.ace_model.proofs.Holders.States.{less-clean}
 use Rattle.ace_model.proofs.Rules.Keeps.{accepted_keeps}
-use Rattle.ace_model.proofs.Holders.Rises.{state_moves, dirty_moves}
+use Rattle.ace_model.proofs.Holders.Rises.{dirty_moves}
 use Rattle.ace_model.proofs.Tables.SnoopRows.{is_make_invalid, dirty_sends, sends_held, passes_other}
 use Rattle.ace_model.proofs.Holders.Law.{accepted_holds}
 use Rattle.ace_model.proofs.General.Options.{Some-injective}

@@ -1,14 +1,14 @@
 -- A granted transaction begins, by the first transfer of a read or the M of a write, once its snoops are done.
-use Rattle.std.proofs.Common.{◌≡◌, ◌⊎◌, ℕ, Bool, true, false, not, if◌then◌else◌, ◌&&◌, ◌||◌, nat_eq, ◌∷◌, Some, refl, sym, ap, subst, ◌∙◌, inl, inr}
-use Rattle.std.proofs.lemmas.Bool.{and_parts, or_cases, cases_Bool, eqb-true}
-use Rattle.ace_model.proofs.Terms.{Channel, Read, Event, Ar, R, Aw, M, Header, Line, Transaction, Trace, implies, is_read, is_line, has_name, same_channel, transfers, outstanding, updates_memory}
+use Rattle.std.proofs.Common.{◌≡◌, ◌⊎◌, ℕ, Bool, true, false, not, ◌&&◌, ◌||◌, nat_eq, ◌∷◌, Some, refl, sym, ap, subst, ◌∙◌, inl, inr}
+use Rattle.std.proofs.lemmas.Bool.{not-false, and_parts, or_cases, cases_Bool, eqb-true}
+use Rattle.ace_model.proofs.Terms.{Channel, Read, Event, Ar, R, Aw, M, Header, Line, Transaction, Trace, implies, is_read, is_line, same_channel, transfers, outstanding, updates_memory}
 use Rattle.ace_model.proofs.Terms.{has_memory_write, is_burst_whole, is_granted, is_begun, has_passed_data, are_snoops_done, may_transfer, takes_passed, k24, may_write_memory, may_write_passed}
 use Rattle.ace_model.proofs.Terms.{may_write_data, is_write_due, is_update_due, IsAccepted}
+use Rattle.ace_model.proofs.Grants.Stays.{read_apart, stays_apart, Stays}
 use Rattle.ace_model.proofs.Trace.Looks.{is_read-is, same_channel-is}
 use Rattle.ace_model.proofs.Rules.Keeps.{accepted_keeps}
 use Rattle.ace_model.proofs.Holders.Address.{read_issued, write_issued, named_read}
 use Rattle.ace_model.proofs.Holders.Transfer.{MayTransfer, may}
-use Rattle.ace_model.proofs.Grants.Stays.{Stays, issued_apart}
 use Rattle.ace_model.proofs.Holders.Law.{accepted_holds}
 use Rattle.ace_model.proofs.General.Options.{Some-injective, is_some_and-at}
 use Rattle.ace_model.proofs.General.Booleans.{implies-at, else_of}
@@ -82,16 +82,12 @@ pub begins : (h : Header) (past : Trace) (e : Event) → IsAccepted h (e ∷ pas
 begins h past (Ar q j addr snoop dom bar lock) a l x s b =
     let e = Ar q j addr snoop dom bar lock in
     let y = read_issued past q j addr snoop dom bar lock in
-    let o = (accepted_holds h past a.0).grants l x s.was in
-    let apart : has_name y x.port x.chan x.id ≡ false = issued_apart h past e a x.port x.chan x.id x y o.0 refl in
-    inl (begun_same past (e ∷ past) x
-    (λ t. let named : has_name y x.port Read x.id ≡ false = ap (λ (c : Channel). has_name y x.port c x.id) (sym (is_read-is x.chan t)) ∙ apart in rw (named_read past q j addr snoop dom bar lock x.port x.id false named) refl)
+    let apart = stays_apart h past e a l x y s refl in
+    inl (begun_same past (e ∷ past) x (λ t. rw (named_read past q j addr snoop dom bar lock x.port x.id false (read_apart h past e a l x y s refl t)) refl)
     (λ f. rw apart refl) ∙ b)
 begins h past (Aw q j addr snoop dom bar) a l x s b =
     let e = Aw q j addr snoop dom bar in
-    let y = write_issued past q j addr snoop dom bar in
-    let o = (accepted_holds h past a.0).grants l x s.was in
-    let apart : has_name y x.port x.chan x.id ≡ false = issued_apart h past e a x.port x.chan x.id x y o.0 refl in
+    let apart = stays_apart h past e a l x (write_issued past q j addr snoop dom bar) s refl in
     inl (begun_same past (e ∷ past) x (λ t. refl) (λ f. rw apart refl) ∙ b)
 begins h past (R q j resp last word) a l x s b =
     let e = R q j resp last word in
@@ -105,13 +101,9 @@ begins h past (R q j resp last word) a l x s b =
             let line = (and_parts (is_line x) _ o.1).0 in
             let may_x : may_transfer h past x resp ≡ true = subst (λ y. may_transfer h past y resp ≡ true) m.1 (m.0.may (subst (λ (y : Transaction). is_line y ≡ true) (sym m.1) line)) in
             let b_read : not (nat_eq (transfers past x.port x.id) 0) ≡ false = rw reads at b in
-            inr (inl ((line_transfer h past x resp may_x).first (false_not (nat_eq (transfers past x.port x.id) 0) b_read)))
+            inr (inl ((line_transfer h past x resp may_x).first (not-false (nat_eq (transfers past x.port x.id) 0) b_read)))
       ]
     ]
-  where
-    false_not : (b : Bool) → not b ≡ false → b ≡ true
-    false_not true e = refl
-    false_not false e = cc
 begins h past (M q c j line) a l x s b =
     let e = M q c j line in
     let o = (accepted_holds h past a.0).grants l x s.was in
