@@ -1,8 +1,8 @@
 -- What the answers under a grant say of the states of the ports.
 use Rattle.std.proofs.Common.{◌≡◌, ◌≢◌, ℕ, Bool, true, false, not, ◌||◌, ◌∷◌, Some, refl, sym, ap, subst, ◌∙◌, inl, inr}
 use Rattle.std.proofs.lemmas.Bool.{and_parts, or_cases, or_right, cases_Bool, cases_eq}
-use Rattle.ace_model.proofs.Terms.{SnoopKind, LineState, I, passes_dirty, transfers_data, is_shared, Event, Cr, Header, is_unique, is_dirty, Answer}
-use Rattle.ace_model.proofs.Terms.{Transaction, Trace, snoop_of, has_outstanding_on, granted, answer_of, state_of, IsAccepted}
+use Rattle.ace_model.proofs.Terms.{SnoopKind, LineState, I, passes_dirty, transfers_data, is_shared, Event, Cr, Header, is_unique, is_dirty, Answer, Transaction, Trace, snoop_of, has_outstanding_on}
+use Rattle.ace_model.proofs.Terms.{granted, answer_of, state_of, IsAccepted}
 use Rattle.ace_codes.specs.declared.kind.SnoopKind.TheVariants as snoop
 use Rattle.ace_model.proofs.Grants.SnoopAnswers.{since_answer, stays_less, Answering, answering_cr, NewAnswer, no_rise}
 use Rattle.ace_model.proofs.Grants.Stays.{Stays}

@@ -1,10 +1,10 @@
 -- A line snoop that isn't answered yet is of the present grant, whose transaction hasn't begun, and its port has no other.
 use Rattle.std.proofs.Common.{le_refl, ◌≡◌, ◌⊎◌, ℕ, ◌+◌, ◌≤◌, Bool, true, false, not, if◌then◌else◌, ◌&&◌, ◌||◌, nat_eq, nat_le, nat_lt, [], ◌∷◌, length, Option, Some, None, is_none, slice_get, refl, sym, ap, subst, ◌∙◌, arith, inl, inr}
 use Rattle.std.proofs.lemmas.Bool.{or_parts, and_parts, and_from, or_cases, or_left, or_right, not-true, cases_Bool, eqb-true, eq-eqb, ltb-true}
-use Rattle.ace_model.proofs.Terms.{AwKind, SnoopKind, Read, Write, Event, R, Rk, B, Wk, Ac, Cr, Header, snoop_of_write, Snoop, Transaction, Trace, is_some_and, newer, is_update}
-use Rattle.ace_model.proofs.Terms.{has_write_data, beats_of, reads_a_line, is_read, is_line, read_kind, write_kind, snoop_of, snoop_kind_of, ended, transfers, acknowledgements, updates_memory}
-use Rattle.ace_model.proofs.Terms.{has_memory_write, snoop_at, snoops_of, snoops_a_line, answers, answered, is_snoop_on, gives_line, granted, grant_place, is_begun, is_snoop_to, was_snooped}
-use Rattle.ace_model.proofs.Terms.{answers_grant, answer_at, answer_of, owes_answer, owes_data, each_port, has_failed, is_port_done, may_transfer, has_snoop_code, may_snoop, may_snoop_for, IsAccepted}
+use Rattle.ace_model.proofs.Terms.{AwKind, SnoopKind, Read, Write, Event, R, Rk, B, Wk, Ac, Cr, Header, snoop_of_write, Snoop, Transaction, Trace, is_some_and, newer, is_update, has_write_data}
+use Rattle.ace_model.proofs.Terms.{beats_of, reads_a_line, is_read, is_line, read_kind, write_kind, snoop_of, snoop_kind_of, ended, transfers, acknowledgements, updates_memory, has_memory_write}
+use Rattle.ace_model.proofs.Terms.{snoop_at, snoops_of, snoops_a_line, answers, answered, is_snoop_on, gives_line, granted, grant_place, is_begun, is_snoop_to, was_snooped, answers_grant, answer_at}
+use Rattle.ace_model.proofs.Terms.{answer_of, owes_answer, owes_data, each_port, has_failed, is_port_done, has_snoop_code, may_snoop, may_snoop_for, IsAccepted}
 use Rattle.ace_codes.specs.declared.kind.AwKind.TheVariants as write
 use Rattle.ace_model.proofs.Holders.Acknowledge.{ends}
 use Rattle.ace_model.proofs.Trace.Looks.{has_name-is}
@@ -18,7 +18,7 @@ use Rattle.ace_model.proofs.Holders.Transfer.{ends_lite}
 use Rattle.ace_model.proofs.Holders.Rises.{ends_of}
 use Rattle.ace_model.proofs.Trace.WriteQueue.{EndsWrite, ends_write_of, ends_lite_written}
 use Rattle.ace_model.proofs.Grants.Stays.{granted_after, failed_stays, grant_place-low}
-use Rattle.ace_model.proofs.Grants.Begins.{MayBegin, begins, may_of, line_transfer}
+use Rattle.ace_model.proofs.Grants.Begins.{MayBegin, begins, may_of, line_due}
 use Rattle.ace_model.proofs.Holders.Law.{accepted_holds}
 use Rattle.ace_model.proofs.General.Options.{Some-injective, is_some_and-is}
 use Rattle.ace_model.proofs.General.Booleans.{implies-at, then_of}
@@ -130,8 +130,7 @@ module _ (h : Header) (past : Trace) where
       let lite = ends_lite h past q j resp last word z is in
       let one : z ≡ x = same_place past q x.port Read x.chan j x.id z x lite.1 (outstanding-named h past x.port x.chan x.id x o.0) same in
       let one' : m.one ≡ x = Some-injective m.one z (sym m.named ∙ lite.1) ∙ one in
-      let line = (and_parts (is_line x) _ o.1).0 in
-      let t = line_transfer h past x resp (subst (λ (y : Transaction). may_transfer h past y resp ≡ true) one' (m.may (subst (λ (y : Transaction). is_line y ≡ true) (sym one') line))) in
+      let t = line_due h past q j resp last word x a (m.out ∙ ap Some one') (and_parts (is_line x) _ o.1).0 in
       let name = has_name-is m.one q Read j (transaction_of-stands past q Read j m.one m.named).named in
       let reads : is_read x.chan ≡ true = ap (λ (y : Transaction). is_read y.chan) (sym one') ∙ ap is_read name.chan in
       elim (cases_Bool (nat_eq (transfers past x.port x.id) 0)) [

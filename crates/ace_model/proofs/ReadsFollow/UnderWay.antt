@@ -3,12 +3,12 @@ use Rattle.std.proofs.Common.{[], ap, Bool, None, Option, Some, false, if◌then
 use Rattle.std.proofs.Math.Bool.{and-false}
 use Rattle.std.proofs.lemmas.Bool.{and_from, and_parts, cases_Bool, cases_eq, eq-eqb, eqb-true, ne_eqb}
 use Rattle.ace_model.proofs.Terms.{Answer, Ar, Cr, Event, Header, IsAccepted, R, Read, Trace, Transaction, answer_at, answer_of, answers, answers_grant, are_snoops_done, at_point, copy_at_answer}
-use Rattle.ace_model.proofs.Terms.{copy_of, first_sender, gives_line, granted, is_begun, is_line, is_line_read_transaction, is_read, may_transfer, memory_at_first_beat, outstanding, reply_of}
+use Rattle.ace_model.proofs.Terms.{copy_of, first_sender, gives_line, granted, is_begun, is_line_read_transaction, is_read, memory_at_first_beat, outstanding, reply_of}
 use Rattle.ace_model.proofs.Terms.{sender_at, transfers, transfers_data}
 use Rattle.ace_model.proofs.General.Options.{Some-injective, newer-none}
 use Rattle.ace_model.proofs.Trace.Issued.{outstanding-name}
 use Rattle.ace_model.proofs.Grants.Stays.{gives_none, granted_after}
-use Rattle.ace_model.proofs.Grants.Begins.{may_of, line_transfer}
+use Rattle.ace_model.proofs.Grants.Begins.{line_due}
 use Rattle.ace_model.proofs.Grants.Granted.{granted_at}
 use Rattle.ace_model.proofs.Grants.Pending.{answering, snoops}
 use Rattle.ace_model.proofs.Values.Fetches.{issue_transfers}
@@ -51,10 +51,7 @@ pub record BeatDue (h : Header) (past : Trace) (p i : ℕ) (x : Transaction) : T
 pub beat_due : (h : Header) (past : Trace) (p i : ℕ) (x : Transaction) (e : Event) → IsAccepted h (e ∷ past) → BeatEvent e p i
     → outstanding h past p Read i ≡ Some x → is_line_read_transaction x ≡ true → BeatDue h past p i x
 beat_due h past p i x e a b o reads =
-    let m = may_of h past p i b.resp b.last b.word (subst (λ (v : Event). IsAccepted h (v ∷ past)) b.is a) in
-    let one : m.one ≡ x = Some-injective m.one x (sym m.out ∙ o) in
-    let may = subst (λ (y : Transaction). may_transfer h past y b.resp ≡ true) one (m.may (ap is_line one ∙ line_read-line x reads)) in
-    let t = line_transfer h past x b.resp may in
+    let t = line_due h past p i b.resp b.last b.word x (subst (λ (v : Event). IsAccepted h (v ∷ past)) b.is a) o (line_read-line x reads) in
     let n = outstanding-name h past p Read i x o in
     record {
       stands = granted_at h past a.0 p Read i x o t.stands;

@@ -14,7 +14,8 @@ use Rattle.ace_model.proofs.Rules.Keeps.{accepted_keeps}
 use Rattle.ace_model.proofs.Holders.Address.{named_read}
 use Rattle.ace_model.proofs.Holders.Facts.{OthersInvalid}
 use Rattle.ace_model.proofs.Trace.LineOnce.{outstanding_own}
-use Rattle.ace_model.proofs.Grants.Begins.{may_of, write_due}
+use Rattle.ace_model.proofs.Grants.Begins.{may_of}
+use Rattle.ace_model.proofs.Grants.Granted.{data_may}
 use Rattle.ace_model.proofs.Trace.WriteQueue.{issue_completes}
 use Rattle.ace_model.proofs.Holders.Law.{accepted_holds}
 use Rattle.ace_model.proofs.General.Options.{Some-injective, is_some_and-is}
@@ -217,7 +218,7 @@ module _ (h : Header) (past : Trace) where
       let early = and_parts (is_burst_whole past x) (not (has_memory_write past x.port x.chan x.id))
       (and_parts (is_burst_whole past x && not (has_memory_write past x.port x.chan x.id)) (is_write_due h past x || is_update_due h past x) by).0 in
       let due : is_write_due h past x ≡ true =
-      elim (write_due h past x may writes) [
+      elim (data_may h past x may writes).how [
         | inl d ↦ d
         | inr u ↦
             let k = stores_kind x parts.0 in
