@@ -1,8 +1,8 @@
 -- In an accepted trace all reads follow one order of the stores.
-use Rattle.std.proofs.Common.{false, [], ap, subst, Bool, Some, arith, if◌then◌else◌, inl, inr, nat_eq, refl, sym, true, ℕ, ◌<◌, ◌∙◌, ◌∷◌, ◌≡◌}
+use Rattle.std.proofs.Common.{false, [], ap, subst, Bool, Some, arith, if◌then◌else◌, inl, inr, nat_eq, refl, sym, true, ℕ, ◌∙◌, ◌∷◌, ◌≡◌}
 use Rattle.std.proofs.lemmas.Bool.{cases_Bool, cases_eq, eq-eqb}
 use Rattle.std.specs.List.{AllByRecursion}
-use Rattle.ace_model.proofs.Terms.{granted, Event, Header, InRange, IsAccepted, L, R, Read, ReadsFollow, Trace, Transaction, is_line_read_transaction, k18, outstanding, transaction_of, transfers}
+use Rattle.ace_model.proofs.Terms.{Event, Header, InRange, IsAccepted, L, R, Read, ReadsFollow, Trace, Transaction, is_line_read_transaction, outstanding, transaction_of, transfers}
 use Rattle.ace_model.proofs.Rules.Keeps.{accepted_keeps}
 use Rattle.ace_model.proofs.Holders.Transfer.{MayTransfer, may}
 use Rattle.ace_model.proofs.Trace.Places.{NewBeat, event_at-below, beat-below}

@@ -1,16 +1,17 @@
 -- Under the grant of a read of a line, while no port has sent data, memory was the value at a point since, or a port that holds the
 -- line dirty hasn't answered. Once the snoops of the read are done there is no such port.
-use Rattle.std.proofs.Common.{[], None, Option, Some, ap, arith, false, inl, inr, is_none, le_refl, length, nat_eq, option_and_then, refl, subst, sym, true, ℕ, ◌&&◌, ◌||◌, ◌∙◌, ◌∷◌, ◌≡◌, ◌≤◌, ◌⊎◌}
+use Rattle.std.proofs.Common.{[], None, Option, Some, ap, arith, false, inl, inr, le_refl, length, nat_eq, option_and_then, refl, subst, sym, true, ℕ, ◌&&◌, ◌∙◌, ◌∷◌, ◌≡◌, ◌≤◌, ◌⊎◌}
 use Rattle.std.proofs.lemmas.Bool.{or_left, and_from, and_parts, cases_Bool, eq-eqb, or_cases}
 use Rattle.std.specs.List.{AllByRecursion}
 use Rattle.ace_model.proofs.Terms.{Answer, ArKind, Channel, Cr, Event, HasDirtyHolder, Header, I, InRange, IsAccepted, IsValueSafe, Read, SnoopKind, Trace, Transaction, answer_of, answers_grant}
-use Rattle.ace_model.proofs.Terms.{are_snoops_done, at_point, data_answers, each_port, first_sender, gives_line, grant_place, granted, has_failed, has_passed_data, is_clean_unique, is_dirty}
-use Rattle.ace_model.proofs.Terms.{is_exclusive_store, is_line_read_transaction, is_make_unique, is_no_snoop, is_no_snoop_read, is_no_snoop_write, is_port_done, is_read, is_some_and}
+use Rattle.ace_model.proofs.Terms.{are_snoops_done, at_point, data_answers, first_sender, gives_line, grant_place, granted, has_passed_data, is_clean_unique, is_dirty}
+use Rattle.ace_model.proofs.Terms.{is_exclusive_store, is_line_read_transaction, is_make_unique, is_no_snoop, is_no_snoop_read, is_no_snoop_write, is_read, is_some_and}
 use Rattle.ace_model.proofs.Terms.{is_write_line_unique, memory_of, outstanding, passed_to, read_kind, reads_a_line, replaces_line, snoop_kind_of, snoop_of, snoop_of_read, state_of, transfers_data}
 use Rattle.ace_model.proofs.Terms.{value_of, write_kind}
 use Rattle.ace_codes.specs.declared.kind.ArKind.TheVariants as read
 use Rattle.ace_codes.specs.declared.kind.SnoopKind.TheVariants as snoop
-use Rattle.ace_model.proofs.General.Options.{Some-injective, is_some_and-is, none_is}
+use Rattle.ace_model.proofs.Grants.Begins.{done_cases}
+use Rattle.ace_model.proofs.General.Options.{Some-injective, is_some_and-is}
 use Rattle.ace_model.proofs.Trace.Growth.{at_point-before, at_point-end}
 use Rattle.ace_model.proofs.Trace.Issued.{outstanding-named, transaction_of-stands}
 use Rattle.ace_model.proofs.Tables.SnoopRows.{is_make_invalid, dirty_sends}
@@ -185,22 +186,20 @@ none-dirty h past a x g reads done q =
     let out : outstanding h past x.port Read x.id ≡ Some x = ap (λ (v : Channel). outstanding h past x.port v x.id) (sym (line_read-chan x reads)) ∙ s.0 in
     let stands = transaction_of-stands past x.port Read x.id x (outstanding-named h past x.port Read x.id x out) in
     let kind = is_some_and-is (read_kind x) reads_a_line reads in
-    elim (or_cases (is_none (snoop_of x) || has_failed past x) (each_port h.ports (is_port_done h past x)) done) [
-      | inr all ↦
+    elim (done_cases h past x done) [
+      | inl none_caused ↦
+          let none : snoop_of_read kind.0 ≡ None = sym (ap (λ o. snoop_kind_of o (write_kind x)) kind.1) ∙ none_caused in
+          let no_snoop : is_no_snoop x ≡ true =
+          or_left (is_some_and (read_kind x) is_no_snoop_read) (is_some_and (write_kind x) is_no_snoop_write) (rw kind.1 (unsnooped kind.0 kind.2 none)) in
+          not_dirty (no_snoop_unheld h past x q.port x.addr a (record { there = stands.there; before = stands.before }) s.1 no_snoop)
+      | inr (inl failed) ↦
+          let store = (and_parts x.lock (is_some_and (read_kind x) is_clean_unique) (and_parts (is_exclusive_store x) _ failed).0).1 in
+          clean_apart kind.0 kind.2 (rw kind.1 at store)
+      | inr (inr all) ↦
           elim (done_port h past x q.port f all (λ own. not_dirty (ap (λ v. state_of h past v x.addr) (sym own) ∙ empty_while_read h past a x.port x.id x out reads))) [
             | inl gone ↦ not_dirty gone
             | inr answer ↦ let is = answer.is in let none = q.unanswered in cc
           ]
-      | inl early ↦ elim (or_cases (is_none (snoop_of x)) (has_failed past x) early) [
-        | inl none_caused ↦
-            let none : snoop_of_read kind.0 ≡ None = sym (ap (λ o. snoop_kind_of o (write_kind x)) kind.1) ∙ none_is (snoop_of x) none_caused in
-            let no_snoop : is_no_snoop x ≡ true =
-            or_left (is_some_and (read_kind x) is_no_snoop_read) (is_some_and (write_kind x) is_no_snoop_write) (rw kind.1 (unsnooped kind.0 kind.2 none)) in
-            not_dirty (no_snoop_unheld h past x q.port x.addr a (record { there = stands.there; before = stands.before }) s.1 no_snoop)
-        | inr failed ↦
-            let store = (and_parts x.lock (is_some_and (read_kind x) is_clean_unique) (and_parts (is_exclusive_store x) _ failed).0).1 in
-            clean_apart kind.0 kind.2 (rw kind.1 at store)
-      ]
     ]
   where
     not_dirty : state_of h past q.port x.addr ≡ I → ⊥
