@@ -3,10 +3,10 @@ ghost use Rattle.std.specs.Prelude.{◌≡◌, ◌<◌, ◌≤◌, length, take}
 ghost use Rattle.std.specs.Io.KnownBytes.{Appends};
 ghost use Rattle.ace_io.specs.Faults.{Rose};
 
-use ace_io::Sink;
+use crate::Sink;
 
 /// Gives the text, piece by piece, up to its end or to a fault, and says how many bytes of it were given.
-pub(crate) fn give_all<K: Sink>(sink: &mut K, text: &[u8]) -> usize
+pub fn give_all<K: Sink>(sink: &mut K, text: &[u8]) -> usize
     ensures fits { result ≤ length text.now }
     ensures given { Appends (K.held sink.old) (K.held sink.new) (take result text.now) }
     ensures whole { result ≡ length text.now → K.faults sink.new ≡ K.faults sink.old }

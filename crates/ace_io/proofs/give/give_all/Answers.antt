@@ -3,7 +3,7 @@ use Rattle.std.proofs.lemmas.Grind.{common_steps}
 use Rattle.std.proofs.lemmas.List.{take_rest}
 use Rattle.std.proofs.Math.Seq.{take-add}
 use Rattle.std.proofs.KnownBytes.{Appends-trans}
-use Rattle.ace_writer.proofs.give.give_all.Goals as goal
+use Rattle.ace_io.proofs.give.give_all.Goals as goal
 
 pub loop-given-preserved : goal.loop-given-preserved
 loop-given-preserved g c = record {
