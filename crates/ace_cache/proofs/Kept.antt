@@ -1,11 +1,12 @@
 -- A cache stays one where a Way is taken out, put in front or marked.
 use Rattle.std.proofs.Common.{◌≡◌, ℕ, Bool, List, ◌∷◌, map, Some, arith}
+use Rattle.std.proofs.lemmas.Bool.Decides.{nat_tests}
 use Rattle.std.proofs.lemmas.List.{length-map}
 use Rattle.ace_codes.specs.declared.state.LineState.{LineState}
 use Rattle.ace_cache.specs.declared.way.Way.{Way}
 use Rattle.ace_cache.specs.Ways.{way_of, without, marked}
 use Rattle.ace_cache.specs.LineCache.{IsCache}
-use Rattle.ace_cache.proofs.Distinct.{address-found, way_of-without_same, AreDistinct-without, AreDistinct-marked, length-without, length-without_found}
+use Rattle.ace_cache.proofs.Distinct.{address-found, way_of-without, AreDistinct-without, AreDistinct-marked, length-without, length-without_found}
 
 pub IsCache-without : (ways : ℕ) (held : List Way) (addr : ℕ) → IsCache (record { ways = ways; held = held }) → IsCache (record { ways = ways; held = without held addr })
 IsCache-without ways held addr h = record {
@@ -21,7 +22,7 @@ IsCache-front ways held addr old new h found same = record {
   some_way = h.some_way;
   most_ways = h.most_ways;
   fitting = omega (arith, h.fitting, length-without_found held addr old found);
-  distinct = (rw (same, address-found held addr old found) (way_of-without_same held addr), AreDistinct-without held addr h.distinct);
+  distinct = (grind (arith, nat_tests, way_of-without held addr new.addr, address-found held addr old found, same), AreDistinct-without held addr h.distinct);
 }
 
 pub IsCache-marked : (ways : ℕ) (held : List Way) (addr : ℕ) (st : LineState) (busy : Bool) → IsCache (record { ways = ways; held = held }) → IsCache (record { ways = ways; held = map (marked addr st busy) held })
