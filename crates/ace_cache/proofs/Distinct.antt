@@ -1,5 +1,5 @@
 -- Lists of Ways with distinct addresses: what taking one out, putting it in front and marking it leave.
-use Rattle.std.proofs.Common.{◌≡◌, ℕ, ◌<◌, ◌≤◌, ◌==◌, if◌then◌else◌, Bool, List, [], ◌∷◌, length, map, Some, None, option_map, arith, refl}
+use Rattle.std.proofs.Common.{◌≡◌, ℕ, ◌<◌, ◌≤◌, ◌==◌, if◌then◌else◌, Bool, List, [], ◌∷◌, length, map, Some, None, IsSome, option_map, arith, refl}
 use Rattle.std.proofs.lemmas.Bool.Decides.{nat_tests}
 use Rattle.ace_codes.specs.declared.state.LineState.{LineState}
 use Rattle.ace_cache.specs.declared.way.Way.{Way}
@@ -29,9 +29,9 @@ pub length-without : (ways : List Way) (addr : ℕ) → length (without ways add
 length-without [] addr = omega arith
 length-without (w ∷ ways) addr = grind (arith, nat_tests, length-without ways addr)
 
-pub length-without_found : (ways : List Way) (addr : ℕ) (way : Way) → way_of ways addr ≡ Some way → length (without ways addr) < length ways
-length-without_found [] addr way h = grind (arith, nat_tests)
-length-without_found (w ∷ ways) addr way h = grind (arith, nat_tests, length-without ways addr, length-without_found ways addr way)
+pub length-without_found : (ways : List Way) (addr : ℕ) → IsSome (way_of ways addr) → length (without ways addr) < length ways
+length-without_found [] addr found = grind (arith, nat_tests)
+length-without_found (w ∷ ways) addr found = grind (arith, nat_tests, length-without ways addr, length-without_found ways addr)
 
 -- what a mark leaves at each address
 pub way_of-marked : (ways : List Way) (addr a : ℕ) (st : LineState) (busy : Bool) → way_of (map (marked addr st busy) ways) a ≡ option_map (marked addr st busy) (way_of ways a)
@@ -42,4 +42,4 @@ pub AreDistinct-marked : (ways : List Way) (addr : ℕ) (st : LineState) (busy :
 AreDistinct-marked [] addr st busy h = tt
 AreDistinct-marked (w ∷ ways) addr st busy h = grind (arith, nat_tests, AreDistinct-marked ways addr st busy h.1, way_of-marked ways addr w.addr st busy)
 
-pub ruleset length_steps = (length-without_found)
+pub ruleset found_steps = (address-found, length-without_found)

@@ -1,5 +1,5 @@
 -- What is found at each address after a touch and after a store.
-use Rattle.std.proofs.Common.{◌≡◌, ℕ, ◌==◌, if◌then◌else◌, List, [], ◌∷◌, ◌++◌, Option, Some, None, option_map, option_to_list, arith, refl}
+use Rattle.std.proofs.Common.{◌≡◌, ℕ, ◌==◌, if◌then◌else◌, List, ◌∷◌, ◌++◌, Option, Some, None, option_map, option_to_list, arith, refl}
 use Rattle.std.proofs.lemmas.Bool.Decides.{nat_tests}
 use Rattle.ace_event.specs.declared.line.Line.{Line}
 use Rattle.ace_cache.specs.declared.way.Way.{Way}

@@ -1,5 +1,5 @@
 -- What a victim is.
-use Rattle.std.proofs.Common.{◌≡◌, ℕ, if◌then◌else◌, Bool, true, false, not, List, [], ◌∷◌, reverse, find, Option, Some, None, option_map, All, arith, refl, sym, ap, ◌∙◌}
+use Rattle.std.proofs.Common.{◌≡◌, ℕ, if◌then◌else◌, true, false, not, List, [], ◌∷◌, reverse, find, Option, Some, None, option_map, All, arith, refl, sym, ap, ◌∙◌}
 use Rattle.std.specs.Option.{option_or}
 use Rattle.std.proofs.lemmas.Bool.Decides.{nat_tests}
 use Rattle.std.proofs.lemmas.Grind.{reverse_onto}
