@@ -12,6 +12,7 @@ use Rattle.ace_model.proofs.Trace.Served.{has_had-served, outstands}
 use Rattle.ace_model.proofs.Barriers.OrderPoints.{is_ordered-grown, completed-ordered}
 use Rattle.ace_model.proofs.Barriers.Pairs.{pairs-halves, pairs-grown, is_barrier_of-is, half-number}
 use Rattle.ace_model.proofs.General.Options.{Some-injective, is_some_and-is, is_none_or-at}
+use Rattle.ace_model.proofs.General.Lists.{list_all-at}
 use Rattle.ace_model.proofs.General.Booleans.{implies-at}
 
 -- where an event completed a barrier half, the half was there before it, and might be answered
@@ -108,11 +109,6 @@ answered-ordered : (h : Header) (past : Trace) (p k : ℕ) (b : Pair) (x : Trans
 answered-ordered h past p k b x complete =
     let s = has_had-served is_completion_event past b.read complete in
     subst (IsOrderedIn h p k b x) (sym s.split) (answered-ordered_at h s.later s.event s.before p k b x s.passes s.belongs)
-
-list_all-at : {A : Type 0} → (test : A → Bool) (xs : List A) (k : ℕ) (x : A) → list_all test xs ≡ true → slice_get xs k ≡ Some x → test x ≡ true
-list_all-at test [] k x all there = cc
-list_all-at test (y ∷ ys) zero x all there = subst (λ z. test z ≡ true) (Some-injective y x there) (and_parts (test y) (list_all test ys) all).0
-list_all-at test (y ∷ ys) (suc k) x all there = list_all-at test ys k x (and_parts (test y) (list_all test ys) all).1 there
 
 -- a grant comes after all that the barriers before it order
 granted-ordered : (h : Header) (past : Trace) (e : Event) → IsAccepted h (e ∷ past) → IsOrderedAt past e

@@ -2,10 +2,10 @@
 use Rattle.std.proofs.Common.{◌≡◌, ℕ, zero, suc, ◌<◌, true, ◌&&◌, ◌==◌, List, [], ◌∷◌, ◌++◌, length, Option, Some, None, slice_get, sym, ap, subst, ◌∙◌, arith, inl, inr}
 use Rattle.std.proofs.lemmas.Bool.{and_parts, cases_Bool, eqb-true}
 use Rattle.ace_model.proofs.Terms.{Event, Channel, Read, Write, Transaction, Trace, at_point, issued, same_channel, is_barrier_half, is_barrier_of, barrier_in, barriers, Pair, paired, pairs, number_of}
-use Rattle.ace_model.proofs.Trace.Growth.{slice_get-grown, at_point-before, at_point-end, at_point-grown, IsIssued, issued-new, issued-old}
+use Rattle.ace_model.proofs.Trace.Growth.{at_point-before, at_point-end, at_point-grown, IsIssued, issued-new, issued-old}
 use Rattle.ace_model.proofs.Trace.Issued.{issued-place}
 use Rattle.ace_model.proofs.Trace.Looks.{same_channel-is}
-use Rattle.ace_model.proofs.General.Lists.{slice_get-more}
+use Rattle.ace_model.proofs.General.Lists.{slice_get-grown, slice_get-more}
 use Rattle.ace_model.proofs.General.Options.{Some-injective}
 
 barrier_in-is : (o : Option Transaction) (p : ℕ) (c : Channel) (x : Transaction)

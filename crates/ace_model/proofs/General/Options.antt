@@ -1,5 +1,5 @@
 -- What a look that may find nothing says where it finds something.
-use Rattle.std.proofs.Common.{◌≡◌, Bool, true, Option, Some, None, is_some, is_none, refl, subst}
+use Rattle.std.proofs.Common.{◌≡◌, Bool, true, false, if◌then◌else◌, Option, Some, None, is_some, is_none, refl, subst}
 use Rattle.ace_model.proofs.Terms.{is_some_and, is_none_or}
 
 pub some_is : {A : Type 0} → (o : Option A) → is_some o ≡ true → (x : A) × (o ≡ Some x)
@@ -12,6 +12,11 @@ none_is (Some x) e = cc
 
 pub Some-injective : {A : Type 0} → (x y : A) → Some x ≡ Some y → x ≡ y
 Some-injective x y e = cc
+
+-- a value that is there only where the test says so
+pub some_if-is : {A : Type 0} → (b : Bool) (x y : A) → (if b then Some x else None) ≡ Some y → (b ≡ true) × (x ≡ y)
+some_if-is true x y e = (refl, cc)
+some_if-is false x y e = cc
 
 pub is_some_and-is : {A : Type 0} → (o : Option A) (test : A → Bool) → is_some_and o test ≡ true → (x : A) × (o ≡ Some x) × (test x ≡ true)
 is_some_and-is None test e = cc

@@ -7,13 +7,6 @@ use Rattle.ace_model.proofs.Trace.Issued.{issued-place, issued_at, transaction_o
 use Rattle.ace_model.proofs.General.Lists.{slice_get-more}
 use Rattle.ace_model.proofs.General.Options.{is_some_and-is}
 
--- an element of a list that grows at its end keeps its place
-pub slice_get-grown : {A : Type 0} → (xs : List A) (new : Option A) (k : ℕ) (z : A) → slice_get xs k ≡ Some z → slice_get (more xs new) k ≡ Some z
-slice_get-grown xs None k z e = e
-slice_get-grown [] (Some y) k z e = cc
-slice_get-grown (x ∷ xs) (Some y) zero z e = e
-slice_get-grown (x ∷ xs) (Some y) (suc k) z e = slice_get-grown xs (Some y) k z e
-
 -- the point after so many events is the same in the longer trace
 pub at_point-before : (e : Event) (past : Trace) (n : ℕ) → n ≤ length past → at_point n (e ∷ past) ≡ at_point n past
 at_point-before e past n low = let m : suc (length past) - n ≡ suc (length past - n) = omega arith in rw m refl
