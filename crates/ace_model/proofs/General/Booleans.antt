@@ -1,5 +1,5 @@
 -- What is true of any two Booleans.
-use Rattle.std.proofs.Common.{◌≡◌, Bool, true, false, refl}
+use Rattle.std.proofs.Common.{◌≡◌, ℕ, ◌+◌, ◌≤◌, if◌then◌else◌, arith, Bool, true, false, refl}
 use Rattle.ace_model.proofs.Terms.{same_test, implies}
 
 pub implies-at : (a b : Bool) → implies a b ≡ true → a ≡ true → b ≡ true
@@ -11,3 +11,8 @@ same_test-at true true e = refl
 same_test-at true false e = cc
 same_test-at false true e = cc
 same_test-at false false e = refl
+
+-- what is counted no less than one more
+pub above_count : (b : Bool) (count n : ℕ) → (if b then count + 1 else count) ≤ n → count ≤ n
+above_count true count n le = omega arith
+above_count false count n le = le

@@ -18,6 +18,11 @@ pub some_if-is : {A : Type 0} → (b : Bool) (x y : A) → (if b then Some x els
 some_if-is true x y e = (refl, cc)
 some_if-is false x y e = cc
 
+-- or only where it says no
+pub none_if-is : {A : Type 0} → (b : Bool) (o : Option A) (x : A) → (if b then None else o) ≡ Some x → (b ≡ false) × (o ≡ Some x)
+none_if-is true o x e = cc
+none_if-is false o x e = (refl, e)
+
 pub is_some_and-is : {A : Type 0} → (o : Option A) (test : A → Bool) → is_some_and o test ≡ true → (x : A) × (o ≡ Some x) × (test x ≡ true)
 is_some_and-is None test e = cc
 is_some_and-is (Some x) test e = (x, refl, e)

@@ -2,7 +2,7 @@
 use Rattle.std.proofs.Common.{◌≡◌, ℕ, ◌<◌, true, cond, nat_eq, [], ◌∷◌, length, Option, Some, None, sym, ap, ◌∙◌, arith, inl, inr}
 use Rattle.std.proofs.lemmas.Bool.{eq-eqb, ne_eqb}
 use Rattle.ace_model.proofs.Terms.{Event, Ar, R, Rk, Aw, W, B, Wk, Ac, Cr, Cd, G, M, S, L, D, Op, Channel, Header, Transaction, Trace, has_name, issued, ended, transaction_of, outstanding}
-use Rattle.ace_model.proofs.Trace.Looks.{newest_named-cases, newest_named-first, newest_named-older, without-some}
+use Rattle.ace_model.proofs.Trace.Looks.{Named, has_name-is, newest_named-cases, newest_named-first, newest_named-older, without-some}
 use Rattle.ace_model.proofs.General.Options.{Some-injective}
 
 -- a transaction knows how many events came before it
@@ -73,3 +73,7 @@ outstanding-named h (e ∷ past) p c i x o =
           newest_named-older (issued (length past) e) p c i (transaction_of past p c i) old.1
           ∙ outstanding-named h past p c i x (without-some (ended h past e) (outstanding h past p c i) x old.0).0
     ]
+
+-- and has the name
+pub outstanding-name : (h : Header) (past : Trace) (p : ℕ) (c : Channel) (i : ℕ) (x : Transaction) → outstanding h past p c i ≡ Some x → Named x p c i
+outstanding-name h past p c i x o = has_name-is x p c i (transaction_of-stands past p c i x (outstanding-named h past p c i x o)).named

@@ -37,6 +37,10 @@ has_name-is x p c i e =
     let b = and_parts (nat_eq x.port p) (same_channel x.chan c) a.0 in
     record { port = eqb-true x.port p b.0; chan = same_channel-is x.chan c b.1; id = eqb-true x.id i a.1 }
 
+-- what is asked of the name of a transaction
+pub at_name : {A : Type 0} → (look : ℕ → Channel → ℕ → A) (x : Transaction) (p : ℕ) (c : Channel) (i : ℕ) → Named x p c i → look x.port x.chan x.id ≡ look p c i
+at_name look x p c i n = ap (λ a. look a x.chan x.id) n.port ∙ ap (λ a. look p a x.id) n.chan ∙ ap (look p c) n.id
+
 pub has_name-self : (x : Transaction) → has_name x x.port x.chan x.id ≡ true
 has_name-self x = and_from _ _ (and_from _ _ (eq-eqb x.port x.port refl) (same_channel-self x.chan)) (eq-eqb x.id x.id refl)
 
