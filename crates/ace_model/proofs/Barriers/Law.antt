@@ -1,11 +1,11 @@
 -- In an accepted trace a barrier orders.
-use Rattle.std.proofs.Common.{◌≡◌, ℕ, zero, suc, ◌<◌, Bool, true, false, ◌&&◌, ◌==◌, nat_lt, List, [], ◌∷◌, ◌++◌, length, Some, slice_get, sym, ap, subst, ◌∙◌, arith, inl, inr}
+use Rattle.std.proofs.Common.{◌≡◌, ℕ, ◌<◌, Bool, true, false, ◌&&◌, ◌==◌, nat_lt, List, [], ◌∷◌, ◌++◌, length, Some, slice_get, sym, ap, subst, ◌∙◌, arith, inl, inr}
 use Rattle.std.proofs.lemmas.Bool.{and_parts, cases_Bool, eq-eqb, ltb-true, lt-ltb}
 use Rattle.std.specs.List.{list_all}
 use Rattle.ace_model.proofs.Terms.{Event, R, B, G, Read, Write, Header, Transaction, Trace, implies, is_line, is_transaction, outstanding, served_by, is_completion_event, is_completed, is_ordered}
 use Rattle.ace_model.proofs.Terms.{is_barrier_half, Pair, pairs, pair_of, number_of, place_of, is_pair_complete, is_synchronisation, is_before, is_awaited, may_answer, k12, may_be_granted, k18, is_due, k26}
 use Rattle.ace_model.proofs.Terms.{may_respond, k34, k35, may_answer_half, is_past_barriers, IsAccepted, IsOrderedBy, IsOrderedAt, BarrierHolds}
-use Rattle.ace_model.proofs.Trace.Growth.{issued_at-grown, IsIssued, transaction-issued, each_issued-at, has_had-later, accepted-before}
+use Rattle.ace_model.proofs.Trace.Growth.{issued_at-later, IsIssued, transaction-issued, each_issued-at, has_had-later, accepted-first}
 use Rattle.ace_model.proofs.Trace.Issued.{issued_at, transaction_of-stands, outstanding-named}
 use Rattle.ace_model.proofs.Rules.Keeps.{accepted_keeps}
 use Rattle.ace_model.proofs.Trace.Served.{has_had-served, outstands}
@@ -25,7 +25,7 @@ half-answered : (h : Header) (later : List Event) (e : Event) (before : Trace) (
     → issued_at (later ++ e ∷ before) x.place ≡ Some x → MightAnswer before x
 half-answered h later (R p i resp last word) before x accepted passes belongs there =
     let e : Event = R p i resp last word in
-    let here = accepted-before h later (e ∷ before) accepted in
+    let here = accepted-first h later (e ∷ before) accepted in
     let keeps : k18 h before e ≡ true = (accepted_keeps h before e here).rule_18 in
     let answers : k34 h before e ≡ true = (accepted_keeps h before e here).rule_34 in
     let o = outstands h later e before p Read i (is_due h before resp last) x keeps belongs there in
@@ -35,7 +35,7 @@ half-answered h later (R p i resp last word) before x accepted passes belongs th
     }
 half-answered h later (B p i resp) before x accepted passes belongs there =
     let e : Event = B p i resp in
-    let here = accepted-before h later (e ∷ before) accepted in
+    let here = accepted-first h later (e ∷ before) accepted in
     let keeps : k26 h before e ≡ true = (accepted_keeps h before e here).rule_26 in
     let answers : k34 h before e ≡ true = (accepted_keeps h before e here).rule_34 in
     let o = outstands h later e before p Write i (may_respond before) x (and_parts (resp == 0) _ keeps).1 belongs there in
@@ -88,7 +88,7 @@ answered-ordered_at h later e before p k b x passes belongs accepted there stand
     let bound : place_of b < length before = a.earlier in
     let low : x.place < length before = omega (below, bound, arith) in
     let early : issued_at before x.place ≡ Some x =
-    sym (issued_at-grown later (e ∷ before) x.place (omega arith) ∙ issued_at-grown (e ∷ []) before x.place low) ∙ stands.there in
+    sym (issued_at-later later e before x.place low) ∙ stands.there in
     let test : Transaction → Bool = λ y. implies (is_before y p b) (is_awaited before b y) in
     let awaited : is_awaited before b x ≡ true =
     implies-at (is_before x p b) (is_awaited before b x) (each_issued-at before test x.place x a.may early) first in

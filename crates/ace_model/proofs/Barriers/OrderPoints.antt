@@ -7,7 +7,7 @@ use Rattle.ace_model.proofs.Terms.{is_write_of_memory, updates_memory, evicts, i
 use Rattle.ace_model.proofs.Terms.{are_passed_data_whole, k18, is_due, is_next_transfer, may_transfer, k24, k26, may_respond, is_write_due, is_update_due, may_write_passed, may_write_data, may_write_memory}
 use Rattle.ace_model.proofs.Terms.{IsAccepted}
 use Rattle.ace_codes.specs.declared.kind.AwKind.TheVariants as kind
-use Rattle.ace_model.proofs.Trace.Growth.{has_had-grown, has_had-later, accepted-before}
+use Rattle.ace_model.proofs.Trace.Growth.{has_had-grown, has_had-later, accepted-first}
 use Rattle.ace_model.proofs.Trace.Issued.{issued_at}
 use Rattle.ace_model.proofs.Rules.Keeps.{accepted_keeps}
 use Rattle.ace_model.proofs.Trace.Looks.{same_channel-is, newest_named-older, newest_on-cases, without-some}
@@ -103,7 +103,7 @@ written-granted_at : (h : Header) (later : List Event) (e : Event) (before : Tra
     → is_write_of_memory e ≡ true → is_transaction (served_by before e) x ≡ true → WasGranted h x (later ++ e ∷ before)
 written-granted_at h later (M p c i line) before x passes belongs accepted there =
     let keeps : k24 h before (M p c i line) ≡ true =
-    (accepted_keeps h before (M p c i line) (accepted-before h later (M p c i line ∷ before) accepted)).rule_24 in
+    (accepted_keeps h before (M p c i line) (accepted-first h later (M p c i line ∷ before) accepted)).rule_24 in
     let o = outstands h later (M p c i line) before p c i (may_write_memory h before) x keeps belongs there in
     elim (may_write-cases h before x o.1) [
       | inl update ↦ inl update
@@ -194,14 +194,14 @@ completed-ordered_at : (h : Header) (later : List Event) (e : Event) (before : T
     → is_completion_event e ≡ true → is_transaction (served_by before e) x ≡ true → IsOrderedIn h x (later ++ e ∷ before)
 completed-ordered_at h later (R p i resp last word) before x passes belongs accepted there line =
     let e : Event = R p i resp last word in
-    let keeps : k18 h before e ≡ true = (accepted_keeps h before e (accepted-before h later (e ∷ before) accepted)).rule_18 in
+    let keeps : k18 h before e ≡ true = (accepted_keeps h before e (accepted-first h later (e ∷ before) accepted)).rule_18 in
     let o = outstands h later e before p Read i (is_due h before resp last) x keeps belongs there in
     let may = implies-at (is_line x) (may_transfer h before x resp) (and_parts (is_some_and (read_kind x) (is_next_transfer before x last)) _ o.1).1 line in
     let g = (and_parts (is_granted h before x) _ (and_parts (is_granted h before x && _) _ may).0).0 in
     ordered-by_grant (later ++ e ∷ before) x (read-no_update x o.0.name.chan) (has_had-later is_grant later e before x (is_granted-had h before x g))
 completed-ordered_at h later (B p i resp) before x passes belongs accepted there line =
     let e : Event = B p i resp in
-    let here = accepted-before h later (e ∷ before) accepted in
+    let here = accepted-first h later (e ∷ before) accepted in
     let keeps : k26 h before e ≡ true = (accepted_keeps h before e here).rule_26 in
     let o = outstands h later e before p Write i (may_respond before) x (and_parts (resp == 0) _ keeps).1 belongs there in
     is_ordered-grown later (e ∷ before) x (is_ordered-grown (e ∷ []) before x (response-ordered h before p i x here.0 o.0 o.1 line))

@@ -2,8 +2,9 @@
 use Rattle.std.proofs.Common.{◌≡◌, ℕ, zero, suc, ◌<◌, true, ◌&&◌, ◌==◌, List, [], ◌∷◌, ◌++◌, length, Option, Some, None, slice_get, sym, ap, subst, ◌∙◌, arith, inl, inr}
 use Rattle.std.proofs.lemmas.Bool.{and_parts, cases_Bool, eqb-true}
 use Rattle.ace_model.proofs.Terms.{Event, Channel, Read, Write, Transaction, Trace, at_point, issued, same_channel, is_barrier_half, is_barrier_of, barrier_in, barriers, Pair, paired, pairs, number_of}
-use Rattle.ace_model.proofs.Trace.Growth.{at_point-before, at_point-end, at_point-grown, IsIssued, issued-new, issued-old}
+use Rattle.ace_model.proofs.Trace.Growth.{at_point-before, at_point-grown, IsIssued, issued-new, issued-old}
 use Rattle.ace_model.proofs.Trace.Issued.{issued-place}
+use Rattle.ace_model.proofs.Trace.Places.{at_point-last}
 use Rattle.ace_model.proofs.Trace.Looks.{same_channel-is}
 use Rattle.ace_model.proofs.General.Lists.{slice_get-grown, slice_get-more}
 use Rattle.ace_model.proofs.General.Options.{Some-injective}
@@ -44,7 +45,7 @@ barriers-half (e ∷ past) p c k x there =
             stands = issued-new e past x b.0;
             barrier = b.1;
             number =
-                ap (λ (t : Trace). length (barriers t p c)) (at_point-before e past x.place (omega (arith, place)) ∙ at_point-end past x.place place) ∙ sym new.0;
+                ap (λ (t : Trace). length (barriers t p c)) (at_point-last e past x.place place) ∙ sym new.0;
           }
     ]
 

@@ -7,7 +7,7 @@ use Rattle.ace_model.proofs.Rules.Keeps.{accepted_keeps}
 use Rattle.ace_model.proofs.Trace.Looks.{has_name-is}
 use Rattle.ace_model.proofs.Trace.Growth.{issued_at-before, IsIssued}
 use Rattle.ace_model.proofs.Trace.Issued.{issued_at, transaction_of-stands, outstanding-named}
-use Rattle.ace_model.proofs.Trace.Points.{has_answered-grown}
+use Rattle.ace_model.proofs.Dvm.Messages.{has_answered-grown}
 use Rattle.ace_model.proofs.Holders.FirstTransfer.{each_at}
 use Rattle.ace_model.proofs.General.Options.{Some-injective, is_some_and-is, is_none_or-at}
 use Rattle.ace_model.proofs.General.Booleans.{implies-at}

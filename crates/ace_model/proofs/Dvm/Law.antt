@@ -6,7 +6,7 @@ use Rattle.ace_model.proofs.Terms.{messages_for, answered_messages, has_answered
 use Rattle.ace_model.proofs.Terms.{has_every_completion, DvmHolds, IsCompletedAt, IsDoneWith, IsAccepted}
 use Rattle.ace_model.proofs.Rules.Keeps.{accepted_keeps}
 use Rattle.ace_model.proofs.Trace.Issued.{issued-place}
-use Rattle.ace_model.proofs.Trace.Points.{fewer_messages}
+use Rattle.ace_model.proofs.Dvm.Messages.{fewer_messages}
 use Rattle.ace_model.proofs.Trace.Growth.{issued_at-before, IsIssued}
 use Rattle.ace_model.proofs.Dvm.Answered.{other_ace, complete_message-answered}
 use Rattle.ace_model.proofs.Dvm.Completed.{sync-completed}

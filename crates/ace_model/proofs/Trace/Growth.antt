@@ -1,7 +1,7 @@
 -- A trace that grows: what is in it stays, and what it has had it keeps.
-use Rattle.std.proofs.Common.{◌≡◌, ◌⊎◌, ℕ, zero, suc, ◌-◌, ◌<◌, ◌≤◌, Bool, true, false, not, ◌&&◌, nat_eq, List, [], ◌∷◌, ◌++◌, length, Option, Some, None, slice_get, refl, sym, ◌∙◌, arith, inl, inr, length-append}
+use Rattle.std.proofs.Common.{◌≡◌, ◌⊎◌, ℕ, zero, suc, ◌-◌, ◌<◌, ◌≤◌, Bool, true, false, not, ◌&&◌, nat_eq, List, [], ◌∷◌, ◌++◌, length, drop, Some, slice_get, refl, sym, ◌∙◌, arith, inl, inr, length-append}
 use Rattle.std.proofs.lemmas.Bool.{or_cases, or_left, or_right, cases_Bool, cases_eq, eq-eqb, ne_eqb}
-use Rattle.ace_model.proofs.Terms.{Event, Channel, Header, Transaction, Trace, at_point, is_some_and, more, issued, is_transaction, some_issued, transaction_of, transactions, served_by, has_had}
+use Rattle.ace_model.proofs.Terms.{Event, Cr, answers, Channel, Header, Transaction, Trace, at_point, is_some_and, issued, is_transaction, some_issued, transaction_of, transactions, served_by, has_had}
 use Rattle.ace_model.proofs.Terms.{each_issued, IsAccepted}
 use Rattle.ace_model.proofs.Trace.Issued.{issued-place, issued_at, transaction_of-stands}
 use Rattle.ace_model.proofs.General.Lists.{slice_get-more}
@@ -31,6 +31,9 @@ issued_at-grown [] before n low = refl
 issued_at-grown (e ∷ later) before n low =
     issued_at-before e (later ++ before) n (let m = length-append later before in omega arith) ∙ issued_at-grown later before n low
 
+pub issued_at-later : (later : List Event) (e : Event) (before : Trace) (n : ℕ) → n < length before → issued_at (later ++ e ∷ before) n ≡ issued_at before n
+issued_at-later later e before n low = issued_at-grown later (e ∷ before) n (omega arith) ∙ issued_at-before e before n low
+
 -- a transaction of the trace stands at its place
 pub record IsIssued (past : Trace) (x : Transaction) : Type 0 where
   pub there : issued_at past x.place ≡ Some x
@@ -43,7 +46,7 @@ issued-new e past x new =
 
 pub issued-old : (e : Event) (past : Trace) (x : Transaction) → IsIssued past x → IsIssued (e ∷ past) x
 issued-old e past x old =
-    record { there = issued_at-grown (e ∷ []) past x.place old.before ∙ old.there; before = let b = old.before in omega arith }
+    record { there = issued_at-before e past x.place old.before ∙ old.there; before = let b = old.before in omega arith }
 
 -- a transaction of the longer trace is the new one, or was there
 pub issued-cases : (e : Event) (past : Trace) (x : Transaction) → IsIssued (e ∷ past) x → (issued (length past) e ≡ Some x) ⊎ IsIssued past x
@@ -121,6 +124,21 @@ pub has_had-later : (test : Event → Bool) (later : List Event) (e : Event) (be
 has_had-later test later e before x had = has_had-grown test later (e ∷ before) x (has_had-grown test (e ∷ []) before x had)
 
 -- what came first in an accepted trace is accepted
-pub accepted-before : (h : Header) (later : List Event) (before : Trace) → IsAccepted h (later ++ before) → IsAccepted h before
-accepted-before h [] before a = a
-accepted-before h (e ∷ later) before a = accepted-before h later before a.0
+pub accepted-first : (h : Header) (later : List Event) (before : Trace) → IsAccepted h (later ++ before) → IsAccepted h before
+accepted-first h [] before a = a
+accepted-first h (e ∷ later) before a = accepted-first h later before a.0
+
+-- and so is the trace without its newest k events
+pub accepted-before : (h : Header) (k : ℕ) (past : Trace) → IsAccepted h past → IsAccepted h (drop k past)
+accepted-before h zero past a = a
+accepted-before h (suc k) [] a = a
+accepted-before h (suc k) (e ∷ past) a = accepted-before h k past a.0
+
+-- a longer trace has no fewer answers
+pub answers-grow : (e : Event) (past : Trace) (q : ℕ) → answers past q ≤ answers (e ∷ past) q
+answers-grow (Cr p resp st) past q =
+    elim (cases_Bool (nat_eq q p)) [
+      | inl t ↦ rw t (omega arith)
+      | inr f ↦ rw f (omega arith)
+    ]
+answers-grow _ past q = omega arith

@@ -1,8 +1,8 @@
 -- What an event did for a transaction: the event that a transaction has had, and the transaction that it names.
-use Rattle.std.proofs.Common.{◌≡◌, ℕ, ◌<◌, Bool, true, ◌&&◌, nat_eq, List, [], ◌∷◌, ◌++◌, length, Some, refl, sym, ap, subst, ◌∙◌, arith, inl, inr}
+use Rattle.std.proofs.Common.{◌≡◌, ℕ, Bool, true, ◌&&◌, List, [], ◌∷◌, ◌++◌, Some, refl, sym, ap, subst, ◌∙◌, inl, inr}
 use Rattle.std.proofs.lemmas.Bool.{and_parts, or_cases, eqb-true}
 use Rattle.ace_model.proofs.Terms.{Event, Channel, Header, Transaction, Trace, is_some_and, is_transaction, transaction_of, outstanding, served_by, has_had}
-use Rattle.ace_model.proofs.Trace.Growth.{issued_at-grown}
+use Rattle.ace_model.proofs.Trace.Growth.{issued_at-later}
 use Rattle.ace_model.proofs.Trace.Issued.{issued_at, transaction_of-stands, outstanding-named}
 use Rattle.ace_model.proofs.Trace.Looks.{Named, has_name-is}
 use Rattle.ace_model.proofs.General.Options.{Some-injective, is_some_and-is}
@@ -51,11 +51,8 @@ outstands h later e before p c i test x some belongs there =
     let z : Transaction = o.0 in
     let of_name : transaction_of before p c i ≡ Some z = outstanding-named h before p c i z o.1 in
     let stands = transaction_of-stands before p c i z of_name in
-    let same_number : nat_eq z.place x.place ≡ true = rw of_name at belongs in
-    let same_place : z.place ≡ x.place = eqb-true z.place x.place same_number in
-    let below : z.place < length before = stands.before in
-    let there_too : issued_at (later ++ e ∷ before) z.place ≡ Some z =
-    issued_at-grown later (e ∷ before) z.place (omega arith) ∙ issued_at-grown (e ∷ []) before z.place below ∙ stands.there in
+    let same_place : z.place ≡ x.place = eqb-true z.place x.place (rw of_name at belongs) in
+    let there_too = issued_at-later later e before z.place stands.before ∙ stands.there in
     let same : z ≡ x = Some-injective z x (sym there_too ∙ ap (issued_at (later ++ e ∷ before)) same_place ∙ there) in (
       record {
         out = o.1 ∙ ap Some same;

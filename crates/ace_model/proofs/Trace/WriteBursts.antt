@@ -1,5 +1,5 @@
 -- The burst of a write: which beat of it an event adds, and that it has four once it is whole.
-use Rattle.std.proofs.Common.{◌≡◌, ◌⊎◌, ℕ, zero, suc, ◌+◌, ◌-◌, ◌*◌, ◌/◌, ◌%◌, ◌<◌, ◌≤◌, Bool, true, false, ◌&&◌, nat_eq, nat_le, List, [], ◌∷◌, length, take, drop, Option, Some, None, slice_get, refl, sym, ap, ◌∙◌, arith, inl, inr, length-append}
+use Rattle.std.proofs.Common.{◌≡◌, ◌⊎◌, ℕ, suc, ◌+◌, ◌-◌, ◌*◌, ◌/◌, ◌%◌, ◌<◌, ◌≤◌, Bool, true, ◌&&◌, nat_eq, nat_le, List, [], ◌∷◌, length, take, drop, Option, Some, None, slice_get, refl, sym, ap, ◌∙◌, arith, inl, inr, length-append}
 use Rattle.std.proofs.lemmas.Bool.{and_parts, or_cases, cases_Bool, eqb-true, eq-eqb, leb-true}
 use Rattle.ace_model.proofs.Terms.{Event, W, Header, Transaction, Trace, at_point, is_some_and, more, has_write_data, issued, write_kind, data_write_in, data_write, data_writes, write_beats, next_write}
 use Rattle.ace_model.proofs.Terms.{next_write_beat, stands_before, is_burst_whole, Beat, beat_at, beats, burst_of, is_next_beat, IsAccepted}
@@ -7,10 +7,10 @@ use Rattle.ace_model.proofs.Trace.Growth.{at_point-before, IsIssued, issued-case
 use Rattle.ace_model.proofs.Trace.Places.{at_point-last}
 use Rattle.std.proofs.lemmas.List.{length-drop}
 use Rattle.std.proofs.lemmas.Option.{slice_get_within}
-use Rattle.ace_model.proofs.Trace.Issued.{issued_at, issued-place}
+use Rattle.ace_model.proofs.Trace.Issued.{issued-place}
 use Rattle.ace_model.proofs.General.Lists.{slice_get-take, slice_get-drop, slice_get-within_take, start-more, start-length, slice_get-grown, slice_get-more, slice_get-at_end}
 use Rattle.ace_model.proofs.Rules.Keeps.{accepted_keeps}
-use Rattle.ace_model.proofs.General.Options.{some_if-is, Some-injective, is_some_and-is}
+use Rattle.ace_model.proofs.General.Options.{some_if-is, is_some_and-is}
 
 -- where its beats begin among those of its port
 abbrev pub start_of : Trace → Transaction → ℕ
