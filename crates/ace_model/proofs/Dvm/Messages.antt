@@ -1,5 +1,5 @@
 -- The messages for a port at an earlier point: they are the first of those at a later one, and what was answered stays so.
-use Rattle.std.proofs.Common.{◌≡◌, ℕ, zero, suc, ◌+◌, ◌-◌, ◌≤◌, true, ◌&&◌, not, nat_eq, [], ◌∷◌, length, drop, ap, ◌∙◌, arith}
+use Rattle.std.proofs.Common.{◌≡◌, List, ◌++◌, length-append, ℕ, zero, suc, ◌+◌, ◌-◌, ◌≤◌, true, ◌&&◌, not, nat_eq, [], ◌∷◌, length, drop, ap, ◌∙◌, arith}
 use Rattle.std.proofs.lemmas.Bool.{ltb-true, lt-ltb}
 use Rattle.std.proofs.lemmas.List.{drop-drop, length-drop}
 use Rattle.ace_model.proofs.Terms.{Event, Transaction, Trace, at_point, issued, transactions, snoops_of, answers, snoop_at, is_message, messages_for, forwards_message, answered_messages}
@@ -49,3 +49,10 @@ has_answered-grown e past x q le a =
     let before = ltb-true (length (messages_for (at_point x.place past) q)) (answered_messages past q) a in
     let more = answered-grow e past q in
     lt-ltb _ _ (rw (at_point-before e past x.place le) (omega arith))
+
+pub has_answered-later : (later : List Event) (before : Trace) (x : Transaction) (q : ℕ) → x.place ≤ length before → has_answered before x q ≡ true
+    → has_answered (later ++ before) x q ≡ true
+has_answered-later [] before x q le a = a
+has_answered-later (e ∷ later) before x q le a =
+    let long = length-append later before in
+    has_answered-grown e (later ++ before) x q (omega arith) (has_answered-later later before x q le a)

@@ -20,6 +20,9 @@ at_point-grown [] before n low = refl
 at_point-grown (e ∷ later) before n low =
     at_point-before e (later ++ before) n (let m = length-append later before in omega arith) ∙ at_point-grown later before n low
 
+pub at_point-later : (later : List Event) (e : Event) (before : Trace) (n : ℕ) → n ≤ length before → at_point n (later ++ e ∷ before) ≡ at_point n before
+at_point-later later e before n low = at_point-grown later (e ∷ before) n (omega arith) ∙ at_point-before e before n low
+
 -- an earlier transaction of a longer trace was there
 pub issued_at-before : (e : Event) (past : Trace) (n : ℕ) → n < length past → issued_at (e ∷ past) n ≡ issued_at past n
 issued_at-before e past n low = rw (ne_eqb (length past) n (λ q. absurd (omega (arith, q)))) refl
