@@ -1,11 +1,11 @@
 -- The first break that the definition computes is the one that its sentence names.
-use Rattle.std.proofs.Common.{◌≡◌, subst, ◌⊎◌, ℕ, zero, suc, ◌+◌, ◌<◌, ◌≤◌, true, List, [], ◌∷◌, ◌++◌, length, take, slice_get, reverse, Option, Some, None, refl, arith, inl, inr, ap, sym, ◌∙◌, append_assoc, append-nil}
+use Rattle.std.proofs.Common.{◌≡◌, subst, ◌⊎◌, ℕ, zero, suc, ◌+◌, ◌<◌, true, List, [], ◌∷◌, ◌++◌, length, take, slice_get, reverse, Option, Some, None, refl, arith, inl, inr, ap, sym, ◌∙◌, append_assoc, append-nil}
 use Rattle.std.proofs.lemmas.Bool.{cases_lt}
 use Rattle.std.proofs.lemmas.List.{reverse-append}
 use mathlib.Core.List.{reverse_aux}
 use Rattle.ace_model.proofs.Terms.{Event, Header, Break, Trace, Rule, AreInOrder, breaks_of, least_of, IsAcceptedBy, break_or, first_break_after, first_break_by, BreaksAt, FirstBreakBy}
 use Rattle.ace_model.proofs.General.Options.{Some-injective}
-use Rattle.ace_model.proofs.Rules.Least.{IsLeast, least_of_is_least, none_is_broken}
+use Rattle.ace_model.proofs.Rules.Least.{least_of_is_least, none_is_broken}
 
 -- the break is that of the first event, or a later one
 now_or_later : (n : ℕ) (o : Option ℕ) (later : Option Break) (b : Break) → break_or n o later ≡ Some b → ((o ≡ Some b.rule) × (b.index ≡ n)) ⊎ ((o ≡ None) × (later ≡ Some b))

@@ -1,5 +1,5 @@
 -- The first rule of a list in order that an event breaks is the least.
-use Rattle.std.proofs.Common.{◌≡◌, ◌⊎◌, ℕ, ◌+◌, ◌≤◌, Bool, true, false, not, ◌&&◌, ◌||◌, ◌==◌, nat_le, if◌then◌else◌, List, [], ◌∷◌, Option, Some, None, refl, arith, inl, inr}
+use Rattle.std.proofs.Common.{◌≡◌, ℕ, ◌+◌, ◌≤◌, true, false, not, ◌&&◌, ◌==◌, nat_le, List, [], ◌∷◌, Some, None, refl, arith, inl, inr}
 use Rattle.std.proofs.lemmas.Bool.{cases_Bool, or_left, or_right, and_parts, and_from, or_cases, eqb-true, eq-eqb, leb-true, le-leb}
 use Rattle.ace_model.proofs.Terms.{Event, Header, Trace, Rule, rise_from, AreInOrder, breaks_of, least_of}
 use Rattle.ace_model.proofs.General.Options.{Some-injective}

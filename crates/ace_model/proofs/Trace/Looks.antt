@@ -1,16 +1,9 @@
 -- What the small tests of the looks at a trace say.
 use Rattle.std.proofs.Common.{◌≡◌, ◌≢◌, ◌⊎◌, ℕ, true, false, ◌&&◌, nat_eq, Option, Some, None, refl, sym, ap, subst, ◌∙◌, inl, inr}
 use Rattle.std.proofs.lemmas.Bool.{and_parts, and_from, cases_Bool, eqb-true, eq-eqb}
-use Rattle.ace_model.proofs.Terms.{LineState, I, UC, UD, SC, SD, Channel, Read, Write, Transaction, is_invalid, is_read, same_channel, has_name, is_named, is_on}
+use Rattle.ace_model.proofs.Terms.{Channel, Read, Write, Transaction, is_read, same_channel, has_name, is_named, is_on}
 use Rattle.ace_model.proofs.Terms.{is_some_on, newest_named, without, newest_on}
 use Rattle.ace_model.proofs.General.Options.{Some-injective}
-
-pub is_invalid-is : (st : LineState) → is_invalid st ≡ true → st ≡ I
-is_invalid-is I e = refl
-is_invalid-is UC e = cc
-is_invalid-is UD e = cc
-is_invalid-is SC e = cc
-is_invalid-is SD e = cc
 
 pub is_read-is : (c : Channel) → is_read c ≡ true → c ≡ Read
 is_read-is Read e = refl
