@@ -1,3 +1,4 @@
+pub mod LineRow
 pub mod ReadEnds
 pub mod SnoopRows
 pub mod States

@@ -3,7 +3,6 @@ pub mod Issued
 pub mod LineOnce
 pub mod Looks
 pub mod Places
-pub mod Points
 pub mod Served
 pub mod WriteBursts
 pub mod WriteQueue

@@ -9,7 +9,7 @@ use Rattle.ace_codes.specs.declared.kind.AwKind.TheVariants as write
 use Rattle.ace_model.proofs.Trace.Looks.{has_name-is}
 use Rattle.ace_model.proofs.Trace.Issued.{same_place, outstanding-named, transaction_of-stands}
 use Rattle.ace_model.proofs.General.Lists.{slice_get-more}
-use Rattle.ace_model.proofs.Trace.Points.{answers-grow}
+use Rattle.ace_model.proofs.Trace.Growth.{answers-grow}
 use Rattle.ace_model.proofs.Rules.Keeps.{accepted_keeps}
 use Rattle.ace_model.proofs.Holders.Grant.{is_on-addr}
 use Rattle.ace_model.proofs.Holders.FirstTransfer.{each_at}

@@ -7,12 +7,11 @@ use Rattle.ace_model.proofs.Terms.{answer_of, owes_answer, owes_data, each_port,
 use Rattle.ace_model.proofs.Terms.{is_port_done, are_snoops_done, has_upper_bits, fits_kind, must_be_shared, takes_passed}
 use Rattle.ace_codes.specs.declared.kind.ArKind.TheVariants as read
 use Rattle.ace_codes.specs.declared.kind.SnoopKind.TheVariants as snoop
-use Rattle.ace_model.proofs.Trace.Looks.{is_invalid-is}
-use Rattle.ace_model.proofs.Tables.States.{not_more, invalidates, shares_line}
+use Rattle.ace_model.proofs.Tables.States.{invalidates, shares_line, is_invalid-is}
 use Rattle.ace_model.proofs.Tables.ReadEnds.{takes_alone, takes_shared}
 use Rattle.ace_model.proofs.Holders.Facts.{OthersInvalid, OthersNotUnique, AllSettled, OneHolder}
 use Rattle.ace_model.proofs.General.Options.{Some-injective, some_is, is_some_and-is, is_none_or-at}
-use Rattle.ace_model.proofs.General.Booleans.{implies-at}
+use Rattle.ace_model.proofs.General.Booleans.{implies-at, not_more}
 
 pub each_at : (n : ℕ) (test : ℕ → Bool) (r : ℕ) → each_port n test ≡ true → r < n → test r ≡ true
 each_at zero test r e l = absurd (omega arith)

@@ -7,8 +7,7 @@ use Rattle.ace_codes.specs.declared.kind.ArKind.TheVariants as read
 use Rattle.ace_model.proofs.Trace.Growth.{IsIssued, issued-old, issued-cases, named-issued, each_issued-at}
 use Rattle.ace_model.proofs.Trace.Issued.{outstanding-named}
 use Rattle.ace_model.proofs.Rules.Keeps.{Keeps, accepted_keeps}
-use Rattle.ace_model.proofs.Trace.Looks.{is_invalid-is}
-use Rattle.ace_model.proofs.Tables.States.{Lessens-self}
+use Rattle.ace_model.proofs.Tables.States.{Lessens-self, is_invalid-is}
 use Rattle.ace_model.proofs.Tables.ReadEnds.{takes_alone, takes_shared}
 use Rattle.ace_model.proofs.Holders.States.{LessenedAt, less-lessens}
 use Rattle.ace_model.proofs.Holders.Stores.{less_s, lessened_d}

@@ -3,9 +3,10 @@ use Rattle.std.proofs.Common.{◌≡◌, ℕ, Bool, true, false, if◌then◌els
 use Rattle.std.proofs.lemmas.Bool.{and_parts, cases_Bool}
 use Rattle.ace_model.proofs.Terms.{SnoopKind, LineState, I, UC, UD, SC, SD, passes_dirty, is_shared, Header, Event, Transaction, Trace, is_some_and, is_unique, is_dirty, first_resp, granted, has_failed}
 use Rattle.ace_model.proofs.Terms.{state_of, UniqueNow, OneDirtyNow}
-use Rattle.ace_model.proofs.Tables.States.{lessens, cleans, Lessens, lessens-is, not_more, Leaves}
+use Rattle.ace_model.proofs.Tables.States.{lessens, cleans, Lessens, lessens-is, Leaves}
 use Rattle.ace_model.proofs.Tables.ReadEnds.{takes_alone}
 use Rattle.ace_model.proofs.Holders.Facts.{Arrives, OutsideInvalid}
+use Rattle.ace_model.proofs.General.Booleans.{not_more}
 
 -- the event lessens each port's state of the line
 abbrev pub LessenedAt : Header → Trace → Event → ℕ → Type 0

@@ -4,7 +4,7 @@ use Rattle.std.proofs.lemmas.Bool.{cases_Bool, eqb-true, not-true}
 use Rattle.ace_model.proofs.Terms.{I, is_invalid, Event, L, R, G, Read, Header, Transaction, Trace, event_at, at_point, issued, outstanding, state_of, k30, k5, k18, IsLoad, IsBeat, IsGrantOf, HasBeat}
 use Rattle.ace_model.proofs.Terms.{IsReadBy, IsAccepted}
 use Rattle.ace_model.proofs.Trace.Growth.{at_point-before, issued_at-before}
-use Rattle.ace_model.proofs.Trace.Points.{accepted-before}
+use Rattle.ace_model.proofs.Trace.Growth.{accepted-before}
 use Rattle.ace_model.proofs.Trace.Issued.{issued_at, transaction_of-stands}
 use Rattle.ace_model.proofs.Rules.Keeps.{accepted_keeps}
 use Rattle.ace_model.proofs.Holders.Transfer.{may}

@@ -6,10 +6,10 @@ use Rattle.ace_model.proofs.Terms.{AwKind, Write, Event, Ar, Aw, W, Header, same
 use Rattle.ace_model.proofs.Terms.{write_kind, updates_memory, data_write, data_write_in, data_writes, write_beats, next_write, next_write_beat, stands_before, is_burst_whole, copy_of, word_of, Beat}
 use Rattle.ace_model.proofs.Terms.{beat_at, beats, burst_of, burst_line, k11, is_next_beat, fits_write, full_beat, IsAccepted}
 use Rattle.ace_codes.specs.declared.kind.AwKind.TheVariants as write
-use Rattle.ace_model.proofs.Trace.Growth.{issued-cases, IsIssued, issued-new, issued-old, at_point-before, slice_get-grown}
+use Rattle.ace_model.proofs.Trace.Growth.{issued-cases, IsIssued, issued-new, issued-old, at_point-before}
 use Rattle.ace_model.proofs.Trace.Issued.{issued-place, outstanding-named, transaction_of-stands}
 use Rattle.ace_model.proofs.Rules.Keeps.{accepted_keeps}
-use Rattle.ace_model.proofs.General.Lists.{slice_get-more, slice_get-at_end}
+use Rattle.ace_model.proofs.General.Lists.{slice_get-grown, slice_get-more, slice_get-at_end}
 use Rattle.ace_model.proofs.Trace.Places.{at_point-last}
 use Rattle.ace_model.proofs.ReadsFollow.Outstanding.{outstanding-cases}
 use Rattle.ace_model.proofs.ReadsFollow.UpdateCopy.{Updates, update-named, copy-stays}

@@ -1,16 +1,9 @@
 -- What the small tests of the looks at a trace say.
 use Rattle.std.proofs.Common.{◌≡◌, ◌≢◌, ◌⊎◌, ℕ, true, false, ◌&&◌, nat_eq, Option, Some, None, refl, sym, ap, subst, ◌∙◌, inl, inr}
 use Rattle.std.proofs.lemmas.Bool.{and_parts, and_from, cases_Bool, eqb-true, eq-eqb}
-use Rattle.ace_model.proofs.Terms.{LineState, I, UC, UD, SC, SD, Channel, Read, Write, Transaction, is_invalid, is_read, same_channel, has_name, is_named, is_on}
+use Rattle.ace_model.proofs.Terms.{Channel, Read, Write, Transaction, is_read, same_channel, has_name, is_named, is_on}
 use Rattle.ace_model.proofs.Terms.{is_some_on, newest_named, without, newest_on}
 use Rattle.ace_model.proofs.General.Options.{Some-injective}
-
-pub is_invalid-is : (st : LineState) → is_invalid st ≡ true → st ≡ I
-is_invalid-is I e = refl
-is_invalid-is UC e = cc
-is_invalid-is UD e = cc
-is_invalid-is SC e = cc
-is_invalid-is SD e = cc
 
 pub is_read-is : (c : Channel) → is_read c ≡ true → c ≡ Read
 is_read-is Read e = refl
@@ -36,6 +29,10 @@ has_name-is x p c i e =
     let a = and_parts (nat_eq x.port p && same_channel x.chan c) (nat_eq x.id i) e in
     let b = and_parts (nat_eq x.port p) (same_channel x.chan c) a.0 in
     record { port = eqb-true x.port p b.0; chan = same_channel-is x.chan c b.1; id = eqb-true x.id i a.1 }
+
+-- what is asked of the name of a transaction
+pub at_name : {A : Type 0} → (look : ℕ → Channel → ℕ → A) (x : Transaction) (p : ℕ) (c : Channel) (i : ℕ) → Named x p c i → look x.port x.chan x.id ≡ look p c i
+at_name look x p c i n = ap (λ a. look a x.chan x.id) n.port ∙ ap (λ a. look p a x.id) n.chan ∙ ap (look p c) n.id
 
 pub has_name-self : (x : Transaction) → has_name x x.port x.chan x.id ≡ true
 has_name-self x = and_from _ _ (and_from _ _ (eq-eqb x.port x.port refl) (same_channel-self x.chan)) (eq-eqb x.id x.id refl)

@@ -6,8 +6,7 @@ use Rattle.ace_model.proofs.Terms.{ArKind, LineState, I, UC, UD, SC, SD, passes_
 use Rattle.ace_model.proofs.Terms.{is_unique, Transaction, Trace, is_some_and, is_make_unique, beats_of, is_granted_write, is_on, write_kind, outstanding, transaction_of, transfers, first_resp, has_failed}
 use Rattle.ace_model.proofs.Terms.{state_of, is_line_read_transaction, copy_of, value_of, IsAccepted, AreCopiesTrue}
 use Rattle.ace_codes.specs.declared.kind.ArKind.TheVariants as read
-use Rattle.ace_model.proofs.Trace.Looks.{is_invalid-is}
-use Rattle.ace_model.proofs.Tables.States.{all_among}
+use Rattle.ace_model.proofs.Tables.States.{all_among, is_invalid-is}
 use Rattle.ace_model.proofs.Holders.Acknowledge.{is_named_by_rk}
 use Rattle.ace_model.proofs.Holders.Rises.{state_moves, stays_empty}
 use Rattle.ace_model.proofs.Grants.Begins.{may_of}

@@ -1,19 +1,13 @@
--- A trace as it was at an earlier point: its messages are the first of the later trace, and its answers are among the later.
-use Rattle.std.proofs.Common.{◌≡◌, ℕ, zero, suc, ◌+◌, ◌-◌, ◌≤◌, true, ◌&&◌, not, nat_eq, [], ◌∷◌, length, drop, ap, ◌∙◌, arith, inl, inr}
-use Rattle.std.proofs.lemmas.Bool.{cases_Bool, ltb-true, lt-ltb}
+-- The messages for a port at an earlier point: they are the first of those at a later one, and what was answered stays so.
+use Rattle.std.proofs.Common.{◌≡◌, List, ◌++◌, length-append, ℕ, zero, suc, ◌+◌, ◌-◌, ◌≤◌, true, ◌&&◌, not, nat_eq, [], ◌∷◌, length, drop, ap, ◌∙◌, arith}
+use Rattle.std.proofs.lemmas.Bool.{ltb-true, lt-ltb}
 use Rattle.std.proofs.lemmas.List.{drop-drop, length-drop}
-use Rattle.ace_model.proofs.Terms.{Event, Cr, Header, Transaction, Trace, at_point, issued, transactions, snoops_of, answers, snoop_at, is_message, messages_for, forwards_message, answered_messages}
-use Rattle.ace_model.proofs.Terms.{has_answered, IsAccepted}
-use Rattle.ace_model.proofs.Trace.Growth.{at_point-before}
+use Rattle.ace_model.proofs.Terms.{Event, Transaction, Trace, at_point, issued, transactions, snoops_of, answers, snoop_at, is_message, messages_for, forwards_message, answered_messages}
+use Rattle.ace_model.proofs.Terms.{has_answered}
+use Rattle.ace_model.proofs.Trace.Growth.{at_point-before, answers-grow}
 use Rattle.ace_model.proofs.General.Lists.{IsStart, start-self, start-trans, start-more, start-filter, start-length, count_by-take}
 
--- the trace without its newest k events is accepted too
-pub accepted-before : (h : Header) (k : ℕ) (past : Trace) → IsAccepted h past → IsAccepted h (drop k past)
-accepted-before h zero past a = a
-accepted-before h (suc k) [] a = a
-accepted-before h (suc k) (e ∷ past) a = accepted-before h k past a.0
-
--- its transactions are the first
+-- the transactions without those of the newest k events are the first
 pub transactions-before : (k : ℕ) (past : Trace) → IsStart (transactions (drop k past)) (transactions past)
 transactions-before zero past = start-self (transactions past)
 transactions-before (suc k) [] = start-self []
@@ -21,7 +15,7 @@ transactions-before (suc k) (e ∷ past) =
     start-trans (transactions (drop k past)) (transactions past) (transactions (e ∷ past)) (transactions-before k past)
     (start-more (transactions past) (issued (length past) e))
 
--- and so are its messages
+-- and so are the messages
 pub messages-before : (k : ℕ) (past : Trace) (q : ℕ) → IsStart (messages_for (drop k past) q) (messages_for past q)
 messages-before k past q =
     start-filter (λ x. is_message x && not (nat_eq x.port q)) (transactions (drop k past)) (transactions past) (transactions-before k past)
@@ -33,13 +27,6 @@ fewer_messages k m past q le =
     let fewer = start-length (messages_for (drop (m - k) (drop k past)) q) (messages_for (drop k past) q) (messages-before (m - k) (drop k past) q) in
     rw (← further) fewer
 
--- the point before the newest event
-pub at_point-now : (e : Event) (past : Trace) → at_point (length past) (e ∷ past) ≡ past
-at_point-now e past = ap (λ k. drop k (e ∷ past)) (one (length past))
-  where
-    one : (m : ℕ) → suc m - m ≡ suc zero
-    one m = omega arith
-
 -- a point of the trace as it was at a point has no more messages than that point of the trace
 pub fewer_messages-twice : (n m : ℕ) (past : Trace) (q : ℕ) → length (messages_for (at_point n (at_point m past)) q) ≤ length (messages_for (at_point n past) q)
 fewer_messages-twice n m past q =
@@ -49,16 +36,7 @@ fewer_messages-twice n m past q =
     let fewer = fewer_messages (length past - n) (k + (length (drop k past) - n)) past q (omega arith) in
     rw same fewer
 
--- a longer trace has no fewer answers
-pub answers-grow : (e : Event) (past : Trace) (q : ℕ) → answers past q ≤ answers (e ∷ past) q
-answers-grow (Cr p resp st) past q =
-    elim (cases_Bool (nat_eq q p)) [
-      | inl t ↦ rw t (omega arith)
-      | inr f ↦ rw f (omega arith)
-    ]
-answers-grow _ past q = omega arith
-
--- and no fewer answered messages
+-- a longer trace has no fewer answered messages
 answered-grow : (e : Event) (past : Trace) (q : ℕ) → answered_messages past q ≤ answered_messages (e ∷ past) q
 answered-grow e past q =
     let s = start-more (snoops_of past q) (snoop_at (length past) e q) in
@@ -71,3 +49,10 @@ has_answered-grown e past x q le a =
     let before = ltb-true (length (messages_for (at_point x.place past) q)) (answered_messages past q) a in
     let more = answered-grow e past q in
     lt-ltb _ _ (rw (at_point-before e past x.place le) (omega arith))
+
+pub has_answered-later : (later : List Event) (before : Trace) (x : Transaction) (q : ℕ) → x.place ≤ length before → has_answered before x q ≡ true
+    → has_answered (later ++ before) x q ≡ true
+has_answered-later [] before x q le a = a
+has_answered-later (e ∷ later) before x q le a =
+    let long = length-append later before in
+    has_answered-grown e (later ++ before) x q (omega arith) (has_answered-later later before x q le a)
