@@ -1,3 +1,6 @@
+pub mod Less
 pub mod ReadEnds
+pub mod ReadSnoops
 pub mod SnoopRows
+pub mod StartStates
 pub mod States

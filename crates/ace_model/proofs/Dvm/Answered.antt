@@ -8,9 +8,9 @@ use Rattle.ace_model.proofs.Trace.Looks.{has_name-is}
 use Rattle.ace_model.proofs.Trace.Growth.{issued_at-before, IsIssued}
 use Rattle.ace_model.proofs.Trace.Issued.{issued_at, transaction_of-stands, outstanding-named}
 use Rattle.ace_model.proofs.Trace.Points.{has_answered-grown}
-use Rattle.ace_model.proofs.Holders.FirstTransfer.{each_at}
 use Rattle.ace_model.proofs.General.Options.{Some-injective, is_some_and-is, is_none_or-at}
 use Rattle.ace_model.proofs.General.Booleans.{implies-at}
+use Rattle.ace_model.proofs.General.Ports.{each_at}
 
 -- an ACE port other than p is one of the header
 pub other_ace : (h : Header) (p q : ℕ) → is_ace h q ≡ true → q ≢ p → (is_other_ace h p q ≡ true) × (q < h.ports)

@@ -10,9 +10,9 @@ use Rattle.ace_model.proofs.Trace.Points.{fewer_messages}
 use Rattle.ace_model.proofs.Trace.Growth.{issued_at-before, IsIssued}
 use Rattle.ace_model.proofs.Dvm.Answered.{other_ace, complete_message-answered}
 use Rattle.ace_model.proofs.Dvm.Completed.{sync-completed}
-use Rattle.ace_model.proofs.Holders.FirstTransfer.{each_at}
 use Rattle.ace_model.proofs.General.Options.{Some-injective, is_some_and-is, is_none_or-at}
 use Rattle.ace_model.proofs.General.Booleans.{implies-at}
+use Rattle.ace_model.proofs.General.Ports.{each_at}
 
 -- the last Sync of a port stands in the trace, and is one of the port
 record IsSyncOf (past : Trace) (p : ℕ) (x : Transaction) : Type 0 where

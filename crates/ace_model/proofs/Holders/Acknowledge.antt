@@ -1,17 +1,18 @@
 -- RK: a complete read ends, and its port holds the line in the state that it names.
 use Rattle.std.proofs.Common.{◌≡◌, ◌≢◌, ◌⊎◌, ◌==◌, ℕ, ◌+◌, ◌≤◌, Bool, true, false, if◌then◌else◌, ◌&&◌, nat_eq, nat_lt, ◌∷◌, Some, slice_get, le_refl, refl, sym, ap, subst, ◌∙◌, arith, inl, inr}
 use Rattle.std.proofs.lemmas.Bool.{and_parts, cases_Bool, cases_eq, eqb-true, eq-eqb}
-use Rattle.ace_model.proofs.Terms.{ArKind, LineState, I, SC, passes_dirty, is_shared, Header, Read, Rk, ends_read, is_unique, is_dirty, is_invalid, Transaction, Trace, is_some_and, beats_of, reads_a_line}
+use Rattle.ace_model.proofs.Terms.{ArKind, LineState, I, passes_dirty, is_shared, Header, Read, Rk, ends_read, is_unique, is_dirty, is_invalid, Transaction, Trace, is_some_and, beats_of, reads_a_line}
 use Rattle.ace_model.proofs.Terms.{is_ace, is_line, is_on, is_some_on, read_kind, transaction_of, outstanding, completed, acknowledgements, transfers, first_resp, next_complete, acknowledged}
 use Rattle.ace_model.proofs.Terms.{transaction_under, granted, has_failed, state_of, UniqueNow, OneDirtyNow, k1, k22, k23, ends_well, is_end, held_of}
 use Rattle.ace_model.proofs.Trace.Looks.{has_name-is, without-some, without-other}
 use Rattle.ace_model.proofs.Trace.Issued.{outstanding-named, transaction_of-stands}
-use Rattle.ace_model.proofs.Tables.States.{is_settled, Lessens-same}
+use Rattle.ace_model.proofs.Tables.States.{Lessens-same}
 use Rattle.ace_model.proofs.Tables.ReadEnds.{takes_alone, takes_shared, ReadEnds, read_is}
 use Rattle.ace_model.proofs.Holders.States.{arrives_kept, held_on}
-use Rattle.ace_model.proofs.Holders.Ends.{one_name}
+use Rattle.ace_model.proofs.Trace.Outstanding.{one_name}
 use Rattle.ace_model.proofs.Holders.Facts.{OthersInvalid, OthersNotUnique, AllSettled, Arrives, AnswersFit, PassedOn, TransfersArrive, QueueStands, QueueDistinct, OutsideInvalid, OneHolder}
 use Rattle.ace_model.proofs.General.Options.{Some-injective, some_is, is_some_and-is, is_none_or-at}
+use Rattle.ace_model.proofs.Tables.Less.{settled_clean}
 
 -- The read that an RK of the port belongs to: it is outstanding, and has had a transfer.
 pub record Ends (h : Header) (past : Trace) (q : ℕ) : Type 0 where
@@ -73,11 +74,6 @@ pub record EndsLine (h : Header) (past : Trace) (q : ℕ) (st : LineState) (r l 
   pub shared : Bool
   pub came : (st ≡ I) ⊎ ((is_invalid (state_of h past r l) ≡ false) ⊎ ((takes_alone kind shared failed ≡ true) ⊎ (takes_shared kind ≡ true)))
   pub dirty : is_dirty st ≡ true → (is_dirty (state_of h past r l) ≡ true) ⊎ ((z : ℕ) → r ≢ z → is_dirty (state_of h past z l) ≡ false)
-
-settled_clean : (st : LineState) → is_settled st ≡ true → is_dirty st ≡ false
-settled_clean I s = refl
-settled_clean SC s = refl
-settled_clean st s = cc
 
 module _ (h : Header) (past : Trace) where
   module _ (q : ℕ) (st : LineState) where

@@ -1,49 +1,18 @@
 -- The first transfer of a read at an ACE port: what its snoops and its response say of the other ports.
-use Rattle.std.proofs.Common.{◌≡◌, ◌≢◌, ◌⊎◌, ℕ, zero, suc, ◌<◌, Bool, true, false, not, ◌&&◌, ◌||◌, nat_eq, nat_lt, Option, Some, None, is_none, is_some, refl, sym, ap, subst, ◌∙◌, arith, inl, inr}
-use Rattle.std.proofs.lemmas.Bool.{and_parts, or_cases, or_left, or_right, cases_Bool, cases_eq, eqb-true, ltb-true, not-true, not_from_false}
+use Rattle.std.proofs.Common.{◌≡◌, ◌≢◌, ◌⊎◌, ℕ, ◌<◌, Bool, true, false, not, ◌&&◌, ◌||◌, nat_eq, nat_lt, Option, Some, None, is_none, is_some, refl, sym, ap, subst, ◌∙◌, inl, inr}
+use Rattle.std.proofs.lemmas.Bool.{and_parts, or_cases, or_left, or_right, cases_Bool, eqb-true, ltb-true, not-true, not_from_false}
 use Rattle.ace_model.proofs.Terms.{ArKind, SnoopKind, I, passes_dirty, is_shared, Header, snoop_of_read, is_invalid, is_unique, Answer, Transaction, Trace, implies, is_some_and, is_none_or, is_clean_unique}
 use Rattle.ace_model.proofs.Terms.{is_read_not_shared_dirty, may_be_shared, takes_passed_data, is_ace, read_kind, write_kind, snoop_of, snoop_kind_of, is_exclusive_store, granted, is_granted, was_snooped}
-use Rattle.ace_model.proofs.Terms.{answer_of, owes_answer, owes_data, each_port, some_port, find_port, shares, passes, has_sharer, passer, has_passed_data, are_passed_data_whole, has_failed, state_of}
+use Rattle.ace_model.proofs.Terms.{answer_of, owes_answer, owes_data, each_port, shares, passes, has_sharer, passer, has_passed_data, are_passed_data_whole, has_failed, state_of}
 use Rattle.ace_model.proofs.Terms.{is_port_done, are_snoops_done, has_upper_bits, fits_kind, must_be_shared, takes_passed}
-use Rattle.ace_codes.specs.declared.kind.ArKind.TheVariants as read
-use Rattle.ace_codes.specs.declared.kind.SnoopKind.TheVariants as snoop
 use Rattle.ace_model.proofs.Trace.Looks.{is_invalid-is}
-use Rattle.ace_model.proofs.Tables.States.{not_more, invalidates, shares_line}
+use Rattle.ace_model.proofs.Tables.States.{not_more, invalidates}
 use Rattle.ace_model.proofs.Tables.ReadEnds.{takes_alone, takes_shared}
 use Rattle.ace_model.proofs.Holders.Facts.{OthersInvalid, OthersNotUnique, AllSettled, OneHolder}
-use Rattle.ace_model.proofs.General.Options.{Some-injective, some_is, is_some_and-is, is_none_or-at}
+use Rattle.ace_model.proofs.General.Options.{some_is, is_some_and-is, is_none_or-at}
 use Rattle.ace_model.proofs.General.Booleans.{implies-at}
-
-pub each_at : (n : ℕ) (test : ℕ → Bool) (r : ℕ) → each_port n test ≡ true → r < n → test r ≡ true
-each_at zero test r e l = absurd (omega arith)
-each_at (suc n) test r e l =
-    let parts = and_parts (test n) (each_port n test) e in
-    elim (cases_eq r n) [
-      | inl same ↦ subst (λ k. test k ≡ true) (sym same) parts.0
-      | inr other ↦ each_at n test r parts.1 (omega arith)
-    ]
-
--- where no port passes the test, this one doesn't
-pub none_at : (n : ℕ) (test : ℕ → Bool) (r : ℕ) → some_port n test ≡ false → r < n → test r ≡ false
-none_at zero test r e l = absurd (omega arith)
-none_at (suc n) test r e l =
-    let parts = neither (test n) (some_port n test) e in
-    elim (cases_eq r n) [
-      | inl same ↦ subst (λ k. test k ≡ false) (sym same) parts.0
-      | inr other ↦ none_at n test r parts.1 (omega arith)
-    ]
-  where
-    neither : (a b : Bool) → (a || b) ≡ false → (a ≡ false) × (b ≡ false)
-    neither true b e = cc
-    neither false b e = (refl, e)
-
-pub found_passes : (n : ℕ) (test : ℕ → Bool) (r : ℕ) → find_port n test ≡ Some r → test r ≡ true
-found_passes zero test r e = cc
-found_passes (suc n) test r e =
-    elim (cases_Bool (test n)) [
-      | inl t ↦ let same : Some n ≡ Some r = rw t at e in subst (λ k. test k ≡ true) (Some-injective n r same) t
-      | inr f ↦ found_passes n test r (rw f at e)
-    ]
+use Rattle.ace_model.proofs.General.Ports.{each_at, none_at, found_passes}
+use Rattle.ace_model.proofs.Tables.ReadSnoops.{takes_alone_is, failed_takes_none, takes_shared_is, shared_not_clean_unique}
 
 module _ (h : Header) (past : Trace) where
   -- An answer of the port under the grant of the line.
@@ -106,38 +75,6 @@ module _ (h : Header) (past : Trace) where
               absurd (passed clean failed)
         ]
       ]
-
--- The snoop of a read that may end in a unique state leaves the other ports with nothing, or the response says IsShared where
--- it doesn't.
-pub record TakesAlone (k : ArKind) (shared : Bool) : Type 0 where
-  pub caused : SnoopKind
-  pub is_caused : snoop_of_read k ≡ Some caused
-  pub how : (invalidates caused ≡ true) ⊎ ((shared ≡ false) × (may_be_shared k ≡ true))
-
-takes_alone_is : (k : ArKind) (shared failed : Bool) → takes_alone k shared failed ≡ true → TakesAlone k shared
-takes_alone_is read.ReadUnique shared failed e = record { caused = snoop.ReadUnique; is_caused = refl; how = inl refl }
-takes_alone_is read.MakeUnique shared failed e = record { caused = snoop.MakeInvalid; is_caused = refl; how = inl refl }
-takes_alone_is read.CleanUnique shared failed e = record { caused = snoop.CleanInvalid; is_caused = refl; how = inl refl }
-takes_alone_is read.ReadShared false failed e = record { caused = snoop.ReadShared; is_caused = refl; how = inr (refl, refl) }
-takes_alone_is read.ReadClean false failed e = record { caused = snoop.ReadClean; is_caused = refl; how = inr (refl, refl) }
-takes_alone_is read.ReadNotSharedDirty false failed e = record { caused = snoop.ReadNotSharedDirty; is_caused = refl; how = inr (refl, refl) }
-takes_alone_is read.CleanShared false failed e = record { caused = snoop.CleanShared; is_caused = refl; how = inr (refl, refl) }
-takes_alone_is k shared failed e = cc
-
-failed_takes_none : (k : ArKind) (shared failed : Bool) → takes_alone k shared failed ≡ true → is_clean_unique k ≡ true → failed ≡ true → ⊥
-failed_takes_none read.CleanUnique shared true t e f = cc
-failed_takes_none read.CleanUnique shared false t e f = cc
-failed_takes_none k shared failed t e f = cc
-
-takes_shared_is : (k : ArKind) → takes_shared k ≡ true → (s : SnoopKind) × (snoop_of_read k ≡ Some s) × (shares_line s ≡ true)
-takes_shared_is read.ReadShared e = (snoop.ReadShared, refl, refl)
-takes_shared_is read.ReadClean e = (snoop.ReadClean, refl, refl)
-takes_shared_is read.ReadNotSharedDirty e = (snoop.ReadNotSharedDirty, refl, refl)
-takes_shared_is k e = cc
-
-shared_not_clean_unique : (k : ArKind) → takes_shared k ≡ true → is_clean_unique k ≡ true → ⊥
-shared_not_clean_unique read.CleanUnique t e = cc
-shared_not_clean_unique k t e = cc
 
 module _ (h : Header) (past : Trace) where
   module _ (x : Transaction) (k : ArKind) (resp : ℕ) where

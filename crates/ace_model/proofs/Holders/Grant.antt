@@ -1,15 +1,15 @@
 -- G: the line is granted to a transaction.
-use Rattle.std.proofs.Common.{◌≡◌, ℕ, ◌+◌, ◌<◌, ◌≤◌, Bool, true, false, not, if◌then◌else◌, ◌&&◌, nat_eq, [], ◌∷◌, length, Option, Some, None, slice_get, refl, sym, ap, subst, ◌∙◌, arith, inl, inr}
-use Rattle.std.proofs.lemmas.Bool.{and_parts, and_from, cases_Bool, eqb-true, eq-eqb}
-use Rattle.ace_model.proofs.Terms.{Header, Channel, Read, Event, Ac, G, Snoop, Transaction, Trace, newer, is_on, is_line, is_some_on, has_name, transaction_of, outstanding, takes_grant, is_exclusive_store}
-use Rattle.ace_model.proofs.Terms.{snoop_at, snoops_of, granted, has_grant, has_failed, is_false, passed_at_grant, store_result, state_of, k12, may_be_granted}
-use Rattle.ace_model.proofs.Trace.Looks.{has_name-is, newest_on-cases, newest_on-older}
+use Rattle.std.proofs.Common.{◌≡◌, ℕ, ◌+◌, ◌≤◌, true, false, not, ◌&&◌, ◌∷◌, length, Option, Some, None, refl, sym, ap, subst, ◌∙◌, arith, inl, inr}
+use Rattle.std.proofs.lemmas.Bool.{and_parts, and_from, cases_Bool, eq-eqb}
+use Rattle.ace_model.proofs.Terms.{Header, Channel, Read, G, Transaction, Trace, newer, is_on, is_line, is_some_on, has_name, transaction_of, outstanding, takes_grant, is_exclusive_store}
+use Rattle.ace_model.proofs.Terms.{granted, has_grant, has_failed, is_false, passed_at_grant, store_result, state_of, k12, may_be_granted}
+use Rattle.ace_model.proofs.Trace.Looks.{has_name-is, newest_on-cases, newest_on-older, is_on-addr}
 use Rattle.ace_model.proofs.Trace.Issued.{outstanding-named, transaction_of-stands}
-use Rattle.ace_model.proofs.General.Lists.{slice_get-more}
 use Rattle.ace_model.proofs.Tables.States.{Lessens-self}
 use Rattle.ace_model.proofs.Holders.States.{arrives_kept}
 use Rattle.ace_model.proofs.Holders.Facts.{GrantsStand, SnoopsFit, AnswersFit, PassedOn, TransfersArrive, OneHolder}
 use Rattle.ace_model.proofs.General.Options.{Some-injective, none_is, is_some_and-is}
+use Rattle.ace_model.proofs.Trace.Snoops.{snoops-before}
 
 -- what the rule on grants says of the transaction that the event grants
 pub record MayGrant (h : Header) (past : Trace) (q : ℕ) (c : Channel) (j : ℕ) : Type 0 where
@@ -28,10 +28,6 @@ may_grant h past q c j k =
       named = outstanding-named h past q c j o.0 o.1;
       free = none_is (granted h past o.0.addr) free;
     }
-
--- a transaction on a line has its address
-pub is_on-addr : (x : Transaction) (l : ℕ) → is_on x l ≡ true → x.addr ≡ l
-is_on-addr x l e = eqb-true x.addr l ((and_parts (is_line x) _ e).1)
 
 pub grants_g : (h : Header) (past : Trace) (q : ℕ) (c : Channel) (j : ℕ) → OneHolder h past → k12 h past (G q c j) ≡ true → GrantsStand h (G q c j ∷ past)
 grants_g h past q c j f k l x g =
@@ -54,23 +50,6 @@ other_line h past q c j l x k g =
     elim (cases_Bool (is_on m.granted_one l)) [
       | inl t ↦ let free : granted h past l ≡ None = subst (λ a. granted h past a ≡ None) (is_on-addr m.granted_one l t) m.free in cc
       | inr other ↦ rw m.named other
-    ]
-
--- a snoop knows how many events came before it
-pub snoop_at-place : (n : ℕ) (e : Event) (r : ℕ) (s : Snoop) → snoop_at n e r ≡ Some s → s.place ≡ n
-snoop_at-place n (Ac q addr code) r s is = new (nat_eq r q) is
-  where
-    new : (b : Bool) → (if b then Some (record { place = n; addr = addr; snoop = code }) else None) ≡ Some s → s.place ≡ n
-    new true is = ap (λ (v : Snoop). v.place) (sym (Some-injective _ s is))
-    new false is = cc
-snoop_at-place n e r s is = cc
-
-pub snoops-before : (past : Trace) (r n : ℕ) (s : Snoop) → slice_get (snoops_of past r) n ≡ Some s → s.place < length past
-snoops-before [] r n s e = cc
-snoops-before (e ∷ past) r n s is =
-    elim (slice_get-more (snoops_of past r) (snoop_at (length past) e r) n s is) [
-      | inl old ↦ let b = snoops-before past r n s old in omega arith
-      | inr new ↦ let at = snoop_at-place (length past) e r s new.1 in omega (arith, at)
     ]
 
 module _ (h : Header) (past : Trace) where

@@ -5,8 +5,8 @@ use Rattle.ace_model.proofs.Terms.{is_shared}
 use Rattle.ace_model.proofs.Rules.Keeps.{kept}
 use Rattle.ace_model.proofs.Holders.RestsOn.{holder_rules, KeepsEach, of_accepted}
 use Rattle.ace_model.proofs.Holders.Facts.{OneHolder}
-use Rattle.ace_model.proofs.Holders.States.{less-lessens, less-clean, leaves_kept, arrives_kept, unique_kept, outside_kept, one_dirty_kept}
-use Rattle.ace_model.proofs.Holders.Ends.{was_there, grants_ended}
+use Rattle.ace_model.proofs.Holders.States.{arrives_kept, unique_kept, outside_kept, one_dirty_kept}
+use Rattle.ace_model.proofs.Holders.Ends.{grants_ended}
 use Rattle.ace_model.proofs.Holders.Stores.{less_s, lessened_d, one_dirty_d}
 use Rattle.ace_model.proofs.Holders.Snoop.{snoops_ac, less_cr, answers_fit_cr, passed_cr}
 use Rattle.ace_model.proofs.Holders.Grant.{grants_g, snoops_g, answers_g, passed_g, arrive_g}
@@ -14,21 +14,12 @@ use Rattle.ace_model.proofs.Holders.Address.{grants_ar, arrive_ar, queue_ar, gra
 use Rattle.ace_model.proofs.Holders.Write.{less_wk, arrive_wk, queue_wk, arrive_b, queue_b}
 use Rattle.ace_model.proofs.Holders.Transfer.{may, arrive_r, queue_r, distinct_r}
 use Rattle.ace_model.proofs.Holders.Acknowledge.{ends, answers_rk, passed_rk, arrive_rk, queue_rk, distinct_rk, outside_rk, unique_rk, one_dirty_rk}
+use Rattle.ace_model.proofs.Tables.Less.{less-lessens, less-clean, leaves_kept}
+use Rattle.ace_model.proofs.Trace.Looks.{was_there}
 
 -- each event that keeps the rules keeps the facts
 pub step : (h : Header) (past : Trace) (e : Event) → OneHolder h past → KeepsEach h past e → OneHolder h (e ∷ past)
-step h past (Ar q j addr snoop dom bar lock) f k = record {
-  grants = grants_ar h past q j addr snoop dom bar lock f (k 4);
-  snoops = f.snoops;
-  answers = f.answers;
-  passed = f.passed;
-  arrive = arrive_ar h past q j addr snoop dom bar lock f;
-  queue = queue_ar h past q j addr snoop dom bar lock f (k 4);
-  distinct = f.distinct;
-  outside = f.outside;
-  unique = f.unique;
-  one_dirty = f.one_dirty;
-}
+step h past (Ar q j addr snoop dom bar lock) f k = assumption (f, grants_ar h past q j addr snoop dom bar lock f (k 4), arrive_ar h past q j addr snoop dom bar lock f, queue_ar h past q j addr snoop dom bar lock f (k 4))
 step h past (R q j resp last word) f k =
     let m = may h past q j resp last word (k 18) in
     let y = ended h past (R q j resp last word) in
@@ -59,18 +50,7 @@ step h past (Rk q st) f k =
       unique = unique_rk h past q st f (k 23) e;
       one_dirty = one_dirty_rk h past q st f (k 23) e;
     }
-step h past (Aw q j addr snoop dom bar) f k = record {
-  grants = grants_aw h past q j addr snoop dom bar f (k 4);
-  snoops = f.snoops;
-  answers = f.answers;
-  passed = f.passed;
-  arrive = arrive_aw h past q j addr snoop dom bar f;
-  queue = queue_aw h past q j addr snoop dom bar f (k 4);
-  distinct = f.distinct;
-  outside = f.outside;
-  unique = f.unique;
-  one_dirty = f.one_dirty;
-}
+step h past (Aw q j addr snoop dom bar) f k = assumption (f, grants_aw h past q j addr snoop dom bar f (k 4), arrive_aw h past q j addr snoop dom bar f, queue_aw h past q j addr snoop dom bar f (k 4))
 step h past (W q strb last word) f k = f
 step h past (B q j resp) f k =
     let y = ended h past (B q j resp) in
@@ -102,18 +82,7 @@ step h past (Wk q st) f k =
       unique = unique_kept h past (Wk q st) (λ l r. less-lessens _ _ (less r l)) f.unique;
       one_dirty = one_dirty_kept h past (Wk q st) (λ r l. less-clean _ _ (less r l)) f.one_dirty;
     }
-step h past (Ac q addr code) f k = record {
-  grants = f.grants;
-  snoops = snoops_ac h past q addr code f (k 13);
-  answers = f.answers;
-  passed = f.passed;
-  arrive = f.arrive;
-  queue = f.queue;
-  distinct = f.distinct;
-  outside = f.outside;
-  unique = f.unique;
-  one_dirty = f.one_dirty;
-}
+step h past (Ac q addr code) f k = assumption (f, snoops_ac h past q addr code f (k 13))
 step h past (Cr q resp st) f k =
     let less = less_cr h past q resp st (k 15) in
     record {
@@ -131,18 +100,7 @@ step h past (Cr q resp st) f k =
       one_dirty = one_dirty_kept h past (Cr q resp st) (λ r l. less-clean _ _ (less r l)) f.one_dirty;
     }
 step h past (Cd q last word) f k = f
-step h past (G q c j) f k = record {
-  grants = grants_g h past q c j f (k 12);
-  snoops = snoops_g h past q c j f;
-  answers = answers_g h past q c j f;
-  passed = passed_g h past q c j f;
-  arrive = arrive_g h past q c j f (k 12);
-  queue = f.queue;
-  distinct = f.distinct;
-  outside = f.outside;
-  unique = f.unique;
-  one_dirty = f.one_dirty;
-}
+step h past (G q c j) f k = assumption (f, grants_g h past q c j f (k 12), snoops_g h past q c j f, answers_g h past q c j f, passed_g h past q c j f, arrive_g h past q c j f (k 12))
 step h past (M q c j line) f k = f
 step h past (S q addr st) f k =
     let less = less_s h past q addr st (k 29) in

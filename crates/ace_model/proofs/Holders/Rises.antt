@@ -1,16 +1,13 @@
 -- A port comes to hold more of a line by the RK of its own read alone, and makes it dirty by that or by a store alone.
 use Rattle.std.proofs.Common.{◌≡◌, ◌⊎◌, ℕ, Bool, true, false, not, ◌&&◌, ◌||◌, nat_eq, [], ◌∷◌, length, Some, refl, sym, ap, subst, ◌∙◌, inl, inr}
 use Rattle.std.proofs.lemmas.Bool.{and_parts, or_cases, cases_Bool, eqb-true}
-use Rattle.ace_model.proofs.Terms.{ArKind, AwKind, LineState, I, UC, UD, SC, SD, Channel, Read, Event, Ar, Rk, Aw, Wk, Cr, S, D, Header, Line, starts_read, starts_write, is_among, is_dirty, Transaction}
+use Rattle.ace_model.proofs.Terms.{LineState, I, Channel, Read, Event, Ar, Rk, Aw, Wk, Cr, S, D, Header, Line, starts_read, starts_write, is_dirty, Transaction}
 use Rattle.ace_model.proofs.Terms.{Trace, is_some_and, is_none_or, reads_a_line, is_granted_write, is_line, is_on, issued, ended, read_kind, write_kind, outstanding, acknowledged, state_of, awaits_store}
 use Rattle.ace_model.proofs.Terms.{is_in_make_unique, has_store, is_line_read_transaction, starts_well, k32, may_store, wants_store, full_line, IsAccepted}
-use Rattle.ace_codes.specs.declared.kind.ArKind.TheVariants as read
-use Rattle.ace_codes.specs.declared.kind.AwKind.TheVariants as write
 use Rattle.ace_model.proofs.Trace.Looks.{has_name-is, newest_named-cases, without-some}
 use Rattle.ace_model.proofs.Rules.Keeps.{accepted_keeps}
 use Rattle.ace_model.proofs.Tables.States.{Lessens, Lessens-self, Lessens-same}
-use Rattle.ace_model.proofs.Holders.States.{less-lessens, less-clean}
-use Rattle.ace_model.proofs.Holders.Stores.{less_s, lessened_d, stores, is_named_by_d, some_issued-weaker}
+use Rattle.ace_model.proofs.Holders.Stores.{less_s, lessened_d, stores, is_named_by_d}
 use Rattle.ace_model.proofs.Holders.Snoop.{less_cr}
 use Rattle.ace_model.proofs.Holders.Write.{less_wk}
 use Rattle.ace_model.proofs.Holders.Acknowledge.{Ends, ends, is_named_by_rk}
@@ -19,6 +16,9 @@ use Rattle.ace_model.proofs.Holders.Law.{accepted_holds}
 use Rattle.ace_model.proofs.Trace.LineOnce.{one_on_line}
 use Rattle.ace_model.proofs.General.Options.{Some-injective, is_some_and-is, is_none_or-at}
 use Rattle.ace_model.proofs.General.Booleans.{implies-at}
+use Rattle.ace_model.proofs.Tables.Less.{less-lessens, less-clean}
+use Rattle.ace_model.proofs.Tables.StartStates.{read_starts, write_starts}
+use Rattle.ace_model.proofs.Trace.Growth.{some_issued-weaker}
 
 module _ (h : Header) (past : Trace) where
   -- The read of the port on the line that the event ends by its RK.
@@ -118,28 +118,6 @@ module _ (h : Header) (past : Trace) where
 -- the transaction starts where its port holds nothing
 abbrev pub starts_empty : Transaction → Bool
 starts_empty x = is_line_read_transaction x || is_some_and (write_kind x) is_granted_write
-
-only_invalid : (st : LineState) → is_among st (I ∷ []) ≡ true → st ≡ I
-only_invalid I e = refl
-only_invalid UC e = cc
-only_invalid UD e = cc
-only_invalid SC e = cc
-only_invalid SD e = cc
-
-pub read_starts : (k : ArKind) (st : LineState) → reads_a_line k ≡ true → starts_read k st ≡ true → st ≡ I
-read_starts read.ReadNoSnoop st r s = only_invalid st s
-read_starts read.ReadOnce st r s = only_invalid st s
-read_starts read.ReadShared st r s = only_invalid st s
-read_starts read.ReadClean st r s = only_invalid st s
-read_starts read.ReadNotSharedDirty st r s = only_invalid st s
-read_starts read.ReadUnique st r s = only_invalid st s
-read_starts k st r s = cc
-
-write_starts : (k : AwKind) (st : LineState) → is_granted_write k ≡ true → starts_write k st ≡ true → st ≡ I
-write_starts write.WriteNoSnoop st r s = only_invalid st s
-write_starts write.WriteUnique st r s = only_invalid st s
-write_starts write.WriteLineUnique st r s = only_invalid st s
-write_starts k st r s = cc
 
 -- such a transaction finds its port with nothing
 starts : (h : Header) (past : Trace) (x : Transaction) → starts_well h past x ≡ true → is_line x ≡ true → starts_empty x ≡ true → state_of h past x.port x.addr ≡ I

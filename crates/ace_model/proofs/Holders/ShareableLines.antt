@@ -1,16 +1,14 @@
 -- A line that a port holds is shareable: a transaction of it was issued that isn't NoSnoop, and then each one is.
-use Rattle.std.proofs.Common.{◌⊎◌, ◌≡◌, ℕ, Bool, true, false, nat_eq, [], ◌∷◌, length, Some, None, refl, sym, ap, subst, ◌∙◌, inl, inr}
+use Rattle.std.proofs.Common.{◌≡◌, ℕ, true, false, nat_eq, [], ◌∷◌, length, Some, sym, ap, subst, ◌∙◌, inl, inr}
 use Rattle.std.proofs.lemmas.Bool.{and_parts, cases_Bool, eqb-true}
-use Rattle.ace_model.proofs.Terms.{ArKind, LineState, I, Header, Event, Rk, Wk, Cr, S, D, is_invalid, Transaction, Trace, is_no_snoop_read, is_line, is_on, is_read, issued, read_kind, write_kind}
+use Rattle.ace_model.proofs.Terms.{LineState, I, Header, Event, Rk, Wk, Cr, S, D, is_invalid, Transaction, Trace, is_line, is_on, issued}
 use Rattle.ace_model.proofs.Terms.{each_issued, state_of, k8, is_no_snoop, is_used_alike, fits_line, IsAccepted}
-use Rattle.ace_codes.specs.declared.kind.ArKind.TheVariants as read
 use Rattle.ace_model.proofs.Trace.Growth.{IsIssued, issued-old, issued-cases, named-issued, each_issued-at}
 use Rattle.ace_model.proofs.Trace.Issued.{outstanding-named}
 use Rattle.ace_model.proofs.Rules.Keeps.{Keeps, accepted_keeps}
 use Rattle.ace_model.proofs.Trace.Looks.{is_invalid-is}
 use Rattle.ace_model.proofs.Tables.States.{Lessens-self}
-use Rattle.ace_model.proofs.Tables.ReadEnds.{takes_alone, takes_shared}
-use Rattle.ace_model.proofs.Holders.States.{LessenedAt, less-lessens}
+use Rattle.ace_model.proofs.Holders.States.{LessenedAt}
 use Rattle.ace_model.proofs.Holders.Stores.{less_s, lessened_d}
 use Rattle.ace_model.proofs.Holders.Snoop.{less_cr}
 use Rattle.ace_model.proofs.Holders.Write.{less_wk}
@@ -19,6 +17,8 @@ use Rattle.ace_model.proofs.Holders.Facts.{OneHolder}
 use Rattle.ace_model.proofs.Holders.Law.{accepted_holds}
 use Rattle.ace_model.proofs.General.Options.{Some-injective, is_none_or-at}
 use Rattle.ace_model.proofs.General.Booleans.{implies-at, same_test-at}
+use Rattle.ace_model.proofs.Tables.Less.{less-lessens}
+use Rattle.ace_model.proofs.Tables.ReadSnoops.{takes_snoops, read_snoops}
 
 -- Transactions of one line are all NoSnoop, or none is.
 abbrev pub UsedAlike : Trace → Type 0
@@ -73,21 +73,6 @@ shareable_kept h past e less f p l held =
           let gone : state_of h (e ∷ past) p l ≡ I = (less l p).gone (is_invalid-is (state_of h past p l) none) in
           let bad : is_invalid I ≡ false = subst (λ s. is_invalid s ≡ false) gone held in cc
       | inr was ↦ later e past l (f p l was)
-    ]
-
--- a read that brings a line to its port isn't NoSnoop
-takes_snoops : (k : ArKind) (shared failed : Bool) → (takes_alone k shared failed ≡ true) ⊎ (takes_shared k ≡ true) → is_no_snoop_read k ≡ false
-takes_snoops read.ReadNoSnoop shared failed (inl t) = cc
-takes_snoops read.ReadNoSnoop shared failed (inr t) = cc
-takes_snoops k shared failed t = refl
-
-pub read_snoops : (x : Transaction) (k : ArKind) → read_kind x ≡ Some k → is_no_snoop_read k ≡ false → is_no_snoop x ≡ false
-read_snoops x k is snoops =
-    elim (cases_Bool (is_read x.chan)) [
-      | inl reads ↦
-          let none : write_kind x ≡ None = rw reads refl in
-          rw (is, none) (rw snoops refl)
-      | inr writes ↦ let bad : None ≡ Some k = rw writes at is in cc
     ]
 
 -- the end of a read

@@ -1,17 +1,16 @@
 -- AC and CR: a port is snooped, and answers.
-use Rattle.std.proofs.Common.{◌≡◌, ◌≢◌, ℕ, Bool, true, false, not, if◌then◌else◌, ◌&&◌, ◌||◌, nat_eq, nat_le, ◌∷◌, Some, None, length, refl, sym, ap, subst, ◌∙◌, inl, inr}
-use Rattle.std.proofs.lemmas.Bool.{and_parts, and_from, or_cases, or_right, not-true, cases_Bool, cases_eq, eqb-true, leb-true}
-use Rattle.ace_model.proofs.Terms.{ArKind, SnoopKind, LineState, I, SC, is_shared, passes_dirty, ac_code, ac_kind_of, Header, Ac, Cr, is_snoop_row, snoop_of_read, is_unique, is_dirty, Answer, Snoop}
+use Rattle.std.proofs.Common.{◌≡◌, ◌≢◌, ℕ, Bool, true, false, not, if◌then◌else◌, ◌&&◌, nat_eq, nat_le, ◌∷◌, Some, None, length, refl, sym, ap, subst, ◌∙◌, inl, inr}
+use Rattle.std.proofs.lemmas.Bool.{and_parts, and_from, not-true, cases_Bool, cases_eq, eqb-true, leb-true}
+use Rattle.ace_model.proofs.Terms.{SnoopKind, LineState, I, is_shared, passes_dirty, ac_code, ac_kind_of, Header, Ac, Cr, is_snoop_row, is_unique, is_dirty, Answer, Snoop}
 use Rattle.ace_model.proofs.Terms.{Transaction, Trace, is_some_and, is_line_snoop, takes_passed_data, read_kind, write_kind, snoop_of, snoop_kind_of, snoop_at, snoops_of, snoops_a_line, answers, answered}
 use Rattle.ace_model.proofs.Terms.{is_snoop_on, answers_line, granted, grant_place, answers_grant, was_snooped, has_failed, state_of, k13, k15, answers_by_row, has_snoop_code, may_snoop, may_snoop_for}
-use Rattle.ace_codes.specs.declared.kind.ArKind.TheVariants as read
-use Rattle.ace_codes.specs.declared.kind.SnoopKind.TheVariants as snoop
 use Rattle.ace_model.proofs.General.Lists.{slice_get-more}
-use Rattle.ace_model.proofs.Tables.States.{is_settled, invalidates, shares_line, Leaves, Row, row_is}
-use Rattle.ace_model.proofs.Holders.States.{Less, less_where, less-lessens, leaves_kept}
+use Rattle.ace_model.proofs.Tables.States.{is_settled, Leaves, Row, row_is}
 use Rattle.ace_model.proofs.Holders.Facts.{SnoopsFit, AnswersFit, PassedOn, OneHolder}
 use Rattle.ace_model.proofs.General.Options.{Some-injective, is_some_and-is, is_some_and-at, is_none_or-at}
 use Rattle.ace_model.proofs.General.Booleans.{implies-at}
+use Rattle.ace_model.proofs.Tables.Less.{Less, less_where, less-lessens, leaves_kept, settled}
+use Rattle.ace_model.proofs.Tables.ReadSnoops.{kind_of_code, passed_snoop, not_unique_after}
 
 -- the new snoop is the one that the granted transaction causes
 pub snoops_ac : (h : Header) (past : Trace) (q addr code : ℕ) → OneHolder h past → k13 h past (Ac q addr code) ≡ true → SnoopsFit h (Ac q addr code ∷ past)
@@ -36,20 +35,6 @@ snoops_ac h past q addr code f k r n l s x e on place g =
         let same = Some-injective _ s is in
         subst (λ (t : Snoop). has_snoop_code x t.snoop ≡ true) same (causes (subst (λ (t : Snoop). is_snoop_on t l ≡ true) (sym same) on))
     is_new false is = cc
-
--- the kind with the code of a kind is that kind
-pub kind_of_code : (k : SnoopKind) → ac_kind_of (ac_code k) ≡ Some k
-unfolding ac_kind_of
-kind_of_code snoop.ReadOnce = refl
-kind_of_code snoop.ReadShared = refl
-kind_of_code snoop.ReadClean = refl
-kind_of_code snoop.ReadNotSharedDirty = refl
-kind_of_code snoop.ReadUnique = refl
-kind_of_code snoop.CleanShared = refl
-kind_of_code snoop.CleanInvalid = refl
-kind_of_code snoop.MakeInvalid = refl
-kind_of_code snoop.DvmComplete = refl
-kind_of_code snoop.DvmMessage = refl
 
 module _ (h : Header) (past : Trace) where
   -- A CR that names the port's state of the line is a row of the snoop that it answers.
@@ -123,25 +108,6 @@ module _ (h : Header) (past : Trace) where
               leaves_kept k (is_shared a.resp) (state_of h past r l) _ (less-lessens _ _ (less_cr m r l))
               (f.answers l r x a k g (rw other at w) causes)
         ]
-
-pub settled : (st : LineState) → is_unique st ≡ false → is_dirty st ≡ false → is_settled st ≡ true
-settled I u d = refl
-settled SC u d = refl
-settled st u d = cc
-
--- a read that takes passed data causes a snoop that leaves no unique state
-passed_snoop : (k : ArKind) → takes_passed_data k ≡ true → (s : SnoopKind) × (snoop_of_read k ≡ Some s) × ((invalidates s || shares_line s) ≡ true)
-passed_snoop read.ReadShared e = (snoop.ReadShared, refl, refl)
-passed_snoop read.ReadNotSharedDirty e = (snoop.ReadNotSharedDirty, refl, refl)
-passed_snoop read.ReadUnique e = (snoop.ReadUnique, refl, refl)
-passed_snoop k e = cc
-
-not_unique_after : (k : SnoopKind) (shared : Bool) (st : LineState) → (invalidates k || shares_line k) ≡ true → Leaves k shared st → is_unique st ≡ false
-not_unique_after k shared st e leaves =
-    elim (or_cases (invalidates k) (shares_line k) e) [
-      | inl t ↦ ap is_unique (leaves.gone (or_right (not shared) (invalidates k) t))
-      | inr t ↦ leaves.not_unique t
-    ]
 
 pub passed_cr : (h : Header) (past : Trace) (q resp : ℕ) (st : LineState) → OneHolder h past → k15 h past (Cr q resp st) ≡ true → PassedOn h (Cr q resp st ∷ past)
 passed_cr h past q resp st f m l r x a g takes w dirty z =

@@ -1,9 +1,9 @@
 -- Where an event lessens the states that the ports hold, the facts stay.
-use Rattle.std.proofs.Common.{◌≡◌, ℕ, Bool, true, false, if◌then◌else◌, ◌&&◌, ◌∷◌, Some, None, unwrap_or, refl, sym, ap, ◌∙◌, inl, inr}
-use Rattle.std.proofs.lemmas.Bool.{and_parts, cases_Bool}
-use Rattle.ace_model.proofs.Terms.{SnoopKind, LineState, I, UC, UD, SC, SD, passes_dirty, is_shared, Header, Event, Transaction, Trace, is_some_and, is_unique, is_dirty, first_resp, granted, has_failed}
+use Rattle.std.proofs.Common.{◌≡◌, ℕ, Bool, true, false, if◌then◌else◌, ◌∷◌, Some, refl, sym, ap, ◌∙◌, inl, inr}
+use Rattle.std.proofs.lemmas.Bool.{cases_Bool}
+use Rattle.ace_model.proofs.Terms.{LineState, I, passes_dirty, is_shared, Header, Event, Transaction, Trace, is_some_and, is_unique, is_dirty, first_resp, granted, has_failed}
 use Rattle.ace_model.proofs.Terms.{state_of, UniqueNow, OneDirtyNow}
-use Rattle.ace_model.proofs.Tables.States.{lessens, cleans, Lessens, lessens-is, not_more, Leaves}
+use Rattle.ace_model.proofs.Tables.States.{Lessens}
 use Rattle.ace_model.proofs.Tables.ReadEnds.{takes_alone}
 use Rattle.ace_model.proofs.Holders.Facts.{Arrives, OutsideInvalid}
 
@@ -11,38 +11,10 @@ use Rattle.ace_model.proofs.Holders.Facts.{Arrives, OutsideInvalid}
 abbrev pub LessenedAt : Header → Trace → Event → ℕ → Type 0
 LessenedAt h past e l = (r : ℕ) → Lessens (state_of h past r l) (state_of h (e ∷ past) r l)
 
--- the new state is no more than the old one
-abbrev pub Less : LineState → LineState → Type 0
-Less old new = (lessens old new && cleans old new) ≡ true
-
-less_self : (st : LineState) → Less st st
-less_self I = refl
-less_self UC = refl
-less_self UD = refl
-less_self SC = refl
-less_self SD = refl
-
-pub less-lessens : (old new : LineState) → Less old new → Lessens old new
-less-lessens old new e = lessens-is old new (and_parts (lessens old new) (cleans old new) e).0
-
-pub less-clean : (old new : LineState) → Less old new → is_dirty old ≡ false → is_dirty new ≡ false
-less-clean old new e = not_more (is_dirty new) (is_dirty old) (and_parts (lessens old new) (cleans old new) e).1
-
 -- the state that the port holds of a line
 pub held_on : (line : Bool) (s : LineState) → line ≡ true → (if line then s else I) ≡ s
 held_on true s e = refl
 held_on false s e = cc
-
--- a state that is named where the test holds
-pub less_where : (test : Bool) (held st : LineState) → (test ≡ true → Less held st) → Less held (unwrap_or (if test then Some st else None) held)
-less_where true held st less = less refl
-less_where false held st less = less_self held
-
-pub leaves_kept : (k : SnoopKind) (shared : Bool) (old new : LineState) → Lessens old new → Leaves k shared old → Leaves k shared new
-leaves_kept k shared old new less leaves = record {
-  gone = λ t. less.gone (leaves.gone t);
-  not_unique = λ t. less.not_unique (leaves.not_unique t);
-}
 
 module _ (h : Header) (past : Trace) where
   pub arrives_kept : (e : Event) (p i : ℕ) (x : Transaction) → granted h (e ∷ past) x.addr ≡ Some x

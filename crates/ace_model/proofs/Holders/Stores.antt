@@ -1,11 +1,13 @@
 -- S and D: a silent transition, and a store.
-use Rattle.std.proofs.Common.{◌≡◌, ℕ, Bool, true, false, not, if◌then◌else◌, ◌&&◌, ◌||◌, nat_eq, [], ◌∷◌, length, Option, Some, None, unwrap_or, refl, sym, ap, subst, ◌∙◌, inl, inr}
-use Rattle.std.proofs.lemmas.Bool.{and_parts, or_cases, or_right, cases_Bool, cases_eq, eqb-true}
-use Rattle.ace_model.proofs.Terms.{LineState, I, UC, UD, Header, Line, S, D, Transaction, Trace, is_some_and, is_silent_move, is_unique, is_dirty, issued, some_issued, state_of, awaits_store}
+use Rattle.std.proofs.Common.{◌≡◌, ℕ, Bool, true, false, not, ◌&&◌, ◌||◌, nat_eq, ◌∷◌, sym, ap, subst, ◌∙◌, inl, inr}
+use Rattle.std.proofs.lemmas.Bool.{and_parts, or_cases, cases_Bool, cases_eq, eqb-true}
+use Rattle.ace_model.proofs.Terms.{LineState, I, UD, Header, Line, S, D, Trace, is_silent_move, is_unique, is_dirty, state_of, awaits_store}
 use Rattle.ace_model.proofs.Terms.{is_in_make_unique, has_store, UniqueNow, OneDirtyNow, k29, k32, may_store, wants_store, full_line}
-use Rattle.ace_model.proofs.Tables.States.{lessens, Lessens, Lessens-self, lessens-is, silent_lessens}
-use Rattle.ace_model.proofs.Holders.States.{Less, less_where, LessenedAt}
+use Rattle.ace_model.proofs.Tables.States.{lessens-is, silent_lessens}
+use Rattle.ace_model.proofs.Holders.States.{LessenedAt}
 use Rattle.ace_model.proofs.Holders.Facts.{OneHolder}
+use Rattle.ace_model.proofs.Tables.Less.{Less, less_where, unique_to_dirty, lessens_where}
+use Rattle.ace_model.proofs.Trace.Growth.{some_issued-weaker}
 
 pub less_s : (h : Header) (past : Trace) (q addr : ℕ) (st : LineState) → k29 h past (S q addr st) ≡ true → (r l : ℕ)
     → Less (state_of h past r l) (state_of h (S q addr st ∷ past) r l)
@@ -16,20 +18,6 @@ less_s h past q addr st k r l =
     let here : state_of h past q addr ≡ state_of h past r l =
     ap (λ a. state_of h past a addr) (sym (eqb-true r q parts.0)) ∙ ap (λ b. state_of h past r b) (sym (eqb-true l addr parts.1)) in
     subst (λ s. Less s st) here (silent_lessens (state_of h past q addr) st moves))
-
--- what one test says of some transaction, a weaker one says too
-pub some_issued-weaker : (past : Trace) (test weaker : Transaction → Bool) → ((x : Transaction) → test x ≡ true → weaker x ≡ true)
-    → some_issued past test ≡ true → some_issued past weaker ≡ true
-some_issued-weaker [] test weaker w e = cc
-some_issued-weaker (e ∷ past) test weaker w some =
-    elim (or_cases (is_some_and (issued (length past) e) test) (some_issued past test) some) [
-      | inl now ↦ rw (new (issued (length past) e) now) refl
-      | inr old ↦ or_right (is_some_and (issued (length past) e) weaker) (some_issued past weaker) (some_issued-weaker past test weaker w old)
-    ]
-  where
-    new : (o : Option Transaction) → is_some_and o test ≡ true → is_some_and o weaker ≡ true
-    new None t = cc
-    new (Some x) t = w x t
 
 -- A D that names a state is of a port that holds the line in UC or UD.
 pub record Stores (h : Header) (past : Trace) (q addr r l : ℕ) : Type 0 where
@@ -64,15 +52,6 @@ stores h past q addr strobe x line k r l t =
             let bad : false ≡ true = rw within at parts.1 in cc
       ];
     }
-
-unique_to_dirty : (held : LineState) → is_unique held ≡ true → lessens held UD ≡ true
-unique_to_dirty UC e = refl
-unique_to_dirty UD e = refl
-unique_to_dirty held e = cc
-
-lessens_where : (test : Bool) (held st : LineState) → (test ≡ true → Lessens held st) → Lessens held (unwrap_or (if test then Some st else None) held)
-lessens_where true held st less = less refl
-lessens_where false held st less = Lessens-self held
 
 pub lessened_d : (h : Header) (past : Trace) (q addr strobe : ℕ) (x : Bool) (line : Line) → k32 h past (D q addr strobe x line) ≡ true → (l : ℕ)
     → LessenedAt h past (D q addr strobe x line) l

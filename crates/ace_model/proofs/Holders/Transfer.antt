@@ -1,16 +1,17 @@
 -- R: a transfer of a read.
-use Rattle.std.proofs.Common.{◌≡◌, ◌⊎◌, ◌==◌, ℕ, ◌+◌, ◌<◌, ◌≤◌, Bool, true, false, if◌then◌else◌, not, ◌&&◌, nat_eq, nat_lt, ◌∷◌, Some, None, length, slice_get, refl, sym, ap, subst, ◌∙◌, arith, inl, inr}
+use Rattle.std.proofs.Common.{◌≡◌, ◌⊎◌, ◌==◌, ℕ, ◌+◌, ◌<◌, ◌≤◌, Bool, true, false, ◌&&◌, nat_eq, nat_lt, ◌∷◌, Some, None, length, slice_get, refl, sym, ap, subst, ◌∙◌, arith, inl, inr}
 use Rattle.std.proofs.lemmas.Bool.{and_parts, and_from, cases_Bool, cases_eq, eqb-true, eq-eqb, ne_eqb, ltb-true}
 use Rattle.ace_model.proofs.Terms.{ArKind, passes_dirty, is_shared, Header, Channel, Read, R, Transaction, Trace, implies, is_some_and, beats_of, is_ace, read_kind, is_line, ended, transaction_of}
 use Rattle.ace_model.proofs.Terms.{outstanding, transfers, first_resp, completed, completes, acknowledgements, granted, is_granted, has_passed_data, has_failed, state_of, are_snoops_done, k18, k19, is_due}
 use Rattle.ace_model.proofs.Terms.{is_next_transfer, may_transfer, takes_passed, has_upper_bits}
-use Rattle.ace_model.proofs.Trace.Looks.{has_name-is, without-other}
+use Rattle.ace_model.proofs.Trace.Looks.{has_name-is, without-other, was_there}
 use Rattle.ace_model.proofs.Trace.Issued.{same_place, outstanding-named, transaction_of-stands}
 use Rattle.ace_model.proofs.General.Lists.{slice_get-more}
 use Rattle.ace_model.proofs.Tables.States.{Lessens-self}
 use Rattle.ace_model.proofs.Tables.ReadEnds.{takes_alone}
 use Rattle.ace_model.proofs.Holders.States.{arrives_kept}
-use Rattle.ace_model.proofs.Holders.Ends.{was_there, arrives_ended, one_name}
+use Rattle.ace_model.proofs.Holders.Ends.{arrives_ended}
+use Rattle.ace_model.proofs.Trace.Outstanding.{one_name, ends_lite}
 use Rattle.ace_model.proofs.Holders.FirstTransfer.{IsFirst, first_alone, first_beside, first_dirty}
 use Rattle.ace_model.proofs.Holders.Facts.{Arrives, TransfersArrive, QueueStands, QueueDistinct, OneHolder}
 use Rattle.ace_model.proofs.General.Options.{Some-injective, is_some_and-is, is_none_or-at}
@@ -63,21 +64,12 @@ module _ (h : Header) (past : Trace) where
       y.1 ∙ ap Some one
 
   module _ (q j resp : ℕ) (last : Bool) (word : ℕ) where
-    -- the transaction that a transfer ends is the read of a port that is no ACE port
-    pub ends_lite : (z : Transaction) → ended h past (R q j resp last word) ≡ Some z
-        → (is_ace h q ≡ false) × (transaction_of past q Read j ≡ Some z)
-    ends_lite z e = lite last (is_ace h q) e
-      where
-        lite : (l b : Bool) → (if l && not b then transaction_of past q Read j else None) ≡ Some z → (b ≡ false) × (transaction_of past q Read j ≡ Some z)
-        lite true false e = (refl, e)
-        lite l b e = cc
-
     -- a read of an ACE port stays outstanding
     pub stays_r : (p i : ℕ) (x : Transaction) → is_ace h p ≡ true → outstanding h past p Read i ≡ Some x
         → outstanding h (R q j resp last word ∷ past) p Read i ≡ Some x
     stays_r p i x ace o =
         without-other (ended h past (R q j resp last word)) (outstanding h past p Read i) x o (λ z is same.
-        let lite = ends_lite z is in
+        let lite = ends_lite h past q j resp last word z is in
         let port = (one_name past q p Read Read j i z x lite.1 (outstanding-named h past p Read i x o) same).port in
         let isnt : is_ace h p ≡ false = ap (is_ace h) (sym port) ∙ lite.0 in cc)
 
@@ -118,7 +110,7 @@ module _ (h : Header) (past : Trace) where
         stands : granted h (R q j resp last word ∷ past) m.one.addr ≡ Some m.one
         stands =
             without-other (ended h past (R q j resp last word)) (granted h past m.one.addr) m.one stood (λ z is same.
-            let isnt = (ends_lite z is).0 in cc)
+            let isnt = (ends_lite h past q j resp last word z is).0 in cc)
 
         not_first : (b : Bool) → nat_eq (transfers past q j) 0 ≡ false → (b && nat_eq (transfers past q j) 0) ≡ false
         not_first true e = e

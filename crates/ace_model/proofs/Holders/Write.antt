@@ -3,13 +3,15 @@ use Rattle.std.proofs.Common.{◌≡◌, ℕ, Bool, true, false, if◌then◌els
 use Rattle.std.proofs.lemmas.Bool.{and_parts, or_cases, eqb-true}
 use Rattle.ace_model.proofs.Terms.{AwKind, LineState, Header, Read, Write, B, Wk, ends_write, Transaction, Trace, is_some_and, is_line_read, is_line_write, is_ace, is_read, read_kind, write_kind, is_line}
 use Rattle.ace_model.proofs.Terms.{is_on, is_some_on, transaction_of, acknowledged, ended, outstanding, state_of, held_of, k28, ends_write_well}
-use Rattle.ace_model.proofs.Trace.Looks.{has_name-is, without-other}
+use Rattle.ace_model.proofs.Trace.Looks.{has_name-is, without-other, was_there}
 use Rattle.ace_model.proofs.Trace.Issued.{outstanding-named, transaction_of-stands}
 use Rattle.ace_model.proofs.Tables.States.{Lessens-self, write_lessens}
-use Rattle.ace_model.proofs.Holders.States.{Less, less_where, less-lessens, held_on}
-use Rattle.ace_model.proofs.Holders.Ends.{was_there, arrives_ended, write_apart, acknowledged_is}
+use Rattle.ace_model.proofs.Holders.States.{held_on}
+use Rattle.ace_model.proofs.Holders.Ends.{arrives_ended}
+use Rattle.ace_model.proofs.Trace.Outstanding.{write_apart, acknowledged_is}
 use Rattle.ace_model.proofs.Holders.Facts.{TransfersArrive, QueueStands, OneHolder}
 use Rattle.ace_model.proofs.General.Options.{is_some_and-is, is_none_or-at}
+use Rattle.ace_model.proofs.Tables.Less.{Less, less_where, less-lessens}
 
 -- a write of a line has a kind
 pub line_write : (y : Transaction) → y.chan ≡ Write → is_line y ≡ true → (k : AwKind) × (write_kind y ≡ Some k)

@@ -131,3 +131,17 @@ has_had-later test later e before x had = has_had-grown test later (e ∷ before
 pub accepted-before : (h : Header) (later : List Event) (before : Trace) → IsAccepted h (later ++ before) → IsAccepted h before
 accepted-before h [] before a = a
 accepted-before h (e ∷ later) before a = accepted-before h later before a.0
+
+-- what one test says of some transaction, a weaker one says too
+pub some_issued-weaker : (past : Trace) (test weaker : Transaction → Bool) → ((x : Transaction) → test x ≡ true → weaker x ≡ true)
+    → some_issued past test ≡ true → some_issued past weaker ≡ true
+some_issued-weaker [] test weaker w e = cc
+some_issued-weaker (e ∷ past) test weaker w some =
+    elim (or_cases (is_some_and (issued (length past) e) test) (some_issued past test) some) [
+      | inl now ↦ rw (new (issued (length past) e) now) refl
+      | inr old ↦ or_right (is_some_and (issued (length past) e) weaker) (some_issued past weaker) (some_issued-weaker past test weaker w old)
+    ]
+  where
+    new : (o : Option Transaction) → is_some_and o test ≡ true → is_some_and o weaker ≡ true
+    new None t = cc
+    new (Some x) t = w x t

@@ -8,11 +8,11 @@ use Rattle.ace_model.proofs.Trace.Looks.{has_name-is, newest_named-cases, withou
 use Rattle.ace_model.proofs.Trace.Issued.{outstanding-named, transaction_of-stands}
 use Rattle.ace_model.proofs.General.Lists.{slice_get-more}
 use Rattle.ace_model.proofs.Rules.Keeps.{accepted_keeps}
-use Rattle.ace_model.proofs.Holders.Ends.{one_name, acknowledged_is}
-use Rattle.ace_model.proofs.Holders.Address.{read_issued, write_issued, outstanding_stays}
-use Rattle.ace_model.proofs.Holders.Transfer.{ends_lite}
+use Rattle.ace_model.proofs.Trace.Outstanding.{one_name, acknowledged_is}
+use Rattle.ace_model.proofs.Trace.Outstanding.{ends_lite}
 use Rattle.ace_model.proofs.General.Options.{Some-injective, is_some_and-is}
 use Rattle.ace_model.proofs.General.Booleans.{implies-at}
+use Rattle.ace_model.proofs.Trace.Outstanding.{read_issued, write_issued, outstanding_stays}
 
 -- a complete write that waits for its WK
 abbrev pub IsWaiting : Header → Trace → ℕ → ℕ → Type 0
