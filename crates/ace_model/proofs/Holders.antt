@@ -1,15 +1,15 @@
 pub mod Acknowledge
 pub mod Address
-pub mod Ends
 pub mod Facts
 pub mod FirstTransfer
 pub mod Grant
+pub mod Kept
 pub mod Law
+pub mod Lessened
 pub mod RestsOn
 pub mod Rises
 pub mod ShareableLines
 pub mod Snoop
-pub mod States
 pub mod Stores
 pub mod Today
 pub mod Transfer

@@ -9,13 +9,7 @@ use Rattle.ace_model.proofs.Trace.Growth.{some_issued-found}
 use Rattle.ace_model.proofs.Rules.Keeps.{accepted_keeps}
 use Rattle.ace_model.proofs.General.Options.{Some-injective, is_none_or-at}
 use Rattle.ace_model.proofs.General.Booleans.{implies-at}
-
--- an outstanding transaction is so by its own name
-pub outstanding_own : (h : Header) (past : Trace) (p : ℕ) (c : Channel) (i : ℕ) (x : Transaction)
-    → outstanding h past p c i ≡ Some x → outstanding h past x.port x.chan x.id ≡ Some x
-outstanding_own h past p c i x o =
-    let n = has_name-is x p c i (transaction_of-stands past p c i x (outstanding-named h past p c i x o)).named in
-    ap (λ a. outstanding h past a x.chan x.id) n.port ∙ ap (λ a. outstanding h past p a x.id) n.chan ∙ ap (outstanding h past p c) n.id ∙ o
+use Rattle.ace_model.proofs.Trace.Outstanding.{outstanding_own}
 
 -- what is outstanding on the line is found there
 pub outstanding_found : (h : Header) (past : Trace) (p : ℕ) (c : Channel) (i l : ℕ) (x : Transaction)

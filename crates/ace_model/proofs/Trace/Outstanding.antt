@@ -1,7 +1,7 @@
 -- What is outstanding: the name of a transaction, and what an event issues or ends.
 use Rattle.std.proofs.Common.{◌≡◌, ◌≢◌, ◌⊎◌, not, ℕ, Bool, true, false, if◌then◌else◌, ◌&&◌, nat_eq, length, Option, Some, None, is_none, refl, sym, ap, subst, ◌∙◌, inl, inr}
 use Rattle.std.proofs.lemmas.Bool.{and_parts, and_from, cases_Bool, eqb-true, eq-eqb}
-use Rattle.ace_model.proofs.Terms.{Header, Channel, Read, Write, R, Transaction, Trace, transaction_of, next_complete, acknowledged, ended, is_ace, transaction_under, has_name, outstanding, newest_named, is_exclusive_store, is_false, passed_at_grant, has_failed}
+use Rattle.ace_model.proofs.Terms.{Header, Channel, Read, Write, R, B, Transaction, Trace, transaction_of, next_complete, acknowledged, ended, is_ace, transaction_under, has_name, outstanding, newest_named, is_exclusive_store, is_false, passed_at_grant, has_failed}
 use Rattle.ace_model.proofs.Trace.Looks.{has_name-is, newest_named-cases, newest_named-older}
 use Rattle.ace_model.proofs.Trace.Issued.{same_place, outstanding-named, transaction_of-stands}
 use Rattle.ace_model.proofs.General.Options.{none_is, Some-injective}
@@ -118,3 +118,19 @@ ends_lite h past q j resp last word z e = lite last (is_ace h q) e
     lite : (l b : Bool) → (if l && not b then transaction_of past q Read j else None) ≡ Some z → (b ≡ false) × (transaction_of past q Read j ≡ Some z)
     lite true false e = (refl, e)
     lite l b e = cc
+
+-- and so is the port of the write that a B ends
+pub ends_lite_write : (h : Header) (past : Trace) (q j resp : ℕ) (z : Transaction) → ended h past (B q j resp) ≡ Some z
+    → (is_ace h q ≡ false) × (transaction_of past q Write j ≡ Some z)
+ends_lite_write h past q j resp z e = lite (is_ace h q) e
+  where
+    lite : (b : Bool) → (if b then None else transaction_of past q Write j) ≡ Some z → (b ≡ false) × (transaction_of past q Write j ≡ Some z)
+    lite true e = cc
+    lite false e = (refl, e)
+
+-- an outstanding transaction is so by its own name
+pub outstanding_own : (h : Header) (past : Trace) (p : ℕ) (c : Channel) (i : ℕ) (x : Transaction)
+    → outstanding h past p c i ≡ Some x → outstanding h past x.port x.chan x.id ≡ Some x
+outstanding_own h past p c i x o =
+    let n = has_name-is x p c i (transaction_of-stands past p c i x (outstanding-named h past p c i x o)).named in
+    ap (λ a. outstanding h past a x.chan x.id) n.port ∙ ap (λ a. outstanding h past p a x.id) n.chan ∙ ap (outstanding h past p c) n.id ∙ o

@@ -9,7 +9,7 @@ use Rattle.ace_model.proofs.Trace.Issued.{outstanding-named, transaction_of-stan
 use Rattle.ace_model.proofs.General.Lists.{slice_get-more}
 use Rattle.ace_model.proofs.Rules.Keeps.{accepted_keeps}
 use Rattle.ace_model.proofs.Trace.Outstanding.{one_name, acknowledged_is}
-use Rattle.ace_model.proofs.Trace.Outstanding.{ends_lite}
+use Rattle.ace_model.proofs.Trace.Outstanding.{ends_lite, ends_lite_write}
 use Rattle.ace_model.proofs.General.Options.{Some-injective, is_some_and-is}
 use Rattle.ace_model.proofs.General.Booleans.{implies-at}
 use Rattle.ace_model.proofs.Trace.Outstanding.{read_issued, write_issued, outstanding_stays}
@@ -63,18 +63,11 @@ module _ (h : Header) (past : Trace) where
       let s = stays w.0 w.1 in
       (w.0, s.1, or_right (is_completion e p Write i) (not (is_named (issued (length past) e) p Write i) && is_complete past p Write i) (rw s.0 w.2))
 
-  ends_lite_write : (q j resp : ℕ) (z : Transaction) → ended h past (B q j resp) ≡ Some z → (is_ace h q ≡ false) × (transaction_of past q Write j ≡ Some z)
-  ends_lite_write q j resp z e = lite (is_ace h q) e
-    where
-      lite : (b : Bool) → (if b then None else transaction_of past q Write j) ≡ Some z → (b ≡ false) × (transaction_of past q Write j ≡ Some z)
-      lite true e = cc
-      lite false e = (refl, e)
-
   waiting_b : (q j resp p i : ℕ) (x : Transaction) → is_ace h p ≡ true → outstanding h past p Write i ≡ Some x
       → outstanding h (B q j resp ∷ past) p Write i ≡ Some x
   waiting_b q j resp p i x ace o =
       without-other (ended h past (B q j resp)) (outstanding h past p Write i) x o (λ z is same.
-      let e = ends_lite_write q j resp z is in
+      let e = ends_lite_write h past q j resp z is in
       let name = one_name past q p Write Write j i z x e.1 (outstanding-named h past p Write i x o) same in
       let bad : is_ace h q ≡ true = ap (is_ace h) name.port ∙ ace in cc)
 
