@@ -1,4 +1,7 @@
 pub mod LineRow
+pub mod Less
 pub mod ReadEnds
+pub mod ReadSnoops
 pub mod SnoopRows
+pub mod StartStates
 pub mod States

@@ -6,12 +6,12 @@ use Rattle.ace_model.proofs.Terms.{has_memory_write, is_burst_whole, is_granted,
 use Rattle.ace_model.proofs.Terms.{may_write_data, is_write_due, is_update_due, IsAccepted}
 use Rattle.ace_model.proofs.Trace.Looks.{is_read-is, same_channel-is}
 use Rattle.ace_model.proofs.Rules.Keeps.{accepted_keeps}
-use Rattle.ace_model.proofs.Holders.Address.{read_issued, write_issued, named_read}
 use Rattle.ace_model.proofs.Holders.Transfer.{MayTransfer, may}
 use Rattle.ace_model.proofs.Grants.Stays.{Stays, issued_apart}
 use Rattle.ace_model.proofs.Holders.Law.{accepted_holds}
 use Rattle.ace_model.proofs.General.Options.{Some-injective, is_some_and-at}
 use Rattle.ace_model.proofs.General.Booleans.{implies-at}
+use Rattle.ace_model.proofs.Trace.Outstanding.{read_issued, write_issued, named_read}
 
 pub begun_same : (past longer : Trace) (x : Transaction)
     → (is_read x.chan ≡ true → transfers longer x.port x.id ≡ transfers past x.port x.id)

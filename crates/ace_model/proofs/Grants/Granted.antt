@@ -9,11 +9,11 @@ use Rattle.ace_codes.specs.declared.kind.AwKind.TheVariants as write
 use Rattle.ace_model.proofs.Trace.Looks.{same_channel-is, has_name-self, has_name-is, newest_named-cases, newest_on-cases, without-some}
 use Rattle.ace_model.proofs.Trace.Issued.{same_place, outstanding-named, transaction_of-stands}
 use Rattle.ace_model.proofs.Rules.Keeps.{accepted_keeps}
-use Rattle.ace_model.proofs.Holders.FirstTransfer.{found_passes}
 use Rattle.ace_model.proofs.Grants.Stays.{issued_apart}
 use Rattle.ace_model.proofs.Grants.Begins.{then_of, else_of}
 use Rattle.ace_model.proofs.Holders.Law.{accepted_holds}
 use Rattle.ace_model.proofs.General.Options.{Some-injective, some_is, is_some_and-is, is_some_and-at}
+use Rattle.ace_model.proofs.General.Ports.{found_passes}
 
 -- an event gives no other transaction the name of an outstanding one
 pub not_named : (h : Header) (past : Trace) (e : Event) → IsAccepted h (e ∷ past) → (p : ℕ) (c : Channel) (i : ℕ) (x : Transaction)

@@ -6,14 +6,12 @@ use Rattle.ace_model.proofs.Terms.{reads_a_line, is_read, is_line, read_kind, wr
 use Rattle.ace_model.proofs.Terms.{snoops_a_line, answers, answered, is_snoop_on, gives_line, granted, grant_place, is_begun, is_snoop_to, was_snooped, answers_grant, answer_at, answer_of, owes_answer}
 use Rattle.ace_model.proofs.Terms.{owes_data, each_port, has_failed, is_port_done, may_transfer, has_snoop_code, may_snoop, may_snoop_for, IsAccepted}
 use Rattle.ace_codes.specs.declared.kind.AwKind.TheVariants as write
-use Rattle.ace_model.proofs.Trace.Looks.{has_name-is}
+use Rattle.ace_model.proofs.Trace.Looks.{has_name-is, is_on-addr}
 use Rattle.ace_model.proofs.Trace.Issued.{same_place, outstanding-named, transaction_of-stands}
 use Rattle.ace_model.proofs.General.Lists.{slice_get-more}
 use Rattle.ace_model.proofs.Trace.Growth.{answers-grow}
 use Rattle.ace_model.proofs.Rules.Keeps.{accepted_keeps}
-use Rattle.ace_model.proofs.Holders.Grant.{is_on-addr}
-use Rattle.ace_model.proofs.Holders.FirstTransfer.{each_at}
-use Rattle.ace_model.proofs.Holders.Transfer.{ends_lite}
+use Rattle.ace_model.proofs.Trace.Outstanding.{ends_lite}
 use Rattle.ace_model.proofs.Holders.Rises.{ends_of}
 use Rattle.ace_model.proofs.Trace.WriteQueue.{EndsWrite, ends_write_of, ends_lite_written}
 use Rattle.ace_model.proofs.Grants.Stays.{granted_after, failed_stays}
@@ -22,6 +20,7 @@ use Rattle.ace_model.proofs.Grants.SnoopedOnce.{grant_place-low}
 use Rattle.ace_model.proofs.Holders.Law.{accepted_holds}
 use Rattle.ace_model.proofs.General.Options.{Some-injective, is_some_and-is}
 use Rattle.ace_model.proofs.General.Booleans.{implies-at}
+use Rattle.ace_model.proofs.General.Ports.{each_at}
 
 -- An unanswered snoop of the line.
 pub record IsPending (past : Trace) (r n l : ℕ) (s : Snoop) : Type 0 where

@@ -5,13 +5,13 @@ use Rattle.ace_model.proofs.Terms.{SnoopKind, LineState, ac_code, ac_kind_of, Ev
 use Rattle.ace_model.proofs.Terms.{snoops_a_line, answers, answered, is_snoop_on, answers_line, data_answers, gives_line, granted, grant_place, answers_grant, answer_at, answer_of, state_of, answers_by_row}
 use Rattle.ace_model.proofs.Terms.{answers_beside_update, IsAccepted}
 use Rattle.ace_model.proofs.Rules.Keeps.{accepted_keeps}
-use Rattle.ace_model.proofs.Holders.Snoop.{kind_of_code}
 use Rattle.ace_model.proofs.Holders.Rises.{Raised}
 use Rattle.ace_model.proofs.Grants.Stays.{Stays}
 use Rattle.ace_model.proofs.Grants.Pending.{IsPending, Pending, snoops}
 use Rattle.ace_model.proofs.Holders.Law.{accepted_holds}
 use Rattle.ace_model.proofs.General.Options.{Some-injective, is_some_and-is, is_none_or-at}
 use Rattle.ace_model.proofs.General.Booleans.{implies-at}
+use Rattle.ace_model.proofs.Tables.ReadSnoops.{kind_of_code}
 
 -- The answer of the port to a snoop of the line.
 pub record Answering (h : Header) (past : Trace) (q resp : ℕ) (st : LineState) (l : ℕ) : Type 0 where

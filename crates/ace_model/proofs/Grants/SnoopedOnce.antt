@@ -5,12 +5,11 @@ use Rattle.ace_model.proofs.Terms.{Channel, Event, Ac, Cr, G, Header, LineState,
 use Rattle.ace_model.proofs.Terms.{snoop_at, snoops_of, answers, answered, snoops_a_line, is_snoop_on, data_answers, given, granted, grant_place, was_snooped, answers_grant, answer_of, has_failed, k1, k13}
 use Rattle.ace_model.proofs.Terms.{may_snoop, may_snoop_for, has_snoop_code, is_begun, IsAccepted}
 use Rattle.ace_model.proofs.Rules.Keeps.{accepted_keeps}
-use Rattle.ace_model.proofs.Trace.Looks.{newest_on-older}
+use Rattle.ace_model.proofs.Trace.Looks.{newest_on-older, was_there}
 use Rattle.ace_model.proofs.General.Lists.{slice_get-more}
-use Rattle.ace_model.proofs.Holders.Grant.{snoops-before}
-use Rattle.ace_model.proofs.Holders.Ends.{was_there}
 use Rattle.ace_model.proofs.General.Options.{Some-injective, is_some_and-is}
 use Rattle.ace_model.proofs.General.Booleans.{implies-at}
+use Rattle.ace_model.proofs.Trace.Snoops.{snoops-before}
 
 -- the port's n-th snoop is one of the line under its present grant
 abbrev pub UnderGrant : Trace → ℕ → ℕ → ℕ → Type 0

@@ -5,10 +5,10 @@ use Rattle.ace_model.proofs.Terms.{Channel, Event, Ar, Aw, G, Header, Transactio
 use Rattle.ace_model.proofs.Terms.{given, gives_line, granted, has_failed, is_false, passed_at_grant, has_free_name, IsAccepted}
 use Rattle.ace_model.proofs.Trace.Looks.{is_read-is, newest_on-cases, newest_on-older, without-some}
 use Rattle.ace_model.proofs.Rules.Keeps.{accepted_keeps}
-use Rattle.ace_model.proofs.Holders.Address.{read_issued, write_issued, outstanding_stays, failed_issued}
 use Rattle.ace_model.proofs.Holders.Grant.{other_line, failed_g}
 use Rattle.ace_model.proofs.Holders.Law.{accepted_holds}
 use Rattle.ace_model.proofs.General.Options.{Some-injective, is_none_or-at}
+use Rattle.ace_model.proofs.Trace.Outstanding.{read_issued, write_issued, outstanding_stays, failed_issued}
 
 module _ (h : Header) (past : Trace) where
   -- a granted line is not given again

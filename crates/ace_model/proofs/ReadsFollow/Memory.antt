@@ -9,14 +9,12 @@ use Rattle.ace_model.proofs.Terms.{DirtyPlace, IsAccepted}
 use Rattle.ace_codes.specs.declared.kind.ArKind.TheVariants as read
 use Rattle.ace_model.proofs.Trace.Growth.{at_point-before, at_point-end}
 use Rattle.ace_model.proofs.Rules.Keeps.{Keeps, accepted_keeps}
-use Rattle.ace_model.proofs.Trace.Looks.{newest_on-cases, without-some}
-use Rattle.ace_model.proofs.Holders.States.{less-clean}
+use Rattle.ace_model.proofs.Trace.Looks.{newest_on-cases, without-some, is_on-addr}
 use Rattle.ace_model.proofs.Holders.Stores.{less_s, is_named_by_d}
 use Rattle.ace_model.proofs.Holders.Snoop.{less_cr}
 use Rattle.ace_model.proofs.Holders.Write.{less_wk}
 use Rattle.ace_model.proofs.Holders.Acknowledge.{ends, states_rk}
 use Rattle.ace_model.proofs.Holders.Facts.{OneHolder}
-use Rattle.ace_model.proofs.Holders.Grant.{is_on-addr}
 use Rattle.ace_model.proofs.Holders.Law.{accepted_holds}
 use Rattle.ace_model.proofs.ReadsFollow.Points.{SameWords}
 use Rattle.ace_model.proofs.ReadsFollow.MemorySince.{MemorySince}
@@ -24,6 +22,7 @@ use Rattle.ace_model.proofs.Grants.SnoopedOnce.{grant_place-low, answer_cr}
 use Rattle.ace_model.proofs.ReadsFollow.Rows.{sender-before, none-passed, dirty-sent}
 use Rattle.ace_model.proofs.ReadsFollow.Sent.{dirty-now}
 use Rattle.ace_model.proofs.General.Options.{is_some_and-is}
+use Rattle.ace_model.proofs.Tables.Less.{less-clean}
 
 -- Where an M writes memory of a line under the grant of a read, and no port has sent data, it writes the value.
 abbrev pub WritesValue : Header → Trace → Type 0

@@ -9,12 +9,12 @@ use Rattle.ace_codes.specs.declared.kind.ArKind.TheVariants as read
 use Rattle.ace_codes.specs.declared.kind.SnoopKind.TheVariants as snoop
 use Rattle.ace_model.proofs.Rules.Keeps.{accepted_keeps}
 use Rattle.ace_model.proofs.Tables.States.{row_cases}
-use Rattle.ace_model.proofs.Holders.Snoop.{kind_of_code}
-use Rattle.ace_model.proofs.Holders.FirstTransfer.{found_passes}
 use Rattle.ace_model.proofs.Holders.Facts.{OneHolder}
 use Rattle.ace_model.proofs.Grants.SnoopedOnce.{answers_grant-is, answer_cr}
 use Rattle.ace_model.proofs.General.Options.{Some-injective, some_is, is_some_and-is, is_none_or-at}
 use Rattle.ace_model.proofs.General.Booleans.{same_test-at}
+use Rattle.ace_model.proofs.General.Ports.{found_passes}
+use Rattle.ace_model.proofs.Tables.ReadSnoops.{kind_of_code}
 
 -- snoops of reads of a line
 abbrev pub fetches : SnoopKind → Bool

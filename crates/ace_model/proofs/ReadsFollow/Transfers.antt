@@ -9,15 +9,15 @@ use Rattle.ace_codes.specs.declared.kind.ArKind.TheVariants as read
 use Rattle.ace_model.proofs.Rules.Keeps.{accepted_keeps}
 use Rattle.ace_model.proofs.Trace.Looks.{newest_on-older, without-other, has_name-is}
 use Rattle.ace_model.proofs.Trace.Issued.{outstanding-named, transaction_of-stands}
-use Rattle.ace_model.proofs.Holders.Address.{named_read, write_issued}
 use Rattle.ace_model.proofs.Holders.Grant.{other_line}
-use Rattle.ace_model.proofs.Holders.FirstTransfer.{each_at}
 use Rattle.ace_model.proofs.Holders.Transfer.{may, granted_one}
 use Rattle.ace_model.proofs.Holders.Law.{accepted_holds}
 use Rattle.ace_model.proofs.ReadsFollow.Outstanding.{outstanding-cases, line_read-line}
 use Rattle.ace_model.proofs.Grants.SnoopedOnce.{snoops_caused, snoops-for}
 use Rattle.ace_model.proofs.General.Options.{Some-injective, is_some_and-is}
 use Rattle.ace_model.proofs.General.Booleans.{implies-at}
+use Rattle.ace_model.proofs.General.Ports.{each_at}
+use Rattle.ace_model.proofs.Trace.Outstanding.{named_read, write_issued}
 
 -- a new read has had no transfer
 pub transfers-new : (e : Event) (past : Trace) (p i : ℕ) (x : Transaction) → issued (length past) e ≡ Some x → has_name x p Read i ≡ true → transfers (e ∷ past) p i ≡ 0

@@ -14,7 +14,7 @@ use Rattle.ace_model.proofs.Trace.Growth.{some_issued-is, some_issued-found}
 use Rattle.ace_model.proofs.Trace.Issued.{issued_at, outstanding-named, transaction_of-stands}
 use Rattle.ace_model.proofs.Rules.Keeps.{accepted_keeps}
 use Rattle.ace_model.proofs.Trace.Looks.{has_name-is}
-use Rattle.ace_model.proofs.Holders.Ends.{acknowledged_is}
+use Rattle.ace_model.proofs.Trace.Outstanding.{acknowledged_is}
 use Rattle.ace_model.proofs.Holders.Acknowledge.{ends, is_named_by_rk}
 use Rattle.ace_model.proofs.Holders.Transfer.{may}
 use Rattle.ace_model.proofs.Holders.Law.{accepted_holds}

@@ -7,8 +7,7 @@ use Rattle.ace_model.proofs.Terms.{burst_line, burst_of, k24, k25, may_write_mem
 use Rattle.ace_codes.specs.declared.kind.AwKind.TheVariants as write
 use Rattle.ace_model.proofs.Trace.Issued.{outstanding-named, transaction_of-stands, same_place}
 use Rattle.ace_model.proofs.Rules.Keeps.{accepted_keeps}
-use Rattle.ace_model.proofs.Trace.Looks.{has_name-is}
-use Rattle.ace_model.proofs.Holders.Grant.{is_on-addr}
+use Rattle.ace_model.proofs.Trace.Looks.{has_name-is, is_on-addr}
 use Rattle.ace_model.proofs.Holders.Law.{accepted_holds}
 use Rattle.ace_model.proofs.ReadsFollow.Points.{SameWords}
 use Rattle.ace_model.proofs.ReadsFollow.Sent.{dirty-now}

@@ -3,17 +3,13 @@ use Rattle.std.proofs.Common.{◌≡◌, ℕ, true, false, not, [], ◌∷◌, l
 use Rattle.std.proofs.lemmas.Bool.{and_parts, and_from, eq-eqb, eqb-true}
 use Rattle.ace_model.proofs.Terms.{Channel, Header, Transaction, Trace, is_line, is_on, has_name, issued, outstanding, is_outstanding, is_outstanding_on, has_outstanding_on, has_free_line}
 use Rattle.ace_model.proofs.Terms.{IsAccepted}
-use Rattle.ace_model.proofs.Trace.Looks.{at_name, has_name-is}
-use Rattle.ace_model.proofs.Trace.Issued.{outstanding-name, outstanding-cases, outstanding-named, transaction_of-stands}
+use Rattle.ace_model.proofs.Trace.Looks.{has_name-is}
+use Rattle.ace_model.proofs.Trace.Issued.{outstanding-cases, outstanding-named, transaction_of-stands}
 use Rattle.ace_model.proofs.Trace.Growth.{some_issued-found}
 use Rattle.ace_model.proofs.Rules.Keeps.{accepted_keeps}
 use Rattle.ace_model.proofs.General.Options.{Some-injective, is_none_or-at}
 use Rattle.ace_model.proofs.General.Booleans.{implies-at}
-
--- an outstanding transaction is so by its own name
-pub outstanding_own : (h : Header) (past : Trace) (p : ℕ) (c : Channel) (i : ℕ) (x : Transaction)
-    → outstanding h past p c i ≡ Some x → outstanding h past x.port x.chan x.id ≡ Some x
-outstanding_own h past p c i x o = at_name (outstanding h past) x p c i (outstanding-name h past p c i x o) ∙ o
+use Rattle.ace_model.proofs.Trace.Outstanding.{outstanding_own}
 
 -- what is outstanding on the line is found there
 pub outstanding_found : (h : Header) (past : Trace) (p : ℕ) (c : Channel) (i l : ℕ) (x : Transaction)

@@ -1,7 +1,7 @@
 -- What the small tests of the looks at a trace say.
 use Rattle.std.proofs.Common.{◌≡◌, ◌≢◌, ◌⊎◌, ℕ, true, false, ◌&&◌, nat_eq, Option, Some, None, refl, sym, ap, subst, ◌∙◌, inl, inr}
 use Rattle.std.proofs.lemmas.Bool.{and_parts, and_from, cases_Bool, eqb-true, eq-eqb}
-use Rattle.ace_model.proofs.Terms.{Channel, Read, Write, Transaction, is_read, same_channel, has_name, is_named, is_on}
+use Rattle.ace_model.proofs.Terms.{Channel, Read, Write, Transaction, is_read, same_channel, has_name, is_named, is_on, is_line}
 use Rattle.ace_model.proofs.Terms.{is_some_on, newest_named, without, newest_on}
 use Rattle.ace_model.proofs.General.Options.{Some-injective}
 
@@ -101,3 +101,11 @@ newest_on-cases (Some y) l older x e =
 pub newest_on-older : (new : Option Transaction) (l : ℕ) (older : Option Transaction) → is_some_on new l ≡ false → newest_on new l older ≡ older
 newest_on-older None l older f = refl
 newest_on-older (Some y) l older f = rw f refl
+
+-- a transaction on a line has its address
+pub is_on-addr : (x : Transaction) (l : ℕ) → is_on x l ≡ true → x.addr ≡ l
+is_on-addr x l e = eqb-true x.addr l ((and_parts (is_line x) _ e).1)
+
+-- what is there after an end was there before
+pub was_there : (ended_one o : Option Transaction) (x : Transaction) → without ended_one o ≡ Some x → o ≡ Some x
+was_there ended_one o x e = (without-some ended_one o x e).0

@@ -11,7 +11,6 @@ use Rattle.ace_model.proofs.Trace.Issued.{outstanding-named, transaction_of-stan
 use Rattle.ace_model.proofs.Rules.Keeps.{accepted_keeps}
 use Rattle.ace_model.proofs.General.Lists.{slice_get-more}
 use Rattle.ace_model.proofs.Tables.ReadEnds.{takes_alone, takes_shared}
-use Rattle.ace_model.proofs.Holders.Address.{named_read}
 use Rattle.ace_model.proofs.Holders.Facts.{Arrives}
 use Rattle.ace_model.proofs.Trace.LineOnce.{outstanding_found, one_on_line}
 use Rattle.ace_model.proofs.Grants.Stays.{gives_none}
@@ -27,6 +26,7 @@ use Rattle.ace_model.proofs.Values.Facts.{SentTrue, Fetches, FetchesTrue, DirtyP
 use Rattle.ace_model.proofs.Holders.Law.{accepted_holds}
 use Rattle.ace_model.proofs.General.Options.{Some-injective, is_some_and-at, is_none_or-at}
 use Rattle.ace_model.proofs.General.Booleans.{same_test-at}
+use Rattle.ace_model.proofs.Trace.Outstanding.{named_read}
 
 -- only an ACE port issues what an ACE-Lite port may not
 pub ace_read : (h : Header) (past : Trace) → IsAccepted h past → (p i : ℕ) (x : Transaction) (k : ArKind) → outstanding h past p Read i ≡ Some x → read_kind x ≡ Some k

@@ -5,7 +5,6 @@ use Rattle.ace_model.proofs.Terms.{passes_dirty, Read, Event, Ar, R, Header, Ans
 use Rattle.ace_model.proofs.Terms.{has_passed_data, is_begun, may_transfer, IsAccepted}
 use Rattle.ace_model.proofs.Trace.Looks.{has_name-is, newest_named-cases, without-some}
 use Rattle.ace_model.proofs.Trace.Issued.{outstanding-named, transaction_of-stands}
-use Rattle.ace_model.proofs.Holders.Address.{named_read}
 use Rattle.ace_model.proofs.Grants.Stays.{granted_before}
 use Rattle.ace_model.proofs.Grants.Begins.{may_of, line_transfer}
 use Rattle.ace_model.proofs.Grants.SnoopAnswers.{NewAnswer, answer_cases}
@@ -15,6 +14,7 @@ use Rattle.ace_model.proofs.Grants.Granted.{granted_at, unwritten_before, has_pa
 use Rattle.ace_model.proofs.Values.PassedData.{passes_data}
 use Rattle.ace_model.proofs.Holders.Law.{accepted_holds}
 use Rattle.ace_model.proofs.General.Options.{Some-injective}
+use Rattle.ace_model.proofs.Trace.Outstanding.{named_read}
 
 -- The event is a transfer under the name.
 record Transfer (e : Event) (p i : ℕ) : Type 0 where

@@ -4,7 +4,6 @@ use Rattle.std.proofs.lemmas.Bool.{and_parts, cases_Bool, eqb-true}
 use Rattle.ace_model.proofs.Terms.{ArKind, LineState, passes_dirty, is_shared, Rk, Read, Header, ends_read, Transaction, Trace, implies, is_some_and, is_make_unique, is_line, is_on, is_read, read_kind}
 use Rattle.ace_model.proofs.Terms.{write_kind, outstanding, acknowledged, first_resp, transaction_of, acknowledgements, has_failed, state_of, has_store, ends_well, is_end, held_of, IsAccepted}
 use Rattle.ace_model.proofs.Rules.Keeps.{accepted_keeps}
-use Rattle.ace_model.proofs.Holders.States.{held_on}
 use Rattle.ace_model.proofs.Holders.Acknowledge.{Ends, is_named_by_rk}
 use Rattle.ace_model.proofs.Holders.Facts.{Arrives}
 use Rattle.ace_model.proofs.Holders.Rises.{ends_of}
@@ -12,6 +11,7 @@ use Rattle.ace_model.proofs.Values.Stores.{IsFull}
 use Rattle.ace_model.proofs.Holders.Law.{accepted_holds}
 use Rattle.ace_model.proofs.General.Options.{Some-injective, is_some_and-is, is_none_or-at}
 use Rattle.ace_model.proofs.General.Booleans.{implies-at}
+use Rattle.ace_model.proofs.Tables.Less.{held_on}
 
 -- The read of the line that an RK of the port ends.
 pub record ReadEnds (h : Header) (past : Trace) (q : ℕ) (st : LineState) (p l : ℕ) : Type 0 where

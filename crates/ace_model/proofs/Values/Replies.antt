@@ -7,7 +7,7 @@ use Rattle.ace_model.proofs.Terms.{has_memory_write, data_answers, gives_line, g
 use Rattle.ace_model.proofs.Terms.{are_snoops_done, is_port_done, is_line_read_transaction, copy_of, memory_of, copy_at_answer, passed_to, passed_data, sender_at, first_sender, memory_at_first_beat}
 use Rattle.ace_model.proofs.Terms.{reply_of, value_of, IsAccepted, replaces_line}
 use Rattle.ace_codes.specs.declared.kind.ArKind.TheVariants as read
-use Rattle.ace_model.proofs.Holders.FirstTransfer.{done_port, found_passes}
+use Rattle.ace_model.proofs.Holders.FirstTransfer.{done_port}
 use Rattle.ace_model.proofs.Holders.Rises.{stays_empty}
 use Rattle.ace_model.proofs.Grants.Pending.{answering, snoops}
 use Rattle.ace_model.proofs.Grants.SnoopAnswers.{answer_cases}
@@ -17,6 +17,7 @@ use Rattle.ace_model.proofs.Values.Stays.{fetch_snoops}
 use Rattle.ace_model.proofs.Values.Facts.{SentTrue, DirtyPlaced}
 use Rattle.ace_model.proofs.Holders.Law.{accepted_holds}
 use Rattle.ace_model.proofs.General.Options.{Some-injective, some_is, is_some_and-is}
+use Rattle.ace_model.proofs.General.Ports.{found_passes}
 
 -- a port that has answered under the grant answers no more
 pub answered_once : (h : Header) (past : Trace) → IsAccepted h past → (d : Event) (r l : ℕ) (w : Answer) → answer_of past r l ≡ Some w → answer_at past d r l ≡ None

@@ -10,8 +10,8 @@ use Rattle.ace_codes.specs.declared.kind.AwKind.TheVariants as write
 use Rattle.ace_model.proofs.Trace.Issued.{same_place, outstanding-named}
 use Rattle.ace_model.proofs.Rules.Keeps.{accepted_keeps}
 use Rattle.ace_model.proofs.Tables.States.{is_settled}
-use Rattle.ace_model.proofs.Holders.Ends.{acknowledged_is}
-use Rattle.ace_model.proofs.Holders.Transfer.{ends_lite}
+use Rattle.ace_model.proofs.Trace.Outstanding.{acknowledged_is}
+use Rattle.ace_model.proofs.Trace.Outstanding.{ends_lite}
 use Rattle.ace_model.proofs.Holders.Acknowledge.{is_named_by_rk}
 use Rattle.ace_model.proofs.Grants.Begins.{may_of, line_transfer}
 use Rattle.ace_model.proofs.Trace.WriteQueue.{EndsWrite, ends_write_of, ends_lite_written}

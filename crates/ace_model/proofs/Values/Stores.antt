@@ -11,13 +11,12 @@ use Rattle.ace_model.proofs.Trace.Looks.{newest_named-cases, without-some}
 use Rattle.ace_model.proofs.Trace.Issued.{issued_at, same_place, outstanding-named, transaction_of-stands}
 use Rattle.ace_model.proofs.Trace.Growth.{IsIssued, some_issued-is}
 use Rattle.ace_model.proofs.Rules.Keeps.{accepted_keeps}
-use Rattle.ace_model.proofs.Holders.Address.{named_read}
 use Rattle.ace_model.proofs.Holders.Facts.{OthersInvalid}
-use Rattle.ace_model.proofs.Trace.LineOnce.{outstanding_own}
 use Rattle.ace_model.proofs.Grants.Begins.{may_of, else_of, write_due}
 use Rattle.ace_model.proofs.Trace.WriteQueue.{issue_completes}
 use Rattle.ace_model.proofs.Holders.Law.{accepted_holds}
 use Rattle.ace_model.proofs.General.Options.{Some-injective, is_some_and-is}
+use Rattle.ace_model.proofs.Trace.Outstanding.{named_read, outstanding_own}
 
 -- an issued transaction that is outstanding is so by its name
 pub outstanding_is : (h : Header) (past : Trace) (x : Transaction) → IsIssued past x → is_outstanding h past x ≡ true → outstanding h past x.port x.chan x.id ≡ Some x

@@ -11,7 +11,7 @@ use Rattle.ace_model.proofs.Trace.Issued.{outstanding-named, transaction_of-stan
 use Rattle.ace_model.proofs.Trace.Growth.{some_issued-found}
 use Rattle.ace_model.proofs.Rules.Keeps.{accepted_keeps}
 use Rattle.ace_model.proofs.Holders.Stores.{is_named_by_d}
-use Rattle.ace_model.proofs.Trace.LineOnce.{outstanding_own, outstanding_found, one_on_line}
+use Rattle.ace_model.proofs.Trace.LineOnce.{outstanding_found, one_on_line}
 use Rattle.ace_model.proofs.Holders.Rises.{dirty_moves, issue_leaves, ends_of}
 use Rattle.ace_model.proofs.Holders.Acknowledge.{is_named_by_rk}
 use Rattle.ace_model.proofs.Trace.WriteQueue.{ends_write_of}
@@ -19,6 +19,7 @@ use Rattle.ace_model.proofs.Tables.SnoopRows.{beside_update, dirty_stays, silent
 use Rattle.ace_model.proofs.Grants.SnoopAnswers.{Answering, answering_cr}
 use Rattle.ace_model.proofs.General.Options.{Some-injective, is_some_and-is, is_none_or-at}
 use Rattle.ace_model.proofs.General.Booleans.{implies-at}
+use Rattle.ace_model.proofs.Trace.Outstanding.{outstanding_own}
 
 -- updates of a dirty line; writes that tell of a clean one
 abbrev pub is_dirty_update : AwKind → Bool
