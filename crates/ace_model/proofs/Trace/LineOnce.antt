@@ -21,7 +21,7 @@ outstanding_found h past p c i l x o on =
     some_issued-found past (is_outstanding_on h past p l) x.place x s.there (and_from _ _ (and_from _ _ port on) out)
 
 -- a new transaction finds no other on its line
-free_line : (h : Header) (past : Trace) (p : ℕ) (c d : Channel) (i j l : ℕ) (x y : Transaction)
+pub free_line : (h : Header) (past : Trace) (p : ℕ) (c d : Channel) (i j l : ℕ) (x y : Transaction)
     → has_free_line h past x ≡ true → has_name x p c i ≡ true → outstanding h past p d j ≡ Some y → is_on x l ≡ true → is_on y l ≡ true → ⊥
 free_line h past p c d i j l x y free named o nx ny =
     let on = and_parts (is_line x) _ nx in

@@ -87,6 +87,17 @@ without-other (Some y) (Some w) x e other =
       | inr f ↦ rw f e
     ]
 
+-- what was there is there still, or is what ends
+pub without-cases : (y o : Option Transaction) (x : Transaction) → o ≡ Some x → (without y o ≡ Some x) ⊎ ((z : Transaction) × (y ≡ Some z) × (z.place ≡ x.place))
+without-cases None o x e = inl e
+without-cases (Some z) None x e = cc
+without-cases (Some z) (Some w) x e =
+    let one : w ≡ x = Some-injective w x e in
+    elim (cases_Bool (nat_eq w.place z.place)) [
+      | inl t ↦ inr (z, refl, sym (eqb-true w.place z.place t) ∙ ap (λ (v : Transaction). v.place) one)
+      | inr f ↦ inl (rw f e)
+    ]
+
 -- the newest on a line is the first one, on the line, or else the older one
 pub newest_on-cases : (new : Option Transaction) (l : ℕ) (older : Option Transaction) (x : Transaction)
     → newest_on new l older ≡ Some x

@@ -20,8 +20,7 @@ use Rattle.ace_model.proofs.Values.Stores.{stores_d}
 use Rattle.ace_model.proofs.Values.ReadEnds.{read_writes_none}
 use Rattle.ace_model.proofs.Values.Copies.{copy_moves}
 use Rattle.ace_model.proofs.Values.Stays.{may_unique, may_free, value_stays, made_apart, sent_step}
-use Rattle.ace_model.proofs.Values.Replies.{sender_before, reply_true, memory_true}
-use Rattle.ace_model.proofs.ReadsFollow.First.{memory-before}
+use Rattle.ace_model.proofs.Values.Replies.{sender_before, reply_true, memory_true, memory-before}
 use Rattle.ace_model.proofs.Values.Facts.{SentTrue, Fetches, FetchesTrue, DirtyPlaced}
 use Rattle.ace_model.proofs.Holders.Law.{accepted_holds}
 use Rattle.ace_model.proofs.General.Options.{Some-injective, is_some_and-at, is_none_or-at}

@@ -9,7 +9,6 @@ use Rattle.ace_model.proofs.Trace.Looks.{has_name-is}
 use Rattle.ace_model.proofs.Trace.Issued.{transaction_of-stands}
 use Rattle.ace_model.proofs.Rules.Keeps.{accepted_keeps}
 use Rattle.ace_model.proofs.Grants.Stays.{Stays, granted_after}
-use Rattle.ace_model.proofs.Grants.Begins.{then_of}
 use Rattle.ace_model.proofs.Values.Stores.{Writes, value_moves}
 use Rattle.ace_model.proofs.Values.Fetches.{value-length, fetches_step}
 use Rattle.ace_model.proofs.Values.Copies.{copies_step}
@@ -26,6 +25,7 @@ use Rattle.ace_model.proofs.Values.Safe.{ended_safe, answered_safe}
 use Rattle.ace_model.proofs.Values.Facts.{DirtyPlaced}
 use Rattle.ace_model.proofs.Holders.Law.{accepted_holds}
 use Rattle.ace_model.proofs.General.Options.{Some-injective, is_some_and-is, is_some_and-at}
+use Rattle.ace_model.proofs.General.Booleans.{then_of}
 
 module _ (h : Header) (past : Trace) where
   -- the M of passed data makes memory the value, or a port holds the line dirty

@@ -17,7 +17,6 @@ use Rattle.ace_model.proofs.Values.Fetches.{value-length}
 use Rattle.ace_model.proofs.Values.Stays.{value_updating}
 use Rattle.ace_model.proofs.Grants.Granted.{granted_at, passed_may, data_may, has_passed, granted_given, granted_write}
 use Rattle.ace_model.proofs.Values.Facts.{UpdatesTrue}
-use Rattle.ace_model.proofs.ReadsFollow.Written.{update-writes}
 use Rattle.ace_model.proofs.General.Options.{Some-injective, is_some_and-is, is_some_and-at, is_none_or-at}
 use Rattle.ace_model.proofs.General.Booleans.{implies-at}
 
@@ -139,6 +138,13 @@ module _ (h : Header) (past : Trace) where
 pub is_write-is : (c : Channel) → is_read c ≡ false → c ≡ Write
 is_write-is Read e = cc
 is_write-is Write e = refl
+
+-- a memory update writes its burst
+pub update-writes : (h : Header) (past : Trace) (y : Transaction) (k : AwKind) → is_update k ≡ true → data_of_write h past y k ≡ burst_line (burst_of past y)
+update-writes h past y write.WriteBack u = refl
+update-writes h past y write.WriteClean u = refl
+update-writes h past y write.WriteEvict u = refl
+update-writes h past y k u = cc
 
 -- the burst of an update is the value
 pub update_is : (h : Header) (past : Trace) → IsAccepted h past → UpdatesTrue h past → (p i l : ℕ) (x : Transaction) → outstanding h past p Write i ≡ Some x

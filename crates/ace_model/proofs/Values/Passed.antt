@@ -11,7 +11,6 @@ use Rattle.ace_model.proofs.Trace.Looks.{has_name-is, same_channel-self}
 use Rattle.ace_model.proofs.Trace.Issued.{transaction_of-stands}
 use Rattle.ace_model.proofs.Tables.States.{is_settled, row_is}
 use Rattle.ace_model.proofs.Grants.Stays.{granted_before}
-use Rattle.ace_model.proofs.Grants.Begins.{then_of}
 use Rattle.ace_model.proofs.Tables.SnoopRows.{is_make_invalid}
 use Rattle.ace_model.proofs.Grants.SnoopAnswers.{answer_cases}
 use Rattle.ace_model.proofs.Grants.Answers.{new_answer, others_settled, passed_kind}
@@ -25,6 +24,7 @@ use Rattle.ace_model.proofs.Values.Facts.{PassedTrue, DirtyPlaced}
 use Rattle.ace_model.proofs.Holders.Law.{accepted_holds}
 use Rattle.ace_model.proofs.General.Options.{Some-injective}
 use Rattle.ace_model.proofs.Trace.Growth.{some_issued-weaker}
+use Rattle.ace_model.proofs.General.Booleans.{then_of}
 
 -- a line that a port may store to is in no MakeUnique of the port
 pub no_make_unique : (h : Header) (past : Trace) (p l : ℕ) → may_store h past p l ≡ true → is_in_make_unique h past p l ≡ false

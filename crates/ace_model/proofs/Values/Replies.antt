@@ -1,7 +1,7 @@
 -- The reply to a read that keeps the line is the line's value.
 use Rattle.std.proofs.Common.{◌≡◌, ℕ, true, false, not, ◌&&◌, ◌||◌, nat_eq, [], ◌∷◌, length, Option, Some, None, is_some, is_none, option_and_then, unwrap_or, refl, sym, ap, subst, ◌∙◌, inl, inr}
 use Rattle.std.proofs.lemmas.Bool.{and_parts, and_from, or_cases, or_left, cases_Bool, cases_eq, eqb-true, eq-eqb}
-use Rattle.ace_model.proofs.Terms.{ArKind, SnoopKind, LineState, I, passes_dirty, transfers_data, Event, Cr, Header, is_fetch, is_dirty, Answer, Transaction, Trace, at_point, is_some_and, newer}
+use Rattle.ace_model.proofs.Terms.{ArKind, SnoopKind, LineState, I, passes_dirty, transfers_data, Event, Cr, Header, is_fetch, is_dirty, Answer, Transaction, Trace, at_point, is_some_and, newer, transfers}
 use Rattle.ace_model.proofs.Terms.{reads_a_line, is_clean_unique, is_make_unique, is_granted_write, is_on, is_line, read_kind, write_kind, snoop_of, snoop_kind_of, outstanding, is_exclusive_store}
 use Rattle.ace_model.proofs.Terms.{has_memory_write, data_answers, gives_line, granted, is_granted, answers_grant, answer_at, answer_of, passes, passer, has_passed_data, each_port, has_failed, state_of}
 use Rattle.ace_model.proofs.Terms.{are_snoops_done, is_port_done, is_line_read_transaction, copy_of, memory_of, copy_at_answer, passed_to, passed_data, sender_at, first_sender, memory_at_first_beat}
@@ -192,3 +192,8 @@ memory_true h past a f l x k g kind fetch done none =
               let is : answer_of past r.0 l ≡ Some w.0 = ap (answer_of past r.0) (sym addr) ∙ w.1 in
               sent_sender past r.0 l w.0 is (passed_kind h past a l r.0 x w.0 g is w.2).3 none
         ]
+
+-- memory before the first beat is memory now
+pub memory-before : (past : Trace) (p i l : ℕ) → transfers past p i ≡ 0 → memory_at_first_beat past p i l ≡ memory_of past l
+memory-before [] p i l none = refl
+memory-before (e ∷ past) p i l none = rw (eq-eqb (transfers (e ∷ past) p i) 0 none) refl

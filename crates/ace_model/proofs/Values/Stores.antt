@@ -5,18 +5,20 @@ use Rattle.ace_model.proofs.Terms.{ArKind, AwKind, Channel, Read, Write, Event, 
 use Rattle.ace_model.proofs.Terms.{is_unique_write, is_no_snoop_write, is_ace, is_read, is_line, is_on, is_named, read_kind, write_kind, issued, ended, transfers, outstanding, transaction_of}
 use Rattle.ace_model.proofs.Terms.{is_outstanding, is_make_unique_on, is_completion, is_complete, updates_memory, has_memory_write, is_burst_whole, granted, is_granted, awaits_store, has_store}
 use Rattle.ace_model.proofs.Terms.{are_snoops_done, stores_data, value_of, may_store, wants_store, full_line, may_write_memory, may_write_passed, may_write_data, is_write_due, is_update_due, IsAccepted}
-use Rattle.ace_codes.specs.declared.kind.ArKind.TheVariants as read
-use Rattle.ace_codes.specs.declared.kind.AwKind.TheVariants as write
 use Rattle.ace_model.proofs.Trace.Looks.{newest_named-cases, without-some}
 use Rattle.ace_model.proofs.Trace.Issued.{issued_at, same_place, outstanding-named, transaction_of-stands}
 use Rattle.ace_model.proofs.Trace.Growth.{IsIssued, some_issued-is}
 use Rattle.ace_model.proofs.Rules.Keeps.{accepted_keeps}
 use Rattle.ace_model.proofs.Holders.Facts.{OthersInvalid}
-use Rattle.ace_model.proofs.Grants.Begins.{may_of, else_of, write_due}
+use Rattle.ace_model.proofs.Grants.Begins.{may_of}
+use Rattle.ace_model.proofs.General.Booleans.{else_of}
 use Rattle.ace_model.proofs.Trace.WriteQueue.{issue_completes}
 use Rattle.ace_model.proofs.Holders.Law.{accepted_holds}
 use Rattle.ace_model.proofs.General.Options.{Some-injective, is_some_and-is}
 use Rattle.ace_model.proofs.Trace.Outstanding.{named_read, outstanding_own}
+use Rattle.ace_model.proofs.Grants.Granted.{data_may}
+use Rattle.ace_codes.specs.declared.kind.ArKind.TheVariants as read
+use Rattle.ace_codes.specs.declared.kind.AwKind.TheVariants as write
 
 -- an issued transaction that is outstanding is so by its name
 pub outstanding_is : (h : Header) (past : Trace) (x : Transaction) → IsIssued past x → is_outstanding h past x ≡ true → outstanding h past x.port x.chan x.id ≡ Some x
@@ -215,7 +217,7 @@ module _ (h : Header) (past : Trace) where
       let early = and_parts (is_burst_whole past x) (not (has_memory_write past x.port x.chan x.id))
       (and_parts (is_burst_whole past x && not (has_memory_write past x.port x.chan x.id)) (is_write_due h past x || is_update_due h past x) by).0 in
       let due : is_write_due h past x ≡ true =
-      elim (write_due h past x may writes) [
+      elim (data_may h past x may writes).how [
         | inl d ↦ d
         | inr u ↦
             let k = stores_kind x parts.0 in
