@@ -200,13 +200,9 @@ copies_step h past (D q addr strobe b line) a f l p held =
 copies_step h past (M q c j line) a f l p held =
     elim (value_moves h past (M q c j line) a l) [
       | inl same ↦ f.copies l p held ∙ sym same
-      | inr s ↦ elim s [
-        | inl d ↦ let is = d.is in cc
-        | inr s ↦ elim s [
-          | inl d ↦ let is = d.is in cc
-          | inr w ↦ absurd (held (all_empty h past a.0 w.port w.chan w.id l w.by p))
-        ]
-      ]
+      | inr (inl d) ↦ let is = d.is in cc
+      | inr (inr (inl d)) ↦ let is = d.is in cc
+      | inr (inr (inr w)) ↦ absurd (held (all_empty h past a.0 w.port w.chan w.id l w.by p))
     ]
 copies_step h past (R q j resp last word) a f l p held =
     elim (cases_Bool ((nat_eq p q && last) && is_some_and (transaction_of past p Read j) (λ x. is_on x l && is_line_read_transaction x))) [

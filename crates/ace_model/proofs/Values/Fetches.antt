@@ -210,19 +210,17 @@ fetches_step h past e a f p i l x k o on kind fetch some =
           words = λ n v is. known.words n v (ap (λ ws. slice_get ws n) (sym same_words) ∙ is) ∙ ap (λ b. word_of b n) (sym value);
           whole = λ four. elim (copy_moves h past e a p l) [
             | inl kept ↦ kept ∙ known.whole (sym same ∙ four) ∙ sym value
-            | inr moved ↦ elim moved [
-              | inl c ↦
-                  let one = one_on_line h past a.0 p Read Read c.id i l c.one x c.out was c.on on in
-                  let own = has_name-is c.one p Read c.id (transaction_of-stands past p Read c.id c.one (outstanding-named h past p Read c.id c.one c.out)).named in
-                  let id : c.id ≡ i = sym own.id ∙ ap (λ (y : Transaction). y.id) one ∙ name.id in
-                  let is : e ≡ R p i c.resp c.last c.word = c.is ∙ ap (λ v. R p v c.resp c.last c.word) id in
-                  let next : transfers (R p i c.resp c.last c.word ∷ past) p i ≡ transfers past p i + 1 = rw (and_from _ _ (eq-eqb p p refl) (eq-eqb i i refl)) refl in
-                  let bad : transfers past p i ≡ transfers past p i + 1 = sym same ∙ ap (λ d. transfers (d ∷ past) p i) is ∙ next in
-                  absurd (omega (arith, bad))
-              | inr d ↦ elim (stores_d h past p l d.strobe d.ex d.line (subst (λ v. IsAccepted h (v ∷ past)) d.is a)) [
-                | inl may ↦ absurd (no_port p may)
-                | inr m ↦ absurd (made_apart h past l x k kind fetch p d.strobe m (one_on_line h past a.0 p Read Read m.id i l m.one x m.out was m.on on))
-              ]
+            | inr (inl c) ↦
+                let one = one_on_line h past a.0 p Read Read c.id i l c.one x c.out was c.on on in
+                let own = has_name-is c.one p Read c.id (transaction_of-stands past p Read c.id c.one (outstanding-named h past p Read c.id c.one c.out)).named in
+                let id : c.id ≡ i = sym own.id ∙ ap (λ (y : Transaction). y.id) one ∙ name.id in
+                let is : e ≡ R p i c.resp c.last c.word = c.is ∙ ap (λ v. R p v c.resp c.last c.word) id in
+                let next : transfers (R p i c.resp c.last c.word ∷ past) p i ≡ transfers past p i + 1 = rw (and_from _ _ (eq-eqb p p refl) (eq-eqb i i refl)) refl in
+                let bad : transfers past p i ≡ transfers past p i + 1 = sym same ∙ ap (λ d. transfers (d ∷ past) p i) is ∙ next in
+                absurd (omega (arith, bad))
+            | inr (inr d) ↦ elim (stores_d h past p l d.strobe d.ex d.line (subst (λ v. IsAccepted h (v ∷ past)) d.is a)) [
+              | inl may ↦ absurd (no_port p may)
+              | inr m ↦ absurd (made_apart h past l x k kind fetch p d.strobe m (one_on_line h past a.0 p Read Read m.id i l m.one x m.out was m.on on))
             ]
           ];
         }

@@ -1,5 +1,5 @@
 -- Data newer than memory have a place, at every point of an accepted trace.
-use Rattle.std.proofs.Common.{◌≡◌, ℕ, true, false, nat_eq, [], ◌∷◌, Option, Some, None, option_and_then, refl, sym, ap, subst, ◌∙◌, inl, inr}
+use Rattle.std.proofs.Common.{◌≡◌, ℕ, true, false, nat_eq, [], ◌∷◌, Option, Some, None, option_and_then, option_map, refl, sym, ap, subst, ◌∙◌, inl, inr}
 use Rattle.std.proofs.lemmas.Bool.{and_parts, or_left, cases_Bool, eqb-true}
 use Rattle.std.specs.List.{AllByRecursion}
 use Rattle.ace_model.proofs.Terms.{InRange, Channel, Event, M, D, Header, Line, is_dirty, Transaction, Trace, is_some_and, is_make_unique, is_write_line_unique, is_read, is_line, read_kind, write_kind}
@@ -25,7 +25,7 @@ use Rattle.ace_model.proofs.Values.Updated.{updated_step}
 use Rattle.ace_model.proofs.Values.Safe.{ended_safe, answered_safe}
 use Rattle.ace_model.proofs.Values.Facts.{DirtyPlaced}
 use Rattle.ace_model.proofs.Holders.Law.{accepted_holds}
-use Rattle.ace_model.proofs.General.Options.{Some-injective, is_some_and-is, is_some_and-at}
+use Rattle.ace_model.proofs.General.Options.{is_some_and-is, is_some_and-at}
 
 module _ (h : Header) (past : Trace) where
   -- the M of passed data makes memory the value, or a port holds the line dirty
@@ -45,15 +45,9 @@ module _ (h : Header) (past : Trace) where
       value =
           elim (value_moves h past e a l) [
             | inl same ↦ same
-            | inr s ↦ elim s [
-              | inl d ↦ let bad = sym w.is ∙ d.is in cc
-              | inr s ↦ elim s [
-                | inl d ↦ let bad = sym w.is ∙ d.is in cc
-                | inr d ↦
-                    let one : d.by.one ≡ w.one = Some-injective d.by.one w.one (sym d.by.stands ∙ b.stands) in
-                    let bad : true ≡ false = sym b.reads ∙ ap (λ (y : Transaction). is_read y.chan) (sym one) ∙ d.by.writes in cc
-              ]
-            ]
+            | inr (inl d) ↦ let bad = sym w.is ∙ d.is in cc
+            | inr (inr (inl d)) ↦ let bad = sym w.is ∙ d.is in cc
+            | inr (inr (inr d)) ↦ let chan = ap (option_map (λ (y : Transaction). is_read y.chan)) (sym d.by.stands ∙ b.stands) in let read = b.reads in let write = d.by.writes in cc
           ]
 
   memory_written : (e : Event) → IsAccepted h (e ∷ past) → AllByRecursion InRange (e ∷ past) → DirtyPlaced h past → (l : ℕ) → WritesLine h past e l
@@ -61,10 +55,8 @@ module _ (h : Header) (past : Trace) where
   memory_written e a r f l w =
       elim (writer h past e a l w) [
         | inl passed ↦ passed_written e a r.0 f l w passed
-        | inr s ↦ elim s [
-          | inl u ↦ inl (update_true h past e a r.0 f.updates l w u)
-          | inr s ↦ inl (store_true h past e a r f l w s)
-        ]
+        | inr (inl u) ↦ inl (update_true h past e a r.0 f.updates l w u)
+        | inr (inr s) ↦ inl (store_true h past e a r f l w s)
       ]
 
   -- the M of a store is one of the line
@@ -109,19 +101,15 @@ module _ (h : Header) (past : Trace) where
         | inr w ↦ memory_written e a r f l w
         | inl kept ↦ elim (value_moves h past e a l) [
           | inl same ↦ carries kept same
-          | inr s ↦ elim s [
-            | inl d ↦ inr (inl (d.port, subst (λ v. is_dirty (state_of h (v ∷ past) d.port l) ≡ true) (sym d.is) (store_dirty h past d.port l d.strobe d.ex d.line d.may)))
-            | inr s ↦ elim s [
-              | inl d ↦
-                  let replaces : replaces_line d.made.one ≡ true =
-                  or_left (is_some_and (read_kind d.made.one) is_make_unique) (is_some_and (write_kind d.made.one) is_write_line_unique)
-                  (subst (λ o. is_some_and o is_make_unique ≡ true) (sym d.made.kind) refl) in
-                  let here : is_some_and (granted h (D d.port l d.strobe d.ex d.line ∷ past) l) replaces_line ≡ true =
-                  subst (λ o. is_some_and o replaces_line ≡ true) (sym d.made.stands) replaces in
-                  inr (inr (inr (subst (λ v. is_some_and (granted h (v ∷ past) l) replaces_line ≡ true) (sym d.is) here)))
-              | inr d ↦ memory_written e a r f l (store_writes e a d.port d.chan d.id l d.line d.is d.by)
-            ]
-          ]
+          | inr (inl d) ↦ inr (inl (d.port, subst (λ v. is_dirty (state_of h (v ∷ past) d.port l) ≡ true) (sym d.is) (store_dirty h past d.port l d.strobe d.ex d.line d.may)))
+          | inr (inr (inl d)) ↦
+              let replaces : replaces_line d.made.one ≡ true =
+              or_left (is_some_and (read_kind d.made.one) is_make_unique) (is_some_and (write_kind d.made.one) is_write_line_unique)
+              (subst (λ o. is_some_and o is_make_unique ≡ true) (sym d.made.kind) refl) in
+              let here : is_some_and (granted h (D d.port l d.strobe d.ex d.line ∷ past) l) replaces_line ≡ true =
+              subst (λ o. is_some_and o replaces_line ≡ true) (sym d.made.stands) replaces in
+              inr (inr (inr (subst (λ v. is_some_and (granted h (v ∷ past) l) replaces_line ≡ true) (sym d.is) here)))
+          | inr (inr (inr d)) ↦ memory_written e a r f l (store_writes e a d.port d.chan d.id l d.line d.is d.by)
         ]
       ]
     where
@@ -146,31 +134,25 @@ module _ (h : Header) (past : Trace) where
       carries kept same =
           elim (f.safe l) [
             | inl m ↦ inl (kept ∙ m ∙ sym same)
-            | inr s ↦ elim s [
-              | inl d ↦ elim (dirt_moves h past e a f.updated d.0 l d.1) [
-                | inl still ↦ inr (inl (d.0, still))
-                | inr t ↦ elim t [
-                  | inl u ↦ inl (kept ∙ u.stored ∙ sym same)
-                  | inr c ↦
-                      subst (λ v. IsValueSafe h (v ∷ past) l) (sym c.is)
-                      (answered_safe h past d.0 c.resp c.st (subst (λ v. IsAccepted h (v ∷ past)) c.is a) f l d.1 c.answering)
-                ]
-              ]
-              | inr s ↦ elim s [
-                | inl passed ↦
-                    let x = passed_granted l (value_of past l) passed in
-                    elim (granted_after h past e a l x.0 x.1) [
-                      | inl stays ↦ passed_on x.0 x.1 x.2 stays
-                      | inr z ↦ ended_safe h past e a f.written l x.0 x.1 (inl x.2) z.0 z.1 z.2
-                    ]
-                | inr replaces ↦
-                    let x = is_some_and-is (granted h past l) replaces_line replaces in
-                    elim (granted_after h past e a l x.0 x.1) [
-                      | inl stays ↦ inr (inr (inr (subst (λ o. is_some_and o replaces_line ≡ true) (sym stays.is) x.2)))
-                      | inr z ↦ ended_safe h past e a f.written l x.0 x.1 (inr x.2) z.0 z.1 z.2
-                    ]
-              ]
+            | inr (inl d) ↦ elim (dirt_moves h past e a f.updated d.0 l d.1) [
+              | inl still ↦ inr (inl (d.0, still))
+              | inr (inl u) ↦ inl (kept ∙ u.stored ∙ sym same)
+              | inr (inr c) ↦
+                  subst (λ v. IsValueSafe h (v ∷ past) l) (sym c.is)
+                  (answered_safe h past d.0 c.resp c.st (subst (λ v. IsAccepted h (v ∷ past)) c.is a) f l d.1 c.answering)
             ]
+            | inr (inr (inl passed)) ↦
+                let x = passed_granted l (value_of past l) passed in
+                elim (granted_after h past e a l x.0 x.1) [
+                  | inl stays ↦ passed_on x.0 x.1 x.2 stays
+                  | inr z ↦ ended_safe h past e a f.written l x.0 x.1 (inl x.2) z.0 z.1 z.2
+                ]
+            | inr (inr (inr replaces)) ↦
+                let x = is_some_and-is (granted h past l) replaces_line replaces in
+                elim (granted_after h past e a l x.0 x.1) [
+                  | inl stays ↦ inr (inr (inr (subst (λ o. is_some_and o replaces_line ≡ true) (sym stays.is) x.2)))
+                  | inr z ↦ ended_safe h past e a f.written l x.0 x.1 (inr x.2) z.0 z.1 z.2
+                ]
           ]
 
   -- each event keeps the facts

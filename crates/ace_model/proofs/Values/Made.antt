@@ -130,13 +130,11 @@ made_step h past e a f p i l x o on kind s =
         let first : has_store h past p i ≡ false = sym (ap (λ v. has_store h past v m.id) port ∙ ap (has_store h past p) id) ∙ m.first in cc in
         elim (copy_moves h past e a p l) [
           | inl same ↦ same ∙ f.made p i l x was on kind stored ∙ sym (value_stays h past e a l x stands (read_writes_none x read.MakeUnique kind).1 no_port no_make)
-          | inr moved ↦ elim moved [
-            | inl r ↦
-                let one = one_on_line h past a.0 p Read Read r.id i l r.one x r.out was r.on on in
-                let bad : false ≡ true = sym (ap (λ o. is_some_and o reads_a_line) (ap read_kind one ∙ kind)) ∙ r.reads in cc
-            | inr d ↦ elim (stores_d h past p l d.strobe d.ex d.line (subst (λ v. IsAccepted h (v ∷ past)) d.is a)) [
-              | inl may ↦ absurd (no_port p may)
-              | inr m ↦ absurd (no_make p d.strobe m (one_on_line h past a.0 p Read Read m.id i l m.one x m.out was m.on on))
-            ]
+          | inr (inl r) ↦
+              let one = one_on_line h past a.0 p Read Read r.id i l r.one x r.out was r.on on in
+              let bad : false ≡ true = sym (ap (λ o. is_some_and o reads_a_line) (ap read_kind one ∙ kind)) ∙ r.reads in cc
+          | inr (inr d) ↦ elim (stores_d h past p l d.strobe d.ex d.line (subst (λ v. IsAccepted h (v ∷ past)) d.is a)) [
+            | inl may ↦ absurd (no_port p may)
+            | inr m ↦ absurd (no_make p d.strobe m (one_on_line h past a.0 p Read Read m.id i l m.one x m.out was m.on on))
           ]
         ]

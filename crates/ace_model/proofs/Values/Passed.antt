@@ -111,14 +111,12 @@ module _ (h : Header) (past : Trace) where
                 | inl same ↦ keeps_value stays.was old same
                 | inr dirty ↦ elim (dirt_moves h past e a f.updated r l dirty) [
                   | inl still ↦ inr still
-                  | inr s ↦ elim s [
-                    | inl u ↦
-                        let yes = passes_data h past a.0 l r x w stays.was before old d in
-                        let no = u.none x stays.was in cc
-                    | inr c ↦
-                        let once = answered_once h past a.0 e r l w old in
-                        absurd (answers_twice c.resp c.st c.answering.under (subst (λ v. answer_at past v r l ≡ None) c.is once))
-                  ]
+                  | inr (inl u) ↦
+                      let yes = passes_data h past a.0 l r x w stays.was before old d in
+                      let no = u.none x stays.was in cc
+                  | inr (inr c) ↦
+                      let once = answered_once h past a.0 e r l w old in
+                      absurd (answers_twice c.resp c.st c.answering.under (subst (λ v. answer_at past v r l ≡ None) c.is once))
                 ]
               ]
               | inr new ↦
@@ -143,31 +141,27 @@ module _ (h : Header) (past : Trace) where
       keeps_value was old same =
           elim (value_moves h past e a l) [
             | inl kept ↦ inl (copy_at-old past e r l w old ∙ same ∙ sym kept)
-            | inr s ↦ elim s [
-              | inl p ↦ elim (cases_eq p.port r) [
-                | inl own ↦ inr (subst (λ v. is_dirty (state_of h (e ∷ past) v l) ≡ true) own
-                    (subst (λ v. is_dirty (state_of h (v ∷ past) p.port l) ≡ true) (sym p.is) (store_dirty h past p.port l p.strobe p.ex p.line p.may)))
-                | inr apart ↦ absurd (unique_unsettled (state_of h past p.port l) (may_unique h past p.port l p.may) (others_settled h past a.0 l r p.port x w was old d apart))
-              ]
-              | inr s ↦ elim s [
-                | inl m ↦
-                    let one : m.made.one ≡ x = Some-injective m.made.one x (sym m.made.stands ∙ was) in
-                    let k = passed_kind h past a.0 l r x w was old d in
-                    let causes : snoop_of x ≡ Some snoop.MakeInvalid = ap snoop_of (sym one) ∙ ap (λ v. snoop_kind_of v (write_kind m.made.one)) m.made.kind in
-                    let kind : k.0 ≡ snoop.MakeInvalid = Some-injective k.0 snoop.MakeInvalid (sym k.1 ∙ causes) in
-                    let bad : true ≡ false = sym (ap is_make_invalid kind) ∙ k.2 in cc
-                | inr m ↦
-                    let one : m.by.one ≡ x = Some-injective m.by.one x (sym m.by.stands ∙ was) in
-                    let named = ap (transaction_of past m.port m.chan) (refl {a = m.id}) ∙ m.by.named ∙ ap (λ v. Some v) one in
-                    let name = has_name-is x m.port m.chan m.id (transaction_of-stands past m.port m.chan m.id x named).named in
-                    let now : is_memory_write (M m.port m.chan m.id m.line) m.port m.chan m.id ≡ true =
-                    and_from _ _ (and_from _ _ (eq-eqb m.port m.port refl) (same_channel-self m.chan)) (eq-eqb m.id m.id refl) in
-                    let here : has_memory_write (e ∷ past) m.port m.chan m.id ≡ true =
-                    subst (λ v. has_memory_write (v ∷ past) m.port m.chan m.id ≡ true) (sym m.is) (or_left (is_memory_write (M m.port m.chan m.id m.line) m.port m.chan m.id) _ now) in
-                    let own : has_memory_write (e ∷ past) x.port x.chan x.id ≡ true =
-                    ap (λ v. has_memory_write (e ∷ past) v x.chan x.id) name.port ∙ ap (λ (v : Channel). has_memory_write (e ∷ past) m.port v x.id) name.chan
-                    ∙ ap (has_memory_write (e ∷ past) m.port m.chan) name.id ∙ here in
-                    cc
-              ]
+            | inr (inl p) ↦ elim (cases_eq p.port r) [
+              | inl own ↦ inr (subst (λ v. is_dirty (state_of h (e ∷ past) v l) ≡ true) own
+                  (subst (λ v. is_dirty (state_of h (v ∷ past) p.port l) ≡ true) (sym p.is) (store_dirty h past p.port l p.strobe p.ex p.line p.may)))
+              | inr apart ↦ absurd (unique_unsettled (state_of h past p.port l) (may_unique h past p.port l p.may) (others_settled h past a.0 l r p.port x w was old d apart))
             ]
+            | inr (inr (inl m)) ↦
+                let one : m.made.one ≡ x = Some-injective m.made.one x (sym m.made.stands ∙ was) in
+                let k = passed_kind h past a.0 l r x w was old d in
+                let causes : snoop_of x ≡ Some snoop.MakeInvalid = ap snoop_of (sym one) ∙ ap (λ v. snoop_kind_of v (write_kind m.made.one)) m.made.kind in
+                let kind : k.0 ≡ snoop.MakeInvalid = Some-injective k.0 snoop.MakeInvalid (sym k.1 ∙ causes) in
+                let bad : true ≡ false = sym (ap is_make_invalid kind) ∙ k.2 in cc
+            | inr (inr (inr m)) ↦
+                let one : m.by.one ≡ x = Some-injective m.by.one x (sym m.by.stands ∙ was) in
+                let named = ap (transaction_of past m.port m.chan) (refl {a = m.id}) ∙ m.by.named ∙ ap (λ v. Some v) one in
+                let name = has_name-is x m.port m.chan m.id (transaction_of-stands past m.port m.chan m.id x named).named in
+                let now : is_memory_write (M m.port m.chan m.id m.line) m.port m.chan m.id ≡ true =
+                and_from _ _ (and_from _ _ (eq-eqb m.port m.port refl) (same_channel-self m.chan)) (eq-eqb m.id m.id refl) in
+                let here : has_memory_write (e ∷ past) m.port m.chan m.id ≡ true =
+                subst (λ v. has_memory_write (v ∷ past) m.port m.chan m.id ≡ true) (sym m.is) (or_left (is_memory_write (M m.port m.chan m.id m.line) m.port m.chan m.id) _ now) in
+                let own : has_memory_write (e ∷ past) x.port x.chan x.id ≡ true =
+                ap (λ v. has_memory_write (e ∷ past) v x.chan x.id) name.port ∙ ap (λ (v : Channel). has_memory_write (e ∷ past) m.port v x.id) name.chan
+                ∙ ap (has_memory_write (e ∷ past) m.port m.chan) name.id ∙ here in
+                cc
           ]

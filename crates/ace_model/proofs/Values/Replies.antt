@@ -126,17 +126,13 @@ pub memory_true : (h : Header) (past : Trace) → IsAccepted h past → DirtyPla
 memory_true h past a f l x k g kind fetch done none =
     elim (f.safe l) [
       | inl same ↦ same
-      | inr s ↦ elim s [
-        | inl dirty ↦ absurd (no_holder dirty.0 dirty.1)
-        | inr s ↦ elim s [
-          | inl passed ↦ absurd (no_passed passed)
-          | inr replaces ↦
-              let r : replaces_line x ≡ true = subst (λ o. is_some_and o replaces_line ≡ true) g replaces in
-              let writes = (read_writes_none x k kind).0 in
-              let reads : is_some_and (read_kind x) is_make_unique ≡ false = ap (λ o. is_some_and o is_make_unique) kind ∙ (fetch_line k fetch).2 in
-              let bad : false ≡ true = rw (reads, writes) at r in cc
-        ]
-      ]
+      | inr (inl dirty) ↦ absurd (no_holder dirty.0 dirty.1)
+      | inr (inr (inl passed)) ↦ absurd (no_passed passed)
+      | inr (inr (inr replaces)) ↦
+          let r : replaces_line x ≡ true = subst (λ o. is_some_and o replaces_line ≡ true) g replaces in
+          let writes = (read_writes_none x k kind).0 in
+          let reads : is_some_and (read_kind x) is_make_unique ≡ false = ap (λ o. is_some_and o is_make_unique) kind ∙ (fetch_line k fetch).2 in
+          let bad : false ≡ true = rw (reads, writes) at r in cc
     ]
   where
     snoop : (s : SnoopKind) × (snoop_of x ≡ Some s) × (is_levelling s ≡ true)

@@ -40,15 +40,11 @@ module _ (h : Header) (past : Trace) where
   value_stays e a l x g reads no_port no_make =
       elim (value_moves h past e a l) [
         | inl same ↦ same
-        | inr s ↦ elim s [
-          | inl d ↦ absurd (no_port d.port d.may)
-          | inr s ↦ elim s [
-            | inl d ↦ absurd (no_make d.port d.strobe d.made (Some-injective d.made.one x (sym d.made.stands ∙ g)))
-            | inr w ↦
-                let one : w.by.one ≡ x = Some-injective w.by.one x (sym w.by.stands ∙ g) in
-                let bad : false ≡ true = sym w.by.writes ∙ ap (λ (y : Transaction). is_read y.chan) one ∙ reads in cc
-          ]
-        ]
+        | inr (inl d) ↦ absurd (no_port d.port d.may)
+        | inr (inr (inl d)) ↦ absurd (no_make d.port d.strobe d.made (Some-injective d.made.one x (sym d.made.stands ∙ g)))
+        | inr (inr (inr w)) ↦
+            let one : w.by.one ≡ x = Some-injective w.by.one x (sym w.by.stands ∙ g) in
+            let bad : false ≡ true = sym w.by.writes ∙ ap (λ (y : Transaction). is_read y.chan) one ∙ reads in cc
       ]
 
   -- while an update of a port that holds the line is outstanding
@@ -59,26 +55,22 @@ module _ (h : Header) (past : Trace) where
       let valid : state_of h past p l ≡ I → ⊥ = λ gone. let bad : true ≡ false = sym (ap is_invalid gone) ∙ held in cc in
       elim (value_moves h past e a l) [
         | inl same ↦ same
-        | inr s ↦ elim s [
-          | inl d ↦ elim (cases_eq d.port p) [
-            | inl own ↦
-                let some = outstanding_found h past p Write i l x o on in
-                let none = may_free p l (subst (λ v. may_store h past v l ≡ true) own d.may) in cc
-            | inr apart ↦ absurd (valid ((accepted_holds h past a.0).unique l d.port p (may_unique d.port l d.may) apart))
-          ]
-          | inr s ↦ elim s [
-            | inl d ↦ elim (cases_eq d.port p) [
-              | inl own ↦
-                  let out : outstanding h past p Read d.made.id ≡ Some d.made.one = ap (λ v. outstanding h past v Read d.made.id) (sym own) ∙ d.made.out in
-                  let one = one_on_line h past a.0 p Read Write d.made.id i l d.made.one x out o d.made.on on in
-                  let chan = (has_name-is x p Write i (transaction_of-stands past p Write i x (outstanding-named h past p Write i x o)).named).chan in
-                  let reads = (read_writes_none d.made.one read.MakeUnique d.made.kind).1 in
-                  let bad : true ≡ false = sym reads ∙ ap (λ (y : Transaction). is_read y.chan) one ∙ ap is_read chan in cc
-              | inr apart ↦ absurd (valid (d.made.alone p apart))
-            ]
-            | inr w ↦ absurd (valid (all_empty h past a.0 w.port w.chan w.id l w.by p))
-          ]
+        | inr (inl d) ↦ elim (cases_eq d.port p) [
+          | inl own ↦
+              let some = outstanding_found h past p Write i l x o on in
+              let none = may_free p l (subst (λ v. may_store h past v l ≡ true) own d.may) in cc
+          | inr apart ↦ absurd (valid ((accepted_holds h past a.0).unique l d.port p (may_unique d.port l d.may) apart))
         ]
+        | inr (inr (inl d)) ↦ elim (cases_eq d.port p) [
+          | inl own ↦
+              let out : outstanding h past p Read d.made.id ≡ Some d.made.one = ap (λ v. outstanding h past v Read d.made.id) (sym own) ∙ d.made.out in
+              let one = one_on_line h past a.0 p Read Write d.made.id i l d.made.one x out o d.made.on on in
+              let chan = (has_name-is x p Write i (transaction_of-stands past p Write i x (outstanding-named h past p Write i x o)).named).chan in
+              let reads = (read_writes_none d.made.one read.MakeUnique d.made.kind).1 in
+              let bad : true ≡ false = sym reads ∙ ap (λ (y : Transaction). is_read y.chan) one ∙ ap is_read chan in cc
+          | inr apart ↦ absurd (valid (d.made.alone p apart))
+        ]
+        | inr (inr (inr w)) ↦ absurd (valid (all_empty h past a.0 w.port w.chan w.id l w.by p))
       ]
 
 -- an answer knows how many events came before it

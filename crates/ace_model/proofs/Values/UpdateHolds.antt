@@ -184,13 +184,11 @@ stays_clean h (e ∷ past) a p i l x o on clean =
           let w = without-some (ended h past e) (outstanding h past p Write i) x old.0 in
           elim (dirty_moves h past e a p l (stays_clean h past a.0 p i l x w.0 on clean)) [
             | inl fine ↦ fine
-            | inr more ↦ elim more [
-              | inl may ↦
-                  let none = not-true (has_outstanding_on h past p l) (and_parts (is_unique (state_of h past p l)) _ may).1 in
-                  let some = outstanding_found h past p Write i l x w.0 on in cc
-              | inr up ↦
-                  let one = one_on_line h past a.0 p Read Write up.id i l up.read_one x up.out w.0 up.on on in
-                  absurd (w.1 up.read_one up.ends_it (ap (λ (y : Transaction). y.place) one))
-            ]
+            | inr (inl may) ↦
+                let none = not-true (has_outstanding_on h past p l) (and_parts (is_unique (state_of h past p l)) _ may).1 in
+                let some = outstanding_found h past p Write i l x w.0 on in cc
+            | inr (inr up) ↦
+                let one = one_on_line h past a.0 p Read Write up.id i l up.read_one x up.out w.0 up.on on in
+                absurd (w.1 up.read_one up.ends_it (ap (λ (y : Transaction). y.place) one))
           ]
     ]

@@ -74,20 +74,18 @@ updated_step h past e a r f p i l x o on dirty m =
         let writes : is_read x.chan ≡ false = ap is_read chan in
         elim (writer h past e a l w) [
           | inl passed ↦ let bad : true ≡ false = sym passed.reads ∙ ap (λ (y : Transaction). is_read y.chan) same ∙ writes in cc
-          | inr s ↦ elim s [
-            | inl u ↦
-                let addr = eqb-true w.one.addr l (and_parts (is_line w.one) (nat_eq w.one.addr l) w.on).1 in
-                record {
-                  stored = update_true h past e a r.0 f.updates l w u;
-                  none = still_none h past e a l
-                      (λ y g. not-true (has_passed_data h past y) (is_none_or-at (granted h past w.one.addr) (λ y. not (has_passed_data h past y)) y u.clear (ap (granted h past) addr ∙ g)))
-                      (λ q v new d. let bad = sym w.is ∙ new.is in cc);
-                }
-            | inr s ↦
-                let one : s.one ≡ x = Some-injective s.one w.one (sym s.named ∙ outstanding-named h past w.port w.chan w.id w.one w.out) ∙ same in
-                let kind = (granted_given h past a.0 l x (s.stands ∙ ap (λ v. Some v) one)).kind in
-                absurd (updates_ungranted x kind writes updates)
-          ]
+          | inr (inl u) ↦
+              let addr = eqb-true w.one.addr l (and_parts (is_line w.one) (nat_eq w.one.addr l) w.on).1 in
+              record {
+                stored = update_true h past e a r.0 f.updates l w u;
+                none = still_none h past e a l
+                    (λ y g. not-true (has_passed_data h past y) (is_none_or-at (granted h past w.one.addr) (λ y. not (has_passed_data h past y)) y u.clear (ap (granted h past) addr ∙ g)))
+                    (λ q v new d. let bad = sym w.is ∙ new.is in cc);
+              }
+          | inr (inr s) ↦
+              let one : s.one ≡ x = Some-injective s.one w.one (sym s.named ∙ outstanding-named h past w.port w.chan w.id w.one w.out) ∙ same in
+              let kind = (granted_given h past a.0 l x (s.stands ∙ ap (λ v. Some v) one)).kind in
+              absurd (updates_ungranted x kind writes updates)
         ]
 
     later : outstanding h past p Write i ≡ Some x → Updated h past l → Updated h (e ∷ past) l
@@ -99,10 +97,8 @@ updated_step h past e a r f p i l x o on dirty m =
             | inl kept ↦ kept ∙ q.stored ∙ sym value
             | inr w ↦ elim (writer h past e a l w) [
               | inl passed ↦ let bad : true ≡ false = sym passed.has ∙ q.none w.one passed.stands in cc
-              | inr s ↦ elim s [
-                | inl u ↦ update_true h past e a r.0 f.updates l w u
-                | inr s ↦ let bad : true ≡ false = sym (ap is_invalid (all_empty h past a.0 w.port w.chan w.id l s p)) ∙ k.held in cc
-              ]
+              | inr (inl u) ↦ update_true h past e a r.0 f.updates l w u
+              | inr (inr s) ↦ let bad : true ≡ false = sym (ap is_invalid (all_empty h past a.0 w.port w.chan w.id l s p)) ∙ k.held in cc
             ]
           ];
           none = still_none h past e a l q.none (λ z v new d.

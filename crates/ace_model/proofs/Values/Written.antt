@@ -55,14 +55,10 @@ base_is h past a f l x g replaces empty = by (passed_data h past l) refl
     by None is =
         elim (f.safe l) [
           | inl same ↦ same
-          | inr s ↦ elim s [
-            | inl d ↦ absurd (no_holder d)
-            | inr s ↦ elim s [
-              | inl passed ↦ let bad : None ≡ Some (value_of past l) = sym is ∙ passed in cc
-              | inr r ↦
-                  let yes : replaces_line x ≡ true = subst (λ o. is_some_and o replaces_line ≡ true) g r in cc
-            ]
-          ]
+          | inr (inl d) ↦ absurd (no_holder d)
+          | inr (inr (inl passed)) ↦ let bad : None ≡ Some (value_of past l) = sym is ∙ passed in cc
+          | inr (inr (inr r)) ↦
+              let yes : replaces_line x ≡ true = subst (λ o. is_some_and o replaces_line ≡ true) g r in cc
         ]
     by (Some d) is =
         elim (cases_Bool (has_passed_data h past x)) [
@@ -202,15 +198,11 @@ written_step h past e a r f l x g writes m =
     later was earlier q =
         let value : value_of (e ∷ past) l ≡ value_of past l = elim (value_moves h past e a l) [
           | inl same ↦ same
-          | inr s ↦ elim s [
-            | inl d ↦ absurd (unique_valid (state_of h past d.port l) (may_unique h past d.port l d.may) (q.nowhere d.port))
-            | inr s ↦ elim s [
-              | inl d ↦
-                  let one : d.made.one ≡ x = Some-injective d.made.one x (sym d.made.stands ∙ was) in
-                  let bad : true ≡ false = sym (read_writes_none d.made.one read.MakeUnique d.made.kind).1 ∙ ap (λ (y : Transaction). is_read y.chan) one ∙ writes in cc
-              | inr d ↦ absurd (again was earlier d.port d.chan d.id d.by)
-            ]
-          ]
+          | inr (inl d) ↦ absurd (unique_valid (state_of h past d.port l) (may_unique h past d.port l d.may) (q.nowhere d.port))
+          | inr (inr (inl d)) ↦
+              let one : d.made.one ≡ x = Some-injective d.made.one x (sym d.made.stands ∙ was) in
+              let bad : true ≡ false = sym (read_writes_none d.made.one read.MakeUnique d.made.kind).1 ∙ ap (λ (y : Transaction). is_read y.chan) one ∙ writes in cc
+          | inr (inr (inr d)) ↦ absurd (again was earlier d.port d.chan d.id d.by)
         ] in
         elim (memory_moves h past e a l) [
           | inl kept ↦ kept ∙ q.stored ∙ sym value
@@ -218,9 +210,7 @@ written_step h past e a r f l x g writes m =
             | inl passed ↦
                 let one : w.one ≡ x = Some-injective w.one x (sym passed.stands ∙ was) in
                 let bad : true ≡ false = sym passed.reads ∙ ap (λ (y : Transaction). is_read y.chan) one ∙ writes in cc
-            | inr s ↦ elim s [
-              | inl u ↦ update_true h past e a r.0 f.updates l w u
-              | inr s ↦ absurd (again was earlier w.port w.chan w.id s)
-            ]
+            | inr (inl u) ↦ update_true h past e a r.0 f.updates l w u
+            | inr (inr s) ↦ absurd (again was earlier w.port w.chan w.id s)
           ]
         ]
