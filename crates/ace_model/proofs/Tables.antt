@@ -1,3 +1,4 @@
 pub mod ReadEnds
 pub mod SnoopRows
 pub mod States
+pub mod Kinds

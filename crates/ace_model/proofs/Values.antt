@@ -1,6 +1,7 @@
 pub mod Copies
 pub mod DirtMoves
 pub mod Facts
+pub mod FullReads
 pub mod Fetches
 pub mod Law
 pub mod Made

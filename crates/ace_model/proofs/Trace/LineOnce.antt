@@ -1,13 +1,13 @@
 -- A port has one outstanding transaction on a line.
-use Rattle.std.proofs.Common.{◌≡◌, ℕ, true, not, [], ◌∷◌, length, Some, refl, sym, ap, ◌∙◌, inl, inr}
+use Rattle.std.proofs.Common.{◌≡◌, ℕ, true, not, nat_eq, [], ◌∷◌, length, Some, refl, sym, ap, ◌∙◌, inl, inr}
 use Rattle.std.proofs.lemmas.Bool.{and_parts, and_from, eq-eqb, eqb-true}
 use Rattle.ace_model.proofs.Terms.{Channel, Header, Transaction, Trace, is_line, is_on, has_name, issued, ended, outstanding, is_outstanding, is_outstanding_on, has_outstanding_on, has_free_line}
 use Rattle.ace_model.proofs.Terms.{IsAccepted}
 use Rattle.ace_model.proofs.Trace.Looks.{has_name-is, newest_named-cases, without-some}
-use Rattle.ace_model.proofs.Trace.Issued.{outstanding-named, transaction_of-stands}
-use Rattle.ace_model.proofs.Trace.Growth.{some_issued-found}
+use Rattle.ace_model.proofs.Trace.Issued.{issued_at, outstanding-named, transaction_of-stands}
+use Rattle.ace_model.proofs.Trace.Growth.{IsIssued, some_issued-found}
 use Rattle.ace_model.proofs.Rules.Keeps.{accepted_keeps}
-use Rattle.ace_model.proofs.General.Options.{Some-injective, is_none_or-at}
+use Rattle.ace_model.proofs.General.Options.{Some-injective, is_some_and-is, is_none_or-at}
 use Rattle.ace_model.proofs.General.Booleans.{implies-at}
 
 -- an outstanding transaction is so by its own name
@@ -16,6 +16,13 @@ pub outstanding_own : (h : Header) (past : Trace) (p : ℕ) (c : Channel) (i : �
 outstanding_own h past p c i x o =
     let n = has_name-is x p c i (transaction_of-stands past p c i x (outstanding-named h past p c i x o)).named in
     ap (λ a. outstanding h past a x.chan x.id) n.port ∙ ap (λ a. outstanding h past p a x.id) n.chan ∙ ap (outstanding h past p c) n.id ∙ o
+
+-- and one that was issued, where its name says that it is
+pub outstanding_is : (h : Header) (past : Trace) (x : Transaction) → IsIssued past x → is_outstanding h past x ≡ true → outstanding h past x.port x.chan x.id ≡ Some x
+outstanding_is h past x i o =
+    let y = is_some_and-is (outstanding h past x.port x.chan x.id) (λ y. nat_eq y.place x.place) o in
+    let s = transaction_of-stands past x.port x.chan x.id y.0 (outstanding-named h past x.port x.chan x.id y.0 y.1) in
+    y.1 ∙ sym s.there ∙ ap (issued_at past) (eqb-true y.0.place x.place y.2) ∙ i.there
 
 -- what is outstanding on the line is found there
 pub outstanding_found : (h : Header) (past : Trace) (p : ℕ) (c : Channel) (i l : ℕ) (x : Transaction)

@@ -1,80 +1,21 @@
 -- A dirty line stays dirty at its port, or is written to memory, or its port answers a snoop of it.
-use Rattle.std.proofs.Common.{◌≡◌, ◌⊎◌, ℕ, Bool, true, false, not, ◌&&◌, ◌||◌, nat_eq, ◌∷◌, Some, None, refl, sym, ap, subst, ◌∙◌, inl, inr}
-use Rattle.std.proofs.lemmas.Bool.{and_parts, or_cases, or_right, cases_Bool, eqb-true}
-use Rattle.std.specs.List.{list_all}
-use Rattle.ace_model.proofs.Terms.{ArKind, AwKind, LineState, I, UC, SC, SD, passes_dirty, is_shared, Channel, Write, Event, Rk, Wk, Cr, S, D, Header, end_states_of_read, ends_read, is_silent_move}
+use Rattle.std.proofs.Common.{◌≡◌, ◌⊎◌, ℕ, true, false, not, ◌&&◌, ◌||◌, nat_eq, ◌∷◌, Some, None, refl, sym, ap, subst, ◌∙◌, inl, inr}
+use Rattle.std.proofs.lemmas.Bool.{and_parts, or_cases, or_left, or_right, cases_Bool, eqb-true}
+use Rattle.ace_model.proofs.Terms.{is_make_unique, AwKind, LineState, I, Channel, Write, Event, Rk, Wk, Cr, S, D, Header, is_silent_move}
 use Rattle.ace_model.proofs.Terms.{is_invalid, is_dirty, Transaction, Trace, is_some_and, is_line_read, is_line_write, is_granted_write, has_write_data, is_line, is_on, is_some_on, read_kind, write_kind}
-use Rattle.ace_model.proofs.Terms.{outstanding, acknowledged, first_resp, has_update, has_memory_write, answers_line, has_failed, state_of, is_line_read_transaction, IsAccepted}
-use Rattle.ace_codes.specs.declared.kind.ArKind.TheVariants as read
-use Rattle.ace_codes.specs.declared.kind.AwKind.TheVariants as write
+use Rattle.ace_model.proofs.Terms.{outstanding, acknowledged, has_update, has_memory_write, answers_line, state_of, is_line_read_transaction, IsAccepted}
 use Rattle.ace_model.proofs.Rules.Keeps.{accepted_keeps}
-use Rattle.ace_model.proofs.Tables.States.{all_among}
+use Rattle.ace_model.proofs.Tables.Kinds.{is_dirty_update, is_clean_write, write_kinds, update_data, dirty_updates}
 use Rattle.ace_model.proofs.Holders.Stores.{is_named_by_d}
 use Rattle.ace_model.proofs.Holders.Acknowledge.{is_named_by_rk}
 use Rattle.ace_model.proofs.Holders.Rises.{stays_empty}
 use Rattle.ace_model.proofs.Trace.WriteQueue.{ends_write_of}
 use Rattle.ace_model.proofs.Tables.SnoopRows.{silent_dirty}
 use Rattle.ace_model.proofs.Grants.SnoopAnswers.{Answering, answering_cr}
-use Rattle.ace_model.proofs.Values.UpdateHolds.{is_dirty_update, is_clean_write, stays_clean}
+use Rattle.ace_model.proofs.Values.UpdateHolds.{stays_clean}
 use Rattle.ace_model.proofs.Values.ReadEnds.{read_ends}
 use Rattle.ace_model.proofs.Values.Facts.{Updated, UpdatedTrue}
 use Rattle.ace_model.proofs.General.Options.{is_some_and-is}
-
--- a read of a dirty line, or one that takes passed data, leaves the line dirty
-dirty_rows : (k : ArKind) (held : LineState) (shared pass failed : Bool) → (list_all is_dirty (end_states_of_read k held shared pass failed) || not (pass || is_dirty held)) ≡ true
-dirty_rows read.ReadClean I false false failed = refl
-dirty_rows read.ReadNotSharedDirty I false false failed = refl
-dirty_rows read.ReadShared I false false failed = refl
-dirty_rows read.ReadUnique I false false failed = refl
-dirty_rows read.ReadClean I true false failed = refl
-dirty_rows read.ReadNotSharedDirty I true false failed = refl
-dirty_rows read.ReadShared I true false failed = refl
-dirty_rows read.ReadNotSharedDirty I false true failed = refl
-dirty_rows read.ReadShared I false true failed = refl
-dirty_rows read.ReadUnique I false true failed = refl
-dirty_rows read.ReadShared I true true failed = refl
-dirty_rows read.CleanUnique I false false false = refl
-dirty_rows read.CleanUnique SC false false false = refl
-dirty_rows read.CleanUnique SD false false false = refl
-dirty_rows read.CleanUnique I false false true = refl
-dirty_rows read.CleanUnique SC false false true = refl
-dirty_rows read.CleanUnique SD false false true = refl
-dirty_rows read.MakeUnique I false false failed = refl
-dirty_rows read.MakeUnique SC false false failed = refl
-dirty_rows read.MakeUnique SD false false failed = refl
-dirty_rows read.CleanShared I shared false failed = refl
-dirty_rows read.CleanShared UC false false failed = refl
-dirty_rows read.CleanShared SC false false failed = refl
-dirty_rows read.CleanShared UC true false failed = refl
-dirty_rows read.CleanShared SC true false failed = refl
-dirty_rows read.ReadOnce I shared false failed = refl
-dirty_rows read.ReadNoSnoop I false false failed = refl
-dirty_rows read.CleanInvalid I false false failed = refl
-dirty_rows read.MakeInvalid I false false failed = refl
-dirty_rows read.Barrier I false false failed = refl
-dirty_rows read.DvmComplete I false false failed = refl
-dirty_rows read.DvmMessage I false false failed = refl
-dirty_rows _ held shared pass failed = refl
-
-dirty_ends : (k : ArKind) (held : LineState) (shared pass failed : Bool) → (pass || is_dirty held) ≡ true → list_all is_dirty (end_states_of_read k held shared pass failed) ≡ true
-dirty_ends k held shared pass failed d =
-    elim (or_cases (list_all is_dirty (end_states_of_read k held shared pass failed)) (not (pass || is_dirty held)) (dirty_rows k held shared pass failed)) [
-      | inl t ↦ t
-      | inr f ↦ let bad : false ≡ true = rw d at f in cc
-    ]
-
-pub passed_dirty : (k : ArKind) (held : LineState) (shared failed : Bool) (st : LineState) → ends_read k held shared true failed st ≡ true → is_dirty st ≡ true
-passed_dirty k held shared failed st e = all_among is_dirty (end_states_of_read k held shared true failed) st e (dirty_ends k held shared true failed refl)
-
--- and a MakeUnique
-make_ends : (held : LineState) (shared pass failed : Bool) → list_all is_dirty (end_states_of_read read.MakeUnique held shared pass failed) ≡ true
-make_ends I false false failed = refl
-make_ends SC false false failed = refl
-make_ends SD false false failed = refl
-make_ends held shared pass failed = refl
-
-pub made_dirty : (held : LineState) (shared pass failed : Bool) (st : LineState) → ends_read read.MakeUnique held shared pass failed st ≡ true → is_dirty st ≡ true
-made_dirty held shared pass failed st e = all_among is_dirty (end_states_of_read read.MakeUnique held shared pass failed) st e (make_ends held shared pass failed)
 
 -- The port answers a snoop of the line.
 pub record AnswersNow (h : Header) (past : Trace) (e : Event) (p l : ℕ) : Type 0 where
@@ -82,22 +23,6 @@ pub record AnswersNow (h : Header) (past : Trace) (e : Event) (p l : ℕ) : Type
   pub st : LineState
   pub is : e ≡ Cr p resp st
   pub answering : Answering h past p resp st l
-
--- the writes of a line
-write_kinds : (k : AwKind) → is_line_write k ≡ true → (is_dirty_update k || is_clean_write k || is_granted_write k) ≡ true
-write_kinds write.Barrier e = cc
-write_kinds write.WriteBack e = refl
-write_kinds write.WriteClean e = refl
-write_kinds write.WriteEvict e = refl
-write_kinds write.Evict e = refl
-write_kinds write.WriteNoSnoop e = refl
-write_kinds write.WriteUnique e = refl
-write_kinds write.WriteLineUnique e = refl
-
-dirty_data : (k : AwKind) → is_dirty_update k ≡ true → has_write_data k ≡ true
-dirty_data write.WriteBack e = refl
-dirty_data write.WriteClean e = refl
-dirty_data k e = cc
 
 line_write : (x : Transaction) → x.chan ≡ Write → is_line x ≡ true → (k : AwKind) × (write_kind x ≡ Some k) × (is_line_write k ≡ true)
 line_write x chan line =
@@ -119,7 +44,7 @@ dirt_wk h past q st a f p l d t =
     elim (or_cases (is_dirty_update k.0 || is_clean_write k.0) (is_granted_write k.0) (write_kinds k.0 k.2)) [
       | inl told ↦ elim (or_cases (is_dirty_update k.0) (is_clean_write k.0) told) [
         | inl updates ↦
-            let sends : is_some_and (write_kind z.0) has_write_data ≡ true = subst (λ o. is_some_and o has_write_data ≡ true) (sym k.1) (dirty_data k.0 updates) in
+            let sends : is_some_and (write_kind z.0) has_write_data ≡ true = subst (λ o. is_some_and o has_write_data ≡ true) (sym k.1) (update_data k.0 (dirty_updates k.0 updates)) in
             let port : z.0.port ≡ p = e.port ∙ sym (eqb-true p q parts.0) in
             let had : has_memory_write past p Write e.id ≡ true =
             sym (ap (λ b. has_memory_write past b z.0.chan z.0.id) port ∙ ap (λ (c : Channel). has_memory_write past p c z.0.id) e.chan ∙ ap (has_memory_write past p Write) e.is_id)
@@ -141,11 +66,7 @@ dirt_moves h past (Rk q st) a f p l d =
       | inr other ↦ inl (rw other d)
       | inl t ↦
           let r = read_ends h past q st a p l t in
-          let o = first_resp past p r.id in
-          let held = state_of h past p l in
-          let dirty : is_dirty st ≡ true = all_among is_dirty (end_states_of_read r.kind held (is_some_and o is_shared) (is_some_and o passes_dirty) (has_failed past r.one)) st r.state
-          (dirty_ends r.kind held (is_some_and o is_shared) (is_some_and o passes_dirty) (has_failed past r.one) (or_right (is_some_and o passes_dirty) (is_dirty held) d)) in
-          inl (rw t dirty)
+          inl (rw t (r.state.keeps_dirt (or_left _ (is_make_unique r.kind) (or_right _ (is_dirty (state_of h past p l)) d))))
     ]
 dirt_moves h past (Wk q st) a f p l d =
     elim (cases_Bool (nat_eq p q && is_some_on (acknowledged past p Write) l)) [

@@ -11,7 +11,8 @@ use Rattle.ace_model.proofs.Rules.Keeps.{accepted_keeps}
 use Rattle.ace_model.proofs.Grants.Stays.{Stays, granted_after}
 use Rattle.ace_model.proofs.Grants.Begins.{then_of}
 use Rattle.ace_model.proofs.Values.Stores.{Writes, value_moves}
-use Rattle.ace_model.proofs.Values.Fetches.{value-length, fetches_step}
+use Rattle.ace_model.proofs.Values.Fetches.{fetches_step}
+use Rattle.ace_model.proofs.Values.MergedLines.{value-length}
 use Rattle.ace_model.proofs.Values.Copies.{copies_step}
 use Rattle.ace_model.proofs.Values.Made.{made_step}
 use Rattle.ace_model.proofs.Values.Stays.{sent_step, updates_step}

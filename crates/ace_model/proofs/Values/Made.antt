@@ -10,9 +10,12 @@ use Rattle.ace_model.proofs.Trace.Issued.{outstanding-named, transaction_of-stan
 use Rattle.ace_model.proofs.Rules.Keeps.{accepted_keeps}
 use Rattle.ace_model.proofs.Trace.LineOnce.{outstanding_found, one_on_line}
 use Rattle.ace_model.proofs.Values.MergedLines.{merged-whole}
-use Rattle.ace_model.proofs.Values.Stores.{Made, stores_d, done_read, full_some}
-use Rattle.ace_model.proofs.Values.ReadEnds.{read_writes_none}
-use Rattle.ace_model.proofs.Values.Copies.{copy_moves, unique_valid}
+use Rattle.ace_model.proofs.Values.Stores.{Made, stores_d}
+use Rattle.ace_model.proofs.Values.FullReads.{done_read}
+use Rattle.ace_model.proofs.Values.FullReads.{full_some}
+use Rattle.ace_model.proofs.Trace.Looks.{read_writes_none}
+use Rattle.ace_model.proofs.Values.Copies.{copy_moves}
+use Rattle.ace_model.proofs.Tables.States.{unique_valid}
 use Rattle.ace_model.proofs.Values.Stays.{may_unique, may_free, value_stays}
 use Rattle.ace_model.proofs.Values.Facts.{MadeTrue, DirtyPlaced}
 use Rattle.ace_model.proofs.Holders.Law.{accepted_holds}

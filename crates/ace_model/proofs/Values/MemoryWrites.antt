@@ -3,17 +3,17 @@ use Rattle.std.proofs.Common.{◌≡◌, ◌⊎◌, ℕ, ◌<◌, ◌^◌, Bool,
 use Rattle.std.proofs.lemmas.Bool.{and_parts, and_from, or_right, cases_Bool, eqb-true}
 use Rattle.std.specs.List.{AllByRecursion}
 use Rattle.ace_model.proofs.Terms.{AwKind, IsDigit, IsWord, IsLine, InRange, Channel, Read, Write, Event, W, M, Header, Line, Transaction, Trace, implies, is_some_and, is_none_or, is_update}
-use Rattle.ace_model.proofs.Terms.{is_write_line_unique, has_write_data, is_granted_write, is_unique_write, is_no_snoop_write, is_read, is_line, is_on, write_kind, issued, ended, outstanding}
+use Rattle.ace_model.proofs.Terms.{is_write_line_unique, has_write_data, is_granted_write, is_read, is_line, is_on, write_kind, issued, ended, outstanding}
 use Rattle.ace_model.proofs.Terms.{transaction_of, updates_memory, is_burst_whole, next_write, next_write_beat, granted, is_granted, has_passed_data, memory_of, same_line, Beat, burst_of, burst_line}
 use Rattle.ace_model.proofs.Terms.{stores_data, value_of, is_next_beat, fits_write, full_beat, may_write_memory, data_of, data_of_write, has_data, IsAccepted}
-use Rattle.ace_codes.specs.declared.kind.AwKind.TheVariants as write
 use Rattle.ace_model.proofs.Trace.Looks.{has_name-is, newest_named-cases, without-some}
 use Rattle.ace_model.proofs.Trace.Issued.{outstanding-named, transaction_of-stands}
+use Rattle.ace_model.proofs.Tables.Kinds.{granted_stores}
 use Rattle.ace_model.proofs.Rules.Keeps.{accepted_keeps}
 use Rattle.ace_model.proofs.Values.MergedLines.{same_line-is, lines_by_words}
 use Rattle.ace_model.proofs.Trace.WriteBursts.{burst_grows, burst_new, four_beats}
 use Rattle.ace_model.proofs.Values.Stores.{Writes, stores_m}
-use Rattle.ace_model.proofs.Values.Fetches.{value-length}
+use Rattle.ace_model.proofs.Values.MergedLines.{value-length}
 use Rattle.ace_model.proofs.Values.Stays.{value_updating}
 use Rattle.ace_model.proofs.Grants.Granted.{granted_at, passed_may, data_may, has_passed, granted_given, granted_write}
 use Rattle.ace_model.proofs.Values.Facts.{UpdatesTrue}
@@ -66,15 +66,9 @@ memory_moves h past (M q c j line) a l = by (transaction_of past q c j) refl
         ]
 memory_moves h past _ a l = inl refl
 
-granted_stores : (k : AwKind) → is_granted_write k ≡ true → (is_unique_write k || is_no_snoop_write k) ≡ true
-granted_stores write.WriteNoSnoop g = refl
-granted_stores write.WriteUnique g = refl
-granted_stores write.WriteLineUnique g = refl
-granted_stores k g = cc
-
 -- a granted write stores
 pub grant_stores : (x : Transaction) → (k : AwKind) → write_kind x ≡ Some k → is_granted_write k ≡ true → stores_data x ≡ true
-grant_stores x k kind g = rw kind (granted_stores k g)
+grant_stores x k kind g = rw kind (granted_stores k ∙ g)
 
 module _ (h : Header) (past : Trace) where
   -- The M of a read, of passed data.

@@ -1,7 +1,7 @@
 -- Passed data are the value of their line, or their port has stored since and holds the line dirty.
 use Rattle.std.proofs.Common.{◌≡◌, ◌⊎◌, ℕ, Bool, true, false, ◌&&◌, nat_eq, ◌∷◌, length, Option, Some, None, option_and_then, option_map, refl, sym, ap, subst, ◌∙◌, inl, inr}
 use Rattle.std.proofs.lemmas.Bool.{and_parts, and_from, or_left, cases_Bool, cases_eq, eqb-true, eq-eqb}
-use Rattle.ace_model.proofs.Terms.{ArKind, LineState, I, UC, UD, SC, SD, passes_dirty, Channel, Event, Cr, D, M, Header, Line, is_unique, is_dirty, Answer, Transaction, Trace, at_point, is_some_and}
+use Rattle.ace_model.proofs.Terms.{ArKind, LineState, passes_dirty, Channel, Event, Cr, D, M, Header, Line, is_dirty, Answer, Transaction, Trace, at_point, is_some_and}
 use Rattle.ace_model.proofs.Terms.{is_make_unique, is_line, read_kind, write_kind, snoop_of, snoop_kind_of, transaction_of, has_outstanding_on, is_outstanding, is_outstanding_on, is_make_unique_on}
 use Rattle.ace_model.proofs.Terms.{is_complete, is_memory_write, has_memory_write, data_answers, granted, answers_grant, answer_at, answer_of, passer, has_passed_data, state_of, is_in_make_unique}
 use Rattle.ace_model.proofs.Terms.{awaits_store, copy_of, copy_at_answer, passed_to, passed_data, value_of, may_store, IsAccepted, HasDirtyHolder, IsValueSafe}
@@ -9,7 +9,7 @@ use Rattle.ace_codes.specs.declared.kind.ArKind.TheVariants as read
 use Rattle.ace_codes.specs.declared.kind.SnoopKind.TheVariants as snoop
 use Rattle.ace_model.proofs.Trace.Looks.{has_name-is, same_channel-self}
 use Rattle.ace_model.proofs.Trace.Issued.{transaction_of-stands}
-use Rattle.ace_model.proofs.Tables.States.{is_settled, row_is}
+use Rattle.ace_model.proofs.Tables.States.{row_is, unique_unsettled, dirty_valid}
 use Rattle.ace_model.proofs.Holders.Stores.{some_issued-weaker}
 use Rattle.ace_model.proofs.Grants.Stays.{granted_before}
 use Rattle.ace_model.proofs.Grants.Begins.{then_of}
@@ -18,7 +18,7 @@ use Rattle.ace_model.proofs.Grants.SnoopAnswers.{answer_cases}
 use Rattle.ace_model.proofs.Grants.Answers.{new_answer, others_settled, passed_kind}
 use Rattle.ace_model.proofs.Values.Stores.{value_moves}
 use Rattle.ace_model.proofs.Values.Stays.{may_unique, may_free, copy_at-old, copy_at-new, value_cr}
-use Rattle.ace_model.proofs.Values.Replies.{answered_once, dirty_valid}
+use Rattle.ace_model.proofs.Values.Replies.{answered_once}
 use Rattle.ace_model.proofs.Grants.Granted.{unwritten_before, has_passed, Passes, passes_of}
 use Rattle.ace_model.proofs.Values.PassedData.{passes_data}
 use Rattle.ace_model.proofs.Values.DirtMoves.{dirt_moves}
@@ -59,13 +59,6 @@ store_dirty h past p l strobe x line may =
     let pp : nat_eq p p ≡ true = eq-eqb p p refl in
     let ll : nat_eq l l ≡ true = eq-eqb l l refl in
     rw (pp, ll, none) refl
-
-unique_unsettled : (st : LineState) → is_unique st ≡ true → is_settled st ≡ true → ⊥
-unique_unsettled I u s = cc
-unique_unsettled UC u s = cc
-unique_unsettled UD u s = cc
-unique_unsettled SC u s = cc
-unique_unsettled SD u s = cc
 
 module _ (h : Header) (past : Trace) where
   -- with the passed copy at its answer, the passed data are there

@@ -10,7 +10,7 @@ use Rattle.ace_model.proofs.Grants.Stays.{granted_before}
 use Rattle.ace_model.proofs.Grants.Begins.{may_of, line_transfer}
 use Rattle.ace_model.proofs.Grants.SnoopAnswers.{NewAnswer, answer_cases}
 use Rattle.ace_model.proofs.Grants.Answers.{new_answer}
-use Rattle.ace_model.proofs.Values.Fetches.{issue_transfers}
+use Rattle.ace_model.proofs.Values.FullReads.{issue_transfers}
 use Rattle.ace_model.proofs.Grants.Granted.{granted_at, unwritten_before, has_passed, passes_of}
 use Rattle.ace_model.proofs.Values.PassedData.{passes_data}
 use Rattle.ace_model.proofs.Holders.Law.{accepted_holds}

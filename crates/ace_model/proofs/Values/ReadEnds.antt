@@ -1,20 +1,21 @@
 -- What an RK leaves of the line of its read.
-use Rattle.std.proofs.Common.{◌≡◌, ℕ, true, nat_eq, ◌∷◌, Some, None, le_refl, refl, sym, ap, subst, ◌∙◌, inl, inr}
-use Rattle.std.proofs.lemmas.Bool.{and_parts, cases_Bool, eqb-true}
-use Rattle.ace_model.proofs.Terms.{ArKind, LineState, passes_dirty, is_shared, Rk, Read, Header, ends_read, Transaction, Trace, implies, is_some_and, is_make_unique, is_line, is_on, is_read, read_kind}
-use Rattle.ace_model.proofs.Terms.{write_kind, outstanding, acknowledged, first_resp, transaction_of, acknowledgements, has_failed, state_of, has_store, ends_well, is_end, held_of, IsAccepted}
+use Rattle.std.proofs.Common.{◌≡◌, ℕ, true, nat_eq, ◌∷◌, Some, le_refl, sym, ap, subst, ◌∙◌}
+use Rattle.std.proofs.lemmas.Bool.{and_parts, eqb-true}
+use Rattle.ace_model.proofs.Terms.{ArKind, LineState, passes_dirty, is_shared, Rk, Read, Header, ends_read, Transaction, Trace, implies, is_some_and, is_make_unique, is_line, is_on, read_kind}
+use Rattle.ace_model.proofs.Terms.{outstanding, acknowledged, first_resp, transaction_of, acknowledgements, has_failed, state_of, has_store, ends_well, is_end, held_of, IsAccepted}
+use Rattle.ace_model.proofs.Tables.ReadEnds.{ReadEnds, read_is}
 use Rattle.ace_model.proofs.Rules.Keeps.{accepted_keeps}
 use Rattle.ace_model.proofs.Holders.States.{held_on}
 use Rattle.ace_model.proofs.Holders.Acknowledge.{Ends, is_named_by_rk}
 use Rattle.ace_model.proofs.Holders.Facts.{Arrives}
 use Rattle.ace_model.proofs.Holders.Rises.{ends_of}
-use Rattle.ace_model.proofs.Values.Stores.{IsFull}
+use Rattle.ace_model.proofs.Values.FullReads.{IsFull}
 use Rattle.ace_model.proofs.Holders.Law.{accepted_holds}
 use Rattle.ace_model.proofs.General.Options.{Some-injective, is_some_and-is, is_none_or-at}
 use Rattle.ace_model.proofs.General.Booleans.{implies-at}
 
 -- The read of the line that an RK of the port ends.
-pub record ReadEnds (h : Header) (past : Trace) (q : ℕ) (st : LineState) (p l : ℕ) : Type 0 where
+pub record ReadEnded (h : Header) (past : Trace) (q : ℕ) (st : LineState) (p l : ℕ) : Type 0 where
   pub port : p ≡ q
   pub one : Transaction
   pub id : ℕ
@@ -24,12 +25,12 @@ pub record ReadEnds (h : Header) (past : Trace) (q : ℕ) (st : LineState) (p l 
   pub kind : ArKind
   pub is_kind : read_kind one ≡ Some kind
   pub ends_it : acknowledged past q Read ≡ Some one
-  pub state : ends_read kind (state_of h past p l) (is_some_and (first_resp past p id) is_shared) (is_some_and (first_resp past p id) passes_dirty) (has_failed past one) st ≡ true
+  pub state : ReadEnds kind (state_of h past p l) (is_some_and (first_resp past p id) is_shared) (is_some_and (first_resp past p id) passes_dirty) (has_failed past one) st
   pub stored : is_make_unique kind ≡ true → has_store h past p id ≡ true
   pub arrives : Arrives h past p id one
   pub full : IsFull past p id one
 
-pub read_ends : (h : Header) (past : Trace) (q : ℕ) (st : LineState) → IsAccepted h (Rk q st ∷ past) → (p l : ℕ) → is_named_by_rk past q p l ≡ true → ReadEnds h past q st p l
+pub read_ends : (h : Header) (past : Trace) (q : ℕ) (st : LineState) → IsAccepted h (Rk q st ∷ past) → (p l : ℕ) → is_named_by_rk past q p l ≡ true → ReadEnded h past q st p l
 read_ends h past q st a p l t =
     let e = ends_of h past q st a in
     let parts = and_parts (nat_eq p q) _ t in
@@ -59,8 +60,8 @@ read_ends h past q st a p l t =
       kind = e.kind;
       is_kind = e.is_kind;
       ends_it = e.is;
-      state = subst (λ v. ends_read e.kind (state_of h past p l) (is_some_and v is_shared) (is_some_and v passes_dirty) (has_failed past e.ended_one) st ≡ true) first
-          (subst (λ s. ends_read e.kind s (is_some_and o is_shared) (is_some_and o passes_dirty) (has_failed past e.ended_one) st ≡ true) held both.0);
+      state = subst (λ v. ReadEnds e.kind (state_of h past p l) (is_some_and v is_shared) (is_some_and v passes_dirty) (has_failed past e.ended_one) st) first
+          (subst (λ s. ReadEnds e.kind s (is_some_and o is_shared) (is_some_and o passes_dirty) (has_failed past e.ended_one) st) held (read_is e.kind _ _ _ _ st both.0));
       stored = λ m. sym stored ∙ implies-at (is_make_unique e.kind) _ both.1 m;
       arrives = subst (λ v. Arrives h past v e.id e.ended_one) (sym port) (e.arrives two.0);
       full = subst (λ v. IsFull past v e.id e.ended_one) (sym port) (queued e);
@@ -71,10 +72,3 @@ read_ends h past q st a p l t =
         let s = (accepted_holds h past a.0).queue q (acknowledgements past q Read) e.id e.ace (le_refl (acknowledgements past q Read)) e.next in
         let one : s.0 ≡ e.ended_one = Some-injective s.0 e.ended_one (sym s.1 ∙ e.out) in
         subst (λ (y : Transaction). IsFull past q e.id y) one s.2
-
-pub read_writes_none : (x : Transaction) (k : ArKind) → read_kind x ≡ Some k → (write_kind x ≡ None) × (is_read x.chan ≡ true)
-read_writes_none x k kind =
-    elim (cases_Bool (is_read x.chan)) [
-      | inl t ↦ (rw t refl, t)
-      | inr f ↦ let none : read_kind x ≡ None = rw f refl in cc
-    ]

@@ -1,13 +1,11 @@
 -- The value of a line stays while a port's data of it are on their way.
-use Rattle.std.proofs.Common.{◌≡◌, ◌≢◌, ℕ, ◌<◌, Bool, true, false, not, ◌||◌, ◌==◌, nat_eq, [], ◌∷◌, length, Some, None, refl, sym, ap, subst, ◌∙◌, arith, inl, inr}
+use Rattle.std.proofs.Common.{◌≡◌, ℕ, ◌<◌, Bool, true, false, not, ◌||◌, ◌==◌, nat_eq, [], ◌∷◌, length, Some, None, refl, sym, ap, subst, ◌∙◌, arith, inl, inr}
 use Rattle.std.proofs.lemmas.Bool.{and_parts, cases_Bool, cases_eq, not-true, eqb-true}
-use Rattle.ace_model.proofs.Terms.{ArKind, AwKind, SnoopKind, I, Read, Write, Event, W, Header, is_fetch, snoop_of_read, is_invalid, is_unique, Answer, Transaction, Trace, at_point, implies, is_some_and}
-use Rattle.ace_model.proofs.Terms.{is_none_or, is_update, is_write_line_unique, has_write_data, is_read, is_line, is_on, issued, ended, read_kind, write_kind, snoop_of, snoop_kind_of, outstanding}
+use Rattle.ace_model.proofs.Terms.{ArKind, I, Read, Write, Event, W, Header, is_fetch, snoop_of_read, is_invalid, is_unique, Answer, Transaction, Trace, at_point, implies, is_some_and}
+use Rattle.ace_model.proofs.Terms.{is_none_or, is_update, is_write_line_unique, is_make_unique, has_write_data, is_read, is_line, is_on, issued, ended, read_kind, write_kind, snoop_of, snoop_kind_of, outstanding}
 use Rattle.ace_model.proofs.Terms.{has_outstanding_on, updates_memory, next_write, next_write_beat, gives_line, granted, answer_of, state_of, word_of, copy_of, Beat, value_of, may_store, k11, is_next_beat}
 use Rattle.ace_model.proofs.Terms.{fits_write, full_beat, IsAccepted}
 use Rattle.ace_codes.specs.declared.kind.ArKind.TheVariants as read
-use Rattle.ace_codes.specs.declared.kind.AwKind.TheVariants as write
-use Rattle.ace_codes.specs.declared.kind.SnoopKind.TheVariants as snoop
 use Rattle.ace_model.proofs.Trace.Looks.{has_name-is, newest_named-cases, without-some}
 use Rattle.ace_model.proofs.Trace.Issued.{outstanding-named, transaction_of-stands}
 use Rattle.ace_model.proofs.Trace.Growth.{at_point-before, at_point-end}
@@ -17,10 +15,11 @@ use Rattle.ace_model.proofs.Grants.Stays.{granted_before}
 use Rattle.ace_model.proofs.Tables.SnoopRows.{sends_held}
 use Rattle.ace_model.proofs.Grants.SnoopAnswers.{NewAnswer, answer_cases}
 use Rattle.ace_model.proofs.Grants.Answers.{new_answer, is_levelling, none_unique}
+use Rattle.ace_model.proofs.Tables.Kinds.{fetch_is, update_data}
 use Rattle.ace_model.proofs.Values.UpdateHolds.{keeps}
 use Rattle.ace_model.proofs.Trace.WriteBursts.{burst_grows, burst_new}
 use Rattle.ace_model.proofs.Values.Stores.{Made, value_moves}
-use Rattle.ace_model.proofs.Values.ReadEnds.{read_writes_none}
+use Rattle.ace_model.proofs.Trace.Looks.{read_writes_none}
 use Rattle.ace_model.proofs.Values.WritesAlone.{all_empty}
 use Rattle.ace_model.proofs.Values.Facts.{SentTrue, UpdatesTrue, DirtyPlaced}
 use Rattle.ace_model.proofs.Holders.Law.{accepted_holds}
@@ -98,20 +97,10 @@ copy_at-new past e r l w n =
 pub value_cr : (past : Trace) (e : Event) (r l : ℕ) (w : Answer) → NewAnswer past e r l w → value_of (e ∷ past) l ≡ value_of past l
 value_cr past e r l w n = subst (λ d. value_of (d ∷ past) l ≡ value_of past l) (sym n.is) refl
 
-pub fetch_snoops : (k : ArKind) → is_fetch k ≡ true → (s : SnoopKind) × (snoop_of_read k ≡ Some s) × (is_levelling s ≡ true)
-fetch_snoops read.ReadClean e = (snoop.ReadClean, refl, refl)
-fetch_snoops read.ReadNotSharedDirty e = (snoop.ReadNotSharedDirty, refl, refl)
-fetch_snoops read.ReadShared e = (snoop.ReadShared, refl, refl)
-fetch_snoops read.ReadUnique e = (snoop.ReadUnique, refl, refl)
-fetch_snoops k e = cc
-
-pub fetch_no_make : (k : ArKind) → is_fetch k ≡ true → k ≢ read.MakeUnique
-fetch_no_make read.MakeUnique e is = cc
-fetch_no_make k e is = cc
-
 pub made_apart : (h : Header) (past : Trace) (l : ℕ) (x : Transaction) (k : ArKind) → read_kind x ≡ Some k → is_fetch k ≡ true → (q s : ℕ) (m : Made h past q l s) → m.one ≡ x → ⊥
 made_apart h past l x k kind fetch q s m one =
-    fetch_no_make k fetch (Some-injective k read.MakeUnique (sym kind ∙ ap read_kind (sym one) ∙ m.kind))
+    let same = Some-injective k read.MakeUnique (sym kind ∙ ap read_kind (sym one) ∙ m.kind) in
+    let bad : true ≡ false = sym (ap is_make_unique same) ∙ (fetch_is k fetch).makes in cc
 
 pub sent_step : (h : Header) (past : Trace) (e : Event) → IsAccepted h (e ∷ past) → DirtyPlaced h past → SentTrue h (e ∷ past)
 sent_step h past e a f l r x w k g is d kind fetch =
@@ -119,7 +108,7 @@ sent_step h past e a f l r x w k g is d kind fetch =
       | inr gives ↦ let none : None ≡ Some w = rw gives at is in cc
       | inl stays ↦ elim (answer_cases past e r l w stays.gives is) [
         | inl old ↦
-            let s = fetch_snoops k fetch in
+            let s = is_some_and-is (snoop_of_read k) is_levelling (fetch_is k fetch).snoops in
             let causes : snoop_of x ≡ Some s.0 = ap (λ o. snoop_kind_of o (write_kind x)) kind ∙ s.1 in
             let no_port : (q : ℕ) → may_store h past q l ≡ true → ⊥ = λ q may.
             let yes = may_unique h past q l may in
@@ -132,12 +121,6 @@ sent_step h past e a f l r x w k g is d kind fetch =
             copy_at-new past e r l w new ∙ f.copies l r held ∙ sym (value_cr past e r l w new)
       ]
     ]
-
-update_sends : (k : AwKind) → is_update k ≡ true → has_write_data k ≡ true
-update_sends write.WriteBack u = refl
-update_sends write.WriteClean u = refl
-update_sends write.WriteEvict u = refl
-update_sends k u = cc
 
 -- a new beat of an update is a word of the copy
 update_beat : (h : Header) (past : Trace) (x : Transaction) (k : ℕ) (b : Beat) (last : Bool) → k11 h past (W x.port b.strobe last b.word) ≡ true → next_write past x.port ≡ Some x
@@ -159,7 +142,7 @@ updates_step h past e a f p i l x k b o on updates is =
           let s = transaction_of-stands past p Write i x (outstanding-named h past p Write i x was) in
           let name = has_name-is x p Write i s.named in
           let kind = is_some_and-is (write_kind x) is_update updates in
-          let sends : is_some_and (write_kind x) has_write_data ≡ true = subst (λ v. is_some_and v has_write_data ≡ true) (sym kind.1) (update_sends kind.0 kind.2) in
+          let sends : is_some_and (write_kind x) has_write_data ≡ true = subst (λ v. is_some_and v has_write_data ≡ true) (sym kind.1) (update_data kind.0 kind.2) in
           let same = value_updating h past e a p i l x was on updates in
           elim (burst_grows past e x k b (record { there = s.there; before = s.before }) sends is) [
             | inl before ↦ f.updates p i l x k b was on updates before ∙ ap (λ v. word_of v k) (sym same)

@@ -2,12 +2,11 @@
 -- a WriteEvict and an Evict the line stays clean.
 use Rattle.std.proofs.Common.{◌≡◌, ◌≢◌, ℕ, Bool, true, false, not, if◌then◌else◌, ◌&&◌, nat_eq, [], ◌∷◌, length, Some, None, unwrap_or, refl, sym, ap, subst, ◌∙◌, inl, inr}
 use Rattle.std.proofs.lemmas.Bool.{and_parts, and_from, not-true, eqb-true, eq-eqb}
-use Rattle.ace_model.proofs.Terms.{AwKind, LineState, I, UC, UD, SC, SD, Channel, Read, Write, Event, Rk, Wk, Cr, S, D, Header, is_silent_move, starts_read, starts_write, is_invalid, is_dirty, is_unique}
+use Rattle.ace_model.proofs.Terms.{AwKind, LineState, UD, Channel, Read, Write, Event, Rk, Wk, Cr, S, D, Header, is_silent_move, starts_read, starts_write, is_invalid, is_dirty, is_unique}
 use Rattle.ace_model.proofs.Terms.{Transaction, Trace, is_some_and, is_none_or, is_update, is_line, is_on, is_some_on, issued, ended, read_kind, write_kind, outstanding, is_outstanding, acknowledged}
 use Rattle.ace_model.proofs.Terms.{has_outstanding_on, updates_memory, is_update_on, has_update, answers_line, state_of, starts_well, IsAccepted}
-use Rattle.ace_codes.specs.declared.kind.AwKind.TheVariants as write
-use Rattle.ace_model.proofs.Trace.Looks.{has_name-is, newest_named-cases, without-some}
-use Rattle.ace_model.proofs.Trace.Issued.{outstanding-named, transaction_of-stands}
+use Rattle.ace_model.proofs.Trace.Looks.{has_name-is, is_on-addr}
+use Rattle.ace_model.proofs.Trace.Issued.{outstanding-named, transaction_of-stands, outstanding-name, outstanding-origin}
 use Rattle.ace_model.proofs.Trace.Growth.{some_issued-found}
 use Rattle.ace_model.proofs.Rules.Keeps.{accepted_keeps}
 use Rattle.ace_model.proofs.Holders.Stores.{is_named_by_d}
@@ -15,64 +14,26 @@ use Rattle.ace_model.proofs.Trace.LineOnce.{outstanding_own, outstanding_found, 
 use Rattle.ace_model.proofs.Holders.Rises.{dirty_moves, issue_leaves, ends_of}
 use Rattle.ace_model.proofs.Holders.Acknowledge.{is_named_by_rk}
 use Rattle.ace_model.proofs.Trace.WriteQueue.{ends_write_of}
+use Rattle.ace_model.proofs.Tables.Kinds.{is_dirty_update, is_clean_write, update_starts, dirty_starts, clean_starts}
 use Rattle.ace_model.proofs.Tables.SnoopRows.{beside_update, dirty_stays, silent_dirty}
 use Rattle.ace_model.proofs.Grants.SnoopAnswers.{Answering, answering_cr}
 use Rattle.ace_model.proofs.General.Options.{Some-injective, is_some_and-is, is_none_or-at}
 use Rattle.ace_model.proofs.General.Booleans.{implies-at}
-
--- updates of a dirty line; writes that tell of a clean one
-abbrev pub is_dirty_update : AwKind → Bool
-is_dirty_update write.WriteBack = true
-is_dirty_update write.WriteClean = true
-is_dirty_update _ = false
-
-abbrev pub is_clean_write : AwKind → Bool
-is_clean_write write.WriteEvict = true
-is_clean_write write.Evict = true
-is_clean_write _ = false
 
 -- an outstanding update is found on its line
 pub update_found : (h : Header) (past : Trace) (p : ℕ) (c : Channel) (i l : ℕ) (x : Transaction)
     → outstanding h past p c i ≡ Some x → is_on x l ≡ true → updates_memory x ≡ true → has_update h past p l ≡ true
 update_found h past p c i l x o on updates =
     let s = transaction_of-stands past p c i x (outstanding-named h past p c i x o) in
-    let n = has_name-is x p c i s.named in
+    let port = (outstanding-name h past p c i x o).port in
     let out : is_outstanding h past x ≡ true = rw (outstanding_own h past p c i x o) (eq-eqb x.place x.place refl) in
     some_issued-found past (is_update_on h past p l) x.place x s.there
-    (and_from _ _ (and_from _ _ (and_from _ _ (eq-eqb x.port p n.port) updates) on) out)
+    (and_from _ _ (and_from _ _ (and_from _ _ (eq-eqb x.port p port) updates) on) out)
 
 -- The state of the line at the port of an outstanding update.
 pub record Keeps (x : Transaction) (st : LineState) : Type 0 where
   pub held : is_invalid st ≡ false
   pub dirty : is_some_and (write_kind x) is_dirty_update ≡ true → is_dirty st ≡ true
-
-update_starts : (k : AwKind) (st : LineState) → is_update k ≡ true → starts_write k st ≡ true → is_invalid st ≡ false
-update_starts write.WriteBack UD u s = refl
-update_starts write.WriteBack SD u s = refl
-update_starts write.WriteBack st u s = cc
-update_starts write.WriteClean UD u s = refl
-update_starts write.WriteClean SD u s = refl
-update_starts write.WriteClean st u s = cc
-update_starts write.WriteEvict UC u s = refl
-update_starts write.WriteEvict st u s = cc
-update_starts k st u s = cc
-
-dirty_starts : (k : AwKind) (st : LineState) → is_dirty_update k ≡ true → starts_write k st ≡ true → is_dirty st ≡ true
-dirty_starts write.WriteBack UD u s = refl
-dirty_starts write.WriteBack SD u s = refl
-dirty_starts write.WriteBack st u s = cc
-dirty_starts write.WriteClean UD u s = refl
-dirty_starts write.WriteClean SD u s = refl
-dirty_starts write.WriteClean st u s = cc
-dirty_starts k st u s = cc
-
-clean_starts : (k : AwKind) (st : LineState) → is_clean_write k ≡ true → starts_write k st ≡ true → is_dirty st ≡ false
-clean_starts write.WriteEvict UC u s = refl
-clean_starts write.WriteEvict st u s = cc
-clean_starts write.Evict UC u s = refl
-clean_starts write.Evict SC u s = refl
-clean_starts write.Evict st u s = cc
-clean_starts k st u s = cc
 
 -- what the start states say of a new write on the line
 starts_at : (h : Header) (past : Trace) (e : Event) → IsAccepted h (e ∷ past) → (p i l : ℕ) (x : Transaction) (k : AwKind) → issued (length past) e ≡ Some x
@@ -84,15 +45,8 @@ starts_at h past e a p i l x k new port on kind =
     let write = (and_parts (is_none_or (read_kind x) (λ c. starts_read c (state_of h past x.port x.addr))) _ both).1 in
     let starts = is_none_or-at (write_kind x) (λ c. starts_write c (state_of h past x.port x.addr)) k write kind in
     let same : state_of h past x.port x.addr ≡ state_of h (e ∷ past) p l =
-    ap (λ b. state_of h past b x.addr) port ∙ ap (state_of h past p) (eqb-true x.addr l parts.1) ∙ sym (issue_leaves h past e x p l new) in
+    ap (λ b. state_of h past b x.addr) port ∙ ap (state_of h past p) (is_on-addr x l on) ∙ sym (issue_leaves h past e x p l new) in
     subst (λ st. starts_write k st ≡ true) same starts
-
-held_invalid : (st : LineState) → is_invalid st ≡ false → st ≢ I
-held_invalid I v e = cc
-held_invalid UC v e = cc
-held_invalid UD v e = cc
-held_invalid SC v e = cc
-held_invalid SD v e = cc
 
 where_named : (x : Transaction) (test : Bool) (held st : LineState) → Keeps x held → (test ≡ true → Keeps x st) → Keeps x (unwrap_or (if test then Some st else None) held)
 where_named x true held st k named = named refl
@@ -158,7 +112,7 @@ pub keeps : (h : Header) (past : Trace) → IsAccepted h past → (p i l : ℕ) 
     → is_on x l ≡ true → updates_memory x ≡ true → Keeps x (state_of h past p l)
 keeps h [] a p i l x o on updates = cc
 keeps h (e ∷ past) a p i l x o on updates =
-    elim (newest_named-cases (issued (length past) e) p Write i _ x o) [
+    elim (outstanding-origin h past e p Write i x o) [
       | inl new ↦
           let kind = is_some_and-is (write_kind x) is_update updates in
           let starts = starts_at h past e a p i l x kind.0 new.0 (has_name-is x p Write i new.1).port on kind.1 in
@@ -167,8 +121,7 @@ keeps h (e ∷ past) a p i l x o on updates =
             dirty = λ d. dirty_starts kind.0 _ (subst (λ k. is_some_and k is_dirty_update ≡ true) kind.1 d) starts;
           }
       | inr old ↦
-          let w = without-some (ended h past e) (outstanding h past p Write i) x old.0 in
-          keeps_step h past e a p i l x w.0 on updates w.1 (keeps h past a.0 p i l x w.0 on updates)
+          keeps_step h past e a p i l x old.was on updates old.lasts (keeps h past a.0 p i l x old.was on updates)
     ]
 
 -- a WriteEvict and an Evict are of a clean line
@@ -176,19 +129,18 @@ pub stays_clean : (h : Header) (past : Trace) → IsAccepted h past → (p i l :
     → is_on x l ≡ true → is_some_and (write_kind x) is_clean_write ≡ true → is_dirty (state_of h past p l) ≡ false
 stays_clean h [] a p i l x o on clean = refl
 stays_clean h (e ∷ past) a p i l x o on clean =
-    elim (newest_named-cases (issued (length past) e) p Write i _ x o) [
+    elim (outstanding-origin h past e p Write i x o) [
       | inl new ↦
           let kind = is_some_and-is (write_kind x) is_clean_write clean in
           clean_starts kind.0 _ kind.2 (starts_at h past e a p i l x kind.0 new.0 (has_name-is x p Write i new.1).port on kind.1)
       | inr old ↦
-          let w = without-some (ended h past e) (outstanding h past p Write i) x old.0 in
-          elim (dirty_moves h past e a p l (stays_clean h past a.0 p i l x w.0 on clean)) [
+          elim (dirty_moves h past e a p l (stays_clean h past a.0 p i l x old.was on clean)) [
             | inl fine ↦ fine
             | inr (inl may) ↦
                 let none = not-true (has_outstanding_on h past p l) (and_parts (is_unique (state_of h past p l)) _ may).1 in
-                let some = outstanding_found h past p Write i l x w.0 on in cc
+                let some = outstanding_found h past p Write i l x old.was on in cc
             | inr (inr up) ↦
-                let one = one_on_line h past a.0 p Read Write up.id i l up.read_one x up.out w.0 up.on on in
-                absurd (w.1 up.read_one up.ends_it (ap (λ (y : Transaction). y.place) one))
+                let one = one_on_line h past a.0 p Read Write up.id i l up.read_one x up.out old.was up.on on in
+                absurd (old.lasts up.read_one up.ends_it (ap (λ (y : Transaction). y.place) one))
           ]
     ]

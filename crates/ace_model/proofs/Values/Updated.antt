@@ -2,9 +2,8 @@
 use Rattle.std.proofs.Common.{◌≡◌, ℕ, true, false, not, nat_eq, ◌∷◌, length, Some, None, refl, sym, ap, subst, ◌∙◌, inl, inr}
 use Rattle.std.proofs.lemmas.Bool.{and_parts, not-true, cases_Bool, eqb-true}
 use Rattle.std.specs.List.{AllByRecursion}
-use Rattle.ace_model.proofs.Terms.{AwKind, passes_dirty, InRange, Write, Event, Header, is_invalid, Answer, Transaction, Trace, is_some_and, is_update, is_read, is_line, write_kind, issued, ended}
+use Rattle.ace_model.proofs.Terms.{passes_dirty, InRange, Write, Event, Header, is_invalid, Answer, Transaction, Trace, is_some_and, is_update, is_read, is_line, write_kind, issued, ended}
 use Rattle.ace_model.proofs.Terms.{outstanding, updates_memory, has_update, granted, has_passed_data, state_of, IsAccepted}
-use Rattle.ace_codes.specs.declared.kind.AwKind.TheVariants as write
 use Rattle.ace_model.proofs.Trace.Looks.{has_name-is, newest_named-cases, without-some}
 use Rattle.ace_model.proofs.Trace.Issued.{outstanding-named, transaction_of-stands}
 use Rattle.ace_model.proofs.Tables.States.{row_is}
@@ -12,7 +11,8 @@ use Rattle.ace_model.proofs.Grants.Stays.{granted_before}
 use Rattle.ace_model.proofs.Tables.SnoopRows.{beside_update}
 use Rattle.ace_model.proofs.Grants.SnoopAnswers.{NewAnswer, answer_cases}
 use Rattle.ace_model.proofs.Grants.Answers.{new_answer}
-use Rattle.ace_model.proofs.Values.UpdateHolds.{is_dirty_update, update_found, keeps}
+use Rattle.ace_model.proofs.Values.UpdateHolds.{update_found, keeps}
+use Rattle.ace_model.proofs.Tables.Kinds.{is_dirty_update, dirty_updates}
 use Rattle.ace_model.proofs.Values.WritesAlone.{all_empty}
 use Rattle.ace_model.proofs.Values.Stays.{value_updating}
 use Rattle.ace_model.proofs.Grants.Granted.{new_unwritten, unwritten_before, written_cases, has_passed, Passes, passes_of, granted_given, updates_ungranted}
@@ -47,11 +47,6 @@ still_none h past e a l none no_new y g =
             | inr new ↦ no_new w.port w.answer new w.dirty
           ]
         ]
-
-dirty_updates : (k : AwKind) → is_dirty_update k ≡ true → is_update k ≡ true
-dirty_updates write.WriteBack d = refl
-dirty_updates write.WriteClean d = refl
-dirty_updates k d = cc
 
 pub updated_step : (h : Header) (past : Trace) (e : Event) → IsAccepted h (e ∷ past) → AllByRecursion InRange (e ∷ past) → DirtyPlaced h past → UpdatedTrue h (e ∷ past)
 updated_step h past e a r f p i l x o on dirty m =

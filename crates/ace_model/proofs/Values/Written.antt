@@ -17,11 +17,10 @@ use Rattle.ace_model.proofs.Grants.Answers.{passed_kind}
 use Rattle.ace_model.proofs.Values.MergedLines.{line_of, merged-length, merged-all}
 use Rattle.ace_model.proofs.Trace.WriteBursts.{four_beats}
 use Rattle.ace_model.proofs.Values.Stores.{Writes, stores_m, stores_kind, value_moves}
-use Rattle.ace_model.proofs.Values.ReadEnds.{read_writes_none}
+use Rattle.ace_model.proofs.Trace.Looks.{read_writes_none}
 use Rattle.ace_model.proofs.Values.WritesAlone.{all_empty}
-use Rattle.ace_model.proofs.Values.Copies.{unique_valid}
+use Rattle.ace_model.proofs.Tables.States.{unique_valid, dirty_valid}
 use Rattle.ace_model.proofs.Values.Stays.{may_unique}
-use Rattle.ace_model.proofs.Values.Replies.{dirty_valid}
 use Rattle.ace_model.proofs.Grants.Granted.{given_unwritten, granted_given, granted_write, has_passed, passes_of, Passes, written_cases}
 use Rattle.ace_model.proofs.Values.Passed.{passed_true}
 use Rattle.ace_model.proofs.Values.MemoryWrites.{WritesLine, memory_now, memory_moves, grant_stores, writer, line_is, is_write-is, update_true, beats_fit}
