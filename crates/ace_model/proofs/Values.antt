@@ -10,7 +10,7 @@ pub mod MergedLines
 pub mod Passed
 pub mod PassedData
 pub mod PassedFirst
-pub mod ReadEnds
+pub mod Ended
 pub mod Replies
 pub mod Safe
 pub mod Stays

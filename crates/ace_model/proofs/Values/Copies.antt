@@ -14,7 +14,7 @@ use Rattle.ace_model.proofs.Values.MergedLines.{merged-whole}
 use Rattle.ace_model.proofs.Values.Stores.{stores_d, value_moves}
 use Rattle.ace_model.proofs.Tables.Kinds.{make_unique_is}
 use Rattle.ace_model.proofs.Values.FullReads.{full_some}
-use Rattle.ace_model.proofs.Values.ReadEnds.{read_ends}
+use Rattle.ace_model.proofs.Values.Ended.{read_ends}
 use Rattle.ace_model.proofs.Values.WritesAlone.{all_empty}
 use Rattle.ace_model.proofs.Values.Facts.{DirtyPlaced}
 use Rattle.ace_model.proofs.Holders.Law.{accepted_holds}
@@ -71,19 +71,6 @@ module _ (h : Header) (past : Trace) where
               | inr make ↦ f.made p r.id l r.one r.out r.on (r.is_kind ∙ ap (λ v. Some v) (make_unique_is r.kind make)) (r.stored make)
             ]
       ]
-
-  -- the line read that a transfer completes finds its port with nothing
-  pub received_empty : (q j resp : ℕ) (last : Bool) (word p l : ℕ) → IsAccepted h (R q j resp last word ∷ past)
-      → ((nat_eq p q && last) && is_some_and (transaction_of past p Read j) (λ x. is_on x l && is_line_read_transaction x)) ≡ true → state_of h past p l ≡ I
-  received_empty q j resp last word p l a t =
-      let parts = and_parts (nat_eq p q && last) _ t in
-      let port = eqb-true p q (and_parts (nat_eq p q) last parts.0).0 in
-      let x = is_some_and-is (transaction_of past p Read j) (λ x. is_on x l && is_line_read_transaction x) parts.1 in
-      let m = may_of h past q j resp last word a in
-      let out : outstanding h past p Read j ≡ Some m.one = ap (λ v. outstanding h past v Read j) port ∙ m.out in
-      let one : Some m.one ≡ Some x.0 = sym m.named ∙ ap (λ v. transaction_of past v Read j) (sym port) ∙ x.1 in
-      let both = and_parts (is_on x.0 l) (is_line_read_transaction x.0) x.2 in
-      stays_empty h past a.0 p Read j l x.0 (out ∙ one) both.0 (or_left (is_line_read_transaction x.0) (is_some_and (write_kind x.0) is_granted_write) both.1)
 
   -- The event completes a read of the line at the port.
   pub record Receives (e : Event) (p l : ℕ) : Type 0 where
@@ -154,9 +141,11 @@ copies_step h past (M q c j line) a f l p held =
       | inr (inr (inr w)) ↦ absurd (held (all_empty h past a.0 w.port w.chan w.id l w.by p))
     ]
 copies_step h past (R q j resp last word) a f l p held =
-    elim (cases_Bool ((nat_eq p q && last) && is_some_and (transaction_of past p Read j) (λ x. is_on x l && is_line_read_transaction x))) [
-      | inl t ↦ absurd (held (received_empty h past q j resp last word p l a t))
-      | inr other ↦ rw other (f.copies l p held)
+    elim (copy_moves h past (R q j resp last word) a p l) [
+      | inl kept ↦ kept ∙ f.copies l p held
+      | inr (inl r) ↦
+          absurd (held (stays_empty h past a.0 p Read r.id l r.one r.out r.on (or_left (is_line_read_transaction r.one) (is_some_and (write_kind r.one) is_granted_write) r.reads)))
+      | inr (inr d) ↦ let is = d.is in cc
     ]
 copies_step h past (Rk q st) a f l p held =
     elim (cases_Bool (is_named_by_rk past q p l)) [

@@ -3,7 +3,7 @@ use Rattle.std.proofs.Common.{◌≡◌, ◌≢◌, ◌==◌, ℕ, ◌+◌, ◌<
 use Rattle.std.proofs.lemmas.Bool.{and_parts, and_from, or_cases, cases_eq, eqb-true, eq-eqb, ne_eqb}
 use Rattle.ace_model.proofs.Terms.{ArKind, ar_kind_of, Event, Ar, R, Aw, Read, Header, Line, same_test, is_fetch, is_unique, Transaction, Trace, is_some_and, is_lite_read, beats_of, reads_a_line}
 use Rattle.ace_model.proofs.Terms.{is_ace, is_line, has_name, read_kind, issued, ended, transfers, outstanding, granted, has_failed, state_of, is_line_read_transaction, words_read, word_of}
-use Rattle.ace_model.proofs.Terms.{first_sender, memory_at_first_beat, reply_of, value_of, may_issue_read, may_store, k18, is_due, is_next_transfer, has_word, may_transfer}
+use Rattle.ace_model.proofs.Terms.{first_sender, memory_at_first_beat, reply_of, value_of, may_issue_read, may_store, k18, is_due, is_next_transfer, has_word}
 use Rattle.ace_model.proofs.Terms.{IsAccepted}
 use Rattle.ace_model.proofs.Trace.Looks.{has_name-is, is_on-addr, without-some}
 use Rattle.ace_model.proofs.Trace.Issued.{outstanding-named, outstanding-name, outstanding-origin}
@@ -11,11 +11,10 @@ use Rattle.ace_model.proofs.Rules.Keeps.{accepted_keeps}
 use Rattle.ace_model.proofs.General.Lists.{slice_get-more}
 use Rattle.std.proofs.lemmas.Option.{slice_get-get_or}
 use Rattle.ace_model.proofs.Tables.Kinds.{Fetch, fetch_is}
-use Rattle.ace_model.proofs.Values.FullReads.{transfer_moves, words-length, issue_transfers}
+use Rattle.ace_model.proofs.Values.FullReads.{transfer_moves, words-length, issue_transfers, line_due}
 use Rattle.ace_model.proofs.Holders.Facts.{Arrives}
 use Rattle.ace_model.proofs.Trace.LineOnce.{outstanding_found, one_on_line}
 use Rattle.ace_model.proofs.Grants.Stays.{gives_none}
-use Rattle.ace_model.proofs.Grants.Begins.{may_of, line_transfer}
 use Rattle.ace_model.proofs.Values.MergedLines.{value-length, lines_by_words}
 use Rattle.ace_model.proofs.Values.Stores.{stores_d}
 use Rattle.ace_model.proofs.Trace.Looks.{read_writes_none}
@@ -160,10 +159,7 @@ fetches_step h past e a f p i l x k o on kind fetch some =
         let own : (nat_eq p p && nat_eq i i) ≡ true = and_from _ _ (eq-eqb p p refl) (eq-eqb i i refl) in
         let count : transfers t p i ≡ transfers past p i + 1 = rw own refl in
         let more_words : words_read t p i ≡ words_read past p i ++ word ∷ [] = rw own refl in
-        let m = may_of h past p i resp last word b in
-        let one : m.one ≡ x = Some-injective m.one x (sym m.out ∙ was) in
-        let may_x = subst (λ (y : Transaction). may_transfer h past y resp ≡ true) one (m.may (subst (λ (y : Transaction). is_line y ≡ true) (sym one) line.0)) in
-        let due = line_transfer h past x resp may_x in
+        let due = line_due h past p i resp last word b x was line.0 in
         let after = stands t b out (λ z. absurd (omega (arith, count, z))) in
         let g' : granted h t l ≡ Some x = ap (granted h t) (sym addr) ∙ after.stands in
         let g : granted h past l ≡ Some x = (without-some (ended h past (R p i resp last word)) (granted h past l) x g').0 in

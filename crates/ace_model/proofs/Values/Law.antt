@@ -1,11 +1,11 @@
 -- Data newer than memory have a place, at every point of an accepted trace.
-use Rattle.std.proofs.Common.{◌≡◌, ℕ, true, false, nat_eq, [], ◌∷◌, Option, Some, None, option_and_then, option_map, refl, sym, ap, subst, ◌∙◌, inl, inr}
-use Rattle.std.proofs.lemmas.Bool.{and_parts, or_left, cases_Bool, eqb-true}
+use Rattle.std.proofs.Common.{◌≡◌, ℕ, true, false, [], ◌∷◌, Option, Some, None, option_and_then, option_map, refl, sym, ap, subst, ◌∙◌, inl, inr}
+use Rattle.std.proofs.lemmas.Bool.{or_left, cases_Bool}
 use Rattle.std.specs.List.{AllByRecursion}
-use Rattle.ace_model.proofs.Terms.{InRange, Channel, Event, M, D, Header, Line, is_dirty, Transaction, Trace, is_some_and, is_make_unique, is_write_line_unique, is_read, is_line, read_kind, write_kind}
+use Rattle.ace_model.proofs.Terms.{InRange, Channel, Event, M, D, Header, Line, is_dirty, Transaction, Trace, is_some_and, is_make_unique, is_write_line_unique, is_read, read_kind, write_kind}
 use Rattle.ace_model.proofs.Terms.{outstanding, has_memory_write, granted, has_passed_data, state_of, memory_of, passed_to, passed_data, value_of, data_of, may_write_memory, IsAccepted, replaces_line}
 use Rattle.ace_model.proofs.Terms.{IsValueSafe, DirtyPlace}
-use Rattle.ace_model.proofs.Trace.Looks.{has_name-is}
+use Rattle.ace_model.proofs.Trace.Looks.{has_name-is, is_on-addr}
 use Rattle.ace_model.proofs.Trace.Issued.{transaction_of-stands}
 use Rattle.ace_model.proofs.Rules.Keeps.{accepted_keeps}
 use Rattle.ace_model.proofs.Grants.Stays.{Stays, granted_after}
@@ -35,7 +35,7 @@ module _ (h : Header) (past : Trace) where
   passed_written e a r f l w b =
       elim (passed_true h past a.0 f.passed l w.one b.stands b.has) [
         | inl same ↦
-            let addr = eqb-true w.one.addr l (and_parts (is_line w.one) (nat_eq w.one.addr l) w.on).1 in
+            let addr = is_on-addr w.one l w.on in
             let is : data_of h past w.one ≡ Some (value_of past l) =
             then_of (is_read w.one.chan) (passed_data h past w.one.addr) _ b.reads ∙ ap (passed_data h past) addr ∙ same in
             inl (memory_now h past e l w ∙ line_is h past e a r l w (value_of past l) is (value-length past l) ∙ sym value)
@@ -118,7 +118,7 @@ module _ (h : Header) (past : Trace) where
       passed_on x g has stays =
           let o = (accepted_holds h past a.0).grants l x g in
           let parts = has_passed h past x has in
-          let addr = eqb-true x.addr l (and_parts (is_line x) (nat_eq x.addr l) o.1).1 in
+          let addr = is_on-addr x l o.1 in
           let w = subst (λ v. Passes h past v) addr (passes_of h past x.addr parts.some) in
           elim (cases_Bool (has_memory_write (e ∷ past) x.port x.chan x.id)) [
             | inr none ↦

@@ -2,15 +2,15 @@
 use Rattle.std.proofs.Common.{◌≡◌, ℕ, Bool, true, false, not, ◌&&◌, nat_eq, nat_lt, [], ◌∷◌, length, Some, refl, sym, ap, subst, ◌∙◌, inl, inr}
 use Rattle.std.proofs.lemmas.Bool.{and_parts, or_cases, or_right, cases_eq, eqb-true, eq-eqb}
 use Rattle.ace_codes.specs.declared.kind.ArKind.TheVariants as read
-use Rattle.ace_model.proofs.Terms.{I, Channel, Read, Event, Ar, Aw, D, Header, Line, merged, Transaction, Trace, is_some_and, is_make_unique, reads_a_line, is_ace, is_line, is_named, issued, ended}
-use Rattle.ace_model.proofs.Terms.{read_kind, outstanding, is_outstanding, is_make_unique_on, is_completion, is_complete, granted, state_of, awaits_store, is_store_of, has_store, copy_of, value_of}
+use Rattle.ace_model.proofs.Terms.{I, Channel, Read, Event, Ar, Aw, D, Header, Line, merged, Transaction, Trace, is_some_and, reads_a_line, is_ace, is_line, is_named, issued}
+use Rattle.ace_model.proofs.Terms.{read_kind, outstanding, is_completion, is_complete, granted, state_of, awaits_store, is_store_of, has_store, copy_of, value_of}
 use Rattle.ace_model.proofs.Terms.{may_store, IsAccepted}
-use Rattle.ace_model.proofs.Trace.Looks.{has_name-is, newest_named-cases, without-some}
-use Rattle.ace_model.proofs.Trace.Issued.{outstanding-named, transaction_of-stands}
+use Rattle.ace_model.proofs.Trace.Looks.{is_on-addr}
+use Rattle.ace_model.proofs.Trace.Issued.{outstanding-name, outstanding-origin}
 use Rattle.ace_model.proofs.Rules.Keeps.{accepted_keeps}
 use Rattle.ace_model.proofs.Trace.LineOnce.{outstanding_found, one_on_line}
 use Rattle.ace_model.proofs.Values.MergedLines.{merged-whole}
-use Rattle.ace_model.proofs.Values.Stores.{Made, stores_d}
+use Rattle.ace_model.proofs.Values.Stores.{Made, stores_d, Awaits, awaits_store-is}
 use Rattle.ace_model.proofs.Values.FullReads.{done_read}
 use Rattle.ace_model.proofs.Values.FullReads.{full_some}
 use Rattle.ace_model.proofs.Trace.Looks.{read_writes_none}
@@ -28,7 +28,7 @@ pub record StoresNow (h : Header) (past : Trace) (e : Event) (p i : ℕ) (x : Tr
   pub ex : Bool
   pub line : Line
   pub is : e ≡ D p addr strobe ex line
-  pub awaits : awaits_store h past p addr x ≡ true
+  pub awaits : Awaits h past p addr x
 
 stores_now : (h : Header) (past : Trace) (e : Event) (p i : ℕ) (x : Transaction) → outstanding h past p Read i ≡ Some x → is_store_of h past e p i ≡ true → StoresNow h past e p i x
 stores_now h past (D q addr strobe b line) p i x o s =
@@ -39,7 +39,7 @@ stores_now h past (D q addr strobe b line) p i x o s =
       ex = b;
       line = line;
       is = ap (λ v. D v addr strobe b line) (sym (eqb-true p q parts.0));
-      awaits = is_some_and-at (outstanding h past p Read i) (awaits_store h past p addr) x parts.1 o;
+      awaits = awaits_store-is h past p addr x (is_some_and-at (outstanding h past p Read i) (awaits_store h past p addr) x parts.1 o);
     }
 stores_now h past e p i x o s = cc
 
@@ -53,25 +53,24 @@ pub stored_complete : (h : Header) (past : Trace) → IsAccepted h past → (p i
     → (is_complete past p Read i ≡ true) × (is_ace h p ≡ true)
 stored_complete h [] a p i x o s = cc
 stored_complete h (e ∷ past) a p i x o s =
-    elim (newest_named-cases (issued (length past) e) p Read i _ x o) [
+    elim (outstanding-origin h past e p Read i x o) [
       | inl new ↦
           let none = issue_stores h past e x p i new.0 in
           let bad : false ≡ true = rw (new.0, new.1, none) at s in cc
       | inr old ↦
-          let was = (without-some (ended h past e) (outstanding h past p Read i) x old.0).0 in
+          let was = old.was in
           let before : (is_complete past p Read i ≡ true) × (is_ace h p ≡ true) =
           elim (or_cases (is_store_of h past e p i) (not (is_named (issued (length past) e) p Read i) && has_store h past p i) s) [
             | inr earlier ↦ stored_complete h past a.0 p i x was (and_parts (not (is_named (issued (length past) e) p Read i)) _ earlier).1
             | inl now ↦
                 let n = stores_now h past e p i x was now in
-                let name = has_name-is x p Read i (transaction_of-stands past p Read i x (outstanding-named h past p Read i x was)).named in
-                let complete = (and_parts _ (is_complete past x.port x.chan x.id) n.awaits).1 in
+                let name = outstanding-name h past p Read i x was in
                 let known = (accepted_keeps h past (D p n.addr n.strobe n.ex n.line) (subst (λ d. IsAccepted h (d ∷ past)) n.is a)).rule_1 in (
-                  sym (ap (λ v. is_complete past v x.chan x.id) name.port ∙ ap (λ (c : Channel). is_complete past p c x.id) name.chan ∙ ap (is_complete past p Read) name.id) ∙ complete,
+                  sym (ap (λ v. is_complete past v x.chan x.id) name.port ∙ ap (λ (c : Channel). is_complete past p c x.id) name.chan ∙ ap (is_complete past p Read) name.id) ∙ n.awaits.complete,
                   (and_parts (nat_lt p h.ports) (is_ace h p) known).1,
                 )
           ] in
-          (or_right (is_completion e p Read i) (not (is_named (issued (length past) e) p Read i) && is_complete past p Read i) (rw old.1 before.0), before.1)
+          (or_right (is_completion e p Read i) (not (is_named (issued (length past) e) p Read i) && is_complete past p Read i) (rw old.other before.0), before.1)
     ]
 
 -- the whole line is stored into the copy and into the value
@@ -85,12 +84,12 @@ made_d h past p l strobe b line m =
 
 pub made_step : (h : Header) (past : Trace) (e : Event) → IsAccepted h (e ∷ past) → DirtyPlaced h past → MadeTrue h (e ∷ past)
 made_step h past e a f p i l x o on kind s =
-    elim (newest_named-cases (issued (length past) e) p Read i _ x o) [
+    elim (outstanding-origin h past e p Read i x o) [
       | inl new ↦
           let none = issue_stores h past e x p i new.0 in
           let bad : false ≡ true = rw (new.0, new.1, none) at s in cc
       | inr old ↦
-          let was = (without-some (ended h past e) (outstanding h past p Read i) x old.0).0 in
+          let was = old.was in
           elim (or_cases (is_store_of h past e p i) (not (is_named (issued (length past) e) p Read i) && has_store h past p i) s) [
             | inl now ↦ by_store was now
             | inr earlier ↦ after_store was (and_parts (not (is_named (issued (length past) e) p Read i)) _ earlier).1
@@ -100,10 +99,7 @@ made_step h past e a f p i l x o on kind s =
     by_store : outstanding h past p Read i ≡ Some x → is_store_of h past e p i ≡ true → copy_of (e ∷ past) p l ≡ value_of (e ∷ past) l
     by_store was now =
         let n = stores_now h past e p i x was now in
-        let early = and_parts ((nat_eq x.port p && is_make_unique_on x n.addr) && is_outstanding h past x) (is_complete past x.port x.chan x.id) n.awaits in
-        let two = and_parts (nat_eq x.port p) (is_make_unique_on x n.addr) (and_parts (nat_eq x.port p && is_make_unique_on x n.addr) (is_outstanding h past x) early.0).0 in
-        let addr : n.addr ≡ l =
-        sym (eqb-true x.addr n.addr (and_parts (is_some_and (read_kind x) is_make_unique) (nat_eq x.addr n.addr) two.1).1) ∙ eqb-true x.addr l (and_parts (is_line x) (nat_eq x.addr l) on).1 in
+        let addr : n.addr ≡ l = sym (is_on-addr x n.addr n.awaits.on) ∙ is_on-addr x l on in
         let is : e ≡ D p l n.strobe n.ex n.line = n.is ∙ ap (λ v. D p v n.strobe n.ex n.line) addr in
         elim (stores_d h past p l n.strobe n.ex n.line (subst (λ d. IsAccepted h (d ∷ past)) is a)) [
           | inl may ↦
@@ -119,7 +115,7 @@ made_step h past e a f p i l x o on kind s =
         let addr = eqb-true x.addr l line.1 in
         let arrives = (accepted_holds h past a.0).arrive p i x done.1 was line.0 (full_some past p i x (done_read h past a.0 p i x was done.0)) in
         let stands : granted h past l ≡ Some x = ap (granted h past) (sym addr) ∙ arrives.stands in
-        let name = has_name-is x p Read i (transaction_of-stands past p Read i x (outstanding-named h past p Read i x was)).named in
+        let name = outstanding-name h past p Read i x was in
         let no_port : (q : ℕ) → may_store h past q l ≡ true → ⊥ = λ q may. elim (cases_eq p q) [
           | inl own ↦
               let some = outstanding_found h past p Read i l x was on in
@@ -127,7 +123,7 @@ made_step h past e a f p i l x o on kind s =
           | inr apart ↦ unique_valid (state_of h past q l) (may_unique h past q l may) (subst (λ v. state_of h past q v ≡ I) addr (arrives.alone read.MakeUnique kind refl q apart))
         ] in
         let no_make : (q t : ℕ) (m : Made h past q l t) → m.one ≡ x → ⊥ = λ q t m one.
-        let made_name = has_name-is m.one q Read m.id (transaction_of-stands past q Read m.id m.one (outstanding-named h past q Read m.id m.one m.out)).named in
+        let made_name = outstanding-name h past q Read m.id m.one m.out in
         let port : q ≡ p = sym made_name.port ∙ ap (λ (y : Transaction). y.port) one ∙ name.port in
         let id : m.id ≡ i = sym made_name.id ∙ ap (λ (y : Transaction). y.id) one ∙ name.id in
         let first : has_store h past p i ≡ false = sym (ap (λ v. has_store h past v m.id) port ∙ ap (has_store h past p) id) ∙ m.first in cc in

@@ -3,11 +3,11 @@ use Rattle.std.proofs.Common.{◌≡◌, ◌⊎◌, ℕ, ◌<◌, ◌^◌, Bool,
 use Rattle.std.proofs.lemmas.Bool.{and_parts, and_from, or_right, cases_Bool, eqb-true}
 use Rattle.std.specs.List.{AllByRecursion}
 use Rattle.ace_model.proofs.Terms.{AwKind, IsDigit, IsWord, IsLine, InRange, Channel, Read, Write, Event, W, M, Header, Line, Transaction, Trace, implies, is_some_and, is_none_or, is_update}
-use Rattle.ace_model.proofs.Terms.{is_write_line_unique, has_write_data, is_granted_write, is_read, is_line, is_on, write_kind, issued, ended, outstanding}
+use Rattle.ace_model.proofs.Terms.{is_write_line_unique, has_write_data, is_granted_write, is_read, is_on, write_kind, outstanding}
 use Rattle.ace_model.proofs.Terms.{transaction_of, updates_memory, is_burst_whole, next_write, next_write_beat, granted, is_granted, has_passed_data, memory_of, same_line, Beat, burst_of, burst_line}
 use Rattle.ace_model.proofs.Terms.{stores_data, value_of, is_next_beat, fits_write, full_beat, may_write_memory, data_of, data_of_write, has_data, IsAccepted}
-use Rattle.ace_model.proofs.Trace.Looks.{has_name-is, newest_named-cases, without-some}
-use Rattle.ace_model.proofs.Trace.Issued.{outstanding-named, transaction_of-stands}
+use Rattle.ace_model.proofs.Trace.Looks.{is_on-addr}
+use Rattle.ace_model.proofs.Trace.Issued.{outstanding-named, transaction_of-stands, outstanding-name, outstanding-origin}
 use Rattle.ace_model.proofs.Tables.Kinds.{granted_stores}
 use Rattle.ace_model.proofs.Rules.Keeps.{accepted_keeps}
 use Rattle.ace_model.proofs.Values.MergedLines.{same_line-is, lines_by_words}
@@ -88,7 +88,7 @@ module _ (h : Header) (past : Trace) where
       → ByPassed l w.one ⊎ ByUpdate w.one ⊎ Writes h past w.port w.chan w.id l
   writer e a l w =
       let x = w.one in
-      let addr = eqb-true x.addr l (and_parts (is_line x) (nat_eq x.addr l) w.on).1 in
+      let addr = is_on-addr x l w.on in
       elim (cases_Bool (is_read x.chan)) [
         | inl reads ↦
             let has = passed_may h past x w.may reads in
@@ -149,7 +149,7 @@ pub update_true : (h : Header) (past : Trace) (e : Event) → IsAccepted h (e �
     → memory_of (e ∷ past) l ≡ value_of (e ∷ past) l
 update_true h past e a r f l w u =
     let x = w.one in
-    let name = has_name-is x w.port w.chan w.id (transaction_of-stands past w.port w.chan w.id x (outstanding-named h past w.port w.chan w.id x w.out)).named in
+    let name = outstanding-name h past w.port w.chan w.id x w.out in
     let chan : w.chan ≡ Write = sym name.chan ∙ is_write-is x.chan u.writes in
     let out : outstanding h past w.port Write w.id ≡ Some x = ap (λ (c : Channel). outstanding h past w.port c w.id) (sym chan) ∙ w.out in
     let k = is_some_and-is (write_kind x) is_update u.updates in
@@ -172,10 +172,10 @@ pub beats_fit : (h : Header) (past : Trace) → IsAccepted h past → AllByRecur
     → is_some_and (write_kind x) has_write_data ≡ true → slice_get (burst_of past x) k ≡ Some b → BeatFits x b
 beats_fit h [] a r p i x k b o sends is = cc
 beats_fit h (e ∷ past) a r p i x k b o sends is =
-    elim (newest_named-cases (issued (length past) e) p Write i _ x o) [
+    elim (outstanding-origin h past e p Write i x o) [
       | inl new ↦ absurd (burst_new h past e a.0 x k b new.0 is)
       | inr old ↦
-          let was = (without-some (ended h past e) (outstanding h past p Write i) x old.0).0 in
+          let was = old.was in
           let s = transaction_of-stands past p Write i x (outstanding-named h past p Write i x was) in
           elim (burst_grows past e x k b (record { there = s.there; before = s.before }) sends is) [
             | inl before ↦ beats_fit h past a.0 r.1 p i x k b was sends before

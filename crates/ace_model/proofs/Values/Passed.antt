@@ -1,13 +1,12 @@
 -- Passed data are the value of their line, or their port has stored since and holds the line dirty.
 use Rattle.std.proofs.Common.{◌≡◌, ◌⊎◌, ℕ, Bool, true, false, ◌&&◌, nat_eq, ◌∷◌, length, Option, Some, None, option_and_then, option_map, refl, sym, ap, subst, ◌∙◌, inl, inr}
-use Rattle.std.proofs.lemmas.Bool.{and_parts, and_from, or_left, cases_Bool, cases_eq, eqb-true, eq-eqb}
-use Rattle.ace_model.proofs.Terms.{ArKind, LineState, passes_dirty, Channel, Event, Cr, D, M, Header, Line, is_dirty, Answer, Transaction, Trace, at_point, is_some_and}
-use Rattle.ace_model.proofs.Terms.{is_make_unique, is_line, read_kind, write_kind, snoop_of, snoop_kind_of, transaction_of, has_outstanding_on, is_outstanding, is_outstanding_on, is_make_unique_on}
-use Rattle.ace_model.proofs.Terms.{is_complete, is_memory_write, has_memory_write, data_answers, granted, answers_grant, answer_at, answer_of, passer, has_passed_data, state_of, is_in_make_unique}
+use Rattle.std.proofs.lemmas.Bool.{and_from, or_left, cases_Bool, cases_eq, eq-eqb}
+use Rattle.ace_model.proofs.Terms.{LineState, passes_dirty, Channel, Event, Cr, D, M, Header, Line, is_dirty, Answer, Transaction, Trace, at_point}
+use Rattle.ace_model.proofs.Terms.{write_kind, snoop_of, snoop_kind_of, transaction_of, has_outstanding_on, is_outstanding_on}
+use Rattle.ace_model.proofs.Terms.{is_memory_write, has_memory_write, data_answers, granted, answers_grant, answer_at, answer_of, passer, has_passed_data, state_of, is_in_make_unique}
 use Rattle.ace_model.proofs.Terms.{awaits_store, copy_of, copy_at_answer, passed_to, passed_data, value_of, may_store, IsAccepted, HasDirtyHolder, IsValueSafe}
-use Rattle.ace_codes.specs.declared.kind.ArKind.TheVariants as read
 use Rattle.ace_codes.specs.declared.kind.SnoopKind.TheVariants as snoop
-use Rattle.ace_model.proofs.Trace.Looks.{has_name-is, same_channel-self}
+use Rattle.ace_model.proofs.Trace.Looks.{has_name-is, same_channel-self, is_on-addr}
 use Rattle.ace_model.proofs.Trace.Issued.{transaction_of-stands}
 use Rattle.ace_model.proofs.Tables.States.{row_is, unique_unsettled, dirty_valid}
 use Rattle.ace_model.proofs.Holders.Stores.{some_issued-weaker}
@@ -16,7 +15,7 @@ use Rattle.ace_model.proofs.Grants.Begins.{then_of}
 use Rattle.ace_model.proofs.Tables.SnoopRows.{is_make_invalid}
 use Rattle.ace_model.proofs.Grants.SnoopAnswers.{answer_cases}
 use Rattle.ace_model.proofs.Grants.Answers.{new_answer, others_settled, passed_kind}
-use Rattle.ace_model.proofs.Values.Stores.{value_moves}
+use Rattle.ace_model.proofs.Values.Stores.{value_moves, awaits_store-is}
 use Rattle.ace_model.proofs.Values.Stays.{may_unique, may_free, copy_at-old, copy_at-new, value_cr}
 use Rattle.ace_model.proofs.Values.Replies.{answered_once}
 use Rattle.ace_model.proofs.Grants.Granted.{unwritten_before, has_passed, Passes, passes_of}
@@ -38,19 +37,7 @@ no_make_unique h past p l may =
   where
     weaker : (x : Transaction) → awaits_store h past p l x ≡ true → is_outstanding_on h past p l x ≡ true
     weaker x t =
-        let one = and_parts ((nat_eq x.port p && is_make_unique_on x l) && is_outstanding h past x) (is_complete past x.port x.chan x.id) t in
-        let two = and_parts (nat_eq x.port p && is_make_unique_on x l) (is_outstanding h past x) one.0 in
-        let three = and_parts (nat_eq x.port p) (is_make_unique_on x l) two.0 in
-        let four = and_parts (is_some_and (read_kind x) is_make_unique) (nat_eq x.addr l) three.1 in
-        and_from _ _ (and_from _ _ three.0 (and_from _ _ (line x four.0) four.1)) two.1
-      where
-        line : (x : Transaction) → is_some_and (read_kind x) is_make_unique ≡ true → is_line x ≡ true
-        line x make = by (read_kind x) refl make
-          where
-            by : (o : Option ArKind) → read_kind x ≡ o → is_some_and o is_make_unique ≡ true → is_line x ≡ true
-            by None is m = cc
-            by (Some read.MakeUnique) is m = rw is refl
-            by (Some k) is m = cc
+        let w = awaits_store-is h past p l x t in and_from _ _ (and_from _ _ (eq-eqb x.port p w.port) w.on) w.out
 
 -- a store to it leaves it dirty
 pub store_dirty : (h : Header) (past : Trace) (p l strobe : ℕ) (x : Bool) (line : Line) → may_store h past p l ≡ true → is_dirty (state_of h (D p l strobe x line ∷ past) p l) ≡ true
@@ -75,7 +62,7 @@ module _ (h : Header) (past : Trace) where
       → (passed_data h past l ≡ Some (value_of past l)) ⊎ HasDirtyHolder h past l
   passed_true a f l x g has =
       let o = (accepted_holds h past a).grants l x g in
-      let addr = eqb-true x.addr l (and_parts (is_line x) (nat_eq x.addr l) o.1).1 in
+      let addr = is_on-addr x l o.1 in
       let parts = has_passed h past x has in
       let w = subst (λ v. Passes h past v) addr (passes_of h past x.addr parts.some) in
       elim (f l w.port x w.answer g parts.unwritten w.is w.dirty) [

@@ -1,7 +1,7 @@
 -- The data that a port passes on are there until the M, and a granted read that has had its M had such a port.
-use Rattle.std.proofs.Common.{◌≡◌, ℕ, zero, suc, ◌<◌, Bool, true, false, nat_eq, [], ◌∷◌, Some, None, is_some, refl, sym, ap, ◌∙◌, arith, inl, inr}
-use Rattle.std.proofs.lemmas.Bool.{and_parts, and_from, not_from_false, cases_Bool, cases_eq, eqb-true, eq-eqb, ltb-true}
-use Rattle.ace_model.proofs.Terms.{passes_dirty, Header, Answer, Transaction, Trace, is_read, is_line, has_memory_write, granted, answer_of, find_port, passes, passer, has_passed_data, gives_line}
+use Rattle.std.proofs.Common.{◌≡◌, ℕ, zero, suc, ◌<◌, Bool, true, false, [], ◌∷◌, Some, None, is_some, refl, sym, ap, ◌∙◌, arith, inl, inr}
+use Rattle.std.proofs.lemmas.Bool.{and_from, not_from_false, cases_Bool, cases_eq, eq-eqb, ltb-true}
+use Rattle.ace_model.proofs.Terms.{passes_dirty, Header, Answer, Transaction, Trace, is_read, has_memory_write, granted, answer_of, find_port, passes, passer, has_passed_data, gives_line}
 use Rattle.ace_model.proofs.Terms.{IsAccepted}
 use Rattle.ace_model.proofs.Grants.Stays.{granted_before}
 use Rattle.ace_model.proofs.Grants.Pending.{answering, snoops}
@@ -9,6 +9,7 @@ use Rattle.ace_model.proofs.Grants.SnoopAnswers.{answer_cases}
 use Rattle.ace_model.proofs.Values.Replies.{answer_kept}
 use Rattle.ace_model.proofs.Grants.Granted.{passed_may, has_passed, passes_of, granted_is, written_cases, given_unwritten}
 use Rattle.ace_model.proofs.Holders.Law.{accepted_holds}
+use Rattle.ace_model.proofs.Trace.Looks.{is_on-addr}
 
 -- A port that answered with PassDirty under the grant.
 pub record PassedBy (past : Trace) (l : ℕ) : Type 0 where
@@ -29,7 +30,7 @@ written_passed h (e ∷ past) a l x g reads m =
           let before : PassedBy past l = elim (written_cases h past e a x.port x.chan x.id x o.0 m) [
             | inl now ↦
                 let w = passes_of h past x.addr (has_passed h past x (passed_may h past x now.may reads)).some in
-                let addr = eqb-true x.addr l (and_parts (is_line x) (nat_eq x.addr l) o.1).1 in
+                let addr = is_on-addr x l o.1 in
                 record { port = w.port; answer = w.answer; is = ap (answer_of past w.port) (sym addr) ∙ w.is; dirty = w.dirty }
             | inr earlier ↦ written_passed h past a.0 l x stays.was reads earlier
           ] in
@@ -66,7 +67,7 @@ pub passes_data : (h : Header) (past : Trace) → IsAccepted h past → (l r : �
     → has_memory_write past x.port x.chan x.id ≡ false → answer_of past r l ≡ Some w → passes_dirty w.resp ≡ true → has_passed_data h past x ≡ true
 passes_data h past a l r x w g none is dirty =
     let o = (accepted_holds h past a).grants l x g in
-    let addr = eqb-true x.addr l (and_parts (is_line x) (nat_eq x.addr l) o.1).1 in
+    let addr = is_on-addr x l o.1 in
     let here : passes past l r ≡ true = rw is dirty in
     let some : is_some (passer h past x.addr) ≡ true = ap (λ v. is_some (passer h past v)) addr ∙ found_some h.ports (passes past l) r here (answered_low h past a r l w is) in
     and_from _ _ (and_from _ _ (granted_is h past l x g addr) some) (not_from_false (has_memory_write past x.port x.chan x.id) none)

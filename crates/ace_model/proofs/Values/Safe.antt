@@ -4,7 +4,7 @@ use Rattle.std.proofs.lemmas.Bool.{and_parts, and_from, or_left, or_right, cases
 use Rattle.ace_model.proofs.Terms.{ArKind, AwKind, SnoopKind, LineState, passes_dirty, is_shared, Read, Write, Event, R, Rk, B, Wk, Cr, Header}
 use Rattle.ace_model.proofs.Terms.{is_dirty, Answer, Transaction, Trace, implies, is_some_and, is_none_or, is_make_unique, has_write_data, is_ace, is_read, is_line}
 use Rattle.ace_model.proofs.Terms.{is_on, is_some_on, read_kind, write_kind, snoop_of, snoop_kind_of, ended, outstanding, acknowledged, first_resp, has_memory_write, data_answers, granted, answers_grant}
-use Rattle.ace_model.proofs.Terms.{answer_of, has_passed_data, state_of, memory_of, value_of, may_transfer, has_upper_bits, fits_kind, IsAccepted, replaces_line, IsValueSafe}
+use Rattle.ace_model.proofs.Terms.{answer_of, has_passed_data, state_of, memory_of, value_of, has_upper_bits, fits_kind, IsAccepted, replaces_line, IsValueSafe}
 use Rattle.ace_codes.specs.declared.kind.ArKind.TheVariants as read
 use Rattle.ace_model.proofs.Trace.Issued.{same_place, outstanding-named}
 use Rattle.ace_model.proofs.Rules.Keeps.{accepted_keeps}
@@ -12,13 +12,13 @@ use Rattle.ace_model.proofs.Tables.States.{dirty_unsettled}
 use Rattle.ace_model.proofs.Holders.Ends.{acknowledged_is}
 use Rattle.ace_model.proofs.Holders.Transfer.{ends_lite}
 use Rattle.ace_model.proofs.Holders.Acknowledge.{is_named_by_rk}
-use Rattle.ace_model.proofs.Grants.Begins.{may_of, line_transfer}
+use Rattle.ace_model.proofs.Grants.Begins.{may_of}
 use Rattle.ace_model.proofs.Trace.WriteQueue.{EndsWrite, ends_write_of, ends_lite_written}
 use Rattle.ace_model.proofs.Tables.SnoopRows.{is_make_invalid, dirty_stays}
 use Rattle.ace_model.proofs.Grants.SnoopAnswers.{Answering}
 use Rattle.ace_model.proofs.Grants.Answers.{others_settled}
-use Rattle.ace_model.proofs.Values.FullReads.{full_some}
-use Rattle.ace_model.proofs.Values.ReadEnds.{ReadEnded, read_ends}
+use Rattle.ace_model.proofs.Values.FullReads.{full_some, line_due}
+use Rattle.ace_model.proofs.Values.Ended.{ReadEnded, read_ends}
 use Rattle.ace_model.proofs.Trace.Looks.{read_writes_none}
 use Rattle.ace_model.proofs.Values.Fetches.{ace_read}
 use Rattle.ace_model.proofs.Grants.Granted.{granted_given, granted_write}
@@ -95,8 +95,7 @@ ended_safe h past (R q j resp last word) a f l x g wants z is same =
     let ace : is_ace h q ≡ true = elim wants [
       | inl has ↦
           let line = (and_parts (is_line x) _ o.1).0 in
-          let may_x = subst (λ (y : Transaction). may_transfer h past y resp ≡ true) same_m (m.may (subst (λ (y : Transaction). is_line y ≡ true) (sym same_m) line)) in
-          let takes = (line_transfer h past x resp may_x).takes has in
+          let takes = (line_due h past q j resp last word a x out line).takes has in
           let pass : passes_dirty resp ≡ true = (and_parts _ (passes_dirty resp) takes).1 in
           let bits = is_none_or-at (outstanding h past q Read j) (has_upper_bits h past resp) x (accepted_keeps h past (R q j resp last word) a).rule_19 out in
           let early = implies (passes_dirty resp) (has_passed_data h past x) && is_none_or (read_kind x) (fits_kind h past x resp) in

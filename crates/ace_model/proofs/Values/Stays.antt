@@ -1,13 +1,13 @@
 -- The value of a line stays while a port's data of it are on their way.
-use Rattle.std.proofs.Common.{◌≡◌, ℕ, ◌<◌, Bool, true, false, not, ◌||◌, ◌==◌, nat_eq, [], ◌∷◌, length, Some, None, refl, sym, ap, subst, ◌∙◌, arith, inl, inr}
+use Rattle.std.proofs.Common.{◌≡◌, ℕ, ◌<◌, Bool, true, false, not, ◌||◌, ◌==◌, [], ◌∷◌, length, Some, None, refl, sym, ap, subst, ◌∙◌, arith, inl, inr}
 use Rattle.std.proofs.lemmas.Bool.{and_parts, cases_Bool, cases_eq, not-true, eqb-true}
 use Rattle.ace_model.proofs.Terms.{ArKind, I, Read, Write, Event, W, Header, is_fetch, snoop_of_read, is_invalid, is_unique, Answer, Transaction, Trace, at_point, implies, is_some_and}
-use Rattle.ace_model.proofs.Terms.{is_none_or, is_update, is_write_line_unique, is_make_unique, has_write_data, is_read, is_line, is_on, issued, ended, read_kind, write_kind, snoop_of, snoop_kind_of, outstanding}
+use Rattle.ace_model.proofs.Terms.{is_none_or, is_update, is_write_line_unique, is_make_unique, has_write_data, is_read, is_on, read_kind, write_kind, snoop_of, snoop_kind_of, outstanding}
 use Rattle.ace_model.proofs.Terms.{has_outstanding_on, updates_memory, next_write, next_write_beat, gives_line, granted, answer_of, state_of, word_of, copy_of, Beat, value_of, may_store, k11, is_next_beat}
 use Rattle.ace_model.proofs.Terms.{fits_write, full_beat, IsAccepted}
 use Rattle.ace_codes.specs.declared.kind.ArKind.TheVariants as read
-use Rattle.ace_model.proofs.Trace.Looks.{has_name-is, newest_named-cases, without-some}
-use Rattle.ace_model.proofs.Trace.Issued.{outstanding-named, transaction_of-stands}
+use Rattle.ace_model.proofs.Trace.Looks.{has_name-is, is_on-addr}
+use Rattle.ace_model.proofs.Trace.Issued.{outstanding-named, transaction_of-stands, outstanding-name, outstanding-origin}
 use Rattle.ace_model.proofs.Trace.Growth.{at_point-before, at_point-end}
 use Rattle.ace_model.proofs.Rules.Keeps.{accepted_keeps}
 use Rattle.ace_model.proofs.Trace.LineOnce.{outstanding_found, one_on_line}
@@ -64,7 +64,7 @@ module _ (h : Header) (past : Trace) where
           | inl own ↦
               let out : outstanding h past p Read d.made.id ≡ Some d.made.one = ap (λ v. outstanding h past v Read d.made.id) (sym own) ∙ d.made.out in
               let one = one_on_line h past a.0 p Read Write d.made.id i l d.made.one x out o d.made.on on in
-              let chan = (has_name-is x p Write i (transaction_of-stands past p Write i x (outstanding-named h past p Write i x o)).named).chan in
+              let chan = (outstanding-name h past p Write i x o).chan in
               let reads = (read_writes_none d.made.one read.MakeUnique d.made.kind).1 in
               let bad : true ≡ false = sym reads ∙ ap (λ (y : Transaction). is_read y.chan) one ∙ ap is_read chan in cc
           | inr apart ↦ absurd (valid (d.made.alone p apart))
@@ -135,10 +135,10 @@ update_beat h past x k b last keeps next number updates =
 
 pub updates_step : (h : Header) (past : Trace) (e : Event) → IsAccepted h (e ∷ past) → DirtyPlaced h past → UpdatesTrue h (e ∷ past)
 updates_step h past e a f p i l x k b o on updates is =
-    elim (newest_named-cases (issued (length past) e) p Write i _ x o) [
+    elim (outstanding-origin h past e p Write i x o) [
       | inl new ↦ absurd (burst_new h past e a.0 x k b new.0 is)
       | inr old ↦
-          let was = (without-some (ended h past e) (outstanding h past p Write i) x old.0).0 in
+          let was = old.was in
           let s = transaction_of-stands past p Write i x (outstanding-named h past p Write i x was) in
           let name = has_name-is x p Write i s.named in
           let kind = is_some_and-is (write_kind x) is_update updates in
@@ -151,7 +151,7 @@ updates_step h past e a f p i l x k b o on updates is =
                 let word = update_beat h past x k b beat.last rule_11 beat.next beat.number updates in
                 let held = (keeps h past a.0 p i l x was on updates).held in
                 let copy = f.copies l p (λ gone. let bad : true ≡ false = sym (ap is_invalid gone) ∙ held in cc) in
-                let here : copy_of past x.port x.addr ≡ copy_of past p l = ap (λ v. copy_of past v x.addr) name.port ∙ ap (copy_of past p) (eqb-true x.addr l (and_parts (is_line x) (nat_eq x.addr l) on).1) in
+                let here : copy_of past x.port x.addr ≡ copy_of past p l = ap (λ v. copy_of past v x.addr) name.port ∙ ap (copy_of past p) (is_on-addr x l on) in
                 word ∙ ap (λ v. word_of v k) (here ∙ copy ∙ sym same)
           ]
     ]

@@ -11,14 +11,14 @@ use Rattle.ace_model.proofs.Trace.Growth.{some_issued-found}
 use Rattle.ace_model.proofs.Rules.Keeps.{accepted_keeps}
 use Rattle.ace_model.proofs.Holders.Stores.{is_named_by_d}
 use Rattle.ace_model.proofs.Trace.LineOnce.{outstanding_own, outstanding_found, one_on_line}
-use Rattle.ace_model.proofs.Holders.Rises.{dirty_moves, issue_leaves, ends_of}
+use Rattle.ace_model.proofs.Holders.Rises.{dirty_moves, issue_leaves}
 use Rattle.ace_model.proofs.Holders.Acknowledge.{is_named_by_rk}
-use Rattle.ace_model.proofs.Trace.WriteQueue.{ends_write_of}
 use Rattle.ace_model.proofs.Tables.Kinds.{is_dirty_update, is_clean_write, update_starts, dirty_starts, clean_starts}
 use Rattle.ace_model.proofs.Tables.SnoopRows.{beside_update, dirty_stays, silent_dirty}
 use Rattle.ace_model.proofs.Grants.SnoopAnswers.{Answering, answering_cr}
-use Rattle.ace_model.proofs.General.Options.{Some-injective, is_some_and-is, is_none_or-at}
+use Rattle.ace_model.proofs.General.Options.{is_some_and-is, is_none_or-at}
 use Rattle.ace_model.proofs.General.Booleans.{implies-at}
+use Rattle.ace_model.proofs.Values.Ended.{read_ends, write_ends}
 
 -- an outstanding update is found on its line
 pub update_found : (h : Header) (past : Trace) (p : ℕ) (c : Channel) (i l : ℕ) (x : Transaction)
@@ -52,28 +52,36 @@ where_named : (x : Transaction) (test : Bool) (held st : LineState) → Keeps x 
 where_named x true held st k named = named refl
 where_named x false held st k named = k
 
+-- The silent transition of the port, which gives up no line of an update.
+pub record MovesSilently (h : Header) (past : Trace) (st : LineState) (p l : ℕ) : Type 0 where
+  pub move : is_silent_move (state_of h past p l) st ≡ true
+  pub keeps : has_update h past p l ≡ true → is_invalid st ≡ false
+
+pub moves_silently : (h : Header) (past : Trace) (q addr : ℕ) (st : LineState) → IsAccepted h (S q addr st ∷ past) → (p l : ℕ) → (nat_eq p q && nat_eq l addr) ≡ true
+    → MovesSilently h past st p l
+moves_silently h past q addr st a p l t =
+    let parts = and_parts (nat_eq p q) (nat_eq l addr) t in
+    let rule : (is_silent_move (state_of h past p l) st && not (is_invalid st && has_update h past p l)) ≡ true =
+    rw (eqb-true p q parts.0, eqb-true l addr parts.1) (accepted_keeps h past (S q addr st) a).rule_29 in
+    let two = and_parts (is_silent_move (state_of h past p l) st) _ rule in
+    record { move = two.0; keeps = λ u. valid (is_invalid st) (has_update h past p l) u (not-true (is_invalid st && has_update h past p l) two.1) }
+  where
+    valid : (v u : Bool) → u ≡ true → (v && u) ≡ false → v ≡ false
+    valid false u e n = refl
+    valid true u e n = cc
+
 -- an event that doesn't end the update keeps this
 keeps_step : (h : Header) (past : Trace) (e : Event) → IsAccepted h (e ∷ past) → (p i l : ℕ) (x : Transaction) → outstanding h past p Write i ≡ Some x
     → is_on x l ≡ true → updates_memory x ≡ true → ((z : Transaction) → ended h past e ≡ Some z → z.place ≢ x.place)
     → Keeps x (state_of h past p l) → Keeps x (state_of h (e ∷ past) p l)
 keeps_step h past (Rk q st) a p i l x o on updates lasts f =
     where_named x (is_named_by_rk past q p l) (state_of h past p l) st f (λ t.
-    let parts = and_parts (nat_eq p q) _ t in
-    let e = ends_of h past q st a in
-    let z = is_some_and-is (acknowledged past p Read) (λ y. is_on y l) parts.1 in
-    let one : z.0 ≡ e.ended_one = Some-injective z.0 e.ended_one (sym z.1 ∙ ap (λ b. acknowledged past b Read) (eqb-true p q parts.0) ∙ e.is) in
-    let out : outstanding h past p Read e.id ≡ Some e.ended_one = ap (λ b. outstanding h past b Read e.id) (eqb-true p q parts.0) ∙ e.out in
-    let same = one_on_line h past a.0 p Read Write e.id i l e.ended_one x out o (subst (λ (y : Transaction). is_on y l ≡ true) one z.2) on in
-    absurd (lasts e.ended_one e.is (ap (λ (y : Transaction). y.place) same)))
+    let r = read_ends h past q st a p l t in
+    absurd (lasts r.one r.ends_it (ap (λ (y : Transaction). y.place) (one_on_line h past a.0 p Read Write r.id i l r.one x r.out o r.on on))))
 keeps_step h past (Wk q st) a p i l x o on updates lasts f =
     where_named x (nat_eq p q && is_some_on (acknowledged past p Write) l) (state_of h past p l) st f (λ t.
-    let parts = and_parts (nat_eq p q) _ t in
-    let z = is_some_and-is (acknowledged past p Write) (λ y. is_on y l) parts.1 in
-    let is : acknowledged past q Write ≡ Some z.0 = ap (λ b. acknowledged past b Write) (sym (eqb-true p q parts.0)) ∙ z.1 in
-    let e = ends_write_of h past q st a z.0 is in
-    let out : outstanding h past p Write e.id ≡ Some z.0 = ap (λ b. outstanding h past b Write e.id) (eqb-true p q parts.0) ∙ e.out in
-    let same = one_on_line h past a.0 p Write Write e.id i l z.0 x out o z.2 on in
-    absurd (lasts z.0 is (ap (λ (y : Transaction). y.place) same)))
+    let w = write_ends h past q st a p l t in
+    absurd (lasts w.one w.ends_it (ap (λ (y : Transaction). y.place) (one_on_line h past a.0 p Write Write w.id i l w.one x w.out o w.on on))))
 keeps_step h past (Cr q resp st) a p i l x o on updates lasts f =
     where_named x (nat_eq p q && answers_line past p l) (state_of h past p l) st f (λ t.
     let parts = and_parts (nat_eq p q) (answers_line past p l) t in
@@ -87,23 +95,8 @@ keeps_step h past (Cr q resp st) a p i l x o on updates lasts f =
     })
 keeps_step h past (S q addr st) a p i l x o on updates lasts f =
     where_named x (nat_eq p q && nat_eq l addr) (state_of h past p l) st f (λ t.
-    let parts = and_parts (nat_eq p q) (nat_eq l addr) t in
-    let port = eqb-true p q parts.0 in
-    let line = eqb-true l addr parts.1 in
-    let rule_29 : (is_silent_move (state_of h past p l) st && not (is_invalid st && has_update h past p l)) ≡ true =
-    subst (λ b. (is_silent_move (state_of h past b l) st && not (is_invalid st && has_update h past b l)) ≡ true) (sym port)
-    (subst (λ b. (is_silent_move (state_of h past q b) st && not (is_invalid st && has_update h past q b)) ≡ true) (sym line)
-    (accepted_keeps h past (S q addr st) a).rule_29) in
-    let two = and_parts (is_silent_move (state_of h past p l) st) _ rule_29 in
-    let update = update_found h past p Write i l x o on updates in
-    record {
-      held = valid (is_invalid st) (has_update h past p l) update (not-true (is_invalid st && has_update h past p l) two.1);
-      dirty = λ d. silent_dirty (state_of h past p l) st two.0 (f.dirty d);
-    })
-  where
-    valid : (v u : Bool) → u ≡ true → (v && u) ≡ false → v ≡ false
-    valid false u e n = refl
-    valid true u e n = cc
+    let m = moves_silently h past q addr st a p l t in
+    record { held = m.keeps (update_found h past p Write i l x o on updates); dirty = λ d. silent_dirty (state_of h past p l) st m.move (f.dirty d) })
 keeps_step h past (D q addr strobe s line) a p i l x o on updates lasts f =
     where_named x (is_named_by_d h past q addr p l) (state_of h past p l) UD f (λ t. record { held = refl; dirty = λ d. refl })
 keeps_step h past _ a p i l x o on updates lasts f = f

@@ -1,11 +1,11 @@
 -- Once the update of a dirty line has written memory, memory is the value, and no passed data are on their way.
-use Rattle.std.proofs.Common.{◌≡◌, ℕ, true, false, not, nat_eq, ◌∷◌, length, Some, None, refl, sym, ap, subst, ◌∙◌, inl, inr}
-use Rattle.std.proofs.lemmas.Bool.{and_parts, not-true, cases_Bool, eqb-true}
+use Rattle.std.proofs.Common.{◌≡◌, ℕ, true, false, not, ◌∷◌, Some, None, refl, sym, ap, subst, ◌∙◌, inl, inr}
+use Rattle.std.proofs.lemmas.Bool.{not-true, cases_Bool}
 use Rattle.std.specs.List.{AllByRecursion}
-use Rattle.ace_model.proofs.Terms.{passes_dirty, InRange, Write, Event, Header, is_invalid, Answer, Transaction, Trace, is_some_and, is_update, is_read, is_line, write_kind, issued, ended}
+use Rattle.ace_model.proofs.Terms.{passes_dirty, InRange, Write, Event, Header, is_invalid, Answer, Transaction, Trace, is_some_and, is_update, is_read, write_kind}
 use Rattle.ace_model.proofs.Terms.{outstanding, updates_memory, has_update, granted, has_passed_data, state_of, IsAccepted}
-use Rattle.ace_model.proofs.Trace.Looks.{has_name-is, newest_named-cases, without-some}
-use Rattle.ace_model.proofs.Trace.Issued.{outstanding-named, transaction_of-stands}
+use Rattle.ace_model.proofs.Trace.Looks.{is_on-addr}
+use Rattle.ace_model.proofs.Trace.Issued.{outstanding-named, outstanding-name, outstanding-origin}
 use Rattle.ace_model.proofs.Tables.States.{row_is}
 use Rattle.ace_model.proofs.Grants.Stays.{granted_before}
 use Rattle.ace_model.proofs.Tables.SnoopRows.{beside_update}
@@ -36,7 +36,7 @@ still_none h past e a l none no_new y g =
     some t =
         let parts = has_passed h (e ∷ past) y t in
         let o = (accepted_holds h (e ∷ past) a).grants l y g in
-        let addr = eqb-true y.addr l (and_parts (is_line y) (nat_eq y.addr l) o.1).1 in
+        let addr = is_on-addr y l o.1 in
         let w = subst (λ v. Passes h (e ∷ past) v) addr (passes_of h (e ∷ past) y.addr parts.some) in
         elim (granted_before h past e l y g) [
           | inr gives ↦ let bad : None ≡ Some w.answer = rw gives at w.is in cc
@@ -50,10 +50,10 @@ still_none h past e a l none no_new y g =
 
 pub updated_step : (h : Header) (past : Trace) (e : Event) → IsAccepted h (e ∷ past) → AllByRecursion InRange (e ∷ past) → DirtyPlaced h past → UpdatedTrue h (e ∷ past)
 updated_step h past e a r f p i l x o on dirty m =
-    elim (newest_named-cases (issued (length past) e) p Write i _ x o) [
+    elim (outstanding-origin h past e p Write i x o) [
       | inl new ↦ absurd (new_unwritten past e x p Write i new.0 new.1 m)
       | inr old ↦
-          let was = (without-some (ended h past e) (outstanding h past p Write i) x old.0).0 in
+          let was = old.was in
           elim (written_cases h past e a p Write i x was m) [
             | inl now ↦ written was (record { port = p; chan = Write; id = i; line = now.line; is = now.is; one = x; out = was; on = on; may = now.may }) refl
             | inr earlier ↦ later was (f.updated p i l x was on dirty earlier)
@@ -65,12 +65,12 @@ updated_step h past e a r f p i l x o on dirty m =
 
     written : outstanding h past p Write i ≡ Some x → (w : WritesLine h past e l) → w.one ≡ x → Updated h (e ∷ past) l
     written was w same =
-        let chan = (has_name-is x p Write i (transaction_of-stands past p Write i x (outstanding-named h past p Write i x was)).named).chan in
+        let chan = (outstanding-name h past p Write i x was).chan in
         let writes : is_read x.chan ≡ false = ap is_read chan in
         elim (writer h past e a l w) [
           | inl passed ↦ let bad : true ≡ false = sym passed.reads ∙ ap (λ (y : Transaction). is_read y.chan) same ∙ writes in cc
           | inr (inl u) ↦
-              let addr = eqb-true w.one.addr l (and_parts (is_line w.one) (nat_eq w.one.addr l) w.on).1 in
+              let addr = is_on-addr w.one l w.on in
               record {
                 stored = update_true h past e a r.0 f.updates l w u;
                 none = still_none h past e a l

@@ -1,14 +1,14 @@
 -- Once a granted write has written memory, memory is the value and no port holds the line.
-use Rattle.std.proofs.Common.{◌≡◌, ℕ, ◌+◌, ◌*◌, Bool, true, false, if◌then◌else◌, ◌||◌, nat_eq, [], ◌∷◌, length, Option, Some, None, option_map, unwrap_or, option_and_then, slice_get, refl, sym, ap, subst, ◌∙◌, inl, inr}
-use Rattle.std.proofs.lemmas.Bool.{and_parts, and_from, cases_Bool, eqb-true}
+use Rattle.std.proofs.Common.{◌≡◌, ℕ, ◌+◌, ◌*◌, Bool, true, false, if◌then◌else◌, ◌||◌, [], ◌∷◌, length, Option, Some, None, option_map, unwrap_or, option_and_then, slice_get, refl, sym, ap, subst, ◌∙◌, inl, inr}
+use Rattle.std.proofs.lemmas.Bool.{and_from, cases_Bool}
 use Rattle.std.specs.List.{AllByRecursion}
 use Rattle.ace_codes.specs.declared.kind.ArKind.TheVariants as read
 use Rattle.ace_model.proofs.Terms.{AwKind, I, InRange, Channel, Write, Event, M, Header, Line, merged, Transaction, Trace, is_some_and, is_write_line_unique, has_write_data, is_unique_write}
-use Rattle.ace_model.proofs.Terms.{is_no_snoop_write, is_read, is_line, read_kind, write_kind, snoop_of, snoop_kind_of, outstanding, has_memory_write, granted, has_passed_data, state_of, memory_of}
+use Rattle.ace_model.proofs.Terms.{is_no_snoop_write, is_read, read_kind, write_kind, snoop_of, snoop_kind_of, outstanding, has_memory_write, granted, has_passed_data, state_of, memory_of}
 use Rattle.ace_model.proofs.Terms.{passed_to, passed_data, Beat, burst_of, burst_line, burst_strobe, value_of, full_beat, full_line, data_of, data_of_write, burst_into, IsAccepted, replaces_line}
 use Rattle.ace_model.proofs.Terms.{HasDirtyHolder}
 use Rattle.ace_codes.specs.declared.kind.AwKind.TheVariants as write
-use Rattle.ace_model.proofs.Trace.Looks.{has_name-is}
+use Rattle.ace_model.proofs.Trace.Looks.{has_name-is, is_on-addr}
 use Rattle.ace_model.proofs.Trace.Issued.{outstanding-named, transaction_of-stands}
 use Rattle.ace_model.proofs.Holders.Rises.{state_moves}
 use Rattle.ace_model.proofs.Grants.Stays.{granted_before}
@@ -86,7 +86,7 @@ writing h past a r f q c j l w =
     x = w.one
 
     addr : x.addr ≡ l
-    addr = eqb-true w.one.addr l (and_parts (is_line w.one) (nat_eq w.one.addr l) w.on).1
+    addr = is_on-addr w.one l w.on
 
     empty : (p : ℕ) → state_of h past p l ≡ I
     empty p = all_empty h past a q c j l w p

@@ -1,7 +1,7 @@
--- What an RK leaves of the line of its read.
-use Rattle.std.proofs.Common.{◌≡◌, ℕ, true, nat_eq, ◌∷◌, Some, le_refl, sym, ap, subst, ◌∙◌}
+-- What an RK or a WK leaves of the line of its transaction.
+use Rattle.std.proofs.Common.{◌≡◌, ℕ, ◌&&◌, true, nat_eq, ◌∷◌, Some, le_refl, sym, ap, subst, ◌∙◌}
 use Rattle.std.proofs.lemmas.Bool.{and_parts, eqb-true}
-use Rattle.ace_model.proofs.Terms.{ArKind, LineState, passes_dirty, is_shared, Rk, Read, Header, ends_read, Transaction, Trace, implies, is_some_and, is_make_unique, is_line, is_on, read_kind}
+use Rattle.ace_model.proofs.Terms.{write_kind, ArKind, LineState, passes_dirty, is_shared, Rk, Read, Header, ends_read, Transaction, Trace, implies, is_some_and, is_make_unique, is_line, is_on, read_kind, Channel, Write, Wk, is_some_on, has_memory_write, has_write_data}
 use Rattle.ace_model.proofs.Terms.{outstanding, acknowledged, first_resp, transaction_of, acknowledgements, has_failed, state_of, has_store, ends_well, is_end, held_of, IsAccepted}
 use Rattle.ace_model.proofs.Tables.ReadEnds.{ReadEnds, read_is}
 use Rattle.ace_model.proofs.Rules.Keeps.{accepted_keeps}
@@ -13,6 +13,7 @@ use Rattle.ace_model.proofs.Values.FullReads.{IsFull}
 use Rattle.ace_model.proofs.Holders.Law.{accepted_holds}
 use Rattle.ace_model.proofs.General.Options.{Some-injective, is_some_and-is, is_none_or-at}
 use Rattle.ace_model.proofs.General.Booleans.{implies-at}
+use Rattle.ace_model.proofs.Trace.WriteQueue.{ends_write_of}
 
 -- The read of the line that an RK of the port ends.
 pub record ReadEnded (h : Header) (past : Trace) (q : ℕ) (st : LineState) (p l : ℕ) : Type 0 where
@@ -72,3 +73,32 @@ read_ends h past q st a p l t =
         let s = (accepted_holds h past a.0).queue q (acknowledgements past q Read) e.id e.ace (le_refl (acknowledgements past q Read)) e.next in
         let one : s.0 ≡ e.ended_one = Some-injective s.0 e.ended_one (sym s.1 ∙ e.out) in
         subst (λ (y : Transaction). IsFull past q e.id y) one s.2
+
+-- The write of the line that a WK of the port ends.
+pub record WriteEnded (h : Header) (past : Trace) (q p l : ℕ) : Type 0 where
+  pub one : Transaction
+  pub id : ℕ
+  pub out : outstanding h past p Write id ≡ Some one
+  pub on : is_on one l ≡ true
+  pub chan : one.chan ≡ Write
+  pub ends_it : acknowledged past q Write ≡ Some one
+  pub written : is_some_and (write_kind one) has_write_data ≡ true → has_memory_write past p Write id ≡ true
+
+pub write_ends : (h : Header) (past : Trace) (q : ℕ) (st : LineState) → IsAccepted h (Wk q st ∷ past) → (p l : ℕ) → (nat_eq p q && is_some_on (acknowledged past p Write) l) ≡ true
+    → WriteEnded h past q p l
+write_ends h past q st a p l t =
+    let parts = and_parts (nat_eq p q) _ t in
+    let port = eqb-true p q parts.0 in
+    let z = is_some_and-is (acknowledged past p Write) (λ y. is_on y l) parts.1 in
+    let is : acknowledged past q Write ≡ Some z.0 = ap (λ b. acknowledged past b Write) (sym port) ∙ z.1 in
+    let e = ends_write_of h past q st a z.0 is in
+    record {
+      one = z.0;
+      id = e.id;
+      out = ap (λ b. outstanding h past b Write e.id) port ∙ e.out;
+      on = z.2;
+      chan = e.chan;
+      ends_it = is;
+      written = λ sends. ap (λ b. has_memory_write past b Write e.id) (port ∙ sym e.port) ∙ ap (λ (c : Channel). has_memory_write past z.0.port c e.id) (sym e.chan)
+          ∙ ap (has_memory_write past z.0.port z.0.chan) (sym e.is_id) ∙ e.written sends;
+    }
