@@ -1,9 +1,9 @@
 -- Data newer than memory have a place, at every point of an accepted trace.
-use Rattle.std.proofs.Common.{◌≡◌, ℕ, true, false, [], ◌∷◌, Option, Some, None, option_and_then, option_map, refl, sym, ap, subst, ◌∙◌, inl, inr}
+use Rattle.std.proofs.Common.{◌≡◌, ℕ, true, false, [], ◌∷◌, Option, Some, None, option_map, refl, sym, ap, subst, ◌∙◌, inl, inr}
 use Rattle.std.proofs.lemmas.Bool.{or_left, cases_Bool}
 use Rattle.std.specs.List.{AllByRecursion}
 use Rattle.ace_model.proofs.Terms.{InRange, Channel, Event, M, D, Header, Line, is_dirty, Transaction, Trace, is_some_and, is_make_unique, is_write_line_unique, is_read, read_kind, write_kind}
-use Rattle.ace_model.proofs.Terms.{outstanding, has_memory_write, granted, has_passed_data, state_of, memory_of, passed_to, passed_data, value_of, data_of, may_write_memory, IsAccepted, replaces_line}
+use Rattle.ace_model.proofs.Terms.{outstanding, has_memory_write, granted, has_passed_data, state_of, memory_of, passed_data, value_of, data_of, may_write_memory, IsAccepted, replaces_line}
 use Rattle.ace_model.proofs.Terms.{IsValueSafe, DirtyPlace}
 use Rattle.ace_model.proofs.Trace.Looks.{has_name-is, is_on-addr}
 use Rattle.ace_model.proofs.Trace.Issued.{transaction_of-stands}
@@ -16,8 +16,7 @@ use Rattle.ace_model.proofs.Values.MergedLines.{value-length}
 use Rattle.ace_model.proofs.Values.Copies.{copies_step}
 use Rattle.ace_model.proofs.Values.Made.{made_step}
 use Rattle.ace_model.proofs.Values.Stays.{sent_step, updates_step}
-use Rattle.ace_model.proofs.Values.Replies.{answer_kept}
-use Rattle.ace_model.proofs.Grants.Granted.{written_cases, has_passed, Passes, passes_of}
+use Rattle.ace_model.proofs.Grants.Granted.{written_cases, has_passed}
 use Rattle.ace_model.proofs.Values.DirtMoves.{dirt_moves}
 use Rattle.ace_model.proofs.Values.Passed.{store_dirty, passed_true, passed_safe, passed_step}
 use Rattle.ace_model.proofs.Values.MemoryWrites.{WritesLine, memory_now, memory_moves, writer, line_is, update_true, ByPassed}
@@ -27,6 +26,7 @@ use Rattle.ace_model.proofs.Values.Safe.{ended_safe, answered_safe}
 use Rattle.ace_model.proofs.Values.Facts.{DirtyPlaced}
 use Rattle.ace_model.proofs.Holders.Law.{accepted_holds}
 use Rattle.ace_model.proofs.General.Options.{is_some_and-is, is_some_and-at}
+use Rattle.ace_model.proofs.Values.PassedData.{answer_kept, passes_line, passed_has}
 
 module _ (h : Header) (past : Trace) where
   -- the M of passed data makes memory the value, or a port holds the line dirty
@@ -84,17 +84,8 @@ module _ (h : Header) (past : Trace) where
   passed_granted l d is = by (granted h past l) refl
     where
       by : (o : Option Transaction) → granted h past l ≡ o → (x : Transaction) × (granted h past l ≡ Some x) × (has_passed_data h past x ≡ true)
-      by None g = let bad : None ≡ Some d = sym (ap (option_and_then (passed_to h past l)) g) ∙ is in cc
-      by (Some x) g = (
-        x,
-        g,
-        elim (cases_Bool (has_passed_data h past x)) [
-          | inl t ↦ t
-          | inr none ↦
-              let to : passed_to h past l x ≡ Some d = sym (ap (option_and_then (passed_to h past l)) g) ∙ is in
-              let bad : None ≡ Some d = rw none at to in cc
-        ],
-      )
+      by None g = let bad : None ≡ Some d = rw g at is in cc
+      by (Some x) g = (x, g, passed_has h past l x d g is)
 
   safe_step : (e : Event) → IsAccepted h (e ∷ past) → AllByRecursion InRange (e ∷ past) → DirtyPlaced h past → (l : ℕ) → IsValueSafe h (e ∷ past) l
   safe_step e a r f l =
@@ -117,9 +108,7 @@ module _ (h : Header) (past : Trace) where
       passed_on : (x : Transaction) → granted h past l ≡ Some x → has_passed_data h past x ≡ true → Stays h past e l x → IsValueSafe h (e ∷ past) l
       passed_on x g has stays =
           let o = (accepted_holds h past a.0).grants l x g in
-          let parts = has_passed h past x has in
-          let addr = is_on-addr x l o.1 in
-          let w = subst (λ v. Passes h past v) addr (passes_of h past x.addr parts.some) in
+          let w = passes_line h past a.0 l x g has in
           elim (cases_Bool (has_memory_write (e ∷ past) x.port x.chan x.id)) [
             | inr none ↦
                 passed_safe h (e ∷ past) a (passed_step h past e a f) l w.port x w.answer stays.is none (answer_kept h past a.0 e w.port l w.answer stays.gives w.is) w.dirty
@@ -127,7 +116,7 @@ module _ (h : Header) (past : Trace) where
               | inl now ↦
                   memory_written e a r f l
                   (record { port = x.port; chan = x.chan; id = x.id; line = now.line; is = now.is; one = x; out = o.0; on = o.1; may = now.may })
-              | inr earlier ↦ let bad : true ≡ false = sym earlier ∙ parts.unwritten in cc
+              | inr earlier ↦ let bad : true ≡ false = sym earlier ∙ (has_passed h past x has).unwritten in cc
             ]
           ]
 

@@ -1,5 +1,5 @@
 -- What an M writes: passed data, the burst of an update, which is the value, or a store, which makes memory the value.
-use Rattle.std.proofs.Common.{◌≡◌, ◌⊎◌, ℕ, ◌<◌, ◌^◌, Bool, true, false, not, if◌then◌else◌, ◌||◌, nat_eq, [], ◌∷◌, length, Option, Some, None, option_map, slice_get, refl, sym, ap, subst, ◌∙◌, inl, inr}
+use Rattle.std.proofs.Common.{◌≡◌, ◌⊎◌, ℕ, ◌<◌, ◌^◌, Bool, true, false, not, ◌||◌, nat_eq, [], ◌∷◌, length, Option, Some, None, slice_get, refl, sym, ap, subst, ◌∙◌, inl, inr}
 use Rattle.std.proofs.lemmas.Bool.{and_parts, and_from, or_right, cases_Bool, eqb-true}
 use Rattle.std.specs.List.{AllByRecursion}
 use Rattle.ace_model.proofs.Terms.{AwKind, IsDigit, IsWord, IsLine, InRange, Channel, Read, Write, Event, W, M, Header, Line, Transaction, Trace, implies, is_some_and, is_none_or, is_update}
@@ -12,13 +12,13 @@ use Rattle.ace_model.proofs.Tables.Kinds.{granted_stores}
 use Rattle.ace_model.proofs.Rules.Keeps.{accepted_keeps}
 use Rattle.ace_model.proofs.Values.MergedLines.{same_line-is, lines_by_words}
 use Rattle.ace_model.proofs.Trace.WriteBursts.{burst_grows, burst_new, four_beats}
-use Rattle.ace_model.proofs.Values.Stores.{Writes, stores_m}
+use Rattle.ace_model.proofs.Values.Stores.{Writes, stores_m, may_write}
 use Rattle.ace_model.proofs.Values.MergedLines.{value-length}
 use Rattle.ace_model.proofs.Values.Stays.{value_updating}
 use Rattle.ace_model.proofs.Grants.Granted.{granted_at, passed_may, data_may, has_passed, granted_given, granted_write}
 use Rattle.ace_model.proofs.Values.Facts.{UpdatesTrue}
 use Rattle.ace_model.proofs.ReadsFollow.Written.{update-writes}
-use Rattle.ace_model.proofs.General.Options.{Some-injective, is_some_and-is, is_some_and-at, is_none_or-at}
+use Rattle.ace_model.proofs.General.Options.{is_some_and-is, is_some_and-at, is_none_or-at}
 use Rattle.ace_model.proofs.General.Booleans.{implies-at}
 
 -- The M of a transaction on the line.
@@ -50,19 +50,8 @@ memory_moves h past (M q c j line) a l = by (transaction_of past q c j) refl
         elim (cases_Bool (is_on x l)) [
           | inr f ↦ inl (rw (is, f) refl)
           | inl t ↦
-              let z = is_some_and-is (outstanding h past q c j) (may_write_memory h past) (accepted_keeps h past (M q c j line) a).rule_24 in
-              let one : z.0 ≡ x = Some-injective z.0 x (sym (outstanding-named h past q c j z.0 z.1) ∙ is) in
-              inr (record {
-                port = q;
-                chan = c;
-                id = j;
-                line = line;
-                is = refl;
-                one = x;
-                out = z.1 ∙ ap (λ v. Some v) one;
-                on = t;
-                may = subst (λ y. may_write_memory h past y ≡ true) one z.2;
-              })
+              let m = may_write h past q c j line a x is in
+              inr (record { port = q; chan = c; id = j; line = line; is = refl; one = x; out = m.out; on = t; may = m.may })
         ]
 memory_moves h past _ a l = inl refl
 
@@ -130,6 +119,10 @@ module _ (h : Header) (past : Trace) where
       let same = is_none_or-at (data_of h past w.one) (same_line w.line) d has is in
       same_line-is w.line d (line_length e l w r) n same
 
+-- the data of a write of this kind
+pub kind_data : (h : Header) (past : Trace) (x : Transaction) (k : AwKind) → is_read x.chan ≡ false → write_kind x ≡ Some k → data_of h past x ≡ Some (data_of_write h past x k)
+kind_data h past x k writes kind = rw (kind, writes) refl
+
 pub is_write-is : (c : Channel) → is_read c ≡ false → c ≡ Write
 is_write-is Read e = cc
 is_write-is Write e = refl
@@ -153,15 +146,10 @@ update_true h past e a r f l w u =
     let chan : w.chan ≡ Write = sym name.chan ∙ is_write-is x.chan u.writes in
     let out : outstanding h past w.port Write w.id ≡ Some x = ap (λ (c : Channel). outstanding h past w.port c w.id) (sym chan) ∙ w.out in
     let k = is_some_and-is (write_kind x) is_update u.updates in
-    let is : data_of h past x ≡ Some (burst_line (burst_of past x)) =
-    from (is_read x.chan) u.writes _ _ ∙ ap (option_map (data_of_write h past x)) k.1 ∙ ap (λ v. Some v) (update-writes h past x k.0 k.2) in
+    let is : data_of h past x ≡ Some (burst_line (burst_of past x)) = kind_data h past x k.0 u.writes k.1 ∙ ap (λ v. Some v) (update-writes h past x k.0 k.2) in
     let value = update_is h past a.0 f w.port w.id l x out w.on u.updates u.whole in
     let line = line_is h past e a r l w (burst_line (burst_of past x)) is (ap (λ (v : Line). length v.words) value ∙ value-length past l) in
     memory_now h past e l w ∙ line ∙ value ∙ sym (value_updating h past e a w.port w.id l x out w.on u.updates)
-  where
-    from : (b : Bool) → b ≡ false → (s t : Option Line) → (if b then s else t) ≡ t
-    from true f s t = cc
-    from false f s t = refl
 
 -- A beat of a write with data: its word, and its strobe where the write replaces the line.
 pub record BeatFits (x : Transaction) (b : Beat) : Type 0 where

@@ -6,7 +6,7 @@ use Rattle.ace_model.proofs.Terms.{write_kind, snoop_of, snoop_kind_of, transact
 use Rattle.ace_model.proofs.Terms.{is_memory_write, has_memory_write, data_answers, granted, answers_grant, answer_at, answer_of, passer, has_passed_data, state_of, is_in_make_unique}
 use Rattle.ace_model.proofs.Terms.{awaits_store, copy_of, copy_at_answer, passed_to, passed_data, value_of, may_store, IsAccepted, HasDirtyHolder, IsValueSafe}
 use Rattle.ace_codes.specs.declared.kind.SnoopKind.TheVariants as snoop
-use Rattle.ace_model.proofs.Trace.Looks.{has_name-is, same_channel-self, is_on-addr}
+use Rattle.ace_model.proofs.Trace.Looks.{has_name-is, same_channel-self}
 use Rattle.ace_model.proofs.Trace.Issued.{transaction_of-stands}
 use Rattle.ace_model.proofs.Tables.States.{row_is, unique_unsettled, dirty_valid}
 use Rattle.ace_model.proofs.Holders.Stores.{some_issued-weaker}
@@ -17,9 +17,8 @@ use Rattle.ace_model.proofs.Grants.SnoopAnswers.{answer_cases}
 use Rattle.ace_model.proofs.Grants.Answers.{new_answer, others_settled, passed_kind}
 use Rattle.ace_model.proofs.Values.Stores.{value_moves, awaits_store-is}
 use Rattle.ace_model.proofs.Values.Stays.{may_unique, may_free, copy_at-old, copy_at-new, value_cr}
-use Rattle.ace_model.proofs.Values.Replies.{answered_once}
-use Rattle.ace_model.proofs.Grants.Granted.{unwritten_before, has_passed, Passes, passes_of}
-use Rattle.ace_model.proofs.Values.PassedData.{passes_data}
+use Rattle.ace_model.proofs.Grants.Granted.{unwritten_before, has_passed, Passes}
+use Rattle.ace_model.proofs.Values.PassedData.{passes_data, answered_once, passes_line}
 use Rattle.ace_model.proofs.Values.DirtMoves.{dirt_moves}
 use Rattle.ace_model.proofs.Values.Facts.{PassedTrue, DirtyPlaced}
 use Rattle.ace_model.proofs.Holders.Law.{accepted_holds}
@@ -61,11 +60,8 @@ module _ (h : Header) (past : Trace) where
   pub passed_true : IsAccepted h past → PassedTrue h past → (l : ℕ) (x : Transaction) → granted h past l ≡ Some x → has_passed_data h past x ≡ true
       → (passed_data h past l ≡ Some (value_of past l)) ⊎ HasDirtyHolder h past l
   passed_true a f l x g has =
-      let o = (accepted_holds h past a).grants l x g in
-      let addr = is_on-addr x l o.1 in
-      let parts = has_passed h past x has in
-      let w = subst (λ v. Passes h past v) addr (passes_of h past x.addr parts.some) in
-      elim (f l w.port x w.answer g parts.unwritten w.is w.dirty) [
+      let w = passes_line h past a l x g has in
+      elim (f l w.port x w.answer g (has_passed h past x has).unwritten w.is w.dirty) [
         | inl same ↦ inl (passed_is l x g has w ∙ ap (λ v. Some v) same)
         | inr dirty ↦ inr (w.port, dirty)
       ]

@@ -3,12 +3,11 @@ use Rattle.std.proofs.Common.{◌≡◌, ℕ, true, false, ◌&&◌, nat_eq, [],
 use Rattle.std.proofs.lemmas.Bool.{and_parts, and_from, or_left, cases_Bool, cases_eq, eq-eqb}
 use Rattle.ace_model.proofs.Terms.{ArKind, SnoopKind, snoop_of_read, transfers_data, Event, Cr, Header, is_fetch, is_dirty, Answer, Transaction, Trace, at_point, is_some_and, newer}
 use Rattle.ace_model.proofs.Terms.{reads_a_line, is_make_unique, is_granted_write, is_on, read_kind, write_kind, snoop_of, snoop_kind_of, outstanding}
-use Rattle.ace_model.proofs.Terms.{data_answers, gives_line, granted, answers_grant, answer_at, answer_of, has_passed_data, each_port, has_failed, state_of}
-use Rattle.ace_model.proofs.Terms.{are_snoops_done, is_port_done, is_line_read_transaction, copy_of, memory_of, copy_at_answer, passed_to, passed_data, sender_at, first_sender, memory_at_first_beat}
+use Rattle.ace_model.proofs.Terms.{data_answers, gives_line, granted, answers_grant, answer_of, each_port, has_failed, state_of}
+use Rattle.ace_model.proofs.Terms.{are_snoops_done, is_port_done, is_line_read_transaction, copy_of, memory_of, copy_at_answer, passed_data, sender_at, first_sender, memory_at_first_beat}
 use Rattle.ace_model.proofs.Terms.{reply_of, value_of, IsAccepted, replaces_line}
 use Rattle.ace_model.proofs.Holders.FirstTransfer.{done_port}
 use Rattle.ace_model.proofs.Holders.Rises.{stays_empty}
-use Rattle.ace_model.proofs.Grants.Pending.{answering, snoops}
 use Rattle.ace_model.proofs.Grants.SnoopAnswers.{answer_cases}
 use Rattle.ace_model.proofs.Grants.Answers.{is_levelling, unsent_clean, passed_kind}
 use Rattle.ace_model.proofs.Trace.Looks.{read_writes_none}
@@ -16,25 +15,10 @@ use Rattle.std.proofs.Math.Bool.{and-false}
 use Rattle.ace_model.proofs.Trace.Looks.{is_on-addr, snoops_done-ports}
 use Rattle.ace_model.proofs.Tables.Kinds.{Fetch, fetch_is}
 use Rattle.ace_model.proofs.Tables.States.{dirty_valid}
-use Rattle.ace_model.proofs.Grants.Granted.{Passes, has_passed, passes_of}
 use Rattle.ace_model.proofs.Values.Facts.{SentTrue, DirtyPlaced}
 use Rattle.ace_model.proofs.Holders.Law.{accepted_holds}
 use Rattle.ace_model.proofs.General.Options.{Some-injective, is_some_and-is}
-
--- a port that has answered under the grant answers no more
-pub answered_once : (h : Header) (past : Trace) → IsAccepted h past → (d : Event) (r l : ℕ) (w : Answer) → answer_of past r l ≡ Some w → answer_at past d r l ≡ None
-answered_once h past a (Cr q resp st) r l w is =
-    elim (cases_Bool (nat_eq r q && answers_grant past r l)) [
-      | inr f ↦ rw f refl
-      | inl t ↦
-          let s = answering past q r l t in
-          let none = ((snoops h past a).pending r _ l s.0 s.1).unanswered in cc
-    ]
-answered_once h past a d r l w is = refl
-
-pub answer_kept : (h : Header) (past : Trace) → IsAccepted h past → (e : Event) (r l : ℕ) (w : Answer) → gives_line past e l ≡ false → answer_of past r l ≡ Some w
-    → answer_of (e ∷ past) r l ≡ Some w
-answer_kept h past a e r l w gives is = let none = answered_once h past a e r l w is in rw (gives, none) is
+use Rattle.ace_model.proofs.Values.PassedData.{answer_kept, passes_line, passed_has}
 
 -- The answer with data of the first sender.
 pub record Sends (past : Trace) (s l : ℕ) : Type 0 where
@@ -165,10 +149,5 @@ memory_true h past a f l x k g kind fetch done none =
 
     no_passed : passed_data h past l ≡ Some (value_of past l) → ⊥
     no_passed passed =
-        let to : passed_to h past l x ≡ Some (value_of past l) = subst (λ o. option_and_then (passed_to h past l) o ≡ Some (value_of past l)) g passed in
-        elim (cases_Bool (has_passed_data h past x)) [
-          | inr f ↦ let bad : None ≡ Some (value_of past l) = rw f at to in cc
-          | inl t ↦
-              let w = subst (Passes h past) addr (passes_of h past x.addr (has_passed h past x t).some) in
-              sent_sender past w.port l w.answer w.is (passed_kind h past a l w.port x w.answer g w.is w.dirty).3 none
-        ]
+        let w = passes_line h past a l x g (passed_has h past l x (value_of past l) g passed) in
+        sent_sender past w.port l w.answer w.is (passed_kind h past a l w.port x w.answer g w.is w.dirty).3 none

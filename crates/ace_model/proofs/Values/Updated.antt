@@ -15,8 +15,8 @@ use Rattle.ace_model.proofs.Values.UpdateHolds.{update_found, keeps}
 use Rattle.ace_model.proofs.Tables.Kinds.{is_dirty_update, dirty_updates}
 use Rattle.ace_model.proofs.Values.WritesAlone.{all_empty}
 use Rattle.ace_model.proofs.Values.Stays.{value_updating}
-use Rattle.ace_model.proofs.Grants.Granted.{new_unwritten, unwritten_before, written_cases, has_passed, Passes, passes_of, granted_given, updates_ungranted}
-use Rattle.ace_model.proofs.Values.PassedData.{passes_data}
+use Rattle.ace_model.proofs.Grants.Granted.{new_unwritten, unwritten_before, written_cases, has_passed, granted_given, updates_ungranted}
+use Rattle.ace_model.proofs.Values.PassedData.{passes_data, passes_line}
 use Rattle.ace_model.proofs.Values.MemoryWrites.{WritesLine, memory_moves, writer, update_true}
 use Rattle.ace_model.proofs.Values.Facts.{Updated, UpdatedTrue, DirtyPlaced}
 use Rattle.ace_model.proofs.Holders.Law.{accepted_holds}
@@ -35,14 +35,12 @@ still_none h past e a l none no_new y g =
     some : has_passed_data h (e ∷ past) y ≡ true → ⊥
     some t =
         let parts = has_passed h (e ∷ past) y t in
-        let o = (accepted_holds h (e ∷ past) a).grants l y g in
-        let addr = is_on-addr y l o.1 in
-        let w = subst (λ v. Passes h (e ∷ past) v) addr (passes_of h (e ∷ past) y.addr parts.some) in
+        let w = passes_line h (e ∷ past) a l y g t in
         elim (granted_before h past e l y g) [
           | inr gives ↦ let bad : None ≡ Some w.answer = rw gives at w.is in cc
           | inl stays ↦ elim (answer_cases past e w.port l w.answer stays.gives w.is) [
             | inl old ↦
-                let before = unwritten_before h past e a y.port y.chan y.id y ((accepted_holds h past a.0).grants l y stays.was).0 parts.unwritten in
+                let before = unwritten_before h past e a y.port y.chan y.id y ((accepted_holds h past a.0).grants l y stays.was).0 (has_passed h (e ∷ past) y t).unwritten in
                 let bad : true ≡ false = sym (passes_data h past a.0 l w.port y w.answer stays.was before old w.dirty) ∙ none y stays.was in cc
             | inr new ↦ no_new w.port w.answer new w.dirty
           ]

@@ -1,5 +1,5 @@
 -- Once a granted write has written memory, memory is the value and no port holds the line.
-use Rattle.std.proofs.Common.{◌≡◌, ℕ, ◌+◌, ◌*◌, Bool, true, false, if◌then◌else◌, ◌||◌, [], ◌∷◌, length, Option, Some, None, option_map, unwrap_or, option_and_then, slice_get, refl, sym, ap, subst, ◌∙◌, inl, inr}
+use Rattle.std.proofs.Common.{◌≡◌, ℕ, ◌+◌, ◌*◌, true, false, ◌||◌, [], ◌∷◌, length, Option, Some, None, unwrap_or, option_and_then, slice_get, refl, sym, ap, subst, ◌∙◌, inl, inr}
 use Rattle.std.proofs.lemmas.Bool.{and_from, cases_Bool}
 use Rattle.std.specs.List.{AllByRecursion}
 use Rattle.ace_codes.specs.declared.kind.ArKind.TheVariants as read
@@ -8,8 +8,8 @@ use Rattle.ace_model.proofs.Terms.{is_no_snoop_write, is_read, read_kind, write_
 use Rattle.ace_model.proofs.Terms.{passed_to, passed_data, Beat, burst_of, burst_line, burst_strobe, value_of, full_beat, full_line, data_of, data_of_write, burst_into, IsAccepted, replaces_line}
 use Rattle.ace_model.proofs.Terms.{HasDirtyHolder}
 use Rattle.ace_codes.specs.declared.kind.AwKind.TheVariants as write
-use Rattle.ace_model.proofs.Trace.Looks.{has_name-is, is_on-addr}
-use Rattle.ace_model.proofs.Trace.Issued.{outstanding-named, transaction_of-stands}
+use Rattle.ace_model.proofs.Trace.Looks.{is_on-addr}
+use Rattle.ace_model.proofs.Trace.Issued.{outstanding-named}
 use Rattle.ace_model.proofs.Holders.Rises.{state_moves}
 use Rattle.ace_model.proofs.Grants.Stays.{granted_before}
 use Rattle.ace_model.proofs.Grants.SnoopAnswers.{no_rise}
@@ -21,12 +21,13 @@ use Rattle.ace_model.proofs.Trace.Looks.{read_writes_none}
 use Rattle.ace_model.proofs.Values.WritesAlone.{all_empty}
 use Rattle.ace_model.proofs.Tables.States.{unique_valid, dirty_valid}
 use Rattle.ace_model.proofs.Values.Stays.{may_unique}
-use Rattle.ace_model.proofs.Grants.Granted.{given_unwritten, granted_given, granted_write, has_passed, passes_of, Passes, written_cases}
+use Rattle.ace_model.proofs.Grants.Granted.{given_unwritten, granted_given, granted_write, written_cases}
 use Rattle.ace_model.proofs.Values.Passed.{passed_true}
-use Rattle.ace_model.proofs.Values.MemoryWrites.{WritesLine, memory_now, memory_moves, grant_stores, writer, line_is, is_write-is, update_true, beats_fit}
+use Rattle.ace_model.proofs.Values.MemoryWrites.{WritesLine, memory_now, memory_moves, grant_stores, writer, line_is, is_write-is, update_true, beats_fit, kind_data}
 use Rattle.ace_model.proofs.Values.Facts.{Quiet, WrittenTrue, DirtyPlaced}
 use Rattle.ace_model.proofs.Holders.Law.{accepted_holds}
 use Rattle.ace_model.proofs.General.Options.{Some-injective}
+use Rattle.ace_model.proofs.Values.PassedData.{passes_line, passed_has}
 
 -- What a store writes.
 record Writing (h : Header) (past : Trace) (l : ℕ) (x : Transaction) : Type 0 where
@@ -34,13 +35,6 @@ record Writing (h : Header) (past : Trace) (l : ℕ) (x : Transaction) : Type 0 
   is : data_of h past x ≡ Some line
   four : length line.words ≡ 4
   stores : line ≡ burst_into past x (value_of past l)
-
-kind_data : (h : Header) (past : Trace) (x : Transaction) (k : AwKind) → is_read x.chan ≡ false → write_kind x ≡ Some k → data_of h past x ≡ Some (data_of_write h past x k)
-kind_data h past x k writes kind = from (is_read x.chan) writes _ _ ∙ ap (option_map (data_of_write h past x)) kind
-  where
-    from : (b : Bool) → b ≡ false → (s t : Option Line) → (if b then s else t) ≡ t
-    from true f s t = cc
-    from false f s t = refl
 
 -- where no port holds the line, the passed data are the value, else memory is
 base_is : (h : Header) (past : Trace) → IsAccepted h past → DirtyPlaced h past → (l : ℕ) (x : Transaction) → granted h past l ≡ Some x → replaces_line x ≡ false
@@ -60,14 +54,9 @@ base_is h past a f l x g replaces empty = by (passed_data h past l) refl
               let yes : replaces_line x ≡ true = subst (λ o. is_some_and o replaces_line ≡ true) g r in cc
         ]
     by (Some d) is =
-        elim (cases_Bool (has_passed_data h past x)) [
-          | inl has ↦ elim (passed_true h past a f.passed l x g has) [
-            | inl same ↦ Some-injective d (value_of past l) (sym is ∙ same)
-            | inr holder ↦ absurd (no_holder holder)
-          ]
-          | inr none ↦
-              let to : passed_data h past l ≡ passed_to h past l x = ap (option_and_then (passed_to h past l)) g in
-              let bad : None ≡ Some d = rw none at (sym to ∙ is) in cc
+        elim (passed_true h past a f.passed l x g (passed_has h past l x d g is)) [
+          | inl same ↦ Some-injective d (value_of past l) (sym is ∙ same)
+          | inr holder ↦ absurd (no_holder holder)
         ]
 
 full_burst : (b0 b1 b2 b3 : Beat) → b0.strobe ≡ full_beat → b1.strobe ≡ full_beat → b2.strobe ≡ full_beat → b3.strobe ≡ full_beat
@@ -118,7 +107,7 @@ writing h past a r f q c j l w =
             let none : passed_data h past l ≡ None = elim (cases_Bool (has_passed_data h past w.one)) [
               | inr lacks ↦ ap (option_and_then (passed_to h past l)) w.stands ∙ rw lacks refl
               | inl has ↦
-                  let p = subst (λ v. Passes h past v) addr (passes_of h past w.one.addr (has_passed h past w.one has).some) in
+                  let p = passes_line h past a l w.one w.stands has in
                   let k = passed_kind h past a l p.port w.one p.answer w.stands p.is p.dirty in
                   let causes : snoop_of w.one ≡ None = ap (λ o. snoop_kind_of o (write_kind w.one)) no_read ∙ ap (snoop_kind_of None) kind in
                   let bad : None ≡ Some k.0 = sym causes ∙ k.1 in cc
@@ -126,7 +115,6 @@ writing h past a r f q c j l w =
             ap (λ o. unwrap_or o (memory_of past l)) (sym none) ∙ base write.WriteNoSnoop kind refl
     by write.WriteLineUnique kind s =
         let four = four_beats past w.one w.whole in
-        let name = has_name-is w.one q c j (transaction_of-stands past q c j w.one w.named).named in
         let out : outstanding h past w.one.port Write w.one.id ≡ Some w.one =
         ap (λ (d : Channel). outstanding h past w.one.port d w.one.id) (sym (is_write-is w.one.chan w.writes)) ∙ w.out in
         let sends : is_some_and (write_kind w.one) has_write_data ≡ true = rw kind refl in
