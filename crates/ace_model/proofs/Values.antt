@@ -1,3 +1,4 @@
+pub mod Beats
 pub mod Copies
 pub mod DirtMoves
 pub mod Facts

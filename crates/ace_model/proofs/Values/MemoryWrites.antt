@@ -1,25 +1,25 @@
 -- What an M writes: passed data, the burst of an update, which is the value, or a store, which makes memory the value.
-use Rattle.std.proofs.Common.{◌≡◌, ◌⊎◌, ℕ, ◌<◌, ◌^◌, Bool, true, false, not, ◌||◌, nat_eq, [], ◌∷◌, length, Option, Some, None, slice_get, refl, sym, ap, subst, ◌∙◌, inl, inr}
-use Rattle.std.proofs.lemmas.Bool.{and_parts, and_from, or_right, cases_Bool, eqb-true}
+use Rattle.std.proofs.Common.{◌≡◌, ◌⊎◌, ℕ, ◌<◌, ◌^◌, Bool, true, false, not, [], ◌∷◌, length, Option, Some, None, slice_get, refl, sym, ap, subst, ◌∙◌, inl, inr}
+use Rattle.std.proofs.lemmas.Bool.{and_parts, and_from, or_right, cases_Bool}
 use Rattle.std.specs.List.{AllByRecursion}
-use Rattle.ace_model.proofs.Terms.{AwKind, IsDigit, IsWord, IsLine, InRange, Channel, Read, Write, Event, W, M, Header, Line, Transaction, Trace, implies, is_some_and, is_none_or, is_update}
+use Rattle.ace_model.proofs.Terms.{AwKind, IsDigit, IsWord, IsLine, InRange, Channel, Read, Write, Event, W, M, Header, Line, Transaction, Trace, is_some_and, is_none_or, is_update}
 use Rattle.ace_model.proofs.Terms.{is_write_line_unique, has_write_data, is_granted_write, is_read, is_on, write_kind, outstanding}
-use Rattle.ace_model.proofs.Terms.{transaction_of, updates_memory, is_burst_whole, next_write, next_write_beat, granted, is_granted, has_passed_data, memory_of, same_line, Beat, burst_of, burst_line}
-use Rattle.ace_model.proofs.Terms.{stores_data, value_of, is_next_beat, fits_write, full_beat, may_write_memory, data_of, data_of_write, has_data, IsAccepted}
+use Rattle.ace_model.proofs.Terms.{transaction_of, updates_memory, is_burst_whole, granted, is_granted, has_passed_data, memory_of, same_line, Beat, burst_of, burst_line}
+use Rattle.ace_model.proofs.Terms.{stores_data, value_of, full_beat, may_write_memory, data_of, data_of_write, has_data, IsAccepted}
 use Rattle.ace_model.proofs.Trace.Looks.{is_on-addr}
-use Rattle.ace_model.proofs.Trace.Issued.{outstanding-named, transaction_of-stands, outstanding-name, outstanding-origin}
+use Rattle.ace_model.proofs.Trace.Issued.{outstanding-named, outstanding-name}
 use Rattle.ace_model.proofs.Tables.Kinds.{granted_stores}
 use Rattle.ace_model.proofs.Rules.Keeps.{accepted_keeps}
 use Rattle.ace_model.proofs.Values.MergedLines.{same_line-is, lines_by_words}
-use Rattle.ace_model.proofs.Trace.WriteBursts.{burst_grows, burst_new, four_beats}
+use Rattle.ace_model.proofs.Trace.WriteBursts.{four_beats}
 use Rattle.ace_model.proofs.Values.Stores.{Writes, stores_m, may_write}
 use Rattle.ace_model.proofs.Values.MergedLines.{value-length}
 use Rattle.ace_model.proofs.Values.Stays.{value_updating}
 use Rattle.ace_model.proofs.Grants.Granted.{granted_at, passed_may, data_may, has_passed, granted_given, granted_write}
 use Rattle.ace_model.proofs.Values.Facts.{UpdatesTrue}
 use Rattle.ace_model.proofs.ReadsFollow.Written.{update-writes}
-use Rattle.ace_model.proofs.General.Options.{is_some_and-is, is_some_and-at, is_none_or-at}
-use Rattle.ace_model.proofs.General.Booleans.{implies-at}
+use Rattle.ace_model.proofs.General.Options.{is_some_and-is, is_none_or-at}
+use Rattle.ace_model.proofs.Values.Beats.{beat_origin, beat_fits}
 
 -- The M of a transaction on the line.
 pub record WritesLine (h : Header) (past : Trace) (e : Event) (l : ℕ) : Type 0 where
@@ -160,26 +160,15 @@ pub beats_fit : (h : Header) (past : Trace) → IsAccepted h past → AllByRecur
     → is_some_and (write_kind x) has_write_data ≡ true → slice_get (burst_of past x) k ≡ Some b → BeatFits x b
 beats_fit h [] a r p i x k b o sends is = cc
 beats_fit h (e ∷ past) a r p i x k b o sends is =
-    elim (outstanding-origin h past e p Write i x o) [
-      | inl new ↦ absurd (burst_new h past e a.0 x k b new.0 is)
-      | inr old ↦
-          let was = old.was in
-          let s = transaction_of-stands past p Write i x (outstanding-named h past p Write i x was) in
-          elim (burst_grows past e x k b (record { there = s.there; before = s.before }) sends is) [
-            | inl before ↦ beats_fit h past a.0 r.1 p i x k b was sends before
-            | inr beat ↦
-                let keeps = (accepted_keeps h past (W x.port b.strobe beat.last b.word) (subst (λ d. IsAccepted h (d ∷ past)) beat.is a)).rule_11 in
-                let fits = is_some_and-at (next_write past x.port) (is_next_beat past (next_write_beat past x.port) b.strobe beat.last b.word) x keeps beat.next in
-                record {
-                  low = in_word x.port b.strobe beat.last b.word (subst InRange beat.is r.0);
-                  full = λ unique.
-                      let kind = is_some_and-is (write_kind x) is_write_line_unique unique in
-                      let by = is_none_or-at (write_kind x) (fits_write past x (next_write_beat past x.port) b.strobe b.word) kind.0
-                      (and_parts _ (is_none_or (write_kind x) (fits_write past x (next_write_beat past x.port) b.strobe b.word)) fits).1 kind.1 in
-                      let both = and_parts (implies (is_update kind.0 || is_write_line_unique kind.0) (nat_eq b.strobe full_beat)) _ by in
-                      eqb-true b.strobe full_beat (implies-at (is_update kind.0 || is_write_line_unique kind.0) _ both.0 (or_right (is_update kind.0) (is_write_line_unique kind.0) kind.2));
-                }
-          ]
+    let beat = beat_origin h past e x k b a p i o sends is in
+    elim beat.comes [
+      | inl before ↦ beats_fit h past a.0 r.1 p i x k b beat.was sends before
+      | inr new ↦ record {
+        low = in_word x.port b.strobe new.last b.word (subst InRange new.is r.0);
+        full = λ unique.
+            let kind = is_some_and-is (write_kind x) is_write_line_unique unique in
+            (beat_fits h past e x k b a new kind.0 kind.1).full (or_right (is_update kind.0) (is_write_line_unique kind.0) kind.2);
+      }
     ]
   where
     in_word : (p strb : ℕ) (last : Bool) (word : ℕ) → InRange (W p strb last word) → word < 2 ^ 128

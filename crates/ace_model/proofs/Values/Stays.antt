@@ -1,15 +1,14 @@
 -- The value of a line stays while a port's data of it are on their way.
-use Rattle.std.proofs.Common.{◌≡◌, ℕ, ◌<◌, Bool, true, false, not, ◌||◌, ◌==◌, [], ◌∷◌, length, Some, None, refl, sym, ap, subst, ◌∙◌, arith, inl, inr}
-use Rattle.std.proofs.lemmas.Bool.{and_parts, cases_Bool, cases_eq, not-true, eqb-true}
-use Rattle.ace_model.proofs.Terms.{ArKind, I, Read, Write, Event, W, Header, is_fetch, snoop_of_read, is_invalid, is_unique, Answer, Transaction, Trace, at_point, implies, is_some_and}
-use Rattle.ace_model.proofs.Terms.{is_none_or, is_update, is_write_line_unique, is_make_unique, has_write_data, is_read, is_on, read_kind, write_kind, snoop_of, snoop_kind_of, outstanding}
-use Rattle.ace_model.proofs.Terms.{has_outstanding_on, updates_memory, next_write, next_write_beat, gives_line, granted, answer_of, state_of, word_of, copy_of, Beat, value_of, may_store, k11, is_next_beat}
-use Rattle.ace_model.proofs.Terms.{fits_write, full_beat, IsAccepted}
+use Rattle.std.proofs.Common.{◌≡◌, ℕ, ◌<◌, true, false, not, [], ◌∷◌, length, Some, None, refl, sym, ap, subst, ◌∙◌, arith, inl, inr}
+use Rattle.std.proofs.lemmas.Bool.{and_parts, cases_Bool, cases_eq, not-true}
+use Rattle.ace_model.proofs.Terms.{ArKind, I, Read, Write, Event, Header, is_fetch, snoop_of_read, is_unique, Answer, Transaction, Trace, at_point, is_some_and}
+use Rattle.ace_model.proofs.Terms.{is_update, is_make_unique, has_write_data, is_read, is_on, read_kind, write_kind, snoop_of, snoop_kind_of, outstanding}
+use Rattle.ace_model.proofs.Terms.{has_outstanding_on, updates_memory, gives_line, granted, answer_of, state_of, word_of, copy_of, value_of, may_store}
+use Rattle.ace_model.proofs.Terms.{IsAccepted}
 use Rattle.ace_codes.specs.declared.kind.ArKind.TheVariants as read
-use Rattle.ace_model.proofs.Trace.Looks.{has_name-is, is_on-addr}
-use Rattle.ace_model.proofs.Trace.Issued.{outstanding-named, transaction_of-stands, outstanding-name, outstanding-origin}
+use Rattle.ace_model.proofs.Trace.Looks.{is_on-addr}
+use Rattle.ace_model.proofs.Trace.Issued.{outstanding-name}
 use Rattle.ace_model.proofs.Trace.Growth.{at_point-before, at_point-end}
-use Rattle.ace_model.proofs.Rules.Keeps.{accepted_keeps}
 use Rattle.ace_model.proofs.Trace.LineOnce.{outstanding_found, one_on_line}
 use Rattle.ace_model.proofs.Grants.Stays.{granted_before}
 use Rattle.ace_model.proofs.Tables.SnoopRows.{sends_held}
@@ -17,14 +16,14 @@ use Rattle.ace_model.proofs.Grants.SnoopAnswers.{NewAnswer, answer_cases}
 use Rattle.ace_model.proofs.Grants.Answers.{new_answer, is_levelling, none_unique}
 use Rattle.ace_model.proofs.Tables.Kinds.{fetch_is, update_data}
 use Rattle.ace_model.proofs.Values.UpdateHolds.{keeps}
-use Rattle.ace_model.proofs.Trace.WriteBursts.{burst_grows, burst_new}
 use Rattle.ace_model.proofs.Values.Stores.{Made, value_moves}
 use Rattle.ace_model.proofs.Trace.Looks.{read_writes_none}
 use Rattle.ace_model.proofs.Values.WritesAlone.{all_empty}
 use Rattle.ace_model.proofs.Values.Facts.{SentTrue, UpdatesTrue, DirtyPlaced}
 use Rattle.ace_model.proofs.Holders.Law.{accepted_holds}
-use Rattle.ace_model.proofs.General.Options.{Some-injective, is_some_and-is, is_some_and-at, is_none_or-at}
-use Rattle.ace_model.proofs.General.Booleans.{implies-at}
+use Rattle.ace_model.proofs.General.Options.{Some-injective, is_some_and-is}
+use Rattle.ace_model.proofs.Values.Beats.{beat_origin, beat_fits}
+use Rattle.ace_model.proofs.Tables.States.{invalid_not}
 
 module _ (h : Header) (past : Trace) where
   pub may_unique : (q l : ℕ) → may_store h past q l ≡ true → is_unique (state_of h past q l) ≡ true
@@ -50,8 +49,7 @@ module _ (h : Header) (past : Trace) where
   pub value_updating : (e : Event) → IsAccepted h (e ∷ past) → (p i l : ℕ) (x : Transaction) → outstanding h past p Write i ≡ Some x
       → is_on x l ≡ true → updates_memory x ≡ true → value_of (e ∷ past) l ≡ value_of past l
   value_updating e a p i l x o on updates =
-      let held = (keeps h past a.0 p i l x o on updates).held in
-      let valid : state_of h past p l ≡ I → ⊥ = λ gone. let bad : true ≡ false = sym (ap is_invalid gone) ∙ held in cc in
+      let valid = invalid_not (state_of h past p l) (keeps h past a.0 p i l x o on updates).held in
       elim (value_moves h past e a l) [
         | inl same ↦ same
         | inr (inl d) ↦ elim (cases_eq d.port p) [
@@ -122,36 +120,16 @@ sent_step h past e a f l r x w k g is d kind fetch =
       ]
     ]
 
--- a new beat of an update is a word of the copy
-update_beat : (h : Header) (past : Trace) (x : Transaction) (k : ℕ) (b : Beat) (last : Bool) → k11 h past (W x.port b.strobe last b.word) ≡ true → next_write past x.port ≡ Some x
-    → next_write_beat past x.port ≡ k → updates_memory x ≡ true → b.word ≡ word_of (copy_of past x.port x.addr) k
-update_beat h past x k b last keeps next number updates =
-    let fits = is_some_and-at (next_write past x.port) (is_next_beat past (next_write_beat past x.port) b.strobe last b.word) x keeps next in
-    let kind = is_some_and-is (write_kind x) is_update updates in
-    let by = is_none_or-at (write_kind x) (fits_write past x (next_write_beat past x.port) b.strobe b.word) kind.0 (and_parts _ (is_none_or (write_kind x) (fits_write past x (next_write_beat past x.port) b.strobe b.word)) fits).1 kind.1 in
-    let both = and_parts (implies (is_update kind.0 || is_write_line_unique kind.0) (b.strobe == full_beat))
-    (implies (is_update kind.0) (b.word == word_of (copy_of past x.port x.addr) (next_write_beat past x.port))) by in
-    eqb-true b.word _ (implies-at (is_update kind.0) _ both.1 kind.2) ∙ ap (word_of (copy_of past x.port x.addr)) number
-
 pub updates_step : (h : Header) (past : Trace) (e : Event) → IsAccepted h (e ∷ past) → DirtyPlaced h past → UpdatesTrue h (e ∷ past)
 updates_step h past e a f p i l x k b o on updates is =
-    elim (outstanding-origin h past e p Write i x o) [
-      | inl new ↦ absurd (burst_new h past e a.0 x k b new.0 is)
-      | inr old ↦
-          let was = old.was in
-          let s = transaction_of-stands past p Write i x (outstanding-named h past p Write i x was) in
-          let name = has_name-is x p Write i s.named in
-          let kind = is_some_and-is (write_kind x) is_update updates in
-          let sends : is_some_and (write_kind x) has_write_data ≡ true = subst (λ v. is_some_and v has_write_data ≡ true) (sym kind.1) (update_data kind.0 kind.2) in
-          let same = value_updating h past e a p i l x was on updates in
-          elim (burst_grows past e x k b (record { there = s.there; before = s.before }) sends is) [
-            | inl before ↦ f.updates p i l x k b was on updates before ∙ ap (λ v. word_of v k) (sym same)
-            | inr beat ↦
-                let rule_11 = (accepted_keeps h past (W x.port b.strobe beat.last b.word) (subst (λ d. IsAccepted h (d ∷ past)) beat.is a)).rule_11 in
-                let word = update_beat h past x k b beat.last rule_11 beat.next beat.number updates in
-                let held = (keeps h past a.0 p i l x was on updates).held in
-                let copy = f.copies l p (λ gone. let bad : true ≡ false = sym (ap is_invalid gone) ∙ held in cc) in
-                let here : copy_of past x.port x.addr ≡ copy_of past p l = ap (λ v. copy_of past v x.addr) name.port ∙ ap (copy_of past p) (is_on-addr x l on) in
-                word ∙ ap (λ v. word_of v k) (here ∙ copy ∙ sym same)
-          ]
+    let kind = is_some_and-is (write_kind x) is_update updates in
+    let beat = beat_origin h past e x k b a p i o (subst (λ v. is_some_and v has_write_data ≡ true) (sym kind.1) (update_data kind.0 kind.2)) is in
+    let same = value_updating h past e a p i l x beat.was on updates in
+    elim beat.comes [
+      | inl before ↦ f.updates p i l x k b beat.was on updates before ∙ ap (λ v. word_of v k) (sym same)
+      | inr new ↦
+          let port = (outstanding-name h past p Write i x beat.was).port in
+          let copy = f.copies l p (invalid_not (state_of h past p l) (keeps h past a.0 p i l x beat.was on updates).held) in
+          let here : copy_of past x.port x.addr ≡ copy_of past p l = ap (λ v. copy_of past v x.addr) port ∙ ap (copy_of past p) (is_on-addr x l on) in
+          (beat_fits h past e x k b a new kind.0 kind.1).copied kind.2 ∙ ap (word_of (copy_of past x.port x.addr)) new.number ∙ ap (λ v. word_of v k) (here ∙ copy ∙ sym same)
     ]
