@@ -28,16 +28,15 @@
 --   * once an outstanding WriteBack or WriteClean has had its M, memory is the value and the line's granted transaction
 --     has no passed data [UpdatedTrue].
 --
--- Why each kind of event keeps them (AC, CD, L, OP and the records that issue or end no such transaction change nothing
--- here):
+-- Why each kind of event keeps them (AC, CD, L and OP change nothing here):
 --
 -- D: the copy of the port changes as the value does, and every other port is in I (Copies). The port is then dirty, or
---   its MakeUnique is granted and replaces the line (Law). No other fact is touched. After a port has passed the line on,
---   the others are in I or SC and can't store, and nothing is passed to a MakeUnique (Passed). After a port has sent data
---   to a fetch, or the fetch has had a transfer, no other port is unique, and its own has it outstanding (Stays,
---   Fetches). A second D of a MakeUnique is refused by K32 (Made), and under a granted write that has had its M no port
---   holds the line (Written). The port of an outstanding update holds the line and may not store, and no other port is
---   unique (Stays).
+--   its MakeUnique is granted and replaces the line (Law). Where a fact says of other data that they are the value, no D
+--   comes. After a port has passed the line on, the others are in I or SC, and nothing is passed to a MakeUnique; a D of
+--   that port itself leaves it dirty (Passed). After a port has sent data to a fetch, or the fetch has had a transfer, no
+--   other port is unique, and its own has the fetch outstanding (Stays, Fetches). K32 refuses a second D of a MakeUnique
+--   (Made). Under a granted write that has had its M no port holds the line (Written). The port of an outstanding update
+--   holds the line and may not store, and no other port is unique (Stays).
 -- M: by K24 and K25 it writes one of three lines (MemoryWrites). Passed data of a read: they are the value, or a port
 --   holds the line dirty. The whole burst of a memory update: it is the value, and K24 leaves the granted transaction no
 --   passed data. The line that a granted write stores: the base that it merges its burst into is the value before, since

@@ -20,12 +20,12 @@ use Rattle.ace_model.proofs.Values.Facts.{DirtyPlaced}
 use Rattle.ace_model.proofs.Holders.Law.{accepted_holds}
 use Rattle.ace_model.proofs.General.Options.{is_some_and-is}
 
--- only its own D of the line changes the state of a port by a D
-pub state_d : (h : Header) (past : Trace) (q addr strobe : ℕ) (b : Bool) (line : Line) (p l : ℕ) → (nat_eq p q && nat_eq l addr) ≡ false
-    → state_of h (D q addr strobe b line ∷ past) p l ≡ state_of h past p l
-state_d h past q addr strobe b line p l other = rw other refl
-
 module _ (h : Header) (past : Trace) where
+  -- only its own D of the line changes the state of a port by a D
+  pub state_d : (q addr strobe : ℕ) (b : Bool) (line : Line) (p l : ℕ) → (nat_eq p q && nat_eq l addr) ≡ false
+      → state_of h (D q addr strobe b line ∷ past) p l ≡ state_of h past p l
+  state_d q addr strobe b line p l other = rw other refl
+
   -- a store changes the copy of its port as it does the value, and finds no other port with the line
   copies_d : (q l strobe : ℕ) (b : Bool) (line : Line) → IsAccepted h (D q l strobe b line ∷ past) → AreCopiesTrue h past l
       → AreCopiesTrue h (D q l strobe b line ∷ past) l
@@ -51,7 +51,7 @@ module _ (h : Header) (past : Trace) where
               | inr m ↦ m.alone p apart
             ] in
             let not_named : (nat_eq p q && nat_eq l l) ≡ false = rw other refl in
-            absurd (held (state_d h past q l strobe b line p l not_named ∙ gone))
+            absurd (held (state_d q l strobe b line p l not_named ∙ gone))
       ]
 
   -- an RK of a read of the line

@@ -21,32 +21,33 @@ use Rattle.ace_model.proofs.Values.Facts.{MadeTrue, DirtyPlaced}
 use Rattle.ace_model.proofs.Holders.Law.{accepted_holds}
 use Rattle.ace_model.proofs.General.Options.{is_some_and-at}
 
--- The store of a MakeUnique.
-pub record StoresNow (h : Header) (past : Trace) (e : Event) (p i : ℕ) (x : Transaction) : Type 0 where
-  pub addr : ℕ
-  pub strobe : ℕ
-  pub ex : Bool
-  pub line : Line
-  pub is : e ≡ D p addr strobe ex line
-  pub awaits : Awaits h past p addr x
+module _ (h : Header) (past : Trace) where
+  -- The store of a MakeUnique.
+  pub record StoresNow (e : Event) (p i : ℕ) (x : Transaction) : Type 0 where
+    pub addr : ℕ
+    pub strobe : ℕ
+    pub ex : Bool
+    pub line : Line
+    pub is : e ≡ D p addr strobe ex line
+    pub awaits : Awaits h past p addr x
 
-stores_now : (h : Header) (past : Trace) (e : Event) (p i : ℕ) (x : Transaction) → outstanding h past p Read i ≡ Some x → is_store_of h past e p i ≡ true → StoresNow h past e p i x
-stores_now h past (D q addr strobe b line) p i x o s =
-    let parts = and_parts (nat_eq p q) (is_some_and (outstanding h past p Read i) (awaits_store h past p addr)) s in
-    record {
-      addr = addr;
-      strobe = strobe;
-      ex = b;
-      line = line;
-      is = ap (λ v. D v addr strobe b line) (sym (eqb-true p q parts.0));
-      awaits = awaits_store-is h past p addr x (is_some_and-at (outstanding h past p Read i) (awaits_store h past p addr) x parts.1 o);
-    }
-stores_now h past e p i x o s = cc
+  stores_now : (e : Event) (p i : ℕ) (x : Transaction) → outstanding h past p Read i ≡ Some x → is_store_of h past e p i ≡ true → StoresNow e p i x
+  stores_now (D q addr strobe b line) p i x o s =
+      let parts = and_parts (nat_eq p q) (is_some_and (outstanding h past p Read i) (awaits_store h past p addr)) s in
+      record {
+        addr = addr;
+        strobe = strobe;
+        ex = b;
+        line = line;
+        is = ap (λ v. D v addr strobe b line) (sym (eqb-true p q parts.0));
+        awaits = awaits_store-is h past p addr x (is_some_and-at (outstanding h past p Read i) (awaits_store h past p addr) x parts.1 o);
+      }
+  stores_now e p i x o s = cc
 
-issue_stores : (h : Header) (past : Trace) (e : Event) (x : Transaction) (p i : ℕ) → issued (length past) e ≡ Some x → is_store_of h past e p i ≡ false
-issue_stores h past (Ar q j addr snoop dom bar lock) x p i s = refl
-issue_stores h past (Aw q j addr snoop dom bar) x p i s = refl
-issue_stores h past e x p i s = cc
+  issue_stores : (e : Event) (x : Transaction) (p i : ℕ) → issued (length past) e ≡ Some x → is_store_of h past e p i ≡ false
+  issue_stores (Ar q j addr snoop dom bar lock) x p i s = refl
+  issue_stores (Aw q j addr snoop dom bar) x p i s = refl
+  issue_stores e x p i s = cc
 
 -- a MakeUnique that has had its store is complete, and of an ACE port
 pub stored_complete : (h : Header) (past : Trace) → IsAccepted h past → (p i : ℕ) (x : Transaction) → outstanding h past p Read i ≡ Some x → has_store h past p i ≡ true

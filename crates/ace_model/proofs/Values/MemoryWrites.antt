@@ -21,39 +21,40 @@ use Rattle.ace_model.proofs.ReadsFollow.Written.{update-writes}
 use Rattle.ace_model.proofs.General.Options.{is_some_and-is, is_none_or-at}
 use Rattle.ace_model.proofs.Values.Beats.{beat_origin, beat_fits}
 
--- The M of a transaction on the line.
-pub record WritesLine (h : Header) (past : Trace) (e : Event) (l : ℕ) : Type 0 where
-  pub port : ℕ
-  pub chan : Channel
-  pub id : ℕ
-  pub line : Line
-  pub is : e ≡ M port chan id line
-  pub one : Transaction
-  pub out : outstanding h past port chan id ≡ Some one
-  pub on : is_on one l ≡ true
-  pub may : may_write_memory h past one ≡ true
+module _ (h : Header) (past : Trace) where
+  -- The M of a transaction on the line.
+  pub record WritesLine (e : Event) (l : ℕ) : Type 0 where
+    pub port : ℕ
+    pub chan : Channel
+    pub id : ℕ
+    pub line : Line
+    pub is : e ≡ M port chan id line
+    pub one : Transaction
+    pub out : outstanding h past port chan id ≡ Some one
+    pub on : is_on one l ≡ true
+    pub may : may_write_memory h past one ≡ true
 
--- memory is then what it writes
-pub memory_now : (h : Header) (past : Trace) (e : Event) (l : ℕ) (w : WritesLine h past e l) → memory_of (e ∷ past) l ≡ w.line
-memory_now h past e l w =
-    let named = outstanding-named h past w.port w.chan w.id w.one w.out in
-    let on = w.on in
-    subst (λ d. memory_of (d ∷ past) l ≡ w.line) (sym w.is) (rw (named, on) refl)
+  -- memory is then what it writes
+  pub memory_now : (e : Event) (l : ℕ) (w : WritesLine e l) → memory_of (e ∷ past) l ≡ w.line
+  memory_now e l w =
+      let named = outstanding-named h past w.port w.chan w.id w.one w.out in
+      let on = w.on in
+      subst (λ d. memory_of (d ∷ past) l ≡ w.line) (sym w.is) (rw (named, on) refl)
 
--- an event leaves memory of the line, or is such an M
-pub memory_moves : (h : Header) (past : Trace) (e : Event) → IsAccepted h (e ∷ past) → (l : ℕ) → (memory_of (e ∷ past) l ≡ memory_of past l) ⊎ WritesLine h past e l
-memory_moves h past (M q c j line) a l = by (transaction_of past q c j) refl
-  where
-    by : (o : Option Transaction) → transaction_of past q c j ≡ o → (memory_of (M q c j line ∷ past) l ≡ memory_of past l) ⊎ WritesLine h past (M q c j line) l
-    by None is = inl (rw is refl)
-    by (Some x) is =
-        elim (cases_Bool (is_on x l)) [
-          | inr f ↦ inl (rw (is, f) refl)
-          | inl t ↦
-              let m = may_write h past q c j line a x is in
-              inr (record { port = q; chan = c; id = j; line = line; is = refl; one = x; out = m.out; on = t; may = m.may })
-        ]
-memory_moves h past _ a l = inl refl
+  -- an event leaves memory of the line, or is such an M
+  pub memory_moves : (e : Event) → IsAccepted h (e ∷ past) → (l : ℕ) → (memory_of (e ∷ past) l ≡ memory_of past l) ⊎ WritesLine e l
+  memory_moves (M q c j line) a l = by (transaction_of past q c j) refl
+    where
+      by : (o : Option Transaction) → transaction_of past q c j ≡ o → (memory_of (M q c j line ∷ past) l ≡ memory_of past l) ⊎ WritesLine (M q c j line) l
+      by None is = inl (rw is refl)
+      by (Some x) is =
+          elim (cases_Bool (is_on x l)) [
+            | inr f ↦ inl (rw (is, f) refl)
+            | inl t ↦
+                let m = may_write h past q c j line a x is in
+                inr (record { port = q; chan = c; id = j; line = line; is = refl; one = x; out = m.out; on = t; may = m.may })
+          ]
+  memory_moves _ a l = inl refl
 
 -- a granted write stores
 pub grant_stores : (x : Transaction) → (k : AwKind) → write_kind x ≡ Some k → is_granted_write k ≡ true → stores_data x ≡ true
@@ -119,9 +120,9 @@ module _ (h : Header) (past : Trace) where
       let same = is_none_or-at (data_of h past w.one) (same_line w.line) d has is in
       same_line-is w.line d (line_length e l w r) n same
 
--- the data of a write of this kind
-pub kind_data : (h : Header) (past : Trace) (x : Transaction) (k : AwKind) → is_read x.chan ≡ false → write_kind x ≡ Some k → data_of h past x ≡ Some (data_of_write h past x k)
-kind_data h past x k writes kind = rw (kind, writes) refl
+  -- the data of a write of this kind
+  pub kind_data : (x : Transaction) (k : AwKind) → is_read x.chan ≡ false → write_kind x ≡ Some k → data_of h past x ≡ Some (data_of_write h past x k)
+  kind_data x k writes kind = rw (kind, writes) refl
 
 pub is_write-is : (c : Channel) → is_read c ≡ false → c ≡ Write
 is_write-is Read e = cc

@@ -24,29 +24,29 @@ use Rattle.ace_model.proofs.Values.Facts.{PassedTrue, DirtyPlaced}
 use Rattle.ace_model.proofs.Holders.Law.{accepted_holds}
 use Rattle.ace_model.proofs.General.Options.{Some-injective}
 
--- a line that a port may store to is in no MakeUnique of the port
-pub no_make_unique : (h : Header) (past : Trace) (p l : ℕ) → may_store h past p l ≡ true → is_in_make_unique h past p l ≡ false
-no_make_unique h past p l may =
-    elim (cases_Bool (is_in_make_unique h past p l)) [
-      | inr f ↦ f
-      | inl t ↦
-          let some : has_outstanding_on h past p l ≡ true = some_issued-weaker past (awaits_store h past p l) (is_outstanding_on h past p l) weaker t in
-          let none = may_free h past p l may in cc
-    ]
-  where
-    weaker : (x : Transaction) → awaits_store h past p l x ≡ true → is_outstanding_on h past p l x ≡ true
-    weaker x t =
-        let w = awaits_store-is h past p l x t in and_from _ _ (and_from _ _ (eq-eqb x.port p w.port) w.on) w.out
-
--- a store to it leaves it dirty
-pub store_dirty : (h : Header) (past : Trace) (p l strobe : ℕ) (x : Bool) (line : Line) → may_store h past p l ≡ true → is_dirty (state_of h (D p l strobe x line ∷ past) p l) ≡ true
-store_dirty h past p l strobe x line may =
-    let none = no_make_unique h past p l may in
-    let pp : nat_eq p p ≡ true = eq-eqb p p refl in
-    let ll : nat_eq l l ≡ true = eq-eqb l l refl in
-    rw (pp, ll, none) refl
-
 module _ (h : Header) (past : Trace) where
+  -- a line that a port may store to is in no MakeUnique of the port
+  pub no_make_unique : (p l : ℕ) → may_store h past p l ≡ true → is_in_make_unique h past p l ≡ false
+  no_make_unique p l may =
+      elim (cases_Bool (is_in_make_unique h past p l)) [
+        | inr f ↦ f
+        | inl t ↦
+            let some : has_outstanding_on h past p l ≡ true = some_issued-weaker past (awaits_store h past p l) (is_outstanding_on h past p l) weaker t in
+            let none = may_free h past p l may in cc
+      ]
+    where
+      weaker : (x : Transaction) → awaits_store h past p l x ≡ true → is_outstanding_on h past p l x ≡ true
+      weaker x t =
+          let w = awaits_store-is h past p l x t in and_from _ _ (and_from _ _ (eq-eqb x.port p w.port) w.on) w.out
+
+  -- a store to it leaves it dirty
+  pub store_dirty : (p l strobe : ℕ) (x : Bool) (line : Line) → may_store h past p l ≡ true → is_dirty (state_of h (D p l strobe x line ∷ past) p l) ≡ true
+  store_dirty p l strobe x line may =
+      let none = no_make_unique p l may in
+      let pp : nat_eq p p ≡ true = eq-eqb p p refl in
+      let ll : nat_eq l l ≡ true = eq-eqb l l refl in
+      rw (pp, ll, none) refl
+
   -- with the passed copy at its answer, the passed data are there
   pub passed_is : (l : ℕ) (x : Transaction) → granted h past l ≡ Some x → has_passed_data h past x ≡ true → (w : Passes h past l)
       → passed_data h past l ≡ Some (copy_of (at_point w.answer.place past) w.port l)
@@ -119,7 +119,7 @@ module _ (h : Header) (past : Trace) where
             | inl kept ↦ inl (copy_at-old past e r l w old ∙ same ∙ sym kept)
             | inr (inl p) ↦ elim (cases_eq p.port r) [
               | inl own ↦ inr (subst (λ v. is_dirty (state_of h (e ∷ past) v l) ≡ true) own
-                  (subst (λ v. is_dirty (state_of h (v ∷ past) p.port l) ≡ true) (sym p.is) (store_dirty h past p.port l p.strobe p.ex p.line p.may)))
+                  (subst (λ v. is_dirty (state_of h (v ∷ past) p.port l) ≡ true) (sym p.is) (store_dirty p.port l p.strobe p.ex p.line p.may)))
               | inr apart ↦ absurd (unique_unsettled (state_of h past p.port l) (may_unique h past p.port l p.may) (others_settled h past a.0 l r p.port x w was old d apart))
             ]
             | inr (inr (inl m)) ↦

@@ -10,33 +10,34 @@ use Rattle.ace_model.proofs.Grants.Granted.{passed_may, has_passed, passes_of, g
 use Rattle.ace_model.proofs.Holders.Law.{accepted_holds}
 use Rattle.ace_model.proofs.Trace.Looks.{is_on-addr}
 
--- a port that has answered under the grant answers no more
-pub answered_once : (h : Header) (past : Trace) → IsAccepted h past → (d : Event) (r l : ℕ) (w : Answer) → answer_of past r l ≡ Some w → answer_at past d r l ≡ None
-answered_once h past a (Cr q resp st) r l w is =
-    elim (cases_Bool (nat_eq r q && answers_grant past r l)) [
-      | inr f ↦ rw f refl
-      | inl t ↦
-          let s = answering past q r l t in
-          let none = ((snoops h past a).pending r _ l s.0 s.1).unanswered in cc
-    ]
-answered_once h past a d r l w is = refl
+module _ (h : Header) (past : Trace) where
+  -- a port that has answered under the grant answers no more
+  pub answered_once : IsAccepted h past → (d : Event) (r l : ℕ) (w : Answer) → answer_of past r l ≡ Some w → answer_at past d r l ≡ None
+  answered_once a (Cr q resp st) r l w is =
+      elim (cases_Bool (nat_eq r q && answers_grant past r l)) [
+        | inr f ↦ rw f refl
+        | inl t ↦
+            let s = answering past q r l t in
+            let none = ((snoops h past a).pending r _ l s.0 s.1).unanswered in cc
+      ]
+  answered_once a d r l w is = refl
 
-pub answer_kept : (h : Header) (past : Trace) → IsAccepted h past → (e : Event) (r l : ℕ) (w : Answer) → gives_line past e l ≡ false → answer_of past r l ≡ Some w
-    → answer_of (e ∷ past) r l ≡ Some w
-answer_kept h past a e r l w gives is = let none = answered_once h past a e r l w is in rw (gives, none) is
+  pub answer_kept : IsAccepted h past → (e : Event) (r l : ℕ) (w : Answer) → gives_line past e l ≡ false → answer_of past r l ≡ Some w
+      → answer_of (e ∷ past) r l ≡ Some w
+  answer_kept a e r l w gives is = let none = answered_once a e r l w is in rw (gives, none) is
 
--- Where the granted transaction has passed data, a port has passed them on.
-pub passes_line : (h : Header) (past : Trace) → IsAccepted h past → (l : ℕ) (x : Transaction) → granted h past l ≡ Some x → has_passed_data h past x ≡ true → Passes h past l
-passes_line h past a l x g has =
-    subst (Passes h past) (is_on-addr x l ((accepted_holds h past a).grants l x g).1) (passes_of h past x.addr (has_passed h past x has).some)
+  -- Where the granted transaction has passed data, a port has passed them on.
+  pub passes_line : IsAccepted h past → (l : ℕ) (x : Transaction) → granted h past l ≡ Some x → has_passed_data h past x ≡ true → Passes h past l
+  passes_line a l x g has =
+      subst (Passes h past) (is_on-addr x l ((accepted_holds h past a).grants l x g).1) (passes_of h past x.addr (has_passed h past x has).some)
 
--- and it has them where the line has some
-pub passed_has : (h : Header) (past : Trace) (l : ℕ) (x : Transaction) (d : Line) → granted h past l ≡ Some x → passed_data h past l ≡ Some d → has_passed_data h past x ≡ true
-passed_has h past l x d g is =
-    elim (cases_Bool (has_passed_data h past x)) [
-      | inl t ↦ t
-      | inr none ↦ let bad : None ≡ Some d = rw (g, none) at is in cc
-    ]
+  -- and it has them where the line has some
+  pub passed_has : (l : ℕ) (x : Transaction) (d : Line) → granted h past l ≡ Some x → passed_data h past l ≡ Some d → has_passed_data h past x ≡ true
+  passed_has l x d g is =
+      elim (cases_Bool (has_passed_data h past x)) [
+        | inl t ↦ t
+        | inr none ↦ let bad : None ≡ Some d = rw (g, none) at is in cc
+      ]
 
 -- A port that answered with PassDirty under the grant.
 pub record PassedBy (past : Trace) (l : ℕ) : Type 0 where

@@ -95,41 +95,42 @@ copy_at-new past e r l w n =
 pub value_cr : (past : Trace) (e : Event) (r l : ℕ) (w : Answer) → NewAnswer past e r l w → value_of (e ∷ past) l ≡ value_of past l
 value_cr past e r l w n = subst (λ d. value_of (d ∷ past) l ≡ value_of past l) (sym n.is) refl
 
-pub made_apart : (h : Header) (past : Trace) (l : ℕ) (x : Transaction) (k : ArKind) → read_kind x ≡ Some k → is_fetch k ≡ true → (q s : ℕ) (m : Made h past q l s) → m.one ≡ x → ⊥
-made_apart h past l x k kind fetch q s m one =
-    let same = Some-injective k read.MakeUnique (sym kind ∙ ap read_kind (sym one) ∙ m.kind) in
-    let bad : true ≡ false = sym (ap is_make_unique same) ∙ (fetch_is k fetch).makes in cc
+module _ (h : Header) (past : Trace) where
+  pub made_apart : (l : ℕ) (x : Transaction) (k : ArKind) → read_kind x ≡ Some k → is_fetch k ≡ true → (q s : ℕ) (m : Made h past q l s) → m.one ≡ x → ⊥
+  made_apart l x k kind fetch q s m one =
+      let same = Some-injective k read.MakeUnique (sym kind ∙ ap read_kind (sym one) ∙ m.kind) in
+      let bad : true ≡ false = sym (ap is_make_unique same) ∙ (fetch_is k fetch).makes in cc
 
-pub sent_step : (h : Header) (past : Trace) (e : Event) → IsAccepted h (e ∷ past) → DirtyPlaced h past → SentTrue h (e ∷ past)
-sent_step h past e a f l r x w k g is d kind fetch =
-    elim (granted_before h past e l x g) [
-      | inr gives ↦ let none : None ≡ Some w = rw gives at is in cc
-      | inl stays ↦ elim (answer_cases past e r l w stays.gives is) [
-        | inl old ↦
-            let s = is_some_and-is (snoop_of_read k) is_levelling (fetch_is k fetch).snoops in
-            let causes : snoop_of x ≡ Some s.0 = ap (λ o. snoop_kind_of o (write_kind x)) kind ∙ s.1 in
-            let no_port : (q : ℕ) → may_store h past q l ≡ true → ⊥ = λ q may.
-            let yes = may_unique h past q l may in
-            let no_unique = none_unique h past a.0 l r q x w s.0 stays.was old d causes s.2 in cc in
-            copy_at-old past e r l w old ∙ f.sent l r x w k stays.was old d kind fetch
-            ∙ sym (value_stays h past e a l x stays.was (read_writes_none x k kind).1 no_port (made_apart h past l x k kind fetch))
-        | inr new ↦
-            let n = new_answer h past e a r l w new in
-            let held : state_of h past r l ≡ I → ⊥ = λ gone. sends_held n.1.kind w.resp n.0 (rw gone at n.1.row) d in
-            copy_at-new past e r l w new ∙ f.copies l r held ∙ sym (value_cr past e r l w new)
+  pub sent_step : (e : Event) → IsAccepted h (e ∷ past) → DirtyPlaced h past → SentTrue h (e ∷ past)
+  sent_step e a f l r x w k g is d kind fetch =
+      elim (granted_before h past e l x g) [
+        | inr gives ↦ let none : None ≡ Some w = rw gives at is in cc
+        | inl stays ↦ elim (answer_cases past e r l w stays.gives is) [
+          | inl old ↦
+              let s = is_some_and-is (snoop_of_read k) is_levelling (fetch_is k fetch).snoops in
+              let causes : snoop_of x ≡ Some s.0 = ap (λ o. snoop_kind_of o (write_kind x)) kind ∙ s.1 in
+              let no_port : (q : ℕ) → may_store h past q l ≡ true → ⊥ = λ q may.
+              let yes = may_unique h past q l may in
+              let no_unique = none_unique h past a.0 l r q x w s.0 stays.was old d causes s.2 in cc in
+              copy_at-old past e r l w old ∙ f.sent l r x w k stays.was old d kind fetch
+              ∙ sym (value_stays h past e a l x stays.was (read_writes_none x k kind).1 no_port (made_apart l x k kind fetch))
+          | inr new ↦
+              let n = new_answer h past e a r l w new in
+              let held : state_of h past r l ≡ I → ⊥ = λ gone. sends_held n.1.kind w.resp n.0 (rw gone at n.1.row) d in
+              copy_at-new past e r l w new ∙ f.copies l r held ∙ sym (value_cr past e r l w new)
+        ]
       ]
-    ]
 
-pub updates_step : (h : Header) (past : Trace) (e : Event) → IsAccepted h (e ∷ past) → DirtyPlaced h past → UpdatesTrue h (e ∷ past)
-updates_step h past e a f p i l x k b o on updates is =
-    let kind = is_some_and-is (write_kind x) is_update updates in
-    let beat = beat_origin h past e x k b a p i o (subst (λ v. is_some_and v has_write_data ≡ true) (sym kind.1) (update_data kind.0 kind.2)) is in
-    let same = value_updating h past e a p i l x beat.was on updates in
-    elim beat.comes [
-      | inl before ↦ f.updates p i l x k b beat.was on updates before ∙ ap (λ v. word_of v k) (sym same)
-      | inr new ↦
-          let port = (outstanding-name h past p Write i x beat.was).port in
-          let copy = f.copies l p (invalid_not (state_of h past p l) (keeps h past a.0 p i l x beat.was on updates).held) in
-          let here : copy_of past x.port x.addr ≡ copy_of past p l = ap (λ v. copy_of past v x.addr) port ∙ ap (copy_of past p) (is_on-addr x l on) in
-          (beat_fits h past e x k b a new kind.0 kind.1).copied kind.2 ∙ ap (word_of (copy_of past x.port x.addr)) new.number ∙ ap (λ v. word_of v k) (here ∙ copy ∙ sym same)
-    ]
+  pub updates_step : (e : Event) → IsAccepted h (e ∷ past) → DirtyPlaced h past → UpdatesTrue h (e ∷ past)
+  updates_step e a f p i l x k b o on updates is =
+      let kind = is_some_and-is (write_kind x) is_update updates in
+      let beat = beat_origin h past e x k b a p i o (subst (λ v. is_some_and v has_write_data ≡ true) (sym kind.1) (update_data kind.0 kind.2)) is in
+      let same = value_updating h past e a p i l x beat.was on updates in
+      elim beat.comes [
+        | inl before ↦ f.updates p i l x k b beat.was on updates before ∙ ap (λ v. word_of v k) (sym same)
+        | inr new ↦
+            let port = (outstanding-name h past p Write i x beat.was).port in
+            let copy = f.copies l p (invalid_not (state_of h past p l) (keeps h past a.0 p i l x beat.was on updates).held) in
+            let here : copy_of past x.port x.addr ≡ copy_of past p l = ap (λ v. copy_of past v x.addr) port ∙ ap (copy_of past p) (is_on-addr x l on) in
+            (beat_fits h past e x k b a new kind.0 kind.1).copied kind.2 ∙ ap (word_of (copy_of past x.port x.addr)) new.number ∙ ap (λ v. word_of v k) (here ∙ copy ∙ sym same)
+      ]

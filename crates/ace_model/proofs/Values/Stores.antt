@@ -18,82 +18,83 @@ use Rattle.ace_model.proofs.Grants.Granted.{granted_at, data_may}
 use Rattle.ace_model.proofs.Holders.Law.{accepted_holds}
 use Rattle.ace_model.proofs.General.Options.{Some-injective, is_some_and-is}
 
--- what waits for its store: a MakeUnique of the port on the line that is outstanding and complete
-pub record Awaits (h : Header) (past : Trace) (q l : ℕ) (x : Transaction) : Type 0 where
-  pub port : x.port ≡ q
-  pub kind : read_kind x ≡ Some read.MakeUnique
-  pub on : is_on x l ≡ true
-  pub out : is_outstanding h past x ≡ true
-  pub complete : is_complete past x.port x.chan x.id ≡ true
+module _ (h : Header) (past : Trace) where
+  -- what waits for its store: a MakeUnique of the port on the line that is outstanding and complete
+  pub record Awaits (q l : ℕ) (x : Transaction) : Type 0 where
+    pub port : x.port ≡ q
+    pub kind : read_kind x ≡ Some read.MakeUnique
+    pub on : is_on x l ≡ true
+    pub out : is_outstanding h past x ≡ true
+    pub complete : is_complete past x.port x.chan x.id ≡ true
 
-pub awaits_store-is : (h : Header) (past : Trace) (q l : ℕ) (x : Transaction) → awaits_store h past q l x ≡ true → Awaits h past q l x
-awaits_store-is h past q l x t =
-    let one = and_parts ((nat_eq x.port q && is_make_unique_on x l) && is_outstanding h past x) (is_complete past x.port x.chan x.id) t in
-    let two = and_parts (nat_eq x.port q && is_make_unique_on x l) (is_outstanding h past x) one.0 in
-    let three = and_parts (nat_eq x.port q) (is_make_unique_on x l) two.0 in
-    let four = and_parts (is_some_and (read_kind x) is_make_unique) (nat_eq x.addr l) three.1 in
-    let k = is_some_and-is (read_kind x) is_make_unique four.0 in
-    let kind : read_kind x ≡ Some read.MakeUnique = k.1 ∙ ap (λ v. Some v) (make_unique_is k.0 k.2) in
-    record { port = eqb-true x.port q three.0; kind = kind; on = rw kind four.1; out = two.1; complete = one.1 }
+  pub awaits_store-is : (q l : ℕ) (x : Transaction) → awaits_store h past q l x ≡ true → Awaits q l x
+  awaits_store-is q l x t =
+      let one = and_parts ((nat_eq x.port q && is_make_unique_on x l) && is_outstanding h past x) (is_complete past x.port x.chan x.id) t in
+      let two = and_parts (nat_eq x.port q && is_make_unique_on x l) (is_outstanding h past x) one.0 in
+      let three = and_parts (nat_eq x.port q) (is_make_unique_on x l) two.0 in
+      let four = and_parts (is_some_and (read_kind x) is_make_unique) (nat_eq x.addr l) three.1 in
+      let k = is_some_and-is (read_kind x) is_make_unique four.0 in
+      let kind : read_kind x ≡ Some read.MakeUnique = k.1 ∙ ap (λ v. Some v) (make_unique_is k.0 k.2) in
+      record { port = eqb-true x.port q three.0; kind = kind; on = rw kind four.1; out = two.1; complete = one.1 }
 
--- The D of a MakeUnique.
-pub record Made (h : Header) (past : Trace) (q l strobe : ℕ) : Type 0 where
-  pub one : Transaction
-  pub id : ℕ
-  pub out : outstanding h past q Read id ≡ Some one
-  pub on : is_on one l ≡ true
-  pub kind : read_kind one ≡ Some read.MakeUnique
-  pub stands : granted h past l ≡ Some one
-  pub alone : OthersInvalid h past q l
-  pub first : has_store h past q id ≡ false
-  pub whole : strobe ≡ full_line
+  -- The D of a MakeUnique.
+  pub record Made (q l strobe : ℕ) : Type 0 where
+    pub one : Transaction
+    pub id : ℕ
+    pub out : outstanding h past q Read id ≡ Some one
+    pub on : is_on one l ≡ true
+    pub kind : read_kind one ≡ Some read.MakeUnique
+    pub stands : granted h past l ≡ Some one
+    pub alone : OthersInvalid h past q l
+    pub first : has_store h past q id ≡ false
+    pub whole : strobe ≡ full_line
 
--- a D is of a port that may store, or of a MakeUnique
-pub stores_d : (h : Header) (past : Trace) (q l strobe : ℕ) (b : Bool) (line : Line) → IsAccepted h (D q l strobe b line ∷ past)
-    → (may_store h past q l ≡ true) ⊎ Made h past q l strobe
-stores_d h past q l strobe b line a =
-    elim (or_cases (may_store h past q l) _ (accepted_keeps h past (D q l strobe b line) a).rule_32) [
-      | inl may ↦ inl may
-      | inr made ↦
-          let ace : is_ace h q ≡ true = (and_parts (nat_lt q h.ports) (is_ace h q) (accepted_keeps h past (D q l strobe b line) a).rule_1).1 in
-          let all = and_parts (wants_store h past q l && not b) (nat_eq strobe full_line) made in
-          let wants = (and_parts (wants_store h past q l) (not b) all.0).0 in
-          let x = some_issued-is past (λ y. awaits_store h past q l y && not (has_store h past y.port y.id)) wants in
-          let both = and_parts (awaits_store h past q l x.0) (not (has_store h past x.0.port x.0.id)) x.2 in
-          let w = awaits_store-is h past q l x.0 both.0 in
-          let chan = is_read-is x.0.chan (read_writes_none x.0 read.MakeUnique w.kind).1 in
-          let out : outstanding h past q Read x.0.id ≡ Some x.0 =
-          ap (λ v. outstanding h past v Read x.0.id) (sym w.port) ∙ ap (λ (c : Channel). outstanding h past x.0.port c x.0.id) (sym chan) ∙ outstanding_is h past x.0 x.1 w.out in
-          let complete : is_complete past q Read x.0.id ≡ true =
-          ap (λ v. is_complete past v Read x.0.id) (sym w.port) ∙ ap (λ (c : Channel). is_complete past x.0.port c x.0.id) (sym chan) ∙ w.complete in
-          let addr = is_on-addr x.0 l w.on in
-          let some = full_some past q x.0.id x.0 (done_read h past a.0 q x.0.id x.0 out complete) in
-          let arrives = (accepted_holds h past a.0).arrive q x.0.id x.0 ace out (and_parts (is_line x.0) _ w.on).0 some in
-          inr (record {
-            one = x.0;
-            id = x.0.id;
-            out = out;
-            on = w.on;
-            kind = w.kind;
-            stands = ap (granted h past) (sym addr) ∙ arrives.stands;
-            alone = subst (OthersInvalid h past q) addr (arrives.alone read.MakeUnique w.kind refl);
-            first = ap (λ v. has_store h past v x.0.id) (sym w.port) ∙ not-true (has_store h past x.0.port x.0.id) both.1;
-            whole = eqb-true strobe full_line all.1;
-          })
-    ]
+  -- a D is of a port that may store, or of a MakeUnique
+  pub stores_d : (q l strobe : ℕ) (b : Bool) (line : Line) → IsAccepted h (D q l strobe b line ∷ past)
+      → (may_store h past q l ≡ true) ⊎ Made q l strobe
+  stores_d q l strobe b line a =
+      elim (or_cases (may_store h past q l) _ (accepted_keeps h past (D q l strobe b line) a).rule_32) [
+        | inl may ↦ inl may
+        | inr made ↦
+            let ace : is_ace h q ≡ true = (and_parts (nat_lt q h.ports) (is_ace h q) (accepted_keeps h past (D q l strobe b line) a).rule_1).1 in
+            let all = and_parts (wants_store h past q l && not b) (nat_eq strobe full_line) made in
+            let wants = (and_parts (wants_store h past q l) (not b) all.0).0 in
+            let x = some_issued-is past (λ y. awaits_store h past q l y && not (has_store h past y.port y.id)) wants in
+            let both = and_parts (awaits_store h past q l x.0) (not (has_store h past x.0.port x.0.id)) x.2 in
+            let w = awaits_store-is q l x.0 both.0 in
+            let chan = is_read-is x.0.chan (read_writes_none x.0 read.MakeUnique w.kind).1 in
+            let out : outstanding h past q Read x.0.id ≡ Some x.0 =
+            ap (λ v. outstanding h past v Read x.0.id) (sym w.port) ∙ ap (λ (c : Channel). outstanding h past x.0.port c x.0.id) (sym chan) ∙ outstanding_is h past x.0 x.1 w.out in
+            let complete : is_complete past q Read x.0.id ≡ true =
+            ap (λ v. is_complete past v Read x.0.id) (sym w.port) ∙ ap (λ (c : Channel). is_complete past x.0.port c x.0.id) (sym chan) ∙ w.complete in
+            let addr = is_on-addr x.0 l w.on in
+            let some = full_some past q x.0.id x.0 (done_read h past a.0 q x.0.id x.0 out complete) in
+            let arrives = (accepted_holds h past a.0).arrive q x.0.id x.0 ace out (and_parts (is_line x.0) _ w.on).0 some in
+            inr (record {
+              one = x.0;
+              id = x.0.id;
+              out = out;
+              on = w.on;
+              kind = w.kind;
+              stands = ap (granted h past) (sym addr) ∙ arrives.stands;
+              alone = subst (OthersInvalid h past q) addr (arrives.alone read.MakeUnique w.kind refl);
+              first = ap (λ v. has_store h past v x.0.id) (sym w.port) ∙ not-true (has_store h past x.0.port x.0.id) both.1;
+              whole = eqb-true strobe full_line all.1;
+            })
+      ]
 
--- The M of a write that stores.
-pub record Writes (h : Header) (past : Trace) (q : ℕ) (c : Channel) (j l : ℕ) : Type 0 where
-  pub one : Transaction
-  pub named : transaction_of past q c j ≡ Some one
-  pub out : outstanding h past one.port one.chan one.id ≡ Some one
-  pub on : is_on one l ≡ true
-  pub writes : is_read one.chan ≡ false
-  pub stands : granted h past l ≡ Some one
-  pub done : are_snoops_done h past one ≡ true
-  pub whole : is_burst_whole past one ≡ true
-  pub first : has_memory_write past one.port one.chan one.id ≡ false
-  pub stores : stores_data one ≡ true
+  -- The M of a write that stores.
+  pub record Writes (q : ℕ) (c : Channel) (j l : ℕ) : Type 0 where
+    pub one : Transaction
+    pub named : transaction_of past q c j ≡ Some one
+    pub out : outstanding h past one.port one.chan one.id ≡ Some one
+    pub on : is_on one l ≡ true
+    pub writes : is_read one.chan ≡ false
+    pub stands : granted h past l ≡ Some one
+    pub done : are_snoops_done h past one ≡ true
+    pub whole : is_burst_whole past one ≡ true
+    pub first : has_memory_write past one.port one.chan one.id ≡ false
+    pub stores : stores_data one ≡ true
 
 pub stores_write : (x : Transaction) → stores_data x ≡ true → is_read x.chan ≡ false
 stores_write x s =

@@ -52,54 +52,55 @@ where_named : (x : Transaction) (test : Bool) (held st : LineState) → Keeps x 
 where_named x true held st k named = named refl
 where_named x false held st k named = k
 
--- The silent transition of the port, which gives up no line of an update.
-pub record MovesSilently (h : Header) (past : Trace) (st : LineState) (p l : ℕ) : Type 0 where
-  pub move : is_silent_move (state_of h past p l) st ≡ true
-  pub keeps : has_update h past p l ≡ true → is_invalid st ≡ false
+module _ (h : Header) (past : Trace) where
+  -- The silent transition of the port, which gives up no line of an update.
+  pub record MovesSilently (st : LineState) (p l : ℕ) : Type 0 where
+    pub move : is_silent_move (state_of h past p l) st ≡ true
+    pub keeps : has_update h past p l ≡ true → is_invalid st ≡ false
 
-pub moves_silently : (h : Header) (past : Trace) (q addr : ℕ) (st : LineState) → IsAccepted h (S q addr st ∷ past) → (p l : ℕ) → (nat_eq p q && nat_eq l addr) ≡ true
-    → MovesSilently h past st p l
-moves_silently h past q addr st a p l t =
-    let parts = and_parts (nat_eq p q) (nat_eq l addr) t in
-    let rule : (is_silent_move (state_of h past p l) st && not (is_invalid st && has_update h past p l)) ≡ true =
-    rw (eqb-true p q parts.0, eqb-true l addr parts.1) (accepted_keeps h past (S q addr st) a).rule_29 in
-    let two = and_parts (is_silent_move (state_of h past p l) st) _ rule in
-    record { move = two.0; keeps = λ u. valid (is_invalid st) (has_update h past p l) u (not-true (is_invalid st && has_update h past p l) two.1) }
-  where
-    valid : (v u : Bool) → u ≡ true → (v && u) ≡ false → v ≡ false
-    valid false u e n = refl
-    valid true u e n = cc
+  pub moves_silently : (q addr : ℕ) (st : LineState) → IsAccepted h (S q addr st ∷ past) → (p l : ℕ) → (nat_eq p q && nat_eq l addr) ≡ true
+      → MovesSilently st p l
+  moves_silently q addr st a p l t =
+      let parts = and_parts (nat_eq p q) (nat_eq l addr) t in
+      let rule : (is_silent_move (state_of h past p l) st && not (is_invalid st && has_update h past p l)) ≡ true =
+      rw (eqb-true p q parts.0, eqb-true l addr parts.1) (accepted_keeps h past (S q addr st) a).rule_29 in
+      let two = and_parts (is_silent_move (state_of h past p l) st) _ rule in
+      record { move = two.0; keeps = λ u. valid (is_invalid st) (has_update h past p l) u (not-true (is_invalid st && has_update h past p l) two.1) }
+    where
+      valid : (v u : Bool) → u ≡ true → (v && u) ≡ false → v ≡ false
+      valid false u e n = refl
+      valid true u e n = cc
 
--- an event that doesn't end the update keeps this
-keeps_step : (h : Header) (past : Trace) (e : Event) → IsAccepted h (e ∷ past) → (p i l : ℕ) (x : Transaction) → outstanding h past p Write i ≡ Some x
-    → is_on x l ≡ true → updates_memory x ≡ true → ((z : Transaction) → ended h past e ≡ Some z → z.place ≢ x.place)
-    → Keeps x (state_of h past p l) → Keeps x (state_of h (e ∷ past) p l)
-keeps_step h past (Rk q st) a p i l x o on updates lasts f =
-    where_named x (is_named_by_rk past q p l) (state_of h past p l) st f (λ t.
-    let r = read_ends h past q st a p l t in
-    absurd (lasts r.one r.ends_it (ap (λ (y : Transaction). y.place) (one_on_line h past a.0 p Read Write r.id i l r.one x r.out o r.on on))))
-keeps_step h past (Wk q st) a p i l x o on updates lasts f =
-    where_named x (nat_eq p q && is_some_on (acknowledged past p Write) l) (state_of h past p l) st f (λ t.
-    let w = write_ends h past q st a p l t in
-    absurd (lasts w.one w.ends_it (ap (λ (y : Transaction). y.place) (one_on_line h past a.0 p Write Write w.id i l w.one x w.out o w.on on))))
-keeps_step h past (Cr q resp st) a p i l x o on updates lasts f =
-    where_named x (nat_eq p q && answers_line past p l) (state_of h past p l) st f (λ t.
-    let parts = and_parts (nat_eq p q) (answers_line past p l) t in
-    let port = eqb-true p q parts.0 in
-    let n : Answering h past p resp st l = answering_cr h past p resp st (subst (λ b. IsAccepted h (Cr b resp st ∷ past)) (sym port) a) l parts.1 in
-    let row = n.beside (update_found h past p Write i l x o on updates) in
-    let b = beside_update n.kind (state_of h past p l) resp st n.of_line f.held row in
-    record {
-      held = b.keeps;
-      dirty = λ d. dirty_stays n.kind (state_of h past p l) true resp st n.of_line row b.no_make (f.dirty d) b.no_pass;
-    })
-keeps_step h past (S q addr st) a p i l x o on updates lasts f =
-    where_named x (nat_eq p q && nat_eq l addr) (state_of h past p l) st f (λ t.
-    let m = moves_silently h past q addr st a p l t in
-    record { held = m.keeps (update_found h past p Write i l x o on updates); dirty = λ d. silent_dirty (state_of h past p l) st m.move (f.dirty d) })
-keeps_step h past (D q addr strobe s line) a p i l x o on updates lasts f =
-    where_named x (is_named_by_d h past q addr p l) (state_of h past p l) UD f (λ t. record { held = refl; dirty = λ d. refl })
-keeps_step h past _ a p i l x o on updates lasts f = f
+  -- an event that doesn't end the update keeps this
+  keeps_step : (e : Event) → IsAccepted h (e ∷ past) → (p i l : ℕ) (x : Transaction) → outstanding h past p Write i ≡ Some x
+      → is_on x l ≡ true → updates_memory x ≡ true → ((z : Transaction) → ended h past e ≡ Some z → z.place ≢ x.place)
+      → Keeps x (state_of h past p l) → Keeps x (state_of h (e ∷ past) p l)
+  keeps_step (Rk q st) a p i l x o on updates lasts f =
+      where_named x (is_named_by_rk past q p l) (state_of h past p l) st f (λ t.
+      let r = read_ends h past q st a p l t in
+      absurd (lasts r.one r.ends_it (ap (λ (y : Transaction). y.place) (one_on_line h past a.0 p Read Write r.id i l r.one x r.out o r.on on))))
+  keeps_step (Wk q st) a p i l x o on updates lasts f =
+      where_named x (nat_eq p q && is_some_on (acknowledged past p Write) l) (state_of h past p l) st f (λ t.
+      let w = write_ends h past q st a p l t in
+      absurd (lasts w.one w.ends_it (ap (λ (y : Transaction). y.place) (one_on_line h past a.0 p Write Write w.id i l w.one x w.out o w.on on))))
+  keeps_step (Cr q resp st) a p i l x o on updates lasts f =
+      where_named x (nat_eq p q && answers_line past p l) (state_of h past p l) st f (λ t.
+      let parts = and_parts (nat_eq p q) (answers_line past p l) t in
+      let port = eqb-true p q parts.0 in
+      let n : Answering h past p resp st l = answering_cr h past p resp st (subst (λ b. IsAccepted h (Cr b resp st ∷ past)) (sym port) a) l parts.1 in
+      let row = n.beside (update_found h past p Write i l x o on updates) in
+      let b = beside_update n.kind (state_of h past p l) resp st n.of_line f.held row in
+      record {
+        held = b.keeps;
+        dirty = λ d. dirty_stays n.kind (state_of h past p l) true resp st n.of_line row b.no_make (f.dirty d) b.no_pass;
+      })
+  keeps_step (S q addr st) a p i l x o on updates lasts f =
+      where_named x (nat_eq p q && nat_eq l addr) (state_of h past p l) st f (λ t.
+      let m = moves_silently q addr st a p l t in
+      record { held = m.keeps (update_found h past p Write i l x o on updates); dirty = λ d. silent_dirty (state_of h past p l) st m.move (f.dirty d) })
+  keeps_step (D q addr strobe s line) a p i l x o on updates lasts f =
+      where_named x (is_named_by_d h past q addr p l) (state_of h past p l) UD f (λ t. record { held = refl; dirty = λ d. refl })
+  keeps_step _ a p i l x o on updates lasts f = f
 
 pub keeps : (h : Header) (past : Trace) → IsAccepted h past → (p i l : ℕ) (x : Transaction) → outstanding h past p Write i ≡ Some x
     → is_on x l ≡ true → updates_memory x ≡ true → Keeps x (state_of h past p l)
