@@ -5,3 +5,4 @@ pub mod ReadSnoops
 pub mod SnoopRows
 pub mod StartStates
 pub mod States
+pub mod Kinds

@@ -2,14 +2,14 @@
 use Rattle.std.proofs.Common.{Bool, None, Option, Some, ap, arith, inl, inr, option_and_then, option_map, refl, sym, true, unwrap_or, ℕ, ◌∙◌, ◌∷◌, ◌≡◌, ◌≢◌}
 use Rattle.std.proofs.lemmas.Bool.{cases_eq}
 use Rattle.std.specs.List.{AllByRecursion}
-use Rattle.ace_model.proofs.Terms.{Answer, Event, Header, InRange, IsAccepted, R, Read, Trace, Transaction, at_point, copy_at_answer, copy_of, first_sender, is_line_read_transaction}
-use Rattle.ace_model.proofs.Terms.{memory_at_first_beat, outstanding, reply_of, transaction_of, transfers, value_of}
+use Rattle.ace_model.proofs.Terms.{Answer, Event, Header, InRange, IsAccepted, R, Read, Trace, Transaction, at_point, copy_at_answer, copy_of, first_sender, is_line_read_transaction, memory_at_first_beat}
+use Rattle.ace_model.proofs.Terms.{outstanding, reply_of, transaction_of, transfers, value_of}
 use Rattle.ace_model.proofs.Trace.Growth.{at_point-before}
 use Rattle.ace_model.proofs.Trace.Issued.{outstanding-named, outstanding-name}
 use Rattle.ace_model.proofs.Trace.Places.{NewBeat, grant-old}
 use Rattle.ace_model.proofs.Values.Stays.{answer-before}
 use Rattle.ace_model.proofs.Values.Replies.{memory-before, sender_sent}
-use Rattle.ace_model.proofs.Values.Fetches.{issue_transfers}
+use Rattle.ace_model.proofs.Values.FullReads.{issue_transfers}
 use Rattle.ace_model.proofs.Values.Law.{facts}
 use Rattle.ace_model.proofs.ReadsFollow.Points.{IsPointOf, Follows, follows-step}
 use Rattle.ace_model.proofs.ReadsFollow.Outstanding.{outstanding-cases, line_read-chan}

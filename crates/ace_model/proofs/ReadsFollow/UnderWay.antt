@@ -2,16 +2,15 @@
 use Rattle.std.proofs.Common.{[], ap, Bool, None, Option, Some, false, if◌then◌else◌, inl, inr, nat_eq, option_and_then, option_map, refl, subst, sym, true, ℕ, ◌&&◌, ◌∙◌, ◌∷◌, ◌≡◌, ◌≢◌}
 use Rattle.std.proofs.Math.Bool.{and-false}
 use Rattle.std.proofs.lemmas.Bool.{and_from, and_parts, cases_Bool, cases_eq, eq-eqb, eqb-true, ne_eqb}
-use Rattle.ace_model.proofs.Terms.{Answer, Ar, Cr, Event, Header, IsAccepted, R, Read, Trace, Transaction, answer_at, answer_of, answers, answers_grant, are_snoops_done, at_point, copy_at_answer}
-use Rattle.ace_model.proofs.Terms.{copy_of, first_sender, gives_line, granted, is_begun, is_line_read_transaction, is_read, memory_at_first_beat, outstanding, reply_of}
-use Rattle.ace_model.proofs.Terms.{sender_at, transfers, transfers_data}
+use Rattle.ace_model.proofs.Terms.{Answer, Ar, Cr, Event, Header, IsAccepted, R, Read, Trace, Transaction, answer_at, answer_of, answers, answers_grant, are_snoops_done, at_point, copy_at_answer, copy_of}
+use Rattle.ace_model.proofs.Terms.{first_sender, gives_line, granted, is_begun, is_line_read_transaction, is_read, memory_at_first_beat, outstanding, reply_of, sender_at, transfers, transfers_data}
 use Rattle.ace_model.proofs.General.Options.{Some-injective, newer-none}
 use Rattle.ace_model.proofs.Trace.Issued.{outstanding-name}
 use Rattle.ace_model.proofs.Grants.Stays.{gives_none, granted_after}
 use Rattle.ace_model.proofs.Grants.Begins.{line_due}
 use Rattle.ace_model.proofs.Grants.Granted.{granted_at}
 use Rattle.ace_model.proofs.Grants.Pending.{answering, snoops}
-use Rattle.ace_model.proofs.Values.Fetches.{issue_transfers}
+use Rattle.ace_model.proofs.Values.FullReads.{issue_transfers}
 use Rattle.ace_model.proofs.Values.Stays.{copy_at-old}
 use Rattle.ace_model.proofs.ReadsFollow.Outstanding.{outstanding-cases, line_read-line}
 

@@ -1,5 +1,5 @@
 -- Which transaction a name means: it stands at its place, and what is outstanding is the last of its name.
-use Rattle.std.proofs.Common.{◌≡◌, ◌⊎◌, ℕ, false, ◌<◌, true, cond, nat_eq, [], ◌∷◌, length, Option, Some, None, sym, ap, ◌∙◌, arith, inl, inr}
+use Rattle.std.proofs.Common.{◌≡◌, ◌⊎◌, ℕ, false, ◌<◌, true, cond, nat_eq, [], ◌∷◌, length, Option, Some, None, sym, ap, ◌∙◌, arith, inl, inr, ◌≢◌}
 use Rattle.std.proofs.lemmas.Bool.{eq-eqb, ne_eqb}
 use Rattle.ace_model.proofs.Terms.{Event, Ar, Aw, Channel, Header, Transaction, Trace, has_name, is_named, issued, ended, without, transaction_of, outstanding}
 use Rattle.ace_model.proofs.Trace.Looks.{Named, has_name-is, newest_named-cases, newest_named-first, newest_named-older, without-some}
@@ -68,6 +68,21 @@ outstanding-named h (e ∷ past) p c i x o =
       | inr old ↦ newest_named-older (issued (length past) e) p c i (transaction_of past p c i) old.1 ∙ outstanding-named h past p c i x old.0
     ]
 
--- and has the name
+-- so it has the name
 pub outstanding-name : (h : Header) (past : Trace) (p : ℕ) (c : Channel) (i : ℕ) (x : Transaction) → outstanding h past p c i ≡ Some x → Named x p c i
 outstanding-name h past p c i x o = has_name-is x p c i (transaction_of-stands past p c i x (outstanding-named h past p c i x o)).named
+
+-- What is outstanding after an event was so before it, and the event gives its name to no other.
+pub record Earlier (h : Header) (past : Trace) (e : Event) (p : ℕ) (c : Channel) (i : ℕ) (x : Transaction) : Type 0 where
+  pub was : outstanding h past p c i ≡ Some x
+  pub other : is_named (issued (length past) e) p c i ≡ false
+  pub lasts : (z : Transaction) → ended h past e ≡ Some z → z.place ≢ x.place
+
+-- or the event issues it
+pub outstanding-origin : (h : Header) (past : Trace) (e : Event) (p : ℕ) (c : Channel) (i : ℕ) (x : Transaction) → outstanding h (e ∷ past) p c i ≡ Some x
+    → ((issued (length past) e ≡ Some x) × (has_name x p c i ≡ true)) ⊎ Earlier h past e p c i x
+outstanding-origin h past e p c i x o =
+    elim (newest_named-cases (issued (length past) e) p c i _ x o) [
+      | inl new ↦ inl new
+      | inr old ↦ let w = without-some (ended h past e) (outstanding h past p c i) x old.0 in inr (record { was = w.0; other = old.1; lasts = w.1 })
+    ]

@@ -1,15 +1,22 @@
 -- A port has one outstanding transaction on a line.
-use Rattle.std.proofs.Common.{◌≡◌, ℕ, true, false, not, [], ◌∷◌, length, Some, refl, sym, ◌∙◌, inl, inr}
+use Rattle.std.proofs.Common.{◌≡◌, ℕ, true, false, not, [], ◌∷◌, length, Some, refl, sym, ◌∙◌, inl, inr, nat_eq, ap}
 use Rattle.std.proofs.lemmas.Bool.{and_parts, and_from, eq-eqb, eqb-true}
 use Rattle.ace_model.proofs.Terms.{Channel, Header, Transaction, Trace, is_line, is_on, has_name, issued, outstanding, is_outstanding, is_outstanding_on, has_outstanding_on, has_free_line}
 use Rattle.ace_model.proofs.Terms.{IsAccepted}
 use Rattle.ace_model.proofs.Trace.Looks.{has_name-is}
-use Rattle.ace_model.proofs.Trace.Issued.{outstanding-cases, outstanding-named, transaction_of-stands}
-use Rattle.ace_model.proofs.Trace.Growth.{some_issued-found}
+use Rattle.ace_model.proofs.Trace.Issued.{outstanding-cases, outstanding-named, transaction_of-stands, issued_at}
+use Rattle.ace_model.proofs.Trace.Growth.{some_issued-found, IsIssued}
 use Rattle.ace_model.proofs.Rules.Keeps.{accepted_keeps}
-use Rattle.ace_model.proofs.General.Options.{Some-injective, is_none_or-at}
+use Rattle.ace_model.proofs.General.Options.{Some-injective, is_some_and-is, is_none_or-at}
 use Rattle.ace_model.proofs.General.Booleans.{implies-at}
 use Rattle.ace_model.proofs.Trace.Outstanding.{outstanding_own}
+
+-- and one that was issued, where its name says that it is
+pub outstanding_is : (h : Header) (past : Trace) (x : Transaction) → IsIssued past x → is_outstanding h past x ≡ true → outstanding h past x.port x.chan x.id ≡ Some x
+outstanding_is h past x i o =
+    let y = is_some_and-is (outstanding h past x.port x.chan x.id) (λ y. nat_eq y.place x.place) o in
+    let s = transaction_of-stands past x.port x.chan x.id y.0 (outstanding-named h past x.port x.chan x.id y.0 y.1) in
+    y.1 ∙ sym s.there ∙ ap (issued_at past) (eqb-true y.0.place x.place y.2) ∙ i.there
 
 -- what is outstanding on the line is found there
 pub outstanding_found : (h : Header) (past : Trace) (p : ℕ) (c : Channel) (i l : ℕ) (x : Transaction)
