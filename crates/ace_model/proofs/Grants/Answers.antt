@@ -8,13 +8,13 @@ use Rattle.ace_model.proofs.Grants.SnoopAnswers.{since_answer, stays_less, Answe
 use Rattle.ace_model.proofs.Grants.Stays.{Stays}
 use Rattle.ace_model.proofs.Tables.States.{is_settled, invalidates, shares_line, Leaves, row_is}
 use Rattle.ace_model.proofs.Holders.Facts.{OneHolder}
-use Rattle.ace_model.proofs.Holders.Snoop.{less_cr, settled}
-use Rattle.ace_model.proofs.Holders.States.{less-clean}
+use Rattle.ace_model.proofs.Holders.Snoop.{less_cr}
 use Rattle.ace_model.proofs.Rules.Keeps.{accepted_keeps}
 use Rattle.ace_model.proofs.Holders.Rises.{dirty_moves}
 use Rattle.ace_model.proofs.Tables.SnoopRows.{is_make_invalid, dirty_sends, sends_held, passes_other}
 use Rattle.ace_model.proofs.Holders.Law.{accepted_holds}
 use Rattle.ace_model.proofs.General.Options.{Some-injective}
+use Rattle.ace_model.proofs.Tables.Less.{less-clean, settled}
 
 -- beside a dirty port no other is unique or dirty
 beside_dirty : (h : Header) (past : Trace) → OneHolder h past → (l r z : ℕ) → is_dirty (state_of h past r l) ≡ true → z ≢ r → is_settled (state_of h past z l) ≡ true

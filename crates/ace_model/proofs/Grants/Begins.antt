@@ -8,10 +8,10 @@ use Rattle.ace_model.proofs.Grants.Granted.{data_may, writes_now}
 use Rattle.ace_model.proofs.Grants.Stays.{read_apart, stays_apart, Stays}
 use Rattle.ace_model.proofs.Trace.Looks.{is_read-is}
 use Rattle.ace_model.proofs.Rules.Keeps.{accepted_keeps}
-use Rattle.ace_model.proofs.Holders.Address.{read_issued, write_issued, named_read}
 use Rattle.ace_model.proofs.Holders.Transfer.{MayTransfer, may}
 use Rattle.ace_model.proofs.Holders.Law.{accepted_holds}
 use Rattle.ace_model.proofs.General.Booleans.{implies-at}
+use Rattle.ace_model.proofs.Trace.Outstanding.{read_issued, write_issued, named_read}
 
 pub begun_same : (past longer : Trace) (x : Transaction)
     → (is_read x.chan ≡ true → transfers longer x.port x.id ≡ transfers past x.port x.id)

@@ -6,14 +6,14 @@ use Rattle.ace_model.proofs.Terms.{is_named, read_kind, write_kind, same_channel
 use Rattle.ace_model.proofs.Terms.{given, granted, is_granted, has_grant, answer_of, passes, passer, has_passed_data, gives_line, may_be_granted, may_write_memory, may_write_passed, may_write_data}
 use Rattle.ace_model.proofs.Terms.{is_write_due, is_update_due, IsAccepted}
 use Rattle.ace_codes.specs.declared.kind.AwKind.TheVariants as write
-use Rattle.ace_model.proofs.Trace.LineOnce.{outstanding_own}
+use Rattle.ace_model.proofs.Trace.Outstanding.{outstanding_own}
 use Rattle.ace_model.proofs.Trace.Looks.{same_channel-is, has_name-self, has_name-is, newest_named-cases, newest_on-cases, without-some}
 use Rattle.ace_model.proofs.Trace.Issued.{same_place, outstanding-named, transaction_of-stands}
 use Rattle.ace_model.proofs.Rules.Keeps.{accepted_keeps}
-use Rattle.ace_model.proofs.Holders.FirstTransfer.{found_passes}
 use Rattle.ace_model.proofs.Grants.Stays.{issued_apart}
 use Rattle.ace_model.proofs.Holders.Law.{accepted_holds}
 use Rattle.ace_model.proofs.General.Options.{Some-injective, some_is, is_some_and-is, is_some_and-at}
+use Rattle.ace_model.proofs.General.Ports.{found_passes}
 use Rattle.ace_model.proofs.General.Booleans.{then_of, else_of}
 
 -- A granted transaction is of a kind that is granted, and has had its G.

@@ -1,27 +1,26 @@
 -- A line snoop that isn't answered yet is of the present grant, whose transaction hasn't begun, and its port has no other.
 use Rattle.std.proofs.Common.{le_refl, ◌≡◌, ◌⊎◌, ℕ, ◌+◌, ◌≤◌, Bool, true, false, not, if◌then◌else◌, ◌&&◌, ◌||◌, nat_eq, nat_le, nat_lt, [], ◌∷◌, length, Option, Some, None, is_none, slice_get, refl, sym, ap, subst, ◌∙◌, arith, inl, inr}
 use Rattle.std.proofs.lemmas.Bool.{or_parts, and_parts, and_from, or_left, or_right, not-true, cases_Bool, eqb-true, eq-eqb, ltb-true}
-use Rattle.ace_model.proofs.Terms.{AwKind, SnoopKind, Read, Write, Event, R, Rk, B, Wk, Ac, Cr, Header, snoop_of_write, Snoop, Transaction, Trace, is_some_and, newer, is_update}
-use Rattle.ace_model.proofs.Terms.{has_write_data, beats_of, reads_a_line, is_read, is_line, read_kind, write_kind, snoop_of, snoop_kind_of, ended, transfers, acknowledgements, updates_memory}
-use Rattle.ace_model.proofs.Terms.{has_memory_write, snoop_at, snoops_of, snoops_a_line, answers, answered, is_snoop_on, gives_line, granted, grant_place, is_begun, is_snoop_to, was_snooped}
-use Rattle.ace_model.proofs.Terms.{answers_grant, answer_at, answer_of, owes_answer, owes_data, has_failed, is_port_done, has_snoop_code, may_snoop, may_snoop_for, IsAccepted}
+use Rattle.ace_model.proofs.Terms.{AwKind, SnoopKind, Read, Write, Event, R, Rk, B, Wk, Ac, Cr, Header, snoop_of_write, Snoop, Transaction, Trace, is_some_and, newer, is_update, has_write_data}
+use Rattle.ace_model.proofs.Terms.{beats_of, reads_a_line, is_read, is_line, read_kind, write_kind, snoop_of, snoop_kind_of, ended, transfers, acknowledgements, updates_memory, has_memory_write}
+use Rattle.ace_model.proofs.Terms.{snoop_at, snoops_of, snoops_a_line, answers, answered, is_snoop_on, gives_line, granted, grant_place, is_begun, is_snoop_to, was_snooped, answers_grant, answer_at}
+use Rattle.ace_model.proofs.Terms.{answer_of, owes_answer, owes_data, has_failed, is_port_done, has_snoop_code, may_snoop, may_snoop_for, IsAccepted}
 use Rattle.ace_codes.specs.declared.kind.AwKind.TheVariants as write
 use Rattle.ace_model.proofs.Grants.Begins.{done_cases, MayBegin, begins, may_of, line_due}
+use Rattle.ace_model.proofs.Trace.Looks.{has_name-is, is_on-addr}
 use Rattle.ace_model.proofs.Holders.Acknowledge.{ends}
-use Rattle.ace_model.proofs.Trace.Looks.{has_name-is}
 use Rattle.ace_model.proofs.Trace.Issued.{same_place, outstanding-named, transaction_of-stands}
 use Rattle.ace_model.proofs.General.Lists.{slice_get-more}
-use Rattle.ace_model.proofs.Trace.Points.{answers-grow}
+use Rattle.ace_model.proofs.Trace.Growth.{answers-grow}
 use Rattle.ace_model.proofs.Rules.Keeps.{accepted_keeps}
-use Rattle.ace_model.proofs.Holders.Grant.{is_on-addr}
-use Rattle.ace_model.proofs.Holders.FirstTransfer.{each_at}
-use Rattle.ace_model.proofs.Holders.Transfer.{ends_lite}
+use Rattle.ace_model.proofs.Trace.Outstanding.{ends_lite}
 use Rattle.ace_model.proofs.Holders.Rises.{ends_of}
 use Rattle.ace_model.proofs.Trace.WriteQueue.{EndsWrite, ends_write_of, ends_lite_written}
 use Rattle.ace_model.proofs.Grants.Stays.{granted_after, failed_stays, grant_place-low}
 use Rattle.ace_model.proofs.Holders.Law.{accepted_holds}
 use Rattle.ace_model.proofs.General.Options.{Some-injective, is_some_and-is}
 use Rattle.ace_model.proofs.General.Booleans.{implies-at, then_of}
+use Rattle.ace_model.proofs.General.Ports.{each_at}
 
 -- An unanswered snoop of the line.
 pub record IsPending (past : Trace) (r n l : ℕ) (s : Snoop) : Type 0 where

@@ -8,7 +8,7 @@ use Rattle.ace_model.proofs.Grants.Stays.{granted_before, Stays}
 use Rattle.ace_model.proofs.Holders.Rises.{state_moves, Raised}
 use Rattle.ace_model.proofs.Tables.States.{Lessens}
 use Rattle.ace_model.proofs.Rules.Keeps.{accepted_keeps}
-use Rattle.ace_model.proofs.Holders.Snoop.{kind_of_code}
+use Rattle.ace_model.proofs.Tables.ReadSnoops.{kind_of_code}
 use Rattle.ace_model.proofs.Grants.Pending.{IsPending, Pending, snoops}
 use Rattle.ace_model.proofs.Holders.Law.{accepted_holds}
 use Rattle.ace_model.proofs.General.Options.{Some-injective, is_some_and-is, is_none_or-at}

@@ -7,10 +7,10 @@ use Rattle.ace_model.proofs.Terms.{without, is_exclusive_store, given, gives_lin
 use Rattle.ace_model.proofs.Trace.Looks.{without-cases, is_read-is, newest_on-cases, newest_on-older, without-some}
 use Rattle.ace_model.proofs.Holders.Acknowledge.{ends}
 use Rattle.ace_model.proofs.Rules.Keeps.{accepted_keeps}
-use Rattle.ace_model.proofs.Holders.Address.{read_issued, write_issued, outstanding_stays, failed_issued}
 use Rattle.ace_model.proofs.Holders.Grant.{other_line, failed_g}
 use Rattle.ace_model.proofs.Holders.Law.{accepted_holds}
 use Rattle.ace_model.proofs.General.Options.{is_none_or-at}
+use Rattle.ace_model.proofs.Trace.Outstanding.{read_issued, write_issued, outstanding_stays, failed_issued}
 
 module _ (h : Header) (past : Trace) where
   -- a granted line is not given again

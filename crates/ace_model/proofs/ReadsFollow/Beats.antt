@@ -5,7 +5,7 @@ use Rattle.ace_model.proofs.Terms.{Event, Ar, R, L, Read, Transaction, Trace, is
 use Rattle.ace_model.proofs.Trace.Places.{issued-by, placed-before, beat-cases, beat-below}
 use Rattle.ace_model.proofs.Trace.Issued.{issued_at, issued-place, transaction_of-stands}
 use Rattle.ace_model.proofs.Trace.Looks.{newest_named-cases}
-use Rattle.ace_model.proofs.Holders.Address.{named_read}
+use Rattle.ace_model.proofs.Trace.Outstanding.{named_read}
 use Rattle.ace_model.proofs.ReadsFollow.Order.{beat-issued}
 use Rattle.ace_model.proofs.General.Options.{Some-injective}
 

@@ -9,7 +9,7 @@ use Rattle.ace_model.proofs.Trace.Issued.{outstanding-named, outstanding-name}
 use Rattle.ace_model.proofs.Trace.Places.{NewBeat, grant-old}
 use Rattle.ace_model.proofs.Values.Stays.{answer-before}
 use Rattle.ace_model.proofs.Values.Replies.{memory-before, sender_sent}
-use Rattle.ace_model.proofs.Values.Fetches.{issue_transfers}
+use Rattle.ace_model.proofs.Values.FullReads.{issue_transfers}
 use Rattle.ace_model.proofs.Values.Law.{facts}
 use Rattle.ace_model.proofs.ReadsFollow.Points.{IsPointOf, Follows, follows-step}
 use Rattle.ace_model.proofs.ReadsFollow.Outstanding.{outstanding-cases, line_read-chan}

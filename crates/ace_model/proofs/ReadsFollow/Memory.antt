@@ -4,22 +4,23 @@ use Rattle.std.proofs.Common.{[], None, Option, Some, ap, arith, false, inl, inr
 use Rattle.std.proofs.lemmas.Bool.{or_left, and_from, and_parts, cases_Bool, eq-eqb, or_cases}
 use Rattle.std.specs.List.{AllByRecursion}
 use Rattle.ace_model.proofs.Terms.{Answer, ArKind, Channel, Cr, Event, HasDirtyHolder, Header, I, InRange, IsAccepted, IsValueSafe, Read, SnoopKind, Trace, Transaction, answer_of, answers_grant}
-use Rattle.ace_model.proofs.Terms.{are_snoops_done, at_point, data_answers, first_sender, gives_line, grant_place, granted, has_passed_data, is_clean_unique, is_dirty}
-use Rattle.ace_model.proofs.Terms.{is_exclusive_store, is_line_read_transaction, is_make_unique, is_no_snoop, is_no_snoop_read, is_no_snoop_write, is_read, is_some_and}
-use Rattle.ace_model.proofs.Terms.{is_write_line_unique, memory_of, outstanding, passed_to, read_kind, reads_a_line, replaces_line, snoop_kind_of, snoop_of, snoop_of_read, state_of, transfers_data}
-use Rattle.ace_model.proofs.Terms.{value_of, write_kind}
+use Rattle.ace_model.proofs.Terms.{are_snoops_done, at_point, data_answers, first_sender, gives_line, grant_place, granted, has_passed_data, is_clean_unique, is_dirty, is_exclusive_store}
+use Rattle.ace_model.proofs.Terms.{is_line_read_transaction, is_make_unique, is_no_snoop, is_no_snoop_read, is_no_snoop_write, is_read, is_some_and, is_write_line_unique, memory_of, outstanding}
+use Rattle.ace_model.proofs.Terms.{passed_to, read_kind, reads_a_line, replaces_line, snoop_kind_of, snoop_of, snoop_of_read, state_of, transfers_data, value_of, write_kind}
+use Rattle.ace_codes.specs.declared.kind.ArKind.TheVariants as read
+use Rattle.ace_codes.specs.declared.kind.SnoopKind.TheVariants as snoop
 use Rattle.ace_codes.specs.declared.kind.ArKind.TheVariants as read
 use Rattle.ace_codes.specs.declared.kind.SnoopKind.TheVariants as snoop
 use Rattle.ace_model.proofs.Grants.Begins.{done_cases}
 use Rattle.ace_model.proofs.General.Options.{Some-injective, is_some_and-is}
 use Rattle.ace_model.proofs.Trace.Growth.{at_point-before, at_point-end}
+use Rattle.ace_model.proofs.Trace.Looks.{is_on-addr}
+use Rattle.ace_model.proofs.Holders.Law.{accepted_holds}
+use Rattle.ace_model.proofs.Grants.Stays.{grant_place-low, granted_before}
 use Rattle.ace_model.proofs.Trace.Issued.{outstanding-named, transaction_of-stands}
 use Rattle.ace_model.proofs.Tables.SnoopRows.{is_make_invalid, dirty_sends}
 use Rattle.ace_model.proofs.Holders.FirstTransfer.{done_port}
 use Rattle.ace_model.proofs.Holders.ShareableLines.{no_snoop_unheld}
-use Rattle.ace_model.proofs.Holders.Law.{accepted_holds}
-use Rattle.ace_model.proofs.Holders.Grant.{is_on-addr}
-use Rattle.ace_model.proofs.Grants.Stays.{granted_before, grant_place-low}
 use Rattle.ace_model.proofs.Grants.Granted.{has_passed, passes_of}
 use Rattle.ace_model.proofs.Grants.SnoopAnswers.{NewAnswer, answer_cases}
 use Rattle.ace_model.proofs.Grants.Answers.{new_answer, passed_kind}

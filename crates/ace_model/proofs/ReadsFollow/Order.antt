@@ -4,7 +4,7 @@ use Rattle.std.proofs.lemmas.Bool.{cases_lt, not-true}
 use Rattle.ace_model.proofs.Terms.{is_line_read_transaction, has_free_line, is_on, I, is_invalid, L, R, G, Read, Header, Transaction, Trace, at_point, issued, outstanding, state_of, k30, k18, IsLoad}
 use Rattle.ace_model.proofs.Terms.{IsBeat, IsGrantOf, HasBeat, IsReadBy, IsAccepted}
 use Rattle.ace_model.proofs.Trace.Places.{event-accepted, issued-by, issued_at-later, placed-before, event_at-below, at_point-twice, at_point-length, beat-below}
-use Rattle.ace_model.proofs.Trace.Points.{accepted-before}
+use Rattle.ace_model.proofs.Trace.Growth.{accepted-before}
 use Rattle.ace_model.proofs.Trace.Issued.{issued_at, transaction_of-stands}
 use Rattle.ace_model.proofs.Trace.LineOnce.{free_line}
 use Rattle.ace_model.proofs.General.Options.{is_none_or-at}

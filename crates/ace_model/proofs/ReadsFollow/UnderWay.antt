@@ -11,7 +11,7 @@ use Rattle.ace_model.proofs.Grants.Stays.{gives_none, granted_after}
 use Rattle.ace_model.proofs.Grants.Begins.{line_due}
 use Rattle.ace_model.proofs.Grants.Granted.{granted_at}
 use Rattle.ace_model.proofs.Grants.Pending.{answering, snoops}
-use Rattle.ace_model.proofs.Values.Fetches.{issue_transfers}
+use Rattle.ace_model.proofs.Values.FullReads.{issue_transfers}
 use Rattle.ace_model.proofs.Values.Stays.{copy_at-old}
 use Rattle.ace_model.proofs.ReadsFollow.Outstanding.{outstanding-cases, line_read-line}
 
