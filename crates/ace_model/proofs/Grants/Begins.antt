@@ -1,9 +1,9 @@
 -- A granted transaction begins, by the first transfer of a read or the M of a write, once its snoops are done.
-use Rattle.std.proofs.Common.{None, is_none, ◌||◌, ◌≡◌, ◌⊎◌, ℕ, Bool, true, false, not, ◌&&◌, nat_eq, ◌∷◌, Some, refl, sym, ap, subst, ◌∙◌, inl, inr}
-use Rattle.std.proofs.lemmas.Bool.{or_cases, not-false, and_parts, cases_Bool, eqb-true}
-use Rattle.ace_model.proofs.Terms.{each_port, has_failed, is_port_done, snoop_of, Channel, Read, Event, Ar, R, Aw, M, Header, Transaction, Trace, implies, is_read, is_line, same_channel, transfers}
+use Rattle.std.proofs.Common.{◌≡◌, ◌⊎◌, ℕ, Bool, true, false, not, ◌&&◌, nat_eq, ◌∷◌, Some, refl, sym, ap, subst, ◌∙◌, inl, inr}
+use Rattle.std.proofs.lemmas.Bool.{not-false, and_parts, cases_Bool, eqb-true}
+use Rattle.ace_model.proofs.Terms.{Channel, Read, Event, Ar, R, Aw, M, Header, Transaction, Trace, implies, is_read, is_line, same_channel, transfers}
 use Rattle.ace_model.proofs.Terms.{outstanding, updates_memory, has_memory_write, is_granted, is_begun, has_passed_data, are_snoops_done, may_transfer, takes_passed, IsAccepted}
-use Rattle.ace_model.proofs.General.Options.{none_is, Some-injective}
+use Rattle.ace_model.proofs.General.Options.{Some-injective}
 use Rattle.ace_model.proofs.Grants.Granted.{data_may, writes_now}
 use Rattle.ace_model.proofs.Grants.Stays.{read_apart, stays_apart, Stays}
 use Rattle.ace_model.proofs.Trace.Looks.{is_read-is}
@@ -51,18 +51,6 @@ module _ (h : Header) (past : Trace) where
       let m = may_of q j resp last word a in
       let one : m.one ≡ x = Some-injective m.one x (sym m.out ∙ o) in
       line_transfer x resp (subst (λ y. may_transfer h past y resp ≡ true) one (m.may (ap is_line one ∙ line)))
-
--- what it is for the snoops of a transaction to be done
-pub done_cases : (h : Header) (past : Trace) (x : Transaction) → are_snoops_done h past x ≡ true
-    → (snoop_of x ≡ None) ⊎ (has_failed past x ≡ true) ⊎ (each_port h.ports (is_port_done h past x) ≡ true)
-done_cases h past x done =
-    elim (or_cases (is_none (snoop_of x) || has_failed past x) (each_port h.ports (is_port_done h past x)) done) [
-      | inr all ↦ inr (inr all)
-      | inl early ↦ elim (or_cases (is_none (snoop_of x)) (has_failed past x) early) [
-        | inl none ↦ inl (none_is (snoop_of x) none)
-        | inr failed ↦ inr (inl failed)
-      ]
-    ]
 
 -- as long as its grant stays, a transaction that hasn't begun doesn't, or its snoops are done, or it is an update
 abbrev pub MayBegin : Header → Trace → Transaction → Type 0

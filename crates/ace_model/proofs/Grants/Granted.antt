@@ -5,7 +5,7 @@ use Rattle.ace_model.proofs.Terms.{AwKind, passes_dirty, Channel, Event, Ar, Aw,
 use Rattle.ace_model.proofs.Terms.{is_named, read_kind, write_kind, same_channel, issued, ended, outstanding, without, takes_grant, updates_memory, is_memory_write, has_memory_write, is_burst_whole}
 use Rattle.ace_model.proofs.Terms.{given, granted, is_granted, has_grant, answer_of, passes, passer, has_passed_data, gives_line, may_be_granted, may_write_memory, may_write_passed, may_write_data}
 use Rattle.ace_model.proofs.Terms.{is_write_due, is_update_due, IsAccepted}
-use Rattle.ace_codes.specs.declared.kind.AwKind.TheVariants as write
+use Rattle.ace_model.proofs.Tables.Kinds.{granted_apart}
 use Rattle.ace_model.proofs.Trace.Outstanding.{outstanding_own}
 use Rattle.ace_model.proofs.Trace.Looks.{same_channel-is, has_name-self, has_name-is, newest_named-cases, newest_on-cases, without-some}
 use Rattle.ace_model.proofs.Trace.Issued.{same_place, outstanding-named, transaction_of-stands}
@@ -175,17 +175,11 @@ granted_write x t writes =
       | inr granted ↦ is_some_and-is (write_kind x) is_granted_write granted
     ]
 
-update_apart : (k : AwKind) → is_granted_write k ≡ true → is_update k ≡ true → ⊥
-update_apart write.WriteNoSnoop g u = cc
-update_apart write.WriteUnique g u = cc
-update_apart write.WriteLineUnique g u = cc
-update_apart k g u = cc
-
 -- an update is not granted
 pub updates_ungranted : (x : Transaction) → takes_grant x ≡ true → is_read x.chan ≡ false → updates_memory x ≡ true → ⊥
 updates_ungranted x t writes u =
     let k = granted_write x t writes in
-    update_apart k.0 k.2 (subst (λ o. is_some_and o is_update ≡ true) k.1 u)
+    let updates : is_update k.0 ≡ true = subst (λ o. is_some_and o is_update ≡ true) k.1 u in let none = granted_apart k.0 k.2 in cc
 
 -- what may write memory is granted, if it is of a kind that is
 pub writer_granted : (h : Header) (past : Trace) (x : Transaction) → may_write_memory h past x ≡ true → takes_grant x ≡ true → is_granted h past x ≡ true

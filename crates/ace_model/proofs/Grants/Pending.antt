@@ -1,13 +1,13 @@
 -- A line snoop that isn't answered yet is of the present grant, whose transaction hasn't begun, and its port has no other.
 use Rattle.std.proofs.Common.{le_refl, ◌≡◌, ◌⊎◌, ℕ, ◌+◌, ◌≤◌, Bool, true, false, not, if◌then◌else◌, ◌&&◌, ◌||◌, nat_eq, nat_le, nat_lt, [], ◌∷◌, length, Option, Some, None, is_none, slice_get, refl, sym, ap, subst, ◌∙◌, arith, inl, inr}
 use Rattle.std.proofs.lemmas.Bool.{or_parts, and_parts, and_from, or_left, or_right, not-true, cases_Bool, eqb-true, eq-eqb, ltb-true}
-use Rattle.ace_model.proofs.Terms.{AwKind, SnoopKind, Read, Write, Event, R, Rk, B, Wk, Ac, Cr, Header, snoop_of_write, Snoop, Transaction, Trace, is_some_and, newer, is_update, has_write_data}
-use Rattle.ace_model.proofs.Terms.{beats_of, reads_a_line, is_read, is_line, read_kind, write_kind, snoop_of, snoop_kind_of, ended, transfers, acknowledgements, updates_memory, has_memory_write}
-use Rattle.ace_model.proofs.Terms.{snoop_at, snoops_of, snoops_a_line, answers, answered, is_snoop_on, gives_line, granted, grant_place, is_begun, is_snoop_to, was_snooped, answers_grant, answer_at}
-use Rattle.ace_model.proofs.Terms.{answer_of, owes_answer, owes_data, has_failed, is_port_done, has_snoop_code, may_snoop, may_snoop_for, IsAccepted}
-use Rattle.ace_codes.specs.declared.kind.AwKind.TheVariants as write
-use Rattle.ace_model.proofs.Grants.Begins.{done_cases, MayBegin, begins, may_of, line_due}
-use Rattle.ace_model.proofs.Trace.Looks.{has_name-is, is_on-addr}
+use Rattle.ace_model.proofs.Terms.{AwKind, SnoopKind, Read, Write, Event, R, Rk, B, Wk, Ac, Cr, Header, snoop_of_write, Snoop, Transaction, Trace, is_some_and, newer, is_update}
+use Rattle.ace_model.proofs.Terms.{has_write_data, beats_of, reads_a_line, is_read, is_line, read_kind, write_kind, snoop_of, snoop_kind_of, ended, transfers, acknowledgements, updates_memory}
+use Rattle.ace_model.proofs.Terms.{has_memory_write, snoop_at, snoops_of, snoops_a_line, answers, answered, is_snoop_on, gives_line, granted, grant_place, is_begun, is_snoop_to, was_snooped}
+use Rattle.ace_model.proofs.Terms.{answers_grant, answer_at, answer_of, owes_answer, owes_data, has_failed, is_port_done, has_snoop_code, may_snoop, may_snoop_for, IsAccepted}
+use Rattle.ace_model.proofs.Tables.Kinds.{granted_apart, granted_data, snooping_granted}
+use Rattle.ace_model.proofs.Trace.Looks.{snoops_done-ports, has_name-is, is_on-addr}
+use Rattle.ace_model.proofs.Grants.Begins.{MayBegin, begins, may_of, line_due}
 use Rattle.ace_model.proofs.Holders.Acknowledge.{ends}
 use Rattle.ace_model.proofs.Trace.Issued.{same_place, outstanding-named, transaction_of-stands}
 use Rattle.ace_model.proofs.General.Lists.{slice_get-more}
@@ -44,18 +44,6 @@ pub record Snooped (h : Header) (past : Trace) : Type 0 where
   pub once : (r m n l : ℕ) (s t : Snoop) → IsPending past r m l s → IsPending past r n l t → m ≡ n
   pub first : (r l : ℕ) → was_snooped past r l ≡ false → answer_of past r l ≡ None
 
--- an update causes none, and a write that causes one has data
-update_none : (k : AwKind) (s : SnoopKind) → is_update k ≡ true → snoop_of_write k ≡ Some s → ⊥
-update_none write.WriteBack s u e = cc
-update_none write.WriteClean s u e = cc
-update_none write.WriteEvict s u e = cc
-update_none k s u e = cc
-
-snoops_data : (k : AwKind) (s : SnoopKind) → snoop_of_write k ≡ Some s → has_write_data k ≡ true
-snoops_data write.WriteUnique s e = refl
-snoops_data write.WriteLineUnique s e = refl
-snoops_data k s e = cc
-
 -- the snoop that a write causes is that of its kind
 pub write_causes : (x : Transaction) (s : SnoopKind) → is_read x.chan ≡ false → snoop_of x ≡ Some s → (k : AwKind) × (write_kind x ≡ Some k) × (snoop_of_write k ≡ Some s)
 write_causes x s f e =
@@ -82,7 +70,7 @@ module _ (h : Header) (past : Trace) where
       let one : z ≡ x = same_place past q x.port Write x.chan w.id x.id z x (outstanding-named h past q Write w.id z w.out) (outstanding-named h past x.port x.chan x.id x o.0) same in
       let writes : is_read x.chan ≡ false = ap (λ (y : Transaction). is_read y.chan) (sym one) ∙ ap is_read w.chan in
       let kind = write_causes x k writes c in
-      let sends : is_some_and (write_kind z) has_write_data ≡ true = ap (λ (y : Transaction). is_some_and (write_kind y) has_write_data) one ∙ ap (λ o. is_some_and o has_write_data) kind.1 ∙ snoops_data kind.0 k kind.2 in
+      let sends : is_some_and (write_kind z) has_write_data ≡ true = ap (λ (y : Transaction). is_some_and (write_kind y) has_write_data) one ∙ ap (λ o. is_some_and o has_write_data) kind.1 ∙ granted_data kind.0 (snooping_granted kind.0 k kind.2) in
       let written : has_memory_write past x.port x.chan x.id ≡ true = ap (λ (y : Transaction). has_memory_write past y.port y.chan y.id) (sym one) ∙ w.written sends in
       inl (rw writes written)
 
@@ -141,19 +129,15 @@ module _ (h : Header) (past : Trace) where
           | inr updates ↦
               let k = write_causes p.one c.0 (updates_write p.one updates) c.1 in
               let u : is_update k.0 ≡ true = subst (λ o. is_some_and o is_update ≡ true) k.1 updates in
-              update_none k.0 c.0 u k.2
-          | inl done ↦ elim (done_cases h past p.one done) [
-            | inl none ↦ let bad : None ≡ Some c.0 = sym none ∙ c.1 in cc
-            | inr (inl failed) ↦ let unfailed = p.unfailed in cc
-            | inr (inr all) ↦
-                let here = each_at h.ports (is_port_done h past p.one) r all (ltb-true r h.ports p.within) in
-                let parts = and_parts (not (owes_answer past r p.one.addr) && not (owes_data past r p.one.addr)) _ here in
-                let owes_none = not-true (owes_answer past r p.one.addr) (and_parts (not (owes_answer past r p.one.addr)) _ parts.0).0 in
-                let addr = is_on-addr p.one l ((accepted_holds h past a).grants l p.one p.stands).1 in
-                let owes : owes_answer past r l ≡ true = and_from _ _ p.snooped (ap is_none p.unanswered) in
-                let owes_there : owes_answer past r l ≡ false = subst (λ b. owes_answer past r b ≡ false) addr owes_none in
-                cc
-          ]
+              let none = granted_apart k.0 (snooping_granted k.0 c.0 k.2) in cc
+          | inl done ↦
+              let here = each_at h.ports (is_port_done h past p.one) r (snoops_done-ports h past p.one c.0 c.1 p.unfailed done) (ltb-true r h.ports p.within) in
+              let parts = and_parts (not (owes_answer past r p.one.addr) && not (owes_data past r p.one.addr)) _ here in
+              let owes_none = not-true (owes_answer past r p.one.addr) (and_parts (not (owes_answer past r p.one.addr)) _ parts.0).0 in
+              let addr = is_on-addr p.one l ((accepted_holds h past a).grants l p.one p.stands).1 in
+              let owes : owes_answer past r l ≡ true = and_from _ _ p.snooped (ap is_none p.unanswered) in
+              let owes_there : owes_answer past r l ≡ false = subst (λ b. owes_answer past r b ≡ false) addr owes_none in
+              cc
         ]
 
     -- the snoop stays pending as long as it isn't answered

@@ -5,15 +5,15 @@ use Rattle.std.proofs.lemmas.Bool.{and_from, and_parts, cases_Bool, cases_eq, eq
 use Rattle.ace_model.proofs.Terms.{Answer, Ar, Cr, Event, Header, IsAccepted, R, Read, Trace, Transaction, answer_at, answer_of, answers, answers_grant, are_snoops_done, at_point, copy_at_answer}
 use Rattle.ace_model.proofs.Terms.{copy_of, first_sender, gives_line, granted, is_begun, is_line_read_transaction, is_read, memory_at_first_beat, outstanding, reply_of, sender_at, transfers}
 use Rattle.ace_model.proofs.Terms.{transfers_data}
+use Rattle.ace_model.proofs.Trace.Issued.{outstanding-origin, outstanding-name}
 use Rattle.ace_model.proofs.General.Options.{Some-injective, newer-none}
-use Rattle.ace_model.proofs.Trace.Issued.{outstanding-name}
 use Rattle.ace_model.proofs.Grants.Stays.{gives_none, granted_after}
 use Rattle.ace_model.proofs.Grants.Begins.{line_due}
 use Rattle.ace_model.proofs.Grants.Granted.{granted_at}
 use Rattle.ace_model.proofs.Grants.Pending.{answering, snoops}
 use Rattle.ace_model.proofs.Values.FullReads.{issue_transfers}
 use Rattle.ace_model.proofs.Values.Stays.{copy_at-old}
-use Rattle.ace_model.proofs.ReadsFollow.Outstanding.{outstanding-cases, line_read-line}
+use Rattle.ace_model.proofs.ReadsFollow.Outstanding.{line_read-line}
 
 -- The event is a beat of the name.
 pub record BeatEvent (e : Event) (p i : ℕ) : Type 0 where
@@ -63,16 +63,16 @@ pub under_way : (h : Header) (past : Trace) → IsAccepted h past → (p i : ℕ
     → is_line_read_transaction x ≡ true → transfers past p i ≢ 0 → granted h past x.addr ≡ Some x
 under_way h [] a p i x o reads some = cc
 under_way h (e ∷ past) a p i x o reads some =
-    elim (outstanding-cases h e past p Read i x o) [
+    elim (outstanding-origin h past e p Read i x o) [
       | inl new ↦ absurd (some (issue_transfers past e p i x new.0 new.1))
       | inr old ↦
           let was : granted h past x.addr ≡ Some x = elim (cases_eq (transfers past p i) 0) [
-            | inr earlier ↦ under_way h past a.0 p i x old.0 reads earlier
-            | inl none ↦ (beat_due h past p i x e a (first-transfer e past p i none some) old.0 reads).stands
+            | inr earlier ↦ under_way h past a.0 p i x old.was reads earlier
+            | inl none ↦ (beat_due h past p i x e a (first-transfer e past p i none some) old.was reads).stands
           ] in
           elim (granted_after h past e a x.addr x was) [
             | inl stays ↦ stays.is
-            | inr ends ↦ absurd (old.1 ends.0 ends.1 ends.2)
+            | inr ends ↦ absurd (old.lasts ends.0 ends.1 ends.2)
           ]
     ]
 
@@ -119,10 +119,10 @@ module _ (h : Header) (past : Trace) (x : Transaction) where
   pub reply-stays : (e : Event) (p i : ℕ) → IsAccepted h (e ∷ past) → outstanding h (e ∷ past) p Read i ≡ Some x
       → is_line_read_transaction x ≡ true → transfers (e ∷ past) p i ≢ 0 → reply_of (e ∷ past) x ≡ reply_of past x
   reply-stays e p i a o reads some =
-      elim (outstanding-cases h e past p Read i x o) [
+      elim (outstanding-origin h past e p Read i x o) [
         | inl new ↦ absurd (some (issue_transfers past e p i x new.0 new.1))
         | inr old ↦ elim (cases_eq (transfers past p i) 0) [
-          | inr earlier ↦ same (leaves_answers e a (under_way h past a.0 p i x old.0 reads earlier) (begun p i old.0 earlier))
+          | inr earlier ↦ same (leaves_answers e a (under_way h past a.0 p i x old.was reads earlier) (begun p i old.was earlier))
           | inl none ↦
               let b = first-transfer e past p i none some in
               same (subst (λ (v : Event). LeavesAnswers past v x.addr) (sym b.is) (record { gives = refl; answer = λ q. refl; sender = refl }))
