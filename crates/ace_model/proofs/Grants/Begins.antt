@@ -45,9 +45,9 @@ module _ (h : Header) (past : Trace) where
       }
 
   -- and of the one whose transfer the event is
-  pub line_due : (q j resp : ℕ) (last : Bool) (word : ℕ) (x : Transaction) → IsAccepted h (R q j resp last word ∷ past) → outstanding h past q Read j ≡ Some x
+  pub line_due : (q j resp : ℕ) (last : Bool) (word : ℕ) → IsAccepted h (R q j resp last word ∷ past) → (x : Transaction) → outstanding h past q Read j ≡ Some x
       → is_line x ≡ true → LineTransfer x resp
-  line_due q j resp last word x a o line =
+  line_due q j resp last word a x o line =
       let m = may_of q j resp last word a in
       let one : m.one ≡ x = Some-injective m.one x (sym m.out ∙ o) in
       line_transfer x resp (subst (λ y. may_transfer h past y resp ≡ true) one (m.may (ap is_line one ∙ line)))
@@ -80,7 +80,7 @@ begins h past (R q j resp last word) a l x s b =
             let out : outstanding h past q Read j ≡ Some x =
             sym (ap (λ p. outstanding h past p x.chan x.id) (eqb-true x.port q parts.0) ∙ ap (λ (c : Channel). outstanding h past q c x.id) (is_read-is x.chan reads)
             ∙ ap (outstanding h past q Read) (eqb-true x.id j parts.1)) ∙ o.0 in
-            let t = line_due h past q j resp last word x a out (and_parts (is_line x) _ o.1).0 in
+            let t = line_due h past q j resp last word a x out (and_parts (is_line x) _ o.1).0 in
             let b_read : not (nat_eq (transfers past x.port x.id) 0) ≡ false = rw reads at b in
             inr (inl (t.first (not-false (nat_eq (transfers past x.port x.id) 0) b_read)))
       ]

@@ -84,7 +84,7 @@ module _ (h : Header) (past : Trace) where
       let lite = ends_lite h past q j resp last word z is in
       let one : z ≡ x = same_place past q x.port Read x.chan j x.id z x lite.1 (outstanding-named h past x.port x.chan x.id x o.0) same in
       let one' : m.one ≡ x = Some-injective m.one z (sym m.named ∙ lite.1) ∙ one in
-      let t = line_due h past q j resp last word x a (m.out ∙ ap Some one') (and_parts (is_line x) _ o.1).0 in
+      let t = line_due h past q j resp last word a x (m.out ∙ ap Some one') (and_parts (is_line x) _ o.1).0 in
       let name = has_name-is m.one q Read j (transaction_of-stands past q Read j m.one m.named).named in
       let reads : is_read x.chan ≡ true = ap (λ (y : Transaction). is_read y.chan) (sym one') ∙ ap is_read name.chan in
       elim (cases_Bool (nat_eq (transfers past x.port x.id) 0)) [

@@ -1,28 +1,25 @@
 -- A read that has had no transfer has no beat in the trace, and a read is the one that was issued at its place.
-use Rattle.std.proofs.Common.{◌≡◌, ◌≢◌, ℕ, ◌+◌, ◌<◌, Bool, true, false, if◌then◌else◌, ◌&&◌, nat_eq, [], ◌∷◌, length, Some, None, refl, sym, ap, subst, ◌∙◌, arith, inl, inr}
+use Rattle.std.proofs.Common.{◌≡◌, ◌≢◌, ℕ, ◌+◌, ◌<◌, Bool, false, [], ◌∷◌, length, Some, None, refl, sym, ap, subst, ◌∙◌, arith, inl, inr}
 use Rattle.std.proofs.lemmas.Bool.{and_from, eq-eqb}
-use Rattle.ace_model.proofs.Terms.{Event, Ar, R, L, Read, Transaction, Trace, is_named, issued, transaction_of, transfers, IsLoad, IsBeat, HasBeat}
+use Rattle.ace_model.proofs.Terms.{Event, R, L, Read, Transaction, Trace, is_named, issued, transaction_of, transfers, IsLoad, IsBeat, HasBeat}
 use Rattle.ace_model.proofs.Trace.Places.{issued-by, placed-before, beat-cases, beat-below}
 use Rattle.ace_model.proofs.Trace.Issued.{issued_at, issued-place, transaction_of-stands}
 use Rattle.ace_model.proofs.Trace.Looks.{newest_named-cases}
-use Rattle.ace_model.proofs.Trace.Outstanding.{named_read}
+use Rattle.ace_model.proofs.Values.FullReads.{transfer_moves}
 use Rattle.ace_model.proofs.ReadsFollow.Order.{beat-issued}
 use Rattle.ace_model.proofs.General.Options.{Some-injective}
-
--- the name of the read goes on to have transfers
-transfers-stay : (e : Event) (past : Trace) (p i : ℕ) → is_named (issued (length past) e) p Read i ≡ false → transfers past p i ≢ 0 → transfers (e ∷ past) p i ≢ 0
-transfers-stay (Ar q j addr snoop dom bar lock) past p i other some =
-    rw (named_read past q j addr snoop dom bar lock p i false other) some
-transfers-stay (R q j resp last word) past p i other some = counted (nat_eq p q && nat_eq i j)
-  where
-    counted : (b : Bool) → (if b then transfers past p i + 1 else transfers past p i) ≢ 0
-    counted true = λ z. absurd (omega arith)
-    counted false = some
-transfers-stay e past p i other some = some
 
 -- the newest transfer of the name is counted
 pub transfers-more : (past : Trace) (p i resp : ℕ) (last : Bool) (word : ℕ) → transfers (R p i resp last word ∷ past) p i ≡ transfers past p i + 1
 transfers-more past p i resp last word = rw (and_from _ _ (eq-eqb p p (refl {a = p})) (eq-eqb i i (refl {a = i}))) (refl {a = transfers past p i + 1})
+
+-- the name of the read goes on to have transfers
+transfers-stay : (e : Event) (past : Trace) (p i : ℕ) → is_named (issued (length past) e) p Read i ≡ false → transfers past p i ≢ 0 → transfers (e ∷ past) p i ≢ 0
+transfers-stay e past p i other some =
+    elim (transfer_moves past e p i other) [
+      | inl same ↦ λ z. some (sym same.count ∙ z)
+      | inr t ↦ subst (λ (v : Event). transfers (v ∷ past) p i ≢ 0) (sym t.is) (λ z. let more = transfers-more past p i t.resp t.last t.word in absurd (omega (arith, more, z)))
+    ]
 
 -- a read with a beat has had a transfer, while it is the last of its name
 pub beat-transfers : (past : Trace) (n : ℕ) (x : Transaction) (k word : ℕ) → IsBeat past n x k word → transaction_of past x.port Read x.id ≡ Some x

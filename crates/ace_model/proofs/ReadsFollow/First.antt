@@ -84,7 +84,7 @@ more h past e point a range f ready =
           | inr old ↦ elim (cases_eq (transfers past p i) 0) [
             | inr earlier ↦ f.replies p i x old.was reads earlier
             | inl none ↦
-                let b = first-transfer e past p i none some in
+                let b = first-transfer e past p i old.other none some in
                 let named = outstanding-named h past p Read i x old.was in
                 let n = outstanding-name h past p Read i x old.was in
                 ready x (transfers past x.port x.id) b.word (record {

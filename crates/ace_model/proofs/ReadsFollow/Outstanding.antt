@@ -2,8 +2,8 @@
 use Rattle.std.proofs.Common.{ap, false, nat_eq, ◌≡◌, ℕ, zero, suc, ◌<◌, true, [], ◌∷◌, length, drop, Some, refl, arith, inl, inr}
 use Rattle.std.proofs.lemmas.Bool.{and_from, or_left, eq-eqb}
 use Rattle.std.proofs.lemmas.List.{length-drop}
-use Rattle.ace_model.proofs.Terms.{is_on, is_read, I, Header, Channel, Read, Write, Transaction, Trace, is_some_and, is_line_read, is_line_write, reads_a_line, is_line}
-use Rattle.ace_model.proofs.Terms.{read_kind, write_kind, outstanding, state_of, is_line_read_transaction, IsAccepted}
+use Rattle.ace_model.proofs.Terms.{is_on, is_read, I, Header, Channel, Read, Write, Transaction, Trace, is_some_and, is_line_read, is_line_write, reads_a_line, is_line, read_kind, write_kind}
+use Rattle.ace_model.proofs.Terms.{outstanding, state_of, is_line_read_transaction, IsAccepted}
 use Rattle.ace_model.proofs.Tables.Kinds.{reads_line}
 use Rattle.ace_model.proofs.Trace.Issued.{outstanding-origin, issued-place}
 use Rattle.ace_model.proofs.Holders.Rises.{stays_empty}
