@@ -40,8 +40,8 @@
 --    transaction causes; and where a memory update of the port on the line is outstanding, by K16 a row that goes with it
 --    [Answering].
 --
--- 6. While the grant stays, no port comes to hold more of the line: I stays I, I and SC stay so, and a port that isn't in UC
---    or UD doesn't come to be [stays_less].
+-- 6. While the grant stays, no port comes to hold more of the line: a port in I stays in I, a port in I or SC stays in I or
+--    SC, and a port that isn't in UC or UD doesn't come to be [stays_less].
 --    RK: it gives its port more only as the end of a read of the line. Such a read is granted, and its RK ends the grant.
 --    WK, CR, S, D: they leave their port with less, or make UC to UD; this is a fact of the folder Holders. Other events
 --    leave the states.
