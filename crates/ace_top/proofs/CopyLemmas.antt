@@ -3,10 +3,8 @@ use Rattle.std.proofs.Common.{◌≡◌, ◌++◌, ℕ, List, [], ◌∷◌, Opt
 use Rattle.std.specs.Io.KnownBytes.{Consumes}
 use Rattle.std.proofs.KnownBytes.{Consumes-trans, Consumes-nil}
 use Rattle.std.proofs.lemmas.List.{length-append}
-use Rattle.std.proofs.lemmas.Grind.{flat_map-append}
 use Rattle.ace_event.specs.declared.event.Event.{Event}
 use Rattle.ace_event.specs.Text.{events_text, event_text, line_text}
-use Rattle.ace_grammar.specs.Reading.{IsReadable}
 use Rattle.ace_writer.specs.declared.writer.Writer.{Writer}
 use Rattle.ace_writer.specs.Given.{GivesFront, sink_of}
 use Rattle.ace_top.specs.Output.{AppendsPart}
