@@ -5,7 +5,7 @@ use Rattle.ace_model.proofs.Terms.{LineState, Channel, Read, Write, without, Eve
 use Rattle.ace_model.proofs.Terms.{transaction_of, outstanding, completed, completes, acknowledgements, acknowledged, is_completion, is_complete, is_memory_write, has_memory_write, may_respond}
 use Rattle.ace_model.proofs.Terms.{IsAccepted}
 use Rattle.ace_model.proofs.Trace.Looks.{at_name, without-other}
-use Rattle.ace_model.proofs.Trace.Issued.{outstanding-cases, outstanding-name, outstanding-named}
+use Rattle.ace_model.proofs.Trace.Issued.{outstanding-origin, outstanding-name, outstanding-named}
 use Rattle.ace_model.proofs.General.Lists.{slice_get-more}
 use Rattle.ace_model.proofs.Rules.Keeps.{accepted_keeps}
 use Rattle.ace_model.proofs.Holders.Ends.{one_name, acknowledged_is}
@@ -208,16 +208,16 @@ pub done_write : (h : Header) (past : Trace) → IsAccepted h past → (p i : �
     → is_complete past p Write i ≡ true → is_some_and (write_kind x) has_write_data ≡ true → has_memory_write past p Write i ≡ true
 done_write h [] a p i x o c sends = cc
 done_write h (e ∷ past) a p i x o c sends =
-    elim (outstanding-cases h e past p Write i x o) [
+    elim (outstanding-origin h past e p Write i x o) [
       | inl new ↦
           let none = issue_completes (length past) e x p Write i new.0 in
           let bad : false ≡ true = rw (new.0, new.1, none) at c in cc
       | inr old ↦
           let before : has_memory_write past p Write i ≡ true = elim (or_cases (is_completion e p Write i) _ c) [
-            | inl now ↦ completion_written h past e a p i x old.0 now sends
-            | inr earlier ↦ done_write h past a.0 p i x old.0 (and_parts (not (is_named (issued (length past) e) p Write i)) _ earlier).1 sends
+            | inl now ↦ completion_written h past e a p i x old.was now sends
+            | inr earlier ↦ done_write h past a.0 p i x old.was (and_parts (not (is_named (issued (length past) e) p Write i)) _ earlier).1 sends
           ] in
-          or_right (is_memory_write e p Write i) _ (rw old.1 before)
+          or_right (is_memory_write e p Write i) _ (rw old.other before)
     ]
 
 -- The write that a WK of the port belongs to.
