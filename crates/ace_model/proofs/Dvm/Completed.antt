@@ -1,11 +1,11 @@
 -- The DVM Completes of a port come after its answers to the Syncs that they complete.
-use Rattle.std.proofs.Common.{◌≡◌, ℕ, ◌+◌, ◌-◌, ◌≤◌, ◌<◌, Bool, true, ◌&&◌, cond, nat_eq, nat_lt, List, [], ◌∷◌, ◌++◌, length, filter, slice_get, count_by, Option, Some, None, refl, sym, ap, subst, ◌∙◌, arith, inl, inr}
+use Rattle.std.proofs.Common.{◌≡◌, ℕ, ◌-◌, ◌≤◌, ◌<◌, Bool, true, ◌&&◌, cond, nat_eq, nat_lt, List, [], ◌∷◌, length, filter, slice_get, count_by, Option, Some, None, refl, sym, ap, subst, ◌∙◌, arith, inl, inr}
 use Rattle.std.proofs.lemmas.Bool.{cases_Bool, cases_lt, and_parts, eqb-true, ltb-true, lt-ltb}
-use Rattle.std.proofs.lemmas.List.Sums.{sum_by-append, length-filter}
+use Rattle.std.proofs.lemmas.List.Sums.{sum_by_push, length-filter}
 use Rattle.ace_model.proofs.Terms.{Event, Header, Transaction, Trace, at_point, more, issued, transactions, IsTransaction, snoops_of, answers, is_sync, messages_for, syncs_for, is_dvm_completion}
 use Rattle.ace_model.proofs.Terms.{dvm_completes, answered_snoops, answered_messages, answered_syncs, has_answered, HasCompleted, k38, owes_completion, IsAccepted}
 use Rattle.ace_model.proofs.Rules.Keeps.{accepted_keeps}
-use Rattle.ace_model.proofs.General.Lists.{slice_get-at_end, start-more, slice_get-start, count_by-cons}
+use Rattle.ace_model.proofs.General.Lists.{slice_get-at_end, start-more, slice_get-start}
 use Rattle.ace_model.proofs.Trace.Issued.{issued-place}
 use Rattle.ace_model.proofs.Trace.Growth.{at_point-before, accepted-before}
 use Rattle.ace_model.proofs.Trace.Places.{at_point-last}
@@ -55,9 +55,7 @@ completes-more : (xs : List Transaction) (new : Option Transaction) (test : Tran
     → (x : Transaction) × (new ≡ Some x) × (test x ≡ true) × (m ≡ count_by test xs)
 completes-more xs None test m lt le = absurd (omega arith)
 completes-more xs (Some x) test m lt le =
-    let sum : count_by test (xs ++ x ∷ []) ≡ count_by test xs + count_by test (x ∷ []) = sum_by-append (λ y. cond (test y) 1 0) xs (x ∷ []) in
-    let one = count_by-cons test x [] in
-    let none : count_by test [] ≡ 0 = refl in
+    let sum = sum_by_push (λ y. cond {A = ℕ} (test y) 1 0) xs x in
     elim (cases_Bool (test x)) [
       | inl t ↦ let is : cond {A = ℕ} (test x) 1 0 ≡ 1 = rw t refl in (x, refl, t, omega arith)
       | inr f ↦ let is : cond {A = ℕ} (test x) 1 0 ≡ 0 = rw f refl in absurd (omega arith)

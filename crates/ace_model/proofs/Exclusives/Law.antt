@@ -5,6 +5,7 @@ use Rattle.std.proofs.lemmas.Bool.{and_parts, or_left, or_right, cases_Bool, eqb
 use Rattle.ace_model.proofs.Terms.{I, Header, Event, L, D, M, is_invalid, is_unique, Transaction, Trace, is_some_and, is_on, transaction_of, state_of, is_set_by, is_monitored, Store, stores_data, store_of}
 use Rattle.ace_model.proofs.Terms.{IsAccepted, is_exclusive_load, disturbs, is_undisturbed, ExclusiveHolds}
 use Rattle.ace_model.proofs.Rules.Keeps.{accepted_keeps}
+use Rattle.ace_model.proofs.General.Options.{some_if-is, is_some_and-is}
 use Rattle.ace_model.proofs.Holders.Law.{accepted_holds}
 use Rattle.ace_model.proofs.Values.Stores.{stores_d, stores_m}
 use Rattle.ace_model.proofs.Values.WritesAlone.{all_empty}
@@ -14,10 +15,8 @@ stored_by : (past : Trace) (l : ℕ) (o : Option Transaction) (test : Store → 
     → (x : Transaction) × (o ≡ Some x) × ((stores_data x && is_on x l) ≡ true)
 stored_by past l None test d = cc
 stored_by past l (Some x) test d =
-    elim (cases_Bool (stores_data x && is_on x l)) [
-      | inl t ↦ (x, refl, t)
-      | inr none ↦ let bad : false ≡ true = rw none at d in cc
-    ]
+    let s = is_some_and-is (store_of past l x) test d in
+    (x, refl, (some_if-is (stores_data x && is_on x l) _ s.0 s.1).0)
 
 -- where another port stores to the line, the port holds nothing of it
 gone_at_store : (h : Header) (past : Trace) (e : Event) (p l : ℕ) → IsAccepted h (e ∷ past) → disturbs past e p l ≡ true → state_of h (e ∷ past) p l ≡ I

@@ -1,7 +1,7 @@
 -- Which transaction a name means: it stands at its place, and what is outstanding is the last of its name.
 use Rattle.std.proofs.Common.{◌≡◌, ◌≢◌, ◌⊎◌, ℕ, false, ◌<◌, true, cond, nat_eq, [], ◌∷◌, length, Option, Some, None, sym, ap, ◌∙◌, arith, inl, inr}
 use Rattle.std.proofs.lemmas.Bool.{eq-eqb, ne_eqb}
-use Rattle.ace_model.proofs.Terms.{Event, Ar, Aw, Channel, Header, Transaction, Trace, has_name, is_named, issued, ended, without, transaction_of, outstanding}
+use Rattle.ace_model.proofs.Terms.{Event, Ar, Aw, Channel, Header, Transaction, Trace, has_name, is_named, issued, ended, transaction_of, outstanding}
 use Rattle.ace_model.proofs.Trace.Looks.{Named, has_name-is, newest_named-cases, newest_named-first, newest_named-older, without-some}
 use Rattle.ace_model.proofs.General.Options.{Some-injective}
 
