@@ -1,5 +1,5 @@
 -- The events of a trace by their places, and what a longer trace says of them: loads, beats and grants.
-use Rattle.std.proofs.Common.{◌≡◌, ◌⊎◌, ℕ, ◌-◌, ◌<◌, ◌≤◌, Bool, true, [], ◌∷◌, ◌++◌, length, reverse, drop, Some, slice_get, sym, ap, subst, ◌∙◌, arith, inl, inr}
+use Rattle.std.proofs.Common.{◌≡◌, ◌⊎◌, ℕ, ◌-◌, ◌<◌, ◌≤◌, Bool, true, [], ◌∷◌, ◌++◌, length, reverse, drop, Some, slice_get, sym, ap, ◌∙◌, arith, inl, inr}
 use Rattle.std.proofs.lemmas.Option.{slice_get_within}
 use Rattle.std.proofs.lemmas.List.{reverse-append, length-reverse, drop-drop, length-drop}
 use Rattle.ace_model.proofs.Terms.{Event, L, R, G, Read, Transaction, Trace, event_at, at_point, transaction_of, transfers, is_line_read_transaction, IsLoad, IsBeat, IsGrantOf}
