@@ -1,4 +1,6 @@
--- An accepted trace in range is coherent.
+-- An accepted trace in range is coherent [Coherent]: at every point a unique line has one holder and a dirty line one
+-- owner, as Holders proves; data newer than memory have a place and every valid copy is the value, as Values proves from
+-- that; and all reads follow one order of the stores, as ReadsFollow proves from the place of the data.
 use Rattle.std.specs.List.{AllByRecursion}
 use Rattle.ace_model.proofs.Terms.{Header, InRange, Trace, IsAccepted, Coherent}
 use Rattle.ace_model.proofs.Holders.Law.{accepted_unique, accepted_one_dirty}
@@ -10,5 +12,5 @@ accepted_coherent h past a r = record {
   unique = accepted_unique h past a;
   one_dirty = accepted_one_dirty h past a;
   dirty_place = dirty_data_placed h past a r;
-  reads_follow = reads_follow h past a (dirty_data_placed h past a r);
+  reads_follow = reads_follow h past a r;
 }

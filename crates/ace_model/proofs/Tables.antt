@@ -23,7 +23,15 @@
 pub mod LineRow
 -- No more than the old state: the silent transition, the end of a write, the answer to a snoop.
 pub mod States
+-- A state that is no more than another and clean by it (`Less`).
+pub mod Less
 -- What a row of a snoop says of the data.
 pub mod SnoopRows
 -- The end of a read.
 pub mod ReadEnds
+-- The snoops that the kinds of reads cause, and what they leave to the ports that answer.
+pub mod ReadSnoops
+-- What the kinds of transactions say of each other.
+pub mod Kinds
+-- The kinds that start where their port holds nothing.
+pub mod StartStates

@@ -30,10 +30,14 @@
 pub mod Looks
 -- Which transaction a name means.
 pub mod Issued
+-- What is outstanding: its name, and what an event issues or ends.
+pub mod Outstanding
 -- What a longer trace keeps: places, transactions, points, and what a transaction has had.
 pub mod Growth
 -- The events by their places: loads, beats of reads, grants.
 pub mod Places
+-- A snoop knows its place.
+pub mod Snoops
 -- The event that a transaction has had, and the transaction that was outstanding at it.
 pub mod Served
 -- A port has one outstanding transaction on a line (K5).

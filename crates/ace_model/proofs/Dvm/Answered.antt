@@ -1,14 +1,14 @@
 -- A complete DVM message was answered by every other ACE port.
 use Rattle.std.proofs.Common.{◌≡◌, List, ◌++◌, ◌≢◌, ℕ, Bool, true, nat_eq, nat_lt, ◌∷◌, Some, None, refl, arith}
 use Rattle.std.proofs.lemmas.Bool.{and_parts, and_from, ne_eqb, ltb-true}
-use Rattle.ace_model.proofs.Terms.{each_port, is_transaction, may_respond, Read, Write, Event, R, B, Header, Transaction, Trace, implies, is_some_and, is_dvm_message, is_ace, outstanding, served_by, is_completion_event}
-use Rattle.ace_model.proofs.Terms.{is_completed, is_message, is_other_ace, has_answered, is_due, is_answered_by_all, IsAccepted}
+use Rattle.ace_model.proofs.Terms.{each_port, is_transaction, may_respond, Read, Write, Event, R, B, Header, Transaction, Trace, implies, is_some_and, is_dvm_message, is_ace, outstanding, served_by}
+use Rattle.ace_model.proofs.Terms.{is_completion_event, is_completed, is_message, is_other_ace, has_answered, is_due, is_answered_by_all, IsAccepted}
 use Rattle.ace_model.proofs.Rules.Keeps.{accepted_keeps}
 use Rattle.ace_model.proofs.Trace.Served.{had_some, outstands}
 use Rattle.ace_model.proofs.Trace.Growth.{accepted-first}
 use Rattle.ace_model.proofs.Trace.Issued.{issued_at}
 use Rattle.ace_model.proofs.Dvm.Messages.{has_answered-later, has_answered-grown}
-use Rattle.ace_model.proofs.Holders.FirstTransfer.{each_at}
+use Rattle.ace_model.proofs.General.Ports.{each_at}
 use Rattle.ace_model.proofs.General.Options.{is_none_or-at}
 use Rattle.ace_model.proofs.General.Booleans.{implies-at}
 

@@ -25,3 +25,11 @@ if-cases false t u e = inr (refl, e)
 pub not_more : (a b : Bool) → implies a b ≡ true → b ≡ false → a ≡ false
 not_more true b e f = sym (implies-at true b e refl) ∙ f
 not_more false b e f = refl
+
+pub then_of : {A : Type 0} → (b : Bool) (t u : A) → b ≡ true → (if b then t else u) ≡ t
+then_of true t u e = refl
+then_of false t u e = cc
+
+pub else_of : (b t u : Bool) → b ≡ false → (if b then t else u) ≡ true → u ≡ true
+else_of true t u e i = cc
+else_of false t u e i = i

@@ -41,3 +41,7 @@ is_none_or-at (Some y) test x t e = subst (λ z. test z ≡ true) (Some-injectiv
 pub newer-cases : {A : Type 0} → (new older : Option A) (x : A) → newer new older ≡ Some x → (new ≡ Some x) ⊎ (older ≡ Some x)
 newer-cases None older x e = inr e
 newer-cases (Some y) older x e = inl e
+
+pub newer-none : {A : Type 0} → (o : Option A) → newer o None ≡ o
+newer-none None = refl
+newer-none (Some v) = refl

@@ -2,7 +2,7 @@
 use Rattle.std.proofs.Common.{◌≡◌, ◌⊎◌, Bool, true, false, not, ◌&&◌, ◌||◌, refl, inl, inr}
 use Rattle.std.specs.List.{list_all}
 use Rattle.std.proofs.lemmas.Bool.{and_parts, or_cases, not-true}
-use Rattle.ace_model.proofs.Terms.{ArKind, LineState, I, UC, SC, SD, end_states_of_read, ends_read, is_invalid, is_unique, is_dirty, implies}
+use Rattle.ace_model.proofs.Terms.{ArKind, LineState, I, UC, SC, SD, end_states_of_read, ends_read, is_invalid, is_unique, is_dirty, implies, is_fetch, is_make_unique}
 use Rattle.ace_codes.specs.declared.kind.ArKind.TheVariants as read
 use Rattle.ace_model.proofs.Tables.States.{all_among, is_invalid-is}
 use Rattle.ace_model.proofs.General.Booleans.{implies-at}
@@ -25,12 +25,13 @@ takes_shared read.ReadClean = true
 takes_shared read.ReadNotSharedDirty = true
 takes_shared _ = false
 
--- the end of a read: a state that is more than the one before takes what its kind says
+-- the end of a read: a state that is more than the one before takes what its kind says, and the dirt stays
 abbrev read_fits : ArKind → LineState → Bool → Bool → Bool → LineState → Bool
 read_fits k held shared pass failed st =
     (implies (is_unique st) (is_unique held || takes_alone k shared failed)
     && (is_invalid st || (not (is_invalid held) || (takes_alone k shared failed || takes_shared k))))
     && implies (is_dirty st) (is_dirty held || (pass || takes_alone k shared failed))
+    && (implies (pass || is_dirty held || is_make_unique k) (is_dirty st) && (is_invalid st || not (is_invalid held) || (is_fetch k || is_make_unique k)))
 
 read_ends : (k : ArKind) (held : LineState) (shared pass failed : Bool) → list_all (read_fits k held shared pass failed) (end_states_of_read k held shared pass failed) ≡ true
 read_ends read.ReadClean I false false failed = refl
@@ -72,6 +73,8 @@ pub record ReadEnds (k : ArKind) (held : LineState) (shared pass failed : Bool) 
   pub unique : is_unique st ≡ true → (is_unique held ≡ true) ⊎ (takes_alone k shared failed ≡ true)
   pub kept : (st ≡ I) ⊎ ((is_invalid held ≡ false) ⊎ ((takes_alone k shared failed ≡ true) ⊎ (takes_shared k ≡ true)))
   pub dirty : is_dirty st ≡ true → (is_dirty held ≡ true) ⊎ ((pass ≡ true) ⊎ (takes_alone k shared failed ≡ true))
+  pub keeps_dirt : (pass || is_dirty held || is_make_unique k) ≡ true → is_dirty st ≡ true
+  pub gains : is_invalid held ≡ true → is_invalid st ≡ false → (is_fetch k ≡ true) ⊎ (is_make_unique k ≡ true)
 
 pub read_is : (k : ArKind) (held : LineState) (shared pass failed : Bool) (st : LineState) → ends_read k held shared pass failed st ≡ true
     → ReadEnds k held shared pass failed st
@@ -80,7 +83,9 @@ read_is k held shared pass failed st e =
     let alone = takes_alone k shared failed in
     let unique_part = implies (is_unique st) (is_unique held || alone) in
     let kept_part = is_invalid st || (not (is_invalid held) || (alone || takes_shared k)) in
-    let two = and_parts (unique_part && kept_part) _ all in
+    let early = and_parts (unique_part && kept_part && implies (is_dirty st) (is_dirty held || (pass || alone))) _ all in
+    let late = and_parts (implies (pass || is_dirty held || is_make_unique k) (is_dirty st)) _ early.1 in
+    let two = and_parts (unique_part && kept_part) _ early.0 in
     let one = and_parts unique_part kept_part two.0 in
     record {
       unique = λ u. or_cases (is_unique held) alone (implies-at (is_unique st) _ one.0 u);
@@ -94,5 +99,10 @@ read_is k held shared pass failed st e =
       dirty = λ d. elim (or_cases (is_dirty held) _ (implies-at (is_dirty st) _ two.1 d)) [
         | inl was ↦ inl was
         | inr came ↦ inr (or_cases pass alone came)
+      ];
+      keeps_dirt = λ d. implies-at (pass || is_dirty held || is_make_unique k) (is_dirty st) late.0 d;
+      gains = λ i v. elim (or_cases (is_invalid st || not (is_invalid held)) (is_fetch k || is_make_unique k) late.1) [
+        | inl less ↦ let bad : false ≡ true = rw (v, i) at less in cc
+        | inr gained ↦ or_cases (is_fetch k) (is_make_unique k) gained
       ];
     }

@@ -168,3 +168,26 @@ row_is k held resp next e =
             passes = λ t. must_pass_parts k held next (sym r.pass ∙ t);
           }
     ]
+
+-- a valid state is not I, nor is a unique or a dirty one
+pub invalid_not : (st : LineState) → is_invalid st ≡ false → st ≡ I → ⊥
+invalid_not st v e = let bad : true ≡ false = sym (ap is_invalid e) ∙ v in cc
+
+pub valid_not : (st : LineState) → (st ≡ I → ⊥) → is_invalid st ≡ false
+valid_not I n = absurd (n refl)
+valid_not st n = refl
+
+pub unique_valid : (st : LineState) → is_unique st ≡ true → st ≡ I → ⊥
+unique_valid st u e = let bad : false ≡ true = sym (ap is_unique e) ∙ u in cc
+
+pub dirty_valid : (st : LineState) → is_dirty st ≡ true → st ≡ I → ⊥
+dirty_valid st d e = let bad : false ≡ true = sym (ap is_dirty e) ∙ d in cc
+
+-- a settled one is neither unique nor dirty
+pub unique_unsettled : (st : LineState) → is_unique st ≡ true → is_settled st ≡ true → ⊥
+unique_unsettled UC u s = cc
+unique_unsettled st u s = cc
+
+pub dirty_unsettled : (st : LineState) → is_dirty st ≡ true → is_settled st ≡ true → ⊥
+dirty_unsettled UC d s = cc
+dirty_unsettled st d s = cc

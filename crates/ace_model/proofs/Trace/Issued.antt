@@ -74,6 +74,6 @@ outstanding-named h (e ∷ past) p c i x o =
       | inr old ↦ newest_named-older (issued (length past) e) p c i (transaction_of past p c i) old.other ∙ outstanding-named h past p c i x old.was
     ]
 
--- and has the name
+-- so it has the name
 pub outstanding-name : (h : Header) (past : Trace) (p : ℕ) (c : Channel) (i : ℕ) (x : Transaction) → outstanding h past p c i ≡ Some x → Named x p c i
 outstanding-name h past p c i x o = has_name-is x p c i (transaction_of-stands past p c i x (outstanding-named h past p c i x o)).named

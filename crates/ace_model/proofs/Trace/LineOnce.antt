@@ -1,19 +1,22 @@
 -- A port has one outstanding transaction on a line.
-use Rattle.std.proofs.Common.{◌≡◌, ℕ, true, false, not, [], ◌∷◌, length, Some, refl, sym, ◌∙◌, inl, inr}
+use Rattle.std.proofs.Common.{◌≡◌, ℕ, true, false, not, [], ◌∷◌, length, Some, refl, sym, ◌∙◌, inl, inr, nat_eq, ap}
 use Rattle.std.proofs.lemmas.Bool.{and_parts, and_from, eq-eqb, eqb-true}
 use Rattle.ace_model.proofs.Terms.{Channel, Header, Transaction, Trace, is_line, is_on, has_name, issued, outstanding, is_outstanding, is_outstanding_on, has_outstanding_on, has_free_line}
 use Rattle.ace_model.proofs.Terms.{IsAccepted}
-use Rattle.ace_model.proofs.Trace.Looks.{at_name, has_name-is}
-use Rattle.ace_model.proofs.Trace.Issued.{outstanding-name, outstanding-origin, outstanding-named, transaction_of-stands}
-use Rattle.ace_model.proofs.Trace.Growth.{some_issued-found}
+use Rattle.ace_model.proofs.Trace.Looks.{has_name-is}
+use Rattle.ace_model.proofs.Trace.Issued.{issued_at, outstanding-origin, outstanding-named, transaction_of-stands}
+use Rattle.ace_model.proofs.Trace.Growth.{IsIssued, some_issued-found}
 use Rattle.ace_model.proofs.Rules.Keeps.{accepted_keeps}
-use Rattle.ace_model.proofs.General.Options.{Some-injective, is_none_or-at}
+use Rattle.ace_model.proofs.General.Options.{Some-injective, is_some_and-is, is_none_or-at}
 use Rattle.ace_model.proofs.General.Booleans.{implies-at}
+use Rattle.ace_model.proofs.Trace.Outstanding.{outstanding_own}
 
--- an outstanding transaction is so by its own name
-pub outstanding_own : (h : Header) (past : Trace) (p : ℕ) (c : Channel) (i : ℕ) (x : Transaction)
-    → outstanding h past p c i ≡ Some x → outstanding h past x.port x.chan x.id ≡ Some x
-outstanding_own h past p c i x o = at_name (outstanding h past) x p c i (outstanding-name h past p c i x o) ∙ o
+-- and one that was issued, where its name says that it is
+pub outstanding_is : (h : Header) (past : Trace) (x : Transaction) → IsIssued past x → is_outstanding h past x ≡ true → outstanding h past x.port x.chan x.id ≡ Some x
+outstanding_is h past x i o =
+    let y = is_some_and-is (outstanding h past x.port x.chan x.id) (λ y. nat_eq y.place x.place) o in
+    let s = transaction_of-stands past x.port x.chan x.id y.0 (outstanding-named h past x.port x.chan x.id y.0 y.1) in
+    y.1 ∙ sym s.there ∙ ap (issued_at past) (eqb-true y.0.place x.place y.2) ∙ i.there
 
 -- what is outstanding on the line is found there
 pub outstanding_found : (h : Header) (past : Trace) (p : ℕ) (c : Channel) (i l : ℕ) (x : Transaction)
@@ -25,7 +28,7 @@ outstanding_found h past p c i l x o on =
     some_issued-found past (is_outstanding_on h past p l) x.place x s.there (and_from _ _ (and_from _ _ port on) out)
 
 -- a new transaction finds no other on its line
-free_line : (h : Header) (past : Trace) (p : ℕ) (c d : Channel) (i j l : ℕ) (x y : Transaction)
+pub free_line : (h : Header) (past : Trace) (p : ℕ) (c d : Channel) (i j l : ℕ) (x y : Transaction)
     → has_free_line h past x ≡ true → has_name x p c i ≡ true → outstanding h past p d j ≡ Some y → is_on x l ≡ true → is_on y l ≡ true → ⊥
 free_line h past p c d i j l x y free named o nx ny =
     let on = and_parts (is_line x) _ nx in

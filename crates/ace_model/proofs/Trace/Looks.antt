@@ -1,8 +1,7 @@
 -- What the small tests of the looks at a trace say.
 use Rattle.std.proofs.Common.{◌≡◌, ◌≢◌, ◌⊎◌, ℕ, true, false, ◌&&◌, nat_eq, Option, Some, None, refl, sym, ap, subst, ◌∙◌, inl, inr}
 use Rattle.std.proofs.lemmas.Bool.{and_parts, and_from, cases_Bool, eqb-true, eq-eqb}
-use Rattle.ace_model.proofs.Terms.{Channel, Read, Write, Transaction, is_read, same_channel, has_name, is_named, is_on}
-use Rattle.ace_model.proofs.Terms.{is_some_on, newest_named, without, newest_on}
+use Rattle.ace_model.proofs.Terms.{Channel, Read, Write, Transaction, is_read, same_channel, has_name, is_named, is_on, is_line, is_some_on, newest_named, without, newest_on, ArKind, SnoopKind, Header, Trace, read_kind, write_kind, snoop_of, has_failed, are_snoops_done, each_port, is_port_done}
 use Rattle.ace_model.proofs.General.Options.{Some-injective}
 
 pub is_read-is : (c : Channel) → is_read c ≡ true → c ≡ Read
@@ -87,6 +86,17 @@ without-other (Some y) (Some w) x e other =
       | inr f ↦ rw f e
     ]
 
+-- what was there is there still, or is what ends
+pub without-cases : (y o : Option Transaction) (x : Transaction) → o ≡ Some x → (without y o ≡ Some x) ⊎ ((z : Transaction) × (y ≡ Some z) × (z.place ≡ x.place))
+without-cases None o x e = inl e
+without-cases (Some z) None x e = cc
+without-cases (Some z) (Some w) x e =
+    let one : w ≡ x = Some-injective w x e in
+    elim (cases_Bool (nat_eq w.place z.place)) [
+      | inl t ↦ inr (z, refl, sym (eqb-true w.place z.place t) ∙ ap (λ (v : Transaction). v.place) one)
+      | inr f ↦ inl (rw f e)
+    ]
+
 -- the newest on a line is the first one, on the line, or else the older one
 pub newest_on-cases : (new : Option Transaction) (l : ℕ) (older : Option Transaction) (x : Transaction)
     → newest_on new l older ≡ Some x
@@ -101,3 +111,24 @@ newest_on-cases (Some y) l older x e =
 pub newest_on-older : (new : Option Transaction) (l : ℕ) (older : Option Transaction) → is_some_on new l ≡ false → newest_on new l older ≡ older
 newest_on-older None l older f = refl
 newest_on-older (Some y) l older f = rw f refl
+
+-- a transaction on a line has its address
+pub is_on-addr : (x : Transaction) (l : ℕ) → is_on x l ≡ true → x.addr ≡ l
+is_on-addr x l e = eqb-true x.addr l ((and_parts (is_line x) _ e).1)
+
+-- what is there after an end was there before
+pub was_there : (ended_one o : Option Transaction) (x : Transaction) → without ended_one o ≡ Some x → o ≡ Some x
+was_there ended_one o x e = (without-some ended_one o x e).0
+
+-- a transaction of a kind of read is no write
+pub read_writes_none : (x : Transaction) (k : ArKind) → read_kind x ≡ Some k → (write_kind x ≡ None) × (is_read x.chan ≡ true)
+read_writes_none x k kind =
+    elim (cases_Bool (is_read x.chan)) [
+      | inl t ↦ (rw t refl, t)
+      | inr f ↦ let none : read_kind x ≡ None = rw f refl in cc
+    ]
+
+-- where a transaction that causes a snoop and hasn't failed has its snoops done, each port is done
+pub snoops_done-ports : (h : Header) (past : Trace) (x : Transaction) (s : SnoopKind) → snoop_of x ≡ Some s → has_failed past x ≡ false → are_snoops_done h past x ≡ true
+    → each_port h.ports (is_port_done h past x) ≡ true
+snoops_done-ports h past x s causes failed done = rw (causes, failed) at done

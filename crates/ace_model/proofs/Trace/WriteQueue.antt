@@ -1,16 +1,14 @@
 -- The complete writes of a port that wait for their WK: they are outstanding, each once, and those with data have written memory.
 use Rattle.std.proofs.Common.{◌≡◌, ◌⊎◌, ℕ, ◌+◌, ◌≤◌, true, false, not, nat_eq, nat_lt, [], ◌∷◌, length, Option, Some, None, is_none, slice_get, le_refl, refl, sym, ap, subst, ◌∙◌, arith, inl, inr}
 use Rattle.std.proofs.lemmas.Bool.{and_parts, or_cases, or_right, not-true, cases_Bool, eqb-true, eq-eqb}
-use Rattle.ace_model.proofs.Terms.{LineState, Channel, Read, Write, without, Event, Ar, R, Rk, Aw, B, Wk, Header, Transaction, Trace, is_some_and, has_write_data, is_ace, is_named, issued, ended, write_kind}
-use Rattle.ace_model.proofs.Terms.{transaction_of, outstanding, completed, completes, acknowledgements, acknowledged, is_completion, is_complete, is_memory_write, has_memory_write, may_respond}
+use Rattle.ace_model.proofs.Terms.{LineState, Channel, Read, Write, without, Event, Ar, R, Rk, Aw, B, Wk, Header, Transaction, Trace, is_some_and, has_write_data, is_ace, is_named, issued, ended}
+use Rattle.ace_model.proofs.Terms.{write_kind, transaction_of, outstanding, completed, completes, acknowledgements, acknowledged, is_completion, is_complete, is_memory_write, has_memory_write, may_respond}
 use Rattle.ace_model.proofs.Terms.{IsAccepted}
 use Rattle.ace_model.proofs.Trace.Looks.{at_name, without-other}
 use Rattle.ace_model.proofs.Trace.Issued.{outstanding-origin, outstanding-name, outstanding-named}
 use Rattle.ace_model.proofs.General.Lists.{slice_get-more}
 use Rattle.ace_model.proofs.Rules.Keeps.{accepted_keeps}
-use Rattle.ace_model.proofs.Holders.Ends.{one_name, acknowledged_is}
-use Rattle.ace_model.proofs.Holders.Address.{read_issued, write_issued, outstanding_stays}
-use Rattle.ace_model.proofs.Holders.Transfer.{ends_lite}
+use Rattle.ace_model.proofs.Trace.Outstanding.{one_name, acknowledged_is, read_issued, write_issued, outstanding_stays, ends_lite}
 use Rattle.ace_model.proofs.General.Options.{some_if-is, none_if-is, Some-injective, is_some_and-is}
 use Rattle.ace_model.proofs.General.Booleans.{above_count, implies-at}
 

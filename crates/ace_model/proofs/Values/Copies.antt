@@ -1,60 +1,31 @@
 -- The copies of the ports that hold a line stay its value.
-use Rattle.std.proofs.Common.{◌≡◌, ◌⊎◌, ℕ, Bool, true, false, ◌&&◌, ◌||◌, ◌==◌, nat_eq, ◌∷◌, Some, refl, sym, ap, subst, ◌∙◌, inl, inr}
-use Rattle.std.proofs.lemmas.Bool.{and_parts, or_cases, or_left, cases_Bool, eqb-true, eq-eqb}
-use Rattle.std.specs.List.{list_all}
-use Rattle.ace_model.proofs.Terms.{ArKind, LineState, I, UC, UD, SC, SD, passes_dirty, is_shared, Read, Event, R, Rk, M, D, Header, Line, merged, end_states_of_read, ends_read, is_fetch, is_invalid}
-use Rattle.ace_model.proofs.Terms.{is_unique, Transaction, Trace, is_some_and, is_make_unique, beats_of, is_granted_write, is_on, write_kind, outstanding, transaction_of, transfers, first_resp, has_failed}
+use Rattle.std.proofs.Common.{◌≡◌, ◌⊎◌, ℕ, Bool, true, false, ◌&&◌, ◌==◌, nat_eq, ◌∷◌, Some, refl, sym, ap, subst, ◌∙◌, inl, inr}
+use Rattle.std.proofs.lemmas.Bool.{and_parts, or_left, cases_Bool, eqb-true, eq-eqb}
+use Rattle.std.proofs.Math.Bool.{and-false}
+use Rattle.ace_model.proofs.Terms.{LineState, I, Read, Event, R, Rk, M, D, Header, Line, merged, is_invalid}
+use Rattle.ace_model.proofs.Terms.{is_unique, Transaction, Trace, is_some_and, beats_of, is_granted_write, is_on, write_kind, outstanding, transaction_of, transfers}
 use Rattle.ace_model.proofs.Terms.{state_of, is_line_read_transaction, copy_of, value_of, IsAccepted, AreCopiesTrue}
-use Rattle.ace_codes.specs.declared.kind.ArKind.TheVariants as read
-use Rattle.ace_model.proofs.Tables.States.{all_among, is_invalid-is}
+use Rattle.ace_model.proofs.Tables.States.{valid_not, invalid_not, unique_valid}
+use Rattle.ace_model.proofs.Tables.Kinds.{fetch_is}
 use Rattle.ace_model.proofs.Holders.Acknowledge.{is_named_by_rk}
 use Rattle.ace_model.proofs.Holders.Rises.{state_moves, stays_empty}
 use Rattle.ace_model.proofs.Grants.Begins.{may_of}
 use Rattle.ace_model.proofs.Values.MergedLines.{merged-whole}
-use Rattle.ace_model.proofs.Values.Stores.{stores_d, value_moves, full_some, make_unique_is}
-use Rattle.ace_model.proofs.Values.ReadEnds.{read_ends}
+use Rattle.ace_model.proofs.Values.Stores.{stores_d, value_moves}
+use Rattle.ace_model.proofs.Tables.Kinds.{make_unique_is}
+use Rattle.ace_model.proofs.Values.FullReads.{full_some}
+use Rattle.ace_model.proofs.Values.Ended.{read_ends}
 use Rattle.ace_model.proofs.Values.WritesAlone.{all_empty}
 use Rattle.ace_model.proofs.Values.Facts.{DirtyPlaced}
 use Rattle.ace_model.proofs.Holders.Law.{accepted_holds}
 use Rattle.ace_model.proofs.General.Options.{is_some_and-is}
 
--- a port that held nothing ends a fetch or a MakeUnique, or holds nothing
-gains : (k : ArKind) (shared pass failed : Bool) → ((is_fetch k || is_make_unique k) || list_all is_invalid (end_states_of_read k I shared pass failed)) ≡ true
-gains read.CleanUnique false false false = refl
-gains read.CleanUnique false false true = refl
-gains read.CleanShared shared false failed = refl
-gains read.ReadOnce shared false failed = refl
-gains read.ReadNoSnoop false false failed = refl
-gains read.CleanInvalid false false failed = refl
-gains read.MakeInvalid false false failed = refl
-gains read.Barrier false false failed = refl
-gains read.DvmComplete false false failed = refl
-gains read.DvmMessage false false failed = refl
-gains k shared pass failed = refl
-
-gains_by : (k : ArKind) (shared pass failed : Bool) (st : LineState) → ends_read k I shared pass failed st ≡ true → is_invalid st ≡ false → (is_fetch k || is_make_unique k) ≡ true
-gains_by k shared pass failed st e v =
-    elim (or_cases (is_fetch k || is_make_unique k) (list_all is_invalid (end_states_of_read k I shared pass failed)) (gains k shared pass failed)) [
-      | inl t ↦ t
-      | inr all ↦ let bad = all_among is_invalid (end_states_of_read k I shared pass failed) st e all in cc
-    ]
-
--- only its own D of the line changes the state of a port by a D
-pub state_d : (h : Header) (past : Trace) (q addr strobe : ℕ) (b : Bool) (line : Line) (p l : ℕ) → (nat_eq p q && nat_eq l addr) ≡ false
-    → state_of h (D q addr strobe b line ∷ past) p l ≡ state_of h past p l
-state_d h past q addr strobe b line p l other = rw other refl
-
-pub invalid_not : (st : LineState) → is_invalid st ≡ false → (st ≡ I → ⊥)
-invalid_not st v e = let bad : true ≡ false = sym (ap is_invalid e) ∙ v in cc
-
-pub unique_valid : (st : LineState) → is_unique st ≡ true → (st ≡ I → ⊥)
-unique_valid I u e = cc
-unique_valid UC u e = cc
-unique_valid UD u e = cc
-unique_valid SC u e = cc
-unique_valid SD u e = cc
-
 module _ (h : Header) (past : Trace) where
+  -- only its own D of the line changes the state of a port by a D
+  pub state_d : (q addr strobe : ℕ) (b : Bool) (line : Line) (p l : ℕ) → (nat_eq p q && nat_eq l addr) ≡ false
+      → state_of h (D q addr strobe b line ∷ past) p l ≡ state_of h past p l
+  state_d q addr strobe b line p l other = rw other refl
+
   -- a store changes the copy of its port as it does the value, and finds no other port with the line
   copies_d : (q l strobe : ℕ) (b : Bool) (line : Line) → IsAccepted h (D q l strobe b line ∷ past) → AreCopiesTrue h past l
       → AreCopiesTrue h (D q l strobe b line ∷ past) l
@@ -80,7 +51,7 @@ module _ (h : Header) (past : Trace) where
               | inr m ↦ m.alone p apart
             ] in
             let not_named : (nat_eq p q && nat_eq l l) ≡ false = rw other refl in
-            absurd (held (state_d h past q l strobe b line p l not_named ∙ gone))
+            absurd (held (state_d q l strobe b line p l not_named ∙ gone))
       ]
 
   -- an RK of a read of the line
@@ -91,45 +62,15 @@ module _ (h : Header) (past : Trace) where
         | inr was ↦ f.copies l p (invalid_not (state_of h past p l) was)
         | inl gone ↦
             let r = read_ends h past q st a p l t in
-            let o = first_resp past p r.id in
-            let ended : ends_read r.kind I (is_some_and o is_shared) (is_some_and o passes_dirty) (has_failed past r.one) st ≡ true =
-            subst (λ v. ends_read r.kind v (is_some_and o is_shared) (is_some_and o passes_dirty) (has_failed past r.one) st ≡ true) (is_invalid-is (state_of h past p l) gone) r.state in
-            let valid : is_invalid st ≡ false = valid_not st held in
-            elim (or_cases (is_fetch r.kind) (is_make_unique r.kind) (gains_by r.kind (is_some_and o is_shared) (is_some_and o passes_dirty) (has_failed past r.one) st ended valid)) [
+            elim (r.state.gains gone (valid_not st held)) [
               | inl fetch ↦
-                  let beats : nat_eq (transfers past p r.id) (beats_of r.kind) ≡ true = subst (λ v. is_some_and v (λ k. transfers past p r.id == beats_of k) ≡ true) r.is_kind r.full in
-                  let four : transfers past p r.id ≡ 4 = eqb-true (transfers past p r.id) (beats_of r.kind) beats ∙ fetch_beats r.kind fetch in
-                  (f.fetches p r.id l r.one r.kind r.out r.on r.is_kind fetch (full_some past p r.id r.one r.full)).whole four
+                  let kind = r.is_kind in
+                  let beats = (fetch_is r.kind fetch).beats in
+                  let four : nat_eq (transfers past p r.id) (beats_of r.kind) ≡ true = subst (λ v. is_some_and v (λ k. transfers past p r.id == beats_of k) ≡ true) kind r.full in
+                  (f.fetches p r.id l r.one r.kind r.out r.on kind fetch (full_some past p r.id r.one r.full)).whole (eqb-true (transfers past p r.id) (beats_of r.kind) four ∙ beats)
               | inr make ↦ f.made p r.id l r.one r.out r.on (r.is_kind ∙ ap (λ v. Some v) (make_unique_is r.kind make)) (r.stored make)
             ]
       ]
-    where
-      valid_not : (s : LineState) → (s ≡ I → ⊥) → is_invalid s ≡ false
-      valid_not I n = absurd (n refl)
-      valid_not UC n = refl
-      valid_not UD n = refl
-      valid_not SC n = refl
-      valid_not SD n = refl
-
-      fetch_beats : (k : ArKind) → is_fetch k ≡ true → beats_of k ≡ 4
-      fetch_beats read.ReadClean e = refl
-      fetch_beats read.ReadNotSharedDirty e = refl
-      fetch_beats read.ReadShared e = refl
-      fetch_beats read.ReadUnique e = refl
-      fetch_beats k e = cc
-
-  -- the line read that a transfer completes finds its port with nothing
-  pub received_empty : (q j resp : ℕ) (last : Bool) (word p l : ℕ) → IsAccepted h (R q j resp last word ∷ past)
-      → ((nat_eq p q && last) && is_some_and (transaction_of past p Read j) (λ x. is_on x l && is_line_read_transaction x)) ≡ true → state_of h past p l ≡ I
-  received_empty q j resp last word p l a t =
-      let parts = and_parts (nat_eq p q && last) _ t in
-      let port = eqb-true p q (and_parts (nat_eq p q) last parts.0).0 in
-      let x = is_some_and-is (transaction_of past p Read j) (λ x. is_on x l && is_line_read_transaction x) parts.1 in
-      let m = may_of h past q j resp last word a in
-      let out : outstanding h past p Read j ≡ Some m.one = ap (λ v. outstanding h past v Read j) port ∙ m.out in
-      let one : Some m.one ≡ Some x.0 = sym m.named ∙ ap (λ v. transaction_of past v Read j) (sym port) ∙ x.1 in
-      let both = and_parts (is_on x.0 l) (is_line_read_transaction x.0) x.2 in
-      stays_empty h past a.0 p Read j l x.0 (out ∙ one) both.0 (or_left (is_line_read_transaction x.0) (is_some_and (write_kind x.0) is_granted_write) both.1)
 
   -- The event completes a read of the line at the port.
   pub record Receives (e : Event) (p l : ℕ) : Type 0 where
@@ -188,29 +129,23 @@ copies_step h past (D q addr strobe b line) a f l p held =
           subst (λ v. AreCopiesTrue h (D q v strobe b line ∷ past) l) same
           (copies_d h past q l strobe b line (subst (λ v. IsAccepted h (D q v strobe b line ∷ past)) (sym same) a) (f.copies l)) p held
       | inr other ↦
-          let not_named : (nat_eq p q && nat_eq l addr) ≡ false = rw other (and_no (nat_eq p q)) in
+          let not_named : (nat_eq p q && nat_eq l addr) ≡ false = rw other (and-false (nat_eq p q)) in
           let was = f.copies l p (λ gone. held (state_d h past q addr strobe b line p l not_named ∙ gone)) in
           rw (not_named, other) was
     ]
-  where
-    and_no : (b : Bool) → (b && false) ≡ false
-    and_no true = refl
-    and_no false = refl
 copies_step h past (M q c j line) a f l p held =
     elim (value_moves h past (M q c j line) a l) [
       | inl same ↦ f.copies l p held ∙ sym same
-      | inr s ↦ elim s [
-        | inl d ↦ let is = d.is in cc
-        | inr s ↦ elim s [
-          | inl d ↦ let is = d.is in cc
-          | inr w ↦ absurd (held (all_empty h past a.0 w.port w.chan w.id l w.by p))
-        ]
-      ]
+      | inr (inl d) ↦ let is = d.is in cc
+      | inr (inr (inl d)) ↦ let is = d.is in cc
+      | inr (inr (inr w)) ↦ absurd (held (all_empty h past a.0 w.port w.chan w.id l w.by p))
     ]
 copies_step h past (R q j resp last word) a f l p held =
-    elim (cases_Bool ((nat_eq p q && last) && is_some_and (transaction_of past p Read j) (λ x. is_on x l && is_line_read_transaction x))) [
-      | inl t ↦ absurd (held (received_empty h past q j resp last word p l a t))
-      | inr other ↦ rw other (f.copies l p held)
+    elim (copy_moves h past (R q j resp last word) a p l) [
+      | inl kept ↦ kept ∙ f.copies l p held
+      | inr (inl r) ↦
+          absurd (held (stays_empty h past a.0 p Read r.id l r.one r.out r.on (or_left (is_line_read_transaction r.one) (is_some_and (write_kind r.one) is_granted_write) r.reads)))
+      | inr (inr d) ↦ let is = d.is in cc
     ]
 copies_step h past (Rk q st) a f l p held =
     elim (cases_Bool (is_named_by_rk past q p l)) [

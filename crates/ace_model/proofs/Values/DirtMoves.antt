@@ -1,80 +1,20 @@
 -- A dirty line stays dirty at its port, or is written to memory, or its port answers a snoop of it.
-use Rattle.std.proofs.Common.{◌≡◌, ◌⊎◌, ℕ, Bool, true, false, not, ◌&&◌, ◌||◌, nat_eq, ◌∷◌, Some, None, refl, sym, ap, subst, ◌∙◌, inl, inr}
-use Rattle.std.proofs.lemmas.Bool.{and_parts, or_cases, or_right, cases_Bool, eqb-true}
-use Rattle.std.specs.List.{list_all}
-use Rattle.ace_model.proofs.Terms.{ArKind, AwKind, LineState, I, UC, SC, SD, passes_dirty, is_shared, Channel, Write, Event, Rk, Wk, Cr, S, D, Header, end_states_of_read, ends_read, is_silent_move}
-use Rattle.ace_model.proofs.Terms.{is_invalid, is_dirty, Transaction, Trace, is_some_and, is_line_read, is_line_write, is_granted_write, has_write_data, is_line, is_on, is_some_on, read_kind, write_kind}
-use Rattle.ace_model.proofs.Terms.{outstanding, acknowledged, first_resp, has_update, has_memory_write, answers_line, has_failed, state_of, is_line_read_transaction, IsAccepted}
-use Rattle.ace_codes.specs.declared.kind.ArKind.TheVariants as read
-use Rattle.ace_codes.specs.declared.kind.AwKind.TheVariants as write
-use Rattle.ace_model.proofs.Rules.Keeps.{accepted_keeps}
-use Rattle.ace_model.proofs.Tables.States.{all_among}
+use Rattle.std.proofs.Common.{◌≡◌, ◌⊎◌, ℕ, true, false, ◌&&◌, ◌||◌, nat_eq, ◌∷◌, Some, None, refl, sym, ap, subst, inl, inr}
+use Rattle.std.proofs.lemmas.Bool.{and_parts, or_cases, or_left, or_right, cases_Bool, eqb-true}
+use Rattle.ace_model.proofs.Terms.{is_make_unique, AwKind, LineState, Write, Event, Rk, Wk, Cr, S, D, Header}
+use Rattle.ace_model.proofs.Terms.{is_dirty, Transaction, Trace, is_some_and, is_line_read, is_line_write, is_granted_write, has_write_data, is_line, is_some_on, read_kind, write_kind}
+use Rattle.ace_model.proofs.Terms.{acknowledged, answers_line, state_of, is_line_read_transaction, IsAccepted}
+use Rattle.ace_model.proofs.Tables.Kinds.{is_dirty_update, is_clean_write, write_kinds, update_data, dirty_updates}
 use Rattle.ace_model.proofs.Holders.Stores.{is_named_by_d}
 use Rattle.ace_model.proofs.Holders.Acknowledge.{is_named_by_rk}
 use Rattle.ace_model.proofs.Holders.Rises.{stays_empty}
-use Rattle.ace_model.proofs.Trace.WriteQueue.{ends_write_of}
 use Rattle.ace_model.proofs.Tables.SnoopRows.{silent_dirty}
 use Rattle.ace_model.proofs.Grants.SnoopAnswers.{Answering, answering_cr}
-use Rattle.ace_model.proofs.Values.UpdateHolds.{is_dirty_update, is_clean_write, stays_clean}
-use Rattle.ace_model.proofs.Values.ReadEnds.{read_ends}
+use Rattle.ace_model.proofs.Values.UpdateHolds.{stays_clean, moves_silently}
+use Rattle.ace_model.proofs.Values.Ended.{read_ends, write_ends}
 use Rattle.ace_model.proofs.Values.Facts.{Updated, UpdatedTrue}
 use Rattle.ace_model.proofs.General.Options.{is_some_and-is}
-
--- a read of a dirty line, or one that takes passed data, leaves the line dirty
-dirty_rows : (k : ArKind) (held : LineState) (shared pass failed : Bool) → (list_all is_dirty (end_states_of_read k held shared pass failed) || not (pass || is_dirty held)) ≡ true
-dirty_rows read.ReadClean I false false failed = refl
-dirty_rows read.ReadNotSharedDirty I false false failed = refl
-dirty_rows read.ReadShared I false false failed = refl
-dirty_rows read.ReadUnique I false false failed = refl
-dirty_rows read.ReadClean I true false failed = refl
-dirty_rows read.ReadNotSharedDirty I true false failed = refl
-dirty_rows read.ReadShared I true false failed = refl
-dirty_rows read.ReadNotSharedDirty I false true failed = refl
-dirty_rows read.ReadShared I false true failed = refl
-dirty_rows read.ReadUnique I false true failed = refl
-dirty_rows read.ReadShared I true true failed = refl
-dirty_rows read.CleanUnique I false false false = refl
-dirty_rows read.CleanUnique SC false false false = refl
-dirty_rows read.CleanUnique SD false false false = refl
-dirty_rows read.CleanUnique I false false true = refl
-dirty_rows read.CleanUnique SC false false true = refl
-dirty_rows read.CleanUnique SD false false true = refl
-dirty_rows read.MakeUnique I false false failed = refl
-dirty_rows read.MakeUnique SC false false failed = refl
-dirty_rows read.MakeUnique SD false false failed = refl
-dirty_rows read.CleanShared I shared false failed = refl
-dirty_rows read.CleanShared UC false false failed = refl
-dirty_rows read.CleanShared SC false false failed = refl
-dirty_rows read.CleanShared UC true false failed = refl
-dirty_rows read.CleanShared SC true false failed = refl
-dirty_rows read.ReadOnce I shared false failed = refl
-dirty_rows read.ReadNoSnoop I false false failed = refl
-dirty_rows read.CleanInvalid I false false failed = refl
-dirty_rows read.MakeInvalid I false false failed = refl
-dirty_rows read.Barrier I false false failed = refl
-dirty_rows read.DvmComplete I false false failed = refl
-dirty_rows read.DvmMessage I false false failed = refl
-dirty_rows _ held shared pass failed = refl
-
-dirty_ends : (k : ArKind) (held : LineState) (shared pass failed : Bool) → (pass || is_dirty held) ≡ true → list_all is_dirty (end_states_of_read k held shared pass failed) ≡ true
-dirty_ends k held shared pass failed d =
-    elim (or_cases (list_all is_dirty (end_states_of_read k held shared pass failed)) (not (pass || is_dirty held)) (dirty_rows k held shared pass failed)) [
-      | inl t ↦ t
-      | inr f ↦ let bad : false ≡ true = rw d at f in cc
-    ]
-
-pub passed_dirty : (k : ArKind) (held : LineState) (shared failed : Bool) (st : LineState) → ends_read k held shared true failed st ≡ true → is_dirty st ≡ true
-passed_dirty k held shared failed st e = all_among is_dirty (end_states_of_read k held shared true failed) st e (dirty_ends k held shared true failed refl)
-
--- and a MakeUnique
-make_ends : (held : LineState) (shared pass failed : Bool) → list_all is_dirty (end_states_of_read read.MakeUnique held shared pass failed) ≡ true
-make_ends I false false failed = refl
-make_ends SC false false failed = refl
-make_ends SD false false failed = refl
-make_ends held shared pass failed = refl
-
-pub made_dirty : (held : LineState) (shared pass failed : Bool) (st : LineState) → ends_read read.MakeUnique held shared pass failed st ≡ true → is_dirty st ≡ true
-made_dirty held shared pass failed st e = all_among is_dirty (end_states_of_read read.MakeUnique held shared pass failed) st e (make_ends held shared pass failed)
+use Rattle.ace_model.proofs.Tables.States.{dirty_valid}
 
 -- The port answers a snoop of the line.
 pub record AnswersNow (h : Header) (past : Trace) (e : Event) (p l : ℕ) : Type 0 where
@@ -82,22 +22,6 @@ pub record AnswersNow (h : Header) (past : Trace) (e : Event) (p l : ℕ) : Type
   pub st : LineState
   pub is : e ≡ Cr p resp st
   pub answering : Answering h past p resp st l
-
--- the writes of a line
-write_kinds : (k : AwKind) → is_line_write k ≡ true → (is_dirty_update k || is_clean_write k || is_granted_write k) ≡ true
-write_kinds write.Barrier e = cc
-write_kinds write.WriteBack e = refl
-write_kinds write.WriteClean e = refl
-write_kinds write.WriteEvict e = refl
-write_kinds write.Evict e = refl
-write_kinds write.WriteNoSnoop e = refl
-write_kinds write.WriteUnique e = refl
-write_kinds write.WriteLineUnique e = refl
-
-dirty_data : (k : AwKind) → is_dirty_update k ≡ true → has_write_data k ≡ true
-dirty_data write.WriteBack e = refl
-dirty_data write.WriteClean e = refl
-dirty_data k e = cc
 
 line_write : (x : Transaction) → x.chan ≡ Write → is_line x ≡ true → (k : AwKind) × (write_kind x ≡ Some k) × (is_line_write k ≡ true)
 line_write x chan line =
@@ -110,28 +34,20 @@ line_write x chan line =
 dirt_wk : (h : Header) (past : Trace) (q : ℕ) (st : LineState) → IsAccepted h (Wk q st ∷ past) → UpdatedTrue h past → (p l : ℕ) → is_dirty (state_of h past p l) ≡ true
     → (nat_eq p q && is_some_on (acknowledged past p Write) l) ≡ true → Updated h past l
 dirt_wk h past q st a f p l d t =
-    let parts = and_parts (nat_eq p q) _ t in
-    let z = is_some_and-is (acknowledged past p Write) (λ y. is_on y l) parts.1 in
-    let is : acknowledged past q Write ≡ Some z.0 = ap (λ b. acknowledged past b Write) (sym (eqb-true p q parts.0)) ∙ z.1 in
-    let e = ends_write_of h past q st a z.0 is in
-    let out : outstanding h past p Write e.id ≡ Some z.0 = ap (λ b. outstanding h past b Write e.id) (eqb-true p q parts.0) ∙ e.out in
-    let k = line_write z.0 e.chan (and_parts (is_line z.0) (nat_eq z.0.addr l) z.2).0 in
+    let w = write_ends h past q st a p l t in
+    let k = line_write w.one w.chan (and_parts (is_line w.one) _ w.on).0 in
     elim (or_cases (is_dirty_update k.0 || is_clean_write k.0) (is_granted_write k.0) (write_kinds k.0 k.2)) [
       | inl told ↦ elim (or_cases (is_dirty_update k.0) (is_clean_write k.0) told) [
         | inl updates ↦
-            let sends : is_some_and (write_kind z.0) has_write_data ≡ true = subst (λ o. is_some_and o has_write_data ≡ true) (sym k.1) (dirty_data k.0 updates) in
-            let port : z.0.port ≡ p = e.port ∙ sym (eqb-true p q parts.0) in
-            let had : has_memory_write past p Write e.id ≡ true =
-            sym (ap (λ b. has_memory_write past b z.0.chan z.0.id) port ∙ ap (λ (c : Channel). has_memory_write past p c z.0.id) e.chan ∙ ap (has_memory_write past p Write) e.is_id)
-            ∙ e.written sends in
-            f p e.id l z.0 out z.2 (subst (λ o. is_some_and o is_dirty_update ≡ true) (sym k.1) updates) had
+            f p w.id l w.one w.out w.on (subst (λ o. is_some_and o is_dirty_update ≡ true) (sym k.1) updates)
+            (w.written (subst (λ o. is_some_and o has_write_data ≡ true) (sym k.1) (update_data k.0 (dirty_updates k.0 updates))))
         | inr clean ↦
-            let none = stays_clean h past a.0 p e.id l z.0 out z.2 (subst (λ o. is_some_and o is_clean_write ≡ true) (sym k.1) clean) in cc
+            let none = stays_clean h past a.0 p w.id l w.one w.out w.on (subst (λ o. is_some_and o is_clean_write ≡ true) (sym k.1) clean) in cc
       ]
       | inr granted ↦
-          let empty = stays_empty h past a.0 p Write e.id l z.0 out z.2
-          (or_right (is_line_read_transaction z.0) (is_some_and (write_kind z.0) is_granted_write) (subst (λ o. is_some_and o is_granted_write ≡ true) (sym k.1) granted)) in
-          let bad : is_dirty I ≡ true = subst (λ v. is_dirty v ≡ true) empty d in cc
+          let empty = stays_empty h past a.0 p Write w.id l w.one w.out w.on
+          (or_right (is_line_read_transaction w.one) (is_some_and (write_kind w.one) is_granted_write) (subst (λ o. is_some_and o is_granted_write ≡ true) (sym k.1) granted)) in
+          absurd (dirty_valid (state_of h past p l) d empty)
     ]
 
 pub dirt_moves : (h : Header) (past : Trace) (e : Event) → IsAccepted h (e ∷ past) → UpdatedTrue h past → (p l : ℕ) → is_dirty (state_of h past p l) ≡ true
@@ -141,11 +57,7 @@ dirt_moves h past (Rk q st) a f p l d =
       | inr other ↦ inl (rw other d)
       | inl t ↦
           let r = read_ends h past q st a p l t in
-          let o = first_resp past p r.id in
-          let held = state_of h past p l in
-          let dirty : is_dirty st ≡ true = all_among is_dirty (end_states_of_read r.kind held (is_some_and o is_shared) (is_some_and o passes_dirty) (has_failed past r.one)) st r.state
-          (dirty_ends r.kind held (is_some_and o is_shared) (is_some_and o passes_dirty) (has_failed past r.one) (or_right (is_some_and o passes_dirty) (is_dirty held) d)) in
-          inl (rw t dirty)
+          inl (rw t (r.state.keeps_dirt (or_left _ (is_make_unique r.kind) (or_right _ (is_dirty (state_of h past p l)) d))))
     ]
 dirt_moves h past (Wk q st) a f p l d =
     elim (cases_Bool (nat_eq p q && is_some_on (acknowledged past p Write) l)) [
@@ -163,13 +75,7 @@ dirt_moves h past (Cr q resp st) a f p l d =
 dirt_moves h past (S q addr st) a f p l d =
     elim (cases_Bool (nat_eq p q && nat_eq l addr)) [
       | inr other ↦ inl (rw other d)
-      | inl t ↦
-          let parts = and_parts (nat_eq p q) (nat_eq l addr) t in
-          let rule_29 : (is_silent_move (state_of h past p l) st && not (is_invalid st && has_update h past p l)) ≡ true =
-          subst (λ b. (is_silent_move (state_of h past b l) st && not (is_invalid st && has_update h past b l)) ≡ true) (sym (eqb-true p q parts.0))
-          (subst (λ b. (is_silent_move (state_of h past q b) st && not (is_invalid st && has_update h past q b)) ≡ true) (sym (eqb-true l addr parts.1))
-          (accepted_keeps h past (S q addr st) a).rule_29) in
-          inl (rw t (silent_dirty (state_of h past p l) st (and_parts (is_silent_move (state_of h past p l) st) _ rule_29).0 d))
+      | inl t ↦ inl (rw t (silent_dirty (state_of h past p l) st (moves_silently h past q addr st a p l t).move d))
     ]
 dirt_moves h past (D q addr strobe s line) a f p l d =
     elim (cases_Bool (is_named_by_d h past q addr p l)) [

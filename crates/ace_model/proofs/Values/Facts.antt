@@ -4,7 +4,7 @@ use Rattle.ace_model.proofs.Terms.{ArKind, I, passes_dirty, transfers_data, Head
 use Rattle.ace_model.proofs.Terms.{outstanding, transfers, updates_memory, has_memory_write, granted, answer_of, has_passed_data, state_of, has_store, words_read, word_of, copy_of, memory_of, reply_of}
 use Rattle.ace_model.proofs.Terms.{Beat, burst_of, value_of, AreCopiesTrue, IsValueSafe}
 use Rattle.ace_codes.specs.declared.kind.ArKind.TheVariants as read
-use Rattle.ace_model.proofs.Values.UpdateHolds.{is_dirty_update}
+use Rattle.ace_model.proofs.Tables.Kinds.{is_dirty_update}
 
 -- Passed data are the value, or their port has stored since and holds the line dirty.
 abbrev pub PassedTrue : Header → Trace → Type 0

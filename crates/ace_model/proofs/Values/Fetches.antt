@@ -1,28 +1,26 @@
 -- A read that keeps the line receives its value.
-use Rattle.std.proofs.Common.{◌≡◌, ◌≢◌, ◌⊎◌, ◌==◌, ℕ, zero, suc, ◌+◌, ◌<◌, Bool, true, false, if◌then◌else◌, ◌&&◌, nat_eq, nat_lt, List, [], ◌∷◌, ◌++◌, length, Option, Some, None, slice_get, slice_index, refl, sym, ap, subst, ◌∙◌, arith, inl, inr, length-append}
-use Rattle.std.proofs.lemmas.Bool.{and_parts, and_from, or_cases, cases_Bool, cases_eq, eqb-true, eq-eqb, ne_eqb}
-use Rattle.ace_model.proofs.Terms.{ArKind, ar_kind_of, Event, Ar, R, Aw, Read, Write, Header, Line, same_test, is_fetch, is_unique, Transaction, Trace, is_some_and, is_lite_read, beats_of, reads_a_line}
-use Rattle.ace_model.proofs.Terms.{is_ace, is_line, is_named, has_name, read_kind, issued, ended, transfers, outstanding, granted, has_failed, state_of, is_line_read_transaction, words_read, word_of}
-use Rattle.ace_model.proofs.Terms.{first_sender, memory_at_first_beat, reply_of, value_of, after_store, store_at, Store, may_issue_read, may_store, k18, is_due, is_next_transfer, has_word, may_transfer}
+use Rattle.std.proofs.Common.{◌≡◌, ◌≢◌, ◌==◌, ℕ, ◌+◌, ◌<◌, Bool, true, false, if◌then◌else◌, ◌&&◌, nat_eq, nat_lt, List, [], ◌∷◌, ◌++◌, length, Some, None, slice_get, slice_index, get_or, refl, sym, ap, subst, ◌∙◌, arith, inl, inr}
+use Rattle.std.proofs.lemmas.Bool.{and_parts, and_from, or_cases, cases_eq, eqb-true, eq-eqb, ne_eqb}
+use Rattle.ace_model.proofs.Terms.{ArKind, ar_kind_of, Event, Ar, R, Aw, Read, Header, Line, same_test, is_fetch, is_unique, Transaction, Trace, is_some_and, is_lite_read, beats_of, reads_a_line}
+use Rattle.ace_model.proofs.Terms.{is_ace, is_line, has_name, read_kind, issued, ended, transfers, outstanding, granted, has_failed, state_of, is_line_read_transaction, words_read, word_of}
+use Rattle.ace_model.proofs.Terms.{first_sender, memory_at_first_beat, reply_of, value_of, may_issue_read, may_store, k18, is_due, is_next_transfer, has_word}
 use Rattle.ace_model.proofs.Terms.{IsAccepted}
-use Rattle.ace_codes.specs.declared.kind.ArKind.TheVariants as read
-use Rattle.ace_model.proofs.Trace.Looks.{has_name-is, newest_named-cases, without-some}
-use Rattle.ace_model.proofs.Trace.Issued.{outstanding-named, transaction_of-stands}
+use Rattle.ace_model.proofs.Trace.Looks.{has_name-is, is_on-addr, without-some}
+use Rattle.ace_model.proofs.Trace.Issued.{outstanding-named, outstanding-name, outstanding-origin}
 use Rattle.ace_model.proofs.Rules.Keeps.{accepted_keeps}
 use Rattle.ace_model.proofs.General.Lists.{slice_get-more}
-use Rattle.ace_model.proofs.Tables.ReadEnds.{takes_alone, takes_shared}
-use Rattle.ace_model.proofs.Holders.Address.{named_read}
+use Rattle.std.proofs.lemmas.Option.{slice_get-get_or}
+use Rattle.ace_model.proofs.Tables.Kinds.{Fetch, fetch_is}
+use Rattle.ace_model.proofs.Values.FullReads.{transfer_moves, words-length, issue_transfers, line_due}
 use Rattle.ace_model.proofs.Holders.Facts.{Arrives}
 use Rattle.ace_model.proofs.Trace.LineOnce.{outstanding_found, one_on_line}
 use Rattle.ace_model.proofs.Grants.Stays.{gives_none}
-use Rattle.ace_model.proofs.Grants.Begins.{may_of, line_transfer}
-use Rattle.ace_model.proofs.Values.MergedLines.{merged-length, lines_by_words}
+use Rattle.ace_model.proofs.Values.MergedLines.{value-length, lines_by_words}
 use Rattle.ace_model.proofs.Values.Stores.{stores_d}
-use Rattle.ace_model.proofs.Values.ReadEnds.{read_writes_none}
+use Rattle.ace_model.proofs.Trace.Looks.{read_writes_none}
 use Rattle.ace_model.proofs.Values.Copies.{copy_moves}
 use Rattle.ace_model.proofs.Values.Stays.{may_unique, may_free, value_stays, made_apart, sent_step}
-use Rattle.ace_model.proofs.Values.Replies.{sender_before, reply_true, memory_true}
-use Rattle.ace_model.proofs.ReadsFollow.First.{memory-before}
+use Rattle.ace_model.proofs.Values.Replies.{sender_before, reply_true, memory_true, memory-before}
 use Rattle.ace_model.proofs.Values.Facts.{SentTrue, Fetches, FetchesTrue, DirtyPlaced}
 use Rattle.ace_model.proofs.Holders.Law.{accepted_holds}
 use Rattle.ace_model.proofs.General.Options.{Some-injective, is_some_and-at, is_none_or-at}
@@ -33,8 +31,8 @@ pub ace_read : (h : Header) (past : Trace) → IsAccepted h past → (p i : ℕ)
     → is_lite_read k ≡ false → is_ace h p ≡ true
 ace_read h [] a p i x k o kind lite = cc
 ace_read h (e ∷ past) a p i x k o kind lite =
-    elim (newest_named-cases (issued (length past) e) p Read i _ x o) [
-      | inr old ↦ ace_read h past a.0 p i x k (without-some (ended h past e) (outstanding h past p Read i) x old.0).0 kind lite
+    elim (outstanding-origin h past e p Read i x o) [
+      | inr old ↦ ace_read h past a.0 p i x k old.was kind lite
       | inl new ↦ by e a new.0 new.1
     ]
   where
@@ -52,234 +50,154 @@ ace_read h (e ∷ past) a p i x k o kind lite =
         let none : None ≡ Some k = ap read_kind same ∙ kind in cc
     by d a new named = cc
 
-pub value-length : (past : Trace) (l : ℕ) → length (value_of past l).words ≡ 4
-value-length [] l = refl
-value-length (e ∷ past) l = by (store_at past e l) (value-length past l)
-  where
-    by : (o : Option Store) → length (value_of past l).words ≡ 4 → length (after_store (value_of past l) o).words ≡ 4
-    by None n = n
-    by (Some s) n = merged-length (value_of past l) s.strobe s.line
-
-words-length : (past : Trace) (p i : ℕ) → length (words_read past p i) ≡ transfers past p i
-words-length [] p i = refl
-words-length (Ar q j addr snoop dom bar lock ∷ past) p i =
-    elim (cases_Bool (nat_eq p q && nat_eq i j)) [
-      | inl t ↦ rw t refl
-      | inr f ↦ rw f (words-length past p i)
-    ]
-words-length (R q j resp last word ∷ past) p i =
-    elim (cases_Bool (nat_eq p q && nat_eq i j)) [
-      | inl t ↦ let before = words-length past p i in let n = length-append (words_read past p i) (word ∷ []) in rw t (n ∙ ap (λ m. m + 1) before)
-      | inr f ↦ rw f (words-length past p i)
-    ]
-words-length (_ ∷ past) p i = words-length past p i
-
--- The event is a transfer under the name.
-record Transfers (e : Event) (p i : ℕ) : Type 0 where
-  resp : ℕ
-  last : Bool
-  word : ℕ
-  is : e ≡ R p i resp last word
-
-transfer_moves : (past : Trace) (e : Event) (p i : ℕ) → is_named (issued (length past) e) p Read i ≡ false
-    → ((transfers (e ∷ past) p i ≡ transfers past p i) × (words_read (e ∷ past) p i ≡ words_read past p i)) ⊎ Transfers e p i
-transfer_moves past (Ar q j addr snoop dom bar lock) p i other = let f = named_read past q j addr snoop dom bar lock p i false other in inl (rw f refl, rw f refl)
-transfer_moves past (R q j resp last word) p i other =
-    elim (cases_Bool (nat_eq p q && nat_eq i j)) [
-      | inr f ↦ inl (rw f refl, rw f refl)
-      | inl t ↦
-          let parts = and_parts (nat_eq p q) (nat_eq i j) t in
-          inr (record { resp = resp; last = last; word = word; is = ap (λ v. R v j resp last word) (sym (eqb-true p q parts.0)) ∙ ap (λ v. R p v resp last word) (sym (eqb-true i j parts.1)) })
-    ]
-transfer_moves past _ p i other = inl (refl, refl)
-
-pub issue_transfers : (past : Trace) (e : Event) (p i : ℕ) (x : Transaction) → issued (length past) e ≡ Some x → has_name x p Read i ≡ true → transfers (e ∷ past) p i ≡ 0
-issue_transfers past (Ar q j addr snoop dom bar lock) p i x new named =
-    let same = Some-injective _ x new in
-    rw (named_read past q j addr snoop dom bar lock p i true (subst (λ (y : Transaction). has_name y p Read i ≡ true) (sym same) named)) refl
-issue_transfers past (Aw q j addr snoop dom bar) p i x new named =
-    let same = Some-injective _ x new in
-    let bad : Write ≡ Read = ap (λ (y : Transaction). y.chan) same ∙ (has_name-is x p Read i named).chan in cc
-issue_transfers past e p i x new named = cc
-
-fetch_ace : (k : ArKind) → is_fetch k ≡ true → (is_lite_read k ≡ false) × (beats_of k ≡ 4) × (reads_a_line k ≡ true)
-fetch_ace read.ReadClean e = (refl, refl, refl)
-fetch_ace read.ReadNotSharedDirty e = (refl, refl, refl)
-fetch_ace read.ReadShared e = (refl, refl, refl)
-fetch_ace read.ReadUnique e = (refl, refl, refl)
-fetch_ace k e = cc
-
-fetch_takes : (k : ArKind) (shared failed : Bool) → is_fetch k ≡ true → (takes_alone k shared failed ≡ true) ⊎ (takes_shared k ≡ true)
-fetch_takes read.ReadClean shared failed e = inr refl
-fetch_takes read.ReadNotSharedDirty shared failed e = inr refl
-fetch_takes read.ReadShared shared failed e = inr refl
-fetch_takes read.ReadUnique shared failed e = inl refl
-fetch_takes k shared failed e = cc
-
-indexed : (xs : List ℕ) (k w : ℕ) → slice_get xs k ≡ Some w → slice_index xs k ≡ w
-indexed [] k w e = cc
-indexed (x ∷ xs) zero w e = Some-injective x w e
-indexed (x ∷ xs) (suc k) w e = indexed xs k w e
-
-within : (xs : List ℕ) (k : ℕ) → k < length xs → (w : ℕ) × (slice_get xs k ≡ Some w)
-within [] k l = absurd (omega arith)
-within (x ∷ xs) zero l = (x, refl)
-within (x ∷ xs) (suc k) l = within xs k (omega arith)
-
 -- the words of a whole burst are the line
 whole_line : (ws : List ℕ) (line : Line) → length ws ≡ 4 → length line.words ≡ 4 → ((n w : ℕ) → slice_get ws n ≡ Some w → w ≡ word_of line n) → record { words = ws } ≡ line
 whole_line ws line m n each =
     lines_by_words (record { words = ws }) line m n (one 0 (omega arith)) (one 1 (omega arith)) (one 2 (omega arith)) (one 3 (omega arith))
   where
     one : (k : ℕ) → k < length ws → slice_index ws k ≡ word_of line k
-    one k low = let w = within ws k low in indexed ws k w.0 w.1 ∙ each k w.0 w.1
+    one k low = each k (get_or ws k 0) (slice_get-get_or ws k 0 low)
 
--- the last of four transfers says that it is
-last_is : (h : Header) (past : Trace) (p i resp : ℕ) (last : Bool) (word : ℕ) (x : Transaction) (k : ArKind) → k18 h past (R p i resp last word) ≡ true
-    → outstanding h past p Read i ≡ Some x → x.port ≡ p → x.id ≡ i → read_kind x ≡ Some k → beats_of k ≡ 4 → transfers past p i + 1 ≡ 4 → last ≡ true
-last_is h past p i resp last word x k keeps o port id kind beats n =
-    let due = is_some_and-at (outstanding h past p Read i) (is_due h past resp last) x keeps o in
-    let next = is_some_and-at (read_kind x) (is_next_transfer past x last) k (and_parts (is_some_and (read_kind x) (is_next_transfer past x last)) _ due).0 kind in
-    let same = (and_parts (nat_lt (transfers past x.port x.id) (beats_of k)) (same_test last (transfers past x.port x.id + 1 == beats_of k)) next).1 in
-    let count : transfers past x.port x.id + 1 ≡ beats_of k = ap (λ v. transfers past v x.id + 1) port ∙ ap (λ v. transfers past p v + 1) id ∙ n ∙ sym beats in
-    same_test-at last _ same ∙ eq-eqb (transfers past x.port x.id + 1) (beats_of k) count
+module _ (h : Header) (past : Trace) where
+  -- the last of four transfers says that it is
+  last_is : (p i resp : ℕ) (last : Bool) (word : ℕ) (x : Transaction) (k : ArKind) → k18 h past (R p i resp last word) ≡ true
+      → outstanding h past p Read i ≡ Some x → x.port ≡ p → x.id ≡ i → read_kind x ≡ Some k → beats_of k ≡ 4 → transfers past p i + 1 ≡ 4 → last ≡ true
+  last_is p i resp last word x k keeps o port id kind beats n =
+      let due = is_some_and-at (outstanding h past p Read i) (is_due h past resp last) x keeps o in
+      let next = is_some_and-at (read_kind x) (is_next_transfer past x last) k (and_parts (is_some_and (read_kind x) (is_next_transfer past x last)) _ due).0 kind in
+      let same = (and_parts (nat_lt (transfers past x.port x.id) (beats_of k)) (same_test last (transfers past x.port x.id + 1 == beats_of k)) next).1 in
+      let count : transfers past x.port x.id + 1 ≡ beats_of k = ap (λ v. transfers past v x.id + 1) port ∙ ap (λ v. transfers past p v + 1) id ∙ n ∙ sym beats in
+      same_test-at last _ same ∙ eq-eqb (transfers past x.port x.id + 1) (beats_of k) count
 
--- the reply after an event
-reply_next : (h : Header) (past : Trace) (e : Event) → IsAccepted h (e ∷ past) → SentTrue h (e ∷ past) → (l : ℕ) (x : Transaction) (k : ArKind) → granted h past l ≡ Some x
-    → granted h (e ∷ past) l ≡ Some x → x.addr ≡ l → read_kind x ≡ Some k → is_fetch k ≡ true → value_of (e ∷ past) l ≡ value_of past l
-    → nat_eq (transfers (e ∷ past) x.port x.id) 0 ≡ false → reply_of past x ≡ value_of past l → reply_of (e ∷ past) x ≡ value_of (e ∷ past) l
-reply_next h past e a sent l x k g g' addr kind fetch same some replies =
-    reply_true h (e ∷ past) a sent l x k g' addr kind fetch (λ none.
-    let before = (sender_before past e l (gives_none h past e a l x g) none).0 in
-    let silent : first_sender past x.addr ≡ None = ap (first_sender past) addr ∙ before in
-    let memory : reply_of past x ≡ memory_at_first_beat past x.port x.id x.addr = rw silent refl in
-    let here : memory_at_first_beat past x.port x.id l ≡ value_of past l = ap (memory_at_first_beat past x.port x.id) (sym addr) ∙ sym memory ∙ replies in
-    rw some (here ∙ sym same))
+  -- the reply after an event
+  reply_next : (e : Event) → IsAccepted h (e ∷ past) → SentTrue h (e ∷ past) → (l : ℕ) (x : Transaction) (k : ArKind) → granted h past l ≡ Some x
+      → granted h (e ∷ past) l ≡ Some x → x.addr ≡ l → read_kind x ≡ Some k → is_fetch k ≡ true → value_of (e ∷ past) l ≡ value_of past l
+      → nat_eq (transfers (e ∷ past) x.port x.id) 0 ≡ false → reply_of past x ≡ value_of past l → reply_of (e ∷ past) x ≡ value_of (e ∷ past) l
+  reply_next e a sent l x k g g' addr kind fetch same some replies =
+      reply_true h (e ∷ past) a sent l x k g' addr kind fetch (λ none.
+      let before = (sender_before past e l (gives_none h past e a l x g) none).0 in
+      let silent : first_sender past x.addr ≡ None = ap (first_sender past) addr ∙ before in
+      let memory : reply_of past x ≡ memory_at_first_beat past x.port x.id x.addr = rw silent refl in
+      let here : memory_at_first_beat past x.port x.id l ≡ value_of past l = ap (memory_at_first_beat past x.port x.id) (sym addr) ∙ sym memory ∙ replies in
+      rw some (here ∙ sym same))
 
-pub fetches_step : (h : Header) (past : Trace) (e : Event) → IsAccepted h (e ∷ past) → DirtyPlaced h past → FetchesTrue h (e ∷ past)
-fetches_step h past e a f p i l x k o on kind fetch some =
-    elim (newest_named-cases (issued (length past) e) p Read i _ x o) [
-      | inl new ↦ absurd (some (issue_transfers past e p i x new.0 new.1))
-      | inr old ↦
-          let w = without-some (ended h past e) (outstanding h past p Read i) x old.0 in
-          elim (transfer_moves past e p i old.1) [
-            | inl same ↦ waits w.0 same.0 same.1
-            | inr t ↦
-                subst (λ d. Fetches h (d ∷ past) p i l x) (sym t.is)
-                (arrives t.resp t.last t.word (subst (λ d. IsAccepted h (d ∷ past)) t.is a) w.0 (subst (λ d. outstanding h (d ∷ past) p Read i ≡ Some x) t.is o))
-          ]
-    ]
-  where
-    tables : (is_lite_read k ≡ false) × (beats_of k ≡ 4) × (reads_a_line k ≡ true)
-    tables = fetch_ace k fetch
+  pub fetches_step : (e : Event) → IsAccepted h (e ∷ past) → DirtyPlaced h past → FetchesTrue h (e ∷ past)
+  fetches_step e a f p i l x k o on kind fetch some =
+      elim (outstanding-origin h past e p Read i x o) [
+        | inl new ↦ absurd (some (issue_transfers past e p i x new.0 new.1))
+        | inr old ↦ elim (transfer_moves past e p i old.other) [
+          | inl none ↦ waits old.was none.count none.words
+          | inr t ↦
+              subst (λ d. Fetches h (d ∷ past) p i l x) (sym t.is)
+              (arrives t.resp t.last t.word (subst (λ d. IsAccepted h (d ∷ past)) t.is a) old.was (subst (λ d. outstanding h (d ∷ past) p Read i ≡ Some x) t.is o))
+        ]
+      ]
+    where
+      tables : Fetch k
+      tables = fetch_is k fetch
 
-    line : (is_line x ≡ true) × (nat_eq x.addr l ≡ true)
-    line = and_parts (is_line x) (nat_eq x.addr l) on
+      line : (is_line x ≡ true) × (nat_eq x.addr l ≡ true)
+      line = and_parts (is_line x) (nat_eq x.addr l) on
 
-    addr : x.addr ≡ l
-    addr = eqb-true x.addr l line.1
+      addr : x.addr ≡ l
+      addr = is_on-addr x l on
 
-    stands : (t : Trace) → IsAccepted h t → outstanding h t p Read i ≡ Some x → transfers t p i ≢ 0 → Arrives h t p i x
-    stands t b out n = (accepted_holds h t b).arrive p i x (ace_read h t b p i x k out kind tables.0) out line.0 n
+      stands : (t : Trace) → IsAccepted h t → outstanding h t p Read i ≡ Some x → transfers t p i ≢ 0 → Arrives h t p i x
+      stands t b out n = (accepted_holds h t b).arrive p i x (ace_read h t b p i x k out kind tables.full) out line.0 n
 
-    waits : outstanding h past p Read i ≡ Some x → transfers (e ∷ past) p i ≡ transfers past p i → words_read (e ∷ past) p i ≡ words_read past p i → Fetches h (e ∷ past) p i l x
-    waits was same same_words =
-        let before : transfers past p i ≢ 0 = λ z. some (same ∙ z) in
-        let r = stands past a.0 was before in
-        let r' = stands (e ∷ past) a o some in
-        let g : granted h past l ≡ Some x = ap (granted h past) (sym addr) ∙ r.stands in
-        let g' : granted h (e ∷ past) l ≡ Some x = ap (granted h (e ∷ past)) (sym addr) ∙ r'.stands in
-        let name = has_name-is x p Read i (transaction_of-stands past p Read i x (outstanding-named h past p Read i x was)).named in
-        let no_port : (q : ℕ) → may_store h past q l ≡ true → ⊥ = λ q may. elim (cases_eq p q) [
-          | inl own ↦
-              let found = outstanding_found h past p Read i l x was on in
-              let free = may_free h past p l (subst (λ v. may_store h past v l ≡ true) (sym own) may) in cc
-          | inr apart ↦
-              let yes = may_unique h past q l may in
-              let unique : is_unique (state_of h past q x.addr) ≡ true = ap (λ v. is_unique (state_of h past q v)) addr ∙ yes in
-              elim (fetch_takes k _ (has_failed past x) fetch) [
-                | inl alone ↦ let gone = r.alone k kind alone q apart in let bad = sym (ap is_unique gone) ∙ unique in cc
-                | inr shared ↦ let beside = r.beside k kind shared q apart in cc
-              ]
-        ] in
-        let value = value_stays h past e a l x g (read_writes_none x k kind).1 no_port (made_apart h past l x k kind fetch) in
-        let known = f.fetches p i l x k was on kind fetch before in
-        let some_named : nat_eq (transfers (e ∷ past) x.port x.id) 0 ≡ false = ap (λ v. nat_eq (transfers (e ∷ past) v x.id) 0) name.port ∙ ap (λ v. nat_eq (transfers (e ∷ past) p v) 0) name.id ∙ zero_not (transfers (e ∷ past) p i) some in
-        record {
-          replies = reply_next h past e a (sent_step h past e a f) l x k g g' addr kind fetch value some_named known.replies;
-          words = λ n v is. known.words n v (ap (λ ws. slice_get ws n) (sym same_words) ∙ is) ∙ ap (λ b. word_of b n) (sym value);
-          whole = λ four. elim (copy_moves h past e a p l) [
-            | inl kept ↦ kept ∙ known.whole (sym same ∙ four) ∙ sym value
-            | inr moved ↦ elim moved [
-              | inl c ↦
+      waits : outstanding h past p Read i ≡ Some x → transfers (e ∷ past) p i ≡ transfers past p i → words_read (e ∷ past) p i ≡ words_read past p i → Fetches h (e ∷ past) p i l x
+      waits was same same_words =
+          let before : transfers past p i ≢ 0 = λ z. some (same ∙ z) in
+          let r = stands past a.0 was before in
+          let r' = stands (e ∷ past) a o some in
+          let g : granted h past l ≡ Some x = ap (granted h past) (sym addr) ∙ r.stands in
+          let g' : granted h (e ∷ past) l ≡ Some x = ap (granted h (e ∷ past)) (sym addr) ∙ r'.stands in
+          let name = outstanding-name h past p Read i x was in
+          let no_port : (q : ℕ) → may_store h past q l ≡ true → ⊥ = λ q may. elim (cases_eq p q) [
+            | inl own ↦
+                let found = outstanding_found h past p Read i l x was on in
+                let free = may_free h past p l (subst (λ v. may_store h past v l ≡ true) (sym own) may) in cc
+            | inr apart ↦
+                let yes = may_unique h past q l may in
+                let unique : is_unique (state_of h past q x.addr) ≡ true = ap (λ v. is_unique (state_of h past q v)) addr ∙ yes in
+                elim (tables.takes _ (has_failed past x)) [
+                  | inl alone ↦ let gone = r.alone k kind alone q apart in let bad = sym (ap is_unique gone) ∙ unique in cc
+                  | inr shared ↦ let beside = r.beside k kind shared q apart in cc
+                ]
+          ] in
+          let value = value_stays h past e a l x g (read_writes_none x k kind).1 no_port (made_apart h past l x k kind fetch) in
+          let known = f.fetches p i l x k was on kind fetch before in
+          let some_named : nat_eq (transfers (e ∷ past) x.port x.id) 0 ≡ false = ap (λ v. nat_eq (transfers (e ∷ past) v x.id) 0) name.port ∙ ap (λ v. nat_eq (transfers (e ∷ past) p v) 0) name.id ∙ zero_not (transfers (e ∷ past) p i) some in
+          record {
+            replies = reply_next e a (sent_step h past e a f) l x k g g' addr kind fetch value some_named known.replies;
+            words = λ n v is. known.words n v (ap (λ ws. slice_get ws n) (sym same_words) ∙ is) ∙ ap (λ b. word_of b n) (sym value);
+            whole = λ four. elim (copy_moves h past e a p l) [
+              | inl kept ↦ kept ∙ known.whole (sym same ∙ four) ∙ sym value
+              | inr (inl c) ↦
                   let one = one_on_line h past a.0 p Read Read c.id i l c.one x c.out was c.on on in
-                  let own = has_name-is c.one p Read c.id (transaction_of-stands past p Read c.id c.one (outstanding-named h past p Read c.id c.one c.out)).named in
+                  let own = outstanding-name h past p Read c.id c.one c.out in
                   let id : c.id ≡ i = sym own.id ∙ ap (λ (y : Transaction). y.id) one ∙ name.id in
                   let is : e ≡ R p i c.resp c.last c.word = c.is ∙ ap (λ v. R p v c.resp c.last c.word) id in
                   let next : transfers (R p i c.resp c.last c.word ∷ past) p i ≡ transfers past p i + 1 = rw (and_from _ _ (eq-eqb p p refl) (eq-eqb i i refl)) refl in
                   let bad : transfers past p i ≡ transfers past p i + 1 = sym same ∙ ap (λ d. transfers (d ∷ past) p i) is ∙ next in
                   absurd (omega (arith, bad))
-              | inr d ↦ elim (stores_d h past p l d.strobe d.ex d.line (subst (λ v. IsAccepted h (v ∷ past)) d.is a)) [
+              | inr (inr d) ↦ elim (stores_d h past p l d.strobe d.ex d.line (subst (λ v. IsAccepted h (v ∷ past)) d.is a)) [
                 | inl may ↦ absurd (no_port p may)
                 | inr m ↦ absurd (made_apart h past l x k kind fetch p d.strobe m (one_on_line h past a.0 p Read Read m.id i l m.one x m.out was m.on on))
               ]
+            ];
+          }
+        where
+          zero_not : (n : ℕ) → n ≢ 0 → nat_eq n 0 ≡ false
+          zero_not n ne = ne_eqb n 0 ne
+
+      arrives : (resp : ℕ) (last : Bool) (word : ℕ) → IsAccepted h (R p i resp last word ∷ past) → outstanding h past p Read i ≡ Some x
+          → outstanding h (R p i resp last word ∷ past) p Read i ≡ Some x → Fetches h (R p i resp last word ∷ past) p i l x
+      arrives resp last word b was out =
+          let t = R p i resp last word ∷ past in
+          let name = outstanding-name h past p Read i x was in
+          let own : (nat_eq p p && nat_eq i i) ≡ true = and_from _ _ (eq-eqb p p refl) (eq-eqb i i refl) in
+          let count : transfers t p i ≡ transfers past p i + 1 = rw own refl in
+          let more_words : words_read t p i ≡ words_read past p i ++ word ∷ [] = rw own refl in
+          let due = line_due h past p i resp last word b x was line.0 in
+          let after = stands t b out (λ z. absurd (omega (arith, count, z))) in
+          let g' : granted h t l ≡ Some x = ap (granted h t) (sym addr) ∙ after.stands in
+          let g : granted h past l ≡ Some x = (without-some (ended h past (R p i resp last word)) (granted h past l) x g').0 in
+          let first_name : transfers past x.port x.id ≡ transfers past p i = ap (λ v. transfers past v x.id) name.port ∙ ap (transfers past p) name.id in
+          let replies : reply_of past x ≡ value_of past l = elim (cases_eq (transfers past p i) 0) [
+            | inr later ↦ (f.fetches p i l x k was on kind fetch later).replies
+            | inl z ↦
+                let done = due.first (eq-eqb (transfers past x.port x.id) 0 (first_name ∙ z)) in
+                reply_true h past a.0 f.sent l x k g addr kind fetch (λ none. memory-before past x.port x.id l (first_name ∙ z) ∙ memory_true h past a.0 f l x k g kind fetch done none)
+          ] in
+          let reads : is_line_read_transaction x ≡ true = subst (λ v. is_some_and v reads_a_line ≡ true) (sym kind) tables.reads in
+          let has = is_none_or-at (outstanding h past p Read i) (has_word past word) x (accepted_keeps h past (R p i resp last word) b).rule_20 was in
+          let said : word ≡ word_of (reply_of past x) (transfers past x.port x.id) = eqb-true word _ (subst (λ c. nat_eq word (if c then word_of (reply_of past x) (transfers past x.port x.id) else 0) ≡ true) reads has) in
+          let word_is : word ≡ word_of (value_of past l) (transfers past p i) = said ∙ ap (λ v. word_of v (transfers past x.port x.id)) replies ∙ ap (word_of (value_of past l)) first_name in
+          let words : (n v : ℕ) → slice_get (words_read t p i) n ≡ Some v → v ≡ word_of (value_of past l) n = λ n v is.
+          elim (slice_get-more (words_read past p i) (Some word) n v (ap (λ ws. slice_get ws n) (sym more_words) ∙ is)) [
+            | inl old ↦ elim (cases_eq (transfers past p i) 0) [
+              | inr later ↦ (f.fetches p i l x k was on kind fetch later).words n v old
+              | inl z ↦ absurd (empty (words_read past p i) n v (words-length past p i ∙ z) old)
             ]
-          ];
-        }
-      where
-        zero_not : (n : ℕ) → n ≢ 0 → nat_eq n 0 ≡ false
-        zero_not n ne = ne_eqb n 0 ne
+            | inr new ↦ sym (Some-injective word v new.1) ∙ word_is ∙ ap (word_of (value_of past l)) (sym (words-length past p i) ∙ sym new.0)
+          ] in
+          let some_named : nat_eq (transfers t x.port x.id) 0 ≡ false = rw (name.port, name.id, own) (plus_one (transfers past p i)) in
+          record {
+            replies = reply_next (R p i resp last word) b (sent_step h past (R p i resp last word) b f) l x k g g' addr kind fetch refl some_named replies;
+            words = words;
+            whole = λ four.
+                let three : transfers past p i + 1 ≡ 4 = sym count ∙ four in
+                let ends = last_is p i resp last word x k (accepted_keeps h past (R p i resp last word) b).rule_18 was name.port name.id kind tables.beats three in
+                let named = outstanding-named h past p Read i x was in
+                let whole : record { words = words_read past p i ++ word ∷ [] } ≡ value_of past l = whole_line (words_read past p i ++ word ∷ []) (value_of past l)
+                (ap length (sym more_words) ∙ words-length t p i ∙ four) (value-length past l) (λ n v is. words n v (ap (λ ws. slice_get ws n) more_words ∙ is)) in
+                rw (eq-eqb p p refl, ends, named, on, reads) whole;
+          }
+        where
+          empty : (xs : List ℕ) (n v : ℕ) → length xs ≡ 0 → slice_get xs n ≡ Some v → ⊥
+          empty [] n v z e = cc
+          empty (y ∷ xs) n v z e = absurd (omega arith)
 
-    arrives : (resp : ℕ) (last : Bool) (word : ℕ) → IsAccepted h (R p i resp last word ∷ past) → outstanding h past p Read i ≡ Some x
-        → outstanding h (R p i resp last word ∷ past) p Read i ≡ Some x → Fetches h (R p i resp last word ∷ past) p i l x
-    arrives resp last word b was out =
-        let t = R p i resp last word ∷ past in
-        let name = has_name-is x p Read i (transaction_of-stands past p Read i x (outstanding-named h past p Read i x was)).named in
-        let own : (nat_eq p p && nat_eq i i) ≡ true = and_from _ _ (eq-eqb p p refl) (eq-eqb i i refl) in
-        let count : transfers t p i ≡ transfers past p i + 1 = rw own refl in
-        let more_words : words_read t p i ≡ words_read past p i ++ word ∷ [] = rw own refl in
-        let m = may_of h past p i resp last word b in
-        let one : m.one ≡ x = Some-injective m.one x (sym m.out ∙ was) in
-        let may_x = subst (λ (y : Transaction). may_transfer h past y resp ≡ true) one (m.may (subst (λ (y : Transaction). is_line y ≡ true) (sym one) line.0)) in
-        let due = line_transfer h past x resp may_x in
-        let after = stands t b out (λ z. absurd (omega (arith, count, z))) in
-        let g' : granted h t l ≡ Some x = ap (granted h t) (sym addr) ∙ after.stands in
-        let g : granted h past l ≡ Some x = (without-some (ended h past (R p i resp last word)) (granted h past l) x g').0 in
-        let first_name : transfers past x.port x.id ≡ transfers past p i = ap (λ v. transfers past v x.id) name.port ∙ ap (transfers past p) name.id in
-        let replies : reply_of past x ≡ value_of past l = elim (cases_eq (transfers past p i) 0) [
-          | inr later ↦ (f.fetches p i l x k was on kind fetch later).replies
-          | inl z ↦
-              let done = due.first (eq-eqb (transfers past x.port x.id) 0 (first_name ∙ z)) in
-              reply_true h past a.0 f.sent l x k g addr kind fetch (λ none. memory-before past x.port x.id l (first_name ∙ z) ∙ memory_true h past a.0 f l x k g kind fetch done none)
-        ] in
-        let reads : is_line_read_transaction x ≡ true = subst (λ v. is_some_and v reads_a_line ≡ true) (sym kind) tables.2 in
-        let has = is_none_or-at (outstanding h past p Read i) (has_word past word) x (accepted_keeps h past (R p i resp last word) b).rule_20 was in
-        let said : word ≡ word_of (reply_of past x) (transfers past x.port x.id) = eqb-true word _ (subst (λ c. nat_eq word (if c then word_of (reply_of past x) (transfers past x.port x.id) else 0) ≡ true) reads has) in
-        let word_is : word ≡ word_of (value_of past l) (transfers past p i) = said ∙ ap (λ v. word_of v (transfers past x.port x.id)) replies ∙ ap (word_of (value_of past l)) first_name in
-        let words : (n v : ℕ) → slice_get (words_read t p i) n ≡ Some v → v ≡ word_of (value_of past l) n = λ n v is.
-        elim (slice_get-more (words_read past p i) (Some word) n v (ap (λ ws. slice_get ws n) (sym more_words) ∙ is)) [
-          | inl old ↦ elim (cases_eq (transfers past p i) 0) [
-            | inr later ↦ (f.fetches p i l x k was on kind fetch later).words n v old
-            | inl z ↦ absurd (empty (words_read past p i) n v (words-length past p i ∙ z) old)
-          ]
-          | inr new ↦ sym (Some-injective word v new.1) ∙ word_is ∙ ap (word_of (value_of past l)) (sym (words-length past p i) ∙ sym new.0)
-        ] in
-        let some_named : nat_eq (transfers t x.port x.id) 0 ≡ false = rw (name.port, name.id, own) (plus_one (transfers past p i)) in
-        record {
-          replies = reply_next h past (R p i resp last word) b (sent_step h past (R p i resp last word) b f) l x k g g' addr kind fetch refl some_named replies;
-          words = words;
-          whole = λ four.
-              let three : transfers past p i + 1 ≡ 4 = sym count ∙ four in
-              let ends = last_is h past p i resp last word x k (accepted_keeps h past (R p i resp last word) b).rule_18 was name.port name.id kind tables.1 three in
-              let named = outstanding-named h past p Read i x was in
-              let whole : record { words = words_read past p i ++ word ∷ [] } ≡ value_of past l = whole_line (words_read past p i ++ word ∷ []) (value_of past l)
-              (ap length (sym more_words) ∙ words-length t p i ∙ four) (value-length past l) (λ n v is. words n v (ap (λ ws. slice_get ws n) more_words ∙ is)) in
-              rw (eq-eqb p p refl, ends, named, on, reads) whole;
-        }
-      where
-        empty : (xs : List ℕ) (n v : ℕ) → length xs ≡ 0 → slice_get xs n ≡ Some v → ⊥
-        empty [] n v z e = cc
-        empty (y ∷ xs) n v z e = absurd (omega arith)
-
-        plus_one : (n : ℕ) → nat_eq (n + 1) 0 ≡ false
-        plus_one n = ne_eqb (n + 1) 0 (λ q. absurd (omega (arith, q)))
+          plus_one : (n : ℕ) → nat_eq (n + 1) 0 ≡ false
+          plus_one n = ne_eqb (n + 1) 0 (λ q. absurd (omega (arith, q)))

@@ -1,22 +1,21 @@
 -- Data newer than memory have a place, at every point of an accepted trace.
-use Rattle.std.proofs.Common.{◌≡◌, ℕ, true, false, nat_eq, [], ◌∷◌, Option, Some, None, option_and_then, refl, sym, ap, subst, ◌∙◌, inl, inr}
-use Rattle.std.proofs.lemmas.Bool.{and_parts, or_left, cases_Bool, eqb-true}
+use Rattle.std.proofs.Common.{◌≡◌, ℕ, true, false, [], ◌∷◌, Option, Some, None, option_map, refl, sym, ap, subst, ◌∙◌, inl, inr}
+use Rattle.std.proofs.lemmas.Bool.{or_left, cases_Bool}
 use Rattle.std.specs.List.{AllByRecursion}
-use Rattle.ace_model.proofs.Terms.{InRange, Channel, Event, M, D, Header, Line, is_dirty, Transaction, Trace, is_some_and, is_make_unique, is_write_line_unique, is_read, is_line, read_kind, write_kind}
-use Rattle.ace_model.proofs.Terms.{outstanding, has_memory_write, granted, has_passed_data, state_of, memory_of, passed_to, passed_data, value_of, data_of, may_write_memory, IsAccepted, replaces_line}
+use Rattle.ace_model.proofs.Terms.{InRange, Channel, Event, M, D, Header, Line, is_dirty, Transaction, Trace, is_some_and, is_make_unique, is_write_line_unique, is_read, read_kind, write_kind}
+use Rattle.ace_model.proofs.Terms.{outstanding, has_memory_write, granted, has_passed_data, state_of, memory_of, passed_data, value_of, data_of, may_write_memory, IsAccepted, replaces_line}
 use Rattle.ace_model.proofs.Terms.{IsValueSafe, DirtyPlace}
-use Rattle.ace_model.proofs.Trace.Looks.{has_name-is}
+use Rattle.ace_model.proofs.Trace.Looks.{has_name-is, is_on-addr}
 use Rattle.ace_model.proofs.Trace.Issued.{transaction_of-stands}
 use Rattle.ace_model.proofs.Rules.Keeps.{accepted_keeps}
 use Rattle.ace_model.proofs.Grants.Stays.{Stays, granted_after}
-use Rattle.ace_model.proofs.Grants.Begins.{then_of}
 use Rattle.ace_model.proofs.Values.Stores.{Writes, value_moves}
-use Rattle.ace_model.proofs.Values.Fetches.{value-length, fetches_step}
+use Rattle.ace_model.proofs.Values.Fetches.{fetches_step}
+use Rattle.ace_model.proofs.Values.MergedLines.{value-length}
 use Rattle.ace_model.proofs.Values.Copies.{copies_step}
 use Rattle.ace_model.proofs.Values.Made.{made_step}
 use Rattle.ace_model.proofs.Values.Stays.{sent_step, updates_step}
-use Rattle.ace_model.proofs.Values.Replies.{answer_kept}
-use Rattle.ace_model.proofs.Grants.Granted.{written_cases, has_passed, Passes, passes_of}
+use Rattle.ace_model.proofs.Grants.Granted.{written_cases, has_passed}
 use Rattle.ace_model.proofs.Values.DirtMoves.{dirt_moves}
 use Rattle.ace_model.proofs.Values.Passed.{store_dirty, passed_true, passed_safe, passed_step}
 use Rattle.ace_model.proofs.Values.MemoryWrites.{WritesLine, memory_now, memory_moves, writer, line_is, update_true, ByPassed}
@@ -25,7 +24,9 @@ use Rattle.ace_model.proofs.Values.Updated.{updated_step}
 use Rattle.ace_model.proofs.Values.Safe.{ended_safe, answered_safe}
 use Rattle.ace_model.proofs.Values.Facts.{DirtyPlaced}
 use Rattle.ace_model.proofs.Holders.Law.{accepted_holds}
-use Rattle.ace_model.proofs.General.Options.{Some-injective, is_some_and-is, is_some_and-at}
+use Rattle.ace_model.proofs.General.Options.{is_some_and-is, is_some_and-at}
+use Rattle.ace_model.proofs.General.Booleans.{then_of}
+use Rattle.ace_model.proofs.Values.PassedData.{answer_kept, passes_line, passed_has}
 
 module _ (h : Header) (past : Trace) where
   -- the M of passed data makes memory the value, or a port holds the line dirty
@@ -34,7 +35,7 @@ module _ (h : Header) (past : Trace) where
   passed_written e a r f l w b =
       elim (passed_true h past a.0 f.passed l w.one b.stands b.has) [
         | inl same ↦
-            let addr = eqb-true w.one.addr l (and_parts (is_line w.one) (nat_eq w.one.addr l) w.on).1 in
+            let addr = is_on-addr w.one l w.on in
             let is : data_of h past w.one ≡ Some (value_of past l) =
             then_of (is_read w.one.chan) (passed_data h past w.one.addr) _ b.reads ∙ ap (passed_data h past) addr ∙ same in
             inl (memory_now h past e l w ∙ line_is h past e a r l w (value_of past l) is (value-length past l) ∙ sym value)
@@ -45,15 +46,9 @@ module _ (h : Header) (past : Trace) where
       value =
           elim (value_moves h past e a l) [
             | inl same ↦ same
-            | inr s ↦ elim s [
-              | inl d ↦ let bad = sym w.is ∙ d.is in cc
-              | inr s ↦ elim s [
-                | inl d ↦ let bad = sym w.is ∙ d.is in cc
-                | inr d ↦
-                    let one : d.by.one ≡ w.one = Some-injective d.by.one w.one (sym d.by.stands ∙ b.stands) in
-                    let bad : true ≡ false = sym b.reads ∙ ap (λ (y : Transaction). is_read y.chan) (sym one) ∙ d.by.writes in cc
-              ]
-            ]
+            | inr (inl d) ↦ let bad = sym w.is ∙ d.is in cc
+            | inr (inr (inl d)) ↦ let bad = sym w.is ∙ d.is in cc
+            | inr (inr (inr d)) ↦ let chan = ap (option_map (λ (y : Transaction). is_read y.chan)) (sym d.by.stands ∙ b.stands) in let read = b.reads in let write = d.by.writes in cc
           ]
 
   memory_written : (e : Event) → IsAccepted h (e ∷ past) → AllByRecursion InRange (e ∷ past) → DirtyPlaced h past → (l : ℕ) → WritesLine h past e l
@@ -61,10 +56,8 @@ module _ (h : Header) (past : Trace) where
   memory_written e a r f l w =
       elim (writer h past e a l w) [
         | inl passed ↦ passed_written e a r.0 f l w passed
-        | inr s ↦ elim s [
-          | inl u ↦ inl (update_true h past e a r.0 f.updates l w u)
-          | inr s ↦ inl (store_true h past e a r f l w s)
-        ]
+        | inr (inl u) ↦ inl (update_true h past e a r.0 f.updates l w u)
+        | inr (inr s) ↦ inl (store_true h past e a r f l w s)
       ]
 
   -- the M of a store is one of the line
@@ -91,17 +84,8 @@ module _ (h : Header) (past : Trace) where
   passed_granted l d is = by (granted h past l) refl
     where
       by : (o : Option Transaction) → granted h past l ≡ o → (x : Transaction) × (granted h past l ≡ Some x) × (has_passed_data h past x ≡ true)
-      by None g = let bad : None ≡ Some d = sym (ap (option_and_then (passed_to h past l)) g) ∙ is in cc
-      by (Some x) g = (
-        x,
-        g,
-        elim (cases_Bool (has_passed_data h past x)) [
-          | inl t ↦ t
-          | inr none ↦
-              let to : passed_to h past l x ≡ Some d = sym (ap (option_and_then (passed_to h past l)) g) ∙ is in
-              let bad : None ≡ Some d = rw none at to in cc
-        ],
-      )
+      by None g = let bad : None ≡ Some d = rw g at is in cc
+      by (Some x) g = (x, g, passed_has h past l x d g is)
 
   safe_step : (e : Event) → IsAccepted h (e ∷ past) → AllByRecursion InRange (e ∷ past) → DirtyPlaced h past → (l : ℕ) → IsValueSafe h (e ∷ past) l
   safe_step e a r f l =
@@ -109,28 +93,22 @@ module _ (h : Header) (past : Trace) where
         | inr w ↦ memory_written e a r f l w
         | inl kept ↦ elim (value_moves h past e a l) [
           | inl same ↦ carries kept same
-          | inr s ↦ elim s [
-            | inl d ↦ inr (inl (d.port, subst (λ v. is_dirty (state_of h (v ∷ past) d.port l) ≡ true) (sym d.is) (store_dirty h past d.port l d.strobe d.ex d.line d.may)))
-            | inr s ↦ elim s [
-              | inl d ↦
-                  let replaces : replaces_line d.made.one ≡ true =
-                  or_left (is_some_and (read_kind d.made.one) is_make_unique) (is_some_and (write_kind d.made.one) is_write_line_unique)
-                  (subst (λ o. is_some_and o is_make_unique ≡ true) (sym d.made.kind) refl) in
-                  let here : is_some_and (granted h (D d.port l d.strobe d.ex d.line ∷ past) l) replaces_line ≡ true =
-                  subst (λ o. is_some_and o replaces_line ≡ true) (sym d.made.stands) replaces in
-                  inr (inr (inr (subst (λ v. is_some_and (granted h (v ∷ past) l) replaces_line ≡ true) (sym d.is) here)))
-              | inr d ↦ memory_written e a r f l (store_writes e a d.port d.chan d.id l d.line d.is d.by)
-            ]
-          ]
+          | inr (inl d) ↦ inr (inl (d.port, subst (λ v. is_dirty (state_of h (v ∷ past) d.port l) ≡ true) (sym d.is) (store_dirty h past d.port l d.strobe d.ex d.line d.may)))
+          | inr (inr (inl d)) ↦
+              let replaces : replaces_line d.made.one ≡ true =
+              or_left (is_some_and (read_kind d.made.one) is_make_unique) (is_some_and (write_kind d.made.one) is_write_line_unique)
+              (subst (λ o. is_some_and o is_make_unique ≡ true) (sym d.made.kind) refl) in
+              let here : is_some_and (granted h (D d.port l d.strobe d.ex d.line ∷ past) l) replaces_line ≡ true =
+              subst (λ o. is_some_and o replaces_line ≡ true) (sym d.made.stands) replaces in
+              inr (inr (inr (subst (λ v. is_some_and (granted h (v ∷ past) l) replaces_line ≡ true) (sym d.is) here)))
+          | inr (inr (inr d)) ↦ memory_written e a r f l (store_writes e a d.port d.chan d.id l d.line d.is d.by)
         ]
       ]
     where
       passed_on : (x : Transaction) → granted h past l ≡ Some x → has_passed_data h past x ≡ true → Stays h past e l x → IsValueSafe h (e ∷ past) l
       passed_on x g has stays =
           let o = (accepted_holds h past a.0).grants l x g in
-          let parts = has_passed h past x has in
-          let addr = eqb-true x.addr l (and_parts (is_line x) (nat_eq x.addr l) o.1).1 in
-          let w = subst (λ v. Passes h past v) addr (passes_of h past x.addr parts.some) in
+          let w = passes_line h past a.0 l x g has in
           elim (cases_Bool (has_memory_write (e ∷ past) x.port x.chan x.id)) [
             | inr none ↦
                 passed_safe h (e ∷ past) a (passed_step h past e a f) l w.port x w.answer stays.is none (answer_kept h past a.0 e w.port l w.answer stays.gives w.is) w.dirty
@@ -138,7 +116,7 @@ module _ (h : Header) (past : Trace) where
               | inl now ↦
                   memory_written e a r f l
                   (record { port = x.port; chan = x.chan; id = x.id; line = now.line; is = now.is; one = x; out = o.0; on = o.1; may = now.may })
-              | inr earlier ↦ let bad : true ≡ false = sym earlier ∙ parts.unwritten in cc
+              | inr earlier ↦ let bad : true ≡ false = sym earlier ∙ (has_passed h past x has).unwritten in cc
             ]
           ]
 
@@ -146,31 +124,25 @@ module _ (h : Header) (past : Trace) where
       carries kept same =
           elim (f.safe l) [
             | inl m ↦ inl (kept ∙ m ∙ sym same)
-            | inr s ↦ elim s [
-              | inl d ↦ elim (dirt_moves h past e a f.updated d.0 l d.1) [
-                | inl still ↦ inr (inl (d.0, still))
-                | inr t ↦ elim t [
-                  | inl u ↦ inl (kept ∙ u.stored ∙ sym same)
-                  | inr c ↦
-                      subst (λ v. IsValueSafe h (v ∷ past) l) (sym c.is)
-                      (answered_safe h past d.0 c.resp c.st (subst (λ v. IsAccepted h (v ∷ past)) c.is a) f l d.1 c.answering)
-                ]
-              ]
-              | inr s ↦ elim s [
-                | inl passed ↦
-                    let x = passed_granted l (value_of past l) passed in
-                    elim (granted_after h past e a l x.0 x.1) [
-                      | inl stays ↦ passed_on x.0 x.1 x.2 stays
-                      | inr z ↦ ended_safe h past e a f.written l x.0 x.1 (inl x.2) z.0 z.1 z.2
-                    ]
-                | inr replaces ↦
-                    let x = is_some_and-is (granted h past l) replaces_line replaces in
-                    elim (granted_after h past e a l x.0 x.1) [
-                      | inl stays ↦ inr (inr (inr (subst (λ o. is_some_and o replaces_line ≡ true) (sym stays.is) x.2)))
-                      | inr z ↦ ended_safe h past e a f.written l x.0 x.1 (inr x.2) z.0 z.1 z.2
-                    ]
-              ]
+            | inr (inl d) ↦ elim (dirt_moves h past e a f.updated d.0 l d.1) [
+              | inl still ↦ inr (inl (d.0, still))
+              | inr (inl u) ↦ inl (kept ∙ u.stored ∙ sym same)
+              | inr (inr c) ↦
+                  subst (λ v. IsValueSafe h (v ∷ past) l) (sym c.is)
+                  (answered_safe h past d.0 c.resp c.st (subst (λ v. IsAccepted h (v ∷ past)) c.is a) f l d.1 c.answering)
             ]
+            | inr (inr (inl passed)) ↦
+                let x = passed_granted l (value_of past l) passed in
+                elim (granted_after h past e a l x.0 x.1) [
+                  | inl stays ↦ passed_on x.0 x.1 x.2 stays
+                  | inr z ↦ ended_safe h past e a f.written l x.0 x.1 (inl x.2) z.0 z.1 z.2
+                ]
+            | inr (inr (inr replaces)) ↦
+                let x = is_some_and-is (granted h past l) replaces_line replaces in
+                elim (granted_after h past e a l x.0 x.1) [
+                  | inl stays ↦ inr (inr (inr (subst (λ o. is_some_and o replaces_line ≡ true) (sym stays.is) x.2)))
+                  | inr z ↦ ended_safe h past e a f.written l x.0 x.1 (inr x.2) z.0 z.1 z.2
+                ]
           ]
 
   -- each event keeps the facts

@@ -2,73 +2,76 @@
 use Rattle.std.proofs.Common.{◌≡◌, ℕ, Bool, true, false, not, ◌&&◌, nat_eq, nat_lt, [], ◌∷◌, length, Some, refl, sym, ap, subst, ◌∙◌, inl, inr}
 use Rattle.std.proofs.lemmas.Bool.{and_parts, or_cases, or_right, cases_eq, eqb-true, eq-eqb}
 use Rattle.ace_codes.specs.declared.kind.ArKind.TheVariants as read
-use Rattle.ace_model.proofs.Terms.{I, Channel, Read, Event, Ar, Aw, D, Header, Line, merged, Transaction, Trace, is_some_and, is_make_unique, reads_a_line, is_ace, is_line, is_named, issued, ended}
-use Rattle.ace_model.proofs.Terms.{read_kind, outstanding, is_outstanding, is_make_unique_on, is_completion, is_complete, granted, state_of, awaits_store, is_store_of, has_store, copy_of, value_of}
+use Rattle.ace_model.proofs.Terms.{I, Channel, Read, Event, Ar, Aw, D, Header, Line, merged, Transaction, Trace, is_some_and, reads_a_line, is_ace, is_line, is_named, issued}
+use Rattle.ace_model.proofs.Terms.{read_kind, outstanding, is_completion, is_complete, granted, state_of, awaits_store, is_store_of, has_store, copy_of, value_of}
 use Rattle.ace_model.proofs.Terms.{may_store, IsAccepted}
-use Rattle.ace_model.proofs.Trace.Looks.{has_name-is, newest_named-cases, without-some}
-use Rattle.ace_model.proofs.Trace.Issued.{outstanding-named, transaction_of-stands}
+use Rattle.ace_model.proofs.Trace.Looks.{is_on-addr}
+use Rattle.ace_model.proofs.Trace.Issued.{outstanding-name, outstanding-origin}
 use Rattle.ace_model.proofs.Rules.Keeps.{accepted_keeps}
 use Rattle.ace_model.proofs.Trace.LineOnce.{outstanding_found, one_on_line}
 use Rattle.ace_model.proofs.Values.MergedLines.{merged-whole}
-use Rattle.ace_model.proofs.Values.Stores.{Made, stores_d, done_read, full_some}
-use Rattle.ace_model.proofs.Values.ReadEnds.{read_writes_none}
-use Rattle.ace_model.proofs.Values.Copies.{copy_moves, unique_valid}
+use Rattle.ace_model.proofs.Values.Stores.{Made, stores_d, Awaits, awaits_store-is}
+use Rattle.ace_model.proofs.Values.FullReads.{done_read}
+use Rattle.ace_model.proofs.Values.FullReads.{full_some}
+use Rattle.ace_model.proofs.Trace.Looks.{read_writes_none}
+use Rattle.ace_model.proofs.Values.Copies.{copy_moves}
+use Rattle.ace_model.proofs.Tables.States.{unique_valid}
 use Rattle.ace_model.proofs.Values.Stays.{may_unique, may_free, value_stays}
 use Rattle.ace_model.proofs.Values.Facts.{MadeTrue, DirtyPlaced}
 use Rattle.ace_model.proofs.Holders.Law.{accepted_holds}
 use Rattle.ace_model.proofs.General.Options.{is_some_and-at}
 
--- The store of a MakeUnique.
-pub record StoresNow (h : Header) (past : Trace) (e : Event) (p i : ℕ) (x : Transaction) : Type 0 where
-  pub addr : ℕ
-  pub strobe : ℕ
-  pub ex : Bool
-  pub line : Line
-  pub is : e ≡ D p addr strobe ex line
-  pub awaits : awaits_store h past p addr x ≡ true
+module _ (h : Header) (past : Trace) where
+  -- The store of a MakeUnique.
+  pub record StoresNow (e : Event) (p i : ℕ) (x : Transaction) : Type 0 where
+    pub addr : ℕ
+    pub strobe : ℕ
+    pub ex : Bool
+    pub line : Line
+    pub is : e ≡ D p addr strobe ex line
+    pub awaits : Awaits h past p addr x
 
-stores_now : (h : Header) (past : Trace) (e : Event) (p i : ℕ) (x : Transaction) → outstanding h past p Read i ≡ Some x → is_store_of h past e p i ≡ true → StoresNow h past e p i x
-stores_now h past (D q addr strobe b line) p i x o s =
-    let parts = and_parts (nat_eq p q) (is_some_and (outstanding h past p Read i) (awaits_store h past p addr)) s in
-    record {
-      addr = addr;
-      strobe = strobe;
-      ex = b;
-      line = line;
-      is = ap (λ v. D v addr strobe b line) (sym (eqb-true p q parts.0));
-      awaits = is_some_and-at (outstanding h past p Read i) (awaits_store h past p addr) x parts.1 o;
-    }
-stores_now h past e p i x o s = cc
+  stores_now : (e : Event) (p i : ℕ) (x : Transaction) → outstanding h past p Read i ≡ Some x → is_store_of h past e p i ≡ true → StoresNow e p i x
+  stores_now (D q addr strobe b line) p i x o s =
+      let parts = and_parts (nat_eq p q) (is_some_and (outstanding h past p Read i) (awaits_store h past p addr)) s in
+      record {
+        addr = addr;
+        strobe = strobe;
+        ex = b;
+        line = line;
+        is = ap (λ v. D v addr strobe b line) (sym (eqb-true p q parts.0));
+        awaits = awaits_store-is h past p addr x (is_some_and-at (outstanding h past p Read i) (awaits_store h past p addr) x parts.1 o);
+      }
+  stores_now e p i x o s = cc
 
-issue_stores : (h : Header) (past : Trace) (e : Event) (x : Transaction) (p i : ℕ) → issued (length past) e ≡ Some x → is_store_of h past e p i ≡ false
-issue_stores h past (Ar q j addr snoop dom bar lock) x p i s = refl
-issue_stores h past (Aw q j addr snoop dom bar) x p i s = refl
-issue_stores h past e x p i s = cc
+  issue_stores : (e : Event) (x : Transaction) (p i : ℕ) → issued (length past) e ≡ Some x → is_store_of h past e p i ≡ false
+  issue_stores (Ar q j addr snoop dom bar lock) x p i s = refl
+  issue_stores (Aw q j addr snoop dom bar) x p i s = refl
+  issue_stores e x p i s = cc
 
 -- a MakeUnique that has had its store is complete, and of an ACE port
 pub stored_complete : (h : Header) (past : Trace) → IsAccepted h past → (p i : ℕ) (x : Transaction) → outstanding h past p Read i ≡ Some x → has_store h past p i ≡ true
     → (is_complete past p Read i ≡ true) × (is_ace h p ≡ true)
 stored_complete h [] a p i x o s = cc
 stored_complete h (e ∷ past) a p i x o s =
-    elim (newest_named-cases (issued (length past) e) p Read i _ x o) [
+    elim (outstanding-origin h past e p Read i x o) [
       | inl new ↦
           let none = issue_stores h past e x p i new.0 in
           let bad : false ≡ true = rw (new.0, new.1, none) at s in cc
       | inr old ↦
-          let was = (without-some (ended h past e) (outstanding h past p Read i) x old.0).0 in
+          let was = old.was in
           let before : (is_complete past p Read i ≡ true) × (is_ace h p ≡ true) =
           elim (or_cases (is_store_of h past e p i) (not (is_named (issued (length past) e) p Read i) && has_store h past p i) s) [
             | inr earlier ↦ stored_complete h past a.0 p i x was (and_parts (not (is_named (issued (length past) e) p Read i)) _ earlier).1
             | inl now ↦
                 let n = stores_now h past e p i x was now in
-                let name = has_name-is x p Read i (transaction_of-stands past p Read i x (outstanding-named h past p Read i x was)).named in
-                let complete = (and_parts _ (is_complete past x.port x.chan x.id) n.awaits).1 in
+                let name = outstanding-name h past p Read i x was in
                 let known = (accepted_keeps h past (D p n.addr n.strobe n.ex n.line) (subst (λ d. IsAccepted h (d ∷ past)) n.is a)).rule_1 in (
-                  sym (ap (λ v. is_complete past v x.chan x.id) name.port ∙ ap (λ (c : Channel). is_complete past p c x.id) name.chan ∙ ap (is_complete past p Read) name.id) ∙ complete,
+                  sym (ap (λ v. is_complete past v x.chan x.id) name.port ∙ ap (λ (c : Channel). is_complete past p c x.id) name.chan ∙ ap (is_complete past p Read) name.id) ∙ n.awaits.complete,
                   (and_parts (nat_lt p h.ports) (is_ace h p) known).1,
                 )
           ] in
-          (or_right (is_completion e p Read i) (not (is_named (issued (length past) e) p Read i) && is_complete past p Read i) (rw old.1 before.0), before.1)
+          (or_right (is_completion e p Read i) (not (is_named (issued (length past) e) p Read i) && is_complete past p Read i) (rw old.other before.0), before.1)
     ]
 
 -- the whole line is stored into the copy and into the value
@@ -82,12 +85,12 @@ made_d h past p l strobe b line m =
 
 pub made_step : (h : Header) (past : Trace) (e : Event) → IsAccepted h (e ∷ past) → DirtyPlaced h past → MadeTrue h (e ∷ past)
 made_step h past e a f p i l x o on kind s =
-    elim (newest_named-cases (issued (length past) e) p Read i _ x o) [
+    elim (outstanding-origin h past e p Read i x o) [
       | inl new ↦
           let none = issue_stores h past e x p i new.0 in
           let bad : false ≡ true = rw (new.0, new.1, none) at s in cc
       | inr old ↦
-          let was = (without-some (ended h past e) (outstanding h past p Read i) x old.0).0 in
+          let was = old.was in
           elim (or_cases (is_store_of h past e p i) (not (is_named (issued (length past) e) p Read i) && has_store h past p i) s) [
             | inl now ↦ by_store was now
             | inr earlier ↦ after_store was (and_parts (not (is_named (issued (length past) e) p Read i)) _ earlier).1
@@ -97,10 +100,7 @@ made_step h past e a f p i l x o on kind s =
     by_store : outstanding h past p Read i ≡ Some x → is_store_of h past e p i ≡ true → copy_of (e ∷ past) p l ≡ value_of (e ∷ past) l
     by_store was now =
         let n = stores_now h past e p i x was now in
-        let early = and_parts ((nat_eq x.port p && is_make_unique_on x n.addr) && is_outstanding h past x) (is_complete past x.port x.chan x.id) n.awaits in
-        let two = and_parts (nat_eq x.port p) (is_make_unique_on x n.addr) (and_parts (nat_eq x.port p && is_make_unique_on x n.addr) (is_outstanding h past x) early.0).0 in
-        let addr : n.addr ≡ l =
-        sym (eqb-true x.addr n.addr (and_parts (is_some_and (read_kind x) is_make_unique) (nat_eq x.addr n.addr) two.1).1) ∙ eqb-true x.addr l (and_parts (is_line x) (nat_eq x.addr l) on).1 in
+        let addr : n.addr ≡ l = sym (is_on-addr x n.addr n.awaits.on) ∙ is_on-addr x l on in
         let is : e ≡ D p l n.strobe n.ex n.line = n.is ∙ ap (λ v. D p v n.strobe n.ex n.line) addr in
         elim (stores_d h past p l n.strobe n.ex n.line (subst (λ d. IsAccepted h (d ∷ past)) is a)) [
           | inl may ↦
@@ -116,7 +116,7 @@ made_step h past e a f p i l x o on kind s =
         let addr = eqb-true x.addr l line.1 in
         let arrives = (accepted_holds h past a.0).arrive p i x done.1 was line.0 (full_some past p i x (done_read h past a.0 p i x was done.0)) in
         let stands : granted h past l ≡ Some x = ap (granted h past) (sym addr) ∙ arrives.stands in
-        let name = has_name-is x p Read i (transaction_of-stands past p Read i x (outstanding-named h past p Read i x was)).named in
+        let name = outstanding-name h past p Read i x was in
         let no_port : (q : ℕ) → may_store h past q l ≡ true → ⊥ = λ q may. elim (cases_eq p q) [
           | inl own ↦
               let some = outstanding_found h past p Read i l x was on in
@@ -124,19 +124,17 @@ made_step h past e a f p i l x o on kind s =
           | inr apart ↦ unique_valid (state_of h past q l) (may_unique h past q l may) (subst (λ v. state_of h past q v ≡ I) addr (arrives.alone read.MakeUnique kind refl q apart))
         ] in
         let no_make : (q t : ℕ) (m : Made h past q l t) → m.one ≡ x → ⊥ = λ q t m one.
-        let made_name = has_name-is m.one q Read m.id (transaction_of-stands past q Read m.id m.one (outstanding-named h past q Read m.id m.one m.out)).named in
+        let made_name = outstanding-name h past q Read m.id m.one m.out in
         let port : q ≡ p = sym made_name.port ∙ ap (λ (y : Transaction). y.port) one ∙ name.port in
         let id : m.id ≡ i = sym made_name.id ∙ ap (λ (y : Transaction). y.id) one ∙ name.id in
         let first : has_store h past p i ≡ false = sym (ap (λ v. has_store h past v m.id) port ∙ ap (has_store h past p) id) ∙ m.first in cc in
         elim (copy_moves h past e a p l) [
           | inl same ↦ same ∙ f.made p i l x was on kind stored ∙ sym (value_stays h past e a l x stands (read_writes_none x read.MakeUnique kind).1 no_port no_make)
-          | inr moved ↦ elim moved [
-            | inl r ↦
-                let one = one_on_line h past a.0 p Read Read r.id i l r.one x r.out was r.on on in
-                let bad : false ≡ true = sym (ap (λ o. is_some_and o reads_a_line) (ap read_kind one ∙ kind)) ∙ r.reads in cc
-            | inr d ↦ elim (stores_d h past p l d.strobe d.ex d.line (subst (λ v. IsAccepted h (v ∷ past)) d.is a)) [
-              | inl may ↦ absurd (no_port p may)
-              | inr m ↦ absurd (no_make p d.strobe m (one_on_line h past a.0 p Read Read m.id i l m.one x m.out was m.on on))
-            ]
+          | inr (inl r) ↦
+              let one = one_on_line h past a.0 p Read Read r.id i l r.one x r.out was r.on on in
+              let bad : false ≡ true = sym (ap (λ o. is_some_and o reads_a_line) (ap read_kind one ∙ kind)) ∙ r.reads in cc
+          | inr (inr d) ↦ elim (stores_d h past p l d.strobe d.ex d.line (subst (λ v. IsAccepted h (v ∷ past)) d.is a)) [
+            | inl may ↦ absurd (no_port p may)
+            | inr m ↦ absurd (no_make p d.strobe m (one_on_line h past a.0 p Read Read m.id i l m.one x m.out was m.on on))
           ]
         ]

@@ -1,80 +1,62 @@
 -- What an M writes: passed data, the burst of an update, which is the value, or a store, which makes memory the value.
-use Rattle.std.proofs.Common.{◌≡◌, ◌⊎◌, ℕ, ◌<◌, ◌^◌, Bool, true, false, not, if◌then◌else◌, ◌||◌, nat_eq, [], ◌∷◌, length, Option, Some, None, option_map, slice_get, refl, sym, ap, subst, ◌∙◌, inl, inr}
-use Rattle.std.proofs.lemmas.Bool.{and_parts, and_from, or_right, cases_Bool, eqb-true}
+use Rattle.std.proofs.Common.{◌≡◌, ◌⊎◌, ℕ, ◌<◌, ◌^◌, Bool, true, false, not, [], ◌∷◌, length, Option, Some, None, slice_get, refl, sym, ap, subst, ◌∙◌, inl, inr}
+use Rattle.std.proofs.lemmas.Bool.{and_parts, and_from, or_right, cases_Bool}
 use Rattle.std.specs.List.{AllByRecursion}
-use Rattle.ace_model.proofs.Terms.{AwKind, IsDigit, IsWord, IsLine, InRange, Channel, Read, Write, Event, W, M, Header, Line, Transaction, Trace, implies, is_some_and, is_none_or, is_update}
-use Rattle.ace_model.proofs.Terms.{is_write_line_unique, has_write_data, is_granted_write, is_unique_write, is_no_snoop_write, is_read, is_line, is_on, write_kind, issued, ended, outstanding}
-use Rattle.ace_model.proofs.Terms.{transaction_of, updates_memory, is_burst_whole, next_write, next_write_beat, granted, is_granted, has_passed_data, memory_of, same_line, Beat, burst_of, burst_line}
-use Rattle.ace_model.proofs.Terms.{stores_data, value_of, is_next_beat, fits_write, full_beat, may_write_memory, data_of, data_of_write, has_data, IsAccepted}
 use Rattle.ace_codes.specs.declared.kind.AwKind.TheVariants as write
-use Rattle.ace_model.proofs.Trace.Looks.{has_name-is, newest_named-cases, without-some}
-use Rattle.ace_model.proofs.Trace.Issued.{outstanding-named, transaction_of-stands}
+use Rattle.ace_model.proofs.Terms.{AwKind, IsDigit, IsWord, IsLine, InRange, Channel, Read, Write, Event, W, M, Header, Line, Transaction, Trace, is_some_and, is_none_or, is_update, is_write_line_unique}
+use Rattle.ace_model.proofs.Terms.{has_write_data, is_granted_write, is_read, is_on, write_kind, outstanding, transaction_of, updates_memory, is_burst_whole, granted, is_granted, has_passed_data, memory_of}
+use Rattle.ace_model.proofs.Terms.{same_line, Beat, burst_of, burst_line, stores_data, value_of, full_beat, may_write_memory, data_of, data_of_write, has_data, IsAccepted}
+use Rattle.ace_model.proofs.Trace.Looks.{is_on-addr}
+use Rattle.ace_model.proofs.Trace.Issued.{outstanding-named, outstanding-name}
+use Rattle.ace_model.proofs.Tables.Kinds.{granted_stores}
 use Rattle.ace_model.proofs.Rules.Keeps.{accepted_keeps}
-use Rattle.ace_model.proofs.Values.MergedLines.{same_line-is, lines_by_words}
-use Rattle.ace_model.proofs.Trace.WriteBursts.{burst_grows, burst_new, four_beats}
-use Rattle.ace_model.proofs.Values.Stores.{Writes, stores_m}
-use Rattle.ace_model.proofs.Values.Fetches.{value-length}
+use Rattle.ace_model.proofs.Values.MergedLines.{same_line-is, lines_by_words, value-length}
+use Rattle.ace_model.proofs.Trace.WriteBursts.{four_beats}
+use Rattle.ace_model.proofs.Values.Stores.{Writes, stores_m, may_write}
 use Rattle.ace_model.proofs.Values.Stays.{value_updating}
 use Rattle.ace_model.proofs.Grants.Granted.{granted_at, passed_may, data_may, has_passed, granted_given, granted_write}
 use Rattle.ace_model.proofs.Values.Facts.{UpdatesTrue}
-use Rattle.ace_model.proofs.ReadsFollow.Written.{update-writes}
-use Rattle.ace_model.proofs.General.Options.{Some-injective, is_some_and-is, is_some_and-at, is_none_or-at}
-use Rattle.ace_model.proofs.General.Booleans.{implies-at}
+use Rattle.ace_model.proofs.General.Options.{is_some_and-is, is_none_or-at}
+use Rattle.ace_model.proofs.Values.Beats.{beat_origin, beat_fits}
 
--- The M of a transaction on the line.
-pub record WritesLine (h : Header) (past : Trace) (e : Event) (l : ℕ) : Type 0 where
-  pub port : ℕ
-  pub chan : Channel
-  pub id : ℕ
-  pub line : Line
-  pub is : e ≡ M port chan id line
-  pub one : Transaction
-  pub out : outstanding h past port chan id ≡ Some one
-  pub on : is_on one l ≡ true
-  pub may : may_write_memory h past one ≡ true
+module _ (h : Header) (past : Trace) where
+  -- The M of a transaction on the line.
+  pub record WritesLine (e : Event) (l : ℕ) : Type 0 where
+    pub port : ℕ
+    pub chan : Channel
+    pub id : ℕ
+    pub line : Line
+    pub is : e ≡ M port chan id line
+    pub one : Transaction
+    pub out : outstanding h past port chan id ≡ Some one
+    pub on : is_on one l ≡ true
+    pub may : may_write_memory h past one ≡ true
 
--- memory is then what it writes
-pub memory_now : (h : Header) (past : Trace) (e : Event) (l : ℕ) (w : WritesLine h past e l) → memory_of (e ∷ past) l ≡ w.line
-memory_now h past e l w =
-    let named = outstanding-named h past w.port w.chan w.id w.one w.out in
-    let on = w.on in
-    subst (λ d. memory_of (d ∷ past) l ≡ w.line) (sym w.is) (rw (named, on) refl)
+  -- memory is then what it writes
+  pub memory_now : (e : Event) (l : ℕ) (w : WritesLine e l) → memory_of (e ∷ past) l ≡ w.line
+  memory_now e l w =
+      let named = outstanding-named h past w.port w.chan w.id w.one w.out in
+      let on = w.on in
+      subst (λ d. memory_of (d ∷ past) l ≡ w.line) (sym w.is) (rw (named, on) refl)
 
--- an event leaves memory of the line, or is such an M
-pub memory_moves : (h : Header) (past : Trace) (e : Event) → IsAccepted h (e ∷ past) → (l : ℕ) → (memory_of (e ∷ past) l ≡ memory_of past l) ⊎ WritesLine h past e l
-memory_moves h past (M q c j line) a l = by (transaction_of past q c j) refl
-  where
-    by : (o : Option Transaction) → transaction_of past q c j ≡ o → (memory_of (M q c j line ∷ past) l ≡ memory_of past l) ⊎ WritesLine h past (M q c j line) l
-    by None is = inl (rw is refl)
-    by (Some x) is =
-        elim (cases_Bool (is_on x l)) [
-          | inr f ↦ inl (rw (is, f) refl)
-          | inl t ↦
-              let z = is_some_and-is (outstanding h past q c j) (may_write_memory h past) (accepted_keeps h past (M q c j line) a).rule_24 in
-              let one : z.0 ≡ x = Some-injective z.0 x (sym (outstanding-named h past q c j z.0 z.1) ∙ is) in
-              inr (record {
-                port = q;
-                chan = c;
-                id = j;
-                line = line;
-                is = refl;
-                one = x;
-                out = z.1 ∙ ap (λ v. Some v) one;
-                on = t;
-                may = subst (λ y. may_write_memory h past y ≡ true) one z.2;
-              })
-        ]
-memory_moves h past _ a l = inl refl
-
-granted_stores : (k : AwKind) → is_granted_write k ≡ true → (is_unique_write k || is_no_snoop_write k) ≡ true
-granted_stores write.WriteNoSnoop g = refl
-granted_stores write.WriteUnique g = refl
-granted_stores write.WriteLineUnique g = refl
-granted_stores k g = cc
+  -- an event leaves memory of the line, or is such an M
+  pub memory_moves : (e : Event) → IsAccepted h (e ∷ past) → (l : ℕ) → (memory_of (e ∷ past) l ≡ memory_of past l) ⊎ WritesLine e l
+  memory_moves (M q c j line) a l = by (transaction_of past q c j) refl
+    where
+      by : (o : Option Transaction) → transaction_of past q c j ≡ o → (memory_of (M q c j line ∷ past) l ≡ memory_of past l) ⊎ WritesLine (M q c j line) l
+      by None is = inl (rw is refl)
+      by (Some x) is =
+          elim (cases_Bool (is_on x l)) [
+            | inr f ↦ inl (rw (is, f) refl)
+            | inl t ↦
+                let m = may_write h past q c j line a x is in
+                inr (record { port = q; chan = c; id = j; line = line; is = refl; one = x; out = m.out; on = t; may = m.may })
+          ]
+  memory_moves _ a l = inl refl
 
 -- a granted write stores
 pub grant_stores : (x : Transaction) → (k : AwKind) → write_kind x ≡ Some k → is_granted_write k ≡ true → stores_data x ≡ true
-grant_stores x k kind g = rw kind (granted_stores k g)
+grant_stores x k kind g = rw kind (granted_stores k ∙ g)
 
 module _ (h : Header) (past : Trace) where
   -- The M of a read, of passed data.
@@ -94,7 +76,7 @@ module _ (h : Header) (past : Trace) where
       → ByPassed l w.one ⊎ ByUpdate w.one ⊎ Writes h past w.port w.chan w.id l
   writer e a l w =
       let x = w.one in
-      let addr = eqb-true x.addr l (and_parts (is_line x) (nat_eq x.addr l) w.on).1 in
+      let addr = is_on-addr x l w.on in
       elim (cases_Bool (is_read x.chan)) [
         | inl reads ↦
             let has = passed_may h past x w.may reads in
@@ -136,9 +118,20 @@ module _ (h : Header) (past : Trace) where
       let same = is_none_or-at (data_of h past w.one) (same_line w.line) d has is in
       same_line-is w.line d (line_length e l w r) n same
 
+  -- the data of a write of this kind
+  pub kind_data : (x : Transaction) (k : AwKind) → is_read x.chan ≡ false → write_kind x ≡ Some k → data_of h past x ≡ Some (data_of_write h past x k)
+  kind_data x k writes kind = rw (kind, writes) refl
+
 pub is_write-is : (c : Channel) → is_read c ≡ false → c ≡ Write
 is_write-is Read e = cc
 is_write-is Write e = refl
+
+-- a memory update writes its burst
+pub update-writes : (h : Header) (past : Trace) (y : Transaction) (k : AwKind) → is_update k ≡ true → data_of_write h past y k ≡ burst_line (burst_of past y)
+update-writes h past y write.WriteBack u = refl
+update-writes h past y write.WriteClean u = refl
+update-writes h past y write.WriteEvict u = refl
+update-writes h past y k u = cc
 
 -- the burst of an update is the value
 pub update_is : (h : Header) (past : Trace) → IsAccepted h past → UpdatesTrue h past → (p i l : ℕ) (x : Transaction) → outstanding h past p Write i ≡ Some x
@@ -155,19 +148,14 @@ pub update_true : (h : Header) (past : Trace) (e : Event) → IsAccepted h (e �
     → memory_of (e ∷ past) l ≡ value_of (e ∷ past) l
 update_true h past e a r f l w u =
     let x = w.one in
-    let name = has_name-is x w.port w.chan w.id (transaction_of-stands past w.port w.chan w.id x (outstanding-named h past w.port w.chan w.id x w.out)).named in
+    let name = outstanding-name h past w.port w.chan w.id x w.out in
     let chan : w.chan ≡ Write = sym name.chan ∙ is_write-is x.chan u.writes in
     let out : outstanding h past w.port Write w.id ≡ Some x = ap (λ (c : Channel). outstanding h past w.port c w.id) (sym chan) ∙ w.out in
     let k = is_some_and-is (write_kind x) is_update u.updates in
-    let is : data_of h past x ≡ Some (burst_line (burst_of past x)) =
-    from (is_read x.chan) u.writes _ _ ∙ ap (option_map (data_of_write h past x)) k.1 ∙ ap (λ v. Some v) (update-writes h past x k.0 k.2) in
+    let is : data_of h past x ≡ Some (burst_line (burst_of past x)) = kind_data h past x k.0 u.writes k.1 ∙ ap (λ v. Some v) (update-writes h past x k.0 k.2) in
     let value = update_is h past a.0 f w.port w.id l x out w.on u.updates u.whole in
     let line = line_is h past e a r l w (burst_line (burst_of past x)) is (ap (λ (v : Line). length v.words) value ∙ value-length past l) in
     memory_now h past e l w ∙ line ∙ value ∙ sym (value_updating h past e a w.port w.id l x out w.on u.updates)
-  where
-    from : (b : Bool) → b ≡ false → (s t : Option Line) → (if b then s else t) ≡ t
-    from true f s t = cc
-    from false f s t = refl
 
 -- A beat of a write with data: its word, and its strobe where the write replaces the line.
 pub record BeatFits (x : Transaction) (b : Beat) : Type 0 where
@@ -178,26 +166,15 @@ pub beats_fit : (h : Header) (past : Trace) → IsAccepted h past → AllByRecur
     → is_some_and (write_kind x) has_write_data ≡ true → slice_get (burst_of past x) k ≡ Some b → BeatFits x b
 beats_fit h [] a r p i x k b o sends is = cc
 beats_fit h (e ∷ past) a r p i x k b o sends is =
-    elim (newest_named-cases (issued (length past) e) p Write i _ x o) [
-      | inl new ↦ absurd (burst_new h past e a.0 x k b new.0 is)
-      | inr old ↦
-          let was = (without-some (ended h past e) (outstanding h past p Write i) x old.0).0 in
-          let s = transaction_of-stands past p Write i x (outstanding-named h past p Write i x was) in
-          elim (burst_grows past e x k b (record { there = s.there; before = s.before }) sends is) [
-            | inl before ↦ beats_fit h past a.0 r.1 p i x k b was sends before
-            | inr beat ↦
-                let keeps = (accepted_keeps h past (W x.port b.strobe beat.last b.word) (subst (λ d. IsAccepted h (d ∷ past)) beat.is a)).rule_11 in
-                let fits = is_some_and-at (next_write past x.port) (is_next_beat past (next_write_beat past x.port) b.strobe beat.last b.word) x keeps beat.next in
-                record {
-                  low = in_word x.port b.strobe beat.last b.word (subst InRange beat.is r.0);
-                  full = λ unique.
-                      let kind = is_some_and-is (write_kind x) is_write_line_unique unique in
-                      let by = is_none_or-at (write_kind x) (fits_write past x (next_write_beat past x.port) b.strobe b.word) kind.0
-                      (and_parts _ (is_none_or (write_kind x) (fits_write past x (next_write_beat past x.port) b.strobe b.word)) fits).1 kind.1 in
-                      let both = and_parts (implies (is_update kind.0 || is_write_line_unique kind.0) (nat_eq b.strobe full_beat)) _ by in
-                      eqb-true b.strobe full_beat (implies-at (is_update kind.0 || is_write_line_unique kind.0) _ both.0 (or_right (is_update kind.0) (is_write_line_unique kind.0) kind.2));
-                }
-          ]
+    let beat = beat_origin h past e x k b a p i o sends is in
+    elim beat.comes [
+      | inl before ↦ beats_fit h past a.0 r.1 p i x k b beat.was sends before
+      | inr new ↦ record {
+        low = in_word x.port b.strobe new.last b.word (subst InRange new.is r.0);
+        full = λ unique.
+            let kind = is_some_and-is (write_kind x) is_write_line_unique unique in
+            (beat_fits h past e x k b a new kind.0 kind.1).full (or_right (is_update kind.0) (is_write_line_unique kind.0) kind.2);
+      }
     ]
   where
     in_word : (p strb : ℕ) (last : Bool) (word : ℕ) → InRange (W p strb last word) → word < 2 ^ 128

@@ -1,9 +1,9 @@
 -- Stores of a whole line, and lines by their words.
-use Rattle.std.proofs.Common.{◌≡◌, ℕ, zero, suc, ◌+◌, ◌-◌, ◌*◌, ◌/◌, ◌%◌, ◌^◌, ◌<◌, ◌&&◌, true, nat_eq, List, [], ◌∷◌, length, refl, sym, ap, ◌∙◌, arith}
+use Rattle.std.proofs.Common.{◌≡◌, ℕ, zero, Option, Some, None, suc, ◌+◌, ◌-◌, ◌*◌, ◌/◌, ◌%◌, ◌^◌, ◌<◌, ◌&&◌, true, nat_eq, List, [], ◌∷◌, length, refl, sym, ap, ◌∙◌, arith}
 use Rattle.std.proofs.lemmas.Bool.{and_parts, eqb-true}
 use Rattle.std.proofs.Math.Nat.{pow-suc, div-div-eq-div-mul, div-eq_of_lt}
 use Rattle.std.specs.Int.{byte_at}
-use Rattle.ace_model.proofs.Terms.{Line, number_of_bytes, merged, word_of, same_line, full_line}
+use Rattle.ace_model.proofs.Terms.{Line, Trace, Store, value_of, after_store, store_at, number_of_bytes, merged, word_of, same_line, full_line}
 
 -- a store of all bytes leaves nothing of the line before
 pub merged-whole : (a c bytes : Line) → merged a full_line bytes ≡ merged c full_line bytes
@@ -50,6 +50,15 @@ merged-all a w x y z lw lx ly lz =
 pub merged-length : (a : Line) (strobe : ℕ) (bytes : Line) → length (merged a strobe bytes).words ≡ 4
 unfolding merged
 merged-length a strobe bytes = refl
+
+-- the value of a line has four words
+pub value-length : (past : Trace) (l : ℕ) → length (value_of past l).words ≡ 4
+value-length [] l = refl
+value-length (e ∷ past) l = by (store_at past e l) (value-length past l)
+  where
+    by : (o : Option Store) → length (value_of past l).words ≡ 4 → length (after_store (value_of past l) o).words ≡ 4
+    by None n = n
+    by (Some s) n = merged-length (value_of past l) s.strobe s.line
 
 record Four (xs : List ℕ) : Type 0 where
   a : ℕ

@@ -1,73 +1,51 @@
 -- Passed data are the value of their line, or their port has stored since and holds the line dirty.
 use Rattle.std.proofs.Common.{◌≡◌, ◌⊎◌, ℕ, Bool, true, false, ◌&&◌, nat_eq, ◌∷◌, length, Option, Some, None, option_and_then, option_map, refl, sym, ap, subst, ◌∙◌, inl, inr}
-use Rattle.std.proofs.lemmas.Bool.{and_parts, and_from, or_left, cases_Bool, cases_eq, eqb-true, eq-eqb}
-use Rattle.ace_model.proofs.Terms.{ArKind, LineState, I, UC, UD, SC, SD, passes_dirty, Channel, Event, Cr, D, M, Header, Line, is_unique, is_dirty, Answer, Transaction, Trace, at_point, is_some_and}
-use Rattle.ace_model.proofs.Terms.{is_make_unique, is_line, read_kind, write_kind, snoop_of, snoop_kind_of, transaction_of, has_outstanding_on, is_outstanding, is_outstanding_on, is_make_unique_on}
-use Rattle.ace_model.proofs.Terms.{is_complete, is_memory_write, has_memory_write, data_answers, granted, answers_grant, answer_at, answer_of, passer, has_passed_data, state_of, is_in_make_unique}
-use Rattle.ace_model.proofs.Terms.{awaits_store, copy_of, copy_at_answer, passed_to, passed_data, value_of, may_store, IsAccepted, HasDirtyHolder, IsValueSafe}
-use Rattle.ace_codes.specs.declared.kind.ArKind.TheVariants as read
-use Rattle.ace_codes.specs.declared.kind.SnoopKind.TheVariants as snoop
+use Rattle.std.proofs.lemmas.Bool.{and_from, or_left, cases_Bool, cases_eq, eq-eqb}
+use Rattle.ace_model.proofs.Terms.{LineState, passes_dirty, Channel, Event, Cr, D, M, Header, Line, is_dirty, Answer, Transaction, Trace, at_point, write_kind, snoop_of, snoop_kind_of, transaction_of}
+use Rattle.ace_model.proofs.Terms.{has_outstanding_on, is_outstanding_on, is_memory_write, has_memory_write, data_answers, granted, answers_grant, answer_at, answer_of, passer, has_passed_data, state_of}
+use Rattle.ace_model.proofs.Terms.{is_in_make_unique, awaits_store, copy_of, copy_at_answer, passed_to, passed_data, value_of, may_store, IsAccepted, HasDirtyHolder, IsValueSafe}
 use Rattle.ace_model.proofs.Trace.Looks.{has_name-is, same_channel-self}
 use Rattle.ace_model.proofs.Trace.Issued.{transaction_of-stands}
-use Rattle.ace_model.proofs.Tables.States.{is_settled, row_is}
-use Rattle.ace_model.proofs.Holders.Stores.{some_issued-weaker}
+use Rattle.ace_model.proofs.Tables.States.{row_is, unique_unsettled, dirty_valid}
+use Rattle.ace_model.proofs.Trace.Growth.{some_issued-weaker}
 use Rattle.ace_model.proofs.Grants.Stays.{granted_before}
-use Rattle.ace_model.proofs.Grants.Begins.{then_of}
 use Rattle.ace_model.proofs.Tables.SnoopRows.{is_make_invalid}
 use Rattle.ace_model.proofs.Grants.SnoopAnswers.{answer_cases}
 use Rattle.ace_model.proofs.Grants.Answers.{new_answer, others_settled, passed_kind}
-use Rattle.ace_model.proofs.Values.Stores.{value_moves}
+use Rattle.ace_model.proofs.Values.Stores.{value_moves, awaits_store-is}
 use Rattle.ace_model.proofs.Values.Stays.{may_unique, may_free, copy_at-old, copy_at-new, value_cr}
-use Rattle.ace_model.proofs.Values.Replies.{answered_once, dirty_valid}
-use Rattle.ace_model.proofs.Grants.Granted.{unwritten_before, has_passed, Passes, passes_of}
-use Rattle.ace_model.proofs.Values.PassedData.{passes_data}
+use Rattle.ace_model.proofs.Grants.Granted.{unwritten_before, has_passed, Passes}
+use Rattle.ace_model.proofs.Values.PassedData.{passes_data, answered_once, passes_line}
 use Rattle.ace_model.proofs.Values.DirtMoves.{dirt_moves}
 use Rattle.ace_model.proofs.Values.Facts.{PassedTrue, DirtyPlaced}
 use Rattle.ace_model.proofs.Holders.Law.{accepted_holds}
 use Rattle.ace_model.proofs.General.Options.{Some-injective}
-
--- a line that a port may store to is in no MakeUnique of the port
-pub no_make_unique : (h : Header) (past : Trace) (p l : ℕ) → may_store h past p l ≡ true → is_in_make_unique h past p l ≡ false
-no_make_unique h past p l may =
-    elim (cases_Bool (is_in_make_unique h past p l)) [
-      | inr f ↦ f
-      | inl t ↦
-          let some : has_outstanding_on h past p l ≡ true = some_issued-weaker past (awaits_store h past p l) (is_outstanding_on h past p l) weaker t in
-          let none = may_free h past p l may in cc
-    ]
-  where
-    weaker : (x : Transaction) → awaits_store h past p l x ≡ true → is_outstanding_on h past p l x ≡ true
-    weaker x t =
-        let one = and_parts ((nat_eq x.port p && is_make_unique_on x l) && is_outstanding h past x) (is_complete past x.port x.chan x.id) t in
-        let two = and_parts (nat_eq x.port p && is_make_unique_on x l) (is_outstanding h past x) one.0 in
-        let three = and_parts (nat_eq x.port p) (is_make_unique_on x l) two.0 in
-        let four = and_parts (is_some_and (read_kind x) is_make_unique) (nat_eq x.addr l) three.1 in
-        and_from _ _ (and_from _ _ three.0 (and_from _ _ (line x four.0) four.1)) two.1
-      where
-        line : (x : Transaction) → is_some_and (read_kind x) is_make_unique ≡ true → is_line x ≡ true
-        line x make = by (read_kind x) refl make
-          where
-            by : (o : Option ArKind) → read_kind x ≡ o → is_some_and o is_make_unique ≡ true → is_line x ≡ true
-            by None is m = cc
-            by (Some read.MakeUnique) is m = rw is refl
-            by (Some k) is m = cc
-
--- a store to it leaves it dirty
-pub store_dirty : (h : Header) (past : Trace) (p l strobe : ℕ) (x : Bool) (line : Line) → may_store h past p l ≡ true → is_dirty (state_of h (D p l strobe x line ∷ past) p l) ≡ true
-store_dirty h past p l strobe x line may =
-    let none = no_make_unique h past p l may in
-    let pp : nat_eq p p ≡ true = eq-eqb p p refl in
-    let ll : nat_eq l l ≡ true = eq-eqb l l refl in
-    rw (pp, ll, none) refl
-
-unique_unsettled : (st : LineState) → is_unique st ≡ true → is_settled st ≡ true → ⊥
-unique_unsettled I u s = cc
-unique_unsettled UC u s = cc
-unique_unsettled UD u s = cc
-unique_unsettled SC u s = cc
-unique_unsettled SD u s = cc
+use Rattle.ace_model.proofs.General.Booleans.{then_of}
+use Rattle.ace_codes.specs.declared.kind.SnoopKind.TheVariants as snoop
 
 module _ (h : Header) (past : Trace) where
+  -- a line that a port may store to is in no MakeUnique of the port
+  pub no_make_unique : (p l : ℕ) → may_store h past p l ≡ true → is_in_make_unique h past p l ≡ false
+  no_make_unique p l may =
+      elim (cases_Bool (is_in_make_unique h past p l)) [
+        | inr f ↦ f
+        | inl t ↦
+            let some : has_outstanding_on h past p l ≡ true = some_issued-weaker past (awaits_store h past p l) (is_outstanding_on h past p l) weaker t in
+            let none = may_free h past p l may in cc
+      ]
+    where
+      weaker : (x : Transaction) → awaits_store h past p l x ≡ true → is_outstanding_on h past p l x ≡ true
+      weaker x t =
+          let w = awaits_store-is h past p l x t in and_from _ _ (and_from _ _ (eq-eqb x.port p w.port) w.on) w.out
+
+  -- a store to it leaves it dirty
+  pub store_dirty : (p l strobe : ℕ) (x : Bool) (line : Line) → may_store h past p l ≡ true → is_dirty (state_of h (D p l strobe x line ∷ past) p l) ≡ true
+  store_dirty p l strobe x line may =
+      let none = no_make_unique p l may in
+      let pp : nat_eq p p ≡ true = eq-eqb p p refl in
+      let ll : nat_eq l l ≡ true = eq-eqb l l refl in
+      rw (pp, ll, none) refl
+
   -- with the passed copy at its answer, the passed data are there
   pub passed_is : (l : ℕ) (x : Transaction) → granted h past l ≡ Some x → has_passed_data h past x ≡ true → (w : Passes h past l)
       → passed_data h past l ≡ Some (copy_of (at_point w.answer.place past) w.port l)
@@ -81,11 +59,8 @@ module _ (h : Header) (past : Trace) where
   pub passed_true : IsAccepted h past → PassedTrue h past → (l : ℕ) (x : Transaction) → granted h past l ≡ Some x → has_passed_data h past x ≡ true
       → (passed_data h past l ≡ Some (value_of past l)) ⊎ HasDirtyHolder h past l
   passed_true a f l x g has =
-      let o = (accepted_holds h past a).grants l x g in
-      let addr = eqb-true x.addr l (and_parts (is_line x) (nat_eq x.addr l) o.1).1 in
-      let parts = has_passed h past x has in
-      let w = subst (λ v. Passes h past v) addr (passes_of h past x.addr parts.some) in
-      elim (f l w.port x w.answer g parts.unwritten w.is w.dirty) [
+      let w = passes_line h past a l x g has in
+      elim (f l w.port x w.answer g (has_passed h past x has).unwritten w.is w.dirty) [
         | inl same ↦ inl (passed_is l x g has w ∙ ap (λ v. Some v) same)
         | inr dirty ↦ inr (w.port, dirty)
       ]
@@ -111,14 +86,12 @@ module _ (h : Header) (past : Trace) where
                 | inl same ↦ keeps_value stays.was old same
                 | inr dirty ↦ elim (dirt_moves h past e a f.updated r l dirty) [
                   | inl still ↦ inr still
-                  | inr s ↦ elim s [
-                    | inl u ↦
-                        let yes = passes_data h past a.0 l r x w stays.was before old d in
-                        let no = u.none x stays.was in cc
-                    | inr c ↦
-                        let once = answered_once h past a.0 e r l w old in
-                        absurd (answers_twice c.resp c.st c.answering.under (subst (λ v. answer_at past v r l ≡ None) c.is once))
-                  ]
+                  | inr (inl u) ↦
+                      let yes = passes_data h past a.0 l r x w stays.was before old d in
+                      let no = u.none x stays.was in cc
+                  | inr (inr c) ↦
+                      let once = answered_once h past a.0 e r l w old in
+                      absurd (answers_twice c.resp c.st c.answering.under (subst (λ v. answer_at past v r l ≡ None) c.is once))
                 ]
               ]
               | inr new ↦
@@ -143,31 +116,27 @@ module _ (h : Header) (past : Trace) where
       keeps_value was old same =
           elim (value_moves h past e a l) [
             | inl kept ↦ inl (copy_at-old past e r l w old ∙ same ∙ sym kept)
-            | inr s ↦ elim s [
-              | inl p ↦ elim (cases_eq p.port r) [
-                | inl own ↦ inr (subst (λ v. is_dirty (state_of h (e ∷ past) v l) ≡ true) own
-                    (subst (λ v. is_dirty (state_of h (v ∷ past) p.port l) ≡ true) (sym p.is) (store_dirty h past p.port l p.strobe p.ex p.line p.may)))
-                | inr apart ↦ absurd (unique_unsettled (state_of h past p.port l) (may_unique h past p.port l p.may) (others_settled h past a.0 l r p.port x w was old d apart))
-              ]
-              | inr s ↦ elim s [
-                | inl m ↦
-                    let one : m.made.one ≡ x = Some-injective m.made.one x (sym m.made.stands ∙ was) in
-                    let k = passed_kind h past a.0 l r x w was old d in
-                    let causes : snoop_of x ≡ Some snoop.MakeInvalid = ap snoop_of (sym one) ∙ ap (λ v. snoop_kind_of v (write_kind m.made.one)) m.made.kind in
-                    let kind : k.0 ≡ snoop.MakeInvalid = Some-injective k.0 snoop.MakeInvalid (sym k.1 ∙ causes) in
-                    let bad : true ≡ false = sym (ap is_make_invalid kind) ∙ k.2 in cc
-                | inr m ↦
-                    let one : m.by.one ≡ x = Some-injective m.by.one x (sym m.by.stands ∙ was) in
-                    let named = ap (transaction_of past m.port m.chan) (refl {a = m.id}) ∙ m.by.named ∙ ap (λ v. Some v) one in
-                    let name = has_name-is x m.port m.chan m.id (transaction_of-stands past m.port m.chan m.id x named).named in
-                    let now : is_memory_write (M m.port m.chan m.id m.line) m.port m.chan m.id ≡ true =
-                    and_from _ _ (and_from _ _ (eq-eqb m.port m.port refl) (same_channel-self m.chan)) (eq-eqb m.id m.id refl) in
-                    let here : has_memory_write (e ∷ past) m.port m.chan m.id ≡ true =
-                    subst (λ v. has_memory_write (v ∷ past) m.port m.chan m.id ≡ true) (sym m.is) (or_left (is_memory_write (M m.port m.chan m.id m.line) m.port m.chan m.id) _ now) in
-                    let own : has_memory_write (e ∷ past) x.port x.chan x.id ≡ true =
-                    ap (λ v. has_memory_write (e ∷ past) v x.chan x.id) name.port ∙ ap (λ (v : Channel). has_memory_write (e ∷ past) m.port v x.id) name.chan
-                    ∙ ap (has_memory_write (e ∷ past) m.port m.chan) name.id ∙ here in
-                    cc
-              ]
+            | inr (inl p) ↦ elim (cases_eq p.port r) [
+              | inl own ↦ inr (subst (λ v. is_dirty (state_of h (e ∷ past) v l) ≡ true) own
+                  (subst (λ v. is_dirty (state_of h (v ∷ past) p.port l) ≡ true) (sym p.is) (store_dirty p.port l p.strobe p.ex p.line p.may)))
+              | inr apart ↦ absurd (unique_unsettled (state_of h past p.port l) (may_unique h past p.port l p.may) (others_settled h past a.0 l r p.port x w was old d apart))
             ]
+            | inr (inr (inl m)) ↦
+                let one : m.made.one ≡ x = Some-injective m.made.one x (sym m.made.stands ∙ was) in
+                let k = passed_kind h past a.0 l r x w was old d in
+                let causes : snoop_of x ≡ Some snoop.MakeInvalid = ap snoop_of (sym one) ∙ ap (λ v. snoop_kind_of v (write_kind m.made.one)) m.made.kind in
+                let kind : k.0 ≡ snoop.MakeInvalid = Some-injective k.0 snoop.MakeInvalid (sym k.1 ∙ causes) in
+                let bad : true ≡ false = sym (ap is_make_invalid kind) ∙ k.2 in cc
+            | inr (inr (inr m)) ↦
+                let one : m.by.one ≡ x = Some-injective m.by.one x (sym m.by.stands ∙ was) in
+                let named = ap (transaction_of past m.port m.chan) (refl {a = m.id}) ∙ m.by.named ∙ ap (λ v. Some v) one in
+                let name = has_name-is x m.port m.chan m.id (transaction_of-stands past m.port m.chan m.id x named).named in
+                let now : is_memory_write (M m.port m.chan m.id m.line) m.port m.chan m.id ≡ true =
+                and_from _ _ (and_from _ _ (eq-eqb m.port m.port refl) (same_channel-self m.chan)) (eq-eqb m.id m.id refl) in
+                let here : has_memory_write (e ∷ past) m.port m.chan m.id ≡ true =
+                subst (λ v. has_memory_write (v ∷ past) m.port m.chan m.id ≡ true) (sym m.is) (or_left (is_memory_write (M m.port m.chan m.id m.line) m.port m.chan m.id) _ now) in
+                let own : has_memory_write (e ∷ past) x.port x.chan x.id ≡ true =
+                ap (λ v. has_memory_write (e ∷ past) v x.chan x.id) name.port ∙ ap (λ (v : Channel). has_memory_write (e ∷ past) m.port v x.id) name.chan
+                ∙ ap (has_memory_write (e ∷ past) m.port m.chan) name.id ∙ here in
+                cc
           ]

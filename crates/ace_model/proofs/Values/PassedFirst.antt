@@ -1,39 +1,17 @@
 -- While there are passed data, the first response of their read has PassDirty.
-use Rattle.std.proofs.Common.{◌≡◌, ◌≢◌, ◌⊎◌, ℕ, Bool, true, false, not, ◌&&◌, nat_eq, [], ◌∷◌, length, Some, None, refl, sym, ap, subst, ◌∙◌, inl, inr}
-use Rattle.std.proofs.lemmas.Bool.{and_parts, and_from, cases_Bool, cases_eq, eqb-true, eq-eqb, ne_eqb}
-use Rattle.ace_model.proofs.Terms.{passes_dirty, Read, Event, Ar, R, Header, Answer, Transaction, Trace, is_some_and, is_line, is_named, is_read, issued, ended, transfers, first_resp, outstanding, granted}
-use Rattle.ace_model.proofs.Terms.{has_passed_data, is_begun, may_transfer, IsAccepted}
-use Rattle.ace_model.proofs.Trace.Looks.{has_name-is, newest_named-cases, without-some}
-use Rattle.ace_model.proofs.Trace.Issued.{outstanding-named, transaction_of-stands}
-use Rattle.ace_model.proofs.Holders.Address.{named_read}
+use Rattle.std.proofs.Common.{◌≡◌, ◌≢◌, ℕ, Bool, true, false, not, ◌&&◌, nat_eq, [], ◌∷◌, Some, None, refl, sym, ap, subst, ◌∙◌, inl, inr}
+use Rattle.std.proofs.lemmas.Bool.{and_parts, and_from, cases_eq, eq-eqb, ne_eqb}
+use Rattle.ace_model.proofs.Terms.{passes_dirty, Read, Event, R, Header, Answer, Transaction, Trace, is_some_and, is_line, is_read, transfers, first_resp, outstanding, granted, has_passed_data, is_begun, IsAccepted}
+use Rattle.ace_model.proofs.Trace.Issued.{outstanding-name, outstanding-origin}
 use Rattle.ace_model.proofs.Grants.Stays.{granted_before}
-use Rattle.ace_model.proofs.Grants.Begins.{may_of, line_transfer}
 use Rattle.ace_model.proofs.Grants.SnoopAnswers.{NewAnswer, answer_cases}
 use Rattle.ace_model.proofs.Grants.Answers.{new_answer}
-use Rattle.ace_model.proofs.Values.Fetches.{issue_transfers}
+use Rattle.ace_model.proofs.Values.FullReads.{issue_transfers, transfer_moves, line_due}
 use Rattle.ace_model.proofs.Grants.Granted.{granted_at, unwritten_before, has_passed, passes_of}
 use Rattle.ace_model.proofs.Values.PassedData.{passes_data}
 use Rattle.ace_model.proofs.Holders.Law.{accepted_holds}
 use Rattle.ace_model.proofs.General.Options.{Some-injective}
-
--- The event is a transfer under the name.
-record Transfer (e : Event) (p i : ℕ) : Type 0 where
-  resp : ℕ
-  last : Bool
-  word : ℕ
-  is : e ≡ R p i resp last word
-
-first_moves : (past : Trace) (e : Event) (p i : ℕ) → is_named (issued (length past) e) p Read i ≡ false
-    → ((transfers (e ∷ past) p i ≡ transfers past p i) × (first_resp (e ∷ past) p i ≡ first_resp past p i)) ⊎ Transfer e p i
-first_moves past (Ar q j addr snoop dom bar lock) p i other = let f = named_read past q j addr snoop dom bar lock p i false other in inl (rw f refl, rw f refl)
-first_moves past (R q j resp last word) p i other =
-    elim (cases_Bool (nat_eq p q && nat_eq i j)) [
-      | inr f ↦ inl (rw f refl, rw f refl)
-      | inl t ↦
-          let parts = and_parts (nat_eq p q) (nat_eq i j) t in
-          inr (record { resp = resp; last = last; word = word; is = ap (λ v. R v j resp last word) (sym (eqb-true p q parts.0)) ∙ ap (λ v. R p v resp last word) (sym (eqb-true i j parts.1)) })
-    ]
-first_moves past _ p i other = inl (refl, refl)
+use Rattle.std.proofs.Math.Bool.{and-false}
 
 -- passed data were there, or come by an answer
 passed_before : (h : Header) (past : Trace) (e : Event) → IsAccepted h (e ∷ past) → (p i : ℕ) (x : Transaction) → outstanding h (e ∷ past) p Read i ≡ Some x
@@ -56,15 +34,15 @@ pub first_passes : (h : Header) (past : Trace) → IsAccepted h past → (p i : 
     → transfers past p i ≢ 0 → has_passed_data h past x ≡ true → is_some_and (first_resp past p i) passes_dirty ≡ true
 first_passes h [] a p i x o line some has = cc
 first_passes h (e ∷ past) a p i x o line some has =
-    elim (newest_named-cases (issued (length past) e) p Read i _ x o) [
+    elim (outstanding-origin h past e p Read i x o) [
       | inl new ↦ absurd (some (issue_transfers past e p i x new.0 new.1))
       | inr old ↦
-          let was = (without-some (ended h past e) (outstanding h past p Read i) x old.0).0 in
-          elim (first_moves past e p i old.1) [
+          let was = old.was in
+          elim (transfer_moves past e p i old.other) [
             | inl same ↦
-                let before : transfers past p i ≢ 0 = λ z. some (same.0 ∙ z) in
+                let before : transfers past p i ≢ 0 = λ z. some (same.count ∙ z) in
                 let had = passed_before h past e a p i x o (λ r w new g. begun was before r w new g) has in
-                subst (λ v. is_some_and v passes_dirty ≡ true) (sym same.1) (first_passes h past a.0 p i x was line before had)
+                subst (λ v. is_some_and v passes_dirty ≡ true) (sym same.first) (first_passes h past a.0 p i x was line before had)
             | inr t ↦
                 let had = passed_before h past e a p i x o (λ r w new g. let bad = sym t.is ∙ new.is in cc) has in
                 subst (λ d. is_some_and (first_resp (d ∷ past) p i) passes_dirty ≡ true) (sym t.is)
@@ -77,32 +55,25 @@ first_passes h (e ∷ past) a p i x o line some has =
         let n = new_answer h past e a r x.addr w new in
         let one : n.1.pending.one ≡ x = Some-injective n.1.pending.one x (sym n.1.pending.stands ∙ g) in
         let unbegun : is_begun past x ≡ false = subst (λ (y : Transaction). is_begun past y ≡ false) one n.1.pending.unbegun in
-        let name = has_name-is x p Read i (transaction_of-stands past p Read i x (outstanding-named h past p Read i x was)).named in
+        let name = outstanding-name h past p Read i x was in
         let count : transfers past x.port x.id ≡ transfers past p i = ap (λ v. transfers past v x.id) name.port ∙ ap (transfers past p) name.id in
         let reads : is_read x.chan ≡ true = ap is_read name.chan in
         let none : not (nat_eq (transfers past x.port x.id) 0) ≡ false = rw reads at unbegun in
         let some_now : nat_eq (transfers past x.port x.id) 0 ≡ false = ne_eqb (transfers past x.port x.id) 0 (λ z. before (sym count ∙ z)) in
         let bad : true ≡ false = sym (ap not some_now) ∙ none in cc
 
-    and_no : (b : Bool) → (b && false) ≡ false
-    and_no true = refl
-    and_no false = refl
-
     transfer : (resp : ℕ) (last : Bool) (word : ℕ) → IsAccepted h (R p i resp last word ∷ past) → outstanding h past p Read i ≡ Some x → has_passed_data h past x ≡ true
         → (transfers past p i ≢ 0 → is_some_and (first_resp past p i) passes_dirty ≡ true) → is_some_and (first_resp (R p i resp last word ∷ past) p i) passes_dirty ≡ true
     transfer resp last word b was had before =
         elim (cases_eq (transfers past p i) 0) [
           | inl z ↦
-              let m = may_of h past p i resp last word b in
-              let one : m.one ≡ x = Some-injective m.one x (sym m.out ∙ was) in
-              let may_x = subst (λ (y : Transaction). may_transfer h past y resp ≡ true) one (m.may (subst (λ (y : Transaction). is_line y ≡ true) (sym one) line)) in
-              let takes = (line_transfer h past x resp may_x).takes had in
+              let takes = (line_due h past p i resp last word b x was line).takes had in
               let pass : passes_dirty resp ≡ true = (and_parts _ (passes_dirty resp) takes).1 in
               let first : first_resp (R p i resp last word ∷ past) p i ≡ Some resp =
               rw (and_from _ _ (and_from _ _ (eq-eqb p p (refl {a = p})) (eq-eqb i i (refl {a = i}))) (eq-eqb (transfers past p i) 0 z)) refl in
               subst (λ v. is_some_and v passes_dirty ≡ true) (sym first) pass
           | inr later ↦
-              let cond : ((nat_eq p p && nat_eq i i) && nat_eq (transfers past p i) 0) ≡ false = ap (λ v. (nat_eq p p && nat_eq i i) && v) (ne_eqb (transfers past p i) 0 later) ∙ and_no (nat_eq p p && nat_eq i i) in
+              let cond : ((nat_eq p p && nat_eq i i) && nat_eq (transfers past p i) 0) ≡ false = ap (λ v. (nat_eq p p && nat_eq i i) && v) (ne_eqb (transfers past p i) 0 later) ∙ and-false (nat_eq p p && nat_eq i i) in
               let first : first_resp (R p i resp last word ∷ past) p i ≡ first_resp past p i = rw cond refl in
               subst (λ v. is_some_and v passes_dirty ≡ true) (sym first) (before later)
         ]

@@ -1,37 +1,20 @@
 -- The reply to a read that keeps the line is the line's value.
-use Rattle.std.proofs.Common.{◌≡◌, ℕ, true, false, not, ◌&&◌, ◌||◌, nat_eq, [], ◌∷◌, length, Option, Some, None, is_some, is_none, option_and_then, unwrap_or, refl, sym, ap, subst, ◌∙◌, inl, inr}
-use Rattle.std.proofs.lemmas.Bool.{and_parts, and_from, or_cases, or_left, cases_Bool, cases_eq, eqb-true, eq-eqb}
-use Rattle.ace_model.proofs.Terms.{ArKind, SnoopKind, LineState, I, passes_dirty, transfers_data, Event, Cr, Header, is_fetch, is_dirty, Answer, Transaction, Trace, at_point, is_some_and, newer}
-use Rattle.ace_model.proofs.Terms.{reads_a_line, is_clean_unique, is_make_unique, is_granted_write, is_on, is_line, read_kind, write_kind, snoop_of, snoop_kind_of, outstanding, is_exclusive_store}
-use Rattle.ace_model.proofs.Terms.{has_memory_write, data_answers, gives_line, granted, is_granted, answers_grant, answer_at, answer_of, passes, passer, has_passed_data, each_port, has_failed, state_of}
-use Rattle.ace_model.proofs.Terms.{are_snoops_done, is_port_done, is_line_read_transaction, copy_of, memory_of, copy_at_answer, passed_to, passed_data, sender_at, first_sender, memory_at_first_beat}
-use Rattle.ace_model.proofs.Terms.{reply_of, value_of, IsAccepted, replaces_line}
-use Rattle.ace_codes.specs.declared.kind.ArKind.TheVariants as read
-use Rattle.ace_model.proofs.Holders.FirstTransfer.{done_port, found_passes}
+use Rattle.std.proofs.Common.{◌≡◌, ℕ, true, false, ◌&&◌, nat_eq, [], ◌∷◌, length, Option, Some, None, option_and_then, unwrap_or, refl, sym, ap, subst, ◌∙◌, inl, inr}
+use Rattle.std.proofs.lemmas.Bool.{and_parts, and_from, or_left, cases_Bool, cases_eq, eq-eqb}
+use Rattle.ace_model.proofs.Terms.{ArKind, SnoopKind, transfers_data, Event, Cr, Header, is_fetch, is_dirty, Answer, Transaction, Trace, at_point, is_some_and, newer, transfers, reads_a_line, is_make_unique, is_granted_write, is_on, read_kind, write_kind, snoop_of, snoop_kind_of, outstanding, data_answers, gives_line, granted, answers_grant, answer_of, each_port, has_failed, state_of, are_snoops_done, is_port_done, is_line_read_transaction, copy_of, memory_of, copy_at_answer, passed_data, sender_at, first_sender, memory_at_first_beat, reply_of, value_of, IsAccepted, replaces_line, snoop_of_read}
+use Rattle.ace_model.proofs.Holders.FirstTransfer.{done_port}
 use Rattle.ace_model.proofs.Holders.Rises.{stays_empty}
-use Rattle.ace_model.proofs.Grants.Pending.{answering, snoops}
 use Rattle.ace_model.proofs.Grants.SnoopAnswers.{answer_cases}
 use Rattle.ace_model.proofs.Grants.Answers.{is_levelling, unsent_clean, passed_kind}
-use Rattle.ace_model.proofs.Values.ReadEnds.{read_writes_none}
-use Rattle.ace_model.proofs.Values.Stays.{fetch_snoops}
+use Rattle.ace_model.proofs.Trace.Looks.{read_writes_none}
+use Rattle.std.proofs.Math.Bool.{and-false}
+use Rattle.ace_model.proofs.Trace.Looks.{is_on-addr, snoops_done-ports}
+use Rattle.ace_model.proofs.Tables.Kinds.{Fetch, fetch_is}
+use Rattle.ace_model.proofs.Tables.States.{dirty_valid}
 use Rattle.ace_model.proofs.Values.Facts.{SentTrue, DirtyPlaced}
 use Rattle.ace_model.proofs.Holders.Law.{accepted_holds}
-use Rattle.ace_model.proofs.General.Options.{Some-injective, some_is, is_some_and-is}
-
--- a port that has answered under the grant answers no more
-pub answered_once : (h : Header) (past : Trace) → IsAccepted h past → (d : Event) (r l : ℕ) (w : Answer) → answer_of past r l ≡ Some w → answer_at past d r l ≡ None
-answered_once h past a (Cr q resp st) r l w is =
-    elim (cases_Bool (nat_eq r q && answers_grant past r l)) [
-      | inr f ↦ rw f refl
-      | inl t ↦
-          let s = answering past q r l t in
-          let none = ((snoops h past a).pending r _ l s.0 s.1).unanswered in cc
-    ]
-answered_once h past a d r l w is = refl
-
-pub answer_kept : (h : Header) (past : Trace) → IsAccepted h past → (e : Event) (r l : ℕ) (w : Answer) → gives_line past e l ≡ false → answer_of past r l ≡ Some w
-    → answer_of (e ∷ past) r l ≡ Some w
-answer_kept h past a e r l w gives is = let none = answered_once h past a e r l w is in rw (gives, none) is
+use Rattle.ace_model.proofs.General.Options.{Some-injective, is_some_and-is}
+use Rattle.ace_model.proofs.Values.PassedData.{answer_kept, passes_line, passed_has}
 
 -- The answer with data of the first sender.
 pub record Sends (past : Trace) (s l : ℕ) : Type 0 where
@@ -109,63 +92,44 @@ reply_true h past a sent l x k g addr kind fetch memory =
         let same : copy_at_answer past l s ≡ Some (copy_of (at_point w.answer.place past) s l) = let there = w.is in rw there refl in
         ap (λ o. unwrap_or o (memory_at_first_beat past x.port x.id l)) same ∙ sent l s x w.answer k g w.is w.sends kind fetch
 
-fetch_line : (k : ArKind) → is_fetch k ≡ true → (reads_a_line k ≡ true) × (is_clean_unique k ≡ false) × (is_make_unique k ≡ false)
-fetch_line read.ReadClean e = (refl, refl, refl)
-fetch_line read.ReadNotSharedDirty e = (refl, refl, refl)
-fetch_line read.ReadShared e = (refl, refl, refl)
-fetch_line read.ReadUnique e = (refl, refl, refl)
-fetch_line k e = cc
-
-pub dirty_valid : (st : LineState) → is_dirty st ≡ true → (st ≡ I → ⊥)
-dirty_valid I d e = cc
-dirty_valid st d e = let bad : is_dirty I ≡ true = subst (λ v. is_dirty v ≡ true) e d in cc
-
 -- where the snoops of the read are done and no port has sent data, memory is the value
 pub memory_true : (h : Header) (past : Trace) → IsAccepted h past → DirtyPlaced h past → (l : ℕ) (x : Transaction) (k : ArKind) → granted h past l ≡ Some x → read_kind x ≡ Some k
     → is_fetch k ≡ true → are_snoops_done h past x ≡ true → first_sender past l ≡ None → memory_of past l ≡ value_of past l
 memory_true h past a f l x k g kind fetch done none =
     elim (f.safe l) [
       | inl same ↦ same
-      | inr s ↦ elim s [
-        | inl dirty ↦ absurd (no_holder dirty.0 dirty.1)
-        | inr s ↦ elim s [
-          | inl passed ↦ absurd (no_passed passed)
-          | inr replaces ↦
-              let r : replaces_line x ≡ true = subst (λ o. is_some_and o replaces_line ≡ true) g replaces in
-              let writes = (read_writes_none x k kind).0 in
-              let reads : is_some_and (read_kind x) is_make_unique ≡ false = ap (λ o. is_some_and o is_make_unique) kind ∙ (fetch_line k fetch).2 in
-              let bad : false ≡ true = rw (reads, writes) at r in cc
-        ]
-      ]
+      | inr (inl dirty) ↦ absurd (no_holder dirty.0 dirty.1)
+      | inr (inr (inl passed)) ↦ absurd (no_passed passed)
+      | inr (inr (inr replaces)) ↦
+          let r : replaces_line x ≡ true = subst (λ o. is_some_and o replaces_line ≡ true) g replaces in
+          let writes = (read_writes_none x k kind).0 in
+          let reads : is_some_and (read_kind x) is_make_unique ≡ false = ap (λ o. is_some_and o is_make_unique) kind ∙ fetches.makes in
+          let bad : false ≡ true = rw (reads, writes) at r in cc
     ]
   where
+    fetches : Fetch k
+    fetches = fetch_is k fetch
+
     snoop : (s : SnoopKind) × (snoop_of x ≡ Some s) × (is_levelling s ≡ true)
-    snoop = let s = fetch_snoops k fetch in (s.0, ap (λ o. snoop_kind_of o (write_kind x)) kind ∙ s.1, s.2)
+    snoop = let s = is_some_and-is (snoop_of_read k) is_levelling fetches.snoops in (s.0, ap (λ o. snoop_kind_of o (write_kind x)) kind ∙ s.1, s.2)
 
     outs : (outstanding h past x.port x.chan x.id ≡ Some x) × (is_on x l ≡ true)
     outs = (accepted_holds h past a).grants l x g
 
     addr : x.addr ≡ l
-    addr = eqb-true x.addr l (and_parts (is_line x) (nat_eq x.addr l) outs.1).1
+    addr = is_on-addr x l outs.1
 
     all : each_port h.ports (is_port_done h past x) ≡ true
     all =
-        elim (or_cases (is_none (snoop_of x) || has_failed past x) (each_port h.ports (is_port_done h past x)) done) [
-          | inr t ↦ t
-          | inl early ↦ elim (or_cases (is_none (snoop_of x)) (has_failed past x) early) [
-            | inl t ↦ let c = snoop.1 in let bad : false ≡ true = rw c at t in cc
-            | inr failed ↦
-                let store = (and_parts (is_exclusive_store x) _ failed).0 in
-                let clean : is_clean_unique k ≡ true = subst (λ o. is_some_and o is_clean_unique ≡ true) kind (and_parts x.lock (is_some_and (read_kind x) is_clean_unique) store).1 in
-                let no_clean = (fetch_line k fetch).1 in cc
-          ]
-        ]
+        let not_store = fetches.cleans in
+        let failed : has_failed past x ≡ false = rw (kind, not_store, and-false x.lock) refl in
+        snoops_done-ports h past x snoop.0 snoop.1 failed done
 
     no_holder : (q : ℕ) → is_dirty (state_of h past q l) ≡ true → ⊥
     no_holder q d =
         elim (cases_eq x.port q) [
           | inl own ↦
-              let reads : is_line_read_transaction x ≡ true = subst (λ o. is_some_and o reads_a_line ≡ true) (sym kind) (fetch_line k fetch).0 in
+              let reads : is_line_read_transaction x ≡ true = subst (λ o. is_some_and o reads_a_line ≡ true) (sym kind) fetches.reads in
               let gone = stays_empty h past a x.port x.chan x.id l x outs.0 outs.1 (or_left (is_line_read_transaction x) (is_some_and (write_kind x) is_granted_write) reads) in
               dirty_valid (state_of h past q l) d (ap (λ b. state_of h past b l) (sym own) ∙ gone)
           | inr apart ↦ elim (done_port h past x q (accepted_holds h past a) all apart) [
@@ -181,13 +145,10 @@ memory_true h past a f l x k g kind fetch done none =
 
     no_passed : passed_data h past l ≡ Some (value_of past l) → ⊥
     no_passed passed =
-        let to : passed_to h past l x ≡ Some (value_of past l) = subst (λ o. option_and_then (passed_to h past l) o ≡ Some (value_of past l)) g passed in
-        elim (cases_Bool (has_passed_data h past x)) [
-          | inr f ↦ let bad : None ≡ Some (value_of past l) = rw f at to in cc
-          | inl t ↦
-              let two = and_parts (is_granted h past x && is_some (passer h past x.addr)) (not (has_memory_write past x.port x.chan x.id)) t in
-              let r = some_is (passer h past x.addr) (and_parts (is_granted h past x) (is_some (passer h past x.addr)) two.0).1 in
-              let w = is_some_and-is (answer_of past r.0 x.addr) (λ v. passes_dirty v.resp) (found_passes h.ports (passes past x.addr) r.0 r.1) in
-              let is : answer_of past r.0 l ≡ Some w.0 = ap (answer_of past r.0) (sym addr) ∙ w.1 in
-              sent_sender past r.0 l w.0 is (passed_kind h past a l r.0 x w.0 g is w.2).3 none
-        ]
+        let w = passes_line h past a l x g (passed_has h past l x (value_of past l) g passed) in
+        sent_sender past w.port l w.answer w.is (passed_kind h past a l w.port x w.answer g w.is w.dirty).3 none
+
+-- memory before the first beat is memory now
+pub memory-before : (past : Trace) (p i l : ℕ) → transfers past p i ≡ 0 → memory_at_first_beat past p i l ≡ memory_of past l
+memory-before [] p i l none = refl
+memory-before (e ∷ past) p i l none = rw (eq-eqb (transfers (e ∷ past) p i) 0 none) refl

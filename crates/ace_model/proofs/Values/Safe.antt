@@ -1,40 +1,39 @@
 -- The value of a line is in memory, dirty at a port, passed on, or to be replaced whole.
 use Rattle.std.proofs.Common.{◌≡◌, ◌⊎◌, ℕ, true, false, ◌&&◌, ◌||◌, nat_eq, ◌∷◌, length, Option, Some, None, refl, sym, ap, subst, ◌∙◌, inl, inr}
-use Rattle.std.proofs.lemmas.Bool.{and_parts, and_from, or_cases, or_left, or_right, cases_Bool, cases_eq, eq-eqb}
-use Rattle.ace_model.proofs.Terms.{ArKind, AwKind, SnoopKind, LineState, I, UC, UD, SC, SD, passes_dirty, is_shared, Read, Write, Event, R, Rk, B, Wk, Cr, Header, ends_read, snoop_of_read, snoop_of_write}
-use Rattle.ace_model.proofs.Terms.{is_dirty, Answer, Transaction, Trace, implies, is_some_and, is_none_or, is_make_unique, is_write_line_unique, is_granted_write, has_write_data, is_ace, is_read, is_line}
-use Rattle.ace_model.proofs.Terms.{is_on, is_some_on, read_kind, write_kind, snoop_of, snoop_kind_of, ended, outstanding, acknowledged, first_resp, has_memory_write, data_answers, granted, answers_grant}
-use Rattle.ace_model.proofs.Terms.{answer_of, has_passed_data, has_failed, state_of, memory_of, value_of, may_transfer, has_upper_bits, fits_kind, IsAccepted, replaces_line, IsValueSafe}
-use Rattle.ace_codes.specs.declared.kind.ArKind.TheVariants as read
-use Rattle.ace_codes.specs.declared.kind.AwKind.TheVariants as write
+use Rattle.std.proofs.lemmas.Bool.{and_parts, and_from, or_left, or_right, cases_Bool, cases_eq, eq-eqb}
+use Rattle.ace_model.proofs.Terms.{ArKind, AwKind, SnoopKind, LineState, passes_dirty, is_shared, Read, Write, Event, R, Rk, B, Wk, Cr, Header, is_dirty, Answer, Transaction, Trace, implies, is_some_and}
+use Rattle.ace_model.proofs.Terms.{is_none_or, is_make_unique, has_write_data, is_ace, is_read, is_line, is_on, is_some_on, read_kind, write_kind, snoop_of, snoop_kind_of, ended, outstanding, acknowledged}
+use Rattle.ace_model.proofs.Terms.{first_resp, has_memory_write, data_answers, granted, answers_grant, answer_of, has_passed_data, state_of, memory_of, value_of, has_upper_bits, fits_kind, IsAccepted}
+use Rattle.ace_model.proofs.Terms.{replaces_line, IsValueSafe}
 use Rattle.ace_model.proofs.Trace.Issued.{same_place, outstanding-named}
 use Rattle.ace_model.proofs.Rules.Keeps.{accepted_keeps}
-use Rattle.ace_model.proofs.Tables.States.{is_settled}
-use Rattle.ace_model.proofs.Holders.Ends.{acknowledged_is}
-use Rattle.ace_model.proofs.Holders.Transfer.{ends_lite}
+use Rattle.ace_model.proofs.Tables.States.{dirty_unsettled}
+use Rattle.ace_model.proofs.Trace.Outstanding.{acknowledged_is, ends_lite}
 use Rattle.ace_model.proofs.Holders.Acknowledge.{is_named_by_rk}
-use Rattle.ace_model.proofs.Grants.Begins.{may_of, line_transfer}
+use Rattle.ace_model.proofs.Grants.Begins.{may_of}
 use Rattle.ace_model.proofs.Trace.WriteQueue.{EndsWrite, ends_write_of, ends_lite_written}
 use Rattle.ace_model.proofs.Tables.SnoopRows.{is_make_invalid, dirty_stays}
 use Rattle.ace_model.proofs.Grants.SnoopAnswers.{Answering}
 use Rattle.ace_model.proofs.Grants.Answers.{others_settled}
-use Rattle.ace_model.proofs.Values.Stores.{full_some}
-use Rattle.ace_model.proofs.Values.ReadEnds.{ReadEnds, read_ends, read_writes_none}
+use Rattle.ace_model.proofs.Values.FullReads.{full_some, line_due}
+use Rattle.ace_model.proofs.Values.Ended.{ReadEnded, read_ends}
+use Rattle.ace_model.proofs.Trace.Looks.{read_writes_none}
 use Rattle.ace_model.proofs.Values.Fetches.{ace_read}
 use Rattle.ace_model.proofs.Grants.Granted.{granted_given, granted_write}
 use Rattle.ace_model.proofs.Values.PassedData.{written_passed}
-use Rattle.ace_model.proofs.Values.DirtMoves.{passed_dirty, made_dirty}
+use Rattle.ace_model.proofs.Tables.Kinds.{granted_data, read_invalid, write_invalid, make_unique_is}
 use Rattle.ace_model.proofs.Values.Passed.{passed_safe, passed_step}
 use Rattle.ace_model.proofs.Values.PassedFirst.{first_passes}
 use Rattle.ace_model.proofs.Values.Facts.{WrittenTrue, DirtyPlaced}
 use Rattle.ace_model.proofs.Holders.Law.{accepted_holds}
-use Rattle.ace_model.proofs.Values.Stores.{make_unique_is}
 use Rattle.ace_model.proofs.General.Options.{Some-injective, is_none_or-at}
 use Rattle.ace_model.proofs.General.Booleans.{implies-at}
+use Rattle.ace_codes.specs.declared.kind.ArKind.TheVariants as read
+use Rattle.std.proofs.Math.Bool.{or-false}
 
 -- The read of a granted line that an RK ends.
 record EndsGranted (h : Header) (past : Trace) (q : ℕ) (st : LineState) (l : ℕ) (x : Transaction) : Type 0 where
-  r : ReadEnds h past q st q l
+  r : ReadEnded h past q st q l
   same : r.one ≡ x
   after : state_of h (Rk q st ∷ past) q l ≡ st
 
@@ -50,19 +49,10 @@ ends_granted h past q st a l x g z is same =
     record { r = r; same = Some-injective r.one x (sym r.ends_it ∙ is ∙ ap Some one); after = rw t refl }
 
 -- a read that replaces the line is a MakeUnique
-read_replaces : (x : Transaction) (k : ArKind) → read_kind x ≡ Some k → replaces_line x ≡ true → k ≡ read.MakeUnique
+read_replaces : (x : Transaction) (k : ArKind) → read_kind x ≡ Some k → replaces_line x ≡ true → is_make_unique k ≡ true
 read_replaces x k kind t =
     let none = (read_writes_none x k kind).0 in
-    elim (or_cases (is_some_and (read_kind x) is_make_unique) (is_some_and (write_kind x) is_write_line_unique) t) [
-      | inl make ↦ make_unique_is k (subst (λ o. is_some_and o is_make_unique ≡ true) kind make)
-      | inr line ↦ let bad : false ≡ true = rw none at line in cc
-    ]
-
-granted_data : (k : AwKind) → is_granted_write k ≡ true → has_write_data k ≡ true
-granted_data write.WriteNoSnoop g = refl
-granted_data write.WriteUnique g = refl
-granted_data write.WriteLineUnique g = refl
-granted_data k g = cc
+    let make : (is_make_unique k || false) ≡ true = rw (kind, none) at t in sym (or-false (is_make_unique k)) ∙ make
 
 -- a granted write ends with memory the value
 wrote : (h : Header) (past : Trace) → IsAccepted h past → WrittenTrue h past → (l : ℕ) (x : Transaction) → granted h past l ≡ Some x → (q : ℕ) (z : Transaction)
@@ -83,17 +73,13 @@ ended_safe h past (Rk q st) a f l x g wants z is same =
     let n = ends_granted h past q st a l x g z is same in
     let r = n.r in
     let o = first_resp past q r.id in
-    let dirty : is_dirty st ≡ true = elim wants [
+    let dirty : is_dirty st ≡ true = r.state.keeps_dirt (elim wants [
       | inl has ↦
           let has_one = subst (λ y. has_passed_data h past y ≡ true) (sym n.same) has in
           let pass = first_passes h past a.0 q r.id r.one r.out (and_parts (is_line r.one) _ r.on).0 (full_some past q r.id r.one r.full) has_one in
-          passed_dirty r.kind (state_of h past q l) (is_some_and o is_shared) (has_failed past r.one) st
-          (subst (λ b. ends_read r.kind (state_of h past q l) (is_some_and o is_shared) b (has_failed past r.one) st ≡ true) pass r.state)
-      | inr replaces ↦
-          let make = read_replaces r.one r.kind r.is_kind (subst (λ y. replaces_line y ≡ true) (sym n.same) replaces) in
-          made_dirty (state_of h past q l) (is_some_and o is_shared) (is_some_and o passes_dirty) (has_failed past r.one) st
-          (subst (λ k. ends_read k (state_of h past q l) (is_some_and o is_shared) (is_some_and o passes_dirty) (has_failed past r.one) st ≡ true) make r.state)
-    ] in
+          or_left _ (is_make_unique r.kind) (or_left (is_some_and o passes_dirty) _ pass)
+      | inr replaces ↦ or_right _ (is_make_unique r.kind) (read_replaces r.one r.kind r.is_kind (subst (λ y. replaces_line y ≡ true) (sym n.same) replaces))
+    ]) in
     inr (inl (q, subst (λ v. is_dirty v ≡ true) (sym n.after) dirty))
 ended_safe h past (Wk q st) a f l x g wants z is same = inl (wrote h past a.0 f l x g q z (ends_write_of h past q st a z is) same)
 ended_safe h past (B q j resp) a f l x g wants z is same = inl (wrote h past a.0 f l x g q z (ends_lite_written h past q j resp a z is) same)
@@ -107,8 +93,7 @@ ended_safe h past (R q j resp last word) a f l x g wants z is same =
     let ace : is_ace h q ≡ true = elim wants [
       | inl has ↦
           let line = (and_parts (is_line x) _ o.1).0 in
-          let may_x = subst (λ (y : Transaction). may_transfer h past y resp ≡ true) same_m (m.may (subst (λ (y : Transaction). is_line y ≡ true) (sym same_m) line)) in
-          let takes = (line_transfer h past x resp may_x).takes has in
+          let takes = (line_due h past q j resp last word a x out line).takes has in
           let pass : passes_dirty resp ≡ true = (and_parts _ (passes_dirty resp) takes).1 in
           let bits = is_none_or-at (outstanding h past q Read j) (has_upper_bits h past resp) x (accepted_keeps h past (R q j resp last word) a).rule_19 out in
           let early = implies (passes_dirty resp) (has_passed_data h past x) && is_none_or (read_kind x) (fits_kind h past x resp) in
@@ -119,18 +104,10 @@ ended_safe h past (R q j resp last word) a f l x g wants z is same =
       | inr replaces ↦
           let kind : read_kind x ≡ Some m.kind = ap read_kind (sym same_m) ∙ m.is_kind in
           let make = read_replaces x m.kind kind replaces in
-          ace_read h past a.0 q j x read.MakeUnique out (kind ∙ ap (λ v. Some v) make) refl
+          ace_read h past a.0 q j x read.MakeUnique out (kind ∙ ap (λ v. Some v) (make_unique_is m.kind make)) refl
     ] in
     let bad : true ≡ false = sym ace ∙ lite.0 in cc
 ended_safe h past e a f l x g wants z is same = cc
-
-read_invalid : (k : ArKind) → is_some_and (snoop_of_read k) is_make_invalid ≡ true → is_make_unique k ≡ true
-read_invalid read.MakeUnique t = refl
-read_invalid k t = cc
-
-write_invalid : (k : AwKind) → is_some_and (snoop_of_write k) is_make_invalid ≡ true → is_write_line_unique k ≡ true
-write_invalid write.WriteLineUnique t = refl
-write_invalid k t = cc
 
 -- what makes a line invalid at once replaces it
 invalid_replaces : (x : Transaction) (k : SnoopKind) → snoop_of x ≡ Some k → is_make_invalid k ≡ true → replaces_line x ≡ true
@@ -138,18 +115,9 @@ invalid_replaces x k causes m =
     by (read_kind x) (write_kind x) refl refl (subst (λ o. is_some_and o is_make_invalid ≡ true) (sym causes) m)
   where
     by : (o : Option ArKind) (q : Option AwKind) → read_kind x ≡ o → write_kind x ≡ q → is_some_and (snoop_kind_of o q) is_make_invalid ≡ true → replaces_line x ≡ true
-    by (Some r) q is_r is_q t =
-        or_left (is_some_and (read_kind x) is_make_unique) (is_some_and (write_kind x) is_write_line_unique) (subst (λ o. is_some_and o is_make_unique ≡ true) (sym is_r) (read_invalid r t))
-    by None (Some w) is_r is_q t =
-        or_right (is_some_and (read_kind x) is_make_unique) (is_some_and (write_kind x) is_write_line_unique) (subst (λ o. is_some_and o is_write_line_unique ≡ true) (sym is_q) (write_invalid w t))
+    by (Some r) q is_r is_q t = rw is_r (or_left (is_make_unique r) _ (read_invalid r t))
+    by None (Some w) is_r is_q t = rw (is_r, is_q) (write_invalid w t)
     by None None is_r is_q t = cc
-
-dirty_unsettled : (s : LineState) → is_dirty s ≡ true → is_settled s ≡ true → ⊥
-dirty_unsettled I d t = cc
-dirty_unsettled UC d t = cc
-dirty_unsettled UD d t = cc
-dirty_unsettled SC d t = cc
-dirty_unsettled SD d t = cc
 
 -- a port that answers a snoop of its dirty line keeps it dirty, passes it on, or the line is replaced
 pub answered_safe : (h : Header) (past : Trace) (p resp : ℕ) (st : LineState) → IsAccepted h (Cr p resp st ∷ past) → DirtyPlaced h past → (l : ℕ) → is_dirty (state_of h past p l) ≡ true

@@ -1,31 +1,29 @@
 -- The value of a line stays while a port's data of it are on their way.
-use Rattle.std.proofs.Common.{◌≡◌, ◌≢◌, ℕ, ◌<◌, Bool, true, false, not, ◌||◌, ◌==◌, nat_eq, [], ◌∷◌, length, Some, None, refl, sym, ap, subst, ◌∙◌, arith, inl, inr}
-use Rattle.std.proofs.lemmas.Bool.{and_parts, cases_Bool, cases_eq, not-true, eqb-true}
-use Rattle.ace_model.proofs.Terms.{ArKind, AwKind, SnoopKind, I, Read, Write, Event, W, Header, is_fetch, snoop_of_read, is_invalid, is_unique, Answer, Transaction, Trace, at_point, implies, is_some_and}
-use Rattle.ace_model.proofs.Terms.{is_none_or, is_update, is_write_line_unique, has_write_data, is_read, is_line, is_on, issued, ended, read_kind, write_kind, snoop_of, snoop_kind_of, outstanding}
-use Rattle.ace_model.proofs.Terms.{has_outstanding_on, updates_memory, next_write, next_write_beat, gives_line, granted, answer_of, state_of, word_of, copy_of, Beat, value_of, may_store, k11, is_next_beat}
-use Rattle.ace_model.proofs.Terms.{fits_write, full_beat, IsAccepted}
+use Rattle.std.proofs.Common.{◌≡◌, ℕ, ◌<◌, true, false, not, [], ◌∷◌, length, Some, None, refl, sym, ap, subst, ◌∙◌, arith, inl, inr}
+use Rattle.std.proofs.lemmas.Bool.{and_parts, cases_Bool, cases_eq, not-true}
+use Rattle.ace_model.proofs.Terms.{ArKind, I, Read, Write, Event, Header, is_fetch, snoop_of_read, is_unique, Answer, Transaction, Trace, at_point, is_some_and}
+use Rattle.ace_model.proofs.Terms.{is_update, is_make_unique, has_write_data, is_read, is_on, read_kind, write_kind, snoop_of, snoop_kind_of, outstanding}
+use Rattle.ace_model.proofs.Terms.{has_outstanding_on, updates_memory, gives_line, granted, answer_of, state_of, word_of, copy_of, value_of, may_store}
+use Rattle.ace_model.proofs.Terms.{IsAccepted}
 use Rattle.ace_codes.specs.declared.kind.ArKind.TheVariants as read
-use Rattle.ace_codes.specs.declared.kind.AwKind.TheVariants as write
-use Rattle.ace_codes.specs.declared.kind.SnoopKind.TheVariants as snoop
-use Rattle.ace_model.proofs.Trace.Looks.{has_name-is, newest_named-cases, without-some}
-use Rattle.ace_model.proofs.Trace.Issued.{outstanding-named, transaction_of-stands}
+use Rattle.ace_model.proofs.Trace.Looks.{is_on-addr}
+use Rattle.ace_model.proofs.Trace.Issued.{outstanding-name}
 use Rattle.ace_model.proofs.Trace.Growth.{at_point-before, at_point-end}
-use Rattle.ace_model.proofs.Rules.Keeps.{accepted_keeps}
 use Rattle.ace_model.proofs.Trace.LineOnce.{outstanding_found, one_on_line}
 use Rattle.ace_model.proofs.Grants.Stays.{granted_before}
 use Rattle.ace_model.proofs.Tables.SnoopRows.{sends_held}
 use Rattle.ace_model.proofs.Grants.SnoopAnswers.{NewAnswer, answer_cases}
 use Rattle.ace_model.proofs.Grants.Answers.{new_answer, is_levelling, none_unique}
+use Rattle.ace_model.proofs.Tables.Kinds.{fetch_is, update_data}
 use Rattle.ace_model.proofs.Values.UpdateHolds.{keeps}
-use Rattle.ace_model.proofs.Trace.WriteBursts.{burst_grows, burst_new}
 use Rattle.ace_model.proofs.Values.Stores.{Made, value_moves}
-use Rattle.ace_model.proofs.Values.ReadEnds.{read_writes_none}
+use Rattle.ace_model.proofs.Trace.Looks.{read_writes_none}
 use Rattle.ace_model.proofs.Values.WritesAlone.{all_empty}
 use Rattle.ace_model.proofs.Values.Facts.{SentTrue, UpdatesTrue, DirtyPlaced}
 use Rattle.ace_model.proofs.Holders.Law.{accepted_holds}
-use Rattle.ace_model.proofs.General.Options.{Some-injective, is_some_and-is, is_some_and-at, is_none_or-at}
-use Rattle.ace_model.proofs.General.Booleans.{implies-at}
+use Rattle.ace_model.proofs.General.Options.{Some-injective, is_some_and-is}
+use Rattle.ace_model.proofs.Values.Beats.{beat_origin, beat_fits}
+use Rattle.ace_model.proofs.Tables.States.{invalid_not}
 
 module _ (h : Header) (past : Trace) where
   pub may_unique : (q l : ℕ) → may_store h past q l ≡ true → is_unique (state_of h past q l) ≡ true
@@ -40,45 +38,36 @@ module _ (h : Header) (past : Trace) where
   value_stays e a l x g reads no_port no_make =
       elim (value_moves h past e a l) [
         | inl same ↦ same
-        | inr s ↦ elim s [
-          | inl d ↦ absurd (no_port d.port d.may)
-          | inr s ↦ elim s [
-            | inl d ↦ absurd (no_make d.port d.strobe d.made (Some-injective d.made.one x (sym d.made.stands ∙ g)))
-            | inr w ↦
-                let one : w.by.one ≡ x = Some-injective w.by.one x (sym w.by.stands ∙ g) in
-                let bad : false ≡ true = sym w.by.writes ∙ ap (λ (y : Transaction). is_read y.chan) one ∙ reads in cc
-          ]
-        ]
+        | inr (inl d) ↦ absurd (no_port d.port d.may)
+        | inr (inr (inl d)) ↦ absurd (no_make d.port d.strobe d.made (Some-injective d.made.one x (sym d.made.stands ∙ g)))
+        | inr (inr (inr w)) ↦
+            let one : w.by.one ≡ x = Some-injective w.by.one x (sym w.by.stands ∙ g) in
+            let bad : false ≡ true = sym w.by.writes ∙ ap (λ (y : Transaction). is_read y.chan) one ∙ reads in cc
       ]
 
   -- while an update of a port that holds the line is outstanding
   pub value_updating : (e : Event) → IsAccepted h (e ∷ past) → (p i l : ℕ) (x : Transaction) → outstanding h past p Write i ≡ Some x
       → is_on x l ≡ true → updates_memory x ≡ true → value_of (e ∷ past) l ≡ value_of past l
   value_updating e a p i l x o on updates =
-      let held = (keeps h past a.0 p i l x o on updates).held in
-      let valid : state_of h past p l ≡ I → ⊥ = λ gone. let bad : true ≡ false = sym (ap is_invalid gone) ∙ held in cc in
+      let valid = invalid_not (state_of h past p l) (keeps h past a.0 p i l x o on updates).held in
       elim (value_moves h past e a l) [
         | inl same ↦ same
-        | inr s ↦ elim s [
-          | inl d ↦ elim (cases_eq d.port p) [
-            | inl own ↦
-                let some = outstanding_found h past p Write i l x o on in
-                let none = may_free p l (subst (λ v. may_store h past v l ≡ true) own d.may) in cc
-            | inr apart ↦ absurd (valid ((accepted_holds h past a.0).unique l d.port p (may_unique d.port l d.may) apart))
-          ]
-          | inr s ↦ elim s [
-            | inl d ↦ elim (cases_eq d.port p) [
-              | inl own ↦
-                  let out : outstanding h past p Read d.made.id ≡ Some d.made.one = ap (λ v. outstanding h past v Read d.made.id) (sym own) ∙ d.made.out in
-                  let one = one_on_line h past a.0 p Read Write d.made.id i l d.made.one x out o d.made.on on in
-                  let chan = (has_name-is x p Write i (transaction_of-stands past p Write i x (outstanding-named h past p Write i x o)).named).chan in
-                  let reads = (read_writes_none d.made.one read.MakeUnique d.made.kind).1 in
-                  let bad : true ≡ false = sym reads ∙ ap (λ (y : Transaction). is_read y.chan) one ∙ ap is_read chan in cc
-              | inr apart ↦ absurd (valid (d.made.alone p apart))
-            ]
-            | inr w ↦ absurd (valid (all_empty h past a.0 w.port w.chan w.id l w.by p))
-          ]
+        | inr (inl d) ↦ elim (cases_eq d.port p) [
+          | inl own ↦
+              let some = outstanding_found h past p Write i l x o on in
+              let none = may_free p l (subst (λ v. may_store h past v l ≡ true) own d.may) in cc
+          | inr apart ↦ absurd (valid ((accepted_holds h past a.0).unique l d.port p (may_unique d.port l d.may) apart))
         ]
+        | inr (inr (inl d)) ↦ elim (cases_eq d.port p) [
+          | inl own ↦
+              let out : outstanding h past p Read d.made.id ≡ Some d.made.one = ap (λ v. outstanding h past v Read d.made.id) (sym own) ∙ d.made.out in
+              let one = one_on_line h past a.0 p Read Write d.made.id i l d.made.one x out o d.made.on on in
+              let chan = (outstanding-name h past p Write i x o).chan in
+              let reads = (read_writes_none d.made.one read.MakeUnique d.made.kind).1 in
+              let bad : true ≡ false = sym reads ∙ ap (λ (y : Transaction). is_read y.chan) one ∙ ap is_read chan in cc
+          | inr apart ↦ absurd (valid (d.made.alone p apart))
+        ]
+        | inr (inr (inr w)) ↦ absurd (valid (all_empty h past a.0 w.port w.chan w.id l w.by p))
       ]
 
 -- an answer knows how many events came before it
@@ -106,77 +95,42 @@ copy_at-new past e r l w n =
 pub value_cr : (past : Trace) (e : Event) (r l : ℕ) (w : Answer) → NewAnswer past e r l w → value_of (e ∷ past) l ≡ value_of past l
 value_cr past e r l w n = subst (λ d. value_of (d ∷ past) l ≡ value_of past l) (sym n.is) refl
 
-pub fetch_snoops : (k : ArKind) → is_fetch k ≡ true → (s : SnoopKind) × (snoop_of_read k ≡ Some s) × (is_levelling s ≡ true)
-fetch_snoops read.ReadClean e = (snoop.ReadClean, refl, refl)
-fetch_snoops read.ReadNotSharedDirty e = (snoop.ReadNotSharedDirty, refl, refl)
-fetch_snoops read.ReadShared e = (snoop.ReadShared, refl, refl)
-fetch_snoops read.ReadUnique e = (snoop.ReadUnique, refl, refl)
-fetch_snoops k e = cc
+module _ (h : Header) (past : Trace) where
+  pub made_apart : (l : ℕ) (x : Transaction) (k : ArKind) → read_kind x ≡ Some k → is_fetch k ≡ true → (q s : ℕ) (m : Made h past q l s) → m.one ≡ x → ⊥
+  made_apart l x k kind fetch q s m one =
+      let same = Some-injective k read.MakeUnique (sym kind ∙ ap read_kind (sym one) ∙ m.kind) in
+      let bad : true ≡ false = sym (ap is_make_unique same) ∙ (fetch_is k fetch).makes in cc
 
-pub fetch_no_make : (k : ArKind) → is_fetch k ≡ true → k ≢ read.MakeUnique
-fetch_no_make read.MakeUnique e is = cc
-fetch_no_make k e is = cc
-
-pub made_apart : (h : Header) (past : Trace) (l : ℕ) (x : Transaction) (k : ArKind) → read_kind x ≡ Some k → is_fetch k ≡ true → (q s : ℕ) (m : Made h past q l s) → m.one ≡ x → ⊥
-made_apart h past l x k kind fetch q s m one =
-    fetch_no_make k fetch (Some-injective k read.MakeUnique (sym kind ∙ ap read_kind (sym one) ∙ m.kind))
-
-pub sent_step : (h : Header) (past : Trace) (e : Event) → IsAccepted h (e ∷ past) → DirtyPlaced h past → SentTrue h (e ∷ past)
-sent_step h past e a f l r x w k g is d kind fetch =
-    elim (granted_before h past e l x g) [
-      | inr gives ↦ let none : None ≡ Some w = rw gives at is in cc
-      | inl stays ↦ elim (answer_cases past e r l w stays.gives is) [
-        | inl old ↦
-            let s = fetch_snoops k fetch in
-            let causes : snoop_of x ≡ Some s.0 = ap (λ o. snoop_kind_of o (write_kind x)) kind ∙ s.1 in
-            let no_port : (q : ℕ) → may_store h past q l ≡ true → ⊥ = λ q may.
-            let yes = may_unique h past q l may in
-            let no_unique = none_unique h past a.0 l r q x w s.0 stays.was old d causes s.2 in cc in
-            copy_at-old past e r l w old ∙ f.sent l r x w k stays.was old d kind fetch
-            ∙ sym (value_stays h past e a l x stays.was (read_writes_none x k kind).1 no_port (made_apart h past l x k kind fetch))
-        | inr new ↦
-            let n = new_answer h past e a r l w new in
-            let held : state_of h past r l ≡ I → ⊥ = λ gone. sends_held n.1.kind w.resp n.0 (rw gone at n.1.row) d in
-            copy_at-new past e r l w new ∙ f.copies l r held ∙ sym (value_cr past e r l w new)
+  pub sent_step : (e : Event) → IsAccepted h (e ∷ past) → DirtyPlaced h past → SentTrue h (e ∷ past)
+  sent_step e a f l r x w k g is d kind fetch =
+      elim (granted_before h past e l x g) [
+        | inr gives ↦ let none : None ≡ Some w = rw gives at is in cc
+        | inl stays ↦ elim (answer_cases past e r l w stays.gives is) [
+          | inl old ↦
+              let s = is_some_and-is (snoop_of_read k) is_levelling (fetch_is k fetch).snoops in
+              let causes : snoop_of x ≡ Some s.0 = ap (λ o. snoop_kind_of o (write_kind x)) kind ∙ s.1 in
+              let no_port : (q : ℕ) → may_store h past q l ≡ true → ⊥ = λ q may.
+              let yes = may_unique h past q l may in
+              let no_unique = none_unique h past a.0 l r q x w s.0 stays.was old d causes s.2 in cc in
+              copy_at-old past e r l w old ∙ f.sent l r x w k stays.was old d kind fetch
+              ∙ sym (value_stays h past e a l x stays.was (read_writes_none x k kind).1 no_port (made_apart l x k kind fetch))
+          | inr new ↦
+              let n = new_answer h past e a r l w new in
+              let held : state_of h past r l ≡ I → ⊥ = λ gone. sends_held n.1.kind w.resp n.0 (rw gone at n.1.row) d in
+              copy_at-new past e r l w new ∙ f.copies l r held ∙ sym (value_cr past e r l w new)
+        ]
       ]
-    ]
 
-update_sends : (k : AwKind) → is_update k ≡ true → has_write_data k ≡ true
-update_sends write.WriteBack u = refl
-update_sends write.WriteClean u = refl
-update_sends write.WriteEvict u = refl
-update_sends k u = cc
-
--- a new beat of an update is a word of the copy
-update_beat : (h : Header) (past : Trace) (x : Transaction) (k : ℕ) (b : Beat) (last : Bool) → k11 h past (W x.port b.strobe last b.word) ≡ true → next_write past x.port ≡ Some x
-    → next_write_beat past x.port ≡ k → updates_memory x ≡ true → b.word ≡ word_of (copy_of past x.port x.addr) k
-update_beat h past x k b last keeps next number updates =
-    let fits = is_some_and-at (next_write past x.port) (is_next_beat past (next_write_beat past x.port) b.strobe last b.word) x keeps next in
-    let kind = is_some_and-is (write_kind x) is_update updates in
-    let by = is_none_or-at (write_kind x) (fits_write past x (next_write_beat past x.port) b.strobe b.word) kind.0 (and_parts _ (is_none_or (write_kind x) (fits_write past x (next_write_beat past x.port) b.strobe b.word)) fits).1 kind.1 in
-    let both = and_parts (implies (is_update kind.0 || is_write_line_unique kind.0) (b.strobe == full_beat))
-    (implies (is_update kind.0) (b.word == word_of (copy_of past x.port x.addr) (next_write_beat past x.port))) by in
-    eqb-true b.word _ (implies-at (is_update kind.0) _ both.1 kind.2) ∙ ap (word_of (copy_of past x.port x.addr)) number
-
-pub updates_step : (h : Header) (past : Trace) (e : Event) → IsAccepted h (e ∷ past) → DirtyPlaced h past → UpdatesTrue h (e ∷ past)
-updates_step h past e a f p i l x k b o on updates is =
-    elim (newest_named-cases (issued (length past) e) p Write i _ x o) [
-      | inl new ↦ absurd (burst_new h past e a.0 x k b new.0 is)
-      | inr old ↦
-          let was = (without-some (ended h past e) (outstanding h past p Write i) x old.0).0 in
-          let s = transaction_of-stands past p Write i x (outstanding-named h past p Write i x was) in
-          let name = has_name-is x p Write i s.named in
-          let kind = is_some_and-is (write_kind x) is_update updates in
-          let sends : is_some_and (write_kind x) has_write_data ≡ true = subst (λ v. is_some_and v has_write_data ≡ true) (sym kind.1) (update_sends kind.0 kind.2) in
-          let same = value_updating h past e a p i l x was on updates in
-          elim (burst_grows past e x k b (record { there = s.there; before = s.before }) sends is) [
-            | inl before ↦ f.updates p i l x k b was on updates before ∙ ap (λ v. word_of v k) (sym same)
-            | inr beat ↦
-                let rule_11 = (accepted_keeps h past (W x.port b.strobe beat.last b.word) (subst (λ d. IsAccepted h (d ∷ past)) beat.is a)).rule_11 in
-                let word = update_beat h past x k b beat.last rule_11 beat.next beat.number updates in
-                let held = (keeps h past a.0 p i l x was on updates).held in
-                let copy = f.copies l p (λ gone. let bad : true ≡ false = sym (ap is_invalid gone) ∙ held in cc) in
-                let here : copy_of past x.port x.addr ≡ copy_of past p l = ap (λ v. copy_of past v x.addr) name.port ∙ ap (copy_of past p) (eqb-true x.addr l (and_parts (is_line x) (nat_eq x.addr l) on).1) in
-                word ∙ ap (λ v. word_of v k) (here ∙ copy ∙ sym same)
-          ]
-    ]
+  pub updates_step : (e : Event) → IsAccepted h (e ∷ past) → DirtyPlaced h past → UpdatesTrue h (e ∷ past)
+  updates_step e a f p i l x k b o on updates is =
+      let kind = is_some_and-is (write_kind x) is_update updates in
+      let beat = beat_origin h past e x k b a p i o (subst (λ v. is_some_and v has_write_data ≡ true) (sym kind.1) (update_data kind.0 kind.2)) is in
+      let same = value_updating h past e a p i l x beat.was on updates in
+      elim beat.comes [
+        | inl before ↦ f.updates p i l x k b beat.was on updates before ∙ ap (λ v. word_of v k) (sym same)
+        | inr new ↦
+            let port = (outstanding-name h past p Write i x beat.was).port in
+            let copy = f.copies l p (invalid_not (state_of h past p l) (keeps h past a.0 p i l x beat.was on updates).held) in
+            let here : copy_of past x.port x.addr ≡ copy_of past p l = ap (λ v. copy_of past v x.addr) port ∙ ap (copy_of past p) (is_on-addr x l on) in
+            (beat_fits h past e x k b a new kind.0 kind.1).copied kind.2 ∙ ap (word_of (copy_of past x.port x.addr)) new.number ∙ ap (λ v. word_of v k) (here ∙ copy ∙ sym same)
+      ]

@@ -1,22 +1,22 @@
 -- Once the update of a dirty line has written memory, memory is the value, and no passed data are on their way.
-use Rattle.std.proofs.Common.{◌≡◌, ℕ, true, false, not, nat_eq, ◌∷◌, length, Some, None, refl, sym, ap, subst, ◌∙◌, inl, inr}
-use Rattle.std.proofs.lemmas.Bool.{and_parts, not-true, cases_Bool, eqb-true}
+use Rattle.std.proofs.Common.{◌≡◌, ℕ, true, false, not, ◌∷◌, Some, None, refl, sym, ap, subst, ◌∙◌, inl, inr}
+use Rattle.std.proofs.lemmas.Bool.{not-true, cases_Bool}
 use Rattle.std.specs.List.{AllByRecursion}
-use Rattle.ace_model.proofs.Terms.{AwKind, passes_dirty, InRange, Write, Event, Header, is_invalid, Answer, Transaction, Trace, is_some_and, is_update, is_read, is_line, write_kind, issued, ended}
+use Rattle.ace_model.proofs.Terms.{passes_dirty, InRange, Write, Event, Header, is_invalid, Answer, Transaction, Trace, is_some_and, is_update, is_read, write_kind}
 use Rattle.ace_model.proofs.Terms.{outstanding, updates_memory, has_update, granted, has_passed_data, state_of, IsAccepted}
-use Rattle.ace_codes.specs.declared.kind.AwKind.TheVariants as write
-use Rattle.ace_model.proofs.Trace.Looks.{has_name-is, newest_named-cases, without-some}
-use Rattle.ace_model.proofs.Trace.Issued.{outstanding-named, transaction_of-stands}
+use Rattle.ace_model.proofs.Trace.Looks.{is_on-addr}
+use Rattle.ace_model.proofs.Trace.Issued.{outstanding-named, outstanding-name, outstanding-origin}
 use Rattle.ace_model.proofs.Tables.States.{row_is}
 use Rattle.ace_model.proofs.Grants.Stays.{granted_before}
 use Rattle.ace_model.proofs.Tables.SnoopRows.{beside_update}
 use Rattle.ace_model.proofs.Grants.SnoopAnswers.{NewAnswer, answer_cases}
 use Rattle.ace_model.proofs.Grants.Answers.{new_answer}
-use Rattle.ace_model.proofs.Values.UpdateHolds.{is_dirty_update, update_found, keeps}
+use Rattle.ace_model.proofs.Values.UpdateHolds.{update_found, keeps}
+use Rattle.ace_model.proofs.Tables.Kinds.{is_dirty_update, dirty_updates}
 use Rattle.ace_model.proofs.Values.WritesAlone.{all_empty}
 use Rattle.ace_model.proofs.Values.Stays.{value_updating}
-use Rattle.ace_model.proofs.Grants.Granted.{new_unwritten, unwritten_before, written_cases, has_passed, Passes, passes_of, granted_given, updates_ungranted}
-use Rattle.ace_model.proofs.Values.PassedData.{passes_data}
+use Rattle.ace_model.proofs.Grants.Granted.{new_unwritten, unwritten_before, written_cases, has_passed, granted_given, updates_ungranted}
+use Rattle.ace_model.proofs.Values.PassedData.{passes_data, passes_line}
 use Rattle.ace_model.proofs.Values.MemoryWrites.{WritesLine, memory_moves, writer, update_true}
 use Rattle.ace_model.proofs.Values.Facts.{Updated, UpdatedTrue, DirtyPlaced}
 use Rattle.ace_model.proofs.Holders.Law.{accepted_holds}
@@ -35,30 +35,23 @@ still_none h past e a l none no_new y g =
     some : has_passed_data h (e ∷ past) y ≡ true → ⊥
     some t =
         let parts = has_passed h (e ∷ past) y t in
-        let o = (accepted_holds h (e ∷ past) a).grants l y g in
-        let addr = eqb-true y.addr l (and_parts (is_line y) (nat_eq y.addr l) o.1).1 in
-        let w = subst (λ v. Passes h (e ∷ past) v) addr (passes_of h (e ∷ past) y.addr parts.some) in
+        let w = passes_line h (e ∷ past) a l y g t in
         elim (granted_before h past e l y g) [
           | inr gives ↦ let bad : None ≡ Some w.answer = rw gives at w.is in cc
           | inl stays ↦ elim (answer_cases past e w.port l w.answer stays.gives w.is) [
             | inl old ↦
-                let before = unwritten_before h past e a y.port y.chan y.id y ((accepted_holds h past a.0).grants l y stays.was).0 parts.unwritten in
+                let before = unwritten_before h past e a y.port y.chan y.id y ((accepted_holds h past a.0).grants l y stays.was).0 (has_passed h (e ∷ past) y t).unwritten in
                 let bad : true ≡ false = sym (passes_data h past a.0 l w.port y w.answer stays.was before old w.dirty) ∙ none y stays.was in cc
             | inr new ↦ no_new w.port w.answer new w.dirty
           ]
         ]
 
-dirty_updates : (k : AwKind) → is_dirty_update k ≡ true → is_update k ≡ true
-dirty_updates write.WriteBack d = refl
-dirty_updates write.WriteClean d = refl
-dirty_updates k d = cc
-
 pub updated_step : (h : Header) (past : Trace) (e : Event) → IsAccepted h (e ∷ past) → AllByRecursion InRange (e ∷ past) → DirtyPlaced h past → UpdatedTrue h (e ∷ past)
 updated_step h past e a r f p i l x o on dirty m =
-    elim (newest_named-cases (issued (length past) e) p Write i _ x o) [
+    elim (outstanding-origin h past e p Write i x o) [
       | inl new ↦ absurd (new_unwritten past e x p Write i new.0 new.1 m)
       | inr old ↦
-          let was = (without-some (ended h past e) (outstanding h past p Write i) x old.0).0 in
+          let was = old.was in
           elim (written_cases h past e a p Write i x was m) [
             | inl now ↦ written was (record { port = p; chan = Write; id = i; line = now.line; is = now.is; one = x; out = was; on = on; may = now.may }) refl
             | inr earlier ↦ later was (f.updated p i l x was on dirty earlier)
@@ -70,24 +63,22 @@ updated_step h past e a r f p i l x o on dirty m =
 
     written : outstanding h past p Write i ≡ Some x → (w : WritesLine h past e l) → w.one ≡ x → Updated h (e ∷ past) l
     written was w same =
-        let chan = (has_name-is x p Write i (transaction_of-stands past p Write i x (outstanding-named h past p Write i x was)).named).chan in
+        let chan = (outstanding-name h past p Write i x was).chan in
         let writes : is_read x.chan ≡ false = ap is_read chan in
         elim (writer h past e a l w) [
           | inl passed ↦ let bad : true ≡ false = sym passed.reads ∙ ap (λ (y : Transaction). is_read y.chan) same ∙ writes in cc
-          | inr s ↦ elim s [
-            | inl u ↦
-                let addr = eqb-true w.one.addr l (and_parts (is_line w.one) (nat_eq w.one.addr l) w.on).1 in
-                record {
-                  stored = update_true h past e a r.0 f.updates l w u;
-                  none = still_none h past e a l
-                      (λ y g. not-true (has_passed_data h past y) (is_none_or-at (granted h past w.one.addr) (λ y. not (has_passed_data h past y)) y u.clear (ap (granted h past) addr ∙ g)))
-                      (λ q v new d. let bad = sym w.is ∙ new.is in cc);
-                }
-            | inr s ↦
-                let one : s.one ≡ x = Some-injective s.one w.one (sym s.named ∙ outstanding-named h past w.port w.chan w.id w.one w.out) ∙ same in
-                let kind = (granted_given h past a.0 l x (s.stands ∙ ap (λ v. Some v) one)).kind in
-                absurd (updates_ungranted x kind writes updates)
-          ]
+          | inr (inl u) ↦
+              let addr = is_on-addr w.one l w.on in
+              record {
+                stored = update_true h past e a r.0 f.updates l w u;
+                none = still_none h past e a l
+                    (λ y g. not-true (has_passed_data h past y) (is_none_or-at (granted h past w.one.addr) (λ y. not (has_passed_data h past y)) y u.clear (ap (granted h past) addr ∙ g)))
+                    (λ q v new d. let bad = sym w.is ∙ new.is in cc);
+              }
+          | inr (inr s) ↦
+              let one : s.one ≡ x = Some-injective s.one w.one (sym s.named ∙ outstanding-named h past w.port w.chan w.id w.one w.out) ∙ same in
+              let kind = (granted_given h past a.0 l x (s.stands ∙ ap (λ v. Some v) one)).kind in
+              absurd (updates_ungranted x kind writes updates)
         ]
 
     later : outstanding h past p Write i ≡ Some x → Updated h past l → Updated h (e ∷ past) l
@@ -99,10 +90,8 @@ updated_step h past e a r f p i l x o on dirty m =
             | inl kept ↦ kept ∙ q.stored ∙ sym value
             | inr w ↦ elim (writer h past e a l w) [
               | inl passed ↦ let bad : true ≡ false = sym passed.has ∙ q.none w.one passed.stands in cc
-              | inr s ↦ elim s [
-                | inl u ↦ update_true h past e a r.0 f.updates l w u
-                | inr s ↦ let bad : true ≡ false = sym (ap is_invalid (all_empty h past a.0 w.port w.chan w.id l s p)) ∙ k.held in cc
-              ]
+              | inr (inl u) ↦ update_true h past e a r.0 f.updates l w u
+              | inr (inr s) ↦ let bad : true ≡ false = sym (ap is_invalid (all_empty h past a.0 w.port w.chan w.id l s p)) ∙ k.held in cc
             ]
           ];
           none = still_none h past e a l q.none (λ z v new d.

@@ -1,15 +1,15 @@
 -- Once a granted write has written memory, memory is the value and no port holds the line.
-use Rattle.std.proofs.Common.{◌≡◌, ℕ, ◌+◌, ◌*◌, Bool, true, false, if◌then◌else◌, ◌||◌, nat_eq, [], ◌∷◌, length, Option, Some, None, option_map, unwrap_or, option_and_then, slice_get, refl, sym, ap, subst, ◌∙◌, inl, inr}
-use Rattle.std.proofs.lemmas.Bool.{and_parts, and_from, cases_Bool, eqb-true}
+use Rattle.std.proofs.Common.{◌≡◌, ℕ, ◌+◌, ◌*◌, true, false, ◌||◌, [], ◌∷◌, length, Option, Some, None, unwrap_or, option_and_then, slice_get, refl, sym, ap, subst, ◌∙◌, inl, inr}
+use Rattle.std.proofs.lemmas.Bool.{and_from, cases_Bool}
 use Rattle.std.specs.List.{AllByRecursion}
 use Rattle.ace_codes.specs.declared.kind.ArKind.TheVariants as read
 use Rattle.ace_model.proofs.Terms.{AwKind, I, InRange, Channel, Write, Event, M, Header, Line, merged, Transaction, Trace, is_some_and, is_write_line_unique, has_write_data, is_unique_write}
-use Rattle.ace_model.proofs.Terms.{is_no_snoop_write, is_read, is_line, read_kind, write_kind, snoop_of, snoop_kind_of, outstanding, has_memory_write, granted, has_passed_data, state_of, memory_of}
+use Rattle.ace_model.proofs.Terms.{is_no_snoop_write, is_read, read_kind, write_kind, snoop_of, snoop_kind_of, outstanding, has_memory_write, granted, has_passed_data, state_of, memory_of}
 use Rattle.ace_model.proofs.Terms.{passed_to, passed_data, Beat, burst_of, burst_line, burst_strobe, value_of, full_beat, full_line, data_of, data_of_write, burst_into, IsAccepted, replaces_line}
 use Rattle.ace_model.proofs.Terms.{HasDirtyHolder}
 use Rattle.ace_codes.specs.declared.kind.AwKind.TheVariants as write
-use Rattle.ace_model.proofs.Trace.Looks.{has_name-is}
-use Rattle.ace_model.proofs.Trace.Issued.{outstanding-named, transaction_of-stands}
+use Rattle.ace_model.proofs.Trace.Looks.{is_on-addr}
+use Rattle.ace_model.proofs.Trace.Issued.{outstanding-named}
 use Rattle.ace_model.proofs.Holders.Rises.{state_moves}
 use Rattle.ace_model.proofs.Grants.Stays.{granted_before}
 use Rattle.ace_model.proofs.Grants.SnoopAnswers.{no_rise}
@@ -17,17 +17,17 @@ use Rattle.ace_model.proofs.Grants.Answers.{passed_kind}
 use Rattle.ace_model.proofs.Values.MergedLines.{line_of, merged-length, merged-all}
 use Rattle.ace_model.proofs.Trace.WriteBursts.{four_beats}
 use Rattle.ace_model.proofs.Values.Stores.{Writes, stores_m, stores_kind, value_moves}
-use Rattle.ace_model.proofs.Values.ReadEnds.{read_writes_none}
+use Rattle.ace_model.proofs.Trace.Looks.{read_writes_none}
 use Rattle.ace_model.proofs.Values.WritesAlone.{all_empty}
-use Rattle.ace_model.proofs.Values.Copies.{unique_valid}
+use Rattle.ace_model.proofs.Tables.States.{unique_valid, dirty_valid}
 use Rattle.ace_model.proofs.Values.Stays.{may_unique}
-use Rattle.ace_model.proofs.Values.Replies.{dirty_valid}
-use Rattle.ace_model.proofs.Grants.Granted.{given_unwritten, granted_given, granted_write, has_passed, passes_of, Passes, written_cases}
+use Rattle.ace_model.proofs.Grants.Granted.{given_unwritten, granted_given, granted_write, written_cases}
 use Rattle.ace_model.proofs.Values.Passed.{passed_true}
-use Rattle.ace_model.proofs.Values.MemoryWrites.{WritesLine, memory_now, memory_moves, grant_stores, writer, line_is, is_write-is, update_true, beats_fit}
+use Rattle.ace_model.proofs.Values.MemoryWrites.{WritesLine, memory_now, memory_moves, grant_stores, writer, line_is, is_write-is, update_true, beats_fit, kind_data}
 use Rattle.ace_model.proofs.Values.Facts.{Quiet, WrittenTrue, DirtyPlaced}
 use Rattle.ace_model.proofs.Holders.Law.{accepted_holds}
 use Rattle.ace_model.proofs.General.Options.{Some-injective}
+use Rattle.ace_model.proofs.Values.PassedData.{passes_line, passed_has}
 
 -- What a store writes.
 record Writing (h : Header) (past : Trace) (l : ℕ) (x : Transaction) : Type 0 where
@@ -35,13 +35,6 @@ record Writing (h : Header) (past : Trace) (l : ℕ) (x : Transaction) : Type 0 
   is : data_of h past x ≡ Some line
   four : length line.words ≡ 4
   stores : line ≡ burst_into past x (value_of past l)
-
-kind_data : (h : Header) (past : Trace) (x : Transaction) (k : AwKind) → is_read x.chan ≡ false → write_kind x ≡ Some k → data_of h past x ≡ Some (data_of_write h past x k)
-kind_data h past x k writes kind = from (is_read x.chan) writes _ _ ∙ ap (option_map (data_of_write h past x)) kind
-  where
-    from : (b : Bool) → b ≡ false → (s t : Option Line) → (if b then s else t) ≡ t
-    from true f s t = cc
-    from false f s t = refl
 
 -- where no port holds the line, the passed data are the value, else memory is
 base_is : (h : Header) (past : Trace) → IsAccepted h past → DirtyPlaced h past → (l : ℕ) (x : Transaction) → granted h past l ≡ Some x → replaces_line x ≡ false
@@ -55,24 +48,15 @@ base_is h past a f l x g replaces empty = by (passed_data h past l) refl
     by None is =
         elim (f.safe l) [
           | inl same ↦ same
-          | inr s ↦ elim s [
-            | inl d ↦ absurd (no_holder d)
-            | inr s ↦ elim s [
-              | inl passed ↦ let bad : None ≡ Some (value_of past l) = sym is ∙ passed in cc
-              | inr r ↦
-                  let yes : replaces_line x ≡ true = subst (λ o. is_some_and o replaces_line ≡ true) g r in cc
-            ]
-          ]
+          | inr (inl d) ↦ absurd (no_holder d)
+          | inr (inr (inl passed)) ↦ let bad : None ≡ Some (value_of past l) = sym is ∙ passed in cc
+          | inr (inr (inr r)) ↦
+              let yes : replaces_line x ≡ true = subst (λ o. is_some_and o replaces_line ≡ true) g r in cc
         ]
     by (Some d) is =
-        elim (cases_Bool (has_passed_data h past x)) [
-          | inl has ↦ elim (passed_true h past a f.passed l x g has) [
-            | inl same ↦ Some-injective d (value_of past l) (sym is ∙ same)
-            | inr holder ↦ absurd (no_holder holder)
-          ]
-          | inr none ↦
-              let to : passed_data h past l ≡ passed_to h past l x = ap (option_and_then (passed_to h past l)) g in
-              let bad : None ≡ Some d = rw none at (sym to ∙ is) in cc
+        elim (passed_true h past a f.passed l x g (passed_has h past l x d g is)) [
+          | inl same ↦ Some-injective d (value_of past l) (sym is ∙ same)
+          | inr holder ↦ absurd (no_holder holder)
         ]
 
 full_burst : (b0 b1 b2 b3 : Beat) → b0.strobe ≡ full_beat → b1.strobe ≡ full_beat → b2.strobe ≡ full_beat → b3.strobe ≡ full_beat
@@ -82,145 +66,139 @@ full_burst b0 b1 b2 b3 e0 e1 e2 e3 = joined b0.strobe b1.strobe b2.strobe b3.str
     joined : (s t u v : ℕ) → s ≡ full_beat → t ≡ full_beat → u ≡ full_beat → v ≡ full_beat → s + 65536 * (t + 65536 * (u + 65536 * (v + 65536 * 0))) ≡ full_line
     joined s t u v e0 e1 e2 e3 = rw (e0, e1, e2, e3) refl
 
-writing : (h : Header) (past : Trace) → IsAccepted h past → AllByRecursion InRange past → DirtyPlaced h past → (q : ℕ) (c : Channel) (j l : ℕ) → (w : Writes h past q c j l)
-    → Writing h past l w.one
-writing h past a r f q c j l w =
-    let k = stores_kind w.one w.stores in by k.0 k.1 k.2
-  where
-    x : Transaction
-    x = w.one
+module _ (h : Header) (past : Trace) where
+  writing : IsAccepted h past → AllByRecursion InRange past → DirtyPlaced h past → (q : ℕ) (c : Channel) (j l : ℕ) → (w : Writes h past q c j l)
+      → Writing h past l w.one
+  writing a r f q c j l w =
+      let k = stores_kind w.one w.stores in by k.0 k.1 k.2
+    where
+      x : Transaction
+      x = w.one
 
-    addr : x.addr ≡ l
-    addr = eqb-true w.one.addr l (and_parts (is_line w.one) (nat_eq w.one.addr l) w.on).1
+      addr : x.addr ≡ l
+      addr = is_on-addr w.one l w.on
 
-    empty : (p : ℕ) → state_of h past p l ≡ I
-    empty p = all_empty h past a q c j l w p
+      empty : (p : ℕ) → state_of h past p l ≡ I
+      empty p = all_empty h past a q c j l w p
 
-    no_read : read_kind w.one ≡ None
-    no_read = let writes = w.writes in rw writes refl
+      no_read : read_kind w.one ≡ None
+      no_read = let writes = w.writes in rw writes refl
 
-    base : (k : AwKind) → write_kind w.one ≡ Some k → is_write_line_unique k ≡ false → unwrap_or (passed_data h past l) (memory_of past l) ≡ value_of past l
-    base k kind other =
-        let none : replaces_line w.one ≡ false = rw (no_read, kind) other in
-        base_is h past a f l w.one w.stands none empty
+      base : (k : AwKind) → write_kind w.one ≡ Some k → is_write_line_unique k ≡ false → unwrap_or (passed_data h past l) (memory_of past l) ≡ value_of past l
+      base k kind other =
+          let none : replaces_line w.one ≡ false = rw (no_read, kind) other in
+          base_is h past a f l w.one w.stands none empty
 
-    by : (k : AwKind) → write_kind w.one ≡ Some k → (is_unique_write k || is_no_snoop_write k) ≡ true → Writing h past l w.one
-    by write.WriteUnique kind s = record {
-      line = data_of_write h past w.one write.WriteUnique;
-      is = kind_data h past w.one write.WriteUnique w.writes kind;
-      four = merged-length _ _ _;
-      stores = ap (λ v. burst_into past w.one (unwrap_or (passed_data h past v) (memory_of past v))) addr ∙ ap (burst_into past w.one) (base write.WriteUnique kind refl);
-    }
-    by write.WriteNoSnoop kind s = record {
-      line = data_of_write h past w.one write.WriteNoSnoop;
-      is = kind_data h past w.one write.WriteNoSnoop w.writes kind;
-      four = merged-length _ _ _;
-      stores = ap (λ v. burst_into past w.one (memory_of past v)) addr ∙ ap (burst_into past w.one) (memory_is kind);
-    }
-      where
-        memory_is : write_kind w.one ≡ Some write.WriteNoSnoop → memory_of past l ≡ value_of past l
-        memory_is kind =
-            let none : passed_data h past l ≡ None = elim (cases_Bool (has_passed_data h past w.one)) [
-              | inr lacks ↦ ap (option_and_then (passed_to h past l)) w.stands ∙ rw lacks refl
-              | inl has ↦
-                  let p = subst (λ v. Passes h past v) addr (passes_of h past w.one.addr (has_passed h past w.one has).some) in
-                  let k = passed_kind h past a l p.port w.one p.answer w.stands p.is p.dirty in
-                  let causes : snoop_of w.one ≡ None = ap (λ o. snoop_kind_of o (write_kind w.one)) no_read ∙ ap (snoop_kind_of None) kind in
-                  let bad : None ≡ Some k.0 = sym causes ∙ k.1 in cc
-            ] in
-            ap (λ o. unwrap_or o (memory_of past l)) (sym none) ∙ base write.WriteNoSnoop kind refl
-    by write.WriteLineUnique kind s =
-        let four = four_beats past w.one w.whole in
-        let name = has_name-is w.one q c j (transaction_of-stands past q c j w.one w.named).named in
-        let out : outstanding h past w.one.port Write w.one.id ≡ Some w.one =
-        ap (λ (d : Channel). outstanding h past w.one.port d w.one.id) (sym (is_write-is w.one.chan w.writes)) ∙ w.out in
-        let sends : is_some_and (write_kind w.one) has_write_data ≡ true = rw kind refl in
-        let unique : is_some_and (write_kind w.one) is_write_line_unique ≡ true = rw kind refl in
-        let f0 = beats_fit h past a r w.one.port w.one.id w.one 0 four.b0 out sends (ap (λ bs. slice_get bs 0) four.is) in
-        let f1 = beats_fit h past a r w.one.port w.one.id w.one 1 four.b1 out sends (ap (λ bs. slice_get bs 1) four.is) in
-        let f2 = beats_fit h past a r w.one.port w.one.id w.one 2 four.b2 out sends (ap (λ bs. slice_get bs 2) four.is) in
-        let f3 = beats_fit h past a r w.one.port w.one.id w.one 3 four.b3 out sends (ap (λ bs. slice_get bs 3) four.is) in
-        let line : burst_line (burst_of past w.one) ≡ line_of four.b0.word four.b1.word four.b2.word four.b3.word = ap burst_line four.is in
-        let strobe : burst_strobe (burst_of past w.one) ≡ full_line =
-        ap burst_strobe four.is ∙ full_burst four.b0 four.b1 four.b2 four.b3 (f0.full unique) (f1.full unique) (f2.full unique) (f3.full unique) in
-        record {
-          line = burst_line (burst_of past w.one);
-          is = kind_data h past w.one write.WriteLineUnique w.writes kind;
-          four = ap (λ (v : Line). length v.words) line;
-          stores = sym (ap (λ s. merged (value_of past l) s (burst_line (burst_of past w.one))) strobe ∙ ap (merged (value_of past l) full_line) line
-              ∙ merged-all (value_of past l) four.b0.word four.b1.word four.b2.word four.b3.word f0.low f1.low f2.low f3.low ∙ sym line);
-        }
-    by k kind s = cc
+      by : (k : AwKind) → write_kind w.one ≡ Some k → (is_unique_write k || is_no_snoop_write k) ≡ true → Writing h past l w.one
+      by write.WriteUnique kind s = record {
+        line = data_of_write h past w.one write.WriteUnique;
+        is = kind_data h past w.one write.WriteUnique w.writes kind;
+        four = merged-length _ _ _;
+        stores = ap (λ v. burst_into past w.one (unwrap_or (passed_data h past v) (memory_of past v))) addr ∙ ap (burst_into past w.one) (base write.WriteUnique kind refl);
+      }
+      by write.WriteNoSnoop kind s = record {
+        line = data_of_write h past w.one write.WriteNoSnoop;
+        is = kind_data h past w.one write.WriteNoSnoop w.writes kind;
+        four = merged-length _ _ _;
+        stores = ap (λ v. burst_into past w.one (memory_of past v)) addr ∙ ap (burst_into past w.one) (memory_is kind);
+      }
+        where
+          memory_is : write_kind w.one ≡ Some write.WriteNoSnoop → memory_of past l ≡ value_of past l
+          memory_is kind =
+              let none : passed_data h past l ≡ None = elim (cases_Bool (has_passed_data h past w.one)) [
+                | inr lacks ↦ ap (option_and_then (passed_to h past l)) w.stands ∙ rw lacks refl
+                | inl has ↦
+                    let p = passes_line h past a l w.one w.stands has in
+                    let k = passed_kind h past a l p.port w.one p.answer w.stands p.is p.dirty in
+                    let causes : snoop_of w.one ≡ None = ap (λ o. snoop_kind_of o (write_kind w.one)) no_read ∙ ap (snoop_kind_of None) kind in
+                    let bad : None ≡ Some k.0 = sym causes ∙ k.1 in cc
+              ] in
+              ap (λ o. unwrap_or o (memory_of past l)) (sym none) ∙ base write.WriteNoSnoop kind refl
+      by write.WriteLineUnique kind s =
+          let four = four_beats past w.one w.whole in
+          let out : outstanding h past w.one.port Write w.one.id ≡ Some w.one =
+          ap (λ (d : Channel). outstanding h past w.one.port d w.one.id) (sym (is_write-is w.one.chan w.writes)) ∙ w.out in
+          let sends : is_some_and (write_kind w.one) has_write_data ≡ true = rw kind refl in
+          let unique : is_some_and (write_kind w.one) is_write_line_unique ≡ true = rw kind refl in
+          let f0 = beats_fit h past a r w.one.port w.one.id w.one 0 four.b0 out sends (ap (λ bs. slice_get bs 0) four.is) in
+          let f1 = beats_fit h past a r w.one.port w.one.id w.one 1 four.b1 out sends (ap (λ bs. slice_get bs 1) four.is) in
+          let f2 = beats_fit h past a r w.one.port w.one.id w.one 2 four.b2 out sends (ap (λ bs. slice_get bs 2) four.is) in
+          let f3 = beats_fit h past a r w.one.port w.one.id w.one 3 four.b3 out sends (ap (λ bs. slice_get bs 3) four.is) in
+          let line : burst_line (burst_of past w.one) ≡ line_of four.b0.word four.b1.word four.b2.word four.b3.word = ap burst_line four.is in
+          let strobe : burst_strobe (burst_of past w.one) ≡ full_line =
+          ap burst_strobe four.is ∙ full_burst four.b0 four.b1 four.b2 four.b3 (f0.full unique) (f1.full unique) (f2.full unique) (f3.full unique) in
+          record {
+            line = burst_line (burst_of past w.one);
+            is = kind_data h past w.one write.WriteLineUnique w.writes kind;
+            four = ap (λ (v : Line). length v.words) line;
+            stores = sym (ap (λ s. merged (value_of past l) s (burst_line (burst_of past w.one))) strobe ∙ ap (merged (value_of past l) full_line) line
+                ∙ merged-all (value_of past l) four.b0.word four.b1.word four.b2.word four.b3.word f0.low f1.low f2.low f3.low ∙ sym line);
+          }
+      by k kind s = cc
 
--- a store makes memory the value
-pub store_true : (h : Header) (past : Trace) (e : Event) → IsAccepted h (e ∷ past) → AllByRecursion InRange (e ∷ past) → DirtyPlaced h past → (l : ℕ) (w : WritesLine h past e l)
-    → (s : Writes h past w.port w.chan w.id l) → memory_of (e ∷ past) l ≡ value_of (e ∷ past) l
-store_true h past e a r f l w s =
-    let one : w.one ≡ s.one = Some-injective w.one s.one (sym (outstanding-named h past w.port w.chan w.id w.one w.out) ∙ s.named) in
-    let d = writing h past a.0 r.1 f w.port w.chan w.id l s in
-    let line = line_is h past e a r.0 l w d.line (ap (data_of h past) one ∙ d.is) d.four in
-    let named = s.named in
-    let both = and_from _ _ s.stores s.on in
-    let value : value_of (M w.port w.chan w.id w.line ∷ past) l ≡ burst_into past s.one (value_of past l) = rw (named, both) refl in
-    memory_now h past e l w ∙ line ∙ d.stores ∙ sym (subst (λ v. value_of (v ∷ past) l ≡ burst_into past s.one (value_of past l)) (sym w.is) value)
+  -- a store makes memory the value
+  pub store_true : (e : Event) → IsAccepted h (e ∷ past) → AllByRecursion InRange (e ∷ past) → DirtyPlaced h past → (l : ℕ) (w : WritesLine h past e l)
+      → (s : Writes h past w.port w.chan w.id l) → memory_of (e ∷ past) l ≡ value_of (e ∷ past) l
+  store_true e a r f l w s =
+      let one : w.one ≡ s.one = Some-injective w.one s.one (sym (outstanding-named h past w.port w.chan w.id w.one w.out) ∙ s.named) in
+      let d = writing a.0 r.1 f w.port w.chan w.id l s in
+      let line = line_is h past e a r.0 l w d.line (ap (data_of h past) one ∙ d.is) d.four in
+      let named = s.named in
+      let both = and_from _ _ s.stores s.on in
+      let value : value_of (M w.port w.chan w.id w.line ∷ past) l ≡ burst_into past s.one (value_of past l) = rw (named, both) refl in
+      memory_now h past e l w ∙ line ∙ d.stores ∙ sym (subst (λ v. value_of (v ∷ past) l ≡ burst_into past s.one (value_of past l)) (sym w.is) value)
 
-pub written_step : (h : Header) (past : Trace) (e : Event) → IsAccepted h (e ∷ past) → AllByRecursion InRange (e ∷ past) → DirtyPlaced h past → WrittenTrue h (e ∷ past)
-written_step h past e a r f l x g writes m =
-    elim (granted_before h past e l x g) [
-      | inr gives ↦ absurd (given_unwritten h past e a l x g gives m)
-      | inl stays ↦
-          let o = (accepted_holds h past a.0).grants l x stays.was in
-          elim (written_cases h past e a x.port x.chan x.id x o.0 m) [
-            | inl now ↦
-                let k = granted_write x (granted_given h past a.0 l x stays.was).kind writes in
-                let w : WritesLine h past e l = record { port = x.port; chan = x.chan; id = x.id; line = now.line; is = now.is; one = x; out = o.0; on = o.1; may = now.may } in
-                let s = stores_m h past x.port x.chan x.id now.line l (subst (λ v. IsAccepted h (v ∷ past)) now.is a) x
-                (outstanding-named h past x.port x.chan x.id x o.0) (and_from _ _ (grant_stores x k.0 k.1 k.2) o.1) in
-                record {
-                  stored = store_true h past e a r f l w s;
-                  nowhere = λ p. subst (λ v. state_of h (v ∷ past) p l ≡ I) (sym now.is) (all_empty h past a.0 x.port x.chan x.id l s p);
-                }
-            | inr earlier ↦
-                let q = f.written l x stays.was writes earlier in
-                record {
-                  stored = later stays.was earlier q;
-                  nowhere = λ p. elim (state_moves h past e a p l) [
-                    | inl less ↦ less.gone (q.nowhere p)
-                    | inr up ↦ absurd (no_rise h past e l p x stays up)
-                  ];
-                }
-          ]
-    ]
-  where
-    again : granted h past l ≡ Some x → has_memory_write past x.port x.chan x.id ≡ true → (p : ℕ) (c : Channel) (i : ℕ) → Writes h past p c i l → ⊥
-    again was earlier p c i s =
-        let one : s.one ≡ x = Some-injective s.one x (sym s.stands ∙ was) in
-        let first : has_memory_write past x.port x.chan x.id ≡ false = subst (λ (y : Transaction). has_memory_write past y.port y.chan y.id ≡ false) one s.first in
-        let bad : true ≡ false = sym earlier ∙ first in cc
+  pub written_step : (e : Event) → IsAccepted h (e ∷ past) → AllByRecursion InRange (e ∷ past) → DirtyPlaced h past → WrittenTrue h (e ∷ past)
+  written_step e a r f l x g writes m =
+      elim (granted_before h past e l x g) [
+        | inr gives ↦ absurd (given_unwritten h past e a l x g gives m)
+        | inl stays ↦
+            let o = (accepted_holds h past a.0).grants l x stays.was in
+            elim (written_cases h past e a x.port x.chan x.id x o.0 m) [
+              | inl now ↦
+                  let k = granted_write x (granted_given h past a.0 l x stays.was).kind writes in
+                  let w : WritesLine h past e l = record { port = x.port; chan = x.chan; id = x.id; line = now.line; is = now.is; one = x; out = o.0; on = o.1; may = now.may } in
+                  let s = stores_m h past x.port x.chan x.id now.line l (subst (λ v. IsAccepted h (v ∷ past)) now.is a) x
+                  (outstanding-named h past x.port x.chan x.id x o.0) (and_from _ _ (grant_stores x k.0 k.1 k.2) o.1) in
+                  record {
+                    stored = store_true e a r f l w s;
+                    nowhere = λ p. subst (λ v. state_of h (v ∷ past) p l ≡ I) (sym now.is) (all_empty h past a.0 x.port x.chan x.id l s p);
+                  }
+              | inr earlier ↦
+                  let q = f.written l x stays.was writes earlier in
+                  record {
+                    stored = later stays.was earlier q;
+                    nowhere = λ p. elim (state_moves h past e a p l) [
+                      | inl less ↦ less.gone (q.nowhere p)
+                      | inr up ↦ absurd (no_rise h past e l p x stays up)
+                    ];
+                  }
+            ]
+      ]
+    where
+      again : granted h past l ≡ Some x → has_memory_write past x.port x.chan x.id ≡ true → (p : ℕ) (c : Channel) (i : ℕ) → Writes h past p c i l → ⊥
+      again was earlier p c i s =
+          let one : s.one ≡ x = Some-injective s.one x (sym s.stands ∙ was) in
+          let first : has_memory_write past x.port x.chan x.id ≡ false = subst (λ (y : Transaction). has_memory_write past y.port y.chan y.id ≡ false) one s.first in
+          let bad : true ≡ false = sym earlier ∙ first in cc
 
-    later : granted h past l ≡ Some x → has_memory_write past x.port x.chan x.id ≡ true → Quiet h past l → memory_of (e ∷ past) l ≡ value_of (e ∷ past) l
-    later was earlier q =
-        let value : value_of (e ∷ past) l ≡ value_of past l = elim (value_moves h past e a l) [
-          | inl same ↦ same
-          | inr s ↦ elim s [
-            | inl d ↦ absurd (unique_valid (state_of h past d.port l) (may_unique h past d.port l d.may) (q.nowhere d.port))
-            | inr s ↦ elim s [
-              | inl d ↦
-                  let one : d.made.one ≡ x = Some-injective d.made.one x (sym d.made.stands ∙ was) in
-                  let bad : true ≡ false = sym (read_writes_none d.made.one read.MakeUnique d.made.kind).1 ∙ ap (λ (y : Transaction). is_read y.chan) one ∙ writes in cc
-              | inr d ↦ absurd (again was earlier d.port d.chan d.id d.by)
+      later : granted h past l ≡ Some x → has_memory_write past x.port x.chan x.id ≡ true → Quiet h past l → memory_of (e ∷ past) l ≡ value_of (e ∷ past) l
+      later was earlier q =
+          let value : value_of (e ∷ past) l ≡ value_of past l = elim (value_moves h past e a l) [
+            | inl same ↦ same
+            | inr (inl d) ↦ absurd (unique_valid (state_of h past d.port l) (may_unique h past d.port l d.may) (q.nowhere d.port))
+            | inr (inr (inl d)) ↦
+                let one : d.made.one ≡ x = Some-injective d.made.one x (sym d.made.stands ∙ was) in
+                let bad : true ≡ false = sym (read_writes_none d.made.one read.MakeUnique d.made.kind).1 ∙ ap (λ (y : Transaction). is_read y.chan) one ∙ writes in cc
+            | inr (inr (inr d)) ↦ absurd (again was earlier d.port d.chan d.id d.by)
+          ] in
+          elim (memory_moves h past e a l) [
+            | inl kept ↦ kept ∙ q.stored ∙ sym value
+            | inr w ↦ elim (writer h past e a l w) [
+              | inl passed ↦
+                  let one : w.one ≡ x = Some-injective w.one x (sym passed.stands ∙ was) in
+                  let bad : true ≡ false = sym passed.reads ∙ ap (λ (y : Transaction). is_read y.chan) one ∙ writes in cc
+              | inr (inl u) ↦ update_true h past e a r.0 f.updates l w u
+              | inr (inr s) ↦ absurd (again was earlier w.port w.chan w.id s)
             ]
           ]
-        ] in
-        elim (memory_moves h past e a l) [
-          | inl kept ↦ kept ∙ q.stored ∙ sym value
-          | inr w ↦ elim (writer h past e a l w) [
-            | inl passed ↦
-                let one : w.one ≡ x = Some-injective w.one x (sym passed.stands ∙ was) in
-                let bad : true ≡ false = sym passed.reads ∙ ap (λ (y : Transaction). is_read y.chan) one ∙ writes in cc
-            | inr s ↦ elim s [
-              | inl u ↦ update_true h past e a r.0 f.updates l w u
-              | inr s ↦ absurd (again was earlier w.port w.chan w.id s)
-            ]
-          ]
-        ]

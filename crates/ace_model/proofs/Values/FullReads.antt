@@ -1,0 +1,134 @@
+-- The transfers of a read: what an event adds to them, and that a read which is complete has had them all.
+use Rattle.std.proofs.Common.{◌≡◌, ◌≢◌, ◌⊎◌, ◌==◌, ℕ, ◌+◌, Bool, true, false, not, if◌then◌else◌, ◌&&◌, nat_eq, [], ◌∷◌, length, Some, refl, sym, ap, subst, ◌∙◌, arith, inl, inr, length-append}
+use Rattle.std.proofs.lemmas.Bool.{and_parts, or_cases, cases_Bool, eqb-true, eq-eqb}
+use Rattle.ace_model.proofs.Terms.{Read, Write, Event, Ar, Aw, R, Header, Transaction, Trace, is_some_and, beats_of, reads_a_line, has_name, is_named, read_kind, issued, transfers, first_resp, outstanding}
+use Rattle.ace_model.proofs.Terms.{is_line, may_transfer, is_completion, is_complete, words_read, IsAccepted}
+use Rattle.ace_model.proofs.Trace.Looks.{has_name-is}
+use Rattle.ace_model.proofs.Trace.Issued.{outstanding-origin}
+use Rattle.ace_model.proofs.Trace.WriteQueue.{issue_completes}
+use Rattle.ace_model.proofs.Trace.Outstanding.{named_read}
+use Rattle.ace_model.proofs.Grants.Begins.{may_of, LineTransfer, line_transfer}
+use Rattle.ace_model.proofs.General.Options.{Some-injective, is_some_and-is}
+
+-- The event is a transfer under the name.
+pub record Transfer (e : Event) (p i : ℕ) : Type 0 where
+  pub resp : ℕ
+  pub last : Bool
+  pub word : ℕ
+  pub is : e ≡ R p i resp last word
+
+-- The event is none, and nothing changes under the name.
+pub record NoTransfer (past : Trace) (e : Event) (p i : ℕ) : Type 0 where
+  pub count : transfers (e ∷ past) p i ≡ transfers past p i
+  pub first : first_resp (e ∷ past) p i ≡ first_resp past p i
+  pub words : words_read (e ∷ past) p i ≡ words_read past p i
+
+pub transfer_moves : (past : Trace) (e : Event) (p i : ℕ) → is_named (issued (length past) e) p Read i ≡ false → NoTransfer past e p i ⊎ Transfer e p i
+transfer_moves past (Ar q j addr snoop dom bar lock) p i other =
+    let f = named_read past q j addr snoop dom bar lock p i false other in inl (record { count = rw f refl; first = rw f refl; words = rw f refl })
+transfer_moves past (R q j resp last word) p i other =
+    elim (cases_Bool (nat_eq p q && nat_eq i j)) [
+      | inr f ↦ inl (record { count = rw f refl; first = rw f refl; words = rw f refl })
+      | inl t ↦
+          let parts = and_parts (nat_eq p q) (nat_eq i j) t in
+          let port = eqb-true p q parts.0 in
+          let id = eqb-true i j parts.1 in
+          inr (record { resp = resp; last = last; word = word; is = cc })
+    ]
+transfer_moves past _ p i other = inl (record { count = refl; first = refl; words = refl })
+
+-- a new read has had none
+pub issue_transfers : (past : Trace) (e : Event) (p i : ℕ) (x : Transaction) → issued (length past) e ≡ Some x → has_name x p Read i ≡ true → transfers (e ∷ past) p i ≡ 0
+issue_transfers past (Ar q j addr snoop dom bar lock) p i x new named =
+    let same = Some-injective _ x new in
+    rw (named_read past q j addr snoop dom bar lock p i true (subst (λ (y : Transaction). has_name y p Read i ≡ true) (sym same) named)) refl
+issue_transfers past (Aw q j addr snoop dom bar) p i x new named =
+    let same = Some-injective _ x new in
+    let bad : Write ≡ Read = ap (λ (y : Transaction). y.chan) same ∙ (has_name-is x p Read i named).chan in cc
+issue_transfers past e p i x new named = cc
+
+-- the words that a read has had are as many as its transfers
+pub words-length : (past : Trace) (p i : ℕ) → length (words_read past p i) ≡ transfers past p i
+words-length [] p i = refl
+words-length (Ar q j addr snoop dom bar lock ∷ past) p i =
+    elim (cases_Bool (nat_eq p q && nat_eq i j)) [
+      | inl t ↦ rw t refl
+      | inr f ↦ rw f (words-length past p i)
+    ]
+words-length (R q j resp last word ∷ past) p i =
+    elim (cases_Bool (nat_eq p q && nat_eq i j)) [
+      | inl t ↦ rw t (length-append (words_read past p i) (word ∷ []) ∙ ap (λ m. m + 1) (words-length past p i))
+      | inr f ↦ rw f (words-length past p i)
+    ]
+words-length (_ ∷ past) p i = words-length past p i
+
+-- it has had all its transfers
+abbrev pub IsFull : Trace → ℕ → ℕ → Transaction → Type 0
+IsFull past p i x = is_some_and (read_kind x) (λ k. transfers past p i == beats_of k) ≡ true
+
+-- a full read has had a transfer
+pub full_some : (past : Trace) (p i : ℕ) (x : Transaction) → IsFull past p i x → transfers past p i ≢ 0
+full_some past p i x full =
+    let k = is_some_and-is (read_kind x) (λ k. transfers past p i == beats_of k) full in
+    some (reads_a_line k.0) (transfers past p i) (eqb-true (transfers past p i) (beats_of k.0) k.2)
+  where
+    some : (b : Bool) (n : ℕ) → n ≡ (if b then 4 else 1) → n ≡ 0 → ⊥
+    some true n e z = absurd (omega (arith, e, z))
+    some false n e z = absurd (omega (arith, e, z))
+
+module _ (h : Header) where
+  -- the last transfer makes a read full
+  completed_read : (past : Trace) (e : Event) → IsAccepted h (e ∷ past) → (p i : ℕ) (x : Transaction) → outstanding h past p Read i ≡ Some x
+      → is_completion e p Read i ≡ true → IsFull (e ∷ past) p i x
+  completed_read past (R q j resp last word) a p i x o c =
+      let m = may_of h past q j resp last word a in
+      elim (cases_Bool (nat_eq p q && last)) [
+        | inr f ↦ let bad : false ≡ true = rw f at c in cc
+        | inl t ↦
+            let parts = and_parts (nat_eq p q) last t in
+            let id : nat_eq i j ≡ true = rw t at c in
+            let pq = eqb-true p q parts.0 in
+            let ij = eqb-true i j id in
+            let kind : read_kind x ≡ Some m.kind = ap read_kind (Some-injective x m.one (sym o ∙ ap (λ b. outstanding h past b Read i) pq ∙ ap (outstanding h past q Read) ij ∙ m.out)) ∙ m.is_kind in
+            let count : transfers past p i + 1 ≡ beats_of m.kind = ap (λ b. transfers past b i + 1) pq ∙ ap (λ b. transfers past q b + 1) ij ∙ m.ends parts.1 in
+            rw (kind, parts.0, id) (eq-eqb (transfers past p i + 1) (beats_of m.kind) count)
+      ]
+  completed_read past e a p i x o c = cc
+
+  -- a full read has no more transfers
+  transfers_stay : (past : Trace) (e : Event) → IsAccepted h (e ∷ past) → (p i : ℕ) (x : Transaction) → outstanding h past p Read i ≡ Some x
+      → is_named (issued (length past) e) p Read i ≡ false → IsFull past p i x → transfers (e ∷ past) p i ≡ transfers past p i
+  transfers_stay past e a p i x o other full =
+      elim (transfer_moves past e p i other) [
+        | inl none ↦ none.count
+        | inr t ↦
+            let m = may_of h past p i t.resp t.last t.word (subst (λ d. IsAccepted h (d ∷ past)) t.is a) in
+            let kind : read_kind x ≡ Some m.kind = ap read_kind (Some-injective x m.one (sym o ∙ m.out)) ∙ m.is_kind in
+            let all = eqb-true (transfers past p i) (beats_of m.kind) (subst (λ o. is_some_and o (λ k. transfers past p i == beats_of k) ≡ true) kind full) in
+            absurd (omega (arith, m.few, all))
+      ]
+
+  -- a read is complete with its last transfer
+  pub done_read : (past : Trace) → IsAccepted h past → (p i : ℕ) (x : Transaction) → outstanding h past p Read i ≡ Some x
+      → is_complete past p Read i ≡ true → IsFull past p i x
+  done_read [] a p i x o c = cc
+  done_read (e ∷ past) a p i x o c =
+      elim (outstanding-origin h past e p Read i x o) [
+        | inl new ↦
+            let none = issue_completes (length past) e x p Read i new.0 in
+            let bad : false ≡ true = rw (new.0, new.1, none) at c in cc
+        | inr old ↦ elim (or_cases (is_completion e p Read i) (not (is_named (issued (length past) e) p Read i) && is_complete past p Read i) c) [
+          | inl now ↦ completed_read past e a p i x old.was now
+          | inr earlier ↦
+              let full = done_read past a.0 p i x old.was (and_parts (not (is_named (issued (length past) e) p Read i)) _ earlier).1 in
+              subst (λ n. is_some_and (read_kind x) (λ k. n == beats_of k) ≡ true) (sym (transfers_stay past e a p i x old.was old.other full)) full
+        ]
+      ]
+
+  -- what the rule on transfers says of a read of a line that has one
+  pub line_due : (past : Trace) (p i resp : ℕ) (last : Bool) (word : ℕ) → IsAccepted h (R p i resp last word ∷ past) → (x : Transaction) → outstanding h past p Read i ≡ Some x
+      → is_line x ≡ true → LineTransfer h past x resp
+  line_due past p i resp last word a x o line =
+      let m = may_of h past p i resp last word a in
+      let one : m.one ≡ x = Some-injective m.one x (sym m.out ∙ o) in
+      line_transfer h past x resp (subst (λ (y : Transaction). may_transfer h past y resp ≡ true) one (m.may (ap is_line one ∙ line)))
