@@ -42,6 +42,9 @@ transaction_of-stands (e ∷ past) p c i x t =
           }
     ]
 
+pub transaction_of-name : (past : Trace) (p : ℕ) (c : Channel) (i : ℕ) (x : Transaction) → transaction_of past p c i ≡ Some x → Named x p c i
+transaction_of-name past p c i x t = has_name-is x p c i (transaction_of-stands past p c i x t).named
+
 -- two transactions of a trace at one place are one
 pub same_place : (past : Trace) (p q : ℕ) (c d : Channel) (i j : ℕ) (x y : Transaction)
     → transaction_of past p c i ≡ Some x → transaction_of past q d j ≡ Some y → x.place ≡ y.place → x ≡ y
@@ -76,4 +79,4 @@ outstanding-named h (e ∷ past) p c i x o =
 
 -- so it has the name
 pub outstanding-name : (h : Header) (past : Trace) (p : ℕ) (c : Channel) (i : ℕ) (x : Transaction) → outstanding h past p c i ≡ Some x → Named x p c i
-outstanding-name h past p c i x o = has_name-is x p c i (transaction_of-stands past p c i x (outstanding-named h past p c i x o)).named
+outstanding-name h past p c i x o = transaction_of-name past p c i x (outstanding-named h past p c i x o)

@@ -8,8 +8,8 @@ use Rattle.ace_model.proofs.Trace.Looks.{at_name, without-other}
 use Rattle.ace_model.proofs.Trace.Issued.{outstanding-origin, outstanding-name, outstanding-named}
 use Rattle.ace_model.proofs.General.Lists.{slice_get-more}
 use Rattle.ace_model.proofs.Rules.Keeps.{accepted_keeps}
-use Rattle.ace_model.proofs.Trace.Outstanding.{one_name, acknowledged_is, read_issued, write_issued, outstanding_stays, ends_lite}
-use Rattle.ace_model.proofs.General.Options.{some_if-is, none_if-is, Some-injective, is_some_and-is}
+use Rattle.ace_model.proofs.Trace.Outstanding.{ends_lite_write, one_name, acknowledged_is, read_issued, write_issued, outstanding_stays, ends_lite}
+use Rattle.ace_model.proofs.General.Options.{some_if-is, Some-injective, is_some_and-is}
 use Rattle.ace_model.proofs.General.Booleans.{above_count, implies-at}
 
 -- a complete write that waits for its WK
@@ -63,7 +63,7 @@ module _ (h : Header) (past : Trace) where
       → outstanding h (B q j resp ∷ past) p Write i ≡ Some x
   waiting_b q j resp p i x ace o =
       without-other (ended h past (B q j resp)) (outstanding h past p Write i) x o (λ z is same.
-      let e = none_if-is (is_ace h q) (transaction_of past q Write j) z is in
+      let e = ends_lite_write h past q j resp z is in
       let name = one_name past q p Write Write j i z x e.1 (outstanding-named h past p Write i x o) same in
       let bad : is_ace h q ≡ true = ap (is_ace h) name.port ∙ ace in cc)
 
@@ -246,6 +246,6 @@ module _ (h : Header) (past : Trace) (q : ℕ) where
       → EndsWrite h past q z
   ends_lite_written j resp a z is =
       let m = responds h past q j resp a in
-      let named = (none_if-is (is_ace h q) (transaction_of past q Write j) z is).1 in
+      let named = (ends_lite_write h past q j resp z is).1 in
       let one : m.one ≡ z = Some-injective m.one z (sym (outstanding-named h past q Write j m.one m.out) ∙ named) in
       ends_write j z (m.out ∙ ap Some one) (λ sends. m.written (rw one sends))
