@@ -1,4 +1,4 @@
--- Lemmas that know nothing of ACE: what holds of any Booleans, options, lists and tests of numbers.
+-- Lemmas that know nothing of ACE: what holds of any Booleans, options, lists and ports.
 
 -- `implies` and `same_test` used, the two branches of a test, a count that may have risen by one.
 pub mod Booleans
