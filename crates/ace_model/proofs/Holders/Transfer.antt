@@ -1,5 +1,6 @@
 -- R: a transfer of a read.
 use Rattle.std.proofs.Common.{◌≡◌, ◌⊎◌, ◌==◌, ℕ, ◌+◌, ◌<◌, ◌≤◌, Bool, true, false, ◌&&◌, nat_eq, nat_lt, ◌∷◌, Some, None, length, slice_get, refl, sym, ap, subst, ◌∙◌, arith, inl, inr}
+use Rattle.std.proofs.Math.Bool.{and-false}
 use Rattle.std.proofs.lemmas.Bool.{and_parts, and_from, cases_Bool, cases_eq, eqb-true, eq-eqb, ne_eqb, ltb-true}
 use Rattle.ace_model.proofs.Terms.{ArKind, passes_dirty, is_shared, Header, Channel, Read, R, Transaction, Trace, implies, is_some_and, beats_of, is_ace, read_kind, is_line, ended, transaction_of}
 use Rattle.ace_model.proofs.Terms.{outstanding, transfers, first_resp, completed, completes, acknowledgements, granted, is_granted, has_passed_data, has_failed, state_of, are_snoops_done, k18, k19, is_due}
@@ -72,6 +73,9 @@ module _ (h : Header) (past : Trace) where
         let port = (one_name past q p Read Read j i z x lite.1 (outstanding-named h past p Read i x o) same).port in
         let isnt : is_ace h p ≡ false = ap (is_ace h) (sym port) ∙ lite.0 in cc)
 
+    own_name : (nat_eq q q && nat_eq j j) ≡ true
+    own_name = and_from _ _ (eq-eqb q q (refl {a = q})) (eq-eqb j j (refl {a = j}))
+
     -- an identifier in a port's queue after a transfer was there, or is that of the transfer
     record IsNew (p n i : ℕ) : Type 0 where
       at : n ≡ length (completed past p Read)
@@ -126,16 +130,13 @@ module _ (h : Header) (past : Trace) where
             | inr new ↦
                 let waits : ℕ → ℕ → Type 0 = λ a b. (x : Transaction) × (outstanding h (R q j resp last word ∷ past) a Read b ≡ Some x)
                 × (is_some_and (read_kind x) (λ k. transfers (R q j resp last word ∷ past) a b == beats_of k) ≡ true) in
-                let more : transfers (R q j resp last word ∷ past) q j ≡ transfers past q j + 1 = rw here (refl {a = transfers past q j + 1}) in
+                let more : transfers (R q j resp last word ∷ past) q j ≡ transfers past q j + 1 = rw own_name (refl {a = transfers past q j + 1}) in
                 let whole : (transfers (R q j resp last word ∷ past) q j == beats_of m.kind) ≡ true =
                 eq-eqb (transfers (R q j resp last word ∷ past) q j) (beats_of m.kind) (more ∙ m.ends new.is_last) in
                 let out = stays_r q j m.one (subst (λ a. is_ace h a ≡ true) new.same_port ace) m.out in
                 subst (λ a. waits a i) (sym new.same_port) (subst (λ b. waits q b) new.same_id
                 (m.one, out, subst (λ o. is_some_and o (λ k. transfers (R q j resp last word ∷ past) q j == beats_of k) ≡ true) (sym m.is_kind) whole))
           ]
-        where
-          here : (nat_eq q q && nat_eq j j) ≡ true
-          here = and_from _ _ (eq-eqb q q (refl {a = q})) (eq-eqb j j (refl {a = j}))
 
       distinct_r : QueueDistinct h (R q j resp last word ∷ past)
       distinct_r p a b i ace la lb ea eb =
@@ -156,11 +157,11 @@ module _ (h : Header) (past : Trace) where
         arrive_here ace line =
             elim (cases_eq (transfers past q j) 0) [
               | inr later ↦
-                  arrives_kept h past (R q j resp last word) q j m.one stands (rw (not_first (nat_eq q q && nat_eq j j) (ne_eqb (transfers past q j) 0 later)) refl) refl
+                  arrives_kept h past (R q j resp last word) q j m.one stands (rw (ne_eqb (transfers past q j) 0 later, and-false) refl) refl
                   (λ r. Lessens-self (state_of h past r m.one.addr)) (f.arrive q j m.one ace m.out line later)
               | inl zero_before ↦
                   let first : first_resp (R q j resp last word ∷ past) q j ≡ Some resp =
-                  rw (and_from _ _ (and_from _ _ (eq-eqb q q (refl {a = q})) (eq-eqb j j (refl {a = j}))) (eq-eqb (transfers past q j) 0 zero_before)) refl in
+                  rw (own_name, eq-eqb (transfers past q j) 0 zero_before) refl in
                   let d = is_first zero_before in
                   let of_kind = λ (k : ArKind) (is : read_kind m.one ≡ Some k). Some-injective k m.kind (sym is ∙ m.is_kind) in
                   record {
@@ -186,10 +187,6 @@ module _ (h : Header) (past : Trace) where
             stands =
                 without-other (ended h past (R q j resp last word)) (granted h past m.one.addr) m.one stood (λ z is same.
                 let isnt = (ends_lite h past q j resp last word z is).0 in cc)
-
-            not_first : (b : Bool) → nat_eq (transfers past q j) 0 ≡ false → (b && nat_eq (transfers past q j) 0) ≡ false
-            not_first true e = e
-            not_first false e = refl
 
             is_first : transfers past q j ≡ 0 → IsFirst h past m.one m.kind resp
             is_first z =
