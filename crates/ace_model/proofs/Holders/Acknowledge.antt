@@ -4,15 +4,15 @@ use Rattle.std.proofs.lemmas.Bool.{and_parts, cases_Bool, cases_eq, eqb-true, eq
 use Rattle.ace_model.proofs.Terms.{ArKind, LineState, I, is_make_unique, has_store, passes_dirty, is_shared, Header, Read, Rk, ends_read, is_unique, is_dirty, is_invalid, Transaction, Trace, is_some_and, beats_of, reads_a_line}
 use Rattle.ace_model.proofs.Terms.{is_ace, is_line, is_on, is_some_on, read_kind, transaction_of, outstanding, completed, acknowledgements, transfers, first_resp, next_complete, acknowledged}
 use Rattle.ace_model.proofs.Terms.{transaction_under, granted, has_failed, state_of, UniqueNow, OneDirtyNow, k1, k22, k23, ends_well, is_end, held_of}
-use Rattle.ace_model.proofs.Trace.Looks.{has_name-is, without-some, without-other}
-use Rattle.ace_model.proofs.Trace.Issued.{outstanding-named, transaction_of-stands}
+use Rattle.ace_model.proofs.Trace.Looks.{without-some, without-other}
+use Rattle.ace_model.proofs.Trace.Issued.{outstanding-named, outstanding-name}
 use Rattle.ace_model.proofs.Tables.States.{Lessens-same}
 use Rattle.ace_model.proofs.Tables.ReadEnds.{takes_alone, takes_shared, ReadEnds, read_is}
 use Rattle.ace_model.proofs.Holders.Kept.{standing, arrive_kept}
 use Rattle.ace_model.proofs.Trace.Outstanding.{one_name}
 use Rattle.ace_model.proofs.Holders.Facts.{OthersInvalid, OthersNotUnique, AllSettled, Arrives, QueueStands, QueueDistinct, OutsideInvalid, OneHolder}
 use Rattle.ace_model.proofs.General.Options.{Some-injective, some_is, is_some_and-is, is_none_or-at}
-use Rattle.ace_model.proofs.General.Booleans.{implies-at}
+use Rattle.ace_model.proofs.General.Booleans.{above_count, implies-at}
 use Rattle.ace_model.proofs.Tables.Less.{settled_clean, held_on}
 
 -- the test that an RK names the port's state of the line
@@ -42,7 +42,7 @@ module _ (h : Header) (past : Trace) (q : ℕ) where
         let next = some_is (next_complete past q Read) k in
         let s = f.queue q (acknowledgements past q Read) next.0 ace (le_refl (acknowledgements past q Read)) next.1 in
         let named = outstanding-named h past q Read next.0 s.0 s.1 in
-        let name = has_name-is s.0 q Read next.0 (transaction_of-stands past q Read next.0 s.0 named).named in
+        let name = outstanding-name h past q Read next.0 s.0 s.1 in
         let kind = is_some_and-is (read_kind s.0) (λ k. transfers past q next.0 == beats_of k) s.2 in
         let all = eqb-true (transfers past q next.0) (beats_of kind.0) kind.2 in
         record {
@@ -102,11 +102,7 @@ module _ (h : Header) (past : Trace) (q : ℕ) where
         ]
 
     fewer : (p n : ℕ) → acknowledgements (Rk q st ∷ past) p Read ≤ n → acknowledgements past p Read ≤ n
-    fewer p n = counted (nat_eq p q)
-      where
-        counted : (b : Bool) → (if b then acknowledgements past p Read + 1 else acknowledgements past p Read) ≤ n → acknowledgements past p Read ≤ n
-        counted true l = omega arith
-        counted false l = l
+    fewer p n low = above_count (nat_eq p q) (acknowledgements past p Read) n low
 
     module _ (k : k23 h past (Rk q st) ≡ true) (e : Ends) where
       pub ends_line : (r l : ℕ) → is_named_by_rk past q r l ≡ true → EndsLine r l

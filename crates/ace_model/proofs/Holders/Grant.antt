@@ -3,8 +3,8 @@ use Rattle.std.proofs.Common.{◌≡◌, ℕ, ◌+◌, ◌≤◌, true, false, n
 use Rattle.std.proofs.lemmas.Bool.{and_parts, and_from, cases_Bool, eq-eqb}
 use Rattle.ace_model.proofs.Terms.{Header, Channel, Read, G, Transaction, Trace, newer, is_on, is_line, is_some_on, has_name, transaction_of, outstanding, takes_grant, is_exclusive_store}
 use Rattle.ace_model.proofs.Terms.{granted, has_grant, has_failed, is_false, passed_at_grant, store_result, state_of, k12, may_be_granted}
-use Rattle.ace_model.proofs.Trace.Looks.{has_name-is, newest_on-cases, newest_on-older, is_on-addr}
-use Rattle.ace_model.proofs.Trace.Issued.{outstanding-named, transaction_of-stands}
+use Rattle.ace_model.proofs.Trace.Looks.{has_name-is, at_name, newest_on-cases, newest_on-older, is_on-addr}
+use Rattle.ace_model.proofs.Trace.Issued.{outstanding-name, outstanding-named, transaction_of-stands}
 use Rattle.ace_model.proofs.Trace.Snoops.{snoops-before}
 use Rattle.ace_model.proofs.General.Options.{Some-injective, none_is, is_some_and-is}
 use Rattle.ace_model.proofs.Tables.States.{Lessens-self}
@@ -50,13 +50,9 @@ module _ (h : Header) (past : Trace) (q : ℕ) (c : Channel) (j : ℕ) where
       is_x y is named =
           let mine = has_name-is y x.port Read x.id named in
           let its = has_name-is y q c j (transaction_of-stands past q c j y is).named in
-          let named_x = outstanding-named h past p Read i x o in
-          let name = has_name-is x p Read i (transaction_of-stands past p Read i x named_x).named in
-          let same : transaction_of past q c j ≡ transaction_of past p Read i =
-          ap (λ a. transaction_of past a c j) (sym its.port ∙ mine.port ∙ name.port)
-          ∙ ap (λ a. transaction_of past p a j) (sym its.chan ∙ mine.chan)
-          ∙ ap (transaction_of past p Read) (sym its.id ∙ mine.id ∙ name.id) in
-          Some-injective y x (sym is ∙ same ∙ named_x)
+          let look = transaction_of past in
+          let same = sym (at_name look y q c j its) ∙ at_name look y x.port Read x.id mine ∙ at_name (λ a d. look a Read) x p Read i (outstanding-name h past p Read i x o) in
+          Some-injective y x (sym is ∙ same ∙ outstanding-named h past p Read i x o)
 
       unmoved : (v : Option Transaction) → transaction_of past q c j ≡ v → store_result past v x.port x.id ≡ None
       unmoved None is = refl

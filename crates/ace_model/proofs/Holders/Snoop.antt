@@ -1,5 +1,5 @@
 -- AC and CR: a port is snooped, and answers by a row of the snoop.
-use Rattle.std.proofs.Common.{◌≡◌, ◌≢◌, ℕ, Bool, true, false, not, if◌then◌else◌, ◌&&◌, nat_eq, nat_le, ◌∷◌, Some, None, length, refl, sym, ap, subst, ◌∙◌, inl, inr}
+use Rattle.std.proofs.Common.{◌≡◌, ◌≢◌, ℕ, true, false, not, ◌&&◌, nat_eq, nat_le, ◌∷◌, Some, length, refl, sym, ap, subst, ◌∙◌, inl, inr}
 use Rattle.std.proofs.lemmas.Bool.{and_parts, and_from, not-true, cases_Bool, cases_eq, eqb-true, leb-true}
 use Rattle.ace_model.proofs.Terms.{SnoopKind, LineState, I, is_shared, passes_dirty, ac_code, ac_kind_of, Header, Ac, Cr, is_snoop_row, is_unique, is_dirty, Answer, Snoop}
 use Rattle.ace_model.proofs.Terms.{Transaction, Trace, is_some_and, is_line_snoop, takes_passed_data, read_kind, write_kind, snoop_of, snoop_kind_of, snoop_at, snoops_of, snoops_a_line, answers, answered}
@@ -7,7 +7,7 @@ use Rattle.ace_model.proofs.Terms.{is_snoop_on, answers_line, granted, grant_pla
 use Rattle.ace_model.proofs.General.Lists.{slice_get-more}
 use Rattle.ace_model.proofs.Tables.States.{is_settled, Leaves, Row, row_is}
 use Rattle.ace_model.proofs.Holders.Facts.{SnoopsFit, AnswersFit, PassedOn, TransfersArrive, OneHolder}
-use Rattle.ace_model.proofs.General.Options.{Some-injective, is_some_and-is, is_some_and-at, is_none_or-at}
+use Rattle.ace_model.proofs.General.Options.{Some-injective, some_if-is, is_some_and-is, is_some_and-at, is_none_or-at}
 use Rattle.ace_model.proofs.General.Booleans.{implies-at}
 use Rattle.ace_model.proofs.Tables.Less.{Less, less_where, less-lessens, less-clean, leaves_kept, settled}
 use Rattle.ace_model.proofs.Tables.ReadSnoops.{kind_of_code, passed_snoop, not_unique_after}
@@ -19,7 +19,9 @@ module _ (h : Header) (past : Trace) where
   snoops_ac q addr code f k r n l s x e on place g =
       elim (slice_get-more (snoops_of past r) (snoop_at (length past) (Ac q addr code) r) n s e) [
         | inl old ↦ f.snoops r n l s x old on place g
-        | inr new ↦ is_new (nat_eq r q) new.1
+        | inr new ↦
+            let same = (some_if-is (nat_eq r q) _ s new.1).1 in
+            subst (λ (t : Snoop). has_snoop_code x t.snoop ≡ true) same (causes (subst (λ (t : Snoop). is_snoop_on t l ≡ true) (sym same) on))
       ]
     where
       causes : is_snoop_on (record { place = length past; addr = addr; snoop = code }) l ≡ true → has_snoop_code x code ≡ true
@@ -31,12 +33,6 @@ module _ (h : Header) (past : Trace) where
           (ap (granted h past) (eqb-true addr l parts.1) ∙ g) in
           let three = and_parts ((not (nat_eq x.port q) && has_snoop_code x code) && not (has_failed past x)) _ for in
           (and_parts (not (nat_eq x.port q)) (has_snoop_code x code) (and_parts (not (nat_eq x.port q) && has_snoop_code x code) _ three.0).0).1
-
-      is_new : (b : Bool) → (if b then Some (record { place = length past; addr = addr; snoop = code }) else None) ≡ Some s → has_snoop_code x s.snoop ≡ true
-      is_new true is =
-          let same = Some-injective _ s is in
-          subst (λ (t : Snoop). has_snoop_code x t.snoop ≡ true) same (causes (subst (λ (t : Snoop). is_snoop_on t l ≡ true) (sym same) on))
-      is_new false is = cc
 
   pub keeps_ac : (q addr code : ℕ) → OneHolder h past → k13 h past (Ac q addr code) ≡ true → OneHolder h (Ac q addr code ∷ past)
   keeps_ac q addr code f k = assumption (f, snoops_ac q addr code f k)

@@ -5,8 +5,8 @@ use Rattle.std.proofs.lemmas.Bool.{and_parts, and_from, cases_Bool, cases_eq, eq
 use Rattle.ace_model.proofs.Terms.{ArKind, passes_dirty, is_shared, Header, Channel, Read, R, Transaction, Trace, implies, is_some_and, beats_of, is_ace, read_kind, is_line, ended, transaction_of}
 use Rattle.ace_model.proofs.Terms.{outstanding, transfers, first_resp, completed, completes, acknowledgements, granted, is_granted, has_passed_data, has_failed, state_of, are_snoops_done, k18, k19, is_due}
 use Rattle.ace_model.proofs.Terms.{is_next_transfer, may_transfer, takes_passed, has_upper_bits}
-use Rattle.ace_model.proofs.Trace.Looks.{has_name-is, without-other, was_there}
-use Rattle.ace_model.proofs.Trace.Issued.{same_place, outstanding-named, transaction_of-stands}
+use Rattle.ace_model.proofs.Trace.Looks.{at_name, without-other, was_there}
+use Rattle.ace_model.proofs.Trace.Issued.{same_place, outstanding-named, outstanding-name}
 use Rattle.ace_model.proofs.General.Lists.{slice_get-more}
 use Rattle.ace_model.proofs.Tables.States.{Lessens-self}
 use Rattle.ace_model.proofs.Tables.ReadEnds.{takes_alone}
@@ -35,16 +35,15 @@ module _ (h : Header) (past : Trace) where
   may q j resp last word k =
       let o = is_some_and-is (outstanding h past q Read j) (is_due h past resp last) k in
       let x = o.0 in
-      let named = outstanding-named h past q Read j x o.1 in
-      let name = has_name-is x q Read j (transaction_of-stands past q Read j x named).named in
+      let name = outstanding-name h past q Read j x o.1 in
       let due = and_parts (is_some_and (read_kind x) (is_next_transfer past x last)) _ o.2 in
       let kind = is_some_and-is (read_kind x) (is_next_transfer past x last) due.0 in
       let beats = and_parts (nat_lt (transfers past x.port x.id) (beats_of kind.0)) _ kind.2 in
-      let same : transfers past x.port x.id ≡ transfers past q j = ap (λ a. transfers past a x.id) name.port ∙ ap (transfers past q) name.id in
+      let same : transfers past x.port x.id ≡ transfers past q j = at_name (λ a c. transfers past a) x q Read j name in
       record {
         one = x;
         out = o.1;
-        named = named;
+        named = outstanding-named h past q Read j x o.1;
         port = name.port;
         id = name.id;
         kind = kind.0;
