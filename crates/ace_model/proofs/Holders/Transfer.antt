@@ -2,14 +2,13 @@
 use Rattle.std.proofs.Common.{◌≡◌, ◌⊎◌, ◌==◌, ℕ, ◌+◌, ◌<◌, ◌≤◌, Bool, true, false, ◌&&◌, nat_eq, nat_lt, ◌∷◌, Some, None, length, slice_get, refl, sym, ap, subst, ◌∙◌, arith, inl, inr}
 use Rattle.std.proofs.Math.Bool.{and-false}
 use Rattle.std.proofs.lemmas.Bool.{and_parts, and_from, cases_Bool, cases_eq, eqb-true, eq-eqb, ne_eqb, ltb-true}
-use Rattle.ace_model.proofs.Terms.{ArKind, passes_dirty, is_shared, Header, Channel, Read, R, Transaction, Trace, implies, is_some_and, beats_of, is_ace, read_kind, is_line, ended, transaction_of}
-use Rattle.ace_model.proofs.Terms.{outstanding, transfers, first_resp, completed, completes, acknowledgements, granted, is_granted, has_passed_data, has_failed, state_of, are_snoops_done, k18, k19, is_due}
+use Rattle.ace_model.proofs.Terms.{ArKind, Header, Channel, Read, R, Transaction, Trace, implies, is_some_and, beats_of, is_ace, read_kind, is_line, ended, transaction_of}
+use Rattle.ace_model.proofs.Terms.{outstanding, transfers, first_resp, completed, completes, acknowledgements, granted, is_granted, has_passed_data, state_of, are_snoops_done, k18, k19, is_due}
 use Rattle.ace_model.proofs.Terms.{is_next_transfer, may_transfer, takes_passed, has_upper_bits}
 use Rattle.ace_model.proofs.Trace.Looks.{at_name, without-other, was_there}
 use Rattle.ace_model.proofs.Trace.Issued.{same_place, outstanding-named, outstanding-name}
 use Rattle.ace_model.proofs.General.Lists.{slice_get-more}
 use Rattle.ace_model.proofs.Tables.States.{Lessens-self}
-use Rattle.ace_model.proofs.Tables.ReadEnds.{takes_alone}
 use Rattle.ace_model.proofs.Holders.Kept.{arrives_kept, read_kept, standing}
 use Rattle.ace_model.proofs.Trace.Outstanding.{one_name, ends_lite}
 use Rattle.ace_model.proofs.Holders.FirstTransfer.{IsFirst, upper_bits, first_alone, first_beside, first_dirty}
@@ -103,8 +102,7 @@ module _ (h : Header) (past : Trace) where
           let waits : ℕ → ℕ → Type 0 = λ a b. (x : Transaction) × (outstanding h past a Read b ≡ Some x) × (is_some_and (read_kind x) (λ k. transfers past a b == beats_of k) ≡ true) in
           let base = subst (λ a. waits a j) pq (subst (λ b. waits p b) (sym ji) (f.queue p n i ace low e)) in
           let one : base.0 ≡ m.one = Some-injective base.0 m.one (sym base.1 ∙ m.out) in
-          let whole : (transfers past q j == beats_of m.kind) ≡ true =
-          subst (λ o. is_some_and o (λ k. transfers past q j == beats_of k) ≡ true) (ap read_kind one ∙ m.is_kind) base.2 in
+          let whole : (transfers past q j == beats_of m.kind) ≡ true = rw (one, m.is_kind) at base.2 in
           let few = m.few in
           let all = eqb-true (transfers past q j) (beats_of m.kind) whole in
           absurd (omega (arith, few, all))
@@ -118,9 +116,7 @@ module _ (h : Header) (past : Trace) where
                   base.0,
                   stays_r p i base.0 ace base.1,
                   elim (cases_Bool (nat_eq p q && nat_eq i j)) [
-                    | inr other ↦
-                        let same : transfers (R q j resp last word ∷ past) p i ≡ transfers past p i = rw other (refl {a = transfers past p i}) in
-                        subst (λ t. is_some_and (read_kind base.0) (λ k. t == beats_of k) ≡ true) (sym same) base.2
+                    | inr other ↦ rw other base.2
                     | inl same ↦
                         let parts = and_parts (nat_eq p q) (nat_eq i j) same in
                         absurd (not_queued p n i ace low old (eqb-true p q parts.0) (sym (eqb-true i j parts.1)))
@@ -134,7 +130,7 @@ module _ (h : Header) (past : Trace) where
                 eq-eqb (transfers (R q j resp last word ∷ past) q j) (beats_of m.kind) (more ∙ m.ends new.is_last) in
                 let out = stays_r q j m.one (subst (λ a. is_ace h a ≡ true) new.same_port ace) m.out in
                 subst (λ a. waits a i) (sym new.same_port) (subst (λ b. waits q b) new.same_id
-                (m.one, out, subst (λ o. is_some_and o (λ k. transfers (R q j resp last word ∷ past) q j == beats_of k) ≡ true) (sym m.is_kind) whole))
+                (m.one, out, rw m.is_kind whole))
           ]
 
       distinct_r : QueueDistinct h (R q j resp last word ∷ past)
@@ -165,13 +161,9 @@ module _ (h : Header) (past : Trace) where
                   let of_kind = λ (k : ArKind) (is : read_kind m.one ≡ Some k). Some-injective k m.kind (sym is ∙ m.is_kind) in
                   record {
                     stands = stands;
-                    alone = λ k is t r ne.
-                        let taken : takes_alone m.kind (is_shared resp) (has_failed past m.one) ≡ true =
-                        subst (λ c. takes_alone c (is_shared resp) (has_failed past m.one) ≡ true) (of_kind k is)
-                        (subst (λ o. takes_alone k (is_some_and o is_shared) (has_failed past m.one) ≡ true) first t) in
-                        first_alone h past m.one m.kind resp f d taken r (λ e. ne (sym m.port ∙ e));
+                    alone = λ k is t r ne. first_alone h past m.one m.kind resp f d (rw (of_kind k is, first) at t) r (λ e. ne (sym m.port ∙ e));
                     beside = λ k is t r ne. first_beside h past m.one m.kind resp f d (rw (sym (of_kind k is)) t) r (λ e. ne (sym m.port ∙ e));
-                    dirty = λ t. first_dirty h past m.one m.kind resp f d (subst (λ o. is_some_and o passes_dirty ≡ true) first t);
+                    dirty = λ t. first_dirty h past m.one m.kind resp f d (rw first at t);
                   }
             ]
           where
@@ -212,12 +204,9 @@ module _ (h : Header) (past : Trace) where
                   let pq = eqb-true p q parts.0 in
                   let ij = eqb-true i j parts.1 in
                   let was = was_there (ended h past (R q j resp last word)) (outstanding h past p Read i) x o in
-                  let here : outstanding h past q Read j ≡ Some x = subst (λ a. outstanding h past a Read j ≡ Some x) pq (subst (λ b. outstanding h past p Read b ≡ Some x) ij was) in
+                  let here : outstanding h past q Read j ≡ Some x = rw (pq, ij) at was in
                   let one : m.one ≡ x = Some-injective m.one x (sym m.out ∙ here) in
-                  let a = arrive_here (subst (λ a. is_ace h a ≡ true) pq ace) (subst (λ y. is_line y ≡ true) (sym one) line) in
-                  subst (λ a. Arrives h (R q j resp last word ∷ past) a i x) (sym pq)
-                  (subst (λ b. Arrives h (R q j resp last word ∷ past) q b x) (sym ij)
-                  (subst (λ y. Arrives h (R q j resp last word ∷ past) q j y) one a))
+                  rw (pq, ij, ← one) (arrive_here (rw pq at ace) (ap is_line one ∙ line))
             ]
 
     pub keeps_r : OneHolder h past → k18 h past (R q j resp last word) ≡ true → k19 h past (R q j resp last word) ≡ true
