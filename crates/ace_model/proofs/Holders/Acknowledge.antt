@@ -1,8 +1,8 @@
 -- RK: a complete read ends, and its port holds the line in the state that it names.
-use Rattle.std.proofs.Common.{◌≡◌, ◌≢◌, ◌==◌, ℕ, ◌+◌, ◌≤◌, Bool, true, false, if◌then◌else◌, ◌&&◌, nat_eq, nat_lt, ◌∷◌, Some, slice_get, le_refl, refl, sym, ap, subst, ◌∙◌, arith, inl, inr}
+use Rattle.std.proofs.Common.{◌≡◌, ◌≢◌, ◌==◌, ℕ, ◌+◌, ◌≤◌, Bool, true, false, if◌then◌else◌, ◌&&◌, nat_eq, nat_lt, ◌∷◌, Some, le_refl, refl, sym, ap, subst, ◌∙◌, arith, inl, inr}
 use Rattle.std.proofs.lemmas.Bool.{and_parts, cases_Bool, cases_eq, eqb-true, eq-eqb}
-use Rattle.ace_model.proofs.Terms.{ArKind, LineState, I, is_make_unique, has_store, passes_dirty, is_shared, Header, Read, Rk, ends_read, is_unique, is_dirty, is_invalid, Transaction, Trace, is_some_and, beats_of, reads_a_line}
-use Rattle.ace_model.proofs.Terms.{is_ace, is_line, is_on, is_some_on, read_kind, transaction_of, outstanding, completed, acknowledgements, transfers, first_resp, next_complete, acknowledged}
+use Rattle.ace_model.proofs.Terms.{ArKind, LineState, is_make_unique, has_store, passes_dirty, is_shared, Header, Read, Rk, ends_read, is_unique, is_dirty, Transaction, Trace, is_some_and, beats_of, reads_a_line}
+use Rattle.ace_model.proofs.Terms.{is_ace, is_line, is_on, is_some_on, read_kind, transaction_of, outstanding, acknowledgements, transfers, first_resp, next_complete, acknowledged}
 use Rattle.ace_model.proofs.Terms.{transaction_under, granted, has_failed, state_of, UniqueNow, OneDirtyNow, k1, k22, k23, ends_well, is_end, held_of}
 use Rattle.ace_model.proofs.Trace.Looks.{without-some, without-other}
 use Rattle.ace_model.proofs.Trace.Issued.{outstanding-named, outstanding-name}
@@ -135,9 +135,7 @@ module _ (h : Header) (past : Trace) (q : ℕ) where
             kind = e.kind;
             is_kind = e.is_kind;
             ends_it = e.is;
-            state = subst (λ v. ReadEnds e.kind (state_of h past r l) (is_some_and v is_shared) (is_some_and v passes_dirty) (has_failed past x) st) first
-                (subst (λ s. ReadEnds e.kind s (is_some_and o is_shared) (is_some_and o passes_dirty) (has_failed past x) st) held
-                (read_is e.kind _ _ _ _ st end.0));
+            state = read_is e.kind _ _ _ _ st (rw (held, first) at end.0);
             stored = λ m. sym stored ∙ implies-at (is_make_unique e.kind) _ end.1 m;
             arrives = subst (λ v. Arrives h past v e.id x) (sym port) (e.arrives two.0);
           }
@@ -167,8 +165,7 @@ module _ (h : Header) (past : Trace) (q : ℕ) where
             waits_once x o z is same =
                 let zd : e.ended_one ≡ z = Some-injective e.ended_one z (sym e.is ∙ is) in
                 let name = one_name past q p Read Read e.id i e.ended_one x e.named (outstanding-named h past p Read i x o) (ap (λ (v : Transaction). v.place) zd ∙ same) in
-                let next : slice_get (completed past p Read) (acknowledgements past p Read) ≡ Some i =
-                subst (λ a. slice_get (completed past a Read) (acknowledgements past a Read) ≡ Some i) name.port (e.next ∙ ap Some name.id) in
+                let next = rw (name.port, name.id) at e.next in
                 let at = f.distinct p (acknowledgements past p Read) n i ace (le_refl (acknowledgements past p Read)) (fewer p n low) next g in
                 let above : acknowledgements past p Read + 1 ≤ n = rw (eq-eqb p q (sym name.port)) at low in
                 omega arith
@@ -204,9 +201,9 @@ module _ (h : Header) (past : Trace) (q : ℕ) where
                     rw t (elim d.state.kept [
                       | inl gone ↦ gone
                       | inr more ↦ elim more [
-                        | inl held ↦ let bad : is_invalid I ≡ false = subst (λ v. is_invalid v ≡ false) (f.unique l p r was ne) held in cc
+                        | inl held ↦ let bad = rw (f.unique l p r was ne) at held in cc
                         | inr kinds ↦ elim kinds [
-                          | inl taken ↦ let gone = alone r l d taken p back in let bad : is_unique I ≡ true = subst (λ v. is_unique v ≡ true) gone was in cc
+                          | inl taken ↦ let bad = rw (alone r l d taken p back) at was in cc
                           | inr taken ↦ let bad = beside r l d taken p back in cc
                         ]
                       ]

@@ -1,5 +1,5 @@
 -- The first transfer of a read at an ACE port: what its snoops and its response say of the other ports.
-use Rattle.std.proofs.Common.{◌≡◌, ◌≢◌, ◌⊎◌, ℕ, ◌<◌, true, false, not, ◌&&◌, ◌||◌, nat_eq, nat_lt, Option, Some, None, is_none, is_some, refl, sym, ap, subst, ◌∙◌, inl, inr}
+use Rattle.std.proofs.Common.{◌≡◌, ◌≢◌, ◌⊎◌, ℕ, ◌<◌, true, false, not, ◌&&◌, ◌||◌, nat_eq, nat_lt, Option, Some, None, is_none, is_some, refl, sym, ap, ◌∙◌, inl, inr}
 use Rattle.std.proofs.lemmas.Bool.{and_parts, or_left, or_right, cases_Bool, ne_eqb, ltb-true, not-true, not_from_false}
 use Rattle.ace_model.proofs.Terms.{ArKind, SnoopKind, I, passes_dirty, is_shared, Header, snoop_of_read, is_invalid, is_unique, Answer, Transaction, Trace, implies, is_some_and, is_none_or, is_clean_unique}
 use Rattle.ace_model.proofs.Terms.{is_read_not_shared_dirty, may_be_shared, takes_passed_data, is_ace, read_kind, write_kind, snoop_of, snoop_kind_of, is_exclusive_store, granted, is_granted, was_snooped}
@@ -85,8 +85,7 @@ module _ (h : Header) (past : Trace) where
             | inr fine ↦ rw (causes s is, fine) at d.done
             | inl failed ↦
                 let store = (and_parts (is_exclusive_store x) _ failed).0 in
-                let clean : is_clean_unique k ≡ true = subst (λ o. is_some_and o is_clean_unique ≡ true) d.kind (and_parts x.lock _ store).1 in
-                absurd (passed clean failed)
+                absurd (passed (rw d.kind at (and_parts x.lock _ store).1) failed)
           ]
 
       -- where the response doesn't say IsShared, no answer does
@@ -98,7 +97,7 @@ module _ (h : Header) (past : Trace) where
           let ace = d.ace in
           let sharer : has_sharer h past x.addr ≡ false = rw (ace, may) at none in
           let port : is_some_and (answer_of past r x.addr) (λ v. is_shared v.resp) ≡ false = none_at h.ports (shares past x.addr) r sharer low in
-          subst (λ o. is_some_and o (λ (v : Answer). is_shared v.resp) ≡ false) is port
+          rw is at port
 
       -- so a read that takes the line alone finds the others with nothing
       pub first_alone : takes_alone k (is_shared resp) (has_failed past x) ≡ true → OthersInvalid h past x.port x.addr

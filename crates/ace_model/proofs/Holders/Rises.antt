@@ -1,5 +1,5 @@
 -- A port comes to hold more of a line by the RK of its own read alone, and makes it dirty by that or by a store alone.
-use Rattle.std.proofs.Common.{◌≡◌, ◌⊎◌, ℕ, Bool, true, false, ◌||◌, [], ◌∷◌, length, Some, refl, sym, ap, ◌∙◌, inl, inr}
+use Rattle.std.proofs.Common.{◌≡◌, ◌⊎◌, ℕ, Bool, true, false, ◌||◌, [], ◌∷◌, length, Some, refl, ap, ◌∙◌, inl, inr}
 use Rattle.std.proofs.lemmas.Bool.{and_parts, or_cases, cases_Bool, eqb-true}
 use Rattle.ace_model.proofs.Terms.{LineState, I, Channel, Read, Event, Ar, Rk, Aw, D, Header, starts_read, starts_write, is_dirty, Transaction}
 use Rattle.ace_model.proofs.Terms.{Trace, is_some_and, is_none_or, reads_a_line, is_granted_write, is_line, is_on, issued, ended, read_kind, write_kind, outstanding, state_of}
@@ -114,9 +114,7 @@ stays_empty h (e ∷ past) a p c i l x o on empty =
       | inl new ↦
           let parts = and_parts (is_line x) _ on in
           let well = is_none_or-at (issued (length past) e) (starts_well h past) x (accepted_keeps h past e a).rule_6 new.0 in
-          issue_leaves h past e x p l new.0
-          ∙ ap (λ b. state_of h past b l) (sym (has_name-is x p c i new.1).port) ∙ ap (state_of h past x.port) (sym (eqb-true x.addr l parts.1))
-          ∙ starts h past x well parts.0 empty
+          issue_leaves h past e x p l new.0 ∙ rw (← (has_name-is x p c i new.1).port, ← eqb-true x.addr l parts.1) (starts h past x well parts.0 empty)
       | inr old ↦
           let w = without-some (ended h past e) (outstanding h past p c i) x old.0 in
           let was = stays_empty h past a.0 p c i l x w.0 on empty in

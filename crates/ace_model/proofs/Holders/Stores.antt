@@ -1,7 +1,7 @@
 -- S and D: a silent transition, and a store.
-use Rattle.std.proofs.Common.{◌≡◌, ℕ, Bool, true, false, not, ◌&&◌, ◌||◌, nat_eq, ◌∷◌, refl, sym, subst, ◌∙◌, inl, inr}
+use Rattle.std.proofs.Common.{◌≡◌, ℕ, Bool, true, false, not, ◌&&◌, ◌||◌, nat_eq, ◌∷◌, refl, sym, ◌∙◌, inl, inr}
 use Rattle.std.proofs.lemmas.Bool.{and_parts, or_cases, cases_Bool, cases_eq, eqb-true}
-use Rattle.ace_model.proofs.Terms.{LineState, I, UD, Header, Line, S, D, Trace, is_silent_move, is_unique, is_dirty, state_of, awaits_store}
+use Rattle.ace_model.proofs.Terms.{LineState, UD, Header, Line, S, D, Trace, is_silent_move, is_unique, is_dirty, state_of, awaits_store}
 use Rattle.ace_model.proofs.Terms.{is_in_make_unique, has_store, UniqueNow, OneDirtyNow, k29, k32, may_store, wants_store, full_line}
 use Rattle.ace_model.proofs.Tables.States.{lessens-is, silent_lessens}
 use Rattle.ace_model.proofs.Tables.Less.{Less, less-lessens, less-clean, less_where, unique_to_dirty, lessens_where}
@@ -78,8 +78,7 @@ module _ (h : Header) (past : Trace) (q addr : ℕ) where
                 | inl u ↦ (stores a l t).port ∙ sym (stores b l u).port
                 | inr other ↦
                     let was : is_dirty (state_of h past b l) ≡ true = rw other at d in
-                    let gone = f l a b (stores a l t).unique apart in
-                    let bad : is_dirty I ≡ true = subst (λ z. is_dirty z ≡ true) gone was in cc
+                    let bad = rw (f l a b (stores a l t).unique apart) at was in cc
               ]
         ]
 
