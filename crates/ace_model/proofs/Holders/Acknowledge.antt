@@ -13,7 +13,7 @@ use Rattle.ace_model.proofs.Trace.Outstanding.{one_name}
 use Rattle.ace_model.proofs.Holders.Facts.{OthersInvalid, OthersNotUnique, AllSettled, Arrives, QueueStands, QueueDistinct, OutsideInvalid, OneHolder}
 use Rattle.ace_model.proofs.General.Options.{Some-injective, some_is, is_some_and-is, is_none_or-at}
 use Rattle.ace_model.proofs.General.Booleans.{above_count, implies-at}
-use Rattle.ace_model.proofs.Tables.Less.{settled_clean, held_on}
+use Rattle.ace_model.proofs.Tables.Less.{settled_clean}
 
 -- the test that an RK names the port's state of the line
 abbrev pub is_named_by_rk : Trace → ℕ → ℕ → ℕ → Bool
@@ -117,10 +117,9 @@ module _ (h : Header) (past : Trace) (q : ℕ) where
           let line = eqb-true x.addr l two.1 in
           let same = e.port ∙ sym port in
           let o = first_resp past x.port x.id in
-          let first : o ≡ first_resp past r e.id = ap (λ v. first_resp past v x.id) same ∙ ap (first_resp past r) e.is_id in
-          let stored : has_store h past x.port x.id ≡ has_store h past r e.id = ap (λ v. has_store h past v x.id) same ∙ ap (has_store h past r) e.is_id in
-          let held : held_of h past x ≡ state_of h past r l =
-          held_on (is_line x) (state_of h past x.port x.addr) two.0 ∙ ap (λ v. state_of h past v x.addr) same ∙ ap (state_of h past r) line in
+          let first : o ≡ first_resp past r e.id = rw (same, e.is_id) refl in
+          let stored : has_store h past x.port x.id ≡ has_store h past r e.id = rw (same, e.is_id) refl in
+          let held : held_of h past x ≡ state_of h past r l = rw (two.0, same, line) refl in
           let well = is_none_or-at (acknowledged past q Read) (ends_well h past st) x k e.is in
           let end = and_parts (ends_read e.kind (held_of h past x) (is_some_and o is_shared) (is_some_and o passes_dirty) (has_failed past x) st) _
           (is_none_or-at (read_kind x) (is_end h past x st) e.kind well e.is_kind) in

@@ -36,14 +36,14 @@ module _ (h : Header) (past : Trace) where
               | inl none ↦ inl (is_invalid-is (state_of h past r x.addr) none)
               | inr held ↦
                   let snooped : was_snooped past r x.addr ≡ true = rw (other, ace, held) at parts.1 in
-                  let a = has_answered (answer_of past r x.addr) snooped owes_none in
+                  let a = has_answered (answer_of past r x.addr) (rw snooped at owes_none) in
                   inr (record { low = low; answer = a.0; is = a.1 })
             ]
       ]
     where
-      has_answered : (o : Option Answer) → was_snooped past r x.addr ≡ true → (was_snooped past r x.addr && is_none o) ≡ false → (a : Answer) × (o ≡ Some a)
-      has_answered None s e = let bad : true ≡ false = rw s at e in cc
-      has_answered (Some a) s e = (a, refl)
+      has_answered : (o : Option Answer) → is_none o ≡ false → (a : Answer) × (o ≡ Some a)
+      has_answered None e = cc
+      has_answered (Some a) e = (a, refl)
 
   module _ (x : Transaction) (k : ArKind) (resp : ℕ) where
     -- What K19 says of the response to a read of this kind.

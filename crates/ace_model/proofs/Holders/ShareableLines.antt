@@ -1,5 +1,5 @@
 -- A line that a port holds is shareable: a transaction of it was issued that isn't NoSnoop, and then each one is.
-use Rattle.std.proofs.Common.{◌≡◌, ℕ, true, false, nat_eq, [], ◌∷◌, length, Some, refl, sym, ap, subst, ◌∙◌, inl, inr}
+use Rattle.std.proofs.Common.{◌≡◌, ℕ, true, false, nat_eq, [], ◌∷◌, length, Some, refl, sym, ap, ◌∙◌, inl, inr}
 use Rattle.std.proofs.lemmas.Bool.{and_parts, cases_Bool, eqb-true}
 use Rattle.ace_model.proofs.Terms.{Read, LineState, I, Header, Event, Rk, is_invalid, Transaction, Trace, is_line, is_on, issued, each_issued, state_of, k8, is_no_snoop, is_used_alike, fits_line, IsAccepted}
 use Rattle.ace_model.proofs.Trace.Growth.{IsIssued, issued-old, issued-cases, named-issued, each_issued-at}
@@ -27,7 +27,7 @@ alike_new h past e x y l k new old on_x on_y =
     let parts = and_parts (is_line x) (nat_eq x.addr l) on_x in
     let each = implies-at (is_line x) (each_issued past (is_used_alike x)) fits parts.0 in
     let alike = each_issued-at past (is_used_alike x) y.place y each old.there in
-    let here : is_on y x.addr ≡ true = subst (λ a. is_on y a ≡ true) (sym (eqb-true x.addr l parts.1)) on_y in
+    let here : is_on y x.addr ≡ true = rw (eqb-true x.addr l parts.1) on_y in
     same_test-at (is_no_snoop x) (is_no_snoop y) (implies-at (is_on y x.addr) _ alike here)
 
 pub used_alike : (h : Header) (past : Trace) → IsAccepted h past → UsedAlike past
@@ -64,8 +64,7 @@ shareable_kept : (h : Header) (past : Trace) (e : Event) → ((l : ℕ) → Less
 shareable_kept h past e less f p l held =
     elim (cases_Bool (is_invalid (state_of h past p l))) [
       | inl none ↦
-          let gone : state_of h (e ∷ past) p l ≡ I = (less l p).gone (is_invalid-is (state_of h past p l) none) in
-          let bad : is_invalid I ≡ false = subst (λ s. is_invalid s ≡ false) gone held in cc
+          let bad = rw ((less l p).gone (is_invalid-is (state_of h past p l) none)) at held in cc
       | inr was ↦ later e past l (f p l was)
     ]
 
