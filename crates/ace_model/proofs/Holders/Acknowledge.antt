@@ -33,6 +33,7 @@ module _ (h : Header) (past : Trace) (q : ℕ) where
     pub is_id : ended_one.id ≡ id
     pub kind : ArKind
     pub is_kind : read_kind ended_one ≡ Some kind
+    pub full : is_some_and (read_kind ended_one) (λ k. transfers past q id == beats_of k) ≡ true
     pub arrives : is_line ended_one ≡ true → Arrives h past q id ended_one
 
   module _ (st : LineState) where
@@ -57,6 +58,7 @@ module _ (h : Header) (past : Trace) (q : ℕ) where
           is_id = name.id;
           kind = kind.0;
           is_kind = kind.1;
+          full = s.2;
           arrives = λ line. f.arrive q next.0 s.0 ace s.1 line (λ z. beats_some (reads_a_line kind.0) (transfers past q next.0) all z);
         }
       where
@@ -81,6 +83,7 @@ module _ (h : Header) (past : Trace) (q : ℕ) where
           (has_failed past one) st
       pub stored : is_make_unique kind ≡ true → has_store h past r id ≡ true
       pub arrives : Arrives h past r id one
+      pub full : is_some_and (read_kind one) (λ k. transfers past r id == beats_of k) ≡ true
 
     -- the line is granted to it, and the other ports hold what its kind and its response let them hold
     module _ (r l : ℕ) (d : EndsLine r l) where
@@ -137,6 +140,7 @@ module _ (h : Header) (past : Trace) (q : ℕ) where
             state = read_is e.kind _ _ _ _ st (rw (held, first) at end.0);
             stored = λ m. sym stored ∙ implies-at (is_make_unique e.kind) _ end.1 m;
             arrives = subst (λ v. Arrives h past v e.id x) (sym port) (e.arrives two.0);
+            full = rw port e.full;
           }
 
       -- the states of a line that is still granted are as they were

@@ -47,7 +47,7 @@ module _ (h : Header) (past : Trace) where
         id = name.id;
         kind = kind.0;
         is_kind = kind.1;
-        few = subst (λ n. n < beats_of kind.0) same (ltb-true (transfers past x.port x.id) (beats_of kind.0) beats.0);
+        few = rw (← same) (ltb-true (transfers past x.port x.id) (beats_of kind.0) beats.0);
         ends = λ e. ap (λ n. n + 1) (sym same) ∙ eqb-true (transfers past x.port x.id + 1) (beats_of kind.0) (sym (same_test-at last _ beats.1) ∙ e);
         may = λ line. implies-at (is_line x) (may_transfer h past x resp) due.1 line;
       }
