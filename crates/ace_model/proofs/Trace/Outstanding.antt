@@ -1,10 +1,11 @@
 -- What is outstanding: the name of a transaction, and what an event issues or ends.
-use Rattle.std.proofs.Common.{◌≡◌, ◌≢◌, ◌⊎◌, not, ℕ, Bool, true, false, if◌then◌else◌, ◌&&◌, nat_eq, length, Option, Some, None, is_none, refl, sym, subst, ◌∙◌, inl, inr}
+use Rattle.std.proofs.Common.{◌≡◌, ◌≢◌, ◌⊎◌, not, ℕ, Bool, true, false, if◌then◌else◌, ◌&&◌, nat_eq, length, Option, Some, None, is_none, refl, sym, subst, ◌∙◌, inl, inr, ap, arith}
 use Rattle.std.proofs.lemmas.Bool.{and_parts, and_from, cases_Bool, eqb-true, eq-eqb}
 use Rattle.ace_model.proofs.Terms.{Header, Channel, Read, Write, R, B, Transaction, Trace, transaction_of, next_complete, acknowledged, ended, is_ace, transaction_under, has_name, outstanding, newest_named, is_exclusive_store, is_false, passed_at_grant, has_failed}
 use Rattle.ace_model.proofs.Trace.Looks.{Named, at_name, has_name-is, newest_named-cases, newest_named-older}
-use Rattle.ace_model.proofs.Trace.Issued.{transaction_of-name, outstanding-name, same_place}
+use Rattle.ace_model.proofs.Trace.Issued.{transaction_of-name, outstanding-name, same_place, transaction_of-stands}
 use Rattle.ace_model.proofs.General.Options.{none_if-is, none_is, Some-injective}
+use Rattle.std.proofs.lemmas.Bool.Decides.{nat_tests}
 
 -- the transaction of the AR, of the AW
 abbrev pub read_issued : Trace → ℕ → ℕ → ℕ → ℕ → ℕ → ℕ → Bool → Transaction
@@ -52,18 +53,8 @@ other_name h past y p i x o other = let name = outstanding-name h past p Read i 
 -- the count of transfers begins anew for the name of the read
 pub named_read : (past : Trace) (q j addr snoop dom bar : ℕ) (lock : Bool) (p i : ℕ) (b : Bool)
     → has_name (read_issued past q j addr snoop dom bar lock) p Read i ≡ b → (nat_eq p q && nat_eq i j) ≡ b
-named_read past q j addr snoop dom bar lock p i true e =
-    let n = has_name-is (read_issued past q j addr snoop dom bar lock) p Read i e in
-    and_from _ _ (eq-eqb p q (sym n.port)) (eq-eqb i j (sym n.id))
-named_read past q j addr snoop dom bar lock p i false e =
-    elim (cases_Bool (nat_eq p q && nat_eq i j)) [
-      | inr f ↦ f
-      | inl t ↦
-          let parts = and_parts (nat_eq p q) (nat_eq i j) t in
-          let named : has_name (read_issued past q j addr snoop dom bar lock) p Read i ≡ true =
-          and_from _ _ (and_from _ _ (eq-eqb q p (sym (eqb-true p q parts.0))) refl) (eq-eqb j i (sym (eqb-true i j parts.1))) in
-          cc
-    ]
+named_read past q j addr snoop dom bar lock p i b e =
+    let same : (nat_eq p q && nat_eq i j) ≡ ((nat_eq q p && true) && nat_eq j i) = grind (arith, nat_tests) in same ∙ e
 
 -- Two names of one transaction.
 pub record OneName (p : ℕ) (c : Channel) (i q : ℕ) (d : Channel) (j : ℕ) : Type 0 where
