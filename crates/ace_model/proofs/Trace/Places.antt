@@ -1,5 +1,6 @@
 -- The events of a trace by their places, and what a longer trace says of them: loads, beats and grants.
-use Rattle.std.proofs.Common.{zero, nat_eq, suc, ◌≡◌, ◌⊎◌, ℕ, ◌-◌, ◌<◌, ◌≤◌, Bool, true, [], ◌∷◌, ◌++◌, length, reverse, drop, Some, slice_get, sym, ap, subst, ◌∙◌, arith, inl, inr}
+use Rattle.std.proofs.Common.{◌≡◌, ◌⊎◌, ℕ, ◌-◌, ◌<◌, ◌≤◌, Bool, true, [], ◌∷◌, ◌++◌, length, reverse, drop, Some, slice_get, sym, ap, ◌∙◌, arith, inl, inr, zero, nat_eq, suc, subst}
+use Rattle.std.proofs.lemmas.Option.{slice_get_within}
 use Rattle.std.proofs.lemmas.Bool.{cases_Bool, eqb-true}
 use Rattle.std.proofs.lemmas.List.{reverse-append, length-reverse, drop-drop, length-drop}
 use Rattle.std.proofs.lemmas.Option.{slice_get_within}
@@ -66,50 +67,23 @@ pub record NewBeat (past : Trace) (e : Event) (x : Transaction) (k word : ℕ) :
 pub beat-cases : (e : Event) (past : Trace) (n : ℕ) (x : Transaction) (k word : ℕ) → IsBeat (e ∷ past) n x k word
     → (IsBeat past n x k word × (n < length past)) ⊎ ((n ≡ length past) × NewBeat past e x k word)
 beat-cases e past n x k word beat =
-    let resp = beat.0 in
-    let last = beat.1.0 in
     let b = beat.1.1 in
-    elim (event_at-cases e past n (R x.port x.id resp last word) b.0) [
+    elim (event_at-cases e past n (R x.port x.id beat.0 beat.1.0 word) b.0) [
       | inl old ↦
           let low = old.1 in
-          let same : at_point n (e ∷ past) ≡ at_point n past = at_point-before e past n (omega arith) in
-          inl (
-            (
-              resp,
-              (
-                last,
-                (
-                  old.0,
-                  subst (λ (t : Trace). transaction_of t x.port Read x.id ≡ Some x) same b.1,
-                  b.2,
-                  subst (λ (t : Trace). transfers t x.port x.id ≡ k) same b.3,
-                ),
-              ),
-            ),
-            old.1,
-          )
+          let same = at_point-before e past n (omega arith) in
+          inl ((beat.0, (beat.1.0, (old.0, rw same at b.1, b.2, rw same at b.3))), low)
       | inr new ↦
-          let same : at_point n (e ∷ past) ≡ past = at_point-last e past n new.0 in
-          inr (
-            new.0,
-            record {
-              resp = resp;
-              last = last;
-              event = new.1;
-              named = subst (λ (t : Trace). transaction_of t x.port Read x.id ≡ Some x) same b.1;
-              line_read = b.2;
-              number = subst (λ (t : Trace). transfers t x.port x.id ≡ k) same b.3;
-            },
-          )
+          let same = at_point-last e past n new.0 in
+          inr (new.0, record { resp = beat.0; last = beat.1.0; event = new.1; named = rw same at b.1; line_read = b.2; number = rw same at b.3 })
     ]
 
 -- a grant of the trace stands in the longer one
 pub grant-old : (e : Event) (past : Trace) (n : ℕ) (x : Transaction) → IsGrantOf past n x → IsGrantOf (e ∷ past) n x
 grant-old e past n x g =
-    let low = event_at-below past n (G x.port Read x.id) g.0 in (
-      event_at-old e past n (G x.port Read x.id) g.0,
-      subst (λ (t : Trace). transaction_of t x.port Read x.id ≡ Some x) (sym (at_point-before e past n (omega arith))) g.1,
-    )
+    let low = event_at-below past n (G x.port Read x.id) g.0 in
+    let same = at_point-before e past n (omega arith) in
+    (event_at-old e past n (G x.port Read x.id) g.0, rw same g.1)
 
 pub beat-below : (past : Trace) (n : ℕ) (x : Transaction) (k word : ℕ) → IsBeat past n x k word → n < length past
 beat-below past n x k word b = event_at-below past n (R x.port x.id b.0 b.1.0 word) b.1.1.0
