@@ -1,6 +1,6 @@
 -- A line snoop that isn't answered yet is of the present grant, whose transaction hasn't begun, and its port has no other.
 use Rattle.std.proofs.Common.{le_refl, ◌≡◌, ◌⊎◌, ℕ, ◌+◌, ◌≤◌, Bool, true, false, not, if◌then◌else◌, ◌&&◌, ◌||◌, nat_eq, nat_le, nat_lt, [], ◌∷◌, length, Option, Some, None, is_none, slice_get, refl, sym, ap, subst, ◌∙◌, arith, inl, inr}
-use Rattle.std.proofs.lemmas.Bool.{or_parts, and_parts, and_from, or_left, or_right, not-true, cases_Bool, eqb-true, eq-eqb, ltb-true}
+use Rattle.std.proofs.lemmas.Bool.{false_from_ne_true, or_parts, and_parts, and_from, or_left, or_right, not-true, cases_Bool, eqb-true, eq-eqb, ltb-true}
 use Rattle.ace_model.proofs.Terms.{AwKind, SnoopKind, Read, Write, Event, R, Rk, B, Wk, Ac, Cr, Header, snoop_of_write, Snoop, Transaction, Trace, is_some_and, newer, is_update}
 use Rattle.ace_model.proofs.Terms.{has_write_data, beats_of, reads_a_line, is_read, is_line, read_kind, write_kind, snoop_of, snoop_kind_of, ended, transfers, acknowledgements, updates_memory}
 use Rattle.ace_model.proofs.Terms.{has_memory_write, snoop_at, snoops_of, snoops_a_line, answers, answered, is_snoop_on, gives_line, granted, grant_place, is_begun, is_snoop_to, was_snooped}
@@ -57,10 +57,7 @@ write_causes x s f e =
 -- an update is a write
 updates_write : (x : Transaction) → updates_memory x ≡ true → is_read x.chan ≡ false
 updates_write x u =
-    elim (cases_Bool (is_read x.chan)) [
-      | inr f ↦ f
-      | inl t ↦ let bad : false ≡ true = rw t at u in cc
-    ]
+    false_from_ne_true (is_read x.chan) (λ t. let bad : false ≡ true = rw t at u in cc)
 
 module _ (h : Header) (past : Trace) where
   written_begun : IsAccepted h past → (l q : ℕ) (x z : Transaction) (k : SnoopKind) → granted h past l ≡ Some x → snoop_of x ≡ Some k
