@@ -26,7 +26,7 @@
 --
 -- 4. A line snoop that isn't answered yet came under the present grant of its line. The granted transaction is of another
 --    port, is no exclusive store that failed, and hasn't begun. The snooped port has no answer under the grant and no second
---    unanswered snoop of the line. A port that wasn't snooped under the grant has no answer under it [Snooped].
+--    unanswered snoop of the line. A port that wasn't snooped under the grant has no answer under it [SnoopsStand].
 --    AC: K13 and K1 ask for this, and that the port wasn't snooped under the grant before; so the new snoop is its only one.
 --    CR: it answers the oldest snoop of its port; if that one is of the line, no other of the line waits there.
 --    G: it is of another line, by K12.

@@ -39,7 +39,7 @@ pub record Pending (h : Header) (past : Trace) (r l : ℕ) (s : Snoop) : Type 0 
   pub within : nat_lt r h.ports ≡ true
   pub other : nat_eq one.port r ≡ false
 
-pub record Snooped (h : Header) (past : Trace) : Type 0 where
+pub record SnoopsStand (h : Header) (past : Trace) : Type 0 where
   pub pending : (r n l : ℕ) (s : Snoop) → IsPending past r n l s → Pending h past r l s
   pub once : (r m n l : ℕ) (s t : Snoop) → IsPending past r m l s → IsPending past r n l t → m ≡ n
   pub first : (r l : ℕ) → was_snooped past r l ≡ false → answer_of past r l ≡ None
@@ -226,7 +226,7 @@ new_pending h past (Ac q addr code) a r l s first is on =
     ]
 new_pending h past e a r l s first is on = cc
 
-snoops_step : (h : Header) (past : Trace) (e : Event) → IsAccepted h (e ∷ past) → Snooped h past → Snooped h (e ∷ past)
+snoops_step : (h : Header) (past : Trace) (e : Event) → IsAccepted h (e ∷ past) → SnoopsStand h past → SnoopsStand h (e ∷ past)
 snoops_step h past e a f = record {
   pending = λ r n l s i. elim (was r n l s i) [
     | inl old ↦ pending_stays h past r n l s old (f.pending r n l s old) e a (unanswered r n l s i old)
@@ -291,7 +291,7 @@ snoops_step h past e a f = record {
         by d late = refl
 
 -- at each point of an accepted trace
-pub snoops : (h : Header) (past : Trace) → IsAccepted h past → Snooped h past
+pub snoops : (h : Header) (past : Trace) → IsAccepted h past → SnoopsStand h past
 snoops h [] a = record {
   pending = λ r n l s i. let there = i.there in cc;
   once = λ r m n l s t i j. let there = i.there in cc;
