@@ -1,16 +1,15 @@
 -- Data newer than memory have a place, at every point of an accepted trace.
-use Rattle.std.proofs.Common.{◌≡◌, ℕ, true, false, [], ◌∷◌, Option, Some, None, option_map, refl, sym, ap, subst, ◌∙◌, inl, inr}
-use Rattle.std.proofs.lemmas.Bool.{or_left, cases_Bool}
+use Rattle.std.proofs.Common.{◌≡◌, ℕ, true, false, [], ◌∷◌, Option, Some, None, refl, sym, ap, subst, ◌∙◌, inl, inr}
+use Rattle.std.proofs.lemmas.Bool.{cases_Bool}
 use Rattle.std.specs.List.{AllByRecursion}
-use Rattle.ace_model.proofs.Terms.{InRange, Channel, Event, M, D, Header, Line, is_dirty, Transaction, Trace, is_some_and, is_make_unique, is_write_line_unique, is_read, read_kind, write_kind}
-use Rattle.ace_model.proofs.Terms.{outstanding, has_memory_write, granted, has_passed_data, state_of, memory_of, passed_data, value_of, data_of, may_write_memory, IsAccepted, replaces_line}
+use Rattle.ace_model.proofs.Terms.{InRange, Channel, Event, M, Header, Line, is_dirty, Transaction, Trace, is_some_and, is_read}
+use Rattle.ace_model.proofs.Terms.{has_memory_write, granted, has_passed_data, state_of, memory_of, passed_data, value_of, data_of, IsAccepted, replaces_line}
 use Rattle.ace_model.proofs.Terms.{IsValueSafe, DirtyPlace}
-use Rattle.ace_model.proofs.Trace.Looks.{has_name-is, is_on-addr}
-use Rattle.ace_model.proofs.Trace.Issued.{transaction_of-stands}
-use Rattle.ace_model.proofs.Rules.Keeps.{accepted_keeps}
+use Rattle.ace_model.proofs.Trace.Looks.{is_on-addr}
+use Rattle.ace_model.proofs.Trace.Issued.{outstanding-named}
 use Rattle.ace_model.proofs.Grants.Stays.{Stays, granted_after}
 use Rattle.ace_model.proofs.Grants.Begins.{then_of}
-use Rattle.ace_model.proofs.Values.Stores.{Writes, value_moves}
+use Rattle.ace_model.proofs.Values.Stores.{Writes, value_moves, may_write}
 use Rattle.ace_model.proofs.Values.Fetches.{fetches_step}
 use Rattle.ace_model.proofs.Values.MergedLines.{value-length}
 use Rattle.ace_model.proofs.Values.Copies.{copies_step}
@@ -25,7 +24,7 @@ use Rattle.ace_model.proofs.Values.Updated.{updated_step}
 use Rattle.ace_model.proofs.Values.Safe.{ended_safe, answered_safe}
 use Rattle.ace_model.proofs.Values.Facts.{DirtyPlaced}
 use Rattle.ace_model.proofs.Holders.Law.{accepted_holds}
-use Rattle.ace_model.proofs.General.Options.{is_some_and-is, is_some_and-at}
+use Rattle.ace_model.proofs.General.Options.{is_some_and-is}
 use Rattle.ace_model.proofs.Values.PassedData.{answer_kept, passes_line, passed_has}
 
 module _ (h : Header) (past : Trace) where
@@ -44,12 +43,9 @@ module _ (h : Header) (past : Trace) where
     where
       value : value_of (e ∷ past) l ≡ value_of past l
       value =
-          elim (value_moves h past e a l) [
-            | inl same ↦ same
-            | inr (inl d) ↦ let bad = sym w.is ∙ d.is in cc
-            | inr (inr (inl d)) ↦ let bad = sym w.is ∙ d.is in cc
-            | inr (inr (inr d)) ↦ let chan = ap (option_map (λ (y : Transaction). is_read y.chan)) (sym d.by.stands ∙ b.stands) in let read = b.reads in let write = d.by.writes in cc
-          ]
+          let named = outstanding-named h past w.port w.chan w.id w.one w.out in
+          let reads = b.reads in
+          subst (λ v. value_of (v ∷ past) l ≡ value_of past l) (sym w.is) (rw (named, reads) refl)
 
   memory_written : (e : Event) → IsAccepted h (e ∷ past) → AllByRecursion InRange (e ∷ past) → DirtyPlaced h past → (l : ℕ) → WritesLine h past e l
       → IsValueSafe h (e ∷ past) l
@@ -63,21 +59,8 @@ module _ (h : Header) (past : Trace) where
   -- the M of a store is one of the line
   store_writes : (e : Event) → IsAccepted h (e ∷ past) → (q : ℕ) (c : Channel) (j l : ℕ) (line : Line) → e ≡ M q c j line → Writes h past q c j l → WritesLine h past e l
   store_writes e a q c j l line is s =
-      let name = has_name-is s.one q c j (transaction_of-stands past q c j s.one s.named).named in
-      let out : outstanding h past q c j ≡ Some s.one =
-      sym (ap (λ v. outstanding h past v s.one.chan s.one.id) name.port ∙ ap (λ (v : Channel). outstanding h past q v s.one.id) name.chan ∙ ap (outstanding h past q c) name.id) ∙ s.out in
-      let keeps = (accepted_keeps h past (M q c j line) (subst (λ v. IsAccepted h (v ∷ past)) is a)).rule_24 in
-      record {
-        port = q;
-        chan = c;
-        id = j;
-        line = line;
-        is = is;
-        one = s.one;
-        out = out;
-        on = s.on;
-        may = is_some_and-at (outstanding h past q c j) (may_write_memory h past) s.one keeps out;
-      }
+      let m = may_write h past q c j line (subst (λ v. IsAccepted h (v ∷ past)) is a) s.one s.named in
+      record { port = q; chan = c; id = j; line = line; is = is; one = s.one; out = m.out; on = s.on; may = m.may }
 
   -- where there are passed data, a granted transaction has them
   passed_granted : (l : ℕ) (d : Line) → passed_data h past l ≡ Some d → (x : Transaction) × (granted h past l ≡ Some x) × (has_passed_data h past x ≡ true)
@@ -95,12 +78,9 @@ module _ (h : Header) (past : Trace) where
           | inl same ↦ carries kept same
           | inr (inl d) ↦ inr (inl (d.port, subst (λ v. is_dirty (state_of h (v ∷ past) d.port l) ≡ true) (sym d.is) (store_dirty h past d.port l d.strobe d.ex d.line d.may)))
           | inr (inr (inl d)) ↦
-              let replaces : replaces_line d.made.one ≡ true =
-              or_left (is_some_and (read_kind d.made.one) is_make_unique) (is_some_and (write_kind d.made.one) is_write_line_unique)
-              (subst (λ o. is_some_and o is_make_unique ≡ true) (sym d.made.kind) refl) in
-              let here : is_some_and (granted h (D d.port l d.strobe d.ex d.line ∷ past) l) replaces_line ≡ true =
-              subst (λ o. is_some_and o replaces_line ≡ true) (sym d.made.stands) replaces in
-              inr (inr (inr (subst (λ v. is_some_and (granted h (v ∷ past) l) replaces_line ≡ true) (sym d.is) here)))
+              let stands = d.made.stands in
+              let kind = d.made.kind in
+              inr (inr (inr (subst (λ v. is_some_and (granted h (v ∷ past) l) replaces_line ≡ true) (sym d.is) (rw (stands, kind) refl))))
           | inr (inr (inr d)) ↦ memory_written e a r f l (store_writes e a d.port d.chan d.id l d.line d.is d.by)
         ]
       ]

@@ -1,22 +1,21 @@
 -- A MakeUnique that has had its store leaves its port with the value.
 use Rattle.std.proofs.Common.{◌≡◌, ℕ, Bool, true, false, not, ◌&&◌, nat_eq, nat_lt, [], ◌∷◌, length, Some, refl, sym, ap, subst, ◌∙◌, inl, inr}
-use Rattle.std.proofs.lemmas.Bool.{and_parts, or_cases, or_right, cases_eq, eqb-true, eq-eqb}
+use Rattle.std.proofs.lemmas.Bool.{and_parts, or_cases, or_right, eqb-true, eq-eqb}
 use Rattle.ace_codes.specs.declared.kind.ArKind.TheVariants as read
 use Rattle.ace_model.proofs.Terms.{I, Channel, Read, Event, Ar, Aw, D, Header, Line, merged, Transaction, Trace, is_some_and, reads_a_line, is_ace, is_line, is_named, issued}
 use Rattle.ace_model.proofs.Terms.{read_kind, outstanding, is_completion, is_complete, granted, state_of, awaits_store, is_store_of, has_store, copy_of, value_of}
-use Rattle.ace_model.proofs.Terms.{may_store, IsAccepted}
+use Rattle.ace_model.proofs.Terms.{IsAccepted}
 use Rattle.ace_model.proofs.Trace.Looks.{is_on-addr}
 use Rattle.ace_model.proofs.Trace.Issued.{outstanding-name, outstanding-origin}
 use Rattle.ace_model.proofs.Rules.Keeps.{accepted_keeps}
-use Rattle.ace_model.proofs.Trace.LineOnce.{outstanding_found, one_on_line}
+use Rattle.ace_model.proofs.Trace.LineOnce.{one_on_line}
 use Rattle.ace_model.proofs.Values.MergedLines.{merged-whole}
 use Rattle.ace_model.proofs.Values.Stores.{Made, stores_d, Awaits, awaits_store-is}
 use Rattle.ace_model.proofs.Values.FullReads.{done_read}
 use Rattle.ace_model.proofs.Values.FullReads.{full_some}
-use Rattle.ace_model.proofs.Trace.Looks.{read_writes_none}
 use Rattle.ace_model.proofs.Values.Copies.{copy_moves}
 use Rattle.ace_model.proofs.Tables.States.{unique_valid}
-use Rattle.ace_model.proofs.Values.Stays.{may_unique, may_free, value_stays}
+use Rattle.ace_model.proofs.Values.Stays.{value_stays, busy, none_may, read_no_write}
 use Rattle.ace_model.proofs.Values.Facts.{MadeTrue, DirtyPlaced}
 use Rattle.ace_model.proofs.Holders.Law.{accepted_holds}
 use Rattle.ace_model.proofs.General.Options.{is_some_and-at}
@@ -103,9 +102,7 @@ made_step h past e a f p i l x o on kind s =
         let addr : n.addr ≡ l = sym (is_on-addr x n.addr n.awaits.on) ∙ is_on-addr x l on in
         let is : e ≡ D p l n.strobe n.ex n.line = n.is ∙ ap (λ v. D p v n.strobe n.ex n.line) addr in
         elim (stores_d h past p l n.strobe n.ex n.line (subst (λ d. IsAccepted h (d ∷ past)) is a)) [
-          | inl may ↦
-              let some = outstanding_found h past p Read i l x was on in
-              let none = may_free h past p l may in cc
+          | inl may ↦ absurd (busy h past p Read i l x was on may)
           | inr m ↦ subst (λ d. copy_of (d ∷ past) p l ≡ value_of (d ∷ past) l) (sym is) (made_d h past p l n.strobe n.ex n.line m)
         ]
 
@@ -117,19 +114,15 @@ made_step h past e a f p i l x o on kind s =
         let arrives = (accepted_holds h past a.0).arrive p i x done.1 was line.0 (full_some past p i x (done_read h past a.0 p i x was done.0)) in
         let stands : granted h past l ≡ Some x = ap (granted h past) (sym addr) ∙ arrives.stands in
         let name = outstanding-name h past p Read i x was in
-        let no_port : (q : ℕ) → may_store h past q l ≡ true → ⊥ = λ q may. elim (cases_eq p q) [
-          | inl own ↦
-              let some = outstanding_found h past p Read i l x was on in
-              let none = may_free h past p l (subst (λ v. may_store h past v l ≡ true) (sym own) may) in cc
-          | inr apart ↦ unique_valid (state_of h past q l) (may_unique h past q l may) (subst (λ v. state_of h past q v ≡ I) addr (arrives.alone read.MakeUnique kind refl q apart))
-        ] in
+        let no_port = none_may h past p Read i l x was on (λ q apart unique.
+        unique_valid (state_of h past q l) unique (subst (λ v. state_of h past q v ≡ I) addr (arrives.alone read.MakeUnique kind refl q apart))) in
         let no_make : (q t : ℕ) (m : Made h past q l t) → m.one ≡ x → ⊥ = λ q t m one.
         let made_name = outstanding-name h past q Read m.id m.one m.out in
         let port : q ≡ p = sym made_name.port ∙ ap (λ (y : Transaction). y.port) one ∙ name.port in
         let id : m.id ≡ i = sym made_name.id ∙ ap (λ (y : Transaction). y.id) one ∙ name.id in
         let first : has_store h past p i ≡ false = sym (ap (λ v. has_store h past v m.id) port ∙ ap (has_store h past p) id) ∙ m.first in cc in
         elim (copy_moves h past e a p l) [
-          | inl same ↦ same ∙ f.made p i l x was on kind stored ∙ sym (value_stays h past e a l x stands (read_writes_none x read.MakeUnique kind).1 no_port no_make)
+          | inl same ↦ same ∙ f.made p i l x was on kind stored ∙ sym (value_stays h past e a l x stands no_port no_make (read_no_write h past x read.MakeUnique l kind))
           | inr (inl r) ↦
               let one = one_on_line h past a.0 p Read Read r.id i l r.one x r.out was r.on on in
               let bad : false ≡ true = sym (ap (λ o. is_some_and o reads_a_line) (ap read_kind one ∙ kind)) ∙ r.reads in cc

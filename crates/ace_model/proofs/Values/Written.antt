@@ -2,7 +2,6 @@
 use Rattle.std.proofs.Common.{◌≡◌, ℕ, ◌+◌, ◌*◌, true, false, ◌||◌, [], ◌∷◌, length, Option, Some, None, unwrap_or, option_and_then, slice_get, refl, sym, ap, subst, ◌∙◌, inl, inr}
 use Rattle.std.proofs.lemmas.Bool.{and_from, cases_Bool}
 use Rattle.std.specs.List.{AllByRecursion}
-use Rattle.ace_codes.specs.declared.kind.ArKind.TheVariants as read
 use Rattle.ace_model.proofs.Terms.{AwKind, I, InRange, Channel, Write, Event, M, Header, Line, merged, Transaction, Trace, is_some_and, is_write_line_unique, has_write_data, is_unique_write}
 use Rattle.ace_model.proofs.Terms.{is_no_snoop_write, is_read, read_kind, write_kind, snoop_of, snoop_kind_of, outstanding, has_memory_write, granted, has_passed_data, state_of, memory_of}
 use Rattle.ace_model.proofs.Terms.{passed_to, passed_data, Beat, burst_of, burst_line, burst_strobe, value_of, full_beat, full_line, data_of, data_of_write, burst_into, IsAccepted, replaces_line}
@@ -16,11 +15,10 @@ use Rattle.ace_model.proofs.Grants.SnoopAnswers.{no_rise}
 use Rattle.ace_model.proofs.Grants.Answers.{passed_kind}
 use Rattle.ace_model.proofs.Values.MergedLines.{line_of, merged-length, merged-all}
 use Rattle.ace_model.proofs.Trace.WriteBursts.{four_beats}
-use Rattle.ace_model.proofs.Values.Stores.{Writes, stores_m, stores_kind, value_moves}
-use Rattle.ace_model.proofs.Trace.Looks.{read_writes_none}
+use Rattle.ace_model.proofs.Values.Stores.{Writes, stores_m, stores_kind}
 use Rattle.ace_model.proofs.Values.WritesAlone.{all_empty}
 use Rattle.ace_model.proofs.Tables.States.{unique_valid, dirty_valid}
-use Rattle.ace_model.proofs.Values.Stays.{may_unique}
+use Rattle.ace_model.proofs.Values.Stays.{may_unique, value_stays, write_no_make}
 use Rattle.ace_model.proofs.Grants.Granted.{given_unwritten, granted_given, granted_write, written_cases}
 use Rattle.ace_model.proofs.Values.Passed.{passed_true}
 use Rattle.ace_model.proofs.Values.MemoryWrites.{WritesLine, memory_now, memory_moves, grant_stores, writer, line_is, is_write-is, update_true, beats_fit, kind_data}
@@ -176,22 +174,14 @@ module _ (h : Header) (past : Trace) where
             ]
       ]
     where
-      again : granted h past l ≡ Some x → has_memory_write past x.port x.chan x.id ≡ true → (p : ℕ) (c : Channel) (i : ℕ) → Writes h past p c i l → ⊥
-      again was earlier p c i s =
-          let one : s.one ≡ x = Some-injective s.one x (sym s.stands ∙ was) in
+      again : has_memory_write past x.port x.chan x.id ≡ true → (p : ℕ) (c : Channel) (i : ℕ) (s : Writes h past p c i l) → s.one ≡ x → ⊥
+      again earlier p c i s one =
           let first : has_memory_write past x.port x.chan x.id ≡ false = subst (λ (y : Transaction). has_memory_write past y.port y.chan y.id ≡ false) one s.first in
           let bad : true ≡ false = sym earlier ∙ first in cc
 
       later : granted h past l ≡ Some x → has_memory_write past x.port x.chan x.id ≡ true → Quiet h past l → memory_of (e ∷ past) l ≡ value_of (e ∷ past) l
       later was earlier q =
-          let value : value_of (e ∷ past) l ≡ value_of past l = elim (value_moves h past e a l) [
-            | inl same ↦ same
-            | inr (inl d) ↦ absurd (unique_valid (state_of h past d.port l) (may_unique h past d.port l d.may) (q.nowhere d.port))
-            | inr (inr (inl d)) ↦
-                let one : d.made.one ≡ x = Some-injective d.made.one x (sym d.made.stands ∙ was) in
-                let bad : true ≡ false = sym (read_writes_none d.made.one read.MakeUnique d.made.kind).1 ∙ ap (λ (y : Transaction). is_read y.chan) one ∙ writes in cc
-            | inr (inr (inr d)) ↦ absurd (again was earlier d.port d.chan d.id d.by)
-          ] in
+          let value = value_stays h past e a l x was (λ p may. unique_valid (state_of h past p l) (may_unique h past p l may) (q.nowhere p)) (write_no_make h past x l writes) (again earlier) in
           elim (memory_moves h past e a l) [
             | inl kept ↦ kept ∙ q.stored ∙ sym value
             | inr w ↦ elim (writer h past e a l w) [
@@ -199,6 +189,6 @@ module _ (h : Header) (past : Trace) where
                   let one : w.one ≡ x = Some-injective w.one x (sym passed.stands ∙ was) in
                   let bad : true ≡ false = sym passed.reads ∙ ap (λ (y : Transaction). is_read y.chan) one ∙ writes in cc
               | inr (inl u) ↦ update_true h past e a r.0 f.updates l w u
-              | inr (inr s) ↦ absurd (again was earlier w.port w.chan w.id s)
+              | inr (inr s) ↦ absurd (again earlier w.port w.chan w.id s (Some-injective s.one x (sym s.stands ∙ was)))
             ]
           ]
