@@ -2,17 +2,15 @@
 use Rattle.std.proofs.Common.{◌≡◌, ◌⊎◌, ℕ, Bool, true, false, ◌&&◌, ◌==◌, nat_eq, ◌∷◌, Some, refl, sym, ap, subst, ◌∙◌, inl, inr}
 use Rattle.std.proofs.lemmas.Bool.{and_parts, or_left, cases_Bool, eqb-true, eq-eqb}
 use Rattle.std.proofs.Math.Bool.{and-false}
-use Rattle.ace_model.proofs.Terms.{LineState, I, Read, Event, R, Rk, M, D, Header, Line, merged, is_invalid}
-use Rattle.ace_model.proofs.Terms.{is_unique, Transaction, Trace, is_some_and, beats_of, is_granted_write, is_on, write_kind, outstanding, transaction_of, transfers}
-use Rattle.ace_model.proofs.Terms.{state_of, is_line_read_transaction, copy_of, value_of, IsAccepted, AreCopiesTrue}
+use Rattle.ace_model.proofs.Terms.{LineState, I, Read, Event, R, Rk, M, D, Header, Line, merged, is_invalid, is_unique, Transaction, Trace, is_some_and, beats_of, is_granted_write, is_on, write_kind}
+use Rattle.ace_model.proofs.Terms.{outstanding, transaction_of, transfers, state_of, is_line_read_transaction, copy_of, value_of, IsAccepted, AreCopiesTrue}
 use Rattle.ace_model.proofs.Tables.States.{valid_not, invalid_not, unique_valid}
-use Rattle.ace_model.proofs.Tables.Kinds.{fetch_is}
+use Rattle.ace_model.proofs.Tables.Kinds.{fetch_is, make_unique_is}
 use Rattle.ace_model.proofs.Holders.Acknowledge.{is_named_by_rk}
 use Rattle.ace_model.proofs.Holders.Rises.{state_moves, stays_empty}
 use Rattle.ace_model.proofs.Grants.Begins.{may_of}
 use Rattle.ace_model.proofs.Values.MergedLines.{merged-whole}
 use Rattle.ace_model.proofs.Values.Stores.{stores_d, value_moves}
-use Rattle.ace_model.proofs.Tables.Kinds.{make_unique_is}
 use Rattle.ace_model.proofs.Values.FullReads.{full_some}
 use Rattle.ace_model.proofs.Values.Ended.{read_ends}
 use Rattle.ace_model.proofs.Values.WritesAlone.{all_empty}

@@ -1,8 +1,9 @@
 -- What an RK or a WK leaves of the line of its transaction.
 use Rattle.std.proofs.Common.{◌≡◌, ℕ, ◌&&◌, true, nat_eq, ◌∷◌, Some, le_refl, sym, ap, subst, ◌∙◌}
 use Rattle.std.proofs.lemmas.Bool.{and_parts, eqb-true}
-use Rattle.ace_model.proofs.Terms.{write_kind, ArKind, LineState, passes_dirty, is_shared, Rk, Read, Header, ends_read, Transaction, Trace, implies, is_some_and, is_make_unique, is_line, is_on, read_kind, Channel, Write, Wk, is_some_on, has_memory_write, has_write_data}
-use Rattle.ace_model.proofs.Terms.{outstanding, acknowledged, first_resp, transaction_of, acknowledgements, has_failed, state_of, has_store, ends_well, is_end, held_of, IsAccepted}
+use Rattle.ace_model.proofs.Terms.{write_kind, ArKind, LineState, passes_dirty, is_shared, Rk, Read, Header, ends_read, Transaction, Trace, implies, is_some_and, is_make_unique, is_line, is_on}
+use Rattle.ace_model.proofs.Terms.{read_kind, Channel, Write, Wk, is_some_on, has_memory_write, has_write_data, outstanding, acknowledged, first_resp, transaction_of, acknowledgements, has_failed}
+use Rattle.ace_model.proofs.Terms.{state_of, has_store, ends_well, is_end, held_of, IsAccepted}
 use Rattle.ace_model.proofs.Tables.ReadEnds.{ReadEnds, read_is}
 use Rattle.ace_model.proofs.Rules.Keeps.{accepted_keeps}
 use Rattle.ace_model.proofs.Holders.States.{held_on}

@@ -1,8 +1,8 @@
 -- The transfers of a read: what an event adds to them, and that a read which is complete has had them all.
 use Rattle.std.proofs.Common.{◌≡◌, ◌≢◌, ◌⊎◌, ◌==◌, ℕ, ◌+◌, Bool, true, false, not, if◌then◌else◌, ◌&&◌, nat_eq, [], ◌∷◌, length, Some, refl, sym, ap, subst, ◌∙◌, arith, inl, inr, length-append}
 use Rattle.std.proofs.lemmas.Bool.{and_parts, or_cases, cases_Bool, eqb-true, eq-eqb}
-use Rattle.ace_model.proofs.Terms.{Read, Write, Event, Ar, Aw, R, Header, Transaction, Trace, is_some_and, beats_of, reads_a_line, has_name, is_named, read_kind, issued, transfers, first_resp, outstanding, is_line, may_transfer}
-use Rattle.ace_model.proofs.Terms.{is_completion, is_complete, words_read, IsAccepted}
+use Rattle.ace_model.proofs.Terms.{Read, Write, Event, Ar, Aw, R, Header, Transaction, Trace, is_some_and, beats_of, reads_a_line, has_name, is_named, read_kind, issued, transfers, first_resp}
+use Rattle.ace_model.proofs.Terms.{outstanding, is_line, may_transfer, is_completion, is_complete, words_read, IsAccepted}
 use Rattle.ace_model.proofs.Trace.Looks.{has_name-is}
 use Rattle.ace_model.proofs.Trace.Issued.{outstanding-origin}
 use Rattle.ace_model.proofs.Trace.WriteQueue.{issue_completes}

@@ -2,9 +2,8 @@
 use Rattle.std.proofs.Common.{◌≡◌, ℕ, true, false, [], ◌∷◌, Option, Some, None, refl, sym, ap, subst, ◌∙◌, inl, inr}
 use Rattle.std.proofs.lemmas.Bool.{cases_Bool}
 use Rattle.std.specs.List.{AllByRecursion}
-use Rattle.ace_model.proofs.Terms.{InRange, Channel, Event, M, Header, Line, is_dirty, Transaction, Trace, is_some_and, is_read}
-use Rattle.ace_model.proofs.Terms.{has_memory_write, granted, has_passed_data, state_of, memory_of, passed_data, value_of, data_of, IsAccepted, replaces_line}
-use Rattle.ace_model.proofs.Terms.{IsValueSafe, DirtyPlace}
+use Rattle.ace_model.proofs.Terms.{InRange, Channel, Event, M, Header, Line, is_dirty, Transaction, Trace, is_some_and, is_read, has_memory_write, granted, has_passed_data, state_of, memory_of}
+use Rattle.ace_model.proofs.Terms.{passed_data, value_of, data_of, IsAccepted, replaces_line, IsValueSafe, DirtyPlace}
 use Rattle.ace_model.proofs.Trace.Looks.{is_on-addr}
 use Rattle.ace_model.proofs.Trace.Issued.{outstanding-named}
 use Rattle.ace_model.proofs.Grants.Stays.{Stays, granted_after}

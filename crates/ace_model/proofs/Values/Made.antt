@@ -2,17 +2,15 @@
 use Rattle.std.proofs.Common.{◌≡◌, ℕ, Bool, true, false, not, ◌&&◌, nat_eq, nat_lt, [], ◌∷◌, length, Some, refl, sym, ap, subst, ◌∙◌, inl, inr}
 use Rattle.std.proofs.lemmas.Bool.{and_parts, or_cases, or_right, eqb-true, eq-eqb}
 use Rattle.ace_codes.specs.declared.kind.ArKind.TheVariants as read
-use Rattle.ace_model.proofs.Terms.{I, Channel, Read, Event, Ar, Aw, D, Header, Line, merged, Transaction, Trace, is_some_and, reads_a_line, is_ace, is_line, is_named, issued}
-use Rattle.ace_model.proofs.Terms.{read_kind, outstanding, is_completion, is_complete, granted, state_of, awaits_store, is_store_of, has_store, copy_of, value_of}
-use Rattle.ace_model.proofs.Terms.{IsAccepted}
+use Rattle.ace_model.proofs.Terms.{I, Channel, Read, Event, Ar, Aw, D, Header, Line, merged, Transaction, Trace, is_some_and, reads_a_line, is_ace, is_line, is_named, issued, read_kind, outstanding}
+use Rattle.ace_model.proofs.Terms.{is_completion, is_complete, granted, state_of, awaits_store, is_store_of, has_store, copy_of, value_of, IsAccepted}
 use Rattle.ace_model.proofs.Trace.Looks.{is_on-addr}
 use Rattle.ace_model.proofs.Trace.Issued.{outstanding-name, outstanding-origin}
 use Rattle.ace_model.proofs.Rules.Keeps.{accepted_keeps}
 use Rattle.ace_model.proofs.Trace.LineOnce.{one_on_line}
 use Rattle.ace_model.proofs.Values.MergedLines.{merged-whole}
 use Rattle.ace_model.proofs.Values.Stores.{Made, stores_d, Awaits, awaits_store-is}
-use Rattle.ace_model.proofs.Values.FullReads.{done_read}
-use Rattle.ace_model.proofs.Values.FullReads.{full_some}
+use Rattle.ace_model.proofs.Values.FullReads.{done_read, full_some}
 use Rattle.ace_model.proofs.Values.Copies.{copy_moves}
 use Rattle.ace_model.proofs.Tables.States.{unique_valid}
 use Rattle.ace_model.proofs.Values.Stays.{value_stays, busy, none_may, read_no_write}

@@ -3,17 +3,15 @@ use Rattle.std.proofs.Common.{◌≡◌, ◌⊎◌, ℕ, ◌<◌, ◌^◌, Bool,
 use Rattle.std.proofs.lemmas.Bool.{and_parts, and_from, or_right, cases_Bool}
 use Rattle.std.specs.List.{AllByRecursion}
 use Rattle.ace_model.proofs.Terms.{AwKind, IsDigit, IsWord, IsLine, InRange, Channel, Read, Write, Event, W, M, Header, Line, Transaction, Trace, is_some_and, is_none_or, is_update}
-use Rattle.ace_model.proofs.Terms.{is_write_line_unique, has_write_data, is_granted_write, is_read, is_on, write_kind, outstanding}
-use Rattle.ace_model.proofs.Terms.{transaction_of, updates_memory, is_burst_whole, granted, is_granted, has_passed_data, memory_of, same_line, Beat, burst_of, burst_line}
-use Rattle.ace_model.proofs.Terms.{stores_data, value_of, full_beat, may_write_memory, data_of, data_of_write, has_data, IsAccepted}
+use Rattle.ace_model.proofs.Terms.{is_write_line_unique, has_write_data, is_granted_write, is_read, is_on, write_kind, outstanding, transaction_of, updates_memory, is_burst_whole, granted, is_granted}
+use Rattle.ace_model.proofs.Terms.{has_passed_data, memory_of, same_line, Beat, burst_of, burst_line, stores_data, value_of, full_beat, may_write_memory, data_of, data_of_write, has_data, IsAccepted}
 use Rattle.ace_model.proofs.Trace.Looks.{is_on-addr}
 use Rattle.ace_model.proofs.Trace.Issued.{outstanding-named, outstanding-name}
 use Rattle.ace_model.proofs.Tables.Kinds.{granted_stores}
 use Rattle.ace_model.proofs.Rules.Keeps.{accepted_keeps}
-use Rattle.ace_model.proofs.Values.MergedLines.{same_line-is, lines_by_words}
+use Rattle.ace_model.proofs.Values.MergedLines.{same_line-is, lines_by_words, value-length}
 use Rattle.ace_model.proofs.Trace.WriteBursts.{four_beats}
 use Rattle.ace_model.proofs.Values.Stores.{Writes, stores_m, may_write}
-use Rattle.ace_model.proofs.Values.MergedLines.{value-length}
 use Rattle.ace_model.proofs.Values.Stays.{value_updating}
 use Rattle.ace_model.proofs.Grants.Granted.{granted_at, passed_may, data_may, has_passed, granted_given, granted_write}
 use Rattle.ace_model.proofs.Values.Facts.{UpdatesTrue}

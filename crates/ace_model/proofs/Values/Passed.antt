@@ -1,10 +1,9 @@
 -- Passed data are the value of their line, or their port has stored since and holds the line dirty.
 use Rattle.std.proofs.Common.{◌≡◌, ◌⊎◌, ℕ, Bool, true, false, ◌&&◌, nat_eq, ◌∷◌, length, Option, Some, None, option_and_then, option_map, refl, sym, ap, subst, ◌∙◌, inl, inr}
 use Rattle.std.proofs.lemmas.Bool.{and_from, or_left, cases_Bool, cases_eq, eq-eqb}
-use Rattle.ace_model.proofs.Terms.{LineState, passes_dirty, Channel, Event, Cr, D, M, Header, Line, is_dirty, Answer, Transaction, Trace, at_point}
-use Rattle.ace_model.proofs.Terms.{write_kind, snoop_of, snoop_kind_of, transaction_of, has_outstanding_on, is_outstanding_on}
-use Rattle.ace_model.proofs.Terms.{is_memory_write, has_memory_write, data_answers, granted, answers_grant, answer_at, answer_of, passer, has_passed_data, state_of, is_in_make_unique}
-use Rattle.ace_model.proofs.Terms.{awaits_store, copy_of, copy_at_answer, passed_to, passed_data, value_of, may_store, IsAccepted, HasDirtyHolder, IsValueSafe}
+use Rattle.ace_model.proofs.Terms.{LineState, passes_dirty, Channel, Event, Cr, D, M, Header, Line, is_dirty, Answer, Transaction, Trace, at_point, write_kind, snoop_of, snoop_kind_of, transaction_of}
+use Rattle.ace_model.proofs.Terms.{has_outstanding_on, is_outstanding_on, is_memory_write, has_memory_write, data_answers, granted, answers_grant, answer_at, answer_of, passer, has_passed_data}
+use Rattle.ace_model.proofs.Terms.{state_of, is_in_make_unique, awaits_store, copy_of, copy_at_answer, passed_to, passed_data, value_of, may_store, IsAccepted, HasDirtyHolder, IsValueSafe}
 use Rattle.ace_codes.specs.declared.kind.SnoopKind.TheVariants as snoop
 use Rattle.ace_model.proofs.Trace.Looks.{has_name-is, same_channel-self}
 use Rattle.ace_model.proofs.Trace.Issued.{transaction_of-stands}

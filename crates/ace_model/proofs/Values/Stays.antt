@@ -1,12 +1,11 @@
 -- The value of a line stays while a port's data of it are on their way.
 use Rattle.std.proofs.Common.{◌≡◌, ℕ, ◌<◌, true, false, not, [], ◌∷◌, length, Some, None, refl, sym, ap, subst, ◌∙◌, arith, inl, inr, ◌≢◌}
 use Rattle.std.proofs.lemmas.Bool.{and_parts, cases_Bool, cases_eq, not-true}
-use Rattle.ace_model.proofs.Terms.{ArKind, I, Read, Write, Event, Header, is_fetch, snoop_of_read, is_unique, Answer, Transaction, Trace, at_point, is_some_and, Channel}
-use Rattle.ace_model.proofs.Terms.{is_update, is_make_unique, has_write_data, is_read, is_on, read_kind, write_kind, snoop_of, snoop_kind_of, outstanding}
-use Rattle.ace_model.proofs.Terms.{has_outstanding_on, updates_memory, gives_line, granted, answer_of, state_of, word_of, copy_of, value_of, may_store}
-use Rattle.ace_model.proofs.Terms.{IsAccepted}
+use Rattle.ace_model.proofs.Terms.{ArKind, I, Read, Write, Event, Header, is_fetch, snoop_of_read, is_unique, Answer, Transaction, Trace, at_point, is_some_and, Channel, is_update, is_make_unique}
+use Rattle.ace_model.proofs.Terms.{has_write_data, is_read, is_on, read_kind, write_kind, snoop_of, snoop_kind_of, outstanding, has_outstanding_on, updates_memory, gives_line, granted, answer_of}
+use Rattle.ace_model.proofs.Terms.{state_of, word_of, copy_of, value_of, may_store, IsAccepted}
 use Rattle.ace_codes.specs.declared.kind.ArKind.TheVariants as read
-use Rattle.ace_model.proofs.Trace.Looks.{is_on-addr}
+use Rattle.ace_model.proofs.Trace.Looks.{is_on-addr, read_writes_none}
 use Rattle.ace_model.proofs.Trace.Issued.{outstanding-name}
 use Rattle.ace_model.proofs.Trace.Growth.{at_point-before, at_point-end}
 use Rattle.ace_model.proofs.Trace.LineOnce.{outstanding_found, one_on_line}
@@ -17,7 +16,6 @@ use Rattle.ace_model.proofs.Grants.Answers.{new_answer, is_levelling, none_uniqu
 use Rattle.ace_model.proofs.Tables.Kinds.{fetch_is, update_data}
 use Rattle.ace_model.proofs.Values.UpdateHolds.{keeps}
 use Rattle.ace_model.proofs.Values.Stores.{Made, value_moves, Writes}
-use Rattle.ace_model.proofs.Trace.Looks.{read_writes_none}
 use Rattle.ace_model.proofs.Values.WritesAlone.{all_empty}
 use Rattle.ace_model.proofs.Values.Facts.{SentTrue, UpdatesTrue, DirtyPlaced}
 use Rattle.ace_model.proofs.Holders.Law.{accepted_holds}

@@ -1,10 +1,9 @@
 -- The stores to a line: a D of a port that may store, the D of a MakeUnique, and the M of a write.
 use Rattle.std.proofs.Common.{◌≡◌, ◌⊎◌, ℕ, Bool, true, false, not, ◌&&◌, ◌||◌, nat_eq, nat_lt, ◌∷◌, Option, Some, None, refl, sym, ap, subst, ◌∙◌, inl, inr}
 use Rattle.std.proofs.lemmas.Bool.{and_parts, or_cases, not-true, cases_Bool, eqb-true}
-use Rattle.ace_model.proofs.Terms.{AwKind, Channel, Read, Event, M, D, Header, Line, Transaction, Trace, is_some_and, is_make_unique, is_update}
-use Rattle.ace_model.proofs.Terms.{is_unique_write, is_no_snoop_write, is_ace, is_read, is_line, is_on, read_kind, write_kind, outstanding, transaction_of}
-use Rattle.ace_model.proofs.Terms.{is_outstanding, is_make_unique_on, is_complete, updates_memory, has_memory_write, is_burst_whole, granted, is_granted, awaits_store, has_store}
-use Rattle.ace_model.proofs.Terms.{are_snoops_done, stores_data, value_of, may_store, wants_store, full_line, may_write_memory, is_write_due, IsAccepted}
+use Rattle.ace_model.proofs.Terms.{AwKind, Channel, Read, Event, M, D, Header, Line, Transaction, Trace, is_some_and, is_make_unique, is_update, is_unique_write, is_no_snoop_write, is_ace, is_read}
+use Rattle.ace_model.proofs.Terms.{is_line, is_on, read_kind, write_kind, outstanding, transaction_of, is_outstanding, is_make_unique_on, is_complete, updates_memory, has_memory_write, is_burst_whole}
+use Rattle.ace_model.proofs.Terms.{granted, is_granted, awaits_store, has_store, are_snoops_done, stores_data, value_of, may_store, wants_store, full_line, may_write_memory, is_write_due, IsAccepted}
 use Rattle.ace_codes.specs.declared.kind.ArKind.TheVariants as read
 use Rattle.ace_model.proofs.Trace.Looks.{is_read-is, is_on-addr, read_writes_none}
 use Rattle.ace_model.proofs.Trace.Issued.{outstanding-named}

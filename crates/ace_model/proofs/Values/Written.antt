@@ -3,9 +3,8 @@ use Rattle.std.proofs.Common.{◌≡◌, ℕ, ◌+◌, ◌*◌, true, false, ◌
 use Rattle.std.proofs.lemmas.Bool.{and_from, cases_Bool}
 use Rattle.std.specs.List.{AllByRecursion}
 use Rattle.ace_model.proofs.Terms.{AwKind, I, InRange, Channel, Write, Event, M, Header, Line, merged, Transaction, Trace, is_some_and, is_write_line_unique, has_write_data, is_unique_write}
-use Rattle.ace_model.proofs.Terms.{is_no_snoop_write, is_read, read_kind, write_kind, snoop_of, snoop_kind_of, outstanding, has_memory_write, granted, has_passed_data, state_of, memory_of}
-use Rattle.ace_model.proofs.Terms.{passed_to, passed_data, Beat, burst_of, burst_line, burst_strobe, value_of, full_beat, full_line, data_of, data_of_write, burst_into, IsAccepted, replaces_line}
-use Rattle.ace_model.proofs.Terms.{HasDirtyHolder}
+use Rattle.ace_model.proofs.Terms.{is_no_snoop_write, is_read, read_kind, write_kind, snoop_of, snoop_kind_of, outstanding, has_memory_write, granted, has_passed_data, state_of, memory_of, passed_to}
+use Rattle.ace_model.proofs.Terms.{passed_data, Beat, burst_of, burst_line, burst_strobe, value_of, full_beat, full_line, data_of, data_of_write, burst_into, IsAccepted, replaces_line, HasDirtyHolder}
 use Rattle.ace_codes.specs.declared.kind.AwKind.TheVariants as write
 use Rattle.ace_model.proofs.Trace.Looks.{is_on-addr}
 use Rattle.ace_model.proofs.Trace.Issued.{outstanding-named}
