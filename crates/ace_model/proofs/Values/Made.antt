@@ -2,13 +2,13 @@
 use Rattle.std.proofs.Common.{◌≡◌, ℕ, Bool, true, false, not, ◌&&◌, nat_eq, nat_lt, [], ◌∷◌, length, Some, refl, sym, ap, subst, ◌∙◌, inl, inr}
 use Rattle.std.proofs.lemmas.Bool.{and_parts, or_cases, or_right, eqb-true, eq-eqb}
 use Rattle.ace_codes.specs.declared.kind.ArKind.TheVariants as read
-use Rattle.ace_model.proofs.Terms.{I, Channel, Read, Event, Ar, Aw, D, Header, Line, merged, Transaction, Trace, is_some_and, reads_a_line, is_ace, is_line, is_named, issued, read_kind, outstanding}
+use Rattle.ace_model.proofs.Terms.{I, Channel, Read, Event, Ar, Aw, D, Header, Line, Transaction, Trace, is_some_and, reads_a_line, is_ace, is_line, is_named, issued, read_kind, outstanding}
 use Rattle.ace_model.proofs.Terms.{is_completion, is_complete, granted, state_of, awaits_store, is_store_of, has_store, copy_of, value_of, IsAccepted}
 use Rattle.ace_model.proofs.Trace.Looks.{is_on-addr}
 use Rattle.ace_model.proofs.Trace.Issued.{outstanding-name, outstanding-origin}
 use Rattle.ace_model.proofs.Rules.Keeps.{accepted_keeps}
 use Rattle.ace_model.proofs.Trace.LineOnce.{one_on_line}
-use Rattle.ace_model.proofs.Values.MergedLines.{merged-whole}
+use Rattle.ace_model.proofs.Values.MergedLines.{merged-same}
 use Rattle.ace_model.proofs.Values.Stores.{Made, stores_d, Awaits, awaits_store-is}
 use Rattle.ace_model.proofs.Values.FullReads.{done_read, full_some}
 use Rattle.ace_model.proofs.Values.Copies.{copy_moves}
@@ -74,11 +74,7 @@ stored_complete h (e ∷ past) a p i x o s =
 -- the whole line is stored into the copy and into the value
 made_d : (h : Header) (past : Trace) (p l strobe : ℕ) (b : Bool) (line : Line) → Made h past p l strobe → copy_of (D p l strobe b line ∷ past) p l ≡ value_of (D p l strobe b line ∷ past) l
 made_d h past p l strobe b line m =
-    let own : nat_eq p p ≡ true = eq-eqb p p refl in
-    let here : nat_eq l l ≡ true = eq-eqb l l refl in
-    let goal : merged (copy_of past p l) strobe line ≡ merged (value_of past l) strobe line =
-    subst (λ s. merged (copy_of past p l) s line ≡ merged (value_of past l) s line) (sym m.whole) (merged-whole (copy_of past p l) (value_of past l) line) in
-    rw (own, here) goal
+    rw (eq-eqb p p refl, eq-eqb l l refl) (merged-same (copy_of past p l) (value_of past l) line strobe m.whole)
 
 pub made_step : (h : Header) (past : Trace) (e : Event) → IsAccepted h (e ∷ past) → DirtyPlaced h past → MadeTrue h (e ∷ past)
 made_step h past e a f p i l x o on kind s =

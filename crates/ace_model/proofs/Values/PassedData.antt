@@ -94,48 +94,49 @@ found_some (suc n) test r t l =
       ]
     ]
 
--- until its M, the granted transaction has the data that a port has passed on
-pub passes_data : (h : Header) (past : Trace) → IsAccepted h past → (l r : ℕ) (x : Transaction) (w : Answer) → granted h past l ≡ Some x
-    → has_memory_write past x.port x.chan x.id ≡ false → answer_of past r l ≡ Some w → passes_dirty w.resp ≡ true → has_passed_data h past x ≡ true
-passes_data h past a l r x w g none is dirty =
-    let o = (accepted_holds h past a).grants l x g in
-    let addr = is_on-addr x l o.1 in
-    let here : passes past l r ≡ true = rw is dirty in
-    let some : is_some (passer h past x.addr) ≡ true = ap (λ v. is_some (passer h past v)) addr ∙ found_some h.ports (passes past l) r here (answered_low h past a r l w is) in
-    and_from _ _ (and_from _ _ (granted_is h past l x g addr) some) (not_from_false (has_memory_write past x.port x.chan x.id) none)
+module _ (h : Header) (past : Trace) where
+  -- until its M, the granted transaction has the data that a port has passed on
+  pub passes_data : IsAccepted h past → (l r : ℕ) (x : Transaction) (w : Answer) → granted h past l ≡ Some x
+      → has_memory_write past x.port x.chan x.id ≡ false → answer_of past r l ≡ Some w → passes_dirty w.resp ≡ true → has_passed_data h past x ≡ true
+  passes_data a l r x w g none is dirty =
+      let o = (accepted_holds h past a).grants l x g in
+      let addr = is_on-addr x l o.1 in
+      let here : passes past l r ≡ true = rw is dirty in
+      let some : is_some (passer h past x.addr) ≡ true = ap (λ v. is_some (passer h past v)) addr ∙ found_some h.ports (passes past l) r here (answered_low h past a r l w is) in
+      and_from _ _ (and_from _ _ (granted_is h past l x g addr) some) (not_from_false (has_memory_write past x.port x.chan x.id) none)
 
--- The event is an answer that passes the line on.
-pub record PassesNow (h : Header) (past : Trace) (e : Event) (l : ℕ) (x : Transaction) : Type 0 where
-  pub port : ℕ
-  pub answer : Answer
-  pub new : NewAnswer past e port l answer
-  pub dirty : passes_dirty answer.resp ≡ true
-  pub was : granted h past l ≡ Some x
+  -- The event is an answer that passes the line on.
+  pub record PassesNow (e : Event) (l : ℕ) (x : Transaction) : Type 0 where
+    pub port : ℕ
+    pub answer : Answer
+    pub new : NewAnswer past e port l answer
+    pub dirty : passes_dirty answer.resp ≡ true
+    pub was : granted h past l ≡ Some x
 
--- passed data were there before the event, or it is such an answer
-pub passed_origin : (h : Header) (past : Trace) (e : Event) → IsAccepted h (e ∷ past) → (l : ℕ) (x : Transaction) → granted h (e ∷ past) l ≡ Some x → has_passed_data h (e ∷ past) x ≡ true
-    → ((granted h past l ≡ Some x) × (has_passed_data h past x ≡ true)) ⊎ PassesNow h past e l x
-passed_origin h past e a l x g has =
-    let w = passes_line h (e ∷ past) a l x g has in
-    elim (granted_before h past e l x g) [
-      | inr gives ↦ let bad : None ≡ Some w.answer = rw gives at w.is in cc
-      | inl stays ↦ elim (answer_cases past e w.port l w.answer stays.gives w.is) [
-        | inl old ↦
-            let out = ((accepted_holds h past a.0).grants l x stays.was).0 in
-            let before = unwritten_before h past e a x.port x.chan x.id x out (has_passed h (e ∷ past) x has).unwritten in
-            inl (stays.was, passes_data h past a.0 l w.port x w.answer stays.was before old w.dirty)
-        | inr new ↦ inr (record { port = w.port; answer = w.answer; new = new; dirty = w.dirty; was = stays.was })
+  -- passed data were there before the event, or it is such an answer
+  pub passed_origin : (e : Event) → IsAccepted h (e ∷ past) → (l : ℕ) (x : Transaction) → granted h (e ∷ past) l ≡ Some x → has_passed_data h (e ∷ past) x ≡ true
+      → ((granted h past l ≡ Some x) × (has_passed_data h past x ≡ true)) ⊎ PassesNow e l x
+  passed_origin e a l x g has =
+      let w = passes_line h (e ∷ past) a l x g has in
+      elim (granted_before h past e l x g) [
+        | inr gives ↦ let bad : None ≡ Some w.answer = rw gives at w.is in cc
+        | inl stays ↦ elim (answer_cases past e w.port l w.answer stays.gives w.is) [
+          | inl old ↦
+              let out = ((accepted_holds h past a.0).grants l x stays.was).0 in
+              let before = unwritten_before h past e a x.port x.chan x.id x out (has_passed h (e ∷ past) x has).unwritten in
+              inl (stays.was, passes_data a.0 l w.port x w.answer stays.was before old w.dirty)
+          | inr new ↦ inr (record { port = w.port; answer = w.answer; new = new; dirty = w.dirty; was = stays.was })
+        ]
       ]
-    ]
 
--- for a read that is outstanding, where no answer passes the line on
-passed_before : (h : Header) (past : Trace) (e : Event) → IsAccepted h (e ∷ past) → (p i : ℕ) (x : Transaction) → outstanding h (e ∷ past) p Read i ≡ Some x
-    → ((r : ℕ) (w : Answer) → NewAnswer past e r x.addr w → granted h past x.addr ≡ Some x → ⊥) → has_passed_data h (e ∷ past) x ≡ true → has_passed_data h past x ≡ true
-passed_before h past e a p i x o no_new has =
-    elim (passed_origin h past e a x.addr x (granted_at h (e ∷ past) a p Read i x o (has_passed h (e ∷ past) x has).stands) has) [
-      | inl old ↦ old.1
-      | inr n ↦ absurd (no_new n.port n.answer n.new n.was)
-    ]
+  -- for a read that is outstanding, where no answer passes the line on
+  passed_before : (e : Event) → IsAccepted h (e ∷ past) → (p i : ℕ) (x : Transaction) → outstanding h (e ∷ past) p Read i ≡ Some x
+      → ((r : ℕ) (w : Answer) → NewAnswer past e r x.addr w → granted h past x.addr ≡ Some x → ⊥) → has_passed_data h (e ∷ past) x ≡ true → has_passed_data h past x ≡ true
+  passed_before e a p i x o no_new has =
+      elim (passed_origin e a x.addr x (granted_at h (e ∷ past) a p Read i x o (has_passed h (e ∷ past) x has).stands) has) [
+        | inl old ↦ old.1
+        | inr n ↦ absurd (no_new n.port n.answer n.new n.was)
+      ]
 
 -- while there are passed data, the first response of their read has PassDirty
 pub first_passes : (h : Header) (past : Trace) → IsAccepted h past → (p i : ℕ) (x : Transaction) → outstanding h past p Read i ≡ Some x → is_line x ≡ true

@@ -26,36 +26,6 @@ use Rattle.ace_model.proofs.Holders.Law.{accepted_holds}
 use Rattle.ace_model.proofs.General.Options.{Some-injective}
 use Rattle.ace_model.proofs.Values.PassedData.{passes_line, passed_has}
 
--- What a store writes.
-record Writing (h : Header) (past : Trace) (l : ℕ) (x : Transaction) : Type 0 where
-  line : Line
-  is : data_of h past x ≡ Some line
-  four : length line.words ≡ 4
-  stores : line ≡ burst_into past x (value_of past l)
-
--- where no port holds the line, the passed data are the value, else memory is
-base_is : (h : Header) (past : Trace) → IsAccepted h past → DirtyPlaced h past → (l : ℕ) (x : Transaction) → granted h past l ≡ Some x → replaces_line x ≡ false
-    → ((p : ℕ) → state_of h past p l ≡ I) → unwrap_or (passed_data h past l) (memory_of past l) ≡ value_of past l
-base_is h past a f l x g replaces empty = by (passed_data h past l) refl
-  where
-    no_holder : HasDirtyHolder h past l → ⊥
-    no_holder d = dirty_valid (state_of h past d.0 l) d.1 (empty d.0)
-
-    by : (o : Option Line) → passed_data h past l ≡ o → unwrap_or o (memory_of past l) ≡ value_of past l
-    by None is =
-        elim (f.safe l) [
-          | inl same ↦ same
-          | inr (inl d) ↦ absurd (no_holder d)
-          | inr (inr (inl passed)) ↦ let bad : None ≡ Some (value_of past l) = sym is ∙ passed in cc
-          | inr (inr (inr r)) ↦
-              let yes : replaces_line x ≡ true = subst (λ o. is_some_and o replaces_line ≡ true) g r in cc
-        ]
-    by (Some d) is =
-        elim (passed_true h past a f.passed l x g (passed_has h past l x d g is)) [
-          | inl same ↦ Some-injective d (value_of past l) (sym is ∙ same)
-          | inr holder ↦ absurd (no_holder holder)
-        ]
-
 full_burst : (b0 b1 b2 b3 : Beat) → b0.strobe ≡ full_beat → b1.strobe ≡ full_beat → b2.strobe ≡ full_beat → b3.strobe ≡ full_beat
     → burst_strobe (b0 ∷ b1 ∷ b2 ∷ b3 ∷ []) ≡ full_line
 full_burst b0 b1 b2 b3 e0 e1 e2 e3 = joined b0.strobe b1.strobe b2.strobe b3.strobe e0 e1 e2 e3
@@ -64,8 +34,38 @@ full_burst b0 b1 b2 b3 e0 e1 e2 e3 = joined b0.strobe b1.strobe b2.strobe b3.str
     joined s t u v e0 e1 e2 e3 = rw (e0, e1, e2, e3) refl
 
 module _ (h : Header) (past : Trace) where
+  -- What a store writes.
+  record Writing (l : ℕ) (x : Transaction) : Type 0 where
+    line : Line
+    is : data_of h past x ≡ Some line
+    four : length line.words ≡ 4
+    stores : line ≡ burst_into past x (value_of past l)
+
+  -- where no port holds the line, the passed data are the value, else memory is
+  base_is : IsAccepted h past → DirtyPlaced h past → (l : ℕ) (x : Transaction) → granted h past l ≡ Some x → replaces_line x ≡ false
+      → ((p : ℕ) → state_of h past p l ≡ I) → unwrap_or (passed_data h past l) (memory_of past l) ≡ value_of past l
+  base_is a f l x g replaces empty = by (passed_data h past l) refl
+    where
+      no_holder : HasDirtyHolder h past l → ⊥
+      no_holder d = dirty_valid (state_of h past d.0 l) d.1 (empty d.0)
+
+      by : (o : Option Line) → passed_data h past l ≡ o → unwrap_or o (memory_of past l) ≡ value_of past l
+      by None is =
+          elim (f.safe l) [
+            | inl same ↦ same
+            | inr (inl d) ↦ absurd (no_holder d)
+            | inr (inr (inl passed)) ↦ let bad : None ≡ Some (value_of past l) = sym is ∙ passed in cc
+            | inr (inr (inr r)) ↦
+                let yes : replaces_line x ≡ true = subst (λ o. is_some_and o replaces_line ≡ true) g r in cc
+          ]
+      by (Some d) is =
+          elim (passed_true h past a f.passed l x g (passed_has h past l x d g is)) [
+            | inl same ↦ Some-injective d (value_of past l) (sym is ∙ same)
+            | inr holder ↦ absurd (no_holder holder)
+          ]
+
   writing : IsAccepted h past → AllByRecursion InRange past → DirtyPlaced h past → (q : ℕ) (c : Channel) (j l : ℕ) → (w : Writes h past q c j l)
-      → Writing h past l w.one
+      → Writing l w.one
   writing a r f q c j l w =
       let k = stores_kind w.one w.stores in by k.0 k.1 k.2
     where
@@ -84,9 +84,9 @@ module _ (h : Header) (past : Trace) where
       base : (k : AwKind) → write_kind w.one ≡ Some k → is_write_line_unique k ≡ false → unwrap_or (passed_data h past l) (memory_of past l) ≡ value_of past l
       base k kind other =
           let none : replaces_line w.one ≡ false = rw (no_read, kind) other in
-          base_is h past a f l w.one w.stands none empty
+          base_is a f l w.one w.stands none empty
 
-      by : (k : AwKind) → write_kind w.one ≡ Some k → (is_unique_write k || is_no_snoop_write k) ≡ true → Writing h past l w.one
+      by : (k : AwKind) → write_kind w.one ≡ Some k → (is_unique_write k || is_no_snoop_write k) ≡ true → Writing l w.one
       by write.WriteUnique kind s = record {
         line = data_of_write h past w.one write.WriteUnique;
         is = kind_data h past w.one write.WriteUnique w.writes kind;
