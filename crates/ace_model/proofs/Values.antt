@@ -31,7 +31,7 @@
 -- Why each kind of event keeps them (AC, CD, L and OP change nothing here):
 --
 -- D: the copy of the port changes as the value does, and every other port is in I (Copies). The port is then dirty, or
---   its MakeUnique is granted and replaces the line (Law). Where a fact says of other data that they are the value, no D
+--   its MakeUnique is granted and replaces the line (Safe). Where a fact says of other data that they are the value, no D
 --   comes. After a port has passed the line on, the others are in I or SC, and nothing is passed to a MakeUnique; a D of
 --   that port itself leaves it dirty (Passed). After a port has sent data to a fetch, or the fetch has had a transfer, no
 --   other port is unique, and its own has the fetch outstanding (Stays, Fetches). K32 refuses a second D of a MakeUnique

@@ -1,8 +1,8 @@
 -- What an M writes: passed data, the burst of an update, which is the value, or a store, which makes memory the value.
-use Rattle.std.proofs.Common.{◌≡◌, ◌⊎◌, ℕ, ◌<◌, ◌^◌, Bool, true, false, not, [], ◌∷◌, length, Option, Some, None, slice_get, refl, sym, ap, subst, ◌∙◌, inl, inr}
+use Rattle.std.proofs.Common.{◌≡◌, ◌⊎◌, ℕ, ◌<◌, ◌^◌, true, false, not, [], ◌∷◌, length, Option, Some, None, slice_get, refl, sym, ap, subst, ◌∙◌, inl, inr}
 use Rattle.std.proofs.lemmas.Bool.{and_parts, and_from, or_right, cases_Bool}
 use Rattle.std.specs.List.{AllByRecursion}
-use Rattle.ace_model.proofs.Terms.{AwKind, IsDigit, IsWord, IsLine, InRange, Channel, Read, Write, Event, W, M, Header, Line, Transaction, Trace, is_some_and, is_none_or, is_update}
+use Rattle.ace_model.proofs.Terms.{AwKind, InRange, Channel, Read, Write, Event, W, M, Header, Line, Transaction, Trace, is_some_and, is_none_or, is_update}
 use Rattle.ace_model.proofs.Terms.{is_write_line_unique, has_write_data, is_granted_write, is_read, is_on, write_kind, outstanding, transaction_of, updates_memory, is_burst_whole, granted, is_granted}
 use Rattle.ace_model.proofs.Terms.{has_passed_data, memory_of, same_line, Beat, burst_of, burst_line, stores_data, value_of, full_beat, may_write_memory, data_of, data_of_write, has_data, IsAccepted}
 use Rattle.ace_model.proofs.Trace.Looks.{is_on-addr}
@@ -100,14 +100,7 @@ module _ (h : Header) (past : Trace) where
   -- the line of an M has four words
   pub line_length : (e : Event) (l : ℕ) (w : WritesLine h past e l) → InRange e → length w.line.words ≡ 4
   line_length e l w r =
-      let here : InRange (M w.port w.chan w.id w.line) = subst InRange w.is r in
-      in_line w.port w.chan w.id w.line here
-    where
-      in_line : (p : ℕ) (c : Channel) (i : ℕ) (line : Line) → InRange (M p c i line) → length line.words ≡ 4
-      in_line p c i line r =
-          let all : IsDigit p × IsDigit i × IsLine line = r in
-          let both : (length line.words ≡ 4) × AllByRecursion IsWord line.words = all.2 in
-          both.0
+      let here : InRange (M w.port w.chan w.id w.line) = subst InRange w.is r in here.2.0
 
   -- it is the data that the transaction writes
   pub line_is : (e : Event) → IsAccepted h (e ∷ past) → InRange e → (l : ℕ) (w : WritesLine h past e l) (d : Line) → data_of h past w.one ≡ Some d
@@ -163,14 +156,9 @@ beats_fit h (e ∷ past) a r p i x k b o sends is =
     elim beat.comes [
       | inl before ↦ beats_fit h past a.0 r.1 p i x k b beat.was sends before
       | inr new ↦ record {
-        low = in_word x.port b.strobe new.last b.word (subst InRange new.is r.0);
+        low = let here : InRange (W x.port b.strobe new.last b.word) = subst InRange new.is r.0 in here.2;
         full = λ unique.
             let kind = is_some_and-is (write_kind x) is_write_line_unique unique in
             (beat_fits h past e x k b a new kind.0 kind.1).full (or_right (is_update kind.0) (is_write_line_unique kind.0) kind.2);
       }
     ]
-  where
-    in_word : (p strb : ℕ) (last : Bool) (word : ℕ) → InRange (W p strb last word) → word < 2 ^ 128
-    in_word p strb last word r =
-        let all : IsDigit p × (strb < 2 ^ 16) × IsWord word = r in
-        all.2

@@ -14,7 +14,7 @@ use Rattle.ace_model.proofs.Tables.SnoopRows.{sends_held}
 use Rattle.ace_model.proofs.Grants.SnoopAnswers.{NewAnswer, answer_cases}
 use Rattle.ace_model.proofs.Grants.Answers.{new_answer, is_levelling, none_unique}
 use Rattle.ace_model.proofs.Tables.Kinds.{fetch_is, update_data}
-use Rattle.ace_model.proofs.Values.UpdateHolds.{keeps}
+use Rattle.ace_model.proofs.Values.UpdateHolds.{holds_line}
 use Rattle.ace_model.proofs.Values.Stores.{Made, value_moves, Writes}
 use Rattle.ace_model.proofs.Values.WritesAlone.{all_empty}
 use Rattle.ace_model.proofs.Values.Facts.{SentTrue, UpdatesTrue, DirtyPlaced}
@@ -67,7 +67,7 @@ module _ (h : Header) (past : Trace) where
   pub value_updating : (e : Event) → IsAccepted h (e ∷ past) → (p i l : ℕ) (x : Transaction) → outstanding h past p Write i ≡ Some x
       → is_on x l ≡ true → updates_memory x ≡ true → value_of (e ∷ past) l ≡ value_of past l
   value_updating e a p i l x o on updates =
-      let valid = invalid_not (state_of h past p l) (keeps h past a.0 p i l x o on updates).held in
+      let valid = invalid_not (state_of h past p l) (holds_line h past a.0 p i l x o on updates).held in
       elim (value_moves h past e a l) [
         | inl same ↦ same
         | inr (inl d) ↦ elim (cases_eq d.port p) [
@@ -144,7 +144,7 @@ module _ (h : Header) (past : Trace) where
         | inl before ↦ f.updates p i l x k b beat.was on updates before ∙ ap (λ v. word_of v k) (sym same)
         | inr new ↦
             let port = (outstanding-name h past p Write i x beat.was).port in
-            let copy = f.copies l p (invalid_not (state_of h past p l) (keeps h past a.0 p i l x beat.was on updates).held) in
+            let copy = f.copies l p (invalid_not (state_of h past p l) (holds_line h past a.0 p i l x beat.was on updates).held) in
             let here : copy_of past x.port x.addr ≡ copy_of past p l = ap (λ v. copy_of past v x.addr) port ∙ ap (copy_of past p) (is_on-addr x l on) in
             (beat_fits h past e x k b a new kind.0 kind.1).copied kind.2 ∙ ap (word_of (copy_of past x.port x.addr)) new.number ∙ ap (λ v. word_of v k) (here ∙ copy ∙ sym same)
       ]

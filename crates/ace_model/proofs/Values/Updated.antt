@@ -10,7 +10,7 @@ use Rattle.ace_model.proofs.Tables.States.{row_is}
 use Rattle.ace_model.proofs.Tables.SnoopRows.{beside_update}
 use Rattle.ace_model.proofs.Grants.SnoopAnswers.{NewAnswer}
 use Rattle.ace_model.proofs.Grants.Answers.{new_answer}
-use Rattle.ace_model.proofs.Values.UpdateHolds.{update_found, keeps}
+use Rattle.ace_model.proofs.Values.UpdateHolds.{update_found, holds_line}
 use Rattle.ace_model.proofs.Tables.Kinds.{is_dirty_update, dirty_updates}
 use Rattle.ace_model.proofs.Values.WritesAlone.{all_empty}
 use Rattle.ace_model.proofs.Values.Stays.{value_updating}
@@ -72,7 +72,7 @@ updated_step h past e a r f p i l x o on dirty m =
     later : outstanding h past p Write i ≡ Some x → Updated h past l → Updated h (e ∷ past) l
     later was q =
         let value = value_updating h past e a p i l x was on updates in
-        let k = keeps h past a.0 p i l x was on updates in
+        let k = holds_line h past a.0 p i l x was on updates in
         record {
           stored = elim (memory_moves h past e a l) [
             | inl kept ↦ kept ∙ q.stored ∙ sym value
