@@ -1,5 +1,4 @@
 pub mod Distinct
 pub mod Kept
 pub mod Looks
-pub mod Places
 pub mod Victims

@@ -1,22 +1,14 @@
--- What is found at each address after each change, and what a victim is.
-use Rattle.std.proofs.Common.{◌≡◌, ℕ, ◌==◌, if◌then◌else◌, false, List, [], ◌∷◌, ◌++◌, Option, Some, None, option_map, option_to_list, arith, refl}
+-- What is found at each address after a touch and after a store.
+use Rattle.std.proofs.Common.{◌≡◌, ℕ, ◌==◌, if◌then◌else◌, List, ◌∷◌, ◌++◌, Option, Some, None, option_map, option_to_list, arith, refl}
 use Rattle.std.proofs.lemmas.Bool.Decides.{nat_tests}
 use Rattle.ace_event.specs.declared.line.Line.{Line}
 use Rattle.ace_cache.specs.declared.way.Way.{Way}
 use Rattle.ace_cache.specs.Ways.{way_of, without, touched, stored, stored_at}
-use Rattle.ace_cache.proofs.Distinct.{address-found, without-absent, way_of-without_same}
-
--- leaving one address out changes nothing at another
-pub way_of-without_other : (ways : List Way) (addr a : ℕ) → (a == addr) ≡ false → way_of (without ways addr) a ≡ way_of ways a
-way_of-without_other [] addr a h = refl
-way_of-without_other (w ∷ ways) addr a h = grind (arith, nat_tests, way_of-without_other ways addr a)
-
-pub way_of-without : (ways : List Way) (addr a : ℕ) → way_of (without ways addr) a ≡ (if a == addr then None else way_of ways a)
-way_of-without ways addr a = grind (arith, nat_tests, way_of-without_same ways addr, way_of-without_other ways addr a)
+use Rattle.ace_cache.proofs.Distinct.{address-found, without-absent, way_of-without}
 
 -- a Way in front, with the address that is left out behind it
 front-look : (ways : List Way) (addr a : ℕ) (way : Way) → way.addr ≡ addr → way_of (way ∷ without ways addr) a ≡ (if a == addr then Some way else way_of ways a)
-front-look ways addr a way h = grind (arith, nat_tests, way_of-without_other ways addr a)
+front-look ways addr a way h = grind (arith, nat_tests, way_of-without ways addr a)
 
 touched-look : (ways : List Way) (addr a : ℕ) (found : Option Way) → way_of ways addr ≡ found → way_of (option_to_list found ++ without ways addr) a ≡ way_of ways a
 touched-look ways addr a None h = rw (without-absent ways addr h) refl

@@ -53,14 +53,24 @@ impl LineCache {
         find_way(&self.held, addr)
     }
 
+    /// Puts the Way at the front, in place of the one with its address.
+    #[tactic(auto, using(crate::proofs::Distinct::found_steps))]
+    fn renew(&mut self, way: Way)
+        requires { IsSome (way_of self.old.held way.addr) }
+        ensures { self.new ≡ record self.old { held = way ∷ without self.old.held way.addr } }
+    {
+        let _old = take_out(&mut self.held, way.addr);
+        put_front(&mut self.held, way);
+    }
+
     /// Brings the Way with this address to the front, as the most recently used one.
-    #[tactic(auto, using(crate::proofs::Distinct::length_steps))]
+    #[tactic(auto, using(crate::proofs::Distinct::found_steps))]
     pub fn touch(&mut self, addr: u32)
         requires { IsSome (way_of self.old.held addr) }
         ensures { self.new ≡ record self.old { held = touched self.old.held addr } }
     {
-        if let Some(way) = take_out(&mut self.held, addr) {
-            put_front(&mut self.held, way);
+        if let Some(way) = self.find(addr) {
+            self.renew(way);
         }
     }
 
@@ -81,14 +91,14 @@ impl LineCache {
 
     /// Stores into the Way with this address, and brings it to the front: byte n, from 0 to 63, becomes that of `bytes`
     /// where bit n of the strobe is 1, and else stays.
-    #[tactic(auto, using(crate::proofs::Distinct::length_steps))]
+    #[tactic(auto, using(crate::proofs::Distinct::found_steps))]
     pub fn store(&mut self, addr: u32, strobe: u64, bytes: Line)
         requires { IsSome (way_of self.old.held addr) }
         ensures { self.new ≡ record self.old { held = stored_at self.old.held addr strobe bytes } }
     {
-        if let Some(way) = take_out(&mut self.held, addr) {
+        if let Some(way) = self.find(addr) {
             let line = merge(way.line, strobe, bytes);
-            put_front(&mut self.held, Way { line, ..way });
+            self.renew(Way { line, ..way });
         }
     }
 

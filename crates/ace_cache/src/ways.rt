@@ -1,17 +1,10 @@
 // A list of Ways, the most recently used first.
-ghost use Rattle.std.specs.Prelude.{◌≡◌, ◌<◌, ◌∷◌, map, position, vec_len, vec_capacity};
-ghost use Rattle.ace_cache.specs.Ways.{AreDistinct, has_address, way_of, without, marked};
+ghost use Rattle.std.specs.Prelude.{◌≡◌, ◌<◌, ◌∷◌, map, vec_len, vec_capacity};
+ghost use Rattle.ace_cache.specs.Ways.{way_of, without, marked};
 ghost use Rattle.ace_cache.specs.LineCache.{last_idle_of};
 
 use crate::Way;
 use ace_codes::LineState;
-
-/// The place of the Way with this address, if there is one.
-pub fn place_of(ways: &[Way], addr: u32) -> Option<usize>
-    ensures { result ≡ position (has_address addr) ways.now }
-{
-    ways.iter().position(|way| way.addr == addr)
-}
 
 /// The Way with this address, if there is one.
 pub fn find_way(ways: &[Way], addr: u32) -> Option<Way>
@@ -21,15 +14,14 @@ pub fn find_way(ways: &[Way], addr: u32) -> Option<Way>
 }
 
 /// Takes the Way with this address out of the list, if there is one.
-#[tactic(auto, using(crate::proofs::Places::place_steps))]
 pub fn take_out(ways: &mut Vec<Way>, addr: u32) -> Option<Way>
-    requires { AreDistinct ways.old.items }
     ensures way { result ≡ way_of ways.old.items addr }
     ensures rest { ways.new.items ≡ without ways.old.items addr }
     ensures capacity { vec_capacity ways.new ≡ vec_capacity ways.old }
 {
-    let at = place_of(ways, addr)?;
-    Some(ways.remove(at))
+    let way = find_way(ways, addr);
+    ways.retain(|other| other.addr != addr);
+    way
 }
 
 /// Puts the Way at the front of the list, which has room for it.

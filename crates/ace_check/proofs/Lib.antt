@@ -1,4 +1,3 @@
-pub mod Bits
 pub mod Past
 pub mod Ports
 pub mod Unlocked

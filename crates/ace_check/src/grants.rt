@@ -38,8 +38,8 @@ fn newest_on(x: Option<Transaction>, l: u32, older: Option<Transaction>) -> Opti
     ensures { result ≡ newest_on x l older }
 {
     match x {
-        None => older,
-        Some(y) => if is_on(y, l) { Some(y) } else { older },
+        Some(y) if is_on(y, l) => x,
+        _ => older,
     }
 }
 
@@ -132,10 +132,7 @@ fn is_from(s: Snoop, l: u32, place: usize) -> bool
 fn answers_grant(past: &[Event], p: u8, l: u32) -> bool
     ensures { result ≡ answers_grant (reverse past.now) p l }
 {
-    match answered(past, p) {
-        None => false,
-        Some(s) => is_from(s, l, grant_place(past, l)),
-    }
+    answered(past, p).is_some_and(|s| is_from(s, l, grant_place(past, l)))
 }
 
 /// The port's answer under the present grant of the line, which the event is.
@@ -158,16 +155,6 @@ fn answer_at(past: &[Event], e: &Event, p: u8, l: u32) -> Option<Answer>
     }
 }
 
-/// The newer answer, if there is one, else the older.
-fn newer(new: Option<Answer>, older: Option<Answer>) -> Option<Answer>
-    ensures { result ≡ newer new older }
-{
-    match new {
-        None => older,
-        Some(a) => Some(a),
-    }
-}
-
 fn unless_given(is_given: bool, answer: Option<Answer>) -> Option<Answer>
     ensures { result ≡ unless_given is_given answer }
 {
@@ -180,7 +167,7 @@ fn answer_of(past: &[Event], p: u8, l: u32) -> Option<Answer>
 {
     let mut found = None;
     for (n, e) in past.iter().enumerate() {
-        let new = newer(answer_at(&past[..n], e, p, l), found);
+        let new = answer_at(&past[..n], e, p, l).or(found);
         found = unless_given(gives_line(&past[..n], e, l), new);
     }
     found
@@ -197,10 +184,7 @@ fn is_short(past: &[Event], p: u8, a: Answer) -> bool
 pub fn owes_data(past: &[Event], p: u8, l: u32) -> bool
     ensures { result ≡ owes_data (reverse past.now) p l }
 {
-    match answer_of(past, p, l) {
-        None => false,
-        Some(a) => is_short(past, p, a),
-    }
+    answer_of(past, p, l).is_some_and(|a| is_short(past, p, a))
 }
 
 /// The port's snoop under the grant is unanswered.
@@ -214,20 +198,14 @@ pub fn owes_answer(past: &[Event], p: u8, l: u32) -> bool
 fn shares(past: &[Event], l: u32, p: u8) -> bool
     ensures { result ≡ shares (reverse past.now) l p }
 {
-    match answer_of(past, p, l) {
-        None => false,
-        Some(a) => is_shared(a.resp),
-    }
+    answer_of(past, p, l).is_some_and(|a| is_shared(a.resp))
 }
 
 /// The port's answer under the grant has PassDirty.
 fn passes(past: &[Event], l: u32, p: u8) -> bool
     ensures { result ≡ passes (reverse past.now) l p }
 {
-    match answer_of(past, p, l) {
-        None => false,
-        Some(a) => passes_dirty(a.resp),
-    }
+    answer_of(past, p, l).is_some_and(|a| passes_dirty(a.resp))
 }
 
 /// An answer under the grant of the line has IsShared.
@@ -267,8 +245,5 @@ pub fn has_passed_data(h: &Header, past: &[Event], x: Transaction) -> bool
 pub fn are_passed_data_whole(h: &Header, past: &[Event], x: Transaction) -> bool
     ensures { result ≡ are_passed_data_whole h.now (reverse past.now) x }
 {
-    match passer(h, past, x.addr) {
-        None => false,
-        Some(p) => !owes_data(past, p, x.addr),
-    }
+    passer(h, past, x.addr).is_some_and(|p| !owes_data(past, p, x.addr))
 }

@@ -16,13 +16,14 @@ ghost use Rattle.ace_model.specs.Today.{is_known_today, k2_today, rules_today};
 use crate::exclusives::has_failed;
 use crate::grants::{granted, has_grant, is_begun, was_snooped};
 use crate::kinds::{
-    is_lite_read, is_lite_write, is_read_unique, is_read_unique_snoop, may_be_exclusive,
+    is_line_read, is_line_write, is_lite_read, is_lite_write, is_read_unique, is_read_unique_snoop,
+    may_be_exclusive,
 };
 use crate::snoops::{answered, snoops_a_line};
 use crate::states::{owes_wack, state_of};
 use crate::transactions::{
-    has_outstanding_on, is_ace, is_line, is_line_read_kind, is_line_write_kind, issued,
-    outstanding, read_kind, snoop_of, takes_grant, write_kind,
+    has_outstanding_on, is_ace, is_line, issued, outstanding, read_kind, snoop_of, takes_grant,
+    write_kind,
 };
 use ace_codes::{
     ArKind, AwKind, LineState, SnoopKind, ac_code, has_error, low_bits, read_ac, read_ar, read_aw,
@@ -35,22 +36,22 @@ fn port_of(e: &Event) -> u8
     ensures { result ≡ port_of e.now }
 {
     match *e {
-        Event::Ar { port, .. } => port,
-        Event::R { port, .. } => port,
-        Event::Rk { port, .. } => port,
-        Event::Aw { port, .. } => port,
-        Event::W { port, .. } => port,
-        Event::B { port, .. } => port,
-        Event::Wk { port, .. } => port,
-        Event::Ac { port, .. } => port,
-        Event::Cr { port, .. } => port,
-        Event::Cd { port, .. } => port,
-        Event::G { port, .. } => port,
-        Event::M { port, .. } => port,
-        Event::S { port, .. } => port,
-        Event::L { port, .. } => port,
-        Event::D { port, .. } => port,
-        Event::Op { port, .. } => port,
+        Event::Ar { port, .. }
+        | Event::R { port, .. }
+        | Event::Rk { port, .. }
+        | Event::Aw { port, .. }
+        | Event::W { port, .. }
+        | Event::B { port, .. }
+        | Event::Wk { port, .. }
+        | Event::Ac { port, .. }
+        | Event::Cr { port, .. }
+        | Event::Cd { port, .. }
+        | Event::G { port, .. }
+        | Event::M { port, .. }
+        | Event::S { port, .. }
+        | Event::L { port, .. }
+        | Event::D { port, .. }
+        | Event::Op { port, .. } => port,
     }
 }
 
@@ -58,17 +59,17 @@ fn port_of(e: &Event) -> u8
 fn wants_ace(e: &Event) -> bool
     ensures { result ≡ wants_ace e.now }
 {
-    match *e {
-        Event::Rk { .. } => true,
-        Event::Wk { .. } => true,
-        Event::Ac { .. } => true,
-        Event::Cr { .. } => true,
-        Event::Cd { .. } => true,
-        Event::S { .. } => true,
-        Event::L { .. } => true,
-        Event::D { .. } => true,
-        _ => false,
-    }
+    matches!(
+        e,
+        Event::Rk { .. }
+            | Event::Wk { .. }
+            | Event::Ac { .. }
+            | Event::Cr { .. }
+            | Event::Cd { .. }
+            | Event::S { .. }
+            | Event::L { .. }
+            | Event::D { .. }
+    )
 }
 
 /// K1
@@ -76,24 +77,6 @@ pub fn keeps_port(h: &Header, past: &[Event], e: &Event) -> bool
     ensures { result ≡ k1 h.now (reverse past.now) e.now }
 {
     port_of(e) < h.ports && (!wants_ace(e) || is_ace(h, port_of(e)))
-}
-
-fn is_read_unique_kind(kind: Option<ArKind>) -> bool
-    ensures { result ≡ is_some_and kind is_read_unique }
-{
-    match kind {
-        None => false,
-        Some(k) => is_read_unique(k),
-    }
-}
-
-fn is_read_unique_snoop_kind(kind: Option<SnoopKind>) -> bool
-    ensures { result ≡ is_some_and kind is_read_unique_snoop }
-{
-    match kind {
-        None => false,
-        Some(k) => is_read_unique_snoop(k),
-    }
 }
 
 /// The event is one that is known today.
@@ -106,31 +89,10 @@ fn is_known_today(e: &Event) -> bool
             dom,
             bar,
             ..
-        } => is_read_unique_kind(read_ar(snoop, dom, bar)),
-        Event::Ac { snoop, .. } => is_read_unique_snoop_kind(read_ac(snoop)),
-        Event::R { .. } => true,
-        Event::Rk { .. } => true,
-        Event::Cr { .. } => true,
-        Event::G { .. } => true,
+        } => read_ar(snoop, dom, bar).is_some_and(is_read_unique),
+        Event::Ac { snoop, .. } => read_ac(snoop).is_some_and(is_read_unique_snoop),
+        Event::R { .. } | Event::Rk { .. } | Event::Cr { .. } | Event::G { .. } => true,
         _ => false,
-    }
-}
-
-fn may_issue_read(h: &Header, p: u8, kind: Option<ArKind>) -> bool
-    ensures { result ≡ is_some_and kind (may_issue_read h.now p) }
-{
-    match kind {
-        None => false,
-        Some(k) => is_ace(h, p) || is_lite_read(k),
-    }
-}
-
-fn may_issue_write(h: &Header, p: u8, kind: Option<AwKind>) -> bool
-    ensures { result ≡ is_some_and kind (may_issue_write h.now p) }
-{
-    match kind {
-        None => false,
-        Some(k) => is_ace(h, p) || is_lite_write(k),
     }
 }
 
@@ -145,17 +107,16 @@ fn has_known_codes(h: &Header, e: &Event) -> bool
             dom,
             bar,
             ..
-        } => { may_issue_read(h, port, read_ar(snoop, dom, bar)) }
+        } => { read_ar(snoop, dom, bar).is_some_and(|k| is_ace(h, port) || is_lite_read(k)) }
         Event::Aw {
             port,
             snoop,
             dom,
             bar,
             ..
-        } => { may_issue_write(h, port, read_aw(snoop, dom, bar)) }
+        } => { read_aw(snoop, dom, bar).is_some_and(|k| is_ace(h, port) || is_lite_write(k)) }
         Event::Ac { snoop, .. } => read_ac(snoop).is_some(),
-        Event::R { resp, .. } => low_bits(resp) < 2,
-        Event::B { resp, .. } => low_bits(resp) < 2,
+        Event::R { resp, .. } | Event::B { resp, .. } => low_bits(resp) < 2,
         Event::Cr { resp, .. } => !has_error(resp),
         _ => true,
     }
@@ -166,13 +127,6 @@ pub fn keeps_codes(h: &Header, past: &[Event], e: &Event) -> bool
     ensures { result ≡ k2_today h.now (reverse past.now) e.now }
 {
     has_known_codes(h, e) && is_known_today(e)
-}
-
-/// The address, where the test holds.
-fn addr_if(test: bool, addr: u32) -> Option<u32>
-    ensures { result ≡ (if test then Some addr else None) }
-{
-    if test { Some(addr) } else { None }
 }
 
 /// The address of the line that the event names.
@@ -186,18 +140,24 @@ fn line_address(e: &Event) -> Option<u32>
             dom,
             bar,
             ..
-        } => { addr_if(is_line_read_kind(read_ar(snoop, dom, bar)), addr) }
+        } => {
+            read_ar(snoop, dom, bar)
+                .is_some_and(is_line_read)
+                .then_some(addr)
+        }
         Event::Aw {
             addr,
             snoop,
             dom,
             bar,
             ..
-        } => { addr_if(is_line_write_kind(read_aw(snoop, dom, bar)), addr) }
-        Event::Ac { addr, snoop, .. } => addr_if(snoops_a_line(snoop), addr),
-        Event::S { addr, .. } => Some(addr),
-        Event::L { addr, .. } => Some(addr),
-        Event::D { addr, .. } => Some(addr),
+        } => {
+            read_aw(snoop, dom, bar)
+                .is_some_and(is_line_write)
+                .then_some(addr)
+        }
+        Event::Ac { addr, snoop, .. } => snoops_a_line(snoop).then_some(addr),
+        Event::S { addr, .. } | Event::L { addr, .. } | Event::D { addr, .. } => Some(addr),
         _ => None,
     }
 }
@@ -206,10 +166,7 @@ fn line_address(e: &Event) -> Option<u32>
 pub fn keeps_alignment(h: &Header, past: &[Event], e: &Event) -> bool
     ensures { result ≡ k3 h.now (reverse past.now) e.now }
 {
-    match line_address(e) {
-        None => true,
-        Some(addr) => addr % 64 == 0,
-    }
+    line_address(e).is_none_or(|addr| addr % 64 == 0)
 }
 
 fn has_free_name(h: &Header, past: &[Event], x: Transaction) -> bool
@@ -222,10 +179,7 @@ fn has_free_name(h: &Header, past: &[Event], x: Transaction) -> bool
 pub fn keeps_free_name(h: &Header, past: &[Event], e: &Event) -> bool
     ensures { result ≡ k4 h.now (reverse past.now) e.now }
 {
-    match issued(past.len(), e) {
-        None => true,
-        Some(x) => has_free_name(h, past, x),
-    }
+    issued(past.len(), e).is_none_or(|x| has_free_name(h, past, x))
 }
 
 fn has_free_line(h: &Header, past: &[Event], x: Transaction) -> bool
@@ -238,70 +192,36 @@ fn has_free_line(h: &Header, past: &[Event], x: Transaction) -> bool
 pub fn keeps_free_line(h: &Header, past: &[Event], e: &Event) -> bool
     ensures { result ≡ k5 h.now (reverse past.now) e.now }
 {
-    match issued(past.len(), e) {
-        None => true,
-        Some(x) => has_free_line(h, past, x),
-    }
-}
-
-fn starts_read_kind(kind: Option<ArKind>, held: LineState) -> bool
-    ensures { result ≡ is_none_or kind (λ k. starts_read k held) }
-{
-    match kind {
-        None => true,
-        Some(k) => start_read_ok(k, held),
-    }
-}
-
-fn starts_write_kind(kind: Option<AwKind>, held: LineState) -> bool
-    ensures { result ≡ is_none_or kind (λ k. starts_write k held) }
-{
-    match kind {
-        None => true,
-        Some(k) => start_write_ok(k, held),
-    }
+    issued(past.len(), e).is_none_or(|x| has_free_line(h, past, x))
 }
 
 fn starts_well(h: &Header, past: &[Event], x: Transaction) -> bool
     ensures { result ≡ starts_well h.now (reverse past.now) x }
 {
     let held = state_of(h, past, x.port, x.addr);
-    !is_line(x) || (starts_read_kind(read_kind(x), held) && starts_write_kind(write_kind(x), held))
+    !is_line(x)
+        || (read_kind(x).is_none_or(|k| start_read_ok(k, held))
+            && write_kind(x).is_none_or(|k| start_write_ok(k, held)))
 }
 
 /// K6
 pub fn keeps_start(h: &Header, past: &[Event], e: &Event) -> bool
     ensures { result ≡ k6 h.now (reverse past.now) e.now }
 {
-    match issued(past.len(), e) {
-        None => true,
-        Some(x) => starts_well(h, past, x),
-    }
-}
-
-fn may_be_exclusive_kind(kind: Option<ArKind>) -> bool
-    ensures { result ≡ is_some_and kind may_be_exclusive }
-{
-    match kind {
-        None => false,
-        Some(k) => may_be_exclusive(k),
-    }
+    issued(past.len(), e).is_none_or(|x| starts_well(h, past, x))
 }
 
 fn may_lock(h: &Header, x: Transaction) -> bool
     ensures { result ≡ may_lock h.now x }
 {
-    !x.lock || (is_ace(h, x.port) && may_be_exclusive_kind(read_kind(x)))
+    !x.lock || (is_ace(h, x.port) && read_kind(x).is_some_and(may_be_exclusive))
 }
 
 /// K7
 pub fn keeps_lock(h: &Header, past: &[Event], e: &Event) -> bool
     ensures { result ≡ k7 h.now (reverse past.now) e.now }
 {
-    match issued(past.len(), e) {
-        None => true,
-        Some(x) => may_lock(h, x),
-    }
+    issued(past.len(), e).is_none_or(|x| may_lock(h, x))
 }
 
 fn may_be_granted(h: &Header, past: &[Event], x: Transaction) -> bool
@@ -315,10 +235,9 @@ pub fn keeps_grant(h: &Header, past: &[Event], e: &Event) -> bool
     ensures { result ≡ k12 h.now (reverse past.now) e.now }
 {
     match *e {
-        Event::G { port, chan, id } => match outstanding(h, past, port, chan, id) {
-            None => false,
-            Some(x) => may_be_granted(h, past, x),
-        },
+        Event::G { port, chan, id } => outstanding(h, past, port, chan, id).is_some_and(
+            |x| may_be_granted(h, past, x),
+        ),
         _ => true,
     }
 }
@@ -327,10 +246,7 @@ pub fn keeps_grant(h: &Header, past: &[Event], e: &Event) -> bool
 fn has_snoop_code(x: Transaction, snoop: u8) -> bool
     ensures { result ≡ has_snoop_code x snoop }
 {
-    match snoop_of(x) {
-        None => false,
-        Some(k) => ac_code(k) == snoop,
-    }
+    snoop_of(x).is_some_and(|k| ac_code(k) == snoop)
 }
 
 /// The granted transaction may still be snooped with this code at the port.
@@ -387,10 +303,7 @@ pub fn keeps_answer(h: &Header, past: &[Event], e: &Event) -> bool
 fn answers_by_row(h: &Header, past: &[Event], p: u8, resp: u8, st: LineState, s: Snoop) -> bool
     ensures { result ≡ answers_by_row h.now (reverse past.now) p resp st s }
 {
-    match read_ac(s.snoop) {
-        None => true,
-        Some(k) => is_snoop_row(k, state_of(h, past, p, s.addr), false, resp, st),
-    }
+    read_ac(s.snoop).is_none_or(|k| is_snoop_row(k, state_of(h, past, p, s.addr), false, resp, st))
 }
 
 /// K15
@@ -398,10 +311,9 @@ pub fn keeps_row(h: &Header, past: &[Event], e: &Event) -> bool
     ensures { result ≡ k15 h.now (reverse past.now) e.now }
 {
     match *e {
-        Event::Cr { port, resp, st } => match answered(past, port) {
-            None => true,
-            Some(s) => answers_by_row(h, past, port, resp, st, s),
-        },
+        Event::Cr { port, resp, st } => answered(past, port).is_none_or(|s| answers_by_row(
+            h, past, port, resp, st, s,
+        )),
         _ => true,
     }
 }

@@ -6,6 +6,7 @@ ghost use Rattle.ace_model.specs.Kinds.{is_line_snoop};
 ghost use Rattle.ace_model.specs.Snoops.{snoop_at, answers, answered, snoops_a_line, is_snoop_on, answers_line, data_answers, data_beats};
 
 use crate::kinds::is_line_snoop;
+use crate::transactions::new_at;
 use ace_codes::{SnoopKind, read_ac, transfers_data};
 use ace_event::Event;
 use ace_model::Snoop;
@@ -42,13 +43,6 @@ fn answers(past: &[Event], p: u8) -> usize
     count
 }
 
-/// The new value where the places are the same, or else what was found.
-fn new_at(found: Option<Snoop>, count: usize, k: usize, new: Snoop) -> Option<Snoop>
-    ensures { result ≡ (if count == k then Some new else found) }
-{
-    if count == k { Some(new) } else { found }
-}
-
 /// The snoop that the port's next CR answers.
 pub fn answered(past: &[Event], p: u8) -> Option<Snoop>
     ensures { result ≡ answered (reverse past.now) p }
@@ -68,20 +62,11 @@ pub fn answered(past: &[Event], p: u8) -> Option<Snoop>
     found
 }
 
-fn is_line_snoop_kind(kind: Option<SnoopKind>) -> bool
-    ensures { result ≡ is_some_and kind is_line_snoop }
-{
-    match kind {
-        None => false,
-        Some(k) => is_line_snoop(k),
-    }
-}
-
 /// The code is that of a line snoop.
 pub fn snoops_a_line(snoop: u8) -> bool
     ensures { result ≡ snoops_a_line snoop }
 {
-    is_line_snoop_kind(read_ac(snoop))
+    read_ac(snoop).is_some_and(is_line_snoop)
 }
 
 /// A line snoop of this line.
@@ -95,10 +80,7 @@ pub fn is_snoop_on(s: Snoop, l: u32) -> bool
 pub fn answers_line(past: &[Event], p: u8, l: u32) -> bool
     ensures { result ≡ answers_line (reverse past.now) p l }
 {
-    match answered(past, p) {
-        None => false,
-        Some(s) => is_snoop_on(s, l),
-    }
+    answered(past, p).is_some_and(|s| is_snoop_on(s, l))
 }
 
 /// How many of the port's answers have DataTransfer.

@@ -32,19 +32,9 @@ fn is_in_make_unique(h: &Header, past: &[Event], p: u8, l: u32) -> bool
 {
     let mut has = false;
     for (n, e) in past.iter().enumerate() {
-        has = match issued(n, e) {
-            None => has,
-            Some(x) => awaits_store(h, past, p, l, x) || has,
-        };
+        has = issued(n, e).is_some_and(|x| awaits_store(h, past, p, l, x)) || has;
     }
     has
-}
-
-/// The state, where the test holds.
-fn state_if(test: bool, st: LineState) -> Option<LineState>
-    ensures { result ≡ (if test then Some st else None) }
-{
-    if test { Some(st) } else { None }
 }
 
 /// The state of the line in which the event leaves the port, if it names one.
@@ -53,23 +43,16 @@ fn left_by(h: &Header, past: &[Event], e: &Event, p: u8, l: u32) -> Option<LineS
 {
     match *e {
         Event::Rk { port, st } => {
-            state_if(
-                p == port && is_some_on(acknowledged(past, p, Channel::Read), l),
-                st,
-            )
+            (p == port && is_some_on(acknowledged(past, p, Channel::Read), l)).then_some(st)
         }
         Event::Wk { port, st } => {
-            state_if(
-                p == port && is_some_on(acknowledged(past, p, Channel::Write), l),
-                st,
-            )
+            (p == port && is_some_on(acknowledged(past, p, Channel::Write), l)).then_some(st)
         }
-        Event::Cr { port, st, .. } => state_if(p == port && answers_line(past, p, l), st),
-        Event::S { port, addr, st } => state_if(p == port && l == addr, st),
-        Event::D { port, addr, .. } => state_if(
-            p == port && l == addr && !is_in_make_unique(h, past, p, l),
-            LineState::UD,
-        ),
+        Event::Cr { port, st, .. } => (p == port && answers_line(past, p, l)).then_some(st),
+        Event::S { port, addr, st } => (p == port && l == addr).then_some(st),
+        Event::D { port, addr, .. } => (p == port
+            && l == addr
+            && !is_in_make_unique(h, past, p, l)).then_some(LineState::UD),
         _ => None,
     }
 }
@@ -80,21 +63,9 @@ pub fn state_of(h: &Header, past: &[Event], p: u8, l: u32) -> LineState
 {
     let mut st = LineState::I;
     for (n, e) in past.iter().enumerate() {
-        st = match left_by(h, &past[..n], e, p, l) {
-            None => st,
-            Some(new) => new,
-        };
+        st = left_by(h, &past[..n], e, p, l).unwrap_or(st);
     }
     st
-}
-
-fn awaits_its_store(h: &Header, past: &[Event], p: u8, l: u32, x: Option<Transaction>) -> bool
-    ensures { result ≡ is_some_and x (awaits_store h.now (reverse past.now) p l) }
-{
-    match x {
-        None => false,
-        Some(y) => awaits_store(h, past, p, l, y),
-    }
 }
 
 /// The event is the store of the port's MakeUnique under the identifier.
@@ -104,7 +75,9 @@ fn is_store_of(h: &Header, past: &[Event], e: &Event, p: u8, i: u8) -> bool
     match *e {
         Event::D { port, addr, .. } => {
             p == port
-                && awaits_its_store(h, past, p, addr, outstanding(h, past, p, Channel::Read, i))
+                && outstanding(h, past, p, Channel::Read, i).is_some_and(|x| awaits_store(
+                    h, past, p, addr, x,
+                ))
         }
         _ => false,
     }
@@ -137,10 +110,7 @@ pub fn owes_wack(h: &Header, past: &[Event], p: u8, l: u32) -> bool
 {
     let mut has = false;
     for (n, e) in past.iter().enumerate() {
-        has = match issued(n, e) {
-            None => has,
-            Some(x) => awaits_wack(h, past, p, l, x) || has,
-        };
+        has = issued(n, e).is_some_and(|x| awaits_wack(h, past, p, l, x)) || has;
     }
     has
 }

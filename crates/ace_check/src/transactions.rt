@@ -8,7 +8,7 @@ ghost use Rattle.ace_model.specs.Transactions.{is_ace, is_read, same_channel, ha
 
 use crate::kinds::{is_granted_write, is_line_read, is_line_write, is_make_unique};
 use ace_codes::{ArKind, AwKind, SnoopKind, read_ar, read_aw};
-use ace_event::{Channel, Event, Header};
+use ace_event::{Channel, Event, Header, PortKind, kind_of};
 use ace_model::Transaction;
 use ace_tables::{snoop_of_read, snoop_of_write};
 
@@ -16,14 +16,7 @@ use ace_tables::{snoop_of_read, snoop_of_write};
 pub fn is_ace(h: &Header, p: u8) -> bool
     ensures { result ≡ is_ace h.now p }
 {
-    p < h.ports && is_bit_set(h.ace, p)
-}
-
-/// Bit k of the number is 1.
-fn is_bit_set(n: u32, k: u8) -> bool
-    ensures { result ≡ (bit_at n k == 1) }
-{
-    if k < 32 { (n >> k) % 2 == 1 } else { false }
+    matches!(kind_of(h, p), Some(PortKind::Ace))
 }
 
 pub fn is_read(c: Channel) -> bool
@@ -35,7 +28,7 @@ pub fn is_read(c: Channel) -> bool
 pub fn same_channel(c: Channel, d: Channel) -> bool
     ensures { result ≡ same_channel c d }
 {
-    if is_read(c) { is_read(d) } else { !is_read(d) }
+    c == d
 }
 
 /// The transaction is the port's, on the channel and under the identifier.
@@ -48,20 +41,14 @@ pub fn has_name(x: Transaction, p: u8, c: Channel, i: u8) -> bool
 pub fn is_named(x: Option<Transaction>, p: u8, c: Channel, i: u8) -> bool
     ensures { result ≡ is_named x p c i }
 {
-    match x {
-        None => false,
-        Some(y) => has_name(y, p, c, i),
-    }
+    x.is_some_and(|y| has_name(y, p, c, i))
 }
 
 /// Both are the same transaction.
 pub fn is_transaction(x: Option<Transaction>, y: Transaction) -> bool
     ensures { result ≡ is_transaction x y }
 {
-    match x {
-        None => false,
-        Some(z) => z.place == y.place,
-    }
+    x.is_some_and(|z| z.place == y.place)
 }
 
 /// The kind of a transaction, if it is a read.
@@ -86,48 +73,11 @@ pub fn write_kind(x: Transaction) -> Option<AwKind>
     }
 }
 
-/// There is a kind, and it is that of a line transaction.
-pub fn is_line_read_kind(kind: Option<ArKind>) -> bool
-    ensures { result ≡ is_some_and kind is_line_read }
-{
-    match kind {
-        None => false,
-        Some(k) => is_line_read(k),
-    }
-}
-
-pub fn is_line_write_kind(kind: Option<AwKind>) -> bool
-    ensures { result ≡ is_some_and kind is_line_write }
-{
-    match kind {
-        None => false,
-        Some(k) => is_line_write(k),
-    }
-}
-
-fn is_granted_write_kind(kind: Option<AwKind>) -> bool
-    ensures { result ≡ is_some_and kind is_granted_write }
-{
-    match kind {
-        None => false,
-        Some(k) => is_granted_write(k),
-    }
-}
-
-fn is_make_unique_kind(kind: Option<ArKind>) -> bool
-    ensures { result ≡ is_some_and kind is_make_unique }
-{
-    match kind {
-        None => false,
-        Some(k) => is_make_unique(k),
-    }
-}
-
 /// A line transaction.
 pub fn is_line(x: Transaction) -> bool
     ensures { result ≡ is_line x }
 {
-    is_line_read_kind(read_kind(x)) || is_line_write_kind(write_kind(x))
+    read_kind(x).is_some_and(is_line_read) || write_kind(x).is_some_and(is_line_write)
 }
 
 /// A line transaction on this line.
@@ -140,17 +90,14 @@ pub fn is_on(x: Transaction, l: u32) -> bool
 pub fn is_some_on(x: Option<Transaction>, l: u32) -> bool
     ensures { result ≡ is_some_on x l }
 {
-    match x {
-        None => false,
-        Some(y) => is_on(y, l),
-    }
+    x.is_some_and(|y| is_on(y, l))
 }
 
 /// A transaction that is granted its line.
 pub fn takes_grant(x: Transaction) -> bool
     ensures { result ≡ takes_grant x }
 {
-    is_line_read_kind(read_kind(x)) || is_granted_write_kind(write_kind(x))
+    read_kind(x).is_some_and(is_line_read) || write_kind(x).is_some_and(is_granted_write)
 }
 
 /// The line snoop that the transaction causes.
@@ -168,7 +115,7 @@ pub fn snoop_of(x: Transaction) -> Option<SnoopKind>
 pub fn is_make_unique_on(x: Transaction, l: u32) -> bool
     ensures { result ≡ is_make_unique_on x l }
 {
-    is_make_unique_kind(read_kind(x)) && x.addr == l
+    read_kind(x).is_some_and(is_make_unique) && x.addr == l
 }
 
 /// The transaction that the event issues.
@@ -228,8 +175,8 @@ fn newest_named(
     ensures { result ≡ newest_named x p c i older }
 {
     match x {
-        None => older,
-        Some(y) => if has_name(y, p, c, i) { Some(y) } else { older },
+        Some(y) if has_name(y, p, c, i) => x,
+        _ => older,
     }
 }
 
@@ -286,7 +233,7 @@ fn acknowledgements(past: &[Event], p: u8, c: Channel) -> usize
 }
 
 /// The new value where the places are the same, or else what was found.
-fn new_at(found: Option<u8>, count: usize, k: usize, new: u8) -> Option<u8>
+pub fn new_at<T: Drop>(found: Option<T>, count: usize, k: usize, new: T) -> Option<T>
     ensures { result ≡ (if count == k then Some new else found) }
 {
     if count == k { Some(new) } else { found }
@@ -316,10 +263,8 @@ pub fn next_complete(past: &[Event], p: u8, c: Channel) -> Option<u8>
 pub fn acknowledged(past: &[Event], p: u8, c: Channel) -> Option<Transaction>
     ensures { result ≡ acknowledged (reverse past.now) p c }
 {
-    match next_complete(past, p, c) {
-        None => None,
-        Some(i) => transaction_of(past, p, c, i),
-    }
+    let i = next_complete(past, p, c)?;
+    transaction_of(past, p, c, i)
 }
 
 /// The transaction that is no longer outstanding from the event on.
@@ -352,9 +297,8 @@ pub fn without(gone: Option<Transaction>, x: Option<Transaction>) -> Option<Tran
     ensures { result ≡ without gone x }
 {
     match (gone, x) {
-        (None, _) => x,
-        (Some(_), None) => None,
-        (Some(y), Some(z)) => if z.place == y.place { None } else { Some(z) },
+        (Some(y), Some(z)) if z.place == y.place => None,
+        _ => x,
     }
 }
 
@@ -389,10 +333,7 @@ pub fn has_outstanding_on(h: &Header, past: &[Event], p: u8, l: u32) -> bool
 {
     let mut has = false;
     for (n, e) in past.iter().enumerate() {
-        has = match issued(n, e) {
-            None => has,
-            Some(x) => is_outstanding_on(h, past, p, l, x) || has,
-        };
+        has = issued(n, e).is_some_and(|x| is_outstanding_on(h, past, p, l, x)) || has;
     }
     has
 }
@@ -442,10 +383,7 @@ pub fn first_resp(past: &[Event], p: u8, i: u8) -> Option<u8>
 fn is_completion(e: &Event, p: u8, c: Channel, i: u8) -> bool
     ensures { result ≡ is_completion e.now p c i }
 {
-    match completes(e, p, c) {
-        None => false,
-        Some(j) => i == j,
-    }
+    completes(e, p, c).is_some_and(|j| i == j)
 }
 
 /// The port's last transaction on the channel under the identifier has had its last R or its B.

@@ -24,44 +24,22 @@ use ace_event::{Channel, Event, Header};
 use ace_model::Transaction;
 use ace_tables::end_read;
 
-fn same_test(a: bool, b: bool) -> bool
-    ensures { result ≡ same_test a b }
-{
-    if a { b } else { !b }
-}
-
 /// The read has transfers left, and `last` says whether this is the last.
 fn is_next_transfer(past: &[Event], x: Transaction, last: bool, kind: ArKind) -> bool
     ensures { result ≡ is_next_transfer (reverse past.now) x last kind }
 {
     let count = transfers(past, x.port, x.id);
     let beats = beats_of(kind);
-    count < beats && same_test(last, count + 1 == beats)
-}
-
-fn is_next_transfer_of(past: &[Event], x: Transaction, last: bool, kind: Option<ArKind>) -> bool
-    ensures { result ≡ is_some_and kind (is_next_transfer (reverse past.now) x last) }
-{
-    match kind {
-        None => false,
-        Some(k) => is_next_transfer(past, x, last, k),
-    }
-}
-
-fn takes_passed_data_kind(kind: Option<ArKind>) -> bool
-    ensures { result ≡ is_some_and kind takes_passed_data }
-{
-    match kind {
-        None => false,
-        Some(k) => takes_passed_data(k),
-    }
+    count < beats && last == (count + 1 == beats)
 }
 
 /// The passed data are for a kind that takes them, they are whole, and the response says PassDirty.
 fn takes_passed(h: &Header, past: &[Event], x: Transaction, resp: u8) -> bool
     ensures { result ≡ takes_passed h.now (reverse past.now) x resp }
 {
-    takes_passed_data_kind(read_kind(x)) && are_passed_data_whole(h, past, x) && passes_dirty(resp)
+    read_kind(x).is_some_and(takes_passed_data)
+        && are_passed_data_whole(h, past, x)
+        && passes_dirty(resp)
 }
 
 /// The line read is granted, has its snoops done at its first transfer, and takes the passed data.
@@ -78,7 +56,7 @@ fn is_due(h: &Header, past: &[Event], resp: u8, last: bool, x: Transaction) -> b
     requires { x.lock ≡ false }
     ensures { result ≡ is_due h.now (reverse past.now) resp last x }
 {
-    is_next_transfer_of(past, x, last, read_kind(x))
+    read_kind(x).is_some_and(|k| is_next_transfer(past, x, last, k))
         && (!is_line(x) || may_transfer(h, past, x, resp))
 }
 
@@ -108,17 +86,7 @@ pub fn keeps_transfer(h: &Header, past: &[Event], e: &Event) -> bool
 fn same_upper_bits(resp: u8, first: u8) -> bool
     ensures { result ≡ same_upper_bits resp first }
 {
-    same_test(passes_dirty(resp), passes_dirty(first))
-        && same_test(is_shared(resp), is_shared(first))
-}
-
-fn same_upper_bits_as(resp: u8, first: Option<u8>) -> bool
-    ensures { result ≡ is_none_or first (same_upper_bits resp) }
-{
-    match first {
-        None => true,
-        Some(r) => same_upper_bits(resp, r),
-    }
+    passes_dirty(resp) == passes_dirty(first) && is_shared(resp) == is_shared(first)
 }
 
 /// An answer under the grant of the read has IsShared, and the read is one that can be told.
@@ -137,22 +105,13 @@ fn fits_kind(h: &Header, past: &[Event], x: Transaction, resp: u8, kind: ArKind)
         && (!must_be_shared(h, past, x, kind) || is_shared(resp))
 }
 
-fn fits_kind_of(h: &Header, past: &[Event], x: Transaction, resp: u8, kind: Option<ArKind>) -> bool
-    ensures { result ≡ is_none_or kind (fits_kind h.now (reverse past.now) x resp) }
-{
-    match kind {
-        None => true,
-        Some(k) => fits_kind(h, past, x, resp, k),
-    }
-}
-
 fn has_upper_bits(h: &Header, past: &[Event], resp: u8, x: Transaction) -> bool
     ensures { result ≡ has_upper_bits h.now (reverse past.now) resp x }
 {
     (!passes_dirty(resp) || has_passed_data(h, past, x))
-        && fits_kind_of(h, past, x, resp, read_kind(x))
+        && read_kind(x).is_none_or(|k| fits_kind(h, past, x, resp, k))
         && (!(passes_dirty(resp) || is_shared(resp)) || is_ace(h, x.port))
-        && same_upper_bits_as(resp, first_resp(past, x.port, x.id))
+        && first_resp(past, x.port, x.id).is_none_or(|first| same_upper_bits(resp, first))
 }
 
 /// K19
@@ -160,20 +119,10 @@ pub fn keeps_upper_bits(h: &Header, past: &[Event], e: &Event) -> bool
     ensures { result ≡ k19 h.now (reverse past.now) e.now }
 {
     match *e {
-        Event::R { port, id, resp, .. } => match outstanding(h, past, port, Channel::Read, id) {
-            None => true,
-            Some(x) => has_upper_bits(h, past, resp, x),
-        },
+        Event::R { port, id, resp, .. } => outstanding(h, past, port, Channel::Read, id).is_none_or(
+            |x| has_upper_bits(h, past, resp, x),
+        ),
         _ => true,
-    }
-}
-
-fn is_clean_unique_kind(kind: Option<ArKind>) -> bool
-    ensures { result ≡ is_some_and kind is_clean_unique }
-{
-    match kind {
-        None => false,
-        Some(k) => is_clean_unique(k),
     }
 }
 
@@ -182,7 +131,7 @@ fn is_exclusive_okay(past: &[Event], x: Transaction) -> bool
     requires { x.lock ≡ false }
     ensures { result ≡ is_exclusive_okay (reverse past.now) x }
 {
-    x.lock && (!is_clean_unique_kind(read_kind(x)) || has_passed(past, x))
+    x.lock && (!read_kind(x).is_some_and(is_clean_unique) || has_passed(past, x))
 }
 
 fn has_low_bits(past: &[Event], resp: u8, x: Transaction) -> bool
@@ -217,24 +166,6 @@ pub fn keeps_acknowledge(h: &Header, past: &[Event], e: &Event) -> bool
     }
 }
 
-fn is_shared_response(first: Option<u8>) -> bool
-    ensures { result ≡ is_some_and first is_shared }
-{
-    match first {
-        None => false,
-        Some(r) => is_shared(r),
-    }
-}
-
-fn is_dirty_response(first: Option<u8>) -> bool
-    ensures { result ≡ is_some_and first passes_dirty }
-{
-    match first {
-        None => false,
-        Some(r) => passes_dirty(r),
-    }
-}
-
 /// The state that the port holds of the transaction's line; barriers and DVM hold none, which is I.
 fn held_of(h: &Header, past: &[Event], x: Transaction) -> LineState
     ensures { result ≡ held_of h.now (reverse past.now) x }
@@ -257,8 +188,8 @@ fn is_end(h: &Header, past: &[Event], x: Transaction, st: LineState, kind: ArKin
     let ends = end_read(
         kind,
         held,
-        is_shared_response(first),
-        is_dirty_response(first),
+        first.is_some_and(|r| is_shared(r)),
+        first.is_some_and(|r| passes_dirty(r)),
         failed,
     );
     ends.has(st) && (!is_make_unique(kind) || has_store(h, past, x.port, x.id))

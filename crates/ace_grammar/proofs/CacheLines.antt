@@ -6,8 +6,8 @@ use Rattle.ace_event.specs.declared.line.Line.{Line}
 use Rattle.ace_event.specs.Range.{IsLine}
 use Rattle.ace_event.specs.Text.{hex_text, line_digits}
 use Rattle.ace_grammar.specs.Fields.{LineWords, line_of, line_at}
-use Rattle.ace_grammar.proofs.Exact.{IsClean, clean-append, ReadsAll, reads_made, Rest, last, ◌then◌}
-use Rattle.ace_grammar.proofs.FieldTexts.{word, next_word, hex_text-clean}
+use Rattle.ace_grammar.proofs.Exact.{ReadsAll, reads_made, Rest, last, ◌then◌}
+use Rattle.ace_grammar.proofs.FieldTexts.{word, next_word}
 
 abbrev pub words : Rest LineWords
 words = word then next_word then next_word then last next_word
@@ -32,14 +32,10 @@ four_of (a ∷ b ∷ c ∷ d ∷ []) h =
     ((a, (b, (c, d))), (omega (arith, fit.0), (omega (arith, fit.1.0), (omega (arith, fit.1.1.0), omega (arith, fit.1.1.1.0)))), refl)
 four_of (a ∷ b ∷ c ∷ d ∷ e ∷ l) h = absurd (omega (arith, h.0))
 
-digits-clean : (l : List ℕ) → IsClean (flat_map (hex_text 32) l)
-digits-clean [] = tt
-digits-clean (a ∷ l) = clean-append (hex_text 32 a) (flat_map (hex_text 32) l) (hex_text-clean 32 a) (digits-clean l)
-
 pub line_exact : ReadsAll line_at (λ line. 32 ∷ line_digits line) IsLine words.size
 unfolding line_at
 line_exact = reads_made words.read words.text words.IsIn words.size line_of (λ line. 32 ∷ line_digits line) IsLine
-    (λ f h. (four_fit f h, digits_of_four f)) (λ line h. four_of line.words h) (λ line. ((λ e. absurd (omega (arith, e))), digits-clean line.words)) words.exact
+    (λ f h. (four_fit f h, digits_of_four f)) (λ line h. four_of line.words h) words.exact
 
 -- a cache line, which is always the last
 abbrev pub line : Rest Line

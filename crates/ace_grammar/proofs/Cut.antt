@@ -1,8 +1,9 @@
 -- Lines that stand at the front of the bytes, against those that a reader cuts.
-use Rattle.std.proofs.Common.{◌≡◌, ◌≢◌, ℕ, ◌<◌, List, [], ◌∷◌, ◌++◌, length, Option, Some, None, refl, sym, ap, subst, ◌∙◌, arith, inl, inr, ◌⊎◌, append_assoc}
+use Rattle.std.proofs.Common.{◌≡◌, ◌≢◌, ℕ, ◌<◌, ◌+◌, List, [], ◌∷◌, ◌++◌, length, Option, Some, None, refl, sym, ap, subst, ◌∙◌, arith, inl, inr, ◌⊎◌, append_assoc}
 use Rattle.std.specs.Prelude.{codes}
 use Rattle.std.specs.Io.KnownBytes.{Consumes, IsAtEnd}
-use Rattle.std.proofs.lemmas.List.Elements.{recursion_from_All, All-from_recursion}
+use Rattle.std.proofs.lemmas.List.Elements.{recursion_from_All, All-from_recursion, All-nil}
+use Rattle.std.proofs.lemmas.Grind.{common_steps}
 use Rattle.std.specs.List.{range_with_len}
 use Rattle.std.proofs.lemmas.Bool.{cases_lt}
 use Rattle.std.proofs.KnownBytes.{Consumes-trans}
@@ -15,35 +16,19 @@ use Rattle.ace_grammar.specs.Lines.{BeginsWith, IsFirstLine, HasNoLine}
 use Rattle.ace_grammar.specs.Reasons.{HasReason}
 use Rattle.ace_grammar.specs.declared.reason.Reason.{Reason}
 use Rattle.ace_grammar.specs.declared.reason.Reason.TheVariants.{F1, F7}
-use Rattle.ace_grammar.proofs.Exact.{IsClean, clean-append}
+use Rattle.ace_io.proofs.Cutting.{first_lf, no_lf-before}
+use Rattle.ace_grammar.proofs.Visible.{IsClean, all-append}
 use Rattle.ace_grammar.proofs.Letters.{letters-clean, letters-length}
 
 pub clean_line : (line : List ℕ) → HasNoLf line → IsClean line
 clean_line line h = recursion_from_All (λ b. b ≢ 10) line h
 
--- of two lines at the front of the same bytes, both are one
-pub same_line : (a b x y : List ℕ) → IsClean a → IsClean b → (a ++ 10 ∷ []) ++ x ≡ (b ++ 10 ∷ []) ++ y → (a ≡ b) × (x ≡ y)
-same_line [] [] x y p q e = (refl, cc)
-same_line [] (c ∷ b) x y p q e = let h : c ≡ 10 = cc in absurd (q.0 h)
-same_line (c ∷ a) [] x y p q e = let h : c ≡ 10 = cc in absurd (p.0 h)
-same_line (c ∷ a) (d ∷ b) x y p q e =
-    let head : c ≡ d = cc in
-    let tail : (a ++ 10 ∷ []) ++ x ≡ (b ++ 10 ∷ []) ++ y = cc in
-    let same = same_line a b x y p.1 q.1 tail in
-    (ap (λ h. h ∷ a) head ∙ ap (λ (l : List ℕ). d ∷ l) same.0, same.1)
-
 -- what has no line feed, and is longer than a line or all that there is, doesn't begin with that line
-pub no_line : (line rest text more : List ℕ) → IsClean line → (length text < length line) ⊎ (rest ≡ []) → line ++ rest ≡ (text ++ 10 ∷ []) ++ more → ⊥
-no_line [] rest text more p (inl short) e = omega (arith, short)
-no_line [] rest [] more p (inr end) e = absurd (cc)
-no_line [] rest (t ∷ text) more p (inr end) e = absurd (cc)
-no_line (c ∷ line) rest [] more p far e = let h : c ≡ 10 = cc in absurd (p.0 h)
-no_line (c ∷ line) rest (t ∷ text) more p (inl short) e =
-    let tail : line ++ rest ≡ (text ++ 10 ∷ []) ++ more = cc in
-    no_line line rest text more p.1 (inl (omega (arith, short))) tail
-no_line (c ∷ line) rest (t ∷ text) more p (inr end) e =
-    let tail : line ++ rest ≡ (text ++ 10 ∷ []) ++ more = cc in
-    no_line line rest text more p.1 (inr end) tail
+pub no_line : (line rest text more : List ℕ) → HasNoLf line → (length text < length line) ⊎ (rest ≡ []) → line ++ rest ≡ (text ++ 10 ∷ []) ++ more → ⊥
+no_line line rest text more clean (inl short) e = no_lf-before text line more rest clean short (sym e)
+no_line line rest text more clean (inr end) e =
+    let lengths : length line + length rest ≡ length text + 1 + length more = grind (arith, common_steps, e, ap length e) in
+    no_lf-before text line more rest clean (omega (arith, lengths, ap length end)) (sym e)
 
 -- a line of fewer than 256 bytes with its end, or more bytes without a line feed, or all that there is without one
 far : (line : List ℕ) (rest : List ℕ) (text : List ℕ) → length text < 256 → (length line < 256 → rest ≡ []) → (length text < length line) ⊎ (rest ≡ [])
@@ -75,14 +60,14 @@ cut_line_is_none None new line clean end c = tt
 cut_line_is_none (Some xs) None line clean end c = absurd c
 cut_line_is_none (Some xs) (Some ys) line clean end c =
     λ text first.
-    no_line line ys text first.2.0 (clean_line line clean) (far line ys text first.1 end) (sym c ∙ first.2.1)
+    no_line line ys text first.2.0 clean (far line ys text first.1 end) (sym c ∙ first.2.1)
 
 pub no_line_at_end : (old new : Option (List ℕ)) (line : List ℕ) → line ≡ [] → IsAtEnd new → Consumes old new line → IfTold old HasNoLine
 no_line_at_end None new line nil end c = tt
 no_line_at_end (Some xs) None line nil end c = absurd c
 no_line_at_end (Some xs) (Some ys) line nil end c =
     λ text first.
-    no_line [] ys text first.2.0 tt (inr end) (ap (λ (l : List ℕ). l ++ ys) (sym nil) ∙ sym c ∙ first.2.1)
+    no_line [] ys text first.2.0 (All-nil (λ b. b ≢ 10)) (inr end) (ap (λ (l : List ℕ). l ++ ys) (sym nil) ∙ sym c ∙ first.2.1)
 
 -- a line without its line feed
 pub cut_line_is_bad : (old new : Option (List ℕ)) (line : List ℕ) → HasNoLf line → 0 < length line → (length line < 256 → IsAtEnd new)
@@ -100,8 +85,8 @@ version_clean = grind arith
 pub version_line : HasNoLf (codes "ACE 1")
 version_line = All-from_recursion (λ b. b ≢ 10) (codes "ACE 1") version_clean
 
-pub ports_clean : (header : Header) → IsClean (ports_text header)
-ports_clean header = clean-append (codes "PORTS ") (port_letters header) (grind arith) (letters-clean header.ace (range_with_len 0 header.ports))
+ports_clean : (header : Header) → IsClean (ports_text header)
+ports_clean header = all-append (λ b. b ≢ 10) (codes "PORTS ") (port_letters header) (grind arith) (letters-clean header.ace (range_with_len 0 header.ports))
 
 pub ports_line : (header : Header) → HasNoLf (ports_text header)
 ports_line header = All-from_recursion (λ b. b ≢ 10) (ports_text header) (ports_clean header)
@@ -112,7 +97,7 @@ ports_short header h = omega (arith, letters-length header, h.most_ports)
 -- the first lines of the same bytes are one
 pub same_first : (bytes one other : List ℕ) (rest : List ℕ) → IsFirstLine one bytes → HasNoLf other → bytes ≡ line_text other ++ rest → (one ≡ other) × (h : BeginsWith bytes (line_text one)) × (h.0 ≡ rest)
 same_first bytes one other rest first clean e =
-    let same = same_line one other first.2.0 rest (clean_line one first.0) (clean_line other clean) (sym first.2.1 ∙ e) in
+    let same = first_lf one other first.2.0 rest first.0 clean (sym first.2.1 ∙ e) in
     (same.0, first.2, same.1)
 
 -- the header lines at the front of the bytes, one by one
@@ -121,7 +106,7 @@ header_lines xs rest header e = e ∙ append_assoc (line_text (codes "ACE 1")) (
 
 -- behind the first line the second one stands
 pub behind_version : (ys zs : List ℕ) → line_text (codes "ACE 1") ++ ys ≡ line_text (codes "ACE 1") ++ zs → ys ≡ zs
-behind_version ys zs e = (same_line (codes "ACE 1") (codes "ACE 1") ys zs version_clean version_clean e).1
+behind_version ys zs e = (first_lf (codes "ACE 1") (codes "ACE 1") ys zs version_line version_line e).1
 
 pub no_first_line : (old : Option (List ℕ)) → IfTold old HasNoLine → IfTold old (λ bytes. HasBadHeader bytes 1 F1)
 no_first_line None none = tt

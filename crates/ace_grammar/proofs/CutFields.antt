@@ -7,7 +7,7 @@ use Rattle.std.proofs.lemmas.List.{drop_more, take-append-drop, take_all, length
 use Rattle.std.proofs.lemmas.List.Splits.{slice_split_at, slice_split_none, slice_split-cons_yes, slice_split-cons_no, join_with_byte-slice_split}
 use Rattle.ace_grammar.specs.declared.reason.Reason.TheVariants.{F3}
 use Rattle.ace_grammar.specs.Reasons.{AreFields, fields_reason}
-use Rattle.ace_grammar.proofs.Plain.{IsPlain}
+use Rattle.ace_grammar.proofs.Visible.{IsPlain, all-weaker}
 
 abbrev is_space : ℕ → Bool
 is_space byte = eqb byte 32
@@ -15,12 +15,9 @@ is_space byte = eqb byte 32
 abbrev pub cut : List ℕ → List (List ℕ)
 cut line = slice_split (λ byte. eqb byte 32) line
 
-plain_tests : (field : List ℕ) → IsPlain field → AllByRecursion (λ byte. eqb byte 32 ≡ false) field
-plain_tests [] h = tt
-plain_tests (byte ∷ field) h = (ne_eqb byte 32 h.0, plain_tests field h.1)
-
 plain_all : (field : List ℕ) → IsPlain field → All (λ byte. eqb byte 32 ≡ false) field
-plain_all field h = All-from_recursion (λ byte. eqb byte 32 ≡ false) field (plain_tests field h)
+plain_all field h =
+    All-from_recursion (λ byte. eqb byte 32 ≡ false) field (all-weaker (λ byte. byte ≢ 32) (λ byte. eqb byte 32 ≡ false) (λ byte h. ne_eqb byte 32 h) field h)
 
 -- fields that were joined are cut again
 cut_joined : (l : List (List ℕ)) → l ≢ [] → AllByRecursion IsPlain l → cut (join_with_byte 32 l) ≡ l

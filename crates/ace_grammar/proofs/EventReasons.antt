@@ -1,5 +1,5 @@
 -- Fields have no reason exactly where they are those of an event in range.
-use Rattle.std.proofs.Common.{◌≡◌, ◌≢◌, ℕ, ◌<◌, cond, List, [], ◌∷◌, Option, Some, None, refl, sym, ap, subst, ◌∙◌, arith, inl, inr}
+use Rattle.std.proofs.Common.{◌≡◌, ℕ, cond, List, [], ◌∷◌, Option, Some, None, refl, sym, ap, subst, ◌∙◌, arith, inl, inr}
 use Rattle.std.specs.Prelude.{codes}
 use Rattle.std.specs.List.{AllByRecursion}
 use Rattle.std.specs.Str.{bytes_eq}
@@ -14,7 +14,7 @@ use Rattle.ace_grammar.specs.declared.shapes.Shape.{Shape}
 use Rattle.ace_grammar.specs.Reasons.{fields_reason, record_reason, line_reason}
 use Rattle.ace_grammar.specs.Records.{ar_event, r_event, rk_event, aw_event, w_event, b_event, wk_event, ac_event, cr_event, cd_event, g_event, m_event, s_event, l_event, d_event, op_event}
 use Rattle.ace_grammar.proofs.Rows.{Row, ar, r, rk, aw, w, b, wk, ac, cr, cd, g, m, s, l, d, op}
-use Rattle.ace_grammar.proofs.Plain.{IsPlain}
+use Rattle.ace_grammar.proofs.Visible.{IsVisible}
 use Rattle.ace_grammar.proofs.FieldKinds.{some_isn't_none}
 
 -- the fields of an event in range
@@ -128,24 +128,21 @@ event_without_reason (L port addr w x word) h = l.encode (port, (addr, (w, (x, w
 event_without_reason (D port addr strobe x line) h = d.encode (port, (addr, (strobe, (x, line)))) (omega (arith, h.0), (omega (arith, h.1), (omega (arith, h.2), (tt, h.3))))
 event_without_reason (Op port k res) h = op.encode (port, (k, res)) (omega (arith, h.0), (omega (arith, h.1), tt))
 
-not_space : (n : ℕ) → 32 < n → n ≢ 32
-not_space n h e = omega (arith, h, e)
-
--- no field of an event has a space
-pub event_plain : (event : Event) → AllByRecursion IsPlain (fields event)
-event_plain (Ar port id addr snoop dom bar lock) = ((not_space 65 (omega arith), (not_space 82 (omega arith), tt)), ar.plain (port, (id, (addr, (snoop, (dom, (bar, lock)))))))
-event_plain (R port id resp last word) = ((not_space 82 (omega arith), tt), r.plain (port, (id, (resp, (last, word)))))
-event_plain (Rk port st) = ((not_space 82 (omega arith), (not_space 75 (omega arith), tt)), rk.plain (port, st))
-event_plain (Aw port id addr snoop dom bar) = ((not_space 65 (omega arith), (not_space 87 (omega arith), tt)), aw.plain (port, (id, (addr, (snoop, (dom, bar))))))
-event_plain (W port strb last word) = ((not_space 87 (omega arith), tt), w.plain (port, (strb, (last, word))))
-event_plain (B port id resp) = ((not_space 66 (omega arith), tt), b.plain (port, (id, resp)))
-event_plain (Wk port st) = ((not_space 87 (omega arith), (not_space 75 (omega arith), tt)), wk.plain (port, st))
-event_plain (Ac port addr snoop) = ((not_space 65 (omega arith), (not_space 67 (omega arith), tt)), ac.plain (port, (addr, snoop)))
-event_plain (Cr port resp st) = ((not_space 67 (omega arith), (not_space 82 (omega arith), tt)), cr.plain (port, (resp, st)))
-event_plain (Cd port last word) = ((not_space 67 (omega arith), (not_space 68 (omega arith), tt)), cd.plain (port, (last, word)))
-event_plain (G port chan id) = ((not_space 71 (omega arith), tt), g.plain (port, (chan, id)))
-event_plain (M port chan id line) = ((not_space 77 (omega arith), tt), m.plain (port, (chan, (id, line))))
-event_plain (S port addr st) = ((not_space 83 (omega arith), tt), s.plain (port, (addr, st)))
-event_plain (L port addr w x word) = ((not_space 76 (omega arith), tt), l.plain (port, (addr, (w, (x, word)))))
-event_plain (D port addr strobe x line) = ((not_space 68 (omega arith), tt), d.plain (port, (addr, (strobe, (x, line)))))
-event_plain (Op port k res) = ((not_space 79 (omega arith), (not_space 80 (omega arith), tt)), op.plain (port, (k, res)))
+-- the characters of an event's fields show
+pub event_visible : (event : Event) → AllByRecursion IsVisible (fields event)
+event_visible (Ar port id addr snoop dom bar lock) = ((omega arith, (omega arith, tt)), ar.visible (port, (id, (addr, (snoop, (dom, (bar, lock)))))))
+event_visible (R port id resp last word) = ((omega arith, tt), r.visible (port, (id, (resp, (last, word)))))
+event_visible (Rk port st) = ((omega arith, (omega arith, tt)), rk.visible (port, st))
+event_visible (Aw port id addr snoop dom bar) = ((omega arith, (omega arith, tt)), aw.visible (port, (id, (addr, (snoop, (dom, bar))))))
+event_visible (W port strb last word) = ((omega arith, tt), w.visible (port, (strb, (last, word))))
+event_visible (B port id resp) = ((omega arith, tt), b.visible (port, (id, resp)))
+event_visible (Wk port st) = ((omega arith, (omega arith, tt)), wk.visible (port, st))
+event_visible (Ac port addr snoop) = ((omega arith, (omega arith, tt)), ac.visible (port, (addr, snoop)))
+event_visible (Cr port resp st) = ((omega arith, (omega arith, tt)), cr.visible (port, (resp, st)))
+event_visible (Cd port last word) = ((omega arith, (omega arith, tt)), cd.visible (port, (last, word)))
+event_visible (G port chan id) = ((omega arith, tt), g.visible (port, (chan, id)))
+event_visible (M port chan id line) = ((omega arith, tt), m.visible (port, (chan, (id, line))))
+event_visible (S port addr st) = ((omega arith, tt), s.visible (port, (addr, st)))
+event_visible (L port addr w x word) = ((omega arith, tt), l.visible (port, (addr, (w, (x, word)))))
+event_visible (D port addr strobe x line) = ((omega arith, tt), d.visible (port, (addr, (strobe, (x, line)))))
+event_visible (Op port k res) = ((omega arith, (omega arith, tt)), op.visible (port, (k, res)))

@@ -16,7 +16,7 @@ use Rattle.ace_grammar.specs.declared.reason.Reason.TheVariants.{F1, F7}
 use Rattle.ace_grammar.specs.Letters.{ArePortLetters}
 use Rattle.ace_grammar.specs.Lines.{BeginsWith, IsFirstLine, HasNoLine}
 use Rattle.ace_grammar.specs.Reading.{IsReadable, IsReadableHeader, HasBadLine, HasBadHeader, IsPortsLine, ports_text, most_events, Ending, Whole, Full, Bad, Reads}
-use Rattle.ace_grammar.proofs.Exact.{IsClean}
+use Rattle.ace_grammar.proofs.Visible.{IsClean}
 use Rattle.ace_grammar.proofs.Letters.{header_of, made_letters, no_letters}
 use Rattle.ace_grammar.proofs.Cut.{not_empty, clean_line}
 use Rattle.ace_grammar.proofs.LineReasons.{event_or_reason}

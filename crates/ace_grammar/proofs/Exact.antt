@@ -1,32 +1,21 @@
 -- What takes a field from the front of a line is exact: it takes each text of the field, and nothing else.
-use Rattle.std.proofs.Common.{◌≡◌, ◌≢◌, ℕ, ◌+◌, ◌≤◌, List, [], ◌∷◌, ◌++◌, length, Option, Some, None, refl, sym, ap, subst, ◌∙◌, arith, eqb, inl, inr}
+use Rattle.std.proofs.Common.{◌≡◌, ℕ, ◌+◌, ◌≤◌, List, [], ◌∷◌, ◌++◌, length, Option, Some, None, refl, sym, ap, subst, ◌∙◌, arith, eqb, inl, inr}
 use Rattle.std.proofs.lemmas.Bool.{eqb-true}
 use Rattle.std.specs.Option.{option_and_then, option_map}
-use Rattle.std.specs.List.{AllByRecursion}
 use Rattle.std.proofs.lemmas.List.{append-nil, length-append}
 use Rattle.ace_grammar.specs.Fields.{Taker, space_at, whole, ended, ◌▹◌}
 use Rattle.ace_grammar.proofs.Options.{bind_some, map_some, some_is, none_isn't, chosen}
 
--- no byte is a line feed
-abbrev pub IsClean : List ℕ → Type 0
-IsClean bytes = AllByRecursion (λ byte. byte ≢ 10) bytes
-
-pub clean-append : (a b : List ℕ) → IsClean a → IsClean b → IsClean (a ++ b)
-clean-append [] b p q = q
-clean-append (x ∷ a) b p q = (p.0, clean-append a b p.1 q)
-
--- A field has a text for each value that it may have. None holds a line feed, and none is longer than size.
+-- A field has a text for each value that it may have. None is longer than size.
 pub record Takes {A : Type 0} (take_first : Taker A) (text : A → List ℕ) (IsIn : A → Type 0) (size : ℕ) : Type 0 where
   pub takes : (bytes rest : List ℕ) (value : A) → take_first bytes ≡ Some (value, rest) → IsIn value × (bytes ≡ text value ++ rest)
   pub again : (value : A) (rest : List ℕ) → IsIn value → take_first (text value ++ rest) ≡ Some (value, rest)
-  pub clean : (value : A) → IsClean (text value)
   pub short : (value : A) → IsIn value → length (text value) ≤ size
 
 -- the same of what is read from all of the bytes
 pub record ReadsAll {A : Type 0} (read : List ℕ → Option A) (text : A → List ℕ) (IsIn : A → Type 0) (size : ℕ) : Type 0 where
   pub takes : (bytes : List ℕ) (value : A) → read bytes ≡ Some value → IsIn value × (bytes ≡ text value)
   pub again : (value : A) → IsIn value → read (text value) ≡ Some value
-  pub clean : (value : A) → IsClean (text value)
   pub short : (value : A) → IsIn value → length (text value) ≤ size
 
 space_takes : (bytes rest : List ℕ) → space_at bytes ≡ Some rest → bytes ≡ 32 ∷ rest
@@ -51,7 +40,6 @@ takes_spaced take_first text IsIn size f = record {
       let inner = f.takes step.0 rest value step.2 in
       (inner.0, space_takes bytes step.0 step.1 ∙ ap (λ (l : List ℕ). 32 ∷ l) inner.1);
   again = λ value rest h. ap (option_and_then take_first) (space_again (text value ++ rest)) ∙ f.again value rest h;
-  clean = λ value. ((λ e. absurd (omega (arith, e))), f.clean value);
   short = λ value h. omega (arith, f.short value h);
 }
 
@@ -63,7 +51,6 @@ reads_spaced read text IsIn size f = record {
       let inner = f.takes step.0 value step.2 in
       (inner.0, space_takes bytes step.0 step.1 ∙ ap (λ (l : List ℕ). 32 ∷ l) inner.1);
   again = λ value h. ap (option_and_then read) (space_again (text value)) ∙ f.again value h;
-  clean = λ value. ((λ e. absurd (omega (arith, e))), f.clean value);
   short = λ value h. omega (arith, f.short value h);
 }
 
@@ -83,7 +70,6 @@ reads_whole {A} take_first text IsIn size f = record {
   again = λ value h.
       ap (λ (l : List ℕ). whole take_first l) (sym (append-nil (text value)))
       ∙ ap (option_and_then (λ first. ended first.0 first.1)) (f.again value [] h);
-  clean = f.clean;
   short = f.short;
 }
 
@@ -103,7 +89,6 @@ reads_then {A} {B} take_first text IsIn size read after IsAfter more f g = recor
   again = λ both h.
       ap (option_and_then (λ first. option_map (λ rest. (first.0, rest)) (read first.1))) (f.again both.0 (after both.1) h.0)
       ∙ ap (option_map (λ rest. (both.0, rest))) (g.again both.1 h.1);
-  clean = λ both. clean-append (text both.0) (after both.1) (f.clean both.0) (g.clean both.1);
   short = λ both h. rw length-append (omega (arith, f.short both.0 h.0, g.short both.1 h.1));
 }
 
@@ -111,9 +96,8 @@ reads_then {A} {B} take_first text IsIn size read after IsAfter more f g = recor
 pub reads_made : {A B : Type 0} (read : List ℕ → Option A) (text : A → List ℕ) (IsIn : A → Type 0) (size : ℕ) (make : A → B) (written : B → List ℕ) (IsMade : B → Type 0)
     → ((value : A) → IsIn value → IsMade (make value) × (text value ≡ written (make value)))
     → ((b : B) → IsMade b → (value : A) × IsIn value × (make value ≡ b))
-    → ((b : B) → IsClean (written b))
     → ReadsAll read text IsIn size → ReadsAll (λ bytes. option_map make (read bytes)) written IsMade size
-reads_made read text IsIn size make written IsMade makes is_made clean f = record {
+reads_made read text IsIn size make written IsMade makes is_made f = record {
   takes = λ bytes b e.
       let step = map_some (read bytes) make b e in
       let inner = f.takes bytes step.0 step.1 in
@@ -123,7 +107,6 @@ reads_made read text IsIn size make written IsMade makes is_made clean f = recor
       let from = is_made b h in
       let text_is : written b ≡ text from.0 = sym (ap written from.2) ∙ sym (makes from.0 from.1).1 in
       ap (λ (l : List ℕ). option_map make (read l)) text_is ∙ ap (option_map make) (f.again from.0 from.1) ∙ ap (λ x. Some x) from.2;
-  clean = clean;
   short = λ b h.
       let from = is_made b h in
       let text_is : written b ≡ text from.0 = sym (ap written from.2) ∙ sym (makes from.0 from.1).1 in

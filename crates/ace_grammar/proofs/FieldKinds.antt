@@ -1,10 +1,10 @@
 -- What a field has to be for no reason to apply: the text of a value in its range.
-use Rattle.std.proofs.Common.{◌≡◌, ℕ, ◌^◌, ◌<◌, ◌≤◌, Bool, true, false, cond, eqb, leb, ◌||◌, List, length, Option, Some, None, refl, sym, ap, subst, ◌∙◌, arith, inl, inr, ◌⊎◌}
+use Rattle.std.proofs.Common.{◌≡◌, ℕ, ◌^◌, ◌<◌, ◌≤◌, Bool, true, false, cond, eqb, leb, List, length, Option, Some, None, refl, sym, ap, subst, ◌∙◌, arith, inl, inr}
 use Rattle.std.specs.Prelude.{codes}
 use Rattle.std.specs.Option.{is_some}
 use Rattle.std.specs.List.{list_all}
 use Rattle.std.specs.Str.{bytes_eq}
-use Rattle.std.proofs.lemmas.Bool.{eqb-true, eq-eqb, leb-true, le-leb, cond-true}
+use Rattle.std.proofs.lemmas.Bool.{eqb-true, eq-eqb, leb-true, le-leb, cond-true, or_cases}
 use Rattle.std.proofs.lemmas.Slice.Eq.{bytes_eq-Decides}
 use Rattle.ace_codes.specs.declared.state.LineState.{LineState}
 use Rattle.ace_codes.specs.declared.state.LineState.TheVariants.{I, UC, UD, SC, SD}
@@ -18,10 +18,10 @@ use Rattle.ace_grammar.specs.declared.shapes.Shape.{Shape}
 use Rattle.ace_grammar.specs.declared.shapes.Shape.TheVariants.{Digits, AtMost, SnoopResponse, ChannelWord, StateWord, OutcomeWord}
 use Rattle.ace_grammar.specs.Fields.{digits_onto, state_of, outcome_of}
 use Rattle.ace_grammar.specs.Reasons.{is_digit, digits_reason, number_reason, limited_reason, word_reason, field_reason}
-use Rattle.ace_grammar.proofs.Options.{chosen}
-use Rattle.ace_grammar.proofs.Hex.{length-hex_text, hex_digits, number_of_digits, number_again, digits_text}
-use Rattle.ace_grammar.proofs.FieldTexts.{bit_text, flag_bit, state_takes, state_again, outcome_takes, outcome_again}
-use Rattle.ace_grammar.proofs.Plain.{IsPlain, hex_text-plain}
+use Rattle.ace_grammar.proofs.Options.{is_there, chosen}
+use Rattle.ace_grammar.proofs.Hex.{hex_text-visible, length-hex_text, hex_digits, number_of_digits, number_again, digits_text}
+use Rattle.ace_grammar.proofs.FieldTexts.{Any, room_of_response, bit_text, flag_bit, state_takes, state_again, outcome_takes, outcome_again}
+use Rattle.ace_grammar.proofs.Visible.{IsVisible}
 
 pub some_isn't_none : {A : Type 0} (x : A) (P : Type 0) → Some x ≡ None → P
 some_isn't_none x P e = absurd cc
@@ -33,7 +33,7 @@ pub record Kind (A : Type 0) : Type 1 where
   pub IsIn : A → Type 0
   pub decode : (field : List ℕ) → field_reason shape field ≡ None → (value : A) × IsIn value × (field ≡ text value)
   pub encode : (value : A) → IsIn value → field_reason shape (text value) ≡ None
-  pub plain : (value : A) → IsPlain (text value)
+  pub visible : (value : A) → IsVisible (text value)
 
 -- ---- digits
 
@@ -68,7 +68,7 @@ digits count = record {
   IsIn = λ number. number < 16 ^ count;
   decode = digits_decode count;
   encode = λ number h. digits_encode count number;
-  plain = hex_text-plain count;
+  visible = hex_text-visible count;
 }
 
 number_none : (most : ℕ) (read : Option ℕ) → number_reason most read ≡ None → (number : ℕ) × (read ≡ Some number) × (number ≤ most)
@@ -101,11 +101,8 @@ at_most most room = record {
   IsIn = λ number. number ≤ most;
   decode = limited_decode 1 most;
   encode = λ number h. limited_encode 1 most number room h;
-  plain = hex_text-plain 1;
+  visible = hex_text-visible 1;
 }
-
-pub room_of_response : 0x1f < 16 ^ 2
-room_of_response = omega arith
 
 abbrev pub response : Kind ℕ
 response = record {
@@ -114,12 +111,8 @@ response = record {
   IsIn = λ number. number ≤ 0x1f;
   decode = limited_decode 2 0x1f;
   encode = λ number h. limited_encode 2 0x1f number room_of_response h;
-  plain = hex_text-plain 2;
+  visible = hex_text-visible 2;
 }
-
--- every value of the type is in range
-abbrev pub Any : {A : Type 0} → A → Type 0
-Any value = Unit {0}
 
 pub flag_decode : (field : List ℕ) → limited_reason 1 1 field ≡ None → (value : Bool) × Any value × (field ≡ flag_text value)
 flag_decode field e =
@@ -131,9 +124,9 @@ flag_encode value =
     let bit = flag_bit value in
     ap (limited_reason 1 1) (sym (bit_text bit.0 bit.1 ∙ ap flag_text bit.2)) ∙ limited_encode 1 1 bit.0 (omega arith) bit.1
 
-pub flag-plain : (value : Bool) → IsPlain (flag_text value)
-flag-plain false = ((λ e. absurd (omega (arith, e))), tt)
-flag-plain true = ((λ e. absurd (omega (arith, e))), tt)
+pub flag_text-visible : (flag : Bool) → IsVisible (flag_text flag)
+flag_text-visible false = grind arith
+flag_text-visible true = grind arith
 
 abbrev pub flag : Kind Bool
 flag = record {
@@ -142,7 +135,7 @@ flag = record {
   IsIn = Any;
   decode = flag_decode;
   encode = λ value h. flag_encode value;
-  plain = flag-plain;
+  visible = flag_text-visible;
 }
 
 -- ---- words
@@ -151,17 +144,9 @@ word_none : (known : Bool) → word_reason known ≡ None → known ≡ true
 word_none true e = refl
 word_none false e = some_isn't_none F5 _ e
 
-is_there : {A : Type 0} (o : Option A) → is_some o ≡ true → (x : A) × (o ≡ Some x)
-is_there (Some x) e = (x, refl)
-is_there None e = absurd cc
-
-either : (a b : Bool) → (a || b) ≡ true → (a ≡ true) ⊎ (b ≡ true)
-either true b e = inl refl
-either false b e = inr e
-
 pub channel_decode : (field : List ℕ) → field_reason ChannelWord field ≡ None → (value : Channel) × Any value × (field ≡ channel_text value)
 channel_decode field e =
-    elim (either (bytes_eq field (codes "R")) (bytes_eq field (codes "W")) (word_none _ e)) [
+    elim (or_cases (bytes_eq field (codes "R")) (bytes_eq field (codes "W")) (word_none _ e)) [
       | inl p ↦ (Read, tt, (bytes_eq-Decides field (codes "R")).0 p)
       | inr p ↦ (Write, tt, (bytes_eq-Decides field (codes "W")).0 p)
     ]
@@ -170,9 +155,9 @@ pub channel_encode : (value : Channel) → field_reason ChannelWord (channel_tex
 channel_encode Read = refl
 channel_encode Write = refl
 
-pub channel-plain : (value : Channel) → IsPlain (channel_text value)
-channel-plain Read = ((λ e. absurd (omega (arith, e))), tt)
-channel-plain Write = ((λ e. absurd (omega (arith, e))), tt)
+pub channel_text-visible : (channel : Channel) → IsVisible (channel_text channel)
+channel_text-visible Read = grind arith
+channel_text-visible Write = grind arith
 
 abbrev pub channel : Kind Channel
 channel = record {
@@ -181,7 +166,7 @@ channel = record {
   IsIn = Any;
   decode = channel_decode;
   encode = λ value h. channel_encode value;
-  plain = channel-plain;
+  visible = channel_text-visible;
 }
 
 pub state_decode : (field : List ℕ) → field_reason StateWord field ≡ None → (value : LineState) × Any value × (field ≡ state_text value)
@@ -192,12 +177,12 @@ state_decode field e =
 pub state_encode : (value : LineState) → field_reason StateWord (state_text value) ≡ None
 state_encode value = ap (λ (o : Option LineState). word_reason (is_some o)) (state_again value)
 
-pub state-plain : (value : LineState) → IsPlain (state_text value)
-state-plain I = grind arith
-state-plain UC = grind arith
-state-plain UD = grind arith
-state-plain SC = grind arith
-state-plain SD = grind arith
+pub state_text-visible : (st : LineState) → IsVisible (state_text st)
+state_text-visible I = grind arith
+state_text-visible UC = grind arith
+state_text-visible UD = grind arith
+state_text-visible SC = grind arith
+state_text-visible SD = grind arith
 
 abbrev pub state : Kind LineState
 state = record {
@@ -206,7 +191,7 @@ state = record {
   IsIn = Any;
   decode = state_decode;
   encode = λ value h. state_encode value;
-  plain = state-plain;
+  visible = state_text-visible;
 }
 
 pub outcome_decode : (field : List ℕ) → field_reason OutcomeWord field ≡ None → (value : Outcome) × Any value × (field ≡ outcome_text value)
@@ -217,10 +202,10 @@ outcome_decode field e =
 pub outcome_encode : (value : Outcome) → field_reason OutcomeWord (outcome_text value) ≡ None
 outcome_encode value = ap (λ (o : Option Outcome). word_reason (is_some o)) (outcome_again value)
 
-pub outcome-plain : (value : Outcome) → IsPlain (outcome_text value)
-outcome-plain Ok = grind arith
-outcome-plain Skip = grind arith
-outcome-plain Fail = grind arith
+pub outcome_text-visible : (res : Outcome) → IsVisible (outcome_text res)
+outcome_text-visible Ok = grind arith
+outcome_text-visible Skip = grind arith
+outcome_text-visible Fail = grind arith
 
 abbrev pub outcome : Kind Outcome
 outcome = record {
@@ -229,5 +214,5 @@ outcome = record {
   IsIn = Any;
   decode = outcome_decode;
   encode = λ value h. outcome_encode value;
-  plain = outcome-plain;
+  visible = outcome_text-visible;
 }

@@ -1,9 +1,7 @@
 -- The fields of a line: what takes each is exact.
-use Rattle.std.proofs.Common.{◌≡◌, ℕ, zero, suc, ◌+◌, ◌-◌, ◌/◌, ◌%◌, ◌^◌, ◌<◌, ◌≤◌, Bool, true, false, List, [], ◌∷◌, ◌++◌, length, Some, None, refl, sym, ap, ◌∙◌, arith, eqb, inl, inr}
+use Rattle.std.proofs.Common.{◌≡◌, ℕ, zero, suc, ◌+◌, ◌-◌, ◌^◌, ◌<◌, ◌≤◌, Bool, true, false, cond, List, [], ◌∷◌, ◌++◌, length, Option, Some, None, refl, sym, ap, ◌∙◌, arith, eqb, inl, inr}
 use Rattle.std.proofs.lemmas.Bool.{eqb-true}
-use Rattle.std.specs.Prelude.{codes}
 use Rattle.std.specs.Option.{option_map}
-use Rattle.std.specs.Char.{digit_char}
 use Rattle.std.specs.Str.{bytes_eq}
 use Rattle.std.proofs.lemmas.Slice.Eq.{bytes_eq-Decides}
 use Rattle.ace_codes.specs.declared.state.LineState.{LineState}
@@ -15,19 +13,13 @@ use Rattle.ace_event.specs.declared.event.Outcome.TheVariants.{Ok, Skip, Fail}
 use Rattle.ace_event.specs.Text.{hex_text, flag_text, channel_text, state_text, outcome_text}
 use Rattle.ace_grammar.specs.Fields.{digits_at, number_at, flag_at, channel_of, letter_at, channel_at, state_of, state_at, outcome_of, outcome_at}
 use Rattle.ace_grammar.proofs.Options.{map_some, some_is, none_isn't, chosen}
-use Rattle.ace_grammar.proofs.Hex.{digit_char-clean, length-hex_text, digits_takes, digits_again}
-use Rattle.ace_grammar.proofs.Exact.{IsClean, clean-append, Takes, ReadsAll, takes_spaced, reads_spaced, Field, Rest}
-
-pub hex_text-clean : (count number : ℕ) → IsClean (hex_text count number)
-unfolding hex_text
-hex_text-clean zero number = tt
-hex_text-clean (suc count) number = clean-append (hex_text count (number / 16)) (digit_char (number % 16) ∷ []) (hex_text-clean count (number / 16)) (digit_char-clean (number % 16), tt)
+use Rattle.ace_grammar.proofs.Hex.{length-hex_text, digits_takes, digits_again}
+use Rattle.ace_grammar.proofs.Exact.{Takes, ReadsAll, takes_spaced, reads_spaced, Field, Rest}
 
 pub digits_exact : (count most : ℕ) → most < 16 ^ count → Takes (digits_at count most) (hex_text count) (λ number. number ≤ most) count
 digits_exact count most room = record {
   takes = λ bytes rest number e. digits_takes count most bytes rest number e;
   again = λ number rest h. digits_again count most number rest room h;
-  clean = hex_text-clean count;
   short = λ number h. omega (arith, length-hex_text count number);
 }
 
@@ -48,10 +40,6 @@ bit_text (suc (suc n)) h = absurd (omega arith)
 pub flag_bit : (flag : Bool) → (bit : ℕ) × (bit ≤ 1) × (eqb bit 1 ≡ flag)
 flag_bit false = (0, omega arith, refl)
 flag_bit true = (1, omega arith, refl)
-
-flag_text-clean : (flag : Bool) → IsClean (flag_text flag)
-flag_text-clean false = ((λ e. absurd (omega (arith, e))), tt)
-flag_text-clean true = ((λ e. absurd (omega (arith, e))), tt)
 
 flag_text-short : (flag : Bool) → length (flag_text flag) ≤ 1
 flag_text-short false = omega arith
@@ -81,7 +69,6 @@ pub flag_exact : Takes flag_at (λ flag. 32 ∷ flag_text flag) Any 2
 flag_exact = record {
   takes = λ bytes rest flag e. (tt, flag_takes bytes rest flag e);
   again = λ flag rest h. flag_again flag rest;
-  clean = λ flag. ((λ e. absurd (omega (arith, e))), flag_text-clean flag);
   short = λ flag h. omega (arith, flag_text-short flag);
 }
 
@@ -108,10 +95,6 @@ unfolding letter_at
 channel_again Read rest = refl
 channel_again Write rest = refl
 
-channel_text-clean : (channel : Channel) → IsClean (channel_text channel)
-channel_text-clean Read = ((λ e. absurd (omega (arith, e))), tt)
-channel_text-clean Write = ((λ e. absurd (omega (arith, e))), tt)
-
 channel_text-short : (channel : Channel) → length (channel_text channel) ≤ 1
 channel_text-short Read = omega arith
 channel_text-short Write = omega arith
@@ -120,7 +103,6 @@ letter_exact : Takes letter_at channel_text Any 1
 letter_exact = record {
   takes = λ bytes rest channel e. (tt, channel_takes bytes rest channel e);
   again = λ channel rest h. channel_again channel rest;
-  clean = channel_text-clean;
   short = λ channel h. channel_text-short channel;
 }
 
@@ -128,28 +110,22 @@ pub channel_exact : Takes channel_at (λ channel. 32 ∷ channel_text channel) A
 unfolding channel_at
 channel_exact = takes_spaced letter_at channel_text Any 1 letter_exact
 
+-- the bytes are this word, or they are what is told of them then
+word_or : {A : Type 0} (text : A → List ℕ) (bytes : List ℕ) (known value : A) (other : Option A)
+    → (other ≡ Some value → bytes ≡ text value) → cond (bytes_eq bytes (text known)) (Some known) other ≡ Some value → bytes ≡ text value
+word_or text bytes known value other told e =
+    elim (chosen (bytes_eq bytes (text known)) (Some known) other (Some value) e) [
+      | inl p ↦ (bytes_eq-Decides bytes (text known)).0 p.0 ∙ ap text (some_is known value p.1)
+      | inr q ↦ told q.1
+    ]
+
 pub state_takes : (bytes : List ℕ) (st : LineState) → state_of bytes ≡ Some st → bytes ≡ state_text st
 state_takes bytes st e =
-    elim (chosen (bytes_eq bytes (codes "I")) (Some I) _ (Some st) e) [
-      | inl p ↦ (bytes_eq-Decides bytes (codes "I")).0 p.0 ∙ ap state_text (some_is I st p.1)
-      | inr q ↦
-          elim (chosen (bytes_eq bytes (codes "UC")) (Some UC) _ (Some st) q.1) [
-            | inl p ↦ (bytes_eq-Decides bytes (codes "UC")).0 p.0 ∙ ap state_text (some_is UC st p.1)
-            | inr q ↦
-                elim (chosen (bytes_eq bytes (codes "UD")) (Some UD) _ (Some st) q.1) [
-                  | inl p ↦ (bytes_eq-Decides bytes (codes "UD")).0 p.0 ∙ ap state_text (some_is UD st p.1)
-                  | inr q ↦
-                      elim (chosen (bytes_eq bytes (codes "SC")) (Some SC) _ (Some st) q.1) [
-                        | inl p ↦ (bytes_eq-Decides bytes (codes "SC")).0 p.0 ∙ ap state_text (some_is SC st p.1)
-                        | inr q ↦
-                            elim (chosen (bytes_eq bytes (codes "SD")) (Some SD) None (Some st) q.1) [
-                              | inl p ↦ (bytes_eq-Decides bytes (codes "SD")).0 p.0 ∙ ap state_text (some_is SD st p.1)
-                              | inr q ↦ none_isn't st _ q.1
-                            ]
-                      ]
-                ]
-          ]
-    ]
+    word_or state_text bytes I st _ (λ e.
+    word_or state_text bytes UC st _ (λ e.
+    word_or state_text bytes UD st _ (λ e.
+    word_or state_text bytes SC st _ (λ e.
+    word_or state_text bytes SD st _ (λ e. none_isn't st _ e) e) e) e) e) e
 
 pub state_again : (st : LineState) → state_of (state_text st) ≡ Some st
 state_again I = refl
@@ -157,13 +133,6 @@ state_again UC = refl
 state_again UD = refl
 state_again SC = refl
 state_again SD = refl
-
-state_text-clean : (st : LineState) → IsClean (state_text st)
-state_text-clean I = ((λ e. absurd (omega (arith, e))), tt)
-state_text-clean UC = ((λ e. absurd (omega (arith, e))), ((λ e. absurd (omega (arith, e))), tt))
-state_text-clean UD = ((λ e. absurd (omega (arith, e))), ((λ e. absurd (omega (arith, e))), tt))
-state_text-clean SC = ((λ e. absurd (omega (arith, e))), ((λ e. absurd (omega (arith, e))), tt))
-state_text-clean SD = ((λ e. absurd (omega (arith, e))), ((λ e. absurd (omega (arith, e))), tt))
 
 state_text-short : (st : LineState) → length (state_text st) ≤ 2
 state_text-short I = omega arith
@@ -176,7 +145,6 @@ word_exact : ReadsAll state_of state_text Any 2
 word_exact = record {
   takes = λ bytes st e. (tt, state_takes bytes st e);
   again = λ st h. state_again st;
-  clean = state_text-clean;
   short = λ st h. state_text-short st;
 }
 
@@ -186,28 +154,14 @@ state_exact = reads_spaced state_of state_text Any 2 word_exact
 
 pub outcome_takes : (bytes : List ℕ) (res : Outcome) → outcome_of bytes ≡ Some res → bytes ≡ outcome_text res
 outcome_takes bytes res e =
-    elim (chosen (bytes_eq bytes (codes "ok")) (Some Ok) _ (Some res) e) [
-      | inl p ↦ (bytes_eq-Decides bytes (codes "ok")).0 p.0 ∙ ap outcome_text (some_is Ok res p.1)
-      | inr q ↦
-          elim (chosen (bytes_eq bytes (codes "skip")) (Some Skip) _ (Some res) q.1) [
-            | inl p ↦ (bytes_eq-Decides bytes (codes "skip")).0 p.0 ∙ ap outcome_text (some_is Skip res p.1)
-            | inr q ↦
-                elim (chosen (bytes_eq bytes (codes "fail")) (Some Fail) None (Some res) q.1) [
-                  | inl p ↦ (bytes_eq-Decides bytes (codes "fail")).0 p.0 ∙ ap outcome_text (some_is Fail res p.1)
-                  | inr q ↦ none_isn't res _ q.1
-                ]
-          ]
-    ]
+    word_or outcome_text bytes Ok res _ (λ e.
+    word_or outcome_text bytes Skip res _ (λ e.
+    word_or outcome_text bytes Fail res _ (λ e. none_isn't res _ e) e) e) e
 
 pub outcome_again : (res : Outcome) → outcome_of (outcome_text res) ≡ Some res
 outcome_again Ok = refl
 outcome_again Skip = refl
 outcome_again Fail = refl
-
-outcome_text-clean : (res : Outcome) → IsClean (outcome_text res)
-outcome_text-clean Ok = grind arith
-outcome_text-clean Skip = grind arith
-outcome_text-clean Fail = grind arith
 
 outcome_text-short : (res : Outcome) → length (outcome_text res) ≤ 4
 outcome_text-short Ok = omega arith
@@ -218,7 +172,6 @@ outcome_word_exact : ReadsAll outcome_of outcome_text Any 4
 outcome_word_exact = record {
   takes = λ bytes res e. (tt, outcome_takes bytes res e);
   again = λ res h. outcome_again res;
-  clean = outcome_text-clean;
   short = λ res h. outcome_text-short res;
 }
 

@@ -1,7 +1,7 @@
 -- Digits that are read are those of the number's text, and the text of a number is read as that number.
-use Rattle.std.proofs.Common.{◌≡◌, ◌≢◌, ℕ, zero, suc, ◌+◌, ◌-◌, ◌*◌, ◌/◌, ◌%◌, ◌^◌, ◌<◌, ◌≤◌, true, cond, leb, ltb, ◌&&◌, List, [], ◌∷◌, ◌++◌, length, take, drop, Option, Some, None, refl, sym, ap, ◌∙◌, arith, inl, inr, append_assoc}
+use Rattle.std.proofs.Common.{◌≡◌, ℕ, zero, suc, ◌+◌, ◌-◌, ◌*◌, ◌/◌, ◌%◌, ◌^◌, ◌<◌, ◌≤◌, true, cond, leb, ltb, ◌&&◌, List, [], ◌∷◌, ◌++◌, length, take, drop, Option, Some, None, refl, sym, ap, ◌∙◌, arith, inl, inr, append_assoc}
 use Rattle.std.specs.Option.{option_and_then, is_some}
-use Rattle.std.specs.List.{list_all}
+use Rattle.std.specs.List.{list_all, flat_map}
 use Rattle.std.proofs.lemmas.List.Folds.{list_all-append}
 use Rattle.std.specs.Char.{digit_char}
 use Rattle.std.proofs.Math.Nat.{pow-suc, mul-le-mul_right}
@@ -10,7 +10,8 @@ use Rattle.std.proofs.lemmas.List.{append-nil, length-append, take_at, drop_at, 
 use Rattle.ace_event.specs.Text.{hex_text}
 use Rattle.ace_grammar.specs.Fields.{digit_of, digits_onto, digits_at}
 use Rattle.ace_grammar.specs.Reasons.{is_digit}
-use Rattle.ace_grammar.proofs.Options.{bind_some, some_is, none_isn't, chosen}
+use Rattle.ace_grammar.proofs.Options.{bind_some, some_is, none_isn't, is_there, chosen}
+use Rattle.ace_grammar.proofs.Visible.{IsVisible, all-append}
 
 decimal_char : (digit : ℕ) → digit < 10 → digit_char digit ≡ 48 + digit
 decimal_char digit h = cond-true (ltb digit 10) (48 + digit) (87 + digit) (lt-ltb digit 10 h)
@@ -60,19 +61,20 @@ digit_again digit h =
           ap digit_of (letter_char digit le) ∙ letter_value (87 + digit) (omega arith) (omega arith) ∙ ap (λ n. Some n) back
     ]
 
-pub digit_char-clean : (digit : ℕ) → digit_char digit ≢ 10
-digit_char-clean digit e =
-    elim (cases_lt digit 10) [
-      | inl lt ↦ omega (arith, e, decimal_char digit lt)
-      | inr le ↦ omega (arith, e, letter_char digit le)
-    ]
+pub digit_char-visible : (digit : ℕ) → 32 < digit_char digit
+digit_char-visible digit =
+    elim (cases_lt digit 10) [ inl lt ↦ omega (arith, decimal_char digit lt) | inr le ↦ omega (arith, letter_char digit le) ]
 
-pub digit_char-plain : (digit : ℕ) → digit_char digit ≢ 32
-digit_char-plain digit e =
-    elim (cases_lt digit 10) [
-      | inl lt ↦ omega (arith, e, decimal_char digit lt)
-      | inr le ↦ omega (arith, e, letter_char digit le)
-    ]
+pub hex_text-visible : (count number : ℕ) → IsVisible (hex_text count number)
+unfolding hex_text
+hex_text-visible zero number = tt
+hex_text-visible (suc count) number =
+    all-append (λ byte. 32 < byte) (hex_text count (number / 16)) (digit_char (number % 16) ∷ []) (hex_text-visible count (number / 16)) (digit_char-visible (number % 16), tt)
+
+pub digits-visible : (count : ℕ) (numbers : List ℕ) → IsVisible (flat_map (hex_text count) numbers)
+digits-visible count [] = tt
+digits-visible count (number ∷ numbers) =
+    all-append (λ byte. 32 < byte) (hex_text count number) (flat_map (hex_text count) numbers) (hex_text-visible count number) (digits-visible count numbers)
 
 -- one digit behind the text of a number
 next_text : (i number digit : ℕ) → digit < 16 → hex_text (suc i) (number * 16 + digit) ≡ hex_text i number ++ digit_char digit ∷ []
@@ -166,10 +168,6 @@ digits_again count most number rest room h =
 
 one_digit : (digit : ℕ) → digit < 16 → list_all is_digit (digit_char digit ∷ []) ≡ true
 one_digit digit h = and_from (is_digit (digit_char digit)) true (ap is_some (digit_again digit h)) refl
-
-is_there : {A : Type 0} (o : Option A) → is_some o ≡ true → (x : A) × (o ≡ Some x)
-is_there (Some x) e = (x, refl)
-is_there None e = absurd cc
 
 -- the number that digits make behind another one is less than one more of that one makes with zeros
 onto_below : (bytes : List ℕ) (number total : ℕ) → digits_onto number bytes ≡ Some total → total < (number + 1) * 16 ^ length bytes

@@ -2,7 +2,7 @@
 use Rattle.std.proofs.Common.{◌≡◌, ℕ, ◌+◌, ◌*◌, ◌^◌, ◌<◌, ◌≤◌, true, subst, List, [], ◌∷◌, ◌++◌, length, take, drop, None, refl, sym, ap, ◌∙◌, arith}
 use Rattle.std.specs.List.{flat_map, list_all}
 use Rattle.std.proofs.lemmas.Bool.{and_parts, and_from}
-use Rattle.std.proofs.lemmas.List.{append-nil, length-append, length-take-le, length-drop, take-append-drop}
+use Rattle.std.proofs.lemmas.List.{append-nil, length-append, length-take-le, length-drop, take-append-drop, nil_from_length}
 use Rattle.std.proofs.lemmas.List.Folds.{list_all-append}
 use Rattle.ace_event.specs.declared.line.Line.{Line}
 use Rattle.ace_event.specs.Range.{IsLine}
@@ -10,9 +10,8 @@ use Rattle.ace_event.specs.Text.{hex_text, line_digits}
 use Rattle.ace_grammar.specs.declared.shapes.Shape.TheVariants.{Digits}
 use Rattle.ace_grammar.specs.Fields.{LineWords, line_of}
 use Rattle.ace_grammar.specs.Reasons.{is_digit, digits_reason}
-use Rattle.ace_grammar.proofs.Hex.{length-hex_text, hex_digits, number_of_digits}
+use Rattle.ace_grammar.proofs.Hex.{length-hex_text, hex_digits, digits-visible, number_of_digits}
 use Rattle.ace_grammar.proofs.CacheLines.{four_texts}
-use Rattle.ace_grammar.proofs.Plain.{IsPlain, plain-append, hex_text-plain}
 use Rattle.ace_grammar.proofs.FieldKinds.{Kind, digits_none, digits_fine}
 
 -- so many digits at the front, and the rest
@@ -28,10 +27,6 @@ digits_front count field long all =
     let front : take count field ≡ hex_text count number.0 = number.2 ∙ ap (λ k. hex_text k number.0) size in
     (number.0, below, sym whole ∙ ap (λ (l : List ℕ). l ++ drop count field) front, parts.1, omega (arith, length-drop count field, long))
 
-no_more : (field : List ℕ) → length field ≡ 0 → field ≡ []
-no_more [] h = refl
-no_more (x ∷ field) h = absurd (omega (arith, h))
-
 four_words : (count : ℕ) (field : List ℕ) → length field ≡ count + count + count + count → list_all is_digit field ≡ true
     → (f : LineWords) × (f.0 < 16 ^ count) × (f.1.0 < 16 ^ count) × (f.1.1.0 < 16 ^ count) × (f.1.1.1 < 16 ^ count) × (field ≡ flat_map (hex_text count) (f.0 ∷ f.1.0 ∷ f.1.1.0 ∷ f.1.1.1 ∷ []))
 four_words count field size all =
@@ -42,7 +37,7 @@ four_words count field size all =
     let c = digits_front count more (omega (arith, size, a.4, b.4)) b.3 in
     let last = drop count more in
     let d = digits_front count last (omega (arith, size, a.4, b.4, c.4)) c.3 in
-    let end : drop count last ≡ [] = no_more (drop count last) (omega (arith, size, a.4, b.4, c.4, d.4)) in
+    let end : drop count last ≡ [] = nil_from_length (drop count last) (omega (arith, size, a.4, b.4, c.4, d.4)) in
     let text = hex_text count in
     let last_is : last ≡ text d.0 = d.2 ∙ ap (λ (l : List ℕ). text d.0 ++ l) end ∙ append-nil (text d.0) in
     let more_is : more ≡ text c.0 ++ text d.0 = c.2 ∙ ap (λ (l : List ℕ). text c.0 ++ l) last_is in
@@ -67,15 +62,8 @@ digits_all count (word ∷ words) =
     list_all-append is_digit (hex_text count word) (flat_map (hex_text count) words)
     ∙ and_from (list_all is_digit (hex_text count word)) (list_all is_digit (flat_map (hex_text count) words)) (hex_digits count word) (digits_all count words)
 
-digits-plain : (count : ℕ) (words : List ℕ) → IsPlain (flat_map (hex_text count) words)
-digits-plain count [] = tt
-digits-plain count (word ∷ words) = plain-append (hex_text count word) (flat_map (hex_text count) words) (hex_text-plain count word) (digits-plain count words)
-
 pub line_encode : (value : Line) → IsLine value → digits_reason 128 (line_digits value) ≡ None
 line_encode value h = digits_fine 128 (line_digits value) (digits_length 32 value.words ∙ omega (arith, h.0)) (digits_all 32 value.words)
 
-pub line-plain : (value : Line) → IsPlain (line_digits value)
-line-plain value = digits-plain 32 value.words
-
 abbrev pub line : Kind Line
-line = record { shape = Digits 128; text = line_digits; IsIn = IsLine; decode = line_decode; encode = line_encode; plain = line-plain }
+line = record { shape = Digits 128; text = line_digits; IsIn = IsLine; decode = line_decode; encode = line_encode; visible = λ value. digits-visible 32 value.words }

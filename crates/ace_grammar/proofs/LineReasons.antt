@@ -1,6 +1,8 @@
 -- The reasons of lines.
 use Rattle.std.proofs.Common.{◌≡◌, ◌≢◌, ℕ, List, [], Option, Some, None, refl, sym, ap, ◌∙◌, inl, inr, ◌⊎◌}
 use Rattle.std.specs.List.{join_with_byte}
+use Rattle.std.proofs.lemmas.List.Elements.{All-from_recursion}
+use Rattle.ace_io.specs.Line.{HasNoLf}
 use Rattle.std.proofs.lemmas.List.Splits.{join_with_byte-slice_split}
 use Rattle.ace_event.specs.declared.event.Event.{Event}
 use Rattle.ace_event.specs.declared.event.Event.TheVariants.{Ar, R, Rk, Aw, W, B, Wk, Ac, Cr, Cd, G, M, S, L, D, Op}
@@ -12,7 +14,8 @@ use Rattle.ace_grammar.specs.Reasons.{AreFields, HasReason, line_reason}
 use Rattle.ace_grammar.proofs.LineTexts.{event_again}
 use Rattle.ace_grammar.proofs.Options.{some_is, none_isn't}
 use Rattle.ace_grammar.proofs.CutFields.{cut, cut_are_fields, are_cut}
-use Rattle.ace_grammar.proofs.EventReasons.{without_reason, event_without_reason, event_plain}
+use Rattle.ace_grammar.proofs.EventReasons.{without_reason, event_without_reason, event_visible}
+use Rattle.ace_grammar.proofs.Visible.{IsPlain, IsVisible, all-weaker, visible-plain, joined-clean}
 
 some_fields : (event : Event) → fields event ≢ []
 some_fields (Ar port id addr snoop dom bar lock) e = absurd cc
@@ -33,7 +36,11 @@ some_fields (D port addr strobe x line) e = absurd cc
 some_fields (Op port k res) e = absurd cc
 
 event_fields : (event : Event) → AreFields (event_text event) (fields event)
-event_fields event = record { some_field = some_fields event; joined = refl; no_space = event_plain event }
+event_fields event = record { some_field = some_fields event; joined = refl; no_space = all-weaker IsVisible IsPlain visible-plain (fields event) (event_visible event) }
+
+-- the line of an event holds no line feed
+pub event_no_lf : (event : Event) → HasNoLf (event_text event)
+event_no_lf event = All-from_recursion (λ b. b ≢ 10) (event_text event) (joined-clean (fields event) (event_visible event))
 
 -- ---- reasons of lines
 

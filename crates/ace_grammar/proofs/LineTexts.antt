@@ -1,5 +1,5 @@
 -- Lines: what is read from a line is exactly a readable event.
-use Rattle.std.proofs.Common.{◌≡◌, ◌≢◌, ℕ, ◌<◌, cond, List, [], ◌∷◌, length, Option, Some, refl, sym, ap, subst, ◌∙◌, arith, eqb, inl, inr}
+use Rattle.std.proofs.Common.{◌≡◌, ℕ, ◌<◌, cond, List, [], ◌∷◌, length, Option, Some, refl, sym, ap, subst, ◌∙◌, arith, eqb, inl, inr}
 use Rattle.std.specs.Option.{option_map}
 use Rattle.std.proofs.lemmas.Bool.{eqb-true}
 use Rattle.ace_event.specs.declared.event.Event.{Event}
@@ -8,7 +8,7 @@ use Rattle.ace_event.specs.Text.{event_text}
 use Rattle.ace_grammar.specs.Reading.{IsReadable}
 use Rattle.ace_grammar.specs.Records.{ar_fields, r_fields, rk_fields, aw_fields, w_fields, b_fields, wk_fields, ac_fields, cr_fields, cd_fields, g_fields, m_fields, s_fields, l_fields, d_fields, op_fields, ar_event, r_event, rk_event, aw_event, w_event, b_event, wk_event, ac_event, cr_event, cd_event, g_event, m_event, s_event, l_event, d_event, op_event, a_at, c_at, o_at, r_at, w_at, event_at}
 use Rattle.ace_grammar.proofs.Options.{map_some, none_isn't, chosen}
-use Rattle.ace_grammar.proofs.Exact.{IsClean, Rest}
+use Rattle.ace_grammar.proofs.Exact.{Rest}
 use Rattle.ace_grammar.proofs.RecordTexts.{ar, r, rk, aw, w, b, wk, ac, cr, cd, g, m, s, l, d, op}
 
 -- the bytes behind these are the rest of the event's line
@@ -177,29 +177,7 @@ event_again (L port addr w x word) h = ap (option_map l_event) (l.exact.again (p
 event_again (D port addr strobe x line) h = ap (option_map d_event) (d.exact.again (port, (addr, (strobe, (x, line)))) (omega (arith, h.0), (omega (arith, h.1), (omega (arith, h.2), (tt, h.3)))))
 event_again (Op port k res) h = ap (option_map op_event) (op.exact.again (port, (k, res)) (omega (arith, h.0), (omega (arith, h.1), tt)))
 
-not_lf : (n : ℕ) → 10 < n → n ≢ 10
-not_lf n h e = omega arith
-
--- the line of an event holds no line feed
-pub event_clean : (event : Event) → IsReadable event → IsClean (event_text event)
-event_clean (Ar port id addr snoop dom bar lock) h = (not_lf 65 (omega arith), (not_lf 82 (omega arith), ar.exact.clean (port, (id, (addr, (snoop, (dom, (bar, lock))))))))
-event_clean (R port id resp last word) h = (not_lf 82 (omega arith), r.exact.clean (port, (id, (resp, (last, word)))))
-event_clean (Rk port st) h = (not_lf 82 (omega arith), (not_lf 75 (omega arith), rk.exact.clean (port, st)))
-event_clean (Aw port id addr snoop dom bar) h = (not_lf 65 (omega arith), (not_lf 87 (omega arith), aw.exact.clean (port, (id, (addr, (snoop, (dom, bar)))))))
-event_clean (W port strb last word) h = (not_lf 87 (omega arith), w.exact.clean (port, (strb, (last, word))))
-event_clean (B port id resp) h = (not_lf 66 (omega arith), b.exact.clean (port, (id, resp)))
-event_clean (Wk port st) h = (not_lf 87 (omega arith), (not_lf 75 (omega arith), wk.exact.clean (port, st)))
-event_clean (Ac port addr snoop) h = (not_lf 65 (omega arith), (not_lf 67 (omega arith), ac.exact.clean (port, (addr, snoop))))
-event_clean (Cr port resp st) h = (not_lf 67 (omega arith), (not_lf 82 (omega arith), cr.exact.clean (port, (resp, st))))
-event_clean (Cd port last word) h = (not_lf 67 (omega arith), (not_lf 68 (omega arith), cd.exact.clean (port, (last, word))))
-event_clean (G port chan id) h = (not_lf 71 (omega arith), g.exact.clean (port, (chan, id)))
-event_clean (M port chan id line) h = (not_lf 77 (omega arith), m.exact.clean (port, (chan, (id, line))))
-event_clean (S port addr st) h = (not_lf 83 (omega arith), s.exact.clean (port, (addr, st)))
-event_clean (L port addr w x word) h = (not_lf 76 (omega arith), l.exact.clean (port, (addr, (w, (x, word)))))
-event_clean (D port addr strobe x line) h = (not_lf 68 (omega arith), d.exact.clean (port, (addr, (strobe, (x, line)))))
-event_clean (Op port k res) h = (not_lf 79 (omega arith), (not_lf 80 (omega arith), op.exact.clean (port, (k, res))))
-
--- and is shorter than 256 bytes
+-- the line of an event is shorter than 256 bytes
 pub event_short : (event : Event) → IsReadable event → length (event_text event) < 256
 event_short (Ar port id addr snoop dom bar lock) h = omega (arith, ar.exact.short (port, (id, (addr, (snoop, (dom, (bar, lock)))))) (omega (arith, h.0), (omega (arith, h.1), (omega (arith, h.2), (omega (arith, h.3), (h.4, (h.5, tt)))))))
 event_short (R port id resp last word) h = omega (arith, r.exact.short (port, (id, (resp, (last, word)))) (omega (arith, h.0), (omega (arith, h.1), (omega (arith, h.2), (tt, omega (arith, h.3))))))

@@ -6,11 +6,11 @@ use Rattle.ace_event.specs.Text.{line_text}
 use Rattle.ace_io.specs.Line.{HasNoLf, IsPending}
 use Rattle.ace_grammar.specs.Errors.{TakesFront}
 use Rattle.ace_grammar.specs.Reading.{TakesNoHeader, ports_text}
-use Rattle.ace_grammar.proofs.Cut.{clean_line, no_line, header_lines, behind_version, version_taken}
+use Rattle.ace_grammar.proofs.Cut.{no_line, header_lines, behind_version, version_taken}
 
 -- bytes without a line feed are no line and what comes after it
 no_lf : (taken line rest : List ℕ) → HasNoLf taken → taken ≡ line_text line ++ rest → ⊥
-no_lf taken line rest none e = no_line taken [] line rest (clean_line taken none) (inr refl) (append-nil taken ∙ e)
+no_lf taken line rest none e = no_line taken [] line rest none (inr refl) (append-nil taken ∙ e)
 
 -- it failed in the first line
 pub failed_first : (old new : Option (List ℕ)) → IsPending old new → TakesNoHeader old new

@@ -8,16 +8,16 @@ use Rattle.ace_event.specs.declared.header.Header.{Header}
 use Rattle.ace_event.specs.Ports.{port_letters}
 use Rattle.ace_event.specs.Text.{event_text, events_text, line_text, header_text, trace_text}
 use Rattle.ace_grammar.specs.Reading.{IsReadable, IsReadableHeader, HasBadLine, HasBadHeaderLine, HasBadHeader, IsPortsLine, ports_text, most_events, Ending, Whole, Full, Bad, Ends, Reads}
-use Rattle.std.proofs.lemmas.List.Elements.{All-from_recursion}
+use Rattle.ace_io.proofs.Cutting.{first_lf}
 use Rattle.ace_grammar.specs.declared.reason.Reason.{Reason}
 use Rattle.ace_grammar.specs.Lines.{IsFirstLine}
 use Rattle.ace_grammar.specs.Reasons.{HasReason}
 use Rattle.ace_grammar.specs.Records.{event_at}
 use Rattle.ace_grammar.proofs.Options.{some_is}
-use Rattle.ace_grammar.proofs.Cut.{same_line, same_first, not_empty, header_lines, behind_version, version_line, ports_clean, ports_line, ports_short}
+use Rattle.ace_grammar.proofs.Cut.{same_first, not_empty, header_lines, behind_version, version_line, ports_line, ports_short}
 use Rattle.ace_grammar.proofs.Letters.{same_header}
-use Rattle.ace_grammar.proofs.LineTexts.{event_again, event_clean, event_short}
-use Rattle.ace_grammar.proofs.LineReasons.{same_reason, event_has_none}
+use Rattle.ace_grammar.proofs.LineTexts.{event_again, event_short}
+use Rattle.ace_grammar.proofs.LineReasons.{same_reason, event_has_none, event_no_lf}
 
 -- what stands after so many events, by the ending
 abbrev EndsAt : Ending → ℕ → List ℕ → Type 0
@@ -66,7 +66,7 @@ same_ending (Bad line reason) (Bad line' reason') count rest h k =
 
 -- the line of an event in range is a first line
 event_line : (event : Event) (rest more : List ℕ) → IsReadable event → rest ≡ line_text (event_text event) ++ more → IsFirstLine (event_text event) rest
-event_line event rest more is e = (All-from_recursion (λ b. b ≢ 10) (event_text event) (event_clean event is), event_short event is, (more, e))
+event_line event rest more is e = (event_no_lf event, event_short event is, (more, e))
 
 -- it isn't malformed
 event_isn't_bad : (event : Event) (rest more : List ℕ) (reason : Reason) → IsReadable event → rest ≡ line_text (event_text event) ++ more → HasBadLine rest reason → ⊥
@@ -96,7 +96,7 @@ same_events before (event ∷ one) [] end end' rest rest' h k e p q =
     absurd (no_more end' (before + 0) rest' (events_text one ++ rest) event q (omega (arith, at_most end (before + suc (length one)) rest p)) h.0 (sym e ∙ regroup event one rest))
 same_events before (first ∷ one) (second ∷ other) end end' rest rest' h k e p q =
     let lines : line_text (event_text first) ++ (events_text one ++ rest) ≡ line_text (event_text second) ++ (events_text other ++ rest') = sym (regroup first one rest) ∙ e ∙ regroup second other rest' in
-    let split = same_line (event_text first) (event_text second) (events_text one ++ rest) (events_text other ++ rest') (event_clean first h.0) (event_clean second k.0) lines in
+    let split = first_lf (event_text first) (event_text second) (events_text one ++ rest) (events_text other ++ rest') (event_no_lf first) (event_no_lf second) lines in
     let event = same_event first second h.0 k.0 split.0 in
     let count : before + suc (length one) ≡ suc before + length one = omega arith in
     let count' : before + suc (length other) ≡ suc before + length other = omega arith in
@@ -109,7 +109,7 @@ same_headers one other rest rest' h k e =
     let lines = header_lines (header_text one ++ rest) rest one refl in
     let lines' = header_lines (header_text one ++ rest) rest' other e in
     let behind = behind_version (line_text (ports_text one) ++ rest) (line_text (ports_text other) ++ rest') (sym lines ∙ lines') in
-    let split = same_line (ports_text one) (ports_text other) rest rest' (ports_clean one) (ports_clean other) behind in
+    let split = first_lf (ports_text one) (ports_text other) rest rest' (ports_line one) (ports_line other) behind in
     (same_header one other h k (append_cancel_left (codes "PORTS ") (port_letters one) (port_letters other) split.0), split.1)
 
 behind_header : (bytes : List ℕ) (header : Header) (events : List Event) (rest : List ℕ) → bytes ≡ trace_text header events ++ rest → bytes ≡ header_text header ++ (events_text events ++ rest)

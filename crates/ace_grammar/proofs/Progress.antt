@@ -1,46 +1,26 @@
 -- One answer more of a reader, as a reading of the bytes.
-use Rattle.std.proofs.Common.{◌≡◌, ◌≢◌, ◌+◌, ◌++◌, ℕ, List, [], ◌∷◌, Option, Some, None, Result, Ok, Err, IfSome, sym, ap, subst, ◌∙◌, append_assoc, append-nil, arith}
-use Rattle.std.specs.List.{AllByRecursion}
-use Rattle.std.specs.Io.KnownBytes.{Consumes, IsAtEnd}
+use Rattle.std.proofs.Common.{◌≡◌, ◌≢◌, ◌+◌, ◌++◌, ℕ, List, [], ◌∷◌, Option, Some, None, Result, Ok, Err, IfSome, sym, ap, subst, ◌∙◌, append-nil, arith}
+use Rattle.std.specs.Io.KnownBytes.{Consumes}
 use Rattle.std.proofs.KnownBytes.{Consumes-trans}
 use Rattle.std.proofs.lemmas.List.{length-append}
-use Rattle.std.proofs.lemmas.Grind.{flat_map-append}
 use Rattle.ace_event.specs.declared.event.Event.{Event}
 use Rattle.ace_event.specs.declared.header.Header.{Header}
-use Rattle.ace_event.specs.Text.{trace_text, events_text, header_text, event_text, line_text}
+use Rattle.ace_event.specs.Text.{trace_text, header_text}
 use Rattle.ace_io.specs.declared.outside.Source.{Ghosts}
 use Rattle.ace_grammar.specs.declared.error.ReadErr.{ReadErr}
 use Rattle.ace_grammar.specs.declared.error.ReadErr.TheVariants.{Malformed, TooManyEvents, ReadFault, NoMemory}
 use Rattle.ace_grammar.specs.declared.reader.Reader.{Reader}
 use Rattle.ace_grammar.specs.Errors.{StandsNext}
 use Rattle.ace_grammar.specs.Reader.{HasRead, IsReading, source_of, unread, header_of, count_of, count_after}
-use Rattle.ace_grammar.specs.Reading.{Reads, Ending, Ends, Whole, Full, Bad, IsReadable, IsReadableHeader, HasBadLine, IfTold}
-
-all_more : {A : Type 0} (P : A → Type 0) (xs : List A) (x : A) → AllByRecursion P xs → P x → AllByRecursion P (xs ++ x ∷ [])
-all_more P [] x all one = (one, tt)
-all_more P (y ∷ ys) x all one = (all.0, all_more P ys x all.1 one)
-
--- the text of a trace with one more event
-more_text : (h : Header) (events : List Event) (e : Event) → trace_text h (events ++ e ∷ []) ≡ trace_text h events ++ line_text (event_text e)
-more_text h events e =
-    ap (λ t. header_text h ++ t) (flat_map-append (λ event. line_text (event_text event)) events (e ∷ []) ∙ ap (λ t. events_text events ++ t) (append-nil (line_text (event_text e))))
-    ∙ sym (append_assoc (header_text h) (events_text events) (line_text (event_text e)))
-
--- the bytes are the text that was consumed, and the rest
-split : (bytes text : List ℕ) (left : Option (List ℕ)) (P : List ℕ → Type 0) → Consumes (Some bytes) left text → IfTold left P → (rest : List ℕ) × (bytes ≡ text ++ rest) × P rest
-split bytes text None P c p = absurd c
-split bytes text (Some rest) P c p = (rest, c, p)
-
-at_end : (left : Option (List ℕ)) → IsAtEnd left → IfTold left (λ rest. rest ≡ [])
-at_end None e = tt
-at_end (Some rest) e = e
+use Rattle.ace_grammar.proofs.OneMore.{readable-more, trace_text-more}
+use Rattle.ace_grammar.proofs.Taken.{reads_to, at_end}
+use Rattle.ace_grammar.specs.Reading.{Reads, Ending, Ends, Whole, Full, Bad, IsReadableHeader, HasBadLine, IfTold}
 
 -- the bytes end so
 ends : {S : Type 0} {g : Ghosts S} (left : S → Option (List ℕ)) (bytes : List ℕ) (events : List Event) (reader : Reader S g) (ending : Ending) (P : List ℕ → Type 0)
     → HasRead left bytes events reader → IfTold (unread left reader) P → ((rest : List ℕ) → P rest → Ends ending events rest) → Reads bytes (header_of reader) events ending
 ends left bytes events reader ending P h p end =
-    let parts = split bytes _ (unread left reader) P h.text p in
-    record { header_is_readable = h.header_is_readable; events_are_readable = h.events_are_readable; text = (parts.0, parts.1, end parts.0 parts.2) }
+    reads_to bytes (header_of reader) events (unread left reader) ending P h.header_is_readable h.events_are_readable h.text p end
 
 -- nothing was read but the header
 pub read_header_alone : {S : Type 0} {g : Ghosts S} (left : S → Option (List ℕ)) (old : Option (List ℕ)) (reader : Reader S g)
@@ -57,11 +37,11 @@ pub reading_next : {S : Type 0} {g : Ghosts S} (left : S → Option (List ℕ)) 
     → HasRead left bytes events old → IsReading left bytes events old new result
 reading_next left bytes events old new (Ok (Some event)) same counted s h = record {
   header_is_readable = subst IsReadableHeader (sym same) h.header_is_readable;
-  events_are_readable = all_more IsReadable events event h.events_are_readable s.1;
+  events_are_readable = readable-more events event h.events_are_readable s.1;
   few = rw length-append (omega (arith, h.counted, s.0));
   counted = length-append events (event ∷ []) ∙ ap (λ n. n + 1) h.counted ∙ sym counted;
   text = subst (λ (header : Header). Consumes (Some bytes) (unread left new) (trace_text header (events ++ event ∷ []))) (sym same)
-      (subst (Consumes (Some bytes) (unread left new)) (sym (more_text (header_of old) events event)) (Consumes-trans (Some bytes) (unread left old) (unread left new) _ _ h.text s.2));
+      (subst (Consumes (Some bytes) (unread left new)) (sym (trace_text-more (header_of old) events event)) (Consumes-trans (Some bytes) (unread left old) (unread left new) _ _ h.text s.2));
 }
 reading_next left bytes events old new (Ok None) same counted s h =
     ends left bytes events old Whole (λ rest. rest ≡ []) h (at_end (unread left old) s.0) (λ rest none. (h.few, none))

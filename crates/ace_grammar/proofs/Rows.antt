@@ -6,7 +6,7 @@ use Rattle.ace_grammar.specs.declared.reason.Reason.TheVariants.{F3}
 use Rattle.ace_grammar.specs.declared.shapes.Shape.{Shape}
 use Rattle.ace_grammar.specs.Records.{ArFields, RFields, RkFields, AwFields, WFields, BFields, WkFields, AcFields, CrFields, CdFields, GFields, MFields, SFields, LFields, DFields, OpFields}
 use Rattle.ace_grammar.specs.Reasons.{field_reason, least, fields_reason}
-use Rattle.ace_grammar.proofs.Plain.{IsPlain}
+use Rattle.ace_grammar.proofs.Visible.{IsVisible}
 use Rattle.ace_grammar.proofs.FieldTexts.{room_of_domain, room_of_write_snoop}
 use Rattle.ace_grammar.proofs.Options.{chosen}
 use Rattle.ace_grammar.proofs.FieldKinds.{Kind, some_isn't_none, digits, at_most, response, flag, channel, state, outcome}
@@ -19,7 +19,7 @@ pub record Row (F : Type 0) : Type 1 where
   pub IsIn : F → Type 0
   pub decode : (fields : List (List ℕ)) → fields_reason shapes fields ≡ None → (f : F) × IsIn f × (fields ≡ texts f)
   pub encode : (f : F) → IsIn f → fields_reason shapes (texts f) ≡ None
-  pub plain : (f : F) → AllByRecursion IsPlain (texts f)
+  pub visible : (f : F) → AllByRecursion IsVisible (texts f)
 
 least_none : (one other : Option Reason) → least one other ≡ None → (one ≡ None) × (other ≡ None)
 least_none None other e = (refl, e)
@@ -60,7 +60,7 @@ only k = record {
   IsIn = k.IsIn;
   decode = only_decode k;
   encode = only_encode k;
-  plain = λ f. (k.plain f, tt);
+  visible = λ f. (k.visible f, tt);
 }
 
 infixr 10 ◌also◌
@@ -71,7 +71,7 @@ k also r = record {
   IsIn = λ f. k.IsIn f.0 × r.IsIn f.1;
   decode = and_decode k r;
   encode = and_encode k r;
-  plain = λ f. (k.plain f.0, r.plain f.1);
+  visible = λ f. (k.visible f.0, r.visible f.1);
 }
 
 abbrev pub ar : Row ArFields

@@ -1,10 +1,15 @@
 -- What a reader of lines has taken from its source.
-use Rattle.std.proofs.Common.{ℕ, List, ◌++◌, Option, None, Some, sym, ◌∙◌, append_assoc}
-use Rattle.std.specs.Io.KnownBytes.{Consumes}
+use Rattle.std.proofs.Common.{◌≡◌, ℕ, List, [], ◌++◌, Option, None, Some, sym, ◌∙◌, append_assoc}
+use Rattle.std.specs.List.{AllByRecursion}
+use Rattle.std.specs.Io.KnownBytes.{Consumes, IsAtEnd}
+use Rattle.ace_event.specs.declared.header.Header.{Header}
+use Rattle.ace_event.specs.declared.event.Event.{Event}
+use Rattle.ace_event.specs.Text.{trace_text}
 use Rattle.ace_io.specs.Line.{in_front, CutsLine}
 use Rattle.ace_io.specs.declared.line_buf.LineEnd.{LineEnd}
 use Rattle.ace_io.specs.declared.line_buf.LineEnd.TheVariants.{Whole, NoLf, End}
 use Rattle.ace_grammar.specs.Errors.{TakesFront}
+use Rattle.ace_grammar.specs.Reading.{Reads, Ending, Ends, IsReadable, IsReadableHeader, IfTold}
 
 -- what was given, and what it holds
 pub taken_front : (old left : Option (List ℕ)) (held text : List ℕ) → Consumes old (in_front held left) text → TakesFront old left
@@ -17,3 +22,21 @@ pub cut_front : (old left : Option (List ℕ)) (held line : List ℕ) (end : Lin
 cut_front old left held line Whole cut = taken_front old left held _ cut.1
 cut_front old left held line NoLf cut = taken_front old left held _ cut.3
 cut_front old left held line End cut = taken_front old left held _ cut.2
+
+-- the bytes are the text that was consumed, and the rest
+split : (bytes text : List ℕ) (left : Option (List ℕ)) (P : List ℕ → Type 0) → Consumes (Some bytes) left text → IfTold left P → (rest : List ℕ) × (bytes ≡ text ++ rest) × P rest
+split bytes text None P c p = absurd c
+split bytes text (Some rest) P c p = (rest, c, p)
+
+-- the text of a trace was taken, and what is left ends so
+pub reads_to : (bytes : List ℕ) (header : Header) (events : List Event) (left : Option (List ℕ)) (ending : Ending) (P : List ℕ → Type 0)
+    → IsReadableHeader header → AllByRecursion IsReadable events → Consumes (Some bytes) left (trace_text header events)
+    → IfTold left P → ((rest : List ℕ) → P rest → Ends ending events rest) → Reads bytes header events ending
+reads_to bytes header events left ending P readable all text p end =
+    let parts = split bytes _ left P text p in
+    record { header_is_readable = readable; events_are_readable = all; text = (parts.0, parts.1, end parts.0 parts.2) }
+
+-- nothing is left
+pub at_end : (left : Option (List ℕ)) → IsAtEnd left → IfTold left (λ rest. rest ≡ [])
+at_end None e = tt
+at_end (Some rest) e = e

@@ -2,6 +2,7 @@
 #![tactic(auto)]
 
 mod counts;
+mod give;
 mod honest_source;
 pub mod laws;
 mod line_buf;
@@ -15,6 +16,7 @@ mod std_source;
 #[cfg(test)]
 mod tests;
 
+pub use give::give_all;
 pub use honest_source::HonestSource;
 pub use line_buf::{LineBuf, LineEnd};
 pub use line_reader::LineReader;

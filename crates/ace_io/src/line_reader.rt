@@ -130,18 +130,12 @@ impl<'a, S: Source> LineReader<'a, S> {
         ensures bytes_stay { OnErr result (Consumes (waiting S.left self.old) (S.left self.new.source.now) []) }
         ensures cause { HasCause (S.faults self.old.source.now) (S.faults self.new.source.now) result }
     {
-        if self.start == self.end {
-            match self.fill() {
-                Ok(true) => {}
-                Ok(false) => {
-                    return Ok(Some(if into.len() == 0 {
-                        LineEnd::End
-                    } else {
-                        LineEnd::NoLf
-                    }));
-                }
-                Err(failed) => return Err(failed),
-            }
+        if self.start == self.end && !self.fill()? {
+            return Ok(Some(if into.len() == 0 {
+                LineEnd::End
+            } else {
+                LineEnd::NoLf
+            }));
         }
         Ok(self.cut(into))
     }
@@ -161,10 +155,8 @@ impl<'a, S: Source> LineReader<'a, S> {
     {
         into.clear();
         'pieces: loop {
-            match self.advance(into) {
-                Ok(None) => {}
-                Ok(Some(end)) => return Ok(end),
-                Err(failed) => return Err(failed),
+            if let Some(end) = self.advance(into)? {
+                return Ok(end);
             }
         }
     }

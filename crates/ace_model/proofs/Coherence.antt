@@ -12,5 +12,5 @@ accepted_coherent h past a r = record {
   unique = accepted_unique h past a;
   one_dirty = accepted_one_dirty h past a;
   dirty_place = dirty_data_placed h past a r;
-  reads_follow = reads_follow h past a (dirty_data_placed h past a r);
+  reads_follow = reads_follow h past a r;
 }

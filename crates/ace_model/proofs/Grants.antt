@@ -3,5 +3,4 @@ pub mod Begins
 pub mod Granted
 pub mod Pending
 pub mod SnoopAnswers
-pub mod SnoopedOnce
 pub mod Stays

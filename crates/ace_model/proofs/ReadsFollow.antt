@@ -1,16 +1,9 @@
 pub mod Beats
-pub mod Done
 pub mod First
 pub mod Law
 pub mod Memory
-pub mod MemorySince
 pub mod Order
 pub mod Outstanding
 pub mod Points
-pub mod Reply
-pub mod Rows
 pub mod Sent
-pub mod Transfers
-pub mod UpdateBurst
-pub mod UpdateCopy
-pub mod Written
+pub mod UnderWay

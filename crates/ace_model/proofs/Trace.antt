@@ -2,8 +2,9 @@ pub mod Growth
 pub mod Issued
 pub mod LineOnce
 pub mod Looks
+pub mod Outstanding
 pub mod Places
-pub mod Points
 pub mod Served
+pub mod Snoops
 pub mod WriteBursts
 pub mod WriteQueue

@@ -7,23 +7,19 @@ use Rattle.ace_codes.specs.declared.state.LineState.TheVariants.{I, UC, UD, SC, 
 use Rattle.ace_tables.specs.Answers.{rows_among, rows_to}
 
 -- whatever the snoop, in each state, with an update or not
-most : (update : Bool) (held : LineState) (kind : SnoopKind)
+pub most_rows : (update : Bool) (held : LineState) (kind : SnoopKind)
     → length (rows_to kind held update UD) + length (rows_to kind held update SD) + length (rows_to kind held update UC) + length (rows_to kind held update SC) + length (rows_to kind held update I) ≤ 12
 unfolding rows_to rows_among
-most true I ReadOnce = lit≤ tt
-most true UC ReadOnce = lit≤ tt
-most true UD ReadOnce = lit≤ tt
-most true SC ReadOnce = lit≤ tt
-most true SD ReadOnce = lit≤ tt
-most false I ReadOnce = lit≤ tt
-most false UC ReadOnce = lit≤ tt
-most false UD ReadOnce = lit≤ tt
-most false SC ReadOnce = lit≤ tt
-most false SD ReadOnce = lit≤ tt
-most _ _ _ = lit≤ tt
-
-pub most_rows : (kind : SnoopKind) (held : LineState) (update : Bool)
-    → length (rows_to kind held update UD) + length (rows_to kind held update SD) + length (rows_to kind held update UC) + length (rows_to kind held update SC) + length (rows_to kind held update I) ≤ 12
-most_rows kind held update = most update held kind
+most_rows true I ReadOnce = lit≤ tt
+most_rows true UC ReadOnce = lit≤ tt
+most_rows true UD ReadOnce = lit≤ tt
+most_rows true SC ReadOnce = lit≤ tt
+most_rows true SD ReadOnce = lit≤ tt
+most_rows false I ReadOnce = lit≤ tt
+most_rows false UC ReadOnce = lit≤ tt
+most_rows false UD ReadOnce = lit≤ tt
+most_rows false SC ReadOnce = lit≤ tt
+most_rows false SD ReadOnce = lit≤ tt
+most_rows _ _ _ = lit≤ tt
 
 pub ruleset bounds = (most_rows, length-append)

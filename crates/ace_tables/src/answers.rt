@@ -109,7 +109,7 @@ pub fn is_snoop_row(
 }
 
 /// Puts the rows with this next state at the end of the list.
-#[tactic(auto, unfolding(crate::specs::Answers::rows_to))]
+#[tactic(auto, using(crate::proofs::RowsAmong::row_steps), unfolding(crate::specs::Answers::rows_to))]
 fn push_rows(rows: &mut RowList, kind: SnoopKind, held: LineState, update: bool, next: LineState)
     requires { length rows.old + length (rows_to kind held update next) ≤ 12 }
     ensures { rows.new ≡ rows.old ++ rows_to kind held update next }

@@ -1,7 +1,7 @@
 // States of a line, and sets of them.
 ghost use Rattle.std.specs.Prelude.{◌≡◌, List};
 ghost use Rattle.ace_codes.specs.declared.state.LineState.{LineState};
-ghost use Rattle.ace_tables.specs.States.{is_invalid, is_dirty, is_unique, is_among, same_state};
+ghost use Rattle.ace_tables.specs.States.{is_invalid, is_dirty, is_unique, is_among};
 
 use ace_codes::LineState;
 use std::marker::Model;
@@ -27,25 +27,11 @@ pub fn is_unique(st: LineState) -> bool
     matches!(st, LineState::UC | LineState::UD)
 }
 
-/// Whether the two states are the same.
-pub(crate) fn same_state(one: LineState, other: LineState) -> bool
-    ensures { result ≡ same_state one other }
-{
-    matches!(
-        (one, other),
-        (LineState::I, LineState::I)
-            | (LineState::UC, LineState::UC)
-            | (LineState::UD, LineState::UD)
-            | (LineState::SC, LineState::SC)
-            | (LineState::SD, LineState::SD)
-    )
-}
-
 /// Whether the state is one of these.
 pub(crate) fn is_among(st: LineState, states: &[LineState]) -> bool
     ensures { result ≡ is_among st states.now }
 {
-    states.iter().any(|other| same_state(st, *other))
+    states.iter().any(|other| st == *other)
 }
 
 /// A set of line states. Contracts see the list of them.

@@ -1,5 +1,5 @@
 -- What a writer has given stays a front of its text.
-use Rattle.std.proofs.Common.{rules, ◌≡◌, ℕ, ◌+◌, ◌-◌, ◌^◌, ◌≤◌, min, true, false, List, [], ◌++◌, length, take, drop, Option, sym, ap, ◌∙◌, subst, arith, append_assoc, append-nil, length-append, take-append-drop}
+use Rattle.std.proofs.Common.{rules, ◌≡◌, ℕ, ◌+◌, ◌-◌, ◌^◌, ◌≤◌, min, true, false, List, [], ◌++◌, length, take, drop, Option, sym, ap, ◌∙◌, subst, arith, append_assoc, append-nil, length-append, take-append-drop, Result, Ok, Err, OnOk, is_err}
 use Rattle.std.proofs.lemmas.Grind.{common_steps}
 use Rattle.std.proofs.lemmas.List.{drop_all, nil_from_length}
 use Rattle.std.specs.Io.KnownBytes.{Appends}
@@ -54,9 +54,13 @@ line_lost held before text line writer so_far failed = record {
   waiting = λ ok. absurd (search (rules, failed, ok));
 }
 
--- with nothing in hand the whole text was given
-pub whole_given : {K : Type 0} (held : K → Option (List ℕ)) (before : Option (List ℕ)) (text : List ℕ) (writer : Writer K)
-    → GivesFront held before text writer → has_failed writer ≡ false → length (in_hand writer) ≤ 0 → Appends before (held (sink_of writer).now) text
-whole_given held before text writer so_far sound none =
-    let rest : so_far.rest ≡ [] = nil_from_length so_far.rest (omega (arith, none, ap length (so_far.waiting sound))) in
-    subst (λ t. Appends before (held (sink_of writer).now) t) (sym (so_far.cut ∙ ap (λ l. so_far.front ++ l) rest ∙ append-nil so_far.front)) so_far.bytes
+-- once nothing is in hand the whole text was given
+pub whole_given : {K : Type 0} (held : K → Option (List ℕ)) (old new : Writer K) {T E : Type 0} (result : Result T E)
+    → ((before : Option (List ℕ)) (text : List ℕ) → GivesFront held before text old → GivesFront held before text new)
+    → has_failed new ≡ is_err result → OnOk result (length (in_hand new) ≤ 0)
+    → OnOk result ((before : Option (List ℕ)) (text : List ℕ) → GivesFront held before text old → Appends before (held (sink_of new).now) text)
+whole_given held old new (Ok done) kept sound none = λ before text so_far.
+    let g = kept before text so_far in
+    let rest : g.rest ≡ [] = nil_from_length g.rest (omega (arith, none, ap length (g.waiting sound))) in
+    subst (λ t. Appends before (held (sink_of new).now) t) (sym (g.cut ∙ ap (λ l. g.front ++ l) rest ∙ append-nil g.front)) g.bytes
+whole_given held old new (Err fault) kept sound none = tt

@@ -3,7 +3,6 @@
 
 mod error;
 mod fields;
-mod give;
 mod header;
 mod records;
 #[cfg(test)]

@@ -7,10 +7,9 @@ ghost use Rattle.ace_event.specs.Range.{InRange};
 ghost use Rattle.ace_event.specs.Text.{header_text, line_text, event_text};
 
 use crate::WriteErr;
-use crate::give::give_all;
 use crate::text_buf::{TEXT_ROOM, TextBuf};
 use ace_event::{Event, Header};
-use ace_io::Sink;
+use ace_io::{Sink, give_all};
 
 /// The most bytes of a line, with its line feed.
 const LINE_LIMIT: usize = 161;
@@ -63,10 +62,7 @@ impl<'a, K: Sink> Writer<'a, K> {
         ensures again { has_failed self.old ≡ true → self.new ≡ self.old }
         ensures cause { has_failed self.old ≡ false → HasCause (K.faults (sink_of self.old).now) (K.faults (sink_of self.new).now) result }
     {
-        self.give_over(TEXT_ROOM - LINE_LIMIT);
-        if self.failed {
-            return Err(WriteErr::WriteFault);
-        }
+        self.give_over(TEXT_ROOM - LINE_LIMIT)?;
         self.text.push_event(event);
         self.text.push(b'\n');
         Ok(())
@@ -87,11 +83,7 @@ impl<'a, K: Sink> Writer<'a, K> {
         ensures again { has_failed self.old ≡ true → self.new ≡ self.old }
         ensures cause { has_failed self.old ≡ false → HasCause (K.faults (sink_of self.old).now) (K.faults (sink_of self.new).now) result }
     {
-        self.give_over(0);
-        if self.failed {
-            return Err(WriteErr::WriteFault);
-        }
-        Ok(())
+        self.give_over(0)
     }
 
     /// How many bytes were given, up to 18446744073709551615.
@@ -101,24 +93,29 @@ impl<'a, K: Sink> Writer<'a, K> {
         self.given
     }
 
-    /// Gives the text that waits where it has more bytes than these, unless a fault was met.
-    fn give_over(&mut self, most: usize)
+    /// Gives the text that waits where it has more bytes than these. Its error is as those of `put`.
+    fn give_over(&mut self, most: usize) -> Result<(), WriteErr>
         ensures same_sink { (sink_of self.new).ghost_name ≡ (sink_of self.old).ghost_name }
         ensures text { (before : Option (List ℕ)) (text : List ℕ) → GivesFront K.held before text self.old
             → GivesFront K.held before text self.new }
-        ensures room { has_failed self.new ≡ false → length (in_hand self.new) ≤ most }
+        ensures room { OnOk result (length (in_hand self.new) ≤ most) }
+        ensures failed { has_failed self.new ≡ is_err result }
         ensures again { has_failed self.old ≡ true → self.new ≡ self.old }
-        ensures steady { has_failed self.new ≡ false → K.faults (sink_of self.new).now ≡ K.faults (sink_of self.old).now }
-        ensures fault { has_failed self.old ≡ false → has_failed self.new ≡ true
-            → Rose (K.faults (sink_of self.old).now) (K.faults (sink_of self.new).now) }
-        ensures later { K.faults (sink_of self.old).now ≤ K.faults (sink_of self.new).now }
+        ensures cause { has_failed self.old ≡ false → HasCause (K.faults (sink_of self.old).now) (K.faults (sink_of self.new).now) result }
     {
-        if self.failed || self.text.len() <= most {
-            return;
+        if self.failed {
+            return Err(WriteErr::WriteFault);
+        }
+        if self.text.len() <= most {
+            return Ok(());
         }
         let count = give_all(self.sink, self.text.bytes());
         self.given = self.given.saturating_add(count as u64);
         self.failed = count < self.text.len();
         self.text.clear();
+        if self.failed {
+            return Err(WriteErr::WriteFault);
+        }
+        Ok(())
     }
 }

@@ -1,17 +1,18 @@
 -- In an accepted trace a barrier orders.
-use Rattle.std.proofs.Common.{◌≡◌, ℕ, zero, suc, ◌<◌, Bool, true, false, ◌&&◌, ◌==◌, nat_lt, List, [], ◌∷◌, ◌++◌, length, Some, slice_get, sym, ap, subst, ◌∙◌, arith, inl, inr}
+use Rattle.std.proofs.Common.{◌≡◌, ℕ, ◌<◌, Bool, true, false, ◌&&◌, ◌==◌, nat_lt, List, [], ◌∷◌, ◌++◌, length, Some, slice_get, sym, ap, subst, ◌∙◌, arith, inl, inr}
 use Rattle.std.proofs.lemmas.Bool.{and_parts, cases_Bool, eq-eqb, ltb-true, lt-ltb}
 use Rattle.std.specs.List.{list_all}
 use Rattle.ace_model.proofs.Terms.{Event, R, B, G, Read, Write, Header, Transaction, Trace, implies, is_line, is_transaction, outstanding, served_by, is_completion_event, is_completed, is_ordered}
-use Rattle.ace_model.proofs.Terms.{is_barrier_half, Pair, pairs, pair_of, number_of, place_of, is_pair_complete, is_synchronisation, is_before, is_awaited, may_answer, k12, may_be_granted, k18, is_due, k26}
-use Rattle.ace_model.proofs.Terms.{may_respond, k34, k35, may_answer_half, is_past_barriers, IsAccepted, IsOrderedBy, IsOrderedAt, BarrierHolds}
-use Rattle.ace_model.proofs.Trace.Growth.{issued_at-grown, IsIssued, transaction-issued, each_issued-at, has_had-later, accepted-before}
-use Rattle.ace_model.proofs.Trace.Issued.{issued_at, transaction_of-stands, outstanding-named}
+use Rattle.ace_model.proofs.Terms.{is_barrier_half, Pair, pairs, pair_of, number_of, place_of, is_pair_complete, is_synchronisation, is_before, is_awaited, may_answer, k12, may_be_granted, is_due}
+use Rattle.ace_model.proofs.Terms.{may_respond, k35, may_answer_half, is_past_barriers, IsAccepted, IsOrderedBy, IsOrderedAt, BarrierHolds}
+use Rattle.ace_model.proofs.Trace.Growth.{issued_at-later, IsIssued, transaction-issued, each_issued-at, has_had-later, accepted-first}
+use Rattle.ace_model.proofs.Trace.Issued.{issued_at, outstanding-named}
 use Rattle.ace_model.proofs.Rules.Keeps.{accepted_keeps}
-use Rattle.ace_model.proofs.Trace.Served.{has_had-served, outstands}
-use Rattle.ace_model.proofs.Barriers.OrderPoints.{is_ordered-grown, completed-ordered}
+use Rattle.ace_model.proofs.Trace.Served.{had_some, outstands}
+use Rattle.ace_model.proofs.Barriers.OrderPoints.{is_ordered-later, completed-ordered}
 use Rattle.ace_model.proofs.Barriers.Pairs.{pairs-halves, pairs-grown, is_barrier_of-is, half-number}
 use Rattle.ace_model.proofs.General.Options.{Some-injective, is_some_and-is, is_none_or-at}
+use Rattle.ace_model.proofs.General.Lists.{list_all-at}
 use Rattle.ace_model.proofs.General.Booleans.{implies-at}
 
 -- where an event completed a barrier half, the half was there before it, and might be answered
@@ -24,24 +25,14 @@ half-answered : (h : Header) (later : List Event) (e : Event) (before : Trace) (
     → issued_at (later ++ e ∷ before) x.place ≡ Some x → MightAnswer before x
 half-answered h later (R p i resp last word) before x accepted passes belongs there =
     let e : Event = R p i resp last word in
-    let here = accepted-before h later (e ∷ before) accepted in
-    let keeps : k18 h before e ≡ true = (accepted_keeps h before e here).rule_18 in
-    let answers : k34 h before e ≡ true = (accepted_keeps h before e here).rule_34 in
-    let o = outstands h later e before p Read i (is_due h before resp last) x keeps belongs there in
-    record {
-      may = is_none_or-at (outstanding h before p Read i) (may_answer_half before) x answers o.0.out;
-      earlier = (transaction_of-stands before p Read i x o.0.of_name).before;
-    }
+    let keeps = accepted_keeps h before e (accepted-first h later (e ∷ before) accepted) in
+    let o = (outstands h later e before p Read i (is_due h before resp last) x keeps.rule_18 belongs there).0 in
+    record { may = is_none_or-at (outstanding h before p Read i) (may_answer_half before) x keeps.rule_34 o.out; earlier = o.earlier }
 half-answered h later (B p i resp) before x accepted passes belongs there =
     let e : Event = B p i resp in
-    let here = accepted-before h later (e ∷ before) accepted in
-    let keeps : k26 h before e ≡ true = (accepted_keeps h before e here).rule_26 in
-    let answers : k34 h before e ≡ true = (accepted_keeps h before e here).rule_34 in
-    let o = outstands h later e before p Write i (may_respond before) x (and_parts (resp == 0) _ keeps).1 belongs there in
-    record {
-      may = is_none_or-at (outstanding h before p Write i) (may_answer_half before) x answers o.0.out;
-      earlier = (transaction_of-stands before p Write i x o.0.of_name).before;
-    }
+    let keeps = accepted_keeps h before e (accepted-first h later (e ∷ before) accepted) in
+    let o = (outstands h later e before p Write i (may_respond before) x (and_parts (resp == 0) _ keeps.rule_26).1 belongs there).0 in
+    record { may = is_none_or-at (outstanding h before p Write i) (may_answer_half before) x keeps.rule_34 o.out; earlier = o.earlier }
 half-answered h later e before x accepted passes belongs there = cc
 
 -- the same of its pair: both halves were there
@@ -77,9 +68,9 @@ abbrev IsOrderedIn : Header → ℕ → ℕ → Pair → Transaction → Trace �
 IsOrderedIn h p k b x past =
     IsAccepted h past → slice_get (pairs past p) k ≡ Some b → IsIssued past x → is_before x p b ≡ true → IsOrderedBy past b x
 
-answered-ordered_at : (h : Header) (later : List Event) (e : Event) (before : Trace) (p k : ℕ) (b : Pair) (x : Transaction)
+answered-ordered_at : (h : Header) (p k : ℕ) (b : Pair) (x : Transaction) (later : List Event) (e : Event) (before : Trace)
     → is_completion_event e ≡ true → is_transaction (served_by before e) b.read ≡ true → IsOrderedIn h p k b x (later ++ e ∷ before)
-answered-ordered_at h later e before p k b x passes belongs accepted there stands first =
+answered-ordered_at h p k b x later e before passes belongs accepted there stands first =
     let a = pair-answered h later e before p k b accepted passes belongs there in
     let parts = and_parts ((x.port == p) && is_line x && (x.bar == 0)) (nat_lt x.place (place_of b)) first in
     let line = (and_parts ((x.port == p)) (is_line x) (and_parts ((x.port == p) && is_line x) (x.bar == 0) parts.0).0).1 in
@@ -87,7 +78,7 @@ answered-ordered_at h later e before p k b x passes belongs accepted there stand
     let bound : place_of b < length before = a.earlier in
     let low : x.place < length before = omega (below, bound, arith) in
     let early : issued_at before x.place ≡ Some x =
-    sym (issued_at-grown later (e ∷ before) x.place (omega arith) ∙ issued_at-grown (e ∷ []) before x.place low) ∙ stands.there in
+    sym (issued_at-later later e before x.place low) ∙ stands.there in
     let test : Transaction → Bool = λ y. implies (is_before y p b) (is_awaited before b y) in
     let awaited : is_awaited before b x ≡ true =
     implies-at (is_before x p b) (is_awaited before b x) (each_issued-at before test x.place x a.may early) first in
@@ -97,22 +88,9 @@ answered-ordered_at h later e before p k b x passes belongs accepted there stand
           let complete_now : is_completed (later ++ e ∷ before) x ≡ true = has_had-later is_completion_event later e before x complete in
           (completed-ordered h (later ++ e ∷ before) x complete_now accepted stands.there line, λ _. complete_now)
       | inr other ↦
-          let ordered : is_ordered before x ≡ true = rw other at awaited in (
-            is_ordered-grown later (e ∷ before) x (is_ordered-grown (e ∷ []) before x ordered),
-            λ s. let no : true ≡ false = sym s ∙ other in cc,
-          )
+          let ordered : is_ordered before x ≡ true = rw other at awaited in
+          (is_ordered-later later e before x ordered, λ s. let no : true ≡ false = sym s ∙ other in cc)
     ]
-
-answered-ordered : (h : Header) (past : Trace) (p k : ℕ) (b : Pair) (x : Transaction)
-    → is_completed past b.read ≡ true → IsOrderedIn h p k b x past
-answered-ordered h past p k b x complete =
-    let s = has_had-served is_completion_event past b.read complete in
-    subst (IsOrderedIn h p k b x) (sym s.split) (answered-ordered_at h s.later s.event s.before p k b x s.passes s.belongs)
-
-list_all-at : {A : Type 0} → (test : A → Bool) (xs : List A) (k : ℕ) (x : A) → list_all test xs ≡ true → slice_get xs k ≡ Some x → test x ≡ true
-list_all-at test [] k x all there = cc
-list_all-at test (y ∷ ys) zero x all there = subst (λ z. test z ≡ true) (Some-injective y x there) (and_parts (test y) (list_all test ys) all).0
-list_all-at test (y ∷ ys) (suc k) x all there = list_all-at test ys k x (and_parts (test y) (list_all test ys) all).1 there
 
 -- a grant comes after all that the barriers before it order
 granted-ordered : (h : Header) (past : Trace) (e : Event) → IsAccepted h (e ∷ past) → IsOrderedAt past e
@@ -129,7 +107,8 @@ granted-ordered h past (G p c i) accepted later x b gives bar pair place transac
     let complete : is_pair_complete past b ≡ true =
     implies-at (nat_lt (place_of b) later.place) (is_pair_complete past b) (list_all-at test (pairs past later.port) pair.0 b all pair.1) (lt-ltb (place_of b) later.place place) in
     let read : is_completed past b.read ≡ true = (and_parts (is_completed past b.read) (is_completed past b.write) complete).0 in
-    answered-ordered h past later.port pair.0 b x read accepted.0 pair.1 (transaction-issued past transaction.0 x transaction.1) first
+    had_some is_completion_event (IsOrderedIn h later.port pair.0 b x) past b.read (answered-ordered_at h later.port pair.0 b x) read
+    accepted.0 pair.1 (transaction-issued past transaction.0 x transaction.1) first
 granted-ordered h past e accepted later x b gives bar pair place transaction first = cc
 
 pub accepted_barriers_order : (h : Header) (past : Trace) → IsAccepted h past → BarrierHolds past

@@ -1,27 +1,25 @@
 -- A line transaction that is complete has had its order point.
-use Rattle.std.proofs.Common.{◌≡◌, ◌⊎◌, ℕ, Bool, true, false, not, ◌&&◌, ◌||◌, ◌==◌, nat_eq, if◌then◌else◌, List, [], ◌∷◌, ◌++◌, length, Some, refl, sym, ap, subst, ◌∙◌, inl, inr}
+use Rattle.std.proofs.Common.{◌≡◌, ◌⊎◌, ℕ, Bool, true, false, not, ◌&&◌, ◌||◌, ◌==◌, nat_eq, List, [], ◌∷◌, ◌++◌, length, Some, refl, sym, ◌∙◌, inl, inr}
 use Rattle.std.proofs.lemmas.Bool.{and_parts, or_cases, or_left, or_right, cases_Bool, eqb-true, eq-eqb, not-true}
-use Rattle.ace_model.proofs.Terms.{AwKind, Event, R, B, G, M, Channel, Read, Write, Header, Transaction, Trace, is_some_and, is_line_read, is_line_write, is_evict, has_write_data, is_read, is_line}
+use Rattle.ace_model.proofs.Terms.{AwKind, Event, R, B, G, M, Channel, Read, Write, Header, Transaction, Trace, is_some_and, is_line_write, is_evict, has_write_data, is_read, is_line}
 use Rattle.ace_model.proofs.Terms.{is_named, is_transaction, issued, read_kind, write_kind, same_channel, transaction_of, ended, without, served_by, has_had, is_completion_event, is_completed, is_grant}
 use Rattle.ace_model.proofs.Terms.{is_write_of_memory, updates_memory, evicts, is_ordered, is_memory_write, has_memory_write, is_burst_whole, given, granted, is_granted, has_passed_data}
-use Rattle.ace_model.proofs.Terms.{are_passed_data_whole, k18, is_due, is_next_transfer, may_transfer, k24, k26, may_respond, is_write_due, is_update_due, may_write_passed, may_write_data, may_write_memory}
+use Rattle.ace_model.proofs.Terms.{are_passed_data_whole, is_due, is_next_transfer, may_transfer, may_respond, is_write_due, is_update_due, may_write_passed, may_write_data, may_write_memory}
 use Rattle.ace_model.proofs.Terms.{IsAccepted}
 use Rattle.ace_codes.specs.declared.kind.AwKind.TheVariants as kind
-use Rattle.ace_model.proofs.Trace.Growth.{has_had-grown, has_had-later, accepted-before}
+use Rattle.ace_model.proofs.Trace.Growth.{has_had-later, accepted-first}
 use Rattle.ace_model.proofs.Trace.Issued.{issued_at}
 use Rattle.ace_model.proofs.Rules.Keeps.{accepted_keeps}
-use Rattle.ace_model.proofs.Trace.Looks.{same_channel-is, newest_named-older, newest_on-cases, without-some}
-use Rattle.ace_model.proofs.Trace.Served.{has_had-served, Outstands, outstands}
+use Rattle.ace_model.proofs.Trace.Looks.{at_name, same_channel-is, newest_named-older, newest_on-cases, without-some}
+use Rattle.ace_model.proofs.Trace.Served.{had_some, Outstands, outstands}
 use Rattle.ace_model.proofs.General.Options.{is_some_and-is}
-use Rattle.ace_model.proofs.General.Booleans.{implies-at}
+use Rattle.ace_model.proofs.General.Booleans.{if-cases, implies-at}
 
 -- what a transaction has had depends on its place alone
 has_had-place : (test : Event → Bool) (past : Trace) (x y : Transaction)
     → x.place ≡ y.place → has_had test past x ≡ has_had test past y
 has_had-place test [] x y same = refl
-has_had-place test (e ∷ past) x y same =
-    ap (λ n. (test e && is_some_and (served_by past e) (λ z. z.place == n)) || has_had test past x) same
-    ∙ ap (λ b. (test e && is_transaction (served_by past e) y) || b) (has_had-place test past x y same)
+has_had-place test (e ∷ past) x y same = rw (has_had-place test past x y same, same) refl
 
 given-grant : (past : Trace) (e : Event) (x : Transaction)
     → given past e ≡ Some x → (is_grant e && is_transaction (served_by past e) x) ≡ true
@@ -51,11 +49,7 @@ memory_write-now : (past : Trace) (e : Event) (p : ℕ) (c : Channel) (i : ℕ) 
 memory_write-now past (M q d j line) p c i x t now =
     let a = and_parts (nat_eq p q && same_channel c d) (nat_eq i j) now in
     let b = and_parts (nat_eq p q) (same_channel c d) a.0 in
-    let there : transaction_of past q d j ≡ Some x =
-    ap (λ a. transaction_of past a d j) (sym (eqb-true p q b.0))
-    ∙ ap (λ (a : Channel). transaction_of past p a j) (sym (same_channel-is c d b.1))
-    ∙ ap (λ a. transaction_of past p c a) (sym (eqb-true i j a.1))
-    ∙ t in
+    let there : transaction_of past q d j ≡ Some x = rw (eqb-true p q b.0, same_channel-is c d b.1, eqb-true i j a.1) at t in
     rw there (eq-eqb x.place x.place refl)
 memory_write-now past e p c i x t now = cc
 
@@ -74,20 +68,16 @@ has_memory_write-had (e ∷ past) p c i x t m =
           or_right (is_write_of_memory e && is_transaction (served_by past e) x) (has_had is_write_of_memory past x) (has_memory_write-had past p c i x old parts.1)
     ]
 
-chosen : (b t u : Bool) → (if b then t else u) ≡ true → (t ≡ true) ⊎ (u ≡ true)
-chosen true t u e = inl e
-chosen false t u e = inr e
-
 -- a transaction that may write memory is an update, or is granted
 may_write-cases : (h : Header) (past : Trace) (x : Transaction)
     → may_write_memory h past x ≡ true → (updates_memory x ≡ true) ⊎ (is_granted h past x ≡ true)
 may_write-cases h past x may =
-    elim (chosen (is_read x.chan) (may_write_passed h past x) (may_write_data h past x) may) [
+    elim (if-cases (is_read x.chan) (may_write_passed h past x) (may_write_data h past x) may) [
       | inl due ↦
-          let passed = (and_parts (has_passed_data h past x) _ (and_parts (has_passed_data h past x && are_passed_data_whole h past x) _ due).0).0 in
+          let passed = (and_parts (has_passed_data h past x) _ (and_parts (has_passed_data h past x && are_passed_data_whole h past x) _ due.1).0).0 in
           inr (and_parts (is_granted h past x) _ (and_parts _ (not (has_memory_write past x.port x.chan x.id)) passed).0).0
       | inr due ↦
-          let either = (and_parts (is_burst_whole past x && not (has_memory_write past x.port x.chan x.id)) (is_write_due h past x || is_update_due h past x) due).1 in
+          let either = (and_parts (is_burst_whole past x && not (has_memory_write past x.port x.chan x.id)) (is_write_due h past x || is_update_due h past x) due.1).1 in
           elim (or_cases (is_write_due h past x) (is_update_due h past x) either) [
             | inl granted_one ↦ inr (and_parts (is_granted h past x) _ granted_one).0
             | inr update ↦ inl (and_parts (updates_memory x) _ update).0
@@ -99,22 +89,16 @@ abbrev WasGranted : Header → Transaction → Trace → Type 0
 WasGranted h x past =
     IsAccepted h past → issued_at past x.place ≡ Some x → (updates_memory x ≡ true) ⊎ (has_had is_grant past x ≡ true)
 
-written-granted_at : (h : Header) (later : List Event) (e : Event) (before : Trace) (x : Transaction)
+written-granted_at : (h : Header) (x : Transaction) (later : List Event) (e : Event) (before : Trace)
     → is_write_of_memory e ≡ true → is_transaction (served_by before e) x ≡ true → WasGranted h x (later ++ e ∷ before)
-written-granted_at h later (M p c i line) before x passes belongs accepted there =
-    let keeps : k24 h before (M p c i line) ≡ true =
-    (accepted_keeps h before (M p c i line) (accepted-before h later (M p c i line ∷ before) accepted)).rule_24 in
-    let o = outstands h later (M p c i line) before p c i (may_write_memory h before) x keeps belongs there in
+written-granted_at h x later (M p c i line) before passes belongs accepted there =
+    let keeps = accepted_keeps h before (M p c i line) (accepted-first h later (M p c i line ∷ before) accepted) in
+    let o = outstands h later (M p c i line) before p c i (may_write_memory h before) x keeps.rule_24 belongs there in
     elim (may_write-cases h before x o.1) [
       | inl update ↦ inl update
       | inr g ↦ inr (has_had-later is_grant later (M p c i line) before x (is_granted-had h before x g))
     ]
-written-granted_at h later e before x passes belongs accepted there = cc
-
-written-granted : (h : Header) (past : Trace) (x : Transaction) → has_had is_write_of_memory past x ≡ true → WasGranted h x past
-written-granted h past x had =
-    let s = has_had-served is_write_of_memory past x had in
-    subst (WasGranted h x) (sym s.split) (written-granted_at h s.later s.event s.before x s.passes s.belongs)
+written-granted_at h x later e before passes belongs accepted there = cc
 
 -- the order points
 ordered-by_grant : (past : Trace) (x : Transaction)
@@ -125,18 +109,13 @@ ordered-by_memory : (past : Trace) (x : Transaction)
     → updates_memory x ≡ true → has_had is_write_of_memory past x ≡ true → is_ordered past x ≡ true
 ordered-by_memory past x update had = or_right (evicts x) _ (rw update had)
 
-pub is_ordered-grown : (later : List Event) (before : Trace) (x : Transaction)
-    → is_ordered before x ≡ true → is_ordered (later ++ before) x ≡ true
-is_ordered-grown later before x ordered =
+pub is_ordered-later : (later : List Event) (e : Event) (before : Trace) (x : Transaction) → is_ordered before x ≡ true → is_ordered (later ++ e ∷ before) x ≡ true
+is_ordered-later later e before x ordered =
     elim (or_cases (evicts x) _ ordered) [
       | inl evict ↦ or_left (evicts x) _ evict
-      | inr point ↦ elim (cases_Bool (updates_memory x)) [
-        | inl update ↦
-            let had : has_had is_write_of_memory before x ≡ true = rw update at point in
-            ordered-by_memory (later ++ before) x update (has_had-grown is_write_of_memory later before x had)
-        | inr other ↦
-            let had : has_had is_grant before x ≡ true = rw other at point in
-            ordered-by_grant (later ++ before) x other (has_had-grown is_grant later before x had)
+      | inr point ↦ elim (if-cases (updates_memory x) _ _ point) [
+        | inl update ↦ ordered-by_memory (later ++ e ∷ before) x update.0 (has_had-later is_write_of_memory later e before x update.1)
+        | inr other ↦ ordered-by_grant (later ++ e ∷ before) x other.0 (has_had-later is_grant later e before x other.1)
       ]
     ]
 
@@ -146,15 +125,10 @@ line_write-cases kind.Barrier e = cc
 line_write-cases k e = inr refl
 
 read-no_update : (x : Transaction) → x.chan ≡ Read → updates_memory x ≡ false
-read-no_update x read = let r : is_read x.chan ≡ true = ap is_read read in rw r refl
+read-no_update x read = rw read refl
 
 write-line_kind : (x : Transaction) → x.chan ≡ Write → is_line x ≡ true → is_some_and (write_kind x) is_line_write ≡ true
-write-line_kind x write line =
-    let w : is_read x.chan ≡ false = ap is_read write in
-    elim (or_cases (is_some_and (read_kind x) is_line_read) (is_some_and (write_kind x) is_line_write) line) [
-      | inl read ↦ let no : false ≡ true = rw w at read in cc
-      | inr t ↦ t
-    ]
+write-line_kind x write line = rw write (rw write at line)
 
 -- a complete line transaction is ordered
 abbrev IsOrderedIn : Header → Transaction → Trace → Type 0
@@ -166,7 +140,7 @@ written-ordered : (h : Header) (past : Trace) (x : Transaction) → IsAccepted h
 written-ordered h past x accepted there had =
     elim (cases_Bool (updates_memory x)) [
       | inl update ↦ ordered-by_memory past x update had
-      | inr other ↦ elim (written-granted h past x had accepted there) [
+      | inr other ↦ elim (had_some is_write_of_memory (WasGranted h x) past x (written-granted_at h x) had accepted there) [
         | inl update ↦ let no : true ≡ false = sym update ∙ other in cc
         | inr g ↦ ordered-by_grant past x other g
       ]
@@ -180,34 +154,27 @@ response-ordered h before p i x accepted o may line =
     elim (line_write-cases k.0 k.2) [
       | inl evict ↦ or_left (evicts x) _ (rw k.1 evict)
       | inr writes ↦
-          let has_data : is_some_and (write_kind x) has_write_data ≡ true = rw k.1 writes in
-          let wrote = implies-at _ (has_memory_write before x.port x.chan x.id) (and_parts _ _ may).1 has_data in
-          let of_its_name =
-          ap (λ a. transaction_of before a x.chan x.id) o.name.port
-          ∙ ap (λ (a : Channel). transaction_of before p a x.id) o.name.chan
-          ∙ ap (λ a. transaction_of before p Write a) o.name.id
-          ∙ o.of_name in
+          let wrote = implies-at (is_some_and (write_kind x) has_write_data) _ (and_parts _ _ may).1 (rw k.1 writes) in
+          let of_its_name = at_name (transaction_of before) x p Write i o.name ∙ o.of_name in
           written-ordered h before x accepted o.there (has_memory_write-had before x.port x.chan x.id x of_its_name wrote)
     ]
 
-completed-ordered_at : (h : Header) (later : List Event) (e : Event) (before : Trace) (x : Transaction)
+completed-ordered_at : (h : Header) (x : Transaction) (later : List Event) (e : Event) (before : Trace)
     → is_completion_event e ≡ true → is_transaction (served_by before e) x ≡ true → IsOrderedIn h x (later ++ e ∷ before)
-completed-ordered_at h later (R p i resp last word) before x passes belongs accepted there line =
+completed-ordered_at h x later (R p i resp last word) before passes belongs accepted there line =
     let e : Event = R p i resp last word in
-    let keeps : k18 h before e ≡ true = (accepted_keeps h before e (accepted-before h later (e ∷ before) accepted)).rule_18 in
-    let o = outstands h later e before p Read i (is_due h before resp last) x keeps belongs there in
+    let keeps = accepted_keeps h before e (accepted-first h later (e ∷ before) accepted) in
+    let o = outstands h later e before p Read i (is_due h before resp last) x keeps.rule_18 belongs there in
     let may = implies-at (is_line x) (may_transfer h before x resp) (and_parts (is_some_and (read_kind x) (is_next_transfer before x last)) _ o.1).1 line in
     let g = (and_parts (is_granted h before x) _ (and_parts (is_granted h before x && _) _ may).0).0 in
     ordered-by_grant (later ++ e ∷ before) x (read-no_update x o.0.name.chan) (has_had-later is_grant later e before x (is_granted-had h before x g))
-completed-ordered_at h later (B p i resp) before x passes belongs accepted there line =
+completed-ordered_at h x later (B p i resp) before passes belongs accepted there line =
     let e : Event = B p i resp in
-    let here = accepted-before h later (e ∷ before) accepted in
-    let keeps : k26 h before e ≡ true = (accepted_keeps h before e here).rule_26 in
-    let o = outstands h later e before p Write i (may_respond before) x (and_parts (resp == 0) _ keeps).1 belongs there in
-    is_ordered-grown later (e ∷ before) x (is_ordered-grown (e ∷ []) before x (response-ordered h before p i x here.0 o.0 o.1 line))
-completed-ordered_at h later e before x passes belongs accepted there line = cc
+    let here = accepted-first h later (e ∷ before) accepted in
+    let may = (and_parts (resp == 0) _ (accepted_keeps h before e here).rule_26).1 in
+    let o = outstands h later e before p Write i (may_respond before) x may belongs there in
+    is_ordered-later later e before x (response-ordered h before p i x here.0 o.0 o.1 line)
+completed-ordered_at h x later e before passes belongs accepted there line = cc
 
 pub completed-ordered : (h : Header) (past : Trace) (x : Transaction) → is_completed past x ≡ true → IsOrderedIn h x past
-completed-ordered h past x complete =
-    let s = has_had-served is_completion_event past x complete in
-    subst (IsOrderedIn h x) (sym s.split) (completed-ordered_at h s.later s.event s.before x s.passes s.belongs)
+completed-ordered h past x complete = had_some is_completion_event (IsOrderedIn h x) past x (completed-ordered_at h x) complete

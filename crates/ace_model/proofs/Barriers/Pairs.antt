@@ -1,23 +1,18 @@
 -- The halves of a barrier and its pair: which of the port's they are doesn't change while the trace grows.
-use Rattle.std.proofs.Common.{◌≡◌, ℕ, zero, suc, ◌<◌, true, ◌&&◌, ◌==◌, List, [], ◌∷◌, ◌++◌, length, Option, Some, None, slice_get, sym, ap, subst, ◌∙◌, arith, inl, inr}
-use Rattle.std.proofs.lemmas.Bool.{and_parts, cases_Bool, eqb-true}
+use Rattle.std.proofs.Common.{◌≡◌, ℕ, zero, suc, ◌<◌, true, ◌&&◌, ◌==◌, List, [], ◌∷◌, ◌++◌, length, Option, Some, None, slice_get, sym, ap, ◌∙◌, arith, inl, inr}
+use Rattle.std.proofs.lemmas.Bool.{and_parts, eqb-true}
 use Rattle.ace_model.proofs.Terms.{Event, Channel, Read, Write, Transaction, Trace, at_point, issued, same_channel, is_barrier_half, is_barrier_of, barrier_in, barriers, Pair, paired, pairs, number_of}
-use Rattle.ace_model.proofs.Trace.Growth.{slice_get-grown, at_point-before, at_point-end, at_point-grown, IsIssued, issued-new, issued-old}
+use Rattle.ace_model.proofs.Trace.Growth.{at_point-before, at_point-later, IsIssued, issued-new, issued-old}
 use Rattle.ace_model.proofs.Trace.Issued.{issued-place}
+use Rattle.ace_model.proofs.Trace.Places.{at_point-last}
 use Rattle.ace_model.proofs.Trace.Looks.{same_channel-is}
-use Rattle.ace_model.proofs.General.Lists.{slice_get-more}
-use Rattle.ace_model.proofs.General.Options.{Some-injective}
+use Rattle.ace_model.proofs.General.Lists.{slice_get-grown, slice_get-more}
+use Rattle.ace_model.proofs.General.Options.{some_where-is, Some-injective}
 
 barrier_in-is : (o : Option Transaction) (p : ℕ) (c : Channel) (x : Transaction)
     → barrier_in o p c ≡ Some x → (o ≡ Some x) × (is_barrier_of x p c ≡ true)
 barrier_in-is None p c x e = cc
-barrier_in-is (Some y) p c x e =
-    elim (cases_Bool (is_barrier_of y p c)) [
-      | inl t ↦
-          let same : Some y ≡ Some x = rw t at e in
-          (same, subst (λ (z : Transaction). is_barrier_of z p c ≡ true) (Some-injective y x same) t)
-      | inr f ↦ let no : None ≡ Some x = rw f at e in cc
-    ]
+barrier_in-is (Some y) p c x e = let s = some_where-is (λ z. is_barrier_of z p c) y x e in (ap Some s.0, s.1)
 
 -- the k-th of the port's barrier halves on the channel
 pub record IsHalf (past : Trace) (p : ℕ) (c : Channel) (k : ℕ) (x : Transaction) : Type 0 where
@@ -44,7 +39,7 @@ barriers-half (e ∷ past) p c k x there =
             stands = issued-new e past x b.0;
             barrier = b.1;
             number =
-                ap (λ (t : Trace). length (barriers t p c)) (at_point-before e past x.place (omega (arith, place)) ∙ at_point-end past x.place place) ∙ sym new.0;
+                ap (λ (t : Trace). length (barriers t p c)) (at_point-last e past x.place place) ∙ sym new.0;
           }
     ]
 
@@ -109,9 +104,5 @@ pub half-number : (later : List Event) (e : Event) (before : Trace) (p : ℕ) (c
     → IsHalf (later ++ e ∷ before) p c k x → x.place < length before → number_of before x ≡ k
 half-number later e before p c k x i low =
     let is = is_barrier_of-is x p c i.barrier in
-    let point : at_point x.place (later ++ e ∷ before) ≡ at_point x.place before =
-    at_point-grown later (e ∷ before) x.place (omega arith) ∙ at_point-before e before x.place (omega arith) in
-    ap (λ q. length (barriers (at_point x.place before) q x.chan)) is.port
-    ∙ ap (λ (d : Channel). length (barriers (at_point x.place before) p d)) is.chan
-    ∙ ap (λ (t : Trace). length (barriers t p c)) (sym point)
-    ∙ i.number
+    let point = at_point-later later e before x.place (omega arith) in
+    rw (is.port, is.chan, ← point) i.number

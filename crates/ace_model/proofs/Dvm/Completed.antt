@@ -7,8 +7,9 @@ use Rattle.ace_model.proofs.Terms.{dvm_completes, answered_snoops, answered_mess
 use Rattle.ace_model.proofs.Rules.Keeps.{accepted_keeps}
 use Rattle.ace_model.proofs.General.Lists.{slice_get-at_end, start-more, slice_get-start, count_by-cons}
 use Rattle.ace_model.proofs.Trace.Issued.{issued-place}
-use Rattle.ace_model.proofs.Trace.Growth.{at_point-before}
-use Rattle.ace_model.proofs.Trace.Points.{accepted-before, messages-before, fewer_messages-twice, at_point-now}
+use Rattle.ace_model.proofs.Trace.Growth.{at_point-before, accepted-before}
+use Rattle.ace_model.proofs.Trace.Places.{at_point-last}
+use Rattle.ace_model.proofs.Dvm.Messages.{messages-before, fewer_messages-twice}
 use Rattle.ace_model.proofs.Dvm.Forwarding.{Forwards, forwards-grow, forwards-take, forwards-syncs, accepted_forwards}
 use Rattle.ace_model.proofs.General.Options.{is_none_or-at}
 use Rattle.ace_model.proofs.General.Booleans.{implies-at}
@@ -39,7 +40,7 @@ owed-now : (h : Header) (e : Event) (past : Trace) (x : Transaction)
 owed-now h e past x new kind k =
     let place = issued-place (length past) e x new in
     let owes = implies-at (is_dvm_completion x) (nat_lt (dvm_completes past x.port) (answered_syncs past x.port)) (is_none_or-at (issued (length past) e) (owes_completion past) x k new) kind in
-    let point : at_point x.place (e ∷ past) ≡ past = ap (λ n. at_point n (e ∷ past)) place ∙ at_point-now e past in
+    let point = at_point-last e past x.place place in
     record {
       completion = x;
       there = (length (transactions past), ap (λ o. slice_get (more (transactions past) o) (length (transactions past))) new ∙ slice_get-at_end (transactions past) (length (transactions past)) x refl);

@@ -1,17 +1,15 @@
 -- In an accepted trace a Sync waits for all.
-use Rattle.std.proofs.Common.{◌≡◌, ◌≢◌, ℕ, ◌-◌, ◌<◌, true, ◌&&◌, not, nat_eq, nat_le, [], ◌∷◌, length, Option, Some, None, refl, sym, ap, subst, ◌∙◌, arith, inl, inr}
-use Rattle.std.proofs.lemmas.Bool.{cases_Bool, and_parts, eqb-true, eq-eqb, leb-true, ltb-true, lt-ltb}
-use Rattle.ace_model.proofs.Terms.{ac_kind_of, Event, Ac, Header, Transaction, Trace, at_point, implies, newer, is_complete_snoop, is_ace, issued, is_completed, is_message, is_sync, is_sync_word}
-use Rattle.ace_model.proofs.Terms.{messages_for, answered_messages, has_answered, sync_number, dvm_completes, sync_in, last_sync, is_sync_completed, is_other_ace, completes_next, may_complete}
+use Rattle.std.proofs.Common.{◌≡◌, ◌≢◌, ℕ, ◌-◌, ◌<◌, true, ◌&&◌, not, nat_eq, nat_le, [], ◌∷◌, length, Option, Some, None, sym, ap, ◌∙◌, arith, inl, inr}
+use Rattle.std.proofs.lemmas.Bool.{and_parts, eqb-true, leb-true, ltb-true, lt-ltb}
+use Rattle.ace_model.proofs.Terms.{ac_kind_of, Event, Ac, Header, Transaction, Trace, at_point, is_complete_snoop, is_ace, issued, is_completed, is_message, is_sync, is_sync_word}
+use Rattle.ace_model.proofs.Terms.{messages_for, answered_messages, has_answered, sync_number, dvm_completes, sync_in, last_sync, is_sync_completed, completes_next, may_complete}
 use Rattle.ace_model.proofs.Terms.{has_every_completion, DvmHolds, IsCompletedAt, IsDoneWith, IsAccepted}
 use Rattle.ace_model.proofs.Rules.Keeps.{accepted_keeps}
-use Rattle.ace_model.proofs.Trace.Issued.{issued-place}
-use Rattle.ace_model.proofs.Trace.Points.{fewer_messages}
-use Rattle.ace_model.proofs.Trace.Growth.{issued_at-before, IsIssued}
-use Rattle.ace_model.proofs.Dvm.Answered.{other_ace, complete_message-answered}
+use Rattle.ace_model.proofs.Dvm.Messages.{fewer_messages}
+use Rattle.ace_model.proofs.Trace.Growth.{IsIssued, issued-new, issued-old}
+use Rattle.ace_model.proofs.Dvm.Answered.{at_other_ace, complete_message-answered}
 use Rattle.ace_model.proofs.Dvm.Completed.{sync-completed}
-use Rattle.ace_model.proofs.Holders.FirstTransfer.{each_at}
-use Rattle.ace_model.proofs.General.Options.{Some-injective, is_some_and-is, is_none_or-at}
+use Rattle.ace_model.proofs.General.Options.{some_where-is, newer-cases, is_some_and-is, is_none_or-at}
 use Rattle.ace_model.proofs.General.Booleans.{implies-at}
 
 -- the last Sync of a port stands in the trace, and is one of the port
@@ -22,34 +20,18 @@ record IsSyncOf (past : Trace) (p : ℕ) (x : Transaction) : Type 0 where
 
 last_sync-is : (past : Trace) (p : ℕ) (x : Transaction) → last_sync past p ≡ Some x → IsSyncOf past p x
 last_sync-is [] p x l = cc
-last_sync-is (e ∷ past) p x l = step (issued (length past) e) refl l (last_sync-is past p x)
+last_sync-is (e ∷ past) p x l =
+    elim (newer-cases (sync_in (issued (length past) e) p) (last_sync past p) x l) [
+      | inl new ↦ let s = sync_in-is (issued (length past) e) p x new in record { issued = issued-new e past x s.0; kind = s.1; port = s.2 }
+      | inr old ↦ let s = last_sync-is past p x old in record { issued = issued-old e past x s.issued; kind = s.kind; port = s.port }
+    ]
   where
-    older : last_sync past p ≡ Some x → (last_sync past p ≡ Some x → IsSyncOf past p x) → IsSyncOf (e ∷ past) p x
-    older l rest =
-        let s = rest l in
-        let b = s.issued.before in
-        record {
-          issued = record { there = issued_at-before e past x.place b ∙ s.issued.there; before = omega arith };
-          kind = s.kind;
-          port = s.port;
-        }
-
-    step : (new : Option Transaction) → issued (length past) e ≡ new → newer (sync_in new p) (last_sync past p) ≡ Some x → (last_sync past p ≡ Some x → IsSyncOf past p x) → IsSyncOf (e ∷ past) p x
-    step None is l rest = older l rest
-    step (Some y) is l rest =
-        elim (cases_Bool (is_sync y && nat_eq y.port p)) [
-          | inr f ↦ older (rw f at l) rest
-          | inl t ↦
-              let same : y ≡ x = Some-injective y x (rw t at l) in
-              let parts = and_parts (is_sync y) (nat_eq y.port p) t in
-              let new : issued (length past) e ≡ Some x = is ∙ ap Some same in
-              let place = issued-place (length past) e x new in
-              record {
-                issued = record { there = rw (eq-eqb (length past) x.place (sym place)) new; before = omega (arith, place) };
-                kind = subst (λ (z : Transaction). is_sync z ≡ true) same parts.0;
-                port = ap (λ (z : Transaction). z.port) (sym same) ∙ eqb-true y.port p parts.1;
-              }
-        ]
+    sync_in-is : (o : Option Transaction) (p : ℕ) (x : Transaction) → sync_in o p ≡ Some x → (o ≡ Some x) × (is_sync x ≡ true) × (x.port ≡ p)
+    sync_in-is None p x e = cc
+    sync_in-is (Some y) p x e =
+        let s = some_where-is (λ z. is_sync z && nat_eq z.port p) y x e in
+        let parts = and_parts (is_sync x) (nat_eq x.port p) s.1 in
+        (ap Some s.0, parts.0, eqb-true x.port p parts.1)
 
 -- a port that has answered a message has answered each one before it
 earlier_answered : (past : Trace) (x y : Transaction) (q : ℕ) → y.place < x.place → has_answered past x q ≡ true → has_answered past y q ≡ true
@@ -67,10 +49,8 @@ done_with h past p x a l may q ace other =
     let completed = (and_parts (is_completed past x) _ parts.0).0 in
     let message = (and_parts (is_message x) (is_sync_word x.addr) s.kind).0 in
     let apart : q ≢ x.port = λ e. other (e ∙ s.port) in
-    let sync = complete_message-answered h past x a s.issued.there completed message q ace apart in
-    let is = other_ace h x.port q ace apart in
-    let counts = implies-at (is_other_ace h x.port q) (nat_le (sync_number past x q) (dvm_completes past q))
-    (each_at h.ports (λ r. implies (is_other_ace h x.port r) (nat_le (sync_number past x r) (dvm_completes past r))) q parts.1 is.1) is.0 in
+    let sync = complete_message-answered h past x q completed message ace apart a s.issued.there in
+    let counts = at_other_ace h x.port q (λ r. nat_le (sync_number past x r) (dvm_completes past r)) parts.1 ace apart in
     let enough = leb-true (sync_number past x q) (dvm_completes past q) counts in
     record {
       sync = sync;

@@ -1,8 +1,10 @@
 -- Lists: one more element at the end, a list that a longer one begins with, and counts in both.
-use Rattle.std.proofs.Common.{◌≡◌, ◌⊎◌, ℕ, zero, suc, List, [], ◌∷◌, ◌++◌, length, Option, Some, None, slice_get, refl, sym, ◌∙◌, arith, inl, inr, ◌+◌, ◌≤◌, Bool, true, cond, take, filter, count_by, ap, append_assoc, length-append}
-use Rattle.std.proofs.lemmas.Bool.{cases_eq, cases_Bool}
+use Rattle.std.specs.List.{list_all}
+use Rattle.std.proofs.Common.{◌≡◌, ◌⊎◌, ℕ, zero, suc, List, [], ◌∷◌, ◌++◌, length, ◌<◌, drop, Option, Some, None, slice_get, refl, sym, ◌∙◌, arith, inl, inr, ◌+◌, ◌≤◌, Bool, true, cond, take, filter, count_by, ap, append_assoc, length-append}
+use Rattle.std.proofs.lemmas.Bool.{and_parts, cases_eq, cases_Bool}
 use Rattle.ace_model.proofs.Terms.{more}
-use Rattle.std.proofs.lemmas.List.{append-nil}
+use Rattle.std.proofs.lemmas.List.{append-nil, length-take}
+use Rattle.std.proofs.lemmas.Option.{slice_get_within}
 use Rattle.std.proofs.lemmas.List.Elements.{filter-append}
 use Rattle.std.proofs.lemmas.List.Sums.{sum_by-cons}
 
@@ -64,6 +66,32 @@ slice_get-append (z ∷ xs) ys (suc k) x e = slice_get-append xs ys k x e
 
 pub slice_get-start : {A : Type 0} → (xs ys : List A) (k : ℕ) (x : A) → IsStart xs ys → slice_get xs k ≡ Some x → slice_get ys k ≡ Some x
 slice_get-start xs ys k x s e = sym (ap (λ l. slice_get l k) s.joined) ∙ slice_get-append xs s.rest k x e
+
+pub slice_get-grown : {A : Type 0} → (xs : List A) (new : Option A) (k : ℕ) (z : A) → slice_get xs k ≡ Some z → slice_get (more xs new) k ≡ Some z
+slice_get-grown xs new k z e = slice_get-start xs (more xs new) k z (start-more xs new) e
+
+-- a place of the list from its n-th element on, and of its first n elements
+pub slice_get-drop : {A : Type 0} → (xs : List A) (n k m : ℕ) → m ≡ n + k → slice_get (drop n xs) k ≡ slice_get xs m
+slice_get-drop xs zero k m at = ap (slice_get xs) (omega arith)
+slice_get-drop [] (suc n) k m at = refl
+slice_get-drop (x ∷ xs) (suc n) k zero at = absurd (omega arith)
+slice_get-drop (x ∷ xs) (suc n) k (suc m) at = slice_get-drop xs n k m (omega arith)
+
+pub slice_get-take : {A : Type 0} → (xs : List A) (n k : ℕ) → k < n → slice_get (take n xs) k ≡ slice_get xs k
+slice_get-take xs zero k low = absurd (omega arith)
+slice_get-take [] (suc n) k low = refl
+slice_get-take (x ∷ xs) (suc n) zero low = refl
+slice_get-take (x ∷ xs) (suc n) (suc k) low = slice_get-take xs n k (omega arith)
+
+pub slice_get-within_take : {A : Type 0} → (xs : List A) (n k : ℕ) (x : A) → slice_get (take n xs) k ≡ Some x → k < n
+slice_get-within_take xs n k x e =
+    let low = slice_get_within (take n xs) k x e in let long = length-take n xs in omega arith
+
+-- what passes for all elements passes for each
+pub list_all-at : {A : Type 0} → (test : A → Bool) (xs : List A) (k : ℕ) (x : A) → list_all test xs ≡ true → slice_get xs k ≡ Some x → test x ≡ true
+list_all-at test [] k x all there = cc
+list_all-at test (y ∷ ys) zero x all there = let same : y ≡ x = cc in rw (← same) (and_parts (test y) (list_all test ys) all).0
+list_all-at test (y ∷ ys) (suc k) x all there = list_all-at test ys k x (and_parts (test y) (list_all test ys) all).1 there
 
 -- what stands in the selection passes the test
 pub slice_get-filter : {A : Type 0} → (test : A → Bool) (xs : List A) (k : ℕ) (x : A) → slice_get (filter test xs) k ≡ Some x → test x ≡ true

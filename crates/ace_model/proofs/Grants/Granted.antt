@@ -5,35 +5,70 @@ use Rattle.ace_model.proofs.Terms.{AwKind, passes_dirty, Channel, Event, Ar, Aw,
 use Rattle.ace_model.proofs.Terms.{read_kind, write_kind, same_channel, issued, ended, outstanding, without, takes_grant, updates_memory, is_memory_write, has_memory_write, is_burst_whole, given, granted}
 use Rattle.ace_model.proofs.Terms.{is_granted, has_grant, answer_of, passes, passer, has_passed_data, gives_line, may_be_granted, may_write_memory, may_write_passed, may_write_data, is_write_due}
 use Rattle.ace_model.proofs.Terms.{is_update_due, IsAccepted}
-use Rattle.ace_codes.specs.declared.kind.AwKind.TheVariants as write
+use Rattle.ace_model.proofs.Trace.Outstanding.{outstanding_own}
 use Rattle.ace_model.proofs.Trace.Looks.{same_channel-is, has_name-self, has_name-is, newest_named-cases, newest_on-cases, without-some}
 use Rattle.ace_model.proofs.Trace.Issued.{same_place, outstanding-named, transaction_of-stands}
 use Rattle.ace_model.proofs.Rules.Keeps.{accepted_keeps}
-use Rattle.ace_model.proofs.Holders.FirstTransfer.{found_passes}
 use Rattle.ace_model.proofs.Grants.Stays.{issued_apart}
-use Rattle.ace_model.proofs.Grants.Begins.{then_of, else_of}
 use Rattle.ace_model.proofs.Holders.Law.{accepted_holds}
 use Rattle.ace_model.proofs.General.Options.{Some-injective, some_is, is_some_and-is, is_some_and-at}
-
--- an event gives no other transaction the name of an outstanding one
-pub not_named : (h : Header) (past : Trace) (e : Event) → IsAccepted h (e ∷ past) → (p : ℕ) (c : Channel) (i : ℕ) (x : Transaction)
-    → outstanding h past p c i ≡ Some x → is_named (issued (length past) e) p c i ≡ false
-not_named h past e a p c i x o = by (issued (length past) e) refl
-  where
-    by : (n : Option Transaction) → issued (length past) e ≡ n → is_named n p c i ≡ false
-    by None s = refl
-    by (Some y) s = issued_apart h past e a p c i x y o s
+use Rattle.ace_model.proofs.General.Ports.{found_passes}
+use Rattle.ace_model.proofs.General.Booleans.{then_of, else_of}
+use Rattle.ace_codes.specs.declared.kind.AwKind.TheVariants as write
 
 -- A granted transaction is of a kind that is granted, and has had its G.
 pub record Given (past : Trace) (x : Transaction) : Type 0 where
   pub kind : takes_grant x ≡ true
   pub had : has_grant past x.port x.chan x.id ≡ true
 
+-- What the rule on grants says of the transaction that an event grants.
+record GivenNow (h : Header) (past : Trace) (x : Transaction) : Type 0 where
+  out : outstanding h past x.port x.chan x.id ≡ Some x
+  kind : takes_grant x ≡ true
+  first : has_grant past x.port x.chan x.id ≡ false
+
+module _ (h : Header) (past : Trace) (e : Event) (a : IsAccepted h (e ∷ past)) where
+  given_now : (x : Transaction) → given past e ≡ Some x → GivenNow h past x
+  given_now x n = by e a n
+    where
+      by : (d : Event) → IsAccepted h (d ∷ past) → given past d ≡ Some x → GivenNow h past x
+      by (G q c j) a n =
+          let z = is_some_and-is (outstanding h past q c j) (may_be_granted h past) (accepted_keeps h past (G q c j) a).rule_12 in
+          let one : z.0 ≡ x = Some-injective z.0 x (sym (outstanding-named h past q c j z.0 z.1) ∙ n) in
+          let may = and_parts (takes_grant x && not (has_grant past x.port x.chan x.id)) _ (subst (λ y. may_be_granted h past y ≡ true) one z.2) in
+          let two = and_parts (takes_grant x) (not (has_grant past x.port x.chan x.id)) may.0 in
+          record { out = outstanding_own h past q c j x (z.1 ∙ ap Some one); kind = two.0; first = not-true (has_grant past x.port x.chan x.id) two.1 }
+      by d a n = cc
+
+  module _ (p : ℕ) (c : Channel) (i : ℕ) (x : Transaction) (o : outstanding h past p c i ≡ Some x) where
+    -- an event gives no other transaction the name of an outstanding one
+    pub not_named : is_named (issued (length past) e) p c i ≡ false
+    not_named = by (issued (length past) e) refl
+      where
+        by : (n : Option Transaction) → issued (length past) e ≡ n → is_named n p c i ≡ false
+        by None s = refl
+        by (Some y) s = issued_apart h past e a p c i x y o s
+
+    -- where a transaction has had no M, it had none before
+    pub unwritten_before : has_memory_write (e ∷ past) p c i ≡ false → has_memory_write past p c i ≡ false
+    unwritten_before m =
+        elim (cases_Bool (has_memory_write past p c i)) [
+          | inr f ↦ f
+          | inl t ↦
+              let more : has_memory_write (e ∷ past) p c i ≡ true =
+              or_right (is_memory_write e p c i) (not (is_named (issued (length past) e) p c i) && has_memory_write past p c i) (rw not_named t) in cc
+        ]
+
 pub granted_given : (h : Header) (past : Trace) → IsAccepted h past → (l : ℕ) (x : Transaction) → granted h past l ≡ Some x → Given past x
 granted_given h [] a l x g = cc
 granted_given h (e ∷ past) a l x g =
     elim (newest_on-cases (given past e) l (without (ended h past e) (granted h past l)) x g) [
-      | inl new ↦ by e a new.0
+      | inl new ↦
+          let n = new.0 in record {
+            kind = (given_now h past e a x n).kind;
+            had = or_left (is_named (given past e) x.port x.chan x.id) (not (is_named (issued (length past) e) x.port x.chan x.id) && has_grant past x.port x.chan x.id)
+                (rw n (has_name-self x));
+          }
       | inr old ↦
           let was = (without-some (ended h past e) (granted h past l) x old.0).0 in
           let r = granted_given h past a.0 l x was in
@@ -44,19 +79,6 @@ granted_given h (e ∷ past) a l x g =
                 (rw (not_named h past e a x.port x.chan x.id x o) r.had);
           }
     ]
-  where
-    by : (d : Event) → IsAccepted h (d ∷ past) → given past d ≡ Some x → Given (d ∷ past) x
-    by (G q c j) a n =
-        let z = is_some_and-is (outstanding h past q c j) (may_be_granted h past) (accepted_keeps h past (G q c j) a).rule_12 in
-        let one : z.0 ≡ x = Some-injective z.0 x (sym (outstanding-named h past q c j z.0 z.1) ∙ n) in
-        let m : may_be_granted h past x ≡ true = subst (λ y. may_be_granted h past y ≡ true) one z.2 in
-        let parts = and_parts (takes_grant x && not (has_grant past x.port x.chan x.id)) _ m in
-        record {
-          kind = (and_parts (takes_grant x) _ parts.0).0;
-          had = or_left (is_named (given past (G q c j)) x.port x.chan x.id) (not (is_named (issued (length past) (G q c j)) x.port x.chan x.id) && has_grant past x.port x.chan x.id)
-              (subst (λ o. is_named o x.port x.chan x.id ≡ true) (sym n) (has_name-self x));
-        }
-    by d a n = cc
 
 module _ (h : Header) (past : Trace) where
   -- the granted transaction at its place is the outstanding one itself
@@ -197,17 +219,6 @@ written_cases h past e a p c i x o m =
       | inr earlier ↦ inr (and_parts (not (is_named (issued (length past) e) p c i)) _ earlier).1
     ]
 
--- where it has had none, it had none before
-pub unwritten_before : (h : Header) (past : Trace) (e : Event) → IsAccepted h (e ∷ past) → (p : ℕ) (c : Channel) (i : ℕ) (x : Transaction)
-    → outstanding h past p c i ≡ Some x → has_memory_write (e ∷ past) p c i ≡ false → has_memory_write past p c i ≡ false
-unwritten_before h past e a p c i x o m =
-    elim (cases_Bool (has_memory_write past p c i)) [
-      | inr f ↦ f
-      | inl t ↦
-          let more : has_memory_write (e ∷ past) p c i ≡ true =
-          or_right (is_memory_write e p c i) (not (is_named (issued (length past) e) p c i) && has_memory_write past p c i) (rw (not_named h past e a p c i x o) t) in cc
-    ]
-
 -- a transaction of a kind that is granted has had its G before its M
 pub written_given : (h : Header) (past : Trace) → IsAccepted h past → (p : ℕ) (c : Channel) (i : ℕ) (x : Transaction) → outstanding h past p c i ≡ Some x
     → takes_grant x ≡ true → has_memory_write past p c i ≡ true → has_grant past p c i ≡ true
@@ -233,20 +244,13 @@ pub given_unwritten : (h : Header) (past : Trace) (e : Event) → IsAccepted h (
     → gives_line past e l ≡ true → has_memory_write (e ∷ past) x.port x.chan x.id ≡ true → ⊥
 given_unwritten h past e a l x g gives m =
     elim (newest_on-cases (given past e) l (without (ended h past e) (granted h past l)) x g) [
-      | inl new ↦ by e a new.0 m
+      | inl new ↦
+          let n = given_now h past e a x new.0 in
+          let before : has_memory_write past x.port x.chan x.id ≡ true = elim (written_cases h past e a x.port x.chan x.id x n.out m) [
+            | inl now ↦ let is = now.is in let bad : None ≡ Some x = ap (given past) (sym is) ∙ new.0 in cc
+            | inr earlier ↦ earlier
+          ] in
+          let had = written_given h past a.0 x.port x.chan x.id x n.out n.kind before in
+          let none = n.first in cc
       | inr old ↦ let bad = sym gives ∙ old.1 in cc
     ]
-  where
-    by : (d : Event) → IsAccepted h (d ∷ past) → given past d ≡ Some x → has_memory_write (d ∷ past) x.port x.chan x.id ≡ true → ⊥
-    by (G q c j) a n m =
-        let z = is_some_and-is (outstanding h past q c j) (may_be_granted h past) (accepted_keeps h past (G q c j) a).rule_12 in
-        let one : z.0 ≡ x = Some-injective z.0 x (sym (outstanding-named h past q c j z.0 z.1) ∙ n) in
-        let m_x : may_be_granted h past x ≡ true = subst (λ y. may_be_granted h past y ≡ true) one z.2 in
-        let two = and_parts (takes_grant x) _ (and_parts (takes_grant x && not (has_grant past x.port x.chan x.id)) _ m_x).0 in
-        let out : outstanding h past q c j ≡ Some x = z.1 ∙ ap Some one in
-        let name = has_name-is x q c j (transaction_of-stands past q c j x n).named in
-        let own : outstanding h past x.port x.chan x.id ≡ Some x =
-        ap (λ v. outstanding h past v x.chan x.id) name.port ∙ ap (λ (v : Channel). outstanding h past q v x.id) name.chan ∙ ap (outstanding h past q c) name.id ∙ out in
-        let had = written_given h past a.0 x.port x.chan x.id x own two.0 m in
-        let none = not-true (has_grant past x.port x.chan x.id) two.1 in cc
-    by d a n m = cc

@@ -1,27 +1,26 @@
 -- A line snoop that isn't answered yet is of the present grant, whose transaction hasn't begun, and its port has no other.
-use Rattle.std.proofs.Common.{◌≡◌, ◌⊎◌, ℕ, ◌+◌, ◌≤◌, Bool, true, false, not, if◌then◌else◌, ◌&&◌, ◌||◌, nat_eq, nat_le, nat_lt, [], ◌∷◌, length, Option, Some, None, is_none, slice_get, refl, sym, ap, subst, ◌∙◌, arith, inl, inr}
-use Rattle.std.proofs.lemmas.Bool.{and_parts, and_from, or_cases, or_left, or_right, not-true, cases_Bool, eqb-true, eq-eqb, ltb-true}
-use Rattle.ace_model.proofs.Terms.{AwKind, SnoopKind, Read, Write, Event, R, Rk, B, Wk, Ac, Cr, Header, snoop_of_write, Snoop, Transaction, Trace, is_some_and, newer, is_update, has_write_data, beats_of}
-use Rattle.ace_model.proofs.Terms.{reads_a_line, is_read, is_line, read_kind, write_kind, snoop_of, snoop_kind_of, ended, transfers, acknowledgements, updates_memory, has_memory_write, snoop_at, snoops_of}
-use Rattle.ace_model.proofs.Terms.{snoops_a_line, answers, answered, is_snoop_on, gives_line, granted, grant_place, is_begun, is_snoop_to, was_snooped, answers_grant, answer_at, answer_of, owes_answer}
-use Rattle.ace_model.proofs.Terms.{owes_data, each_port, has_failed, is_port_done, may_transfer, has_snoop_code, may_snoop, may_snoop_for, IsAccepted}
+use Rattle.std.proofs.Common.{le_refl, ◌≡◌, ◌⊎◌, ℕ, ◌+◌, ◌≤◌, Bool, true, false, not, if◌then◌else◌, ◌&&◌, ◌||◌, nat_eq, nat_le, nat_lt, [], ◌∷◌, length, Option, Some, None, is_none, slice_get, refl, sym, ap, subst, ◌∙◌, arith, inl, inr}
+use Rattle.std.proofs.lemmas.Bool.{or_parts, and_parts, and_from, or_cases, or_left, or_right, not-true, cases_Bool, eqb-true, eq-eqb, ltb-true}
+use Rattle.ace_model.proofs.Terms.{AwKind, SnoopKind, Read, Write, Event, R, Rk, B, Wk, Ac, Cr, Header, snoop_of_write, Snoop, Transaction, Trace, is_some_and, newer, is_update, has_write_data}
+use Rattle.ace_model.proofs.Terms.{beats_of, reads_a_line, is_read, is_line, read_kind, write_kind, snoop_of, snoop_kind_of, ended, transfers, acknowledgements, updates_memory, has_memory_write}
+use Rattle.ace_model.proofs.Terms.{snoop_at, snoops_of, snoops_a_line, answers, answered, is_snoop_on, gives_line, granted, grant_place, is_begun, is_snoop_to, was_snooped, answers_grant, answer_at}
+use Rattle.ace_model.proofs.Terms.{answer_of, owes_answer, owes_data, each_port, has_failed, is_port_done, has_snoop_code, may_snoop, may_snoop_for, IsAccepted}
 use Rattle.ace_codes.specs.declared.kind.AwKind.TheVariants as write
-use Rattle.ace_model.proofs.Trace.Looks.{has_name-is}
+use Rattle.ace_model.proofs.Trace.Looks.{has_name-is, is_on-addr}
+use Rattle.ace_model.proofs.Holders.Acknowledge.{ends}
 use Rattle.ace_model.proofs.Trace.Issued.{same_place, outstanding-named, transaction_of-stands}
 use Rattle.ace_model.proofs.General.Lists.{slice_get-more}
-use Rattle.ace_model.proofs.Trace.Points.{answers-grow}
+use Rattle.ace_model.proofs.Trace.Growth.{answers-grow}
 use Rattle.ace_model.proofs.Rules.Keeps.{accepted_keeps}
-use Rattle.ace_model.proofs.Holders.Grant.{is_on-addr}
-use Rattle.ace_model.proofs.Holders.FirstTransfer.{each_at}
-use Rattle.ace_model.proofs.Holders.Transfer.{ends_lite}
+use Rattle.ace_model.proofs.Trace.Outstanding.{ends_lite}
 use Rattle.ace_model.proofs.Holders.Rises.{ends_of}
 use Rattle.ace_model.proofs.Trace.WriteQueue.{EndsWrite, ends_write_of, ends_lite_written}
-use Rattle.ace_model.proofs.Grants.Stays.{granted_after, failed_stays}
-use Rattle.ace_model.proofs.Grants.Begins.{MayBegin, begins, may_of, line_transfer, then_of}
-use Rattle.ace_model.proofs.Grants.SnoopedOnce.{grant_place-low}
+use Rattle.ace_model.proofs.Grants.Stays.{granted_after, failed_stays, grant_place-low}
+use Rattle.ace_model.proofs.Grants.Begins.{MayBegin, begins, may_of, line_due}
 use Rattle.ace_model.proofs.Holders.Law.{accepted_holds}
 use Rattle.ace_model.proofs.General.Options.{Some-injective, is_some_and-is}
-use Rattle.ace_model.proofs.General.Booleans.{implies-at}
+use Rattle.ace_model.proofs.General.Booleans.{implies-at, then_of}
+use Rattle.ace_model.proofs.General.Ports.{each_at}
 
 -- An unanswered snoop of the line.
 pub record IsPending (past : Trace) (r n l : ℕ) (s : Snoop) : Type 0 where
@@ -130,8 +129,7 @@ module _ (h : Header) (past : Trace) where
       let lite = ends_lite h past q j resp last word z is in
       let one : z ≡ x = same_place past q x.port Read x.chan j x.id z x lite.1 (outstanding-named h past x.port x.chan x.id x o.0) same in
       let one' : m.one ≡ x = Some-injective m.one z (sym m.named ∙ lite.1) ∙ one in
-      let line = (and_parts (is_line x) _ o.1).0 in
-      let t = line_transfer h past x resp (subst (λ (y : Transaction). may_transfer h past y resp ≡ true) one' (m.may (subst (λ (y : Transaction). is_line y ≡ true) (sym one') line))) in
+      let t = line_due h past q j resp last word x a (m.out ∙ ap Some one') (and_parts (is_line x) _ o.1).0 in
       let name = has_name-is m.one q Read j (transaction_of-stands past q Read j m.one m.named).named in
       let reads : is_read x.chan ≡ true = ap (λ (y : Transaction). is_read y.chan) (sym one') ∙ ap is_read name.chan in
       elim (cases_Bool (nat_eq (transfers past x.port x.id) 0)) [
@@ -144,7 +142,7 @@ module _ (h : Header) (past : Trace) where
       let o = f.grants l x g in
       let zd : e.ended_one ≡ z = Some-injective e.ended_one z (sym e.is ∙ is) in
       let one : e.ended_one ≡ x = same_place past q x.port Read x.chan e.id x.id e.ended_one x e.named (outstanding-named h past x.port x.chan x.id x o.0) (ap (λ (y : Transaction). y.place) zd ∙ same) in
-      let s = f.queue q (acknowledgements past q Read) e.id e.ace (le_self (acknowledgements past q Read)) e.next in
+      let s = f.queue q (acknowledgements past q Read) e.id e.ace (le_refl (acknowledgements past q Read)) e.next in
       let kind = is_some_and-is (read_kind s.0) (λ c. nat_eq (transfers past q e.id) (beats_of c)) s.2 in
       let some : nat_eq (transfers past q e.id) 0 ≡ false = beats_some (reads_a_line kind.0) (transfers past q e.id) (eqb-true (transfers past q e.id) (beats_of kind.0) kind.2) in
       let name = has_name-is e.ended_one q Read e.id (transaction_of-stands past q Read e.id e.ended_one e.named).named in
@@ -153,9 +151,6 @@ module _ (h : Header) (past : Trace) where
       ap (λ (y : Transaction). transfers past y.port y.id) (sym one) ∙ ap (λ b. transfers past b e.ended_one.id) e.port ∙ ap (transfers past q) e.is_id in
       inl (then_of (is_read x.chan) _ _ reads ∙ ap (λ n. not (nat_eq n 0)) here ∙ ap not some)
     where
-      le_self : (n : ℕ) → n ≤ n
-      le_self n = omega arith
-
       beats_some : (b : Bool) (n : ℕ) → n ≡ (if b then 4 else 1) → nat_eq n 0 ≡ false
       beats_some true n e = rw e refl
       beats_some false n e = rw e refl
@@ -193,10 +188,7 @@ module _ (h : Header) (past : Trace) where
 pub answering : (past : Trace) (q r l : ℕ) → (nat_eq r q && answers_grant past r l) ≡ true → (s : Snoop) × IsPending past r (answers past r) l s
 answering past q r l t =
     let s = is_some_and-is (answered past r) (λ s. is_snoop_on s l && nat_le (grant_place past l) s.place) (and_parts (nat_eq r q) _ t).1 in
-    (s.0, record { late = le_self (answers past r); there = s.1; on = (and_parts (is_snoop_on s.0 l) _ s.2).0 })
-  where
-    le_self : (n : ℕ) → n ≤ n
-    le_self n = omega arith
+    (s.0, record { late = le_refl (answers past r); there = s.1; on = (and_parts (is_snoop_on s.0 l) _ s.2).0 })
 
 -- a new snoop of the line is pending, and its port wasn't snooped before
 new_pending : (h : Header) (past : Trace) (e : Event) → IsAccepted h (e ∷ past) → (r l : ℕ) (s : Snoop)
@@ -261,7 +253,7 @@ snoops_step h past e a f = record {
     | inl t ↦ rw t refl
     | inr g ↦
         let either : (is_snoop_to e r l || was_snooped past r l) ≡ false = rw g at unsnooped in
-        let before = (neither (is_snoop_to e r l) (was_snooped past r l) either).1 in
+        let before = (or_parts (is_snoop_to e r l) (was_snooped past r l) either).1 in
         let none = f.first r l before in
         let now = no_answer e r l before in
         rw (g, now, none) refl
@@ -275,10 +267,6 @@ snoops_step h past e a f = record {
           | inl old ↦ inl (record { late = let le = answers-grow e past r in let late = i.late in omega arith; there = old; on = i.on })
           | inr new ↦ inr new
         ]
-
-    neither : (x y : Bool) → (x || y) ≡ false → (x ≡ false) × (y ≡ false)
-    neither true y g = cc
-    neither false y g = (refl, g)
 
     no_answer : (d : Event) (r l : ℕ) → was_snooped past r l ≡ false → answer_at past d r l ≡ None
     no_answer (Cr q resp st) r l before =

@@ -1,13 +1,14 @@
 -- An answer to a line snoop is under the present grant, and a row of the snoop that the granted transaction causes.
-use Rattle.std.proofs.Common.{◌≡◌, ◌⊎◌, ◌≤◌, ℕ, true, false, ◌&&◌, nat_eq, nat_le, ◌∷◌, length, Some, None, refl, sym, ap, subst, ◌∙◌, arith, inl, inr}
+use Rattle.std.proofs.Common.{[], le_refl, ◌≡◌, ◌⊎◌, ℕ, true, false, ◌&&◌, nat_eq, nat_le, ◌∷◌, length, Some, None, refl, sym, ap, subst, ◌∙◌, inl, inr}
 use Rattle.std.proofs.lemmas.Bool.{and_parts, and_from, cases_Bool, eqb-true, eq-eqb, le-leb}
 use Rattle.ace_model.proofs.Terms.{SnoopKind, LineState, ac_code, ac_kind_of, Event, Cr, Header, is_snoop_row, Snoop, Answer, Transaction, Trace, is_some_and, newer, is_line_snoop, snoop_of, has_update}
 use Rattle.ace_model.proofs.Terms.{snoops_a_line, answers, answered, is_snoop_on, answers_line, data_answers, gives_line, granted, grant_place, answers_grant, answer_at, answer_of, state_of, answers_by_row}
 use Rattle.ace_model.proofs.Terms.{answers_beside_update, IsAccepted}
+use Rattle.ace_model.proofs.Grants.Stays.{granted_before, Stays}
+use Rattle.ace_model.proofs.Holders.Rises.{state_moves, Raised}
+use Rattle.ace_model.proofs.Tables.States.{Lessens}
 use Rattle.ace_model.proofs.Rules.Keeps.{accepted_keeps}
-use Rattle.ace_model.proofs.Holders.Snoop.{kind_of_code}
-use Rattle.ace_model.proofs.Holders.Rises.{Raised}
-use Rattle.ace_model.proofs.Grants.Stays.{Stays}
+use Rattle.ace_model.proofs.Tables.ReadSnoops.{kind_of_code}
 use Rattle.ace_model.proofs.Grants.Pending.{IsPending, Pending, snoops}
 use Rattle.ace_model.proofs.Holders.Law.{accepted_holds}
 use Rattle.ace_model.proofs.General.Options.{Some-injective, is_some_and-is, is_none_or-at}
@@ -29,7 +30,7 @@ pub record Answering (h : Header) (past : Trace) (q resp : ℕ) (st : LineState)
 pub answering_cr : (h : Header) (past : Trace) (q resp : ℕ) (st : LineState) → IsAccepted h (Cr q resp st ∷ past) → (l : ℕ) → answers_line past q l ≡ true → Answering h past q resp st l
 answering_cr h past q resp st a l t =
     let s = is_some_and-is (answered past q) (λ s. is_snoop_on s l) t in
-    let i : IsPending past q (answers past q) l s.0 = record { late = le_self (answers past q); there = s.1; on = s.2 } in
+    let i : IsPending past q (answers past q) l s.0 = record { late = le_refl (answers past q); there = s.1; on = s.2 } in
     let p = (snoops h past a.0).pending q (answers past q) l s.0 i in
     let code = (accepted_holds h past a.0).snoops q (answers past q) l s.0 p.one s.1 s.2 p.under p.stands in
     let k = is_some_and-is (snoop_of p.one) (λ c. nat_eq (ac_code c) s.0.snoop) code in
@@ -56,9 +57,6 @@ answering_cr h past q resp st a l t =
       leaves = rw named refl;
       under = rw s.1 (and_from _ _ s.2 (le-leb (grant_place past l) s.0.place p.under));
     }
-  where
-    le_self : (n : ℕ) → n ≤ n
-    le_self n = omega arith
 
 module _ (past : Trace) where
   -- under the grant is on the line
@@ -101,10 +99,6 @@ module _ (past : Trace) where
           ]
       by d n = inl n
 
-  -- an answer that was there stays, as long as the grant does and its port isn't asked again
-  pub answer_given : (e : Event) (r l : ℕ) → gives_line past e l ≡ true → answer_of (e ∷ past) r l ≡ None
-  answer_given e r l t = rw t refl
-
 -- as long as the grant stays, no port comes to hold more
 pub no_rise : (h : Header) (past : Trace) (e : Event) (l p : ℕ) (x : Transaction) → Stays h past e l x → Raised h past e p l → ⊥
 no_rise h past e l p x s up =
@@ -112,3 +106,26 @@ no_rise h past e l p x s up =
     let g : granted h past l ≡ Some up.read_one = subst (λ b. granted h past b ≡ Some up.read_one) addr up.arrives.stands in
     let one : up.read_one ≡ x = Some-injective up.read_one x (sym g ∙ s.was) in
     absurd (s.lasts up.read_one up.ends_it (ap (λ (v : Transaction). v.place) one))
+
+pub stays_less : (h : Header) (past : Trace) (e : Event) → IsAccepted h (e ∷ past) → (l p : ℕ) (x : Transaction) → Stays h past e l x
+    → Lessens (state_of h past p l) (state_of h (e ∷ past) p l)
+stays_less h past e a l p x stays =
+    elim (state_moves h past e a p l) [
+      | inl less ↦ less
+      | inr up ↦ absurd (no_rise h past e l p x stays up)
+    ]
+
+-- What holds at an answer under the grant, and is kept by the later events under it, holds while the grant stays.
+module _ (h : Header) (l r : ℕ) (x : Transaction) (w : Answer) (P : Trace → Type 0) where
+  pub since_answer : ((past : Trace) (e : Event) → IsAccepted h (e ∷ past) → Stays h past e l x → NewAnswer past e r l w → answer_of (e ∷ past) r l ≡ Some w → P (e ∷ past))
+      → ((past : Trace) (e : Event) → IsAccepted h (e ∷ past) → Stays h past e l x → answer_of past r l ≡ Some w → P past → P (e ∷ past))
+      → (past : Trace) → IsAccepted h past → granted h past l ≡ Some x → answer_of past r l ≡ Some w → P past
+  since_answer new old [] a g is = cc
+  since_answer new old (e ∷ past) a g is =
+      elim (granted_before h past e l x g) [
+        | inr gives ↦ let none : None ≡ Some w = rw gives at is in cc
+        | inl stays ↦ elim (answer_cases past e r l w stays.gives is) [
+          | inl was ↦ old past e a stays was (since_answer new old past a.0 stays.was was)
+          | inr now ↦ new past e a stays now is
+        ]
+      ]

@@ -1,14 +1,16 @@
 -- An event grants a line, ends the granted transaction, or leaves the grant as it is.
-use Rattle.std.proofs.Common.{◌≡◌, ◌≢◌, ◌⊎◌, ℕ, Bool, true, false, ◌&&◌, nat_eq, ◌∷◌, length, Option, Some, None, refl, sym, ap, ◌∙◌, inl, inr}
+use Rattle.std.proofs.Common.{[], arith, if◌then◌else◌, suc, ◌+◌, ◌≤◌, ◌≡◌, ◌≢◌, ◌⊎◌, ℕ, Bool, true, false, nat_eq, ◌∷◌, length, Some, refl, sym, ap, ◌∙◌, inl, inr}
+use Rattle.std.proofs.Math.Bool.{and-false}
 use Rattle.std.proofs.lemmas.Bool.{and_parts, cases_Bool, eqb-true}
-use Rattle.ace_model.proofs.Terms.{Channel, Event, Ar, Aw, G, Header, Transaction, Trace, is_read, is_line, is_some_on, has_name, issued, ended, transaction_of, outstanding, without, is_exclusive_store}
-use Rattle.ace_model.proofs.Terms.{given, gives_line, granted, has_failed, is_false, passed_at_grant, has_free_name, IsAccepted}
-use Rattle.ace_model.proofs.Trace.Looks.{is_read-is, newest_on-cases, newest_on-older, without-some}
+use Rattle.ace_model.proofs.Terms.{Read, grant_place, Channel, Event, Ar, Aw, G, Header, Transaction, Trace, is_read, is_line, is_some_on, has_name, issued, ended, transaction_of, outstanding}
+use Rattle.ace_model.proofs.Terms.{without, is_exclusive_store, given, gives_line, granted, has_failed, has_free_name, IsAccepted}
+use Rattle.ace_model.proofs.Trace.Looks.{without-cases, is_read-is, newest_on-cases, newest_on-older, without-some}
+use Rattle.ace_model.proofs.Holders.Acknowledge.{ends}
 use Rattle.ace_model.proofs.Rules.Keeps.{accepted_keeps}
-use Rattle.ace_model.proofs.Holders.Address.{read_issued, write_issued, outstanding_stays, failed_issued}
 use Rattle.ace_model.proofs.Holders.Grant.{other_line, failed_g}
 use Rattle.ace_model.proofs.Holders.Law.{accepted_holds}
-use Rattle.ace_model.proofs.General.Options.{Some-injective, is_none_or-at}
+use Rattle.ace_model.proofs.General.Options.{is_none_or-at}
+use Rattle.ace_model.proofs.Trace.Outstanding.{read_issued, write_issued, outstanding_stays, failed_issued}
 
 module _ (h : Header) (past : Trace) where
   -- a granted line is not given again
@@ -40,22 +42,12 @@ module _ (h : Header) (past : Trace) where
   granted_after e a l x g =
       let gives = gives_none e a l x g in
       let same : granted h (e ∷ past) l ≡ without (ended h past e) (granted h past l) = newest_on-older (given past e) l (without (ended h past e) (granted h past l)) gives in
-      elim (ends_or (ended h past e) (granted h past l) g) [
+      elim (without-cases (ended h past e) (granted h past l) x g) [
         | inl stays ↦
             let w = without-some (ended h past e) (granted h past l) x stays in
             inl (record { was = g; is = same ∙ stays; gives = gives; lasts = w.1 })
         | inr ends ↦ inr ends
       ]
-    where
-      ends_or : (y o : Option Transaction) → o ≡ Some x → (without y o ≡ Some x) ⊎ ((z : Transaction) × (y ≡ Some z) × (z.place ≡ x.place))
-      ends_or None o e = inl e
-      ends_or (Some z) None e = cc
-      ends_or (Some z) (Some w) e =
-          let one : w ≡ x = Some-injective w x e in
-          elim (cases_Bool (nat_eq w.place z.place)) [
-            | inl t ↦ inr (z, refl, sym (eqb-true w.place z.place t) ∙ ap (λ (v : Transaction). v.place) one)
-            | inr f ↦ inl (rw f e)
-          ]
 
   -- a new transaction has another name than an outstanding one
   pub issued_apart : (e : Event) → IsAccepted h (e ∷ past) → (p : ℕ) (c : Channel) (i : ℕ) (x y : Transaction)
@@ -64,24 +56,21 @@ module _ (h : Header) (past : Trace) where
       let free = is_none_or-at (issued (length past) e) (has_free_name h past) y (accepted_keeps h past e a).rule_4 new in
       (outstanding_stays h past y p c i x free o).0
 
-and_no : (b : Bool) → (b && false) ≡ false
-and_no true = refl
-and_no false = refl
+  -- and so than the granted one
+  pub stays_apart : (e : Event) → IsAccepted h (e ∷ past) → (l : ℕ) (x y : Transaction) → Stays e l x → issued (length past) e ≡ Some y
+      → has_name y x.port x.chan x.id ≡ false
+  stays_apart e a l x y s new = issued_apart e a x.port x.chan x.id x y ((accepted_holds h past a.0).grants l x s.was).0 new
+
+  pub read_apart : (e : Event) → IsAccepted h (e ∷ past) → (l : ℕ) (x y : Transaction) → Stays e l x → issued (length past) e ≡ Some y
+      → is_read x.chan ≡ true → has_name y x.port Read x.id ≡ false
+  read_apart e a l x y s new t = ap (λ (c : Channel). has_name y x.port c x.id) (sym (is_read-is x.chan t)) ∙ stays_apart e a l x y s new
 
 -- only a read can be an exclusive store
-pub failed_same : (past longer : Trace) (x : Transaction) → (is_read x.chan ≡ true → passed_at_grant longer x.port x.id ≡ passed_at_grant past x.port x.id)
-    → has_failed longer x ≡ has_failed past x
-failed_same past longer x same =
-    elim (cases_Bool (is_read x.chan)) [
-      | inl t ↦ ap (λ v. is_exclusive_store x && is_false v) (same t)
-      | inr f ↦ let none : is_exclusive_store x ≡ false = rw f (and_no x.lock) in rw none refl
-    ]
-
 failed_read : (past longer : Trace) (x : Transaction) → (is_read x.chan ≡ true → has_failed longer x ≡ has_failed past x) → has_failed longer x ≡ has_failed past x
 failed_read past longer x same =
     elim (cases_Bool (is_read x.chan)) [
       | inl t ↦ same t
-      | inr f ↦ let none : is_exclusive_store x ≡ false = rw f (and_no x.lock) in rw none refl
+      | inr f ↦ let none : is_exclusive_store x ≡ false = rw f (and-false x.lock) in rw none refl
     ]
 
 -- as long as the grant stays, an exclusive store has failed or not
@@ -89,16 +78,12 @@ pub failed_stays : (h : Header) (past : Trace) (e : Event) → IsAccepted h (e �
     → has_failed (e ∷ past) x ≡ has_failed past x
 failed_stays h past (Ar q j addr snoop dom bar lock) a l x s =
     let e = Ar q j addr snoop dom bar lock in
-    let o = (accepted_holds h past a.0).grants l x s.was in
-    failed_read past (e ∷ past) x (λ t.
     let y = read_issued past q j addr snoop dom bar lock in
-    failed_issued past y x (ap (λ (c : Channel). has_name y x.port c x.id) (sym (is_read-is x.chan t)) ∙ issued_apart h past e a x.port x.chan x.id x y o.0 refl))
+    failed_read past (e ∷ past) x (λ t. failed_issued past y x (read_apart h past e a l x y s refl t))
 failed_stays h past (Aw q j addr snoop dom bar) a l x s =
     let e = Aw q j addr snoop dom bar in
-    let o = (accepted_holds h past a.0).grants l x s.was in
-    failed_read past (e ∷ past) x (λ t.
     let y = write_issued past q j addr snoop dom bar in
-    failed_issued past y x (ap (λ (c : Channel). has_name y x.port c x.id) (sym (is_read-is x.chan t)) ∙ issued_apart h past e a x.port x.chan x.id x y o.0 refl))
+    failed_read past (e ∷ past) x (λ t. failed_issued past y x (read_apart h past e a l x y s refl t))
 failed_stays h past (G q c j) a l x s =
     let o = (accepted_holds h past a.0).grants l x s.was in
     let on = and_parts (is_line x) (nat_eq x.addr l) o.1 in
@@ -106,3 +91,12 @@ failed_stays h past (G q c j) a l x s =
     failed_g h past q c j x.port x.id x (ap (λ (d : Channel). outstanding h past x.port d x.id) (sym (is_read-is x.chan t)) ∙ o.0) on.0
     (ap (is_some_on (transaction_of past q c j)) (eqb-true x.addr l on.1) ∙ s.gives))
 failed_stays h past _ a l x s = refl
+
+-- the present grant of a line came within the trace
+pub grant_place-low : (past : Trace) (l : ℕ) → grant_place past l ≤ length past
+grant_place-low [] l = omega arith
+grant_place-low (e ∷ past) l = chosen (is_some_on (given past e) l) (grant_place-low past l)
+  where
+    chosen : (b : Bool) → grant_place past l ≤ length past → (if b then length past + 1 else grant_place past l) ≤ suc (length past)
+    chosen true low = omega arith
+    chosen false low = omega arith

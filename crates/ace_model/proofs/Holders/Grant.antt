@@ -1,142 +1,121 @@
--- G: the line is granted to a transaction.
-use Rattle.std.proofs.Common.{◌≡◌, ℕ, ◌+◌, ◌<◌, ◌≤◌, Bool, true, false, not, if◌then◌else◌, ◌&&◌, nat_eq, [], ◌∷◌, length, Option, Some, None, slice_get, refl, sym, ap, subst, ◌∙◌, arith, inl, inr}
-use Rattle.std.proofs.lemmas.Bool.{and_parts, and_from, cases_Bool, eqb-true, eq-eqb}
-use Rattle.ace_model.proofs.Terms.{Header, Channel, Read, Event, Ac, G, Snoop, Transaction, Trace, newer, is_on, is_line, is_some_on, has_name, transaction_of, outstanding, takes_grant, is_exclusive_store}
-use Rattle.ace_model.proofs.Terms.{snoop_at, snoops_of, granted, has_grant, has_failed, is_false, passed_at_grant, store_result, state_of, k12, may_be_granted}
-use Rattle.ace_model.proofs.Trace.Looks.{has_name-is, newest_on-cases, newest_on-older}
+-- G: the line is granted to a transaction. It was free, and there is no snoop and no answer under the new grant.
+use Rattle.std.proofs.Common.{◌≡◌, ℕ, ◌+◌, ◌≤◌, true, false, not, ◌&&◌, ◌∷◌, length, Option, Some, None, refl, sym, ap, subst, ◌∙◌, arith, inl, inr}
+use Rattle.std.proofs.lemmas.Bool.{and_parts, and_from, cases_Bool, eq-eqb}
+use Rattle.ace_model.proofs.Terms.{Header, Channel, Read, G, Transaction, Trace, newer, is_on, is_line, is_some_on, has_name, transaction_of, outstanding, takes_grant, is_exclusive_store}
+use Rattle.ace_model.proofs.Terms.{granted, has_grant, has_failed, is_false, passed_at_grant, store_result, state_of, k12, may_be_granted}
+use Rattle.ace_model.proofs.Trace.Looks.{has_name-is, newest_on-cases, newest_on-older, is_on-addr}
 use Rattle.ace_model.proofs.Trace.Issued.{outstanding-named, transaction_of-stands}
-use Rattle.ace_model.proofs.General.Lists.{slice_get-more}
-use Rattle.ace_model.proofs.Tables.States.{Lessens-self}
-use Rattle.ace_model.proofs.Holders.States.{arrives_kept}
-use Rattle.ace_model.proofs.Holders.Facts.{GrantsStand, SnoopsFit, AnswersFit, PassedOn, TransfersArrive, OneHolder}
+use Rattle.ace_model.proofs.Trace.Snoops.{snoops-before}
 use Rattle.ace_model.proofs.General.Options.{Some-injective, none_is, is_some_and-is}
+use Rattle.ace_model.proofs.Tables.States.{Lessens-self}
+use Rattle.ace_model.proofs.Holders.Facts.{GrantsStand, SnoopsFit, AnswersFit, PassedOn, TransfersArrive, OneHolder}
+use Rattle.ace_model.proofs.Holders.Kept.{arrives_kept}
+use Rattle.ace_model.proofs.Trace.Outstanding.{outstanding_own}
 
--- what the rule on grants says of the transaction that the event grants
-pub record MayGrant (h : Header) (past : Trace) (q : ℕ) (c : Channel) (j : ℕ) : Type 0 where
-  pub granted_one : Transaction
-  pub out : outstanding h past q c j ≡ Some granted_one
-  pub named : transaction_of past q c j ≡ Some granted_one
-  pub free : granted h past granted_one.addr ≡ None
+module _ (h : Header) (past : Trace) (q : ℕ) (c : Channel) (j : ℕ) where
+  -- What K12 says of the transaction that the event grants.
+  pub record MayGrant : Type 0 where
+    pub granted_one : Transaction
+    pub out : outstanding h past q c j ≡ Some granted_one
+    pub named : transaction_of past q c j ≡ Some granted_one
+    pub free : granted h past granted_one.addr ≡ None
 
-pub may_grant : (h : Header) (past : Trace) (q : ℕ) (c : Channel) (j : ℕ) → k12 h past (G q c j) ≡ true → MayGrant h past q c j
-may_grant h past q c j k =
-    let o = is_some_and-is (outstanding h past q c j) (may_be_granted h past) k in
-    let free = (and_parts (takes_grant o.0 && not (has_grant past o.0.port o.0.chan o.0.id)) _ o.2).1 in
-    record {
-      granted_one = o.0;
-      out = o.1;
-      named = outstanding-named h past q c j o.0 o.1;
-      free = none_is (granted h past o.0.addr) free;
-    }
+  pub may_grant : k12 h past (G q c j) ≡ true → MayGrant
+  may_grant k =
+      let o = is_some_and-is (outstanding h past q c j) (may_be_granted h past) k in
+      record {
+        granted_one = o.0;
+        out = o.1;
+        named = outstanding-named h past q c j o.0 o.1;
+        free = none_is (granted h past o.0.addr) (and_parts (takes_grant o.0 && not (has_grant past o.0.port o.0.chan o.0.id)) _ o.2).1;
+      }
 
--- a transaction on a line has its address
-pub is_on-addr : (x : Transaction) (l : ℕ) → is_on x l ≡ true → x.addr ≡ l
-is_on-addr x l e = eqb-true x.addr l ((and_parts (is_line x) _ e).1)
+  -- the line of the grant is none that was granted
+  pub other_line : (l : ℕ) (x : Transaction) → k12 h past (G q c j) ≡ true → granted h past l ≡ Some x
+      → is_some_on (transaction_of past q c j) l ≡ false
+  other_line l x k g =
+      let m = may_grant k in
+      elim (cases_Bool (is_on m.granted_one l)) [
+        | inl t ↦ let free : granted h past l ≡ None = subst (λ a. granted h past a ≡ None) (is_on-addr m.granted_one l t) m.free in cc
+        | inr other ↦ rw m.named other
+      ]
 
-pub grants_g : (h : Header) (past : Trace) (q : ℕ) (c : Channel) (j : ℕ) → OneHolder h past → k12 h past (G q c j) ≡ true → GrantsStand h (G q c j ∷ past)
-grants_g h past q c j f k l x g =
-    let m = may_grant h past q c j k in
-    elim (newest_on-cases (transaction_of past q c j) l (granted h past l) x g) [
-      | inl new ↦ (out_by_name m.out (transaction_of-stands past q c j x new.0).named (sym m.named ∙ new.0), new.1)
-      | inr old ↦ f.grants l x old.0
-    ]
-  where
-    out_by_name : {y : Transaction} → outstanding h past q c j ≡ Some y → has_name x q c j ≡ true → Some y ≡ Some x → outstanding h past x.port x.chan x.id ≡ Some x
-    out_by_name {y} out n same =
-        let name = has_name-is x q c j n in
-        ap (λ a. outstanding h past a x.chan x.id) name.port ∙ ap (λ a. outstanding h past q a x.id) name.chan ∙ ap (λ a. outstanding h past q c a) name.id ∙ out ∙ same
+  -- and it isn't that of the exclusive store
+  pub failed_g : (p i : ℕ) (x : Transaction) → outstanding h past p Read i ≡ Some x → is_line x ≡ true
+      → is_some_on (transaction_of past q c j) x.addr ≡ false → has_failed (G q c j ∷ past) x ≡ has_failed past x
+  failed_g p i x o line other =
+      ap (λ v. is_exclusive_store x && is_false (newer v (passed_at_grant past x.port x.id))) (unmoved (transaction_of past q c j) refl)
+    where
+      is_x : (y : Transaction) → transaction_of past q c j ≡ Some y → has_name y x.port Read x.id ≡ true → y ≡ x
+      is_x y is named =
+          let mine = has_name-is y x.port Read x.id named in
+          let its = has_name-is y q c j (transaction_of-stands past q c j y is).named in
+          let named_x = outstanding-named h past p Read i x o in
+          let name = has_name-is x p Read i (transaction_of-stands past p Read i x named_x).named in
+          let same : transaction_of past q c j ≡ transaction_of past p Read i =
+          ap (λ a. transaction_of past a c j) (sym its.port ∙ mine.port ∙ name.port)
+          ∙ ap (λ a. transaction_of past p a j) (sym its.chan ∙ mine.chan)
+          ∙ ap (transaction_of past p Read) (sym its.id ∙ mine.id ∙ name.id) in
+          Some-injective y x (sym is ∙ same ∙ named_x)
 
--- where the line of the grant is one that was granted, the rule is broken
-pub other_line : (h : Header) (past : Trace) (q : ℕ) (c : Channel) (j l : ℕ) (x : Transaction) → k12 h past (G q c j) ≡ true → granted h past l ≡ Some x
-    → is_some_on (transaction_of past q c j) l ≡ false
-other_line h past q c j l x k g =
-    let m = may_grant h past q c j k in
-    elim (cases_Bool (is_on m.granted_one l)) [
-      | inl t ↦ let free : granted h past l ≡ None = subst (λ a. granted h past a ≡ None) (is_on-addr m.granted_one l t) m.free in cc
-      | inr other ↦ rw m.named other
-    ]
+      unmoved : (v : Option Transaction) → transaction_of past q c j ≡ v → store_result past v x.port x.id ≡ None
+      unmoved None is = refl
+      unmoved (Some y) is =
+          elim (cases_Bool (has_name y x.port Read x.id && is_exclusive_store y)) [
+            | inr f ↦ rw f refl
+            | inl t ↦
+                let one = is_x y is (and_parts (has_name y x.port Read x.id) _ t).0 in
+                let here : is_on x x.addr ≡ true = and_from _ _ line (eq-eqb x.addr x.addr refl) in
+                let there : is_on y x.addr ≡ true = subst (λ v. is_on v x.addr ≡ true) (sym one) here in
+                let isnt : is_on y x.addr ≡ false = subst (λ v. is_some_on v x.addr ≡ false) is other in
+                cc
+          ]
 
--- a snoop knows how many events came before it
-pub snoop_at-place : (n : ℕ) (e : Event) (r : ℕ) (s : Snoop) → snoop_at n e r ≡ Some s → s.place ≡ n
-snoop_at-place n (Ac q addr code) r s is = new (nat_eq r q) is
-  where
-    new : (b : Bool) → (if b then Some (record { place = n; addr = addr; snoop = code }) else None) ≡ Some s → s.place ≡ n
-    new true is = ap (λ (v : Snoop). v.place) (sym (Some-injective _ s is))
-    new false is = cc
-snoop_at-place n e r s is = cc
+  module _ (f : OneHolder h past) where
+    -- what stands on a line that isn't granted now was granted before
+    before_g : (l : ℕ) (x : Transaction) → is_some_on (transaction_of past q c j) l ≡ false → granted h (G q c j ∷ past) l ≡ Some x → granted h past l ≡ Some x
+    before_g l x other g = sym (newest_on-older (transaction_of past q c j) l (granted h past l) other) ∙ g
 
-pub snoops-before : (past : Trace) (r n : ℕ) (s : Snoop) → slice_get (snoops_of past r) n ≡ Some s → s.place < length past
-snoops-before [] r n s e = cc
-snoops-before (e ∷ past) r n s is =
-    elim (slice_get-more (snoops_of past r) (snoop_at (length past) e r) n s is) [
-      | inl old ↦ let b = snoops-before past r n s old in omega arith
-      | inr new ↦ let at = snoop_at-place (length past) e r s new.1 in omega (arith, at)
-    ]
-
-module _ (h : Header) (past : Trace) where
-  module _ (q : ℕ) (c : Channel) (j : ℕ) where
-    pub snoops_g : OneHolder h past → SnoopsFit h (G q c j ∷ past)
-    snoops_g f r n l s x e on place g =
+    snoops_g : SnoopsFit h (G q c j ∷ past)
+    snoops_g r n l s x e on place g =
         elim (cases_Bool (is_some_on (transaction_of past q c j) l)) [
           | inl t ↦
               let before = snoops-before past r n s e in
               let after : length past + 1 ≤ s.place = rw t at place in
               absurd (omega arith)
-          | inr other ↦
-              f.snoops r n l s x e on (rw other at place)
-              (sym (newest_on-older (transaction_of past q c j) l (granted h past l) other) ∙ g)
+          | inr other ↦ f.snoops r n l s x e on (rw other at place) (before_g l x other g)
         ]
 
-    pub answers_g : OneHolder h past → AnswersFit h (G q c j ∷ past)
-    answers_g f l r x a k g w causes =
+    answers_g : AnswersFit h (G q c j ∷ past)
+    answers_g l r x a k g w causes =
         elim (cases_Bool (is_some_on (transaction_of past q c j) l)) [
           | inl t ↦ let none : None ≡ Some a = rw t at w in cc
-          | inr other ↦
-              f.answers l r x a k (sym (newest_on-older (transaction_of past q c j) l (granted h past l) other) ∙ g) (rw other at w) causes
+          | inr other ↦ f.answers l r x a k (before_g l x other g) (rw other at w) causes
         ]
 
-    pub passed_g : OneHolder h past → PassedOn h (G q c j ∷ past)
-    passed_g f l r x a g takes w dirty =
+    passed_g : PassedOn h (G q c j ∷ past)
+    passed_g l r x a g takes w dirty =
         elim (cases_Bool (is_some_on (transaction_of past q c j) l)) [
           | inl t ↦ let none : None ≡ Some a = rw t at w in cc
-          | inr other ↦
-              f.passed l r x a (sym (newest_on-older (transaction_of past q c j) l (granted h past l) other) ∙ g) takes (rw other at w) dirty
+          | inr other ↦ f.passed l r x a (before_g l x other g) takes (rw other at w) dirty
         ]
 
-    -- the grant of another line isn't that of the exclusive store
-    pub failed_g : (p i : ℕ) (x : Transaction) → outstanding h past p Read i ≡ Some x → is_line x ≡ true
-        → is_some_on (transaction_of past q c j) x.addr ≡ false → has_failed (G q c j ∷ past) x ≡ has_failed past x
-    failed_g p i x o line other =
-        ap (λ v. is_exclusive_store x && is_false (newer v (passed_at_grant past x.port x.id))) (unmoved (transaction_of past q c j) refl)
-      where
-        is_x : (y : Transaction) → transaction_of past q c j ≡ Some y → has_name y x.port Read x.id ≡ true → y ≡ x
-        is_x y is named =
-            let mine = has_name-is y x.port Read x.id named in
-            let its = has_name-is y q c j (transaction_of-stands past q c j y is).named in
-            let named_x = outstanding-named h past p Read i x o in
-            let name = has_name-is x p Read i (transaction_of-stands past p Read i x named_x).named in
-            let same : transaction_of past q c j ≡ transaction_of past p Read i =
-            ap (λ a. transaction_of past a c j) (sym its.port ∙ mine.port ∙ name.port)
-            ∙ ap (λ a. transaction_of past p a j) (sym its.chan ∙ mine.chan)
-            ∙ ap (transaction_of past p Read) (sym its.id ∙ mine.id ∙ name.id) in
-            Some-injective y x (sym is ∙ same ∙ named_x)
+    module _ (k : k12 h past (G q c j) ≡ true) where
+      grants_g : GrantsStand h (G q c j ∷ past)
+      grants_g l x g =
+          elim (newest_on-cases (transaction_of past q c j) l (granted h past l) x g) [
+            | inl new ↦
+                let m = may_grant k in
+                (outstanding_own h past q c j x (m.out ∙ sym m.named ∙ new.0), new.1)
+            | inr old ↦ f.grants l x old.0
+          ]
 
-        unmoved : (v : Option Transaction) → transaction_of past q c j ≡ v → store_result past v x.port x.id ≡ None
-        unmoved None is = refl
-        unmoved (Some y) is =
-            elim (cases_Bool (has_name y x.port Read x.id && is_exclusive_store y)) [
-              | inr f ↦ rw f refl
-              | inl t ↦
-                  let one = is_x y is (and_parts (has_name y x.port Read x.id) _ t).0 in
-                  let here : is_on x x.addr ≡ true = and_from _ _ line (eq-eqb x.addr x.addr refl) in
-                  let there : is_on y x.addr ≡ true = subst (λ v. is_on v x.addr ≡ true) (sym one) here in
-                  let isnt : is_on y x.addr ≡ false = subst (λ v. is_some_on v x.addr ≡ false) is other in
-                  cc
-            ]
+      arrive_g : TransfersArrive h (G q c j ∷ past)
+      arrive_g p i x ace o line some =
+          let a = f.arrive p i x ace o line some in
+          let other = other_line x.addr x k a.stands in
+          arrives_kept h past (G q c j) p i x (newest_on-older (transaction_of past q c j) x.addr (granted h past x.addr) other ∙ a.stands)
+          refl (failed_g p i x o line other) (λ r. Lessens-self (state_of h past r x.addr)) a
 
-    pub arrive_g : OneHolder h past → k12 h past (G q c j) ≡ true → TransfersArrive h (G q c j ∷ past)
-    arrive_g f k p i x ace o line some =
-        let a = f.arrive p i x ace o line some in
-        let other = other_line h past q c j x.addr x k a.stands in
-        arrives_kept h past (G q c j) p i x (newest_on-older (transaction_of past q c j) x.addr (granted h past x.addr) other ∙ a.stands)
-        refl (failed_g p i x o line other) (λ r. Lessens-self (state_of h past r x.addr)) a
+      pub keeps_g : OneHolder h (G q c j ∷ past)
+      keeps_g = assumption (f, grants_g, snoops_g, answers_g, passed_g, arrive_g)

@@ -21,6 +21,13 @@ of_accepted h (e ∷ past) a =
     let k = accepted_keeps h past e a in
     (of_accepted h past a.0, rw (k.rule_1, k.rule_4, k.rule_12, k.rule_13, k.rule_15, k.rule_18, k.rule_19, k.rule_22, k.rule_23, k.rule_28, k.rule_29, k.rule_32) refl)
 
+-- and an event that they accept keeps each of them
+pub keeps_each : (h : Header) (past : Trace) (e : Event) → IsAcceptedBy holder_rules h (e ∷ past) → KeepsEach h past e
+keeps_each h past e a n = kept holder_rules n h past e a.1
+
+pub accepted_keeps_each : (h : Header) (past : Trace) (e : Event) → IsAccepted h (e ∷ past) → KeepsEach h past e
+accepted_keeps_each h past e a = keeps_each h past e (of_accepted h (e ∷ past) a)
+
 -- events that are known today keep the rules of WK, S and D, since they are none
 known_28 : (h : Header) (past : Trace) (e : Event) → is_known_today e ≡ true → k28 h past e ≡ true
 known_28 h past (Wk q st) t = cc

@@ -1,24 +1,23 @@
 -- A port comes to hold more of a line by the RK of its own read alone, and makes it dirty by that or by a store alone.
-use Rattle.std.proofs.Common.{◌≡◌, ◌⊎◌, ℕ, Bool, true, false, not, ◌&&◌, ◌||◌, nat_eq, [], ◌∷◌, length, Some, refl, sym, ap, subst, ◌∙◌, inl, inr}
+use Rattle.std.proofs.Common.{◌≡◌, ◌⊎◌, ℕ, Bool, true, false, ◌||◌, nat_eq, [], ◌∷◌, length, Some, refl, sym, ap, subst, ◌∙◌, inl, inr}
 use Rattle.std.proofs.lemmas.Bool.{and_parts, or_cases, cases_Bool, eqb-true}
-use Rattle.ace_model.proofs.Terms.{ArKind, AwKind, LineState, I, UC, UD, SC, SD, Channel, Read, Event, Ar, Rk, Aw, Wk, Cr, S, D, Header, Line, starts_read, starts_write, is_among, is_dirty, Transaction}
-use Rattle.ace_model.proofs.Terms.{Trace, is_some_and, is_none_or, reads_a_line, is_granted_write, is_line, is_on, issued, ended, read_kind, write_kind, outstanding, acknowledged, state_of, awaits_store}
-use Rattle.ace_model.proofs.Terms.{is_in_make_unique, has_store, is_line_read_transaction, starts_well, k32, may_store, wants_store, full_line, IsAccepted}
-use Rattle.ace_codes.specs.declared.kind.ArKind.TheVariants as read
-use Rattle.ace_codes.specs.declared.kind.AwKind.TheVariants as write
+use Rattle.ace_model.proofs.Terms.{LineState, I, Channel, Read, Event, Ar, Rk, Aw, D, Header, starts_read, starts_write, is_dirty, Transaction}
+use Rattle.ace_model.proofs.Terms.{Trace, is_some_and, is_none_or, reads_a_line, is_granted_write, is_line, is_on, issued, ended, read_kind, write_kind, outstanding, acknowledged, state_of}
+use Rattle.ace_model.proofs.Terms.{is_line_read_transaction, starts_well, may_store, IsAccepted}
 use Rattle.ace_model.proofs.Trace.Looks.{has_name-is, newest_named-cases, without-some}
 use Rattle.ace_model.proofs.Rules.Keeps.{accepted_keeps}
-use Rattle.ace_model.proofs.Tables.States.{Lessens, Lessens-self, Lessens-same}
-use Rattle.ace_model.proofs.Holders.States.{less-lessens, less-clean}
-use Rattle.ace_model.proofs.Holders.Stores.{less_s, lessened_d, stores, is_named_by_d, some_issued-weaker}
-use Rattle.ace_model.proofs.Holders.Snoop.{less_cr}
-use Rattle.ace_model.proofs.Holders.Write.{less_wk}
+use Rattle.ace_model.proofs.Tables.States.{Lessens, Lessens-same}
+use Rattle.ace_model.proofs.Holders.Stores.{stores, is_named_by_d}
+use Rattle.ace_model.proofs.Holders.Lessened.{less_by, lessened_by}
 use Rattle.ace_model.proofs.Holders.Acknowledge.{Ends, ends, is_named_by_rk}
 use Rattle.ace_model.proofs.Holders.Facts.{Arrives}
+use Rattle.ace_model.proofs.Holders.RestsOn.{accepted_keeps_each}
 use Rattle.ace_model.proofs.Holders.Law.{accepted_holds}
 use Rattle.ace_model.proofs.Trace.LineOnce.{one_on_line}
 use Rattle.ace_model.proofs.General.Options.{Some-injective, is_some_and-is, is_none_or-at}
 use Rattle.ace_model.proofs.General.Booleans.{implies-at}
+use Rattle.ace_model.proofs.Tables.Less.{less-clean}
+use Rattle.ace_model.proofs.Tables.StartStates.{read_starts, write_starts}
 
 module _ (h : Header) (past : Trace) where
   -- The read of the port on the line that the event ends by its RK.
@@ -66,30 +65,7 @@ module _ (h : Header) (past : Trace) where
         | inr f ↦ inl (Lessens-same _ _ (rw f refl))
         | inl t ↦ inr (raised q st (ends_of q st a) p l t)
       ]
-  state_moves (Wk q st) a p l = inl (less-lessens _ _ (less_wk h past q st (accepted_keeps h past (Wk q st) a).rule_28 p l))
-  state_moves (Cr q resp st) a p l = inl (less-lessens _ _ (less_cr h past q resp st (accepted_keeps h past (Cr q resp st) a).rule_15 p l))
-  state_moves (S q addr st) a p l = inl (less-lessens _ _ (less_s h past q addr st (accepted_keeps h past (S q addr st) a).rule_29 p l))
-  state_moves (D q addr strobe x line) a p l = inl (lessened_d h past q addr strobe x line (accepted_keeps h past (D q addr strobe x line) a).rule_32 l p)
-  state_moves _ a p l = inl (Lessens-self (state_of h past p l))
-
-  -- a store that names a state is of a port that may store
-  pub may_store_d : (q addr strobe : ℕ) (x : Bool) (line : Line) → k32 h past (D q addr strobe x line) ≡ true → (r l : ℕ)
-      → is_named_by_d h past q addr r l ≡ true → may_store h past r l ≡ true
-  may_store_d q addr strobe x line k r l t =
-      let parts = and_parts (nat_eq r q && nat_eq l addr) _ t in
-      let s = stores h past q addr strobe x line k r l t in
-      let here : (may_store h past r l || ((wants_store h past r l && not x) && nat_eq strobe full_line)) ≡ true =
-      subst (λ b. (may_store h past r b || ((wants_store h past r b && not x) && nat_eq strobe full_line)) ≡ true) (sym s.line)
-      (subst (λ a. (may_store h past a addr || ((wants_store h past a addr && not x) && nat_eq strobe full_line)) ≡ true) (sym s.port) k) in
-      elim (or_cases (may_store h past r l) _ here) [
-        | inl may ↦ may
-        | inr made ↦
-            let wants = (and_parts (wants_store h past r l) (not x) (and_parts (wants_store h past r l && not x) _ made).0).0 in
-            let within : is_in_make_unique h past r l ≡ true =
-            some_issued-weaker past (λ y. awaits_store h past r l y && not (has_store h past y.port y.id)) (awaits_store h past r l)
-            (λ y e. (and_parts (awaits_store h past r l y) _ e).0) wants in
-            let bad : false ≡ true = rw within at parts.1 in cc
-      ]
+  state_moves e a p l = inl (lessened_by h past e (accepted_keeps_each h past e a) refl l p)
 
   -- where a line becomes dirty its port may store, or it is the RK of its read
   pub dirty_moves : (e : Event) → IsAccepted h (e ∷ past) → (p l : ℕ) → is_dirty (state_of h past p l) ≡ false
@@ -99,15 +75,12 @@ module _ (h : Header) (past : Trace) where
         | inr f ↦ inl (rw f d)
         | inl t ↦ inr (inr (raised q st (ends_of q st a) p l t))
       ]
-  dirty_moves (Wk q st) a p l d = inl (less-clean _ _ (less_wk h past q st (accepted_keeps h past (Wk q st) a).rule_28 p l) d)
-  dirty_moves (Cr q resp st) a p l d = inl (less-clean _ _ (less_cr h past q resp st (accepted_keeps h past (Cr q resp st) a).rule_15 p l) d)
-  dirty_moves (S q addr st) a p l d = inl (less-clean _ _ (less_s h past q addr st (accepted_keeps h past (S q addr st) a).rule_29 p l) d)
   dirty_moves (D q addr strobe x line) a p l d =
       elim (cases_Bool (is_named_by_d h past q addr p l)) [
         | inr f ↦ inl (rw f d)
-        | inl t ↦ inr (inl (may_store_d q addr strobe x line (accepted_keeps h past (D q addr strobe x line) a).rule_32 p l t))
+        | inl t ↦ inr (inl (stores h past q addr strobe x line (accepted_keeps_each h past (D q addr strobe x line) a 32) p l t).may)
       ]
-  dirty_moves _ a p l d = inl d
+  dirty_moves e a p l d = inl (less-clean _ _ (less_by h past e (accepted_keeps_each h past e a) refl p l) d)
 
   -- an event that issues a transaction leaves the states as they are
   pub issue_leaves : (e : Event) (x : Transaction) (p l : ℕ) → issued (length past) e ≡ Some x → state_of h (e ∷ past) p l ≡ state_of h past p l
@@ -118,28 +91,6 @@ module _ (h : Header) (past : Trace) where
 -- the transaction starts where its port holds nothing
 abbrev pub starts_empty : Transaction → Bool
 starts_empty x = is_line_read_transaction x || is_some_and (write_kind x) is_granted_write
-
-only_invalid : (st : LineState) → is_among st (I ∷ []) ≡ true → st ≡ I
-only_invalid I e = refl
-only_invalid UC e = cc
-only_invalid UD e = cc
-only_invalid SC e = cc
-only_invalid SD e = cc
-
-pub read_starts : (k : ArKind) (st : LineState) → reads_a_line k ≡ true → starts_read k st ≡ true → st ≡ I
-read_starts read.ReadNoSnoop st r s = only_invalid st s
-read_starts read.ReadOnce st r s = only_invalid st s
-read_starts read.ReadShared st r s = only_invalid st s
-read_starts read.ReadClean st r s = only_invalid st s
-read_starts read.ReadNotSharedDirty st r s = only_invalid st s
-read_starts read.ReadUnique st r s = only_invalid st s
-read_starts k st r s = cc
-
-write_starts : (k : AwKind) (st : LineState) → is_granted_write k ≡ true → starts_write k st ≡ true → st ≡ I
-write_starts write.WriteNoSnoop st r s = only_invalid st s
-write_starts write.WriteUnique st r s = only_invalid st s
-write_starts write.WriteLineUnique st r s = only_invalid st s
-write_starts k st r s = cc
 
 -- such a transaction finds its port with nothing
 starts : (h : Header) (past : Trace) (x : Transaction) → starts_well h past x ≡ true → is_line x ≡ true → starts_empty x ≡ true → state_of h past x.port x.addr ≡ I

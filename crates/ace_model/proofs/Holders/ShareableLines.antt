@@ -1,24 +1,20 @@
 -- A line that a port holds is shareable: a transaction of it was issued that isn't NoSnoop, and then each one is.
-use Rattle.std.proofs.Common.{◌⊎◌, ◌≡◌, ℕ, Bool, true, false, nat_eq, [], ◌∷◌, length, Some, None, refl, sym, ap, subst, ◌∙◌, inl, inr}
+use Rattle.std.proofs.Common.{◌≡◌, ℕ, true, false, nat_eq, [], ◌∷◌, length, Some, refl, sym, ap, subst, ◌∙◌, inl, inr}
 use Rattle.std.proofs.lemmas.Bool.{and_parts, cases_Bool, eqb-true}
-use Rattle.ace_model.proofs.Terms.{ArKind, LineState, I, Header, Event, Rk, Wk, Cr, S, D, is_invalid, Transaction, Trace, is_no_snoop_read, is_line, is_on, is_read, issued, read_kind, write_kind}
-use Rattle.ace_model.proofs.Terms.{each_issued, state_of, k8, is_no_snoop, is_used_alike, fits_line, IsAccepted}
-use Rattle.ace_codes.specs.declared.kind.ArKind.TheVariants as read
+use Rattle.ace_model.proofs.Terms.{LineState, I, Header, Event, Rk, is_invalid, Transaction, Trace, is_line, is_on, issued, each_issued, state_of, k8, is_no_snoop, is_used_alike, fits_line, IsAccepted}
 use Rattle.ace_model.proofs.Trace.Growth.{IsIssued, issued-old, issued-cases, named-issued, each_issued-at}
 use Rattle.ace_model.proofs.Trace.Issued.{outstanding-named}
-use Rattle.ace_model.proofs.Rules.Keeps.{Keeps, accepted_keeps}
-use Rattle.ace_model.proofs.Trace.Looks.{is_invalid-is}
-use Rattle.ace_model.proofs.Tables.States.{Lessens-self}
-use Rattle.ace_model.proofs.Tables.ReadEnds.{takes_alone, takes_shared}
-use Rattle.ace_model.proofs.Holders.States.{LessenedAt, less-lessens}
-use Rattle.ace_model.proofs.Holders.Stores.{less_s, lessened_d}
-use Rattle.ace_model.proofs.Holders.Snoop.{less_cr}
-use Rattle.ace_model.proofs.Holders.Write.{less_wk}
-use Rattle.ace_model.proofs.Holders.Acknowledge.{ends, is_named_by_rk, ends_line}
-use Rattle.ace_model.proofs.Holders.Facts.{OneHolder}
+use Rattle.ace_model.proofs.Rules.Keeps.{accepted_keeps}
+use Rattle.ace_model.proofs.Tables.States.{is_invalid-is}
+use Rattle.ace_model.proofs.Holders.Kept.{LessenedAt}
+use Rattle.ace_model.proofs.Holders.Acknowledge.{is_named_by_rk, ends_line}
+use Rattle.ace_model.proofs.Holders.RestsOn.{accepted_keeps_each}
+use Rattle.ace_model.proofs.Holders.Lessened.{lessened_by}
+use Rattle.ace_model.proofs.Holders.Rises.{ends_of}
 use Rattle.ace_model.proofs.Holders.Law.{accepted_holds}
 use Rattle.ace_model.proofs.General.Options.{Some-injective, is_none_or-at}
 use Rattle.ace_model.proofs.General.Booleans.{implies-at, same_test-at}
+use Rattle.ace_model.proofs.Tables.ReadSnoops.{takes_snoops, read_snoops}
 
 -- Transactions of one line are all NoSnoop, or none is.
 abbrev pub UsedAlike : Trace → Type 0
@@ -75,28 +71,13 @@ shareable_kept h past e less f p l held =
       | inr was ↦ later e past l (f p l was)
     ]
 
--- a read that brings a line to its port isn't NoSnoop
-takes_snoops : (k : ArKind) (shared failed : Bool) → (takes_alone k shared failed ≡ true) ⊎ (takes_shared k ≡ true) → is_no_snoop_read k ≡ false
-takes_snoops read.ReadNoSnoop shared failed (inl t) = cc
-takes_snoops read.ReadNoSnoop shared failed (inr t) = cc
-takes_snoops k shared failed t = refl
-
-pub read_snoops : (x : Transaction) (k : ArKind) → read_kind x ≡ Some k → is_no_snoop_read k ≡ false → is_no_snoop x ≡ false
-read_snoops x k is snoops =
-    elim (cases_Bool (is_read x.chan)) [
-      | inl reads ↦
-          let none : write_kind x ≡ None = rw reads refl in
-          rw (is, none) (rw snoops refl)
-      | inr writes ↦ let bad : None ≡ Some k = rw writes at is in cc
-    ]
-
 -- the end of a read
-shareable_rk : (h : Header) (past : Trace) (q : ℕ) (st : LineState) → OneHolder h past → Keeps h past (Rk q st) → HeldIsShareable h past → HeldIsShareable h (Rk q st ∷ past)
-shareable_rk h past q st f k s p l held =
+shareable_rk : (h : Header) (past : Trace) (q : ℕ) (st : LineState) → IsAccepted h (Rk q st ∷ past) → HeldIsShareable h past → HeldIsShareable h (Rk q st ∷ past)
+shareable_rk h past q st a s p l held =
     elim (cases_Bool (is_named_by_rk past q p l)) [
       | inr other ↦ later (Rk q st) past l (s p l (rw other at held))
       | inl t ↦
-          let d = ends_line h past q st k.rule_23 (ends h past q st f k.rule_1 k.rule_22) p l t in
+          let d = ends_line h past q st (accepted_keeps h past (Rk q st) a).rule_23 (ends_of h past q st a) p l t in
           let some : is_invalid st ≡ false = rw t at held in
           elim d.came [
             | inl none ↦ let bad : is_invalid st ≡ true = ap is_invalid none in cc
@@ -104,7 +85,7 @@ shareable_rk h past q st f k s p l held =
               | inl was ↦ later (Rk q st) past l (s p l was)
               | inr taken ↦
                   let y = d.stands.0 in
-                  let g = f.grants l y d.stands.2 in
+                  let g = (accepted_holds h past a.0).grants l y d.stands.2 in
                   record {
                     one = y;
                     stands = issued-old (Rk q st) past y (named-issued past y.port y.chan y.id y (outstanding-named h past y.port y.chan y.id y g.0));
@@ -115,18 +96,13 @@ shareable_rk h past q st f k s p l held =
           ]
     ]
 
-shareable_step : (h : Header) (past : Trace) (e : Event) → OneHolder h past → Keeps h past e → HeldIsShareable h past → HeldIsShareable h (e ∷ past)
-shareable_step h past (Rk q st) f k s = shareable_rk h past q st f k s
-shareable_step h past (Wk q st) f k s = shareable_kept h past (Wk q st) (λ l r. less-lessens _ _ (less_wk h past q st k.rule_28 r l)) s
-shareable_step h past (Cr q resp st) f k s = shareable_kept h past (Cr q resp st) (λ l r. less-lessens _ _ (less_cr h past q resp st k.rule_15 r l)) s
-shareable_step h past (S q addr st) f k s = shareable_kept h past (S q addr st) (λ l r. less-lessens _ _ (less_s h past q addr st k.rule_29 r l)) s
-shareable_step h past (D q addr strobe x line) f k s = shareable_kept h past (D q addr strobe x line) (lessened_d h past q addr strobe x line k.rule_32) s
-shareable_step h past e f k s = shareable_kept h past e (λ l r. Lessens-self (state_of h past r l)) s
+shareable_step : (h : Header) (past : Trace) (e : Event) → IsAccepted h (e ∷ past) → HeldIsShareable h past → HeldIsShareable h (e ∷ past)
+shareable_step h past (Rk q st) a s = shareable_rk h past q st a s
+shareable_step h past e a s = shareable_kept h past e (lessened_by h past e (accepted_keeps_each h past e a) refl) s
 
 pub held_is_shareable : (h : Header) (past : Trace) → IsAccepted h past → HeldIsShareable h past
 held_is_shareable h [] a = λ p l held. cc
-held_is_shareable h (e ∷ past) a =
-    shareable_step h past e (accepted_holds h past a.0) (accepted_keeps h past e a) (held_is_shareable h past a.0)
+held_is_shareable h (e ∷ past) a = shareable_step h past e a (held_is_shareable h past a.0)
 
 -- no port holds a line with a transaction that is NoSnoop
 pub no_snoop_unheld : (h : Header) (past : Trace) (x : Transaction) (p l : ℕ) → IsAccepted h past → IsIssued past x → is_on x l ≡ true → is_no_snoop x ≡ true

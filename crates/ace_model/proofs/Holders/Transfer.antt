@@ -1,17 +1,17 @@
 -- R: a transfer of a read.
-use Rattle.std.proofs.Common.{◌≡◌, ◌⊎◌, ◌==◌, ℕ, ◌+◌, ◌<◌, ◌≤◌, Bool, true, false, if◌then◌else◌, not, ◌&&◌, nat_eq, nat_lt, ◌∷◌, Some, None, length, slice_get, refl, sym, ap, subst, ◌∙◌, arith, inl, inr}
+use Rattle.std.proofs.Common.{◌≡◌, ◌⊎◌, ◌==◌, ℕ, ◌+◌, ◌<◌, ◌≤◌, Bool, true, false, ◌&&◌, nat_eq, nat_lt, ◌∷◌, Some, None, length, slice_get, refl, sym, ap, subst, ◌∙◌, arith, inl, inr}
 use Rattle.std.proofs.lemmas.Bool.{and_parts, and_from, cases_Bool, cases_eq, eqb-true, eq-eqb, ne_eqb, ltb-true}
 use Rattle.ace_model.proofs.Terms.{ArKind, passes_dirty, is_shared, Header, Channel, Read, R, Transaction, Trace, implies, is_some_and, beats_of, is_ace, read_kind, is_line, ended, transaction_of}
 use Rattle.ace_model.proofs.Terms.{outstanding, transfers, first_resp, completed, completes, acknowledgements, granted, is_granted, has_passed_data, has_failed, state_of, are_snoops_done, k18, k19, is_due}
 use Rattle.ace_model.proofs.Terms.{is_next_transfer, may_transfer, takes_passed, has_upper_bits}
-use Rattle.ace_model.proofs.Trace.Looks.{has_name-is, without-other}
+use Rattle.ace_model.proofs.Trace.Looks.{has_name-is, without-other, was_there}
 use Rattle.ace_model.proofs.Trace.Issued.{same_place, outstanding-named, transaction_of-stands}
 use Rattle.ace_model.proofs.General.Lists.{slice_get-more}
 use Rattle.ace_model.proofs.Tables.States.{Lessens-self}
 use Rattle.ace_model.proofs.Tables.ReadEnds.{takes_alone}
-use Rattle.ace_model.proofs.Holders.States.{arrives_kept}
-use Rattle.ace_model.proofs.Holders.Ends.{was_there, arrives_ended, one_name}
-use Rattle.ace_model.proofs.Holders.FirstTransfer.{IsFirst, first_alone, first_beside, first_dirty}
+use Rattle.ace_model.proofs.Holders.Kept.{arrives_kept, read_kept, standing}
+use Rattle.ace_model.proofs.Trace.Outstanding.{one_name, ends_lite}
+use Rattle.ace_model.proofs.Holders.FirstTransfer.{IsFirst, upper_bits, first_alone, first_beside, first_dirty}
 use Rattle.ace_model.proofs.Holders.Facts.{Arrives, TransfersArrive, QueueStands, QueueDistinct, OneHolder}
 use Rattle.ace_model.proofs.General.Options.{Some-injective, is_some_and-is, is_none_or-at}
 use Rattle.ace_model.proofs.General.Booleans.{implies-at, same_test-at}
@@ -63,177 +63,175 @@ module _ (h : Header) (past : Trace) where
       y.1 ∙ ap Some one
 
   module _ (q j resp : ℕ) (last : Bool) (word : ℕ) where
-    -- the transaction that a transfer ends is the read of a port that is no ACE port
-    pub ends_lite : (z : Transaction) → ended h past (R q j resp last word) ≡ Some z
-        → (is_ace h q ≡ false) × (transaction_of past q Read j ≡ Some z)
-    ends_lite z e = lite last (is_ace h q) e
-      where
-        lite : (l b : Bool) → (if l && not b then transaction_of past q Read j else None) ≡ Some z → (b ≡ false) × (transaction_of past q Read j ≡ Some z)
-        lite true false e = (refl, e)
-        lite l b e = cc
-
     -- a read of an ACE port stays outstanding
-    pub stays_r : (p i : ℕ) (x : Transaction) → is_ace h p ≡ true → outstanding h past p Read i ≡ Some x
+    stays_r : (p i : ℕ) (x : Transaction) → is_ace h p ≡ true → outstanding h past p Read i ≡ Some x
         → outstanding h (R q j resp last word ∷ past) p Read i ≡ Some x
     stays_r p i x ace o =
         without-other (ended h past (R q j resp last word)) (outstanding h past p Read i) x o (λ z is same.
-        let lite = ends_lite z is in
+        let lite = ends_lite h past q j resp last word z is in
         let port = (one_name past q p Read Read j i z x lite.1 (outstanding-named h past p Read i x o) same).port in
         let isnt : is_ace h p ≡ false = ap (is_ace h) (sym port) ∙ lite.0 in cc)
 
-    -- the read of the transfer, at an ACE port
-    arrive_here : OneHolder h past → k19 h past (R q j resp last word) ≡ true
-        → (m : MayTransfer q j resp last) → is_ace h q ≡ true → is_line m.one ≡ true → Arrives h (R q j resp last word ∷ past) q j m.one
-    arrive_here f bits m ace line =
-        elim (cases_eq (transfers past q j) 0) [
-          | inr later ↦
-              arrives_kept h past (R q j resp last word) q j m.one stands (rw (not_first (nat_eq q q && nat_eq j j) (ne_eqb (transfers past q j) 0 later)) refl) refl
-              (λ r. Lessens-self (state_of h past r m.one.addr)) (f.arrive q j m.one ace m.out line later)
-          | inl zero_before ↦
-              let first : first_resp (R q j resp last word ∷ past) q j ≡ Some resp =
-              rw (and_from _ _ (and_from _ _ (eq-eqb q q (refl {a = q})) (eq-eqb j j (refl {a = j}))) (eq-eqb (transfers past q j) 0 zero_before)) refl in
-              let d = is_first zero_before in
-              record {
-                stands = stands;
-                alone = λ k is t.
-                    let same : k ≡ m.kind = Some-injective k m.kind (sym is ∙ m.is_kind) in
-                    let taken : takes_alone m.kind (is_shared resp) (has_failed past m.one) ≡ true =
-                    subst (λ c. takes_alone c (is_shared resp) (has_failed past m.one) ≡ true) same
-                    (subst (λ o. takes_alone k (is_some_and o is_shared) (has_failed past m.one) ≡ true) first t) in
-                    λ r ne. first_alone h past m.one m.kind resp f d taken r (λ e. ne (sym m.port ∙ e));
-                beside = λ k is t r ne.
-                    let same : k ≡ m.kind = Some-injective k m.kind (sym is ∙ m.is_kind) in
-                    first_beside h past m.one m.kind resp f d (rw (sym same) t) r (λ e. ne (sym m.port ∙ e));
-                dirty = λ t. first_dirty h past m.one m.kind resp f d (subst (λ o. is_some_and o passes_dirty ≡ true) first t);
-              }
-        ]
-      where
-        parts : (is_granted h past m.one && implies (nat_eq (transfers past m.one.port m.one.id) 0) (are_snoops_done h past m.one) ≡ true)
-            × (implies (has_passed_data h past m.one) (takes_passed h past m.one resp) ≡ true)
-        parts = and_parts (is_granted h past m.one && implies (nat_eq (transfers past m.one.port m.one.id) 0) (are_snoops_done h past m.one)) _ (m.may line)
+    -- an identifier in a port's queue after a transfer was there, or is that of the transfer
+    record IsNew (p n i : ℕ) : Type 0 where
+      at : n ≡ length (completed past p Read)
+      same_id : j ≡ i
+      same_port : p ≡ q
+      is_last : last ≡ true
 
-        stood : granted h past m.one.addr ≡ Some m.one
-        stood = granted_one q Read j m.one f m.named (and_parts (is_granted h past m.one) _ parts.0).0
-
-        stands : granted h (R q j resp last word ∷ past) m.one.addr ≡ Some m.one
-        stands =
-            without-other (ended h past (R q j resp last word)) (granted h past m.one.addr) m.one stood (λ z is same.
-            let isnt = (ends_lite z is).0 in cc)
-
-        not_first : (b : Bool) → nat_eq (transfers past q j) 0 ≡ false → (b && nat_eq (transfers past q j) 0) ≡ false
-        not_first true e = e
-        not_first false e = refl
-
-        is_first : transfers past q j ≡ 0 → IsFirst h past m.one m.kind resp
-        is_first z =
-            let same : transfers past m.one.port m.one.id ≡ transfers past q j = ap (λ a. transfers past a m.one.id) m.port ∙ ap (transfers past q) m.id in
-            record {
-              ace = ap (is_ace h) m.port ∙ ace;
-              kind = m.is_kind;
-              stands = stood;
-              done = implies-at (nat_eq (transfers past m.one.port m.one.id) 0) (are_snoops_done h past m.one)
-                  (and_parts (is_granted h past m.one) _ parts.0).1 (eq-eqb (transfers past m.one.port m.one.id) 0 (same ∙ z));
-              takes = implies-at (has_passed_data h past m.one) (takes_passed h past m.one resp) parts.1;
-              bits = is_none_or-at (outstanding h past q Read j) (has_upper_bits h past resp) m.one bits m.out;
-            }
-
-    pub arrive_r : OneHolder h past → k19 h past (R q j resp last word) ≡ true
-        → MayTransfer q j resp last → TransfersArrive h (R q j resp last word ∷ past)
-    arrive_r f bits m p i x ace o line some =
-        let was = was_there (ended h past (R q j resp last word)) (outstanding h past p Read i) x o in
-        elim (cases_Bool (nat_eq p q && nat_eq i j)) [
-          | inr other ↦
-              arrives_ended h past (R q j resp last word) (ended h past (R q j resp last word)) p i x o refl (rw other refl) refl
-              (λ r. Lessens-self (state_of h past r x.addr)) (f.arrive p i x ace was line (λ z. some (rw other z)))
-          | inl same ↦
-              let parts = and_parts (nat_eq p q) (nat_eq i j) same in
-              let pq = eqb-true p q parts.0 in
-              let ij = eqb-true i j parts.1 in
-              let here : outstanding h past q Read j ≡ Some x = subst (λ a. outstanding h past a Read j ≡ Some x) pq (subst (λ b. outstanding h past p Read b ≡ Some x) ij was) in
-              let one : m.one ≡ x = Some-injective m.one x (sym m.out ∙ here) in
-              let a = arrive_here f bits m (subst (λ a. is_ace h a ≡ true) pq ace) (subst (λ y. is_line y ≡ true) (sym one) line) in
-              subst (λ a. Arrives h (R q j resp last word ∷ past) a i x) (sym pq)
-              (subst (λ b. Arrives h (R q j resp last word ∷ past) q b x) (sym ij)
-              (subst (λ y. Arrives h (R q j resp last word ∷ past) q j y) one a))
+    entry : (p n i : ℕ) → slice_get (completed (R q j resp last word ∷ past) p Read) n ≡ Some i
+        → (slice_get (completed past p Read) n ≡ Some i) ⊎ IsNew p n i
+    entry p n i e =
+        elim (slice_get-more (completed past p Read) (completes (R q j resp last word) p Read) n i e) [
+          | inl old ↦ inl old
+          | inr new ↦ elim (cases_Bool (nat_eq p q && last)) [
+            | inr other ↦ let bad : None ≡ Some i = rw other at new.1 in cc
+            | inl t ↦
+                let parts = and_parts (nat_eq p q) last t in
+                let id : Some j ≡ Some i = rw t at new.1 in
+                inr (record { at = new.0; same_id = Some-injective j i id; same_port = eqb-true p q parts.0; is_last = parts.1 })
+          ]
         ]
 
--- an identifier in a port's queue after a transfer was there, or is that of the transfer
-record IsNew (past : Trace) (p q j n i : ℕ) (last : Bool) : Type 0 where
-  at : n ≡ length (completed past p Read)
-  same_id : j ≡ i
-  same_port : p ≡ q
-  is_last : last ≡ true
+    module _ (f : OneHolder h past) (m : MayTransfer q j resp last) where
+      -- the read of the transfer did not wait in the queue
+      not_queued : (p n i : ℕ) → is_ace h p ≡ true → acknowledgements past p Read ≤ n → slice_get (completed past p Read) n ≡ Some i → p ≡ q → j ≡ i → ⊥
+      not_queued p n i ace low e pq ji =
+          let waits : ℕ → ℕ → Type 0 = λ a b. (x : Transaction) × (outstanding h past a Read b ≡ Some x) × (is_some_and (read_kind x) (λ k. transfers past a b == beats_of k) ≡ true) in
+          let base = subst (λ a. waits a j) pq (subst (λ b. waits p b) (sym ji) (f.queue p n i ace low e)) in
+          let one : base.0 ≡ m.one = Some-injective base.0 m.one (sym base.1 ∙ m.out) in
+          let whole : (transfers past q j == beats_of m.kind) ≡ true =
+          subst (λ o. is_some_and o (λ k. transfers past q j == beats_of k) ≡ true) (ap read_kind one ∙ m.is_kind) base.2 in
+          let few = m.few in
+          let all = eqb-true (transfers past q j) (beats_of m.kind) whole in
+          absurd (omega (arith, few, all))
 
-entry : (past : Trace) (q j resp : ℕ) (last : Bool) (word p n i : ℕ) → slice_get (completed (R q j resp last word ∷ past) p Read) n ≡ Some i
-    → (slice_get (completed past p Read) n ≡ Some i) ⊎ IsNew past p q j n i last
-entry past q j resp last word p n i e =
-    elim (slice_get-more (completed past p Read) (completes (R q j resp last word) p Read) n i e) [
-      | inl old ↦ inl old
-      | inr new ↦ inr (is_new new.0 (cases_Bool (nat_eq p q && last)) new.1)
-    ]
-  where
-    is_new : n ≡ length (completed past p Read) → ((nat_eq p q && last) ≡ true) ⊎ ((nat_eq p q && last) ≡ false) → completes (R q j resp last word) p Read ≡ Some i → IsNew past p q j n i last
-    is_new at (inr other) is = let bad : None ≡ Some i = rw other at is in cc
-    is_new at (inl t) is =
-        let parts = and_parts (nat_eq p q) last t in
-        let id : Some j ≡ Some i = rw t at is in
-        record { at = at; same_id = Some-injective j i id; same_port = eqb-true p q parts.0; is_last = parts.1 }
+      -- the last transfer puts its read into the queue, with all its transfers
+      queue_r : QueueStands h (R q j resp last word ∷ past)
+      queue_r p n i ace low e =
+          elim (entry p n i e) [
+            | inl old ↦
+                let base = f.queue p n i ace low old in (
+                  base.0,
+                  stays_r p i base.0 ace base.1,
+                  elim (cases_Bool (nat_eq p q && nat_eq i j)) [
+                    | inr other ↦
+                        let same : transfers (R q j resp last word ∷ past) p i ≡ transfers past p i = rw other (refl {a = transfers past p i}) in
+                        subst (λ t. is_some_and (read_kind base.0) (λ k. t == beats_of k) ≡ true) (sym same) base.2
+                    | inl same ↦
+                        let parts = and_parts (nat_eq p q) (nat_eq i j) same in
+                        absurd (not_queued p n i ace low old (eqb-true p q parts.0) (sym (eqb-true i j parts.1)))
+                  ],
+                )
+            | inr new ↦
+                let waits : ℕ → ℕ → Type 0 = λ a b. (x : Transaction) × (outstanding h (R q j resp last word ∷ past) a Read b ≡ Some x)
+                × (is_some_and (read_kind x) (λ k. transfers (R q j resp last word ∷ past) a b == beats_of k) ≡ true) in
+                let more : transfers (R q j resp last word ∷ past) q j ≡ transfers past q j + 1 = rw here (refl {a = transfers past q j + 1}) in
+                let whole : (transfers (R q j resp last word ∷ past) q j == beats_of m.kind) ≡ true =
+                eq-eqb (transfers (R q j resp last word ∷ past) q j) (beats_of m.kind) (more ∙ m.ends new.is_last) in
+                let out = stays_r q j m.one (subst (λ a. is_ace h a ≡ true) new.same_port ace) m.out in
+                subst (λ a. waits a i) (sym new.same_port) (subst (λ b. waits q b) new.same_id
+                (m.one, out, subst (λ o. is_some_and o (λ k. transfers (R q j resp last word ∷ past) q j == beats_of k) ≡ true) (sym m.is_kind) whole))
+          ]
+        where
+          here : (nat_eq q q && nat_eq j j) ≡ true
+          here = and_from _ _ (eq-eqb q q (refl {a = q})) (eq-eqb j j (refl {a = j}))
 
--- the read of the transfer did not wait in the queue
-not_queued : (h : Header) (past : Trace) (q j resp n i p : ℕ) (last : Bool) → OneHolder h past → MayTransfer h past q j resp last → is_ace h p ≡ true
-    → acknowledgements past p Read ≤ n → slice_get (completed past p Read) n ≡ Some i → p ≡ q → j ≡ i → ⊥
-not_queued h past q j resp n i p last f m ace low e pq ji =
-    let Q : ℕ → ℕ → Type 0 = λ a b. (x : Transaction) × (outstanding h past a Read b ≡ Some x) × (is_some_and (read_kind x) (λ k. transfers past a b == beats_of k) ≡ true) in
-    let base = subst (λ a. Q a j) pq (subst (λ b. Q p b) (sym ji) (f.queue p n i ace low e)) in
-    let one : base.0 ≡ m.one = Some-injective base.0 m.one (sym base.1 ∙ m.out) in
-    let whole : (transfers past q j == beats_of m.kind) ≡ true =
-    subst (λ o. is_some_and o (λ k. transfers past q j == beats_of k) ≡ true) (ap read_kind one ∙ m.is_kind) base.2 in
-    above (transfers past q j) (beats_of m.kind) m.few (eqb-true (transfers past q j) (beats_of m.kind) whole)
-  where
-    above : (a b : ℕ) → a < b → a ≡ b → ⊥
-    above a b less same = absurd (omega (arith, less, same))
+      distinct_r : QueueDistinct h (R q j resp last word ∷ past)
+      distinct_r p a b i ace la lb ea eb =
+          elim (entry p a i ea) [
+            | inl olda ↦ elim (entry p b i eb) [
+              | inl oldb ↦ f.distinct p a b i ace la lb olda oldb
+              | inr w ↦ absurd (not_queued p a i ace la olda w.same_port w.same_id)
+            ]
+            | inr v ↦ elim (entry p b i eb) [
+              | inl oldb ↦ absurd (not_queued p b i ace lb oldb v.same_port v.same_id)
+              | inr w ↦ v.at ∙ sym w.at
+            ]
+          ]
 
-pub queue_r : (h : Header) (past : Trace) (q j resp : ℕ) (last : Bool) (word : ℕ) → OneHolder h past → MayTransfer h past q j resp last → QueueStands h (R q j resp last word ∷ past)
-queue_r h past q j resp last word f m p n i ace low e =
-    elim (entry past q j resp last word p n i e) [
-      | inl old ↦
-          let base = f.queue p n i ace low old in (
-            base.0,
-            stays_r h past q j resp last word p i base.0 ace base.1,
+      module _ (bits : k19 h past (R q j resp last word) ≡ true) where
+        -- the read of the transfer, at an ACE port
+        arrive_here : is_ace h q ≡ true → is_line m.one ≡ true → Arrives h (R q j resp last word ∷ past) q j m.one
+        arrive_here ace line =
+            elim (cases_eq (transfers past q j) 0) [
+              | inr later ↦
+                  arrives_kept h past (R q j resp last word) q j m.one stands (rw (not_first (nat_eq q q && nat_eq j j) (ne_eqb (transfers past q j) 0 later)) refl) refl
+                  (λ r. Lessens-self (state_of h past r m.one.addr)) (f.arrive q j m.one ace m.out line later)
+              | inl zero_before ↦
+                  let first : first_resp (R q j resp last word ∷ past) q j ≡ Some resp =
+                  rw (and_from _ _ (and_from _ _ (eq-eqb q q (refl {a = q})) (eq-eqb j j (refl {a = j}))) (eq-eqb (transfers past q j) 0 zero_before)) refl in
+                  let d = is_first zero_before in
+                  let of_kind = λ (k : ArKind) (is : read_kind m.one ≡ Some k). Some-injective k m.kind (sym is ∙ m.is_kind) in
+                  record {
+                    stands = stands;
+                    alone = λ k is t r ne.
+                        let taken : takes_alone m.kind (is_shared resp) (has_failed past m.one) ≡ true =
+                        subst (λ c. takes_alone c (is_shared resp) (has_failed past m.one) ≡ true) (of_kind k is)
+                        (subst (λ o. takes_alone k (is_some_and o is_shared) (has_failed past m.one) ≡ true) first t) in
+                        first_alone h past m.one m.kind resp f d taken r (λ e. ne (sym m.port ∙ e));
+                    beside = λ k is t r ne. first_beside h past m.one m.kind resp f d (rw (sym (of_kind k is)) t) r (λ e. ne (sym m.port ∙ e));
+                    dirty = λ t. first_dirty h past m.one m.kind resp f d (subst (λ o. is_some_and o passes_dirty ≡ true) first t);
+                  }
+            ]
+          where
+            parts : (is_granted h past m.one && implies (nat_eq (transfers past m.one.port m.one.id) 0) (are_snoops_done h past m.one) ≡ true)
+                × (implies (has_passed_data h past m.one) (takes_passed h past m.one resp) ≡ true)
+            parts = and_parts (is_granted h past m.one && implies (nat_eq (transfers past m.one.port m.one.id) 0) (are_snoops_done h past m.one)) _ (m.may line)
+
+            stood : granted h past m.one.addr ≡ Some m.one
+            stood = granted_one q Read j m.one f m.named (and_parts (is_granted h past m.one) _ parts.0).0
+
+            stands : granted h (R q j resp last word ∷ past) m.one.addr ≡ Some m.one
+            stands =
+                without-other (ended h past (R q j resp last word)) (granted h past m.one.addr) m.one stood (λ z is same.
+                let isnt = (ends_lite h past q j resp last word z is).0 in cc)
+
+            not_first : (b : Bool) → nat_eq (transfers past q j) 0 ≡ false → (b && nat_eq (transfers past q j) 0) ≡ false
+            not_first true e = e
+            not_first false e = refl
+
+            is_first : transfers past q j ≡ 0 → IsFirst h past m.one m.kind resp
+            is_first z =
+                let same : transfers past m.one.port m.one.id ≡ transfers past q j = ap (λ a. transfers past a m.one.id) m.port ∙ ap (transfers past q) m.id in
+                record {
+                  ace = ap (is_ace h) m.port ∙ ace;
+                  kind = m.is_kind;
+                  stands = stood;
+                  done = implies-at (nat_eq (transfers past m.one.port m.one.id) 0) (are_snoops_done h past m.one)
+                      (and_parts (is_granted h past m.one) _ parts.0).1 (eq-eqb (transfers past m.one.port m.one.id) 0 (same ∙ z));
+                  takes = implies-at (has_passed_data h past m.one) (takes_passed h past m.one resp) parts.1;
+                  bits = upper_bits h past m.one m.kind resp m.is_kind
+                      (is_none_or-at (outstanding h past q Read j) (has_upper_bits h past resp) m.one bits m.out);
+                }
+
+        arrive_r : TransfersArrive h (R q j resp last word ∷ past)
+        arrive_r p i x ace o line some =
             elim (cases_Bool (nat_eq p q && nat_eq i j)) [
               | inr other ↦
-                  let same : transfers (R q j resp last word ∷ past) p i ≡ transfers past p i = rw other (refl {a = transfers past p i}) in
-                  subst (λ t. is_some_and (read_kind base.0) (λ k. t == beats_of k) ≡ true) (sym same) base.2
+                  read_kept h past (R q j resp last word) f refl (λ l y g r. Lessens-self (state_of h past r l)) p i x ace o line
+                  (λ z. some (rw other z)) (rw other refl)
               | inl same ↦
                   let parts = and_parts (nat_eq p q) (nat_eq i j) same in
-                  absurd (not_queued h past q j resp n i p last f m ace low old (eqb-true p q parts.0) (sym (eqb-true i j parts.1)))
-            ],
-          )
-      | inr new ↦ moved new
-    ]
-  where
-    moved : IsNew past p q j n i last
-        → (x : Transaction) × (outstanding h (R q j resp last word ∷ past) p Read i ≡ Some x)
-        × (is_some_and (read_kind x) (λ k. transfers (R q j resp last word ∷ past) p i == beats_of k) ≡ true)
-    moved new =
-        let P : ℕ → ℕ → Type 0 = λ a b. (x : Transaction) × (outstanding h (R q j resp last word ∷ past) a Read b ≡ Some x)
-        × (is_some_and (read_kind x) (λ k. transfers (R q j resp last word ∷ past) a b == beats_of k) ≡ true) in
-        let more : transfers (R q j resp last word ∷ past) q j ≡ transfers past q j + 1 = rw (and_from _ _ (eq-eqb q q (refl {a = q})) (eq-eqb j j (refl {a = j}))) (refl {a = transfers past q j + 1}) in
-        let whole : (transfers (R q j resp last word ∷ past) q j == beats_of m.kind) ≡ true =
-        eq-eqb (transfers (R q j resp last word ∷ past) q j) (beats_of m.kind) (more ∙ m.ends new.is_last) in
-        let out = stays_r h past q j resp last word q j m.one (subst (λ a. is_ace h a ≡ true) new.same_port ace) m.out in
-        subst (λ a. P a i) (sym new.same_port) (subst (λ b. P q b) new.same_id
-        (m.one, out, subst (λ o. is_some_and o (λ k. transfers (R q j resp last word ∷ past) q j == beats_of k) ≡ true) (sym m.is_kind) whole))
+                  let pq = eqb-true p q parts.0 in
+                  let ij = eqb-true i j parts.1 in
+                  let was = was_there (ended h past (R q j resp last word)) (outstanding h past p Read i) x o in
+                  let here : outstanding h past q Read j ≡ Some x = subst (λ a. outstanding h past a Read j ≡ Some x) pq (subst (λ b. outstanding h past p Read b ≡ Some x) ij was) in
+                  let one : m.one ≡ x = Some-injective m.one x (sym m.out ∙ here) in
+                  let a = arrive_here (subst (λ a. is_ace h a ≡ true) pq ace) (subst (λ y. is_line y ≡ true) (sym one) line) in
+                  subst (λ a. Arrives h (R q j resp last word ∷ past) a i x) (sym pq)
+                  (subst (λ b. Arrives h (R q j resp last word ∷ past) q b x) (sym ij)
+                  (subst (λ y. Arrives h (R q j resp last word ∷ past) q j y) one a))
+            ]
 
-pub distinct_r : (h : Header) (past : Trace) (q j resp : ℕ) (last : Bool) (word : ℕ) → OneHolder h past → MayTransfer h past q j resp last → QueueDistinct h (R q j resp last word ∷ past)
-distinct_r h past q j resp last word f m p a b i ace la lb ea eb =
-    elim (entry past q j resp last word p a i ea) [
-      | inl olda ↦ elim (entry past q j resp last word p b i eb) [
-        | inl oldb ↦ f.distinct p a b i ace la lb olda oldb
-        | inr w ↦ absurd (not_queued h past q j resp a i p last f m ace la olda w.same_port w.same_id)
-      ]
-      | inr v ↦ elim (entry past q j resp last word p b i eb) [
-        | inl oldb ↦ absurd (not_queued h past q j resp b i p last f m ace lb oldb v.same_port v.same_id)
-        | inr w ↦ v.at ∙ sym w.at
-      ]
-    ]
+    pub keeps_r : OneHolder h past → k18 h past (R q j resp last word) ≡ true → k19 h past (R q j resp last word) ≡ true
+        → OneHolder h (R q j resp last word ∷ past)
+    keeps_r f due bits =
+        let m = may q j resp last word due in
+        assumption (
+          f,
+          standing h past (R q j resp last word) f refl (λ l x g r. Lessens-self (state_of h past r l)),
+          arrive_r f m bits,
+          queue_r f m,
+          distinct_r f m,
+        )

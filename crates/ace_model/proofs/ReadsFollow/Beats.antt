@@ -4,10 +4,10 @@ use Rattle.std.proofs.lemmas.Bool.{and_from, eq-eqb, ne_eqb}
 use Rattle.ace_model.proofs.Terms.{Event, Ar, R, L, Read, Transaction, Trace, event_at, at_point, is_named, issued, transaction_of, transfers, IsLoad, IsBeat, HasBeat}
 use Rattle.ace_model.proofs.Trace.Issued.{issued_at, issued-place, transaction_of-stands}
 use Rattle.ace_model.proofs.Trace.Looks.{newest_named-cases}
-use Rattle.ace_model.proofs.Holders.Address.{named_read}
 use Rattle.ace_model.proofs.Trace.Places.{beat-cases, beat-below, event_at-cases, at_point-length}
 use Rattle.ace_model.proofs.ReadsFollow.Order.{beat-issued}
 use Rattle.ace_model.proofs.General.Options.{Some-injective}
+use Rattle.ace_model.proofs.Trace.Outstanding.{named_read}
 
 -- the name of the read goes on to have transfers
 transfers-stay : (e : Event) (past : Trace) (p i : ℕ) → is_named (issued (length past) e) p Read i ≡ false → transfers past p i ≢ 0 → transfers (e ∷ past) p i ≢ 0

@@ -1,16 +1,14 @@
--- In an accepted trace in which data newer than memory are with a holder or in flight, all reads follow one order of the stores.
-use Rattle.std.proofs.Common.{◌≡◌, ℕ, ◌<◌, Bool, true, if◌then◌else◌, nat_eq, [], ◌∷◌, Some, refl, sym, ap, subst, ◌∙◌, arith, inl, inr}
+-- In an accepted trace all reads follow one order of the stores.
+use Rattle.std.proofs.Common.{[], ap, subst, Bool, Some, arith, if◌then◌else◌, inl, inr, nat_eq, refl, sym, true, ℕ, ◌<◌, ◌∙◌, ◌∷◌, ◌≡◌}
 use Rattle.std.proofs.lemmas.Bool.{cases_Bool, cases_eq, eq-eqb}
-use Rattle.ace_model.proofs.Terms.{Read, Event, L, R, Header, Transaction, Trace, outstanding, transaction_of, transfers, is_line_read_transaction, DirtyPlace, ReadsFollow, k18, IsAccepted}
+use Rattle.std.specs.List.{AllByRecursion}
+use Rattle.ace_model.proofs.Terms.{Event, Header, InRange, IsAccepted, L, R, Read, ReadsFollow, Trace, Transaction, is_line_read_transaction, k18, outstanding, transaction_of, transfers}
 use Rattle.ace_model.proofs.Rules.Keeps.{accepted_keeps}
 use Rattle.ace_model.proofs.Holders.Transfer.{MayTransfer, may}
 use Rattle.ace_model.proofs.Trace.Places.{NewBeat, event_at-below, beat-below}
 use Rattle.ace_model.proofs.ReadsFollow.Order.{points-in_order}
 use Rattle.ace_model.proofs.ReadsFollow.Points.{IsPointOf, Follows, follows-choose}
 use Rattle.ace_model.proofs.ReadsFollow.First.{first-point, Ready, more}
-use Rattle.ace_model.proofs.ReadsFollow.MemorySince.{MemoryFollows}
-use Rattle.ace_model.proofs.ReadsFollow.Done.{memory_follows}
-use Rattle.ace_model.proofs.ReadsFollow.Written.{writes_value}
 use Rattle.ace_model.proofs.General.Options.{Some-injective}
 
 -- the points of the reads of a trace
@@ -39,9 +37,9 @@ one-beat h past q j resp last word x k w m b =
       line_read = subst (λ (v : Transaction). is_line_read_transaction v ≡ true) (sym same) b.line_read;
     }
 
-with-beat : (h : Header) (past : Trace) (q j resp : ℕ) (last : Bool) (word : ℕ) → IsAccepted h (R q j resp last word ∷ past) → DirtyPlace h past
-    → MemoryFollows h past → Points h past → Points h (R q j resp last word ∷ past)
-with-beat h past q j resp last word a d memory points =
+with-beat : (h : Header) (past : Trace) (q j resp : ℕ) (last : Bool) (word : ℕ) → IsAccepted h (R q j resp last word ∷ past) → AllByRecursion InRange past
+    → Points h past → Points h (R q j resp last word ∷ past)
+with-beat h past q j resp last word a range points =
     let due : k18 h past (R q j resp last word) ≡ true = (accepted_keeps h past (R q j resp last word) a).rule_18 in
     cases (may h past q j resp last word due)
   where
@@ -53,7 +51,7 @@ with-beat h past q j resp last word a d memory points =
 
     first : (m : MayTransfer h past q j resp last) → is_line_read_transaction m.one ≡ true → transfers past q j ≡ 0 → Points h (R q j resp last word ∷ past)
     first m reads none =
-        let p = first-point h past q j resp last word m.one a d memory m.out reads none in
+        let p = first-point h past q j resp last word m.one a range m.out reads none in
         let out : outstanding h past m.one.port Read m.one.id ≡ Some m.one =
         ap (λ v. outstanding h past v Read m.one.id) m.port ∙ ap (outstanding h past q Read) m.id ∙ m.out in
         let count : transfers past m.one.port m.one.id ≡ 0 = ap (λ v. transfers past v m.one.id) m.port ∙ ap (transfers past q) m.id ∙ none in
@@ -61,14 +59,14 @@ with-beat h past q j resp last word a d memory points =
         let ready : Ready past (R q j resp last word) chosen = λ x k w b.
         let o = one-beat h past q j resp last word x k w m b in
         subst (λ (v : Transaction). IsPointOf past v (chosen v.place)) o.same (rw (eq-eqb m.one.place m.one.place (refl {a = m.one.place})) p.1) in
-        (chosen, more h past (R q j resp last word) chosen a d (follows-choose h past point m.one p.0 f out count) ready)
+        (chosen, more h past (R q j resp last word) chosen a range (follows-choose h past point m.one p.0 f out count) ready)
 
     cases : MayTransfer h past q j resp last → Points h (R q j resp last word ∷ past)
     cases m =
         elim (cases_Bool (is_line_read_transaction m.one)) [
           | inr other ↦ (
             point,
-            more h past (R q j resp last word) point a d f (λ x k w b.
+            more h past (R q j resp last word) point a range f (λ x k w b.
                 let o = one-beat h past q j resp last word x k w m b in
                 let reads = o.line_read in cc),
           )
@@ -76,7 +74,7 @@ with-beat h past q j resp last word a d memory points =
             | inl none ↦ first m reads none
             | inr some ↦ (
               point,
-              more h past (R q j resp last word) point a d f (λ x k w b.
+              more h past (R q j resp last word) point a range f (λ x k w b.
                   let o = one-beat h past q j resp last word x k w m b in
                   subst (λ (v : Transaction). IsPointOf past v (point v.place)) o.same (f.replies q j m.one m.out reads some)),
             )
@@ -84,9 +82,9 @@ with-beat h past q j resp last word a d memory points =
         ]
 
 -- the points of the trace that is one event longer
-with-event : (h : Header) (past : Trace) (e : Event) → IsAccepted h (e ∷ past) → DirtyPlace h past → MemoryFollows h past → Points h past → Points h (e ∷ past)
-with-event h past (R q j resp last word) a d memory points = with-beat h past q j resp last word a d memory points
-with-event h past e a d memory points = (points.0, more h past e points.0 a d points.1 (λ x k w b. let no = b.event in cc))
+with-event : (h : Header) (past : Trace) (e : Event) → IsAccepted h (e ∷ past) → AllByRecursion InRange past → Points h past → Points h (e ∷ past)
+with-event h past (R q j resp last word) a range points = with-beat h past q j resp last word a range points
+with-event h past e a range points = (points.0, more h past e points.0 a range points.1 (λ x k w b. let no = b.event in cc))
 
 start : (h : Header) → Points h []
 start h = (
@@ -107,16 +105,14 @@ start h = (
     none : (n : ℕ) → n < 0 → ⊥
     none n low = omega arith
 
-all-points : (h : Header) → ((t : Trace) → IsAccepted h t → DirtyPlace h t → MemoryFollows h t) → (past : Trace) → IsAccepted h past → DirtyPlace h past → Points h past
-all-points h memory [] a d = start h
-all-points h memory (e ∷ past) a d =
-    with-event h past e a d.0 (memory past a.0 d.0) (all-points h memory past a.0 d.0)
+all-points : (h : Header) (past : Trace) → IsAccepted h past → AllByRecursion InRange past → Points h past
+all-points h [] a range = start h
+all-points h (e ∷ past) a range = with-event h past e a range.1 (all-points h past a.0 range.1)
 
--- Where memory follows the value while snoops bring no data, all reads do.
-pub reads_follow_memory : (h : Header) → ((t : Trace) → IsAccepted h t → DirtyPlace h t → MemoryFollows h t)
-    → (past : Trace) → IsAccepted h past → DirtyPlace h past → ReadsFollow past
-reads_follow_memory h memory past a d =
-    let p = all-points h memory past a d in
+-- In an accepted trace all reads follow one order of the stores, if the numbers of its events are in range.
+pub reads_follow : (h : Header) (past : Trace) → IsAccepted h past → AllByRecursion InRange past → ReadsFollow past
+reads_follow h past a range =
+    let p = all-points h past a range in
     let f = p.1 in (
       p.0,
       record {
@@ -128,7 +124,3 @@ reads_follow_memory h memory past a d =
         in_order = points-in_order h past p.0 a f.set;
       },
     )
-
--- In an accepted trace in which data newer than memory are with a holder or in flight, all reads follow one order of the stores.
-pub reads_follow : (h : Header) (past : Trace) → IsAccepted h past → DirtyPlace h past → ReadsFollow past
-reads_follow h past a d = reads_follow_memory h (memory_follows h (writes_value h)) past a d

@@ -1,15 +1,17 @@
 -- The points of the reads of a line by one port never go back: an earlier read has all its beats before the later one.
 use Rattle.std.proofs.Common.{◌≡◌, ◌⊎◌, ℕ, zero, suc, ◌-◌, ◌<◌, ◌≤◌, true, false, nat_eq, [], ◌∷◌, length, drop, Some, sym, ap, subst, ◌∙◌, arith, inl, inr}
 use Rattle.std.proofs.lemmas.Bool.{cases_Bool, eqb-true, not-true}
-use Rattle.ace_model.proofs.Terms.{I, is_invalid, Event, L, R, G, Read, Header, Transaction, Trace, event_at, at_point, issued, outstanding, state_of, k30, k5, k18, IsLoad, IsBeat, IsGrantOf, HasBeat}
-use Rattle.ace_model.proofs.Terms.{IsReadBy, IsAccepted}
+use Rattle.ace_model.proofs.Terms.{has_free_line, is_on, more, I, is_invalid, Event, L, R, G, Read, Header, Transaction, Trace, event_at, at_point, issued, outstanding, state_of, k30, k18, IsLoad}
+use Rattle.ace_model.proofs.Terms.{IsBeat, IsGrantOf, HasBeat, IsReadBy, IsAccepted}
 use Rattle.ace_model.proofs.Trace.Growth.{at_point-before, issued_at-before}
-use Rattle.ace_model.proofs.Trace.Points.{accepted-before}
+use Rattle.ace_model.proofs.Trace.Growth.{accepted-before}
 use Rattle.ace_model.proofs.Trace.Issued.{issued_at, transaction_of-stands}
+use Rattle.ace_model.proofs.Trace.LineOnce.{free_line}
+use Rattle.ace_model.proofs.General.Options.{is_none_or-at}
 use Rattle.ace_model.proofs.Rules.Keeps.{accepted_keeps}
 use Rattle.ace_model.proofs.Holders.Transfer.{may}
-use Rattle.ace_model.proofs.Trace.Places.{event_at-cases, event_at-below, at_point-last, at_point-twice, at_point-length, beat-below}
-use Rattle.ace_model.proofs.ReadsFollow.Outstanding.{outstanding-before, line-taken, line_read-line, empty_while_read}
+use Rattle.ace_model.proofs.Trace.Places.{event_at-now, event_at-old, event_at-cases, event_at-below, at_point-last, at_point-twice, at_point-length, beat-below}
+use Rattle.ace_model.proofs.ReadsFollow.Outstanding.{outstanding-before, line_read-on, empty_while_read}
 
 -- the event at a place of an accepted trace keeps the rules
 pub event-accepted : (h : Header) (past : Trace) (n : ℕ) (z : Event) → IsAccepted h past → event_at past n ≡ Some z → IsAccepted h (z ∷ at_point n past)
@@ -33,34 +35,15 @@ issued_at-below (e ∷ past) n x there =
       | inr other ↦ let low = issued_at-below past n x (rw other at there) in omega arith
     ]
 
--- The event that issues a transaction of the trace.
-pub record IssuesAt (h : Header) (past : Trace) (x : Transaction) (n : ℕ) : Type 0 where
-  pub event : Event
-  pub accepted : IsAccepted h (event ∷ at_point n past)
-  pub issues : issued (length (at_point n past)) event ≡ Some x
-
-pub issues-at : (h : Header) (past : Trace) (n : ℕ) (x : Transaction) → IsAccepted h past → issued_at past n ≡ Some x → IssuesAt h past x n
-issues-at h [] n x a there = cc
-issues-at h (e ∷ past) n x a there =
+-- what was issued at a place was issued by the event there
+pub issued-by : (past : Trace) (n : ℕ) (x : Transaction) → issued_at past n ≡ Some x → (e : Event) × (event_at past n ≡ Some e) × (issued n e ≡ Some x)
+issued-by [] n x there = cc
+issued-by (e ∷ past) n x there =
     elim (cases_Bool (nat_eq (length past) n)) [
       | inl here ↦
-          let new : issued (length past) e ≡ Some x = rw here at there in
-          let same : at_point n (e ∷ past) ≡ past = at_point-last e past n (sym (eqb-true (length past) n here)) in
-          record {
-            event = e;
-            accepted = subst (λ (t : Trace). IsAccepted h (e ∷ t)) (sym same) a;
-            issues = subst (λ (t : Trace). issued (length t) e ≡ Some x) (sym same) new;
-          }
-      | inr other ↦
-          let old : issued_at past n ≡ Some x = rw other at there in
-          let low = issued_at-below past n x old in
-          let s = issues-at h past n x a.0 old in
-          let same : at_point n (e ∷ past) ≡ at_point n past = at_point-before e past n (omega arith) in
-          record {
-            event = s.event;
-            accepted = subst (λ (t : Trace). IsAccepted h (s.event ∷ t)) (sym same) s.accepted;
-            issues = subst (λ (t : Trace). issued (length t) s.event ≡ Some x) (sym same) s.issues;
-          }
+          let same = eqb-true (length past) n here in
+          (e, ap (event_at (e ∷ past)) (sym same) ∙ event_at-now e past, ap (λ m. issued m e) (sym same) ∙ (rw here at there))
+      | inr other ↦ let old = issued-by past n x (rw other at there) in (old.0, event_at-old e past n old.0 old.1, old.2)
     ]
 
 -- at a load its port holds the line
@@ -170,10 +153,14 @@ points-in_order h past point a s p l n m (inr x) (inr y) less =
       | inr after ↦
           let place = x.4 in
           let out = beat-since h past b.0 m x.0 b.1.0 b.1.1.0 a beat after (omega arith) in
-          let beat_y = y.1.1.1.1 in
-          let line_y = line_read-line y.0 beat_y.1.1.2 in
-          let line_x = line_read-line x.0 beat.1.1.2 in
-          let t = issues-at h past m y.0 a (ap (issued_at past) (sym place_y) ∙ beat-issued past y.0 y.1) in
-          let k : k5 h (at_point m past) t.event ≡ true = (accepted_keeps h (at_point m past) t.event t.accepted).rule_5 in
-          absurd (line-taken h t.event (at_point m past) x.0.port Read x.0.id x.0 y.0 k t.issues line_y out line_x (x.3 ∙ sym y.3) (x.2 ∙ sym y.2))
+          let t = issued-by past m y.0 (ap (issued_at past) (sym place_y) ∙ beat-issued past y.0 y.1) in
+          let accepted = event-accepted h past m t.0 a t.1 in
+          let long = at_point-length past m (let low = event_at-below past m t.0 t.1 in omega arith) in
+          let free = is_none_or-at (issued (length (at_point m past)) t.0) (has_free_line h (at_point m past)) y.0
+          (accepted_keeps h (at_point m past) t.0 accepted).rule_5 (ap (λ v. issued v t.0) long ∙ t.2) in
+          let on_x : is_on x.0 l ≡ true = subst (λ v. is_on x.0 v ≡ true) x.3 (line_read-on x.0 beat.1.1.2) in
+          let on_y : is_on y.0 l ≡ true = subst (λ v. is_on y.0 v ≡ true) y.3 (line_read-on y.0 y.1.1.1.1.1.1.2) in
+          let named = (transaction_of-stands (at_point y.1.0 past) y.0.port Read y.0.id y.0 y.1.1.1.1.1.1.1).named in
+          absurd (free_line h (at_point m past) y.0.port Read Read y.0.id x.0.id l y.0 x.0 free named
+          (ap (λ v. outstanding h (at_point m past) v Read x.0.id) (y.2 ∙ sym x.2) ∙ out) on_y on_x)
     ]

@@ -1,8 +1,8 @@
 -- The points of the reads of a trace, as the trace grows by an event, and as the point of a read is chosen before its first beat.
-use Rattle.std.proofs.Common.{◌≡◌, ◌≢◌, ℕ, ◌<◌, ◌≤◌, Bool, true, false, if◌then◌else◌, nat_eq, ◌∷◌, length, Some, refl, sym, ap, subst, ◌∙◌, arith, inl, inr}
+use Rattle.std.proofs.Common.{◌≡◌, ◌≢◌, ℕ, ◌<◌, ◌≤◌, Bool, true, false, if◌then◌else◌, nat_eq, ◌∷◌, length, Some, sym, ap, subst, ◌∙◌, arith, inl, inr}
 use Rattle.std.proofs.lemmas.Bool.{eqb-true, ne_eqb, not-true}
-use Rattle.ace_model.proofs.Terms.{I, is_invalid, Event, L, R, Read, Header, Line, Transaction, Trace, at_point, ArKind, beats_of, reads_a_line, read_kind, outstanding, transaction_of, transfers, state_of}
-use Rattle.ace_model.proofs.Terms.{is_line_read_transaction, word_of, copy_of, reply_of, value_of, k30, k31, k18, k20, has_word, AreCopiesTrue, IsLoad, IsBeat, IsGrantOf, IsAccepted}
+use Rattle.ace_model.proofs.Terms.{I, is_invalid, Event, L, R, Read, Header, Transaction, Trace, at_point, outstanding, transaction_of, transfers, state_of, is_line_read_transaction, word_of, copy_of}
+use Rattle.ace_model.proofs.Terms.{reply_of, value_of, k30, k31, has_word, AreCopiesTrue, IsLoad, IsBeat, IsGrantOf, IsAccepted}
 use Rattle.ace_model.proofs.Trace.Growth.{at_point-before}
 use Rattle.ace_model.proofs.Trace.Issued.{issued_at, outstanding-named, transaction_of-stands, same_place}
 use Rattle.ace_model.proofs.Rules.Keeps.{accepted_keeps}
@@ -11,17 +11,13 @@ use Rattle.ace_model.proofs.Holders.Transfer.{may}
 use Rattle.ace_model.proofs.Trace.Places.{NewBeat, load-cases, beat-cases, grant-old, event_at-below, at_point-last}
 use Rattle.ace_model.proofs.ReadsFollow.Order.{PointsSet}
 use Rattle.ace_model.proofs.ReadsFollow.Beats.{load-elsewhere, beat-elsewhere}
-use Rattle.ace_model.proofs.General.Options.{Some-injective, is_none_or-at}
+use Rattle.ace_model.proofs.General.Options.{is_none_or-at}
 
--- the words of both lines are the same
-abbrev pub SameWords : Line → Line → Type 0
-SameWords a b = (k : ℕ) → k < 4 → word_of a k ≡ word_of b k
-
--- The point is one for the line read: after its G, and the reply has the words of the value there.
+-- The point is one for the line read: after its G, and the reply is the value there.
 pub record IsPointOf (past : Trace) (x : Transaction) (n : ℕ) : Type 0 where
   pub granted : (g : ℕ) × (IsGrantOf past g x × g < n)
   pub low : n ≤ length past
-  pub same : SameWords (reply_of past x) (value_of (at_point n past) x.addr)
+  pub same : reply_of past x ≡ value_of (at_point n past) x.addr
 
 -- The points of the reads, and what holds of the reads that go on to have beats.
 pub record Follows (h : Header) (past : Trace) (point : ℕ → ℕ) : Type 0 where
@@ -42,37 +38,17 @@ load_value h past p l w word x copies a =
     let holds : state_of h past p l ≢ I = λ gone. let bad : is_invalid I ≡ false = subst (λ s. is_invalid s ≡ false) gone held in cc in
     eqb-true word (word_of (copy_of past p l) w) g ∙ ap (λ v. word_of v w) (copies p holds)
 
--- What the rules say of a beat.
-record BeatOf (past : Trace) (x : Transaction) (k word : ℕ) : Type 0 where
-  few : k < 4
-  word_is : word ≡ word_of (reply_of past x) k
-
-beat_of : (h : Header) (past : Trace) (e : Event) (x : Transaction) (k word : ℕ) → IsAccepted h (e ∷ past) → NewBeat past e x k word → BeatOf past x k word
-beat_of h past e x k word a b =
+-- a beat has its word of the reply
+beat_word : (h : Header) (past : Trace) (e : Event) (x : Transaction) (k word : ℕ) → IsAccepted h (e ∷ past) → NewBeat past e x k word → word ≡ word_of (reply_of past x) k
+beat_word h past e x k word a b =
     let z = R x.port x.id b.resp b.last word in
     let accepted : IsAccepted h (z ∷ past) = subst (λ (v : Event). IsAccepted h (v ∷ past)) b.event a in
-    let due : k18 h past z ≡ true = (accepted_keeps h past z accepted).rule_18 in
-    let words : k20 h past z ≡ true = (accepted_keeps h past z accepted).rule_20 in
-    let m = may h past x.port x.id b.resp b.last word due in
+    let m = may h past x.port x.id b.resp b.last word (accepted_keeps h past z accepted).rule_18 in
     let out : outstanding h past x.port Read x.id ≡ Some x = m.out ∙ sym m.named ∙ b.named in
-    let t = is_none_or-at (outstanding h past x.port Read x.id) (has_word past word) x words out in
-    let reads : (if is_line_read_transaction x then word_of (reply_of past x) (transfers past x.port x.id) else 0) ≡ word_of (reply_of past x) (transfers past x.port x.id) =
-    chosen (is_line_read_transaction x) b.line_read in
-    let one : m.one ≡ x = Some-injective m.one x (sym m.named ∙ b.named) in
-    record {
-      few = few m.kind (subst (λ (v : Transaction). read_kind v ≡ Some m.kind) one m.is_kind) m.few b.line_read b.number;
-      word_is = eqb-true word _ t ∙ reads ∙ ap (word_of (reply_of past x)) b.number;
-    }
-  where
-    chosen : (t : Bool) → t ≡ true → (if t then word_of (reply_of past x) (transfers past x.port x.id) else 0) ≡ word_of (reply_of past x) (transfers past x.port x.id)
-    chosen true e = refl
-    chosen false e = cc
-
-    few : (c : ArKind) → read_kind x ≡ Some c → transfers past x.port x.id < beats_of c → is_line_read_transaction x ≡ true → transfers past x.port x.id ≡ k → k < 4
-    few c kind less reads number =
-        let four : reads_a_line c ≡ true = rw kind at reads in
-        let low : transfers past x.port x.id < 4 = rw four at less in
-        omega arith
+    let t = is_none_or-at (outstanding h past x.port Read x.id) (has_word past word) x (accepted_keeps h past z accepted).rule_20 out in
+    let reads = b.line_read in
+    let is : nat_eq word (word_of (reply_of past x) (transfers past x.port x.id)) ≡ true = rw reads at t in
+    eqb-true word _ is ∙ ap (word_of (reply_of past x)) b.number
 
 -- Where each new beat has its point, the points serve the longer trace too.
 pub follows-step : (h : Header) (past : Trace) (e : Event) (point : ℕ → ℕ) → Follows h past point → IsAccepted h (e ∷ past)
@@ -118,9 +94,8 @@ follows-step h past e point f a copies ready replies = record {
         f.beat_word n k word x old.0 ∙ ap (λ (t : Trace). word_of (value_of t x.addr) k) (sym same)
     | inr new ↦
         let r = ready x k word new.1 in
-        let z = beat_of h past e x k word a new.1 in
         let same : at_point (point x.place) (e ∷ past) ≡ at_point (point x.place) past = at_point-before e past (point x.place) r.low in
-        z.word_is ∙ r.same k z.few ∙ ap (λ (t : Trace). word_of (value_of t x.addr) k) (sym same)
+        beat_word h past e x k word a new.1 ∙ ap (λ v. word_of v k) (r.same ∙ ap (λ (t : Trace). value_of t x.addr) (sym same))
   ];
   later = λ n high. f.later n (omega arith);
   replies = replies;

@@ -4,8 +4,7 @@ use Rattle.std.specs.List.{list_all}
 use Rattle.std.proofs.lemmas.Bool.{and_parts, or_cases, not-true}
 use Rattle.ace_model.proofs.Terms.{ArKind, LineState, I, UC, SC, SD, end_states_of_read, ends_read, is_invalid, is_unique, is_dirty, implies, is_fetch, is_make_unique}
 use Rattle.ace_codes.specs.declared.kind.ArKind.TheVariants as read
-use Rattle.ace_model.proofs.Trace.Looks.{is_invalid-is}
-use Rattle.ace_model.proofs.Tables.States.{all_among}
+use Rattle.ace_model.proofs.Tables.States.{all_among, is_invalid-is}
 use Rattle.ace_model.proofs.General.Booleans.{implies-at}
 
 -- reads that may end in a unique state, by IsShared and whether it is an exclusive store that failed

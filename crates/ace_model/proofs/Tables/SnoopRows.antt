@@ -1,10 +1,10 @@
 -- What a row of a snoop says of the data: a dirty line is sent, and stays with the port or is passed on.
-use Rattle.std.proofs.Common.{◌≡◌, ℕ, Bool, true, false, not, ◌&&◌, ◌||◌, nat_eq, nat_lt, refl, sym, subst, ◌∙◌}
-use Rattle.std.proofs.lemmas.Bool.{and_parts, not-true, eqb-true}
-use Rattle.ace_model.proofs.Terms.{SnoopKind, LineState, I, UD, SD, transfers_data, has_error, passes_dirty, is_shared, same_test, states_after, fits_transfer, must_pass_dirty, fits_answer, fits_update}
-use Rattle.ace_model.proofs.Terms.{goes_with_update, is_line_row, is_plain_row, is_snoop_row, is_among, is_invalid, is_dirty, is_silent_move, is_line_snoop}
+use Rattle.std.proofs.Common.{◌≡◌, ℕ, Bool, true, false, not, ◌&&◌, nat_eq, refl, sym, subst, ◌∙◌}
+use Rattle.std.proofs.lemmas.Bool.{not-false, and_parts, not-true, eqb-true}
+use Rattle.ace_model.proofs.Terms.{SnoopKind, LineState, I, UD, SD, transfers_data, passes_dirty, fits_transfer, must_pass_dirty}
+use Rattle.ace_model.proofs.Terms.{goes_with_update, is_line_row, is_plain_row, is_snoop_row, is_invalid, is_dirty, is_silent_move, is_line_snoop}
 use Rattle.ace_codes.specs.declared.kind.SnoopKind.TheVariants as snoop
-use Rattle.ace_model.proofs.General.Booleans.{same_test-at}
+use Rattle.ace_model.proofs.Tables.LineRow.{line_row}
 
 abbrev pub is_make_invalid : SnoopKind → Bool
 is_make_invalid snoop.MakeInvalid = true
@@ -20,37 +20,8 @@ held_row k held update resp next line v e = e
 
 -- one that doesn't answers by the plain one
 pub empty_row : (k : SnoopKind) (update : Bool) (resp : ℕ) (next : LineState) → is_snoop_row k I update resp next ≡ true → is_plain_row resp next ≡ true
-empty_row snoop.ReadOnce update resp next e = e
-empty_row snoop.ReadShared update resp next e = e
-empty_row snoop.ReadClean update resp next e = e
-empty_row snoop.ReadNotSharedDirty update resp next e = e
-empty_row snoop.ReadUnique update resp next e = e
-empty_row snoop.CleanShared update resp next e = e
-empty_row snoop.CleanInvalid update resp next e = e
-empty_row snoop.MakeInvalid update resp next e = e
-empty_row snoop.DvmComplete update resp next e = e
 empty_row snoop.DvmMessage update resp next e = e
-
-pub record LineRow (k : SnoopKind) (held : LineState) (update : Bool) (resp : ℕ) (next : LineState) : Type 0 where
-  pub transfer : fits_transfer k held (transfers_data resp) ≡ true
-  pub pass : passes_dirty resp ≡ must_pass_dirty k held next
-  pub beside : (not update || fits_update k next resp) ≡ true
-
-pub line_row : (k : SnoopKind) (held : LineState) (update : Bool) (resp : ℕ) (next : LineState) → is_line_row k held update resp next ≡ true → LineRow k held update resp next
-line_row k held update resp next e =
-    let all = and_parts (is_among next (states_after k held) && fits_answer k held next resp) _ e in
-    let fits = (and_parts (is_among next (states_after k held)) _ all.0).1 in
-    let early = nat_lt resp 32 && not (has_error resp) && fits_transfer k held (transfers_data resp) in
-    let pass = same_test (passes_dirty resp) (must_pass_dirty k held next) in
-    let share = same_test (is_shared resp) (not (is_invalid next)) in
-    let one = and_parts (early && pass && share) _ fits in
-    let two = and_parts (early && pass) share one.0 in
-    let three = and_parts early pass two.0 in
-    record {
-      transfer = (and_parts (nat_lt resp 32 && not (has_error resp)) _ three.0).1;
-      pass = same_test-at _ _ three.1;
-      beside = all.1;
-    }
+empty_row k update resp next e = e
 
 dirty_held : (held : LineState) → is_dirty held ≡ true → is_invalid held ≡ false
 dirty_held UD e = refl
@@ -59,17 +30,11 @@ dirty_held held e = cc
 
 dirty_transfers : (k : SnoopKind) (held : LineState) (transfer : Bool) → is_make_invalid k ≡ false → is_dirty held ≡ true → fits_transfer k held transfer ≡ true → transfer ≡ true
 dirty_transfers snoop.MakeInvalid held transfer m d f = cc
-dirty_transfers k held true m d f = refl
-dirty_transfers k held false m d f = let bad : false ≡ true = rw d at f in cc
+dirty_transfers k held transfer m d f = rw d at f
 
 must_stay : (k : SnoopKind) (held next : LineState) → is_make_invalid k ≡ false → is_dirty held ≡ true → must_pass_dirty k held next ≡ false → is_dirty next ≡ true
 must_stay snoop.MakeInvalid held next m d f = cc
-must_stay k held next m d f = stays (is_dirty held) (is_dirty next) d f
-  where
-    stays : (a b : Bool) → a ≡ true → (a && not b) ≡ false → b ≡ true
-    stays true true d f = refl
-    stays true false d f = cc
-    stays false b d f = cc
+must_stay k held next m d f = not-false (is_dirty next) (rw d at f)
 
 -- a dirty line is sent
 pub dirty_sends : (k : SnoopKind) (held : LineState) (resp : ℕ) (next : LineState) → is_line_snoop k ≡ true → is_snoop_row k held false resp next ≡ true

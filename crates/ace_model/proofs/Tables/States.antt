@@ -1,14 +1,14 @@
 -- What the tables say of the state in which an event leaves a port: it is no more than the state before, or the kind of the
 -- transaction says what the other ports may hold.
-use Rattle.std.proofs.Common.{◌≡◌, ◌⊎◌, ℕ, Bool, true, false, not, ◌&&◌, ◌||◌, nat_eq, nat_lt, List, [], ◌∷◌, refl, sym, ap, subst, ◌∙◌, inl, inr}
+use Rattle.std.proofs.Common.{◌≡◌, ◌⊎◌, ℕ, Bool, true, false, not, ◌&&◌, ◌||◌, nat_eq, List, [], ◌∷◌, refl, sym, ap, subst, ◌∙◌, inl, inr}
 use Rattle.std.specs.List.{list_all, list_any}
-use Rattle.std.proofs.lemmas.Bool.{and_parts, or_cases, not-true, eqb-true}
-use Rattle.ace_model.proofs.Terms.{AwKind, SnoopKind, LineState, I, UC, UD, SC, SD, transfers_data, has_error, passes_dirty, is_shared, same_test, fits_transfer, must_pass_dirty, states_after, fits_answer}
+use Rattle.std.proofs.lemmas.Bool.{not-false, and_parts, or_cases, not-true, eqb-true}
+use Rattle.ace_model.proofs.Terms.{AwKind, SnoopKind, LineState, I, UC, UD, SC, SD, passes_dirty, is_shared, must_pass_dirty, states_after}
 use Rattle.ace_model.proofs.Terms.{is_line_row, is_plain_row, is_snoop_row, end_states_of_write, ends_write, is_silent_move, is_among, is_invalid, is_unique, is_dirty, same_state, implies}
 use Rattle.ace_codes.specs.declared.kind.AwKind.TheVariants as write
 use Rattle.ace_codes.specs.declared.kind.SnoopKind.TheVariants as snoop
-use Rattle.ace_model.proofs.Trace.Looks.{is_invalid-is}
-use Rattle.ace_model.proofs.General.Booleans.{implies-at, same_test-at}
+use Rattle.ace_model.proofs.General.Booleans.{implies-at, not_more}
+use Rattle.ace_model.proofs.Tables.LineRow.{line_row}
 
 -- I and SC: the port may not store, and owes no write
 abbrev pub is_settled : LineState → Bool
@@ -55,6 +55,10 @@ each_state P i uc ud sc sd UD = ud
 each_state P i uc ud sc sd SC = sc
 each_state P i uc ud sc sd SD = sd
 
+pub is_invalid-is : (st : LineState) → is_invalid st ≡ true → st ≡ I
+is_invalid-is I e = refl
+is_invalid-is st e = cc
+
 pub same_state-is : (a b : LineState) → same_state a b ≡ true → a ≡ b
 same_state-is I I e = refl
 same_state-is UC UC e = refl
@@ -78,10 +82,6 @@ Lessens-self st = record { gone = λ e. e; not_unique = λ e. e; settled = λ e.
 
 pub Lessens-same : (old new : LineState) → new ≡ old → Lessens old new
 Lessens-same old new e = subst (Lessens old) (sym e) (Lessens-self old)
-
-pub not_more : (a b : Bool) → implies a b ≡ true → b ≡ false → a ≡ false
-not_more true b e f = sym (implies-at true b e refl) ∙ f
-not_more false b e f = refl
 
 pub lessens-is : (old new : LineState) → lessens old new ≡ true → Lessens old new
 lessens-is old new e =
@@ -107,14 +107,8 @@ silent_lessens old new e = cc
 
 -- the end of a write
 write_ends : (k : AwKind) (held : LineState) → list_all (λ st. lessens held st && cleans held st) (end_states_of_write k held) ≡ true
-write_ends write.WriteNoSnoop = each_state _ refl refl refl refl refl
-write_ends write.WriteUnique = each_state _ refl refl refl refl refl
-write_ends write.WriteLineUnique = each_state _ refl refl refl refl refl
-write_ends write.WriteClean = each_state _ refl refl refl refl refl
-write_ends write.WriteBack = each_state _ refl refl refl refl refl
-write_ends write.Evict = each_state _ refl refl refl refl refl
-write_ends write.WriteEvict = each_state _ refl refl refl refl refl
 write_ends write.Barrier = each_state _ refl refl refl refl refl
+write_ends k = each_state _ refl refl refl refl refl
 
 pub write_lessens : (k : AwKind) (held st : LineState) → ends_write k held st ≡ true → (lessens held st && cleans held st) ≡ true
 write_lessens k held st e = all_among (λ s. lessens held s && cleans held s) (end_states_of_write k held) st e (write_ends k held)
@@ -125,30 +119,16 @@ answer_fits k held st =
     (lessens held st && cleans held st) && (implies (invalidates k) (is_invalid st) && implies (shares_line k) (not (is_unique st)))
 
 answer_states : (k : SnoopKind) (held : LineState) → list_all (answer_fits k held) (states_after k held) ≡ true
-answer_states snoop.ReadOnce = each_state _ refl refl refl refl refl
-answer_states snoop.ReadShared = each_state _ refl refl refl refl refl
-answer_states snoop.ReadClean = each_state _ refl refl refl refl refl
-answer_states snoop.ReadNotSharedDirty = each_state _ refl refl refl refl refl
-answer_states snoop.ReadUnique = each_state _ refl refl refl refl refl
-answer_states snoop.CleanShared = each_state _ refl refl refl refl refl
-answer_states snoop.CleanInvalid = each_state _ refl refl refl refl refl
-answer_states snoop.MakeInvalid = each_state _ refl refl refl refl refl
-answer_states snoop.DvmComplete = each_state _ refl refl refl refl refl
 answer_states snoop.DvmMessage = each_state _ refl refl refl refl refl
+answer_states k = each_state _ refl refl refl refl refl
 
 -- a row is plain, or one of a line
 pub row_cases : (k : SnoopKind) (resp : ℕ) (next held : LineState) → is_snoop_row k held false resp next ≡ true
     → (is_plain_row resp next ≡ true) ⊎ (is_line_row k held false resp next ≡ true)
-row_cases snoop.DvmComplete resp next = λ held e. inl e
-row_cases snoop.DvmMessage resp next = λ held e. inl e
-row_cases snoop.ReadOnce resp next = each_state _ (λ e. inl e) (λ e. inr e) (λ e. inr e) (λ e. inr e) (λ e. inr e)
-row_cases snoop.ReadShared resp next = each_state _ (λ e. inl e) (λ e. inr e) (λ e. inr e) (λ e. inr e) (λ e. inr e)
-row_cases snoop.ReadClean resp next = each_state _ (λ e. inl e) (λ e. inr e) (λ e. inr e) (λ e. inr e) (λ e. inr e)
-row_cases snoop.ReadNotSharedDirty resp next = each_state _ (λ e. inl e) (λ e. inr e) (λ e. inr e) (λ e. inr e) (λ e. inr e)
-row_cases snoop.ReadUnique resp next = each_state _ (λ e. inl e) (λ e. inr e) (λ e. inr e) (λ e. inr e) (λ e. inr e)
-row_cases snoop.CleanShared resp next = each_state _ (λ e. inl e) (λ e. inr e) (λ e. inr e) (λ e. inr e) (λ e. inr e)
-row_cases snoop.CleanInvalid resp next = each_state _ (λ e. inl e) (λ e. inr e) (λ e. inr e) (λ e. inr e) (λ e. inr e)
-row_cases snoop.MakeInvalid resp next = each_state _ (λ e. inl e) (λ e. inr e) (λ e. inr e) (λ e. inr e) (λ e. inr e)
+row_cases snoop.DvmComplete resp next held e = inl e
+row_cases snoop.DvmMessage resp next held e = inl e
+row_cases k resp next I e = inl e
+row_cases k resp next held e = inr e
 
 pub must_pass_parts : (k : SnoopKind) (held next : LineState) → must_pass_dirty k held next ≡ true → (is_dirty held ≡ true) × (not (is_dirty next) ≡ true)
 must_pass_parts snoop.MakeInvalid held next e = cc
@@ -173,37 +153,21 @@ row_is k held resp next e =
             passes = λ t. let bad : passes_dirty 0 ≡ true = subst (λ n. passes_dirty n ≡ true) none t in cc;
           }
       | inr line ↦
-          let all = and_parts (is_among next (states_after k held) && fits_answer k held next resp) _ line in
-          let two = and_parts (is_among next (states_after k held)) _ all.0 in
-          let fits = and_parts (lessens held next && cleans held next) _ (all_among (answer_fits k held) (states_after k held) next two.0 (answer_states k held)) in
+          let r = line_row k held false resp next line in
+          let fits = and_parts (lessens held next && cleans held next) _ (all_among (answer_fits k held) (states_after k held) next r.among (answer_states k held)) in
           let kinds = and_parts (implies (invalidates k) (is_invalid next)) _ fits.1 in
-          let shared = bits k held next resp two.1 in
           record {
             less = fits.0;
             leaves = record {
               gone = λ t. elim (or_cases (not (is_shared resp)) (invalidates k) t) [
-                | inl given ↦ is_invalid-is next (not_shared (is_shared resp) (is_invalid next) shared.0 given)
+                | inl given ↦ is_invalid-is next (not-false (is_invalid next) (sym r.shared ∙ not-true (is_shared resp) given))
                 | inr taken ↦ is_invalid-is next (implies-at _ _ kinds.0 taken)
               ];
               not_unique = λ t. not-true (is_unique next) (implies-at _ _ kinds.1 t);
             };
-            passes = λ t. must_pass_parts k held next (sym shared.1 ∙ t);
+            passes = λ t. must_pass_parts k held next (sym r.pass ∙ t);
           }
     ]
-  where
-    bits : (k : SnoopKind) (held next : LineState) (resp : ℕ) → fits_answer k held next resp ≡ true → (is_shared resp ≡ not (is_invalid next)) × (passes_dirty resp ≡ must_pass_dirty k held next)
-    bits k held next resp e =
-        let early = nat_lt resp 32 && not (has_error resp) && fits_transfer k held (transfers_data resp) in
-        let pass = same_test (passes_dirty resp) (must_pass_dirty k held next) in
-        let share = same_test (is_shared resp) (not (is_invalid next)) in
-        let all = and_parts (early && pass && share) _ e in
-        let two = and_parts (early && pass) share all.0 in
-        (same_test-at _ _ two.1, same_test-at _ _ (and_parts early pass two.0).1)
-
-    not_shared : (s v : Bool) → s ≡ not v → not s ≡ true → v ≡ true
-    not_shared s true e n = refl
-    not_shared true false e n = cc
-    not_shared false false e n = cc
 
 -- a valid state is not I, nor is a unique or a dirty one
 pub invalid_not : (st : LineState) → is_invalid st ≡ false → st ≡ I → ⊥

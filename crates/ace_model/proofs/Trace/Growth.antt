@@ -1,18 +1,11 @@
 -- A trace that grows: what is in it stays, and what it has had it keeps.
-use Rattle.std.proofs.Common.{◌≡◌, ◌⊎◌, ℕ, zero, suc, ◌-◌, ◌<◌, ◌≤◌, Bool, true, false, not, ◌&&◌, nat_eq, List, [], ◌∷◌, ◌++◌, length, Option, Some, None, slice_get, refl, sym, ◌∙◌, arith, inl, inr, length-append}
+use Rattle.std.proofs.Common.{Option, None, ◌≡◌, ◌⊎◌, ℕ, zero, suc, ◌-◌, ◌<◌, ◌≤◌, Bool, true, false, not, ◌&&◌, nat_eq, List, [], ◌∷◌, ◌++◌, length, drop, Some, slice_get, refl, sym, ◌∙◌, arith, inl, inr, length-append}
 use Rattle.std.proofs.lemmas.Bool.{or_cases, or_left, or_right, cases_Bool, cases_eq, eq-eqb, ne_eqb}
-use Rattle.ace_model.proofs.Terms.{Event, Channel, Header, Transaction, Trace, at_point, is_some_and, more, issued, is_transaction, some_issued, transaction_of, transactions, served_by, has_had}
+use Rattle.ace_model.proofs.Terms.{Event, Cr, answers, Channel, Header, Transaction, Trace, at_point, is_some_and, issued, is_transaction, some_issued, transaction_of, transactions, served_by, has_had}
 use Rattle.ace_model.proofs.Terms.{each_issued, IsAccepted}
 use Rattle.ace_model.proofs.Trace.Issued.{issued-place, issued_at, transaction_of-stands}
 use Rattle.ace_model.proofs.General.Lists.{slice_get-more}
 use Rattle.ace_model.proofs.General.Options.{is_some_and-is}
-
--- an element of a list that grows at its end keeps its place
-pub slice_get-grown : {A : Type 0} → (xs : List A) (new : Option A) (k : ℕ) (z : A) → slice_get xs k ≡ Some z → slice_get (more xs new) k ≡ Some z
-slice_get-grown xs None k z e = e
-slice_get-grown [] (Some y) k z e = cc
-slice_get-grown (x ∷ xs) (Some y) zero z e = e
-slice_get-grown (x ∷ xs) (Some y) (suc k) z e = slice_get-grown xs (Some y) k z e
 
 -- the point after so many events is the same in the longer trace
 pub at_point-before : (e : Event) (past : Trace) (n : ℕ) → n ≤ length past → at_point n (e ∷ past) ≡ at_point n past
@@ -27,6 +20,9 @@ at_point-grown [] before n low = refl
 at_point-grown (e ∷ later) before n low =
     at_point-before e (later ++ before) n (let m = length-append later before in omega arith) ∙ at_point-grown later before n low
 
+pub at_point-later : (later : List Event) (e : Event) (before : Trace) (n : ℕ) → n ≤ length before → at_point n (later ++ e ∷ before) ≡ at_point n before
+at_point-later later e before n low = at_point-grown later (e ∷ before) n (omega arith) ∙ at_point-before e before n low
+
 -- an earlier transaction of a longer trace was there
 pub issued_at-before : (e : Event) (past : Trace) (n : ℕ) → n < length past → issued_at (e ∷ past) n ≡ issued_at past n
 issued_at-before e past n low = rw (ne_eqb (length past) n (λ q. absurd (omega (arith, q)))) refl
@@ -37,6 +33,9 @@ pub issued_at-grown : (later : List Event) (before : Trace) (n : ℕ)
 issued_at-grown [] before n low = refl
 issued_at-grown (e ∷ later) before n low =
     issued_at-before e (later ++ before) n (let m = length-append later before in omega arith) ∙ issued_at-grown later before n low
+
+pub issued_at-later : (later : List Event) (e : Event) (before : Trace) (n : ℕ) → n < length before → issued_at (later ++ e ∷ before) n ≡ issued_at before n
+issued_at-later later e before n low = issued_at-grown later (e ∷ before) n (omega arith) ∙ issued_at-before e before n low
 
 -- a transaction of the trace stands at its place
 pub record IsIssued (past : Trace) (x : Transaction) : Type 0 where
@@ -50,7 +49,7 @@ issued-new e past x new =
 
 pub issued-old : (e : Event) (past : Trace) (x : Transaction) → IsIssued past x → IsIssued (e ∷ past) x
 issued-old e past x old =
-    record { there = issued_at-grown (e ∷ []) past x.place old.before ∙ old.there; before = let b = old.before in omega arith }
+    record { there = issued_at-before e past x.place old.before ∙ old.there; before = let b = old.before in omega arith }
 
 -- a transaction of the longer trace is the new one, or was there
 pub issued-cases : (e : Event) (past : Trace) (x : Transaction) → IsIssued (e ∷ past) x → (issued (length past) e ≡ Some x) ⊎ IsIssued past x
@@ -128,6 +127,35 @@ pub has_had-later : (test : Event → Bool) (later : List Event) (e : Event) (be
 has_had-later test later e before x had = has_had-grown test later (e ∷ before) x (has_had-grown test (e ∷ []) before x had)
 
 -- what came first in an accepted trace is accepted
-pub accepted-before : (h : Header) (later : List Event) (before : Trace) → IsAccepted h (later ++ before) → IsAccepted h before
-accepted-before h [] before a = a
-accepted-before h (e ∷ later) before a = accepted-before h later before a.0
+pub accepted-first : (h : Header) (later : List Event) (before : Trace) → IsAccepted h (later ++ before) → IsAccepted h before
+accepted-first h [] before a = a
+accepted-first h (e ∷ later) before a = accepted-first h later before a.0
+
+-- and so is the trace without its newest k events
+pub accepted-before : (h : Header) (k : ℕ) (past : Trace) → IsAccepted h past → IsAccepted h (drop k past)
+accepted-before h zero past a = a
+accepted-before h (suc k) [] a = a
+accepted-before h (suc k) (e ∷ past) a = accepted-before h k past a.0
+
+-- a longer trace has no fewer answers
+pub answers-grow : (e : Event) (past : Trace) (q : ℕ) → answers past q ≤ answers (e ∷ past) q
+answers-grow (Cr p resp st) past q =
+    elim (cases_Bool (nat_eq q p)) [
+      | inl t ↦ rw t (omega arith)
+      | inr f ↦ rw f (omega arith)
+    ]
+answers-grow _ past q = omega arith
+
+-- what one test says of some transaction, a weaker one says too
+pub some_issued-weaker : (past : Trace) (test weaker : Transaction → Bool) → ((x : Transaction) → test x ≡ true → weaker x ≡ true)
+    → some_issued past test ≡ true → some_issued past weaker ≡ true
+some_issued-weaker [] test weaker w e = cc
+some_issued-weaker (e ∷ past) test weaker w some =
+    elim (or_cases (is_some_and (issued (length past) e) test) (some_issued past test) some) [
+      | inl now ↦ rw (new (issued (length past) e) now) refl
+      | inr old ↦ or_right (is_some_and (issued (length past) e) weaker) (some_issued past weaker) (some_issued-weaker past test weaker w old)
+    ]
+  where
+    new : (o : Option Transaction) → is_some_and o test ≡ true → is_some_and o weaker ≡ true
+    new None t = cc
+    new (Some x) t = w x t

@@ -1,7 +1,7 @@
 -- Which transaction a name means: it stands at its place, and what is outstanding is the last of its name.
-use Rattle.std.proofs.Common.{◌≡◌, ◌≢◌, ◌⊎◌, ℕ, ◌<◌, true, false, cond, nat_eq, [], ◌∷◌, length, Option, Some, None, sym, ap, ◌∙◌, arith, inl, inr}
+use Rattle.std.proofs.Common.{◌≡◌, ◌⊎◌, ℕ, false, ◌<◌, true, cond, nat_eq, [], ◌∷◌, length, Option, Some, None, sym, ap, ◌∙◌, arith, inl, inr, ◌≢◌}
 use Rattle.std.proofs.lemmas.Bool.{eq-eqb, ne_eqb}
-use Rattle.ace_model.proofs.Terms.{Event, Ar, R, Rk, Aw, W, B, Wk, Ac, Cr, Cd, G, M, S, L, D, Op, Channel, Header, Transaction, Trace, has_name, is_named, issued, ended, transaction_of, outstanding}
+use Rattle.ace_model.proofs.Terms.{Event, Ar, Aw, Channel, Header, Transaction, Trace, has_name, is_named, issued, ended, without, transaction_of, outstanding}
 use Rattle.ace_model.proofs.Trace.Looks.{Named, has_name-is, newest_named-cases, newest_named-first, newest_named-older, without-some}
 use Rattle.ace_model.proofs.General.Options.{Some-injective}
 
@@ -9,20 +9,7 @@ use Rattle.ace_model.proofs.General.Options.{Some-injective}
 pub issued-place : (n : ℕ) (e : Event) (x : Transaction) → issued n e ≡ Some x → x.place ≡ n
 issued-place n (Ar p i addr snoop dom bar lock) x s = ap (λ (v : Transaction). v.place) (sym (Some-injective _ x s))
 issued-place n (Aw p i addr snoop dom bar) x s = ap (λ (v : Transaction). v.place) (sym (Some-injective _ x s))
-issued-place n (R p i resp last word) x s = cc
-issued-place n (Rk p st) x s = cc
-issued-place n (W p strb last word) x s = cc
-issued-place n (B p i resp) x s = cc
-issued-place n (Wk p st) x s = cc
-issued-place n (Ac p addr snoop) x s = cc
-issued-place n (Cr p resp st) x s = cc
-issued-place n (Cd p last word) x s = cc
-issued-place n (G p c i) x s = cc
-issued-place n (M p c i line) x s = cc
-issued-place n (S p addr st) x s = cc
-issued-place n (L p addr w x' word) x s = cc
-issued-place n (D p addr strobe x' line) x s = cc
-issued-place n (Op p k res) x s = cc
+issued-place n e x s = cc
 
 -- the transaction that the event with so many events before it issues
 abbrev pub issued_at : Trace → ℕ → Option Transaction
@@ -63,15 +50,22 @@ same_place past p q c d i j x y a b e =
     let t = transaction_of-stands past q d j y b in
     Some-injective x y (sym s.there ∙ ap (issued_at past) e ∙ t.there)
 
+-- what is outstanding under a name is the new transaction, or was outstanding there and did not end
+pub outstanding-cases : (h : Header) (e : Event) (past : Trace) (p : ℕ) (c : Channel) (i : ℕ) (x : Transaction) → outstanding h (e ∷ past) p c i ≡ Some x
+    → ((issued (length past) e ≡ Some x) × (has_name x p c i ≡ true)) ⊎ ((outstanding h past p c i ≡ Some x) × (is_named (issued (length past) e) p c i ≡ false))
+outstanding-cases h e past p c i x o =
+    elim (newest_named-cases (issued (length past) e) p c i (without (ended h past e) (outstanding h past p c i)) x o) [
+      | inl new ↦ inl new
+      | inr old ↦ inr ((without-some (ended h past e) (outstanding h past p c i) x old.0).0, old.1)
+    ]
+
 -- an outstanding transaction is the last of its name
 pub outstanding-named : (h : Header) (past : Trace) (p : ℕ) (c : Channel) (i : ℕ) (x : Transaction) → outstanding h past p c i ≡ Some x → transaction_of past p c i ≡ Some x
 outstanding-named h [] p c i x o = cc
 outstanding-named h (e ∷ past) p c i x o =
-    elim (newest_named-cases (issued (length past) e) p c i _ x o) [
+    elim (outstanding-cases h e past p c i x o) [
       | inl new ↦ newest_named-first (issued (length past) e) p c i (transaction_of past p c i) x new.0 new.1
-      | inr old ↦
-          newest_named-older (issued (length past) e) p c i (transaction_of past p c i) old.1
-          ∙ outstanding-named h past p c i x (without-some (ended h past e) (outstanding h past p c i) x old.0).0
+      | inr old ↦ newest_named-older (issued (length past) e) p c i (transaction_of past p c i) old.1 ∙ outstanding-named h past p c i x old.0
     ]
 
 -- so it has the name

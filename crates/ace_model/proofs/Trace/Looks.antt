@@ -1,16 +1,8 @@
 -- What the small tests of the looks at a trace say.
 use Rattle.std.proofs.Common.{◌≡◌, ◌≢◌, ◌⊎◌, ℕ, true, false, ◌&&◌, nat_eq, Option, Some, None, refl, sym, ap, subst, ◌∙◌, inl, inr}
 use Rattle.std.proofs.lemmas.Bool.{and_parts, and_from, cases_Bool, eqb-true, eq-eqb}
-use Rattle.ace_model.proofs.Terms.{LineState, I, UC, UD, SC, SD, Channel, Read, Write, Transaction, is_invalid, is_read, same_channel, has_name, is_named, is_on, is_line}
-use Rattle.ace_model.proofs.Terms.{is_some_on, newest_named, without, newest_on, ArKind, SnoopKind, Header, Trace, read_kind, write_kind, snoop_of, has_failed, are_snoops_done, each_port, is_port_done}
+use Rattle.ace_model.proofs.Terms.{Channel, Read, Write, Transaction, is_read, same_channel, has_name, is_named, is_on, is_line, is_some_on, newest_named, without, newest_on, ArKind, SnoopKind, Header, Trace, read_kind, write_kind, snoop_of, has_failed, are_snoops_done, each_port, is_port_done}
 use Rattle.ace_model.proofs.General.Options.{Some-injective}
-
-pub is_invalid-is : (st : LineState) → is_invalid st ≡ true → st ≡ I
-is_invalid-is I e = refl
-is_invalid-is UC e = cc
-is_invalid-is UD e = cc
-is_invalid-is SC e = cc
-is_invalid-is SD e = cc
 
 pub is_read-is : (c : Channel) → is_read c ≡ true → c ≡ Read
 is_read-is Read e = refl
@@ -36,6 +28,10 @@ has_name-is x p c i e =
     let a = and_parts (nat_eq x.port p && same_channel x.chan c) (nat_eq x.id i) e in
     let b = and_parts (nat_eq x.port p) (same_channel x.chan c) a.0 in
     record { port = eqb-true x.port p b.0; chan = same_channel-is x.chan c b.1; id = eqb-true x.id i a.1 }
+
+-- what is asked of the name of a transaction
+pub at_name : {A : Type 0} → (look : ℕ → Channel → ℕ → A) (x : Transaction) (p : ℕ) (c : Channel) (i : ℕ) → Named x p c i → look x.port x.chan x.id ≡ look p c i
+at_name look x p c i n = ap (λ a. look a x.chan x.id) n.port ∙ ap (λ a. look p a x.id) n.chan ∙ ap (look p c) n.id
 
 pub has_name-self : (x : Transaction) → has_name x x.port x.chan x.id ≡ true
 has_name-self x = and_from _ _ (and_from _ _ (eq-eqb x.port x.port refl) (same_channel-self x.chan)) (eq-eqb x.id x.id refl)
@@ -90,6 +86,17 @@ without-other (Some y) (Some w) x e other =
       | inr f ↦ rw f e
     ]
 
+-- what was there is there still, or is what ends
+pub without-cases : (y o : Option Transaction) (x : Transaction) → o ≡ Some x → (without y o ≡ Some x) ⊎ ((z : Transaction) × (y ≡ Some z) × (z.place ≡ x.place))
+without-cases None o x e = inl e
+without-cases (Some z) None x e = cc
+without-cases (Some z) (Some w) x e =
+    let one : w ≡ x = Some-injective w x e in
+    elim (cases_Bool (nat_eq w.place z.place)) [
+      | inl t ↦ inr (z, refl, sym (eqb-true w.place z.place t) ∙ ap (λ (v : Transaction). v.place) one)
+      | inr f ↦ inl (rw f e)
+    ]
+
 -- the newest on a line is the first one, on the line, or else the older one
 pub newest_on-cases : (new : Option Transaction) (l : ℕ) (older : Option Transaction) (x : Transaction)
     → newest_on new l older ≡ Some x
@@ -108,6 +115,10 @@ newest_on-older (Some y) l older f = rw f refl
 -- a transaction on a line has its address
 pub is_on-addr : (x : Transaction) (l : ℕ) → is_on x l ≡ true → x.addr ≡ l
 is_on-addr x l e = eqb-true x.addr l ((and_parts (is_line x) _ e).1)
+
+-- what is there after an end was there before
+pub was_there : (ended_one o : Option Transaction) (x : Transaction) → without ended_one o ≡ Some x → o ≡ Some x
+was_there ended_one o x e = (without-some ended_one o x e).0
 
 -- a transaction of a kind of read is no write
 pub read_writes_none : (x : Transaction) (k : ArKind) → read_kind x ≡ Some k → (write_kind x ≡ None) × (is_read x.chan ≡ true)

@@ -3,8 +3,8 @@ use Rattle.std.proofs.Common.{◌≡◌, ◌⊎◌, ℕ, ◌-◌, ◌<◌, ◌�
 use Rattle.std.proofs.lemmas.Option.{slice_get_within}
 use Rattle.std.proofs.lemmas.List.{reverse-append, length-reverse, drop-drop, length-drop}
 use Rattle.ace_model.proofs.Terms.{Event, L, R, G, Read, Transaction, Trace, event_at, at_point, transaction_of, transfers, is_line_read_transaction, IsLoad, IsBeat, IsGrantOf}
-use Rattle.ace_model.proofs.Trace.Growth.{slice_get-grown, at_point-before, at_point-end}
-use Rattle.ace_model.proofs.General.Lists.{slice_get-more, slice_get-at_end}
+use Rattle.ace_model.proofs.Trace.Growth.{at_point-before, at_point-end}
+use Rattle.ace_model.proofs.General.Lists.{slice_get-grown, slice_get-more, slice_get-at_end}
 use Rattle.ace_model.proofs.General.Options.{Some-injective}
 
 pub event_at-grown : (e : Event) (past : Trace) (n : ℕ) → event_at (e ∷ past) n ≡ slice_get (reverse past ++ e ∷ []) n

@@ -1,43 +1,16 @@
 -- The burst of a write: which beat of it an event adds, and that it has four once it is whole.
-use Rattle.std.proofs.Common.{◌≡◌, ◌⊎◌, ℕ, zero, suc, ◌+◌, ◌-◌, ◌*◌, ◌/◌, ◌%◌, ◌<◌, ◌≤◌, Bool, true, false, ◌&&◌, nat_eq, nat_le, List, [], ◌∷◌, length, take, drop, Option, Some, None, slice_get, refl, sym, ap, ◌∙◌, arith, inl, inr, length-append}
+use Rattle.std.proofs.Common.{◌≡◌, ◌⊎◌, ℕ, suc, ◌+◌, ◌-◌, ◌*◌, ◌/◌, ◌%◌, ◌<◌, ◌≤◌, Bool, true, ◌&&◌, nat_eq, nat_le, List, [], ◌∷◌, length, take, drop, Option, Some, None, slice_get, refl, sym, ap, ◌∙◌, arith, inl, inr, length-append}
 use Rattle.std.proofs.lemmas.Bool.{and_parts, or_cases, cases_Bool, eqb-true, eq-eqb, leb-true}
 use Rattle.ace_model.proofs.Terms.{Event, W, Header, Transaction, Trace, at_point, is_some_and, more, has_write_data, issued, write_kind, data_write_in, data_write, data_writes, write_beats, next_write}
 use Rattle.ace_model.proofs.Terms.{next_write_beat, stands_before, is_burst_whole, Beat, beat_at, beats, burst_of, is_next_beat, IsAccepted}
-use Rattle.ace_model.proofs.Trace.Growth.{slice_get-grown, at_point-before, at_point-end, IsIssued}
-use Rattle.ace_model.proofs.Trace.Issued.{issued_at, issued-place}
-use Rattle.ace_model.proofs.General.Lists.{slice_get-more, slice_get-at_end}
+use Rattle.ace_model.proofs.Trace.Growth.{at_point-before, IsIssued, issued-cases}
+use Rattle.ace_model.proofs.Trace.Places.{at_point-last}
+use Rattle.std.proofs.lemmas.List.{length-drop}
+use Rattle.std.proofs.lemmas.Option.{slice_get_within}
+use Rattle.ace_model.proofs.Trace.Issued.{issued-place}
+use Rattle.ace_model.proofs.General.Lists.{slice_get-take, slice_get-drop, slice_get-within_take, start-more, start-length, slice_get-grown, slice_get-more, slice_get-at_end}
 use Rattle.ace_model.proofs.Rules.Keeps.{accepted_keeps}
-use Rattle.ace_model.proofs.General.Options.{Some-injective, is_some_and-is}
-
--- an element of the first four behind a place
-first_taken : {A : Type 0} → (xs : List A) (n k : ℕ) (b : A) → slice_get (take n xs) k ≡ Some b → (k < n) × (slice_get xs k ≡ Some b)
-first_taken xs zero k b e = cc
-first_taken [] (suc n) k b e = cc
-first_taken (x ∷ xs) (suc n) zero b e = (omega arith, e)
-first_taken (x ∷ xs) (suc n) (suc k) b e = let t = first_taken xs n k b e in (let low = t.0 in omega arith, t.1)
-
-first_taking : {A : Type 0} → (xs : List A) (n k : ℕ) (b : A) → k < n → slice_get xs k ≡ Some b → slice_get (take n xs) k ≡ Some b
-first_taking xs zero k b low e = absurd (omega arith)
-first_taking [] (suc n) k b low e = cc
-first_taking (x ∷ xs) (suc n) zero b low e = e
-first_taking (x ∷ xs) (suc n) (suc k) b low e = first_taking xs n k b (omega arith) e
-
-taken : {A : Type 0} → (xs : List A) (a k n : ℕ) (b : A) → n ≡ a + k → slice_get (take 4 (drop a xs)) k ≡ Some b → (k < 4) × (slice_get xs n ≡ Some b)
-taken xs zero k n b at e =
-    let t = first_taken xs 4 k b e in
-    let same : k ≡ n = omega arith in
-    (t.0, ap (slice_get xs) (sym same) ∙ t.1)
-taken [] (suc a) k n b at e = cc
-taken (x ∷ xs) (suc a) k zero b at e = absurd (omega arith)
-taken (x ∷ xs) (suc a) k (suc n) b at e = taken xs a k n b (omega arith) e
-
-taking : {A : Type 0} → (xs : List A) (a k n : ℕ) (b : A) → n ≡ a + k → k < 4 → slice_get xs n ≡ Some b → slice_get (take 4 (drop a xs)) k ≡ Some b
-taking xs zero k n b at low e =
-    let same : k ≡ n = omega arith in
-    first_taking xs 4 k b low (ap (slice_get xs) same ∙ e)
-taking [] (suc a) k n b at low e = cc
-taking (x ∷ xs) (suc a) k zero b at low e = absurd (omega arith)
-taking (x ∷ xs) (suc a) k (suc n) b at low e = taking xs a k n b (omega arith) low e
+use Rattle.ace_model.proofs.General.Options.{some_if-is, is_some_and-is}
 
 -- where its beats begin among those of its port
 abbrev pub start_of : Trace → Transaction → ℕ
@@ -48,25 +21,19 @@ pub stands_at : (past : Trace) (x : Transaction) → IsIssued past x → is_some
     → slice_get (data_writes past x.port) (start_of past x) ≡ Some x
 stands_at [] x i sends = let there = i.there in cc
 stands_at (e ∷ past) x i sends =
-    elim (cases_Bool (nat_eq (length past) x.place)) [
-      | inl here ↦
-          let new : issued (length past) e ≡ Some x = rw here at i.there in
-          let at : at_point x.place (e ∷ past) ≡ past =
-          at_point-before e past x.place (let s = eqb-true (length past) x.place here in omega arith) ∙ at_point-end past x.place (sym (eqb-true (length past) x.place here)) in
+    elim (issued-cases e past x i) [
+      | inl new ↦
+          let at = at_point-last e past x.place (issued-place (length past) e x new) in
           let write : data_write (length past) e x.port ≡ Some x = rw (new, eq-eqb x.port x.port refl, sends) refl in
           rw (at, write) (slice_get-at_end (data_writes past x.port) (length (data_writes past x.port)) x refl)
-      | inr other ↦
-          let there : issued_at past x.place ≡ Some x = rw other at i.there in
-          let before : x.place < length past = lower (eq_or other) in
-          let at = at_point-before e past x.place (omega arith) in
-          rw at (slice_get-grown (data_writes past x.port) (data_write (length past) e x.port) (start_of past x) x (stands_at past x (record { there = there; before = before }) sends))
+      | inr old ↦
+          let at = at_point-before e past x.place (let low = old.before in omega arith) in
+          rw at (slice_get-grown (data_writes past x.port) (data_write (length past) e x.port) (start_of past x) x (stands_at past x old sends))
     ]
-  where
-    eq_or : nat_eq (length past) x.place ≡ false → length past ≡ x.place → ⊥
-    eq_or f same = let t = eq-eqb (length past) x.place same in cc
 
-    lower : (length past ≡ x.place → ⊥) → x.place < length past
-    lower apart = let b = i.before in omega arith
+data_write_in-is : (o : Option Transaction) (p : ℕ) (y : Transaction) → data_write_in o p ≡ Some y → o ≡ Some y
+data_write_in-is None p y w = cc
+data_write_in-is (Some x) p y w = ap Some (some_if-is (nat_eq x.port p && is_some_and (write_kind x) has_write_data) x y w).1
 
 -- an element of the writes with data stands where its beats begin
 pub stands_once : (past : Trace) (p j : ℕ) (y : Transaction) → slice_get (data_writes past p) j ≡ Some y
@@ -79,18 +46,9 @@ stands_once (e ∷ past) p j y is =
           let at = at_point-before e past y.place (let l = s.1 in omega arith) in
           (rw at s.0, let l = s.1 in omega arith)
       | inr new ↦
-          let place : y.place ≡ length past = of_event (issued (length past) e) refl new.1 in
-          let at : at_point y.place (e ∷ past) ≡ past = at_point-before e past y.place (omega arith) ∙ at_point-end past y.place place in
-          (rw at (sym new.0), omega arith)
+          let place : y.place ≡ length past = issued-place (length past) e y (data_write_in-is (issued (length past) e) p y new.1) in
+          (rw (at_point-last e past y.place place) (sym new.0), omega (arith, place))
     ]
-  where
-    of_event : (o : Option Transaction) → issued (length past) e ≡ o → data_write_in o p ≡ Some y → y.place ≡ length past
-    of_event None is w = cc
-    of_event (Some x) is w =
-        elim (cases_Bool (nat_eq x.port p && is_some_and (write_kind x) has_write_data)) [
-          | inr f ↦ let bad : None ≡ Some y = rw f at w in cc
-          | inl t ↦ let same : Some x ≡ Some y = rw t at w in issued-place (length past) e y (is ∙ same)
-        ]
 
 pub beats-length : (past : Trace) (p : ℕ) → length (beats past p) ≡ write_beats past p
 beats-length [] p = refl
@@ -108,41 +66,39 @@ pub record IsBeat (past : Trace) (e : Event) (x : Transaction) (k : ℕ) (b : Be
   pub next : next_write past x.port ≡ Some x
   pub number : next_write_beat past x.port ≡ k
 
+-- beat k of the burst that begins behind n others
+beat_there : (bs : List Beat) (n k : ℕ) (b : Beat) → slice_get (take 4 (drop (4 * n) bs)) k ≡ Some b → slice_get bs (4 * n + k) ≡ Some b
+beat_there bs n k b e =
+    let low = slice_get-within_take (drop (4 * n) bs) 4 k b e in
+    sym (slice_get-take (drop (4 * n) bs) 4 k low ∙ slice_get-drop bs (4 * n) k (4 * n + k) refl) ∙ e
+
 -- a beat of the burst was there, or is the event
 pub burst_grows : (past : Trace) (e : Event) (x : Transaction) (k : ℕ) (b : Beat) → IsIssued past x → is_some_and (write_kind x) has_write_data ≡ true
     → slice_get (burst_of (e ∷ past) x) k ≡ Some b → (slice_get (burst_of past x) k ≡ Some b) ⊎ IsBeat past e x k b
 burst_grows past e x k b i sends is =
     let at = at_point-before e past x.place (let low = i.before in omega arith) in
     let here : slice_get (take 4 (drop (4 * start_of past x) (beats (e ∷ past) x.port))) k ≡ Some b = rw at at is in
-    let t = taken (beats (e ∷ past) x.port) (4 * start_of past x) k (4 * start_of past x + k) b refl here in
-    elim (slice_get-more (beats past x.port) (beat_at e x.port) (4 * start_of past x + k) b t.1) [
-      | inl old ↦ inl (taking (beats past x.port) (4 * start_of past x) k (4 * start_of past x + k) b refl t.0 old)
+    let n = start_of past x in
+    let low : k < 4 = slice_get-within_take (drop (4 * n) (beats (e ∷ past) x.port)) 4 k b here in
+    let first = slice_get-take (drop (4 * n) (beats past x.port)) 4 k low in
+    elim (slice_get-more (beats past x.port) (beat_at e x.port) (4 * n + k) b (beat_there (beats (e ∷ past) x.port) n k b here)) [
+      | inl old ↦ inl (first ∙ slice_get-drop (beats past x.port) (4 * n) k (4 * n + k) refl ∙ old)
       | inr new ↦
-          let count : write_beats past x.port ≡ 4 * start_of past x + k = sym (beats-length past x.port) ∙ sym new.0 in
-          let n = start_of past x in
-          let low = t.0 in
-          let whole : write_beats past x.port / 4 ≡ n = rw count (four_and n k low).0 in
-          let part : write_beats past x.port % 4 ≡ k = rw count (four_and n k low).1 in
+          let count : write_beats past x.port ≡ 4 * n + k = sym (beats-length past x.port) ∙ sym new.0 in
+          let whole : write_beats past x.port / 4 ≡ n = omega (arith, count, low) in
+          let part : write_beats past x.port % 4 ≡ k = omega (arith, count, low) in
           inr (by e new.1 (ap (slice_get (data_writes past x.port)) whole ∙ stands_at past x i sends) part)
     ]
   where
-    four_and : (n k : ℕ) → k < 4 → ((4 * n + k) / 4 ≡ n) × ((4 * n + k) % 4 ≡ k)
-    four_and n k low = (omega arith, omega arith)
-
     by : (d : Event) → beat_at d x.port ≡ Some b → next_write past x.port ≡ Some x → next_write_beat past x.port ≡ k → IsBeat past d x k b
     by (W q strb last word) w next number =
-        elim (cases_Bool (nat_eq x.port q)) [
-          | inr f ↦ let bad : None ≡ Some b = rw f at w in cc
-          | inl t ↦
-              let new : Some (record { strobe = strb; word = word }) ≡ Some b = rw t at w in
-              let same : record { strobe = strb; word = word } ≡ b = Some-injective _ b new in
-              record {
-                last = last;
-                is = ap (λ q. W q strb last word) (sym (eqb-true x.port q t)) ∙ ap (λ (v : Beat). W x.port v.strobe last v.word) same;
-                next = next;
-                number = number;
-              }
-        ]
+        let s = some_if-is (nat_eq x.port q) (record { strobe = strb; word = word }) b w in
+        record {
+          last = last;
+          is = ap (λ q. W q strb last word) (sym (eqb-true x.port q s.0)) ∙ ap (λ (v : Beat). W x.port v.strobe last v.word) s.1;
+          next = next;
+          number = number;
+        }
     by d w next number = cc
 
 -- a port sends no more beats than its writes have
@@ -154,48 +110,30 @@ few_beats h (W q strb last word ∷ past) a p =
       | inl t ↦
           let next = is_some_and-is (next_write past q) (is_next_beat past (next_write_beat past q) strb last word) (accepted_keeps h past (W q strb last word) a).rule_11 in
           let there : slice_get (data_writes past p) (write_beats past p / 4) ≡ Some next.0 = ap (next_write past) (eqb-true p q t) ∙ next.1 in
-          let low = below (data_writes past p) (write_beats past p / 4) next.0 there in
-          rw t (quarter (write_beats past p) (length (data_writes past p)) low)
+          let low = slice_get_within (data_writes past p) (write_beats past p / 4) next.0 there in
+          rw t (omega arith)
     ]
+few_beats h (e ∷ past) a p = more_writes (data_write (length past) e p) (few_beats h past a.0 p)
   where
-    below : {A : Type 0} → (xs : List A) (k : ℕ) (x : A) → slice_get xs k ≡ Some x → k < length xs
-    below [] k x e = cc
-    below (y ∷ xs) zero x e = omega arith
-    below (y ∷ xs) (suc k) x e = let l = below xs k x e in omega arith
-
-    quarter : (n m : ℕ) → n / 4 < m → n + 1 ≤ 4 * m
-    quarter n m l = omega arith
-few_beats h (e ∷ past) a p = let b = few_beats h past a.0 p in more_writes e b
-  where
-    more_writes : (d : Event) → write_beats past p ≤ 4 * length (data_writes past p) → write_beats past p ≤ 4 * length (more (data_writes past p) (data_write (length past) d p))
-    more_writes d b = let l = longer (data_writes past p) (data_write (length past) d p) in omega arith
-      where
-        longer : {A : Type 0} → (xs : List A) (o : Option A) → length xs ≤ length (more xs o)
-        longer xs None = omega arith
-        longer xs (Some x) = let l = length-append xs (x ∷ []) in omega (arith, l)
+    more_writes : (new : Option Transaction) → write_beats past p ≤ 4 * length (data_writes past p) → write_beats past p ≤ 4 * length (more (data_writes past p) new)
+    more_writes new few = let l = start-length (data_writes past p) (more (data_writes past p) new) (start-more (data_writes past p) new) in omega arith
 
 -- a new write has no beats
 pub burst_new : (h : Header) (past : Trace) (e : Event) → IsAccepted h past → (x : Transaction) (k : ℕ) (b : Beat) → issued (length past) e ≡ Some x
     → slice_get (burst_of (e ∷ past) x) k ≡ Some b → ⊥
 burst_new h past e a x k b new is =
     let place = issued-place (length past) e x new in
-    let at : at_point x.place (e ∷ past) ≡ past = at_point-before e past x.place (omega arith) ∙ at_point-end past x.place place in
+    let at = at_point-last e past x.place place in
     let here : slice_get (take 4 (drop (4 * length (data_writes past x.port)) (beats (e ∷ past) x.port))) k ≡ Some b = rw at at is in
-    let t = taken (beats (e ∷ past) x.port) (4 * length (data_writes past x.port)) k (4 * length (data_writes past x.port) + k) b refl here in
-    let same : beats (e ∷ past) x.port ≡ beats past x.port = no_beat e new in
-    let there : slice_get (beats past x.port) (4 * length (data_writes past x.port) + k) ≡ Some b = rw same at t.1 in
+    let there = no_beat e (4 * length (data_writes past x.port) + k) new (beat_there (beats (e ∷ past) x.port) (length (data_writes past x.port)) k b here) in
+    let low = slice_get_within (beats past x.port) (4 * length (data_writes past x.port) + k) b there in
     let few = few_beats h past a x.port in
     let long = beats-length past x.port in
-    absurd (beyond (beats past x.port) (4 * length (data_writes past x.port) + k) b there (omega arith))
+    absurd (omega arith)
   where
-    no_beat : (d : Event) → issued (length past) d ≡ Some x → beats (d ∷ past) x.port ≡ beats past x.port
-    no_beat (W q strb last word) s = cc
-    no_beat d s = refl
-
-    beyond : {A : Type 0} → (xs : List A) (k : ℕ) (x : A) → slice_get xs k ≡ Some x → length xs ≤ k → ⊥
-    beyond [] k x e l = cc
-    beyond (y ∷ xs) zero x e l = absurd (omega arith)
-    beyond (y ∷ xs) (suc k) x e l = beyond xs k x e (omega arith)
+    no_beat : (d : Event) (n : ℕ) → issued (length past) d ≡ Some x → slice_get (beats (d ∷ past) x.port) n ≡ Some b → slice_get (beats past x.port) n ≡ Some b
+    no_beat (W q strb last word) n s there = cc
+    no_beat d n s there = there
 
 -- a whole burst has four beats
 pub record FourBeats (bs : List Beat) : Type 0 where
@@ -211,7 +149,8 @@ four_beats past x whole =
     let at = (stands_once past x.port s.0 s.1 s.2).0 in
     let start : start_of past x ≡ s.0 = ap (λ n. length (data_writes (at_point n past) x.port)) (sym s.3) ∙ at in
     let enough : 4 * start_of past x + 4 ≤ length (beats past x.port) = rw (start, beats-length past x.port) s.4 in
-    shape (drop (4 * start_of past x) (beats past x.port)) (dropped (beats past x.port) (4 * start_of past x) enough)
+    let rest = length-drop (4 * start_of past x) (beats past x.port) in
+    shape (drop (4 * start_of past x) (beats past x.port)) (omega arith)
   where
     found : (ys : List Transaction) (n : ℕ) → stands_before ys n x ≡ true
         → (j : ℕ) × (y : Transaction) × (slice_get ys j ≡ Some y) × (y.place ≡ x.place) × (4 * j + 4 ≤ n)
@@ -227,11 +166,6 @@ four_beats past x whole =
               let le = s.4 in
               (suc s.0, s.1, s.2, s.3, omega (arith, le))
         ]
-
-    dropped : {A : Type 0} → (xs : List A) (a : ℕ) → a + 4 ≤ length xs → 4 ≤ length (drop a xs)
-    dropped xs zero l = l
-    dropped [] (suc a) l = absurd (omega arith)
-    dropped (x ∷ xs) (suc a) l = dropped xs a (omega arith)
 
     shape : (bs : List Beat) → 4 ≤ length bs → FourBeats (take 4 bs)
     shape [] l = absurd (omega arith)

@@ -19,7 +19,7 @@ use Rattle.ace_model.proofs.Values.Stores.{stores_d}
 use Rattle.ace_model.proofs.Values.Copies.{copy_moves}
 use Rattle.ace_model.proofs.Values.Stays.{value_stays, made_apart, sent_step, none_may, read_no_write}
 use Rattle.ace_model.proofs.Values.Replies.{sender_before, reply_true, memory_true}
-use Rattle.ace_model.proofs.ReadsFollow.First.{memory-before}
+use Rattle.ace_model.proofs.Values.Replies.{memory-before}
 use Rattle.ace_model.proofs.Values.Facts.{SentTrue, Fetches, FetchesTrue, DirtyPlaced}
 use Rattle.ace_model.proofs.Holders.Law.{accepted_holds}
 use Rattle.ace_model.proofs.General.Options.{Some-injective, is_some_and-at, is_none_or-at}

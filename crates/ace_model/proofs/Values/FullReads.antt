@@ -6,7 +6,7 @@ use Rattle.ace_model.proofs.Terms.{outstanding, is_line, may_transfer, is_comple
 use Rattle.ace_model.proofs.Trace.Looks.{has_name-is}
 use Rattle.ace_model.proofs.Trace.Issued.{outstanding-origin}
 use Rattle.ace_model.proofs.Trace.WriteQueue.{issue_completes}
-use Rattle.ace_model.proofs.Holders.Address.{named_read}
+use Rattle.ace_model.proofs.Trace.Outstanding.{named_read}
 use Rattle.ace_model.proofs.Grants.Begins.{may_of, LineTransfer, line_transfer}
 use Rattle.ace_model.proofs.General.Options.{Some-injective, is_some_and-is}
 

@@ -15,8 +15,8 @@ use Rattle.ace_model.proofs.Values.Facts.{DirtyPlaced}
 
 module _ (h : Header) (past : Trace) where
   -- each event keeps the facts
-  dirty_placed_step : (e : Event) → IsAccepted h (e ∷ past) → AllByRecursion InRange (e ∷ past) → DirtyPlaced h past → DirtyPlaced h (e ∷ past)
-  dirty_placed_step e a r f = record {
+  facts_step : (e : Event) → IsAccepted h (e ∷ past) → AllByRecursion InRange (e ∷ past) → DirtyPlaced h past → DirtyPlaced h (e ∷ past)
+  facts_step e a r f = record {
     copies = copies_step h past e a f;
     safe = safe_step h past e a r f;
     passed = passed_step h past e a f;
@@ -28,8 +28,8 @@ module _ (h : Header) (past : Trace) where
     updated = updated_step h past e a r f;
   }
 
-dirty_placed_start : (h : Header) → DirtyPlaced h []
-dirty_placed_start h = record {
+facts_start : (h : Header) → DirtyPlaced h []
+facts_start h = record {
   copies = λ l p held. absurd (held refl);
   safe = λ l. inl refl;
   passed = λ l r x w g. cc;
@@ -42,10 +42,10 @@ dirty_placed_start h = record {
 }
 
 -- at each point of an accepted trace whose events are in range
-pub dirty_placed : (h : Header) (past : Trace) → IsAccepted h past → AllByRecursion InRange past → DirtyPlaced h past
-dirty_placed h [] a r = dirty_placed_start h
-dirty_placed h (e ∷ past) a r = dirty_placed_step h past e a r (dirty_placed h past a.0 r.1)
+pub facts : (h : Header) (past : Trace) → IsAccepted h past → AllByRecursion InRange past → DirtyPlaced h past
+facts h [] a r = facts_start h
+facts h (e ∷ past) a r = facts_step h past e a r (facts h past a.0 r.1)
 
 pub dirty_data_placed : (h : Header) (past : Trace) → IsAccepted h past → AllByRecursion InRange past → DirtyPlace h past
-dirty_data_placed h [] a r = λ l. ((dirty_placed_start h).copies l, (dirty_placed_start h).safe l)
-dirty_data_placed h (e ∷ past) a r = (dirty_data_placed h past a.0 r.1, λ l. ((dirty_placed h (e ∷ past) a r).copies l, (dirty_placed h (e ∷ past) a r).safe l))
+dirty_data_placed h [] a r = λ l. ((facts_start h).copies l, (facts_start h).safe l)
+dirty_data_placed h (e ∷ past) a r = (dirty_data_placed h past a.0 r.1, λ l. ((facts h (e ∷ past) a r).copies l, (facts h (e ∷ past) a r).safe l))

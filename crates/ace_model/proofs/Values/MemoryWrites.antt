@@ -2,6 +2,7 @@
 use Rattle.std.proofs.Common.{◌≡◌, ◌⊎◌, ℕ, ◌<◌, ◌^◌, true, false, not, [], ◌∷◌, length, Option, Some, None, slice_get, refl, sym, ap, subst, ◌∙◌, inl, inr}
 use Rattle.std.proofs.lemmas.Bool.{and_parts, and_from, or_right, cases_Bool}
 use Rattle.std.specs.List.{AllByRecursion}
+use Rattle.ace_codes.specs.declared.kind.AwKind.TheVariants as write
 use Rattle.ace_model.proofs.Terms.{AwKind, InRange, Channel, Read, Write, Event, W, M, Header, Line, Transaction, Trace, is_some_and, is_none_or, is_update}
 use Rattle.ace_model.proofs.Terms.{is_write_line_unique, has_write_data, is_granted_write, is_read, is_on, write_kind, outstanding, transaction_of, updates_memory, is_burst_whole, granted, is_granted}
 use Rattle.ace_model.proofs.Terms.{has_passed_data, memory_of, same_line, Beat, burst_of, burst_line, stores_data, value_of, full_beat, may_write_memory, data_of, data_of_write, has_data, IsAccepted}
@@ -15,7 +16,6 @@ use Rattle.ace_model.proofs.Values.Stores.{Writes, stores_m, may_write}
 use Rattle.ace_model.proofs.Values.Stays.{value_updating}
 use Rattle.ace_model.proofs.Grants.Granted.{granted_at, passed_may, data_may, has_passed, granted_given, granted_write}
 use Rattle.ace_model.proofs.Values.Facts.{UpdatesTrue}
-use Rattle.ace_model.proofs.ReadsFollow.Written.{update-writes}
 use Rattle.ace_model.proofs.General.Options.{is_some_and-is, is_none_or-at}
 use Rattle.ace_model.proofs.Values.Beats.{beat_origin, beat_fits}
 
@@ -118,6 +118,13 @@ module _ (h : Header) (past : Trace) where
 pub is_write-is : (c : Channel) → is_read c ≡ false → c ≡ Write
 is_write-is Read e = cc
 is_write-is Write e = refl
+
+-- a memory update writes its burst
+pub update-writes : (h : Header) (past : Trace) (y : Transaction) (k : AwKind) → is_update k ≡ true → data_of_write h past y k ≡ burst_line (burst_of past y)
+update-writes h past y write.WriteBack u = refl
+update-writes h past y write.WriteClean u = refl
+update-writes h past y write.WriteEvict u = refl
+update-writes h past y k u = cc
 
 -- the burst of an update is the value
 pub update_is : (h : Header) (past : Trace) → IsAccepted h past → UpdatesTrue h past → (p i l : ℕ) (x : Transaction) → outstanding h past p Write i ≡ Some x

@@ -8,9 +8,8 @@ use Rattle.ace_codes.specs.declared.kind.SnoopKind.TheVariants as snoop
 use Rattle.ace_model.proofs.Trace.Looks.{has_name-is, same_channel-self}
 use Rattle.ace_model.proofs.Trace.Issued.{transaction_of-stands}
 use Rattle.ace_model.proofs.Tables.States.{row_is, unique_unsettled, dirty_valid}
-use Rattle.ace_model.proofs.Holders.Stores.{some_issued-weaker}
+use Rattle.ace_model.proofs.Trace.Growth.{some_issued-weaker}
 use Rattle.ace_model.proofs.Grants.Stays.{granted_before}
-use Rattle.ace_model.proofs.Grants.Begins.{then_of}
 use Rattle.ace_model.proofs.Tables.SnoopRows.{is_make_invalid}
 use Rattle.ace_model.proofs.Grants.SnoopAnswers.{answer_cases}
 use Rattle.ace_model.proofs.Grants.Answers.{new_answer, others_settled, passed_kind}
@@ -22,6 +21,8 @@ use Rattle.ace_model.proofs.Values.DirtMoves.{dirt_moves}
 use Rattle.ace_model.proofs.Values.Facts.{PassedTrue, DirtyPlaced}
 use Rattle.ace_model.proofs.Holders.Law.{accepted_holds}
 use Rattle.ace_model.proofs.General.Options.{Some-injective}
+use Rattle.ace_model.proofs.General.Booleans.{then_of}
+use Rattle.ace_codes.specs.declared.kind.SnoopKind.TheVariants as snoop
 
 module _ (h : Header) (past : Trace) where
   -- a line that a port may store to is in no MakeUnique of the port

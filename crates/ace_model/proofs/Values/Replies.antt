@@ -1,7 +1,7 @@
 -- The reply to a read that keeps the line is the line's value.
 use Rattle.std.proofs.Common.{◌≡◌, ℕ, true, false, ◌&&◌, nat_eq, [], ◌∷◌, length, Option, Some, None, option_and_then, unwrap_or, refl, sym, ap, subst, ◌∙◌, inl, inr}
 use Rattle.std.proofs.lemmas.Bool.{and_parts, and_from, or_left, cases_Bool, cases_eq, eq-eqb}
-use Rattle.ace_model.proofs.Terms.{ArKind, SnoopKind, snoop_of_read, transfers_data, Event, Cr, Header, is_fetch, is_dirty, Answer, Transaction, Trace, at_point, is_some_and, newer, reads_a_line}
+use Rattle.ace_model.proofs.Terms.{ArKind, SnoopKind, snoop_of_read, transfers_data, Event, Cr, Header, is_fetch, is_dirty, Answer, Transaction, Trace, at_point, is_some_and, newer, reads_a_line, transfers}
 use Rattle.ace_model.proofs.Terms.{is_make_unique, is_granted_write, is_on, read_kind, write_kind, snoop_of, snoop_kind_of, outstanding, data_answers, gives_line, granted, answers_grant, answer_of}
 use Rattle.ace_model.proofs.Terms.{each_port, has_failed, state_of, are_snoops_done, is_port_done, is_line_read_transaction, copy_of, memory_of, copy_at_answer, passed_data, sender_at, first_sender}
 use Rattle.ace_model.proofs.Terms.{memory_at_first_beat, reply_of, value_of, IsAccepted, replaces_line}
@@ -149,3 +149,8 @@ memory_true h past a f l x k g kind fetch done none =
     no_passed passed =
         let w = passes_line h past a l x g (passed_has h past l x (value_of past l) g passed) in
         sent_sender past w.port l w.answer w.is (passed_kind h past a l w.port x w.answer g w.is w.dirty).3 none
+
+-- memory before the first beat is memory now
+pub memory-before : (past : Trace) (p i l : ℕ) → transfers past p i ≡ 0 → memory_at_first_beat past p i l ≡ memory_of past l
+memory-before [] p i l none = refl
+memory-before (e ∷ past) p i l none = rw (eq-eqb (transfers (e ∷ past) p i) 0 none) refl

@@ -9,10 +9,9 @@ use Rattle.ace_codes.specs.declared.kind.ArKind.TheVariants as read
 use Rattle.ace_model.proofs.Trace.Issued.{same_place, outstanding-named}
 use Rattle.ace_model.proofs.Rules.Keeps.{accepted_keeps}
 use Rattle.ace_model.proofs.Tables.States.{dirty_unsettled}
-use Rattle.ace_model.proofs.Holders.Ends.{acknowledged_is}
-use Rattle.ace_model.proofs.Holders.Transfer.{ends_lite}
+use Rattle.ace_model.proofs.Trace.Outstanding.{acknowledged_is, ends_lite}
 use Rattle.ace_model.proofs.Holders.Acknowledge.{is_named_by_rk}
-use Rattle.ace_model.proofs.Grants.Begins.{may_of, then_of}
+use Rattle.ace_model.proofs.Grants.Begins.{may_of}
 use Rattle.ace_model.proofs.Trace.WriteQueue.{EndsWrite, ends_write_of, ends_lite_written}
 use Rattle.ace_model.proofs.Tables.SnoopRows.{is_make_invalid, dirty_stays}
 use Rattle.ace_model.proofs.Grants.SnoopAnswers.{Answering}
@@ -29,7 +28,7 @@ use Rattle.ace_model.proofs.Values.Passed.{passed_safe, passed_step, store_dirty
 use Rattle.ace_model.proofs.Values.Facts.{WrittenTrue, DirtyPlaced}
 use Rattle.ace_model.proofs.Holders.Law.{accepted_holds}
 use Rattle.ace_model.proofs.General.Options.{Some-injective, is_none_or-at, is_some_and-is}
-use Rattle.ace_model.proofs.General.Booleans.{implies-at}
+use Rattle.ace_model.proofs.General.Booleans.{implies-at, then_of}
 use Rattle.std.specs.List.{AllByRecursion}
 use Rattle.ace_model.proofs.Grants.Stays.{Stays, granted_after}
 use Rattle.ace_model.proofs.Values.Stores.{Writes, value_moves, may_write}

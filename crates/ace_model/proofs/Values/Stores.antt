@@ -1,4 +1,5 @@
 -- The stores to a line: a D of a port that may store, the D of a MakeUnique, and the M of a write.
+use Rattle.ace_codes.specs.declared.kind.ArKind.TheVariants as read
 use Rattle.std.proofs.Common.{◌≡◌, ◌⊎◌, ℕ, Bool, true, false, not, ◌&&◌, ◌||◌, nat_eq, nat_lt, ◌∷◌, Option, Some, None, refl, sym, ap, subst, ◌∙◌, inl, inr}
 use Rattle.std.proofs.lemmas.Bool.{and_parts, or_cases, not-true, cases_Bool, eqb-true}
 use Rattle.ace_model.proofs.Terms.{AwKind, Channel, Read, Event, M, D, Header, Line, Transaction, Trace, is_some_and, is_make_unique, is_update, is_unique_write, is_no_snoop_write, is_ace, is_read}
@@ -10,12 +11,14 @@ use Rattle.ace_model.proofs.Trace.Issued.{outstanding-named}
 use Rattle.ace_model.proofs.Trace.Growth.{some_issued-is}
 use Rattle.ace_model.proofs.Rules.Keeps.{accepted_keeps}
 use Rattle.ace_model.proofs.Holders.Facts.{OthersInvalid}
-use Rattle.ace_model.proofs.Trace.LineOnce.{outstanding_is, outstanding_own}
+use Rattle.ace_model.proofs.Trace.LineOnce.{outstanding_is}
+use Rattle.ace_model.proofs.Trace.Outstanding.{outstanding_own}
 use Rattle.ace_model.proofs.Values.FullReads.{full_some, done_read}
 use Rattle.ace_model.proofs.Tables.Kinds.{make_unique_is, granted_stores, granted_apart}
 use Rattle.ace_model.proofs.Grants.Granted.{granted_at, data_may}
 use Rattle.ace_model.proofs.Holders.Law.{accepted_holds}
 use Rattle.ace_model.proofs.General.Options.{Some-injective, is_some_and-is}
+use Rattle.ace_codes.specs.declared.kind.ArKind.TheVariants as read
 
 pub stores_write : (x : Transaction) → stores_data x ≡ true → is_read x.chan ≡ false
 stores_write x s =

@@ -1,5 +1,5 @@
-use Rattle.ace_cache.proofs.Distinct.{way_of-marked}
-use Rattle.ace_cache.proofs.Looks.{way_of-touched, way_of-stored_at, way_of-without}
+use Rattle.ace_cache.proofs.Distinct.{way_of-without, way_of-marked}
+use Rattle.ace_cache.proofs.Looks.{way_of-touched, way_of-stored_at}
 use Rattle.ace_cache.proofs.laws.others_stay.Goals as goal
 
 pub returns-clause-touched : goal.returns-clause-touched

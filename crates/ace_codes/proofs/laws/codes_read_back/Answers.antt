@@ -20,42 +20,18 @@ IsWrittenBack kind domain bar = aw_kind_of (aw_code kind) domain bar ≡ Some ki
 pub returns-clause-reads : goal.returns-clause-reads
 unfolding ar_kind_of
 returns-clause-reads c read.ReadNoSnoop = normal_unshared (IsReadBack read.ReadNoSnoop) refl refl refl refl
-returns-clause-reads c read.ReadOnce = normal_shareable (IsReadBack read.ReadOnce) refl refl refl refl
-returns-clause-reads c read.ReadShared = normal_shareable (IsReadBack read.ReadShared) refl refl refl refl
-returns-clause-reads c read.ReadClean = normal_shareable (IsReadBack read.ReadClean) refl refl refl refl
-returns-clause-reads c read.ReadNotSharedDirty = normal_shareable (IsReadBack read.ReadNotSharedDirty) refl refl refl refl
-returns-clause-reads c read.ReadUnique = normal_shareable (IsReadBack read.ReadUnique) refl refl refl refl
-returns-clause-reads c read.CleanUnique = normal_shareable (IsReadBack read.CleanUnique) refl refl refl refl
-returns-clause-reads c read.MakeUnique = normal_shareable (IsReadBack read.MakeUnique) refl refl refl refl
-returns-clause-reads c read.CleanShared = normal_shareable (IsReadBack read.CleanShared) refl refl refl refl
-returns-clause-reads c read.CleanInvalid = normal_shareable (IsReadBack read.CleanInvalid) refl refl refl refl
-returns-clause-reads c read.MakeInvalid = normal_shareable (IsReadBack read.MakeInvalid) refl refl refl refl
-returns-clause-reads c read.DvmComplete = normal_shareable (IsReadBack read.DvmComplete) refl refl refl refl
-returns-clause-reads c read.DvmMessage = normal_shareable (IsReadBack read.DvmMessage) refl refl refl refl
 returns-clause-reads c read.Barrier =
     barrier_anywhere (IsReadBack read.Barrier) (in_each_domain (λ domain. IsReadBack read.Barrier domain 1) refl refl refl refl) (in_each_domain (λ domain. IsReadBack read.Barrier domain 3) refl refl refl refl)
+returns-clause-reads c kind = normal_shareable (IsReadBack kind) refl refl refl refl
 
 pub returns-clause-writes : goal.returns-clause-writes
 unfolding aw_kind_of
 returns-clause-writes c write.WriteNoSnoop = normal_unshared (IsWrittenBack write.WriteNoSnoop) refl refl refl refl
-returns-clause-writes c write.WriteUnique = normal_shareable (IsWrittenBack write.WriteUnique) refl refl refl refl
-returns-clause-writes c write.WriteLineUnique = normal_shareable (IsWrittenBack write.WriteLineUnique) refl refl refl refl
-returns-clause-writes c write.WriteClean = normal_shareable (IsWrittenBack write.WriteClean) refl refl refl refl
-returns-clause-writes c write.WriteBack = normal_shareable (IsWrittenBack write.WriteBack) refl refl refl refl
-returns-clause-writes c write.Evict = normal_shareable (IsWrittenBack write.Evict) refl refl refl refl
-returns-clause-writes c write.WriteEvict = normal_shareable (IsWrittenBack write.WriteEvict) refl refl refl refl
 returns-clause-writes c write.Barrier =
     barrier_anywhere (IsWrittenBack write.Barrier) (in_each_domain (λ domain. IsWrittenBack write.Barrier domain 1) refl refl refl refl) (in_each_domain (λ domain. IsWrittenBack write.Barrier domain 3) refl refl refl refl)
+returns-clause-writes c kind = normal_shareable (IsWrittenBack kind) refl refl refl refl
 
 pub returns-clause-snoops : goal.returns-clause-snoops
 unfolding ac_kind_of
 returns-clause-snoops c snoop.ReadOnce = refl
-returns-clause-snoops c snoop.ReadShared = refl
-returns-clause-snoops c snoop.ReadClean = refl
-returns-clause-snoops c snoop.ReadNotSharedDirty = refl
-returns-clause-snoops c snoop.ReadUnique = refl
-returns-clause-snoops c snoop.CleanShared = refl
-returns-clause-snoops c snoop.CleanInvalid = refl
-returns-clause-snoops c snoop.MakeInvalid = refl
-returns-clause-snoops c snoop.DvmComplete = refl
-returns-clause-snoops c snoop.DvmMessage = refl
+returns-clause-snoops c _ = refl

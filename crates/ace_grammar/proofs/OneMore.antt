@@ -1,0 +1,22 @@
+-- A trace with one more event.
+use Rattle.std.proofs.Common.{◌≡◌, ◌++◌, List, [], ◌∷◌, sym, ap, ◌∙◌, append_assoc, append-nil}
+use Rattle.std.specs.List.{AllByRecursion}
+use Rattle.std.proofs.lemmas.Grind.{flat_map-append}
+use Rattle.ace_event.specs.declared.event.Event.{Event}
+use Rattle.ace_event.specs.declared.header.Header.{Header}
+use Rattle.ace_event.specs.Text.{trace_text, events_text, header_text, event_text, line_text}
+use Rattle.ace_grammar.specs.Reading.{IsReadable}
+use Rattle.ace_grammar.proofs.Visible.{all-append}
+
+pub readable-more : (events : List Event) (e : Event) → AllByRecursion IsReadable events → IsReadable e → AllByRecursion IsReadable (events ++ e ∷ [])
+readable-more events e all one = all-append IsReadable events (e ∷ []) all (one, tt)
+
+-- the text of its lines
+pub events_text-more : (events : List Event) (e : Event) → events_text (events ++ e ∷ []) ≡ events_text events ++ line_text (event_text e)
+events_text-more events e =
+    flat_map-append (λ event. line_text (event_text event)) events (e ∷ []) ∙ ap (λ t. events_text events ++ t) (append-nil (line_text (event_text e)))
+
+-- its whole text
+pub trace_text-more : (h : Header) (events : List Event) (e : Event) → trace_text h (events ++ e ∷ []) ≡ trace_text h events ++ line_text (event_text e)
+trace_text-more h events e =
+    ap (λ t. header_text h ++ t) (events_text-more events e) ∙ sym (append_assoc (header_text h) (events_text events) (line_text (event_text e)))

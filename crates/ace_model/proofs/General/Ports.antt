@@ -1,0 +1,32 @@
+-- Tests of the ports below a number: of each of them, of some of them, and the last that passes.
+use Rattle.std.proofs.Common.{◌≡◌, ℕ, zero, suc, ◌<◌, Bool, true, false, Some, sym, subst, arith, inl, inr}
+use Rattle.std.proofs.lemmas.Bool.{and_parts, or_parts, cases_Bool, cases_eq}
+use Rattle.ace_model.proofs.Terms.{each_port, some_port, find_port}
+use Rattle.ace_model.proofs.General.Options.{Some-injective}
+
+pub each_at : (n : ℕ) (test : ℕ → Bool) (r : ℕ) → each_port n test ≡ true → r < n → test r ≡ true
+each_at zero test r e l = absurd (omega arith)
+each_at (suc n) test r e l =
+    let parts = and_parts (test n) (each_port n test) e in
+    elim (cases_eq r n) [
+      | inl same ↦ subst (λ k. test k ≡ true) (sym same) parts.0
+      | inr other ↦ each_at n test r parts.1 (omega arith)
+    ]
+
+-- where no port passes the test, this one doesn't
+pub none_at : (n : ℕ) (test : ℕ → Bool) (r : ℕ) → some_port n test ≡ false → r < n → test r ≡ false
+none_at zero test r e l = absurd (omega arith)
+none_at (suc n) test r e l =
+    let parts = or_parts (test n) (some_port n test) e in
+    elim (cases_eq r n) [
+      | inl same ↦ subst (λ k. test k ≡ false) (sym same) parts.0
+      | inr other ↦ none_at n test r parts.1 (omega arith)
+    ]
+
+pub found_passes : (n : ℕ) (test : ℕ → Bool) (r : ℕ) → find_port n test ≡ Some r → test r ≡ true
+found_passes zero test r e = cc
+found_passes (suc n) test r e =
+    elim (cases_Bool (test n)) [
+      | inl t ↦ let same : Some n ≡ Some r = rw t at e in subst (λ k. test k ≡ true) (Some-injective n r same) t
+      | inr f ↦ found_passes n test r (rw f at e)
+    ]

@@ -1,0 +1,154 @@
+-- From its first beat on a read of a line is granted, no answer comes under its grant any more, and its reply stays the same.
+use Rattle.std.proofs.Common.{[], ap, Bool, None, Option, Some, false, if◌then◌else◌, inl, inr, nat_eq, option_and_then, option_map, refl, subst, sym, true, ℕ, ◌&&◌, ◌∙◌, ◌∷◌, ◌≡◌, ◌≢◌}
+use Rattle.std.proofs.Math.Bool.{and-false}
+use Rattle.std.proofs.lemmas.Bool.{and_from, and_parts, cases_Bool, cases_eq, eq-eqb, eqb-true, ne_eqb}
+use Rattle.ace_model.proofs.Terms.{Answer, Ar, Cr, Event, Header, IsAccepted, R, Read, Trace, Transaction, answer_at, answer_of, answers, answers_grant, are_snoops_done, at_point, copy_at_answer, copy_of}
+use Rattle.ace_model.proofs.Terms.{first_sender, gives_line, granted, is_begun, is_line_read_transaction, is_read, memory_at_first_beat, outstanding, reply_of, sender_at, transfers, transfers_data}
+use Rattle.ace_model.proofs.General.Options.{Some-injective, newer-none}
+use Rattle.ace_model.proofs.Trace.Issued.{outstanding-name}
+use Rattle.ace_model.proofs.Grants.Stays.{gives_none, granted_after}
+use Rattle.ace_model.proofs.Grants.Begins.{line_due}
+use Rattle.ace_model.proofs.Grants.Granted.{granted_at}
+use Rattle.ace_model.proofs.Grants.Pending.{answering, snoops}
+use Rattle.ace_model.proofs.Values.FullReads.{issue_transfers}
+use Rattle.ace_model.proofs.Values.Stays.{copy_at-old}
+use Rattle.ace_model.proofs.ReadsFollow.Outstanding.{outstanding-cases, line_read-line}
+
+-- The event is a beat of the name.
+pub record BeatEvent (e : Event) (p i : ℕ) : Type 0 where
+  pub resp : ℕ
+  pub last : Bool
+  pub word : ℕ
+  pub is : e ≡ R p i resp last word
+
+-- a name that has its first transfer with the event
+pub first-transfer : (e : Event) (past : Trace) (p i : ℕ) → transfers past p i ≡ 0 → transfers (e ∷ past) p i ≢ 0 → BeatEvent e p i
+first-transfer (Ar q j addr snoop dom bar lock) past p i none some = absurd (some (counted (nat_eq p q && nat_eq i j)))
+  where
+    counted : (b : Bool) → (if b then 0 else transfers past p i) ≡ 0
+    counted true = refl
+    counted false = none
+first-transfer (R q j resp last word) past p i none some =
+    elim (cases_Bool (nat_eq p q && nat_eq i j)) [
+      | inl t ↦
+          let parts = and_parts (nat_eq p q) (nat_eq i j) t in
+          record {
+            resp = resp;
+            last = last;
+            word = word;
+            is = ap (λ v. R v j resp last word) (sym (eqb-true p q parts.0)) ∙ ap (λ v. R p v resp last word) (sym (eqb-true i j parts.1));
+          }
+      | inr f ↦ absurd (some (rw f none))
+    ]
+first-transfer e past p i none some = absurd (some none)
+
+-- What the rule on transfers says of a read of a line.
+pub record BeatDue (h : Header) (past : Trace) (p i : ℕ) (x : Transaction) : Type 0 where
+  pub stands : granted h past x.addr ≡ Some x
+  pub done : transfers past p i ≡ 0 → are_snoops_done h past x ≡ true
+
+pub beat_due : (h : Header) (past : Trace) (p i : ℕ) (x : Transaction) (e : Event) → IsAccepted h (e ∷ past) → BeatEvent e p i
+    → outstanding h past p Read i ≡ Some x → is_line_read_transaction x ≡ true → BeatDue h past p i x
+beat_due h past p i x e a b o reads =
+    let t = line_due h past p i b.resp b.last b.word x (subst (λ (v : Event). IsAccepted h (v ∷ past)) b.is a) o (line_read-line x reads) in
+    let n = outstanding-name h past p Read i x o in
+    record {
+      stands = granted_at h past a.0 p Read i x o t.stands;
+      done = λ none. t.first (eq-eqb (transfers past x.port x.id) 0 (ap (λ v. transfers past v x.id) n.port ∙ ap (transfers past p) n.id ∙ none));
+    }
+
+-- a read of a line that has had a beat is granted
+pub under_way : (h : Header) (past : Trace) → IsAccepted h past → (p i : ℕ) (x : Transaction) → outstanding h past p Read i ≡ Some x
+    → is_line_read_transaction x ≡ true → transfers past p i ≢ 0 → granted h past x.addr ≡ Some x
+under_way h [] a p i x o reads some = cc
+under_way h (e ∷ past) a p i x o reads some =
+    elim (outstanding-cases h e past p Read i x o) [
+      | inl new ↦ absurd (some (issue_transfers past e p i x new.0 new.1))
+      | inr old ↦
+          let was : granted h past x.addr ≡ Some x = elim (cases_eq (transfers past p i) 0) [
+            | inr earlier ↦ under_way h past a.0 p i x old.0 reads earlier
+            | inl none ↦ (beat_due h past p i x e a (first-transfer e past p i none some) old.0 reads).stands
+          ] in
+          elim (granted_after h past e a x.addr x was) [
+            | inl stays ↦ stays.is
+            | inr ends ↦ absurd (old.1 ends.0 ends.1 ends.2)
+          ]
+    ]
+
+-- The event leaves the grant of the line and the answers under it.
+record LeavesAnswers (past : Trace) (e : Event) (l : ℕ) : Type 0 where
+  gives : gives_line past e l ≡ false
+  answer : (q : ℕ) → answer_at past e q l ≡ None
+  sender : sender_at past e l ≡ None
+
+module _ (h : Header) (past : Trace) (x : Transaction) where
+  -- no answer is due under the grant of a read that has begun: its snoop would be pending, and then the read hasn't begun
+  no_answer : IsAccepted h past → granted h past x.addr ≡ Some x → is_begun past x ≡ true → (q : ℕ) → answers_grant past q x.addr ≡ false
+  no_answer a g begun q =
+      elim (cases_Bool (answers_grant past q x.addr)) [
+        | inr f ↦ f
+        | inl t ↦
+            let s = answering past q q x.addr (and_from _ _ (eq-eqb q q refl) t) in
+            let p = (snoops h past a).pending q (answers past q) x.addr s.0 s.1 in
+            let one : p.one ≡ x = Some-injective p.one x (sym p.stands ∙ g) in
+            let unbegun : is_begun past x ≡ false = subst (λ (v : Transaction). is_begun past v ≡ false) one p.unbegun in cc
+      ]
+
+  leaves_answers : (e : Event) → IsAccepted h (e ∷ past) → granted h past x.addr ≡ Some x → is_begun past x ≡ true → LeavesAnswers past e x.addr
+  leaves_answers e a g begun = record { gives = gives_none h past e a x.addr x g; answer = answer e; sender = sender e }
+    where
+      none : (q : ℕ) → answers_grant past q x.addr ≡ false
+      none = no_answer a.0 g begun
+
+      answer : (d : Event) (q : ℕ) → answer_at past d q x.addr ≡ None
+      answer (Cr p resp st) q = rw (none q, and-false (nat_eq q p)) refl
+      answer d q = refl
+
+      sender : (d : Event) → sender_at past d x.addr ≡ None
+      sender (Cr p resp st) = rw (none p, and-false (transfers_data resp)) refl
+      sender d = refl
+
+  begun : (p i : ℕ) → outstanding h past p Read i ≡ Some x → transfers past p i ≢ 0 → is_begun past x ≡ true
+  begun p i o some =
+      let n = outstanding-name h past p Read i x o in
+      let count : transfers past x.port x.id ≡ transfers past p i = ap (λ v. transfers past v x.id) n.port ∙ ap (transfers past p) n.id in
+      rw (ap is_read n.chan) (rw count (rw (ne_eqb (transfers past p i) 0 some) refl))
+
+  -- the reply to a read that is under way
+  pub reply-stays : (e : Event) (p i : ℕ) → IsAccepted h (e ∷ past) → outstanding h (e ∷ past) p Read i ≡ Some x
+      → is_line_read_transaction x ≡ true → transfers (e ∷ past) p i ≢ 0 → reply_of (e ∷ past) x ≡ reply_of past x
+  reply-stays e p i a o reads some =
+      elim (outstanding-cases h e past p Read i x o) [
+        | inl new ↦ absurd (some (issue_transfers past e p i x new.0 new.1))
+        | inr old ↦ elim (cases_eq (transfers past p i) 0) [
+          | inr earlier ↦ same (leaves_answers e a (under_way h past a.0 p i x old.0 reads earlier) (begun p i old.0 earlier))
+          | inl none ↦
+              let b = first-transfer e past p i none some in
+              same (subst (λ (v : Event). LeavesAnswers past v x.addr) (sym b.is) (record { gives = refl; answer = λ q. refl; sender = refl }))
+        ]
+      ]
+    where
+      memory : memory_at_first_beat (e ∷ past) x.port x.id x.addr ≡ memory_at_first_beat past x.port x.id x.addr
+      memory =
+          let n = outstanding-name h (e ∷ past) p Read i x o in
+          let count : transfers (e ∷ past) x.port x.id ≡ transfers (e ∷ past) p i = ap (λ v. transfers (e ∷ past) v x.id) n.port ∙ ap (transfers (e ∷ past) p) n.id in
+          rw (ne_eqb (transfers (e ∷ past) x.port x.id) 0 (λ z. some (sym count ∙ z))) refl
+
+      copies : LeavesAnswers past e x.addr → (v : Option ℕ) → option_and_then (copy_at_answer (e ∷ past) x.addr) v ≡ option_and_then (copy_at_answer past x.addr) v
+      copies s None = refl
+      copies s (Some q) =
+          let gives = s.gives in
+          let none = s.answer q in
+          ap (option_map (λ (w : Answer). copy_of (at_point w.place (e ∷ past)) q x.addr)) (rw (gives, none) (refl {a = answer_of past q x.addr})) ∙ there (answer_of past q x.addr) refl
+        where
+          there : (o : Option Answer) → answer_of past q x.addr ≡ o
+              → option_map (λ (w : Answer). copy_of (at_point w.place (e ∷ past)) q x.addr) o ≡ option_map (λ (w : Answer). copy_of (at_point w.place past) q x.addr) o
+          there None is = refl
+          there (Some w) is = ap (λ v. Some v) (copy_at-old past e q x.addr w is)
+
+      same : LeavesAnswers past e x.addr → reply_of (e ∷ past) x ≡ reply_of past x
+      same s =
+          let gives = s.gives in
+          let silent = s.sender in
+          let sender : first_sender (e ∷ past) x.addr ≡ first_sender past x.addr = rw (gives, silent) (newer-none (first_sender past x.addr)) in
+          rw (sender, memory, copies s (first_sender past x.addr)) refl
