@@ -163,40 +163,6 @@ module _ (h : Header) (past : Trace) where
           ]
 
 module _ (h : Header) (past : Trace) where
-  -- the M of passed data makes memory the value, or a port holds the line dirty
-  passed_written : (e : Event) → IsAccepted h (e ∷ past) → InRange e → DirtyPlaced h past → (l : ℕ) (w : WritesLine h past e l) → ByPassed h past l w.one
-      → IsValueSafe h (e ∷ past) l
-  passed_written e a r f l w b =
-      elim (passed_true h past a.0 f.passed l w.one b.stands b.has) [
-        | inl same ↦
-            let addr = is_on-addr w.one l w.on in
-            let is : data_of h past w.one ≡ Some (value_of past l) =
-            then_of (is_read w.one.chan) (passed_data h past w.one.addr) _ b.reads ∙ ap (passed_data h past) addr ∙ same in
-            inl (memory_now h past e l w ∙ line_is h past e a r l w (value_of past l) is (value-length past l) ∙ sym value)
-        | inr holder ↦ inr (inl (holder.0, subst (λ v. is_dirty (state_of h (v ∷ past) holder.0 l) ≡ true) (sym w.is) holder.1))
-      ]
-    where
-      value : value_of (e ∷ past) l ≡ value_of past l
-      value =
-          let named = outstanding-named h past w.port w.chan w.id w.one w.out in
-          let reads = b.reads in
-          subst (λ v. value_of (v ∷ past) l ≡ value_of past l) (sym w.is) (rw (named, reads) refl)
-
-  memory_written : (e : Event) → IsAccepted h (e ∷ past) → AllByRecursion InRange (e ∷ past) → DirtyPlaced h past → (l : ℕ) → WritesLine h past e l
-      → IsValueSafe h (e ∷ past) l
-  memory_written e a r f l w =
-      elim (writer h past e a l w) [
-        | inl passed ↦ passed_written e a r.0 f l w passed
-        | inr (inl u) ↦ inl (update_true h past e a r.0 f.updates l w u)
-        | inr (inr s) ↦ inl (store_true h past e a r f l w s)
-      ]
-
-  -- the M of a store is one of the line
-  store_writes : (e : Event) → IsAccepted h (e ∷ past) → (q : ℕ) (c : Channel) (j l : ℕ) (line : Line) → e ≡ M q c j line → Writes h past q c j l → WritesLine h past e l
-  store_writes e a q c j l line is s =
-      let m = may_write h past q c j line (subst (λ v. IsAccepted h (v ∷ past)) is a) s.one s.named in
-      record { port = q; chan = c; id = j; line = line; is = is; one = s.one; out = m.out; on = s.on; may = m.may }
-
   -- where there are passed data, a granted transaction has them
   passed_granted : (l : ℕ) (d : Line) → passed_data h past l ≡ Some d → (x : Transaction) × (granted h past l ≡ Some x) × (has_passed_data h past x ≡ true)
   passed_granted l d is = by (granted h past l) refl
@@ -205,57 +171,91 @@ module _ (h : Header) (past : Trace) where
       by None g = let bad : None ≡ Some d = rw g at is in cc
       by (Some x) g = (x, g, passed_has h past l x d g is)
 
-  pub safe_step : (e : Event) → IsAccepted h (e ∷ past) → AllByRecursion InRange (e ∷ past) → DirtyPlaced h past → (l : ℕ) → IsValueSafe h (e ∷ past) l
-  safe_step e a r f l =
-      elim (memory_moves h past e a l) [
-        | inr w ↦ memory_written e a r f l w
-        | inl kept ↦ elim (value_moves h past e a l) [
-          | inl same ↦ carries kept same
-          | inr (inl d) ↦ inr (inl (d.port, subst (λ v. is_dirty (state_of h (v ∷ past) d.port l) ≡ true) (sym d.is) (store_dirty h past d.port l d.strobe d.ex d.line d.may)))
-          | inr (inr (inl d)) ↦
-              let stands = d.made.stands in
-              let kind = d.made.kind in
-              inr (inr (inr (subst (λ v. is_some_and (granted h (v ∷ past) l) replaces_line ≡ true) (sym d.is) (rw (stands, kind) refl))))
-          | inr (inr (inr d)) ↦ memory_written e a r f l (store_writes e a d.port d.chan d.id l d.line d.is d.by)
+  module _ (e : Event) (a : IsAccepted h (e ∷ past)) (r : AllByRecursion InRange (e ∷ past)) (f : DirtyPlaced h past) (l : ℕ) where
+    -- the M of passed data makes memory the value, or a port holds the line dirty
+    passed_written : (w : WritesLine h past e l) → ByPassed h past l w.one → IsValueSafe h (e ∷ past) l
+    passed_written w b =
+        elim (passed_true h past a.0 f.passed l w.one b.stands b.has) [
+          | inl same ↦
+              let addr = is_on-addr w.one l w.on in
+              let is : data_of h past w.one ≡ Some (value_of past l) =
+              then_of (is_read w.one.chan) (passed_data h past w.one.addr) _ b.reads ∙ ap (passed_data h past) addr ∙ same in
+              inl (memory_now h past e l w ∙ line_is h past e l w a r.0 (value_of past l) is (value-length past l) ∙ sym value)
+          | inr holder ↦ inr (inl (holder.0, subst (λ v. is_dirty (state_of h (v ∷ past) holder.0 l) ≡ true) (sym w.is) holder.1))
         ]
-      ]
-    where
-      passed_on : (x : Transaction) → granted h past l ≡ Some x → has_passed_data h past x ≡ true → Stays h past e l x → IsValueSafe h (e ∷ past) l
-      passed_on x g has stays =
-          let o = (accepted_holds h past a.0).grants l x g in
-          let w = passes_line h past a.0 l x g has in
-          elim (cases_Bool (has_memory_write (e ∷ past) x.port x.chan x.id)) [
-            | inr none ↦
-                passed_safe h (e ∷ past) a (passed_step h past e a f) l w.port x w.answer stays.is none (answer_kept h past a.0 e w.port l w.answer stays.gives w.is) w.dirty
-            | inl t ↦ elim (written_cases h past e a x.port x.chan x.id x o.0 t) [
-              | inl now ↦
-                  memory_written e a r f l
-                  (record { port = x.port; chan = x.chan; id = x.id; line = now.line; is = now.is; one = x; out = o.0; on = o.1; may = now.may })
-              | inr earlier ↦ let bad : true ≡ false = sym earlier ∙ (has_passed h past x has).unwritten in cc
-            ]
-          ]
+      where
+        value : value_of (e ∷ past) l ≡ value_of past l
+        value =
+            let named = outstanding-named h past w.port w.chan w.id w.one w.out in
+            let reads = b.reads in
+            subst (λ v. value_of (v ∷ past) l ≡ value_of past l) (sym w.is) (rw (named, reads) refl)
 
-      carries : memory_of (e ∷ past) l ≡ memory_of past l → value_of (e ∷ past) l ≡ value_of past l → IsValueSafe h (e ∷ past) l
-      carries kept same =
-          elim (f.safe l) [
-            | inl m ↦ inl (kept ∙ m ∙ sym same)
-            | inr (inl d) ↦ elim (dirt_moves h past e a f.updated d.0 l d.1) [
-              | inl still ↦ inr (inl (d.0, still))
-              | inr (inl u) ↦ inl (kept ∙ u.stored ∙ sym same)
-              | inr (inr c) ↦
-                  subst (λ v. IsValueSafe h (v ∷ past) l) (sym c.is)
-                  (answered_safe h past d.0 c.resp c.st (subst (λ v. IsAccepted h (v ∷ past)) c.is a) f l d.1 c.answering)
-            ]
-            | inr (inr (inl passed)) ↦
-                let x = passed_granted l (value_of past l) passed in
-                elim (granted_after h past e a l x.0 x.1) [
-                  | inl stays ↦ passed_on x.0 x.1 x.2 stays
-                  | inr z ↦ ended_safe h past e a f.written l x.0 x.1 (inl x.2) z.0 z.1 z.2
-                ]
-            | inr (inr (inr replaces)) ↦
-                let x = is_some_and-is (granted h past l) replaces_line replaces in
-                elim (granted_after h past e a l x.0 x.1) [
-                  | inl stays ↦ inr (inr (inr (subst (λ o. is_some_and o replaces_line ≡ true) (sym stays.is) x.2)))
-                  | inr z ↦ ended_safe h past e a f.written l x.0 x.1 (inr x.2) z.0 z.1 z.2
-                ]
+    -- so an M leaves the value safe
+    memory_written : WritesLine h past e l → IsValueSafe h (e ∷ past) l
+    memory_written w =
+        elim (writer h past e l w a) [
+          | inl passed ↦ passed_written w passed
+          | inr (inl u) ↦ inl (update_true h past e l w a r.0 f.updates u)
+          | inr (inr s) ↦ inl (store_true h past e a r f l w s)
+        ]
+
+    -- the M of a store is one of the line
+    store_writes : (q : ℕ) (c : Channel) (j : ℕ) (line : Line) → e ≡ M q c j line → Writes h past q c j l → WritesLine h past e l
+    store_writes q c j line is s =
+        let m = may_write h past q c j line (subst (λ v. IsAccepted h (v ∷ past)) is a) s.one s.named in
+        record { port = q; chan = c; id = j; line = line; is = is; one = s.one; out = m.out; on = s.on; may = m.may }
+
+    -- and so does every event
+    pub safe_step : IsValueSafe h (e ∷ past) l
+    safe_step =
+        elim (memory_moves h past e a l) [
+          | inr w ↦ memory_written w
+          | inl kept ↦ elim (value_moves h past e a l) [
+            | inl same ↦ carries kept same
+            | inr (inl d) ↦ inr (inl (d.port, subst (λ v. is_dirty (state_of h (v ∷ past) d.port l) ≡ true) (sym d.is) (store_dirty h past d.port l d.strobe d.ex d.line d.may)))
+            | inr (inr (inl d)) ↦
+                let stands = d.made.stands in
+                let kind = d.made.kind in
+                inr (inr (inr (subst (λ v. is_some_and (granted h (v ∷ past) l) replaces_line ≡ true) (sym d.is) (rw (stands, kind) refl))))
+            | inr (inr (inr d)) ↦ memory_written (store_writes d.port d.chan d.id d.line d.is d.by)
           ]
+        ]
+      where
+        passed_on : (x : Transaction) → granted h past l ≡ Some x → has_passed_data h past x ≡ true → Stays h past e l x → IsValueSafe h (e ∷ past) l
+        passed_on x g has stays =
+            let o = (accepted_holds h past a.0).grants l x g in
+            let w = passes_line h past a.0 l x g has in
+            elim (cases_Bool (has_memory_write (e ∷ past) x.port x.chan x.id)) [
+              | inr none ↦
+                  passed_safe h (e ∷ past) a (passed_step h past e a f) l w.port x w.answer stays.is none (answer_kept h past a.0 e w.port l w.answer stays.gives w.is) w.dirty
+              | inl t ↦ elim (written_cases h past e a x.port x.chan x.id x o.0 t) [
+                | inl now ↦
+                    memory_written (record { port = x.port; chan = x.chan; id = x.id; line = now.line; is = now.is; one = x; out = o.0; on = o.1; may = now.may })
+                | inr earlier ↦ let bad : true ≡ false = sym earlier ∙ (has_passed h past x has).unwritten in cc
+              ]
+            ]
+
+        carries : memory_of (e ∷ past) l ≡ memory_of past l → value_of (e ∷ past) l ≡ value_of past l → IsValueSafe h (e ∷ past) l
+        carries kept same =
+            elim (f.safe l) [
+              | inl m ↦ inl (kept ∙ m ∙ sym same)
+              | inr (inl d) ↦ elim (dirt_moves h past e a f.updated d.0 l d.1) [
+                | inl still ↦ inr (inl (d.0, still))
+                | inr (inl u) ↦ inl (kept ∙ u.stored ∙ sym same)
+                | inr (inr c) ↦
+                    subst (λ v. IsValueSafe h (v ∷ past) l) (sym c.is)
+                    (answered_safe h past d.0 c.resp c.st (subst (λ v. IsAccepted h (v ∷ past)) c.is a) f l d.1 c.answering)
+              ]
+              | inr (inr (inl passed)) ↦
+                  let x = passed_granted l (value_of past l) passed in
+                  elim (granted_after h past e a l x.0 x.1) [
+                    | inl stays ↦ passed_on x.0 x.1 x.2 stays
+                    | inr z ↦ ended_safe h past e a f.written l x.0 x.1 (inl x.2) z.0 z.1 z.2
+                  ]
+              | inr (inr (inr replaces)) ↦
+                  let x = is_some_and-is (granted h past l) replaces_line replaces in
+                  elim (granted_after h past e a l x.0 x.1) [
+                    | inl stays ↦ inr (inr (inr (subst (λ o. is_some_and o replaces_line ≡ true) (sym stays.is) x.2)))
+                    | inr z ↦ ended_safe h past e a f.written l x.0 x.1 (inr x.2) z.0 z.1 z.2
+                  ]
+            ]

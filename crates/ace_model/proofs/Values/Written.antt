@@ -139,7 +139,7 @@ module _ (h : Header) (past : Trace) where
   store_true e a r f l w s =
       let one : w.one ≡ s.one = Some-injective w.one s.one (sym (outstanding-named h past w.port w.chan w.id w.one w.out) ∙ s.named) in
       let d = writing a.0 r.1 f w.port w.chan w.id l s in
-      let line = line_is h past e a r.0 l w d.line (ap (data_of h past) one ∙ d.is) d.four in
+      let line = line_is h past e l w a r.0 d.line (ap (data_of h past) one ∙ d.is) d.four in
       let named = s.named in
       let both = and_from _ _ s.stores s.on in
       let value : value_of (M w.port w.chan w.id w.line ∷ past) l ≡ burst_into past s.one (value_of past l) = rw (named, both) refl in
@@ -183,11 +183,11 @@ module _ (h : Header) (past : Trace) where
           let value = value_stays h past e a l x was (λ p may. unique_valid (state_of h past p l) (may_unique h past p l may) (q.nowhere p)) (write_no_make h past x l writes) (again earlier) in
           elim (memory_moves h past e a l) [
             | inl kept ↦ kept ∙ q.stored ∙ sym value
-            | inr w ↦ elim (writer h past e a l w) [
+            | inr w ↦ elim (writer h past e l w a) [
               | inl passed ↦
                   let one : w.one ≡ x = Some-injective w.one x (sym passed.stands ∙ was) in
                   let bad : true ≡ false = sym passed.reads ∙ ap (λ (y : Transaction). is_read y.chan) one ∙ writes in cc
-              | inr (inl u) ↦ update_true h past e a r.0 f.updates l w u
+              | inr (inl u) ↦ update_true h past e l w a r.0 f.updates u
               | inr (inr s) ↦ absurd (again earlier w.port w.chan w.id s (Some-injective s.one x (sym s.stands ∙ was)))
             ]
           ]
