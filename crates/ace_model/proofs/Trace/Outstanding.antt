@@ -1,9 +1,9 @@
 -- What is outstanding: the name of a transaction, and what an event issues or ends.
-use Rattle.std.proofs.Common.{◌≡◌, ◌≢◌, ◌⊎◌, not, ℕ, Bool, true, false, if◌then◌else◌, ◌&&◌, nat_eq, length, Option, Some, None, is_none, refl, sym, subst, ◌∙◌, inl, inr, ap, arith}
-use Rattle.std.proofs.lemmas.Bool.{and_parts, and_from, cases_Bool, eqb-true, eq-eqb}
+use Rattle.std.proofs.Common.{◌≡◌, ◌≢◌, ◌⊎◌, not, ℕ, Bool, true, false, if◌then◌else◌, ◌&&◌, nat_eq, length, Option, Some, None, is_none, refl, sym, subst, ◌∙◌, inl, inr, arith}
+use Rattle.std.proofs.lemmas.Bool.{cases_Bool}
 use Rattle.ace_model.proofs.Terms.{Header, Channel, Read, Write, R, B, Transaction, Trace, transaction_of, next_complete, acknowledged, ended, is_ace, transaction_under, has_name, outstanding, newest_named, is_exclusive_store, is_false, passed_at_grant, has_failed}
 use Rattle.ace_model.proofs.Trace.Looks.{Named, at_name, has_name-is, newest_named-cases, newest_named-older}
-use Rattle.ace_model.proofs.Trace.Issued.{transaction_of-name, outstanding-name, same_place, transaction_of-stands}
+use Rattle.ace_model.proofs.Trace.Issued.{transaction_of-name, outstanding-name, same_place}
 use Rattle.ace_model.proofs.General.Options.{none_if-is, none_is, Some-injective}
 use Rattle.std.proofs.lemmas.Bool.Decides.{nat_tests}
 
