@@ -31,7 +31,7 @@
 -- Why each kind of event keeps them (AC, CD, L and OP change nothing here):
 --
 -- D: the copy of the port changes as the value does, and every other port is in I (Copies). The port is then dirty, or
---   its MakeUnique is granted and replaces the line (Law). Where a fact says of other data that they are the value, no D
+--   its MakeUnique is granted and replaces the line (Safe). Where a fact says of other data that they are the value, no D
 --   comes. After a port has passed the line on, the others are in I or SC, and nothing is passed to a MakeUnique; a D of
 --   that port itself leaves it dirty (Passed). After a port has sent data to a fetch, or the fetch has had a transfer, no
 --   other port is unique, and its own has the fetch outstanding (Stays, Fetches). K32 refuses a second D of a MakeUnique
@@ -51,7 +51,7 @@
 -- RK: a port that held I and holds the line now has ended a fetch or, by K23, a MakeUnique that had its D: its copy is
 --   the value (Copies). A dirty line stays dirty (DirtMoves). A read with passed data has had PassDirty from its first
 --   transfer on (K18; K13 allows no snoop after it), so by the end states it leaves its port dirty, as a MakeUnique does
---   (PassedFirst, Safe).
+--   (PassedData, Safe).
 -- WK, B: a granted write that ends has had its M (K26), and memory is the value (Safe). A dirty port that ends a
 --   WriteBack or a WriteClean has had its M too; a WriteEvict and an Evict are of a clean line, and the port of a granted
 --   write holds nothing (K6) (UpdateHolds, DirtMoves). An ACE-Lite port ends its reads with the last R; it issues no
@@ -83,14 +83,13 @@ pub mod DirtMoves
 -- the copies; that the value stays while data of it are on their way
 pub mod Copies
 pub mod Stays
--- passed data are there until the M; the reply is the value; what fetches and MakeUniques leave
+-- passed data are there until the M, and their read has PassDirty; the reply is the value; what fetches and MakeUniques leave
 pub mod PassedData
 pub mod Replies
 pub mod Fetches
 pub mod Made
 -- what an M writes, and what becomes of passed data
 pub mod MemoryWrites
-pub mod PassedFirst
 pub mod Passed
 -- memory once a write and once an update has had its M
 pub mod Written

@@ -1,7 +1,6 @@
 -- What the kinds of transactions say of each other.
-use Rattle.std.proofs.Common.{None, Some}
+use Rattle.std.proofs.Common.{None, Some, ◌≡◌, ◌⊎◌, Bool, true, false, ◌||◌, refl, inl, inr, ◌≢◌, arith}
 use Rattle.ace_model.proofs.Terms.{SnoopKind, is_line_read, is_no_snoop_read}
-use Rattle.std.proofs.Common.{◌≡◌, ◌⊎◌, Bool, true, false, ◌||◌, refl, inl, inr}
 use Rattle.ace_model.proofs.Terms.{ArKind, AwKind, LineState, UC, UD, is_fetch, snoop_of_read, snoop_of_write, starts_write, is_invalid, is_dirty, is_some_and, reads_a_line, beats_of, is_lite_read}
 use Rattle.ace_model.proofs.Terms.{is_clean_unique, is_make_unique, is_update, has_write_data, is_unique_write, is_no_snoop_write, is_write_line_unique, is_granted_write, is_line_write}
 use Rattle.ace_codes.specs.declared.kind.ArKind.TheVariants as read
@@ -26,6 +25,11 @@ fetch_is read.ReadNotSharedDirty f = record { full = refl; reads = refl; beats =
 fetch_is read.ReadShared f = record { full = refl; reads = refl; beats = refl; cleans = refl; makes = refl; snoops = refl; takes = λ s f. inr refl }
 fetch_is read.ReadUnique f = record { full = refl; reads = refl; beats = refl; cleans = refl; makes = refl; snoops = refl; takes = λ s f. inl refl }
 fetch_is k f = cc
+
+-- every read has a transfer
+pub beats_some : (k : ArKind) → beats_of k ≢ 0
+beats_some read.ReadOnce e = absurd (omega (arith, e))
+beats_some k e = absurd (omega (arith, e))
 
 pub make_unique_is : (k : ArKind) → is_make_unique k ≡ true → k ≡ read.MakeUnique
 make_unique_is read.MakeUnique e = refl

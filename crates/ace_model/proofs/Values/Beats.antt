@@ -1,8 +1,8 @@
 -- The beats of a write: each was there before the event, or is the event, which then keeps the rule on write data.
 use Rattle.std.proofs.Common.{◌≡◌, ◌⊎◌, ℕ, true, ◌||◌, nat_eq, ◌∷◌, Some, slice_get, subst, inl, inr}
 use Rattle.std.proofs.lemmas.Bool.{and_parts, eqb-true}
-use Rattle.ace_model.proofs.Terms.{AwKind, Event, W, Write, Header, Transaction, Trace, implies, is_some_and, is_none_or, is_update, is_write_line_unique, has_write_data, write_kind, outstanding, next_write}
-use Rattle.ace_model.proofs.Terms.{next_write_beat, word_of, copy_of, Beat, burst_of, is_next_beat, fits_write, full_beat, IsAccepted}
+use Rattle.ace_model.proofs.Terms.{AwKind, Event, W, Write, Header, Transaction, Trace, implies, is_some_and, is_none_or, is_update, is_write_line_unique, has_write_data, write_kind, outstanding}
+use Rattle.ace_model.proofs.Terms.{next_write, next_write_beat, word_of, copy_of, Beat, burst_of, is_next_beat, fits_write, full_beat, IsAccepted}
 use Rattle.ace_model.proofs.Trace.Issued.{outstanding-named, outstanding-origin, transaction_of-stands}
 use Rattle.ace_model.proofs.Trace.WriteBursts.{IsBeat, burst_grows, burst_new}
 use Rattle.ace_model.proofs.Rules.Keeps.{accepted_keeps}

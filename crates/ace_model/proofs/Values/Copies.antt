@@ -2,23 +2,28 @@
 use Rattle.std.proofs.Common.{◌≡◌, ◌⊎◌, ℕ, Bool, true, false, ◌&&◌, ◌==◌, nat_eq, ◌∷◌, Some, refl, sym, ap, subst, ◌∙◌, inl, inr}
 use Rattle.std.proofs.lemmas.Bool.{and_parts, or_left, cases_Bool, eqb-true, eq-eqb}
 use Rattle.std.proofs.Math.Bool.{and-false}
-use Rattle.ace_model.proofs.Terms.{LineState, I, Read, Event, R, Rk, M, D, Header, Line, merged, is_invalid}
-use Rattle.ace_model.proofs.Terms.{is_unique, Transaction, Trace, is_some_and, beats_of, is_granted_write, is_on, write_kind, outstanding, transaction_of, transfers}
-use Rattle.ace_model.proofs.Terms.{state_of, is_line_read_transaction, copy_of, value_of, IsAccepted, AreCopiesTrue}
+use Rattle.ace_model.proofs.Terms.{LineState, I, Read, Event, R, Rk, M, D, Header, Line, merged, is_invalid, is_unique, Transaction, Trace, is_some_and, beats_of, is_granted_write, is_on, write_kind}
+use Rattle.ace_model.proofs.Terms.{outstanding, transaction_of, transfers, state_of, is_line_read_transaction, copy_of, value_of, IsAccepted, AreCopiesTrue}
 use Rattle.ace_model.proofs.Tables.States.{valid_not, invalid_not, unique_valid}
-use Rattle.ace_model.proofs.Tables.Kinds.{fetch_is}
+use Rattle.ace_model.proofs.Tables.Kinds.{fetch_is, make_unique_is}
 use Rattle.ace_model.proofs.Holders.Acknowledge.{is_named_by_rk}
 use Rattle.ace_model.proofs.Holders.Rises.{state_moves, stays_empty}
 use Rattle.ace_model.proofs.Grants.Begins.{may_of}
-use Rattle.ace_model.proofs.Values.MergedLines.{merged-whole}
+use Rattle.ace_model.proofs.Values.MergedLines.{merged-same}
 use Rattle.ace_model.proofs.Values.Stores.{stores_d, value_moves}
-use Rattle.ace_model.proofs.Tables.Kinds.{make_unique_is}
 use Rattle.ace_model.proofs.Values.FullReads.{full_some}
 use Rattle.ace_model.proofs.Values.Ended.{read_ends}
 use Rattle.ace_model.proofs.Values.WritesAlone.{all_empty}
 use Rattle.ace_model.proofs.Values.Facts.{DirtyPlaced}
 use Rattle.ace_model.proofs.Holders.Law.{accepted_holds}
 use Rattle.ace_model.proofs.General.Options.{is_some_and-is}
+
+-- The event is a store of the port to the line.
+pub record StoresLine (e : Event) (p l : ℕ) : Type 0 where
+  pub strobe : ℕ
+  pub ex : Bool
+  pub line : Line
+  pub is : e ≡ D p l strobe ex line
 
 module _ (h : Header) (past : Trace) where
   -- only its own D of the line changes the state of a port by a D
@@ -39,8 +44,7 @@ module _ (h : Header) (past : Trace) where
               | inl may ↦
                   let unique = (and_parts (is_unique (state_of h past q l)) _ may).0 in
                   ap (λ c. merged c strobe line) (f p (subst (λ v. state_of h past v l ≡ I → ⊥) (sym port) (unique_valid (state_of h past q l) unique)))
-              | inr m ↦
-                  subst (λ s. merged (copy_of past p l) s line ≡ merged (value_of past l) s line) (sym m.whole) (merged-whole (copy_of past p l) (value_of past l) line)
+              | inr m ↦ merged-same (copy_of past p l) (value_of past l) line strobe m.whole
             ] in
             rw (own, here) goal
         | inr other ↦
@@ -84,78 +88,71 @@ module _ (h : Header) (past : Trace) where
     pub word : ℕ
     pub is : e ≡ R p id resp last word
 
--- The event is a store of the port to the line.
-pub record StoresLine (e : Event) (p l : ℕ) : Type 0 where
-  pub strobe : ℕ
-  pub ex : Bool
-  pub line : Line
-  pub is : e ≡ D p l strobe ex line
+  -- an event leaves the copy, or completes a read of the line, or stores to it
+  pub copy_moves : (e : Event) → IsAccepted h (e ∷ past) → (p l : ℕ)
+      → (copy_of (e ∷ past) p l ≡ copy_of past p l) ⊎ Receives e p l ⊎ StoresLine e p l
+  copy_moves (R q j resp last word) a p l =
+      elim (cases_Bool ((nat_eq p q && last) && is_some_and (transaction_of past p Read j) (λ x. is_on x l && is_line_read_transaction x))) [
+        | inr f ↦ inl (rw f refl)
+        | inl t ↦
+            let parts = and_parts (nat_eq p q && last) _ t in
+            let port = eqb-true p q (and_parts (nat_eq p q) last parts.0).0 in
+            let x = is_some_and-is (transaction_of past p Read j) (λ x. is_on x l && is_line_read_transaction x) parts.1 in
+            let m = may_of h past q j resp last word a in
+            let out : outstanding h past p Read j ≡ Some m.one = ap (λ v. outstanding h past v Read j) port ∙ m.out in
+            let one : Some m.one ≡ Some x.0 = sym m.named ∙ ap (λ v. transaction_of past v Read j) (sym port) ∙ x.1 in
+            let both = and_parts (is_on x.0 l) (is_line_read_transaction x.0) x.2 in
+            inr (inl (record { id = j; one = x.0; out = out ∙ one; on = both.0; reads = both.1; resp = resp; last = last; word = word; is = ap (λ v. R v j resp last word) (sym port) }))
+      ]
+  copy_moves (D q addr strobe b line) a p l =
+      elim (cases_Bool (nat_eq p q && nat_eq l addr)) [
+        | inr f ↦ inl (rw f refl)
+        | inl t ↦
+            let parts = and_parts (nat_eq p q) (nat_eq l addr) t in
+            inr (inr (record {
+              strobe = strobe;
+              ex = b;
+              line = line;
+              is = ap (λ v. D v addr strobe b line) (sym (eqb-true p q parts.0)) ∙ ap (λ v. D p v strobe b line) (sym (eqb-true l addr parts.1));
+            }))
+      ]
+  copy_moves _ a p l = inl refl
 
--- an event leaves the copy, or completes a read of the line, or stores to it
-pub copy_moves : (h : Header) (past : Trace) (e : Event) → IsAccepted h (e ∷ past) → (p l : ℕ)
-    → (copy_of (e ∷ past) p l ≡ copy_of past p l) ⊎ Receives h past e p l ⊎ StoresLine e p l
-copy_moves h past (R q j resp last word) a p l =
-    elim (cases_Bool ((nat_eq p q && last) && is_some_and (transaction_of past p Read j) (λ x. is_on x l && is_line_read_transaction x))) [
-      | inr f ↦ inl (rw f refl)
-      | inl t ↦
-          let parts = and_parts (nat_eq p q && last) _ t in
-          let port = eqb-true p q (and_parts (nat_eq p q) last parts.0).0 in
-          let x = is_some_and-is (transaction_of past p Read j) (λ x. is_on x l && is_line_read_transaction x) parts.1 in
-          let m = may_of h past q j resp last word a in
-          let out : outstanding h past p Read j ≡ Some m.one = ap (λ v. outstanding h past v Read j) port ∙ m.out in
-          let one : Some m.one ≡ Some x.0 = sym m.named ∙ ap (λ v. transaction_of past v Read j) (sym port) ∙ x.1 in
-          let both = and_parts (is_on x.0 l) (is_line_read_transaction x.0) x.2 in
-          inr (inl (record { id = j; one = x.0; out = out ∙ one; on = both.0; reads = both.1; resp = resp; last = last; word = word; is = ap (λ v. R v j resp last word) (sym port) }))
-    ]
-copy_moves h past (D q addr strobe b line) a p l =
-    elim (cases_Bool (nat_eq p q && nat_eq l addr)) [
-      | inr f ↦ inl (rw f refl)
-      | inl t ↦
-          let parts = and_parts (nat_eq p q) (nat_eq l addr) t in
-          inr (inr (record {
-            strobe = strobe;
-            ex = b;
-            line = line;
-            is = ap (λ v. D v addr strobe b line) (sym (eqb-true p q parts.0)) ∙ ap (λ v. D p v strobe b line) (sym (eqb-true l addr parts.1));
-          }))
-    ]
-copy_moves h past _ a p l = inl refl
-
-pub copies_step : (h : Header) (past : Trace) (e : Event) → IsAccepted h (e ∷ past) → DirtyPlaced h past → (l : ℕ) → AreCopiesTrue h (e ∷ past) l
-copies_step h past (D q addr strobe b line) a f l p held =
-    elim (cases_Bool (nat_eq l addr)) [
-      | inl t ↦
-          let same = eqb-true l addr t in
-          subst (λ v. AreCopiesTrue h (D q v strobe b line ∷ past) l) same
-          (copies_d h past q l strobe b line (subst (λ v. IsAccepted h (D q v strobe b line ∷ past)) (sym same) a) (f.copies l)) p held
-      | inr other ↦
-          let not_named : (nat_eq p q && nat_eq l addr) ≡ false = rw other (and-false (nat_eq p q)) in
-          let was = f.copies l p (λ gone. held (state_d h past q addr strobe b line p l not_named ∙ gone)) in
-          rw (not_named, other) was
-    ]
-copies_step h past (M q c j line) a f l p held =
-    elim (value_moves h past (M q c j line) a l) [
-      | inl same ↦ f.copies l p held ∙ sym same
-      | inr (inl d) ↦ let is = d.is in cc
-      | inr (inr (inl d)) ↦ let is = d.is in cc
-      | inr (inr (inr w)) ↦ absurd (held (all_empty h past a.0 w.port w.chan w.id l w.by p))
-    ]
-copies_step h past (R q j resp last word) a f l p held =
-    elim (copy_moves h past (R q j resp last word) a p l) [
-      | inl kept ↦ kept ∙ f.copies l p held
-      | inr (inl r) ↦
-          absurd (held (stays_empty h past a.0 p Read r.id l r.one r.out r.on (or_left (is_line_read_transaction r.one) (is_some_and (write_kind r.one) is_granted_write) r.reads)))
-      | inr (inr d) ↦ let is = d.is in cc
-    ]
-copies_step h past (Rk q st) a f l p held =
-    elim (cases_Bool (is_named_by_rk past q p l)) [
-      | inl t ↦
-          let after : state_of h (Rk q st ∷ past) p l ≡ st = rw t refl in
-          copies_rk h past q st a f l p t (λ gone. held (after ∙ gone))
-      | inr other ↦ f.copies l p (λ gone. held (rw other gone))
-    ]
-copies_step h past e a f l p held =
-    elim (state_moves h past e a p l) [
-      | inl less ↦ f.copies l p (λ gone. held (less.gone gone))
-      | inr up ↦ let is = up.is in cc
-    ]
+  pub copies_step : (e : Event) → IsAccepted h (e ∷ past) → DirtyPlaced h past → (l : ℕ) → AreCopiesTrue h (e ∷ past) l
+  copies_step (D q addr strobe b line) a f l p held =
+      elim (cases_Bool (nat_eq l addr)) [
+        | inl t ↦
+            let same = eqb-true l addr t in
+            subst (λ v. AreCopiesTrue h (D q v strobe b line ∷ past) l) same
+            (copies_d q l strobe b line (subst (λ v. IsAccepted h (D q v strobe b line ∷ past)) (sym same) a) (f.copies l)) p held
+        | inr other ↦
+            let not_named : (nat_eq p q && nat_eq l addr) ≡ false = rw other (and-false (nat_eq p q)) in
+            let was = f.copies l p (λ gone. held (state_d q addr strobe b line p l not_named ∙ gone)) in
+            rw (not_named, other) was
+      ]
+  copies_step (M q c j line) a f l p held =
+      elim (value_moves h past (M q c j line) a l) [
+        | inl same ↦ f.copies l p held ∙ sym same
+        | inr (inl d) ↦ let is = d.is in cc
+        | inr (inr (inl d)) ↦ let is = d.is in cc
+        | inr (inr (inr w)) ↦ absurd (held (all_empty h past a.0 w.port w.chan w.id l w.by p))
+      ]
+  copies_step (R q j resp last word) a f l p held =
+      elim (copy_moves (R q j resp last word) a p l) [
+        | inl kept ↦ kept ∙ f.copies l p held
+        | inr (inl r) ↦
+            absurd (held (stays_empty h past a.0 p Read r.id l r.one r.out r.on (or_left (is_line_read_transaction r.one) (is_some_and (write_kind r.one) is_granted_write) r.reads)))
+        | inr (inr d) ↦ let is = d.is in cc
+      ]
+  copies_step (Rk q st) a f l p held =
+      elim (cases_Bool (is_named_by_rk past q p l)) [
+        | inl t ↦
+            let after : state_of h (Rk q st ∷ past) p l ≡ st = rw t refl in
+            copies_rk q st a f l p t (λ gone. held (after ∙ gone))
+        | inr other ↦ f.copies l p (λ gone. held (rw other gone))
+      ]
+  copies_step e a f l p held =
+      elim (state_moves h past e a p l) [
+        | inl less ↦ f.copies l p (λ gone. held (less.gone gone))
+        | inr up ↦ let is = up.is in cc
+      ]

@@ -1,12 +1,11 @@
 -- What an RK or a WK leaves of the line of its transaction.
 use Rattle.std.proofs.Common.{◌≡◌, ℕ, ◌&&◌, true, nat_eq, ◌∷◌, Some, le_refl, sym, ap, subst, ◌∙◌}
 use Rattle.std.proofs.lemmas.Bool.{and_parts, eqb-true}
-use Rattle.ace_model.proofs.Terms.{write_kind, ArKind, LineState, passes_dirty, is_shared, Rk, Read, Header, ends_read, Transaction, Trace, implies, is_some_and, is_make_unique, is_line, is_on, read_kind}
-use Rattle.ace_model.proofs.Terms.{Channel, Write, Wk, is_some_on, has_memory_write, has_write_data, outstanding, acknowledged, first_resp, transaction_of, acknowledgements, has_failed, state_of, has_store}
-use Rattle.ace_model.proofs.Terms.{ends_well, is_end, held_of, IsAccepted}
+use Rattle.ace_model.proofs.Terms.{write_kind, ArKind, LineState, passes_dirty, is_shared, Rk, Read, Header, Transaction, Trace, implies, is_some_and, is_make_unique, is_line, is_on}
+use Rattle.ace_model.proofs.Terms.{read_kind, Channel, Write, Wk, is_some_on, has_memory_write, has_write_data, outstanding, acknowledged, first_resp, transaction_of, acknowledgements, has_failed}
+use Rattle.ace_model.proofs.Terms.{state_of, has_store, ends_well, is_end, IsAccepted}
 use Rattle.ace_model.proofs.Tables.ReadEnds.{ReadEnds, read_is}
 use Rattle.ace_model.proofs.Rules.Keeps.{accepted_keeps}
-use Rattle.ace_model.proofs.Tables.Less.{held_on}
 use Rattle.ace_model.proofs.Holders.Acknowledge.{Ends, is_named_by_rk}
 use Rattle.ace_model.proofs.Holders.Facts.{Arrives}
 use Rattle.ace_model.proofs.Holders.Rises.{ends_of}
@@ -15,6 +14,7 @@ use Rattle.ace_model.proofs.Holders.Law.{accepted_holds}
 use Rattle.ace_model.proofs.General.Options.{Some-injective, is_some_and-is, is_none_or-at}
 use Rattle.ace_model.proofs.General.Booleans.{implies-at}
 use Rattle.ace_model.proofs.Trace.WriteQueue.{ends_write_of}
+use Rattle.ace_model.proofs.Trace.Looks.{is_on-addr}
 
 module _ (h : Header) (past : Trace) where
   -- The read of the line that an RK of the port ends.
@@ -44,15 +44,10 @@ module _ (h : Header) (past : Trace) where
       let two = and_parts (is_line e.ended_one) (nat_eq e.ended_one.addr l) on in
       let well = is_none_or-at (acknowledged past q Read) (ends_well h past st) e.ended_one (accepted_keeps h past (Rk q st) a).rule_23 e.is in
       let end = is_none_or-at (read_kind e.ended_one) (is_end h past e.ended_one st) e.kind well e.is_kind in
-      let o = first_resp past e.ended_one.port e.ended_one.id in
-      let both = and_parts (ends_read e.kind (held_of h past e.ended_one) (is_some_and o is_shared) (is_some_and o passes_dirty) (has_failed past e.ended_one) st)
-      (implies (is_make_unique e.kind) (has_store h past e.ended_one.port e.ended_one.id)) end in
-      let first : o ≡ first_resp past p e.id = ap (λ v. first_resp past v e.ended_one.id) (e.port ∙ sym port) ∙ ap (first_resp past p) e.is_id in
-      let held : held_of h past e.ended_one ≡ state_of h past p l =
-      held_on (is_line e.ended_one) (state_of h past e.ended_one.port e.ended_one.addr) two.0
-      ∙ ap (λ v. state_of h past v e.ended_one.addr) (e.port ∙ sym port) ∙ ap (state_of h past p) (eqb-true e.ended_one.addr l two.1) in
-      let stored : has_store h past e.ended_one.port e.ended_one.id ≡ has_store h past p e.id =
-      ap (λ v. has_store h past v e.ended_one.id) (e.port ∙ sym port) ∙ ap (has_store h past p) e.is_id in
+      let both = and_parts _ (implies (is_make_unique e.kind) (has_store h past e.ended_one.port e.ended_one.id)) end in
+      let here : p ≡ e.ended_one.port = port ∙ sym e.port in
+      let its : e.id ≡ e.ended_one.id = sym e.is_id in
+      let there : l ≡ e.ended_one.addr = sym (is_on-addr e.ended_one l on) in
       record {
         port = port;
         one = e.ended_one;
@@ -63,9 +58,8 @@ module _ (h : Header) (past : Trace) where
         kind = e.kind;
         is_kind = e.is_kind;
         ends_it = e.is;
-        state = subst (λ v. ReadEnds e.kind (state_of h past p l) (is_some_and v is_shared) (is_some_and v passes_dirty) (has_failed past e.ended_one) st) first
-            (subst (λ s. ReadEnds e.kind s (is_some_and o is_shared) (is_some_and o passes_dirty) (has_failed past e.ended_one) st) held (read_is e.kind _ _ _ _ st both.0));
-        stored = λ m. sym stored ∙ implies-at (is_make_unique e.kind) _ both.1 m;
+        state = rw (here, its, there) (read_is e.kind _ _ _ _ st (rw two.0 at both.0));
+        stored = λ m. rw (here, its) (implies-at (is_make_unique e.kind) _ both.1 m);
         arrives = subst (λ v. Arrives h past v e.id e.ended_one) (sym port) (e.arrives two.0);
         full = subst (λ v. IsFull past v e.id e.ended_one) (sym port) (queued e);
       }

@@ -1,8 +1,8 @@
 -- What holds at each point of an accepted trace, beside the law that data newer than memory have a place, and makes it inductive.
 use Rattle.std.proofs.Common.{◌≡◌, ◌≢◌, ◌⊎◌, ℕ, true, false, Some, slice_get}
-use Rattle.ace_model.proofs.Terms.{ArKind, I, passes_dirty, transfers_data, Header, Read, Write, is_fetch, is_dirty, Answer, Transaction, Trace, at_point, is_some_and, is_read, is_on, read_kind, write_kind}
-use Rattle.ace_model.proofs.Terms.{outstanding, transfers, updates_memory, has_memory_write, granted, answer_of, has_passed_data, state_of, has_store, words_read, word_of, copy_of, memory_of, reply_of}
-use Rattle.ace_model.proofs.Terms.{Beat, burst_of, value_of, AreCopiesTrue, IsValueSafe}
+use Rattle.ace_model.proofs.Terms.{ArKind, I, passes_dirty, transfers_data, Header, Read, Write, is_fetch, is_dirty, Answer, Transaction, Trace, at_point, is_some_and, is_read, is_on, read_kind}
+use Rattle.ace_model.proofs.Terms.{write_kind, outstanding, transfers, updates_memory, has_memory_write, granted, answer_of, has_passed_data, state_of, has_store, words_read, word_of, copy_of}
+use Rattle.ace_model.proofs.Terms.{memory_of, reply_of, Beat, burst_of, value_of, AreCopiesTrue, IsValueSafe}
 use Rattle.ace_codes.specs.declared.kind.ArKind.TheVariants as read
 use Rattle.ace_model.proofs.Tables.Kinds.{is_dirty_update}
 

@@ -2,9 +2,8 @@
 use Rattle.std.proofs.Common.{◌≡◌, ◌≢◌, ◌==◌, ℕ, ◌+◌, ◌<◌, Bool, true, false, if◌then◌else◌, ◌&&◌, nat_eq, nat_lt, List, [], ◌∷◌, ◌++◌, length, Some, None, slice_get, slice_index, get_or, refl, sym, ap, subst, ◌∙◌, arith, inl, inr}
 use Rattle.std.proofs.lemmas.Bool.{and_parts, and_from, or_cases, cases_eq, eqb-true, eq-eqb, ne_eqb}
 use Rattle.ace_model.proofs.Terms.{ArKind, ar_kind_of, Event, Ar, R, Aw, Read, Header, Line, same_test, is_fetch, is_unique, Transaction, Trace, is_some_and, is_lite_read, beats_of, reads_a_line}
+use Rattle.ace_model.proofs.Terms.{first_sender, memory_at_first_beat, reply_of, value_of, may_issue_read, k18, is_due, is_next_transfer, has_word, IsAccepted}
 use Rattle.ace_model.proofs.Terms.{is_ace, is_line, has_name, read_kind, issued, ended, transfers, outstanding, granted, has_failed, state_of, is_line_read_transaction, words_read, word_of}
-use Rattle.ace_model.proofs.Terms.{first_sender, memory_at_first_beat, reply_of, value_of, may_issue_read, may_store, k18, is_due, is_next_transfer, has_word}
-use Rattle.ace_model.proofs.Terms.{IsAccepted}
 use Rattle.ace_model.proofs.Trace.Looks.{has_name-is, is_on-addr, without-some}
 use Rattle.ace_model.proofs.Trace.Issued.{outstanding-named, outstanding-name, outstanding-origin}
 use Rattle.ace_model.proofs.Rules.Keeps.{accepted_keeps}
@@ -13,14 +12,14 @@ use Rattle.std.proofs.lemmas.Option.{slice_get-get_or}
 use Rattle.ace_model.proofs.Tables.Kinds.{Fetch, fetch_is}
 use Rattle.ace_model.proofs.Values.FullReads.{transfer_moves, words-length, issue_transfers, line_due}
 use Rattle.ace_model.proofs.Holders.Facts.{Arrives}
-use Rattle.ace_model.proofs.Trace.LineOnce.{outstanding_found, one_on_line}
+use Rattle.ace_model.proofs.Trace.LineOnce.{one_on_line}
 use Rattle.ace_model.proofs.Grants.Stays.{gives_none}
 use Rattle.ace_model.proofs.Values.MergedLines.{value-length, lines_by_words}
 use Rattle.ace_model.proofs.Values.Stores.{stores_d}
-use Rattle.ace_model.proofs.Trace.Looks.{read_writes_none}
 use Rattle.ace_model.proofs.Values.Copies.{copy_moves}
-use Rattle.ace_model.proofs.Values.Stays.{may_unique, may_free, value_stays, made_apart, sent_step}
-use Rattle.ace_model.proofs.Values.Replies.{sender_before, reply_true, memory_true, memory-before}
+use Rattle.ace_model.proofs.Values.Stays.{value_stays, made_apart, sent_step, none_may, read_no_write}
+use Rattle.ace_model.proofs.Values.Replies.{sender_before, reply_true, memory_true}
+use Rattle.ace_model.proofs.Values.Replies.{memory-before}
 use Rattle.ace_model.proofs.Values.Facts.{SentTrue, Fetches, FetchesTrue, DirtyPlaced}
 use Rattle.ace_model.proofs.Holders.Law.{accepted_holds}
 use Rattle.ace_model.proofs.General.Options.{Some-injective, is_some_and-at, is_none_or-at}
@@ -113,21 +112,15 @@ module _ (h : Header) (past : Trace) where
           let g : granted h past l ≡ Some x = ap (granted h past) (sym addr) ∙ r.stands in
           let g' : granted h (e ∷ past) l ≡ Some x = ap (granted h (e ∷ past)) (sym addr) ∙ r'.stands in
           let name = outstanding-name h past p Read i x was in
-          let no_port : (q : ℕ) → may_store h past q l ≡ true → ⊥ = λ q may. elim (cases_eq p q) [
-            | inl own ↦
-                let found = outstanding_found h past p Read i l x was on in
-                let free = may_free h past p l (subst (λ v. may_store h past v l ≡ true) (sym own) may) in cc
-            | inr apart ↦
-                let yes = may_unique h past q l may in
-                let unique : is_unique (state_of h past q x.addr) ≡ true = ap (λ v. is_unique (state_of h past q v)) addr ∙ yes in
-                elim (tables.takes _ (has_failed past x)) [
-                  | inl alone ↦ let gone = r.alone k kind alone q apart in let bad = sym (ap is_unique gone) ∙ unique in cc
-                  | inr shared ↦ let beside = r.beside k kind shared q apart in cc
-                ]
-          ] in
-          let value = value_stays h past e a l x g (read_writes_none x k kind).1 no_port (made_apart h past l x k kind fetch) in
+          let no_port = none_may h past p Read i l x was on (λ q apart yes.
+          let unique : is_unique (state_of h past q x.addr) ≡ true = ap (λ v. is_unique (state_of h past q v)) addr ∙ yes in
+          elim (tables.takes _ (has_failed past x)) [
+            | inl alone ↦ let gone = r.alone k kind alone q apart in let bad = sym (ap is_unique gone) ∙ unique in cc
+            | inr shared ↦ let beside = r.beside k kind shared q apart in cc
+          ]) in
+          let value = value_stays h past e a l x g no_port (made_apart h past l x k kind fetch) (read_no_write h past x k l kind) in
           let known = f.fetches p i l x k was on kind fetch before in
-          let some_named : nat_eq (transfers (e ∷ past) x.port x.id) 0 ≡ false = ap (λ v. nat_eq (transfers (e ∷ past) v x.id) 0) name.port ∙ ap (λ v. nat_eq (transfers (e ∷ past) p v) 0) name.id ∙ zero_not (transfers (e ∷ past) p i) some in
+          let some_named : nat_eq (transfers (e ∷ past) x.port x.id) 0 ≡ false = ap (λ v. nat_eq (transfers (e ∷ past) v x.id) 0) name.port ∙ ap (λ v. nat_eq (transfers (e ∷ past) p v) 0) name.id ∙ ne_eqb (transfers (e ∷ past) p i) 0 some in
           record {
             replies = reply_next e a (sent_step h past e a f) l x k g g' addr kind fetch value some_named known.replies;
             words = λ n v is. known.words n v (ap (λ ws. slice_get ws n) (sym same_words) ∙ is) ∙ ap (λ b. word_of b n) (sym value);
@@ -135,21 +128,15 @@ module _ (h : Header) (past : Trace) where
               | inl kept ↦ kept ∙ known.whole (sym same ∙ four) ∙ sym value
               | inr (inl c) ↦
                   let one = one_on_line h past a.0 p Read Read c.id i l c.one x c.out was c.on on in
-                  let own = outstanding-name h past p Read c.id c.one c.out in
-                  let id : c.id ≡ i = sym own.id ∙ ap (λ (y : Transaction). y.id) one ∙ name.id in
-                  let is : e ≡ R p i c.resp c.last c.word = c.is ∙ ap (λ v. R p v c.resp c.last c.word) id in
-                  let next : transfers (R p i c.resp c.last c.word ∷ past) p i ≡ transfers past p i + 1 = rw (and_from _ _ (eq-eqb p p refl) (eq-eqb i i refl)) refl in
-                  let bad : transfers past p i ≡ transfers past p i + 1 = sym same ∙ ap (λ d. transfers (d ∷ past) p i) is ∙ next in
-                  absurd (omega (arith, bad))
+                  let id : c.id ≡ i = sym (outstanding-name h past p Read c.id c.one c.out).id ∙ ap (λ (y : Transaction). y.id) one ∙ name.id in
+                  let next : transfers (e ∷ past) p i ≡ transfers past p i + 1 = rw (c.is, eq-eqb p p refl, eq-eqb i c.id (sym id)) refl in
+                  absurd (omega (arith, same, next))
               | inr (inr d) ↦ elim (stores_d h past p l d.strobe d.ex d.line (subst (λ v. IsAccepted h (v ∷ past)) d.is a)) [
                 | inl may ↦ absurd (no_port p may)
                 | inr m ↦ absurd (made_apart h past l x k kind fetch p d.strobe m (one_on_line h past a.0 p Read Read m.id i l m.one x m.out was m.on on))
               ]
             ];
           }
-        where
-          zero_not : (n : ℕ) → n ≢ 0 → nat_eq n 0 ≡ false
-          zero_not n ne = ne_eqb n 0 ne
 
       arrives : (resp : ℕ) (last : Bool) (word : ℕ) → IsAccepted h (R p i resp last word ∷ past) → outstanding h past p Read i ≡ Some x
           → outstanding h (R p i resp last word ∷ past) p Read i ≡ Some x → Fetches h (R p i resp last word ∷ past) p i l x

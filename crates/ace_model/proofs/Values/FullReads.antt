@@ -1,14 +1,15 @@
 -- The transfers of a read: what an event adds to them, and that a read which is complete has had them all.
-use Rattle.std.proofs.Common.{◌≡◌, ◌≢◌, ◌⊎◌, ◌==◌, ℕ, ◌+◌, Bool, true, false, not, if◌then◌else◌, ◌&&◌, nat_eq, [], ◌∷◌, length, Some, refl, sym, ap, subst, ◌∙◌, arith, inl, inr, length-append}
+use Rattle.std.proofs.Common.{◌≡◌, ◌≢◌, ◌⊎◌, ◌==◌, ℕ, ◌+◌, Bool, true, false, not, ◌&&◌, nat_eq, [], ◌∷◌, length, Some, refl, sym, ap, subst, ◌∙◌, arith, inl, inr, length-append}
 use Rattle.std.proofs.lemmas.Bool.{and_parts, or_cases, cases_Bool, eqb-true, eq-eqb}
-use Rattle.ace_model.proofs.Terms.{Read, Write, Event, Ar, Aw, R, Header, Transaction, Trace, is_some_and, beats_of, reads_a_line, has_name, is_named, read_kind, issued, transfers, first_resp, outstanding}
-use Rattle.ace_model.proofs.Terms.{is_line, may_transfer, is_completion, is_complete, words_read, IsAccepted}
+use Rattle.ace_model.proofs.Terms.{Read, Write, Event, Ar, Aw, R, Header, Transaction, Trace, is_some_and, beats_of, has_name, is_named, read_kind, issued, transfers, first_resp}
+use Rattle.ace_model.proofs.Terms.{outstanding, is_line, may_transfer, is_completion, is_complete, words_read, IsAccepted}
 use Rattle.ace_model.proofs.Trace.Looks.{has_name-is}
 use Rattle.ace_model.proofs.Trace.Issued.{outstanding-origin}
 use Rattle.ace_model.proofs.Trace.WriteQueue.{issue_completes}
 use Rattle.ace_model.proofs.Trace.Outstanding.{named_read}
 use Rattle.ace_model.proofs.Grants.Begins.{may_of, LineTransfer, line_transfer}
 use Rattle.ace_model.proofs.General.Options.{Some-injective, is_some_and-is}
+use Rattle.ace_model.proofs.Tables.Kinds.{beats_some}
 
 -- The event is a transfer under the name.
 pub record Transfer (e : Event) (p i : ℕ) : Type 0 where
@@ -70,11 +71,7 @@ IsFull past p i x = is_some_and (read_kind x) (λ k. transfers past p i == beats
 pub full_some : (past : Trace) (p i : ℕ) (x : Transaction) → IsFull past p i x → transfers past p i ≢ 0
 full_some past p i x full =
     let k = is_some_and-is (read_kind x) (λ k. transfers past p i == beats_of k) full in
-    some (reads_a_line k.0) (transfers past p i) (eqb-true (transfers past p i) (beats_of k.0) k.2)
-  where
-    some : (b : Bool) (n : ℕ) → n ≡ (if b then 4 else 1) → n ≡ 0 → ⊥
-    some true n e z = absurd (omega (arith, e, z))
-    some false n e z = absurd (omega (arith, e, z))
+    λ z. beats_some k.0 (sym (eqb-true (transfers past p i) (beats_of k.0) k.2) ∙ z)
 
 module _ (h : Header) where
   -- the last transfer makes a read full

@@ -1,22 +1,19 @@
 -- A MakeUnique that has had its store leaves its port with the value.
-use Rattle.std.proofs.Common.{◌≡◌, ℕ, Bool, true, false, not, ◌&&◌, nat_eq, nat_lt, [], ◌∷◌, length, Some, refl, sym, ap, subst, ◌∙◌, inl, inr}
-use Rattle.std.proofs.lemmas.Bool.{and_parts, or_cases, or_right, cases_eq, eqb-true, eq-eqb}
+use Rattle.std.proofs.Common.{◌≡◌, ℕ, Bool, true, false, not, ◌&&◌, nat_eq, nat_lt, [], ◌∷◌, length, Some, refl, sym, ap, subst, ◌∙◌, inl, inr, ◌⊎◌}
+use Rattle.std.proofs.lemmas.Bool.{and_parts, or_cases, or_right, eqb-true, eq-eqb}
 use Rattle.ace_codes.specs.declared.kind.ArKind.TheVariants as read
-use Rattle.ace_model.proofs.Terms.{I, Channel, Read, Event, Ar, Aw, D, Header, Line, merged, Transaction, Trace, is_some_and, reads_a_line, is_ace, is_line, is_named, issued}
-use Rattle.ace_model.proofs.Terms.{read_kind, outstanding, is_completion, is_complete, granted, state_of, awaits_store, is_store_of, has_store, copy_of, value_of}
-use Rattle.ace_model.proofs.Terms.{may_store, IsAccepted}
+use Rattle.ace_model.proofs.Terms.{I, Channel, Read, Event, Ar, Aw, D, Header, Line, Transaction, Trace, is_some_and, reads_a_line, is_ace, is_line, is_named, issued, read_kind, outstanding}
+use Rattle.ace_model.proofs.Terms.{is_completion, is_complete, granted, state_of, awaits_store, is_store_of, has_store, copy_of, value_of, IsAccepted}
 use Rattle.ace_model.proofs.Trace.Looks.{is_on-addr}
-use Rattle.ace_model.proofs.Trace.Issued.{outstanding-name, outstanding-origin}
+use Rattle.ace_model.proofs.Trace.Issued.{outstanding-name, outstanding-origin, Earlier}
 use Rattle.ace_model.proofs.Rules.Keeps.{accepted_keeps}
-use Rattle.ace_model.proofs.Trace.LineOnce.{outstanding_found, one_on_line}
-use Rattle.ace_model.proofs.Values.MergedLines.{merged-whole}
+use Rattle.ace_model.proofs.Trace.LineOnce.{one_on_line}
+use Rattle.ace_model.proofs.Values.MergedLines.{merged-same}
 use Rattle.ace_model.proofs.Values.Stores.{Made, stores_d, Awaits, awaits_store-is}
-use Rattle.ace_model.proofs.Values.FullReads.{done_read}
-use Rattle.ace_model.proofs.Values.FullReads.{full_some}
-use Rattle.ace_model.proofs.Trace.Looks.{read_writes_none}
+use Rattle.ace_model.proofs.Values.FullReads.{done_read, full_some}
 use Rattle.ace_model.proofs.Values.Copies.{copy_moves}
 use Rattle.ace_model.proofs.Tables.States.{unique_valid}
-use Rattle.ace_model.proofs.Values.Stays.{may_unique, may_free, value_stays}
+use Rattle.ace_model.proofs.Values.Stays.{value_stays, busy, none_may, read_no_write}
 use Rattle.ace_model.proofs.Values.Facts.{MadeTrue, DirtyPlaced}
 use Rattle.ace_model.proofs.Holders.Law.{accepted_holds}
 use Rattle.ace_model.proofs.General.Options.{is_some_and-at}
@@ -49,87 +46,81 @@ module _ (h : Header) (past : Trace) where
   issue_stores (Aw q j addr snoop dom bar) x p i s = refl
   issue_stores e x p i s = cc
 
--- a MakeUnique that has had its store is complete, and of an ACE port
+-- a MakeUnique that has had its store was outstanding before the event, which is the store, or comes after it
+pub record StoreOrigin (h : Header) (past : Trace) (e : Event) (p i : ℕ) (x : Transaction) : Type 0 where
+  pub old : Earlier h past e p Read i x
+  pub how : StoresNow h past e p i x ⊎ (has_store h past p i ≡ true)
+
+store_origin : (h : Header) (past : Trace) (e : Event) (p i : ℕ) (x : Transaction) → outstanding h (e ∷ past) p Read i ≡ Some x → has_store h (e ∷ past) p i ≡ true → StoreOrigin h past e p i x
+store_origin h past e p i x o s =
+    elim (outstanding-origin h past e p Read i x o) [
+      | inl new ↦
+          let none = issue_stores h past e x p i new.0 in
+          let bad : false ≡ true = rw (new.0, new.1, none) at s in cc
+      | inr old ↦ record {
+        old = old;
+        how = elim (or_cases (is_store_of h past e p i) (not (is_named (issued (length past) e) p Read i) && has_store h past p i) s) [
+          | inl now ↦ inl (stores_now h past e p i x old.was now)
+          | inr earlier ↦ inr (and_parts (not (is_named (issued (length past) e) p Read i)) _ earlier).1
+        ];
+      }
+    ]
+
+-- it is complete, and of an ACE port
 pub stored_complete : (h : Header) (past : Trace) → IsAccepted h past → (p i : ℕ) (x : Transaction) → outstanding h past p Read i ≡ Some x → has_store h past p i ≡ true
     → (is_complete past p Read i ≡ true) × (is_ace h p ≡ true)
 stored_complete h [] a p i x o s = cc
 stored_complete h (e ∷ past) a p i x o s =
-    elim (outstanding-origin h past e p Read i x o) [
-      | inl new ↦
-          let none = issue_stores h past e x p i new.0 in
-          let bad : false ≡ true = rw (new.0, new.1, none) at s in cc
-      | inr old ↦
-          let was = old.was in
-          let before : (is_complete past p Read i ≡ true) × (is_ace h p ≡ true) =
-          elim (or_cases (is_store_of h past e p i) (not (is_named (issued (length past) e) p Read i) && has_store h past p i) s) [
-            | inr earlier ↦ stored_complete h past a.0 p i x was (and_parts (not (is_named (issued (length past) e) p Read i)) _ earlier).1
-            | inl now ↦
-                let n = stores_now h past e p i x was now in
-                let name = outstanding-name h past p Read i x was in
-                let known = (accepted_keeps h past (D p n.addr n.strobe n.ex n.line) (subst (λ d. IsAccepted h (d ∷ past)) n.is a)).rule_1 in (
-                  sym (ap (λ v. is_complete past v x.chan x.id) name.port ∙ ap (λ (c : Channel). is_complete past p c x.id) name.chan ∙ ap (is_complete past p Read) name.id) ∙ n.awaits.complete,
-                  (and_parts (nat_lt p h.ports) (is_ace h p) known).1,
-                )
-          ] in
-          (or_right (is_completion e p Read i) (not (is_named (issued (length past) e) p Read i) && is_complete past p Read i) (rw old.other before.0), before.1)
-    ]
+    let from = store_origin h past e p i x o s in
+    let before : (is_complete past p Read i ≡ true) × (is_ace h p ≡ true) = elim from.how [
+      | inr earlier ↦ stored_complete h past a.0 p i x from.old.was earlier
+      | inl n ↦
+          let name = outstanding-name h past p Read i x from.old.was in
+          let known = (accepted_keeps h past (D p n.addr n.strobe n.ex n.line) (subst (λ d. IsAccepted h (d ∷ past)) n.is a)).rule_1 in (
+            sym (ap (λ v. is_complete past v x.chan x.id) name.port ∙ ap (λ (c : Channel). is_complete past p c x.id) name.chan ∙ ap (is_complete past p Read) name.id) ∙ n.awaits.complete,
+            (and_parts (nat_lt p h.ports) (is_ace h p) known).1,
+          )
+    ] in
+    (or_right (is_completion e p Read i) (not (is_named (issued (length past) e) p Read i) && is_complete past p Read i) (rw from.old.other before.0), before.1)
 
 -- the whole line is stored into the copy and into the value
 made_d : (h : Header) (past : Trace) (p l strobe : ℕ) (b : Bool) (line : Line) → Made h past p l strobe → copy_of (D p l strobe b line ∷ past) p l ≡ value_of (D p l strobe b line ∷ past) l
 made_d h past p l strobe b line m =
-    let own : nat_eq p p ≡ true = eq-eqb p p refl in
-    let here : nat_eq l l ≡ true = eq-eqb l l refl in
-    let goal : merged (copy_of past p l) strobe line ≡ merged (value_of past l) strobe line =
-    subst (λ s. merged (copy_of past p l) s line ≡ merged (value_of past l) s line) (sym m.whole) (merged-whole (copy_of past p l) (value_of past l) line) in
-    rw (own, here) goal
+    rw (eq-eqb p p refl, eq-eqb l l refl) (merged-same (copy_of past p l) (value_of past l) line strobe m.whole)
 
 pub made_step : (h : Header) (past : Trace) (e : Event) → IsAccepted h (e ∷ past) → DirtyPlaced h past → MadeTrue h (e ∷ past)
 made_step h past e a f p i l x o on kind s =
-    elim (outstanding-origin h past e p Read i x o) [
-      | inl new ↦
-          let none = issue_stores h past e x p i new.0 in
-          let bad : false ≡ true = rw (new.0, new.1, none) at s in cc
-      | inr old ↦
-          let was = old.was in
-          elim (or_cases (is_store_of h past e p i) (not (is_named (issued (length past) e) p Read i) && has_store h past p i) s) [
-            | inl now ↦ by_store was now
-            | inr earlier ↦ after_store was (and_parts (not (is_named (issued (length past) e) p Read i)) _ earlier).1
-          ]
+    let from = store_origin h past e p i x o s in
+    elim from.how [
+      | inl now ↦ by_store from.old.was now
+      | inr earlier ↦ after_store from.old.was earlier
     ]
   where
-    by_store : outstanding h past p Read i ≡ Some x → is_store_of h past e p i ≡ true → copy_of (e ∷ past) p l ≡ value_of (e ∷ past) l
-    by_store was now =
-        let n = stores_now h past e p i x was now in
+    by_store : outstanding h past p Read i ≡ Some x → StoresNow h past e p i x → copy_of (e ∷ past) p l ≡ value_of (e ∷ past) l
+    by_store was n =
         let addr : n.addr ≡ l = sym (is_on-addr x n.addr n.awaits.on) ∙ is_on-addr x l on in
         let is : e ≡ D p l n.strobe n.ex n.line = n.is ∙ ap (λ v. D p v n.strobe n.ex n.line) addr in
         elim (stores_d h past p l n.strobe n.ex n.line (subst (λ d. IsAccepted h (d ∷ past)) is a)) [
-          | inl may ↦
-              let some = outstanding_found h past p Read i l x was on in
-              let none = may_free h past p l may in cc
+          | inl may ↦ absurd (busy h past p Read i l x was on may)
           | inr m ↦ subst (λ d. copy_of (d ∷ past) p l ≡ value_of (d ∷ past) l) (sym is) (made_d h past p l n.strobe n.ex n.line m)
         ]
 
     after_store : outstanding h past p Read i ≡ Some x → has_store h past p i ≡ true → copy_of (e ∷ past) p l ≡ value_of (e ∷ past) l
     after_store was stored =
         let done = stored_complete h past a.0 p i x was stored in
-        let line = and_parts (is_line x) (nat_eq x.addr l) on in
-        let addr = eqb-true x.addr l line.1 in
-        let arrives = (accepted_holds h past a.0).arrive p i x done.1 was line.0 (full_some past p i x (done_read h past a.0 p i x was done.0)) in
+        let addr = is_on-addr x l on in
+        let arrives = (accepted_holds h past a.0).arrive p i x done.1 was (and_parts (is_line x) _ on).0 (full_some past p i x (done_read h past a.0 p i x was done.0)) in
         let stands : granted h past l ≡ Some x = ap (granted h past) (sym addr) ∙ arrives.stands in
         let name = outstanding-name h past p Read i x was in
-        let no_port : (q : ℕ) → may_store h past q l ≡ true → ⊥ = λ q may. elim (cases_eq p q) [
-          | inl own ↦
-              let some = outstanding_found h past p Read i l x was on in
-              let none = may_free h past p l (subst (λ v. may_store h past v l ≡ true) (sym own) may) in cc
-          | inr apart ↦ unique_valid (state_of h past q l) (may_unique h past q l may) (subst (λ v. state_of h past q v ≡ I) addr (arrives.alone read.MakeUnique kind refl q apart))
-        ] in
+        let no_port = none_may h past p Read i l x was on (λ q apart unique.
+        unique_valid (state_of h past q l) unique (subst (λ v. state_of h past q v ≡ I) addr (arrives.alone read.MakeUnique kind refl q apart))) in
         let no_make : (q t : ℕ) (m : Made h past q l t) → m.one ≡ x → ⊥ = λ q t m one.
         let made_name = outstanding-name h past q Read m.id m.one m.out in
         let port : q ≡ p = sym made_name.port ∙ ap (λ (y : Transaction). y.port) one ∙ name.port in
         let id : m.id ≡ i = sym made_name.id ∙ ap (λ (y : Transaction). y.id) one ∙ name.id in
         let first : has_store h past p i ≡ false = sym (ap (λ v. has_store h past v m.id) port ∙ ap (has_store h past p) id) ∙ m.first in cc in
         elim (copy_moves h past e a p l) [
-          | inl same ↦ same ∙ f.made p i l x was on kind stored ∙ sym (value_stays h past e a l x stands (read_writes_none x read.MakeUnique kind).1 no_port no_make)
+          | inl same ↦ same ∙ f.made p i l x was on kind stored ∙ sym (value_stays h past e a l x stands no_port no_make (read_no_write h past x read.MakeUnique l kind))
           | inr (inl r) ↦
               let one = one_on_line h past a.0 p Read Read r.id i l r.one x r.out was r.on on in
               let bad : false ≡ true = sym (ap (λ o. is_some_and o reads_a_line) (ap read_kind one ∙ kind)) ∙ r.reads in cc

@@ -1,11 +1,11 @@
 -- What an M writes: passed data, the burst of an update, which is the value, or a store, which makes memory the value.
-use Rattle.std.proofs.Common.{◌≡◌, ◌⊎◌, ℕ, ◌<◌, ◌^◌, Bool, true, false, not, [], ◌∷◌, length, Option, Some, None, slice_get, refl, sym, ap, subst, ◌∙◌, inl, inr}
+use Rattle.std.proofs.Common.{◌≡◌, ◌⊎◌, ℕ, ◌<◌, ◌^◌, true, false, not, [], ◌∷◌, length, Option, Some, None, slice_get, refl, sym, ap, subst, ◌∙◌, inl, inr}
 use Rattle.std.proofs.lemmas.Bool.{and_parts, and_from, or_right, cases_Bool}
 use Rattle.std.specs.List.{AllByRecursion}
 use Rattle.ace_codes.specs.declared.kind.AwKind.TheVariants as write
-use Rattle.ace_model.proofs.Terms.{AwKind, IsDigit, IsWord, IsLine, InRange, Channel, Read, Write, Event, W, M, Header, Line, Transaction, Trace, is_some_and, is_none_or, is_update, is_write_line_unique}
-use Rattle.ace_model.proofs.Terms.{has_write_data, is_granted_write, is_read, is_on, write_kind, outstanding, transaction_of, updates_memory, is_burst_whole, granted, is_granted, has_passed_data, memory_of}
-use Rattle.ace_model.proofs.Terms.{same_line, Beat, burst_of, burst_line, stores_data, value_of, full_beat, may_write_memory, data_of, data_of_write, has_data, IsAccepted}
+use Rattle.ace_model.proofs.Terms.{AwKind, InRange, Channel, Read, Write, Event, W, M, Header, Line, Transaction, Trace, is_some_and, is_none_or, is_update}
+use Rattle.ace_model.proofs.Terms.{is_write_line_unique, has_write_data, is_granted_write, is_read, is_on, write_kind, outstanding, transaction_of, updates_memory, is_burst_whole, granted, is_granted}
+use Rattle.ace_model.proofs.Terms.{has_passed_data, memory_of, same_line, Beat, burst_of, burst_line, stores_data, value_of, full_beat, may_write_memory, data_of, data_of_write, has_data, IsAccepted}
 use Rattle.ace_model.proofs.Trace.Looks.{is_on-addr}
 use Rattle.ace_model.proofs.Trace.Issued.{outstanding-named, outstanding-name}
 use Rattle.ace_model.proofs.Tables.Kinds.{granted_stores}
@@ -31,13 +31,6 @@ module _ (h : Header) (past : Trace) where
     pub out : outstanding h past port chan id ≡ Some one
     pub on : is_on one l ≡ true
     pub may : may_write_memory h past one ≡ true
-
-  -- memory is then what it writes
-  pub memory_now : (e : Event) (l : ℕ) (w : WritesLine e l) → memory_of (e ∷ past) l ≡ w.line
-  memory_now e l w =
-      let named = outstanding-named h past w.port w.chan w.id w.one w.out in
-      let on = w.on in
-      subst (λ d. memory_of (d ∷ past) l ≡ w.line) (sym w.is) (rw (named, on) refl)
 
   -- an event leaves memory of the line, or is such an M
   pub memory_moves : (e : Event) → IsAccepted h (e ∷ past) → (l : ℕ) → (memory_of (e ∷ past) l ≡ memory_of past l) ⊎ WritesLine e l
@@ -72,52 +65,6 @@ module _ (h : Header) (past : Trace) where
     pub whole : is_burst_whole past x ≡ true
     pub clear : is_none_or (granted h past x.addr) (λ y. not (has_passed_data h past y)) ≡ true
 
-  pub writer : (e : Event) → IsAccepted h (e ∷ past) → (l : ℕ) (w : WritesLine h past e l)
-      → ByPassed l w.one ⊎ ByUpdate w.one ⊎ Writes h past w.port w.chan w.id l
-  writer e a l w =
-      let x = w.one in
-      let addr = is_on-addr x l w.on in
-      elim (cases_Bool (is_read x.chan)) [
-        | inl reads ↦
-            let has = passed_may h past x w.may reads in
-            let stands = granted_at h past a.0 w.port w.chan w.id x w.out (has_passed h past x has).stands in
-            inl (record { reads = reads; has = has; stands = ap (granted h past) (sym addr) ∙ stands })
-        | inr writes ↦
-            let d = data_may h past x w.may writes in
-            elim d.how [
-              | inr update ↦
-                  let two = and_parts (updates_memory x) _ update in
-                  inr (inl (record { writes = writes; updates = two.0; whole = d.whole; clear = two.1 }))
-              | inl due ↦
-                  let stands = granted_at h past a.0 w.port w.chan w.id x w.out (and_parts (is_granted h past x) _ due).0 in
-                  let k = granted_write x (granted_given h past a.0 x.addr x stands).kind writes in
-                  let stores = grant_stores x k.0 k.1 k.2 in
-                  inr (inr (stores_m h past w.port w.chan w.id w.line l (subst (λ v. IsAccepted h (v ∷ past)) w.is a) x
-                  (outstanding-named h past w.port w.chan w.id x w.out) (and_from _ _ stores w.on)))
-            ]
-      ]
-
-  -- the line of an M has four words
-  pub line_length : (e : Event) (l : ℕ) (w : WritesLine h past e l) → InRange e → length w.line.words ≡ 4
-  line_length e l w r =
-      let here : InRange (M w.port w.chan w.id w.line) = subst InRange w.is r in
-      in_line w.port w.chan w.id w.line here
-    where
-      in_line : (p : ℕ) (c : Channel) (i : ℕ) (line : Line) → InRange (M p c i line) → length line.words ≡ 4
-      in_line p c i line r =
-          let all : IsDigit p × IsDigit i × IsLine line = r in
-          let both : (length line.words ≡ 4) × AllByRecursion IsWord line.words = all.2 in
-          both.0
-
-  -- it is the data that the transaction writes
-  pub line_is : (e : Event) → IsAccepted h (e ∷ past) → InRange e → (l : ℕ) (w : WritesLine h past e l) (d : Line) → data_of h past w.one ≡ Some d
-      → length d.words ≡ 4 → w.line ≡ d
-  line_is e a r l w d is n =
-      let keeps = (accepted_keeps h past (M w.port w.chan w.id w.line) (subst (λ v. IsAccepted h (v ∷ past)) w.is a)).rule_25 in
-      let has = is_none_or-at (outstanding h past w.port w.chan w.id) (has_data h past w.line) w.one keeps w.out in
-      let same = is_none_or-at (data_of h past w.one) (same_line w.line) d has is in
-      same_line-is w.line d (line_length e l w r) n same
-
   -- the data of a write of this kind
   pub kind_data : (x : Transaction) (k : AwKind) → is_read x.chan ≡ false → write_kind x ≡ Some k → data_of h past x ≡ Some (data_of_write h past x k)
   kind_data x k writes kind = rw (kind, writes) refl
@@ -143,19 +90,64 @@ update_is h past a f p i l x o on updates whole =
     (f p i l x 0 four.b0 o on updates (ap (λ bs. slice_get bs 0) four.is)) (f p i l x 1 four.b1 o on updates (ap (λ bs. slice_get bs 1) four.is))
     (f p i l x 2 four.b2 o on updates (ap (λ bs. slice_get bs 2) four.is)) (f p i l x 3 four.b3 o on updates (ap (λ bs. slice_get bs 3) four.is))
 
--- an update makes memory the value
-pub update_true : (h : Header) (past : Trace) (e : Event) → IsAccepted h (e ∷ past) → InRange e → UpdatesTrue h past → (l : ℕ) (w : WritesLine h past e l) → ByUpdate h past w.one
-    → memory_of (e ∷ past) l ≡ value_of (e ∷ past) l
-update_true h past e a r f l w u =
-    let x = w.one in
-    let name = outstanding-name h past w.port w.chan w.id x w.out in
-    let chan : w.chan ≡ Write = sym name.chan ∙ is_write-is x.chan u.writes in
-    let out : outstanding h past w.port Write w.id ≡ Some x = ap (λ (c : Channel). outstanding h past w.port c w.id) (sym chan) ∙ w.out in
-    let k = is_some_and-is (write_kind x) is_update u.updates in
-    let is : data_of h past x ≡ Some (burst_line (burst_of past x)) = kind_data h past x k.0 u.writes k.1 ∙ ap (λ v. Some v) (update-writes h past x k.0 k.2) in
-    let value = update_is h past a.0 f w.port w.id l x out w.on u.updates u.whole in
-    let line = line_is h past e a r l w (burst_line (burst_of past x)) is (ap (λ (v : Line). length v.words) value ∙ value-length past l) in
-    memory_now h past e l w ∙ line ∙ value ∙ sym (value_updating h past e a w.port w.id l x out w.on u.updates)
+module _ (h : Header) (past : Trace) (e : Event) (l : ℕ) (w : WritesLine h past e l) where
+  -- memory is then what it writes
+  pub memory_now : memory_of (e ∷ past) l ≡ w.line
+  memory_now =
+      let named = outstanding-named h past w.port w.chan w.id w.one w.out in
+      let on = w.on in
+      subst (λ d. memory_of (d ∷ past) l ≡ w.line) (sym w.is) (rw (named, on) refl)
+
+  -- whose M it is
+  pub writer : IsAccepted h (e ∷ past) → ByPassed h past l w.one ⊎ ByUpdate h past w.one ⊎ Writes h past w.port w.chan w.id l
+  writer a =
+      let x = w.one in
+      let addr = is_on-addr x l w.on in
+      elim (cases_Bool (is_read x.chan)) [
+        | inl reads ↦
+            let has = passed_may h past x w.may reads in
+            let stands = granted_at h past a.0 w.port w.chan w.id x w.out (has_passed h past x has).stands in
+            inl (record { reads = reads; has = has; stands = ap (granted h past) (sym addr) ∙ stands })
+        | inr writes ↦
+            let d = data_may h past x w.may writes in
+            elim d.how [
+              | inr update ↦
+                  let two = and_parts (updates_memory x) _ update in
+                  inr (inl (record { writes = writes; updates = two.0; whole = d.whole; clear = two.1 }))
+              | inl due ↦
+                  let stands = granted_at h past a.0 w.port w.chan w.id x w.out (and_parts (is_granted h past x) _ due).0 in
+                  let k = granted_write x (granted_given h past a.0 x.addr x stands).kind writes in
+                  let stores = grant_stores x k.0 k.1 k.2 in
+                  inr (inr (stores_m h past w.port w.chan w.id w.line l (subst (λ v. IsAccepted h (v ∷ past)) w.is a) x
+                  (outstanding-named h past w.port w.chan w.id x w.out) (and_from _ _ stores w.on)))
+            ]
+      ]
+
+  -- the line of an M has four words
+  pub line_length : InRange e → length w.line.words ≡ 4
+  line_length r =
+      let here : InRange (M w.port w.chan w.id w.line) = subst InRange w.is r in here.2.0
+
+  -- it is the data that the transaction writes
+  pub line_is : IsAccepted h (e ∷ past) → InRange e → (d : Line) → data_of h past w.one ≡ Some d → length d.words ≡ 4 → w.line ≡ d
+  line_is a r d is n =
+      let keeps = (accepted_keeps h past (M w.port w.chan w.id w.line) (subst (λ v. IsAccepted h (v ∷ past)) w.is a)).rule_25 in
+      let has = is_none_or-at (outstanding h past w.port w.chan w.id) (has_data h past w.line) w.one keeps w.out in
+      let same = is_none_or-at (data_of h past w.one) (same_line w.line) d has is in
+      same_line-is w.line d (line_length r) n same
+
+  -- an update makes memory the value
+  pub update_true : IsAccepted h (e ∷ past) → InRange e → UpdatesTrue h past → ByUpdate h past w.one → memory_of (e ∷ past) l ≡ value_of (e ∷ past) l
+  update_true a r f u =
+      let x = w.one in
+      let name = outstanding-name h past w.port w.chan w.id x w.out in
+      let chan : w.chan ≡ Write = sym name.chan ∙ is_write-is x.chan u.writes in
+      let out : outstanding h past w.port Write w.id ≡ Some x = ap (λ (c : Channel). outstanding h past w.port c w.id) (sym chan) ∙ w.out in
+      let k = is_some_and-is (write_kind x) is_update u.updates in
+      let is : data_of h past x ≡ Some (burst_line (burst_of past x)) = kind_data h past x k.0 u.writes k.1 ∙ ap (λ v. Some v) (update-writes h past x k.0 k.2) in
+      let value = update_is h past a.0 f w.port w.id l x out w.on u.updates u.whole in
+      let line = line_is a r (burst_line (burst_of past x)) is (ap (λ (v : Line). length v.words) value ∙ value-length past l) in
+      memory_now ∙ line ∙ value ∙ sym (value_updating h past e a w.port w.id l x out w.on u.updates)
 
 -- A beat of a write with data: its word, and its strobe where the write replaces the line.
 pub record BeatFits (x : Transaction) (b : Beat) : Type 0 where
@@ -170,14 +162,9 @@ beats_fit h (e ∷ past) a r p i x k b o sends is =
     elim beat.comes [
       | inl before ↦ beats_fit h past a.0 r.1 p i x k b beat.was sends before
       | inr new ↦ record {
-        low = in_word x.port b.strobe new.last b.word (subst InRange new.is r.0);
+        low = let here : InRange (W x.port b.strobe new.last b.word) = subst InRange new.is r.0 in here.2;
         full = λ unique.
             let kind = is_some_and-is (write_kind x) is_write_line_unique unique in
             (beat_fits h past e x k b a new kind.0 kind.1).full (or_right (is_update kind.0) (is_write_line_unique kind.0) kind.2);
       }
     ]
-  where
-    in_word : (p strb : ℕ) (last : Bool) (word : ℕ) → InRange (W p strb last word) → word < 2 ^ 128
-    in_word p strb last word r =
-        let all : IsDigit p × (strb < 2 ^ 16) × IsWord word = r in
-        all.2

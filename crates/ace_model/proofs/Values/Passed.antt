@@ -1,9 +1,10 @@
 -- Passed data are the value of their line, or their port has stored since and holds the line dirty.
-use Rattle.std.proofs.Common.{◌≡◌, ◌⊎◌, ℕ, Bool, true, false, ◌&&◌, nat_eq, ◌∷◌, length, Option, Some, None, option_and_then, option_map, refl, sym, ap, subst, ◌∙◌, inl, inr}
-use Rattle.std.proofs.lemmas.Bool.{and_from, or_left, cases_Bool, cases_eq, eq-eqb}
-use Rattle.ace_model.proofs.Terms.{LineState, passes_dirty, Channel, Event, Cr, D, M, Header, Line, is_dirty, Answer, Transaction, Trace, at_point, write_kind, snoop_of, snoop_kind_of, transaction_of}
-use Rattle.ace_model.proofs.Terms.{has_outstanding_on, is_outstanding_on, is_memory_write, has_memory_write, data_answers, granted, answers_grant, answer_at, answer_of, passer, has_passed_data, state_of}
-use Rattle.ace_model.proofs.Terms.{is_in_make_unique, awaits_store, copy_of, copy_at_answer, passed_to, passed_data, value_of, may_store, IsAccepted, HasDirtyHolder, IsValueSafe}
+use Rattle.std.proofs.Common.{◌≡◌, ◌⊎◌, ℕ, Bool, true, false, ◌&&◌, nat_eq, ◌∷◌, Some, None, option_and_then, option_map, refl, sym, ap, subst, ◌∙◌, inl, inr}
+use Rattle.std.proofs.lemmas.Bool.{and_from, cases_Bool, cases_eq, eq-eqb}
+use Rattle.ace_model.proofs.Terms.{LineState, passes_dirty, Event, Cr, D, Header, Line, is_dirty, Answer, Transaction, Trace, at_point, write_kind, snoop_of, snoop_kind_of}
+use Rattle.ace_model.proofs.Terms.{has_outstanding_on, is_outstanding_on, has_memory_write, granted, answers_grant, answer_at, answer_of, passer, has_passed_data}
+use Rattle.ace_model.proofs.Terms.{state_of, is_in_make_unique, awaits_store, copy_of, copy_at_answer, passed_to, passed_data, value_of, may_store, IsAccepted, HasDirtyHolder, IsValueSafe}
+use Rattle.ace_codes.specs.declared.kind.SnoopKind.TheVariants as snoop
 use Rattle.ace_model.proofs.Trace.Looks.{has_name-is, same_channel-self}
 use Rattle.ace_model.proofs.Trace.Issued.{transaction_of-stands}
 use Rattle.ace_model.proofs.Tables.States.{row_is, unique_unsettled, dirty_valid}
@@ -104,12 +105,7 @@ module _ (h : Header) (past : Trace) where
       answers_twice : (resp : ℕ) (st : LineState) → answers_grant past r l ≡ true → answer_at past (Cr r resp st) r l ≡ None → ⊥
       answers_twice resp st under once =
           let both : (nat_eq r r && answers_grant past r l) ≡ true = and_from _ _ (eq-eqb r r refl) under in
-          let now : Answer = record { place = length past; resp = resp; bursts = data_answers past r } in
-          let there : answer_at past (Cr r resp st) r l ≡ Some now = rw both refl in
-          not_both (answer_at past (Cr r resp st) r l) now there once
-        where
-          not_both : (o : Option Answer) (v : Answer) → o ≡ Some v → o ≡ None → ⊥
-          not_both o v s n = cc
+          let bad = rw both at once in cc
 
       keeps_value : granted h past l ≡ Some x → answer_of past r l ≡ Some w → copy_of (at_point w.place past) r l ≡ value_of past l
           → (copy_of (at_point w.place (e ∷ past)) r l ≡ value_of (e ∷ past) l) ⊎ (is_dirty (state_of h (e ∷ past) r l) ≡ true)
@@ -129,14 +125,8 @@ module _ (h : Header) (past : Trace) where
                 let bad : true ≡ false = sym (ap is_make_invalid kind) ∙ k.2 in cc
             | inr (inr (inr m)) ↦
                 let one : m.by.one ≡ x = Some-injective m.by.one x (sym m.by.stands ∙ was) in
-                let named = ap (transaction_of past m.port m.chan) (refl {a = m.id}) ∙ m.by.named ∙ ap (λ v. Some v) one in
-                let name = has_name-is x m.port m.chan m.id (transaction_of-stands past m.port m.chan m.id x named).named in
-                let now : is_memory_write (M m.port m.chan m.id m.line) m.port m.chan m.id ≡ true =
-                and_from _ _ (and_from _ _ (eq-eqb m.port m.port refl) (same_channel-self m.chan)) (eq-eqb m.id m.id refl) in
-                let here : has_memory_write (e ∷ past) m.port m.chan m.id ≡ true =
-                subst (λ v. has_memory_write (v ∷ past) m.port m.chan m.id ≡ true) (sym m.is) (or_left (is_memory_write (M m.port m.chan m.id m.line) m.port m.chan m.id) _ now) in
-                let own : has_memory_write (e ∷ past) x.port x.chan x.id ≡ true =
-                ap (λ v. has_memory_write (e ∷ past) v x.chan x.id) name.port ∙ ap (λ (v : Channel). has_memory_write (e ∷ past) m.port v x.id) name.chan
-                ∙ ap (has_memory_write (e ∷ past) m.port m.chan) name.id ∙ here in
-                cc
+                let name = has_name-is m.by.one m.port m.chan m.id (transaction_of-stands past m.port m.chan m.id m.by.one m.by.named).named in
+                let now : has_memory_write (e ∷ past) m.by.one.port m.by.one.chan m.by.one.id ≡ true =
+                rw (m.is, eq-eqb m.by.one.port m.port name.port, name.chan, same_channel-self m.chan, eq-eqb m.by.one.id m.id name.id) refl in
+                let own = subst (λ (y : Transaction). has_memory_write (e ∷ past) y.port y.chan y.id ≡ true) one now in cc
           ]

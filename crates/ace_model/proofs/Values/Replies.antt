@@ -1,14 +1,16 @@
 -- The reply to a read that keeps the line is the line's value.
 use Rattle.std.proofs.Common.{◌≡◌, ℕ, true, false, ◌&&◌, nat_eq, [], ◌∷◌, length, Option, Some, None, option_and_then, unwrap_or, refl, sym, ap, subst, ◌∙◌, inl, inr}
 use Rattle.std.proofs.lemmas.Bool.{and_parts, and_from, or_left, cases_Bool, cases_eq, eq-eqb}
-use Rattle.ace_model.proofs.Terms.{ArKind, SnoopKind, transfers_data, Event, Cr, Header, is_fetch, is_dirty, Answer, Transaction, Trace, at_point, is_some_and, newer, transfers, reads_a_line, is_make_unique, is_granted_write, is_on, read_kind, write_kind, snoop_of, snoop_kind_of, outstanding, data_answers, gives_line, granted, answers_grant, answer_of, each_port, has_failed, state_of, are_snoops_done, is_port_done, is_line_read_transaction, copy_of, memory_of, copy_at_answer, passed_data, sender_at, first_sender, memory_at_first_beat, reply_of, value_of, IsAccepted, replaces_line, snoop_of_read}
+use Rattle.ace_model.proofs.Terms.{ArKind, SnoopKind, snoop_of_read, transfers_data, Event, Cr, Header, is_fetch, is_dirty, Answer, Transaction, Trace, at_point, is_some_and, newer, reads_a_line, transfers}
+use Rattle.ace_model.proofs.Terms.{is_make_unique, is_granted_write, is_on, read_kind, write_kind, snoop_of, snoop_kind_of, outstanding, data_answers, gives_line, granted, answers_grant, answer_of}
+use Rattle.ace_model.proofs.Terms.{each_port, has_failed, state_of, are_snoops_done, is_port_done, is_line_read_transaction, copy_of, memory_of, copy_at_answer, passed_data, sender_at, first_sender}
+use Rattle.ace_model.proofs.Terms.{memory_at_first_beat, reply_of, value_of, IsAccepted, replaces_line}
 use Rattle.ace_model.proofs.Holders.FirstTransfer.{done_port}
 use Rattle.ace_model.proofs.Holders.Rises.{stays_empty}
 use Rattle.ace_model.proofs.Grants.SnoopAnswers.{answer_cases}
 use Rattle.ace_model.proofs.Grants.Answers.{is_levelling, unsent_clean, passed_kind}
-use Rattle.ace_model.proofs.Trace.Looks.{read_writes_none}
+use Rattle.ace_model.proofs.Trace.Looks.{read_writes_none, is_on-addr, snoops_done-ports}
 use Rattle.std.proofs.Math.Bool.{and-false}
-use Rattle.ace_model.proofs.Trace.Looks.{is_on-addr, snoops_done-ports}
 use Rattle.ace_model.proofs.Tables.Kinds.{Fetch, fetch_is}
 use Rattle.ace_model.proofs.Tables.States.{dirty_valid}
 use Rattle.ace_model.proofs.Values.Facts.{SentTrue, DirtyPlaced}

@@ -1,12 +1,11 @@
 -- The value of a line stays while a port's data of it are on their way.
-use Rattle.std.proofs.Common.{◌≡◌, ℕ, ◌<◌, true, false, not, [], ◌∷◌, length, Some, None, refl, sym, ap, subst, ◌∙◌, arith, inl, inr}
+use Rattle.std.proofs.Common.{◌≡◌, ℕ, ◌<◌, true, false, not, [], ◌∷◌, length, Some, None, refl, sym, ap, subst, ◌∙◌, arith, inl, inr, ◌≢◌}
 use Rattle.std.proofs.lemmas.Bool.{and_parts, cases_Bool, cases_eq, not-true}
-use Rattle.ace_model.proofs.Terms.{ArKind, I, Read, Write, Event, Header, is_fetch, snoop_of_read, is_unique, Answer, Transaction, Trace, at_point, is_some_and}
-use Rattle.ace_model.proofs.Terms.{is_update, is_make_unique, has_write_data, is_read, is_on, read_kind, write_kind, snoop_of, snoop_kind_of, outstanding}
-use Rattle.ace_model.proofs.Terms.{has_outstanding_on, updates_memory, gives_line, granted, answer_of, state_of, word_of, copy_of, value_of, may_store}
-use Rattle.ace_model.proofs.Terms.{IsAccepted}
+use Rattle.ace_model.proofs.Terms.{ArKind, I, Read, Write, Event, Header, is_fetch, snoop_of_read, is_unique, Answer, Transaction, Trace, at_point, is_some_and, Channel, is_update, is_make_unique}
+use Rattle.ace_model.proofs.Terms.{has_write_data, is_read, is_on, read_kind, write_kind, snoop_of, snoop_kind_of, outstanding, has_outstanding_on, updates_memory, gives_line, granted, answer_of}
+use Rattle.ace_model.proofs.Terms.{state_of, word_of, copy_of, value_of, may_store, IsAccepted}
 use Rattle.ace_codes.specs.declared.kind.ArKind.TheVariants as read
-use Rattle.ace_model.proofs.Trace.Looks.{is_on-addr}
+use Rattle.ace_model.proofs.Trace.Looks.{is_on-addr, read_writes_none}
 use Rattle.ace_model.proofs.Trace.Issued.{outstanding-name}
 use Rattle.ace_model.proofs.Trace.Growth.{at_point-before, at_point-end}
 use Rattle.ace_model.proofs.Trace.LineOnce.{outstanding_found, one_on_line}
@@ -15,9 +14,8 @@ use Rattle.ace_model.proofs.Tables.SnoopRows.{sends_held}
 use Rattle.ace_model.proofs.Grants.SnoopAnswers.{NewAnswer, answer_cases}
 use Rattle.ace_model.proofs.Grants.Answers.{new_answer, is_levelling, none_unique}
 use Rattle.ace_model.proofs.Tables.Kinds.{fetch_is, update_data}
-use Rattle.ace_model.proofs.Values.UpdateHolds.{keeps}
-use Rattle.ace_model.proofs.Values.Stores.{Made, value_moves}
-use Rattle.ace_model.proofs.Trace.Looks.{read_writes_none}
+use Rattle.ace_model.proofs.Values.UpdateHolds.{holds_line}
+use Rattle.ace_model.proofs.Values.Stores.{Made, value_moves, Writes}
 use Rattle.ace_model.proofs.Values.WritesAlone.{all_empty}
 use Rattle.ace_model.proofs.Values.Facts.{SentTrue, UpdatesTrue, DirtyPlaced}
 use Rattle.ace_model.proofs.Holders.Law.{accepted_holds}
@@ -32,39 +30,55 @@ module _ (h : Header) (past : Trace) where
   pub may_free : (q l : ℕ) → may_store h past q l ≡ true → has_outstanding_on h past q l ≡ false
   may_free q l may = not-true (has_outstanding_on h past q l) (and_parts (is_unique (state_of h past q l)) (not (has_outstanding_on h past q l)) may).1
 
-  -- under the grant of a read, where no port may store and its own MakeUnique doesn't
-  pub value_stays : (e : Event) → IsAccepted h (e ∷ past) → (l : ℕ) (x : Transaction) → granted h past l ≡ Some x → is_read x.chan ≡ true
-      → ((q : ℕ) → may_store h past q l ≡ true → ⊥) → ((q s : ℕ) (m : Made h past q l s) → m.one ≡ x → ⊥) → value_of (e ∷ past) l ≡ value_of past l
-  value_stays e a l x g reads no_port no_make =
+  -- no port may store to a line while its transaction there is outstanding
+  pub busy : (p : ℕ) (c : Channel) (i l : ℕ) (x : Transaction) → outstanding h past p c i ≡ Some x → is_on x l ≡ true → may_store h past p l ≡ true → ⊥
+  busy p c i l x o on may = let found = outstanding_found h past p c i l x o on in let free = may_free p l may in cc
+
+  -- so none may where the others hold no unique state
+  pub none_may : (p : ℕ) (c : Channel) (i l : ℕ) (x : Transaction) → outstanding h past p c i ≡ Some x → is_on x l ≡ true
+      → ((q : ℕ) → p ≢ q → is_unique (state_of h past q l) ≡ true → ⊥) → (q : ℕ) → may_store h past q l ≡ true → ⊥
+  none_may p c i l x o on others q may =
+      elim (cases_eq p q) [
+        | inl own ↦ busy p c i l x o on (subst (λ v. may_store h past v l ≡ true) (sym own) may)
+        | inr apart ↦ others q apart (may_unique q l may)
+      ]
+
+  -- the value stays under a grant where no port may store and the granted transaction doesn't
+  pub value_stays : (e : Event) → IsAccepted h (e ∷ past) → (l : ℕ) (x : Transaction) → granted h past l ≡ Some x → ((q : ℕ) → may_store h past q l ≡ true → ⊥)
+      → ((q s : ℕ) (m : Made h past q l s) → m.one ≡ x → ⊥) → ((q : ℕ) (c : Channel) (j : ℕ) (w : Writes h past q c j l) → w.one ≡ x → ⊥) → value_of (e ∷ past) l ≡ value_of past l
+  value_stays e a l x g no_port no_make no_write =
       elim (value_moves h past e a l) [
         | inl same ↦ same
         | inr (inl d) ↦ absurd (no_port d.port d.may)
         | inr (inr (inl d)) ↦ absurd (no_make d.port d.strobe d.made (Some-injective d.made.one x (sym d.made.stands ∙ g)))
-        | inr (inr (inr w)) ↦
-            let one : w.by.one ≡ x = Some-injective w.by.one x (sym w.by.stands ∙ g) in
-            let bad : false ≡ true = sym w.by.writes ∙ ap (λ (y : Transaction). is_read y.chan) one ∙ reads in cc
+        | inr (inr (inr w)) ↦ absurd (no_write w.port w.chan w.id w.by (Some-injective w.by.one x (sym w.by.stands ∙ g)))
       ]
+
+  -- a read writes nothing, and a write makes nothing
+  pub read_no_write : (x : Transaction) (k : ArKind) (l : ℕ) → read_kind x ≡ Some k → (q : ℕ) (c : Channel) (j : ℕ) (w : Writes h past q c j l) → w.one ≡ x → ⊥
+  read_no_write x k l kind q c j w one =
+      let bad : false ≡ true = sym w.writes ∙ ap (λ (y : Transaction). is_read y.chan) one ∙ (read_writes_none x k kind).1 in cc
+
+  pub write_no_make : (x : Transaction) (l : ℕ) → is_read x.chan ≡ false → (q s : ℕ) (m : Made h past q l s) → m.one ≡ x → ⊥
+  write_no_make x l writes q s m one =
+      let bad : true ≡ false = sym (read_writes_none m.one read.MakeUnique m.kind).1 ∙ ap (λ (y : Transaction). is_read y.chan) one ∙ writes in cc
 
   -- while an update of a port that holds the line is outstanding
   pub value_updating : (e : Event) → IsAccepted h (e ∷ past) → (p i l : ℕ) (x : Transaction) → outstanding h past p Write i ≡ Some x
       → is_on x l ≡ true → updates_memory x ≡ true → value_of (e ∷ past) l ≡ value_of past l
   value_updating e a p i l x o on updates =
-      let valid = invalid_not (state_of h past p l) (keeps h past a.0 p i l x o on updates).held in
+      let valid = invalid_not (state_of h past p l) (holds_line h past a.0 p i l x o on updates).held in
       elim (value_moves h past e a l) [
         | inl same ↦ same
         | inr (inl d) ↦ elim (cases_eq d.port p) [
-          | inl own ↦
-              let some = outstanding_found h past p Write i l x o on in
-              let none = may_free p l (subst (λ v. may_store h past v l ≡ true) own d.may) in cc
+          | inl own ↦ absurd (busy p Write i l x o on (subst (λ v. may_store h past v l ≡ true) own d.may))
           | inr apart ↦ absurd (valid ((accepted_holds h past a.0).unique l d.port p (may_unique d.port l d.may) apart))
         ]
         | inr (inr (inl d)) ↦ elim (cases_eq d.port p) [
           | inl own ↦
               let out : outstanding h past p Read d.made.id ≡ Some d.made.one = ap (λ v. outstanding h past v Read d.made.id) (sym own) ∙ d.made.out in
               let one = one_on_line h past a.0 p Read Write d.made.id i l d.made.one x out o d.made.on on in
-              let chan = (outstanding-name h past p Write i x o).chan in
-              let reads = (read_writes_none d.made.one read.MakeUnique d.made.kind).1 in
-              let bad : true ≡ false = sym reads ∙ ap (λ (y : Transaction). is_read y.chan) one ∙ ap is_read chan in cc
+              absurd (write_no_make x l (ap is_read (outstanding-name h past p Write i x o).chan) d.port d.strobe d.made one)
           | inr apart ↦ absurd (valid (d.made.alone p apart))
         ]
         | inr (inr (inr w)) ↦ absurd (valid (all_empty h past a.0 w.port w.chan w.id l w.by p))
@@ -113,7 +127,7 @@ module _ (h : Header) (past : Trace) where
               let yes = may_unique h past q l may in
               let no_unique = none_unique h past a.0 l r q x w s.0 stays.was old d causes s.2 in cc in
               copy_at-old past e r l w old ∙ f.sent l r x w k stays.was old d kind fetch
-              ∙ sym (value_stays h past e a l x stays.was (read_writes_none x k kind).1 no_port (made_apart l x k kind fetch))
+              ∙ sym (value_stays h past e a l x stays.was no_port (made_apart l x k kind fetch) (read_no_write h past x k l kind))
           | inr new ↦
               let n = new_answer h past e a r l w new in
               let held : state_of h past r l ≡ I → ⊥ = λ gone. sends_held n.1.kind w.resp n.0 (rw gone at n.1.row) d in
@@ -130,7 +144,7 @@ module _ (h : Header) (past : Trace) where
         | inl before ↦ f.updates p i l x k b beat.was on updates before ∙ ap (λ v. word_of v k) (sym same)
         | inr new ↦
             let port = (outstanding-name h past p Write i x beat.was).port in
-            let copy = f.copies l p (invalid_not (state_of h past p l) (keeps h past a.0 p i l x beat.was on updates).held) in
+            let copy = f.copies l p (invalid_not (state_of h past p l) (holds_line h past a.0 p i l x beat.was on updates).held) in
             let here : copy_of past x.port x.addr ≡ copy_of past p l = ap (λ v. copy_of past v x.addr) port ∙ ap (copy_of past p) (is_on-addr x l on) in
             (beat_fits h past e x k b a new kind.0 kind.1).copied kind.2 ∙ ap (word_of (copy_of past x.port x.addr)) new.number ∙ ap (λ v. word_of v k) (here ∙ copy ∙ sym same)
       ]

@@ -2,10 +2,10 @@
 use Rattle.ace_codes.specs.declared.kind.ArKind.TheVariants as read
 use Rattle.std.proofs.Common.{◌≡◌, ◌⊎◌, ℕ, Bool, true, false, not, ◌&&◌, ◌||◌, nat_eq, nat_lt, ◌∷◌, Option, Some, None, refl, sym, ap, subst, ◌∙◌, inl, inr}
 use Rattle.std.proofs.lemmas.Bool.{and_parts, or_cases, not-true, cases_Bool, eqb-true}
-use Rattle.ace_model.proofs.Terms.{AwKind, Channel, Read, Event, M, D, Header, Line, Transaction, Trace, is_some_and, is_make_unique, is_update}
-use Rattle.ace_model.proofs.Terms.{is_unique_write, is_no_snoop_write, is_ace, is_read, is_line, is_on, read_kind, write_kind, outstanding, transaction_of}
-use Rattle.ace_model.proofs.Terms.{is_outstanding, is_make_unique_on, is_complete, updates_memory, has_memory_write, is_burst_whole, granted, is_granted, awaits_store, has_store}
-use Rattle.ace_model.proofs.Terms.{are_snoops_done, stores_data, value_of, may_store, wants_store, full_line, may_write_memory, is_write_due, IsAccepted}
+use Rattle.ace_model.proofs.Terms.{AwKind, Channel, Read, Event, M, D, Header, Line, Transaction, Trace, is_some_and, is_make_unique, is_update, is_unique_write, is_no_snoop_write, is_ace, is_read}
+use Rattle.ace_model.proofs.Terms.{is_line, is_on, read_kind, write_kind, outstanding, transaction_of, is_outstanding, is_make_unique_on, is_complete, updates_memory, has_memory_write, is_burst_whole}
+use Rattle.ace_model.proofs.Terms.{granted, is_granted, awaits_store, has_store, are_snoops_done, stores_data, value_of, may_store, wants_store, full_line, may_write_memory, is_write_due, IsAccepted}
+use Rattle.ace_codes.specs.declared.kind.ArKind.TheVariants as read
 use Rattle.ace_model.proofs.Trace.Looks.{is_read-is, is_on-addr, read_writes_none}
 use Rattle.ace_model.proofs.Trace.Issued.{outstanding-named}
 use Rattle.ace_model.proofs.Trace.Growth.{some_issued-is}
@@ -19,6 +19,21 @@ use Rattle.ace_model.proofs.Grants.Granted.{granted_at, data_may}
 use Rattle.ace_model.proofs.Holders.Law.{accepted_holds}
 use Rattle.ace_model.proofs.General.Options.{Some-injective, is_some_and-is}
 use Rattle.ace_codes.specs.declared.kind.ArKind.TheVariants as read
+
+pub stores_write : (x : Transaction) → stores_data x ≡ true → is_read x.chan ≡ false
+stores_write x s =
+    elim (cases_Bool (is_read x.chan)) [
+      | inr f ↦ f
+      | inl t ↦ let bad : false ≡ true = rw t at s in cc
+    ]
+
+pub stores_kind : (x : Transaction) → stores_data x ≡ true → (k : AwKind) × (write_kind x ≡ Some k) × ((is_unique_write k || is_no_snoop_write k) ≡ true)
+stores_kind x s = by (write_kind x) refl s
+  where
+    by : (o : Option AwKind) → write_kind x ≡ o → (is_some_and o is_unique_write || is_some_and o is_no_snoop_write) ≡ true
+        → (k : AwKind) × (write_kind x ≡ Some k) × ((is_unique_write k || is_no_snoop_write k) ≡ true)
+    by None is t = cc
+    by (Some k) is t = (k, is, t)
 
 module _ (h : Header) (past : Trace) where
   -- what waits for its store: a MakeUnique of the port on the line that is outstanding and complete
@@ -98,22 +113,6 @@ module _ (h : Header) (past : Trace) where
     pub first : has_memory_write past one.port one.chan one.id ≡ false
     pub stores : stores_data one ≡ true
 
-pub stores_write : (x : Transaction) → stores_data x ≡ true → is_read x.chan ≡ false
-stores_write x s =
-    elim (cases_Bool (is_read x.chan)) [
-      | inr f ↦ f
-      | inl t ↦ let bad : false ≡ true = rw t at s in cc
-    ]
-
-pub stores_kind : (x : Transaction) → stores_data x ≡ true → (k : AwKind) × (write_kind x ≡ Some k) × ((is_unique_write k || is_no_snoop_write k) ≡ true)
-stores_kind x s = by (write_kind x) refl s
-  where
-    by : (o : Option AwKind) → write_kind x ≡ o → (is_some_and o is_unique_write || is_some_and o is_no_snoop_write) ≡ true
-        → (k : AwKind) × (write_kind x ≡ Some k) × ((is_unique_write k || is_no_snoop_write k) ≡ true)
-    by None is t = cc
-    by (Some k) is t = (k, is, t)
-
-module _ (h : Header) (past : Trace) where
   -- what an M names is outstanding, and may write memory
   pub record MayWrite (q : ℕ) (c : Channel) (j : ℕ) (x : Transaction) : Type 0 where
     pub out : outstanding h past q c j ≡ Some x
@@ -126,7 +125,7 @@ module _ (h : Header) (past : Trace) where
       record { out = z.1 ∙ ap Some one; may = subst (λ y. may_write_memory h past y ≡ true) one z.2 }
 
   pub stores_m : (q : ℕ) (c : Channel) (j : ℕ) (line : Line) (l : ℕ) → IsAccepted h (M q c j line ∷ past) → (x : Transaction)
-      → transaction_of past q c j ≡ Some x → (stores_data x && is_on x l) ≡ true → Writes h past q c j l
+      → transaction_of past q c j ≡ Some x → (stores_data x && is_on x l) ≡ true → Writes q c j l
   stores_m q c j line l a x named t =
       let parts = and_parts (stores_data x) (is_on x l) t in
       let m = may_write q c j line a x named in
@@ -167,7 +166,7 @@ module _ (h : Header) (past : Trace) where
     pub ex : Bool
     pub line : Line
     pub is : e ≡ D port l strobe ex line
-    pub made : Made h past port l strobe
+    pub made : Made port l strobe
 
   pub record ByWrite (e : Event) (l : ℕ) : Type 0 where
     pub port : ℕ
@@ -175,31 +174,31 @@ module _ (h : Header) (past : Trace) where
     pub id : ℕ
     pub line : Line
     pub is : e ≡ M port chan id line
-    pub by : Writes h past port chan id l
+    pub by : Writes port chan id l
 
-abbrev pub Stored : Header → Trace → Event → ℕ → Type 0
-Stored h past e l = ByPort h past e l ⊎ ByMake h past e l ⊎ ByWrite h past e l
+  abbrev pub Stored : Event → ℕ → Type 0
+  Stored e l = ByPort e l ⊎ ByMake e l ⊎ ByWrite e l
 
--- an event leaves the value of the line, or is a store to it
-pub value_moves : (h : Header) (past : Trace) (e : Event) → IsAccepted h (e ∷ past) → (l : ℕ) → (value_of (e ∷ past) l ≡ value_of past l) ⊎ Stored h past e l
-value_moves h past (D q addr strobe b line) a l =
-    elim (cases_Bool (nat_eq l addr)) [
-      | inr f ↦ inl (rw f refl)
-      | inl t ↦
-          let same = eqb-true l addr t in
-          let is : D q addr strobe b line ≡ D q l strobe b line = ap (λ v. D q v strobe b line) (sym same) in
-          inr (elim (stores_d h past q l strobe b line (subst (λ v. IsAccepted h (D q v strobe b line ∷ past)) (sym same) a)) [
-            | inl may ↦ inl (record { port = q; strobe = strobe; ex = b; line = line; is = is; may = may })
-            | inr made ↦ inr (inl (record { port = q; strobe = strobe; ex = b; line = line; is = is; made = made }))
-          ])
-    ]
-value_moves h past (M q c j line) a l = by (transaction_of past q c j) refl
-  where
-    by : (o : Option Transaction) → transaction_of past q c j ≡ o → (value_of (M q c j line ∷ past) l ≡ value_of past l) ⊎ Stored h past (M q c j line) l
-    by None is = inl (rw is refl)
-    by (Some x) is =
-        elim (cases_Bool (stores_data x && is_on x l)) [
-          | inr f ↦ inl (rw (is, f) refl)
-          | inl t ↦ inr (inr (inr (record { port = q; chan = c; id = j; line = line; is = refl; by = stores_m h past q c j line l a x is t })))
-        ]
-value_moves h past _ a l = inl refl
+  -- an event leaves the value of the line, or is a store to it
+  pub value_moves : (e : Event) → IsAccepted h (e ∷ past) → (l : ℕ) → (value_of (e ∷ past) l ≡ value_of past l) ⊎ Stored e l
+  value_moves (D q addr strobe b line) a l =
+      elim (cases_Bool (nat_eq l addr)) [
+        | inr f ↦ inl (rw f refl)
+        | inl t ↦
+            let same = eqb-true l addr t in
+            let is : D q addr strobe b line ≡ D q l strobe b line = ap (λ v. D q v strobe b line) (sym same) in
+            inr (elim (stores_d q l strobe b line (subst (λ v. IsAccepted h (D q v strobe b line ∷ past)) (sym same) a)) [
+              | inl may ↦ inl (record { port = q; strobe = strobe; ex = b; line = line; is = is; may = may })
+              | inr made ↦ inr (inl (record { port = q; strobe = strobe; ex = b; line = line; is = is; made = made }))
+            ])
+      ]
+  value_moves (M q c j line) a l = by (transaction_of past q c j) refl
+    where
+      by : (o : Option Transaction) → transaction_of past q c j ≡ o → (value_of (M q c j line ∷ past) l ≡ value_of past l) ⊎ Stored (M q c j line) l
+      by None is = inl (rw is refl)
+      by (Some x) is =
+          elim (cases_Bool (stores_data x && is_on x l)) [
+            | inr f ↦ inl (rw (is, f) refl)
+            | inl t ↦ inr (inr (inr (record { port = q; chan = c; id = j; line = line; is = refl; by = stores_m q c j line l a x is t })))
+          ]
+  value_moves _ a l = inl refl

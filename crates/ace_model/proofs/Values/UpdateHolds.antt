@@ -32,7 +32,7 @@ update_found h past p c i l x o on updates =
     (and_from _ _ (and_from _ _ (and_from _ _ (eq-eqb x.port p port) updates) on) out)
 
 -- The state of the line at the port of an outstanding update.
-pub record Keeps (x : Transaction) (st : LineState) : Type 0 where
+pub record HoldsLine (x : Transaction) (st : LineState) : Type 0 where
   pub held : is_invalid st ≡ false
   pub dirty : is_some_and (write_kind x) is_dirty_update ≡ true → is_dirty st ≡ true
 
@@ -49,7 +49,7 @@ starts_at h past e a p i l x k new port on kind =
     ap (λ b. state_of h past b x.addr) port ∙ ap (state_of h past p) (is_on-addr x l on) ∙ sym (issue_leaves h past e x p l new) in
     subst (λ st. starts_write k st ≡ true) same starts
 
-where_named : (x : Transaction) (test : Bool) (held st : LineState) → Keeps x held → (test ≡ true → Keeps x st) → Keeps x (unwrap_or (if test then Some st else None) held)
+where_named : (x : Transaction) (test : Bool) (held st : LineState) → HoldsLine x held → (test ≡ true → HoldsLine x st) → HoldsLine x (unwrap_or (if test then Some st else None) held)
 where_named x true held st k named = named refl
 where_named x false held st k named = k
 
@@ -73,18 +73,18 @@ module _ (h : Header) (past : Trace) where
       valid true u e n = cc
 
   -- an event that doesn't end the update keeps this
-  keeps_step : (e : Event) → IsAccepted h (e ∷ past) → (p i l : ℕ) (x : Transaction) → outstanding h past p Write i ≡ Some x
+  holds_step : (e : Event) → IsAccepted h (e ∷ past) → (p i l : ℕ) (x : Transaction) → outstanding h past p Write i ≡ Some x
       → is_on x l ≡ true → updates_memory x ≡ true → ((z : Transaction) → ended h past e ≡ Some z → z.place ≢ x.place)
-      → Keeps x (state_of h past p l) → Keeps x (state_of h (e ∷ past) p l)
-  keeps_step (Rk q st) a p i l x o on updates lasts f =
+      → HoldsLine x (state_of h past p l) → HoldsLine x (state_of h (e ∷ past) p l)
+  holds_step (Rk q st) a p i l x o on updates lasts f =
       where_named x (is_named_by_rk past q p l) (state_of h past p l) st f (λ t.
       let r = read_ends h past q st a p l t in
       absurd (lasts r.one r.ends_it (ap (λ (y : Transaction). y.place) (one_on_line h past a.0 p Read Write r.id i l r.one x r.out o r.on on))))
-  keeps_step (Wk q st) a p i l x o on updates lasts f =
+  holds_step (Wk q st) a p i l x o on updates lasts f =
       where_named x (nat_eq p q && is_some_on (acknowledged past p Write) l) (state_of h past p l) st f (λ t.
       let w = write_ends h past q st a p l t in
       absurd (lasts w.one w.ends_it (ap (λ (y : Transaction). y.place) (one_on_line h past a.0 p Write Write w.id i l w.one x w.out o w.on on))))
-  keeps_step (Cr q resp st) a p i l x o on updates lasts f =
+  holds_step (Cr q resp st) a p i l x o on updates lasts f =
       where_named x (nat_eq p q && answers_line past p l) (state_of h past p l) st f (λ t.
       let parts = and_parts (nat_eq p q) (answers_line past p l) t in
       let port = eqb-true p q parts.0 in
@@ -95,18 +95,18 @@ module _ (h : Header) (past : Trace) where
         held = b.keeps;
         dirty = λ d. dirty_stays n.kind (state_of h past p l) true resp st n.of_line row b.no_make (f.dirty d) b.no_pass;
       })
-  keeps_step (S q addr st) a p i l x o on updates lasts f =
+  holds_step (S q addr st) a p i l x o on updates lasts f =
       where_named x (nat_eq p q && nat_eq l addr) (state_of h past p l) st f (λ t.
       let m = moves_silently q addr st a p l t in
       record { held = m.keeps (update_found h past p Write i l x o on updates); dirty = λ d. silent_dirty (state_of h past p l) st m.move (f.dirty d) })
-  keeps_step (D q addr strobe s line) a p i l x o on updates lasts f =
+  holds_step (D q addr strobe s line) a p i l x o on updates lasts f =
       where_named x (is_named_by_d h past q addr p l) (state_of h past p l) UD f (λ t. record { held = refl; dirty = λ d. refl })
-  keeps_step _ a p i l x o on updates lasts f = f
+  holds_step _ a p i l x o on updates lasts f = f
 
-pub keeps : (h : Header) (past : Trace) → IsAccepted h past → (p i l : ℕ) (x : Transaction) → outstanding h past p Write i ≡ Some x
-    → is_on x l ≡ true → updates_memory x ≡ true → Keeps x (state_of h past p l)
-keeps h [] a p i l x o on updates = cc
-keeps h (e ∷ past) a p i l x o on updates =
+pub holds_line : (h : Header) (past : Trace) → IsAccepted h past → (p i l : ℕ) (x : Transaction) → outstanding h past p Write i ≡ Some x
+    → is_on x l ≡ true → updates_memory x ≡ true → HoldsLine x (state_of h past p l)
+holds_line h [] a p i l x o on updates = cc
+holds_line h (e ∷ past) a p i l x o on updates =
     elim (outstanding-origin h past e p Write i x o) [
       | inl new ↦
           let kind = is_some_and-is (write_kind x) is_update updates in
@@ -116,7 +116,7 @@ keeps h (e ∷ past) a p i l x o on updates =
             dirty = λ d. dirty_starts kind.0 _ (subst (λ k. is_some_and k is_dirty_update ≡ true) kind.1 d) starts;
           }
       | inr old ↦
-          keeps_step h past e a p i l x old.was on updates old.lasts (keeps h past a.0 p i l x old.was on updates)
+          holds_step h past e a p i l x old.was on updates old.lasts (holds_line h past a.0 p i l x old.was on updates)
     ]
 
 -- a WriteEvict and an Evict are of a clean line

@@ -1,22 +1,21 @@
 -- Once the update of a dirty line has written memory, memory is the value, and no passed data are on their way.
-use Rattle.std.proofs.Common.{◌≡◌, ℕ, true, false, not, ◌∷◌, Some, None, refl, sym, ap, subst, ◌∙◌, inl, inr}
+use Rattle.std.proofs.Common.{◌≡◌, ℕ, true, false, not, ◌∷◌, Some, refl, sym, ap, subst, ◌∙◌, inl, inr}
 use Rattle.std.proofs.lemmas.Bool.{not-true, cases_Bool}
 use Rattle.std.specs.List.{AllByRecursion}
-use Rattle.ace_model.proofs.Terms.{passes_dirty, InRange, Write, Event, Header, is_invalid, Answer, Transaction, Trace, is_some_and, is_update, is_read, write_kind}
-use Rattle.ace_model.proofs.Terms.{outstanding, updates_memory, has_update, granted, has_passed_data, state_of, IsAccepted}
+use Rattle.ace_model.proofs.Terms.{passes_dirty, InRange, Write, Event, Header, is_invalid, Answer, Transaction, Trace, is_some_and, is_update, is_read, write_kind, outstanding, updates_memory}
+use Rattle.ace_model.proofs.Terms.{has_update, granted, has_passed_data, state_of, IsAccepted}
 use Rattle.ace_model.proofs.Trace.Looks.{is_on-addr}
 use Rattle.ace_model.proofs.Trace.Issued.{outstanding-named, outstanding-name, outstanding-origin}
 use Rattle.ace_model.proofs.Tables.States.{row_is}
-use Rattle.ace_model.proofs.Grants.Stays.{granted_before}
 use Rattle.ace_model.proofs.Tables.SnoopRows.{beside_update}
-use Rattle.ace_model.proofs.Grants.SnoopAnswers.{NewAnswer, answer_cases}
+use Rattle.ace_model.proofs.Grants.SnoopAnswers.{NewAnswer}
 use Rattle.ace_model.proofs.Grants.Answers.{new_answer}
-use Rattle.ace_model.proofs.Values.UpdateHolds.{update_found, keeps}
+use Rattle.ace_model.proofs.Values.UpdateHolds.{update_found, holds_line}
 use Rattle.ace_model.proofs.Tables.Kinds.{is_dirty_update, dirty_updates}
 use Rattle.ace_model.proofs.Values.WritesAlone.{all_empty}
 use Rattle.ace_model.proofs.Values.Stays.{value_updating}
-use Rattle.ace_model.proofs.Grants.Granted.{new_unwritten, unwritten_before, written_cases, has_passed, granted_given, updates_ungranted}
-use Rattle.ace_model.proofs.Values.PassedData.{passes_data, passes_line}
+use Rattle.ace_model.proofs.Grants.Granted.{new_unwritten, written_cases, granted_given, updates_ungranted}
+use Rattle.ace_model.proofs.Values.PassedData.{passed_origin}
 use Rattle.ace_model.proofs.Values.MemoryWrites.{WritesLine, memory_moves, writer, update_true}
 use Rattle.ace_model.proofs.Values.Facts.{Updated, UpdatedTrue, DirtyPlaced}
 use Rattle.ace_model.proofs.Holders.Law.{accepted_holds}
@@ -29,22 +28,11 @@ still_none : (h : Header) (past : Trace) (e : Event) → IsAccepted h (e ∷ pas
 still_none h past e a l none no_new y g =
     elim (cases_Bool (has_passed_data h (e ∷ past) y)) [
       | inr f ↦ f
-      | inl t ↦ absurd (some t)
+      | inl t ↦ elim (passed_origin h past e a l y g t) [
+        | inl old ↦ let bad : true ≡ false = sym old.1 ∙ none y old.0 in cc
+        | inr n ↦ absurd (no_new n.port n.answer n.new n.dirty)
+      ]
     ]
-  where
-    some : has_passed_data h (e ∷ past) y ≡ true → ⊥
-    some t =
-        let parts = has_passed h (e ∷ past) y t in
-        let w = passes_line h (e ∷ past) a l y g t in
-        elim (granted_before h past e l y g) [
-          | inr gives ↦ let bad : None ≡ Some w.answer = rw gives at w.is in cc
-          | inl stays ↦ elim (answer_cases past e w.port l w.answer stays.gives w.is) [
-            | inl old ↦
-                let before = unwritten_before h past e a y.port y.chan y.id y ((accepted_holds h past a.0).grants l y stays.was).0 (has_passed h (e ∷ past) y t).unwritten in
-                let bad : true ≡ false = sym (passes_data h past a.0 l w.port y w.answer stays.was before old w.dirty) ∙ none y stays.was in cc
-            | inr new ↦ no_new w.port w.answer new w.dirty
-          ]
-        ]
 
 pub updated_step : (h : Header) (past : Trace) (e : Event) → IsAccepted h (e ∷ past) → AllByRecursion InRange (e ∷ past) → DirtyPlaced h past → UpdatedTrue h (e ∷ past)
 updated_step h past e a r f p i l x o on dirty m =
@@ -65,12 +53,12 @@ updated_step h past e a r f p i l x o on dirty m =
     written was w same =
         let chan = (outstanding-name h past p Write i x was).chan in
         let writes : is_read x.chan ≡ false = ap is_read chan in
-        elim (writer h past e a l w) [
+        elim (writer h past e l w a) [
           | inl passed ↦ let bad : true ≡ false = sym passed.reads ∙ ap (λ (y : Transaction). is_read y.chan) same ∙ writes in cc
           | inr (inl u) ↦
               let addr = is_on-addr w.one l w.on in
               record {
-                stored = update_true h past e a r.0 f.updates l w u;
+                stored = update_true h past e l w a r.0 f.updates u;
                 none = still_none h past e a l
                     (λ y g. not-true (has_passed_data h past y) (is_none_or-at (granted h past w.one.addr) (λ y. not (has_passed_data h past y)) y u.clear (ap (granted h past) addr ∙ g)))
                     (λ q v new d. let bad = sym w.is ∙ new.is in cc);
@@ -84,13 +72,13 @@ updated_step h past e a r f p i l x o on dirty m =
     later : outstanding h past p Write i ≡ Some x → Updated h past l → Updated h (e ∷ past) l
     later was q =
         let value = value_updating h past e a p i l x was on updates in
-        let k = keeps h past a.0 p i l x was on updates in
+        let k = holds_line h past a.0 p i l x was on updates in
         record {
           stored = elim (memory_moves h past e a l) [
             | inl kept ↦ kept ∙ q.stored ∙ sym value
-            | inr w ↦ elim (writer h past e a l w) [
+            | inr w ↦ elim (writer h past e l w a) [
               | inl passed ↦ let bad : true ≡ false = sym passed.has ∙ q.none w.one passed.stands in cc
-              | inr (inl u) ↦ update_true h past e a r.0 f.updates l w u
+              | inr (inl u) ↦ update_true h past e l w a r.0 f.updates u
               | inr (inr s) ↦ let bad : true ≡ false = sym (ap is_invalid (all_empty h past a.0 w.port w.chan w.id l s p)) ∙ k.held in cc
             ]
           ];

@@ -2,11 +2,9 @@
 use Rattle.std.proofs.Common.{◌≡◌, ℕ, ◌+◌, ◌*◌, true, false, ◌||◌, [], ◌∷◌, length, Option, Some, None, unwrap_or, option_and_then, slice_get, refl, sym, ap, subst, ◌∙◌, inl, inr}
 use Rattle.std.proofs.lemmas.Bool.{and_from, cases_Bool}
 use Rattle.std.specs.List.{AllByRecursion}
-use Rattle.ace_codes.specs.declared.kind.ArKind.TheVariants as read
 use Rattle.ace_model.proofs.Terms.{AwKind, I, InRange, Channel, Write, Event, M, Header, Line, merged, Transaction, Trace, is_some_and, is_write_line_unique, has_write_data, is_unique_write}
-use Rattle.ace_model.proofs.Terms.{is_no_snoop_write, is_read, read_kind, write_kind, snoop_of, snoop_kind_of, outstanding, has_memory_write, granted, has_passed_data, state_of, memory_of}
-use Rattle.ace_model.proofs.Terms.{passed_to, passed_data, Beat, burst_of, burst_line, burst_strobe, value_of, full_beat, full_line, data_of, data_of_write, burst_into, IsAccepted, replaces_line}
-use Rattle.ace_model.proofs.Terms.{HasDirtyHolder}
+use Rattle.ace_model.proofs.Terms.{is_no_snoop_write, is_read, read_kind, write_kind, snoop_of, snoop_kind_of, outstanding, has_memory_write, granted, has_passed_data, state_of, memory_of, passed_to}
+use Rattle.ace_model.proofs.Terms.{passed_data, Beat, burst_of, burst_line, burst_strobe, value_of, full_beat, full_line, data_of, data_of_write, burst_into, IsAccepted, replaces_line, HasDirtyHolder}
 use Rattle.ace_codes.specs.declared.kind.AwKind.TheVariants as write
 use Rattle.ace_model.proofs.Trace.Looks.{is_on-addr}
 use Rattle.ace_model.proofs.Trace.Issued.{outstanding-named}
@@ -16,11 +14,10 @@ use Rattle.ace_model.proofs.Grants.SnoopAnswers.{no_rise}
 use Rattle.ace_model.proofs.Grants.Answers.{passed_kind}
 use Rattle.ace_model.proofs.Values.MergedLines.{line_of, merged-length, merged-all}
 use Rattle.ace_model.proofs.Trace.WriteBursts.{four_beats}
-use Rattle.ace_model.proofs.Values.Stores.{Writes, stores_m, stores_kind, value_moves}
-use Rattle.ace_model.proofs.Trace.Looks.{read_writes_none}
+use Rattle.ace_model.proofs.Values.Stores.{Writes, stores_m, stores_kind}
 use Rattle.ace_model.proofs.Values.WritesAlone.{all_empty}
 use Rattle.ace_model.proofs.Tables.States.{unique_valid, dirty_valid}
-use Rattle.ace_model.proofs.Values.Stays.{may_unique}
+use Rattle.ace_model.proofs.Values.Stays.{may_unique, value_stays, write_no_make}
 use Rattle.ace_model.proofs.Grants.Granted.{given_unwritten, granted_given, granted_write, written_cases}
 use Rattle.ace_model.proofs.Values.Passed.{passed_true}
 use Rattle.ace_model.proofs.Values.MemoryWrites.{WritesLine, memory_now, memory_moves, grant_stores, writer, line_is, is_write-is, update_true, beats_fit, kind_data}
@@ -28,36 +25,6 @@ use Rattle.ace_model.proofs.Values.Facts.{Quiet, WrittenTrue, DirtyPlaced}
 use Rattle.ace_model.proofs.Holders.Law.{accepted_holds}
 use Rattle.ace_model.proofs.General.Options.{Some-injective}
 use Rattle.ace_model.proofs.Values.PassedData.{passes_line, passed_has}
-
--- What a store writes.
-record Writing (h : Header) (past : Trace) (l : ℕ) (x : Transaction) : Type 0 where
-  line : Line
-  is : data_of h past x ≡ Some line
-  four : length line.words ≡ 4
-  stores : line ≡ burst_into past x (value_of past l)
-
--- where no port holds the line, the passed data are the value, else memory is
-base_is : (h : Header) (past : Trace) → IsAccepted h past → DirtyPlaced h past → (l : ℕ) (x : Transaction) → granted h past l ≡ Some x → replaces_line x ≡ false
-    → ((p : ℕ) → state_of h past p l ≡ I) → unwrap_or (passed_data h past l) (memory_of past l) ≡ value_of past l
-base_is h past a f l x g replaces empty = by (passed_data h past l) refl
-  where
-    no_holder : HasDirtyHolder h past l → ⊥
-    no_holder d = dirty_valid (state_of h past d.0 l) d.1 (empty d.0)
-
-    by : (o : Option Line) → passed_data h past l ≡ o → unwrap_or o (memory_of past l) ≡ value_of past l
-    by None is =
-        elim (f.safe l) [
-          | inl same ↦ same
-          | inr (inl d) ↦ absurd (no_holder d)
-          | inr (inr (inl passed)) ↦ let bad : None ≡ Some (value_of past l) = sym is ∙ passed in cc
-          | inr (inr (inr r)) ↦
-              let yes : replaces_line x ≡ true = subst (λ o. is_some_and o replaces_line ≡ true) g r in cc
-        ]
-    by (Some d) is =
-        elim (passed_true h past a f.passed l x g (passed_has h past l x d g is)) [
-          | inl same ↦ Some-injective d (value_of past l) (sym is ∙ same)
-          | inr holder ↦ absurd (no_holder holder)
-        ]
 
 full_burst : (b0 b1 b2 b3 : Beat) → b0.strobe ≡ full_beat → b1.strobe ≡ full_beat → b2.strobe ≡ full_beat → b3.strobe ≡ full_beat
     → burst_strobe (b0 ∷ b1 ∷ b2 ∷ b3 ∷ []) ≡ full_line
@@ -67,8 +34,38 @@ full_burst b0 b1 b2 b3 e0 e1 e2 e3 = joined b0.strobe b1.strobe b2.strobe b3.str
     joined s t u v e0 e1 e2 e3 = rw (e0, e1, e2, e3) refl
 
 module _ (h : Header) (past : Trace) where
+  -- What a store writes.
+  record Writing (l : ℕ) (x : Transaction) : Type 0 where
+    line : Line
+    is : data_of h past x ≡ Some line
+    four : length line.words ≡ 4
+    stores : line ≡ burst_into past x (value_of past l)
+
+  -- where no port holds the line, the passed data are the value, else memory is
+  base_is : IsAccepted h past → DirtyPlaced h past → (l : ℕ) (x : Transaction) → granted h past l ≡ Some x → replaces_line x ≡ false
+      → ((p : ℕ) → state_of h past p l ≡ I) → unwrap_or (passed_data h past l) (memory_of past l) ≡ value_of past l
+  base_is a f l x g replaces empty = by (passed_data h past l) refl
+    where
+      no_holder : HasDirtyHolder h past l → ⊥
+      no_holder d = dirty_valid (state_of h past d.0 l) d.1 (empty d.0)
+
+      by : (o : Option Line) → passed_data h past l ≡ o → unwrap_or o (memory_of past l) ≡ value_of past l
+      by None is =
+          elim (f.safe l) [
+            | inl same ↦ same
+            | inr (inl d) ↦ absurd (no_holder d)
+            | inr (inr (inl passed)) ↦ let bad : None ≡ Some (value_of past l) = sym is ∙ passed in cc
+            | inr (inr (inr r)) ↦
+                let yes : replaces_line x ≡ true = subst (λ o. is_some_and o replaces_line ≡ true) g r in cc
+          ]
+      by (Some d) is =
+          elim (passed_true h past a f.passed l x g (passed_has h past l x d g is)) [
+            | inl same ↦ Some-injective d (value_of past l) (sym is ∙ same)
+            | inr holder ↦ absurd (no_holder holder)
+          ]
+
   writing : IsAccepted h past → AllByRecursion InRange past → DirtyPlaced h past → (q : ℕ) (c : Channel) (j l : ℕ) → (w : Writes h past q c j l)
-      → Writing h past l w.one
+      → Writing l w.one
   writing a r f q c j l w =
       let k = stores_kind w.one w.stores in by k.0 k.1 k.2
     where
@@ -87,9 +84,9 @@ module _ (h : Header) (past : Trace) where
       base : (k : AwKind) → write_kind w.one ≡ Some k → is_write_line_unique k ≡ false → unwrap_or (passed_data h past l) (memory_of past l) ≡ value_of past l
       base k kind other =
           let none : replaces_line w.one ≡ false = rw (no_read, kind) other in
-          base_is h past a f l w.one w.stands none empty
+          base_is a f l w.one w.stands none empty
 
-      by : (k : AwKind) → write_kind w.one ≡ Some k → (is_unique_write k || is_no_snoop_write k) ≡ true → Writing h past l w.one
+      by : (k : AwKind) → write_kind w.one ≡ Some k → (is_unique_write k || is_no_snoop_write k) ≡ true → Writing l w.one
       by write.WriteUnique kind s = record {
         line = data_of_write h past w.one write.WriteUnique;
         is = kind_data h past w.one write.WriteUnique w.writes kind;
@@ -142,7 +139,7 @@ module _ (h : Header) (past : Trace) where
   store_true e a r f l w s =
       let one : w.one ≡ s.one = Some-injective w.one s.one (sym (outstanding-named h past w.port w.chan w.id w.one w.out) ∙ s.named) in
       let d = writing a.0 r.1 f w.port w.chan w.id l s in
-      let line = line_is h past e a r.0 l w d.line (ap (data_of h past) one ∙ d.is) d.four in
+      let line = line_is h past e l w a r.0 d.line (ap (data_of h past) one ∙ d.is) d.four in
       let named = s.named in
       let both = and_from _ _ s.stores s.on in
       let value : value_of (M w.port w.chan w.id w.line ∷ past) l ≡ burst_into past s.one (value_of past l) = rw (named, both) refl in
@@ -176,29 +173,21 @@ module _ (h : Header) (past : Trace) where
             ]
       ]
     where
-      again : granted h past l ≡ Some x → has_memory_write past x.port x.chan x.id ≡ true → (p : ℕ) (c : Channel) (i : ℕ) → Writes h past p c i l → ⊥
-      again was earlier p c i s =
-          let one : s.one ≡ x = Some-injective s.one x (sym s.stands ∙ was) in
+      again : has_memory_write past x.port x.chan x.id ≡ true → (p : ℕ) (c : Channel) (i : ℕ) (s : Writes h past p c i l) → s.one ≡ x → ⊥
+      again earlier p c i s one =
           let first : has_memory_write past x.port x.chan x.id ≡ false = subst (λ (y : Transaction). has_memory_write past y.port y.chan y.id ≡ false) one s.first in
           let bad : true ≡ false = sym earlier ∙ first in cc
 
       later : granted h past l ≡ Some x → has_memory_write past x.port x.chan x.id ≡ true → Quiet h past l → memory_of (e ∷ past) l ≡ value_of (e ∷ past) l
       later was earlier q =
-          let value : value_of (e ∷ past) l ≡ value_of past l = elim (value_moves h past e a l) [
-            | inl same ↦ same
-            | inr (inl d) ↦ absurd (unique_valid (state_of h past d.port l) (may_unique h past d.port l d.may) (q.nowhere d.port))
-            | inr (inr (inl d)) ↦
-                let one : d.made.one ≡ x = Some-injective d.made.one x (sym d.made.stands ∙ was) in
-                let bad : true ≡ false = sym (read_writes_none d.made.one read.MakeUnique d.made.kind).1 ∙ ap (λ (y : Transaction). is_read y.chan) one ∙ writes in cc
-            | inr (inr (inr d)) ↦ absurd (again was earlier d.port d.chan d.id d.by)
-          ] in
+          let value = value_stays h past e a l x was (λ p may. unique_valid (state_of h past p l) (may_unique h past p l may) (q.nowhere p)) (write_no_make h past x l writes) (again earlier) in
           elim (memory_moves h past e a l) [
             | inl kept ↦ kept ∙ q.stored ∙ sym value
-            | inr w ↦ elim (writer h past e a l w) [
+            | inr w ↦ elim (writer h past e l w a) [
               | inl passed ↦
                   let one : w.one ≡ x = Some-injective w.one x (sym passed.stands ∙ was) in
                   let bad : true ≡ false = sym passed.reads ∙ ap (λ (y : Transaction). is_read y.chan) one ∙ writes in cc
-              | inr (inl u) ↦ update_true h past e a r.0 f.updates l w u
-              | inr (inr s) ↦ absurd (again was earlier w.port w.chan w.id s)
+              | inr (inl u) ↦ update_true h past e l w a r.0 f.updates u
+              | inr (inr s) ↦ absurd (again earlier w.port w.chan w.id s (Some-injective s.one x (sym s.stands ∙ was)))
             ]
           ]
