@@ -129,7 +129,7 @@ module _ (h : Header) (past : Trace) where
       record { port = r.0; found = r.1; answer = w.0; is = w.1; dirty = w.2 }
 
   -- what may write memory is granted, if it is of a kind that is
-  pub writer_granted : (x : Transaction) → may_write_memory h past x ≡ true → takes_grant x ≡ true → is_granted h past x ≡ true
+  writer_granted : (x : Transaction) → may_write_memory h past x ≡ true → takes_grant x ≡ true → is_granted h past x ≡ true
   writer_granted x m kind =
       elim (cases_Bool (is_read x.chan)) [
         | inl reads ↦ (has_passed x (passed_may x m reads)).stands
@@ -210,7 +210,7 @@ new_unwritten past e x p c i new named m =
     let bad : false ≡ true = rw (new, named, none) at m in cc
 
 -- a transaction of a kind that is granted has had its G before its M
-pub written_given : (h : Header) (past : Trace) → IsAccepted h past → (p : ℕ) (c : Channel) (i : ℕ) (x : Transaction) → outstanding h past p c i ≡ Some x
+written_given : (h : Header) (past : Trace) → IsAccepted h past → (p : ℕ) (c : Channel) (i : ℕ) (x : Transaction) → outstanding h past p c i ≡ Some x
     → takes_grant x ≡ true → has_memory_write past p c i ≡ true → has_grant past p c i ≡ true
 written_given h [] a p c i x o kind m = cc
 written_given h (e ∷ past) a p c i x o kind m =

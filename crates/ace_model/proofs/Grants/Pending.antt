@@ -45,7 +45,7 @@ pub record SnoopsStand (h : Header) (past : Trace) : Type 0 where
   pub first : (r l : ℕ) → was_snooped past r l ≡ false → answer_of past r l ≡ None
 
 -- the snoop that a write causes is that of its kind
-pub write_causes : (x : Transaction) (s : SnoopKind) → is_read x.chan ≡ false → snoop_of x ≡ Some s → (k : AwKind) × (write_kind x ≡ Some k) × (snoop_of_write k ≡ Some s)
+write_causes : (x : Transaction) (s : SnoopKind) → is_read x.chan ≡ false → snoop_of x ≡ Some s → (k : AwKind) × (write_kind x ≡ Some k) × (snoop_of_write k ≡ Some s)
 write_causes x s f e =
     let none : read_kind x ≡ None = rw f refl in
     by (write_kind x) refl (subst (λ o. snoop_kind_of o (write_kind x) ≡ Some s) none e)

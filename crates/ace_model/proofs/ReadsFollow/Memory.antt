@@ -96,7 +96,7 @@ module _ (h : Header) (past : Trace) where
         let none = (reads_apart k.0 k.2).0 in cc) in
         dirty_sends n.1.kind (state_of h past q l) w.resp n.0 n.1.of_line n.1.row other dirty
 
-pub memory_or_holder : (h : Header) (past : Trace) → IsAccepted h past → AllByRecursion InRange past → (l : ℕ) (x : Transaction) → granted h past l ≡ Some x
+memory_or_holder : (h : Header) (past : Trace) → IsAccepted h past → AllByRecursion InRange past → (l : ℕ) (x : Transaction) → granted h past l ≡ Some x
     → is_line_read_transaction x ≡ true → first_sender past l ≡ None → MemorySince past l ⊎ DirtyUnanswered h past l
 memory_or_holder h [] a range l x g reads none = cc
 memory_or_holder h (e ∷ past) a range l x g reads none =

@@ -39,7 +39,7 @@ beat_due h past p i x e a b o reads =
     }
 
 -- a read of a line that has had a beat is granted
-pub under_way : (h : Header) (past : Trace) → IsAccepted h past → (p i : ℕ) (x : Transaction) → outstanding h past p Read i ≡ Some x
+under_way : (h : Header) (past : Trace) → IsAccepted h past → (p i : ℕ) (x : Transaction) → outstanding h past p Read i ≡ Some x
     → is_line_read_transaction x ≡ true → transfers past p i ≢ 0 → granted h past x.addr ≡ Some x
 under_way h [] a p i x o reads some = cc
 under_way h (e ∷ past) a p i x o reads some =
