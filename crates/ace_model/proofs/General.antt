@@ -1,6 +1,6 @@
 -- Lemmas that know nothing of ACE: what holds of any Booleans, options, lists and ports.
 
--- `implies` and `beq` used, the two branches of a test, a count that may have risen by one.
+-- `implies` and `same_test` used, the two branches of a test, a count that may have risen by one.
 pub mod Booleans
 -- What a look that may find nothing says where it finds something.
 pub mod Options

@@ -1,5 +1,4 @@
 -- The terms that the proofs speak in: each name of the definitions, passed on, so that a proof takes them from one place.
-pub use Rattle.std.specs.Bool.{beq}
 pub use Rattle.ace_codes.specs.Reads.{ar_kind_of}
 pub use Rattle.ace_codes.specs.Responses.{has_error, is_shared, passes_dirty, transfers_data, was_unique}
 pub use Rattle.ace_codes.specs.Snoops.{ac_code}
@@ -17,7 +16,7 @@ pub use Rattle.ace_event.specs.declared.event.Event.{Event}
 pub use Rattle.ace_event.specs.declared.event.Event.TheVariants.{Ac, Ar, Aw, B, Cd, Cr, D, G, L, M, Op, R, Rk, S, W, Wk}
 pub use Rattle.ace_event.specs.declared.header.Header.{Header}
 pub use Rattle.ace_event.specs.declared.line.Line.{Line}
-pub use Rattle.ace_tables.specs.Answers.{fits_answer, fits_transfer, fits_update, goes_with_update, is_line_row, is_plain_row, is_snoop_row, must_pass_dirty, states_after}
+pub use Rattle.ace_tables.specs.Answers.{fits_answer, fits_transfer, fits_update, goes_with_update, is_line_row, is_plain_row, is_snoop_row, must_pass_dirty, same_test, states_after}
 pub use Rattle.ace_tables.specs.EndStates.{end_states_of_read, end_states_of_write, ends_read, ends_write, is_fetch}
 pub use Rattle.ace_tables.specs.SilentTransitions.{is_silent_move}
 pub use Rattle.ace_tables.specs.SnoopKinds.{snoop_of_read, snoop_of_write}

@@ -11,7 +11,7 @@ use Rattle.ace_codes.specs.Reads.{ar_kind_of}
 use Rattle.ace_codes.specs.Responses.{low_bits, has_error}
 use Rattle.ace_codes.specs.Snoops.{ac_kind_of}
 use Rattle.ace_codes.specs.Writes.{aw_kind_of}
-use Rattle.std.specs.Bool.{beq}
+use Rattle.ace_tables.specs.Answers.{same_test}
 use Rattle.ace_tables.specs.StartStates.{starts_read, starts_write}
 use Rattle.ace_model.specs.declared.transactions.Transaction.{Transaction}
 use Rattle.ace_model.specs.Trace.{Trace, port_of, implies, is_some_and, is_none_or}
@@ -116,7 +116,7 @@ is_no_snoop x = is_some_and (read_kind x) is_no_snoop_read || is_some_and (write
 
 -- both are NoSnoop, or none is, if they are of one line
 abbrev pub is_used_alike : Transaction → Transaction → Bool
-is_used_alike x y = implies (is_on y x.addr) (beq (is_no_snoop x) (is_no_snoop y))
+is_used_alike x y = implies (is_on y x.addr) (same_test (is_no_snoop x) (is_no_snoop y))
 
 abbrev pub fits_line : Trace → Transaction → Bool
 fits_line past x = implies (is_line x) (each_issued past (is_used_alike x))

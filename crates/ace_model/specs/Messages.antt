@@ -8,7 +8,7 @@ use Rattle.ace_event.specs.declared.event.Event.TheVariants.{Ac}
 use Rattle.ace_event.specs.declared.header.Header.{Header}
 use Rattle.ace_codes.specs.Places.{entry}
 use Rattle.ace_codes.specs.Snoops.{ac_kind_of}
-use Rattle.std.specs.Bool.{beq}
+use Rattle.ace_tables.specs.Answers.{same_test}
 use Rattle.ace_model.specs.declared.snoops.Snoop.{Snoop}
 use Rattle.ace_model.specs.declared.transactions.Transaction.{Transaction}
 use Rattle.ace_model.specs.Trace.{is_some_and, Trace, at_point, newer}
@@ -51,7 +51,7 @@ is_sync_word word = is_some_and (operation_of word) is_sync_operation
 -- the word is one of a DVM message: bit 15 is 1 exactly for a Sync, and bit 0 is 0 (our choice)
 abbrev pub is_message_word : ℕ → Bool
 is_message_word word =
-    is_some (operation_of word) && beq (bit_at word 15 == 1) (is_sync_word word) && (bit_at word 0 == 0)
+    is_some (operation_of word) && same_test (bit_at word 15 == 1) (is_sync_word word) && (bit_at word 0 == 0)
 
 abbrev pub is_message : Transaction → Bool
 is_message x = is_some_and (read_kind x) is_dvm_message

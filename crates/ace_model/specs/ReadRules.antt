@@ -8,7 +8,7 @@ use Rattle.ace_event.specs.declared.event.Event.{Event}
 use Rattle.ace_event.specs.declared.event.Event.TheVariants.{R, Rk}
 use Rattle.ace_event.specs.declared.header.Header.{Header}
 use Rattle.ace_codes.specs.Responses.{passes_dirty, is_shared, low_bits}
-use Rattle.std.specs.Bool.{beq}
+use Rattle.ace_tables.specs.Answers.{same_test}
 use Rattle.ace_tables.specs.EndStates.{ends_read}
 use Rattle.ace_model.specs.declared.transactions.Transaction.{Transaction}
 use Rattle.ace_model.specs.Trace.{Trace, is_some_and, implies, is_none_or}
@@ -23,7 +23,7 @@ use Rattle.ace_model.specs.Replies.{reply_of}
 -- the read has transfers left, and `last` says whether this is the last
 abbrev pub is_next_transfer : Trace → Transaction → Bool → ArKind → Bool
 is_next_transfer past x last k =
-    nat_lt (transfers past x.port x.id) (beats_of k) && beq last (transfers past x.port x.id + 1 == beats_of k)
+    nat_lt (transfers past x.port x.id) (beats_of k) && same_test last (transfers past x.port x.id + 1 == beats_of k)
 
 -- the passed data are for a kind that takes them, they are whole, and the response says PassDirty
 abbrev pub takes_passed : Header → Trace → Transaction → ℕ → Bool
@@ -49,7 +49,7 @@ k18 h past _ = true
 
 -- PassDirty and IsShared are those of the first transfer
 abbrev pub same_upper_bits : ℕ → ℕ → Bool
-same_upper_bits resp first = beq (passes_dirty resp) (passes_dirty first) && beq (is_shared resp) (is_shared first)
+same_upper_bits resp first = same_test (passes_dirty resp) (passes_dirty first) && same_test (is_shared resp) (is_shared first)
 
 -- an answer under the grant of the read has IsShared, and the read is one that can be told
 abbrev pub must_be_shared : Header → Trace → Transaction → ArKind → Bool

@@ -6,8 +6,7 @@ use Rattle.ace_event.specs.declared.event.Event.{Event}
 use Rattle.ace_event.specs.declared.event.Event.TheVariants.{W, G, Ac, Cr, Cd}
 use Rattle.ace_event.specs.declared.header.Header.{Header}
 use Rattle.ace_codes.specs.Snoops.{ac_code, ac_kind_of}
-use Rattle.std.specs.Bool.{beq}
-use Rattle.ace_tables.specs.Answers.{is_snoop_row}
+use Rattle.ace_tables.specs.Answers.{same_test, is_snoop_row}
 use Rattle.ace_model.specs.declared.snoops.Snoop.{Snoop}
 use Rattle.ace_model.specs.declared.transactions.Transaction.{Transaction}
 use Rattle.ace_model.specs.Trace.{Trace, implies, is_none_or, is_some_and}
@@ -34,7 +33,7 @@ fits_write past x beat strobe word k =
 
 abbrev pub is_next_beat : Trace → ℕ → ℕ → Bool → ℕ → Transaction → Bool
 is_next_beat past beat strobe last word x =
-    beq last (beat == 3) && is_none_or (write_kind x) (fits_write past x beat strobe word)
+    same_test last (beat == 3) && is_none_or (write_kind x) (fits_write past x beat strobe word)
 
 -- K11: the port of a W has a write with data whose burst isn't whole; the beat belongs to the oldest of them. It is the last
 -- exactly where it says so. WriteLineUnique and memory updates have all strobes, and a memory update sends the words of the
@@ -107,5 +106,5 @@ k16 h past _ = true
 -- the last exactly where it says so, and has the word of the port's copy at that answer (Arm IHI 0022E, C3.8).
 abbrev pub k17 : Header → Trace → Event → Bool
 k17 h past (Cd p last word) =
-    is_some_and (next_sent past p) (λ line. beq last (next_sent_beat past p == 3) && (word == word_of line (next_sent_beat past p)))
+    is_some_and (next_sent past p) (λ line. same_test last (next_sent_beat past p == 3) && (word == word_of line (next_sent_beat past p)))
 k17 h past _ = true

@@ -9,7 +9,7 @@ use Rattle.ace_codes.specs.declared.state.LineState.TheVariants.{I, UC, UD, SC, 
 use Rattle.ace_codes.specs.Responses.{transfers_data}
 use Rattle.ace_tables.specs.declared.rows.Row.{Row}
 use Rattle.ace_tables.specs.States.{same_state}
-use Rattle.std.specs.Bool.{beq}
+use Rattle.ace_tables.specs.Answers.{same_test}
 use Rattle.ace_tables.specs.Picks.{last_row, is_like, kept_row}
 
 same_state-itself : (st : LineState) → same_state st st ≡ true
@@ -19,12 +19,12 @@ same_state-itself UD = refl
 same_state-itself SC = refl
 same_state-itself SD = refl
 
-beq-itself : (b : Bool) → beq b b ≡ true
-beq-itself true = refl
-beq-itself false = refl
+same_test-itself : (b : Bool) → same_test b b ≡ true
+same_test-itself true = refl
+same_test-itself false = refl
 
 is_like-itself : (row : Row) → is_like row row ≡ true
-is_like-itself row = rw (same_state-itself row.next, beq-itself (transfers_data row.resp)) refl
+is_like-itself row = rw (same_state-itself row.next, same_test-itself (transfers_data row.resp)) refl
 
 last_row-push : (rows : List Row) (row : Row) → last_row (rows ++ row ∷ []) ≡ Some row
 last_row-push [] row = refl

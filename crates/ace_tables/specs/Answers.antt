@@ -1,7 +1,6 @@
 -- The answers to a snoop: which state the port is left in, and what CRRESP says (Arm IHI 0022E, C5 and C3.7; which of the
 -- permitted ones is our choice).
 use Rattle.std.specs.Prelude.{ℕ, Bool, true, false, not, ◌&&◌, ◌||◌, ◌==◌, nat_lt, List, [], ◌∷◌, ◌++◌, if◌then◌else◌}
-use Rattle.std.specs.Bool.{beq}
 use Rattle.ace_codes.specs.declared.state.LineState.{LineState}
 use Rattle.ace_codes.specs.declared.state.LineState.TheVariants.{I, UC, UD, SC, SD}
 use Rattle.ace_codes.specs.declared.kind.SnoopKind.{SnoopKind}
@@ -46,6 +45,10 @@ abbrev pub must_pass_dirty : SnoopKind → LineState → LineState → Bool
 must_pass_dirty MakeInvalid held next = false
 must_pass_dirty _ held next = is_dirty held && not (is_dirty next)
 
+abbrev pub same_test : Bool → Bool → Bool
+same_test true b = b
+same_test false b = not b
+
 -- the bits of the response; IsShared is 1 exactly where the line is kept, WasUnique may be 1 where it was unique, and
 -- Error is 0
 abbrev pub fits_answer : SnoopKind → LineState → LineState → ℕ → Bool
@@ -53,8 +56,8 @@ fits_answer kind held next resp =
     nat_lt resp 32
     && not (has_error resp)
     && fits_transfer kind held (transfers_data resp)
-    && beq (passes_dirty resp) (must_pass_dirty kind held next)
-    && beq (is_shared resp) (not (is_invalid next))
+    && same_test (passes_dirty resp) (must_pass_dirty kind held next)
+    && same_test (is_shared resp) (not (is_invalid next))
     && (not (was_unique resp) || is_unique held)
 
 -- the snoops that a port answers while a memory update of the line is outstanding

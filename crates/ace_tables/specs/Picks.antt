@@ -6,8 +6,7 @@ use Rattle.ace_codes.specs.declared.kind.SnoopKind.{SnoopKind}
 use Rattle.ace_codes.specs.Responses.{transfers_data}
 use Rattle.ace_tables.specs.declared.rows.Row.{Row}
 use Rattle.ace_tables.specs.States.{same_state}
-use Rattle.std.specs.Bool.{beq}
-use Rattle.ace_tables.specs.Answers.{snoop_rows}
+use Rattle.ace_tables.specs.Answers.{same_test, snoop_rows}
 
 abbrev pub last_row : List Row → Option Row
 last_row [] = None
@@ -16,7 +15,7 @@ last_row (row ∷ rows) = last_row rows
 
 -- the next state and DataTransfer are those of the other row
 abbrev pub is_like : Row → Row → Bool
-is_like first row = same_state first.next row.next && beq (transfers_data first.resp) (transfers_data row.resp)
+is_like first row = same_state first.next row.next && same_test (transfers_data first.resp) (transfers_data row.resp)
 
 -- the first next state and its least DataTransfer, with WasUnique 1 where it may be
 abbrev pub kept_row : List Row → Option Row

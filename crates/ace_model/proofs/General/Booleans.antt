@@ -1,17 +1,17 @@
 -- What is true of any two Booleans.
 use Rattle.std.proofs.Common.{◌≡◌, ◌&&◌, ◌⊎◌, inl, inr, ℕ, ◌+◌, ◌≤◌, if◌then◌else◌, arith, Bool, true, false, refl, sym, ◌∙◌}
 use Rattle.std.proofs.lemmas.Bool.{and_parts}
-use Rattle.ace_model.proofs.Terms.{beq, implies}
+use Rattle.ace_model.proofs.Terms.{same_test, implies}
 
 pub implies-at : (a b : Bool) → implies a b ≡ true → a ≡ true → b ≡ true
 implies-at true b e f = e
 implies-at false b e f = cc
 
-pub beq-at : (a b : Bool) → beq a b ≡ true → a ≡ b
-beq-at true true e = refl
-beq-at true false e = cc
-beq-at false true e = cc
-beq-at false false e = refl
+pub same_test-at : (a b : Bool) → same_test a b ≡ true → a ≡ b
+same_test-at true true e = refl
+same_test-at true false e = cc
+same_test-at false true e = cc
+same_test-at false false e = refl
 
 -- what is counted no less than one more
 pub above_count : (b : Bool) (count n : ℕ) → (if b then count + 1 else count) ≤ n → count ≤ n

@@ -11,7 +11,7 @@ use Rattle.ace_model.proofs.Holders.RestsOn.{accepted_keeps_each}
 use Rattle.ace_model.proofs.Holders.Lessened.{lessened_by}
 use Rattle.ace_model.proofs.Holders.Rises.{ends_line_of}
 use Rattle.ace_model.proofs.General.Options.{Some-injective, is_none_or-at}
-use Rattle.ace_model.proofs.General.Booleans.{implies-at, beq-at}
+use Rattle.ace_model.proofs.General.Booleans.{implies-at, same_test-at}
 use Rattle.ace_model.proofs.Tables.ReadSnoops.{takes_snoops, read_snoops}
 
 -- Transactions of one line are all NoSnoop, or none is.
@@ -28,7 +28,7 @@ alike_new h past e x y l k new old on_x on_y =
     let each = implies-at (is_line x) (each_issued past (is_used_alike x)) fits parts.0 in
     let alike = each_issued-at past (is_used_alike x) y.place y each old.there in
     let here : is_on y x.addr ≡ true = rw (eqb-true x.addr l parts.1) on_y in
-    beq-at (is_no_snoop x) (is_no_snoop y) (implies-at (is_on y x.addr) _ alike here)
+    same_test-at (is_no_snoop x) (is_no_snoop y) (implies-at (is_on y x.addr) _ alike here)
 
 pub used_alike : (h : Header) (past : Trace) → IsAccepted h past → UsedAlike past
 used_alike h [] a x y l is_x is_y on_x on_y = let none = is_x.there in cc

@@ -14,7 +14,7 @@ use Rattle.ace_model.proofs.Trace.Outstanding.{one_name, ends_lite}
 use Rattle.ace_model.proofs.Holders.FirstTransfer.{IsFirst, upper_bits, first_alone, first_beside, first_dirty}
 use Rattle.ace_model.proofs.Holders.Facts.{Arrives, TransfersArrive, QueueStands, QueueDistinct, OneHolder}
 use Rattle.ace_model.proofs.General.Options.{Some-injective, is_some_and-is, is_none_or-at}
-use Rattle.ace_model.proofs.General.Booleans.{implies-at, beq-at}
+use Rattle.ace_model.proofs.General.Booleans.{implies-at, same_test-at}
 
 module _ (h : Header) (past : Trace) where
   -- what the rule on transfers says of the read that the event names
@@ -48,7 +48,7 @@ module _ (h : Header) (past : Trace) where
         kind = kind.0;
         is_kind = kind.1;
         few = rw (← same) (ltb-true (transfers past x.port x.id) (beats_of kind.0) beats.0);
-        ends = λ e. ap (λ n. n + 1) (sym same) ∙ eqb-true (transfers past x.port x.id + 1) (beats_of kind.0) (sym (beq-at last _ beats.1) ∙ e);
+        ends = λ e. ap (λ n. n + 1) (sym same) ∙ eqb-true (transfers past x.port x.id + 1) (beats_of kind.0) (sym (same_test-at last _ beats.1) ∙ e);
         may = λ line. implies-at (is_line x) (may_transfer h past x resp) due.1 line;
       }
 

@@ -1,7 +1,7 @@
 -- A read that keeps the line receives its value.
 use Rattle.std.proofs.Common.{◌≡◌, ◌≢◌, ◌==◌, ℕ, ◌+◌, ◌<◌, Bool, true, false, if◌then◌else◌, ◌&&◌, nat_eq, nat_lt, List, [], ◌∷◌, ◌++◌, length, Some, None, slice_get, slice_index, get_or, refl, sym, ap, subst, ◌∙◌, arith, inl, inr}
 use Rattle.std.proofs.lemmas.Bool.{and_parts, and_from, or_cases, cases_eq, eqb-true, eq-eqb, ne_eqb}
-use Rattle.ace_model.proofs.Terms.{ArKind, ar_kind_of, Event, Ar, R, Aw, Read, Header, Line, beq, is_fetch, is_unique, Transaction, Trace, is_some_and, is_lite_read, beats_of, reads_a_line}
+use Rattle.ace_model.proofs.Terms.{ArKind, ar_kind_of, Event, Ar, R, Aw, Read, Header, Line, same_test, is_fetch, is_unique, Transaction, Trace, is_some_and, is_lite_read, beats_of, reads_a_line}
 use Rattle.ace_model.proofs.Terms.{first_sender, memory_at_first_beat, reply_of, value_of, may_issue_read, k18, is_due, is_next_transfer, has_word, IsAccepted}
 use Rattle.ace_model.proofs.Terms.{is_ace, is_line, has_name, read_kind, issued, ended, transfers, outstanding, granted, has_failed, state_of, is_line_read_transaction, words_read, word_of}
 use Rattle.ace_model.proofs.Trace.Looks.{has_name-is, is_on-addr, without-some}
@@ -24,7 +24,7 @@ use Rattle.ace_model.proofs.Values.Replies.{memory-before}
 use Rattle.ace_model.proofs.Values.Facts.{SentTrue, Fetches, FetchesTrue, DirtyPlaced}
 use Rattle.ace_model.proofs.Holders.Law.{accepted_holds}
 use Rattle.ace_model.proofs.General.Options.{Some-injective, is_some_and-at, is_none_or-at}
-use Rattle.ace_model.proofs.General.Booleans.{beq-at}
+use Rattle.ace_model.proofs.General.Booleans.{same_test-at}
 
 -- only an ACE port issues what an ACE-Lite port may not
 pub ace_read : (h : Header) (past : Trace) → IsAccepted h past → (p i : ℕ) (x : Transaction) (k : ArKind) → outstanding h past p Read i ≡ Some x → read_kind x ≡ Some k
@@ -65,9 +65,9 @@ module _ (h : Header) (past : Trace) where
   last_is p i resp last word x k keeps o port id kind beats n =
       let due = is_some_and-at (outstanding h past p Read i) (is_due h past resp last) x keeps o in
       let next = is_some_and-at (read_kind x) (is_next_transfer past x last) k (and_parts (is_some_and (read_kind x) (is_next_transfer past x last)) _ due).0 kind in
-      let same = (and_parts (nat_lt (transfers past x.port x.id) (beats_of k)) (beq last (transfers past x.port x.id + 1 == beats_of k)) next).1 in
+      let same = (and_parts (nat_lt (transfers past x.port x.id) (beats_of k)) (same_test last (transfers past x.port x.id + 1 == beats_of k)) next).1 in
       let count : transfers past x.port x.id + 1 ≡ beats_of k = ap (λ v. transfers past v x.id + 1) port ∙ ap (λ v. transfers past p v + 1) id ∙ n ∙ sym beats in
-      beq-at last _ same ∙ eq-eqb (transfers past x.port x.id + 1) (beats_of k) count
+      same_test-at last _ same ∙ eq-eqb (transfers past x.port x.id + 1) (beats_of k) count
 
   -- the reply after an event
   reply_next : (e : Event) → IsAccepted h (e ∷ past) → SentTrue h (e ∷ past) → (l : ℕ) (x : Transaction) (k : ArKind) → granted h past l ≡ Some x
