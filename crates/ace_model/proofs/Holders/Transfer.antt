@@ -15,6 +15,7 @@ use Rattle.ace_model.proofs.Holders.FirstTransfer.{IsFirst, upper_bits, first_al
 use Rattle.ace_model.proofs.Holders.Facts.{Arrives, TransfersArrive, QueueStands, QueueDistinct, OneHolder}
 use Rattle.ace_model.proofs.General.Options.{Some-injective, is_some_and-is, is_none_or-at}
 use Rattle.ace_model.proofs.General.Booleans.{implies-at, same_test-at}
+use Rattle.ace_model.proofs.Trace.Transfers.{IsFull}
 
 module _ (h : Header) (past : Trace) where
   -- what the rule on transfers says of the read that the event names
@@ -99,7 +100,7 @@ module _ (h : Header) (past : Trace) where
       -- the read of the transfer did not wait in the queue
       not_queued : (p n i : ℕ) → is_ace h p ≡ true → acknowledgements past p Read ≤ n → slice_get (completed past p Read) n ≡ Some i → p ≡ q → j ≡ i → ⊥
       not_queued p n i ace low e pq ji =
-          let waits : ℕ → ℕ → Type 0 = λ a b. (x : Transaction) × (outstanding h past a Read b ≡ Some x) × (is_some_and (read_kind x) (λ k. transfers past a b == beats_of k) ≡ true) in
+          let waits : ℕ → ℕ → Type 0 = λ a b. (x : Transaction) × (outstanding h past a Read b ≡ Some x) × IsFull past a b x in
           let base = subst (λ a. waits a j) pq (subst (λ b. waits p b) (sym ji) (f.queue p n i ace low e)) in
           let one : base.0 ≡ m.one = Some-injective base.0 m.one (sym base.1 ∙ m.out) in
           let whole : (transfers past q j == beats_of m.kind) ≡ true = rw (one, m.is_kind) at base.2 in
@@ -123,8 +124,7 @@ module _ (h : Header) (past : Trace) where
                   ],
                 )
             | inr new ↦
-                let waits : ℕ → ℕ → Type 0 = λ a b. (x : Transaction) × (outstanding h (R q j resp last word ∷ past) a Read b ≡ Some x)
-                × (is_some_and (read_kind x) (λ k. transfers (R q j resp last word ∷ past) a b == beats_of k) ≡ true) in
+                let waits : ℕ → ℕ → Type 0 = λ a b. (x : Transaction) × (outstanding h (R q j resp last word ∷ past) a Read b ≡ Some x) × IsFull (R q j resp last word ∷ past) a b x in
                 let more : transfers (R q j resp last word ∷ past) q j ≡ transfers past q j + 1 = rw own_name (refl {a = transfers past q j + 1}) in
                 let whole : (transfers (R q j resp last word ∷ past) q j == beats_of m.kind) ≡ true =
                 eq-eqb (transfers (R q j resp last word ∷ past) q j) (beats_of m.kind) (more ∙ m.ends new.is_last) in
