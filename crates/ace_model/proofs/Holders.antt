@@ -59,7 +59,7 @@
 
 -- The ten facts.
 pub mod Facts
--- The twelve rules that they rest on, all of which the rules of today keep too.
+-- The twelve rules that they rest on; what the rules of today accept keeps them too.
 pub mod RestsOn
 -- What an event keeps that ends one transaction at most, or lessens the states that the ports hold.
 pub mod Kept
@@ -85,7 +85,8 @@ pub mod Law
 pub mod Today
 -- Every event but an RK lessens what the ports hold, and but an RK or a D makes no line dirty.
 pub mod Lessened
--- So a port comes to hold more by the RK of its read alone, and holds nothing of a line while it reads or writes it.
+-- So a port comes to hold more by the RK of its read alone, and while it fetches a line or has a granted write of it
+-- outstanding, it holds nothing of it.
 pub mod Rises
 -- A line that a port holds has no NoSnoop transaction (K8).
 pub mod ShareableLines
