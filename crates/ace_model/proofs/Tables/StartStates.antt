@@ -4,7 +4,7 @@ use Rattle.ace_model.proofs.Terms.{ArKind, AwKind, LineState, I, starts_read, st
 use Rattle.ace_codes.specs.declared.kind.ArKind.TheVariants as read
 use Rattle.ace_codes.specs.declared.kind.AwKind.TheVariants as write
 
-pub only_invalid : (st : LineState) → is_among st (I ∷ []) ≡ true → st ≡ I
+only_invalid : (st : LineState) → is_among st (I ∷ []) ≡ true → st ≡ I
 only_invalid I e = refl
 only_invalid st e = cc
 

@@ -11,8 +11,8 @@ use Rattle.ace_model.proofs.Holders.Rises.{state_moves, stays_empty}
 use Rattle.ace_model.proofs.Grants.Begins.{may_of}
 use Rattle.ace_model.proofs.Values.MergedLines.{merged-same}
 use Rattle.ace_model.proofs.Values.Stores.{stores_d, value_moves}
-use Rattle.ace_model.proofs.Values.FullReads.{full_some}
-use Rattle.ace_model.proofs.Values.Ended.{read_ends}
+use Rattle.ace_model.proofs.Trace.Transfers.{full_some}
+use Rattle.ace_model.proofs.Holders.Rises.{ends_line_of}
 use Rattle.ace_model.proofs.Values.WritesAlone.{all_empty}
 use Rattle.ace_model.proofs.Values.Facts.{DirtyPlaced}
 use Rattle.ace_model.proofs.Holders.Law.{accepted_holds}
@@ -65,7 +65,7 @@ module _ (h : Header) (past : Trace) where
       elim (cases_Bool (is_invalid (state_of h past p l))) [
         | inr was ↦ f.copies l p (invalid_not (state_of h past p l) was)
         | inl gone ↦
-            let r = read_ends h past q st a p l t in
+            let r = ends_line_of h past q st a p l t in
             elim (r.state.gains gone (valid_not st held)) [
               | inl fetch ↦
                   let kind = r.is_kind in
