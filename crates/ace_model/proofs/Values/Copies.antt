@@ -10,10 +10,9 @@ use Rattle.ace_model.proofs.Holders.Acknowledge.{is_named_by_rk}
 use Rattle.ace_model.proofs.Holders.Rises.{state_moves, stays_empty}
 use Rattle.ace_model.proofs.Grants.Begins.{may_of}
 use Rattle.ace_model.proofs.Values.MergedLines.{merged-same}
-use Rattle.ace_model.proofs.Values.Stores.{stores_d, value_moves}
+use Rattle.ace_model.proofs.Values.Stores.{stores_d, value_moves, all_empty}
 use Rattle.ace_model.proofs.Values.FullReads.{full_some}
 use Rattle.ace_model.proofs.Values.Ended.{read_ends}
-use Rattle.ace_model.proofs.Values.WritesAlone.{all_empty}
 use Rattle.ace_model.proofs.Values.Facts.{DirtyPlaced}
 use Rattle.ace_model.proofs.Holders.Law.{accepted_holds}
 use Rattle.ace_model.proofs.General.Options.{is_some_and-is}

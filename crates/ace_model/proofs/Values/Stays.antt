@@ -15,8 +15,7 @@ use Rattle.ace_model.proofs.Grants.SnoopAnswers.{NewAnswer, answer_cases}
 use Rattle.ace_model.proofs.Grants.Answers.{new_answer, is_levelling, none_unique}
 use Rattle.ace_model.proofs.Tables.Kinds.{fetch_is, update_data}
 use Rattle.ace_model.proofs.Values.UpdateHolds.{holds_line}
-use Rattle.ace_model.proofs.Values.Stores.{Made, value_moves, Writes}
-use Rattle.ace_model.proofs.Values.WritesAlone.{all_empty}
+use Rattle.ace_model.proofs.Values.Stores.{Made, value_moves, Writes, all_empty}
 use Rattle.ace_model.proofs.Values.Facts.{SentTrue, UpdatesTrue, DirtyPlaced}
 use Rattle.ace_model.proofs.Holders.Law.{accepted_holds}
 use Rattle.ace_model.proofs.General.Options.{Some-injective, is_some_and-is}

@@ -12,7 +12,6 @@ use Rattle.ace_model.proofs.Grants.SnoopAnswers.{NewAnswer}
 use Rattle.ace_model.proofs.Grants.Answers.{new_answer}
 use Rattle.ace_model.proofs.Values.UpdateHolds.{update_found, holds_line}
 use Rattle.ace_model.proofs.Tables.Kinds.{is_dirty_update, dirty_updates}
-use Rattle.ace_model.proofs.Values.WritesAlone.{all_empty}
 use Rattle.ace_model.proofs.Values.Stays.{value_updating}
 use Rattle.ace_model.proofs.Grants.Granted.{new_unwritten, written_cases, granted_given, updates_ungranted}
 use Rattle.ace_model.proofs.Values.PassedData.{passed_origin}
@@ -20,6 +19,7 @@ use Rattle.ace_model.proofs.Values.MemoryWrites.{WritesLine, memory_moves, write
 use Rattle.ace_model.proofs.Values.Facts.{Updated, UpdatedTrue, DirtyPlaced}
 use Rattle.ace_model.proofs.Holders.Law.{accepted_holds}
 use Rattle.ace_model.proofs.General.Options.{Some-injective, is_some_and-is, is_none_or-at}
+use Rattle.ace_model.proofs.Values.Stores.{all_empty}
 
 -- no passed data come but by an answer with PassDirty
 still_none : (h : Header) (past : Trace) (e : Event) → IsAccepted h (e ∷ past) → (l : ℕ) → ((y : Transaction) → granted h past l ≡ Some y → has_passed_data h past y ≡ false)

@@ -14,8 +14,7 @@ use Rattle.ace_model.proofs.Grants.SnoopAnswers.{no_rise}
 use Rattle.ace_model.proofs.Grants.Answers.{passed_kind}
 use Rattle.ace_model.proofs.Values.MergedLines.{line_of, merged-length, merged-all}
 use Rattle.ace_model.proofs.Trace.WriteBursts.{four_beats}
-use Rattle.ace_model.proofs.Values.Stores.{Writes, stores_m, stores_kind}
-use Rattle.ace_model.proofs.Values.WritesAlone.{all_empty}
+use Rattle.ace_model.proofs.Values.Stores.{Writes, stores_m, stores_kind, all_empty}
 use Rattle.ace_model.proofs.Tables.States.{unique_valid, dirty_valid}
 use Rattle.ace_model.proofs.Values.Stays.{may_unique, value_stays, write_no_make}
 use Rattle.ace_model.proofs.Grants.Granted.{given_unwritten, granted_given, granted_write, written_cases}
