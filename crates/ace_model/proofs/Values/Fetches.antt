@@ -1,23 +1,22 @@
 -- A read that keeps the line receives its value.
-use Rattle.std.proofs.Common.{◌≡◌, ◌≢◌, ◌==◌, ℕ, ◌+◌, ◌<◌, Bool, true, false, if◌then◌else◌, ◌&&◌, nat_eq, nat_lt, List, [], ◌∷◌, ◌++◌, length, Some, None, slice_get, slice_index, get_or, refl, sym, ap, subst, ◌∙◌, arith, inl, inr}
+use Rattle.std.proofs.Common.{◌≡◌, ◌≢◌, ◌==◌, ℕ, ◌+◌, Bool, true, false, if◌then◌else◌, ◌&&◌, nat_eq, nat_lt, List, [], ◌∷◌, ◌++◌, length, Some, None, slice_get, refl, sym, ap, subst, ◌∙◌, arith, inl, inr}
 use Rattle.std.proofs.lemmas.Bool.{and_parts, and_from, or_cases, cases_eq, eqb-true, eq-eqb, ne_eqb}
-use Rattle.ace_model.proofs.Terms.{ArKind, ar_kind_of, Event, Ar, R, Aw, Read, Header, Line, same_test, is_fetch, is_unique, Transaction, Trace, is_some_and, is_lite_read, beats_of, reads_a_line}
+use Rattle.ace_model.proofs.Terms.{ArKind, ar_kind_of, Event, Ar, R, Aw, Read, Header, same_test, is_fetch, is_unique, Transaction, Trace, is_some_and, is_lite_read, beats_of, reads_a_line}
 use Rattle.ace_model.proofs.Terms.{first_sender, memory_at_first_beat, reply_of, value_of, may_issue_read, k18, is_due, is_next_transfer, has_word, IsAccepted}
 use Rattle.ace_model.proofs.Terms.{is_ace, is_line, has_name, read_kind, issued, ended, transfers, outstanding, granted, has_failed, state_of, is_line_read_transaction, words_read, word_of}
 use Rattle.ace_model.proofs.Trace.Looks.{has_name-is, is_on-addr, without-some}
 use Rattle.ace_model.proofs.Trace.Issued.{outstanding-named, outstanding-name, outstanding-origin}
 use Rattle.ace_model.proofs.Rules.Keeps.{accepted_keeps}
 use Rattle.ace_model.proofs.General.Lists.{slice_get-more}
-use Rattle.std.proofs.lemmas.Option.{slice_get-get_or}
 use Rattle.ace_model.proofs.Tables.Kinds.{Fetch, fetch_is}
 use Rattle.ace_model.proofs.Values.FullReads.{transfer_moves, words-length, issue_transfers, line_due}
 use Rattle.ace_model.proofs.Holders.Facts.{Arrives}
 use Rattle.ace_model.proofs.Trace.LineOnce.{one_on_line}
 use Rattle.ace_model.proofs.Grants.Stays.{gives_none}
-use Rattle.ace_model.proofs.Values.MergedLines.{value-length, lines_by_words}
+use Rattle.ace_model.proofs.Values.MergedLines.{value-length, whole_line}
 use Rattle.ace_model.proofs.Values.Stores.{stores_d}
 use Rattle.ace_model.proofs.Values.Copies.{copy_moves}
-use Rattle.ace_model.proofs.Values.Stays.{value_stays, made_apart, sent_step, none_may, read_no_write}
+use Rattle.ace_model.proofs.Values.Stays.{value_stays, made_apart, sent_step, none_may_store, read_no_write}
 use Rattle.ace_model.proofs.Values.Replies.{sender_before, reply_true, memory_true}
 use Rattle.ace_model.proofs.Values.Replies.{memory-before}
 use Rattle.ace_model.proofs.Values.Facts.{SentTrue, Fetches, FetchesTrue, DirtyPlaced}
@@ -48,14 +47,6 @@ ace_read h (e ∷ past) a p i x k o kind lite =
         let same = Some-injective _ x new in
         let none : None ≡ Some k = ap read_kind same ∙ kind in cc
     by d a new named = cc
-
--- the words of a whole burst are the line
-whole_line : (ws : List ℕ) (line : Line) → length ws ≡ 4 → length line.words ≡ 4 → ((n w : ℕ) → slice_get ws n ≡ Some w → w ≡ word_of line n) → record { words = ws } ≡ line
-whole_line ws line m n each =
-    lines_by_words (record { words = ws }) line m n (one 0 (omega arith)) (one 1 (omega arith)) (one 2 (omega arith)) (one 3 (omega arith))
-  where
-    one : (k : ℕ) → k < length ws → slice_index ws k ≡ word_of line k
-    one k low = each k (get_or ws k 0) (slice_get-get_or ws k 0 low)
 
 module _ (h : Header) (past : Trace) where
   -- the last of four transfers says that it is
@@ -112,7 +103,7 @@ module _ (h : Header) (past : Trace) where
           let g : granted h past l ≡ Some x = ap (granted h past) (sym addr) ∙ r.stands in
           let g' : granted h (e ∷ past) l ≡ Some x = ap (granted h (e ∷ past)) (sym addr) ∙ r'.stands in
           let name = outstanding-name h past p Read i x was in
-          let no_port = none_may h past p Read i l x was on (λ q apart yes.
+          let no_port = none_may_store h past p Read i l x was on (λ q apart yes.
           let unique : is_unique (state_of h past q x.addr) ≡ true = ap (λ v. is_unique (state_of h past q v)) addr ∙ yes in
           elim (tables.takes _ (has_failed past x)) [
             | inl alone ↦ let gone = r.alone k kind alone q apart in let bad = sym (ap is_unique gone) ∙ unique in cc

@@ -13,7 +13,7 @@ use Rattle.ace_model.proofs.Values.Stores.{Made, stores_d, Awaits, awaits_store-
 use Rattle.ace_model.proofs.Values.FullReads.{done_read, full_some}
 use Rattle.ace_model.proofs.Values.Copies.{copy_moves}
 use Rattle.ace_model.proofs.Tables.States.{unique_valid}
-use Rattle.ace_model.proofs.Values.Stays.{value_stays, busy, none_may, read_no_write}
+use Rattle.ace_model.proofs.Values.Stays.{value_stays, busy, none_may_store, read_no_write}
 use Rattle.ace_model.proofs.Values.Facts.{MadeTrue, DirtyPlaced}
 use Rattle.ace_model.proofs.Holders.Law.{accepted_holds}
 use Rattle.ace_model.proofs.General.Options.{is_some_and-at}
@@ -112,7 +112,7 @@ made_step h past e a f p i l x o on kind s =
         let arrives = (accepted_holds h past a.0).arrive p i x done.1 was (and_parts (is_line x) _ on).0 (full_some past p i x (done_read h past a.0 p i x was done.0)) in
         let stands : granted h past l ≡ Some x = ap (granted h past) (sym addr) ∙ arrives.stands in
         let name = outstanding-name h past p Read i x was in
-        let no_port = none_may h past p Read i l x was on (λ q apart unique.
+        let no_port = none_may_store h past p Read i l x was on (λ q apart unique.
         unique_valid (state_of h past q l) unique (subst (λ v. state_of h past q v ≡ I) addr (arrives.alone read.MakeUnique kind refl q apart))) in
         let no_make : (q t : ℕ) (m : Made h past q l t) → m.one ≡ x → ⊥ = λ q t m one.
         let made_name = outstanding-name h past q Read m.id m.one m.out in

@@ -72,9 +72,9 @@ module _ (h : Header) (past : Trace) where
       record { r = r; same = Some-injective r.one x (sym r.ends_it ∙ is ∙ ap Some one); after = rw t refl }
 
   -- a granted write ends with memory the value
-  wrote : IsAccepted h past → WrittenTrue h past → (l : ℕ) (x : Transaction) → granted h past l ≡ Some x → (q : ℕ) (z : Transaction)
+  ended_write_stored : IsAccepted h past → WrittenTrue h past → (l : ℕ) (x : Transaction) → granted h past l ≡ Some x → (q : ℕ) (z : Transaction)
       → EndsWrite h past q z → z.place ≡ x.place → memory_of past l ≡ value_of past l
-  wrote a f l x g q z w same =
+  ended_write_stored a f l x g q z w same =
       let o = (accepted_holds h past a).grants l x g in
       let one : z ≡ x = same_place past q x.port Write x.chan w.id x.id z x (outstanding-named h past q Write w.id z w.out) (outstanding-named h past x.port x.chan x.id x o.0) same in
       let writes : is_read x.chan ≡ false = ap (λ (y : Transaction). is_read y.chan) (sym one) ∙ ap is_read w.chan in
@@ -98,8 +98,8 @@ module _ (h : Header) (past : Trace) where
         | inr replaces ↦ or_right _ (is_make_unique r.kind) (read_replaces r.one r.kind r.is_kind (subst (λ y. replaces_line y ≡ true) (sym n.same) replaces))
       ]) in
       inr (inl (q, subst (λ v. is_dirty v ≡ true) (sym n.after) dirty))
-  ended_safe (Wk q st) a f l x g wants z is same = inl (wrote a.0 f l x g q z (ends_write_of h past q st a z is) same)
-  ended_safe (B q j resp) a f l x g wants z is same = inl (wrote a.0 f l x g q z (ends_lite_written h past q j resp a z is) same)
+  ended_safe (Wk q st) a f l x g wants z is same = inl (ended_write_stored a.0 f l x g q z (ends_write_of h past q st a z is) same)
+  ended_safe (B q j resp) a f l x g wants z is same = inl (ended_write_stored a.0 f l x g q z (ends_lite_written h past q j resp a z is) same)
   ended_safe (R q j resp last word) a f l x g wants z is same =
       let lite = ends_lite h past q j resp last word z is in
       let o = (accepted_holds h past a.0).grants l x g in

@@ -34,9 +34,9 @@ module _ (h : Header) (past : Trace) where
   busy p c i l x o on may = let found = outstanding_found h past p c i l x o on in let free = may_free p l may in cc
 
   -- so none may where the others hold no unique state
-  pub none_may : (p : ℕ) (c : Channel) (i l : ℕ) (x : Transaction) → outstanding h past p c i ≡ Some x → is_on x l ≡ true
+  pub none_may_store : (p : ℕ) (c : Channel) (i l : ℕ) (x : Transaction) → outstanding h past p c i ≡ Some x → is_on x l ≡ true
       → ((q : ℕ) → p ≢ q → is_unique (state_of h past q l) ≡ true → ⊥) → (q : ℕ) → may_store h past q l ≡ true → ⊥
-  none_may p c i l x o on others q may =
+  none_may_store p c i l x o on others q may =
       elim (cases_eq p q) [
         | inl own ↦ busy p c i l x o on (subst (λ v. may_store h past v l ≡ true) (sym own) may)
         | inr apart ↦ others q apart (may_unique q l may)
