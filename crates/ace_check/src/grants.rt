@@ -1,8 +1,6 @@
 //! Looks at the grants of a line and at the answers under them.
 
-ghost use Rattle.std.specs.Prelude.{◌≡◌, ◌≤◌, reverse, length, nat_le, ◌&&◌, not};
-ghost use Rattle.ace_model.specs.Trace.{is_some_and, newer};
-ghost use Rattle.ace_codes.specs.Responses.{is_shared, passes_dirty};
+ghost use Rattle.std.specs.Prelude.{◌≡◌, ◌≤◌, reverse, length, nat_le, ◌&&◌};
 ghost use Rattle.ace_model.specs.Snoops.{is_snoop_on};
 ghost use Rattle.ace_model.specs.Grants.{given, gives_line, newest_on, granted, is_granted, has_grant, is_begun, grant_place, is_snoop_to, was_snooped, answers_grant, answer_at, unless_given, answer_of, is_short, owes_data, owes_answer, shares, passes, has_sharer, passer, has_passed_data, are_passed_data_whole};
 

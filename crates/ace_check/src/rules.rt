@@ -1,14 +1,9 @@
 //! The rules of the address events, of grants and of snoops, over the events so far, the oldest first.
 
-ghost use Rattle.std.specs.Prelude.{◌≡◌, reverse, if◌then◌else◌, false};
+ghost use Rattle.std.specs.Prelude.{◌≡◌, reverse, false};
 ghost use Rattle.ace_model.specs.Grants.{granted};
-ghost use Rattle.ace_model.specs.Trace.{port_of, is_some_and, is_none_or};
-ghost use Rattle.ace_codes.specs.Snoops.{ac_code};
-ghost use Rattle.ace_model.specs.Kinds.{is_read_unique, is_read_unique_snoop, may_be_exclusive};
-ghost use Rattle.ace_tables.specs.Answers.{is_snoop_row};
-ghost use Rattle.ace_tables.specs.StartStates.{starts_read, starts_write};
-ghost use Rattle.ace_model.specs.States.{state_of};
-ghost use Rattle.ace_model.specs.AddressRules.{wants_ace, k1, may_issue_read, may_issue_write, has_known_codes, line_address, k3, has_free_name, k4, has_free_line, k5, starts_well, k6, may_lock, k7};
+ghost use Rattle.ace_model.specs.Trace.{port_of, is_some_and};
+ghost use Rattle.ace_model.specs.AddressRules.{wants_ace, k1, has_known_codes, line_address, k3, has_free_name, k4, has_free_line, k5, starts_well, k6, may_lock, k7};
 ghost use Rattle.ace_model.specs.SnoopRules.{may_be_granted, k12, has_snoop_code, may_snoop_for, may_snoop, k13, k14, answers_by_row, k15};
 ghost use Rattle.ace_model.specs.Accepted.{IsAcceptedBy};
 ghost use Rattle.ace_model.specs.Today.{is_known_today, k2_today, rules_today};

@@ -1,8 +1,6 @@
 //! Looks at the snoops of a port, their answers and their data.
 
-ghost use Rattle.std.specs.Prelude.{◌≡◌, ◌≤◌, reverse, length, if◌then◌else◌, ◌==◌};
-ghost use Rattle.ace_model.specs.Trace.{is_some_and};
-ghost use Rattle.ace_model.specs.Kinds.{is_line_snoop};
+ghost use Rattle.std.specs.Prelude.{◌≡◌, ◌≤◌, reverse, length};
 ghost use Rattle.ace_model.specs.Snoops.{snoop_at, answers, answered, snoops_a_line, is_snoop_on, answers_line, data_answers, data_beats};
 
 use crate::kinds::is_line_snoop;

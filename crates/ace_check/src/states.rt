@@ -1,7 +1,6 @@
 //! Looks at the state of a line at a port, and at whether the snoops of a granted transaction are done.
 
-ghost use Rattle.std.specs.Prelude.{◌≡◌, reverse, false, if◌then◌else◌, ◌&&◌};
-ghost use Rattle.ace_model.specs.Trace.{is_some_and};
+ghost use Rattle.std.specs.Prelude.{◌≡◌, reverse, false, ◌&&◌};
 ghost use Rattle.ace_model.specs.Grants.{each_port};
 ghost use Rattle.ace_model.specs.States.{awaits_store, is_in_make_unique, left_by, state_of, is_store_of, has_store, awaits_wack, owes_wack, is_port_done, are_snoops_done};
 

@@ -1,9 +1,6 @@
 //! Looks at the transactions of a trace, back through its events, the oldest first.
 
-ghost use Rattle.std.specs.Prelude.{◌≡◌, ◌≤◌, reverse, length, if◌then◌else◌, ◌==◌, is_none};
-ghost use Rattle.std.specs.Int.{bit_at};
-ghost use Rattle.ace_model.specs.Trace.{is_some_and};
-ghost use Rattle.ace_model.specs.Kinds.{is_line_read, is_line_write, is_granted_write, is_make_unique};
+ghost use Rattle.std.specs.Prelude.{◌≡◌, ◌≤◌, reverse, length, if◌then◌else◌, ◌==◌};
 ghost use Rattle.ace_model.specs.Transactions.{is_ace, is_read, same_channel, has_name, is_named, is_transaction, read_kind, write_kind, is_line, is_on, is_some_on, takes_grant, snoop_of, is_make_unique_on, issued, newest_named, transaction_of, completes, acknowledgements, next_complete, acknowledged, ended, without, outstanding, is_outstanding, is_outstanding_on, has_outstanding_on, transfers, first_resp, is_completion, is_complete};
 
 use crate::kinds::{is_granted_write, is_line_read, is_line_write, is_make_unique};

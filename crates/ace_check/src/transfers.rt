@@ -1,10 +1,6 @@
 //! The rules of read transfers and of their acknowledge, over the events so far, the oldest first.
 
 ghost use Rattle.std.specs.Prelude.{◌≡◌, reverse, false};
-ghost use Rattle.ace_tables.specs.Answers.{same_test};
-ghost use Rattle.ace_model.specs.Trace.{is_some_and, is_none_or};
-ghost use Rattle.ace_model.specs.Kinds.{takes_passed_data, is_clean_unique};
-ghost use Rattle.ace_codes.specs.Responses.{passes_dirty, is_shared};
 ghost use Rattle.ace_model.specs.ReadRules.{is_next_transfer, takes_passed, may_transfer, is_due, k18, same_upper_bits, must_be_shared, fits_kind, has_upper_bits, k19, is_exclusive_okay, has_low_bits, k21, k22, held_of, is_end, ends_well, k23};
 ghost use Rattle.ace_model.specs.Accepted.{IsAcceptedBy};
 ghost use Rattle.ace_model.specs.Today.{rules_today};

@@ -26,10 +26,7 @@ pub struct Header {
 fn has_bit(bits: u32, n: u8) -> bool
     ensures { result ≡ (bit_at bits n == 1) }
 {
-    if n >= 32 {
-        return false;
-    }
-    bits >> n & 1 == 1
+    n < 32 && bits >> n & 1 == 1
 }
 
 /// What stands behind the port with this number, from 0. None where the header has no such port.

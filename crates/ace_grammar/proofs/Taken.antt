@@ -24,7 +24,7 @@ cut_front old left held line NoLf cut = taken_front old left held _ cut.3
 cut_front old left held line End cut = taken_front old left held _ cut.2
 
 -- the bytes are the text that was consumed, and the rest
-split : (bytes text : List ℕ) (left : Option (List ℕ)) (P : List ℕ → Type 0) → Consumes (Some bytes) left text → IfTold left P → (rest : List ℕ) × (bytes ≡ text ++ rest) × P rest
+pub split : (bytes text : List ℕ) (left : Option (List ℕ)) (P : List ℕ → Type 0) → Consumes (Some bytes) left text → IfTold left P → (rest : List ℕ) × (bytes ≡ text ++ rest) × P rest
 split bytes text None P c p = absurd c
 split bytes text (Some rest) P c p = (rest, c, p)
 

@@ -1,6 +1,71 @@
-pub mod Answers
-pub mod Begins
-pub mod Granted
-pub mod Pending
-pub mod SnoopAnswers
+-- What is so under a grant.
+--
+-- The interconnect works on a line for one transaction at a time: from its G until it is no longer outstanding a transaction
+-- is granted [granted]. This folder proves no law of its own. It says what is so between these two events: which snoops and
+-- answers there are, and what an answer tells of the states of the ports. The laws on the value of a line and on the reads
+-- rest on it. From the law on holders it takes that a granted transaction is outstanding and on its line, that where a port
+-- holds a line in UC or UD the others hold I, and that at most one port holds it in UD or SD [OneHolder].
+--
+-- These facts hold at every point of an accepted trace.
+--
+-- 1. A granted transaction is of a granted kind and has had its G [Given], and it has had no M before that G
+--    [given_unwritten].
+--    G: it grants an outstanding transaction of such a kind that has had no G, by K12.
+--    M: of a transaction of a granted kind it finds the transaction granted, by K24: for a read there are passed data, and
+--    for a write it comes under the grant.
+--    AR, AW: they don't take the name of an outstanding transaction, by K4. Other events aren't looked at here.
+--
+-- 2. While the grant stays, the line isn't given to another transaction [Stays], and whether the granted one is an exclusive
+--    store that failed doesn't change [failed_stays].
+--    G: it is of another line, by K12. AR, AW: they have another name, by K4.
+--
+-- 3. A granted transaction has its first R, or its M if it is a write, only once its snoops are done [begins]. Then it has
+--    begun.
+--    R: by K18. M: by K24; a memory update has its M without snoops, but is never granted. AR, AW: they have another name,
+--    by K4.
+--
+-- 4. A line snoop that isn't answered yet came under the present grant of its line. The granted transaction is of another
+--    port, is no exclusive store that failed, and hasn't begun. The snooped port has no answer under the grant and no second
+--    unanswered snoop of the line. A port that wasn't snooped under the grant has no answer under it [Snooped].
+--    AC: K13 and K1 ask for this, and that the port wasn't snooped under the grant before; so the new snoop is its only one.
+--    CR: it answers the oldest snoop of its port; if that one is of the line, no other of the line waits there.
+--    G: it is of another line, by K12.
+--    R, M: they don't begin the granted transaction, by fact 3, since a snoop of it isn't done.
+--    RK, WK, and at an ACE-Lite port the last R and the B: they don't end it. A read is acknowledged after all its
+--    transfers. A write that causes a snoop has data, and has its M before its B, by K26. So what ends has begun, or has its
+--    snoops done.
+--    AR, AW: they have another name, by K4. W, CD, S, L, D, OP: no part of the fact looks at them.
+--
+-- 5. An answer to a line snoop is under the present grant, by fact 4. By K15 it is a row of the snoop that the granted
+--    transaction causes; and where a memory update of the port on the line is outstanding, by K16 a row that goes with it
+--    [Answering].
+--
+-- 6. While the grant stays, no port comes to hold more of the line: I stays I, and a port that may not store may not store
+--    after the event either [stays_less].
+--    RK: it gives its port more only as the end of a read of the line. Such a read is granted, and its RK ends the grant.
+--    WK, CR, S, D: they leave their port with less, or make UC to UD; this is a fact of the folder Holders. Other events
+--    leave the states.
+--
+-- What an answer under the grant says, and the later events keep, holds while the grant stays. That is one induction
+-- [since_answer]: a new answer has the facts 5 and 6, and an older one stays under the grant. By it:
+--
+-- 7. Once a port has passed the line on dirty, every other port holds it in I or SC [others_settled]. A row with PassDirty
+--    starts from UD or SD, beside which no other port is unique or dirty; and then no port comes to hold more.
+-- 8. Once a port has sent data to a snoop that leaves it in no unique state, no port holds the line in UC or UD
+--    [none_unique]. To send it the port held the line, so no other had it alone.
+-- 9. A port that has answered such a snoop without data doesn't hold the line dirty [unsent_clean]. A dirty line is sent,
+--    but to MakeInvalid, which leaves I; and later the port may not store, as its state isn't unique.
+-- 10. A line that is passed on dirty is sent too, and the snoop isn't MakeInvalid [passed_kind].
+
+-- Fact 2: what is granted before and after an event.
 pub mod Stays
+-- Fact 1, and what K24 says of an M.
+pub mod Granted
+-- Fact 3, and what K18 says of an R.
+pub mod Begins
+-- Fact 4.
+pub mod Pending
+-- Facts 5 and 6, and the induction from an answer on.
+pub mod SnoopAnswers
+-- Facts 7 to 10.
+pub mod Answers

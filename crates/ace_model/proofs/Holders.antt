@@ -50,9 +50,9 @@
 --   of it. UD is no more than that, but for the dirt.
 -- * W, CD, M, L, OP. None of the facts speaks of them.
 --
--- One state is no more than another (`Lessens` in Tables/States) where the other being I makes it I, the other not being
--- unique makes it not unique, and I or SC stay I or SC. Where the state of each port becomes no more, a fact that limits
--- what ports hold stays.
+-- One state is no more than another (`Less` in Tables/Less) where it is I if the other is, not unique if the other is not, I
+-- or SC if the other is, and clean if the other is. Where the state of each port becomes no more, a fact that limits what
+-- ports hold stays.
 --
 -- The other folders also take from here that a port comes to hold more of a line by the RK of its own read alone (Rises),
 -- and that a line that some port holds has no transaction that is NoSnoop (ShareableLines).

@@ -51,17 +51,13 @@ kept-other rows first row kept i at like h =
     let e : get_or rows i row ≡ row = get_or_from_slice_get rows i row row at in
     rw (filter_more (is_like first) rows i row (slice_get_within rows i row at), e, like) (grind (arith, common_steps, h))
 
-kept-whole : (rows : List Row) (first kept : Row) (n : ℕ) → length (first ∷ rows) ≤ n → last_row (filter (is_like first) (take n (first ∷ rows))) ≡ Some kept → kept_row (first ∷ rows) ≡ Some kept
-kept-whole rows first kept n le h =
-    let whole : take n (first ∷ rows) ≡ first ∷ rows = grind (arith, common_steps) in
-    rw whole at h
-
 -- after the last step it is that of the whole list
 pub kept-all : (rows : List Row) (first kept : Row) (n : ℕ) → slice_get rows 0 ≡ Some first → length rows ≤ n → last_row (filter (is_like first) (take n rows)) ≡ Some kept → kept_row rows ≡ Some kept
 kept-all [] first kept n at le h = grind (arith, nat_tests)
 kept-all (row ∷ rows) first kept n at le h =
     let e : row ≡ first = grind (arith, at) in
-    let P : Row → Type 0 = λ r. last_row (filter (is_like first) (take n (r ∷ rows))) ≡ Some kept → kept_row (r ∷ rows) ≡ Some kept in
-    subst P (sym e) (kept-whole rows first kept n (omega (arith, le))) h
+    let whole : take n (row ∷ rows) ≡ row ∷ rows = grind (arith, common_steps) in
+    let P : Row → Type 0 = λ r. kept_row (r ∷ rows) ≡ Some kept in
+    subst P (sym e) (rw (whole, e) at h)
 
 pub ruleset kept_steps = (kept-first, kept-like, kept-other, kept-all)

@@ -1,4 +1,4 @@
-ghost use Rattle.std.specs.Prelude.{◌≡◌, ◌<◌, List, Some, length};
+ghost use Rattle.std.specs.Prelude.{◌≡◌, ◌<◌, Some, length};
 ghost use Rattle.ace_tables.specs.Answers.{snoop_rows};
 ghost use Rattle.ace_tables.specs.Picks.{is_like, kept_row, keep_row};
 ghost use Rattle.ace_policy.specs.Policies.{keep_rows};

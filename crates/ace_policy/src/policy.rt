@@ -1,4 +1,4 @@
-ghost use Rattle.std.specs.Prelude.{◌≡◌, ◌<◌, ℕ, Bool, List, Contains, length};
+ghost use Rattle.std.specs.Prelude.{◌≡◌, ◌<◌, Bool, List, Contains, length};
 ghost use Rattle.ace_codes.specs.declared.state.LineState.{LineState};
 ghost use Rattle.ace_codes.specs.declared.kind.SnoopKind.{SnoopKind};
 ghost use Rattle.ace_tables.specs.declared.rows.Row.{Row};

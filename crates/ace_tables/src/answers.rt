@@ -1,6 +1,6 @@
 // How a snoop may be answered.
-ghost use Rattle.std.specs.Prelude.{◌≡◌, ◌+◌, ◌≤◌, ◌++◌, not, length};
-ghost use Rattle.ace_tables.specs.Answers.{states_after_sharing, states_after, fits_transfer, must_pass_dirty, fits_answer, fits_update, is_line_row, is_snoop_row, rows_to, snoop_rows};
+ghost use Rattle.std.specs.Prelude.{◌≡◌, ◌+◌, ◌≤◌, ◌++◌, length};
+ghost use Rattle.ace_tables.specs.Answers.{states_after_sharing, states_after, fits_transfer, must_pass_dirty, fits_answer, fits_update, is_snoop_row, rows_to, snoop_rows};
 
 use crate::rows::{Row, RowList};
 use crate::states::{is_among, is_dirty, is_invalid, is_unique};

@@ -54,4 +54,4 @@ pub check_breaks_off : (told : Option (List ℕ)) (answer : Answer) (out out' no
 check_breaks_off None answer out out' notes notes' v part parts = (answer, out_text_of answer, tt, part, parts)
 check_breaks_off (Some bytes) answer out out' notes notes' v part parts = (answer, out_text_of answer, (answer, v, refl), part, parts)
 
-pub ruleset accepted_end = (zero-end, zero-unique, check_answers, check_breaks_off)
+pub ruleset accepted_end = (zero-end, zero-unique)

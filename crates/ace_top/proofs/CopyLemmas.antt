@@ -3,20 +3,13 @@ use Rattle.std.proofs.Common.{◌≡◌, ◌++◌, ℕ, List, [], ◌∷◌, Opt
 use Rattle.std.specs.Io.KnownBytes.{Consumes}
 use Rattle.std.proofs.KnownBytes.{Consumes-trans, Consumes-nil}
 use Rattle.std.proofs.lemmas.List.{length-append}
-use Rattle.std.proofs.lemmas.Grind.{flat_map-append}
 use Rattle.ace_event.specs.declared.event.Event.{Event}
 use Rattle.ace_event.specs.Text.{events_text, event_text, line_text}
-use Rattle.ace_grammar.specs.Reading.{IsReadable}
 use Rattle.ace_writer.specs.declared.writer.Writer.{Writer}
 use Rattle.ace_writer.specs.Given.{GivesFront, sink_of}
 use Rattle.ace_top.specs.Output.{AppendsPart}
 use Rattle.ace_top.specs.Copy.{HasCopied, HasWritten, CopiesNext}
-use Rattle.ace_top.proofs.ProgressLemmas.{All-more}
-
--- the lines of one more event
-pub events_text-more : (events : List Event) (e : Event) → events_text (events ++ e ∷ []) ≡ events_text events ++ line_text (event_text e)
-events_text-more events e =
-    flat_map-append (λ event. line_text (event_text event)) events (e ∷ []) ∙ ap (λ t. events_text events ++ t) (append-nil (line_text (event_text e)))
+use Rattle.ace_grammar.proofs.OneMore.{readable-more, events_text-more}
 
 -- nothing was copied
 pub copied_nothing : {K : Type 0} (held : K → Option (List ℕ)) (old : Option (List ℕ)) (writer : Writer K) → HasCopied held old old writer writer []
@@ -32,7 +25,7 @@ pub copied_more : {K : Type 0} (held : K → Option (List ℕ)) (old mid new : O
     → HasCopied held old mid writer writer' events → CopiesNext held count mid new writer' writer'' event → length events ≡ count
     → HasCopied held old new writer writer'' (events ++ event ∷ [])
 copied_more held old mid new writer writer' writer'' events event count c n same = record {
-  readable = All-more IsReadable events event c.readable n.readable;
+  readable = readable-more events event c.readable n.readable;
   few = rw length-append (omega (arith, same, n.room));
   taken = subst (Consumes old new) (sym (events_text-more events event)) (Consumes-trans old mid new _ _ c.taken n.taken);
   put = λ before text g.

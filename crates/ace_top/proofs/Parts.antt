@@ -1,19 +1,23 @@
 -- What a text that was cut short leaves on a sink.
-use Rattle.std.proofs.Common.{◌≡◌, ◌<◌, ◌≤◌, ◌-◌, ◌^◌, ◌++◌, ℕ, List, [], Option, None, Some, take, drop, sym, refl, ap, ◌∙◌, take-append-drop, append-nil, Result, Ok, Err, OnErr, OnOk, arith}
+use Rattle.std.proofs.Common.{◌≡◌, ◌<◌, ◌≤◌, ◌-◌, ◌^◌, ◌++◌, ℕ, List, [], ◌∷◌, Option, None, Some, length, take, drop, sym, subst, refl, ap, ◌∙◌, take-append-drop, append-nil, Result, Ok, Err, OnErr, OnOk, arith}
+use Rattle.std.proofs.lemmas.List.{take_all}
 use Rattle.std.specs.Io.KnownBytes.{Appends, Keeps}
 use Rattle.std.proofs.KnownBytes.{Appends-nil, Keeps-refl}
 use Rattle.ace_io.specs.Faults.{HasCause}
 use Rattle.ace_top.specs.Output.{AppendsPart}
 
-pub Appends-kept : (a b c : Option (List ℕ)) (bs : List ℕ) → Appends a b bs → Keeps b c → Appends a c bs
-Appends-kept None b c bs p q = tt
-Appends-kept (Some x) None c bs p q = absurd p
-Appends-kept (Some x) (Some y) None bs p q = absurd q
-Appends-kept (Some x) (Some y) (Some z) bs p q = q ∙ p
+-- a front of the text
+pub front_appended : (a b : Option (List ℕ)) (n : ℕ) (text : List ℕ) → Appends a b (take n text) → AppendsPart a b text
+front_appended a b n text p = (take n text, drop n text, sym (take-append-drop n text), p)
 
--- a front of the text, and then nothing
-pub front_appended : (a b c : Option (List ℕ)) (n : ℕ) (text : List ℕ) → Appends a b (take n text) → Keeps b c → AppendsPart a c text
-front_appended a b c n text p q = (take n text, drop n text, sym (take-append-drop n text), Appends-kept a b c _ p q)
+-- all of its bytes
+pub all_appended : (a b : Option (List ℕ)) (n : ℕ) (text : List ℕ) → length text ≤ n → Appends a b (take n text) → Appends a b text
+all_appended a b n text le p = subst (Appends a b) (take_all n text le) p
+
+-- of two texts that make nothing together, each is nothing
+pub both_nothing : (front rest : List ℕ) → front ++ rest ≡ [] → (front ≡ []) × (rest ≡ [])
+both_nothing [] rest e = (refl, e)
+both_nothing (b ∷ front) rest e = absurd (cc)
 
 -- the whole text is a front of it
 pub whole_part : (a b : Option (List ℕ)) (text : List ℕ) → Appends a b text → AppendsPart a b text
@@ -47,4 +51,6 @@ pub any_part : (a b : Option (List ℕ)) (text : List ℕ) {T E : Type 0} (r : R
 any_part a b text (Ok x) whole part = whole_part a b text whole
 any_part a b text (Err e) whole part = part
 
-pub ruleset parts = (front_appended, whole_part, no_part, told_alone, told_once, any_part, Keeps-refl)
+pub ruleset fronts = (front_appended, all_appended)
+
+pub ruleset parts = (whole_part, no_part, told_alone, told_once, any_part, Keeps-refl)

@@ -1,7 +1,7 @@
 -- What `show` answers.
-use Rattle.std.proofs.Common.{◌≡◌, ◌≢◌, ◌≤◌, ◌++◌, ℕ, List, [], ◌∷◌, Option, None, Some, IfSome, length, refl, sym, ap, subst, ◌∙◌, append-nil, inl, inr, codes}
+use Rattle.std.proofs.Common.{◌≡◌, ◌≢◌, ◌≤◌, ◌++◌, ℕ, List, [], Option, None, Some, IfSome, length, refl, sym, ap, subst, ◌∙◌, append-nil, inl, inr, codes}
 use Rattle.std.specs.List.{AllByRecursion}
-use Rattle.std.specs.Io.KnownBytes.{Consumes, Appends, IsAtEnd}
+use Rattle.std.specs.Io.KnownBytes.{Consumes, Appends}
 use Rattle.std.proofs.KnownBytes.{Consumes-trans, Appends-trans, Appends-nil}
 use Rattle.ace_event.specs.declared.header.Header.{Header}
 use Rattle.ace_event.specs.declared.event.Event.{Event}
@@ -10,7 +10,8 @@ use Rattle.ace_grammar.specs.declared.error.ReadErr.{ReadErr}
 use Rattle.ace_grammar.specs.declared.error.ReadErr.TheVariants as error
 use Rattle.ace_grammar.specs.Errors.{HasNoHeader}
 use Rattle.ace_grammar.specs.Lines.{BeginsWith}
-use Rattle.ace_grammar.specs.Reading.{Reads, Whole, Full, Bad, IsReadable, IsReadableHeader, HasBadLine, IfTold, most_events}
+use Rattle.ace_grammar.proofs.Taken.{reads_to, at_end}
+use Rattle.ace_grammar.specs.Reading.{Reads, Ending, Ends, Whole, Full, Bad, IsReadable, IsReadableHeader, HasBadLine, IfTold, most_events}
 use Rattle.ace_top.specs.declared.answer.Answer.{Answer}
 use Rattle.ace_top.specs.declared.answer.Answer.TheVariants.{Accepted, Refused, Shown, Usage, Malformed, ReadFault, LimitEvents, NoMemory}
 use Rattle.ace_top.specs.declared.words.Command.TheVariants.{Show}
@@ -20,6 +21,7 @@ use Rattle.ace_top.specs.ErrorAnswer.{error_answer}
 use Rattle.ace_top.specs.Output.{AppendsPart, AppendsParts}
 use Rattle.ace_top.specs.Show.{IsShown}
 use Rattle.ace_top.specs.Texts.{status_of, out_text_of, notes_text_of}
+use Rattle.ace_top.proofs.Parts.{both_nothing}
 
 -- after a copy there is no further text for the standard output
 quiet : (answer : Answer) (count : ℕ) (next left : Option (List ℕ)) → EndsCopy answer count next left → out_text_of answer ≡ []
@@ -39,28 +41,19 @@ record Copied (bytes : List ℕ) (header : Header) (events : List Event) (next :
   few : length events ≤ most_events
   text : Consumes (Some bytes) next (trace_text header events)
 
-split : (bytes text : List ℕ) (left : Option (List ℕ)) (P : List ℕ → Type 0) → Consumes (Some bytes) left text → IfTold left P → (rest : List ℕ) × (bytes ≡ text ++ rest) × P rest
-split bytes text None P c p = absurd c
-split bytes text (Some rest) P c p = (rest, c, p)
-
-at_end : (left : Option (List ℕ)) → IsAtEnd left → IfTold left (λ rest. rest ≡ [])
-at_end None e = tt
-at_end (Some rest) e = e
+-- the bytes end so
+ends : (bytes : List ℕ) (header : Header) (events : List Event) (next : Option (List ℕ)) (ending : Ending) (P : List ℕ → Type 0)
+    → Copied bytes header events next → IfTold next P → ((rest : List ℕ) → P rest → Ends ending events rest) → Reads bytes header events ending
+ends bytes header events next ending P c p end = reads_to bytes header events next ending P c.readable c.all c.text p end
 
 copied_shown : (bytes : List ℕ) (header : Header) (events : List Event) (next left : Option (List ℕ)) (answer : Answer)
     → Copied bytes header events next → EndsCopy answer (length events) next left → IsShown bytes left answer (trace_text header events)
 copied_shown bytes header events next left Shown c e =
-    let parts = split bytes _ next (λ rest. rest ≡ []) c.text (at_end next e) in
-    let reads : Reads bytes header events Whole = record { header_is_readable = c.readable; events_are_readable = c.all; text = (parts.0, parts.1, (c.few, parts.2)) } in
-    (header, events, reads, refl)
+    (header, events, ends bytes header events next Whole (λ rest. rest ≡ []) c (at_end next e) (λ rest none. (c.few, none)), refl)
 copied_shown bytes header events next left (Malformed line reason) c e =
-    let parts = split bytes _ next (λ rest. HasBadLine rest reason) c.text e.0 in
-    let reads : Reads bytes header events (Bad line reason) = record { header_is_readable = c.readable; events_are_readable = c.all; text = (parts.0, parts.1, (e.1, e.2, parts.2)) } in
-    inr (header, events, reads, refl)
+    inr (header, events, ends bytes header events next (Bad line reason) (λ rest. HasBadLine rest reason) c e.0 (λ rest bad. (e.1, e.2, bad)), refl)
 copied_shown bytes header events next left LimitEvents c e =
-    let parts = split bytes _ next (λ rest. rest ≢ []) c.text e.0 in
-    let reads : Reads bytes header events Full = record { header_is_readable = c.readable; events_are_readable = c.all; text = (parts.0, parts.1, (e.1, parts.2)) } in
-    (header, events, reads, refl)
+    (header, events, ends bytes header events next Full (λ rest. rest ≢ []) c e.0 (λ rest some. (e.1, some)), refl)
 copied_shown bytes header events next left ReadFault c (pending, none, short, taken) =
     inr (header, events, pending, c.readable, c.all, c.few, none, short, Consumes-trans (Some bytes) next left _ _ c.text taken, refl)
 copied_shown bytes header events next left NoMemory c e = absurd e
@@ -159,14 +152,10 @@ pub breaks_after_copy : (old mid next left out out' out'' notes notes' : Option 
     → Appends out out' (trace_text header events) → AppendsPart out' out'' (out_text_of answer) → AppendsParts notes notes' (notes_text_of answer) (codes "write fault\n")
     → BreaksOff Show old out out'' notes notes'
 breaks_after_copy old mid next left out out' out'' notes notes' header events answer readable head w e given (part, rest, cut, more) told =
-    let none : part ≡ [] = nothing part rest (sym cut ∙ quiet answer (length events) next left e) in
+    let none : part ≡ [] = (both_nothing part rest (sym cut ∙ quiet answer (length events) next left e)).0 in
     let whole : Appends out out'' (trace_text header events) =
     subst (Appends out out'') (ap (λ t. trace_text header events ++ t) none ∙ append-nil (trace_text header events)) (Appends-trans out out' out'' _ _ given more) in
     (answer, trace_text header events, begun old mid next header events readable head w, (trace_text header events, [], sym (append-nil (trace_text header events)), whole), told)
-  where
-    nothing : (part rest : List ℕ) → part ++ rest ≡ [] → part ≡ []
-    nothing [] rest e = refl
-    nothing (b ∷ part) rest e = absurd (cc)
 
 -- an output failed, and there was no header
 pub breaks_without_header : (old out out' notes notes' : Option (List ℕ)) (e : ReadErr) (answer : Answer) → answer ≡ error_answer e

@@ -1,7 +1,8 @@
 -- What a call of the program answers, by its words and by the bytes of its input, where these are told.
-use Rattle.std.specs.Prelude.{◌≡◌, ◌⊎◌, ℕ, List, [], Option, String, IfSome, codes}
+use Rattle.std.specs.Prelude.{◌≡◌, ◌≢◌, ◌<◌, ◌≤◌, ◌-◌, ◌^◌, ◌⊎◌, ℕ, List, [], Option, String, IfSome, codes}
 use Rattle.std.specs.Io.KnownBytes.{Appends}
 use Rattle.std.specs.declared.alloc.Global.{Global}
+use Rattle.ace_io.specs.Faults.{Rose}
 use Rattle.ace_top.specs.declared.answer.Answer.{Answer}
 use Rattle.ace_top.specs.declared.answer.Answer.TheVariants.{Usage}
 use Rattle.ace_top.specs.declared.words.Command.{Command}
@@ -51,3 +52,21 @@ abbrev pub BreaksOffWords : List (String Global) → Option (List ℕ)
 BreaksOffWords words input out out' notes notes' =
     ((command : Command) × Names words command × BreaksOff command input out out' notes notes')
     ⊎ (¬ IsCommand words × Appends out out' [] × AppendsParts notes notes' (notes_text_of Usage) (codes "write fault\n"))
+
+-- What a command leaves: where no output failed, an answer; and where one did, what had been given by then, and the word
+-- that it failed, if the notes could take that.
+pub record CarriesOut (command : Command) (input left : Option (List ℕ)) (status : ℕ)
+    (out out' notes notes' : Option (List ℕ)) (faults faults' : ℕ) : Type 0 where
+  pub answer : status ≢ 5 → Answers command input left status out out' notes notes'
+  pub broken_off : status ≡ 5 → BreaksOff command input out out' notes notes'
+  pub told : status ≡ 5 → faults < 2 ^ 64 - 1 → faults' ≡ faults → Appends notes notes' (codes "write fault\n")
+
+-- Why a command ends with its status, by the counts of faults of the input and of the two outputs.
+pub record HasStatusCause (status input input' out out' notes notes' : ℕ) : Type 0 where
+  pub read_fault : status ≡ 4 → Rose input input'
+  pub input_failed : input' ≢ input → (status ≡ 4) ⊎ (status ≡ 5)
+  pub write_fault : status ≡ 5 → Rose out out' ⊎ Rose notes notes'
+  pub out_steady : status ≢ 5 → out' ≡ out
+  pub notes_steady : status ≢ 5 → notes' ≡ notes
+  pub no_usage : status ≢ 2
+  pub bound : status ≤ 7

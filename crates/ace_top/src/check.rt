@@ -1,12 +1,11 @@
 // Checks a trace, event by event, as it is read.
-ghost use Rattle.std.specs.Prelude.{◌≡◌, ◌≢◌, ◌<◌, ◌≤◌, ◌-◌, ◌^◌, ◌⊎◌, ℕ, List, None, codes, Some, length, IfSome, IfNone};
-ghost use Rattle.std.specs.Io.KnownBytes.{Appends, IsAtEnd};
-ghost use Rattle.ace_io.specs.Faults.{Rose};
+ghost use Rattle.std.specs.Prelude.{◌≡◌, ◌≢◌, ◌<◌, ℕ, List, None, Some, length, IfSome, IfNone};
+ghost use Rattle.std.specs.Io.KnownBytes.{IsAtEnd};
 ghost use Rattle.ace_grammar.specs.Reader.{source_of, unread, count_of, last_answer};
 ghost use Rattle.ace_grammar.specs.Reading.{most_events};
 ghost use Rattle.ace_check.specs.Run.{header_of, past_of, break_of};
 ghost use Rattle.ace_top.specs.Progress.{EndsInput, HasReadCause, IsNextVerdict, TakesEvent, StandsAt};
-ghost use Rattle.ace_top.specs.Answer.{Answers, BreaksOff};
+ghost use Rattle.ace_top.specs.Answer.{CarriesOut, HasStatusCause};
 ghost use Rattle.ace_top.specs.Verdict.{IsVerdict, ReadsUnique};
 ghost use Rattle.ace_top.specs.declared.words.Command.TheVariants.{Check};
 
@@ -25,22 +24,12 @@ pub fn tell_verdict<S: Source, K: Sink, E: Sink>(
     out: &mut K,
     notes: &mut E,
 ) -> u8
-    ensures answer { result ≢ 5 → Answers Check (S.left input.old) (S.left input.new) result
-        (K.held out.old) (K.held out.new) (E.held notes.old) (E.held notes.new) }
+    ensures carried_out { CarriesOut Check (S.left input.old) (S.left input.new) result (K.held out.old) (K.held out.new)
+        (E.held notes.old) (E.held notes.new) (E.faults notes.old) (E.faults notes.new) }
+    ensures cause { HasStatusCause result (S.faults input.old) (S.faults input.new)
+        (K.faults out.old) (K.faults out.new) (E.faults notes.old) (E.faults notes.new) }
     ensures unique { result ≡ 0 → IfSome (S.left input.old) ReadsUnique }
     ensures whole { result ≡ 0 → IsAtEnd (S.left input.new) }
-    ensures broken_off { result ≡ 5 → BreaksOff Check (S.left input.old)
-        (K.held out.old) (K.held out.new) (E.held notes.old) (E.held notes.new) }
-    ensures told { result ≡ 5 → E.faults notes.old < 2 ^ 64 - 1 → E.faults notes.new ≡ E.faults notes.old
-        → Appends (E.held notes.old) (E.held notes.new) (codes "write fault\n") }
-    ensures read_fault { result ≡ 4 → Rose (S.faults input.old) (S.faults input.new) }
-    ensures input_failed { S.faults input.new ≢ S.faults input.old → (result ≡ 4) ⊎ (result ≡ 5) }
-    ensures write_fault { result ≡ 5
-        → Rose (K.faults out.old) (K.faults out.new) ⊎ Rose (E.faults notes.old) (E.faults notes.new) }
-    ensures out_steady { result ≢ 5 → K.faults out.new ≡ K.faults out.old }
-    ensures notes_steady { result ≢ 5 → E.faults notes.new ≡ E.faults notes.old }
-    ensures command { result ≢ 2 }
-    ensures status { result ≤ 7 }
 {
     let verdict = check(alloc, input);
     conclude(out, notes, verdict)

@@ -128,8 +128,6 @@ pub fn write_trace<S: Source, K: Sink>(
     ensures cause { IfOk result (HasReadCause (S.faults (source_of reader.old).now) (S.faults (source_of reader.new).now)) }
     ensures write_cause { HasCause (K.faults out.old) (K.faults out.new) result }
 {
-    match Writer::start(out, header) {
-        Ok(mut writer) => write_events(reader, &mut writer),
-        Err(fault) => Err(fault),
-    }
+    let mut writer = Writer::start(out, header)?;
+    write_events(reader, &mut writer)
 }

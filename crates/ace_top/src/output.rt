@@ -6,20 +6,17 @@ ghost use Rattle.ace_top.specs.Output.{AppendsPart, AppendsParts};
 ghost use Rattle.ace_top.specs.Texts.{status_of, out_text_of, notes_text_of};
 
 use crate::answer::{Answer, notes_text, out_text, status_of};
-use ace_io::{Failed, Sink};
+use ace_io::{Failed, Sink, give_all};
 
 /// Gives the whole text.
-fn give_all<K: Sink>(sink: &mut K, text: &[u8]) -> Result<(), Failed>
+#[tactic(auto, using(crate::proofs::Parts::fronts))]
+fn give_text<K: Sink>(sink: &mut K, text: &[u8]) -> Result<(), Failed>
     ensures whole { OnOk result (Appends (K.held sink.old) (K.held sink.new) text.now) }
     ensures part { OnErr result (AppendsPart (K.held sink.old) (K.held sink.new) text.now) }
     ensures cause { HasCause (K.faults sink.old) (K.faults sink.new) result }
 {
-    let mut given = 0;
-    while given < text.len() {
-        match sink.give(&text[given..]) {
-            Ok(count) => given += count,
-            Err(failed) => return Err(failed),
-        }
+    if give_all(sink, text) < text.len() {
+        return Err(Failed);
     }
     Ok(())
 }
@@ -40,8 +37,8 @@ fn give_texts<K: Sink, E: Sink>(out: &mut K, notes: &mut E, answer: Answer) -> R
     ensures notes_kept { OnErr result (E.faults notes.old < 2 ^ 64 - 1 → E.faults notes.new ≡ E.faults notes.old
         → Keeps (E.held notes.old) (E.held notes.new)) }
 {
-    match give_all(out, out_text(answer).as_bytes()) {
-        Ok(()) => give_all(notes, notes_text(answer).as_bytes()),
+    match give_text(out, out_text(answer).as_bytes()) {
+        Ok(()) => give_text(notes, notes_text(answer).as_bytes()),
         Err(failed) => Err(failed),
     }
 }
@@ -55,7 +52,7 @@ pub fn break_off<E: Sink>(notes: &mut E) -> u8
     ensures later { E.faults notes.old ≤ E.faults notes.new }
     ensures part { AppendsPart (E.held notes.old) (E.held notes.new) (codes "write fault\n") }
 {
-    let _ = give_all(notes, b"write fault\n");
+    let _ = give_text(notes, b"write fault\n");
     5
 }
 

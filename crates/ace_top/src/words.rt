@@ -12,17 +12,11 @@ pub enum Command {
     Show,
 }
 
-fn is_text(word: &str, text: &str) -> bool
-    ensures { IsTrue result ↔ (word.now ≡ text.now) }
-{
-    word == text
-}
-
 /// Whether there is one word, and it is this one.
 fn is_word(words: &[String], text: &str) -> bool
     ensures { IsTrue result ↔ IsWord words.now text.now }
 {
-    words.len() == 1 && is_text(words[0].as_str(), text)
+    words.len() == 1 && words[0].as_str() == text
 }
 
 /// The command that the words name.

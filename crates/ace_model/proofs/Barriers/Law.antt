@@ -86,7 +86,7 @@ answered-ordered_at h p k b x later e before passes belongs accepted there stand
       | inl synchronises ↦
           let complete : is_completed before x ≡ true = rw synchronises at awaited in
           let complete_now : is_completed (later ++ e ∷ before) x ≡ true = has_had-later is_completion_event later e before x complete in
-          (completed-ordered h (later ++ e ∷ before) x complete_now accepted stands.there line, λ _. complete_now)
+          (completed-ordered h x (later ++ e ∷ before) complete_now accepted stands.there line, λ _. complete_now)
       | inr other ↦
           let ordered : is_ordered before x ≡ true = rw other at awaited in
           (is_ordered-later later e before x ordered, λ s. let no : true ≡ false = sym s ∙ other in cc)

@@ -20,31 +20,29 @@ at_other_ace h p q test each ace other =
     implies-at (is_other_ace h p q) (test q) (each_at h.ports (λ r. implies (is_other_ace h p r) (test r)) q each within)
     (and_from (is_ace h q) _ ace (rw (ne_eqb q p other) refl))
 
--- where it was issued, the port has answered it
-abbrev IsAnsweredIn : Header → Transaction → ℕ → Trace → Type 0
-IsAnsweredIn h x q past = IsAccepted h past → issued_at past x.place ≡ Some x → has_answered past x q ≡ true
+module _ (h : Header) (x : Transaction) (q : ℕ) (m : is_message x ≡ true) (ace : is_ace h q ≡ true) (other : q ≢ x.port) where
+  -- in an accepted trace in which the message was issued, the port has answered it
+  abbrev IsAnsweredIn : Trace → Type 0
+  IsAnsweredIn past = IsAccepted h past → issued_at past x.place ≡ Some x → has_answered past x q ≡ true
 
--- an R that completes a message comes after the answers; a B completes none
-message-answered : (h : Header) (x : Transaction) (q : ℕ) → is_message x ≡ true → is_ace h q ≡ true → q ≢ x.port
-    → (later : List Event) (e : Event) (before : Trace) → is_completion_event e ≡ true → is_transaction (served_by before e) x ≡ true
-    → IsAnsweredIn h x q (later ++ e ∷ before)
-message-answered h x q m ace other later (R p i resp last word) before passes belongs a there =
-    let e : Event = R p i resp last word in
-    let keeps = accepted_keeps h before e (accepted-first h later (e ∷ before) a) in
-    let o = (outstands h later e before p Read i (is_due h before resp last) x keeps.rule_18 belongs there).0 in
-    let each = is_none_or-at (outstanding h before p Read i) (λ y. implies (is_message y) (is_answered_by_all h before y)) x keeps.rule_37 o.out in
-    let answered = at_other_ace h x.port q (has_answered before x) (implies-at (is_message x) _ each m) ace other in
-    let low = o.earlier in
-    has_answered-later later (e ∷ before) x q (omega arith) (has_answered-grown e before x q (omega arith) answered)
-message-answered h x q m ace other later (B p i resp) before passes belongs a there =
-    let e : Event = B p i resp in
-    let keeps = accepted_keeps h before e (accepted-first h later (e ∷ before) a) in
-    let o = (outstands h later e before p Write i (may_respond before) x (and_parts (nat_eq resp 0) _ keeps.rule_26).1 belongs there).0 in
-    let bad : is_some_and None is_dvm_message ≡ true = rw o.name.chan at m in cc
-message-answered h x q m ace other later e before passes belongs a there = cc
+  -- an R that completes it comes after the answers; a B completes no message
+  completion-answered : (later : List Event) (e : Event) (before : Trace) → is_completion_event e ≡ true → is_transaction (served_by before e) x ≡ true
+      → IsAnsweredIn (later ++ e ∷ before)
+  completion-answered later (R p i resp last word) before passes belongs a there =
+      let e : Event = R p i resp last word in
+      let keeps = accepted_keeps h before e (accepted-first h later (e ∷ before) a) in
+      let o = (outstands h later e before p Read i (is_due h before resp last) x keeps.rule_18 belongs there).0 in
+      let each = is_none_or-at (outstanding h before p Read i) (λ y. implies (is_message y) (is_answered_by_all h before y)) x keeps.rule_37 o.out in
+      let answered = at_other_ace h x.port q (has_answered before x) (implies-at (is_message x) _ each m) ace other in
+      let low = o.earlier in
+      has_answered-later later (e ∷ before) x q (omega arith) (has_answered-grown e before x q (omega arith) answered)
+  completion-answered later (B p i resp) before passes belongs a there =
+      let e : Event = B p i resp in
+      let keeps = accepted_keeps h before e (accepted-first h later (e ∷ before) a) in
+      let o = (outstands h later e before p Write i (may_respond before) x (and_parts (nat_eq resp 0) _ keeps.rule_26).1 belongs there).0 in
+      let bad : is_some_and None is_dvm_message ≡ true = rw o.name.chan at m in cc
+  completion-answered later e before passes belongs a there = cc
 
--- in an accepted trace every other ACE port has answered each complete message
-pub complete_message-answered : (h : Header) (past : Trace) (x : Transaction) (q : ℕ) → is_completed past x ≡ true → is_message x ≡ true
-    → is_ace h q ≡ true → q ≢ x.port → IsAnsweredIn h x q past
-complete_message-answered h past x q complete m ace other =
-    had_some is_completion_event (IsAnsweredIn h x q) past x (message-answered h x q m ace other) complete
+  -- every other ACE port has answered a complete message
+  pub complete_message-answered : (past : Trace) → is_completed past x ≡ true → IsAnsweredIn past
+  complete_message-answered past complete = had_some is_completion_event IsAnsweredIn past x completion-answered complete

@@ -1,11 +1,11 @@
 -- The DVM Completes of a port come after its answers to the Syncs that they complete.
-use Rattle.std.proofs.Common.{◌≡◌, ℕ, ◌+◌, ◌-◌, ◌≤◌, ◌<◌, Bool, true, ◌&&◌, cond, nat_eq, nat_lt, List, [], ◌∷◌, ◌++◌, length, filter, slice_get, count_by, Option, Some, None, refl, sym, ap, subst, ◌∙◌, arith, inl, inr}
+use Rattle.std.proofs.Common.{◌≡◌, ℕ, ◌-◌, ◌≤◌, ◌<◌, Bool, true, ◌&&◌, cond, nat_eq, List, [], ◌∷◌, length, filter, slice_get, count_by, Option, Some, None, refl, sym, ap, subst, ◌∙◌, arith, inl, inr}
 use Rattle.std.proofs.lemmas.Bool.{cases_Bool, cases_lt, and_parts, eqb-true, ltb-true, lt-ltb}
-use Rattle.std.proofs.lemmas.List.Sums.{sum_by-append, length-filter}
+use Rattle.std.proofs.lemmas.List.Sums.{sum_by_push, length-filter}
 use Rattle.ace_model.proofs.Terms.{Event, Header, Transaction, Trace, at_point, more, issued, transactions, IsTransaction, snoops_of, answers, is_sync, messages_for, syncs_for, is_dvm_completion}
 use Rattle.ace_model.proofs.Terms.{dvm_completes, answered_snoops, answered_messages, answered_syncs, has_answered, HasCompleted, k38, owes_completion, IsAccepted}
 use Rattle.ace_model.proofs.Rules.Keeps.{accepted_keeps}
-use Rattle.ace_model.proofs.General.Lists.{slice_get-at_end, start-more, slice_get-start, count_by-cons}
+use Rattle.ace_model.proofs.General.Lists.{slice_get-at_end, start-more, slice_get-start}
 use Rattle.ace_model.proofs.Trace.Issued.{issued-place}
 use Rattle.ace_model.proofs.Trace.Growth.{at_point-before, accepted-before}
 use Rattle.ace_model.proofs.Trace.Places.{at_point-last}
@@ -35,19 +35,18 @@ owed-grown e past q m o = record {
 }
 
 -- what the rule on DVM Completes says of one that the event issues
-owed-now : (h : Header) (e : Event) (past : Trace) (x : Transaction)
-    → issued (length past) e ≡ Some x → is_dvm_completion x ≡ true → k38 h past e ≡ true → IsOwed (e ∷ past) x.port (dvm_completes past x.port)
-owed-now h e past x new kind k =
+owed-now : (h : Header) (e : Event) (past : Trace) (x : Transaction) (q m : ℕ)
+    → issued (length past) e ≡ Some x → is_dvm_completion x ≡ true → x.port ≡ q → m ≡ dvm_completes past q → k38 h past e ≡ true → IsOwed (e ∷ past) q m
+owed-now h e past x q m new kind port count k =
     let place = issued-place (length past) e x new in
-    let owes = implies-at (is_dvm_completion x) (nat_lt (dvm_completes past x.port) (answered_syncs past x.port)) (is_none_or-at (issued (length past) e) (owes_completion past) x k new) kind in
-    let point = at_point-last e past x.place place in
+    let owes = implies-at (is_dvm_completion x) _ (is_none_or-at (issued (length past) e) (owes_completion past) x k new) kind in
     record {
       completion = x;
       there = (length (transactions past), ap (λ o. slice_get (more (transactions past) o) (length (transactions past))) new ∙ slice_get-at_end (transactions past) (length (transactions past)) x refl);
       kind = kind;
-      port = refl;
+      port = port;
       before = omega (arith, place);
-      answered = rw point (ltb-true _ _ owes);
+      answered = rw (at_point-last e past x.place place, count, ← port) (ltb-true _ _ owes);
     }
 
 -- where a count passes m with one more transaction, this one passes the test
@@ -55,9 +54,7 @@ completes-more : (xs : List Transaction) (new : Option Transaction) (test : Tran
     → (x : Transaction) × (new ≡ Some x) × (test x ≡ true) × (m ≡ count_by test xs)
 completes-more xs None test m lt le = absurd (omega arith)
 completes-more xs (Some x) test m lt le =
-    let sum : count_by test (xs ++ x ∷ []) ≡ count_by test xs + count_by test (x ∷ []) = sum_by-append (λ y. cond (test y) 1 0) xs (x ∷ []) in
-    let one = count_by-cons test x [] in
-    let none : count_by test [] ≡ 0 = refl in
+    let sum = sum_by_push (λ y. cond {A = ℕ} (test y) 1 0) xs x in
     elim (cases_Bool (test x)) [
       | inl t ↦ let is : cond {A = ℕ} (test x) 1 0 ≡ 1 = rw t refl in (x, refl, t, omega arith)
       | inr f ↦ let is : cond {A = ℕ} (test x) 1 0 ≡ 0 = rw f refl in absurd (omega arith)
@@ -72,10 +69,7 @@ completes-owed h (e ∷ past) q m a lt =
       | inr new ↦
           let x = completes-more (transactions past) (issued (length past) e) (λ x. is_dvm_completion x && nat_eq x.port q) m lt new in
           let parts = and_parts (is_dvm_completion x.0) (nat_eq x.0.port q) x.2 in
-          let port : x.0.port ≡ q = eqb-true x.0.port q parts.1 in
-          let owed = owed-now h e past x.0 x.1 parts.0 (accepted_keeps h past e a).rule_38 in
-          let here : IsOwed (e ∷ past) q (dvm_completes past q) = subst (λ r. IsOwed (e ∷ past) r (dvm_completes past r)) port owed in
-          subst (λ n. IsOwed (e ∷ past) q n) (sym x.3) here
+          owed-now h e past x.0 q m x.1 parts.0 (eqb-true x.0.port q parts.1) x.3 (accepted_keeps h past e a).rule_38
     ]
 
 -- a port that has answered more Syncs than came before this one, among its messages, has answered this one

@@ -49,7 +49,7 @@ done_with h past p x a l may q ace other =
     let completed = (and_parts (is_completed past x) _ parts.0).0 in
     let message = (and_parts (is_message x) (is_sync_word x.addr) s.kind).0 in
     let apart : q ≢ x.port = λ e. other (e ∙ s.port) in
-    let sync = complete_message-answered h past x q completed message ace apart a s.issued.there in
+    let sync = complete_message-answered h x q message ace apart past completed a s.issued.there in
     let counts = at_other_ace h x.port q (λ r. nat_le (sync_number past x r) (dvm_completes past r)) parts.1 ace apart in
     let enough = leb-true (sync_number past x q) (dvm_completes past q) counts in
     record {

@@ -1,10 +1,11 @@
 -- In an accepted trace an exclusive store is exclusive.
-use Rattle.std.proofs.Common.{◌≡◌, ◌≢◌, ◌⊎◌, ℕ, Bool, true, false, not, ◌&&◌, nat_eq, [], ◌∷◌, Option, Some, None, refl, sym, ap, subst, ◌∙◌, inl, inr}
+use Rattle.std.proofs.Common.{◌≡◌, ◌≢◌, ◌⊎◌, ℕ, Bool, true, false, not, ◌&&◌, nat_eq, [], ◌∷◌, Option, Some, None, refl, sym, ap, ◌∙◌, inl, inr}
 use Rattle.std.specs.Option.{option_and_then}
 use Rattle.std.proofs.lemmas.Bool.{and_parts, or_left, or_right, cases_Bool, eqb-true, eq-eqb, ne_eqb, not-true}
 use Rattle.ace_model.proofs.Terms.{I, Header, Event, L, D, M, is_invalid, is_unique, Transaction, Trace, is_some_and, is_on, transaction_of, state_of, is_set_by, is_monitored, Store, stores_data, store_of}
 use Rattle.ace_model.proofs.Terms.{IsAccepted, is_exclusive_load, disturbs, is_undisturbed, ExclusiveHolds}
 use Rattle.ace_model.proofs.Rules.Keeps.{accepted_keeps}
+use Rattle.ace_model.proofs.General.Options.{some_if-is, is_some_and-is}
 use Rattle.ace_model.proofs.Holders.Law.{accepted_holds}
 use Rattle.ace_model.proofs.Values.Stores.{stores_d, stores_m, all_empty}
 
@@ -13,40 +14,8 @@ stored_by : (past : Trace) (l : ℕ) (o : Option Transaction) (test : Store → 
     → (x : Transaction) × (o ≡ Some x) × ((stores_data x && is_on x l) ≡ true)
 stored_by past l None test d = cc
 stored_by past l (Some x) test d =
-    elim (cases_Bool (stores_data x && is_on x l)) [
-      | inl t ↦ (x, refl, t)
-      | inr none ↦ let bad : false ≡ true = rw none at d in cc
-    ]
-
--- where another port stores to the line, the port holds nothing of it
-gone_at_store : (h : Header) (past : Trace) (e : Event) (p l : ℕ) → IsAccepted h (e ∷ past) → disturbs past e p l ≡ true → state_of h (e ∷ past) p l ≡ I
-gone_at_store h past (D q addr strobe x line) p l a d =
-    elim (cases_Bool (nat_eq l addr)) [
-      | inl here ↦
-          let other : not (nat_eq q p) ≡ true = rw here at d in
-          let apart : q ≢ p = λ same. let bad : not true ≡ true = rw (eq-eqb q p same) at other in cc in
-          let none : state_of h past p addr ≡ I =
-          elim (stores_d h past q addr strobe x line a) [
-            | inl may ↦ (accepted_holds h past a.0).unique addr q p (and_parts (is_unique (state_of h past q addr)) _ may).0 apart
-            | inr made ↦ made.alone p apart
-          ] in
-          let off : nat_eq p q ≡ false = ne_eqb p q (λ same. apart (sym same)) in
-          rw off (ap (state_of h past p) (eqb-true l addr here) ∙ none)
-      | inr other ↦ let bad : false ≡ true = rw other at d in cc
-    ]
-gone_at_store h past (M q c i line) p l a d =
-    let by = stored_by past l (transaction_of past q c i) _ d in
-    all_empty h past a.0 q c i l (stores_m h past q c i line l a by.0 by.1 by.2) p
-gone_at_store h past e p l a d = cc
-
--- a port whose monitor was set before the event is undisturbed by it
-stays_undisturbed : (h : Header) (past : Trace) (e : Event) (p l : ℕ) → IsAccepted h (e ∷ past) → is_invalid (state_of h (e ∷ past) p l) ≡ false
-    → is_undisturbed past p l ≡ true → is_undisturbed (e ∷ past) p l ≡ true
-stays_undisturbed h past e p l a held before =
-    elim (cases_Bool (disturbs past e p l)) [
-      | inl d ↦ let bad : is_invalid I ≡ false = subst (λ s. is_invalid s ≡ false) (gone_at_store h past e p l a d) held in cc
-      | inr none ↦ or_right (is_exclusive_load e p) (not (disturbs past e p l) && is_undisturbed past p l) (rw none before)
-    ]
+    let s = is_some_and-is (store_of past l x) test d in
+    (x, refl, (some_if-is (stores_data x && is_on x l) _ s.0 s.1).0)
 
 -- what the event says of a monitor that is set after it
 set_by : (e : Event) (p l : ℕ) (was : Bool) → is_set_by e p l was ≡ true → (is_exclusive_load e p ≡ true) ⊎ (was ≡ true)
@@ -58,19 +27,49 @@ set_by (L q addr w x word) p l was s =
 set_by (D q addr strobe x line) p l was s = inr (and_parts was _ s).0
 set_by e p l was s = inr s
 
-monitored_undisturbed : (h : Header) (past : Trace) (p l : ℕ) → IsAccepted h past → is_monitored h past p l ≡ true → is_undisturbed past p l ≡ true
-monitored_undisturbed h [] p l a m = cc
-monitored_undisturbed h (e ∷ past) p l a m =
-    let parts = and_parts (is_set_by e p l (is_monitored h past p l)) (not (is_invalid (state_of h (e ∷ past) p l))) m in
-    elim (set_by e p l (is_monitored h past p l) parts.0) [
-      | inl load ↦ or_left (is_exclusive_load e p) (not (disturbs past e p l) && is_undisturbed past p l) load
-      | inr was ↦ stays_undisturbed h past e p l a (not-true (is_invalid (state_of h (e ∷ past) p l)) parts.1) (monitored_undisturbed h past p l a.0 was)
-    ]
+module _ (h : Header) (p l : ℕ) where
+  -- where another port stores to the line, the port holds nothing of it
+  gone_at_store : (past : Trace) (e : Event) → IsAccepted h (e ∷ past) → disturbs past e p l ≡ true → state_of h (e ∷ past) p l ≡ I
+  gone_at_store past (D q addr strobe x line) a d =
+      elim (cases_Bool (nat_eq l addr)) [
+        | inl here ↦
+            let other : not (nat_eq q p) ≡ true = rw here at d in
+            let apart : q ≢ p = λ same. let bad : not true ≡ true = rw (eq-eqb q p same) at other in cc in
+            let none : state_of h past p addr ≡ I =
+            elim (stores_d h past q addr strobe x line a) [
+              | inl may ↦ (accepted_holds h past a.0).unique addr q p (and_parts (is_unique (state_of h past q addr)) _ may).0 apart
+              | inr made ↦ made.alone p apart
+            ] in
+            rw (ne_eqb p q (λ same. apart (sym same))) (ap (state_of h past p) (eqb-true l addr here) ∙ none)
+        | inr other ↦ let bad : false ≡ true = rw other at d in cc
+      ]
+  gone_at_store past (M q c i line) a d =
+      let by = stored_by past l (transaction_of past q c i) _ d in
+      all_empty h past a.0 q c i l (stores_m h past q c i line l a by.0 by.1 by.2) p
+  gone_at_store past e a d = cc
+
+  -- a port whose monitor was set before the event is undisturbed by it
+  stays_undisturbed : (past : Trace) (e : Event) → IsAccepted h (e ∷ past) → is_invalid (state_of h (e ∷ past) p l) ≡ false
+      → is_undisturbed past p l ≡ true → is_undisturbed (e ∷ past) p l ≡ true
+  stays_undisturbed past e a held before =
+      elim (cases_Bool (disturbs past e p l)) [
+        | inl d ↦ let bad : is_invalid I ≡ false = rw (gone_at_store past e a d) at held in cc
+        | inr none ↦ or_right (is_exclusive_load e p) _ (rw none before)
+      ]
+
+  monitored_undisturbed : (past : Trace) → IsAccepted h past → is_monitored h past p l ≡ true → is_undisturbed past p l ≡ true
+  monitored_undisturbed [] a m = cc
+  monitored_undisturbed (e ∷ past) a m =
+      let parts = and_parts (is_set_by e p l (is_monitored h past p l)) (not (is_invalid (state_of h (e ∷ past) p l))) m in
+      elim (set_by e p l (is_monitored h past p l) parts.0) [
+        | inl load ↦ or_left (is_exclusive_load e p) _ load
+        | inr was ↦ stays_undisturbed past e a (not-true _ parts.1) (monitored_undisturbed past a.0 was)
+      ]
 
 -- it holds at every event of an accepted trace
 pub accepted_exclusive_holds : (h : Header) (past : Trace) → IsAccepted h past → ExclusiveHolds past
 accepted_exclusive_holds h [] a = tt
 accepted_exclusive_holds h (D p addr strobe true line ∷ past) a =
     let monitored : is_monitored h past p addr ≡ true = (accepted_keeps h past (D p addr strobe true line) a).rule_33 in
-    (accepted_exclusive_holds h past a.0, monitored_undisturbed h past p addr a.0 monitored)
+    (accepted_exclusive_holds h past a.0, monitored_undisturbed h p addr past a.0 monitored)
 accepted_exclusive_holds h (e ∷ past) a = accepted_exclusive_holds h past a.0

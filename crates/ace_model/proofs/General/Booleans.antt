@@ -1,5 +1,6 @@
 -- What is true of any two Booleans.
-use Rattle.std.proofs.Common.{◌≡◌, ◌⊎◌, inl, inr, ℕ, ◌+◌, ◌≤◌, if◌then◌else◌, arith, Bool, true, false, refl, sym, ◌∙◌}
+use Rattle.std.proofs.Common.{◌≡◌, ◌&&◌, ◌⊎◌, inl, inr, ℕ, ◌+◌, ◌≤◌, if◌then◌else◌, arith, Bool, true, false, refl, sym, ◌∙◌}
+use Rattle.std.proofs.lemmas.Bool.{and_parts}
 use Rattle.ace_model.proofs.Terms.{same_test, implies}
 
 pub implies-at : (a b : Bool) → implies a b ≡ true → a ≡ true → b ≡ true
@@ -33,3 +34,16 @@ then_of false t u e = cc
 pub else_of : (b t u : Bool) → b ≡ false → (if b then t else u) ≡ true → u ≡ true
 else_of true t u e i = cc
 else_of false t u e i = i
+
+-- a test that passes for both Booleans, or for each three, passes for all
+pub each_flag : (test : Bool → Bool) → (test true && test false) ≡ true → (a : Bool) → test a ≡ true
+each_flag test both true = (and_parts (test true) (test false) both).0
+each_flag test both false = (and_parts (test true) (test false) both).1
+
+pub each_flags : (test : Bool → Bool → Bool → Bool)
+    → (((test true true true && test true true false) && (test true false true && test true false false))
+    && ((test false true true && test false true false) && (test false false true && test false false false))) ≡ true
+    → (a b c : Bool) → test a b c ≡ true
+each_flags test all a b c =
+    each_flag (test a b)
+    (each_flag (λ b. test a b true && test a b false) (each_flag (λ a. (test a true true && test a true false) && (test a false true && test a false false)) all a) b) c

@@ -1,12 +1,13 @@
 -- Lists: one more element at the end, a list that a longer one begins with, and counts in both.
 use Rattle.std.specs.List.{list_all}
-use Rattle.std.proofs.Common.{◌≡◌, ◌⊎◌, ℕ, zero, suc, List, [], ◌∷◌, ◌++◌, length, ◌<◌, drop, Option, Some, None, slice_get, refl, sym, ◌∙◌, arith, inl, inr, ◌+◌, ◌≤◌, Bool, true, cond, take, filter, count_by, ap, append_assoc, length-append}
+use Rattle.std.proofs.Common.{◌≡◌, ◌⊎◌, ℕ, zero, suc, List, [], ◌∷◌, ◌++◌, length, ◌<◌, drop, map, subst, Option, Some, None, slice_get, refl, sym, ◌∙◌, arith, inl, inr, ◌+◌, ◌≤◌, Bool, true, cond, take, filter, count_by, ap, append_assoc, length-append}
 use Rattle.std.proofs.lemmas.Bool.{and_parts, cases_eq, cases_Bool}
 use Rattle.ace_model.proofs.Terms.{more}
-use Rattle.std.proofs.lemmas.List.{append-nil, length-take}
+use Rattle.std.proofs.lemmas.List.{append-nil, length-take, map-append, take-append-drop, take-append-le}
 use Rattle.std.proofs.lemmas.Option.{slice_get_within}
 use Rattle.std.proofs.lemmas.List.Elements.{filter-append}
-use Rattle.std.proofs.lemmas.List.Sums.{sum_by-cons}
+use Rattle.std.proofs.lemmas.List.Sums.{sum_by-cons, sum_by-append}
+use Rattle.ace_model.proofs.General.Options.{Some-injective}
 
 -- the place behind the last element
 pub slice_get-at_end : {A : Type 0} → (xs : List A) (k : ℕ) (y : A) → k ≡ length xs → slice_get (xs ++ y ∷ []) k ≡ Some y
@@ -54,6 +55,33 @@ start-filter test xs ys s = record {
   rest = filter test s.rest;
   joined = sym (filter-append test xs s.rest) ∙ ap (filter test) s.joined;
 }
+
+pub start-map : {A B : Type 0} → (f : A → B) (xs ys : List A) → IsStart xs ys → IsStart (map f xs) (map f ys)
+start-map f xs ys s = record { rest = map f s.rest; joined = sym (map-append f xs s.rest) ∙ ap (map f) s.joined }
+
+pub start-take : {A : Type 0} → (n : ℕ) (xs : List A) → IsStart (take n xs) xs
+start-take n xs = record { rest = drop n xs; joined = take-append-drop n xs }
+
+-- with the next element of the second list too
+pub start-next : {A : Type 0} → (xs ys : List A) (y : A) → IsStart xs ys → slice_get ys (length xs) ≡ Some y → IsStart (xs ++ y ∷ []) ys
+start-next xs ys y s there = subst (IsStart (xs ++ y ∷ [])) s.joined (next xs s.rest (rw (← s.joined) at there))
+  where
+    next : {A : Type 0} {y : A} → (xs rest : List A) → slice_get (xs ++ rest) (length xs) ≡ Some y → IsStart (xs ++ y ∷ []) (xs ++ rest)
+    next [] [] e = cc
+    next [] (z ∷ rest) e = record { rest = rest; joined = ap (λ v. v ∷ rest) (sym (Some-injective z _ e)) }
+    next (x ∷ xs) rest e = let n = next xs rest e in record { rest = n.rest; joined = ap (λ l. x ∷ l) n.joined }
+
+-- a list that two others begin with, the shorter begins the longer
+pub start-within : {A : Type 0} → (xs ys rest : List A) → IsStart xs (ys ++ rest) → length xs ≤ length ys → IsStart xs ys
+start-within xs ys rest s le =
+    let same : take (length xs) ys ≡ xs = sym (take-append-le (length xs) ys rest le) ∙ ap (take (length xs)) (sym s.joined) ∙ take-append (length xs) xs s.rest refl in
+    subst (λ l. IsStart l ys) same (start-take (length xs) ys)
+  where
+    take-append : {A : Type 0} → (n : ℕ) (xs rest : List A) → n ≡ length xs → take n (xs ++ rest) ≡ xs
+    take-append zero [] rest e = refl
+    take-append zero (x ∷ xs) rest e = absurd (omega arith)
+    take-append (suc n) [] rest e = absurd (omega arith)
+    take-append (suc n) (x ∷ xs) rest e = ap (λ l. x ∷ l) (take-append n xs rest (omega arith))
 
 pub start-length : {A : Type 0} → (xs ys : List A) → IsStart xs ys → length xs ≤ length ys
 start-length xs ys s = let e = ap length s.joined in let l = length-append xs s.rest in omega arith
@@ -120,3 +148,14 @@ count_by-take test (x ∷ xs) rest (suc n) (suc m) le =
     let a = count_by-cons test x (take n xs) in
     let b = count_by-cons test x (take m (xs ++ rest)) in
     omega arith
+
+pub count_by-start : {A : Type 0} → (test : A → Bool) (xs ys : List A) → IsStart xs ys → count_by test xs ≤ count_by test ys
+count_by-start test xs ys s =
+    let e = ap (count_by test) s.joined in
+    let both = sum_by-append (λ x. cond {A = ℕ} (test x) 1 0) xs s.rest in
+    omega arith
+
+pub count_by-map : {A B : Type 0} → (f : A → B) (test : B → Bool) (xs : List A) → count_by test (map f xs) ≡ count_by (λ x. test (f x)) xs
+count_by-map f test [] = refl
+count_by-map f test (x ∷ xs) =
+    count_by-cons test (f x) (map f xs) ∙ ap (λ n. cond {A = ℕ} (test (f x)) 1 0 + n) (count_by-map f test xs) ∙ sym (count_by-cons (λ y. test (f y)) x xs)

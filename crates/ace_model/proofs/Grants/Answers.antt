@@ -1,12 +1,13 @@
 -- What the answers under a grant say of the states of the ports.
 use Rattle.std.proofs.Common.{◌≡◌, ◌≢◌, ℕ, Bool, true, false, not, ◌||◌, ◌∷◌, Some, refl, sym, ap, subst, ◌∙◌, inl, inr}
-use Rattle.std.proofs.lemmas.Bool.{and_parts, or_cases, or_right, cases_Bool, cases_eq}
-use Rattle.ace_model.proofs.Terms.{SnoopKind, LineState, I, passes_dirty, transfers_data, is_shared, Event, Cr, Header, is_unique, is_dirty, Answer, Transaction, Trace, snoop_of, has_outstanding_on}
-use Rattle.ace_model.proofs.Terms.{granted, answer_of, state_of, IsAccepted}
+use Rattle.std.proofs.lemmas.Bool.{and_parts, or_right, cases_Bool, cases_eq}
+use Rattle.ace_model.proofs.Terms.{SnoopKind, LineState, I, passes_dirty, transfers_data, is_shared, Event, Cr, Header, is_unique, is_dirty, Answer, Transaction, Trace, snoop_of}
+use Rattle.ace_model.proofs.Terms.{has_outstanding_on, granted, answer_of, state_of, IsAccepted}
 use Rattle.ace_codes.specs.declared.kind.SnoopKind.TheVariants as snoop
+use Rattle.ace_model.proofs.Tables.ReadSnoops.{not_unique_after}
 use Rattle.ace_model.proofs.Grants.SnoopAnswers.{since_answer, stays_less, Answering, answering_cr, NewAnswer, no_rise}
 use Rattle.ace_model.proofs.Grants.Stays.{Stays}
-use Rattle.ace_model.proofs.Tables.States.{is_settled, invalidates, shares_line, Leaves, row_is}
+use Rattle.ace_model.proofs.Tables.States.{is_settled, invalidates, shares_line, row_is}
 use Rattle.ace_model.proofs.Holders.Facts.{OneHolder}
 use Rattle.ace_model.proofs.Holders.Snoop.{less_cr}
 use Rattle.ace_model.proofs.Rules.Keeps.{accepted_keeps}
@@ -62,19 +63,12 @@ others_settled h past a l r z x w g is d apart =
 abbrev pub is_levelling : SnoopKind → Bool
 is_levelling k = invalidates k || shares_line k
 
-level : (k : SnoopKind) (shared : Bool) (st : LineState) → is_levelling k ≡ true → Leaves k shared st → is_unique st ≡ false
-level k shared st e leaves =
-    elim (or_cases (invalidates k) (shares_line k) e) [
-      | inl t ↦ ap is_unique (leaves.gone (or_right (not shared) (invalidates k) t))
-      | inr t ↦ leaves.not_unique t
-    ]
-
 -- once a port has sent data to such a snoop under the grant, no port holds the line in a unique state
 pub none_unique : (h : Header) (past : Trace) → IsAccepted h past → (l r z : ℕ) (x : Transaction) (w : Answer) (k : SnoopKind) → granted h past l ≡ Some x
     → answer_of past r l ≡ Some w → transfers_data w.resp ≡ true → snoop_of x ≡ Some k → is_levelling k ≡ true → is_unique (state_of h past z l) ≡ false
 none_unique h past a l r z x w k g is d c lev =
     elim (cases_eq r z) [
-      | inl same ↦ subst (λ v. is_unique (state_of h past v l) ≡ false) same (level k _ _ lev ((accepted_holds h past a).answers l r x w k g is c))
+      | inl same ↦ subst (λ v. is_unique (state_of h past v l) ≡ false) same (not_unique_after k _ _ lev ((accepted_holds h past a).answers l r x w k g is c))
       | inr apart ↦
           since_answer h l r x w (λ t. is_unique (state_of h t z l) ≡ false)
           (λ past e a stays new is.
@@ -104,7 +98,7 @@ unsent_clean h past a l r x w k g is d c lev = since_answer h l r x w (λ t. is_
           | inr (inr up) ↦ absurd (no_rise h past e l r x stays up)
           | inr (inl may) ↦
               let unique = (and_parts (is_unique (state_of h past r l)) (not (has_outstanding_on h past r l)) may).0 in
-              let levelled = level k _ _ lev ((accepted_holds h past a.0).answers l r x w k stays.was was c) in
+              let levelled = not_unique_after k _ _ lev ((accepted_holds h past a.0).answers l r x w k stays.was was c) in
               cc
         ]
 

@@ -1,16 +1,15 @@
 -- A granted transaction begins, by the first transfer of a read or the M of a write, once its snoops are done.
 use Rattle.std.proofs.Common.{◌≡◌, ◌⊎◌, ℕ, Bool, true, false, not, ◌&&◌, nat_eq, ◌∷◌, Some, refl, sym, ap, subst, ◌∙◌, inl, inr}
 use Rattle.std.proofs.lemmas.Bool.{not-false, and_parts, cases_Bool, eqb-true}
-use Rattle.ace_model.proofs.Terms.{Channel, Read, Event, Ar, R, Aw, M, Header, Transaction, Trace, implies, is_read, is_line, same_channel, transfers, outstanding, updates_memory}
-use Rattle.ace_model.proofs.Terms.{has_memory_write, is_granted, is_begun, has_passed_data, are_snoops_done, may_transfer, takes_passed}
-use Rattle.ace_model.proofs.Terms.{IsAccepted}
+use Rattle.ace_model.proofs.Terms.{Channel, Read, Event, Ar, R, Aw, M, Header, Transaction, Trace, implies, is_read, is_line, same_channel, transfers}
+use Rattle.ace_model.proofs.Terms.{outstanding, updates_memory, has_memory_write, is_granted, is_begun, has_passed_data, are_snoops_done, may_transfer, takes_passed, IsAccepted}
+use Rattle.ace_model.proofs.General.Options.{Some-injective}
 use Rattle.ace_model.proofs.Grants.Granted.{data_may, writes_now}
 use Rattle.ace_model.proofs.Grants.Stays.{read_apart, stays_apart, Stays}
 use Rattle.ace_model.proofs.Trace.Looks.{is_read-is}
 use Rattle.ace_model.proofs.Rules.Keeps.{accepted_keeps}
 use Rattle.ace_model.proofs.Holders.Transfer.{MayTransfer, may}
 use Rattle.ace_model.proofs.Holders.Law.{accepted_holds}
-use Rattle.ace_model.proofs.General.Options.{Some-injective}
 use Rattle.ace_model.proofs.General.Booleans.{implies-at}
 use Rattle.ace_model.proofs.Trace.Outstanding.{read_issued, write_issued, named_read}
 
@@ -46,9 +45,9 @@ module _ (h : Header) (past : Trace) where
       }
 
   -- and of the one whose transfer the event is
-  pub line_due : (q j resp : ℕ) (last : Bool) (word : ℕ) (x : Transaction) → IsAccepted h (R q j resp last word ∷ past) → outstanding h past q Read j ≡ Some x
+  pub line_due : (q j resp : ℕ) (last : Bool) (word : ℕ) → IsAccepted h (R q j resp last word ∷ past) → (x : Transaction) → outstanding h past q Read j ≡ Some x
       → is_line x ≡ true → LineTransfer x resp
-  line_due q j resp last word x a o line =
+  line_due q j resp last word a x o line =
       let m = may_of q j resp last word a in
       let one : m.one ≡ x = Some-injective m.one x (sym m.out ∙ o) in
       line_transfer x resp (subst (λ y. may_transfer h past y resp ≡ true) one (m.may (ap is_line one ∙ line)))
@@ -81,7 +80,7 @@ begins h past (R q j resp last word) a l x s b =
             let out : outstanding h past q Read j ≡ Some x =
             sym (ap (λ p. outstanding h past p x.chan x.id) (eqb-true x.port q parts.0) ∙ ap (λ (c : Channel). outstanding h past q c x.id) (is_read-is x.chan reads)
             ∙ ap (outstanding h past q Read) (eqb-true x.id j parts.1)) ∙ o.0 in
-            let t = line_due h past q j resp last word x a out (and_parts (is_line x) _ o.1).0 in
+            let t = line_due h past q j resp last word a x out (and_parts (is_line x) _ o.1).0 in
             let b_read : not (nat_eq (transfers past x.port x.id) 0) ≡ false = rw reads at b in
             inr (inl (t.first (not-false (nat_eq (transfers past x.port x.id) 0) b_read)))
       ]

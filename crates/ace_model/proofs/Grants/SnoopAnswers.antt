@@ -1,9 +1,9 @@
 -- An answer to a line snoop is under the present grant, and a row of the snoop that the granted transaction causes.
 use Rattle.std.proofs.Common.{[], le_refl, ◌≡◌, ◌⊎◌, ℕ, true, false, ◌&&◌, nat_eq, nat_le, ◌∷◌, length, Some, None, refl, sym, ap, subst, ◌∙◌, inl, inr}
 use Rattle.std.proofs.lemmas.Bool.{and_parts, and_from, cases_Bool, eqb-true, eq-eqb, le-leb}
-use Rattle.ace_model.proofs.Terms.{SnoopKind, LineState, ac_code, ac_kind_of, Event, Cr, Header, is_snoop_row, Snoop, Answer, Transaction, Trace, is_some_and, newer, is_line_snoop, snoop_of, has_update}
-use Rattle.ace_model.proofs.Terms.{snoops_a_line, answers, answered, is_snoop_on, answers_line, data_answers, gives_line, granted, grant_place, answers_grant, answer_at, answer_of, state_of, answers_by_row}
-use Rattle.ace_model.proofs.Terms.{answers_beside_update, IsAccepted}
+use Rattle.ace_model.proofs.Terms.{SnoopKind, LineState, ac_code, ac_kind_of, Event, Cr, Header, is_snoop_row, Snoop, Answer, Transaction, Trace, is_some_and, newer, is_line_snoop, snoop_of}
+use Rattle.ace_model.proofs.Terms.{has_update, snoops_a_line, answers, answered, is_snoop_on, answers_line, data_answers, gives_line, granted, grant_place, answers_grant, answer_at, answer_of}
+use Rattle.ace_model.proofs.Terms.{state_of, answers_by_row, answers_beside_update, IsAccepted}
 use Rattle.ace_model.proofs.Grants.Stays.{granted_before, Stays}
 use Rattle.ace_model.proofs.Holders.Rises.{state_moves, Raised}
 use Rattle.ace_model.proofs.Tables.States.{Lessens}

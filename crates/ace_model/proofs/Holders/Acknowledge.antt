@@ -1,18 +1,19 @@
 -- RK: a complete read ends, and its port holds the line in the state that it names.
-use Rattle.std.proofs.Common.{◌≡◌, ◌≢◌, ◌⊎◌, ◌==◌, ℕ, ◌+◌, ◌≤◌, Bool, true, false, if◌then◌else◌, ◌&&◌, nat_eq, nat_lt, ◌∷◌, Some, slice_get, le_refl, refl, sym, ap, subst, ◌∙◌, arith, inl, inr}
+use Rattle.std.proofs.Common.{◌≡◌, ◌≢◌, ◌==◌, ℕ, ◌+◌, ◌≤◌, Bool, true, false, if◌then◌else◌, ◌&&◌, nat_eq, nat_lt, ◌∷◌, Some, le_refl, refl, sym, ap, subst, ◌∙◌, arith, inl, inr}
 use Rattle.std.proofs.lemmas.Bool.{and_parts, cases_Bool, cases_eq, eqb-true, eq-eqb}
-use Rattle.ace_model.proofs.Terms.{ArKind, LineState, I, passes_dirty, is_shared, Header, Read, Rk, ends_read, is_unique, is_dirty, is_invalid, Transaction, Trace, is_some_and, beats_of, reads_a_line}
-use Rattle.ace_model.proofs.Terms.{is_ace, is_line, is_on, is_some_on, read_kind, transaction_of, outstanding, completed, acknowledgements, transfers, first_resp, next_complete, acknowledged}
+use Rattle.ace_model.proofs.Terms.{ArKind, LineState, is_make_unique, has_store, passes_dirty, is_shared, Header, Read, Rk, ends_read, is_unique, is_dirty, Transaction, Trace, is_some_and, beats_of, reads_a_line}
+use Rattle.ace_model.proofs.Terms.{is_ace, is_line, is_on, is_some_on, read_kind, transaction_of, outstanding, acknowledgements, transfers, first_resp, next_complete, acknowledged}
 use Rattle.ace_model.proofs.Terms.{transaction_under, granted, has_failed, state_of, UniqueNow, OneDirtyNow, k1, k22, k23, ends_well, is_end, held_of}
-use Rattle.ace_model.proofs.Trace.Looks.{has_name-is, without-some, without-other}
-use Rattle.ace_model.proofs.Trace.Issued.{outstanding-named, transaction_of-stands}
+use Rattle.ace_model.proofs.Trace.Looks.{without-some, without-other}
+use Rattle.ace_model.proofs.Trace.Issued.{outstanding-named, outstanding-name}
 use Rattle.ace_model.proofs.Tables.States.{Lessens-same}
 use Rattle.ace_model.proofs.Tables.ReadEnds.{takes_alone, takes_shared, ReadEnds, read_is}
 use Rattle.ace_model.proofs.Holders.Kept.{standing, arrive_kept}
 use Rattle.ace_model.proofs.Trace.Outstanding.{one_name}
 use Rattle.ace_model.proofs.Holders.Facts.{OthersInvalid, OthersNotUnique, AllSettled, Arrives, QueueStands, QueueDistinct, OutsideInvalid, OneHolder}
 use Rattle.ace_model.proofs.General.Options.{Some-injective, some_is, is_some_and-is, is_none_or-at}
-use Rattle.ace_model.proofs.Tables.Less.{settled_clean, held_on}
+use Rattle.ace_model.proofs.General.Booleans.{above_count, implies-at}
+use Rattle.ace_model.proofs.Tables.Less.{settled_clean}
 
 -- the test that an RK names the port's state of the line
 abbrev pub is_named_by_rk : Trace → ℕ → ℕ → ℕ → Bool
@@ -32,6 +33,7 @@ module _ (h : Header) (past : Trace) (q : ℕ) where
     pub is_id : ended_one.id ≡ id
     pub kind : ArKind
     pub is_kind : read_kind ended_one ≡ Some kind
+    pub full : is_some_and (read_kind ended_one) (λ k. transfers past q id == beats_of k) ≡ true
     pub arrives : is_line ended_one ≡ true → Arrives h past q id ended_one
 
   module _ (st : LineState) where
@@ -41,7 +43,7 @@ module _ (h : Header) (past : Trace) (q : ℕ) where
         let next = some_is (next_complete past q Read) k in
         let s = f.queue q (acknowledgements past q Read) next.0 ace (le_refl (acknowledgements past q Read)) next.1 in
         let named = outstanding-named h past q Read next.0 s.0 s.1 in
-        let name = has_name-is s.0 q Read next.0 (transaction_of-stands past q Read next.0 s.0 named).named in
+        let name = outstanding-name h past q Read next.0 s.0 s.1 in
         let kind = is_some_and-is (read_kind s.0) (λ k. transfers past q next.0 == beats_of k) s.2 in
         let all = eqb-true (transfers past q next.0) (beats_of kind.0) kind.2 in
         record {
@@ -56,6 +58,7 @@ module _ (h : Header) (past : Trace) (q : ℕ) where
           is_id = name.id;
           kind = kind.0;
           is_kind = kind.1;
+          full = s.2;
           arrives = λ line. f.arrive q next.0 s.0 ace s.1 line (λ z. beats_some (reads_a_line kind.0) (transfers past q next.0) all z);
         }
       where
@@ -63,19 +66,35 @@ module _ (h : Header) (past : Trace) (q : ℕ) where
         beats_some true n e z = absurd (omega (arith, e, z))
         beats_some false n e z = absurd (omega (arith, e, z))
 
-    -- An RK that names the port's state of the line: the line is granted to the read that ends, and what its end state says of the
-    -- other ports.
+    -- An RK that names the port's state of the line: the read that ends, by this port and line.
     pub record EndsLine (r l : ℕ) : Type 0 where
       pub port : r ≡ q
-      pub stands : (y : Transaction) × (acknowledged past q Read ≡ Some y) × (granted h past l ≡ Some y)
-      pub unique : is_unique st ≡ true → (is_unique (state_of h past r l) ≡ true) ⊎ OthersInvalid h past r l
-      pub kept : (st ≡ I) ⊎ ((is_invalid (state_of h past r l) ≡ false) ⊎ OthersNotUnique h past r l)
+      pub one : Transaction
+      pub id : ℕ
+      pub out : outstanding h past r Read id ≡ Some one
+      pub named : transaction_of past r Read id ≡ Some one
+      pub on : is_on one l ≡ true
+      pub line : one.addr ≡ l
       pub kind : ArKind
-      pub is_kind : read_kind stands.0 ≡ Some kind
-      pub failed : Bool
-      pub shared : Bool
-      pub came : (st ≡ I) ⊎ ((is_invalid (state_of h past r l) ≡ false) ⊎ ((takes_alone kind shared failed ≡ true) ⊎ (takes_shared kind ≡ true)))
-      pub dirty : is_dirty st ≡ true → (is_dirty (state_of h past r l) ≡ true) ⊎ ((z : ℕ) → r ≢ z → is_dirty (state_of h past z l) ≡ false)
+      pub is_kind : read_kind one ≡ Some kind
+      pub ends_it : acknowledged past q Read ≡ Some one
+      pub state :
+          ReadEnds kind (state_of h past r l) (is_some_and (first_resp past r id) is_shared) (is_some_and (first_resp past r id) passes_dirty)
+          (has_failed past one) st
+      pub stored : is_make_unique kind ≡ true → has_store h past r id ≡ true
+      pub arrives : Arrives h past r id one
+      pub full : is_some_and (read_kind one) (λ k. transfers past r id == beats_of k) ≡ true
+
+    -- the line is granted to it, and the other ports hold what its kind and its response let them hold
+    module _ (r l : ℕ) (d : EndsLine r l) where
+      pub line_granted : granted h past l ≡ Some d.one
+      line_granted = subst (λ v. granted h past v ≡ Some d.one) d.line d.arrives.stands
+
+      alone : takes_alone d.kind (is_some_and (first_resp past r d.id) is_shared) (has_failed past d.one) ≡ true → OthersInvalid h past r l
+      alone taken = subst (OthersInvalid h past r) d.line (d.arrives.alone d.kind d.is_kind taken)
+
+      beside : takes_shared d.kind ≡ true → OthersNotUnique h past r l
+      beside taken = subst (OthersNotUnique h past r) d.line (d.arrives.beside d.kind d.is_kind taken)
 
     -- another port keeps its state
     state_beside : (r l : ℕ) → r ≢ q → state_of h (Rk q st ∷ past) r l ≡ state_of h past r l
@@ -86,83 +105,43 @@ module _ (h : Header) (past : Trace) (q : ℕ) where
         ]
 
     fewer : (p n : ℕ) → acknowledgements (Rk q st ∷ past) p Read ≤ n → acknowledgements past p Read ≤ n
-    fewer p n = counted (nat_eq p q)
-      where
-        counted : (b : Bool) → (if b then acknowledgements past p Read + 1 else acknowledgements past p Read) ≤ n → acknowledgements past p Read ≤ n
-        counted true l = omega arith
-        counted false l = l
+    fewer p n low = above_count (nat_eq p q) (acknowledgements past p Read) n low
 
     module _ (k : k23 h past (Rk q st) ≡ true) (e : Ends) where
       pub ends_line : (r l : ℕ) → is_named_by_rk past q r l ≡ true → EndsLine r l
-      ends_line r l t = record {
-        port = port;
-        stands = (e.ended_one, e.is, subst (λ v. granted h past v ≡ Some e.ended_one) line arrived.stands);
-        unique = λ u. elim (fits.unique u) [
-          | inl was ↦ inl was
-          | inr taken ↦ inr (alone taken)
-        ];
-        kept = elim fits.kept [
-          | inl gone ↦ inl gone
-          | inr more ↦ elim more [
-            | inl was ↦ inr (inl was)
-            | inr kinds ↦ elim kinds [
-              | inl taken ↦ inr (inr (λ z ne. ap is_unique (alone taken z ne)))
-              | inr taken ↦ inr (inr (beside taken))
-            ]
-          ]
-        ];
-        kind = e.kind;
-        is_kind = e.is_kind;
-        failed = has_failed past e.ended_one;
-        shared = is_some_and (first_resp past q e.id) is_shared;
-        came = fits.kept;
-        dirty = λ d. elim (fits.dirty d) [
-          | inl was ↦ inl was
-          | inr came ↦ elim came [
-            | inl passed ↦ inr (λ z ne. settled_clean (state_of h past z l) (subst (AllSettled h past) line (arrived.dirty passed) z))
-            | inr taken ↦ inr (λ z ne. ap is_dirty (alone taken z ne))
-          ]
-        ];
-      }
-        where
-          port : r ≡ q
-          port = eqb-true r q (and_parts (nat_eq r q) _ t).0
-
-          on : (is_line e.ended_one ≡ true) × (nat_eq e.ended_one.addr l ≡ true)
-          on =
-              let y = is_some_and-is (acknowledged past r Read) (λ x. is_on x l) (and_parts (nat_eq r q) _ t).1 in
-              let one : y.0 ≡ e.ended_one = Some-injective y.0 e.ended_one (sym y.1 ∙ ap (λ a. acknowledged past a Read) port ∙ e.is) in
-              and_parts (is_line e.ended_one) (nat_eq e.ended_one.addr l) (subst (λ v. is_on v l ≡ true) one y.2)
-
-          line : e.ended_one.addr ≡ l
-          line = eqb-true e.ended_one.addr l on.1
-
-          arrived : Arrives h past q e.id e.ended_one
-          arrived = e.arrives on.0
-
-          held : held_of h past e.ended_one ≡ state_of h past r l
-          held =
-              held_on (is_line e.ended_one) (state_of h past e.ended_one.port e.ended_one.addr) on.0
-              ∙ ap (λ v. state_of h past v e.ended_one.addr) (e.port ∙ sym port) ∙ ap (state_of h past r) line
-
-          first : first_resp past e.ended_one.port e.ended_one.id ≡ first_resp past q e.id
-          first = ap (λ v. first_resp past v e.ended_one.id) e.port ∙ ap (first_resp past q) e.is_id
-
-          fits : ReadEnds e.kind (state_of h past r l) (is_some_and (first_resp past q e.id) is_shared) (is_some_and (first_resp past q e.id) passes_dirty) (has_failed past e.ended_one) st
-          fits =
-              let well = is_none_or-at (acknowledged past q Read) (ends_well h past st) e.ended_one k e.is in
-              let end = is_none_or-at (read_kind e.ended_one) (is_end h past e.ended_one st) e.kind well e.is_kind in
-              let o = first_resp past e.ended_one.port e.ended_one.id in
-              let ended = (and_parts (ends_read e.kind (held_of h past e.ended_one) (is_some_and o is_shared) (is_some_and o passes_dirty) (has_failed past e.ended_one) st) _ end).0 in
-              subst (λ v. ReadEnds e.kind (state_of h past r l) (is_some_and v is_shared) (is_some_and v passes_dirty) (has_failed past e.ended_one) st) first
-              (subst (λ s. ReadEnds e.kind s (is_some_and o is_shared) (is_some_and o passes_dirty) (has_failed past e.ended_one) st) held
-              (read_is e.kind (held_of h past e.ended_one) (is_some_and o is_shared) (is_some_and o passes_dirty) (has_failed past e.ended_one) st ended))
-
-          alone : takes_alone e.kind (is_some_and (first_resp past q e.id) is_shared) (has_failed past e.ended_one) ≡ true → OthersInvalid h past r l
-          alone taken = subst (OthersInvalid h past r) line (subst (λ v. OthersInvalid h past v e.ended_one.addr) (sym port) (arrived.alone e.kind e.is_kind taken))
-
-          beside : takes_shared e.kind ≡ true → OthersNotUnique h past r l
-          beside taken = subst (OthersNotUnique h past r) line (subst (λ v. OthersNotUnique h past v e.ended_one.addr) (sym port) (arrived.beside e.kind e.is_kind taken))
+      ends_line r l t =
+          let x = e.ended_one in
+          let parts = and_parts (nat_eq r q) _ t in
+          let port = eqb-true r q parts.0 in
+          let y = is_some_and-is (acknowledged past r Read) (λ x. is_on x l) parts.1 in
+          let one : y.0 ≡ x = Some-injective y.0 x (sym y.1 ∙ ap (λ a. acknowledged past a Read) port ∙ e.is) in
+          let on : is_on x l ≡ true = subst (λ v. is_on v l ≡ true) one y.2 in
+          let two = and_parts (is_line x) (nat_eq x.addr l) on in
+          let line = eqb-true x.addr l two.1 in
+          let same = e.port ∙ sym port in
+          let o = first_resp past x.port x.id in
+          let first : o ≡ first_resp past r e.id = rw (same, e.is_id) refl in
+          let stored : has_store h past x.port x.id ≡ has_store h past r e.id = rw (same, e.is_id) refl in
+          let held : held_of h past x ≡ state_of h past r l = rw (two.0, same, line) refl in
+          let well = is_none_or-at (acknowledged past q Read) (ends_well h past st) x k e.is in
+          let end = and_parts (ends_read e.kind (held_of h past x) (is_some_and o is_shared) (is_some_and o passes_dirty) (has_failed past x) st) _
+          (is_none_or-at (read_kind x) (is_end h past x st) e.kind well e.is_kind) in
+          record {
+            port = port;
+            one = x;
+            id = e.id;
+            out = ap (λ v. outstanding h past v Read e.id) port ∙ e.out;
+            named = ap (λ v. transaction_of past v Read e.id) port ∙ e.named;
+            on = on;
+            line = line;
+            kind = e.kind;
+            is_kind = e.is_kind;
+            ends_it = e.is;
+            state = read_is e.kind _ _ _ _ st (rw (held, first) at end.0);
+            stored = λ m. sym stored ∙ implies-at (is_make_unique e.kind) _ end.1 m;
+            arrives = subst (λ v. Arrives h past v e.id x) (sym port) (e.arrives two.0);
+            full = rw port e.full;
+          }
 
       -- the states of a line that is still granted are as they were
       pub states_rk : (l : ℕ) (x : Transaction) → granted h (Rk q st ∷ past) l ≡ Some x → (r : ℕ) → state_of h (Rk q st ∷ past) r l ≡ state_of h past r l
@@ -171,8 +150,8 @@ module _ (h : Header) (past : Trace) (q : ℕ) where
             | inr f ↦ rw f refl
             | inl t ↦
                 let w = without-some (acknowledged past q Read) (granted h past l) x g in
-                let s = (ends_line r l t).stands in
-                absurd (w.1 s.0 s.1 (ap (λ (v : Transaction). v.place) (Some-injective s.0 x (sym s.2 ∙ w.0))))
+                let d = ends_line r l t in
+                absurd (w.1 d.one d.ends_it (ap (λ (v : Transaction). v.place) (Some-injective d.one x (sym (line_granted r l d) ∙ w.0))))
           ]
 
       module _ (f : OneHolder h past) where
@@ -189,8 +168,7 @@ module _ (h : Header) (past : Trace) (q : ℕ) where
             waits_once x o z is same =
                 let zd : e.ended_one ≡ z = Some-injective e.ended_one z (sym e.is ∙ is) in
                 let name = one_name past q p Read Read e.id i e.ended_one x e.named (outstanding-named h past p Read i x o) (ap (λ (v : Transaction). v.place) zd ∙ same) in
-                let next : slice_get (completed past p Read) (acknowledgements past p Read) ≡ Some i =
-                subst (λ a. slice_get (completed past a Read) (acknowledgements past a Read) ≡ Some i) name.port (e.next ∙ ap Some name.id) in
+                let next = rw (name.port, name.id) at e.next in
                 let at = f.distinct p (acknowledgements past p Read) n i ace (le_refl (acknowledgements past p Read)) (fewer p n low) next g in
                 let above : acknowledgements past p Read + 1 ≤ n = rw (eq-eqb p q (sym name.port)) at low in
                 omega arith
@@ -213,19 +191,24 @@ module _ (h : Header) (past : Trace) (q : ℕ) where
               | inl t ↦
                   let d = ends_line p l t in
                   state_beside r l (λ same. ne (d.port ∙ sym same))
-                  ∙ elim (d.unique (rw t at u)) [
+                  ∙ elim (d.state.unique (rw t at u)) [
                     | inl was ↦ f.unique l p r was ne
-                    | inr alone ↦ alone r ne
+                    | inr taken ↦ alone p l d taken r ne
                   ]
               | inr other ↦ elim (cases_Bool (is_named_by_rk past q r l)) [
                 | inr neither ↦ rw neither (f.unique l p r (rw other at u) ne)
                 | inl t ↦
                     let was : is_unique (state_of h past p l) ≡ true = rw other at u in
-                    rw t (elim (ends_line r l t).kept [
+                    let d = ends_line r l t in
+                    let back = λ (same : r ≡ p). ne (sym same) in
+                    rw t (elim d.state.kept [
                       | inl gone ↦ gone
                       | inr more ↦ elim more [
-                        | inl held ↦ let bad : is_invalid I ≡ false = subst (λ v. is_invalid v ≡ false) (f.unique l p r was ne) held in cc
-                        | inr beside ↦ let bad = beside p (λ same. ne (sym same)) in cc
+                        | inl held ↦ let bad = rw (f.unique l p r was ne) at held in cc
+                        | inr kinds ↦ elim kinds [
+                          | inl taken ↦ let bad = rw (alone r l d taken p back) at was in cc
+                          | inr taken ↦ let bad = beside r l d taken p back in cc
+                        ]
                       ]
                     ])
               ]
@@ -240,9 +223,13 @@ module _ (h : Header) (past : Trace) (q : ℕ) where
               | inl same ↦ same
               | inr apart ↦
                   let was : is_dirty (state_of h past b l) ≡ true = rw (state_beside b l (λ same. apart (d.port ∙ sym same))) at db in
-                  elim (d.dirty (rw t at da)) [
+                  elim (d.state.dirty (rw t at da)) [
                     | inl own ↦ f.one_dirty l a b own was
-                    | inr clean ↦ let bad = clean b apart in cc
+                    | inr came ↦ elim came [
+                      | inl passed ↦
+                          let clean = settled_clean (state_of h past b l) (subst (AllSettled h past) d.line (d.arrives.dirty passed) b) in cc
+                      | inr taken ↦ let clean = ap is_dirty (alone a l d taken b apart) in cc
+                    ]
                   ]
             ]
 

@@ -1,6 +1,6 @@
 -- AR and AW: a transaction is issued, under a name that nothing outstanding has.
-use Rattle.std.proofs.Common.{◌≡◌, ◌==◌, ℕ, Bool, true, false, ◌∷◌, Some, is_none, refl, sym, subst, inl, inr}
-use Rattle.ace_model.proofs.Terms.{Header, Read, Ar, Aw, Transaction, Trace, is_some_and, beats_of, read_kind, is_on, outstanding, newest_named, transfers}
+use Rattle.std.proofs.Common.{◌≡◌, ℕ, Bool, true, false, ◌∷◌, Some, is_none, refl, inl, inr}
+use Rattle.ace_model.proofs.Terms.{Header, Read, Ar, Aw, Transaction, Trace, is_on, outstanding, newest_named}
 use Rattle.ace_model.proofs.Terms.{granted, state_of, k4}
 use Rattle.ace_model.proofs.Trace.Looks.{has_name-is}
 use Rattle.ace_model.proofs.Trace.Outstanding.{read_issued, write_issued, outstanding_new, outstanding_stays, failed_issued, other_name, named_read}
@@ -35,8 +35,7 @@ module _ (h : Header) (past : Trace) (f : OneHolder h past) where
           let s = f.queue p n i ace low e in
           let stays = outstanding_stays h past (read_issued past q j addr snoop dom bar lock) p Read i s.0 k s.1 in
           let other = named_read past q j addr snoop dom bar lock p i false stays.0 in
-          let same : transfers (Ar q j addr snoop dom bar lock ∷ past) p i ≡ transfers past p i = rw other refl in
-          (s.0, stays.1, subst (λ m. is_some_and (read_kind s.0) (λ c. m == beats_of c) ≡ true) (sym same) s.2)
+          (s.0, stays.1, rw other s.2)
 
       pub keeps_ar : k4 h past (Ar q j addr snoop dom bar lock) ≡ true → OneHolder h (Ar q j addr snoop dom bar lock ∷ past)
       keeps_ar k = assumption (f, grants_issued (read_issued past q j addr snoop dom bar lock) k, arrive_ar, queue_ar k)

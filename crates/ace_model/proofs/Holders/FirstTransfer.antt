@@ -1,6 +1,6 @@
 -- The first transfer of a read at an ACE port: what its snoops and its response say of the other ports.
-use Rattle.std.proofs.Common.{◌≡◌, ◌≢◌, ◌⊎◌, ℕ, ◌<◌, true, false, not, ◌&&◌, ◌||◌, nat_eq, nat_lt, Option, Some, None, is_none, is_some, refl, sym, ap, subst, ◌∙◌, inl, inr}
-use Rattle.std.proofs.lemmas.Bool.{and_parts, or_cases, or_left, or_right, cases_Bool, eqb-true, ltb-true, not-true, not_from_false}
+use Rattle.std.proofs.Common.{◌≡◌, ◌≢◌, ◌⊎◌, ℕ, ◌<◌, true, false, not, ◌&&◌, ◌||◌, nat_eq, nat_lt, Option, Some, None, is_none, is_some, refl, sym, ap, ◌∙◌, inl, inr}
+use Rattle.std.proofs.lemmas.Bool.{and_parts, or_left, or_right, cases_Bool, ne_eqb, ltb-true, not-true, not_from_false}
 use Rattle.ace_model.proofs.Terms.{ArKind, SnoopKind, I, passes_dirty, is_shared, Header, snoop_of_read, is_invalid, is_unique, Answer, Transaction, Trace, implies, is_some_and, is_none_or, is_clean_unique}
 use Rattle.ace_model.proofs.Terms.{is_read_not_shared_dirty, may_be_shared, takes_passed_data, is_ace, read_kind, write_kind, snoop_of, snoop_kind_of, is_exclusive_store, granted, is_granted, was_snooped}
 use Rattle.ace_model.proofs.Terms.{answer_of, owes_answer, owes_data, each_port, shares, passes, has_sharer, passer, has_passed_data, are_passed_data_whole, has_failed, state_of}
@@ -31,23 +31,19 @@ module _ (h : Header) (past : Trace) where
             let here = each_at h.ports (is_port_done h past x) r all low in
             let parts = and_parts (not (owes_answer past r x.addr) && not (owes_data past r x.addr)) _ here in
             let owes_none = not-true (owes_answer past r x.addr) (and_parts (not (owes_answer past r x.addr)) _ parts.0).0 in
-            elim (or_cases ((nat_eq r x.port || not (is_ace h r)) || is_invalid (state_of h past r x.addr)) (was_snooped past r x.addr) parts.1) [
-              | inr snooped ↦
-                  let a = has_answered (answer_of past r x.addr) snooped owes_none in
+            let other : nat_eq r x.port ≡ false = ne_eqb r x.port (λ e. ne (sym e)) in
+            elim (cases_Bool (is_invalid (state_of h past r x.addr))) [
+              | inl none ↦ inl (is_invalid-is (state_of h past r x.addr) none)
+              | inr held ↦
+                  let snooped : was_snooped past r x.addr ≡ true = rw (other, ace, held) at parts.1 in
+                  let a = has_answered (answer_of past r x.addr) (rw snooped at owes_none) in
                   inr (record { low = low; answer = a.0; is = a.1 })
-              | inl e ↦ elim (or_cases (nat_eq r x.port || not (is_ace h r)) (is_invalid (state_of h past r x.addr)) e) [
-                | inr v ↦ inl (is_invalid-is (state_of h past r x.addr) v)
-                | inl e ↦ elim (or_cases (nat_eq r x.port) (not (is_ace h r)) e) [
-                  | inl own ↦ absurd (ne (sym (eqb-true r x.port own)))
-                  | inr lite ↦ let bad : not true ≡ true = rw ace at lite in cc
-                ]
-              ]
             ]
       ]
     where
-      has_answered : (o : Option Answer) → was_snooped past r x.addr ≡ true → (was_snooped past r x.addr && is_none o) ≡ false → (a : Answer) × (o ≡ Some a)
-      has_answered None s e = let bad : true ≡ false = rw s at e in cc
-      has_answered (Some a) s e = (a, refl)
+      has_answered : (o : Option Answer) → is_none o ≡ false → (a : Answer) × (o ≡ Some a)
+      has_answered None e = cc
+      has_answered (Some a) e = (a, refl)
 
   module _ (x : Transaction) (k : ArKind) (resp : ℕ) where
     -- What K19 says of the response to a read of this kind.
@@ -85,15 +81,11 @@ module _ (h : Header) (past : Trace) where
       done_ports : (s : SnoopKind) → snoop_of_read k ≡ Some s → (is_clean_unique k ≡ true → has_failed past x ≡ true → ⊥)
           → each_port h.ports (is_port_done h past x) ≡ true
       done_ports s is passed =
-          elim (or_cases (is_none (snoop_of x) || has_failed past x) (each_port h.ports (is_port_done h past x)) d.done) [
-            | inr t ↦ t
-            | inl early ↦ elim (or_cases (is_none (snoop_of x)) (has_failed past x) early) [
-              | inl t ↦ let bad : false ≡ true = rw (causes s is) at t in cc
-              | inr failed ↦
-                  let store = (and_parts (is_exclusive_store x) _ failed).0 in
-                  let clean : is_clean_unique k ≡ true = subst (λ o. is_some_and o is_clean_unique ≡ true) d.kind (and_parts x.lock _ store).1 in
-                  absurd (passed clean failed)
-            ]
+          elim (cases_Bool (has_failed past x)) [
+            | inr fine ↦ rw (causes s is, fine) at d.done
+            | inl failed ↦
+                let store = (and_parts (is_exclusive_store x) _ failed).0 in
+                absurd (passed (rw d.kind at (and_parts x.lock _ store).1) failed)
           ]
 
       -- where the response doesn't say IsShared, no answer does
@@ -105,7 +97,7 @@ module _ (h : Header) (past : Trace) where
           let ace = d.ace in
           let sharer : has_sharer h past x.addr ≡ false = rw (ace, may) at none in
           let port : is_some_and (answer_of past r x.addr) (λ v. is_shared v.resp) ≡ false = none_at h.ports (shares past x.addr) r sharer low in
-          subst (λ o. is_some_and o (λ (v : Answer). is_shared v.resp) ≡ false) is port
+          rw is at port
 
       -- so a read that takes the line alone finds the others with nothing
       pub first_alone : takes_alone k (is_shared resp) (has_failed past x) ≡ true → OthersInvalid h past x.port x.addr

@@ -1,10 +1,10 @@
 -- G: the line is granted to a transaction. It was free, and there is no snoop and no answer under the new grant.
-use Rattle.std.proofs.Common.{◌≡◌, ℕ, ◌+◌, ◌≤◌, true, false, not, ◌&&◌, ◌∷◌, length, Option, Some, None, refl, sym, ap, subst, ◌∙◌, arith, inl, inr}
+use Rattle.std.proofs.Common.{◌≡◌, ℕ, ◌+◌, ◌≤◌, true, false, not, ◌&&◌, ◌∷◌, length, Option, Some, None, refl, sym, ap, ◌∙◌, arith, inl, inr}
 use Rattle.std.proofs.lemmas.Bool.{and_parts, and_from, cases_Bool, eq-eqb}
 use Rattle.ace_model.proofs.Terms.{Header, Channel, Read, G, Transaction, Trace, newer, is_on, is_line, is_some_on, has_name, transaction_of, outstanding, takes_grant, is_exclusive_store}
 use Rattle.ace_model.proofs.Terms.{granted, has_grant, has_failed, is_false, passed_at_grant, store_result, state_of, k12, may_be_granted}
-use Rattle.ace_model.proofs.Trace.Looks.{has_name-is, newest_on-cases, newest_on-older, is_on-addr}
-use Rattle.ace_model.proofs.Trace.Issued.{outstanding-named, transaction_of-stands}
+use Rattle.ace_model.proofs.Trace.Looks.{has_name-is, at_name, newest_on-cases, newest_on-older, is_on-addr}
+use Rattle.ace_model.proofs.Trace.Issued.{outstanding-name, outstanding-named, transaction_of-stands}
 use Rattle.ace_model.proofs.Trace.Snoops.{snoops-before}
 use Rattle.ace_model.proofs.General.Options.{Some-injective, none_is, is_some_and-is}
 use Rattle.ace_model.proofs.Tables.States.{Lessens-self}
@@ -36,7 +36,7 @@ module _ (h : Header) (past : Trace) (q : ℕ) (c : Channel) (j : ℕ) where
   other_line l x k g =
       let m = may_grant k in
       elim (cases_Bool (is_on m.granted_one l)) [
-        | inl t ↦ let free : granted h past l ≡ None = subst (λ a. granted h past a ≡ None) (is_on-addr m.granted_one l t) m.free in cc
+        | inl t ↦ let free = rw (is_on-addr m.granted_one l t) at m.free in cc
         | inr other ↦ rw m.named other
       ]
 
@@ -50,13 +50,9 @@ module _ (h : Header) (past : Trace) (q : ℕ) (c : Channel) (j : ℕ) where
       is_x y is named =
           let mine = has_name-is y x.port Read x.id named in
           let its = has_name-is y q c j (transaction_of-stands past q c j y is).named in
-          let named_x = outstanding-named h past p Read i x o in
-          let name = has_name-is x p Read i (transaction_of-stands past p Read i x named_x).named in
-          let same : transaction_of past q c j ≡ transaction_of past p Read i =
-          ap (λ a. transaction_of past a c j) (sym its.port ∙ mine.port ∙ name.port)
-          ∙ ap (λ a. transaction_of past p a j) (sym its.chan ∙ mine.chan)
-          ∙ ap (transaction_of past p Read) (sym its.id ∙ mine.id ∙ name.id) in
-          Some-injective y x (sym is ∙ same ∙ named_x)
+          let look = transaction_of past in
+          let same = sym (at_name look y q c j its) ∙ at_name look y x.port Read x.id mine ∙ at_name (λ a d. look a Read) x p Read i (outstanding-name h past p Read i x o) in
+          Some-injective y x (sym is ∙ same ∙ outstanding-named h past p Read i x o)
 
       unmoved : (v : Option Transaction) → transaction_of past q c j ≡ v → store_result past v x.port x.id ≡ None
       unmoved None is = refl
@@ -66,8 +62,8 @@ module _ (h : Header) (past : Trace) (q : ℕ) (c : Channel) (j : ℕ) where
             | inl t ↦
                 let one = is_x y is (and_parts (has_name y x.port Read x.id) _ t).0 in
                 let here : is_on x x.addr ≡ true = and_from _ _ line (eq-eqb x.addr x.addr refl) in
-                let there : is_on y x.addr ≡ true = subst (λ v. is_on v x.addr ≡ true) (sym one) here in
-                let isnt : is_on y x.addr ≡ false = subst (λ v. is_some_on v x.addr ≡ false) is other in
+                let there : is_on y x.addr ≡ true = rw one here in
+                let isnt : is_on y x.addr ≡ false = rw is at other in
                 cc
           ]
 

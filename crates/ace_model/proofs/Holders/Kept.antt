@@ -1,10 +1,9 @@
 -- What an event keeps that ends one transaction at most, or lessens the states that the ports hold.
-use Rattle.std.proofs.Common.{◌≡◌, ◌≢◌, ℕ, Bool, true, false, ◌∷◌, Some, refl, sym, ap, ◌∙◌, inl, inr}
+use Rattle.std.proofs.Common.{◌≡◌, ◌≢◌, ℕ, Bool, true, false, ◌∷◌, Some, refl, sym, ◌∙◌, inl, inr}
 use Rattle.std.proofs.lemmas.Bool.{cases_Bool}
-use Rattle.ace_model.proofs.Terms.{Channel, Read, passes_dirty, is_shared, Header, Event, Ar, Aw, Ac, Cr, G, Transaction, Trace, is_ace, is_line, is_some_and, is_unique, is_dirty, first_resp}
+use Rattle.ace_model.proofs.Terms.{Channel, Read, is_shared, Header, Event, Ar, Aw, Ac, Cr, G, Transaction, Trace, is_ace, is_line, is_unique, is_dirty, first_resp}
 use Rattle.ace_model.proofs.Terms.{transfers, outstanding, ended, without, snoops_of, granted, grant_place, answer_of, has_failed, state_of, UniqueNow, OneDirtyNow}
 use Rattle.ace_model.proofs.Tables.States.{Lessens}
-use Rattle.ace_model.proofs.Tables.ReadEnds.{takes_alone}
 use Rattle.ace_model.proofs.Tables.Less.{leaves_kept}
 use Rattle.ace_model.proofs.Trace.Looks.{without-some, without-other, was_there}
 use Rattle.ace_model.proofs.Holders.Facts.{Arrives, GrantsStand, SnoopsFit, AnswersFit, PassedOn, TransfersArrive, OutsideInvalid, OneHolder}
@@ -53,14 +52,9 @@ module _ (h : Header) (past : Trace) where
       → Arrives h past p i x → Arrives h (e ∷ past) p i x
   arrives_kept e p i x g first failed less a = record {
     stands = g;
-    alone = λ k is t r ne. (less r).gone
-        (a.alone k is
-        (sym (ap (λ o. takes_alone k (is_some_and o is_shared) (has_failed past x)) first)
-        ∙ sym (ap (λ b. takes_alone k (is_some_and (first_resp (e ∷ past) p i) is_shared) b) failed)
-        ∙ t)
-        r ne);
+    alone = λ k is t r ne. (less r).gone (a.alone k is (rw (first, failed) at t) r ne);
     beside = λ k is t r ne. (less r).not_unique (a.beside k is t r ne);
-    dirty = λ t r. (less r).settled (a.dirty (sym (ap (λ o. is_some_and o passes_dirty) first) ∙ t) r);
+    dirty = λ t r. (less r).settled (a.dirty (rw first at t) r);
   }
 
   -- The facts of grants, snoops and answers after the event.

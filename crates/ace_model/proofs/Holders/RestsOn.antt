@@ -29,32 +29,18 @@ pub accepted_keeps_each : (h : Header) (past : Trace) (e : Event) → IsAccepted
 accepted_keeps_each h past e a = keeps_each h past e (of_accepted h (e ∷ past) a)
 
 -- events that are known today keep the rules of WK, S and D, since they are none
-known_28 : (h : Header) (past : Trace) (e : Event) → is_known_today e ≡ true → k28 h past e ≡ true
-known_28 h past (Wk q st) t = cc
-known_28 h past e t = refl
-
-known_29 : (h : Header) (past : Trace) (e : Event) → is_known_today e ≡ true → k29 h past e ≡ true
-known_29 h past (S q addr st) t = cc
-known_29 h past e t = refl
-
-known_32 : (h : Header) (past : Trace) (e : Event) → is_known_today e ≡ true → k32 h past e ≡ true
-known_32 h past (D q addr strobe x line) t = cc
-known_32 h past e t = refl
+known_keeps : (h : Header) (past : Trace) (e : Event) → is_known_today e ≡ true → (k28 h past e ≡ true) × (k29 h past e ≡ true) × (k32 h past e ≡ true)
+known_keeps h past (Wk q st) t = cc
+known_keeps h past (S q addr st) t = cc
+known_keeps h past (D q addr strobe x line) t = cc
+known_keeps h past e t = (refl, refl, refl)
 
 -- what is accepted by the rules of today is accepted by these
 pub of_accepted_today : (h : Header) (t : Trace) → IsAcceptedBy rules_today h t → IsAcceptedBy holder_rules h t
 of_accepted_today h [] a = tt
 of_accepted_today h (e ∷ past) a =
-    let known = (and_parts (has_known_codes h e) (is_known_today e) (kept rules_today 2 h past e a.1)).1 in
-    let k1' = kept rules_today 1 h past e a.1 in
-    let k4' = kept rules_today 4 h past e a.1 in
-    let k12' = kept rules_today 12 h past e a.1 in
-    let k13' = kept rules_today 13 h past e a.1 in
-    let k15' = kept rules_today 15 h past e a.1 in
-    let k18' = kept rules_today 18 h past e a.1 in
-    let k19' = kept rules_today 19 h past e a.1 in
-    let k22' = kept rules_today 22 h past e a.1 in
-    let k23' = kept rules_today 23 h past e a.1 in (
+    let known = known_keeps h past e (and_parts (has_known_codes h e) (is_known_today e) (kept rules_today 2 h past e a.1)).1 in
+    let k = λ (n : ℕ). kept rules_today n h past e a.1 in (
       of_accepted_today h past a.0,
-      rw (k1', k4', k12', k13', k15', k18', k19', k22', k23', known_28 h past e known, known_29 h past e known, known_32 h past e known) refl,
+      rw (k 1, k 4, k 12, k 13, k 15, k 18, k 19, k 22, k 23, known.0, known.1, known.2) refl,
     )

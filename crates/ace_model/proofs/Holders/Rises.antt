@@ -1,20 +1,20 @@
 -- A port comes to hold more of a line by the RK of its own read alone, and makes it dirty by that or by a store alone.
-use Rattle.std.proofs.Common.{◌≡◌, ◌⊎◌, ℕ, Bool, true, false, ◌||◌, nat_eq, [], ◌∷◌, length, Some, refl, sym, ap, subst, ◌∙◌, inl, inr}
+use Rattle.std.proofs.Common.{◌≡◌, ◌⊎◌, ℕ, Bool, true, false, ◌||◌, [], ◌∷◌, length, Some, refl, ap, ◌∙◌, inl, inr}
 use Rattle.std.proofs.lemmas.Bool.{and_parts, or_cases, cases_Bool, eqb-true}
 use Rattle.ace_model.proofs.Terms.{LineState, I, Channel, Read, Event, Ar, Rk, Aw, D, Header, starts_read, starts_write, is_dirty, Transaction}
-use Rattle.ace_model.proofs.Terms.{Trace, is_some_and, is_none_or, reads_a_line, is_granted_write, is_line, is_on, issued, ended, read_kind, write_kind, outstanding, acknowledged, state_of}
+use Rattle.ace_model.proofs.Terms.{Trace, is_some_and, is_none_or, reads_a_line, is_granted_write, is_line, is_on, issued, ended, read_kind, write_kind, outstanding, state_of}
 use Rattle.ace_model.proofs.Terms.{is_line_read_transaction, starts_well, may_store, IsAccepted}
 use Rattle.ace_model.proofs.Trace.Looks.{has_name-is, newest_named-cases, without-some}
 use Rattle.ace_model.proofs.Rules.Keeps.{accepted_keeps}
 use Rattle.ace_model.proofs.Tables.States.{Lessens, Lessens-same}
 use Rattle.ace_model.proofs.Holders.Stores.{stores, is_named_by_d}
 use Rattle.ace_model.proofs.Holders.Lessened.{less_by, lessened_by}
-use Rattle.ace_model.proofs.Holders.Acknowledge.{Ends, ends, is_named_by_rk}
+use Rattle.ace_model.proofs.Holders.Acknowledge.{Ends, EndsLine, ends, ends_line, is_named_by_rk}
 use Rattle.ace_model.proofs.Holders.Facts.{Arrives}
 use Rattle.ace_model.proofs.Holders.RestsOn.{accepted_keeps_each}
 use Rattle.ace_model.proofs.Holders.Law.{accepted_holds}
 use Rattle.ace_model.proofs.Trace.LineOnce.{one_on_line}
-use Rattle.ace_model.proofs.General.Options.{Some-injective, is_some_and-is, is_none_or-at}
+use Rattle.ace_model.proofs.General.Options.{is_some_and-is, is_none_or-at}
 use Rattle.ace_model.proofs.General.Booleans.{implies-at}
 use Rattle.ace_model.proofs.Tables.Less.{less-clean}
 use Rattle.ace_model.proofs.Tables.StartStates.{read_starts, write_starts}
@@ -37,20 +37,19 @@ module _ (h : Header) (past : Trace) where
   ends_of q st a =
       ends h past q st (accepted_holds h past a.0) (accepted_keeps h past (Rk q st) a).rule_1 (accepted_keeps h past (Rk q st) a).rule_22
 
-  raised : (q : ℕ) (st : LineState) → Ends h past q → (p l : ℕ) → is_named_by_rk past q p l ≡ true → Raised (Rk q st) p l
-  raised q st e p l t =
-      let parts = and_parts (nat_eq p q) _ t in
-      let port = eqb-true p q parts.0 in
-      let y = is_some_and-is (acknowledged past p Read) (λ x. is_on x l) parts.1 in
-      let one : y.0 ≡ e.ended_one = Some-injective y.0 e.ended_one (sym y.1 ∙ ap (λ a. acknowledged past a Read) port ∙ e.is) in
-      let on : is_on e.ended_one l ≡ true = subst (λ (x : Transaction). is_on x l ≡ true) one y.2 in
+  pub ends_line_of : (q : ℕ) (st : LineState) → IsAccepted h (Rk q st ∷ past) → (p l : ℕ) → is_named_by_rk past q p l ≡ true → EndsLine h past q st p l
+  ends_line_of q st a = ends_line h past q st (accepted_keeps h past (Rk q st) a).rule_23 (ends_of q st a)
+
+  raised : (q : ℕ) (st : LineState) → IsAccepted h (Rk q st ∷ past) → (p l : ℕ) → is_named_by_rk past q p l ≡ true → Raised (Rk q st) p l
+  raised q st a p l t =
+      let d = ends_line_of q st a p l t in
       record {
-        read_one = e.ended_one;
-        id = e.id;
-        out = ap (λ a. outstanding h past a Read e.id) port ∙ e.out;
-        on = on;
-        ends_it = e.is;
-        arrives = subst (λ a. Arrives h past a e.id e.ended_one) (sym port) (e.arrives (and_parts (is_line e.ended_one) _ on).0);
+        read_one = d.one;
+        id = d.id;
+        out = d.out;
+        on = d.on;
+        ends_it = d.ends_it;
+        arrives = d.arrives;
         port = q;
         st = st;
         is = refl;
@@ -63,7 +62,7 @@ module _ (h : Header) (past : Trace) where
   state_moves (Rk q st) a p l =
       elim (cases_Bool (is_named_by_rk past q p l)) [
         | inr f ↦ inl (Lessens-same _ _ (rw f refl))
-        | inl t ↦ inr (raised q st (ends_of q st a) p l t)
+        | inl t ↦ inr (raised q st a p l t)
       ]
   state_moves e a p l = inl (lessened_by h past e (accepted_keeps_each h past e a) refl l p)
 
@@ -73,7 +72,7 @@ module _ (h : Header) (past : Trace) where
   dirty_moves (Rk q st) a p l d =
       elim (cases_Bool (is_named_by_rk past q p l)) [
         | inr f ↦ inl (rw f d)
-        | inl t ↦ inr (inr (raised q st (ends_of q st a) p l t))
+        | inl t ↦ inr (inr (raised q st a p l t))
       ]
   dirty_moves (D q addr strobe x line) a p l d =
       elim (cases_Bool (is_named_by_d h past q addr p l)) [
@@ -115,9 +114,7 @@ stays_empty h (e ∷ past) a p c i l x o on empty =
       | inl new ↦
           let parts = and_parts (is_line x) _ on in
           let well = is_none_or-at (issued (length past) e) (starts_well h past) x (accepted_keeps h past e a).rule_6 new.0 in
-          issue_leaves h past e x p l new.0
-          ∙ ap (λ b. state_of h past b l) (sym (has_name-is x p c i new.1).port) ∙ ap (state_of h past x.port) (sym (eqb-true x.addr l parts.1))
-          ∙ starts h past x well parts.0 empty
+          issue_leaves h past e x p l new.0 ∙ rw (← (has_name-is x p c i new.1).port, ← eqb-true x.addr l parts.1) (starts h past x well parts.0 empty)
       | inr old ↦
           let w = without-some (ended h past e) (outstanding h past p c i) x old.0 in
           let was = stays_empty h past a.0 p c i l x w.0 on empty in

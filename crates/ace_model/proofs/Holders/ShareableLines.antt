@@ -1,17 +1,15 @@
 -- A line that a port holds is shareable: a transaction of it was issued that isn't NoSnoop, and then each one is.
-use Rattle.std.proofs.Common.{◌≡◌, ℕ, true, false, nat_eq, [], ◌∷◌, length, Some, refl, sym, ap, subst, ◌∙◌, inl, inr}
+use Rattle.std.proofs.Common.{◌≡◌, ℕ, true, false, nat_eq, [], ◌∷◌, length, Some, refl, sym, ap, ◌∙◌, inl, inr}
 use Rattle.std.proofs.lemmas.Bool.{and_parts, cases_Bool, eqb-true}
-use Rattle.ace_model.proofs.Terms.{LineState, I, Header, Event, Rk, is_invalid, Transaction, Trace, is_line, is_on, issued, each_issued, state_of, k8, is_no_snoop, is_used_alike, fits_line, IsAccepted}
+use Rattle.ace_model.proofs.Terms.{Read, LineState, I, Header, Event, Rk, is_invalid, Transaction, Trace, is_line, is_on, issued, each_issued, state_of, k8, is_no_snoop, is_used_alike, fits_line, IsAccepted}
 use Rattle.ace_model.proofs.Trace.Growth.{IsIssued, issued-old, issued-cases, named-issued, each_issued-at}
-use Rattle.ace_model.proofs.Trace.Issued.{outstanding-named}
 use Rattle.ace_model.proofs.Rules.Keeps.{accepted_keeps}
 use Rattle.ace_model.proofs.Tables.States.{is_invalid-is}
 use Rattle.ace_model.proofs.Holders.Kept.{LessenedAt}
-use Rattle.ace_model.proofs.Holders.Acknowledge.{is_named_by_rk, ends_line}
+use Rattle.ace_model.proofs.Holders.Acknowledge.{is_named_by_rk}
 use Rattle.ace_model.proofs.Holders.RestsOn.{accepted_keeps_each}
 use Rattle.ace_model.proofs.Holders.Lessened.{lessened_by}
-use Rattle.ace_model.proofs.Holders.Rises.{ends_of}
-use Rattle.ace_model.proofs.Holders.Law.{accepted_holds}
+use Rattle.ace_model.proofs.Holders.Rises.{ends_line_of}
 use Rattle.ace_model.proofs.General.Options.{Some-injective, is_none_or-at}
 use Rattle.ace_model.proofs.General.Booleans.{implies-at, same_test-at}
 use Rattle.ace_model.proofs.Tables.ReadSnoops.{takes_snoops, read_snoops}
@@ -29,7 +27,7 @@ alike_new h past e x y l k new old on_x on_y =
     let parts = and_parts (is_line x) (nat_eq x.addr l) on_x in
     let each = implies-at (is_line x) (each_issued past (is_used_alike x)) fits parts.0 in
     let alike = each_issued-at past (is_used_alike x) y.place y each old.there in
-    let here : is_on y x.addr ≡ true = subst (λ a. is_on y a ≡ true) (sym (eqb-true x.addr l parts.1)) on_y in
+    let here : is_on y x.addr ≡ true = rw (eqb-true x.addr l parts.1) on_y in
     same_test-at (is_no_snoop x) (is_no_snoop y) (implies-at (is_on y x.addr) _ alike here)
 
 pub used_alike : (h : Header) (past : Trace) → IsAccepted h past → UsedAlike past
@@ -66,8 +64,7 @@ shareable_kept : (h : Header) (past : Trace) (e : Event) → ((l : ℕ) → Less
 shareable_kept h past e less f p l held =
     elim (cases_Bool (is_invalid (state_of h past p l))) [
       | inl none ↦
-          let gone : state_of h (e ∷ past) p l ≡ I = (less l p).gone (is_invalid-is (state_of h past p l) none) in
-          let bad : is_invalid I ≡ false = subst (λ s. is_invalid s ≡ false) gone held in cc
+          let bad = rw ((less l p).gone (is_invalid-is (state_of h past p l) none)) at held in cc
       | inr was ↦ later e past l (f p l was)
     ]
 
@@ -77,20 +74,18 @@ shareable_rk h past q st a s p l held =
     elim (cases_Bool (is_named_by_rk past q p l)) [
       | inr other ↦ later (Rk q st) past l (s p l (rw other at held))
       | inl t ↦
-          let d = ends_line h past q st (accepted_keeps h past (Rk q st) a).rule_23 (ends_of h past q st a) p l t in
+          let d = ends_line_of h past q st a p l t in
           let some : is_invalid st ≡ false = rw t at held in
-          elim d.came [
+          elim d.state.kept [
             | inl none ↦ let bad : is_invalid st ≡ true = ap is_invalid none in cc
             | inr more ↦ elim more [
               | inl was ↦ later (Rk q st) past l (s p l was)
               | inr taken ↦
-                  let y = d.stands.0 in
-                  let g = (accepted_holds h past a.0).grants l y d.stands.2 in
                   record {
-                    one = y;
-                    stands = issued-old (Rk q st) past y (named-issued past y.port y.chan y.id y (outstanding-named h past y.port y.chan y.id y g.0));
-                    on = g.1;
-                    snoops = read_snoops y d.kind d.is_kind (takes_snoops d.kind d.shared d.failed taken);
+                    one = d.one;
+                    stands = issued-old (Rk q st) past d.one (named-issued past p Read d.id d.one d.named);
+                    on = d.on;
+                    snoops = read_snoops d.one d.kind d.is_kind (takes_snoops d.kind _ _ taken);
                   }
             ]
           ]

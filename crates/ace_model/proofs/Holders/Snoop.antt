@@ -1,13 +1,13 @@
 -- AC and CR: a port is snooped, and answers by a row of the snoop.
-use Rattle.std.proofs.Common.{◌≡◌, ◌≢◌, ℕ, Bool, true, false, not, if◌then◌else◌, ◌&&◌, nat_eq, nat_le, ◌∷◌, Some, None, length, refl, sym, ap, subst, ◌∙◌, inl, inr}
+use Rattle.std.proofs.Common.{◌≡◌, ◌≢◌, ℕ, true, false, not, ◌&&◌, nat_eq, nat_le, ◌∷◌, Some, length, refl, sym, ap, subst, ◌∙◌, inl, inr}
 use Rattle.std.proofs.lemmas.Bool.{and_parts, and_from, not-true, cases_Bool, cases_eq, eqb-true, leb-true}
-use Rattle.ace_model.proofs.Terms.{SnoopKind, LineState, I, is_shared, passes_dirty, ac_code, ac_kind_of, Header, Ac, Cr, is_snoop_row, is_unique, is_dirty, Answer, Snoop}
+use Rattle.ace_model.proofs.Terms.{SnoopKind, LineState, is_shared, passes_dirty, ac_code, ac_kind_of, Header, Ac, Cr, is_snoop_row, is_unique, is_dirty, Answer, Snoop}
 use Rattle.ace_model.proofs.Terms.{Transaction, Trace, is_some_and, is_line_snoop, takes_passed_data, read_kind, write_kind, snoop_of, snoop_kind_of, snoop_at, snoops_of, snoops_a_line, answers, answered}
 use Rattle.ace_model.proofs.Terms.{is_snoop_on, answers_line, granted, grant_place, answers_grant, was_snooped, has_failed, state_of, k13, k15, answers_by_row, has_snoop_code, may_snoop, may_snoop_for}
 use Rattle.ace_model.proofs.General.Lists.{slice_get-more}
-use Rattle.ace_model.proofs.Tables.States.{is_settled, Leaves, Row, row_is}
+use Rattle.ace_model.proofs.Tables.States.{is_settled, Row, row_is}
 use Rattle.ace_model.proofs.Holders.Facts.{SnoopsFit, AnswersFit, PassedOn, TransfersArrive, OneHolder}
-use Rattle.ace_model.proofs.General.Options.{Some-injective, is_some_and-is, is_some_and-at, is_none_or-at}
+use Rattle.ace_model.proofs.General.Options.{Some-injective, some_if-is, is_some_and-is, is_some_and-at, is_none_or-at}
 use Rattle.ace_model.proofs.General.Booleans.{implies-at}
 use Rattle.ace_model.proofs.Tables.Less.{Less, less_where, less-lessens, less-clean, leaves_kept, settled}
 use Rattle.ace_model.proofs.Tables.ReadSnoops.{kind_of_code, passed_snoop, not_unique_after}
@@ -19,7 +19,9 @@ module _ (h : Header) (past : Trace) where
   snoops_ac q addr code f k r n l s x e on place g =
       elim (slice_get-more (snoops_of past r) (snoop_at (length past) (Ac q addr code) r) n s e) [
         | inl old ↦ f.snoops r n l s x old on place g
-        | inr new ↦ is_new (nat_eq r q) new.1
+        | inr new ↦
+            let same = (some_if-is (nat_eq r q) _ s new.1).1 in
+            subst (λ (t : Snoop). has_snoop_code x t.snoop ≡ true) same (causes (subst (λ (t : Snoop). is_snoop_on t l ≡ true) (sym same) on))
       ]
     where
       causes : is_snoop_on (record { place = length past; addr = addr; snoop = code }) l ≡ true → has_snoop_code x code ≡ true
@@ -31,12 +33,6 @@ module _ (h : Header) (past : Trace) where
           (ap (granted h past) (eqb-true addr l parts.1) ∙ g) in
           let three = and_parts ((not (nat_eq x.port q) && has_snoop_code x code) && not (has_failed past x)) _ for in
           (and_parts (not (nat_eq x.port q)) (has_snoop_code x code) (and_parts (not (nat_eq x.port q) && has_snoop_code x code) _ three.0).0).1
-
-      is_new : (b : Bool) → (if b then Some (record { place = length past; addr = addr; snoop = code }) else None) ≡ Some s → has_snoop_code x s.snoop ≡ true
-      is_new true is =
-          let same = Some-injective _ s is in
-          subst (λ (t : Snoop). has_snoop_code x t.snoop ≡ true) same (causes (subst (λ (t : Snoop). is_snoop_on t l ≡ true) (sym same) on))
-      is_new false is = cc
 
   pub keeps_ac : (q addr code : ℕ) → OneHolder h past → k13 h past (Ac q addr code) ≡ true → OneHolder h (Ac q addr code ∷ past)
   keeps_ac q addr code f k = assumption (f, snoops_ac q addr code f k)
@@ -92,7 +88,7 @@ module _ (h : Header) (past : Trace) where
             let here : (nat_eq r q && answers_line past r l) ≡ true = and_from _ _ parts.0 line in
             let a = answers_cr r l here in
             let code = f.snoops r (answers past r) l s.0 x s.1 under.0 (leb-true (grant_place past l) s.0.place under.1) g in
-            let same_code : nat_eq (ac_code k) s.0.snoop ≡ true = subst (λ o. is_some_and o (λ c. nat_eq (ac_code c) s.0.snoop) ≡ true) causes code in
+            let same_code : nat_eq (ac_code k) s.0.snoop ≡ true = rw causes at code in
             let one : s.0 ≡ a.snooped = Some-injective s.0 a.snooped (sym s.1 ∙ a.is) in
             let kinds : Some k ≡ Some a.kind =
             sym (kind_of_code k) ∙ ap ac_kind_of (eqb-true (ac_code k) s.0.snoop same_code) ∙ ap (λ (v : Snoop). ac_kind_of v.snoop) one ∙ a.is_kind in
@@ -109,7 +105,7 @@ module _ (h : Header) (past : Trace) where
                   let now = answers_grant_cr r l x k t g causes in
                   let is : Some (record { place = length past; resp = resp; bursts = _ }) ≡ Some a = rw t at w in
                   let same : resp ≡ a.resp = ap (λ (v : Answer). v.resp) (Some-injective _ a is) in
-                  subst (λ v. Leaves k (is_shared a.resp) v) (sym now.named) (subst (λ n. Leaves k (is_shared n) st) same now.row.leaves)
+                  rw (now.named, ← same) now.row.leaves
               | inr other ↦ leaves_kept k (is_shared a.resp) (state_of h past r l) _ (lessened_cr l r) (f.answers l r x a k g (rw other at w) causes)
             ]
 
@@ -119,7 +115,7 @@ module _ (h : Header) (past : Trace) where
             settled (state_of h past z l)
             (elim (cases_Bool (is_unique (state_of h past z l))) [
               | inr fine ↦ fine
-              | inl u ↦ let bad : is_dirty I ≡ true = subst (λ v. is_dirty v ≡ true) (f.unique l z r u apart) d in cc
+              | inl u ↦ let bad = rw (f.unique l z r u apart) at d in cc
             ])
             (elim (cases_Bool (is_dirty (state_of h past z l))) [
               | inr fine ↦ fine
@@ -141,9 +137,7 @@ module _ (h : Header) (past : Trace) where
                   let handed = now.row.passes (ap passes_dirty same ∙ dirty) in
                   elim (cases_eq z r) [
                     | inl own ↦
-                        subst (λ v. is_settled (state_of h (Cr q resp st ∷ past) v l) ≡ true) (sym own)
-                        (subst (λ v. is_settled v ≡ true) (sym now.named)
-                        (settled st (not_unique_after snooped.0 (is_shared resp) st snooped.2 now.row.leaves) (not-true (is_dirty st) handed.1)))
+                        rw (own, now.named) (settled st (not_unique_after snooped.0 (is_shared resp) st snooped.2 now.row.leaves) (not-true (is_dirty st) handed.1))
                     | inr apart ↦ (lessened_cr l z).settled (settled_beside r z l apart handed.0)
                   ]
             ]

@@ -1,7 +1,7 @@
 -- S and D: a silent transition, and a store.
-use Rattle.std.proofs.Common.{◌≡◌, ℕ, Bool, true, false, not, ◌&&◌, ◌||◌, nat_eq, ◌∷◌, refl, sym, ap, subst, ◌∙◌, inl, inr}
+use Rattle.std.proofs.Common.{◌≡◌, ℕ, Bool, true, false, not, ◌&&◌, ◌||◌, nat_eq, ◌∷◌, refl, sym, ◌∙◌, inl, inr}
 use Rattle.std.proofs.lemmas.Bool.{and_parts, or_cases, cases_Bool, cases_eq, eqb-true}
-use Rattle.ace_model.proofs.Terms.{LineState, I, UD, Header, Line, S, D, Trace, is_silent_move, is_unique, is_dirty, state_of, awaits_store}
+use Rattle.ace_model.proofs.Terms.{LineState, UD, Header, Line, S, D, Trace, is_silent_move, is_unique, is_dirty, state_of, awaits_store}
 use Rattle.ace_model.proofs.Terms.{is_in_make_unique, has_store, UniqueNow, OneDirtyNow, k29, k32, may_store, wants_store, full_line}
 use Rattle.ace_model.proofs.Tables.States.{lessens-is, silent_lessens}
 use Rattle.ace_model.proofs.Tables.Less.{Less, less-lessens, less-clean, less_where, unique_to_dirty, lessens_where}
@@ -19,9 +19,7 @@ module _ (h : Header) (past : Trace) (q addr : ℕ) where
       less_where (nat_eq r q && nat_eq l addr) (state_of h past r l) st (λ t.
       let parts = and_parts (nat_eq r q) (nat_eq l addr) t in
       let moves = (and_parts (is_silent_move (state_of h past q addr) st) _ k).0 in
-      let here : state_of h past q addr ≡ state_of h past r l =
-      ap (λ a. state_of h past a addr) (sym (eqb-true r q parts.0)) ∙ ap (λ b. state_of h past r b) (sym (eqb-true l addr parts.1)) in
-      subst (λ s. Less s st) here (silent_lessens (state_of h past q addr) st moves))
+      rw (eqb-true r q parts.0, eqb-true l addr parts.1) (silent_lessens (state_of h past q addr) st moves))
 
   pub keeps_s : (st : LineState) → OneHolder h past → k29 h past (S q addr st) ≡ true → OneHolder h (S q addr st ∷ past)
   keeps_s st f k =
@@ -51,10 +49,7 @@ module _ (h : Header) (past : Trace) (q addr : ℕ) where
         port = eqb-true r q (and_parts (nat_eq r q) (nat_eq l addr) parts.0).0
 
         here : (may_store h past r l || ((wants_store h past r l && not x) && nat_eq strobe full_line)) ≡ true
-        here =
-            let at = eqb-true l addr (and_parts (nat_eq r q) (nat_eq l addr) parts.0).1 in
-            subst (λ b. (may_store h past r b || ((wants_store h past r b && not x) && nat_eq strobe full_line)) ≡ true) (sym at)
-            (subst (λ a. (may_store h past a addr || ((wants_store h past a addr && not x) && nat_eq strobe full_line)) ≡ true) (sym port) k)
+        here = rw (port, eqb-true l addr (and_parts (nat_eq r q) (nat_eq l addr) parts.0).1) k
 
         may : may_store h past r l ≡ true
         may = elim (or_cases (may_store h past r l) _ here) [
@@ -83,8 +78,7 @@ module _ (h : Header) (past : Trace) (q addr : ℕ) where
                 | inl u ↦ (stores a l t).port ∙ sym (stores b l u).port
                 | inr other ↦
                     let was : is_dirty (state_of h past b l) ≡ true = rw other at d in
-                    let gone = f l a b (stores a l t).unique apart in
-                    let bad : is_dirty I ≡ true = subst (λ z. is_dirty z ≡ true) gone was in cc
+                    let bad = rw (f l a b (stores a l t).unique apart) at was in cc
               ]
         ]
 

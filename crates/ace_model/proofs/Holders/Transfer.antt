@@ -1,14 +1,14 @@
 -- R: a transfer of a read.
 use Rattle.std.proofs.Common.{◌≡◌, ◌⊎◌, ◌==◌, ℕ, ◌+◌, ◌<◌, ◌≤◌, Bool, true, false, ◌&&◌, nat_eq, nat_lt, ◌∷◌, Some, None, length, slice_get, refl, sym, ap, subst, ◌∙◌, arith, inl, inr}
+use Rattle.std.proofs.Math.Bool.{and-false}
 use Rattle.std.proofs.lemmas.Bool.{and_parts, and_from, cases_Bool, cases_eq, eqb-true, eq-eqb, ne_eqb, ltb-true}
-use Rattle.ace_model.proofs.Terms.{ArKind, passes_dirty, is_shared, Header, Channel, Read, R, Transaction, Trace, implies, is_some_and, beats_of, is_ace, read_kind, is_line, ended, transaction_of}
-use Rattle.ace_model.proofs.Terms.{outstanding, transfers, first_resp, completed, completes, acknowledgements, granted, is_granted, has_passed_data, has_failed, state_of, are_snoops_done, k18, k19, is_due}
+use Rattle.ace_model.proofs.Terms.{ArKind, Header, Channel, Read, R, Transaction, Trace, implies, is_some_and, beats_of, is_ace, read_kind, is_line, ended, transaction_of}
+use Rattle.ace_model.proofs.Terms.{outstanding, transfers, first_resp, completed, completes, acknowledgements, granted, is_granted, has_passed_data, state_of, are_snoops_done, k18, k19, is_due}
 use Rattle.ace_model.proofs.Terms.{is_next_transfer, may_transfer, takes_passed, has_upper_bits}
-use Rattle.ace_model.proofs.Trace.Looks.{has_name-is, without-other, was_there}
-use Rattle.ace_model.proofs.Trace.Issued.{same_place, outstanding-named, transaction_of-stands}
+use Rattle.ace_model.proofs.Trace.Looks.{at_name, without-other, was_there}
+use Rattle.ace_model.proofs.Trace.Issued.{same_place, outstanding-named, outstanding-name}
 use Rattle.ace_model.proofs.General.Lists.{slice_get-more}
 use Rattle.ace_model.proofs.Tables.States.{Lessens-self}
-use Rattle.ace_model.proofs.Tables.ReadEnds.{takes_alone}
 use Rattle.ace_model.proofs.Holders.Kept.{arrives_kept, read_kept, standing}
 use Rattle.ace_model.proofs.Trace.Outstanding.{one_name, ends_lite}
 use Rattle.ace_model.proofs.Holders.FirstTransfer.{IsFirst, upper_bits, first_alone, first_beside, first_dirty}
@@ -34,21 +34,20 @@ module _ (h : Header) (past : Trace) where
   may q j resp last word k =
       let o = is_some_and-is (outstanding h past q Read j) (is_due h past resp last) k in
       let x = o.0 in
-      let named = outstanding-named h past q Read j x o.1 in
-      let name = has_name-is x q Read j (transaction_of-stands past q Read j x named).named in
+      let name = outstanding-name h past q Read j x o.1 in
       let due = and_parts (is_some_and (read_kind x) (is_next_transfer past x last)) _ o.2 in
       let kind = is_some_and-is (read_kind x) (is_next_transfer past x last) due.0 in
       let beats = and_parts (nat_lt (transfers past x.port x.id) (beats_of kind.0)) _ kind.2 in
-      let same : transfers past x.port x.id ≡ transfers past q j = ap (λ a. transfers past a x.id) name.port ∙ ap (transfers past q) name.id in
+      let same : transfers past x.port x.id ≡ transfers past q j = at_name (λ a c. transfers past a) x q Read j name in
       record {
         one = x;
         out = o.1;
-        named = named;
+        named = outstanding-named h past q Read j x o.1;
         port = name.port;
         id = name.id;
         kind = kind.0;
         is_kind = kind.1;
-        few = subst (λ n. n < beats_of kind.0) same (ltb-true (transfers past x.port x.id) (beats_of kind.0) beats.0);
+        few = rw (← same) (ltb-true (transfers past x.port x.id) (beats_of kind.0) beats.0);
         ends = λ e. ap (λ n. n + 1) (sym same) ∙ eqb-true (transfers past x.port x.id + 1) (beats_of kind.0) (sym (same_test-at last _ beats.1) ∙ e);
         may = λ line. implies-at (is_line x) (may_transfer h past x resp) due.1 line;
       }
@@ -71,6 +70,9 @@ module _ (h : Header) (past : Trace) where
         let lite = ends_lite h past q j resp last word z is in
         let port = (one_name past q p Read Read j i z x lite.1 (outstanding-named h past p Read i x o) same).port in
         let isnt : is_ace h p ≡ false = ap (is_ace h) (sym port) ∙ lite.0 in cc)
+
+    own_name : (nat_eq q q && nat_eq j j) ≡ true
+    own_name = and_from _ _ (eq-eqb q q (refl {a = q})) (eq-eqb j j (refl {a = j}))
 
     -- an identifier in a port's queue after a transfer was there, or is that of the transfer
     record IsNew (p n i : ℕ) : Type 0 where
@@ -100,8 +102,7 @@ module _ (h : Header) (past : Trace) where
           let waits : ℕ → ℕ → Type 0 = λ a b. (x : Transaction) × (outstanding h past a Read b ≡ Some x) × (is_some_and (read_kind x) (λ k. transfers past a b == beats_of k) ≡ true) in
           let base = subst (λ a. waits a j) pq (subst (λ b. waits p b) (sym ji) (f.queue p n i ace low e)) in
           let one : base.0 ≡ m.one = Some-injective base.0 m.one (sym base.1 ∙ m.out) in
-          let whole : (transfers past q j == beats_of m.kind) ≡ true =
-          subst (λ o. is_some_and o (λ k. transfers past q j == beats_of k) ≡ true) (ap read_kind one ∙ m.is_kind) base.2 in
+          let whole : (transfers past q j == beats_of m.kind) ≡ true = rw (one, m.is_kind) at base.2 in
           let few = m.few in
           let all = eqb-true (transfers past q j) (beats_of m.kind) whole in
           absurd (omega (arith, few, all))
@@ -115,9 +116,7 @@ module _ (h : Header) (past : Trace) where
                   base.0,
                   stays_r p i base.0 ace base.1,
                   elim (cases_Bool (nat_eq p q && nat_eq i j)) [
-                    | inr other ↦
-                        let same : transfers (R q j resp last word ∷ past) p i ≡ transfers past p i = rw other (refl {a = transfers past p i}) in
-                        subst (λ t. is_some_and (read_kind base.0) (λ k. t == beats_of k) ≡ true) (sym same) base.2
+                    | inr other ↦ rw other base.2
                     | inl same ↦
                         let parts = and_parts (nat_eq p q) (nat_eq i j) same in
                         absurd (not_queued p n i ace low old (eqb-true p q parts.0) (sym (eqb-true i j parts.1)))
@@ -126,16 +125,13 @@ module _ (h : Header) (past : Trace) where
             | inr new ↦
                 let waits : ℕ → ℕ → Type 0 = λ a b. (x : Transaction) × (outstanding h (R q j resp last word ∷ past) a Read b ≡ Some x)
                 × (is_some_and (read_kind x) (λ k. transfers (R q j resp last word ∷ past) a b == beats_of k) ≡ true) in
-                let more : transfers (R q j resp last word ∷ past) q j ≡ transfers past q j + 1 = rw here (refl {a = transfers past q j + 1}) in
+                let more : transfers (R q j resp last word ∷ past) q j ≡ transfers past q j + 1 = rw own_name (refl {a = transfers past q j + 1}) in
                 let whole : (transfers (R q j resp last word ∷ past) q j == beats_of m.kind) ≡ true =
                 eq-eqb (transfers (R q j resp last word ∷ past) q j) (beats_of m.kind) (more ∙ m.ends new.is_last) in
                 let out = stays_r q j m.one (subst (λ a. is_ace h a ≡ true) new.same_port ace) m.out in
                 subst (λ a. waits a i) (sym new.same_port) (subst (λ b. waits q b) new.same_id
-                (m.one, out, subst (λ o. is_some_and o (λ k. transfers (R q j resp last word ∷ past) q j == beats_of k) ≡ true) (sym m.is_kind) whole))
+                (m.one, out, rw m.is_kind whole))
           ]
-        where
-          here : (nat_eq q q && nat_eq j j) ≡ true
-          here = and_from _ _ (eq-eqb q q (refl {a = q})) (eq-eqb j j (refl {a = j}))
 
       distinct_r : QueueDistinct h (R q j resp last word ∷ past)
       distinct_r p a b i ace la lb ea eb =
@@ -156,22 +152,18 @@ module _ (h : Header) (past : Trace) where
         arrive_here ace line =
             elim (cases_eq (transfers past q j) 0) [
               | inr later ↦
-                  arrives_kept h past (R q j resp last word) q j m.one stands (rw (not_first (nat_eq q q && nat_eq j j) (ne_eqb (transfers past q j) 0 later)) refl) refl
+                  arrives_kept h past (R q j resp last word) q j m.one stands (rw (ne_eqb (transfers past q j) 0 later, and-false) refl) refl
                   (λ r. Lessens-self (state_of h past r m.one.addr)) (f.arrive q j m.one ace m.out line later)
               | inl zero_before ↦
                   let first : first_resp (R q j resp last word ∷ past) q j ≡ Some resp =
-                  rw (and_from _ _ (and_from _ _ (eq-eqb q q (refl {a = q})) (eq-eqb j j (refl {a = j}))) (eq-eqb (transfers past q j) 0 zero_before)) refl in
+                  rw (own_name, eq-eqb (transfers past q j) 0 zero_before) refl in
                   let d = is_first zero_before in
                   let of_kind = λ (k : ArKind) (is : read_kind m.one ≡ Some k). Some-injective k m.kind (sym is ∙ m.is_kind) in
                   record {
                     stands = stands;
-                    alone = λ k is t r ne.
-                        let taken : takes_alone m.kind (is_shared resp) (has_failed past m.one) ≡ true =
-                        subst (λ c. takes_alone c (is_shared resp) (has_failed past m.one) ≡ true) (of_kind k is)
-                        (subst (λ o. takes_alone k (is_some_and o is_shared) (has_failed past m.one) ≡ true) first t) in
-                        first_alone h past m.one m.kind resp f d taken r (λ e. ne (sym m.port ∙ e));
+                    alone = λ k is t r ne. first_alone h past m.one m.kind resp f d (rw (of_kind k is, first) at t) r (λ e. ne (sym m.port ∙ e));
                     beside = λ k is t r ne. first_beside h past m.one m.kind resp f d (rw (sym (of_kind k is)) t) r (λ e. ne (sym m.port ∙ e));
-                    dirty = λ t. first_dirty h past m.one m.kind resp f d (subst (λ o. is_some_and o passes_dirty ≡ true) first t);
+                    dirty = λ t. first_dirty h past m.one m.kind resp f d (rw first at t);
                   }
             ]
           where
@@ -186,10 +178,6 @@ module _ (h : Header) (past : Trace) where
             stands =
                 without-other (ended h past (R q j resp last word)) (granted h past m.one.addr) m.one stood (λ z is same.
                 let isnt = (ends_lite h past q j resp last word z is).0 in cc)
-
-            not_first : (b : Bool) → nat_eq (transfers past q j) 0 ≡ false → (b && nat_eq (transfers past q j) 0) ≡ false
-            not_first true e = e
-            not_first false e = refl
 
             is_first : transfers past q j ≡ 0 → IsFirst h past m.one m.kind resp
             is_first z =
@@ -216,12 +204,9 @@ module _ (h : Header) (past : Trace) where
                   let pq = eqb-true p q parts.0 in
                   let ij = eqb-true i j parts.1 in
                   let was = was_there (ended h past (R q j resp last word)) (outstanding h past p Read i) x o in
-                  let here : outstanding h past q Read j ≡ Some x = subst (λ a. outstanding h past a Read j ≡ Some x) pq (subst (λ b. outstanding h past p Read b ≡ Some x) ij was) in
+                  let here : outstanding h past q Read j ≡ Some x = rw (pq, ij) at was in
                   let one : m.one ≡ x = Some-injective m.one x (sym m.out ∙ here) in
-                  let a = arrive_here (subst (λ a. is_ace h a ≡ true) pq ace) (subst (λ y. is_line y ≡ true) (sym one) line) in
-                  subst (λ a. Arrives h (R q j resp last word ∷ past) a i x) (sym pq)
-                  (subst (λ b. Arrives h (R q j resp last word ∷ past) q b x) (sym ij)
-                  (subst (λ y. Arrives h (R q j resp last word ∷ past) q j y) one a))
+                  rw (pq, ij, ← one) (arrive_here (rw pq at ace) (ap is_line one ∙ line))
             ]
 
     pub keeps_r : OneHolder h past → k18 h past (R q j resp last word) ≡ true → k19 h past (R q j resp last word) ≡ true

@@ -1,5 +1,5 @@
 -- B and WK: a write is answered, and ends. A write is no read, and by its end its port holds no more than before.
-use Rattle.std.proofs.Common.{◌≡◌, ◌≤◌, ◌==◌, ℕ, ◌&&◌, nat_eq, ◌∷◌, Option, Some, true, false, slice_get, refl, sym, ap, subst, ◌∙◌, inl, inr}
+use Rattle.std.proofs.Common.{◌≡◌, ◌≤◌, ◌==◌, ℕ, ◌&&◌, nat_eq, ◌∷◌, Option, Some, true, false, slice_get, refl, sym, ap, ◌∙◌, inl, inr}
 use Rattle.std.proofs.lemmas.Bool.{and_parts, or_cases, eqb-true}
 use Rattle.ace_model.proofs.Terms.{AwKind, LineState, Header, Read, Write, B, Wk, ends_write, Transaction, Trace, is_some_and, beats_of, is_line_read, is_line_write, is_ace, is_read, read_kind, write_kind}
 use Rattle.ace_model.proofs.Terms.{is_line, is_on, is_some_on, transaction_of, acknowledged, acknowledgements, completed, transfers, ended, outstanding, without, state_of, held_of, k28, ends_write_well}
@@ -7,7 +7,7 @@ use Rattle.ace_model.proofs.Trace.Looks.{has_name-is, without-other}
 use Rattle.ace_model.proofs.Trace.Issued.{outstanding-named, transaction_of-stands}
 use Rattle.ace_model.proofs.Trace.Outstanding.{write_apart, acknowledged_is, ends_lite_write}
 use Rattle.ace_model.proofs.Tables.States.{Lessens-self, write_lessens}
-use Rattle.ace_model.proofs.Tables.Less.{Less, less_where, less-lessens, less-clean, held_on}
+use Rattle.ace_model.proofs.Tables.Less.{Less, less_where, less-lessens, less-clean}
 use Rattle.ace_model.proofs.General.Options.{is_some_and-is, is_none_or-at}
 use Rattle.ace_model.proofs.Holders.Facts.{OneHolder}
 use Rattle.ace_model.proofs.Holders.Kept.{LessenedAt, standing, arrive_kept, held_kept, one_dirty_kept}
@@ -33,10 +33,7 @@ module _ (h : Header) (past : Trace) (q : ℕ) where
       let kind = line_write y.0 name.chan on.0 in
       let well = is_none_or-at (acknowledged past q Write) (ends_write_well h past st) y.0 k (ap (λ a. acknowledged past a Write) (sym port) ∙ y.1) in
       let by = is_none_or-at (write_kind y.0) (λ c. ends_write c (held_of h past y.0) st) kind.0 well kind.1 in
-      let held : held_of h past y.0 ≡ state_of h past r l =
-      held_on (is_line y.0) (state_of h past y.0.port y.0.addr) on.0
-      ∙ ap (λ a. state_of h past a y.0.addr) name.port ∙ ap (state_of h past r) (eqb-true y.0.addr l on.1) in
-      subst (λ s. Less s st) held (write_lessens kind.0 (held_of h past y.0) st by))
+      rw (on.0, name.port, eqb-true y.0.addr l on.1) at (write_lessens kind.0 (held_of h past y.0) st by))
 
   module _ (f : OneHolder h past) where
     -- the end of a write leaves the reads that wait

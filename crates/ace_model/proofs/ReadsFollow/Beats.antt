@@ -1,28 +1,25 @@
 -- A read that has had no transfer has no beat in the trace, and a read is the one that was issued at its place.
-use Rattle.std.proofs.Common.{◌≡◌, ◌≢◌, ℕ, ◌+◌, ◌<◌, Bool, true, false, if◌then◌else◌, ◌&&◌, nat_eq, [], ◌∷◌, length, Some, None, refl, sym, ap, subst, ◌∙◌, arith, inl, inr}
-use Rattle.std.proofs.lemmas.Bool.{and_from, eq-eqb, ne_eqb}
-use Rattle.ace_model.proofs.Terms.{Event, Ar, R, L, Read, Transaction, Trace, event_at, at_point, is_named, issued, transaction_of, transfers, IsLoad, IsBeat, HasBeat}
+use Rattle.std.proofs.Common.{◌≡◌, ◌≢◌, ℕ, ◌+◌, ◌<◌, Bool, false, [], ◌∷◌, length, Some, None, refl, sym, ap, subst, ◌∙◌, arith, inl, inr}
+use Rattle.std.proofs.lemmas.Bool.{and_from, eq-eqb}
+use Rattle.ace_model.proofs.Terms.{Event, R, L, Read, Transaction, Trace, is_named, issued, transaction_of, transfers, IsLoad, IsBeat, HasBeat}
+use Rattle.ace_model.proofs.Trace.Places.{issued-by, placed-before, beat-cases, beat-below}
 use Rattle.ace_model.proofs.Trace.Issued.{issued_at, issued-place, transaction_of-stands}
 use Rattle.ace_model.proofs.Trace.Looks.{newest_named-cases}
-use Rattle.ace_model.proofs.Trace.Places.{beat-cases, beat-below, event_at-cases, at_point-length}
+use Rattle.ace_model.proofs.Values.FullReads.{transfer_moves}
 use Rattle.ace_model.proofs.ReadsFollow.Order.{beat-issued}
 use Rattle.ace_model.proofs.General.Options.{Some-injective}
-use Rattle.ace_model.proofs.Trace.Outstanding.{named_read}
-
--- the name of the read goes on to have transfers
-transfers-stay : (e : Event) (past : Trace) (p i : ℕ) → is_named (issued (length past) e) p Read i ≡ false → transfers past p i ≢ 0 → transfers (e ∷ past) p i ≢ 0
-transfers-stay (Ar q j addr snoop dom bar lock) past p i other some =
-    rw (named_read past q j addr snoop dom bar lock p i false other) some
-transfers-stay (R q j resp last word) past p i other some = counted (nat_eq p q && nat_eq i j)
-  where
-    counted : (b : Bool) → (if b then transfers past p i + 1 else transfers past p i) ≢ 0
-    counted true = λ z. absurd (omega arith)
-    counted false = some
-transfers-stay e past p i other some = some
 
 -- the newest transfer of the name is counted
 pub transfers-more : (past : Trace) (p i resp : ℕ) (last : Bool) (word : ℕ) → transfers (R p i resp last word ∷ past) p i ≡ transfers past p i + 1
 transfers-more past p i resp last word = rw (and_from _ _ (eq-eqb p p (refl {a = p})) (eq-eqb i i (refl {a = i}))) (refl {a = transfers past p i + 1})
+
+-- the name of the read goes on to have transfers
+transfers-stay : (e : Event) (past : Trace) (p i : ℕ) → is_named (issued (length past) e) p Read i ≡ false → transfers past p i ≢ 0 → transfers (e ∷ past) p i ≢ 0
+transfers-stay e past p i other some =
+    elim (transfer_moves past e p i other) [
+      | inl same ↦ λ z. some (sym same.count ∙ z)
+      | inr t ↦ subst (λ (v : Event). transfers (v ∷ past) p i ≢ 0) (sym t.is) (λ z. let more = transfers-more past p i t.resp t.last t.word in absurd (omega (arith, more, z)))
+    ]
 
 -- a read with a beat has had a transfer, while it is the last of its name
 pub beat-transfers : (past : Trace) (n : ℕ) (x : Transaction) (k word : ℕ) → IsBeat past n x k word → transaction_of past x.port Read x.id ≡ Some x
@@ -41,35 +38,19 @@ beat-transfers (e ∷ past) n x k word beat named =
           elim (newest_named-cases (issued (length past) e) x.port Read x.id (transaction_of past x.port Read x.id) x named) [
             | inl new ↦
                 let at = issued-place (length past) e x new.0 in
-                let low = issued_before past n x k word old.0 in
+                let within = old.1 in
+                let low = placed-before past n x.port Read x.id x (omega arith) old.0.1.1.1 in
                 absurd (omega arith)
             | inr earlier ↦ transfers-stay e past x.port x.id earlier.1 (beat-transfers past n x k word old.0 earlier.0)
           ]
-    ]
-  where
-    issued_before : (past : Trace) (n : ℕ) (x : Transaction) (k word : ℕ) → IsBeat past n x k word → x.place < length past
-    issued_before past n x k word b =
-        let low = beat-below past n x k word b in
-        let s = (transaction_of-stands (at_point n past) x.port Read x.id x b.1.1.1).before in
-        let long = at_point-length past n (omega arith) in
-        omega arith
-
--- what was issued at the place of an event is what the event issues
-pub event-issues : (past : Trace) (n : ℕ) (z : Event) → event_at past n ≡ Some z → issued_at past n ≡ issued n z
-event-issues [] n z there = cc
-event-issues (e ∷ past) n z there =
-    elim (event_at-cases e past n z there) [
-      | inl old ↦
-          let low = old.1 in
-          rw (ne_eqb (length past) n (λ q. absurd (omega (arith, q)))) (event-issues past n z old.0)
-      | inr new ↦ rw (eq-eqb (length past) n (sym new.0)) (ap (λ m. issued m e) (sym new.0) ∙ ap (issued n) new.1)
     ]
 
 -- a load issues no transaction
 pub load-elsewhere : (past : Trace) (n p l w word : ℕ) (x : Transaction) → IsLoad past n p l w word → issued_at past x.place ≡ Some x → n ≢ x.place
 load-elsewhere past n p l w word x load there same =
-    let none : issued_at past n ≡ None = event-issues past n (L p l w load.0 word) load.1 in
-    let bad : None ≡ Some x = sym none ∙ ap (issued_at past) same ∙ there in cc
+    let b = issued-by past n x (ap (issued_at past) same ∙ there) in
+    let one : L p l w load.0 word ≡ b.0 = Some-injective (L p l w load.0 word) b.0 (sym load.1 ∙ b.1) in
+    let bad : None ≡ Some x = subst (λ (v : Event). issued n v ≡ Some x) (sym one) b.2 in cc
 
 -- a read with a beat stands at another place than one that has had no transfer
 pub beat-elsewhere : (past : Trace) (x y : Transaction) → transaction_of past x.port Read x.id ≡ Some x → transfers past x.port x.id ≡ 0 → HasBeat past y → y.place ≢ x.place

@@ -2,17 +2,17 @@
 use Rattle.std.proofs.Common.{Bool, None, Option, Some, ap, arith, inl, inr, option_and_then, option_map, refl, sym, true, unwrap_or, ℕ, ◌∙◌, ◌∷◌, ◌≡◌, ◌≢◌}
 use Rattle.std.proofs.lemmas.Bool.{cases_eq}
 use Rattle.std.specs.List.{AllByRecursion}
-use Rattle.ace_model.proofs.Terms.{Answer, Event, Header, InRange, IsAccepted, R, Read, Trace, Transaction, at_point, copy_at_answer, copy_of, first_sender, is_line_read_transaction, memory_at_first_beat}
-use Rattle.ace_model.proofs.Terms.{outstanding, reply_of, transaction_of, transfers, value_of}
+use Rattle.ace_model.proofs.Terms.{Answer, Event, Header, InRange, IsAccepted, R, Read, Trace, Transaction, at_point, copy_at_answer, copy_of, first_sender, is_line_read_transaction}
+use Rattle.ace_model.proofs.Terms.{memory_at_first_beat, outstanding, reply_of, transaction_of, transfers, value_of}
+use Rattle.ace_model.proofs.Trace.Issued.{outstanding-origin, outstanding-named, outstanding-name}
 use Rattle.ace_model.proofs.Trace.Growth.{at_point-before}
-use Rattle.ace_model.proofs.Trace.Issued.{outstanding-named, outstanding-name}
 use Rattle.ace_model.proofs.Trace.Places.{NewBeat, grant-old}
 use Rattle.ace_model.proofs.Values.Stays.{answer-before}
 use Rattle.ace_model.proofs.Values.Replies.{memory-before, sender_sent}
 use Rattle.ace_model.proofs.Values.FullReads.{issue_transfers}
 use Rattle.ace_model.proofs.Values.Law.{facts}
 use Rattle.ace_model.proofs.ReadsFollow.Points.{IsPointOf, Follows, follows-step}
-use Rattle.ace_model.proofs.ReadsFollow.Outstanding.{outstanding-cases, line_read-chan}
+use Rattle.ace_model.proofs.ReadsFollow.Outstanding.{line_read-chan}
 use Rattle.ace_model.proofs.ReadsFollow.UnderWay.{first-transfer, BeatDue, beat_due, reply-stays}
 use Rattle.ace_model.proofs.ReadsFollow.Sent.{GrantedAt, granted-at, answer-after, sent_value}
 use Rattle.ace_model.proofs.ReadsFollow.Memory.{memory_follows}
@@ -79,14 +79,14 @@ more h past e point a range f ready =
     was : (p i : ℕ) (x : Transaction) → outstanding h (e ∷ past) p Read i ≡ Some x → is_line_read_transaction x ≡ true → transfers (e ∷ past) p i ≢ 0
         → IsPointOf past x (point x.place)
     was p i x o reads some =
-        elim (outstanding-cases h e past p Read i x o) [
+        elim (outstanding-origin h past e p Read i x o) [
           | inl new ↦ absurd (some (issue_transfers past e p i x new.0 new.1))
           | inr old ↦ elim (cases_eq (transfers past p i) 0) [
-            | inr earlier ↦ f.replies p i x old.0 reads earlier
+            | inr earlier ↦ f.replies p i x old.was reads earlier
             | inl none ↦
-                let b = first-transfer e past p i none some in
-                let named = outstanding-named h past p Read i x old.0 in
-                let n = outstanding-name h past p Read i x old.0 in
+                let b = first-transfer e past p i old.other none some in
+                let named = outstanding-named h past p Read i x old.was in
+                let n = outstanding-name h past p Read i x old.was in
                 ready x (transfers past x.port x.id) b.word (record {
                   resp = b.resp;
                   last = b.last;

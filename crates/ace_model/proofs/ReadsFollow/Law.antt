@@ -1,8 +1,8 @@
 -- In an accepted trace all reads follow one order of the stores.
-use Rattle.std.proofs.Common.{[], ap, subst, Bool, Some, arith, if◌then◌else◌, inl, inr, nat_eq, refl, sym, true, ℕ, ◌<◌, ◌∙◌, ◌∷◌, ◌≡◌}
+use Rattle.std.proofs.Common.{false, [], ap, subst, Bool, Some, arith, if◌then◌else◌, inl, inr, nat_eq, refl, sym, true, ℕ, ◌∙◌, ◌∷◌, ◌≡◌}
 use Rattle.std.proofs.lemmas.Bool.{cases_Bool, cases_eq, eq-eqb}
 use Rattle.std.specs.List.{AllByRecursion}
-use Rattle.ace_model.proofs.Terms.{Event, Header, InRange, IsAccepted, L, R, Read, ReadsFollow, Trace, Transaction, is_line_read_transaction, k18, outstanding, transaction_of, transfers}
+use Rattle.ace_model.proofs.Terms.{Event, Header, InRange, IsAccepted, L, R, Read, ReadsFollow, Trace, Transaction, is_line_read_transaction, outstanding, transaction_of, transfers}
 use Rattle.ace_model.proofs.Rules.Keeps.{accepted_keeps}
 use Rattle.ace_model.proofs.Holders.Transfer.{MayTransfer, may}
 use Rattle.ace_model.proofs.Trace.Places.{NewBeat, event_at-below, beat-below}
@@ -16,32 +16,26 @@ abbrev Points : Header → Trace → Type 0
 Points h past = (point : ℕ → ℕ) × Follows h past point
 
 -- a beat is of the read that the rule on transfers speaks of
-record OneBeat (past : Trace) (q j : ℕ) (one x : Transaction) : Type 0 where
-  same : one ≡ x
-  port : q ≡ x.port
-  id : j ≡ x.id
-  line_read : is_line_read_transaction one ≡ true
-
 one-beat : (h : Header) (past : Trace) (q j resp : ℕ) (last : Bool) (word : ℕ) (x : Transaction) (k w : ℕ) → (m : MayTransfer h past q j resp last)
-    → NewBeat past (R q j resp last word) x k w → OneBeat past q j m.one x
+    → NewBeat past (R q j resp last word) x k w → m.one ≡ x
 one-beat h past q j resp last word x k w m b =
     let e = b.event in
     let port : q ≡ x.port = cc in
     let id : j ≡ x.id = cc in
-    let same : m.one ≡ x =
-    Some-injective m.one x (sym m.named ∙ ap (λ v. transaction_of past v Read j) port ∙ ap (transaction_of past x.port Read) id ∙ b.named) in
-    record {
-      same = same;
-      port = port;
-      id = id;
-      line_read = subst (λ (v : Transaction). is_line_read_transaction v ≡ true) (sym same) b.line_read;
-    }
+    Some-injective m.one x (sym m.named ∙ ap (λ v. transaction_of past v Read j) port ∙ ap (transaction_of past x.port Read) id ∙ b.named)
 
+-- the point of a read is chosen at its first beat
 with-beat : (h : Header) (past : Trace) (q j resp : ℕ) (last : Bool) (word : ℕ) → IsAccepted h (R q j resp last word ∷ past) → AllByRecursion InRange past
     → Points h past → Points h (R q j resp last word ∷ past)
 with-beat h past q j resp last word a range points =
-    let due : k18 h past (R q j resp last word) ≡ true = (accepted_keeps h past (R q j resp last word) a).rule_18 in
-    cases (may h past q j resp last word due)
+    elim (cases_eq (transfers past q j) 0) [
+      | inr some ↦ as_before (λ x k w b. f.replies q j x (m.out ∙ ap (λ v. Some v) (one-beat h past q j resp last word x k w m b)) b.line_read some)
+      | inl none ↦ elim (cases_Bool (is_line_read_transaction m.one)) [
+        | inl reads ↦ first reads none
+        | inr other ↦ as_before (λ x k w b.
+            let bad : false ≡ true = sym other ∙ ap is_line_read_transaction (one-beat h past q j resp last word x k w m b) ∙ b.line_read in cc)
+      ]
+    ]
   where
     point : ℕ → ℕ
     point = points.0
@@ -49,37 +43,23 @@ with-beat h past q j resp last word a range points =
     f : Follows h past point
     f = points.1
 
-    first : (m : MayTransfer h past q j resp last) → is_line_read_transaction m.one ≡ true → transfers past q j ≡ 0 → Points h (R q j resp last word ∷ past)
-    first m reads none =
+    m : MayTransfer h past q j resp last
+    m = may h past q j resp last word (accepted_keeps h past (R q j resp last word) a).rule_18
+
+    as_before : Ready past (R q j resp last word) point → Points h (R q j resp last word ∷ past)
+    as_before ready = (point, more h past (R q j resp last word) point a range f ready)
+
+    first : is_line_read_transaction m.one ≡ true → transfers past q j ≡ 0 → Points h (R q j resp last word ∷ past)
+    first reads none =
         let p = first-point h past q j resp last word m.one a range m.out reads none in
         let out : outstanding h past m.one.port Read m.one.id ≡ Some m.one =
         ap (λ v. outstanding h past v Read m.one.id) m.port ∙ ap (outstanding h past q Read) m.id ∙ m.out in
         let count : transfers past m.one.port m.one.id ≡ 0 = ap (λ v. transfers past v m.one.id) m.port ∙ ap (transfers past q) m.id ∙ none in
         let chosen : ℕ → ℕ = λ n. if nat_eq n m.one.place then p.0 else point n in
         let ready : Ready past (R q j resp last word) chosen = λ x k w b.
-        let o = one-beat h past q j resp last word x k w m b in
-        subst (λ (v : Transaction). IsPointOf past v (chosen v.place)) o.same (rw (eq-eqb m.one.place m.one.place (refl {a = m.one.place})) p.1) in
+        subst (λ (v : Transaction). IsPointOf past v (chosen v.place)) (one-beat h past q j resp last word x k w m b)
+        (rw (eq-eqb m.one.place m.one.place (refl {a = m.one.place})) p.1) in
         (chosen, more h past (R q j resp last word) chosen a range (follows-choose h past point m.one p.0 f out count) ready)
-
-    cases : MayTransfer h past q j resp last → Points h (R q j resp last word ∷ past)
-    cases m =
-        elim (cases_Bool (is_line_read_transaction m.one)) [
-          | inr other ↦ (
-            point,
-            more h past (R q j resp last word) point a range f (λ x k w b.
-                let o = one-beat h past q j resp last word x k w m b in
-                let reads = o.line_read in cc),
-          )
-          | inl reads ↦ elim (cases_eq (transfers past q j) 0) [
-            | inl none ↦ first m reads none
-            | inr some ↦ (
-              point,
-              more h past (R q j resp last word) point a range f (λ x k w b.
-                  let o = one-beat h past q j resp last word x k w m b in
-                  subst (λ (v : Transaction). IsPointOf past v (point v.place)) o.same (f.replies q j m.one m.out reads some)),
-            )
-          ]
-        ]
 
 -- the points of the trace that is one event longer
 with-event : (h : Header) (past : Trace) (e : Event) → IsAccepted h (e ∷ past) → AllByRecursion InRange past → Points h past → Points h (e ∷ past)
@@ -92,18 +72,15 @@ start h = (
   record {
     set = record {
       load_now = λ n p l w word load. refl;
-      granted = λ x b. absurd (none b.0 (beat-below [] b.0 x b.1.0 b.1.1.0 b.1.1.1));
-      before_beats = λ n k word x b. absurd (none n (beat-below [] n x k word b));
+      granted = λ x b. let low = beat-below [] b.0 x b.1.0 b.1.1.0 b.1.1.1 in absurd (omega arith);
+      before_beats = λ n k word x b. let low = beat-below [] n x k word b in absurd (omega arith);
     };
-    load_word = λ n p l w word load. absurd (none n (event_at-below [] n (L p l w load.0 word) load.1));
-    beat_word = λ n k word x b. absurd (none n (beat-below [] n x k word b));
+    load_word = λ n p l w word load. let low = event_at-below [] n (L p l w load.0 word) load.1 in absurd (omega arith);
+    beat_word = λ n k word x b. let low = beat-below [] n x k word b in absurd (omega arith);
     later = λ n high. refl;
     replies = λ p i x o. cc;
   },
 )
-  where
-    none : (n : ℕ) → n < 0 → ⊥
-    none n low = omega arith
 
 all-points : (h : Header) (past : Trace) → IsAccepted h past → AllByRecursion InRange past → Points h past
 all-points h [] a range = start h

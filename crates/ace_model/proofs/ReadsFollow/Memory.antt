@@ -1,18 +1,19 @@
 -- Under the grant of a read of a line, while no port has sent data, memory was the value at a point since, or a port that holds the
 -- line dirty hasn't answered. Once the snoops of the read are done there is no such port.
-use Rattle.std.proofs.Common.{[], None, Option, Some, ap, arith, false, inl, inr, is_none, le_refl, length, nat_eq, option_and_then, refl, subst, sym, true, ℕ, ◌&&◌, ◌||◌, ◌∙◌, ◌∷◌, ◌≡◌, ◌≤◌, ◌⊎◌}
+use Rattle.std.proofs.Common.{[], None, Option, Some, ap, arith, false, inl, inr, le_refl, length, nat_eq, option_and_then, refl, subst, sym, true, ℕ, ◌&&◌, ◌∙◌, ◌∷◌, ◌≡◌, ◌≤◌, ◌⊎◌}
 use Rattle.std.proofs.lemmas.Bool.{or_left, and_from, and_parts, cases_Bool, eq-eqb, or_cases}
 use Rattle.std.specs.List.{AllByRecursion}
-use Rattle.ace_model.proofs.Terms.{Answer, ArKind, Channel, Cr, Event, HasDirtyHolder, Header, I, InRange, IsAccepted, IsValueSafe, Read, SnoopKind, Trace, Transaction, answer_of, answers_grant}
-use Rattle.ace_model.proofs.Terms.{are_snoops_done, at_point, data_answers, each_port, first_sender, gives_line, grant_place, granted, has_failed, has_passed_data, is_clean_unique, is_dirty}
-use Rattle.ace_model.proofs.Terms.{is_exclusive_store, is_line_read_transaction, is_make_unique, is_no_snoop, is_no_snoop_read, is_no_snoop_write, is_port_done, is_read, is_some_and, is_write_line_unique}
+use Rattle.ace_model.proofs.Terms.{has_failed, is_on, Answer, ArKind, Channel, Cr, Event, HasDirtyHolder, Header, I, InRange, IsAccepted, IsValueSafe, Read, SnoopKind, Trace, Transaction, answer_of}
+use Rattle.ace_model.proofs.Terms.{answers_grant, are_snoops_done, at_point, data_answers, first_sender, gives_line, grant_place, granted, has_passed_data, is_clean_unique, is_dirty}
+use Rattle.ace_model.proofs.Terms.{is_exclusive_store, is_line_read_transaction, is_make_unique, is_no_snoop, is_no_snoop_read, is_no_snoop_write, is_read, is_some_and, is_write_line_unique}
 use Rattle.ace_model.proofs.Terms.{memory_of, outstanding, passed_to, read_kind, reads_a_line, replaces_line, snoop_kind_of, snoop_of, snoop_of_read, state_of, transfers_data, value_of, write_kind}
-use Rattle.ace_model.proofs.General.Options.{Some-injective, is_some_and-is, none_is}
+use Rattle.ace_model.proofs.Tables.Kinds.{read_invalid, reads_apart, reads_unsnooped}
+use Rattle.ace_model.proofs.Trace.Issued.{Stands, outstanding-named, transaction_of-stands}
+use Rattle.ace_model.proofs.Trace.Looks.{snoops_done-ports, is_on-addr}
+use Rattle.ace_model.proofs.General.Options.{Some-injective, is_some_and-is}
 use Rattle.ace_model.proofs.Trace.Growth.{at_point-before, at_point-end}
-use Rattle.ace_model.proofs.Trace.Looks.{is_on-addr}
 use Rattle.ace_model.proofs.Holders.Law.{accepted_holds}
 use Rattle.ace_model.proofs.Grants.Stays.{grant_place-low, granted_before}
-use Rattle.ace_model.proofs.Trace.Issued.{outstanding-named, transaction_of-stands}
 use Rattle.ace_model.proofs.Tables.SnoopRows.{is_make_invalid, dirty_sends}
 use Rattle.ace_model.proofs.Holders.FirstTransfer.{done_port}
 use Rattle.ace_model.proofs.Holders.ShareableLines.{no_snoop_unheld}
@@ -25,8 +26,6 @@ use Rattle.ace_model.proofs.Values.DirtMoves.{dirt_moves}
 use Rattle.ace_model.proofs.Values.Facts.{DirtyPlaced}
 use Rattle.ace_model.proofs.Values.Law.{facts}
 use Rattle.ace_model.proofs.ReadsFollow.Outstanding.{line_read-chan, empty_while_read}
-use Rattle.ace_codes.specs.declared.kind.ArKind.TheVariants as read
-use Rattle.ace_codes.specs.declared.kind.SnoopKind.TheVariants as snoop
 
 -- At a point since the grant of the line its value was what memory has now.
 pub record MemorySince (past : Trace) (l : ℕ) : Type 0 where
@@ -41,33 +40,12 @@ pub record DirtyUnanswered (h : Header) (past : Trace) (l : ℕ) : Type 0 where
   pub dirty : is_dirty (state_of h past port l) ≡ true
   pub unanswered : answer_of past port l ≡ None
 
--- the kinds of reads of a line: they make none unique, cause no MakeInvalid, and cause a snoop unless they are ReadNoSnoop
-make_apart : (k : ArKind) → reads_a_line k ≡ true → is_make_unique k ≡ true → ⊥
-make_apart read.MakeUnique t m = cc
-make_apart k t m = cc
-
-caused : (k : ArKind) (s : SnoopKind) → reads_a_line k ≡ true → snoop_of_read k ≡ Some s → is_make_invalid s ≡ false
-caused k snoop.MakeInvalid t e = absurd (by k t e)
-  where
-    by : (k : ArKind) → reads_a_line k ≡ true → snoop_of_read k ≡ Some snoop.MakeInvalid → ⊥
-    by read.MakeUnique t e = cc
-    by k t e = cc
-caused k s t e = refl
-
-unsnooped : (k : ArKind) → reads_a_line k ≡ true → snoop_of_read k ≡ None → is_no_snoop_read k ≡ true
-unsnooped read.ReadNoSnoop t e = refl
-unsnooped k t e = cc
-
-clean_apart : (k : ArKind) → reads_a_line k ≡ true → is_clean_unique k ≡ true → ⊥
-clean_apart read.CleanUnique t c = cc
-clean_apart k t c = cc
-
 -- a read of a line replaces none
 reads-replaces : (x : Transaction) → is_line_read_transaction x ≡ true → replaces_line x ≡ true → ⊥
 reads-replaces x reads replaces =
     let k = is_some_and-is (read_kind x) reads_a_line reads in
     elim (or_cases (is_some_and (read_kind x) is_make_unique) (is_some_and (write_kind x) is_write_line_unique) replaces) [
-      | inl makes ↦ make_apart k.0 k.2 (rw k.1 at makes)
+      | inl makes ↦ let made : is_make_unique k.0 ≡ true = rw k.1 at makes in let none = (reads_apart k.0 k.2).0 in cc
       | inr writes ↦ let none : write_kind x ≡ None = rw (line_read-chan x reads) refl in let bad : false ≡ true = rw none at writes in cc
     ]
 
@@ -114,7 +92,13 @@ module _ (h : Header) (past : Trace) where
         let one : n.1.pending.one ≡ x = Some-injective n.1.pending.one x (sym n.1.pending.stands ∙ g) in
         let k = is_some_and-is (read_kind x) reads_a_line reads in
         let causes : snoop_of_read k.0 ≡ Some n.1.kind = sym (ap (λ o. snoop_kind_of o (write_kind x)) k.1) ∙ ap snoop_of (sym one) ∙ n.1.causes in
-        dirty_sends n.1.kind (state_of h past q l) w.resp n.0 n.1.of_line n.1.row (caused k.0 n.1.kind k.2 causes) dirty
+        let other : is_make_invalid n.1.kind ≡ false = elim (cases_Bool (is_make_invalid n.1.kind)) [
+          | inr f ↦ f
+          | inl t ↦
+              let makes = read_invalid k.0 (subst (λ o. is_some_and o is_make_invalid ≡ true) (sym causes) t) in
+              let none = (reads_apart k.0 k.2).0 in cc
+        ] in
+        dirty_sends n.1.kind (state_of h past q l) w.resp n.0 n.1.of_line n.1.row other dirty
 
 pub memory_or_holder : (h : Header) (past : Trace) → IsAccepted h past → AllByRecursion InRange past → (l : ℕ) (x : Transaction) → granted h past l ≡ Some x
     → is_line_read_transaction x ≡ true → first_sender past l ≡ None → MemorySince past l ⊎ DirtyUnanswered h past l
@@ -179,31 +163,39 @@ memory_or_holder h (e ∷ past) a range l x g reads none =
 none-dirty : (h : Header) (past : Trace) → IsAccepted h past → (x : Transaction) → granted h past x.addr ≡ Some x → is_line_read_transaction x ≡ true
     → are_snoops_done h past x ≡ true → DirtyUnanswered h past x.addr → ⊥
 none-dirty h past a x g reads done q =
-    let f = accepted_holds h past a in
-    let s = f.grants x.addr x g in
+    let s = (accepted_holds h past a).grants x.addr x g in
     let out : outstanding h past x.port Read x.id ≡ Some x = ap (λ (v : Channel). outstanding h past x.port v x.id) (sym (line_read-chan x reads)) ∙ s.0 in
     let stands = transaction_of-stands past x.port Read x.id x (outstanding-named h past x.port Read x.id x out) in
-    let kind = is_some_and-is (read_kind x) reads_a_line reads in
-    elim (or_cases (is_none (snoop_of x) || has_failed past x) (each_port h.ports (is_port_done h past x)) done) [
-      | inr all ↦
-          elim (done_port h past x q.port f all (λ own. not_dirty (ap (λ v. state_of h past v x.addr) (sym own) ∙ empty_while_read h past a x.port x.id x out reads))) [
-            | inl gone ↦ not_dirty gone
-            | inr answer ↦ let is = answer.is in let none = q.unanswered in cc
-          ]
-      | inl early ↦ elim (or_cases (is_none (snoop_of x)) (has_failed past x) early) [
-        | inl none_caused ↦
-            let none : snoop_of_read kind.0 ≡ None = sym (ap (λ o. snoop_kind_of o (write_kind x)) kind.1) ∙ none_is (snoop_of x) none_caused in
-            let no_snoop : is_no_snoop x ≡ true =
-            or_left (is_some_and (read_kind x) is_no_snoop_read) (is_some_and (write_kind x) is_no_snoop_write) (rw kind.1 (unsnooped kind.0 kind.2 none)) in
-            not_dirty (no_snoop_unheld h past x q.port x.addr a (record { there = stands.there; before = stands.before }) s.1 no_snoop)
-        | inr failed ↦
-            let store = (and_parts x.lock (is_some_and (read_kind x) is_clean_unique) (and_parts (is_exclusive_store x) _ failed).0).1 in
-            clean_apart kind.0 kind.2 (rw kind.1 at store)
-      ]
-    ]
+    by (snoop_of x) refl (λ own. not_dirty (ap (λ v. state_of h past v x.addr) (sym own) ∙ empty_while_read h past a x.port x.id x out reads)) stands s.1
   where
     not_dirty : state_of h past q.port x.addr ≡ I → ⊥
     not_dirty gone = let bad : is_dirty I ≡ true = subst (λ s. is_dirty s ≡ true) gone q.dirty in cc
+
+    kind : (k : ArKind) × (read_kind x ≡ Some k) × (reads_a_line k ≡ true)
+    kind = is_some_and-is (read_kind x) reads_a_line reads
+
+    unfailed : has_failed past x ≡ false
+    unfailed =
+        elim (cases_Bool (has_failed past x)) [
+          | inr f ↦ f
+          | inl failed ↦
+              let store = (and_parts x.lock (is_some_and (read_kind x) is_clean_unique) (and_parts (is_exclusive_store x) _ failed).0).1 in
+              let cleans : is_clean_unique kind.0 ≡ true = subst (λ o. is_some_and o is_clean_unique ≡ true) kind.1 store in
+              let none = (reads_apart kind.0 kind.2).1 in cc
+        ]
+
+    by : (o : Option SnoopKind) → snoop_of x ≡ o → (x.port ≡ q.port → ⊥) → Stands past x.port Read x.id x → is_on x x.addr ≡ true → ⊥
+    by None none apart stands on =
+        let uncaused : snoop_of_read kind.0 ≡ None = sym (ap (λ o. snoop_kind_of o (write_kind x)) kind.1) ∙ none in
+        let no_snoop : is_no_snoop x ≡ true =
+        or_left (is_some_and (read_kind x) is_no_snoop_read) (is_some_and (write_kind x) is_no_snoop_write)
+        (subst (λ o. is_some_and o is_no_snoop_read ≡ true) (sym kind.1) (reads_unsnooped kind.0 kind.2 uncaused)) in
+        not_dirty (no_snoop_unheld h past x q.port x.addr a (record { there = stands.there; before = stands.before }) on no_snoop)
+    by (Some c) causes apart stands on =
+        elim (done_port h past x q.port (accepted_holds h past a) (snoops_done-ports h past x c causes unfailed done) apart) [
+          | inl gone ↦ not_dirty gone
+          | inr answer ↦ let is = answer.is in let none = q.unanswered in cc
+        ]
 
 -- Where the snoops of a read of a line are done and no port has sent data under its grant, memory was the value at a point since.
 pub memory_follows : (h : Header) (past : Trace) → IsAccepted h past → AllByRecursion InRange past → (x : Transaction) → granted h past x.addr ≡ Some x

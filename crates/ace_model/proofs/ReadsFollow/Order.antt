@@ -1,50 +1,16 @@
 -- The points of the reads of a line by one port never go back: an earlier read has all its beats before the later one.
-use Rattle.std.proofs.Common.{◌≡◌, ◌⊎◌, ℕ, zero, suc, ◌-◌, ◌<◌, ◌≤◌, true, false, nat_eq, [], ◌∷◌, length, drop, Some, sym, ap, subst, ◌∙◌, arith, inl, inr}
-use Rattle.std.proofs.lemmas.Bool.{cases_Bool, eqb-true, not-true}
-use Rattle.ace_model.proofs.Terms.{has_free_line, is_on, more, I, is_invalid, Event, L, R, G, Read, Header, Transaction, Trace, event_at, at_point, issued, outstanding, state_of, k30, k18, IsLoad}
+use Rattle.std.proofs.Common.{◌≡◌, ◌⊎◌, ℕ, ◌-◌, ◌<◌, ◌≤◌, true, false, length, drop, Some, sym, ap, subst, ◌∙◌, arith, inl, inr}
+use Rattle.std.proofs.lemmas.Bool.{cases_lt, not-true}
+use Rattle.ace_model.proofs.Terms.{is_line_read_transaction, has_free_line, is_on, I, is_invalid, L, R, G, Read, Header, Transaction, Trace, at_point, issued, outstanding, state_of, k30, k18, IsLoad}
 use Rattle.ace_model.proofs.Terms.{IsBeat, IsGrantOf, HasBeat, IsReadBy, IsAccepted}
-use Rattle.ace_model.proofs.Trace.Growth.{at_point-before, issued_at-before}
+use Rattle.ace_model.proofs.Trace.Places.{event-accepted, issued-by, issued_at-later, placed-before, event_at-below, at_point-twice, at_point-length, beat-below}
 use Rattle.ace_model.proofs.Trace.Growth.{accepted-before}
 use Rattle.ace_model.proofs.Trace.Issued.{issued_at, transaction_of-stands}
 use Rattle.ace_model.proofs.Trace.LineOnce.{free_line}
 use Rattle.ace_model.proofs.General.Options.{is_none_or-at}
 use Rattle.ace_model.proofs.Rules.Keeps.{accepted_keeps}
 use Rattle.ace_model.proofs.Holders.Transfer.{may}
-use Rattle.ace_model.proofs.Trace.Places.{event_at-now, event_at-old, event_at-cases, event_at-below, at_point-last, at_point-twice, at_point-length, beat-below}
 use Rattle.ace_model.proofs.ReadsFollow.Outstanding.{outstanding-before, line_read-on, empty_while_read}
-
--- the event at a place of an accepted trace keeps the rules
-pub event-accepted : (h : Header) (past : Trace) (n : ℕ) (z : Event) → IsAccepted h past → event_at past n ≡ Some z → IsAccepted h (z ∷ at_point n past)
-event-accepted h [] n z a there = cc
-event-accepted h (e ∷ past) n z a there =
-    elim (event_at-cases e past n z there) [
-      | inl old ↦
-          let low = old.1 in
-          let same : at_point n (e ∷ past) ≡ at_point n past = at_point-before e past n (omega arith) in
-          subst (λ (t : Trace). IsAccepted h (z ∷ t)) (sym same) (event-accepted h past n z a.0 old.0)
-      | inr new ↦
-          subst (λ (t : Trace). IsAccepted h (z ∷ t)) (sym (at_point-last e past n new.0))
-          (subst (λ (v : Event). IsAccepted h (v ∷ past)) new.1 a)
-    ]
-
-issued_at-below : (past : Trace) (n : ℕ) (x : Transaction) → issued_at past n ≡ Some x → n < length past
-issued_at-below [] n x there = cc
-issued_at-below (e ∷ past) n x there =
-    elim (cases_Bool (nat_eq (length past) n)) [
-      | inl here ↦ let same = eqb-true (length past) n here in omega arith
-      | inr other ↦ let low = issued_at-below past n x (rw other at there) in omega arith
-    ]
-
--- what was issued at a place was issued by the event there
-pub issued-by : (past : Trace) (n : ℕ) (x : Transaction) → issued_at past n ≡ Some x → (e : Event) × (event_at past n ≡ Some e) × (issued n e ≡ Some x)
-issued-by [] n x there = cc
-issued-by (e ∷ past) n x there =
-    elim (cases_Bool (nat_eq (length past) n)) [
-      | inl here ↦
-          let same = eqb-true (length past) n here in
-          (e, ap (event_at (e ∷ past)) (sym same) ∙ event_at-now e past, ap (λ m. issued m e) (sym same) ∙ (rw here at there))
-      | inr other ↦ let old = issued-by past n x (rw other at there) in (old.0, event_at-old e past n old.0 old.1, old.2)
-    ]
 
 -- at a load its port holds the line
 load-holds : (h : Header) (past : Trace) (n p l w word : ℕ) → IsAccepted h past → IsLoad past n p l w word → state_of h (at_point n past) p l ≡ I → ⊥
@@ -76,26 +42,7 @@ beat-since h past n m x k word a beat le low =
 
 -- a read is issued before its grant
 pub granted-later : (past : Trace) (n : ℕ) (x : Transaction) → IsGrantOf past n x → x.place < n
-granted-later past n x g =
-    let low = event_at-below past n (G x.port Read x.id) g.0 in
-    let s = transaction_of-stands (at_point n past) x.port Read x.id x g.1 in
-    let below = s.before in
-    let long = at_point-length past n (omega arith) in
-    omega arith
-
-compare : (n m : ℕ) → (n < m) ⊎ (m ≤ n)
-compare n zero = inr (omega arith)
-compare zero (suc m) = inl (omega arith)
-compare (suc n) (suc m) = elim (compare n m) [ inl less ↦ inl (omega arith) | inr more ↦ inr (omega arith) ]
-
--- what was issued at a place of an earlier point
-issued_at-later : (k : ℕ) (past : Trace) (n : ℕ) (x : Transaction) → issued_at (drop k past) n ≡ Some x → issued_at past n ≡ Some x
-issued_at-later zero past n x there = there
-issued_at-later (suc k) [] n x there = there
-issued_at-later (suc k) (e ∷ past) n x there =
-    let old = issued_at-later k past n x there in
-    let low = issued_at-below past n x old in
-    issued_at-before e past n low ∙ old
+granted-later past n x g = let low = event_at-below past n (G x.port Read x.id) g.0 in placed-before past n x.port Read x.id x (omega arith) g.1
 
 pub beat-issued : (past : Trace) (x : Transaction) → HasBeat past x → issued_at past x.place ≡ Some x
 beat-issued past x b =
@@ -107,6 +54,36 @@ pub record PointsSet (past : Trace) (point : ℕ → ℕ) : Type 0 where
   pub load_now : (n p l w word : ℕ) → IsLoad past n p l w word → point n ≡ n
   pub granted : (x : Transaction) → HasBeat past x → (n : ℕ) × (IsGrantOf past n x × n < point x.place)
   pub before_beats : (n k word : ℕ) (x : Transaction) → IsBeat past n x k word → point x.place ≤ n
+
+module _ (h : Header) (past : Trace) (point : ℕ → ℕ) (a : IsAccepted h past) (s : PointsSet past point) (l m : ℕ) where
+  -- a read that was issued before a place has its point before it, or is outstanding there
+  earlier : (x : Transaction) → HasBeat past x → x.place < m → (point x.place < m) ⊎ (outstanding h (at_point m past) x.port Read x.id ≡ Some x)
+  earlier x b less =
+      elim (cases_lt b.0 m) [
+        | inl before ↦ let low = s.before_beats b.0 b.1.0 b.1.1.0 x b.1.1.1 in inl (omega arith)
+        | inr after ↦ inr (beat-since h past b.0 m x b.1.0 b.1.1.0 a b.1.1.1 after less)
+      ]
+
+  -- at a load no read of the line is outstanding at its port
+  no_load : (p w word : ℕ) (x : Transaction) → IsLoad past m p l w word → is_line_read_transaction x ≡ true → x.port ≡ p → x.addr ≡ l
+      → outstanding h (at_point m past) x.port Read x.id ≡ Some x → ⊥
+  no_load p w word x load reads port addr out =
+      load-holds h past m p l w word a load (ap (λ v. state_of h (at_point m past) v l) (sym port) ∙ ap (state_of h (at_point m past) x.port) (sym addr)
+      ∙ empty_while_read h (at_point m past) (accepted-before h (length past - m) past a) x.port x.id x out reads)
+
+  -- nor where its port issues another one
+  no_read : (x y : Transaction) → HasBeat past y → y.place ≡ m → is_line_read_transaction x ≡ true → x.port ≡ y.port → x.addr ≡ l → y.addr ≡ l
+      → outstanding h (at_point m past) x.port Read x.id ≡ Some x → ⊥
+  no_read x y b place reads port addr_x addr_y out =
+      let beat = b.1.1.1 in
+      let t = issued-by past m y (ap (issued_at past) (sym place) ∙ beat-issued past y b) in
+      let long = at_point-length past m (let low = event_at-below past m t.0 t.1 in omega arith) in
+      let free = is_none_or-at (issued (length (at_point m past)) t.0) (has_free_line h (at_point m past)) y
+      (accepted_keeps h (at_point m past) t.0 (event-accepted h past m t.0 a t.1)).rule_5 (ap (λ v. issued v t.0) long ∙ t.2) in
+      let on_x : is_on x l ≡ true = subst (λ v. is_on x v ≡ true) addr_x (line_read-on x reads) in
+      let on_y : is_on y l ≡ true = subst (λ v. is_on y v ≡ true) addr_y (line_read-on y beat.1.1.2) in
+      let named = (transaction_of-stands (at_point b.0 past) y.port Read y.id y beat.1.1.1).named in
+      free_line h (at_point m past) y.port Read Read y.id x.id l y x free named (ap (λ v. outstanding h (at_point m past) v Read x.id) (sym port) ∙ out) on_y on_x
 
 pub points-in_order : (h : Header) (past : Trace) (point : ℕ → ℕ) → IsAccepted h past → PointsSet past point
     → (p l n m : ℕ) → IsReadBy past p l n → IsReadBy past p l m → n < m → point n ≤ point m
@@ -123,44 +100,22 @@ points-in_order h past point a s p l n m (inl load) (inr y) less =
     let same : point y.0.place ≡ point m = ap point place in
     omega arith
 points-in_order h past point a s p l n m (inr x) (inl load) less =
-    let b = x.1 in
-    let beat = b.1.1.1 in
     let second = s.load_now m p l load.0 load.1.0 load.1.1 in
-    let low = s.before_beats b.0 b.1.0 b.1.1.0 x.0 beat in
-    let same : point x.0.place ≡ point n = ap point x.4 in
-    elim (compare b.0 m) [
+    let place = x.4 in
+    let same : point x.0.place ≡ point n = ap point place in
+    elim (earlier h past point a s l m x.0 x.1 (omega arith)) [
       | inl before ↦ omega arith
-      | inr after ↦
-          let place = x.4 in
-          let out = beat-since h past b.0 m x.0 b.1.0 b.1.1.0 a beat after (omega arith) in
-          let empty = empty_while_read h (at_point m past) (accepted-before h (length past - m) past a) x.0.port x.0.id x.0 out beat.1.1.2 in
-          let here : state_of h (at_point m past) p l ≡ I =
-          ap (λ v. state_of h (at_point m past) v l) (sym x.2) ∙ ap (state_of h (at_point m past) x.0.port) (sym x.3) ∙ empty in
-          absurd (load-holds h past m p l load.0 load.1.0 a load.1.1 here)
+      | inr out ↦ absurd (no_load h past point a s l m p load.0 load.1.0 x.0 load.1.1 x.1.1.1.1.1.1.2 x.2 x.3 out)
     ]
 points-in_order h past point a s p l n m (inr x) (inr y) less =
-    let b = x.1 in
-    let beat = b.1.1.1 in
-    let low = s.before_beats b.0 b.1.0 b.1.1.0 x.0 beat in
-    let first : point x.0.place ≡ point n = ap point x.4 in
     let g = s.granted y.0 y.1 in
-    let after_grant = granted-later past g.0 y.0 g.1.0 in
+    let after = granted-later past g.0 y.0 g.1.0 in
     let below = g.1.1 in
+    let place = x.4 in
     let place_y = y.4 in
+    let first : point x.0.place ≡ point n = ap point place in
     let second : point y.0.place ≡ point m = ap point place_y in
-    elim (compare b.0 m) [
+    elim (earlier h past point a s l m x.0 x.1 (omega arith)) [
       | inl before ↦ omega arith
-      | inr after ↦
-          let place = x.4 in
-          let out = beat-since h past b.0 m x.0 b.1.0 b.1.1.0 a beat after (omega arith) in
-          let t = issued-by past m y.0 (ap (issued_at past) (sym place_y) ∙ beat-issued past y.0 y.1) in
-          let accepted = event-accepted h past m t.0 a t.1 in
-          let long = at_point-length past m (let low = event_at-below past m t.0 t.1 in omega arith) in
-          let free = is_none_or-at (issued (length (at_point m past)) t.0) (has_free_line h (at_point m past)) y.0
-          (accepted_keeps h (at_point m past) t.0 accepted).rule_5 (ap (λ v. issued v t.0) long ∙ t.2) in
-          let on_x : is_on x.0 l ≡ true = subst (λ v. is_on x.0 v ≡ true) x.3 (line_read-on x.0 beat.1.1.2) in
-          let on_y : is_on y.0 l ≡ true = subst (λ v. is_on y.0 v ≡ true) y.3 (line_read-on y.0 y.1.1.1.1.1.1.2) in
-          let named = (transaction_of-stands (at_point y.1.0 past) y.0.port Read y.0.id y.0 y.1.1.1.1.1.1.1).named in
-          absurd (free_line h (at_point m past) y.0.port Read Read y.0.id x.0.id l y.0 x.0 free named
-          (ap (λ v. outstanding h (at_point m past) v Read x.0.id) (y.2 ∙ sym x.2) ∙ out) on_y on_x)
+      | inr out ↦ absurd (no_read h past point a s l m x.0 y.0 y.1 place_y x.1.1.1.1.1.1.2 (x.2 ∙ sym y.2) x.3 y.3 out)
     ]

@@ -1,24 +1,13 @@
 -- The outstanding reads of a port: what was outstanding before, and that a port holds nothing of a line that it reads.
-use Rattle.std.proofs.Common.{ap, false, nat_eq, ◌≡◌, ◌≢◌, ◌⊎◌, ℕ, zero, suc, ◌<◌, true, [], ◌∷◌, length, drop, Some, refl, arith, inl, inr}
+use Rattle.std.proofs.Common.{ap, false, nat_eq, ◌≡◌, ℕ, zero, suc, ◌<◌, true, [], ◌∷◌, length, drop, Some, refl, arith, inl, inr}
 use Rattle.std.proofs.lemmas.Bool.{and_from, or_left, eq-eqb}
 use Rattle.std.proofs.lemmas.List.{length-drop}
-use Rattle.ace_model.proofs.Terms.{is_on, is_read, ArKind, I, Header, Channel, Read, Write, Event, Transaction, Trace, is_some_and, is_line_read, is_line_write, reads_a_line, has_name, is_line}
-use Rattle.ace_model.proofs.Terms.{issued, read_kind, write_kind, ended, without, outstanding, state_of, is_line_read_transaction, IsAccepted}
-use Rattle.ace_codes.specs.declared.kind.ArKind.TheVariants as read
-use Rattle.ace_model.proofs.Trace.Issued.{issued-place}
-use Rattle.ace_model.proofs.Trace.Looks.{newest_named-cases, without-some}
+use Rattle.ace_model.proofs.Terms.{is_on, is_read, I, Header, Channel, Read, Write, Transaction, Trace, is_some_and, is_line_read, is_line_write, reads_a_line, is_line, read_kind, write_kind}
+use Rattle.ace_model.proofs.Terms.{outstanding, state_of, is_line_read_transaction, IsAccepted}
+use Rattle.ace_model.proofs.Tables.Kinds.{reads_line}
+use Rattle.ace_model.proofs.Trace.Issued.{outstanding-origin, issued-place}
 use Rattle.ace_model.proofs.Holders.Rises.{stays_empty}
 use Rattle.ace_model.proofs.General.Options.{is_some_and-is}
-
--- what is outstanding after an event is what it issues, or was outstanding and isn't what it ends
-pub outstanding-cases : (h : Header) (e : Event) (past : Trace) (p : ℕ) (c : Channel) (i : ℕ) (x : Transaction) → outstanding h (e ∷ past) p c i ≡ Some x
-    → ((issued (length past) e ≡ Some x) × (has_name x p c i ≡ true))
-    ⊎ ((outstanding h past p c i ≡ Some x) × ((z : Transaction) → ended h past e ≡ Some z → z.place ≢ x.place))
-outstanding-cases h e past p c i x o =
-    elim (newest_named-cases (issued (length past) e) p c i (without (ended h past e) (outstanding h past p c i)) x o) [
-      | inl new ↦ inl new
-      | inr old ↦ inr (without-some (ended h past e) (outstanding h past p c i) x old.0)
-    ]
 
 -- what is outstanding was outstanding at each point since it was issued
 pub outstanding-before : (h : Header) (k : ℕ) (past : Trace) (p : ℕ) (c : Channel) (i : ℕ) (x : Transaction) → outstanding h past p c i ≡ Some x
@@ -26,12 +15,12 @@ pub outstanding-before : (h : Header) (k : ℕ) (past : Trace) (p : ℕ) (c : Ch
 outstanding-before h zero past p c i x o low = o
 outstanding-before h (suc k) [] p c i x o low = o
 outstanding-before h (suc k) (e ∷ past) p c i x o low =
-    elim (outstanding-cases h e past p c i x o) [
+    elim (outstanding-origin h past e p c i x o) [
       | inl new ↦
           let at = issued-place (length past) e x new.0 in
           let most = length-drop k past in
           absurd (omega arith)
-      | inr old ↦ outstanding-before h k past p c i x old.0 low
+      | inr old ↦ outstanding-before h k past p c i x old.was low
     ]
 
 -- a read of a line is on the read channel
@@ -46,16 +35,7 @@ line_read-chan x reads = cases x.chan refl
 pub line_read-line : (x : Transaction) → is_line_read_transaction x ≡ true → is_line x ≡ true
 line_read-line x reads =
     let k = is_some_and-is (read_kind x) reads_a_line reads in
-    rw k.1 (or_left (is_line_read k.0) (is_some_and (write_kind x) is_line_write) (of_kind k.0 k.2))
-  where
-    of_kind : (k : ArKind) → reads_a_line k ≡ true → is_line_read k ≡ true
-    of_kind read.ReadNoSnoop t = refl
-    of_kind read.ReadOnce t = refl
-    of_kind read.ReadShared t = refl
-    of_kind read.ReadClean t = refl
-    of_kind read.ReadNotSharedDirty t = refl
-    of_kind read.ReadUnique t = refl
-    of_kind k t = cc
+    rw k.1 (or_left (is_line_read k.0) (is_some_and (write_kind x) is_line_write) (reads_line k.0 k.2))
 
 pub line_read-on : (x : Transaction) → is_line_read_transaction x ≡ true → is_on x x.addr ≡ true
 line_read-on x reads = and_from (is_line x) (nat_eq x.addr x.addr) (line_read-line x reads) (eq-eqb x.addr x.addr refl)

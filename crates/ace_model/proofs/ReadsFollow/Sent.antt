@@ -1,8 +1,8 @@
 -- The G of a granted read comes before the answers under its grant, and the line that an answer sends was the value then.
 use Rattle.std.proofs.Common.{[], ap, subst, Some, arith, inl, inr, length, refl, sym, true, ℕ, ◌+◌, ◌∙◌, ◌∷◌, ◌≡◌, ◌≢◌, ◌≤◌}
 use Rattle.std.specs.List.{AllByRecursion}
-use Rattle.ace_model.proofs.Terms.{Answer, Channel, Event, G, Header, I, InRange, IsAccepted, IsGrantOf, Read, Trace, Transaction, answer_of, at_point, copy_of, ended, given, grant_place}
-use Rattle.ace_model.proofs.Terms.{granted, is_on, state_of, transaction_of, transfers_data, value_of, without}
+use Rattle.ace_model.proofs.Terms.{Answer, Channel, Event, G, Header, I, InRange, IsAccepted, IsGrantOf, Read, Trace, Transaction, answer_of, at_point, copy_of, ended, given, grant_place, granted}
+use Rattle.ace_model.proofs.Terms.{is_on, state_of, transaction_of, transfers_data, value_of, without}
 use Rattle.ace_model.proofs.Grants.SnoopAnswers.{since_answer}
 use Rattle.ace_model.proofs.Trace.Growth.{at_point-before}
 use Rattle.ace_model.proofs.Trace.Issued.{transaction_of-stands}

@@ -1,56 +1,37 @@
 -- From its first beat on a read of a line is granted, no answer comes under its grant any more, and its reply stays the same.
-use Rattle.std.proofs.Common.{[], ap, Bool, None, Option, Some, false, if◌then◌else◌, inl, inr, nat_eq, option_and_then, option_map, refl, subst, sym, true, ℕ, ◌&&◌, ◌∙◌, ◌∷◌, ◌≡◌, ◌≢◌}
+use Rattle.std.proofs.Common.{length, [], ap, None, Option, Some, false, inl, inr, nat_eq, option_and_then, option_map, refl, subst, sym, true, ℕ, ◌∙◌, ◌∷◌, ◌≡◌, ◌≢◌}
 use Rattle.std.proofs.Math.Bool.{and-false}
-use Rattle.std.proofs.lemmas.Bool.{and_from, and_parts, cases_Bool, cases_eq, eq-eqb, eqb-true, ne_eqb}
-use Rattle.ace_model.proofs.Terms.{Answer, Ar, Cr, Event, Header, IsAccepted, R, Read, Trace, Transaction, answer_at, answer_of, answers, answers_grant, are_snoops_done, at_point, copy_at_answer, copy_of}
-use Rattle.ace_model.proofs.Terms.{first_sender, gives_line, granted, is_begun, is_line_read_transaction, is_read, memory_at_first_beat, outstanding, reply_of, sender_at, transfers, transfers_data}
+use Rattle.std.proofs.lemmas.Bool.{and_from, cases_Bool, cases_eq, eq-eqb, ne_eqb}
+use Rattle.ace_model.proofs.Terms.{is_named, issued, Answer, Cr, Event, Header, IsAccepted, Read, Trace, Transaction, answer_at, answer_of, answers, answers_grant, are_snoops_done, at_point}
+use Rattle.ace_model.proofs.Terms.{copy_at_answer, copy_of, first_sender, gives_line, granted, is_begun, is_line_read_transaction, is_read, memory_at_first_beat, outstanding, reply_of, sender_at}
+use Rattle.ace_model.proofs.Terms.{transfers, transfers_data}
+use Rattle.ace_model.proofs.Trace.Issued.{outstanding-origin, outstanding-name}
 use Rattle.ace_model.proofs.General.Options.{Some-injective, newer-none}
-use Rattle.ace_model.proofs.Trace.Issued.{outstanding-name}
 use Rattle.ace_model.proofs.Grants.Stays.{gives_none, granted_after}
 use Rattle.ace_model.proofs.Grants.Begins.{line_due}
 use Rattle.ace_model.proofs.Grants.Granted.{granted_at}
 use Rattle.ace_model.proofs.Grants.Pending.{answering, snoops}
-use Rattle.ace_model.proofs.Values.FullReads.{issue_transfers}
+use Rattle.ace_model.proofs.Values.FullReads.{issue_transfers, Transfer, transfer_moves}
 use Rattle.ace_model.proofs.Values.Stays.{copy_at-old}
-use Rattle.ace_model.proofs.ReadsFollow.Outstanding.{outstanding-cases, line_read-line}
-
--- The event is a beat of the name.
-pub record BeatEvent (e : Event) (p i : ℕ) : Type 0 where
-  pub resp : ℕ
-  pub last : Bool
-  pub word : ℕ
-  pub is : e ≡ R p i resp last word
+use Rattle.ace_model.proofs.ReadsFollow.Outstanding.{line_read-line}
 
 -- a name that has its first transfer with the event
-pub first-transfer : (e : Event) (past : Trace) (p i : ℕ) → transfers past p i ≡ 0 → transfers (e ∷ past) p i ≢ 0 → BeatEvent e p i
-first-transfer (Ar q j addr snoop dom bar lock) past p i none some = absurd (some (counted (nat_eq p q && nat_eq i j)))
-  where
-    counted : (b : Bool) → (if b then 0 else transfers past p i) ≡ 0
-    counted true = refl
-    counted false = none
-first-transfer (R q j resp last word) past p i none some =
-    elim (cases_Bool (nat_eq p q && nat_eq i j)) [
-      | inl t ↦
-          let parts = and_parts (nat_eq p q) (nat_eq i j) t in
-          record {
-            resp = resp;
-            last = last;
-            word = word;
-            is = ap (λ v. R v j resp last word) (sym (eqb-true p q parts.0)) ∙ ap (λ v. R p v resp last word) (sym (eqb-true i j parts.1));
-          }
-      | inr f ↦ absurd (some (rw f none))
+pub first-transfer : (e : Event) (past : Trace) (p i : ℕ) → is_named (issued (length past) e) p Read i ≡ false → transfers past p i ≡ 0 → transfers (e ∷ past) p i ≢ 0 → Transfer e p i
+first-transfer e past p i other none some =
+    elim (transfer_moves past e p i other) [
+      | inl same ↦ absurd (some (same.count ∙ none))
+      | inr t ↦ t
     ]
-first-transfer e past p i none some = absurd (some none)
 
 -- What the rule on transfers says of a read of a line.
 pub record BeatDue (h : Header) (past : Trace) (p i : ℕ) (x : Transaction) : Type 0 where
   pub stands : granted h past x.addr ≡ Some x
   pub done : transfers past p i ≡ 0 → are_snoops_done h past x ≡ true
 
-pub beat_due : (h : Header) (past : Trace) (p i : ℕ) (x : Transaction) (e : Event) → IsAccepted h (e ∷ past) → BeatEvent e p i
+pub beat_due : (h : Header) (past : Trace) (p i : ℕ) (x : Transaction) (e : Event) → IsAccepted h (e ∷ past) → Transfer e p i
     → outstanding h past p Read i ≡ Some x → is_line_read_transaction x ≡ true → BeatDue h past p i x
 beat_due h past p i x e a b o reads =
-    let t = line_due h past p i b.resp b.last b.word x (subst (λ (v : Event). IsAccepted h (v ∷ past)) b.is a) o (line_read-line x reads) in
+    let t = line_due h past p i b.resp b.last b.word (subst (λ (v : Event). IsAccepted h (v ∷ past)) b.is a) x o (line_read-line x reads) in
     let n = outstanding-name h past p Read i x o in
     record {
       stands = granted_at h past a.0 p Read i x o t.stands;
@@ -62,16 +43,16 @@ pub under_way : (h : Header) (past : Trace) → IsAccepted h past → (p i : ℕ
     → is_line_read_transaction x ≡ true → transfers past p i ≢ 0 → granted h past x.addr ≡ Some x
 under_way h [] a p i x o reads some = cc
 under_way h (e ∷ past) a p i x o reads some =
-    elim (outstanding-cases h e past p Read i x o) [
+    elim (outstanding-origin h past e p Read i x o) [
       | inl new ↦ absurd (some (issue_transfers past e p i x new.0 new.1))
       | inr old ↦
           let was : granted h past x.addr ≡ Some x = elim (cases_eq (transfers past p i) 0) [
-            | inr earlier ↦ under_way h past a.0 p i x old.0 reads earlier
-            | inl none ↦ (beat_due h past p i x e a (first-transfer e past p i none some) old.0 reads).stands
+            | inr earlier ↦ under_way h past a.0 p i x old.was reads earlier
+            | inl none ↦ (beat_due h past p i x e a (first-transfer e past p i old.other none some) old.was reads).stands
           ] in
           elim (granted_after h past e a x.addr x was) [
             | inl stays ↦ stays.is
-            | inr ends ↦ absurd (old.1 ends.0 ends.1 ends.2)
+            | inr ends ↦ absurd (old.lasts ends.0 ends.1 ends.2)
           ]
     ]
 
@@ -118,12 +99,12 @@ module _ (h : Header) (past : Trace) (x : Transaction) where
   pub reply-stays : (e : Event) (p i : ℕ) → IsAccepted h (e ∷ past) → outstanding h (e ∷ past) p Read i ≡ Some x
       → is_line_read_transaction x ≡ true → transfers (e ∷ past) p i ≢ 0 → reply_of (e ∷ past) x ≡ reply_of past x
   reply-stays e p i a o reads some =
-      elim (outstanding-cases h e past p Read i x o) [
+      elim (outstanding-origin h past e p Read i x o) [
         | inl new ↦ absurd (some (issue_transfers past e p i x new.0 new.1))
         | inr old ↦ elim (cases_eq (transfers past p i) 0) [
-          | inr earlier ↦ same (leaves_answers e a (under_way h past a.0 p i x old.0 reads earlier) (begun p i old.0 earlier))
+          | inr earlier ↦ same (leaves_answers e a (under_way h past a.0 p i x old.was reads earlier) (begun p i old.was earlier))
           | inl none ↦
-              let b = first-transfer e past p i none some in
+              let b = first-transfer e past p i old.other none some in
               same (subst (λ (v : Event). LeavesAnswers past v x.addr) (sym b.is) (record { gives = refl; answer = λ q. refl; sender = refl }))
         ]
       ]

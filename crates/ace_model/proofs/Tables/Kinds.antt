@@ -1,5 +1,6 @@
 -- What the kinds of transactions say of each other.
-use Rattle.std.proofs.Common.{◌≡◌, ◌⊎◌, Bool, true, false, ◌||◌, refl, inl, inr, ◌≢◌, arith}
+use Rattle.std.proofs.Common.{None, Some, ◌≡◌, ◌⊎◌, Bool, true, false, ◌||◌, refl, inl, inr, ◌≢◌, arith}
+use Rattle.ace_model.proofs.Terms.{SnoopKind, is_line_read, is_no_snoop_read}
 use Rattle.ace_model.proofs.Terms.{ArKind, AwKind, LineState, UC, UD, is_fetch, snoop_of_read, snoop_of_write, starts_write, is_invalid, is_dirty, is_some_and, reads_a_line, beats_of, is_lite_read}
 use Rattle.ace_model.proofs.Terms.{is_clean_unique, is_make_unique, is_update, has_write_data, is_unique_write, is_no_snoop_write, is_write_line_unique, is_granted_write, is_line_write}
 use Rattle.ace_codes.specs.declared.kind.ArKind.TheVariants as read
@@ -63,6 +64,12 @@ pub granted_apart : (k : AwKind) → is_granted_write k ≡ true → is_update k
 granted_apart write.WriteBack g = cc
 granted_apart k g = cc
 
+-- only granted writes cause a snoop
+pub snooping_granted : (k : AwKind) (s : SnoopKind) → snoop_of_write k ≡ Some s → is_granted_write k ≡ true
+snooping_granted write.WriteUnique s e = refl
+snooping_granted write.WriteLineUnique s e = refl
+snooping_granted k s e = cc
+
 pub update_data : (k : AwKind) → is_update k ≡ true → has_write_data k ≡ true
 update_data write.WriteBack u = cc
 update_data k u = cc
@@ -100,3 +107,19 @@ pub clean_starts : (k : AwKind) (st : LineState) → is_clean_write k ≡ true �
 clean_starts write.WriteEvict UC u s = cc
 clean_starts write.Evict UC u s = cc
 clean_starts k st u s = cc
+
+-- the reads of a line
+pub reads_line : (k : ArKind) → reads_a_line k ≡ true → is_line_read k ≡ true
+reads_line read.DvmMessage t = cc
+reads_line read.DvmComplete t = cc
+reads_line read.Barrier t = cc
+reads_line k t = refl
+
+pub reads_apart : (k : ArKind) → reads_a_line k ≡ true → (is_make_unique k ≡ false) × (is_clean_unique k ≡ false)
+reads_apart read.MakeUnique t = cc
+reads_apart read.CleanUnique t = cc
+reads_apart k t = (refl, refl)
+
+pub reads_unsnooped : (k : ArKind) → reads_a_line k ≡ true → snoop_of_read k ≡ None → is_no_snoop_read k ≡ true
+reads_unsnooped read.ReadNoSnoop t e = refl
+reads_unsnooped k t e = cc

@@ -1,8 +1,8 @@
 -- A state that is no more than another, and what that keeps.
 use Rattle.std.proofs.Common.{◌≡◌, Bool, true, false, if◌then◌else◌, ◌&&◌, Some, None, unwrap_or, refl}
 use Rattle.std.proofs.lemmas.Bool.{and_parts}
-use Rattle.ace_model.proofs.Terms.{SnoopKind, LineState, I, UC, UD, SC, SD, is_dirty, is_unique}
-use Rattle.ace_model.proofs.Tables.States.{lessens, cleans, Lessens, lessens-is, Leaves, Lessens-self, is_settled}
+use Rattle.ace_model.proofs.Terms.{SnoopKind, LineState, I, UC, UD, SC, is_dirty, is_unique}
+use Rattle.ace_model.proofs.Tables.States.{each_state, lessens, cleans, Lessens, lessens-is, Leaves, Lessens-self, is_settled}
 use Rattle.ace_model.proofs.General.Booleans.{not_more}
 
 -- the new state is no more than the old one
@@ -10,11 +10,7 @@ abbrev pub Less : LineState → LineState → Type 0
 Less old new = (lessens old new && cleans old new) ≡ true
 
 pub less_self : (st : LineState) → Less st st
-less_self I = refl
-less_self UC = refl
-less_self UD = refl
-less_self SC = refl
-less_self SD = refl
+less_self = each_state (λ st. Less st st) refl refl refl refl refl
 
 pub less-lessens : (old new : LineState) → Less old new → Lessens old new
 less-lessens old new e = lessens-is old new (and_parts (lessens old new) (cleans old new) e).0

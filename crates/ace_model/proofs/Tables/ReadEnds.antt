@@ -2,10 +2,10 @@
 use Rattle.std.proofs.Common.{◌≡◌, ◌⊎◌, Bool, true, false, not, ◌&&◌, ◌||◌, refl, inl, inr}
 use Rattle.std.specs.List.{list_all}
 use Rattle.std.proofs.lemmas.Bool.{and_parts, or_cases, not-true}
-use Rattle.ace_model.proofs.Terms.{ArKind, LineState, I, UC, SC, SD, end_states_of_read, ends_read, is_invalid, is_unique, is_dirty, implies, is_fetch, is_make_unique}
+use Rattle.ace_model.proofs.Terms.{ArKind, LineState, I, end_states_of_read, ends_read, is_invalid, is_unique, is_dirty, implies, is_fetch, is_make_unique}
 use Rattle.ace_codes.specs.declared.kind.ArKind.TheVariants as read
-use Rattle.ace_model.proofs.Tables.States.{all_among, is_invalid-is}
-use Rattle.ace_model.proofs.General.Booleans.{implies-at}
+use Rattle.ace_model.proofs.Tables.States.{each_state, all_among, is_invalid-is}
+use Rattle.ace_model.proofs.General.Booleans.{each_flags, implies-at}
 
 -- reads that may end in a unique state, by IsShared and whether it is an exclusive store that failed
 abbrev pub takes_alone : ArKind → Bool → Bool → Bool
@@ -33,40 +33,10 @@ read_fits k held shared pass failed st =
     && implies (is_dirty st) (is_dirty held || (pass || takes_alone k shared failed))
     && (implies (pass || is_dirty held || is_make_unique k) (is_dirty st) && (is_invalid st || not (is_invalid held) || (is_fetch k || is_make_unique k)))
 
+-- row by row
 read_ends : (k : ArKind) (held : LineState) (shared pass failed : Bool) → list_all (read_fits k held shared pass failed) (end_states_of_read k held shared pass failed) ≡ true
-read_ends read.ReadClean I false false failed = refl
-read_ends read.ReadNotSharedDirty I false false failed = refl
-read_ends read.ReadShared I false false failed = refl
-read_ends read.ReadUnique I false false failed = refl
-read_ends read.ReadClean I true false failed = refl
-read_ends read.ReadNotSharedDirty I true false failed = refl
-read_ends read.ReadShared I true false failed = refl
-read_ends read.ReadNotSharedDirty I false true failed = refl
-read_ends read.ReadShared I false true failed = refl
-read_ends read.ReadUnique I false true failed = refl
-read_ends read.ReadShared I true true failed = refl
-read_ends read.CleanUnique I false false false = refl
-read_ends read.CleanUnique SC false false false = refl
-read_ends read.CleanUnique SD false false false = refl
-read_ends read.CleanUnique I false false true = refl
-read_ends read.CleanUnique SC false false true = refl
-read_ends read.CleanUnique SD false false true = refl
-read_ends read.MakeUnique I false false failed = refl
-read_ends read.MakeUnique SC false false failed = refl
-read_ends read.MakeUnique SD false false failed = refl
-read_ends read.CleanShared I shared false failed = refl
-read_ends read.CleanShared UC false false failed = refl
-read_ends read.CleanShared SC false false failed = refl
-read_ends read.CleanShared UC true false failed = refl
-read_ends read.CleanShared SC true false failed = refl
-read_ends read.ReadOnce I shared false failed = refl
-read_ends read.ReadNoSnoop I false false failed = refl
-read_ends read.CleanInvalid I false false failed = refl
-read_ends read.MakeInvalid I false false failed = refl
-read_ends read.Barrier I false false failed = refl
-read_ends read.DvmComplete I false false failed = refl
-read_ends read.DvmMessage I false false failed = refl
-read_ends _ held shared pass failed = refl
+read_ends read.Barrier = each_state _ (each_flags _ refl) (each_flags _ refl) (each_flags _ refl) (each_flags _ refl) (each_flags _ refl)
+read_ends k = each_state _ (each_flags _ refl) (each_flags _ refl) (each_flags _ refl) (each_flags _ refl) (each_flags _ refl)
 
 -- What an end state says of the state that was held, and of what the kind takes.
 pub record ReadEnds (k : ArKind) (held : LineState) (shared pass failed : Bool) (st : LineState) : Type 0 where

@@ -42,16 +42,8 @@ shared_not_clean_unique k t e = cc
 -- the kind with the code of a kind is that kind
 pub kind_of_code : (k : SnoopKind) → ac_kind_of (ac_code k) ≡ Some k
 unfolding ac_kind_of
-kind_of_code snoop.ReadOnce = refl
-kind_of_code snoop.ReadShared = refl
-kind_of_code snoop.ReadClean = refl
-kind_of_code snoop.ReadNotSharedDirty = refl
-kind_of_code snoop.ReadUnique = refl
-kind_of_code snoop.CleanShared = refl
-kind_of_code snoop.CleanInvalid = refl
-kind_of_code snoop.MakeInvalid = refl
-kind_of_code snoop.DvmComplete = refl
 kind_of_code snoop.DvmMessage = refl
+kind_of_code k = refl
 
 -- a read that takes passed data causes a snoop that leaves no unique state
 pub passed_snoop : (k : ArKind) → takes_passed_data k ≡ true → (s : SnoopKind) × (snoop_of_read k ≡ Some s) × ((invalidates s || shares_line s) ≡ true)

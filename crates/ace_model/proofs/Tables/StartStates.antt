@@ -1,15 +1,12 @@
 -- The kinds that start where their port holds nothing.
 use Rattle.std.proofs.Common.{◌≡◌, true, [], ◌∷◌, refl}
-use Rattle.ace_model.proofs.Terms.{ArKind, AwKind, LineState, I, UC, UD, SC, SD, starts_read, starts_write, is_among, reads_a_line, is_granted_write}
+use Rattle.ace_model.proofs.Terms.{ArKind, AwKind, LineState, I, starts_read, starts_write, is_among, reads_a_line, is_granted_write}
 use Rattle.ace_codes.specs.declared.kind.ArKind.TheVariants as read
 use Rattle.ace_codes.specs.declared.kind.AwKind.TheVariants as write
 
 pub only_invalid : (st : LineState) → is_among st (I ∷ []) ≡ true → st ≡ I
 only_invalid I e = refl
-only_invalid UC e = cc
-only_invalid UD e = cc
-only_invalid SC e = cc
-only_invalid SD e = cc
+only_invalid st e = cc
 
 pub read_starts : (k : ArKind) (st : LineState) → reads_a_line k ≡ true → starts_read k st ≡ true → st ≡ I
 read_starts read.ReadNoSnoop st r s = only_invalid st s

@@ -109,8 +109,7 @@ each_issued-at past test n x each there =
     elim (cases_Bool (test x)) [
       | inl t ↦ t
       | inr f ↦
-          let broken : not (test x) ≡ true = rw f refl in
-          let some : some_issued past (λ y. not (test y)) ≡ true = some_issued-found past (λ y. not (test y)) n x there broken in
+          let some = some_issued-found past (λ y. not (test y)) n x there (rw f refl) in
           let no : false ≡ true = rw some at each in cc
     ]
 

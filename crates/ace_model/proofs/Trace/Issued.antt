@@ -1,7 +1,7 @@
 -- Which transaction a name means: it stands at its place, and what is outstanding is the last of its name.
-use Rattle.std.proofs.Common.{◌≡◌, ◌⊎◌, ℕ, false, ◌<◌, true, cond, nat_eq, [], ◌∷◌, length, Option, Some, None, sym, ap, ◌∙◌, arith, inl, inr, ◌≢◌}
+use Rattle.std.proofs.Common.{◌≡◌, ◌≢◌, ◌⊎◌, ℕ, false, ◌<◌, true, cond, nat_eq, [], ◌∷◌, length, Option, Some, None, sym, ap, ◌∙◌, arith, inl, inr}
 use Rattle.std.proofs.lemmas.Bool.{eq-eqb, ne_eqb}
-use Rattle.ace_model.proofs.Terms.{Event, Ar, Aw, Channel, Header, Transaction, Trace, has_name, is_named, issued, ended, without, transaction_of, outstanding}
+use Rattle.ace_model.proofs.Terms.{Event, Ar, Aw, Channel, Header, Transaction, Trace, has_name, is_named, issued, ended, transaction_of, outstanding}
 use Rattle.ace_model.proofs.Trace.Looks.{Named, has_name-is, newest_named-cases, newest_named-first, newest_named-older, without-some}
 use Rattle.ace_model.proofs.General.Options.{Some-injective}
 
@@ -42,6 +42,9 @@ transaction_of-stands (e ∷ past) p c i x t =
           }
     ]
 
+pub transaction_of-name : (past : Trace) (p : ℕ) (c : Channel) (i : ℕ) (x : Transaction) → transaction_of past p c i ≡ Some x → Named x p c i
+transaction_of-name past p c i x t = has_name-is x p c i (transaction_of-stands past p c i x t).named
+
 -- two transactions of a trace at one place are one
 pub same_place : (past : Trace) (p q : ℕ) (c d : Channel) (i j : ℕ) (x y : Transaction)
     → transaction_of past p c i ≡ Some x → transaction_of past q d j ≡ Some y → x.place ≡ y.place → x ≡ y
@@ -49,28 +52,6 @@ same_place past p q c d i j x y a b e =
     let s = transaction_of-stands past p c i x a in
     let t = transaction_of-stands past q d j y b in
     Some-injective x y (sym s.there ∙ ap (issued_at past) e ∙ t.there)
-
--- what is outstanding under a name is the new transaction, or was outstanding there and did not end
-pub outstanding-cases : (h : Header) (e : Event) (past : Trace) (p : ℕ) (c : Channel) (i : ℕ) (x : Transaction) → outstanding h (e ∷ past) p c i ≡ Some x
-    → ((issued (length past) e ≡ Some x) × (has_name x p c i ≡ true)) ⊎ ((outstanding h past p c i ≡ Some x) × (is_named (issued (length past) e) p c i ≡ false))
-outstanding-cases h e past p c i x o =
-    elim (newest_named-cases (issued (length past) e) p c i (without (ended h past e) (outstanding h past p c i)) x o) [
-      | inl new ↦ inl new
-      | inr old ↦ inr ((without-some (ended h past e) (outstanding h past p c i) x old.0).0, old.1)
-    ]
-
--- an outstanding transaction is the last of its name
-pub outstanding-named : (h : Header) (past : Trace) (p : ℕ) (c : Channel) (i : ℕ) (x : Transaction) → outstanding h past p c i ≡ Some x → transaction_of past p c i ≡ Some x
-outstanding-named h [] p c i x o = cc
-outstanding-named h (e ∷ past) p c i x o =
-    elim (outstanding-cases h e past p c i x o) [
-      | inl new ↦ newest_named-first (issued (length past) e) p c i (transaction_of past p c i) x new.0 new.1
-      | inr old ↦ newest_named-older (issued (length past) e) p c i (transaction_of past p c i) old.1 ∙ outstanding-named h past p c i x old.0
-    ]
-
--- so it has the name
-pub outstanding-name : (h : Header) (past : Trace) (p : ℕ) (c : Channel) (i : ℕ) (x : Transaction) → outstanding h past p c i ≡ Some x → Named x p c i
-outstanding-name h past p c i x o = has_name-is x p c i (transaction_of-stands past p c i x (outstanding-named h past p c i x o)).named
 
 -- What is outstanding after an event was so before it, and the event gives its name to no other.
 pub record Earlier (h : Header) (past : Trace) (e : Event) (p : ℕ) (c : Channel) (i : ℕ) (x : Transaction) : Type 0 where
@@ -86,3 +67,16 @@ outstanding-origin h past e p c i x o =
       | inl new ↦ inl new
       | inr old ↦ let w = without-some (ended h past e) (outstanding h past p c i) x old.0 in inr (record { was = w.0; other = old.1; lasts = w.1 })
     ]
+
+-- an outstanding transaction is the last of its name
+pub outstanding-named : (h : Header) (past : Trace) (p : ℕ) (c : Channel) (i : ℕ) (x : Transaction) → outstanding h past p c i ≡ Some x → transaction_of past p c i ≡ Some x
+outstanding-named h [] p c i x o = cc
+outstanding-named h (e ∷ past) p c i x o =
+    elim (outstanding-origin h past e p c i x o) [
+      | inl new ↦ newest_named-first (issued (length past) e) p c i (transaction_of past p c i) x new.0 new.1
+      | inr old ↦ newest_named-older (issued (length past) e) p c i (transaction_of past p c i) old.other ∙ outstanding-named h past p c i x old.was
+    ]
+
+-- so it has the name
+pub outstanding-name : (h : Header) (past : Trace) (p : ℕ) (c : Channel) (i : ℕ) (x : Transaction) → outstanding h past p c i ≡ Some x → Named x p c i
+outstanding-name h past p c i x o = transaction_of-name past p c i x (outstanding-named h past p c i x o)

@@ -4,8 +4,8 @@ use Rattle.std.proofs.lemmas.Bool.{and_parts, and_from, eq-eqb, eqb-true}
 use Rattle.ace_model.proofs.Terms.{Channel, Header, Transaction, Trace, is_line, is_on, has_name, issued, outstanding, is_outstanding, is_outstanding_on, has_outstanding_on, has_free_line}
 use Rattle.ace_model.proofs.Terms.{IsAccepted}
 use Rattle.ace_model.proofs.Trace.Looks.{has_name-is}
-use Rattle.ace_model.proofs.Trace.Issued.{outstanding-cases, outstanding-named, transaction_of-stands, issued_at}
-use Rattle.ace_model.proofs.Trace.Growth.{some_issued-found, IsIssued}
+use Rattle.ace_model.proofs.Trace.Issued.{issued_at, outstanding-origin, outstanding-named, transaction_of-stands}
+use Rattle.ace_model.proofs.Trace.Growth.{IsIssued, some_issued-found}
 use Rattle.ace_model.proofs.Rules.Keeps.{accepted_keeps}
 use Rattle.ace_model.proofs.General.Options.{Some-injective, is_some_and-is, is_none_or-at}
 use Rattle.ace_model.proofs.General.Booleans.{implies-at}
@@ -40,13 +40,13 @@ pub one_on_line : (h : Header) (past : Trace) → IsAccepted h past → (p : ℕ
 one_on_line h [] a p c d i j l x y ox oy nx ny = cc
 one_on_line h (e ∷ past) a p c d i j l x y ox oy nx ny =
     let free = λ (z : Transaction). is_none_or-at (issued (length past) e) (has_free_line h past) z (accepted_keeps h past e a).rule_5 in
-    elim (outstanding-cases h e past p c i x ox) [
-      | inl new ↦ elim (outstanding-cases h e past p d j y oy) [
+    elim (outstanding-origin h past e p c i x ox) [
+      | inl new ↦ elim (outstanding-origin h past e p d j y oy) [
         | inl newer ↦ Some-injective x y (sym new.0 ∙ newer.0)
-        | inr old ↦ absurd (free_line h past p c d i j l x y (free x new.0) new.1 old.0 nx ny)
+        | inr old ↦ absurd (free_line h past p c d i j l x y (free x new.0) new.1 old.was nx ny)
       ]
-      | inr old ↦ elim (outstanding-cases h e past p d j y oy) [
-        | inl new ↦ absurd (free_line h past p d c j i l y x (free y new.0) new.1 old.0 ny nx)
-        | inr older ↦ one_on_line h past a.0 p c d i j l x y old.0 older.0 nx ny
+      | inr old ↦ elim (outstanding-origin h past e p d j y oy) [
+        | inl new ↦ absurd (free_line h past p d c j i l y x (free y new.0) new.1 old.was ny nx)
+        | inr older ↦ one_on_line h past a.0 p c d i j l x y old.was older.was nx ny
       ]
     ]

@@ -1,10 +1,11 @@
 -- What is outstanding: the name of a transaction, and what an event issues or ends.
-use Rattle.std.proofs.Common.{◌≡◌, ◌≢◌, ◌⊎◌, not, ℕ, Bool, true, false, if◌then◌else◌, ◌&&◌, nat_eq, length, Option, Some, None, is_none, refl, sym, ap, subst, ◌∙◌, inl, inr}
-use Rattle.std.proofs.lemmas.Bool.{and_parts, and_from, cases_Bool, eqb-true, eq-eqb}
+use Rattle.std.proofs.Common.{◌≡◌, ◌≢◌, ◌⊎◌, not, ℕ, Bool, true, false, if◌then◌else◌, ◌&&◌, nat_eq, length, Option, Some, None, is_none, refl, sym, subst, ◌∙◌, inl, inr, arith}
+use Rattle.std.proofs.lemmas.Bool.{cases_Bool}
 use Rattle.ace_model.proofs.Terms.{Header, Channel, Read, Write, R, B, Transaction, Trace, transaction_of, next_complete, acknowledged, ended, is_ace, transaction_under, has_name, outstanding, newest_named, is_exclusive_store, is_false, passed_at_grant, has_failed}
-use Rattle.ace_model.proofs.Trace.Looks.{has_name-is, newest_named-cases, newest_named-older}
-use Rattle.ace_model.proofs.Trace.Issued.{same_place, outstanding-named, transaction_of-stands}
-use Rattle.ace_model.proofs.General.Options.{none_is, Some-injective}
+use Rattle.ace_model.proofs.Trace.Looks.{Named, at_name, has_name-is, newest_named-cases, newest_named-older}
+use Rattle.ace_model.proofs.Trace.Issued.{transaction_of-name, outstanding-name, same_place}
+use Rattle.ace_model.proofs.General.Options.{none_if-is, none_is, Some-injective}
+use Rattle.std.proofs.lemmas.Bool.Decides.{nat_tests}
 
 -- the transaction of the AR, of the AW
 abbrev pub read_issued : Trace → ℕ → ℕ → ℕ → ℕ → ℕ → ℕ → Bool → Transaction
@@ -34,9 +35,7 @@ pub outstanding_stays : (h : Header) (past : Trace) (y : Transaction) (p : ℕ) 
 outstanding_stays h past y p c i x free o =
     elim (cases_Bool (has_name y p c i)) [
       | inl t ↦
-          let n = has_name-is y p c i t in
-          let same : outstanding h past y.port y.chan y.id ≡ outstanding h past p c i =
-          ap (λ a. outstanding h past a y.chan y.id) n.port ∙ ap (λ a. outstanding h past p a y.id) n.chan ∙ ap (outstanding h past p c) n.id in
+          let same = at_name (outstanding h past) y p c i (has_name-is y p c i t) in
           let bad : None ≡ Some x = sym (none_is (outstanding h past y.port y.chan y.id) free) ∙ same ∙ o in cc
       | inr f ↦ (f, newest_named-older (Some y) p c i (outstanding h past p c i) f ∙ o)
     ]
@@ -44,35 +43,18 @@ outstanding_stays h past y p c i x free o =
 -- the answer to the exclusive store under a name stays where another name is issued
 pub failed_issued : (past : Trace) (y : Transaction) (x : Transaction) → has_name y x.port Read x.id ≡ false
     → (is_exclusive_store x && is_false (if has_name y x.port Read x.id then None else passed_at_grant past x.port x.id)) ≡ has_failed past x
-failed_issued past y x other =
-    ap (λ v. is_exclusive_store x && is_false v) (kept (has_name y x.port Read x.id) (passed_at_grant past x.port x.id) other)
-  where
-    kept : (b : Bool) (o : Option Bool) → b ≡ false → (if b then None else o) ≡ o
-    kept true o e = cc
-    kept false o e = refl
+failed_issued past y x other = rw other refl
 
 -- the other name is that of an outstanding read
 pub other_name : (h : Header) (past : Trace) (y : Transaction) (p i : ℕ) (x : Transaction) → outstanding h past p Read i ≡ Some x → has_name y p Read i ≡ false
     → has_name y x.port Read x.id ≡ false
-other_name h past y p i x o other =
-    let name = has_name-is x p Read i (transaction_of-stands past p Read i x (outstanding-named h past p Read i x o)).named in
-    ap (λ a. has_name y a Read x.id) name.port ∙ ap (has_name y p Read) name.id ∙ other
+other_name h past y p i x o other = let name = outstanding-name h past p Read i x o in rw (name.port, name.id) other
 
 -- the count of transfers begins anew for the name of the read
 pub named_read : (past : Trace) (q j addr snoop dom bar : ℕ) (lock : Bool) (p i : ℕ) (b : Bool)
     → has_name (read_issued past q j addr snoop dom bar lock) p Read i ≡ b → (nat_eq p q && nat_eq i j) ≡ b
-named_read past q j addr snoop dom bar lock p i true e =
-    let n = has_name-is (read_issued past q j addr snoop dom bar lock) p Read i e in
-    and_from _ _ (eq-eqb p q (sym n.port)) (eq-eqb i j (sym n.id))
-named_read past q j addr snoop dom bar lock p i false e =
-    elim (cases_Bool (nat_eq p q && nat_eq i j)) [
-      | inr f ↦ f
-      | inl t ↦
-          let parts = and_parts (nat_eq p q) (nat_eq i j) t in
-          let named : has_name (read_issued past q j addr snoop dom bar lock) p Read i ≡ true =
-          and_from _ _ (and_from _ _ (eq-eqb q p (sym (eqb-true p q parts.0))) refl) (eq-eqb j i (sym (eqb-true i j parts.1))) in
-          cc
-    ]
+named_read past q j addr snoop dom bar lock p i b e =
+    let same : (nat_eq p q && nat_eq i j) ≡ ((nat_eq q p && true) && nat_eq j i) = grind (arith, nat_tests) in same ∙ e
 
 -- Two names of one transaction.
 pub record OneName (p : ℕ) (c : Channel) (i q : ℕ) (d : Channel) (j : ℕ) : Type 0 where
@@ -85,13 +67,9 @@ module _ (past : Trace) where
       → transaction_of past p c i ≡ Some x → transaction_of past q d j ≡ Some y → x.place ≡ y.place → OneName p c i q d j
   one_name p q c d i j x y a b e =
       let one = same_place past p q c d i j x y a b e in
-      let n = has_name-is x p c i (transaction_of-stands past p c i x a).named in
-      let m = has_name-is y q d j (transaction_of-stands past q d j y b).named in
-      record {
-        port = sym n.port ∙ ap (λ (v : Transaction). v.port) one ∙ m.port;
-        chan = sym n.chan ∙ ap (λ (v : Transaction). v.chan) one ∙ m.chan;
-        id = sym n.id ∙ ap (λ (v : Transaction). v.id) one ∙ m.id;
-      }
+      let n = transaction_of-name past p c i x a in
+      let m : Named x q d j = rw one (transaction_of-name past q d j y b) in
+      record { port = sym n.port ∙ m.port; chan = sym n.chan ∙ m.chan; id = sym n.id ∙ m.id }
 
   -- a write is no read
   pub write_apart : (p q i j : ℕ) (x z : Transaction) → transaction_of past p Read i ≡ Some x → transaction_of past q Write j ≡ Some z → z.place ≢ x.place
@@ -122,15 +100,9 @@ ends_lite h past q j resp last word z e = lite last (is_ace h q) e
 -- and so is the port of the write that a B ends
 pub ends_lite_write : (h : Header) (past : Trace) (q j resp : ℕ) (z : Transaction) → ended h past (B q j resp) ≡ Some z
     → (is_ace h q ≡ false) × (transaction_of past q Write j ≡ Some z)
-ends_lite_write h past q j resp z e = lite (is_ace h q) e
-  where
-    lite : (b : Bool) → (if b then None else transaction_of past q Write j) ≡ Some z → (b ≡ false) × (transaction_of past q Write j ≡ Some z)
-    lite true e = cc
-    lite false e = (refl, e)
+ends_lite_write h past q j resp z e = none_if-is (is_ace h q) (transaction_of past q Write j) z e
 
 -- an outstanding transaction is so by its own name
 pub outstanding_own : (h : Header) (past : Trace) (p : ℕ) (c : Channel) (i : ℕ) (x : Transaction)
     → outstanding h past p c i ≡ Some x → outstanding h past x.port x.chan x.id ≡ Some x
-outstanding_own h past p c i x o =
-    let n = has_name-is x p c i (transaction_of-stands past p c i x (outstanding-named h past p c i x o)).named in
-    ap (λ a. outstanding h past a x.chan x.id) n.port ∙ ap (λ a. outstanding h past p a x.id) n.chan ∙ ap (outstanding h past p c) n.id ∙ o
+outstanding_own h past p c i x o = at_name (outstanding h past) x p c i (outstanding-name h past p c i x o) ∙ o

@@ -1,10 +1,14 @@
 -- The events of a trace by their places, and what a longer trace says of them: loads, beats and grants.
-use Rattle.std.proofs.Common.{◌≡◌, ◌⊎◌, ℕ, ◌-◌, ◌<◌, ◌≤◌, Bool, true, [], ◌∷◌, ◌++◌, length, reverse, drop, Some, slice_get, sym, ap, subst, ◌∙◌, arith, inl, inr}
+use Rattle.std.proofs.Common.{◌≡◌, ◌⊎◌, ℕ, ◌-◌, ◌<◌, ◌≤◌, Bool, true, [], ◌∷◌, ◌++◌, length, reverse, drop, Some, slice_get, sym, ap, ◌∙◌, arith, inl, inr, zero, nat_eq, suc, subst}
 use Rattle.std.proofs.lemmas.Option.{slice_get_within}
+use Rattle.std.proofs.lemmas.Bool.{cases_Bool, eqb-true}
 use Rattle.std.proofs.lemmas.List.{reverse-append, length-reverse, drop-drop, length-drop}
-use Rattle.ace_model.proofs.Terms.{Event, L, R, G, Read, Transaction, Trace, event_at, at_point, transaction_of, transfers, is_line_read_transaction, IsLoad, IsBeat, IsGrantOf}
-use Rattle.ace_model.proofs.Trace.Growth.{at_point-before, at_point-end}
+use Rattle.std.proofs.lemmas.Option.{slice_get_within}
+use Rattle.ace_model.proofs.Terms.{Channel, Header, IsAccepted, issued, Event, L, R, G, Read, Transaction, Trace, event_at, at_point, transaction_of, transfers, is_line_read_transaction, IsLoad}
+use Rattle.ace_model.proofs.Terms.{IsBeat, IsGrantOf}
+use Rattle.ace_model.proofs.Trace.Growth.{issued_at-before, at_point-before, at_point-end}
 use Rattle.ace_model.proofs.General.Lists.{slice_get-grown, slice_get-more, slice_get-at_end}
+use Rattle.ace_model.proofs.Trace.Issued.{issued_at, transaction_of-stands}
 use Rattle.ace_model.proofs.General.Options.{Some-injective}
 
 pub event_at-grown : (e : Event) (past : Trace) (n : ℕ) → event_at (e ∷ past) n ≡ slice_get (reverse past ++ e ∷ []) n
@@ -63,50 +67,72 @@ pub record NewBeat (past : Trace) (e : Event) (x : Transaction) (k word : ℕ) :
 pub beat-cases : (e : Event) (past : Trace) (n : ℕ) (x : Transaction) (k word : ℕ) → IsBeat (e ∷ past) n x k word
     → (IsBeat past n x k word × (n < length past)) ⊎ ((n ≡ length past) × NewBeat past e x k word)
 beat-cases e past n x k word beat =
-    let resp = beat.0 in
-    let last = beat.1.0 in
     let b = beat.1.1 in
-    elim (event_at-cases e past n (R x.port x.id resp last word) b.0) [
+    elim (event_at-cases e past n (R x.port x.id beat.0 beat.1.0 word) b.0) [
       | inl old ↦
           let low = old.1 in
-          let same : at_point n (e ∷ past) ≡ at_point n past = at_point-before e past n (omega arith) in
-          inl (
-            (
-              resp,
-              (
-                last,
-                (
-                  old.0,
-                  subst (λ (t : Trace). transaction_of t x.port Read x.id ≡ Some x) same b.1,
-                  b.2,
-                  subst (λ (t : Trace). transfers t x.port x.id ≡ k) same b.3,
-                ),
-              ),
-            ),
-            old.1,
-          )
+          let same = at_point-before e past n (omega arith) in
+          inl ((beat.0, (beat.1.0, (old.0, rw same at b.1, b.2, rw same at b.3))), low)
       | inr new ↦
-          let same : at_point n (e ∷ past) ≡ past = at_point-last e past n new.0 in
-          inr (
-            new.0,
-            record {
-              resp = resp;
-              last = last;
-              event = new.1;
-              named = subst (λ (t : Trace). transaction_of t x.port Read x.id ≡ Some x) same b.1;
-              line_read = b.2;
-              number = subst (λ (t : Trace). transfers t x.port x.id ≡ k) same b.3;
-            },
-          )
+          let same = at_point-last e past n new.0 in
+          inr (new.0, record { resp = beat.0; last = beat.1.0; event = new.1; named = rw same at b.1; line_read = b.2; number = rw same at b.3 })
     ]
 
 -- a grant of the trace stands in the longer one
 pub grant-old : (e : Event) (past : Trace) (n : ℕ) (x : Transaction) → IsGrantOf past n x → IsGrantOf (e ∷ past) n x
 grant-old e past n x g =
-    let low = event_at-below past n (G x.port Read x.id) g.0 in (
-      event_at-old e past n (G x.port Read x.id) g.0,
-      subst (λ (t : Trace). transaction_of t x.port Read x.id ≡ Some x) (sym (at_point-before e past n (omega arith))) g.1,
-    )
+    let low = event_at-below past n (G x.port Read x.id) g.0 in
+    let same = at_point-before e past n (omega arith) in
+    (event_at-old e past n (G x.port Read x.id) g.0, rw same g.1)
 
 pub beat-below : (past : Trace) (n : ℕ) (x : Transaction) (k word : ℕ) → IsBeat past n x k word → n < length past
 beat-below past n x k word b = event_at-below past n (R x.port x.id b.0 b.1.0 word) b.1.1.0
+
+-- the event at a place of an accepted trace keeps the rules
+pub event-accepted : (h : Header) (past : Trace) (n : ℕ) (z : Event) → IsAccepted h past → event_at past n ≡ Some z → IsAccepted h (z ∷ at_point n past)
+event-accepted h [] n z a there = cc
+event-accepted h (e ∷ past) n z a there =
+    elim (event_at-cases e past n z there) [
+      | inl old ↦
+          let low = old.1 in
+          let same : at_point n (e ∷ past) ≡ at_point n past = at_point-before e past n (omega arith) in
+          subst (λ (t : Trace). IsAccepted h (z ∷ t)) (sym same) (event-accepted h past n z a.0 old.0)
+      | inr new ↦
+          subst (λ (t : Trace). IsAccepted h (z ∷ t)) (sym (at_point-last e past n new.0))
+          (subst (λ (v : Event). IsAccepted h (v ∷ past)) new.1 a)
+    ]
+
+pub issued_at-below : (past : Trace) (n : ℕ) (x : Transaction) → issued_at past n ≡ Some x → n < length past
+issued_at-below [] n x there = cc
+issued_at-below (e ∷ past) n x there =
+    elim (cases_Bool (nat_eq (length past) n)) [
+      | inl here ↦ let same = eqb-true (length past) n here in omega arith
+      | inr other ↦ let low = issued_at-below past n x (rw other at there) in omega arith
+    ]
+
+-- what was issued at a place was issued by the event there
+pub issued-by : (past : Trace) (n : ℕ) (x : Transaction) → issued_at past n ≡ Some x → (e : Event) × (event_at past n ≡ Some e) × (issued n e ≡ Some x)
+issued-by [] n x there = cc
+issued-by (e ∷ past) n x there =
+    elim (cases_Bool (nat_eq (length past) n)) [
+      | inl here ↦
+          let same = eqb-true (length past) n here in
+          (e, ap (event_at (e ∷ past)) (sym same) ∙ event_at-now e past, ap (λ m. issued m e) (sym same) ∙ (rw here at there))
+      | inr other ↦ let old = issued-by past n x (rw other at there) in (old.0, event_at-old e past n old.0 old.1, old.2)
+    ]
+
+-- what was issued at a place of an earlier point
+pub issued_at-later : (k : ℕ) (past : Trace) (n : ℕ) (x : Transaction) → issued_at (drop k past) n ≡ Some x → issued_at past n ≡ Some x
+issued_at-later zero past n x there = there
+issued_at-later (suc k) [] n x there = there
+issued_at-later (suc k) (e ∷ past) n x there =
+    let old = issued_at-later k past n x there in
+    let low = issued_at-below past n x old in
+    issued_at-before e past n low ∙ old
+
+-- a transaction of an earlier point came before it
+pub placed-before : (past : Trace) (n p : ℕ) (c : Channel) (i : ℕ) (x : Transaction) → n ≤ length past → transaction_of (at_point n past) p c i ≡ Some x → x.place < n
+placed-before past n p c i x low named =
+    let below = (transaction_of-stands (at_point n past) p c i x named).before in
+    let long = at_point-length past n low in
+    omega arith

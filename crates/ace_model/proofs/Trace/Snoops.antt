@@ -1,16 +1,12 @@
 -- A snoop knows its place.
-use Rattle.std.proofs.Common.{◌≡◌, ℕ, ◌<◌, Bool, true, false, if◌then◌else◌, nat_eq, [], ◌∷◌, length, Some, None, slice_get, sym, ap, arith, inl, inr}
+use Rattle.std.proofs.Common.{◌≡◌, ℕ, ◌<◌, nat_eq, [], ◌∷◌, length, Some, slice_get, sym, ap, arith, inl, inr}
 use Rattle.ace_model.proofs.Terms.{Event, Ac, Snoop, Trace, snoop_at, snoops_of}
 use Rattle.ace_model.proofs.General.Lists.{slice_get-more}
-use Rattle.ace_model.proofs.General.Options.{Some-injective}
+use Rattle.ace_model.proofs.General.Options.{some_if-is}
 
 -- a snoop knows how many events came before it
 pub snoop_at-place : (n : ℕ) (e : Event) (r : ℕ) (s : Snoop) → snoop_at n e r ≡ Some s → s.place ≡ n
-snoop_at-place n (Ac q addr code) r s is = new (nat_eq r q) is
-  where
-    new : (b : Bool) → (if b then Some (record { place = n; addr = addr; snoop = code }) else None) ≡ Some s → s.place ≡ n
-    new true is = ap (λ (v : Snoop). v.place) (sym (Some-injective _ s is))
-    new false is = cc
+snoop_at-place n (Ac q addr code) r s is = ap (λ (v : Snoop). v.place) (sym (some_if-is (nat_eq r q) _ s is).1)
 snoop_at-place n e r s is = cc
 
 pub snoops-before : (past : Trace) (r n : ℕ) (s : Snoop) → slice_get (snoops_of past r) n ≡ Some s → s.place < length past

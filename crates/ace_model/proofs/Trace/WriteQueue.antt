@@ -5,11 +5,11 @@ use Rattle.ace_model.proofs.Terms.{LineState, Channel, Read, Write, without, Eve
 use Rattle.ace_model.proofs.Terms.{write_kind, transaction_of, outstanding, completed, completes, acknowledgements, acknowledged, is_completion, is_complete, is_memory_write, has_memory_write, may_respond}
 use Rattle.ace_model.proofs.Terms.{IsAccepted}
 use Rattle.ace_model.proofs.Trace.Looks.{at_name, without-other}
-use Rattle.ace_model.proofs.Trace.Issued.{outstanding-cases, outstanding-name, outstanding-named}
+use Rattle.ace_model.proofs.Trace.Issued.{outstanding-origin, outstanding-name, outstanding-named}
 use Rattle.ace_model.proofs.General.Lists.{slice_get-more}
 use Rattle.ace_model.proofs.Rules.Keeps.{accepted_keeps}
-use Rattle.ace_model.proofs.Trace.Outstanding.{one_name, acknowledged_is, read_issued, write_issued, outstanding_stays, ends_lite}
-use Rattle.ace_model.proofs.General.Options.{some_if-is, none_if-is, Some-injective, is_some_and-is}
+use Rattle.ace_model.proofs.Trace.Outstanding.{ends_lite_write, one_name, acknowledged_is, read_issued, write_issued, outstanding_stays, ends_lite}
+use Rattle.ace_model.proofs.General.Options.{some_if-is, Some-injective, is_some_and-is}
 use Rattle.ace_model.proofs.General.Booleans.{above_count, implies-at}
 
 -- a complete write that waits for its WK
@@ -44,25 +44,26 @@ module _ (h : Header) (past : Trace) where
       }
 
   -- another transaction is issued
-  waiting_issued : (e : Event) (y : Transaction) (p i : ℕ) → issued (length past) e ≡ Some y → ended h past e ≡ None
-      → is_none (outstanding h past y.port y.chan y.id) ≡ true → IsWaiting h past p i → IsWaiting h (e ∷ past) p i
-  waiting_issued e y p i new lives free w =
+  waiting_issued : (e : Event) (y : Transaction) (p : ℕ) → issued (length past) e ≡ Some y → ended h past e ≡ None
+      → is_none (outstanding h past y.port y.chan y.id) ≡ true → (i : ℕ) → IsWaiting h past p i → IsWaiting h (e ∷ past) p i
+  waiting_issued e y p new lives free i w =
       let s = outstanding_stays h past y p Write i w.0 free w.1 in
       (w.0, rw (new, lives) s.1, or_right (is_completion e p Write i) _ (rw (new, s.0) w.2))
 
   -- a read ends, which is no write
-  stays_at_read : (read : Option Transaction) (q p i : ℕ) (x : Transaction) → outstanding h past p Write i ≡ Some x
-      → ((z : Transaction) → read ≡ Some z → (j : ℕ) × (transaction_of past q Read j ≡ Some z)) → without read (outstanding h past p Write i) ≡ Some x
-  stays_at_read read q p i x o reads =
-      without-other read (outstanding h past p Write i) x o (λ z is same.
+  waiting_read : (read : Option Transaction) (q p : ℕ) → ((z : Transaction) → read ≡ Some z → (j : ℕ) × (transaction_of past q Read j ≡ Some z))
+      → (i : ℕ) → IsWaiting h past p i → (x : Transaction) × (without read (outstanding h past p Write i) ≡ Some x) × (is_complete past p Write i ≡ true)
+  waiting_read read q p reads i w =
+      let stays = without-other read (outstanding h past p Write i) w.0 w.1 (λ z is same.
       let r = reads z is in
-      let chan = (one_name past q p Read Write r.0 i z x r.1 (outstanding-named h past p Write i x o) same).chan in cc)
+      let chan = (one_name past q p Read Write r.0 i z w.0 r.1 (outstanding-named h past p Write i w.0 w.1) same).chan in cc) in
+      (w.0, stays, w.2)
 
   waiting_b : (q j resp p i : ℕ) (x : Transaction) → is_ace h p ≡ true → outstanding h past p Write i ≡ Some x
       → outstanding h (B q j resp ∷ past) p Write i ≡ Some x
   waiting_b q j resp p i x ace o =
       without-other (ended h past (B q j resp)) (outstanding h past p Write i) x o (λ z is same.
-      let e = none_if-is (is_ace h q) (transaction_of past q Write j) z is in
+      let e = ends_lite_write h past q j resp z is in
       let name = one_name past q p Write Write j i z x e.1 (outstanding-named h past p Write i x o) same in
       let bad : is_ace h q ≡ true = ap (is_ace h) name.port ∙ ace in cc)
 
@@ -141,41 +142,31 @@ module _ (h : Header) (past : Trace) where
           let above : acknowledgements past p Write + 1 ≤ n = rw (eq-eqb p q (sym name.port)) at low in
           omega arith
 
+  -- an event that neither adds to the queue nor takes from it, after which each that waits still does
+  kept : (e : Event) (p : ℕ) → WriteQueue h past p → ((i : ℕ) → IsWaiting h past p i → IsWaiting h (e ∷ past) p i)
+      → completed (e ∷ past) p Write ≡ completed past p Write → acknowledgements (e ∷ past) p Write ≡ acknowledgements past p Write → WriteQueue h (e ∷ past) p
+  kept e p f stays same count = record {
+    stands = λ n i low is. stays i (f.stands n i (rw count at low) (rw same at is));
+    distinct = λ m n i low_m low_n is_m is_n. f.distinct m n i (rw count at low_m) (rw count at low_n) (rw same at is_m) (rw same at is_n);
+  }
+
 -- at each point of an accepted trace
 pub write_queue : (h : Header) (past : Trace) → IsAccepted h past → (p : ℕ) → is_ace h p ≡ true → WriteQueue h past p
 write_queue h [] a p ace = record { stands = λ n i low e. cc; distinct = λ m n i low_m low_n em en. cc }
 write_queue h (Ar q j addr snoop dom bar lock ∷ past) a p ace =
     let e = Ar q j addr snoop dom bar lock in
     let free = (accepted_keeps h past e a).rule_4 in
-    let f = write_queue h past a.0 p ace in
-    record {
-      stands = λ n i low at. waiting_issued h past e (read_issued past q j addr snoop dom bar lock) p i refl refl free (f.stands n i low at);
-      distinct = f.distinct;
-    }
+    kept h past e p (write_queue h past a.0 p ace) (waiting_issued h past e (read_issued past q j addr snoop dom bar lock) p refl refl free) refl refl
 write_queue h (Aw q j addr snoop dom bar ∷ past) a p ace =
     let e = Aw q j addr snoop dom bar in
     let free = (accepted_keeps h past e a).rule_4 in
-    let f = write_queue h past a.0 p ace in
-    record {
-      stands = λ n i low at. waiting_issued h past e (write_issued past q j addr snoop dom bar) p i refl refl free (f.stands n i low at);
-      distinct = f.distinct;
-    }
+    kept h past e p (write_queue h past a.0 p ace) (waiting_issued h past e (write_issued past q j addr snoop dom bar) p refl refl free) refl refl
 write_queue h (R q j resp last word ∷ past) a p ace =
-    let f = write_queue h past a.0 p ace in
-    record {
-      stands = λ n i low at.
-          let w = f.stands n i low at in
-          (w.0, stays_at_read h past (ended h past (R q j resp last word)) q p i w.0 w.1 (λ z is. (j, (ends_lite h past q j resp last word z is).1)), w.2);
-      distinct = f.distinct;
-    }
+    let e = R q j resp last word in
+    kept h past e p (write_queue h past a.0 p ace) (waiting_read h past (ended h past e) q p (λ z is. (j, (ends_lite h past q j resp last word z is).1))) refl refl
 write_queue h (Rk q st ∷ past) a p ace =
-    let f = write_queue h past a.0 p ace in
-    record {
-      stands = λ n i low at.
-          let w = f.stands n i low at in
-          (w.0, stays_at_read h past (acknowledged past q Read) q p i w.0 w.1 (λ z is. let a = acknowledged_is past q Read z is in (a.id, a.named)), w.2);
-      distinct = f.distinct;
-    }
+    kept h past (Rk q st) p (write_queue h past a.0 p ace)
+    (waiting_read h past (acknowledged past q Read) q p (λ z is. let n = acknowledged_is past q Read z is in (n.id, n.named))) refl refl
 write_queue h (B q j resp ∷ past) a p ace = queue_b h past q j resp p ace (responds h past q j resp a) (write_queue h past a.0 p ace)
 write_queue h (Wk q st ∷ past) a p ace = queue_wk h past q st p (write_queue h past a.0 p ace)
 write_queue h (_ ∷ past) a p ace = let f = write_queue h past a.0 p ace in record { stands = f.stands; distinct = f.distinct }
@@ -206,16 +197,16 @@ pub done_write : (h : Header) (past : Trace) → IsAccepted h past → (p i : �
     → is_complete past p Write i ≡ true → is_some_and (write_kind x) has_write_data ≡ true → has_memory_write past p Write i ≡ true
 done_write h [] a p i x o c sends = cc
 done_write h (e ∷ past) a p i x o c sends =
-    elim (outstanding-cases h e past p Write i x o) [
+    elim (outstanding-origin h past e p Write i x o) [
       | inl new ↦
           let none = issue_completes (length past) e x p Write i new.0 in
           let bad : false ≡ true = rw (new.0, new.1, none) at c in cc
       | inr old ↦
           let before : has_memory_write past p Write i ≡ true = elim (or_cases (is_completion e p Write i) _ c) [
-            | inl now ↦ completion_written h past e a p i x old.0 now sends
-            | inr earlier ↦ done_write h past a.0 p i x old.0 (and_parts (not (is_named (issued (length past) e) p Write i)) _ earlier).1 sends
+            | inl now ↦ completion_written h past e a p i x old.was now sends
+            | inr earlier ↦ done_write h past a.0 p i x old.was (and_parts (not (is_named (issued (length past) e) p Write i)) _ earlier).1 sends
           ] in
-          or_right (is_memory_write e p Write i) _ (rw old.1 before)
+          or_right (is_memory_write e p Write i) _ (rw old.other before)
     ]
 
 -- The write that a WK of the port belongs to.
@@ -255,6 +246,6 @@ module _ (h : Header) (past : Trace) (q : ℕ) where
       → EndsWrite h past q z
   ends_lite_written j resp a z is =
       let m = responds h past q j resp a in
-      let named = (none_if-is (is_ace h q) (transaction_of past q Write j) z is).1 in
+      let named = (ends_lite_write h past q j resp z is).1 in
       let one : m.one ≡ z = Some-injective m.one z (sym (outstanding-named h past q Write j m.one m.out) ∙ named) in
       ends_write j z (m.out ∙ ap Some one) (λ sends. m.written (rw one sends))

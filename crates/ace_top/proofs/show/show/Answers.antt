@@ -2,29 +2,34 @@ use Rattle.std.proofs.Common.{rules}
 use Rattle.ace_top.proofs.ShowLemmas.{head_read, shows_copy, shows_no_header, shows_left, breaks_in_copy, breaks_after_copy, breaks_without_header}
 use Rattle.ace_top.proofs.show.show.Goals as goal
 
-pub returns-in-Ok-write_trace-clause-answer : goal.returns-in-Ok-write_trace-clause-answer
-returns-in-Ok-write_trace-clause-answer g c ne =
+pub returns-in-Ok-write_trace-clause-carried_out : goal.returns-in-Ok-write_trace-clause-carried_out
+returns-in-Ok-write_trace-clause-carried_out g c =
     let whole = c.in-Ok-write_trace.ensures.whole in
     let head = head_read _ _ _ c.header.result c.header.ensures c.in-Ok.ensures.readable c.in-Ok.ensures.header in
-    shows_left g.S.Source.left _ _ _ _ _ _ _ _ (search rules)
-    (shows_copy _ _ _ _ _ _ _ _ _ _ whole.0 _ _ head.0 head.1 whole.2 whole.4 whole.3 (c.conclude.ensures.out_given ne) (c.conclude.ensures.notes_given ne) (c.conclude.ensures.status ne))
+    record {
+      answer = λ ne.
+          shows_left g.S.Source.left _ _ _ _ _ _ _ _ (search rules)
+          (shows_copy _ _ _ _ _ _ _ _ _ _ whole.0 _ _ head.0 head.1 whole.2 whole.4 whole.3 (c.conclude.ensures.out_given ne) (c.conclude.ensures.notes_given ne) (c.conclude.ensures.status ne));
+      broken_off = λ five.
+          breaks_after_copy _ _ _ _ _ _ _ _ _ _ whole.0 _ head.0 head.1 whole.2 whole.4 whole.3 c.conclude.ensures.out_part (c.conclude.ensures.notes_part five);
+      told = c.conclude.ensures.notes_told;
+    }
 
-pub returns-in-Ok-write_trace-clause-broken_off : goal.returns-in-Ok-write_trace-clause-broken_off
-returns-in-Ok-write_trace-clause-broken_off g c five =
-    let whole = c.in-Ok-write_trace.ensures.whole in
+pub returns-in-Err-clause-carried_out : goal.returns-in-Err-clause-carried_out
+returns-in-Err-clause-carried_out g c = record {
+  answer = λ ne.
+      shows_left g.S.Source.left _ _ _ _ _ _ _ _ (search rules)
+      (shows_no_header _ _ _ _ _ _ _ _ _ _ _ c.error_answer.ensures c.in-Err.ensures.none (c.conclude-in-Err.ensures.out_given ne) (c.conclude-in-Err.ensures.notes_given ne) (c.conclude-in-Err.ensures.status ne));
+  broken_off = λ five.
+      breaks_without_header _ _ _ _ _ _ _ c.error_answer.ensures c.conclude-in-Err.ensures.out_part (c.conclude-in-Err.ensures.notes_part five);
+  told = c.conclude-in-Err.ensures.notes_told;
+}
+
+pub returns-in-Err-write_trace-clause-carried_out : goal.returns-in-Err-write_trace-clause-carried_out
+returns-in-Err-write_trace-clause-carried_out g c =
     let head = head_read _ _ _ c.header.result c.header.ensures c.in-Ok.ensures.readable c.in-Ok.ensures.header in
-    breaks_after_copy _ _ _ _ _ _ _ _ _ _ whole.0 _ head.0 head.1 whole.2 whole.4 whole.3 c.conclude.ensures.out_part (c.conclude.ensures.notes_part five)
-
-pub returns-in-Err-clause-answer : goal.returns-in-Err-clause-answer
-returns-in-Err-clause-answer g c ne =
-    shows_left g.S.Source.left _ _ _ _ _ _ _ _ (search rules)
-    (shows_no_header _ _ _ _ _ _ _ _ _ _ _ c.error_answer.ensures c.in-Err.ensures.none (c.conclude-in-Err.ensures.out_given ne) (c.conclude-in-Err.ensures.notes_given ne) (c.conclude-in-Err.ensures.status ne))
-
-pub returns-in-Err-clause-broken_off : goal.returns-in-Err-clause-broken_off
-returns-in-Err-clause-broken_off g c five =
-    breaks_without_header _ _ _ _ _ _ _ c.error_answer.ensures c.conclude-in-Err.ensures.out_part (c.conclude-in-Err.ensures.notes_part five)
-
-pub returns-in-Err-write_trace-clause-broken_off : goal.returns-in-Err-write_trace-clause-broken_off
-returns-in-Err-write_trace-clause-broken_off g c five =
-    let head = head_read _ _ _ c.header.result c.header.ensures c.in-Ok.ensures.readable c.in-Ok.ensures.header in
-    breaks_in_copy _ _ _ _ _ _ _ head.0 head.1 c.in-Err-write_trace.ensures.part c.break_off.ensures.part
+    record {
+      answer = λ ne. absurd (ne c.break_off.ensures.status);
+      broken_off = λ five. breaks_in_copy _ _ _ _ _ _ _ head.0 head.1 c.in-Err-write_trace.ensures.part c.break_off.ensures.part;
+      told = λ five. c.break_off.ensures.told;
+    }
