@@ -1,7 +1,7 @@
 -- A read that keeps the line receives its value.
 use Rattle.std.proofs.Common.{◌≡◌, ◌≢◌, ◌==◌, ℕ, ◌+◌, Bool, true, false, ◌&&◌, nat_eq, nat_lt, [], ◌∷◌, ◌++◌, length, Some, None, slice_get, refl, sym, ap, subst, ◌∙◌, arith, inl, inr}
 use Rattle.std.proofs.lemmas.Bool.{and_parts, and_from, or_cases, cases_eq, eqb-true, eq-eqb, ne_eqb}
-use Rattle.ace_model.proofs.Terms.{ArKind, ar_kind_of, Event, Ar, R, Aw, Read, Header, same_test, is_fetch, is_unique, Transaction, Trace, is_some_and, is_lite_read, beats_of, reads_a_line}
+use Rattle.ace_model.proofs.Terms.{ArKind, ar_kind_of, Event, Ar, R, Aw, Read, Header, same_test, is_fetch, is_unique, Transaction, Trace, is_some_and, is_lite_read, beats_of}
 use Rattle.ace_model.proofs.Terms.{first_sender, memory_at_first_beat, reply_of, value_of, may_issue_read, k18, is_due, is_next_transfer, has_word, IsAccepted}
 use Rattle.ace_model.proofs.Terms.{is_ace, is_line, has_name, read_kind, issued, ended, transfers, outstanding, granted, has_failed, state_of, is_line_read_transaction, words_read, word_of}
 use Rattle.ace_model.proofs.Trace.Looks.{has_name-is, is_on-addr, without-some}
@@ -149,7 +149,7 @@ module _ (h : Header) (past : Trace) where
                 let done = due.first (eq-eqb (transfers past x.port x.id) 0 (first_name ∙ z)) in
                 reply_true h past a.0 f.sent l x k g addr kind fetch (λ none. memory-before past x.port x.id l (first_name ∙ z) ∙ memory_true h past a.0 f l x k g kind fetch done none)
           ] in
-          let reads : is_line_read_transaction x ≡ true = subst (λ v. is_some_and v reads_a_line ≡ true) (sym kind) tables.reads in
+          let reads : is_line_read_transaction x ≡ true = rw kind tables.reads in
           let has = is_none_or-at (outstanding h past p Read i) (has_word past word) x (accepted_keeps h past (R p i resp last word) b).rule_20 was in
           let said : word ≡ word_of (reply_of past x) (transfers past x.port x.id) = eqb-true word _ (rw reads at has) in
           let word_is : word ≡ word_of (value_of past l) (transfers past p i) = said ∙ ap (λ v. word_of v (transfers past x.port x.id)) replies ∙ ap (word_of (value_of past l)) first_name in

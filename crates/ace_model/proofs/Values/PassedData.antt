@@ -140,7 +140,7 @@ first_passes h (e ∷ past) a p i x o line some has =
             | inl same ↦
                 let before : transfers past p i ≢ 0 = λ z. some (same.count ∙ z) in
                 let had = passed_before h past e a p i x o (λ r w new g. begun old.was before r w new g) has in
-                subst (λ v. is_some_and v passes_dirty ≡ true) (sym same.first) (first_passes h past a.0 p i x old.was line before had)
+                rw same.first (first_passes h past a.0 p i x old.was line before had)
             | inr t ↦
                 let had = passed_before h past e a p i x o (λ r w new g. let bad = sym t.is ∙ new.is in cc) has in
                 subst (λ d. is_some_and (first_resp (d ∷ past) p i) passes_dirty ≡ true) (sym t.is)

@@ -46,7 +46,7 @@ read_replaces x k kind t =
 -- what makes a line invalid at once replaces it
 invalid_replaces : (x : Transaction) (k : SnoopKind) → snoop_of x ≡ Some k → is_make_invalid k ≡ true → replaces_line x ≡ true
 invalid_replaces x k causes m =
-    by (read_kind x) (write_kind x) refl refl (subst (λ o. is_some_and o is_make_invalid ≡ true) (sym causes) m)
+    by (read_kind x) (write_kind x) refl refl (rw causes m)
   where
     by : (o : Option ArKind) (q : Option AwKind) → read_kind x ≡ o → write_kind x ≡ q → is_some_and (snoop_kind_of o q) is_make_invalid ≡ true → replaces_line x ≡ true
     by (Some r) q is_r is_q t = rw is_r (or_left (is_make_unique r) _ (read_invalid r t))
@@ -79,7 +79,7 @@ module _ (h : Header) (past : Trace) where
       let one : z ≡ x = same_place past q x.port Write x.chan w.id x.id z x (outstanding-named h past q Write w.id z w.out) (outstanding-named h past x.port x.chan x.id x o.0) same in
       let writes : is_read x.chan ≡ false = ap (λ (y : Transaction). is_read y.chan) (sym one) ∙ ap is_read w.chan in
       let k = granted_write x (granted_given h past a l x g).kind writes in
-      let sends : is_some_and (write_kind z) has_write_data ≡ true = subst (λ o. is_some_and o has_write_data ≡ true) (sym (ap write_kind one ∙ k.1)) (granted_data k.0 k.2) in
+      let sends : is_some_and (write_kind z) has_write_data ≡ true = rw (ap write_kind one ∙ k.1) (granted_data k.0 k.2) in
       let had : has_memory_write past x.port x.chan x.id ≡ true = subst (λ (y : Transaction). has_memory_write past y.port y.chan y.id ≡ true) one (w.written sends) in
       (f l x g writes had).stored
 
@@ -132,7 +132,7 @@ module _ (h : Header) (past : Trace) where
   answered_safe p resp st a f l d n =
       elim (cases_Bool (is_make_invalid n.kind)) [
         | inl m ↦
-            inr (inr (inr (subst (λ o. is_some_and o replaces_line ≡ true) (sym n.pending.stands) (invalid_replaces n.pending.one n.kind n.causes m))))
+            inr (inr (inr (rw n.pending.stands (invalid_replaces n.pending.one n.kind n.causes m))))
         | inr m ↦ elim (cases_Bool (passes_dirty resp)) [
           | inr keeps ↦
               let after = dirty_stays n.kind (state_of h past p l) false resp st n.of_line n.row m d keeps in
@@ -255,7 +255,7 @@ module _ (h : Header) (past : Trace) where
               | inr (inr (inr replaces)) ↦
                   let x = is_some_and-is (granted h past l) replaces_line replaces in
                   elim (granted_after h past e a l x.0 x.1) [
-                    | inl stays ↦ inr (inr (inr (subst (λ o. is_some_and o replaces_line ≡ true) (sym stays.is) x.2)))
+                    | inl stays ↦ inr (inr (inr (rw stays.is x.2)))
                     | inr z ↦ ended_safe h past e a f.written l x.0 x.1 (inr x.2) z.0 z.1 z.2
                   ]
             ]

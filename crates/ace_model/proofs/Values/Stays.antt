@@ -1,8 +1,8 @@
 -- The value of a line stays while a port's data of it are on their way.
 use Rattle.std.proofs.Common.{◌≡◌, ℕ, ◌<◌, true, false, not, [], ◌∷◌, length, Some, None, refl, sym, ap, subst, ◌∙◌, arith, inl, inr, ◌≢◌}
 use Rattle.std.proofs.lemmas.Bool.{and_parts, cases_Bool, cases_eq, not-true}
-use Rattle.ace_model.proofs.Terms.{ArKind, I, Read, Write, Event, Header, is_fetch, snoop_of_read, is_unique, Answer, Transaction, Trace, at_point, is_some_and, Channel, is_update, is_make_unique}
-use Rattle.ace_model.proofs.Terms.{has_write_data, is_read, is_on, read_kind, write_kind, snoop_of, snoop_kind_of, outstanding, has_outstanding_on, updates_memory, gives_line, granted, answer_of}
+use Rattle.ace_model.proofs.Terms.{ArKind, I, Read, Write, Event, Header, is_fetch, snoop_of_read, is_unique, Answer, Transaction, Trace, at_point, Channel, is_update, is_make_unique}
+use Rattle.ace_model.proofs.Terms.{is_read, is_on, read_kind, write_kind, snoop_of, snoop_kind_of, outstanding, has_outstanding_on, updates_memory, gives_line, granted, answer_of}
 use Rattle.ace_model.proofs.Terms.{state_of, word_of, copy_of, value_of, may_store, IsAccepted}
 use Rattle.ace_codes.specs.declared.kind.ArKind.TheVariants as read
 use Rattle.ace_model.proofs.Trace.Looks.{is_on-addr, read_writes_none}
@@ -137,7 +137,7 @@ module _ (h : Header) (past : Trace) where
   pub updates_step : (e : Event) → IsAccepted h (e ∷ past) → DirtyPlaced h past → UpdatesTrue h (e ∷ past)
   updates_step e a f p i l x k b o on updates is =
       let kind = is_some_and-is (write_kind x) is_update updates in
-      let beat = beat_origin h past e x k b a p i o (subst (λ v. is_some_and v has_write_data ≡ true) (sym kind.1) (update_data kind.0 kind.2)) is in
+      let beat = beat_origin h past e x k b a p i o (rw kind.1 (update_data kind.0 kind.2)) is in
       let same = value_updating h past e a p i l x beat.was on updates in
       elim beat.comes [
         | inl before ↦ f.updates p i l x k b beat.was on updates before ∙ ap (λ v. word_of v k) (sym same)

@@ -222,7 +222,7 @@ all_empty h past a q c j l w p =
       | inr quiet ↦
           let s = transaction_of-stands past x.port x.chan x.id x (outstanding-named h past x.port x.chan x.id x w.out) in
           no_snoop_unheld h past x p l a (record { there = s.there; before = s.before }) w.on
-          (or_right (is_some_and (read_kind x) _) (is_some_and (write_kind x) is_no_snoop_write) (subst (λ o. is_some_and o is_no_snoop_write ≡ true) (sym k.1) quiet))
+          (or_right (is_some_and (read_kind x) _) (is_some_and (write_kind x) is_no_snoop_write) (rw k.1 quiet))
       | inl unique ↦
           let s = is_some_and-is (snoop_of_write k.0) invalidates (unique_write_snoops k.0 unique) in
           let causes = snoop_of_kind x k.0 s.0 w.writes k.1 s.1 in
@@ -230,7 +230,7 @@ all_empty h past a q c j l w p =
             | inl own ↦
                 ap (λ b. state_of h past b l) (sym own)
                 ∙ stays_empty h past a x.port x.chan x.id l x w.out w.on
-                (or_right (is_line_read_transaction x) (is_some_and (write_kind x) is_granted_write) (subst (λ o. is_some_and o is_granted_write ≡ true) (sym k.1) (sym (granted_stores k.0) ∙ k.2)))
+                (or_right (is_line_read_transaction x) (is_some_and (write_kind x) is_granted_write) (rw k.1 (sym (granted_stores k.0) ∙ k.2)))
             | inr other ↦
                 let f = accepted_holds h past a in
                 let stands : granted h past x.addr ≡ Some x = ap (granted h past) addr ∙ w.stands in

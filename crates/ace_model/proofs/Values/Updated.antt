@@ -2,7 +2,7 @@
 use Rattle.std.proofs.Common.{◌≡◌, ℕ, true, false, not, ◌∷◌, Some, refl, sym, ap, subst, ◌∙◌, inl, inr}
 use Rattle.std.proofs.lemmas.Bool.{not-true, cases_Bool}
 use Rattle.std.specs.List.{AllByRecursion}
-use Rattle.ace_model.proofs.Terms.{passes_dirty, InRange, Write, Event, Header, is_invalid, Answer, Transaction, Trace, is_some_and, is_update, is_read, write_kind, outstanding, updates_memory}
+use Rattle.ace_model.proofs.Terms.{passes_dirty, InRange, Write, Event, Header, is_invalid, Answer, Transaction, Trace, is_read, write_kind, outstanding, updates_memory}
 use Rattle.ace_model.proofs.Terms.{has_update, granted, has_passed_data, state_of, IsAccepted}
 use Rattle.ace_model.proofs.Trace.Looks.{is_on-addr}
 use Rattle.ace_model.proofs.Trace.Issued.{outstanding-named, outstanding-name, outstanding-origin}
@@ -47,7 +47,7 @@ updated_step h past e a r f p i l x o on dirty m =
     ]
   where
     updates : updates_memory x ≡ true
-    updates = let k = is_some_and-is (write_kind x) is_dirty_update dirty in subst (λ o. is_some_and o is_update ≡ true) (sym k.1) (dirty_updates k.0 k.2)
+    updates = let k = is_some_and-is (write_kind x) is_dirty_update dirty in rw k.1 (dirty_updates k.0 k.2)
 
     written : outstanding h past p Write i ≡ Some x → (w : WritesLine h past e l) → w.one ≡ x → Updated h (e ∷ past) l
     written was w same =
