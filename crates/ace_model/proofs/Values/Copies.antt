@@ -42,7 +42,7 @@ module _ (h : Header) (past : Trace) where
             elim (stores_d h past q l strobe b line a) [
               | inl may ↦
                   let unique = (and_parts (is_unique (state_of h past q l)) _ may).0 in
-                  ap (λ c. merged c strobe line) (f p (subst (λ v. state_of h past v l ≡ I → ⊥) (sym port) (unique_valid (state_of h past q l) unique)))
+                  ap (λ c. merged c strobe line) (f p (rw port (unique_valid (state_of h past q l) unique)))
               | inr m ↦ merged-same (copy_of past p l) (value_of past l) line strobe m.whole
             ] in
             rw (own, here) goal
@@ -123,7 +123,7 @@ module _ (h : Header) (past : Trace) where
         | inl t ↦
             let same = eqb-true l addr t in
             subst (λ v. AreCopiesTrue h (D q v strobe b line ∷ past) l) same
-            (copies_d q l strobe b line (subst (λ v. IsAccepted h (D q v strobe b line ∷ past)) (sym same) a) (f.copies l)) p held
+            (copies_d q l strobe b line (rw same a) (f.copies l)) p held
         | inr other ↦
             let not_named : (nat_eq p q && nat_eq l addr) ≡ false = rw other (and-false (nat_eq p q)) in
             let was = f.copies l p (λ gone. held (state_d q addr strobe b line p l not_named ∙ gone)) in

@@ -60,8 +60,8 @@ module _ (h : Header) (past : Trace) where
         ends_it = e.is;
         state = rw (here, its, there) (read_is e.kind _ _ _ _ st (rw two.0 at both.0));
         stored = λ m. rw (here, its) (implies-at (is_make_unique e.kind) _ both.1 m);
-        arrives = subst (λ v. Arrives h past v e.id e.ended_one) (sym port) (e.arrives two.0);
-        full = subst (λ v. IsFull past v e.id e.ended_one) (sym port) (queued e);
+        arrives = rw port (e.arrives two.0);
+        full = rw port (queued e);
       }
     where
       queued : (e : Ends h past q) → IsFull past q e.id e.ended_one

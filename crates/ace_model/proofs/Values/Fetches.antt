@@ -79,7 +79,7 @@ module _ (h : Header) (past : Trace) where
         | inr old ↦ elim (transfer_moves past e p i old.other) [
           | inl none ↦ waits old.was none.count none.words
           | inr t ↦
-              subst (λ d. Fetches h (d ∷ past) p i l x) (sym t.is)
+              rw t.is
               (arrives t.resp t.last t.word (subst (λ d. IsAccepted h (d ∷ past)) t.is a) old.was (subst (λ d. outstanding h (d ∷ past) p Read i ≡ Some x) t.is o))
         ]
       ]

@@ -102,7 +102,7 @@ made_step h past e a f p i l x o on kind s =
         let is : e ≡ D p l n.strobe n.ex n.line = n.is ∙ ap (λ v. D p v n.strobe n.ex n.line) addr in
         elim (stores_d h past p l n.strobe n.ex n.line (subst (λ d. IsAccepted h (d ∷ past)) is a)) [
           | inl may ↦ absurd (busy h past p Read i l x was on may)
-          | inr m ↦ subst (λ d. copy_of (d ∷ past) p l ≡ value_of (d ∷ past) l) (sym is) (made_d h past p l n.strobe n.ex n.line m)
+          | inr m ↦ rw is (made_d h past p l n.strobe n.ex n.line m)
         ]
 
     after_store : outstanding h past p Read i ≡ Some x → has_store h past p i ≡ true → copy_of (e ∷ past) p l ≡ value_of (e ∷ past) l

@@ -92,7 +92,7 @@ module _ (h : Header) (past : Trace) (e : Event) (l : ℕ) (w : WritesLine h pas
   memory_now =
       let named = outstanding-named h past w.port w.chan w.id w.one w.out in
       let on = w.on in
-      subst (λ d. memory_of (d ∷ past) l ≡ w.line) (sym w.is) (rw (named, on) refl)
+      rw (w.is, named, on) refl
 
   -- whose M it is
   pub writer : IsAccepted h (e ∷ past) → ByPassed h past l w.one ⊎ ByUpdate h past w.one ⊎ Writes h past w.port w.chan w.id l

@@ -1,5 +1,5 @@
 -- Stores of a whole line, and lines by their words.
-use Rattle.std.proofs.Common.{◌≡◌, ℕ, zero, Option, Some, None, suc, ◌+◌, ◌-◌, ◌*◌, ◌/◌, ◌%◌, ◌^◌, ◌<◌, ◌&&◌, true, nat_eq, List, [], ◌∷◌, length, refl, sym, ap, ◌∙◌, arith, subst, slice_get, slice_index, get_or}
+use Rattle.std.proofs.Common.{◌≡◌, ℕ, zero, Option, Some, None, suc, ◌+◌, ◌-◌, ◌*◌, ◌/◌, ◌%◌, ◌^◌, ◌<◌, ◌&&◌, true, nat_eq, List, [], ◌∷◌, length, refl, sym, ap, ◌∙◌, arith, slice_get, slice_index, get_or}
 use Rattle.std.proofs.lemmas.Bool.{and_parts, eqb-true}
 use Rattle.std.proofs.Math.Nat.{pow-suc, div-div-eq-div-mul, div-eq_of_lt}
 use Rattle.std.specs.Int.{byte_at}
@@ -12,7 +12,7 @@ unfolding merged number_of_bytes
 merged-whole a c bytes = refl
 
 pub merged-same : (a c bytes : Line) (strobe : ℕ) → strobe ≡ full_line → merged a strobe bytes ≡ merged c strobe bytes
-merged-same a c bytes strobe whole = subst (λ s. merged a s bytes ≡ merged c s bytes) (sym whole) (merged-whole a c bytes)
+merged-same a c bytes strobe whole = rw whole (merged-whole a c bytes)
 
 low_byte : (i n : ℕ) → byte_at i n ≡ n / 256 ^ i % 256
 low_byte zero n = omega arith

@@ -143,7 +143,7 @@ first_passes h (e ∷ past) a p i x o line some has =
                 rw same.first (first_passes h past a.0 p i x old.was line before had)
             | inr t ↦
                 let had = passed_before h past e a p i x o (λ r w new g. let bad = sym t.is ∙ new.is in cc) has in
-                subst (λ d. is_some_and (first_resp (d ∷ past) p i) passes_dirty ≡ true) (sym t.is)
+                rw t.is
                 (transfer t.resp t.last t.word (subst (λ d. IsAccepted h (d ∷ past)) t.is a) old.was had (λ later. first_passes h past a.0 p i x old.was line later had))
           ]
     ]

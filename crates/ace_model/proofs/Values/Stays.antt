@@ -38,7 +38,7 @@ module _ (h : Header) (past : Trace) where
       → ((q : ℕ) → p ≢ q → is_unique (state_of h past q l) ≡ true → ⊥) → (q : ℕ) → may_store h past q l ≡ true → ⊥
   none_may_store p c i l x o on others q may =
       elim (cases_eq p q) [
-        | inl own ↦ busy p c i l x o on (subst (λ v. may_store h past v l ≡ true) (sym own) may)
+        | inl own ↦ busy p c i l x o on (rw own may)
         | inr apart ↦ others q apart (may_unique q l may)
       ]
 
@@ -106,7 +106,7 @@ copy_at-new past e r l w n =
 
 -- a CR is no store
 pub value_cr : (past : Trace) (e : Event) (r l : ℕ) (w : Answer) → NewAnswer past e r l w → value_of (e ∷ past) l ≡ value_of past l
-value_cr past e r l w n = subst (λ d. value_of (d ∷ past) l ≡ value_of past l) (sym n.is) refl
+value_cr past e r l w n = rw n.is refl
 
 module _ (h : Header) (past : Trace) where
   pub made_apart : (l : ℕ) (x : Transaction) (k : ArKind) → read_kind x ≡ Some k → is_fetch k ≡ true → (q s : ℕ) (m : Made h past q l s) → m.one ≡ x → ⊥

@@ -192,7 +192,7 @@ module _ (h : Header) (past : Trace) where
         | inl t ↦
             let same = eqb-true l addr t in
             let is : D q addr strobe b line ≡ D q l strobe b line = ap (λ v. D q v strobe b line) (sym same) in
-            inr (elim (stores_d q l strobe b line (subst (λ v. IsAccepted h (D q v strobe b line ∷ past)) (sym same) a)) [
+            inr (elim (stores_d q l strobe b line (rw same a)) [
               | inl may ↦ inl (record { port = q; strobe = strobe; ex = b; line = line; is = is; may = may })
               | inr made ↦ inr (inl (record { port = q; strobe = strobe; ex = b; line = line; is = is; made = made }))
             ])

@@ -135,7 +135,7 @@ module _ (h : Header) (past : Trace) where
       let named = s.named in
       let both = and_from _ _ s.stores s.on in
       let value : value_of (M w.port w.chan w.id w.line ∷ past) l ≡ burst_into past s.one (value_of past l) = rw (named, both) refl in
-      memory_now h past e l w ∙ line ∙ d.stores ∙ sym (subst (λ v. value_of (v ∷ past) l ≡ burst_into past s.one (value_of past l)) (sym w.is) value)
+      memory_now h past e l w ∙ line ∙ d.stores ∙ sym (rw w.is value)
 
   pub written_step : (e : Event) → IsAccepted h (e ∷ past) → AllByRecursion InRange (e ∷ past) → DirtyPlaced h past → WrittenTrue h (e ∷ past)
   written_step e a r f l x g writes m =
@@ -151,7 +151,7 @@ module _ (h : Header) (past : Trace) where
                   (outstanding-named h past x.port x.chan x.id x o.0) (and_from _ _ (grant_stores x k.0 k.1 k.2) o.1) in
                   record {
                     stored = store_true e a r f l w s;
-                    nowhere = λ p. subst (λ v. state_of h (v ∷ past) p l ≡ I) (sym now.is) (all_empty h past a.0 x.port x.chan x.id l s p);
+                    nowhere = λ p. rw now.is (all_empty h past a.0 x.port x.chan x.id l s p);
                   }
               | inr earlier ↦
                   let q = f.written l x stays.was writes earlier in
