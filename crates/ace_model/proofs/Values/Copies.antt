@@ -1,9 +1,9 @@
 -- The copies of the ports that hold a line stay its value.
-use Rattle.std.proofs.Common.{◌≡◌, ◌⊎◌, ℕ, Bool, true, false, ◌&&◌, ◌==◌, nat_eq, ◌∷◌, Some, refl, sym, ap, subst, ◌∙◌, inl, inr}
+use Rattle.std.proofs.Common.{◌≡◌, ◌⊎◌, ℕ, Bool, true, false, ◌&&◌, nat_eq, ◌∷◌, Some, refl, sym, ap, subst, ◌∙◌, inl, inr}
 use Rattle.std.proofs.lemmas.Bool.{and_parts, or_left, cases_Bool, eqb-true, eq-eqb}
 use Rattle.std.proofs.Math.Bool.{and-false}
-use Rattle.ace_model.proofs.Terms.{LineState, I, Read, Event, R, Rk, M, D, Header, Line, merged, is_invalid, is_unique, Transaction, Trace, is_some_and, beats_of, is_granted_write, is_on, write_kind}
-use Rattle.ace_model.proofs.Terms.{outstanding, transaction_of, transfers, state_of, is_line_read_transaction, copy_of, value_of, IsAccepted, AreCopiesTrue}
+use Rattle.ace_model.proofs.Terms.{LineState, I, Read, Event, R, Rk, M, D, Header, Line, merged, is_invalid, is_unique, Transaction, Trace, is_some_and, is_granted_write, is_on, write_kind}
+use Rattle.ace_model.proofs.Terms.{outstanding, transaction_of, state_of, is_line_read_transaction, copy_of, value_of, IsAccepted, AreCopiesTrue}
 use Rattle.ace_model.proofs.Tables.States.{valid_not, invalid_not, unique_valid}
 use Rattle.ace_model.proofs.Tables.Kinds.{fetch_is, make_unique_is}
 use Rattle.ace_model.proofs.Holders.Acknowledge.{is_named_by_rk}
@@ -11,7 +11,7 @@ use Rattle.ace_model.proofs.Holders.Rises.{state_moves, stays_empty}
 use Rattle.ace_model.proofs.Grants.Begins.{may_of}
 use Rattle.ace_model.proofs.Values.MergedLines.{merged-same}
 use Rattle.ace_model.proofs.Values.Stores.{stores_d, value_moves, all_empty}
-use Rattle.ace_model.proofs.Values.FullReads.{full_some}
+use Rattle.ace_model.proofs.Values.FullReads.{full_some, full_count}
 use Rattle.ace_model.proofs.Values.Ended.{read_ends}
 use Rattle.ace_model.proofs.Values.Facts.{DirtyPlaced}
 use Rattle.ace_model.proofs.Holders.Law.{accepted_holds}
@@ -67,10 +67,8 @@ module _ (h : Header) (past : Trace) where
             let r = read_ends h past q st a p l t in
             elim (r.state.gains gone (valid_not st held)) [
               | inl fetch ↦
-                  let kind = r.is_kind in
-                  let beats = (fetch_is r.kind fetch).beats in
-                  let four : nat_eq (transfers past p r.id) (beats_of r.kind) ≡ true = subst (λ v. is_some_and v (λ k. transfers past p r.id == beats_of k) ≡ true) kind r.full in
-                  (f.fetches p r.id l r.one r.kind r.out r.on kind fetch (full_some past p r.id r.one r.full)).whole (eqb-true (transfers past p r.id) (beats_of r.kind) four ∙ beats)
+                  (f.fetches p r.id l r.one r.kind r.out r.on r.is_kind fetch (full_some past p r.id r.one r.full)).whole
+                  (full_count past p r.id r.one r.kind r.full r.is_kind ∙ (fetch_is r.kind fetch).beats)
               | inr make ↦ f.made p r.id l r.one r.out r.on (r.is_kind ∙ ap (λ v. Some v) (make_unique_is r.kind make)) (r.stored make)
             ]
       ]

@@ -1,7 +1,7 @@
 -- The transfers of a read: what an event adds to them, and that a read which is complete has had them all.
 use Rattle.std.proofs.Common.{◌≡◌, ◌≢◌, ◌⊎◌, ◌==◌, ℕ, ◌+◌, Bool, true, false, not, ◌&&◌, nat_eq, [], ◌∷◌, length, Some, refl, sym, ap, subst, ◌∙◌, arith, inl, inr, length-append}
 use Rattle.std.proofs.lemmas.Bool.{and_parts, or_cases, cases_Bool, eqb-true, eq-eqb}
-use Rattle.ace_model.proofs.Terms.{Read, Write, Event, Ar, Aw, R, Header, Transaction, Trace, is_some_and, beats_of, has_name, is_named, read_kind, issued, transfers, first_resp}
+use Rattle.ace_model.proofs.Terms.{Read, Write, Event, Ar, Aw, R, Header, Transaction, Trace, is_some_and, beats_of, has_name, is_named, read_kind, issued, transfers, first_resp, ArKind}
 use Rattle.ace_model.proofs.Terms.{outstanding, is_line, may_transfer, is_completion, is_complete, words_read, IsAccepted}
 use Rattle.ace_model.proofs.Trace.Looks.{has_name-is}
 use Rattle.ace_model.proofs.Trace.Issued.{outstanding-origin}
@@ -67,6 +67,9 @@ words-length (_ ∷ past) p i = words-length past p i
 abbrev pub IsFull : Trace → ℕ → ℕ → Transaction → Type 0
 IsFull past p i x = is_some_and (read_kind x) (λ k. transfers past p i == beats_of k) ≡ true
 
+pub full_count : (past : Trace) (p i : ℕ) (x : Transaction) (k : ArKind) → IsFull past p i x → read_kind x ≡ Some k → transfers past p i ≡ beats_of k
+full_count past p i x k full kind = eqb-true (transfers past p i) (beats_of k) (rw kind at full)
+
 -- a full read has had a transfer
 pub full_some : (past : Trace) (p i : ℕ) (x : Transaction) → IsFull past p i x → transfers past p i ≢ 0
 full_some past p i x full =
@@ -101,7 +104,7 @@ module _ (h : Header) where
         | inr t ↦
             let m = may_of h past p i t.resp t.last t.word (subst (λ d. IsAccepted h (d ∷ past)) t.is a) in
             let kind : read_kind x ≡ Some m.kind = ap read_kind (Some-injective x m.one (sym o ∙ m.out)) ∙ m.is_kind in
-            let all = eqb-true (transfers past p i) (beats_of m.kind) (subst (λ o. is_some_and o (λ k. transfers past p i == beats_of k) ≡ true) kind full) in
+            let all = full_count past p i x m.kind full kind in
             absurd (omega (arith, m.few, all))
       ]
 

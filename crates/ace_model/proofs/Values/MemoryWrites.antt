@@ -91,8 +91,7 @@ module _ (h : Header) (past : Trace) (e : Event) (l : ℕ) (w : WritesLine h pas
   pub memory_now : memory_of (e ∷ past) l ≡ w.line
   memory_now =
       let named = outstanding-named h past w.port w.chan w.id w.one w.out in
-      let on = w.on in
-      rw (w.is, named, on) refl
+      rw (w.is, named, w.on) refl
 
   -- whose M it is
   pub writer : IsAccepted h (e ∷ past) → ByPassed h past l w.one ⊎ ByUpdate h past w.one ⊎ Writes h past w.port w.chan w.id l

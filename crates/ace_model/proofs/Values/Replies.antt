@@ -91,7 +91,7 @@ reply_true h past a sent l x k g addr kind fetch memory =
     by None is = memory is
     by (Some s) is =
         let w = sender_sent h past a s l is in
-        let same : copy_at_answer past l s ≡ Some (copy_of (at_point w.answer.place past) s l) = let there = w.is in rw there refl in
+        let same : copy_at_answer past l s ≡ Some (copy_of (at_point w.answer.place past) s l) = rw w.is refl in
         ap (λ o. unwrap_or o (memory_at_first_beat past x.port x.id l)) same ∙ sent l s x w.answer k g w.is w.sends kind fetch
 
 -- where the snoops of the read are done and no port has sent data, memory is the value
@@ -123,8 +123,7 @@ memory_true h past a f l x k g kind fetch done none =
 
     all : each_port h.ports (is_port_done h past x) ≡ true
     all =
-        let not_store = fetches.cleans in
-        let failed : has_failed past x ≡ false = rw (kind, not_store, and-false x.lock) refl in
+        let failed : has_failed past x ≡ false = rw (kind, fetches.cleans, and-false x.lock) refl in
         snoops_done-ports h past x snoop.0 snoop.1 failed done
 
     no_holder : (q : ℕ) → is_dirty (state_of h past q l) ≡ true → ⊥

@@ -186,8 +186,7 @@ module _ (h : Header) (past : Trace) where
         value : value_of (e ∷ past) l ≡ value_of past l
         value =
             let named = outstanding-named h past w.port w.chan w.id w.one w.out in
-            let reads = b.reads in
-            rw (w.is, named, reads) refl
+            rw (w.is, named, b.reads) refl
 
     -- so an M leaves the value safe
     memory_written : WritesLine h past e l → IsValueSafe h (e ∷ past) l

@@ -243,4 +243,4 @@ all_empty h past a q c j l w p =
     ]
   where
     failed : has_failed past w.one ≡ false
-    failed = let writes = w.writes in rw (writes, and-false w.one.lock) refl
+    failed = rw (w.writes, and-false w.one.lock) refl

@@ -39,10 +39,9 @@ updated_step h past e a r f p i l x o on dirty m =
     elim (outstanding-origin h past e p Write i x o) [
       | inl new ↦ absurd (new_unwritten past e x p Write i new.0 new.1 m)
       | inr old ↦
-          let was = old.was in
-          elim (written_cases h past e a p Write i x was m) [
-            | inl now ↦ written was (record { port = p; chan = Write; id = i; line = now.line; is = now.is; one = x; out = was; on = on; may = now.may }) refl
-            | inr earlier ↦ later was (f.updated p i l x was on dirty earlier)
+          elim (written_cases h past e a p Write i x old.was m) [
+            | inl now ↦ written old.was (record { port = p; chan = Write; id = i; line = now.line; is = now.is; one = x; out = old.was; on = on; may = now.may }) refl
+            | inr earlier ↦ later old.was (f.updated p i l x old.was on dirty earlier)
           ]
     ]
   where

@@ -71,7 +71,7 @@ module _ (h : Header) (past : Trace) where
       empty p = all_empty h past a q c j l w p
 
       no_read : read_kind w.one ≡ None
-      no_read = let writes = w.writes in rw writes refl
+      no_read = rw w.writes refl
 
       base : (k : AwKind) → write_kind w.one ≡ Some k → is_write_line_unique k ≡ false → unwrap_or (passed_data h past l) (memory_of past l) ≡ value_of past l
       base k kind other =
@@ -132,9 +132,8 @@ module _ (h : Header) (past : Trace) where
       let one : w.one ≡ s.one = Some-injective w.one s.one (sym (outstanding-named h past w.port w.chan w.id w.one w.out) ∙ s.named) in
       let d = writing a.0 r.1 f w.port w.chan w.id l s in
       let line = line_is h past e l w a r.0 d.line (ap (data_of h past) one ∙ d.is) d.four in
-      let named = s.named in
       let both = and_from _ _ s.stores s.on in
-      let value : value_of (M w.port w.chan w.id w.line ∷ past) l ≡ burst_into past s.one (value_of past l) = rw (named, both) refl in
+      let value : value_of (M w.port w.chan w.id w.line ∷ past) l ≡ burst_into past s.one (value_of past l) = rw (s.named, both) refl in
       memory_now h past e l w ∙ line ∙ d.stores ∙ sym (rw w.is value)
 
   pub written_step : (e : Event) → IsAccepted h (e ∷ past) → AllByRecursion InRange (e ∷ past) → DirtyPlaced h past → WrittenTrue h (e ∷ past)
