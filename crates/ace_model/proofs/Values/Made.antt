@@ -2,7 +2,7 @@
 use Rattle.std.proofs.Common.{◌≡◌, ℕ, Bool, true, false, not, ◌&&◌, nat_eq, nat_lt, [], ◌∷◌, length, Some, refl, sym, ap, subst, ◌∙◌, inl, inr, ◌⊎◌}
 use Rattle.std.proofs.lemmas.Bool.{and_parts, or_cases, or_right, eqb-true, eq-eqb}
 use Rattle.ace_codes.specs.declared.kind.ArKind.TheVariants as read
-use Rattle.ace_model.proofs.Terms.{I, Channel, Read, Event, Ar, Aw, D, Header, Line, Transaction, Trace, is_some_and, reads_a_line, is_ace, is_line, is_named, issued, read_kind, outstanding}
+use Rattle.ace_model.proofs.Terms.{I, Read, Event, Ar, Aw, D, Header, Line, Transaction, Trace, is_some_and, reads_a_line, is_ace, is_line, is_named, issued, read_kind, outstanding}
 use Rattle.ace_model.proofs.Terms.{is_completion, is_complete, granted, state_of, awaits_store, is_store_of, has_store, copy_of, value_of, IsAccepted}
 use Rattle.ace_model.proofs.Trace.Looks.{is_on-addr}
 use Rattle.ace_model.proofs.Trace.Issued.{outstanding-name, outstanding-origin, Earlier}
@@ -77,7 +77,7 @@ stored_complete h (e ∷ past) a p i x o s =
       | inl n ↦
           let name = outstanding-name h past p Read i x from.old.was in
           let known = (accepted_keeps h past (D p n.addr n.strobe n.ex n.line) (subst (λ d. IsAccepted h (d ∷ past)) n.is a)).rule_1 in (
-            sym (ap (λ v. is_complete past v x.chan x.id) name.port ∙ ap (λ (c : Channel). is_complete past p c x.id) name.chan ∙ ap (is_complete past p Read) name.id) ∙ n.awaits.complete,
+            rw (← name.port, ← name.chan, ← name.id) n.awaits.complete,
             (and_parts (nat_lt p h.ports) (is_ace h p) known).1,
           )
     ] in
@@ -118,7 +118,7 @@ made_step h past e a f p i l x o on kind s =
         let made_name = outstanding-name h past q Read m.id m.one m.out in
         let port : q ≡ p = sym made_name.port ∙ ap (λ (y : Transaction). y.port) one ∙ name.port in
         let id : m.id ≡ i = sym made_name.id ∙ ap (λ (y : Transaction). y.id) one ∙ name.id in
-        let first : has_store h past p i ≡ false = sym (ap (λ v. has_store h past v m.id) port ∙ ap (has_store h past p) id) ∙ m.first in cc in
+        let first : has_store h past p i ≡ false = rw (← port, ← id) m.first in cc in
         elim (copy_moves h past e a p l) [
           | inl same ↦ same ∙ f.made p i l x was on kind stored ∙ sym (value_stays h past e a l x stands no_port no_make (read_no_write h past x read.MakeUnique l kind))
           | inr (inl r) ↦

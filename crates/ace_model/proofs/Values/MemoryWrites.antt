@@ -137,7 +137,7 @@ module _ (h : Header) (past : Trace) (e : Event) (l : ℕ) (w : WritesLine h pas
       let x = w.one in
       let name = outstanding-name h past w.port w.chan w.id x w.out in
       let chan : w.chan ≡ Write = sym name.chan ∙ is_write-is x.chan u.writes in
-      let out : outstanding h past w.port Write w.id ≡ Some x = ap (λ (c : Channel). outstanding h past w.port c w.id) (sym chan) ∙ w.out in
+      let out : outstanding h past w.port Write w.id ≡ Some x = rw (← chan) w.out in
       let k = is_some_and-is (write_kind x) is_update u.updates in
       let is : data_of h past x ≡ Some (burst_line (burst_of past x)) = kind_data h past x k.0 u.writes k.1 ∙ ap (λ v. Some v) (update-writes h past x k.0 k.2) in
       let value = update_is h past a.0 f w.port w.id l x out w.on u.updates u.whole in

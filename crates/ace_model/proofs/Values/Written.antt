@@ -105,8 +105,7 @@ module _ (h : Header) (past : Trace) where
               ap (λ o. unwrap_or o (memory_of past l)) (sym none) ∙ base write.WriteNoSnoop kind refl
       by write.WriteLineUnique kind s =
           let four = four_beats past w.one w.whole in
-          let out : outstanding h past w.one.port Write w.one.id ≡ Some w.one =
-          ap (λ (d : Channel). outstanding h past w.one.port d w.one.id) (sym (is_write-is w.one.chan w.writes)) ∙ w.out in
+          let out : outstanding h past w.one.port Write w.one.id ≡ Some w.one = rw (← is_write-is w.one.chan w.writes) w.out in
           let sends : is_some_and (write_kind w.one) has_write_data ≡ true = rw kind refl in
           let unique : is_some_and (write_kind w.one) is_write_line_unique ≡ true = rw kind refl in
           let f0 = beats_fit h past a r w.one.port w.one.id w.one 0 four.b0 out sends (ap (λ bs. slice_get bs 0) four.is) in
