@@ -26,7 +26,7 @@
 --
 -- 4. A line snoop that isn't answered yet came under the present grant of its line. The granted transaction is of another
 --    port, is no exclusive store that failed, and hasn't begun. The snooped port has no answer under the grant and no second
---    unanswered snoop of the line. A port that wasn't snooped under the grant has no answer under it [Snooped].
+--    unanswered snoop of the line. A port that wasn't snooped under the grant has no answer under it [SnoopsStand].
 --    AC: K13 and K1 ask for this, and that the port wasn't snooped under the grant before; so the new snoop is its only one.
 --    CR: it answers the oldest snoop of its port; if that one is of the line, no other of the line waits there.
 --    G: it is of another line, by K12.
@@ -40,8 +40,8 @@
 --    transaction causes; and where a memory update of the port on the line is outstanding, by K16 a row that goes with it
 --    [Answering].
 --
--- 6. While the grant stays, no port comes to hold more of the line: I stays I, and a port that may not store may not store
---    after the event either [stays_less].
+-- 6. While the grant stays, no port comes to hold more of the line: a port in I stays in I, a port in I or SC stays in I or
+--    SC, and a port that isn't in UC or UD doesn't come to be [stays_less].
 --    RK: it gives its port more only as the end of a read of the line. Such a read is granted, and its RK ends the grant.
 --    WK, CR, S, D: they leave their port with less, or make UC to UD; this is a fact of the folder Holders. Other events
 --    leave the states.
@@ -51,10 +51,11 @@
 --
 -- 7. Once a port has passed the line on dirty, every other port holds it in I or SC [others_settled]. A row with PassDirty
 --    starts from UD or SD, beside which no other port is unique or dirty; and then no port comes to hold more.
--- 8. Once a port has sent data to a snoop that leaves it in no unique state, no port holds the line in UC or UD
---    [none_unique]. To send it the port held the line, so no other had it alone.
--- 9. A port that has answered such a snoop without data doesn't hold the line dirty [unsent_clean]. A dirty line is sent,
---    but to MakeInvalid, which leaves I; and later the port may not store, as its state isn't unique.
+-- 8. Once a port has sent data to a ReadShared, ReadClean, ReadNotSharedDirty, ReadUnique, CleanInvalid or MakeInvalid, no
+--    port holds the line in UC or UD [none_unique]. The snoop leaves its own state as neither. To send it the port held the
+--    line, so no other had it alone.
+-- 9. A port that has answered one of these snoops without data doesn't hold the line dirty [unsent_clean]. A dirty line is
+--    sent, but to MakeInvalid, which leaves I; and later the port may not store, as its state isn't unique.
 -- 10. A line that is passed on dirty is sent too, and the snoop isn't MakeInvalid [passed_kind].
 
 -- Fact 2: what is granted before and after an event.

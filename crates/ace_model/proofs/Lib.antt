@@ -5,8 +5,8 @@ pub mod Rules
 pub mod Tables
 pub mod Holders
 pub mod Grants
-pub mod ReadsFollow
 pub mod Values
+pub mod ReadsFollow
 pub mod Exclusives
 pub mod Barriers
 pub mod Dvm

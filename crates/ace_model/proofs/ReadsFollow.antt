@@ -4,17 +4,18 @@
 -- [value_of]. The law gives each read a point of the trace. A load has the point right before it, and its word is that word
 -- of the value there. A read of a line has a point after its G and not after its first transfer, and all its transfers are
 -- words of the value there. The points of the reads of one port and line, in the order of their L and AR, never go back. The
--- proof rests on the law on holders [OneHolder], on the facts under a grant [Snooped], and on the law `DirtyPlace` with its
--- facts [DirtyPlaced]: each port whose state isn't I has the value as its copy, data newer than memory have a place, and the
--- burst of an outstanding memory update is the value.
+-- proof rests on the law on holders [OneHolder], on the facts under a grant [SnoopsStand], and on the law `DirtyPlace` with
+-- its facts [DirtyPlaced]: each port whose state isn't I has the value as its copy, data newer than memory have a place, and
+-- the burst of an outstanding memory update is the value. The numbers are in range so that the line of an M has four words.
 --
--- Two facts hold at every point of an accepted trace before the points can be chosen.
+-- Two facts come first. They hold at every point of such a trace.
 --
 -- 1. From its first transfer on a read of a line is granted as long as it is outstanding [under_way], and its reply stays
 --    the same [reply-stays].
---    R: a transfer finds its read granted, by K18. The memory that a reply looks at is that before the first transfer.
+--    R: a transfer finds its read granted, by K18, and its end alone ends the grant. The memory that a reply looks at is
+--    that before the first transfer.
 --    CR: it isn't an answer under the grant. It would answer a snoop under the grant, and then the read hadn't begun
---    [Snooped].
+--    [SnoopsStand].
 --    G: it is of another line, by K12. AR, AW: they have another name, by K4. RK and, at an ACE-Lite port, the last R end
 --    the read.
 --    M: it writes memory after the first transfer, where the reply doesn't look. Other events aren't looked at.
@@ -31,7 +32,8 @@
 --
 -- At the first transfer the snoops are done, by K18. So each other port that holds the line has answered, and no port that
 -- holds it dirty is left: memory was the value at a point since the G [memory_follows]. A read that causes no snoop is a
--- ReadNoSnoop; no port holds its line, by K8. Its own port holds I from its AR on, by K6 [empty_while_read].
+-- ReadNoSnoop; no port holds its line, by K8 [no_snoop_unheld]. Its own port holds I from its AR on, by K6
+-- [empty_while_read].
 --
 -- The points are chosen as the trace grows; those of the reads so far, and of the reads under way, are [Follows].
 --

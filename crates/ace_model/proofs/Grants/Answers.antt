@@ -1,6 +1,6 @@
 -- What the answers under a grant say of the states of the ports.
 use Rattle.std.proofs.Common.{◌≡◌, ◌≢◌, ℕ, Bool, true, false, not, ◌||◌, ◌∷◌, Some, refl, sym, ap, subst, ◌∙◌, inl, inr}
-use Rattle.std.proofs.lemmas.Bool.{and_parts, or_right, cases_Bool, cases_eq}
+use Rattle.std.proofs.lemmas.Bool.{false_from_ne_true, and_parts, or_right, cases_Bool, cases_eq}
 use Rattle.ace_model.proofs.Terms.{SnoopKind, LineState, I, passes_dirty, transfers_data, is_shared, Event, Cr, Header, is_unique, is_dirty, Answer, Transaction, Trace, snoop_of}
 use Rattle.ace_model.proofs.Terms.{has_outstanding_on, granted, answer_of, state_of, IsAccepted}
 use Rattle.ace_codes.specs.declared.kind.SnoopKind.TheVariants as snoop
@@ -23,17 +23,11 @@ beside_dirty h past f l r z d apart = settled (state_of h past z l) unique dirty
   where
     unique : is_unique (state_of h past z l) ≡ false
     unique =
-        elim (cases_Bool (is_unique (state_of h past z l))) [
-          | inr fine ↦ fine
-          | inl u ↦ let bad : is_dirty I ≡ true = subst (λ v. is_dirty v ≡ true) (f.unique l z r u apart) d in cc
-        ]
+        false_from_ne_true (is_unique (state_of h past z l)) (λ u. let bad : is_dirty I ≡ true = subst (λ v. is_dirty v ≡ true) (f.unique l z r u apart) d in cc)
 
     dirty : is_dirty (state_of h past z l) ≡ false
     dirty =
-        elim (cases_Bool (is_dirty (state_of h past z l))) [
-          | inr fine ↦ fine
-          | inl e ↦ absurd (apart (f.one_dirty l z r e d))
-        ]
+        false_from_ne_true (is_dirty (state_of h past z l)) (λ e. absurd (apart (f.one_dirty l z r e d)))
 
 -- the facts of a new answer, at the CR
 abbrev pub Answered : Header → Trace → ℕ → ℕ → Answer → Type 0
@@ -73,12 +67,9 @@ none_unique h past a l r z x w k g is d c lev =
           since_answer h l r x w (λ t. is_unique (state_of h t z l) ≡ false)
           (λ past e a stays new is.
           let n = new_answer h past e a r l w new in
-          (stays_less h past e a l z x stays).not_unique (elim (cases_Bool (is_unique (state_of h past z l))) [
-            | inr fine ↦ fine
-            | inl u ↦
-                let gone = (accepted_holds h past a.0).unique l z r u (λ same. apart (sym same)) in
-                absurd (sends_held n.1.kind w.resp n.0 (rw gone at n.1.row) d)
-          ]))
+          (stays_less h past e a l z x stays).not_unique (false_from_ne_true (is_unique (state_of h past z l)) (λ u.
+          let gone = (accepted_holds h past a.0).unique l z r u (λ same. apart (sym same)) in
+          absurd (sends_held n.1.kind w.resp n.0 (rw gone at n.1.row) d))))
           (λ past e a stays was before. (stays_less h past e a l z x stays).not_unique before) past a g is
     ]
 

@@ -13,7 +13,7 @@ use Rattle.ace_model.proofs.Holders.Law.{accepted_holds}
 use Rattle.ace_model.proofs.General.Booleans.{implies-at}
 use Rattle.ace_model.proofs.Trace.Outstanding.{read_issued, write_issued, named_read}
 
-pub begun_same : (past longer : Trace) (x : Transaction)
+begun_same : (past longer : Trace) (x : Transaction)
     → (is_read x.chan ≡ true → transfers longer x.port x.id ≡ transfers past x.port x.id)
     → (is_read x.chan ≡ false → has_memory_write longer x.port x.chan x.id ≡ has_memory_write past x.port x.chan x.id)
     → is_begun longer x ≡ is_begun past x
@@ -34,7 +34,7 @@ module _ (h : Header) (past : Trace) where
     pub first : nat_eq (transfers past x.port x.id) 0 ≡ true → are_snoops_done h past x ≡ true
     pub takes : has_passed_data h past x ≡ true → takes_passed h past x resp ≡ true
 
-  pub line_transfer : (x : Transaction) (resp : ℕ) → may_transfer h past x resp ≡ true → LineTransfer x resp
+  line_transfer : (x : Transaction) (resp : ℕ) → may_transfer h past x resp ≡ true → LineTransfer x resp
   line_transfer x resp m =
       let all = and_parts (is_granted h past x && implies (nat_eq (transfers past x.port x.id) 0) (are_snoops_done h past x)) _ m in
       let two = and_parts (is_granted h past x) _ all.0 in

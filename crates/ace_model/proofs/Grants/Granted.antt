@@ -1,6 +1,6 @@
 -- A granted transaction has had its G, which comes before its M.
 use Rattle.std.proofs.Common.{◌≡◌, ◌⊎◌, ℕ, true, false, not, ◌&&◌, ◌||◌, nat_eq, [], ◌∷◌, length, Option, Some, None, is_some, refl, sym, ap, subst, ◌∙◌, inl, inr}
-use Rattle.std.proofs.lemmas.Bool.{and_parts, or_cases, or_left, or_right, not-true, cases_Bool, eqb-true, eq-eqb}
+use Rattle.std.proofs.lemmas.Bool.{false_from_ne_true, and_parts, or_cases, or_left, or_right, not-true, cases_Bool, eqb-true, eq-eqb}
 use Rattle.ace_model.proofs.Terms.{AwKind, passes_dirty, Channel, Event, Ar, Aw, G, M, Header, Line, Answer, Transaction, Trace, is_some_and, is_update, is_granted_write, is_line_read, is_read}
 use Rattle.ace_model.proofs.Terms.{is_named, read_kind, write_kind, same_channel, issued, ended, outstanding, without, takes_grant, updates_memory, is_memory_write, has_memory_write, is_burst_whole}
 use Rattle.ace_model.proofs.Terms.{given, granted, is_granted, has_grant, answer_of, passes, passer, has_passed_data, gives_line, may_be_granted, may_write_memory, may_write_passed, may_write_data}
@@ -129,7 +129,7 @@ module _ (h : Header) (past : Trace) where
       record { port = r.0; found = r.1; answer = w.0; is = w.1; dirty = w.2 }
 
   -- what may write memory is granted, if it is of a kind that is
-  pub writer_granted : (x : Transaction) → may_write_memory h past x ≡ true → takes_grant x ≡ true → is_granted h past x ≡ true
+  writer_granted : (x : Transaction) → may_write_memory h past x ≡ true → takes_grant x ≡ true → is_granted h past x ≡ true
   writer_granted x m kind =
       elim (cases_Bool (is_read x.chan)) [
         | inl reads ↦ (has_passed x (passed_may x m reads)).stands
@@ -164,12 +164,9 @@ module _ (h : Header) (past : Trace) where
       -- where a transaction has had no M, it had none before
       pub unwritten_before : has_memory_write (e ∷ past) p c i ≡ false → has_memory_write past p c i ≡ false
       unwritten_before m =
-          elim (cases_Bool (has_memory_write past p c i)) [
-            | inr f ↦ f
-            | inl t ↦
-                let more : has_memory_write (e ∷ past) p c i ≡ true =
-                or_right (is_memory_write e p c i) (not (is_named (issued (length past) e) p c i) && has_memory_write past p c i) (rw not_named t) in cc
-          ]
+          false_from_ne_true (has_memory_write past p c i) (λ t.
+          let more : has_memory_write (e ∷ past) p c i ≡ true =
+          or_right (is_memory_write e p c i) (not (is_named (issued (length past) e) p c i) && has_memory_write past p c i) (rw not_named t) in cc)
 
       -- a G that it has had stays
       grant_stays : has_grant past p c i ≡ true → has_grant (e ∷ past) p c i ≡ true
@@ -213,7 +210,7 @@ new_unwritten past e x p c i new named m =
     let bad : false ≡ true = rw (new, named, none) at m in cc
 
 -- a transaction of a kind that is granted has had its G before its M
-pub written_given : (h : Header) (past : Trace) → IsAccepted h past → (p : ℕ) (c : Channel) (i : ℕ) (x : Transaction) → outstanding h past p c i ≡ Some x
+written_given : (h : Header) (past : Trace) → IsAccepted h past → (p : ℕ) (c : Channel) (i : ℕ) (x : Transaction) → outstanding h past p c i ≡ Some x
     → takes_grant x ≡ true → has_memory_write past p c i ≡ true → has_grant past p c i ≡ true
 written_given h [] a p c i x o kind m = cc
 written_given h (e ∷ past) a p c i x o kind m =

@@ -1,6 +1,6 @@
 -- A line snoop that isn't answered yet is of the present grant, whose transaction hasn't begun, and its port has no other.
 use Rattle.std.proofs.Common.{le_refl, ◌≡◌, ◌⊎◌, ℕ, ◌+◌, ◌≤◌, Bool, true, false, not, if◌then◌else◌, ◌&&◌, ◌||◌, nat_eq, nat_le, nat_lt, [], ◌∷◌, length, Option, Some, None, is_none, slice_get, refl, sym, ap, subst, ◌∙◌, arith, inl, inr}
-use Rattle.std.proofs.lemmas.Bool.{or_parts, and_parts, and_from, or_left, or_right, not-true, cases_Bool, eqb-true, eq-eqb, ltb-true}
+use Rattle.std.proofs.lemmas.Bool.{false_from_ne_true, or_parts, and_parts, and_from, or_left, or_right, not-true, cases_Bool, eqb-true, eq-eqb, ltb-true}
 use Rattle.ace_model.proofs.Terms.{AwKind, SnoopKind, Read, Write, Event, R, Rk, B, Wk, Ac, Cr, Header, snoop_of_write, Snoop, Transaction, Trace, is_some_and, newer, is_update}
 use Rattle.ace_model.proofs.Terms.{has_write_data, beats_of, reads_a_line, is_read, is_line, read_kind, write_kind, snoop_of, snoop_kind_of, ended, transfers, acknowledgements, updates_memory}
 use Rattle.ace_model.proofs.Terms.{has_memory_write, snoop_at, snoops_of, snoops_a_line, answers, answered, is_snoop_on, gives_line, granted, grant_place, is_begun, is_snoop_to, was_snooped}
@@ -39,13 +39,13 @@ pub record Pending (h : Header) (past : Trace) (r l : ℕ) (s : Snoop) : Type 0 
   pub within : nat_lt r h.ports ≡ true
   pub other : nat_eq one.port r ≡ false
 
-pub record Snooped (h : Header) (past : Trace) : Type 0 where
+pub record SnoopsStand (h : Header) (past : Trace) : Type 0 where
   pub pending : (r n l : ℕ) (s : Snoop) → IsPending past r n l s → Pending h past r l s
   pub once : (r m n l : ℕ) (s t : Snoop) → IsPending past r m l s → IsPending past r n l t → m ≡ n
   pub first : (r l : ℕ) → was_snooped past r l ≡ false → answer_of past r l ≡ None
 
 -- the snoop that a write causes is that of its kind
-pub write_causes : (x : Transaction) (s : SnoopKind) → is_read x.chan ≡ false → snoop_of x ≡ Some s → (k : AwKind) × (write_kind x ≡ Some k) × (snoop_of_write k ≡ Some s)
+write_causes : (x : Transaction) (s : SnoopKind) → is_read x.chan ≡ false → snoop_of x ≡ Some s → (k : AwKind) × (write_kind x ≡ Some k) × (snoop_of_write k ≡ Some s)
 write_causes x s f e =
     let none : read_kind x ≡ None = rw f refl in
     by (write_kind x) refl (subst (λ o. snoop_kind_of o (write_kind x) ≡ Some s) none e)
@@ -57,10 +57,7 @@ write_causes x s f e =
 -- an update is a write
 updates_write : (x : Transaction) → updates_memory x ≡ true → is_read x.chan ≡ false
 updates_write x u =
-    elim (cases_Bool (is_read x.chan)) [
-      | inr f ↦ f
-      | inl t ↦ let bad : false ≡ true = rw t at u in cc
-    ]
+    false_from_ne_true (is_read x.chan) (λ t. let bad : false ≡ true = rw t at u in cc)
 
 module _ (h : Header) (past : Trace) where
   written_begun : IsAccepted h past → (l q : ℕ) (x z : Transaction) (k : SnoopKind) → granted h past l ≡ Some x → snoop_of x ≡ Some k
@@ -229,7 +226,7 @@ new_pending h past (Ac q addr code) a r l s first is on =
     ]
 new_pending h past e a r l s first is on = cc
 
-snoops_step : (h : Header) (past : Trace) (e : Event) → IsAccepted h (e ∷ past) → Snooped h past → Snooped h (e ∷ past)
+snoops_step : (h : Header) (past : Trace) (e : Event) → IsAccepted h (e ∷ past) → SnoopsStand h past → SnoopsStand h (e ∷ past)
 snoops_step h past e a f = record {
   pending = λ r n l s i. elim (was r n l s i) [
     | inl old ↦ pending_stays h past r n l s old (f.pending r n l s old) e a (unanswered r n l s i old)
@@ -294,7 +291,7 @@ snoops_step h past e a f = record {
         by d late = refl
 
 -- at each point of an accepted trace
-pub snoops : (h : Header) (past : Trace) → IsAccepted h past → Snooped h past
+pub snoops : (h : Header) (past : Trace) → IsAccepted h past → SnoopsStand h past
 snoops h [] a = record {
   pending = λ r n l s i. let there = i.there in cc;
   once = λ r m n l s t i j. let there = i.there in cc;

@@ -60,7 +60,7 @@ answering_cr h past q resp st a l t =
 
 module _ (past : Trace) where
   -- under the grant is on the line
-  pub under_line : (q l : ℕ) → answers_grant past q l ≡ true → answers_line past q l ≡ true
+  under_line : (q l : ℕ) → answers_grant past q l ≡ true → answers_line past q l ≡ true
   under_line q l t =
       let s = is_some_and-is (answered past q) (λ s. is_snoop_on s l && nat_le (grant_place past l) s.place) t in
       rw s.1 (and_parts (is_snoop_on s.0 l) _ s.2).0

@@ -10,7 +10,7 @@ use Rattle.ace_model.proofs.ReadsFollow.Order.{beat-issued}
 use Rattle.ace_model.proofs.General.Options.{Some-injective}
 
 -- the newest transfer of the name is counted
-pub transfers-more : (past : Trace) (p i resp : ℕ) (last : Bool) (word : ℕ) → transfers (R p i resp last word ∷ past) p i ≡ transfers past p i + 1
+transfers-more : (past : Trace) (p i resp : ℕ) (last : Bool) (word : ℕ) → transfers (R p i resp last word ∷ past) p i ≡ transfers past p i + 1
 transfers-more past p i resp last word = rw (and_from _ _ (eq-eqb p p (refl {a = p})) (eq-eqb i i (refl {a = i}))) (refl {a = transfers past p i + 1})
 
 -- the name of the read goes on to have transfers
@@ -22,7 +22,7 @@ transfers-stay e past p i other some =
     ]
 
 -- a read with a beat has had a transfer, while it is the last of its name
-pub beat-transfers : (past : Trace) (n : ℕ) (x : Transaction) (k word : ℕ) → IsBeat past n x k word → transaction_of past x.port Read x.id ≡ Some x
+beat-transfers : (past : Trace) (n : ℕ) (x : Transaction) (k word : ℕ) → IsBeat past n x k word → transaction_of past x.port Read x.id ≡ Some x
     → transfers past x.port x.id ≢ 0
 beat-transfers [] n x k word beat named = absurd (none (beat-below [] n x k word beat))
   where

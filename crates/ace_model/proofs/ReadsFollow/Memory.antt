@@ -1,10 +1,10 @@
 -- Under the grant of a read of a line, while no port has sent data, memory was the value at a point since, or a port that holds the
 -- line dirty hasn't answered. Once the snoops of the read are done there is no such port.
 use Rattle.std.proofs.Common.{[], None, Option, Some, ap, arith, false, inl, inr, le_refl, length, nat_eq, option_and_then, refl, subst, sym, true, ℕ, ◌&&◌, ◌∙◌, ◌∷◌, ◌≡◌, ◌≤◌, ◌⊎◌}
-use Rattle.std.proofs.lemmas.Bool.{or_left, and_from, and_parts, cases_Bool, eq-eqb, or_cases}
+use Rattle.std.proofs.lemmas.Bool.{false_from_ne_true, or_left, and_from, and_parts, cases_Bool, eq-eqb, or_cases}
 use Rattle.std.specs.List.{AllByRecursion}
 use Rattle.ace_model.proofs.Terms.{has_failed, is_on, Answer, ArKind, Channel, Cr, Event, HasDirtyHolder, Header, I, InRange, IsAccepted, IsValueSafe, Read, SnoopKind, Trace, Transaction, answer_of}
-use Rattle.ace_model.proofs.Terms.{answers_grant, are_snoops_done, at_point, data_answers, first_sender, gives_line, grant_place, granted, has_passed_data, is_clean_unique, is_dirty}
+use Rattle.ace_model.proofs.Terms.{answers_grant, are_snoops_done, at_point, data_answers, first_sender, grant_place, granted, has_passed_data, is_clean_unique, is_dirty}
 use Rattle.ace_model.proofs.Terms.{is_exclusive_store, is_line_read_transaction, is_make_unique, is_no_snoop, is_no_snoop_read, is_no_snoop_write, is_read, is_some_and, is_write_line_unique}
 use Rattle.ace_model.proofs.Terms.{memory_of, outstanding, passed_to, read_kind, reads_a_line, replaces_line, snoop_kind_of, snoop_of, snoop_of_read, state_of, transfers_data, value_of, write_kind}
 use Rattle.ace_model.proofs.Tables.Kinds.{read_invalid, reads_apart, reads_unsnooped}
@@ -13,13 +13,13 @@ use Rattle.ace_model.proofs.Trace.Looks.{snoops_done-ports, is_on-addr}
 use Rattle.ace_model.proofs.General.Options.{Some-injective, is_some_and-is}
 use Rattle.ace_model.proofs.Trace.Growth.{at_point-before, at_point-end}
 use Rattle.ace_model.proofs.Holders.Law.{accepted_holds}
-use Rattle.ace_model.proofs.Grants.Stays.{grant_place-low, granted_before}
+use Rattle.ace_model.proofs.Grants.Stays.{Stays, grant_place-low, granted_before}
 use Rattle.ace_model.proofs.Tables.SnoopRows.{is_make_invalid, dirty_sends}
 use Rattle.ace_model.proofs.Holders.FirstTransfer.{done_port}
 use Rattle.ace_model.proofs.Holders.ShareableLines.{no_snoop_unheld}
 use Rattle.ace_model.proofs.Grants.Granted.{has_passed, passes_of}
 use Rattle.ace_model.proofs.Grants.SnoopAnswers.{NewAnswer, answer_cases}
-use Rattle.ace_model.proofs.Grants.Answers.{new_answer, passed_kind}
+use Rattle.ace_model.proofs.Grants.Answers.{new_answer, new_causes, passed_kind}
 use Rattle.ace_model.proofs.Values.Replies.{sent_sender, sender_before}
 use Rattle.ace_model.proofs.Values.MemoryWrites.{memory_moves, writer, update_true}
 use Rattle.ace_model.proofs.Values.DirtMoves.{dirt_moves}
@@ -89,18 +89,14 @@ module _ (h : Header) (past : Trace) where
         → is_dirty (state_of h past q l) ≡ true → NewAnswer past e q l w → transfers_data w.resp ≡ true
     dirty-sent e q w a g reads dirty new =
         let n = new_answer h past e a q l w new in
-        let one : n.1.pending.one ≡ x = Some-injective n.1.pending.one x (sym n.1.pending.stands ∙ g) in
         let k = is_some_and-is (read_kind x) reads_a_line reads in
-        let causes : snoop_of_read k.0 ≡ Some n.1.kind = sym (ap (λ o. snoop_kind_of o (write_kind x)) k.1) ∙ ap snoop_of (sym one) ∙ n.1.causes in
-        let other : is_make_invalid n.1.kind ≡ false = elim (cases_Bool (is_make_invalid n.1.kind)) [
-          | inr f ↦ f
-          | inl t ↦
-              let makes = read_invalid k.0 (subst (λ o. is_some_and o is_make_invalid ≡ true) (sym causes) t) in
-              let none = (reads_apart k.0 k.2).0 in cc
-        ] in
+        let causes : snoop_of_read k.0 ≡ Some n.1.kind = sym (ap (λ o. snoop_kind_of o (write_kind x)) k.1) ∙ new_causes h past q l w x n g in
+        let other : is_make_invalid n.1.kind ≡ false = false_from_ne_true (is_make_invalid n.1.kind) (λ t.
+        let makes = read_invalid k.0 (subst (λ o. is_some_and o is_make_invalid ≡ true) (sym causes) t) in
+        let none = (reads_apart k.0 k.2).0 in cc) in
         dirty_sends n.1.kind (state_of h past q l) w.resp n.0 n.1.of_line n.1.row other dirty
 
-pub memory_or_holder : (h : Header) (past : Trace) → IsAccepted h past → AllByRecursion InRange past → (l : ℕ) (x : Transaction) → granted h past l ≡ Some x
+memory_or_holder : (h : Header) (past : Trace) → IsAccepted h past → AllByRecursion InRange past → (l : ℕ) (x : Transaction) → granted h past l ≡ Some x
     → is_line_read_transaction x ≡ true → first_sender past l ≡ None → MemorySince past l ⊎ DirtyUnanswered h past l
 memory_or_holder h [] a range l x g reads none = cc
 memory_or_holder h (e ∷ past) a range l x g reads none =
@@ -112,16 +108,14 @@ memory_or_holder h (e ∷ past) a range l x g reads none =
       | inl stays ↦
           let before = (sender_before past e l stays.gives none).0 in
           elim (memory_or_holder h past a.0 range.1 l x stays.was reads before) [
-            | inl m ↦ inl (since stays.gives stays.was before m)
+            | inl m ↦ inl (since stays before m)
             | inr q ↦ elim (dirt_moves h past e a f.updated q.port l q.dirty) [
-              | inl still ↦ inr (record { port = q.port; dirty = still; unanswered = unsent stays.gives stays.was q (answer_of (e ∷ past) q.port l) refl })
-              | inr (inl u) ↦ inl (since stays.gives stays.was before (value-now h past l u.stored))
+              | inl still ↦ inr (record { port = q.port; dirty = still; unanswered = unsent stays q (answer_of (e ∷ past) q.port l) refl })
+              | inr (inl u) ↦ inl (since stays before (value-now h past l u.stored))
               | inr (inr c) ↦
-                  let under = c.answering.under in
-                  let test : (nat_eq q.port q.port && answers_grant past q.port l) ≡ true = and_from _ _ (eq-eqb q.port q.port refl) under in
-                  let given_none = subst (λ (d : Event). gives_line past d l ≡ false) c.is stays.gives in
+                  let test : (nat_eq q.port q.port && answers_grant past q.port l) ≡ true = and_from _ _ (eq-eqb q.port q.port refl) c.answering.under in
                   let now : answer_of (Cr q.port c.resp c.st ∷ past) q.port l ≡ Some (record { place = length past; resp = c.resp; bursts = data_answers past q.port }) = rw test refl in
-                  let no = subst (λ (d : Event). answer_of (d ∷ past) q.port l ≡ None) c.is (unsent stays.gives stays.was q (answer_of (e ∷ past) q.port l) refl) in cc
+                  let no = subst (λ (d : Event). answer_of (d ∷ past) q.port l ≡ None) c.is (unsent stays q (answer_of (e ∷ past) q.port l) refl) in cc
             ]
           ]
     ]
@@ -130,14 +124,14 @@ memory_or_holder h (e ∷ past) a range l x g reads none =
     f = facts h past a.0 range.1
 
     -- memory stays, or an update writes the value
-    since : gives_line past e l ≡ false → granted h past l ≡ Some x → first_sender past l ≡ None → MemorySince past l → MemorySince (e ∷ past) l
-    since gives was before m =
+    since : Stays h past e l x → first_sender past l ≡ None → MemorySince past l → MemorySince (e ∷ past) l
+    since stays before m =
         elim (memory_moves h past e a l) [
           | inl kept ↦
               let low = m.low in
               record {
                 point = m.point;
-                after = rw gives m.after;
+                after = rw stays.gives m.after;
                 low = omega arith;
                 same = kept ∙ m.same ∙ ap (λ (t : Trace). value_of t l) (sym (at_point-before e past m.point low));
               }
@@ -145,18 +139,18 @@ memory_or_holder h (e ∷ past) a range l x g reads none =
             | inl passed ↦ absurd (none-passed h past a.0 l w.one passed.stands passed.has before)
             | inr (inl u) ↦ value-now h (e ∷ past) l (update_true h past e l w a range.0 f.updates u)
             | inr (inr s) ↦
-                let one : s.one ≡ x = Some-injective s.one x (sym s.stands ∙ was) in
+                let one : s.one ≡ x = Some-injective s.one x (sym s.stands ∙ stays.was) in
                 let bad : false ≡ true = sym s.writes ∙ ap (λ (y : Transaction). is_read y.chan) one ∙ ap is_read (line_read-chan x reads) in cc
           ]
         ]
 
     -- an answer of the dirty holder would have sent data
-    unsent : gives_line past e l ≡ false → granted h past l ≡ Some x → (q : DirtyUnanswered h past l) → (o : Option Answer) → answer_of (e ∷ past) q.port l ≡ o → answer_of (e ∷ past) q.port l ≡ None
-    unsent gives was q None is = is
-    unsent gives was q (Some w) is =
-        elim (answer_cases past e q.port l w gives is) [
+    unsent : Stays h past e l x → (q : DirtyUnanswered h past l) → (o : Option Answer) → answer_of (e ∷ past) q.port l ≡ o → answer_of (e ∷ past) q.port l ≡ None
+    unsent stays q None is = is
+    unsent stays q (Some w) is =
+        elim (answer_cases past e q.port l w stays.gives is) [
           | inl old ↦ let unanswered = q.unanswered in cc
-          | inr new ↦ absurd (sent_sender (e ∷ past) q.port l w is (dirty-sent h past l x e q.port w a was reads q.dirty new) none)
+          | inr new ↦ absurd (sent_sender (e ∷ past) q.port l w is (dirty-sent h past l x e q.port w a stays.was reads q.dirty new) none)
         ]
 
 -- once the snoops are done no port that holds the line dirty has to answer
@@ -176,13 +170,10 @@ none-dirty h past a x g reads done q =
 
     unfailed : has_failed past x ≡ false
     unfailed =
-        elim (cases_Bool (has_failed past x)) [
-          | inr f ↦ f
-          | inl failed ↦
-              let store = (and_parts x.lock (is_some_and (read_kind x) is_clean_unique) (and_parts (is_exclusive_store x) _ failed).0).1 in
-              let cleans : is_clean_unique kind.0 ≡ true = subst (λ o. is_some_and o is_clean_unique ≡ true) kind.1 store in
-              let none = (reads_apart kind.0 kind.2).1 in cc
-        ]
+        false_from_ne_true (has_failed past x) (λ failed.
+        let store = (and_parts x.lock (is_some_and (read_kind x) is_clean_unique) (and_parts (is_exclusive_store x) _ failed).0).1 in
+        let cleans : is_clean_unique kind.0 ≡ true = subst (λ o. is_some_and o is_clean_unique ≡ true) kind.1 store in
+        let none = (reads_apart kind.0 kind.2).1 in cc)
 
     by : (o : Option SnoopKind) → snoop_of x ≡ o → (x.port ≡ q.port → ⊥) → Stands past x.port Read x.id x → is_on x x.addr ≡ true → ⊥
     by None none apart stands on =

@@ -41,7 +41,7 @@ beat-since h past n m x k word a beat le low =
     (outstanding-before h (length (at_point n past) - m) (at_point n past) x.port Read x.id x (beat-outstanding h past n x k word a beat) below)
 
 -- a read is issued before its grant
-pub granted-later : (past : Trace) (n : ℕ) (x : Transaction) → IsGrantOf past n x → x.place < n
+granted-later : (past : Trace) (n : ℕ) (x : Transaction) → IsGrantOf past n x → x.place < n
 granted-later past n x g = let low = event_at-below past n (G x.port Read x.id) g.0 in placed-before past n x.port Read x.id x (omega arith) g.1
 
 pub beat-issued : (past : Trace) (x : Transaction) → HasBeat past x → issued_at past x.place ≡ Some x

@@ -1,7 +1,7 @@
 -- From its first beat on a read of a line is granted, no answer comes under its grant any more, and its reply stays the same.
 use Rattle.std.proofs.Common.{length, [], ap, None, Option, Some, false, inl, inr, nat_eq, option_and_then, option_map, refl, subst, sym, true, ℕ, ◌∙◌, ◌∷◌, ◌≡◌, ◌≢◌}
 use Rattle.std.proofs.Math.Bool.{and-false}
-use Rattle.std.proofs.lemmas.Bool.{and_from, cases_Bool, cases_eq, eq-eqb, ne_eqb}
+use Rattle.std.proofs.lemmas.Bool.{false_from_ne_true, and_from, cases_eq, eq-eqb, ne_eqb}
 use Rattle.ace_model.proofs.Terms.{is_named, issued, Answer, Cr, Event, Header, IsAccepted, Read, Trace, Transaction, answer_at, answer_of, answers, answers_grant, are_snoops_done, at_point}
 use Rattle.ace_model.proofs.Terms.{copy_at_answer, copy_of, first_sender, gives_line, granted, is_begun, is_line_read_transaction, is_read, memory_at_first_beat, outstanding, reply_of, sender_at}
 use Rattle.ace_model.proofs.Terms.{transfers, transfers_data}
@@ -39,7 +39,7 @@ beat_due h past p i x e a b o reads =
     }
 
 -- a read of a line that has had a beat is granted
-pub under_way : (h : Header) (past : Trace) → IsAccepted h past → (p i : ℕ) (x : Transaction) → outstanding h past p Read i ≡ Some x
+under_way : (h : Header) (past : Trace) → IsAccepted h past → (p i : ℕ) (x : Transaction) → outstanding h past p Read i ≡ Some x
     → is_line_read_transaction x ≡ true → transfers past p i ≢ 0 → granted h past x.addr ≡ Some x
 under_way h [] a p i x o reads some = cc
 under_way h (e ∷ past) a p i x o reads some =
@@ -66,14 +66,11 @@ module _ (h : Header) (past : Trace) (x : Transaction) where
   -- no answer is due under the grant of a read that has begun: its snoop would be pending, and then the read hasn't begun
   no_answer : IsAccepted h past → granted h past x.addr ≡ Some x → is_begun past x ≡ true → (q : ℕ) → answers_grant past q x.addr ≡ false
   no_answer a g begun q =
-      elim (cases_Bool (answers_grant past q x.addr)) [
-        | inr f ↦ f
-        | inl t ↦
-            let s = answering past q q x.addr (and_from _ _ (eq-eqb q q refl) t) in
-            let p = (snoops h past a).pending q (answers past q) x.addr s.0 s.1 in
-            let one : p.one ≡ x = Some-injective p.one x (sym p.stands ∙ g) in
-            let unbegun : is_begun past x ≡ false = subst (λ (v : Transaction). is_begun past v ≡ false) one p.unbegun in cc
-      ]
+      false_from_ne_true (answers_grant past q x.addr) (λ t.
+      let s = answering past q q x.addr (and_from _ _ (eq-eqb q q refl) t) in
+      let p = (snoops h past a).pending q (answers past q) x.addr s.0 s.1 in
+      let one : p.one ≡ x = Some-injective p.one x (sym p.stands ∙ g) in
+      let unbegun : is_begun past x ≡ false = subst (λ (v : Transaction). is_begun past v ≡ false) one p.unbegun in cc)
 
   leaves_answers : (e : Event) → IsAccepted h (e ∷ past) → granted h past x.addr ≡ Some x → is_begun past x ≡ true → LeavesAnswers past e x.addr
   leaves_answers e a g begun = record { gives = gives_none h past e a x.addr x g; answer = answer e; sender = sender e }

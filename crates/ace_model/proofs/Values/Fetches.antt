@@ -9,7 +9,8 @@ use Rattle.ace_model.proofs.Trace.Issued.{outstanding-named, outstanding-name, o
 use Rattle.ace_model.proofs.Rules.Keeps.{accepted_keeps}
 use Rattle.ace_model.proofs.General.Lists.{slice_get-more}
 use Rattle.ace_model.proofs.Tables.Kinds.{Fetch, fetch_is}
-use Rattle.ace_model.proofs.Values.FullReads.{transfer_moves, words-length, issue_transfers, line_due}
+use Rattle.ace_model.proofs.Values.FullReads.{transfer_moves, words-length, issue_transfers}
+use Rattle.ace_model.proofs.Grants.Begins.{line_due}
 use Rattle.ace_model.proofs.Holders.Facts.{Arrives}
 use Rattle.ace_model.proofs.Trace.LineOnce.{one_on_line}
 use Rattle.ace_model.proofs.Grants.Stays.{gives_none}

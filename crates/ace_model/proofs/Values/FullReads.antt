@@ -2,12 +2,12 @@
 use Rattle.std.proofs.Common.{◌≡◌, ◌≢◌, ◌⊎◌, ◌==◌, ℕ, ◌+◌, Bool, true, false, not, ◌&&◌, nat_eq, [], ◌∷◌, length, Some, refl, sym, ap, subst, ◌∙◌, arith, inl, inr, length-append}
 use Rattle.std.proofs.lemmas.Bool.{and_parts, or_cases, cases_Bool, eqb-true, eq-eqb}
 use Rattle.ace_model.proofs.Terms.{Read, Write, Event, Ar, Aw, R, Header, Transaction, Trace, is_some_and, beats_of, has_name, is_named, read_kind, issued, transfers, first_resp, ArKind}
-use Rattle.ace_model.proofs.Terms.{outstanding, is_line, may_transfer, is_completion, is_complete, words_read, IsAccepted}
+use Rattle.ace_model.proofs.Terms.{outstanding, is_completion, is_complete, words_read, IsAccepted}
 use Rattle.ace_model.proofs.Trace.Looks.{has_name-is}
 use Rattle.ace_model.proofs.Trace.Issued.{outstanding-origin}
 use Rattle.ace_model.proofs.Trace.WriteQueue.{issue_completes}
 use Rattle.ace_model.proofs.Trace.Outstanding.{named_read}
-use Rattle.ace_model.proofs.Grants.Begins.{may_of, LineTransfer, line_transfer}
+use Rattle.ace_model.proofs.Grants.Begins.{may_of}
 use Rattle.ace_model.proofs.General.Options.{Some-injective, is_some_and-is}
 use Rattle.ace_model.proofs.Tables.Kinds.{beats_some}
 
@@ -124,11 +124,3 @@ module _ (h : Header) where
               subst (λ n. is_some_and (read_kind x) (λ k. n == beats_of k) ≡ true) (sym (transfers_stay past e a p i x old.was old.other full)) full
         ]
       ]
-
-  -- what the rule on transfers says of a read of a line that has one
-  pub line_due : (past : Trace) (p i resp : ℕ) (last : Bool) (word : ℕ) → IsAccepted h (R p i resp last word ∷ past) → (x : Transaction) → outstanding h past p Read i ≡ Some x
-      → is_line x ≡ true → LineTransfer h past x resp
-  line_due past p i resp last word a x o line =
-      let m = may_of h past p i resp last word a in
-      let one : m.one ≡ x = Some-injective m.one x (sym m.out ∙ o) in
-      line_transfer h past x resp (subst (λ (y : Transaction). may_transfer h past y resp ≡ true) one (m.may (ap is_line one ∙ line)))

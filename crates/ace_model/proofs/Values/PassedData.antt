@@ -12,7 +12,8 @@ use Rattle.ace_model.proofs.Trace.Looks.{is_on-addr}
 use Rattle.std.proofs.Math.Bool.{and-false}
 use Rattle.ace_model.proofs.Trace.Issued.{outstanding-name, outstanding-origin}
 use Rattle.ace_model.proofs.Grants.Answers.{new_answer}
-use Rattle.ace_model.proofs.Values.FullReads.{issue_transfers, transfer_moves, line_due}
+use Rattle.ace_model.proofs.Values.FullReads.{issue_transfers, transfer_moves}
+use Rattle.ace_model.proofs.Grants.Begins.{line_due}
 use Rattle.ace_model.proofs.General.Options.{Some-injective}
 use Rattle.ace_model.proofs.General.Ports.{found_some}
 

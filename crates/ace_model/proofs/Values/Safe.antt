@@ -16,7 +16,8 @@ use Rattle.ace_model.proofs.Trace.WriteQueue.{EndsWrite, ends_write_of, ends_lit
 use Rattle.ace_model.proofs.Tables.SnoopRows.{is_make_invalid, dirty_stays}
 use Rattle.ace_model.proofs.Grants.SnoopAnswers.{Answering}
 use Rattle.ace_model.proofs.Grants.Answers.{others_settled}
-use Rattle.ace_model.proofs.Values.FullReads.{full_some, line_due}
+use Rattle.ace_model.proofs.Values.FullReads.{full_some}
+use Rattle.ace_model.proofs.Grants.Begins.{line_due}
 use Rattle.ace_model.proofs.Values.Ended.{ReadEnded, read_ends}
 use Rattle.ace_model.proofs.Trace.Looks.{read_writes_none, is_on-addr}
 use Rattle.ace_model.proofs.Values.Fetches.{ace_read}
