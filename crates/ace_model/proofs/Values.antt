@@ -6,7 +6,7 @@
 -- they are the value, or the granted transaction is a MakeUnique or WriteLineUnique, which replaces the whole line. The
 -- law of the holders (Holders) is taken for granted: a unique line has one holder, a dirty line has one owner.
 --
--- The value changes by three kinds of store only, and each finds the line alone (Stores, WritesAlone):
+-- The value changes by three kinds of store only, and each finds the line alone (Stores):
 --   * the D of a port that may store. K32: it holds the line in UC or UD, so every other port is in I, and has nothing
 --     outstanding on it.
 --   * the D of a MakeUnique. K32: the MakeUnique is complete and has had no D, and all bytes are stored. It is still
@@ -75,7 +75,6 @@ pub mod FullReads
 pub mod Beats
 -- the stores to a line, and that the M of a store finds no port with the line
 pub mod Stores
-pub mod WritesAlone
 -- what ends a transaction of a line, what an update holds, and where dirt goes
 pub mod Ended
 pub mod UpdateHolds

@@ -7,8 +7,7 @@ use Rattle.ace_model.proofs.Terms.{IsAccepted, is_exclusive_load, disturbs, is_u
 use Rattle.ace_model.proofs.Rules.Keeps.{accepted_keeps}
 use Rattle.ace_model.proofs.General.Options.{some_if-is, is_some_and-is}
 use Rattle.ace_model.proofs.Holders.Law.{accepted_holds}
-use Rattle.ace_model.proofs.Values.Stores.{stores_d, stores_m}
-use Rattle.ace_model.proofs.Values.WritesAlone.{all_empty}
+use Rattle.ace_model.proofs.Values.Stores.{stores_d, stores_m, all_empty}
 
 -- the write whose M stores to the line
 stored_by : (past : Trace) (l : ℕ) (o : Option Transaction) (test : Store → Bool) → is_some_and (option_and_then (store_of past l) o) test ≡ true

@@ -1,5 +1,5 @@
 -- Tests of the ports below a number: of each of them, of some of them, and the last that passes.
-use Rattle.std.proofs.Common.{◌≡◌, ℕ, zero, suc, ◌<◌, Bool, true, false, Some, sym, subst, arith, inl, inr}
+use Rattle.std.proofs.Common.{◌≡◌, ℕ, zero, suc, ◌<◌, Bool, true, false, Some, sym, subst, arith, inl, inr, is_some, refl, ap, ◌∙◌}
 use Rattle.std.proofs.lemmas.Bool.{and_parts, or_parts, cases_Bool, cases_eq}
 use Rattle.ace_model.proofs.Terms.{each_port, some_port, find_port}
 use Rattle.ace_model.proofs.General.Options.{Some-injective}
@@ -29,4 +29,16 @@ found_passes (suc n) test r e =
     elim (cases_Bool (test n)) [
       | inl t ↦ let same : Some n ≡ Some r = rw t at e in subst (λ k. test k ≡ true) (Some-injective n r same) t
       | inr f ↦ found_passes n test r (rw f at e)
+    ]
+
+-- and where a port passes it, one is found
+pub found_some : (n : ℕ) (test : ℕ → Bool) (r : ℕ) → test r ≡ true → r < n → is_some (find_port n test) ≡ true
+found_some zero test r t l = absurd (omega arith)
+found_some (suc n) test r t l =
+    elim (cases_Bool (test n)) [
+      | inl y ↦ rw y refl
+      | inr f ↦ elim (cases_eq r n) [
+        | inl same ↦ let bad : false ≡ true = sym f ∙ ap test (sym same) ∙ t in cc
+        | inr apart ↦ rw f (found_some n test r t (omega arith))
+      ]
     ]

@@ -121,3 +121,7 @@ read_writes_none x k kind =
 pub snoops_done-ports : (h : Header) (past : Trace) (x : Transaction) (s : SnoopKind) → snoop_of x ≡ Some s → has_failed past x ≡ false → are_snoops_done h past x ≡ true
     → each_port h.ports (is_port_done h past x) ≡ true
 snoops_done-ports h past x s causes failed done = rw (causes, failed) at done
+
+pub is_write-is : (c : Channel) → is_read c ≡ false → c ≡ Write
+is_write-is Read e = cc
+is_write-is Write e = refl

@@ -1,19 +1,18 @@
 -- The copies of the ports that hold a line stay its value.
-use Rattle.std.proofs.Common.{◌≡◌, ◌⊎◌, ℕ, Bool, true, false, ◌&&◌, ◌==◌, nat_eq, ◌∷◌, Some, refl, sym, ap, subst, ◌∙◌, inl, inr}
+use Rattle.std.proofs.Common.{◌≡◌, ◌⊎◌, ℕ, Bool, true, false, ◌&&◌, nat_eq, ◌∷◌, Some, refl, sym, ap, subst, ◌∙◌, inl, inr}
 use Rattle.std.proofs.lemmas.Bool.{and_parts, or_left, cases_Bool, eqb-true, eq-eqb}
 use Rattle.std.proofs.Math.Bool.{and-false}
-use Rattle.ace_model.proofs.Terms.{LineState, I, Read, Event, R, Rk, M, D, Header, Line, merged, is_invalid, is_unique, Transaction, Trace, is_some_and, beats_of, is_granted_write, is_on, write_kind}
-use Rattle.ace_model.proofs.Terms.{outstanding, transaction_of, transfers, state_of, is_line_read_transaction, copy_of, value_of, IsAccepted, AreCopiesTrue}
+use Rattle.ace_model.proofs.Terms.{LineState, I, Read, Event, R, Rk, M, D, Header, Line, merged, is_invalid, is_unique, Transaction, Trace, is_some_and, is_granted_write, is_on, write_kind, outstanding}
+use Rattle.ace_model.proofs.Terms.{transaction_of, state_of, is_line_read_transaction, copy_of, value_of, IsAccepted, AreCopiesTrue}
 use Rattle.ace_model.proofs.Tables.States.{valid_not, invalid_not, unique_valid}
 use Rattle.ace_model.proofs.Tables.Kinds.{fetch_is, make_unique_is}
 use Rattle.ace_model.proofs.Holders.Acknowledge.{is_named_by_rk}
-use Rattle.ace_model.proofs.Holders.Rises.{state_moves, stays_empty}
+use Rattle.ace_model.proofs.Holders.Rises.{state_moves, stays_empty, ends_line_of}
 use Rattle.ace_model.proofs.Grants.Begins.{may_of}
 use Rattle.ace_model.proofs.Values.MergedLines.{merged-same}
-use Rattle.ace_model.proofs.Values.Stores.{stores_d, value_moves}
+use Rattle.ace_model.proofs.Values.Stores.{stores_d, value_moves, all_empty}
 use Rattle.ace_model.proofs.Trace.Transfers.{full_some}
-use Rattle.ace_model.proofs.Holders.Rises.{ends_line_of}
-use Rattle.ace_model.proofs.Values.WritesAlone.{all_empty}
+use Rattle.ace_model.proofs.Trace.Transfers.{full_count}
 use Rattle.ace_model.proofs.Values.Facts.{DirtyPlaced}
 use Rattle.ace_model.proofs.Holders.Law.{accepted_holds}
 use Rattle.ace_model.proofs.General.Options.{is_some_and-is}
@@ -43,7 +42,7 @@ module _ (h : Header) (past : Trace) where
             elim (stores_d h past q l strobe b line a) [
               | inl may ↦
                   let unique = (and_parts (is_unique (state_of h past q l)) _ may).0 in
-                  ap (λ c. merged c strobe line) (f p (subst (λ v. state_of h past v l ≡ I → ⊥) (sym port) (unique_valid (state_of h past q l) unique)))
+                  ap (λ c. merged c strobe line) (f p (rw port (unique_valid (state_of h past q l) unique)))
               | inr m ↦ merged-same (copy_of past p l) (value_of past l) line strobe m.whole
             ] in
             rw (own, here) goal
@@ -68,10 +67,8 @@ module _ (h : Header) (past : Trace) where
             let r = ends_line_of h past q st a p l t in
             elim (r.state.gains gone (valid_not st held)) [
               | inl fetch ↦
-                  let kind = r.is_kind in
-                  let beats = (fetch_is r.kind fetch).beats in
-                  let four : nat_eq (transfers past p r.id) (beats_of r.kind) ≡ true = subst (λ v. is_some_and v (λ k. transfers past p r.id == beats_of k) ≡ true) kind r.full in
-                  (f.fetches p r.id l r.one r.kind r.out r.on kind fetch (full_some past p r.id r.one r.full)).whole (eqb-true (transfers past p r.id) (beats_of r.kind) four ∙ beats)
+                  (f.fetches p r.id l r.one r.kind r.out r.on r.is_kind fetch (full_some past p r.id r.one r.full)).whole
+                  (full_count past p r.id r.one r.kind r.full r.is_kind ∙ (fetch_is r.kind fetch).beats)
               | inr make ↦ f.made p r.id l r.one r.out r.on (r.is_kind ∙ ap (λ v. Some v) (make_unique_is r.kind make)) (r.stored make)
             ]
       ]
@@ -124,7 +121,7 @@ module _ (h : Header) (past : Trace) where
         | inl t ↦
             let same = eqb-true l addr t in
             subst (λ v. AreCopiesTrue h (D q v strobe b line ∷ past) l) same
-            (copies_d q l strobe b line (subst (λ v. IsAccepted h (D q v strobe b line ∷ past)) (sym same) a) (f.copies l)) p held
+            (copies_d q l strobe b line (rw same a) (f.copies l)) p held
         | inr other ↦
             let not_named : (nat_eq p q && nat_eq l addr) ≡ false = rw other (and-false (nat_eq p q)) in
             let was = f.copies l p (λ gone. held (state_d q addr strobe b line p l not_named ∙ gone)) in

@@ -2,7 +2,7 @@
 use Rattle.std.proofs.Common.{◌≡◌, ◌⊎◌, ℕ, true, false, ◌&&◌, ◌||◌, nat_eq, ◌∷◌, Some, None, refl, sym, ap, subst, inl, inr}
 use Rattle.std.proofs.lemmas.Bool.{and_parts, or_cases, or_left, or_right, cases_Bool, eqb-true}
 use Rattle.ace_model.proofs.Terms.{is_make_unique, AwKind, LineState, Write, Event, Rk, Wk, Cr, S, D, Header, is_dirty, Transaction, Trace, is_some_and, is_line_read, is_line_write, is_granted_write}
-use Rattle.ace_model.proofs.Terms.{has_write_data, is_line, is_some_on, read_kind, write_kind, acknowledged, answers_line, state_of, is_line_read_transaction, IsAccepted}
+use Rattle.ace_model.proofs.Terms.{is_line, is_some_on, read_kind, write_kind, acknowledged, answers_line, state_of, is_line_read_transaction, IsAccepted}
 use Rattle.ace_model.proofs.Tables.Kinds.{is_dirty_update, is_clean_write, write_kinds, update_data, dirty_updates}
 use Rattle.ace_model.proofs.Holders.Stores.{is_named_by_d}
 use Rattle.ace_model.proofs.Holders.Acknowledge.{is_named_by_rk}
@@ -40,14 +40,14 @@ module _ (h : Header) (past : Trace) where
       elim (or_cases (is_dirty_update k.0 || is_clean_write k.0) (is_granted_write k.0) (write_kinds k.0 k.2)) [
         | inl told ↦ elim (or_cases (is_dirty_update k.0) (is_clean_write k.0) told) [
           | inl updates ↦
-              f p w.id l w.one w.out w.on (subst (λ o. is_some_and o is_dirty_update ≡ true) (sym k.1) updates)
-              (w.written (subst (λ o. is_some_and o has_write_data ≡ true) (sym k.1) (update_data k.0 (dirty_updates k.0 updates))))
+              f p w.id l w.one w.out w.on (rw k.1 updates)
+              (w.written (rw k.1 (update_data k.0 (dirty_updates k.0 updates))))
           | inr clean ↦
-              let none = stays_clean h past a.0 p w.id l w.one w.out w.on (subst (λ o. is_some_and o is_clean_write ≡ true) (sym k.1) clean) in cc
+              let none = stays_clean h past a.0 p w.id l w.one w.out w.on (rw k.1 clean) in cc
         ]
         | inr granted ↦
             let empty = stays_empty h past a.0 p Write w.id l w.one w.out w.on
-            (or_right (is_line_read_transaction w.one) (is_some_and (write_kind w.one) is_granted_write) (subst (λ o. is_some_and o is_granted_write ≡ true) (sym k.1) granted)) in
+            (or_right (is_line_read_transaction w.one) (is_some_and (write_kind w.one) is_granted_write) (rw k.1 granted)) in
             absurd (dirty_valid (state_of h past p l) d empty)
       ]
 

@@ -1,30 +1,30 @@
 -- A read that keeps the line receives its value.
-use Rattle.std.proofs.Common.{◌≡◌, ◌≢◌, ◌==◌, ℕ, ◌+◌, ◌<◌, Bool, true, false, if◌then◌else◌, ◌&&◌, nat_eq, nat_lt, List, [], ◌∷◌, ◌++◌, length, Some, None, slice_get, slice_index, get_or, refl, sym, ap, subst, ◌∙◌, arith, inl, inr}
+use Rattle.std.proofs.Common.{◌≡◌, ◌≢◌, ◌==◌, ℕ, ◌+◌, Bool, true, false, ◌&&◌, nat_eq, nat_lt, [], ◌∷◌, ◌++◌, length, Some, None, slice_get, refl, sym, ap, subst, ◌∙◌, arith, inl, inr}
 use Rattle.std.proofs.lemmas.Bool.{and_parts, and_from, or_cases, cases_eq, eqb-true, eq-eqb, ne_eqb}
-use Rattle.ace_model.proofs.Terms.{ArKind, ar_kind_of, Event, Ar, R, Aw, Read, Header, Line, same_test, is_fetch, is_unique, Transaction, Trace, is_some_and, is_lite_read, beats_of, reads_a_line}
+use Rattle.ace_model.proofs.Terms.{ArKind, ar_kind_of, Event, Ar, R, Aw, Read, Header, same_test, is_fetch, is_unique, Transaction, Trace, is_some_and, is_lite_read, beats_of}
 use Rattle.ace_model.proofs.Terms.{first_sender, memory_at_first_beat, reply_of, value_of, may_issue_read, k18, is_due, is_next_transfer, has_word, IsAccepted}
 use Rattle.ace_model.proofs.Terms.{is_ace, is_line, has_name, read_kind, issued, ended, transfers, outstanding, granted, has_failed, state_of, is_line_read_transaction, words_read, word_of}
 use Rattle.ace_model.proofs.Trace.Looks.{has_name-is, is_on-addr, without-some}
 use Rattle.ace_model.proofs.Trace.Issued.{outstanding-named, outstanding-name, outstanding-origin}
 use Rattle.ace_model.proofs.Rules.Keeps.{accepted_keeps}
 use Rattle.ace_model.proofs.General.Lists.{slice_get-more}
-use Rattle.std.proofs.lemmas.Option.{slice_get-get_or}
 use Rattle.ace_model.proofs.Tables.Kinds.{Fetch, fetch_is}
 use Rattle.ace_model.proofs.Values.FullReads.{transfer_moves, words-length, issue_transfers}
 use Rattle.ace_model.proofs.Grants.Begins.{line_due}
 use Rattle.ace_model.proofs.Holders.Facts.{Arrives}
 use Rattle.ace_model.proofs.Trace.LineOnce.{one_on_line}
 use Rattle.ace_model.proofs.Grants.Stays.{gives_none}
-use Rattle.ace_model.proofs.Values.MergedLines.{value-length, lines_by_words}
+use Rattle.ace_model.proofs.Values.MergedLines.{value-length, whole_line}
 use Rattle.ace_model.proofs.Values.Stores.{stores_d}
 use Rattle.ace_model.proofs.Values.Copies.{copy_moves}
-use Rattle.ace_model.proofs.Values.Stays.{value_stays, made_apart, sent_step, none_may, read_no_write}
+use Rattle.ace_model.proofs.Values.Stays.{value_stays, made_apart, sent_step, none_may_store, read_no_write}
 use Rattle.ace_model.proofs.Values.Replies.{sender_before, reply_true, memory_true}
 use Rattle.ace_model.proofs.Values.Replies.{memory-before}
 use Rattle.ace_model.proofs.Values.Facts.{SentTrue, Fetches, FetchesTrue, DirtyPlaced}
 use Rattle.ace_model.proofs.Holders.Law.{accepted_holds}
 use Rattle.ace_model.proofs.General.Options.{Some-injective, is_some_and-at, is_none_or-at}
 use Rattle.ace_model.proofs.General.Booleans.{same_test-at}
+use Rattle.std.proofs.lemmas.Option.{slice_get_within}
 
 -- only an ACE port issues what an ACE-Lite port may not
 pub ace_read : (h : Header) (past : Trace) → IsAccepted h past → (p i : ℕ) (x : Transaction) (k : ArKind) → outstanding h past p Read i ≡ Some x → read_kind x ≡ Some k
@@ -49,14 +49,6 @@ ace_read h (e ∷ past) a p i x k o kind lite =
         let same = Some-injective _ x new in
         let none : None ≡ Some k = ap read_kind same ∙ kind in cc
     by d a new named = cc
-
--- the words of a whole burst are the line
-whole_line : (ws : List ℕ) (line : Line) → length ws ≡ 4 → length line.words ≡ 4 → ((n w : ℕ) → slice_get ws n ≡ Some w → w ≡ word_of line n) → record { words = ws } ≡ line
-whole_line ws line m n each =
-    lines_by_words (record { words = ws }) line m n (one 0 (omega arith)) (one 1 (omega arith)) (one 2 (omega arith)) (one 3 (omega arith))
-  where
-    one : (k : ℕ) → k < length ws → slice_index ws k ≡ word_of line k
-    one k low = each k (get_or ws k 0) (slice_get-get_or ws k 0 low)
 
 module _ (h : Header) (past : Trace) where
   -- the last of four transfers says that it is
@@ -88,7 +80,7 @@ module _ (h : Header) (past : Trace) where
         | inr old ↦ elim (transfer_moves past e p i old.other) [
           | inl none ↦ waits old.was none.count none.words
           | inr t ↦
-              subst (λ d. Fetches h (d ∷ past) p i l x) (sym t.is)
+              rw t.is
               (arrives t.resp t.last t.word (subst (λ d. IsAccepted h (d ∷ past)) t.is a) old.was (subst (λ d. outstanding h (d ∷ past) p Read i ≡ Some x) t.is o))
         ]
       ]
@@ -113,7 +105,7 @@ module _ (h : Header) (past : Trace) where
           let g : granted h past l ≡ Some x = ap (granted h past) (sym addr) ∙ r.stands in
           let g' : granted h (e ∷ past) l ≡ Some x = ap (granted h (e ∷ past)) (sym addr) ∙ r'.stands in
           let name = outstanding-name h past p Read i x was in
-          let no_port = none_may h past p Read i l x was on (λ q apart yes.
+          let no_port = none_may_store h past p Read i l x was on (λ q apart yes.
           let unique : is_unique (state_of h past q x.addr) ≡ true = ap (λ v. is_unique (state_of h past q v)) addr ∙ yes in
           elim (tables.takes _ (has_failed past x)) [
             | inl alone ↦ let gone = r.alone k kind alone q apart in let bad = sym (ap is_unique gone) ∙ unique in cc
@@ -121,7 +113,7 @@ module _ (h : Header) (past : Trace) where
           ]) in
           let value = value_stays h past e a l x g no_port (made_apart h past l x k kind fetch) (read_no_write h past x k l kind) in
           let known = f.fetches p i l x k was on kind fetch before in
-          let some_named : nat_eq (transfers (e ∷ past) x.port x.id) 0 ≡ false = ap (λ v. nat_eq (transfers (e ∷ past) v x.id) 0) name.port ∙ ap (λ v. nat_eq (transfers (e ∷ past) p v) 0) name.id ∙ ne_eqb (transfers (e ∷ past) p i) 0 some in
+          let some_named : nat_eq (transfers (e ∷ past) x.port x.id) 0 ≡ false = rw (name.port, name.id) (ne_eqb (transfers (e ∷ past) p i) 0 some) in
           record {
             replies = reply_next e a (sent_step h past e a f) l x k g g' addr kind fetch value some_named known.replies;
             words = λ n v is. known.words n v (ap (λ ws. slice_get ws n) (sym same_words) ∙ is) ∙ ap (λ b. word_of b n) (sym value);
@@ -158,19 +150,19 @@ module _ (h : Header) (past : Trace) where
                 let done = due.first (eq-eqb (transfers past x.port x.id) 0 (first_name ∙ z)) in
                 reply_true h past a.0 f.sent l x k g addr kind fetch (λ none. memory-before past x.port x.id l (first_name ∙ z) ∙ memory_true h past a.0 f l x k g kind fetch done none)
           ] in
-          let reads : is_line_read_transaction x ≡ true = subst (λ v. is_some_and v reads_a_line ≡ true) (sym kind) tables.reads in
+          let reads : is_line_read_transaction x ≡ true = rw kind tables.reads in
           let has = is_none_or-at (outstanding h past p Read i) (has_word past word) x (accepted_keeps h past (R p i resp last word) b).rule_20 was in
-          let said : word ≡ word_of (reply_of past x) (transfers past x.port x.id) = eqb-true word _ (subst (λ c. nat_eq word (if c then word_of (reply_of past x) (transfers past x.port x.id) else 0) ≡ true) reads has) in
+          let said : word ≡ word_of (reply_of past x) (transfers past x.port x.id) = eqb-true word _ (rw reads at has) in
           let word_is : word ≡ word_of (value_of past l) (transfers past p i) = said ∙ ap (λ v. word_of v (transfers past x.port x.id)) replies ∙ ap (word_of (value_of past l)) first_name in
           let words : (n v : ℕ) → slice_get (words_read t p i) n ≡ Some v → v ≡ word_of (value_of past l) n = λ n v is.
           elim (slice_get-more (words_read past p i) (Some word) n v (ap (λ ws. slice_get ws n) (sym more_words) ∙ is)) [
             | inl old ↦ elim (cases_eq (transfers past p i) 0) [
               | inr later ↦ (f.fetches p i l x k was on kind fetch later).words n v old
-              | inl z ↦ absurd (empty (words_read past p i) n v (words-length past p i ∙ z) old)
+              | inl z ↦ absurd (omega (arith, slice_get_within (words_read past p i) n v old, words-length past p i, z))
             ]
             | inr new ↦ sym (Some-injective word v new.1) ∙ word_is ∙ ap (word_of (value_of past l)) (sym (words-length past p i) ∙ sym new.0)
           ] in
-          let some_named : nat_eq (transfers t x.port x.id) 0 ≡ false = rw (name.port, name.id, own) (plus_one (transfers past p i)) in
+          let some_named : nat_eq (transfers t x.port x.id) 0 ≡ false = rw (name.port, name.id, own) (ne_eqb (transfers past p i + 1) 0 (λ q. absurd (omega (arith, q)))) in
           record {
             replies = reply_next (R p i resp last word) b (sent_step h past (R p i resp last word) b f) l x k g g' addr kind fetch refl some_named replies;
             words = words;
@@ -182,10 +174,3 @@ module _ (h : Header) (past : Trace) where
                 (ap length (sym more_words) ∙ words-length t p i ∙ four) (value-length past l) (λ n v is. words n v (ap (λ ws. slice_get ws n) more_words ∙ is)) in
                 rw (eq-eqb p p refl, ends, named, on, reads) whole;
           }
-        where
-          empty : (xs : List ℕ) (n v : ℕ) → length xs ≡ 0 → slice_get xs n ≡ Some v → ⊥
-          empty [] n v z e = cc
-          empty (y ∷ xs) n v z e = absurd (omega arith)
-
-          plus_one : (n : ℕ) → nat_eq (n + 1) 0 ≡ false
-          plus_one n = ne_eqb (n + 1) 0 (λ q. absurd (omega (arith, q)))

@@ -1,6 +1,7 @@
 -- The transfers of a read: what an event adds to them, and that a read which is complete has had them all.
 use Rattle.std.proofs.Common.{◌≡◌, ◌⊎◌, ◌==◌, ℕ, ◌+◌, Bool, true, false, not, ◌&&◌, nat_eq, [], ◌∷◌, length, Some, refl, sym, ap, subst, ◌∙◌, arith, inl, inr, length-append}
 use Rattle.std.proofs.lemmas.Bool.{and_parts, or_cases, cases_Bool, eqb-true, eq-eqb}
+use Rattle.ace_model.proofs.Trace.Transfers.{full_count}
 use Rattle.ace_model.proofs.Terms.{Read, Write, Event, Ar, Aw, R, Header, Transaction, Trace, is_some_and, beats_of, has_name, is_named, read_kind, issued, transfers, first_resp}
 use Rattle.ace_model.proofs.Terms.{outstanding, is_completion, is_complete, words_read, IsAccepted}
 use Rattle.ace_model.proofs.Trace.Looks.{has_name-is}
@@ -91,7 +92,7 @@ module _ (h : Header) where
         | inr t ↦
             let m = may_of h past p i t.resp t.last t.word (subst (λ d. IsAccepted h (d ∷ past)) t.is a) in
             let kind : read_kind x ≡ Some m.kind = ap read_kind (Some-injective x m.one (sym o ∙ m.out)) ∙ m.is_kind in
-            let all = eqb-true (transfers past p i) (beats_of m.kind) (subst (λ o. is_some_and o (λ k. transfers past p i == beats_of k) ≡ true) kind full) in
+            let all = full_count past p i x m.kind full kind in
             absurd (omega (arith, m.few, all))
       ]
 

@@ -2,7 +2,7 @@
 use Rattle.std.proofs.Common.{◌≡◌, ℕ, Bool, true, false, not, ◌&&◌, nat_eq, nat_lt, [], ◌∷◌, length, Some, refl, sym, ap, subst, ◌∙◌, inl, inr, ◌⊎◌}
 use Rattle.std.proofs.lemmas.Bool.{and_parts, or_cases, or_right, eqb-true, eq-eqb}
 use Rattle.ace_codes.specs.declared.kind.ArKind.TheVariants as read
-use Rattle.ace_model.proofs.Terms.{I, Channel, Read, Event, Ar, Aw, D, Header, Line, Transaction, Trace, is_some_and, reads_a_line, is_ace, is_line, is_named, issued, read_kind, outstanding}
+use Rattle.ace_model.proofs.Terms.{I, Read, Event, Ar, Aw, D, Header, Line, Transaction, Trace, is_some_and, reads_a_line, is_ace, is_line, is_named, issued, read_kind, outstanding}
 use Rattle.ace_model.proofs.Terms.{is_completion, is_complete, granted, state_of, awaits_store, is_store_of, has_store, copy_of, value_of, IsAccepted}
 use Rattle.ace_model.proofs.Trace.Looks.{is_on-addr}
 use Rattle.ace_model.proofs.Trace.Issued.{outstanding-name, outstanding-origin, Earlier}
@@ -14,7 +14,7 @@ use Rattle.ace_model.proofs.Values.FullReads.{done_read}
 use Rattle.ace_model.proofs.Trace.Transfers.{full_some}
 use Rattle.ace_model.proofs.Values.Copies.{copy_moves}
 use Rattle.ace_model.proofs.Tables.States.{unique_valid}
-use Rattle.ace_model.proofs.Values.Stays.{value_stays, busy, none_may, read_no_write}
+use Rattle.ace_model.proofs.Values.Stays.{value_stays, busy, none_may_store, read_no_write}
 use Rattle.ace_model.proofs.Values.Facts.{MadeTrue, DirtyPlaced}
 use Rattle.ace_model.proofs.Holders.Law.{accepted_holds}
 use Rattle.ace_model.proofs.General.Options.{is_some_and-at}
@@ -78,7 +78,7 @@ stored_complete h (e ∷ past) a p i x o s =
       | inl n ↦
           let name = outstanding-name h past p Read i x from.old.was in
           let known = (accepted_keeps h past (D p n.addr n.strobe n.ex n.line) (subst (λ d. IsAccepted h (d ∷ past)) n.is a)).rule_1 in (
-            sym (ap (λ v. is_complete past v x.chan x.id) name.port ∙ ap (λ (c : Channel). is_complete past p c x.id) name.chan ∙ ap (is_complete past p Read) name.id) ∙ n.awaits.complete,
+            rw (← name.port, ← name.chan, ← name.id) n.awaits.complete,
             (and_parts (nat_lt p h.ports) (is_ace h p) known).1,
           )
     ] in
@@ -103,7 +103,7 @@ made_step h past e a f p i l x o on kind s =
         let is : e ≡ D p l n.strobe n.ex n.line = n.is ∙ ap (λ v. D p v n.strobe n.ex n.line) addr in
         elim (stores_d h past p l n.strobe n.ex n.line (subst (λ d. IsAccepted h (d ∷ past)) is a)) [
           | inl may ↦ absurd (busy h past p Read i l x was on may)
-          | inr m ↦ subst (λ d. copy_of (d ∷ past) p l ≡ value_of (d ∷ past) l) (sym is) (made_d h past p l n.strobe n.ex n.line m)
+          | inr m ↦ rw is (made_d h past p l n.strobe n.ex n.line m)
         ]
 
     after_store : outstanding h past p Read i ≡ Some x → has_store h past p i ≡ true → copy_of (e ∷ past) p l ≡ value_of (e ∷ past) l
@@ -113,13 +113,13 @@ made_step h past e a f p i l x o on kind s =
         let arrives = (accepted_holds h past a.0).arrive p i x done.1 was (and_parts (is_line x) _ on).0 (full_some past p i x (done_read h past a.0 p i x was done.0)) in
         let stands : granted h past l ≡ Some x = ap (granted h past) (sym addr) ∙ arrives.stands in
         let name = outstanding-name h past p Read i x was in
-        let no_port = none_may h past p Read i l x was on (λ q apart unique.
+        let no_port = none_may_store h past p Read i l x was on (λ q apart unique.
         unique_valid (state_of h past q l) unique (subst (λ v. state_of h past q v ≡ I) addr (arrives.alone read.MakeUnique kind refl q apart))) in
         let no_make : (q t : ℕ) (m : Made h past q l t) → m.one ≡ x → ⊥ = λ q t m one.
         let made_name = outstanding-name h past q Read m.id m.one m.out in
         let port : q ≡ p = sym made_name.port ∙ ap (λ (y : Transaction). y.port) one ∙ name.port in
         let id : m.id ≡ i = sym made_name.id ∙ ap (λ (y : Transaction). y.id) one ∙ name.id in
-        let first : has_store h past p i ≡ false = sym (ap (λ v. has_store h past v m.id) port ∙ ap (has_store h past p) id) ∙ m.first in cc in
+        let first : has_store h past p i ≡ false = rw (← port, ← id) m.first in cc in
         elim (copy_moves h past e a p l) [
           | inl same ↦ same ∙ f.made p i l x was on kind stored ∙ sym (value_stays h past e a l x stands no_port no_make (read_no_write h past x read.MakeUnique l kind))
           | inr (inl r) ↦

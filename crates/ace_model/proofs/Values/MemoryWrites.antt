@@ -3,10 +3,10 @@ use Rattle.std.proofs.Common.{◌≡◌, ◌⊎◌, ℕ, ◌<◌, ◌^◌, true,
 use Rattle.std.proofs.lemmas.Bool.{and_parts, and_from, or_right, cases_Bool}
 use Rattle.std.specs.List.{AllByRecursion}
 use Rattle.ace_codes.specs.declared.kind.AwKind.TheVariants as write
-use Rattle.ace_model.proofs.Terms.{AwKind, InRange, Channel, Read, Write, Event, W, M, Header, Line, Transaction, Trace, is_some_and, is_none_or, is_update}
+use Rattle.ace_model.proofs.Terms.{AwKind, InRange, Channel, Write, Event, W, M, Header, Line, Transaction, Trace, is_some_and, is_none_or, is_update}
 use Rattle.ace_model.proofs.Terms.{is_write_line_unique, has_write_data, is_granted_write, is_read, is_on, write_kind, outstanding, transaction_of, updates_memory, is_burst_whole, granted, is_granted}
 use Rattle.ace_model.proofs.Terms.{has_passed_data, memory_of, same_line, Beat, burst_of, burst_line, stores_data, value_of, full_beat, may_write_memory, data_of, data_of_write, has_data, IsAccepted}
-use Rattle.ace_model.proofs.Trace.Looks.{is_on-addr}
+use Rattle.ace_model.proofs.Trace.Looks.{is_on-addr, is_write-is}
 use Rattle.ace_model.proofs.Trace.Issued.{outstanding-named, outstanding-name}
 use Rattle.ace_model.proofs.Tables.Kinds.{granted_stores}
 use Rattle.ace_model.proofs.Rules.Keeps.{accepted_keeps}
@@ -69,10 +69,6 @@ module _ (h : Header) (past : Trace) where
   pub kind_data : (x : Transaction) (k : AwKind) → is_read x.chan ≡ false → write_kind x ≡ Some k → data_of h past x ≡ Some (data_of_write h past x k)
   kind_data x k writes kind = rw (kind, writes) refl
 
-pub is_write-is : (c : Channel) → is_read c ≡ false → c ≡ Write
-is_write-is Read e = cc
-is_write-is Write e = refl
-
 -- a memory update writes its burst
 pub update-writes : (h : Header) (past : Trace) (y : Transaction) (k : AwKind) → is_update k ≡ true → data_of_write h past y k ≡ burst_line (burst_of past y)
 update-writes h past y write.WriteBack u = refl
@@ -95,8 +91,7 @@ module _ (h : Header) (past : Trace) (e : Event) (l : ℕ) (w : WritesLine h pas
   pub memory_now : memory_of (e ∷ past) l ≡ w.line
   memory_now =
       let named = outstanding-named h past w.port w.chan w.id w.one w.out in
-      let on = w.on in
-      subst (λ d. memory_of (d ∷ past) l ≡ w.line) (sym w.is) (rw (named, on) refl)
+      rw (w.is, named, w.on) refl
 
   -- whose M it is
   pub writer : IsAccepted h (e ∷ past) → ByPassed h past l w.one ⊎ ByUpdate h past w.one ⊎ Writes h past w.port w.chan w.id l
@@ -142,7 +137,7 @@ module _ (h : Header) (past : Trace) (e : Event) (l : ℕ) (w : WritesLine h pas
       let x = w.one in
       let name = outstanding-name h past w.port w.chan w.id x w.out in
       let chan : w.chan ≡ Write = sym name.chan ∙ is_write-is x.chan u.writes in
-      let out : outstanding h past w.port Write w.id ≡ Some x = ap (λ (c : Channel). outstanding h past w.port c w.id) (sym chan) ∙ w.out in
+      let out : outstanding h past w.port Write w.id ≡ Some x = rw (← chan) w.out in
       let k = is_some_and-is (write_kind x) is_update u.updates in
       let is : data_of h past x ≡ Some (burst_line (burst_of past x)) = kind_data h past x k.0 u.writes k.1 ∙ ap (λ v. Some v) (update-writes h past x k.0 k.2) in
       let value = update_is h past a.0 f w.port w.id l x out w.on u.updates u.whole in

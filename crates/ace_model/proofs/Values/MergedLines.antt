@@ -1,9 +1,10 @@
 -- Stores of a whole line, and lines by their words.
-use Rattle.std.proofs.Common.{◌≡◌, ℕ, zero, Option, Some, None, suc, ◌+◌, ◌-◌, ◌*◌, ◌/◌, ◌%◌, ◌^◌, ◌<◌, ◌&&◌, true, nat_eq, List, [], ◌∷◌, length, refl, sym, ap, ◌∙◌, arith, subst}
+use Rattle.std.proofs.Common.{◌≡◌, ℕ, zero, Option, Some, None, suc, ◌+◌, ◌-◌, ◌*◌, ◌/◌, ◌%◌, ◌^◌, ◌<◌, ◌&&◌, true, nat_eq, List, [], ◌∷◌, length, refl, sym, ap, ◌∙◌, arith, slice_get, slice_index, get_or}
 use Rattle.std.proofs.lemmas.Bool.{and_parts, eqb-true}
 use Rattle.std.proofs.Math.Nat.{pow-suc, div-div-eq-div-mul, div-eq_of_lt}
 use Rattle.std.specs.Int.{byte_at}
-use Rattle.ace_model.proofs.Terms.{Line, Trace, Store, value_of, after_store, store_at, number_of_bytes, merged, word_of, same_line, full_line}
+use Rattle.ace_model.proofs.Terms.{Line, Trace, Store, value_of, after_store, store_at, number_of_bytes, merged, word_of, same_line, full_line, Beat, burst_strobe, full_beat}
+use Rattle.std.proofs.lemmas.Option.{slice_get-get_or}
 
 -- a store of all bytes leaves nothing of the line before
 pub merged-whole : (a c bytes : Line) → merged a full_line bytes ≡ merged c full_line bytes
@@ -11,7 +12,7 @@ unfolding merged number_of_bytes
 merged-whole a c bytes = refl
 
 pub merged-same : (a c bytes : Line) (strobe : ℕ) → strobe ≡ full_line → merged a strobe bytes ≡ merged c strobe bytes
-merged-same a c bytes strobe whole = subst (λ s. merged a s bytes ≡ merged c s bytes) (sym whole) (merged-whole a c bytes)
+merged-same a c bytes strobe whole = rw whole (merged-whole a c bytes)
 
 low_byte : (i n : ℕ) → byte_at i n ≡ n / 256 ^ i % 256
 low_byte zero n = omega arith
@@ -63,34 +64,14 @@ value-length (e ∷ past) l = by (store_at past e l) (value-length past l)
     by None n = n
     by (Some s) n = merged-length (value_of past l) s.strobe s.line
 
-record Four (xs : List ℕ) : Type 0 where
-  a : ℕ
-  b : ℕ
-  c : ℕ
-  d : ℕ
-  is : xs ≡ a ∷ b ∷ c ∷ d ∷ []
-
-four_is : (xs : List ℕ) → length xs ≡ 4 → Four xs
-four_is [] m = absurd (omega arith)
-four_is (a ∷ []) m = absurd (omega arith)
-four_is (a ∷ b ∷ []) m = absurd (omega arith)
-four_is (a ∷ b ∷ c ∷ []) m = absurd (omega arith)
-four_is (a ∷ b ∷ c ∷ d ∷ []) m = record { a = a; b = b; c = c; d = d; is = refl }
-four_is (a ∷ b ∷ c ∷ d ∷ e ∷ xs) m = absurd (omega arith)
-
 four_words : (xs ys : List ℕ) → length xs ≡ 4 → length ys ≡ 4
     → word_of (record { words = xs }) 0 ≡ word_of (record { words = ys }) 0 → word_of (record { words = xs }) 1 ≡ word_of (record { words = ys }) 1
     → word_of (record { words = xs }) 2 ≡ word_of (record { words = ys }) 2 → word_of (record { words = xs }) 3 ≡ word_of (record { words = ys }) 3 → xs ≡ ys
-four_words xs ys m n e f g i =
-    let x = four_is xs m in
-    let y = four_is ys n in
-    let same : (k : ℕ) → word_of (record { words = xs }) k ≡ word_of (record { words = ys }) k
-    → word_of (line_of x.a x.b x.c x.d) k ≡ word_of (line_of y.a y.b y.c y.d) k = λ k o.
-    ap (λ ws. word_of (record { words = ws }) k) (sym x.is) ∙ o ∙ ap (λ ws. word_of (record { words = ws }) k) y.is in
-    x.is ∙ join (same 0 e) (same 1 f) (same 2 g) (same 3 i) ∙ sym y.is
+four_words (a ∷ b ∷ c ∷ d ∷ []) (w ∷ x ∷ y ∷ z ∷ []) m n e f g i = join e f g i
   where
     join : {a b c d w x y z : ℕ} → a ≡ w → b ≡ x → c ≡ y → d ≡ z → ◌≡◌ {A = List ℕ} (a ∷ b ∷ c ∷ d ∷ []) (w ∷ x ∷ y ∷ z ∷ [])
     join p q r s = cc
+four_words xs ys m n _ _ _ _ = absurd (omega arith)
 
 -- lines of four words that have the same words
 pub lines_by_words : (a b : Line) → length a.words ≡ 4 → length b.words ≡ 4 → word_of a 0 ≡ word_of b 0 → word_of a 1 ≡ word_of b 1
@@ -103,3 +84,19 @@ same_line-is a b m n e =
     let three = and_parts (nat_eq (word_of a 0) (word_of b 0) && nat_eq (word_of a 1) (word_of b 1)) _ all.0 in
     let two = and_parts (nat_eq (word_of a 0) (word_of b 0)) _ three.0 in
     lines_by_words a b m n (eqb-true _ _ two.0) (eqb-true _ _ two.1) (eqb-true _ _ three.1) (eqb-true _ _ all.1)
+
+-- the words of a whole burst are the line
+pub whole_line : (ws : List ℕ) (line : Line) → length ws ≡ 4 → length line.words ≡ 4 → ((n w : ℕ) → slice_get ws n ≡ Some w → w ≡ word_of line n) → record { words = ws } ≡ line
+whole_line ws line m n each =
+    lines_by_words (record { words = ws }) line m n (one 0 (omega arith)) (one 1 (omega arith)) (one 2 (omega arith)) (one 3 (omega arith))
+  where
+    one : (k : ℕ) → k < length ws → slice_index ws k ≡ word_of line k
+    one k low = each k (get_or ws k 0) (slice_get-get_or ws k 0 low)
+
+-- four strobes of all bytes are the strobe of the whole line
+pub full_burst : (b0 b1 b2 b3 : Beat) → b0.strobe ≡ full_beat → b1.strobe ≡ full_beat → b2.strobe ≡ full_beat → b3.strobe ≡ full_beat
+    → burst_strobe (b0 ∷ b1 ∷ b2 ∷ b3 ∷ []) ≡ full_line
+full_burst b0 b1 b2 b3 e0 e1 e2 e3 = joined b0.strobe b1.strobe b2.strobe b3.strobe e0 e1 e2 e3
+  where
+    joined : (s t u v : ℕ) → s ≡ full_beat → t ≡ full_beat → u ≡ full_beat → v ≡ full_beat → s + 65536 * (t + 65536 * (u + 65536 * (v + 65536 * 0))) ≡ full_line
+    joined s t u v e0 e1 e2 e3 = rw (e0, e1, e2, e3) refl

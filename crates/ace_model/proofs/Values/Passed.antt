@@ -114,7 +114,7 @@ module _ (h : Header) (past : Trace) where
             | inl kept ↦ inl (copy_at-old past e r l w old ∙ same ∙ sym kept)
             | inr (inl p) ↦ elim (cases_eq p.port r) [
               | inl own ↦ inr (subst (λ v. is_dirty (state_of h (e ∷ past) v l) ≡ true) own
-                  (subst (λ v. is_dirty (state_of h (v ∷ past) p.port l) ≡ true) (sym p.is) (store_dirty p.port l p.strobe p.ex p.line p.may)))
+                  (rw p.is (store_dirty p.port l p.strobe p.ex p.line p.may)))
               | inr apart ↦ absurd (unique_unsettled (state_of h past p.port l) (may_unique h past p.port l p.may) (others_settled h past a.0 l r p.port x w was old d apart))
             ]
             | inr (inr (inl m)) ↦

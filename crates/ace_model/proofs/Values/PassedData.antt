@@ -1,7 +1,7 @@
 -- The data that a port passes on are there until the M, and the first response of their read has PassDirty.
-use Rattle.std.proofs.Common.{nat_eq, ◌≡◌, ℕ, zero, suc, ◌<◌, Bool, true, false, [], ◌∷◌, Some, None, is_some, refl, sym, ap, ◌∙◌, arith, inl, inr, ◌&&◌, subst, ◌≢◌, not, ◌⊎◌}
+use Rattle.std.proofs.Common.{nat_eq, ◌≡◌, ℕ, ◌<◌, Bool, true, false, [], ◌∷◌, Some, None, is_some, refl, sym, ap, ◌∙◌, inl, inr, ◌&&◌, subst, ◌≢◌, not, ◌⊎◌}
 use Rattle.std.proofs.lemmas.Bool.{and_from, not_from_false, cases_Bool, cases_eq, eq-eqb, ltb-true, and_parts, ne_eqb}
-use Rattle.ace_model.proofs.Terms.{passes_dirty, Header, Answer, Transaction, Trace, is_read, has_memory_write, granted, answer_of, find_port, passes, passer, has_passed_data, gives_line, Event, Cr}
+use Rattle.ace_model.proofs.Terms.{passes_dirty, Header, Answer, Transaction, Trace, is_read, has_memory_write, granted, answer_of, passes, passer, has_passed_data, gives_line, Event, Cr}
 use Rattle.ace_model.proofs.Terms.{Line, passed_data, answers_grant, answer_at, Read, R, is_some_and, is_line, transfers, first_resp, outstanding, is_begun, IsAccepted}
 use Rattle.ace_model.proofs.Grants.Stays.{granted_before}
 use Rattle.ace_model.proofs.Grants.Pending.{answering, snoops}
@@ -15,6 +15,7 @@ use Rattle.ace_model.proofs.Grants.Answers.{new_answer}
 use Rattle.ace_model.proofs.Values.FullReads.{issue_transfers, transfer_moves}
 use Rattle.ace_model.proofs.Grants.Begins.{line_due}
 use Rattle.ace_model.proofs.General.Options.{Some-injective}
+use Rattle.ace_model.proofs.General.Ports.{found_some}
 
 module _ (h : Header) (past : Trace) where
   -- a port that has answered under the grant answers no more
@@ -84,17 +85,6 @@ answered_low h (e ∷ past) a r l w is =
       ]
     ]
 
-found_some : (n : ℕ) (test : ℕ → Bool) (r : ℕ) → test r ≡ true → r < n → is_some (find_port n test) ≡ true
-found_some zero test r t l = absurd (omega arith)
-found_some (suc n) test r t l =
-    elim (cases_Bool (test n)) [
-      | inl y ↦ rw y refl
-      | inr f ↦ elim (cases_eq r n) [
-        | inl same ↦ let bad : false ≡ true = sym f ∙ ap test (sym same) ∙ t in cc
-        | inr apart ↦ rw f (found_some n test r t (omega arith))
-      ]
-    ]
-
 module _ (h : Header) (past : Trace) where
   -- until its M, the granted transaction has the data that a port has passed on
   pub passes_data : IsAccepted h past → (l r : ℕ) (x : Transaction) (w : Answer) → granted h past l ≡ Some x
@@ -151,10 +141,10 @@ first_passes h (e ∷ past) a p i x o line some has =
             | inl same ↦
                 let before : transfers past p i ≢ 0 = λ z. some (same.count ∙ z) in
                 let had = passed_before h past e a p i x o (λ r w new g. begun old.was before r w new g) has in
-                subst (λ v. is_some_and v passes_dirty ≡ true) (sym same.first) (first_passes h past a.0 p i x old.was line before had)
+                rw same.first (first_passes h past a.0 p i x old.was line before had)
             | inr t ↦
                 let had = passed_before h past e a p i x o (λ r w new g. let bad = sym t.is ∙ new.is in cc) has in
-                subst (λ d. is_some_and (first_resp (d ∷ past) p i) passes_dirty ≡ true) (sym t.is)
+                rw t.is
                 (transfer t.resp t.last t.word (subst (λ d. IsAccepted h (d ∷ past)) t.is a) old.was had (λ later. first_passes h past a.0 p i x old.was line later had))
           ]
     ]

@@ -1,7 +1,7 @@
 -- The reply to a read that keeps the line is the line's value.
 use Rattle.std.proofs.Common.{◌≡◌, ℕ, true, false, ◌&&◌, nat_eq, [], ◌∷◌, length, Option, Some, None, option_and_then, unwrap_or, refl, sym, ap, subst, ◌∙◌, inl, inr}
 use Rattle.std.proofs.lemmas.Bool.{and_parts, and_from, or_left, cases_Bool, cases_eq, eq-eqb}
-use Rattle.ace_model.proofs.Terms.{ArKind, SnoopKind, snoop_of_read, transfers_data, Event, Cr, Header, is_fetch, is_dirty, Answer, Transaction, Trace, at_point, is_some_and, newer, reads_a_line, transfers}
+use Rattle.ace_model.proofs.Terms.{ArKind, SnoopKind, snoop_of_read, transfers_data, Event, Cr, Header, is_fetch, is_dirty, Answer, Transaction, Trace, at_point, is_some_and, newer, transfers}
 use Rattle.ace_model.proofs.Terms.{is_make_unique, is_granted_write, is_on, read_kind, write_kind, snoop_of, snoop_kind_of, outstanding, data_answers, gives_line, granted, answers_grant, answer_of}
 use Rattle.ace_model.proofs.Terms.{each_port, has_failed, state_of, are_snoops_done, is_port_done, is_line_read_transaction, copy_of, memory_of, copy_at_answer, passed_data, sender_at, first_sender}
 use Rattle.ace_model.proofs.Terms.{memory_at_first_beat, reply_of, value_of, IsAccepted, replaces_line}
@@ -91,7 +91,7 @@ reply_true h past a sent l x k g addr kind fetch memory =
     by None is = memory is
     by (Some s) is =
         let w = sender_sent h past a s l is in
-        let same : copy_at_answer past l s ≡ Some (copy_of (at_point w.answer.place past) s l) = let there = w.is in rw there refl in
+        let same : copy_at_answer past l s ≡ Some (copy_of (at_point w.answer.place past) s l) = rw w.is refl in
         ap (λ o. unwrap_or o (memory_at_first_beat past x.port x.id l)) same ∙ sent l s x w.answer k g w.is w.sends kind fetch
 
 -- where the snoops of the read are done and no port has sent data, memory is the value
@@ -123,15 +123,14 @@ memory_true h past a f l x k g kind fetch done none =
 
     all : each_port h.ports (is_port_done h past x) ≡ true
     all =
-        let not_store = fetches.cleans in
-        let failed : has_failed past x ≡ false = rw (kind, not_store, and-false x.lock) refl in
+        let failed : has_failed past x ≡ false = rw (kind, fetches.cleans, and-false x.lock) refl in
         snoops_done-ports h past x snoop.0 snoop.1 failed done
 
     no_holder : (q : ℕ) → is_dirty (state_of h past q l) ≡ true → ⊥
     no_holder q d =
         elim (cases_eq x.port q) [
           | inl own ↦
-              let reads : is_line_read_transaction x ≡ true = subst (λ o. is_some_and o reads_a_line ≡ true) (sym kind) fetches.reads in
+              let reads : is_line_read_transaction x ≡ true = rw kind fetches.reads in
               let gone = stays_empty h past a x.port x.chan x.id l x outs.0 outs.1 (or_left (is_line_read_transaction x) (is_some_and (write_kind x) is_granted_write) reads) in
               dirty_valid (state_of h past q l) d (ap (λ b. state_of h past b l) (sym own) ∙ gone)
           | inr apart ↦ elim (done_port h past x q (accepted_holds h past a) all apart) [

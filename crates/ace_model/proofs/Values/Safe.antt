@@ -2,7 +2,7 @@
 use Rattle.std.proofs.Common.{◌≡◌, ◌⊎◌, ℕ, true, false, ◌&&◌, ◌||◌, nat_eq, ◌∷◌, length, Option, Some, None, refl, sym, ap, subst, ◌∙◌, inl, inr}
 use Rattle.std.proofs.lemmas.Bool.{and_parts, and_from, or_left, or_right, cases_Bool, cases_eq, eq-eqb}
 use Rattle.ace_model.proofs.Terms.{ArKind, AwKind, SnoopKind, LineState, passes_dirty, is_shared, Read, Write, Event, R, Rk, B, Wk, Cr, Header, is_dirty, Answer, Transaction, Trace, implies, InRange, Channel, M, Line, passed_data, data_of}
-use Rattle.ace_model.proofs.Terms.{is_some_and, is_none_or, is_make_unique, has_write_data, is_ace, is_read, is_line, is_on, is_some_on, read_kind, write_kind, snoop_of, snoop_kind_of, ended}
+use Rattle.ace_model.proofs.Terms.{is_some_and, is_none_or, is_make_unique, has_write_data, is_ace, is_read, is_line, is_some_on, read_kind, write_kind, snoop_of, snoop_kind_of, ended}
 use Rattle.ace_model.proofs.Terms.{outstanding, acknowledged, first_resp, has_memory_write, data_answers, granted, answers_grant, answer_of, has_passed_data, state_of, memory_of, value_of}
 use Rattle.ace_model.proofs.Terms.{has_upper_bits, fits_kind, IsAccepted, replaces_line, IsValueSafe}
 use Rattle.ace_codes.specs.declared.kind.ArKind.TheVariants as read
@@ -48,7 +48,7 @@ read_replaces x k kind t =
 -- what makes a line invalid at once replaces it
 invalid_replaces : (x : Transaction) (k : SnoopKind) → snoop_of x ≡ Some k → is_make_invalid k ≡ true → replaces_line x ≡ true
 invalid_replaces x k causes m =
-    by (read_kind x) (write_kind x) refl refl (subst (λ o. is_some_and o is_make_invalid ≡ true) (sym causes) m)
+    by (read_kind x) (write_kind x) refl refl (rw causes m)
   where
     by : (o : Option ArKind) (q : Option AwKind) → read_kind x ≡ o → write_kind x ≡ q → is_some_and (snoop_kind_of o q) is_make_invalid ≡ true → replaces_line x ≡ true
     by (Some r) q is_r is_q t = rw is_r (or_left (is_make_unique r) _ (read_invalid r t))
@@ -68,20 +68,20 @@ module _ (h : Header) (past : Trace) where
       let o = (accepted_holds h past a.0).grants l x g in
       let n = acknowledged_is past q Read z is in
       let one : z ≡ x = same_place past q x.port Read x.chan n.id x.id z x n.named (outstanding-named h past x.port x.chan x.id x o.0) same in
-      let on : is_some_on (acknowledged past q Read) l ≡ true = subst (λ v. is_some_on v l ≡ true) (sym is) (subst (λ y. is_on y l ≡ true) (sym one) o.1) in
+      let on : is_some_on (acknowledged past q Read) l ≡ true = rw (is, one) o.1 in
       let t : is_named_by_rk past q q l ≡ true = and_from _ _ (eq-eqb q q refl) on in
       let r = ends_line_of h past q st a q l t in
       record { r = r; same = Some-injective r.one x (sym r.ends_it ∙ is ∙ ap Some one); after = rw t refl }
 
   -- a granted write ends with memory the value
-  wrote : IsAccepted h past → WrittenTrue h past → (l : ℕ) (x : Transaction) → granted h past l ≡ Some x → (q : ℕ) (z : Transaction)
+  ended_write_stored : IsAccepted h past → WrittenTrue h past → (l : ℕ) (x : Transaction) → granted h past l ≡ Some x → (q : ℕ) (z : Transaction)
       → EndsWrite h past q z → z.place ≡ x.place → memory_of past l ≡ value_of past l
-  wrote a f l x g q z w same =
+  ended_write_stored a f l x g q z w same =
       let o = (accepted_holds h past a).grants l x g in
       let one : z ≡ x = same_place past q x.port Write x.chan w.id x.id z x (outstanding-named h past q Write w.id z w.out) (outstanding-named h past x.port x.chan x.id x o.0) same in
       let writes : is_read x.chan ≡ false = ap (λ (y : Transaction). is_read y.chan) (sym one) ∙ ap is_read w.chan in
       let k = granted_write x (granted_given h past a l x g).kind writes in
-      let sends : is_some_and (write_kind z) has_write_data ≡ true = subst (λ o. is_some_and o has_write_data ≡ true) (sym (ap write_kind one ∙ k.1)) (granted_data k.0 k.2) in
+      let sends : is_some_and (write_kind z) has_write_data ≡ true = rw (ap write_kind one ∙ k.1) (granted_data k.0 k.2) in
       let had : has_memory_write past x.port x.chan x.id ≡ true = subst (λ (y : Transaction). has_memory_write past y.port y.chan y.id ≡ true) one (w.written sends) in
       (f l x g writes had).stored
 
@@ -94,14 +94,13 @@ module _ (h : Header) (past : Trace) where
       let o = first_resp past q r.id in
       let dirty : is_dirty st ≡ true = r.state.keeps_dirt (elim wants [
         | inl has ↦
-            let has_one = subst (λ y. has_passed_data h past y ≡ true) (sym n.same) has in
-            let pass = first_passes h past a.0 q r.id r.one r.out (and_parts (is_line r.one) _ r.on).0 (full_some past q r.id r.one r.full) has_one in
+            let pass = first_passes h past a.0 q r.id r.one r.out (and_parts (is_line r.one) _ r.on).0 (full_some past q r.id r.one r.full) (rw n.same has) in
             or_left _ (is_make_unique r.kind) (or_left (is_some_and o passes_dirty) _ pass)
-        | inr replaces ↦ or_right _ (is_make_unique r.kind) (read_replaces r.one r.kind r.is_kind (subst (λ y. replaces_line y ≡ true) (sym n.same) replaces))
+        | inr replaces ↦ or_right _ (is_make_unique r.kind) (read_replaces r.one r.kind r.is_kind (rw n.same replaces))
       ]) in
-      inr (inl (q, subst (λ v. is_dirty v ≡ true) (sym n.after) dirty))
-  ended_safe (Wk q st) a f l x g wants z is same = inl (wrote a.0 f l x g q z (ends_write_of h past q st a z is) same)
-  ended_safe (B q j resp) a f l x g wants z is same = inl (wrote a.0 f l x g q z (ends_lite_written h past q j resp a z is) same)
+      inr (inl (q, rw n.after dirty))
+  ended_safe (Wk q st) a f l x g wants z is same = inl (ended_write_stored a.0 f l x g q z (ends_write_of h past q st a z is) same)
+  ended_safe (B q j resp) a f l x g wants z is same = inl (ended_write_stored a.0 f l x g q z (ends_lite_written h past q j resp a z is) same)
   ended_safe (R q j resp last word) a f l x g wants z is same =
       let lite = ends_lite h past q j resp last word z is in
       let o = (accepted_holds h past a.0).grants l x g in
@@ -134,11 +133,11 @@ module _ (h : Header) (past : Trace) where
   answered_safe p resp st a f l d n =
       elim (cases_Bool (is_make_invalid n.kind)) [
         | inl m ↦
-            inr (inr (inr (subst (λ o. is_some_and o replaces_line ≡ true) (sym n.pending.stands) (invalid_replaces n.pending.one n.kind n.causes m))))
+            inr (inr (inr (rw n.pending.stands (invalid_replaces n.pending.one n.kind n.causes m))))
         | inr m ↦ elim (cases_Bool (passes_dirty resp)) [
           | inr keeps ↦
               let after = dirty_stays n.kind (state_of h past p l) false resp st n.of_line n.row m d keeps in
-              inr (inl (p, subst (λ v. is_dirty v ≡ true) (sym n.leaves) after))
+              inr (inl (p, rw n.leaves after))
           | inl pass ↦
               let both : (nat_eq p p && answers_grant past p l) ≡ true = and_from _ _ (eq-eqb p p refl) n.under in
               let now : Answer = record { place = length past; resp = resp; bursts = data_answers past p } in
@@ -183,14 +182,13 @@ module _ (h : Header) (past : Trace) where
               let is : data_of h past w.one ≡ Some (value_of past l) =
               then_of (is_read w.one.chan) (passed_data h past w.one.addr) _ b.reads ∙ ap (passed_data h past) addr ∙ same in
               inl (memory_now h past e l w ∙ line_is h past e l w a r.0 (value_of past l) is (value-length past l) ∙ sym value)
-          | inr holder ↦ inr (inl (holder.0, subst (λ v. is_dirty (state_of h (v ∷ past) holder.0 l) ≡ true) (sym w.is) holder.1))
+          | inr holder ↦ inr (inl (holder.0, rw w.is holder.1))
         ]
       where
         value : value_of (e ∷ past) l ≡ value_of past l
         value =
             let named = outstanding-named h past w.port w.chan w.id w.one w.out in
-            let reads = b.reads in
-            subst (λ v. value_of (v ∷ past) l ≡ value_of past l) (sym w.is) (rw (named, reads) refl)
+            rw (w.is, named, b.reads) refl
 
     -- so an M leaves the value safe
     memory_written : WritesLine h past e l → IsValueSafe h (e ∷ past) l
@@ -214,11 +212,9 @@ module _ (h : Header) (past : Trace) where
           | inr w ↦ memory_written w
           | inl kept ↦ elim (value_moves h past e a l) [
             | inl same ↦ carries kept same
-            | inr (inl d) ↦ inr (inl (d.port, subst (λ v. is_dirty (state_of h (v ∷ past) d.port l) ≡ true) (sym d.is) (store_dirty h past d.port l d.strobe d.ex d.line d.may)))
+            | inr (inl d) ↦ inr (inl (d.port, rw d.is (store_dirty h past d.port l d.strobe d.ex d.line d.may)))
             | inr (inr (inl d)) ↦
-                let stands = d.made.stands in
-                let kind = d.made.kind in
-                inr (inr (inr (subst (λ v. is_some_and (granted h (v ∷ past) l) replaces_line ≡ true) (sym d.is) (rw (stands, kind) refl))))
+                inr (inr (inr (rw (d.is, d.made.stands, d.made.kind) refl)))
             | inr (inr (inr d)) ↦ memory_written (store_writes d.port d.chan d.id d.line d.is d.by)
           ]
         ]
@@ -245,7 +241,7 @@ module _ (h : Header) (past : Trace) where
                 | inl still ↦ inr (inl (d.0, still))
                 | inr (inl u) ↦ inl (kept ∙ u.stored ∙ sym same)
                 | inr (inr c) ↦
-                    subst (λ v. IsValueSafe h (v ∷ past) l) (sym c.is)
+                    rw c.is
                     (answered_safe h past d.0 c.resp c.st (subst (λ v. IsAccepted h (v ∷ past)) c.is a) f l d.1 c.answering)
               ]
               | inr (inr (inl passed)) ↦
@@ -257,7 +253,7 @@ module _ (h : Header) (past : Trace) where
               | inr (inr (inr replaces)) ↦
                   let x = is_some_and-is (granted h past l) replaces_line replaces in
                   elim (granted_after h past e a l x.0 x.1) [
-                    | inl stays ↦ inr (inr (inr (subst (λ o. is_some_and o replaces_line ≡ true) (sym stays.is) x.2)))
+                    | inl stays ↦ inr (inr (inr (rw stays.is x.2)))
                     | inr z ↦ ended_safe h past e a f.written l x.0 x.1 (inr x.2) z.0 z.1 z.2
                   ]
             ]

@@ -1,8 +1,8 @@
 -- The value of a line stays while a port's data of it are on their way.
 use Rattle.std.proofs.Common.{◌≡◌, ℕ, ◌<◌, true, false, not, [], ◌∷◌, length, Some, None, refl, sym, ap, subst, ◌∙◌, arith, inl, inr, ◌≢◌}
 use Rattle.std.proofs.lemmas.Bool.{and_parts, cases_Bool, cases_eq, not-true}
-use Rattle.ace_model.proofs.Terms.{ArKind, I, Read, Write, Event, Header, is_fetch, snoop_of_read, is_unique, Answer, Transaction, Trace, at_point, is_some_and, Channel, is_update, is_make_unique}
-use Rattle.ace_model.proofs.Terms.{has_write_data, is_read, is_on, read_kind, write_kind, snoop_of, snoop_kind_of, outstanding, has_outstanding_on, updates_memory, gives_line, granted, answer_of}
+use Rattle.ace_model.proofs.Terms.{ArKind, I, Read, Write, Event, Header, is_fetch, snoop_of_read, is_unique, Answer, Transaction, Trace, at_point, Channel, is_update, is_make_unique}
+use Rattle.ace_model.proofs.Terms.{is_read, is_on, read_kind, write_kind, snoop_of, snoop_kind_of, outstanding, has_outstanding_on, updates_memory, gives_line, granted, answer_of}
 use Rattle.ace_model.proofs.Terms.{state_of, word_of, copy_of, value_of, may_store, IsAccepted}
 use Rattle.ace_codes.specs.declared.kind.ArKind.TheVariants as read
 use Rattle.ace_model.proofs.Trace.Looks.{is_on-addr, read_writes_none}
@@ -15,8 +15,7 @@ use Rattle.ace_model.proofs.Grants.SnoopAnswers.{NewAnswer, answer_cases}
 use Rattle.ace_model.proofs.Grants.Answers.{new_answer, is_levelling, none_unique}
 use Rattle.ace_model.proofs.Tables.Kinds.{fetch_is, update_data}
 use Rattle.ace_model.proofs.Values.UpdateHolds.{holds_line}
-use Rattle.ace_model.proofs.Values.Stores.{Made, value_moves, Writes}
-use Rattle.ace_model.proofs.Values.WritesAlone.{all_empty}
+use Rattle.ace_model.proofs.Values.Stores.{Made, value_moves, Writes, all_empty}
 use Rattle.ace_model.proofs.Values.Facts.{SentTrue, UpdatesTrue, DirtyPlaced}
 use Rattle.ace_model.proofs.Holders.Law.{accepted_holds}
 use Rattle.ace_model.proofs.General.Options.{Some-injective, is_some_and-is}
@@ -35,11 +34,11 @@ module _ (h : Header) (past : Trace) where
   busy p c i l x o on may = let found = outstanding_found h past p c i l x o on in let free = may_free p l may in cc
 
   -- so none may where the others hold no unique state
-  pub none_may : (p : ℕ) (c : Channel) (i l : ℕ) (x : Transaction) → outstanding h past p c i ≡ Some x → is_on x l ≡ true
+  pub none_may_store : (p : ℕ) (c : Channel) (i l : ℕ) (x : Transaction) → outstanding h past p c i ≡ Some x → is_on x l ≡ true
       → ((q : ℕ) → p ≢ q → is_unique (state_of h past q l) ≡ true → ⊥) → (q : ℕ) → may_store h past q l ≡ true → ⊥
-  none_may p c i l x o on others q may =
+  none_may_store p c i l x o on others q may =
       elim (cases_eq p q) [
-        | inl own ↦ busy p c i l x o on (subst (λ v. may_store h past v l ≡ true) (sym own) may)
+        | inl own ↦ busy p c i l x o on (rw own may)
         | inr apart ↦ others q apart (may_unique q l may)
       ]
 
@@ -107,7 +106,7 @@ copy_at-new past e r l w n =
 
 -- a CR is no store
 pub value_cr : (past : Trace) (e : Event) (r l : ℕ) (w : Answer) → NewAnswer past e r l w → value_of (e ∷ past) l ≡ value_of past l
-value_cr past e r l w n = subst (λ d. value_of (d ∷ past) l ≡ value_of past l) (sym n.is) refl
+value_cr past e r l w n = rw n.is refl
 
 module _ (h : Header) (past : Trace) where
   pub made_apart : (l : ℕ) (x : Transaction) (k : ArKind) → read_kind x ≡ Some k → is_fetch k ≡ true → (q s : ℕ) (m : Made h past q l s) → m.one ≡ x → ⊥
@@ -138,7 +137,7 @@ module _ (h : Header) (past : Trace) where
   pub updates_step : (e : Event) → IsAccepted h (e ∷ past) → DirtyPlaced h past → UpdatesTrue h (e ∷ past)
   updates_step e a f p i l x k b o on updates is =
       let kind = is_some_and-is (write_kind x) is_update updates in
-      let beat = beat_origin h past e x k b a p i o (subst (λ v. is_some_and v has_write_data ≡ true) (sym kind.1) (update_data kind.0 kind.2)) is in
+      let beat = beat_origin h past e x k b a p i o (rw kind.1 (update_data kind.0 kind.2)) is in
       let same = value_updating h past e a p i l x beat.was on updates in
       elim beat.comes [
         | inl before ↦ f.updates p i l x k b beat.was on updates before ∙ ap (λ v. word_of v k) (sym same)

@@ -1,13 +1,13 @@
--- The stores to a line: a D of a port that may store, the D of a MakeUnique, and the M of a write.
+-- The stores to a line: a D of a port that may store, the D of a MakeUnique, and the M of a write, which finds no port with the line.
 use Rattle.ace_codes.specs.declared.kind.ArKind.TheVariants as read
 use Rattle.std.proofs.Common.{◌≡◌, ◌⊎◌, ℕ, Bool, true, false, not, ◌&&◌, ◌||◌, nat_eq, nat_lt, ◌∷◌, Option, Some, None, refl, sym, ap, subst, ◌∙◌, inl, inr}
-use Rattle.std.proofs.lemmas.Bool.{and_parts, or_cases, not-true, cases_Bool, eqb-true}
+use Rattle.std.proofs.lemmas.Bool.{and_parts, or_cases, not-true, cases_Bool, eqb-true, or_right, cases_eq}
 use Rattle.ace_model.proofs.Terms.{AwKind, Channel, Read, Event, M, D, Header, Line, Transaction, Trace, is_some_and, is_make_unique, is_update, is_unique_write, is_no_snoop_write, is_ace, is_read}
-use Rattle.ace_model.proofs.Terms.{is_line, is_on, read_kind, write_kind, outstanding, transaction_of, is_outstanding, is_make_unique_on, is_complete, updates_memory, has_memory_write, is_burst_whole}
-use Rattle.ace_model.proofs.Terms.{granted, is_granted, awaits_store, has_store, are_snoops_done, stores_data, value_of, may_store, wants_store, full_line, may_write_memory, is_write_due, IsAccepted}
-use Rattle.ace_codes.specs.declared.kind.ArKind.TheVariants as read
-use Rattle.ace_model.proofs.Trace.Looks.{is_read-is, is_on-addr, read_writes_none}
-use Rattle.ace_model.proofs.Trace.Issued.{outstanding-named}
+use Rattle.ace_model.proofs.Terms.{SnoopKind, I, is_shared, snoop_of_write, is_granted_write, snoop_of, snoop_kind_of, has_failed, state_of, is_line_read_transaction, is_line, is_on, read_kind, write_kind}
+use Rattle.ace_model.proofs.Terms.{outstanding, transaction_of, is_outstanding, is_make_unique_on, is_complete, updates_memory, has_memory_write, is_burst_whole, granted, is_granted, awaits_store}
+use Rattle.ace_model.proofs.Terms.{has_store, are_snoops_done, stores_data, value_of, may_store, wants_store, full_line, may_write_memory, is_write_due, IsAccepted}
+use Rattle.ace_model.proofs.Trace.Looks.{is_read-is, is_on-addr, read_writes_none, snoops_done-ports}
+use Rattle.ace_model.proofs.Trace.Issued.{outstanding-named, transaction_of-stands}
 use Rattle.ace_model.proofs.Trace.Growth.{some_issued-is}
 use Rattle.ace_model.proofs.Rules.Keeps.{accepted_keeps}
 use Rattle.ace_model.proofs.Holders.Facts.{OthersInvalid}
@@ -15,11 +15,17 @@ use Rattle.ace_model.proofs.Trace.LineOnce.{outstanding_is}
 use Rattle.ace_model.proofs.Trace.Outstanding.{outstanding_own}
 use Rattle.ace_model.proofs.Values.FullReads.{done_read}
 use Rattle.ace_model.proofs.Trace.Transfers.{full_some}
-use Rattle.ace_model.proofs.Tables.Kinds.{make_unique_is, granted_stores, granted_apart}
+use Rattle.ace_model.proofs.Tables.Kinds.{make_unique_is, granted_stores, granted_apart, unique_write_snoops}
 use Rattle.ace_model.proofs.Grants.Granted.{granted_at, data_may}
 use Rattle.ace_model.proofs.Holders.Law.{accepted_holds}
 use Rattle.ace_model.proofs.General.Options.{Some-injective, is_some_and-is}
+use Rattle.ace_model.proofs.Tables.States.{invalidates}
+use Rattle.ace_model.proofs.Holders.FirstTransfer.{done_port}
+use Rattle.ace_model.proofs.Holders.Rises.{stays_empty}
+use Rattle.ace_model.proofs.Holders.ShareableLines.{no_snoop_unheld}
 use Rattle.ace_codes.specs.declared.kind.ArKind.TheVariants as read
+use Rattle.ace_codes.specs.declared.kind.ArKind.TheVariants as read
+use Rattle.std.proofs.Math.Bool.{and-false}
 
 pub stores_write : (x : Transaction) → stores_data x ≡ true → is_read x.chan ≡ false
 stores_write x s =
@@ -188,7 +194,7 @@ module _ (h : Header) (past : Trace) where
         | inl t ↦
             let same = eqb-true l addr t in
             let is : D q addr strobe b line ≡ D q l strobe b line = ap (λ v. D q v strobe b line) (sym same) in
-            inr (elim (stores_d q l strobe b line (subst (λ v. IsAccepted h (D q v strobe b line ∷ past)) (sym same) a)) [
+            inr (elim (stores_d q l strobe b line (rw same a)) [
               | inl may ↦ inl (record { port = q; strobe = strobe; ex = b; line = line; is = is; may = may })
               | inr made ↦ inr (inl (record { port = q; strobe = strobe; ex = b; line = line; is = is; made = made }))
             ])
@@ -203,3 +209,40 @@ module _ (h : Header) (past : Trace) where
             | inl t ↦ inr (inr (inr (record { port = q; chan = c; id = j; line = line; is = refl; by = stores_m q c j line l a x is t })))
           ]
   value_moves _ a l = inl refl
+
+pub snoop_of_kind : (x : Transaction) (k : AwKind) (s : SnoopKind) → is_read x.chan ≡ false → write_kind x ≡ Some k → snoop_of_write k ≡ Some s → snoop_of x ≡ Some s
+snoop_of_kind x k s writes kind c =
+    let none : read_kind x ≡ None = rw writes refl in
+    ap (λ o. snoop_kind_of o (write_kind x)) none ∙ ap (snoop_kind_of None) kind ∙ c
+
+pub all_empty : (h : Header) (past : Trace) → IsAccepted h past → (q : ℕ) (c : Channel) (j l : ℕ) (w : Writes h past q c j l) (p : ℕ) → state_of h past p l ≡ I
+all_empty h past a q c j l w p =
+    let x = w.one in
+    let k = stores_kind x w.stores in
+    let addr = is_on-addr x l w.on in
+    elim (or_cases (is_unique_write k.0) (is_no_snoop_write k.0) k.2) [
+      | inr quiet ↦
+          let s = transaction_of-stands past x.port x.chan x.id x (outstanding-named h past x.port x.chan x.id x w.out) in
+          no_snoop_unheld h past x p l a (record { there = s.there; before = s.before }) w.on
+          (or_right (is_some_and (read_kind x) _) (is_some_and (write_kind x) is_no_snoop_write) (rw k.1 quiet))
+      | inl unique ↦
+          let s = is_some_and-is (snoop_of_write k.0) invalidates (unique_write_snoops k.0 unique) in
+          let causes = snoop_of_kind x k.0 s.0 w.writes k.1 s.1 in
+          elim (cases_eq x.port p) [
+            | inl own ↦
+                ap (λ b. state_of h past b l) (sym own)
+                ∙ stays_empty h past a x.port x.chan x.id l x w.out w.on
+                (or_right (is_line_read_transaction x) (is_some_and (write_kind x) is_granted_write) (rw k.1 (sym (granted_stores k.0) ∙ k.2)))
+            | inr other ↦
+                let f = accepted_holds h past a in
+                let stands : granted h past x.addr ≡ Some x = ap (granted h past) addr ∙ w.stands in
+                subst (λ b. state_of h past p b ≡ I) addr (elim (done_port h past x p f (snoops_done-ports h past x s.0 causes failed w.done) other) [
+                  | inl gone ↦ gone
+                  | inr answered ↦
+                      (f.answers x.addr p x answered.answer s.0 stands answered.is causes).gone (or_right (not (is_shared answered.answer.resp)) (invalidates s.0) s.2)
+                ])
+          ]
+    ]
+  where
+    failed : has_failed past w.one ≡ false
+    failed = rw (w.writes, and-false w.one.lock) refl

@@ -89,7 +89,7 @@ module _ (h : Header) (past : Trace) where
       where_named x (nat_eq p q && answers_line past p l) (state_of h past p l) st f (λ t.
       let parts = and_parts (nat_eq p q) (answers_line past p l) t in
       let port = eqb-true p q parts.0 in
-      let n : Answering h past p resp st l = answering_cr h past p resp st (subst (λ b. IsAccepted h (Cr b resp st ∷ past)) (sym port) a) l parts.1 in
+      let n : Answering h past p resp st l = answering_cr h past p resp st (rw port a) l parts.1 in
       let row = n.beside (update_found h past p Write i l x o on updates) in
       let b = beside_update n.kind (state_of h past p l) resp st n.of_line f.held row in
       record {

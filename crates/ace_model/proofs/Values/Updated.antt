@@ -2,7 +2,7 @@
 use Rattle.std.proofs.Common.{◌≡◌, ℕ, true, false, not, ◌∷◌, Some, refl, sym, ap, subst, ◌∙◌, inl, inr}
 use Rattle.std.proofs.lemmas.Bool.{not-true, cases_Bool}
 use Rattle.std.specs.List.{AllByRecursion}
-use Rattle.ace_model.proofs.Terms.{passes_dirty, InRange, Write, Event, Header, is_invalid, Answer, Transaction, Trace, is_some_and, is_update, is_read, write_kind, outstanding, updates_memory}
+use Rattle.ace_model.proofs.Terms.{passes_dirty, InRange, Write, Event, Header, is_invalid, Answer, Transaction, Trace, is_read, write_kind, outstanding, updates_memory}
 use Rattle.ace_model.proofs.Terms.{has_update, granted, has_passed_data, state_of, IsAccepted}
 use Rattle.ace_model.proofs.Trace.Looks.{is_on-addr}
 use Rattle.ace_model.proofs.Trace.Issued.{outstanding-named, outstanding-name, outstanding-origin}
@@ -12,7 +12,6 @@ use Rattle.ace_model.proofs.Grants.SnoopAnswers.{NewAnswer}
 use Rattle.ace_model.proofs.Grants.Answers.{new_answer}
 use Rattle.ace_model.proofs.Values.UpdateHolds.{update_found, holds_line}
 use Rattle.ace_model.proofs.Tables.Kinds.{is_dirty_update, dirty_updates}
-use Rattle.ace_model.proofs.Values.WritesAlone.{all_empty}
 use Rattle.ace_model.proofs.Values.Stays.{value_updating}
 use Rattle.ace_model.proofs.Grants.Granted.{new_unwritten, written_cases, granted_given, updates_ungranted}
 use Rattle.ace_model.proofs.Values.PassedData.{passed_origin}
@@ -20,6 +19,7 @@ use Rattle.ace_model.proofs.Values.MemoryWrites.{WritesLine, memory_moves, write
 use Rattle.ace_model.proofs.Values.Facts.{Updated, UpdatedTrue, DirtyPlaced}
 use Rattle.ace_model.proofs.Holders.Law.{accepted_holds}
 use Rattle.ace_model.proofs.General.Options.{Some-injective, is_some_and-is, is_none_or-at}
+use Rattle.ace_model.proofs.Values.Stores.{all_empty}
 
 -- no passed data come but by an answer with PassDirty
 still_none : (h : Header) (past : Trace) (e : Event) → IsAccepted h (e ∷ past) → (l : ℕ) → ((y : Transaction) → granted h past l ≡ Some y → has_passed_data h past y ≡ false)
@@ -39,15 +39,14 @@ updated_step h past e a r f p i l x o on dirty m =
     elim (outstanding-origin h past e p Write i x o) [
       | inl new ↦ absurd (new_unwritten past e x p Write i new.0 new.1 m)
       | inr old ↦
-          let was = old.was in
-          elim (written_cases h past e a p Write i x was m) [
-            | inl now ↦ written was (record { port = p; chan = Write; id = i; line = now.line; is = now.is; one = x; out = was; on = on; may = now.may }) refl
-            | inr earlier ↦ later was (f.updated p i l x was on dirty earlier)
+          elim (written_cases h past e a p Write i x old.was m) [
+            | inl now ↦ written old.was (record { port = p; chan = Write; id = i; line = now.line; is = now.is; one = x; out = old.was; on = on; may = now.may }) refl
+            | inr earlier ↦ later old.was (f.updated p i l x old.was on dirty earlier)
           ]
     ]
   where
     updates : updates_memory x ≡ true
-    updates = let k = is_some_and-is (write_kind x) is_dirty_update dirty in subst (λ o. is_some_and o is_update ≡ true) (sym k.1) (dirty_updates k.0 k.2)
+    updates = let k = is_some_and-is (write_kind x) is_dirty_update dirty in rw k.1 (dirty_updates k.0 k.2)
 
     written : outstanding h past p Write i ≡ Some x → (w : WritesLine h past e l) → w.one ≡ x → Updated h (e ∷ past) l
     written was w same =

@@ -1,37 +1,29 @@
 -- Once a granted write has written memory, memory is the value and no port holds the line.
-use Rattle.std.proofs.Common.{◌≡◌, ℕ, ◌+◌, ◌*◌, true, false, ◌||◌, [], ◌∷◌, length, Option, Some, None, unwrap_or, option_and_then, slice_get, refl, sym, ap, subst, ◌∙◌, inl, inr}
+use Rattle.std.proofs.Common.{◌≡◌, ℕ, true, false, ◌||◌, ◌∷◌, length, Option, Some, None, unwrap_or, option_and_then, slice_get, refl, sym, ap, subst, ◌∙◌, inl, inr}
 use Rattle.std.proofs.lemmas.Bool.{and_from, cases_Bool}
 use Rattle.std.specs.List.{AllByRecursion}
 use Rattle.ace_model.proofs.Terms.{AwKind, I, InRange, Channel, Write, Event, M, Header, Line, merged, Transaction, Trace, is_some_and, is_write_line_unique, has_write_data, is_unique_write}
 use Rattle.ace_model.proofs.Terms.{is_no_snoop_write, is_read, read_kind, write_kind, snoop_of, snoop_kind_of, outstanding, has_memory_write, granted, has_passed_data, state_of, memory_of, passed_to}
-use Rattle.ace_model.proofs.Terms.{passed_data, Beat, burst_of, burst_line, burst_strobe, value_of, full_beat, full_line, data_of, data_of_write, burst_into, IsAccepted, replaces_line, HasDirtyHolder}
+use Rattle.ace_model.proofs.Terms.{passed_data, burst_of, burst_line, burst_strobe, value_of, full_line, data_of, data_of_write, burst_into, IsAccepted, replaces_line, HasDirtyHolder}
 use Rattle.ace_codes.specs.declared.kind.AwKind.TheVariants as write
-use Rattle.ace_model.proofs.Trace.Looks.{is_on-addr}
+use Rattle.ace_model.proofs.Trace.Looks.{is_on-addr, is_write-is}
 use Rattle.ace_model.proofs.Trace.Issued.{outstanding-named}
 use Rattle.ace_model.proofs.Holders.Rises.{state_moves}
 use Rattle.ace_model.proofs.Grants.Stays.{granted_before}
 use Rattle.ace_model.proofs.Grants.SnoopAnswers.{no_rise}
 use Rattle.ace_model.proofs.Grants.Answers.{passed_kind}
-use Rattle.ace_model.proofs.Values.MergedLines.{line_of, merged-length, merged-all}
+use Rattle.ace_model.proofs.Values.MergedLines.{line_of, merged-length, merged-all, full_burst}
 use Rattle.ace_model.proofs.Trace.WriteBursts.{four_beats}
-use Rattle.ace_model.proofs.Values.Stores.{Writes, stores_m, stores_kind}
-use Rattle.ace_model.proofs.Values.WritesAlone.{all_empty}
+use Rattle.ace_model.proofs.Values.Stores.{Writes, stores_m, stores_kind, all_empty}
 use Rattle.ace_model.proofs.Tables.States.{unique_valid, dirty_valid}
 use Rattle.ace_model.proofs.Values.Stays.{may_unique, value_stays, write_no_make}
 use Rattle.ace_model.proofs.Grants.Granted.{given_unwritten, granted_given, granted_write, written_cases}
 use Rattle.ace_model.proofs.Values.Passed.{passed_true}
-use Rattle.ace_model.proofs.Values.MemoryWrites.{WritesLine, memory_now, memory_moves, grant_stores, writer, line_is, is_write-is, update_true, beats_fit, kind_data}
+use Rattle.ace_model.proofs.Values.MemoryWrites.{WritesLine, memory_now, memory_moves, grant_stores, writer, line_is, update_true, beats_fit, kind_data}
 use Rattle.ace_model.proofs.Values.Facts.{Quiet, WrittenTrue, DirtyPlaced}
 use Rattle.ace_model.proofs.Holders.Law.{accepted_holds}
 use Rattle.ace_model.proofs.General.Options.{Some-injective}
 use Rattle.ace_model.proofs.Values.PassedData.{passes_line, passed_has}
-
-full_burst : (b0 b1 b2 b3 : Beat) → b0.strobe ≡ full_beat → b1.strobe ≡ full_beat → b2.strobe ≡ full_beat → b3.strobe ≡ full_beat
-    → burst_strobe (b0 ∷ b1 ∷ b2 ∷ b3 ∷ []) ≡ full_line
-full_burst b0 b1 b2 b3 e0 e1 e2 e3 = joined b0.strobe b1.strobe b2.strobe b3.strobe e0 e1 e2 e3
-  where
-    joined : (s t u v : ℕ) → s ≡ full_beat → t ≡ full_beat → u ≡ full_beat → v ≡ full_beat → s + 65536 * (t + 65536 * (u + 65536 * (v + 65536 * 0))) ≡ full_line
-    joined s t u v e0 e1 e2 e3 = rw (e0, e1, e2, e3) refl
 
 module _ (h : Header) (past : Trace) where
   -- What a store writes.
@@ -79,7 +71,7 @@ module _ (h : Header) (past : Trace) where
       empty p = all_empty h past a q c j l w p
 
       no_read : read_kind w.one ≡ None
-      no_read = let writes = w.writes in rw writes refl
+      no_read = rw w.writes refl
 
       base : (k : AwKind) → write_kind w.one ≡ Some k → is_write_line_unique k ≡ false → unwrap_or (passed_data h past l) (memory_of past l) ≡ value_of past l
       base k kind other =
@@ -113,8 +105,7 @@ module _ (h : Header) (past : Trace) where
               ap (λ o. unwrap_or o (memory_of past l)) (sym none) ∙ base write.WriteNoSnoop kind refl
       by write.WriteLineUnique kind s =
           let four = four_beats past w.one w.whole in
-          let out : outstanding h past w.one.port Write w.one.id ≡ Some w.one =
-          ap (λ (d : Channel). outstanding h past w.one.port d w.one.id) (sym (is_write-is w.one.chan w.writes)) ∙ w.out in
+          let out : outstanding h past w.one.port Write w.one.id ≡ Some w.one = rw (← is_write-is w.one.chan w.writes) w.out in
           let sends : is_some_and (write_kind w.one) has_write_data ≡ true = rw kind refl in
           let unique : is_some_and (write_kind w.one) is_write_line_unique ≡ true = rw kind refl in
           let f0 = beats_fit h past a r w.one.port w.one.id w.one 0 four.b0 out sends (ap (λ bs. slice_get bs 0) four.is) in
@@ -140,10 +131,9 @@ module _ (h : Header) (past : Trace) where
       let one : w.one ≡ s.one = Some-injective w.one s.one (sym (outstanding-named h past w.port w.chan w.id w.one w.out) ∙ s.named) in
       let d = writing a.0 r.1 f w.port w.chan w.id l s in
       let line = line_is h past e l w a r.0 d.line (ap (data_of h past) one ∙ d.is) d.four in
-      let named = s.named in
       let both = and_from _ _ s.stores s.on in
-      let value : value_of (M w.port w.chan w.id w.line ∷ past) l ≡ burst_into past s.one (value_of past l) = rw (named, both) refl in
-      memory_now h past e l w ∙ line ∙ d.stores ∙ sym (subst (λ v. value_of (v ∷ past) l ≡ burst_into past s.one (value_of past l)) (sym w.is) value)
+      let value : value_of (M w.port w.chan w.id w.line ∷ past) l ≡ burst_into past s.one (value_of past l) = rw (s.named, both) refl in
+      memory_now h past e l w ∙ line ∙ d.stores ∙ sym (rw w.is value)
 
   pub written_step : (e : Event) → IsAccepted h (e ∷ past) → AllByRecursion InRange (e ∷ past) → DirtyPlaced h past → WrittenTrue h (e ∷ past)
   written_step e a r f l x g writes m =
@@ -159,7 +149,7 @@ module _ (h : Header) (past : Trace) where
                   (outstanding-named h past x.port x.chan x.id x o.0) (and_from _ _ (grant_stores x k.0 k.1 k.2) o.1) in
                   record {
                     stored = store_true e a r f l w s;
-                    nowhere = λ p. subst (λ v. state_of h (v ∷ past) p l ≡ I) (sym now.is) (all_empty h past a.0 x.port x.chan x.id l s p);
+                    nowhere = λ p. rw now.is (all_empty h past a.0 x.port x.chan x.id l s p);
                   }
               | inr earlier ↦
                   let q = f.written l x stays.was writes earlier in
