@@ -82,7 +82,7 @@ pub mod DirtMoves
 -- the copies; that the value stays while data of it are on their way
 pub mod Copies
 pub mod Stays
--- passed data are there until the M, and their read has PassDirty; the reply is the value; what fetches and MakeUniques leave
+-- passed data are there until the M, and their read has PassDirty; the reply is the value; what reads leave at their port
 pub mod PassedData
 pub mod Replies
 pub mod Fetches
