@@ -57,24 +57,36 @@
 -- The other folders also take from here that a port comes to hold more of a line by the RK of its own read alone (Rises),
 -- and that a line that some port holds has no transaction that is NoSnoop (ShareableLines).
 
--- the facts; the twelve rules that they rest on
+-- The ten facts.
 pub mod Facts
+-- The twelve rules that they rest on; what the rules of today accept keeps them too.
 pub mod RestsOn
--- what keeps the facts where an event ends a transaction or lessens the states
+-- What an event keeps that ends one transaction at most, or lessens the states that the ports hold.
 pub mod Kept
--- the events, one after the other: AR and AW; G; AC and CR; the first R, and every R; RK; B and WK; S and D
+-- AR and AW keep the facts (K4).
 pub mod Address
+-- G (K12).
 pub mod Grant
+-- AC and CR (K13, K15).
 pub mod Snoop
+-- What the snoops and the response say of the other ports at the first transfer of a read (K18, K19).
 pub mod FirstTransfer
+-- R (K18, K19).
 pub mod Transfer
+-- RK (K1, K22, K23).
 pub mod Acknowledge
+-- B and WK (K28).
 pub mod Write
+-- S and D (K29, K32).
 pub mod Stores
--- the laws, of accepted traces and of those that the rules of today accept
+-- The laws, of every accepted trace.
 pub mod Law
+-- The law of unique lines, of what the rules of today accept.
 pub mod Today
--- what follows: how states fall and rise, and that a line is shareable or not
+-- Every event but an RK lessens what the ports hold, and but an RK or a D makes no line dirty.
 pub mod Lessened
+-- So a port comes to hold more by the RK of its read alone, and while it fetches a line or has a granted write of it
+-- outstanding, it holds nothing of it.
 pub mod Rises
+-- A line that a port holds has no NoSnoop transaction (K8).
 pub mod ShareableLines

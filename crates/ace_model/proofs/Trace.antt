@@ -32,6 +32,8 @@ pub mod Looks
 pub mod Issued
 -- What is outstanding: its name, and what an event issues or ends.
 pub mod Outstanding
+-- A read that has had all its transfers.
+pub mod Transfers
 -- What a longer trace keeps: places, transactions, points, and what a transaction has had.
 pub mod Growth
 -- The events by their places: loads, beats of reads, grants.

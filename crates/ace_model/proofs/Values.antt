@@ -75,7 +75,7 @@ pub mod FullReads
 pub mod Beats
 -- the stores to a line, and that the M of a store finds no port with the line
 pub mod Stores
--- what ends a transaction of a line, what an update holds, and where dirt goes
+-- what ends a write of a line, what an update holds, and where dirt goes
 pub mod Ended
 pub mod UpdateHolds
 pub mod DirtMoves

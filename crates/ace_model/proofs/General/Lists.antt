@@ -1,12 +1,13 @@
 -- Lists: one more element at the end, a list that a longer one begins with, and counts in both.
-use Rattle.std.specs.List.{list_all}
-use Rattle.std.proofs.Common.{◌≡◌, ◌⊎◌, ℕ, zero, suc, List, [], ◌∷◌, ◌++◌, length, ◌<◌, drop, map, subst, Option, Some, None, slice_get, refl, sym, ◌∙◌, arith, inl, inr, ◌+◌, ◌≤◌, Bool, true, cond, take, filter, count_by, ap, append_assoc, length-append}
-use Rattle.std.proofs.lemmas.Bool.{and_parts, cases_eq, cases_Bool}
+use Rattle.std.specs.List.{All, list_all}
+use Rattle.std.proofs.Common.{◌≡◌, le_refl, ◌⊎◌, ℕ, zero, suc, List, [], ◌∷◌, ◌++◌, length, ◌<◌, drop, map, subst, Option, Some, None, slice_get, refl, sym, ◌∙◌, arith, inl, inr, ◌+◌, ◌≤◌, Bool, true, cond, take, filter, count_by, ap, append_assoc, length-append}
+use Rattle.std.proofs.lemmas.Bool.{cases_eq}
 use Rattle.ace_model.proofs.Terms.{more}
+use Rattle.std.proofs.Math.Seq.{take-length}
 use Rattle.std.proofs.lemmas.List.{append-nil, length-take, map-append, take-append-drop, take-append-le}
-use Rattle.std.proofs.lemmas.Option.{slice_get_within}
-use Rattle.std.proofs.lemmas.List.Elements.{filter-append}
-use Rattle.std.proofs.lemmas.List.Sums.{sum_by-cons, sum_by-append}
+use Rattle.std.proofs.lemmas.Option.{slice_get_within, get_or_from_slice_get}
+use Rattle.std.proofs.lemmas.List.Elements.{filter-append, filter_passes, All-get_or}
+use Rattle.std.proofs.lemmas.List.Sums.{AllPass-from_list_all, sum_by-cons, sum_by-append}
 use Rattle.ace_model.proofs.General.Options.{Some-injective}
 
 -- the place behind the last element
@@ -74,14 +75,9 @@ start-next xs ys y s there = subst (IsStart (xs ++ y ∷ [])) s.joined (next xs 
 -- a list that two others begin with, the shorter begins the longer
 pub start-within : {A : Type 0} → (xs ys rest : List A) → IsStart xs (ys ++ rest) → length xs ≤ length ys → IsStart xs ys
 start-within xs ys rest s le =
-    let same : take (length xs) ys ≡ xs = sym (take-append-le (length xs) ys rest le) ∙ ap (take (length xs)) (sym s.joined) ∙ take-append (length xs) xs s.rest refl in
+    let whole = take-append-le (length xs) xs s.rest (le_refl (length xs)) ∙ take-length xs in
+    let same : take (length xs) ys ≡ xs = sym (take-append-le (length xs) ys rest le) ∙ ap (take (length xs)) (sym s.joined) ∙ whole in
     subst (λ l. IsStart l ys) same (start-take (length xs) ys)
-  where
-    take-append : {A : Type 0} → (n : ℕ) (xs rest : List A) → n ≡ length xs → take n (xs ++ rest) ≡ xs
-    take-append zero [] rest e = refl
-    take-append zero (x ∷ xs) rest e = absurd (omega arith)
-    take-append (suc n) [] rest e = absurd (omega arith)
-    take-append (suc n) (x ∷ xs) rest e = ap (λ l. x ∷ l) (take-append n xs rest (omega arith))
 
 pub start-length : {A : Type 0} → (xs ys : List A) → IsStart xs ys → length xs ≤ length ys
 start-length xs ys s = let e = ap length s.joined in let l = length-append xs s.rest in omega arith
@@ -115,24 +111,15 @@ pub slice_get-within_take : {A : Type 0} → (xs : List A) (n k : ℕ) (x : A) �
 slice_get-within_take xs n k x e =
     let low = slice_get_within (take n xs) k x e in let long = length-take n xs in omega arith
 
--- what passes for all elements passes for each
-pub list_all-at : {A : Type 0} → (test : A → Bool) (xs : List A) (k : ℕ) (x : A) → list_all test xs ≡ true → slice_get xs k ≡ Some x → test x ≡ true
-list_all-at test [] k x all there = cc
-list_all-at test (y ∷ ys) zero x all there = let same : y ≡ x = cc in rw (← same) (and_parts (test y) (list_all test ys) all).0
-list_all-at test (y ∷ ys) (suc k) x all there = list_all-at test ys k x (and_parts (test y) (list_all test ys) all).1 there
+-- what holds of all elements holds of each, as of those that pass a test, and of those of a selection
+pub slice_get-all : {A : Type 0} → (P : A → Type 0) (xs : List A) (k : ℕ) (x : A) → All P xs → slice_get xs k ≡ Some x → P x
+slice_get-all P xs k x all there = subst P (get_or_from_slice_get xs k x x there) (All-get_or P xs k x (slice_get_within xs k x there) all)
 
--- what stands in the selection passes the test
+pub list_all-at : {A : Type 0} → (test : A → Bool) (xs : List A) (k : ℕ) (x : A) → list_all test xs ≡ true → slice_get xs k ≡ Some x → test x ≡ true
+list_all-at test xs k x all there = slice_get-all (λ y. test y ≡ true) xs k x (AllPass-from_list_all test xs all) there
+
 pub slice_get-filter : {A : Type 0} → (test : A → Bool) (xs : List A) (k : ℕ) (x : A) → slice_get (filter test xs) k ≡ Some x → test x ≡ true
-slice_get-filter test [] k x e = cc
-slice_get-filter test (y ∷ xs) k x e =
-    elim (cases_Bool (test y)) [
-      | inl t ↦ first t k (λ j. slice_get-filter test xs j x) (rw t at e)
-      | inr f ↦ slice_get-filter test xs k x (rw f at e)
-    ]
-  where
-    first : test y ≡ true → (k : ℕ) → ((j : ℕ) → slice_get (filter test xs) j ≡ Some x → test x ≡ true) → slice_get (y ∷ filter test xs) k ≡ Some x → test x ≡ true
-    first t zero later e = let same : y ≡ x = cc in rw (← same) t
-    first t (suc k) later e = later k e
+slice_get-filter test xs k x e = slice_get-all (λ y. test y ≡ true) (filter test xs) k x (filter_passes test xs) e
 
 -- a count with one more element in front
 pub count_by-cons : {A : Type 0} → (test : A → Bool) (x : A) (xs : List A) → count_by test (x ∷ xs) ≡ cond (test x) 1 0 + count_by test xs

@@ -1,5 +1,6 @@
 -- What a look that may find nothing says where it finds something.
 use Rattle.std.proofs.Common.{◌≡◌, ◌⊎◌, inl, inr, Bool, true, false, if◌then◌else◌, Option, Some, None, is_some, is_none, refl, subst}
+use Rattle.std.proofs.lemmas.Bool.{cases_Bool}
 use Rattle.ace_model.proofs.Terms.{is_some_and, is_none_or, newer}
 
 pub some_is : {A : Type 0} → (o : Option A) → is_some o ≡ true → (x : A) × (o ≡ Some x)
@@ -20,6 +21,15 @@ some_if-is false x y e = cc
 
 pub some_where-is : {A : Type 0} → (test : A → Bool) (x y : A) → (if test x then Some x else None) ≡ Some y → (x ≡ y) × (test y ≡ true)
 some_where-is test x y e = let s = some_if-is (test x) x y e in (s.1, subst (λ z. test z ≡ true) s.1 s.0)
+
+-- one that passes the test, or else the older
+pub some_or-cases : {A : Type 0} → (test : A → Bool) (y : A) (older : Option A) (x : A) → (if test y then Some y else older) ≡ Some x
+    → ((Some y ≡ Some x) × (test x ≡ true)) ⊎ ((older ≡ Some x) × (test y ≡ false))
+some_or-cases test y older x e =
+    elim (cases_Bool (test y)) [
+      | inl t ↦ let same : Some y ≡ Some x = rw t at e in inl (same, subst (λ z. test z ≡ true) (Some-injective y x same) t)
+      | inr f ↦ inr (rw f at e, f)
+    ]
 
 -- or only where it says no
 pub none_if-is : {A : Type 0} → (b : Bool) (o : Option A) (x : A) → (if b then None else o) ≡ Some x → (b ≡ false) × (o ≡ Some x)

@@ -1,7 +1,7 @@
 -- RK: a complete read ends, and its port holds the line in the state that it names.
-use Rattle.std.proofs.Common.{◌≡◌, ◌≢◌, ◌==◌, ℕ, ◌+◌, ◌≤◌, Bool, true, false, if◌then◌else◌, ◌&&◌, nat_eq, nat_lt, ◌∷◌, Some, le_refl, refl, sym, ap, subst, ◌∙◌, arith, inl, inr}
+use Rattle.std.proofs.Common.{◌≡◌, ◌≢◌, ◌==◌, ℕ, ◌+◌, ◌≤◌, Bool, true, ◌&&◌, nat_eq, nat_lt, ◌∷◌, Some, le_refl, refl, sym, ap, subst, ◌∙◌, arith, inl, inr}
 use Rattle.std.proofs.lemmas.Bool.{and_parts, cases_Bool, cases_eq, eqb-true, eq-eqb}
-use Rattle.ace_model.proofs.Terms.{ArKind, LineState, is_make_unique, has_store, passes_dirty, is_shared, Header, Read, Rk, ends_read, is_unique, is_dirty, Transaction, Trace, is_some_and, beats_of, reads_a_line}
+use Rattle.ace_model.proofs.Terms.{ArKind, LineState, is_make_unique, has_store, passes_dirty, is_shared, Header, Read, Rk, ends_read, is_unique, is_dirty, Transaction, Trace, is_some_and, beats_of}
 use Rattle.ace_model.proofs.Terms.{is_ace, is_line, is_on, is_some_on, read_kind, transaction_of, outstanding, acknowledgements, transfers, first_resp, next_complete, acknowledged}
 use Rattle.ace_model.proofs.Terms.{transaction_under, granted, has_failed, state_of, UniqueNow, OneDirtyNow, k1, k22, k23, ends_well, is_end, held_of}
 use Rattle.ace_model.proofs.Trace.Looks.{without-some, without-other}
@@ -14,6 +14,7 @@ use Rattle.ace_model.proofs.Holders.Facts.{OthersInvalid, OthersNotUnique, AllSe
 use Rattle.ace_model.proofs.General.Options.{Some-injective, some_is, is_some_and-is, is_none_or-at}
 use Rattle.ace_model.proofs.General.Booleans.{above_count, implies-at}
 use Rattle.ace_model.proofs.Tables.Less.{settled_clean}
+use Rattle.ace_model.proofs.Trace.Transfers.{IsFull, full_some}
 
 -- the test that an RK names the port's state of the line
 abbrev pub is_named_by_rk : Trace → ℕ → ℕ → ℕ → Bool
@@ -33,7 +34,7 @@ module _ (h : Header) (past : Trace) (q : ℕ) where
     pub is_id : ended_one.id ≡ id
     pub kind : ArKind
     pub is_kind : read_kind ended_one ≡ Some kind
-    pub full : is_some_and (read_kind ended_one) (λ k. transfers past q id == beats_of k) ≡ true
+    pub full : IsFull past q id ended_one
     pub arrives : is_line ended_one ≡ true → Arrives h past q id ended_one
 
   module _ (st : LineState) where
@@ -45,7 +46,6 @@ module _ (h : Header) (past : Trace) (q : ℕ) where
         let named = outstanding-named h past q Read next.0 s.0 s.1 in
         let name = outstanding-name h past q Read next.0 s.0 s.1 in
         let kind = is_some_and-is (read_kind s.0) (λ k. transfers past q next.0 == beats_of k) s.2 in
-        let all = eqb-true (transfers past q next.0) (beats_of kind.0) kind.2 in
         record {
           ended_one = s.0;
           id = next.0;
@@ -59,12 +59,8 @@ module _ (h : Header) (past : Trace) (q : ℕ) where
           kind = kind.0;
           is_kind = kind.1;
           full = s.2;
-          arrives = λ line. f.arrive q next.0 s.0 ace s.1 line (λ z. beats_some (reads_a_line kind.0) (transfers past q next.0) all z);
+          arrives = λ line. f.arrive q next.0 s.0 ace s.1 line (full_some past q next.0 s.0 s.2);
         }
-      where
-        beats_some : (b : Bool) (n : ℕ) → n ≡ (if b then 4 else 1) → n ≡ 0 → ⊥
-        beats_some true n e z = absurd (omega (arith, e, z))
-        beats_some false n e z = absurd (omega (arith, e, z))
 
     -- An RK that names the port's state of the line: the read that ends, by this port and line.
     pub record EndsLine (r l : ℕ) : Type 0 where
@@ -83,7 +79,7 @@ module _ (h : Header) (past : Trace) (q : ℕ) where
           (has_failed past one) st
       pub stored : is_make_unique kind ≡ true → has_store h past r id ≡ true
       pub arrives : Arrives h past r id one
-      pub full : is_some_and (read_kind one) (λ k. transfers past r id == beats_of k) ≡ true
+      pub full : IsFull past r id one
 
     -- the line is granted to it, and the other ports hold what its kind and its response let them hold
     module _ (r l : ℕ) (d : EndsLine r l) where

@@ -1,11 +1,12 @@
 -- What holds at each point of an accepted trace, beside the laws that a unique line has one holder and that one port holds it
 -- dirty, and makes them inductive.
-use Rattle.std.proofs.Common.{ℕ, ◌≡◌, ◌≢◌, ◌≤◌, ◌==◌, true, false, Some, slice_get}
-use Rattle.ace_model.proofs.Terms.{ArKind, SnoopKind, I, passes_dirty, is_shared, Header, Read, Transaction, Snoop, Answer, Trace, is_some_and, beats_of, takes_passed_data, is_unique, is_ace, read_kind}
+use Rattle.std.proofs.Common.{ℕ, ◌≡◌, ◌≢◌, ◌≤◌, true, false, Some, slice_get}
+use Rattle.ace_model.proofs.Terms.{ArKind, SnoopKind, I, passes_dirty, is_shared, Header, Read, Transaction, Snoop, Answer, Trace, is_some_and, takes_passed_data, is_unique, is_ace, read_kind}
 use Rattle.ace_model.proofs.Terms.{is_on, is_line, snoop_of, outstanding, completed, acknowledgements, transfers, first_resp, snoops_of, is_snoop_on, granted, answer_of, grant_place, has_failed}
 use Rattle.ace_model.proofs.Terms.{has_snoop_code, state_of, UniqueNow, OneDirtyNow}
 use Rattle.ace_model.proofs.Tables.States.{is_settled, Leaves}
 use Rattle.ace_model.proofs.Tables.ReadEnds.{takes_alone, takes_shared}
+use Rattle.ace_model.proofs.Trace.Transfers.{IsFull}
 
 -- every other port's state of the line is I
 abbrev pub OthersInvalid : Header → Trace → ℕ → ℕ → Type 0
@@ -64,7 +65,7 @@ TransfersArrive h past =
 abbrev pub QueueStands : Header → Trace → Type 0
 QueueStands h past =
     (p n i : ℕ) → is_ace h p ≡ true → acknowledgements past p Read ≤ n → slice_get (completed past p Read) n ≡ Some i
-    → (x : Transaction) × (outstanding h past p Read i ≡ Some x) × (is_some_and (read_kind x) (λ k. transfers past p i == beats_of k) ≡ true)
+    → (x : Transaction) × (outstanding h past p Read i ≡ Some x) × IsFull past p i x
 
 -- No identifier waits twice at an ACE port.
 abbrev pub QueueDistinct : Header → Trace → Type 0

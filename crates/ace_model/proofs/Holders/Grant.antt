@@ -20,7 +20,7 @@ module _ (h : Header) (past : Trace) (q : ℕ) (c : Channel) (j : ℕ) where
     pub named : transaction_of past q c j ≡ Some granted_one
     pub free : granted h past granted_one.addr ≡ None
 
-  pub may_grant : k12 h past (G q c j) ≡ true → MayGrant
+  may_grant : k12 h past (G q c j) ≡ true → MayGrant
   may_grant k =
       let o = is_some_and-is (outstanding h past q c j) (may_be_granted h past) k in
       record {

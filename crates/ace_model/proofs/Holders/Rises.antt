@@ -10,7 +10,6 @@ use Rattle.ace_model.proofs.Tables.States.{Lessens, Lessens-same}
 use Rattle.ace_model.proofs.Holders.Stores.{stores, is_named_by_d}
 use Rattle.ace_model.proofs.Holders.Lessened.{less_by, lessened_by}
 use Rattle.ace_model.proofs.Holders.Acknowledge.{Ends, EndsLine, ends, ends_line, is_named_by_rk}
-use Rattle.ace_model.proofs.Holders.Facts.{Arrives}
 use Rattle.ace_model.proofs.Holders.RestsOn.{accepted_keeps_each}
 use Rattle.ace_model.proofs.Holders.Law.{accepted_holds}
 use Rattle.ace_model.proofs.Trace.LineOnce.{one_on_line}
@@ -22,16 +21,13 @@ use Rattle.ace_model.proofs.Tables.StartStates.{read_starts, write_starts}
 module _ (h : Header) (past : Trace) where
   -- The read of the port on the line that the event ends by its RK.
   pub record Raised (e : Event) (p l : ℕ) : Type 0 where
-    pub read_one : Transaction
-    pub id : ℕ
-    pub out : outstanding h past p Read id ≡ Some read_one
-    pub on : is_on read_one l ≡ true
-    pub ends_it : ended h past e ≡ Some read_one
-    pub arrives : Arrives h past p id read_one
     pub port : ℕ
     pub st : LineState
     pub is : e ≡ Rk port st
     pub named : is_named_by_rk past port p l ≡ true
+    pub line : EndsLine h past port st p l
+    pub open line use {one as read_one, id, out, on, arrives}
+    pub ends_it : ended h past e ≡ Some read_one
 
   pub ends_of : (q : ℕ) (st : LineState) → IsAccepted h (Rk q st ∷ past) → Ends h past q
   ends_of q st a =
@@ -43,18 +39,7 @@ module _ (h : Header) (past : Trace) where
   raised : (q : ℕ) (st : LineState) → IsAccepted h (Rk q st ∷ past) → (p l : ℕ) → is_named_by_rk past q p l ≡ true → Raised (Rk q st) p l
   raised q st a p l t =
       let d = ends_line_of q st a p l t in
-      record {
-        read_one = d.one;
-        id = d.id;
-        out = d.out;
-        on = d.on;
-        ends_it = d.ends_it;
-        arrives = d.arrives;
-        port = q;
-        st = st;
-        is = refl;
-        named = t;
-      }
+      record { port = q; st = st; is = refl; named = t; line = d; ends_it = d.ends_it }
 
   -- an event lessens the port's state of the line, or is the RK of its read
   pub state_moves : (e : Event) → IsAccepted h (e ∷ past) → (p l : ℕ)

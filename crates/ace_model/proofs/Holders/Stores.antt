@@ -82,7 +82,7 @@ module _ (h : Header) (past : Trace) (q addr : ℕ) where
               ]
         ]
 
-    pub one_dirty_d : OneHolder h past → OneDirtyNow h (D q addr strobe x line ∷ past)
+    one_dirty_d : OneHolder h past → OneDirtyNow h (D q addr strobe x line ∷ past)
     one_dirty_d f l a b da db =
         elim (cases_Bool (is_named_by_d h past q addr a l)) [
           | inl t ↦ alone_d f.unique l a b t db

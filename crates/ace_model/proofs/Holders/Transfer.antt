@@ -1,5 +1,5 @@
 -- R: a transfer of a read.
-use Rattle.std.proofs.Common.{◌≡◌, ◌⊎◌, ◌==◌, ℕ, ◌+◌, ◌<◌, ◌≤◌, Bool, true, false, ◌&&◌, nat_eq, nat_lt, ◌∷◌, Some, None, length, slice_get, refl, sym, ap, subst, ◌∙◌, arith, inl, inr}
+use Rattle.std.proofs.Common.{◌≡◌, ◌⊎◌, ◌==◌, ℕ, ◌+◌, ◌<◌, ◌≤◌, Bool, true, false, ◌&&◌, nat_eq, nat_lt, ◌∷◌, Some, None, length, slice_get, refl, sym, ap, ◌∙◌, arith, inl, inr}
 use Rattle.std.proofs.Math.Bool.{and-false}
 use Rattle.std.proofs.lemmas.Bool.{and_parts, and_from, cases_Bool, cases_eq, eqb-true, eq-eqb, ne_eqb, ltb-true}
 use Rattle.ace_model.proofs.Terms.{ArKind, Header, Channel, Read, R, Transaction, Trace, implies, is_some_and, beats_of, is_ace, read_kind, is_line, ended, transaction_of}
@@ -99,8 +99,7 @@ module _ (h : Header) (past : Trace) where
       -- the read of the transfer did not wait in the queue
       not_queued : (p n i : ℕ) → is_ace h p ≡ true → acknowledgements past p Read ≤ n → slice_get (completed past p Read) n ≡ Some i → p ≡ q → j ≡ i → ⊥
       not_queued p n i ace low e pq ji =
-          let waits : ℕ → ℕ → Type 0 = λ a b. (x : Transaction) × (outstanding h past a Read b ≡ Some x) × (is_some_and (read_kind x) (λ k. transfers past a b == beats_of k) ≡ true) in
-          let base = subst (λ a. waits a j) pq (subst (λ b. waits p b) (sym ji) (f.queue p n i ace low e)) in
+          let base = rw (pq, ← ji) at (f.queue p n i ace low e) in
           let one : base.0 ≡ m.one = Some-injective base.0 m.one (sym base.1 ∙ m.out) in
           let whole : (transfers past q j == beats_of m.kind) ≡ true = rw (one, m.is_kind) at base.2 in
           let few = m.few in
@@ -123,14 +122,11 @@ module _ (h : Header) (past : Trace) where
                   ],
                 )
             | inr new ↦
-                let waits : ℕ → ℕ → Type 0 = λ a b. (x : Transaction) × (outstanding h (R q j resp last word ∷ past) a Read b ≡ Some x)
-                × (is_some_and (read_kind x) (λ k. transfers (R q j resp last word ∷ past) a b == beats_of k) ≡ true) in
                 let more : transfers (R q j resp last word ∷ past) q j ≡ transfers past q j + 1 = rw own_name (refl {a = transfers past q j + 1}) in
                 let whole : (transfers (R q j resp last word ∷ past) q j == beats_of m.kind) ≡ true =
                 eq-eqb (transfers (R q j resp last word ∷ past) q j) (beats_of m.kind) (more ∙ m.ends new.is_last) in
-                let out = stays_r q j m.one (subst (λ a. is_ace h a ≡ true) new.same_port ace) m.out in
-                subst (λ a. waits a i) (sym new.same_port) (subst (λ b. waits q b) new.same_id
-                (m.one, out, rw m.is_kind whole))
+                let out = stays_r q j m.one (rw new.same_port at ace) m.out in
+                rw (new.same_port, ← new.same_id) (m.one, out, rw m.is_kind whole)
           ]
 
       distinct_r : QueueDistinct h (R q j resp last word ∷ past)

@@ -1,8 +1,8 @@
 -- B and WK: a write is answered, and ends. A write is no read, and by its end its port holds no more than before.
-use Rattle.std.proofs.Common.{◌≡◌, ◌≤◌, ◌==◌, ℕ, ◌&&◌, nat_eq, ◌∷◌, Option, Some, true, false, slice_get, refl, sym, ap, ◌∙◌, inl, inr}
+use Rattle.std.proofs.Common.{◌≡◌, ◌≤◌, ℕ, ◌&&◌, nat_eq, ◌∷◌, Option, Some, true, false, slice_get, refl, sym, ap, ◌∙◌, inl, inr}
 use Rattle.std.proofs.lemmas.Bool.{and_parts, or_cases, eqb-true}
-use Rattle.ace_model.proofs.Terms.{AwKind, LineState, Header, Read, Write, B, Wk, ends_write, Transaction, Trace, is_some_and, beats_of, is_line_read, is_line_write, is_ace, is_read, read_kind, write_kind}
-use Rattle.ace_model.proofs.Terms.{is_line, is_on, is_some_on, transaction_of, acknowledged, acknowledgements, completed, transfers, ended, outstanding, without, state_of, held_of, k28, ends_write_well}
+use Rattle.ace_model.proofs.Terms.{AwKind, LineState, Header, Read, Write, B, Wk, ends_write, Transaction, Trace, is_some_and, is_line_read, is_line_write, is_ace, is_read, read_kind, write_kind}
+use Rattle.ace_model.proofs.Terms.{is_line, is_on, is_some_on, transaction_of, acknowledged, acknowledgements, completed, ended, outstanding, without, state_of, held_of, k28, ends_write_well}
 use Rattle.ace_model.proofs.Trace.Looks.{has_name-is, without-other}
 use Rattle.ace_model.proofs.Trace.Issued.{outstanding-named, transaction_of-stands}
 use Rattle.ace_model.proofs.Trace.Outstanding.{write_apart, acknowledged_is, ends_lite_write}
@@ -11,6 +11,7 @@ use Rattle.ace_model.proofs.Tables.Less.{Less, less_where, less-lessens, less-cl
 use Rattle.ace_model.proofs.General.Options.{is_some_and-is, is_none_or-at}
 use Rattle.ace_model.proofs.Holders.Facts.{OneHolder}
 use Rattle.ace_model.proofs.Holders.Kept.{LessenedAt, standing, arrive_kept, held_kept, one_dirty_kept}
+use Rattle.ace_model.proofs.Trace.Transfers.{IsFull}
 
 -- a write of a line has a kind
 line_write : (y : Transaction) → y.chan ≡ Write → is_line y ≡ true → (k : AwKind) × (write_kind y ≡ Some k)
@@ -39,8 +40,7 @@ module _ (h : Header) (past : Trace) (q : ℕ) where
     -- the end of a write leaves the reads that wait
     waits_still : (y : Option Transaction) → ((z : Transaction) → y ≡ Some z → (j : ℕ) × (transaction_of past q Write j ≡ Some z))
         → (p n i : ℕ) → is_ace h p ≡ true → acknowledgements past p Read ≤ n → slice_get (completed past p Read) n ≡ Some i
-        → (x : Transaction) × (without y (outstanding h past p Read i) ≡ Some x)
-        × (is_some_and (read_kind x) (λ k. transfers past p i == beats_of k) ≡ true)
+        → (x : Transaction) × (without y (outstanding h past p Read i) ≡ Some x) × IsFull past p i x
     waits_still y writes p n i ace low e =
         let s = f.queue p n i ace low e in (
           s.0,

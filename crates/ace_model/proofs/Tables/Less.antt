@@ -47,8 +47,3 @@ pub settled_clean : (st : LineState) → is_settled st ≡ true → is_dirty st 
 settled_clean I s = refl
 settled_clean SC s = refl
 settled_clean st s = cc
-
--- the state that the port holds of a line
-pub held_on : (line : Bool) (s : LineState) → line ≡ true → (if line then s else I) ≡ s
-held_on true s e = refl
-held_on false s e = cc

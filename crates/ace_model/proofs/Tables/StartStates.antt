@@ -4,21 +4,14 @@ use Rattle.ace_model.proofs.Terms.{ArKind, AwKind, LineState, I, starts_read, st
 use Rattle.ace_codes.specs.declared.kind.ArKind.TheVariants as read
 use Rattle.ace_codes.specs.declared.kind.AwKind.TheVariants as write
 
-pub only_invalid : (st : LineState) → is_among st (I ∷ []) ≡ true → st ≡ I
+only_invalid : (st : LineState) → is_among st (I ∷ []) ≡ true → st ≡ I
 only_invalid I e = refl
 only_invalid st e = cc
 
 pub read_starts : (k : ArKind) (st : LineState) → reads_a_line k ≡ true → starts_read k st ≡ true → st ≡ I
-read_starts read.ReadNoSnoop st r s = only_invalid st s
-read_starts read.ReadOnce st r s = only_invalid st s
-read_starts read.ReadShared st r s = only_invalid st s
-read_starts read.ReadClean st r s = only_invalid st s
-read_starts read.ReadNotSharedDirty st r s = only_invalid st s
-read_starts read.ReadUnique st r s = only_invalid st s
-read_starts k st r s = cc
+read_starts read.Barrier st r s = cc
+read_starts k st r s = first_of (cc, search only_invalid)
 
 pub write_starts : (k : AwKind) (st : LineState) → is_granted_write k ≡ true → starts_write k st ≡ true → st ≡ I
-write_starts write.WriteNoSnoop st r s = only_invalid st s
-write_starts write.WriteUnique st r s = only_invalid st s
-write_starts write.WriteLineUnique st r s = only_invalid st s
-write_starts k st r s = cc
+write_starts write.Barrier st r s = cc
+write_starts k st r s = first_of (cc, search only_invalid)

@@ -1,5 +1,5 @@
 -- A trace that grows: what is in it stays, and what it has had it keeps.
-use Rattle.std.proofs.Common.{Option, None, ◌≡◌, ◌⊎◌, ℕ, zero, suc, ◌-◌, ◌<◌, ◌≤◌, Bool, true, false, not, ◌&&◌, nat_eq, List, [], ◌∷◌, ◌++◌, length, drop, Some, slice_get, refl, sym, ◌∙◌, arith, inl, inr, length-append}
+use Rattle.std.proofs.Common.{◌≡◌, ◌⊎◌, ℕ, zero, suc, ◌-◌, ◌<◌, ◌≤◌, Bool, true, false, not, ◌&&◌, nat_eq, List, [], ◌∷◌, ◌++◌, length, drop, Some, slice_get, refl, sym, ◌∙◌, arith, inl, inr, length-append}
 use Rattle.std.proofs.lemmas.Bool.{or_cases, or_left, or_right, cases_Bool, cases_eq, eq-eqb, ne_eqb}
 use Rattle.ace_model.proofs.Terms.{Event, Cr, answers, Channel, Header, Transaction, Trace, at_point, is_some_and, issued, is_transaction, some_issued, transaction_of, transactions, served_by, has_had}
 use Rattle.ace_model.proofs.Terms.{each_issued, IsAccepted}
@@ -151,10 +151,8 @@ pub some_issued-weaker : (past : Trace) (test weaker : Transaction → Bool) →
 some_issued-weaker [] test weaker w e = cc
 some_issued-weaker (e ∷ past) test weaker w some =
     elim (or_cases (is_some_and (issued (length past) e) test) (some_issued past test) some) [
-      | inl now ↦ rw (new (issued (length past) e) now) refl
+      | inl now ↦
+          let new = is_some_and-is (issued (length past) e) test now in
+          or_left (is_some_and (issued (length past) e) weaker) (some_issued past weaker) (rw new.1 (w new.0 new.2))
       | inr old ↦ or_right (is_some_and (issued (length past) e) weaker) (some_issued past weaker) (some_issued-weaker past test weaker w old)
     ]
-  where
-    new : (o : Option Transaction) → is_some_and o test ≡ true → is_some_and o weaker ≡ true
-    new None t = cc
-    new (Some x) t = w x t

@@ -2,7 +2,7 @@
 use Rattle.std.proofs.Common.{◌≡◌, ◌≢◌, ◌⊎◌, ℕ, true, false, ◌&&◌, nat_eq, Option, Some, None, refl, sym, ap, subst, ◌∙◌, inl, inr}
 use Rattle.std.proofs.lemmas.Bool.{and_parts, and_from, cases_Bool, eqb-true, eq-eqb}
 use Rattle.ace_model.proofs.Terms.{Channel, Read, Write, Transaction, is_read, same_channel, has_name, is_named, is_on, is_line, is_some_on, newest_named, without, newest_on, ArKind, SnoopKind, Header, Trace, read_kind, write_kind, snoop_of, has_failed, are_snoops_done, each_port, is_port_done}
-use Rattle.ace_model.proofs.General.Options.{Some-injective}
+use Rattle.ace_model.proofs.General.Options.{some_or-cases, Some-injective}
 
 pub is_read-is : (c : Channel) → is_read c ≡ true → c ≡ Read
 is_read-is Read e = refl
@@ -41,11 +41,7 @@ pub newest_named-cases : (new : Option Transaction) (p : ℕ) (c : Channel) (i :
     → newest_named new p c i older ≡ Some x
     → ((new ≡ Some x) × (has_name x p c i ≡ true)) ⊎ ((older ≡ Some x) × (is_named new p c i ≡ false))
 newest_named-cases None p c i older x e = inr (e, refl)
-newest_named-cases (Some y) p c i older x e =
-    elim (cases_Bool (has_name y p c i)) [
-      | inl t ↦ let same : Some y ≡ Some x = rw t at e in inl (same, subst (λ (z : Transaction). has_name z p c i ≡ true) (Some-injective y x same) t)
-      | inr f ↦ inr (rw f at e, f)
-    ]
+newest_named-cases (Some y) p c i older x e = some_or-cases (λ z. has_name z p c i) y older x e
 
 pub newest_named-first : (new : Option Transaction) (p : ℕ) (c : Channel) (i : ℕ) (older : Option Transaction) (x : Transaction)
     → new ≡ Some x → has_name x p c i ≡ true → newest_named new p c i older ≡ Some x
@@ -69,21 +65,10 @@ without-some (Some y) (Some w) x e =
           let same : Some w ≡ Some x = rw f at e in (
             same,
             λ z is eq.
-                let yz : y ≡ z = Some-injective y z is in
-                let wx : w ≡ x = Some-injective w x same in
-                let t : nat_eq w.place y.place ≡ true = eq-eqb w.place y.place (ap (λ (v : Transaction). v.place) wx ∙ sym eq ∙ ap (λ (v : Transaction). v.place) (sym yz)) in
+                let apart : nat_eq x.place z.place ≡ false = rw (Some-injective w x same, Some-injective y z is) at f in
+                let t = eq-eqb x.place z.place (sym eq) in
                 cc,
           )
-    ]
-
--- a transaction at another place than the one that ends stays
-pub without-other : (y o : Option Transaction) (x : Transaction) → o ≡ Some x → ((z : Transaction) → y ≡ Some z → z.place ≢ x.place) → without y o ≡ Some x
-without-other None o x e other = e
-without-other (Some y) None x e other = cc
-without-other (Some y) (Some w) x e other =
-    elim (cases_Bool (nat_eq w.place y.place)) [
-      | inl t ↦ absurd (other y refl (sym (eqb-true w.place y.place t) ∙ ap (λ (v : Transaction). v.place) (Some-injective w x e)))
-      | inr f ↦ rw f e
     ]
 
 -- what was there is there still, or is what ends
@@ -97,16 +82,20 @@ without-cases (Some z) (Some w) x e =
       | inr f ↦ inl (rw f e)
     ]
 
+-- a transaction at another place than the one that ends stays
+pub without-other : (y o : Option Transaction) (x : Transaction) → o ≡ Some x → ((z : Transaction) → y ≡ Some z → z.place ≢ x.place) → without y o ≡ Some x
+without-other y o x e other =
+    elim (without-cases y o x e) [
+      | inl stays ↦ stays
+      | inr ends ↦ absurd (other ends.0 ends.1 ends.2)
+    ]
+
 -- the newest on a line is the first one, on the line, or else the older one
 pub newest_on-cases : (new : Option Transaction) (l : ℕ) (older : Option Transaction) (x : Transaction)
     → newest_on new l older ≡ Some x
     → ((new ≡ Some x) × (is_on x l ≡ true)) ⊎ ((older ≡ Some x) × (is_some_on new l ≡ false))
 newest_on-cases None l older x e = inr (e, refl)
-newest_on-cases (Some y) l older x e =
-    elim (cases_Bool (is_on y l)) [
-      | inl t ↦ let same : Some y ≡ Some x = rw t at e in inl (same, subst (λ (z : Transaction). is_on z l ≡ true) (Some-injective y x same) t)
-      | inr f ↦ inr (rw f at e, f)
-    ]
+newest_on-cases (Some y) l older x e = some_or-cases (λ z. is_on z l) y older x e
 
 pub newest_on-older : (new : Option Transaction) (l : ℕ) (older : Option Transaction) → is_some_on new l ≡ false → newest_on new l older ≡ older
 newest_on-older None l older f = refl

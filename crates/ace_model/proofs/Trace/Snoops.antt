@@ -5,7 +5,7 @@ use Rattle.ace_model.proofs.General.Lists.{slice_get-more}
 use Rattle.ace_model.proofs.General.Options.{some_if-is}
 
 -- a snoop knows how many events came before it
-pub snoop_at-place : (n : ℕ) (e : Event) (r : ℕ) (s : Snoop) → snoop_at n e r ≡ Some s → s.place ≡ n
+snoop_at-place : (n : ℕ) (e : Event) (r : ℕ) (s : Snoop) → snoop_at n e r ≡ Some s → s.place ≡ n
 snoop_at-place n (Ac q addr code) r s is = ap (λ (v : Snoop). v.place) (sym (some_if-is (nat_eq r q) _ s is).1)
 snoop_at-place n e r s is = cc
 

@@ -1,5 +1,5 @@
 -- The complete writes of a port that wait for their WK: they are outstanding, each once, and those with data have written memory.
-use Rattle.std.proofs.Common.{◌≡◌, ◌⊎◌, ℕ, ◌+◌, ◌≤◌, true, false, not, nat_eq, nat_lt, [], ◌∷◌, length, Option, Some, None, is_none, slice_get, le_refl, refl, sym, ap, subst, ◌∙◌, arith, inl, inr}
+use Rattle.std.proofs.Common.{◌≡◌, ◌⊎◌, ℕ, ◌+◌, ◌≤◌, true, false, not, nat_eq, nat_lt, [], ◌∷◌, length, Option, Some, None, is_none, slice_get, le_refl, refl, sym, ap, ◌∙◌, arith, inl, inr}
 use Rattle.std.proofs.lemmas.Bool.{and_parts, or_cases, or_right, not-true, cases_Bool, eqb-true, eq-eqb}
 use Rattle.ace_model.proofs.Terms.{LineState, Channel, Read, Write, without, Event, Ar, R, Rk, Aw, B, Wk, Header, Transaction, Trace, is_some_and, has_write_data, is_ace, is_named, issued, ended}
 use Rattle.ace_model.proofs.Terms.{write_kind, transaction_of, outstanding, completed, completes, acknowledgements, acknowledged, is_completion, is_complete, is_memory_write, has_memory_write, may_respond}
@@ -97,10 +97,7 @@ module _ (h : Header) (past : Trace) where
       | inl old ↦
           let w = f.stands n i low old in
           (w.0, waiting_b q j resp p i w.0 ace w.1, or_right (is_completion (B q j resp) p Write i) (is_complete past p Write i) w.2)
-      | inr new ↦
-          subst (λ a. IsWaiting h (B q j resp ∷ past) a i) (sym new.same_port)
-          (subst (λ b. IsWaiting h (B q j resp ∷ past) q b) new.same_id
-          (m.one, waiting_b q j resp q j m.one (subst (λ a. is_ace h a ≡ true) new.same_port ace) m.out, done))
+      | inr new ↦ rw (new.same_port, ← new.same_id) (m.one, waiting_b q j resp q j m.one (rw (← new.same_port) ace) m.out, done)
     ];
     distinct = λ m' n i low_m low_n em en. elim (entry_b q j resp p m' i em) [
       | inl old_m ↦ elim (entry_b q j resp p n i en) [
@@ -120,27 +117,20 @@ module _ (h : Header) (past : Trace) where
   queue_wk : (q : ℕ) (st : LineState) (p : ℕ) → WriteQueue h past p → WriteQueue h (Wk q st ∷ past) p
   queue_wk q st p f = record {
     stands = λ n i low e.
-        let w = f.stands n i (below n low) e in (
-          w.0,
-          without-other (acknowledged past q Write) (outstanding h past p Write i) w.0 w.1 (λ z is same. absurd (waits_once n i low e w.0 w.1 z is same)),
-          w.2,
-        );
+        let w = f.stands n i (below n low) e in
+        let stays = without-other (acknowledged past q Write) (outstanding h past p Write i) w.0 w.1 (λ z is same.
+        let a = acknowledged_is past q Write z is in
+        let name = one_name past q p Write Write a.id i z w.0 a.named (outstanding-named h past p Write i w.0 w.1) same in
+        let next : slice_get (completed past p Write) (acknowledgements past p Write) ≡ Some i = rw (← name.port) (a.next ∙ ap Some name.id) in
+        let at = f.distinct (acknowledgements past p Write) n i (le_refl (acknowledgements past p Write)) (below n low) next e in
+        let above : acknowledgements past p Write + 1 ≤ n = rw (eq-eqb p q (sym name.port)) at low in
+        absurd (omega arith)) in
+        (w.0, stays, w.2);
     distinct = λ m n i low_m low_n em en. f.distinct m n i (below m low_m) (below n low_n) em en;
   }
     where
       below : (n : ℕ) → acknowledgements (Wk q st ∷ past) p Write ≤ n → acknowledgements past p Write ≤ n
       below n low = above_count (nat_eq p q) (acknowledgements past p Write) n low
-
-      waits_once : (n i : ℕ) → acknowledgements (Wk q st ∷ past) p Write ≤ n → slice_get (completed past p Write) n ≡ Some i
-          → (x : Transaction) → outstanding h past p Write i ≡ Some x → (z : Transaction) → acknowledged past q Write ≡ Some z → z.place ≡ x.place → ⊥
-      waits_once n i low e x o z is same =
-          let a = acknowledged_is past q Write z is in
-          let name = one_name past q p Write Write a.id i z x a.named (outstanding-named h past p Write i x o) same in
-          let next : slice_get (completed past p Write) (acknowledgements past p Write) ≡ Some i =
-          subst (λ b. slice_get (completed past b Write) (acknowledgements past b Write) ≡ Some i) name.port (a.next ∙ ap Some name.id) in
-          let at = f.distinct (acknowledgements past p Write) n i (le_refl (acknowledgements past p Write)) (below n low) next e in
-          let above : acknowledgements past p Write + 1 ≤ n = rw (eq-eqb p q (sym name.port)) at low in
-          omega arith
 
   -- an event that neither adds to the queue nor takes from it, after which each that waits still does
   kept : (e : Event) (p : ℕ) → WriteQueue h past p → ((i : ℕ) → IsWaiting h past p i → IsWaiting h (e ∷ past) p i)

@@ -11,8 +11,9 @@ use Rattle.ace_model.proofs.Holders.Rises.{state_moves, stays_empty}
 use Rattle.ace_model.proofs.Grants.Begins.{may_of}
 use Rattle.ace_model.proofs.Values.MergedLines.{merged-same}
 use Rattle.ace_model.proofs.Values.Stores.{stores_d, value_moves, all_empty}
-use Rattle.ace_model.proofs.Values.FullReads.{full_some, full_count}
-use Rattle.ace_model.proofs.Values.Ended.{read_ends}
+use Rattle.ace_model.proofs.Values.FullReads.{full_count}
+use Rattle.ace_model.proofs.Trace.Transfers.{full_some}
+use Rattle.ace_model.proofs.Holders.Rises.{ends_line_of}
 use Rattle.ace_model.proofs.Values.Facts.{DirtyPlaced}
 use Rattle.ace_model.proofs.Holders.Law.{accepted_holds}
 use Rattle.ace_model.proofs.General.Options.{is_some_and-is}
@@ -64,7 +65,7 @@ module _ (h : Header) (past : Trace) where
       elim (cases_Bool (is_invalid (state_of h past p l))) [
         | inr was ↦ f.copies l p (invalid_not (state_of h past p l) was)
         | inl gone ↦
-            let r = read_ends h past q st a p l t in
+            let r = ends_line_of h past q st a p l t in
             elim (r.state.gains gone (valid_not st held)) [
               | inl fetch ↦
                   (f.fetches p r.id l r.one r.kind r.out r.on r.is_kind fetch (full_some past p r.id r.one r.full)).whole

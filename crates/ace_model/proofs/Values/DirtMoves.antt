@@ -10,7 +10,8 @@ use Rattle.ace_model.proofs.Holders.Rises.{stays_empty}
 use Rattle.ace_model.proofs.Tables.SnoopRows.{silent_dirty}
 use Rattle.ace_model.proofs.Grants.SnoopAnswers.{Answering, answering_cr}
 use Rattle.ace_model.proofs.Values.UpdateHolds.{stays_clean, moves_silently}
-use Rattle.ace_model.proofs.Values.Ended.{read_ends, write_ends}
+use Rattle.ace_model.proofs.Values.Ended.{write_ends}
+use Rattle.ace_model.proofs.Holders.Rises.{ends_line_of}
 use Rattle.ace_model.proofs.Values.Facts.{Updated, UpdatedTrue}
 use Rattle.ace_model.proofs.General.Options.{is_some_and-is}
 use Rattle.ace_model.proofs.Tables.States.{dirty_valid}
@@ -56,7 +57,7 @@ module _ (h : Header) (past : Trace) where
       elim (cases_Bool (is_named_by_rk past q p l)) [
         | inr other ↦ inl (rw other d)
         | inl t ↦
-            let r = read_ends h past q st a p l t in
+            let r = ends_line_of h past q st a p l t in
             inl (rw t (r.state.keeps_dirt (or_left _ (is_make_unique r.kind) (or_right _ (is_dirty (state_of h past p l)) d))))
       ]
   dirt_moves (Wk q st) a f p l d =

@@ -1,5 +1,5 @@
 -- The transfers of a read: what an event adds to them, and that a read which is complete has had them all.
-use Rattle.std.proofs.Common.{◌≡◌, ◌≢◌, ◌⊎◌, ◌==◌, ℕ, ◌+◌, Bool, true, false, not, ◌&&◌, nat_eq, [], ◌∷◌, length, Some, refl, sym, ap, subst, ◌∙◌, arith, inl, inr, length-append}
+use Rattle.std.proofs.Common.{◌≡◌, ◌⊎◌, ◌==◌, ℕ, ◌+◌, Bool, true, false, not, ◌&&◌, nat_eq, [], ◌∷◌, length, Some, refl, sym, ap, subst, ◌∙◌, arith, inl, inr, length-append}
 use Rattle.std.proofs.lemmas.Bool.{and_parts, or_cases, cases_Bool, eqb-true, eq-eqb}
 use Rattle.ace_model.proofs.Terms.{Read, Write, Event, Ar, Aw, R, Header, Transaction, Trace, is_some_and, beats_of, has_name, is_named, read_kind, issued, transfers, first_resp, ArKind}
 use Rattle.ace_model.proofs.Terms.{outstanding, is_completion, is_complete, words_read, IsAccepted}
@@ -8,8 +8,8 @@ use Rattle.ace_model.proofs.Trace.Issued.{outstanding-origin}
 use Rattle.ace_model.proofs.Trace.WriteQueue.{issue_completes}
 use Rattle.ace_model.proofs.Trace.Outstanding.{named_read}
 use Rattle.ace_model.proofs.Grants.Begins.{may_of}
-use Rattle.ace_model.proofs.General.Options.{Some-injective, is_some_and-is}
-use Rattle.ace_model.proofs.Tables.Kinds.{beats_some}
+use Rattle.ace_model.proofs.General.Options.{Some-injective}
+use Rattle.ace_model.proofs.Trace.Transfers.{IsFull}
 
 -- The event is a transfer under the name.
 pub record Transfer (e : Event) (p i : ℕ) : Type 0 where
@@ -63,18 +63,9 @@ words-length (R q j resp last word ∷ past) p i =
     ]
 words-length (_ ∷ past) p i = words-length past p i
 
--- it has had all its transfers
-abbrev pub IsFull : Trace → ℕ → ℕ → Transaction → Type 0
-IsFull past p i x = is_some_and (read_kind x) (λ k. transfers past p i == beats_of k) ≡ true
-
+-- a full read has had as many as its kind has
 pub full_count : (past : Trace) (p i : ℕ) (x : Transaction) (k : ArKind) → IsFull past p i x → read_kind x ≡ Some k → transfers past p i ≡ beats_of k
 full_count past p i x k full kind = eqb-true (transfers past p i) (beats_of k) (rw kind at full)
-
--- a full read has had a transfer
-pub full_some : (past : Trace) (p i : ℕ) (x : Transaction) → IsFull past p i x → transfers past p i ≢ 0
-full_some past p i x full =
-    let k = is_some_and-is (read_kind x) (λ k. transfers past p i == beats_of k) full in
-    λ z. beats_some k.0 (sym (eqb-true (transfers past p i) (beats_of k.0) k.2) ∙ z)
 
 module _ (h : Header) where
   -- the last transfer makes a read full

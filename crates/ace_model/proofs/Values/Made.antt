@@ -10,7 +10,8 @@ use Rattle.ace_model.proofs.Rules.Keeps.{accepted_keeps}
 use Rattle.ace_model.proofs.Trace.LineOnce.{one_on_line}
 use Rattle.ace_model.proofs.Values.MergedLines.{merged-same}
 use Rattle.ace_model.proofs.Values.Stores.{Made, stores_d, Awaits, awaits_store-is}
-use Rattle.ace_model.proofs.Values.FullReads.{done_read, full_some}
+use Rattle.ace_model.proofs.Values.FullReads.{done_read}
+use Rattle.ace_model.proofs.Trace.Transfers.{full_some}
 use Rattle.ace_model.proofs.Values.Copies.{copy_moves}
 use Rattle.ace_model.proofs.Tables.States.{unique_valid}
 use Rattle.ace_model.proofs.Values.Stays.{value_stays, busy, none_may_store, read_no_write}

@@ -16,9 +16,10 @@ use Rattle.ace_model.proofs.Trace.WriteQueue.{EndsWrite, ends_write_of, ends_lit
 use Rattle.ace_model.proofs.Tables.SnoopRows.{is_make_invalid, dirty_stays}
 use Rattle.ace_model.proofs.Grants.SnoopAnswers.{Answering}
 use Rattle.ace_model.proofs.Grants.Answers.{others_settled}
-use Rattle.ace_model.proofs.Values.FullReads.{full_some}
 use Rattle.ace_model.proofs.Grants.Begins.{line_due}
-use Rattle.ace_model.proofs.Values.Ended.{ReadEnded, read_ends}
+use Rattle.ace_model.proofs.Trace.Transfers.{full_some}
+use Rattle.ace_model.proofs.Holders.Rises.{ends_line_of}
+use Rattle.ace_model.proofs.Holders.Acknowledge.{EndsLine}
 use Rattle.ace_model.proofs.Trace.Looks.{read_writes_none, is_on-addr}
 use Rattle.ace_model.proofs.Values.Fetches.{ace_read}
 use Rattle.ace_model.proofs.Grants.Granted.{granted_given, granted_write, written_cases, has_passed}
@@ -57,7 +58,7 @@ invalid_replaces x k causes m =
 module _ (h : Header) (past : Trace) where
   -- The read of a granted line that an RK ends.
   record EndsGranted (q : ℕ) (st : LineState) (l : ℕ) (x : Transaction) : Type 0 where
-    r : ReadEnded h past q st q l
+    r : EndsLine h past q st q l
     same : r.one ≡ x
     after : state_of h (Rk q st ∷ past) q l ≡ st
 
@@ -69,7 +70,7 @@ module _ (h : Header) (past : Trace) where
       let one : z ≡ x = same_place past q x.port Read x.chan n.id x.id z x n.named (outstanding-named h past x.port x.chan x.id x o.0) same in
       let on : is_some_on (acknowledged past q Read) l ≡ true = rw (is, one) o.1 in
       let t : is_named_by_rk past q q l ≡ true = and_from _ _ (eq-eqb q q refl) on in
-      let r = read_ends h past q st a q l t in
+      let r = ends_line_of h past q st a q l t in
       record { r = r; same = Some-injective r.one x (sym r.ends_it ∙ is ∙ ap Some one); after = rw t refl }
 
   -- a granted write ends with memory the value

@@ -14,7 +14,8 @@ use Rattle.ace_model.proofs.Rules.Keeps.{accepted_keeps}
 use Rattle.ace_model.proofs.Holders.Facts.{OthersInvalid}
 use Rattle.ace_model.proofs.Trace.LineOnce.{outstanding_is}
 use Rattle.ace_model.proofs.Trace.Outstanding.{outstanding_own}
-use Rattle.ace_model.proofs.Values.FullReads.{full_some, done_read}
+use Rattle.ace_model.proofs.Values.FullReads.{done_read}
+use Rattle.ace_model.proofs.Trace.Transfers.{full_some}
 use Rattle.ace_model.proofs.Tables.Kinds.{make_unique_is, granted_stores, granted_apart, unique_write_snoops}
 use Rattle.ace_model.proofs.Grants.Granted.{granted_at, data_may}
 use Rattle.ace_model.proofs.Holders.Law.{accepted_holds}

@@ -19,7 +19,8 @@ use Rattle.ace_model.proofs.Tables.SnoopRows.{beside_update, dirty_stays, silent
 use Rattle.ace_model.proofs.Grants.SnoopAnswers.{Answering, answering_cr}
 use Rattle.ace_model.proofs.General.Options.{is_some_and-is, is_none_or-at}
 use Rattle.ace_model.proofs.General.Booleans.{implies-at}
-use Rattle.ace_model.proofs.Values.Ended.{read_ends, write_ends}
+use Rattle.ace_model.proofs.Values.Ended.{write_ends}
+use Rattle.ace_model.proofs.Holders.Rises.{ends_line_of}
 
 -- an outstanding update is found on its line
 pub update_found : (h : Header) (past : Trace) (p : ℕ) (c : Channel) (i l : ℕ) (x : Transaction)
@@ -78,7 +79,7 @@ module _ (h : Header) (past : Trace) where
       → HoldsLine x (state_of h past p l) → HoldsLine x (state_of h (e ∷ past) p l)
   holds_step (Rk q st) a p i l x o on updates lasts f =
       where_named x (is_named_by_rk past q p l) (state_of h past p l) st f (λ t.
-      let r = read_ends h past q st a p l t in
+      let r = ends_line_of h past q st a p l t in
       absurd (lasts r.one r.ends_it (ap (λ (y : Transaction). y.place) (one_on_line h past a.0 p Read Write r.id i l r.one x r.out o r.on on))))
   holds_step (Wk q st) a p i l x o on updates lasts f =
       where_named x (nat_eq p q && is_some_on (acknowledged past p Write) l) (state_of h past p l) st f (λ t.
