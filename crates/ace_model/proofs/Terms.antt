@@ -9,7 +9,7 @@ pub use Rattle.ace_codes.specs.declared.kind.SnoopKind.{SnoopKind}
 pub use Rattle.ace_codes.specs.declared.state.LineState.{LineState}
 pub use Rattle.ace_codes.specs.declared.state.LineState.TheVariants.{I, SC, SD, UC, UD}
 unfoldable pub use Rattle.ace_event.specs.Bytes.{merged, number_of_bytes}
-pub use Rattle.ace_event.specs.Range.{InRange, IsDigit, IsLine, IsWord}
+pub use Rattle.ace_event.specs.Range.{FitsFields, IsDigit, IsLine, IsWord}
 pub use Rattle.ace_event.specs.declared.event.Channel.{Channel}
 pub use Rattle.ace_event.specs.declared.event.Channel.TheVariants.{Read, Write}
 pub use Rattle.ace_event.specs.declared.event.Event.{Event}
