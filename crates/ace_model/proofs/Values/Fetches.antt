@@ -1,5 +1,5 @@
 -- A read that keeps the line receives its value.
-use Rattle.std.proofs.Common.{◌==◌, ◌≡◌, ◌≢◌, ◌==◌, ℕ, ◌+◌, Bool, true, false, ◌&&◌, nat_eq, [], ◌∷◌, ◌++◌, length, Some, None, slice_get, refl, sym, ap, subst, ◌∙◌, arith, inl, inr}
+use Rattle.std.proofs.Common.{◌≡◌, ◌≢◌, ◌==◌, ℕ, ◌+◌, Bool, true, false, ◌&&◌, nat_eq, [], ◌∷◌, ◌++◌, length, Some, None, slice_get, refl, sym, ap, subst, ◌∙◌, arith, inl, inr}
 use Rattle.std.proofs.lemmas.Bool.{and_parts, and_from, or_cases, cases_eq, eqb-true, eq-eqb, ne_eqb}
 use Rattle.ace_model.proofs.Terms.{ArKind, ar_kind_of, Event, Ar, R, Aw, Read, Header, is_fetch, is_unique, Transaction, Trace, is_lite_read}
 use Rattle.ace_model.proofs.Terms.{first_sender, memory_at_first_beat, reply_of, value_of, may_issue_read, has_word, IsAccepted}
