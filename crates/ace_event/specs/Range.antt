@@ -1,9 +1,9 @@
 -- Which numbers the fields of an event may have in a trace.
-use Rattle.std.specs.Prelude.{◌≡◌, ℕ, ◌<◌, ◌≤◌, ◌^◌, length, ⊤}
+use Rattle.std.specs.Prelude.{◌≡◌, ℕ, ◌<◌, ◌≤◌, ◌^◌, length, ⊤, ⊥}
 use Rattle.std.specs.List.{AllByRecursion}
 use Rattle.ace_event.specs.declared.line.Line.{Line}
 use Rattle.ace_event.specs.declared.event.Event.{Event}
-use Rattle.ace_event.specs.declared.event.Event.TheVariants.{Ar, R, Rk, Aw, W, B, Wk, Ac, Cr, Cd, G, M, S, L, D, Op}
+use Rattle.ace_event.specs.declared.event.Event.TheVariants.{Ar, R, Rk, Aw, W, B, Wk, Ac, Cr, Cd, G, M, S, L, D, Op, Mem}
 
 -- one hexadecimal digit
 abbrev pub IsDigit : ℕ → Type 0
@@ -30,10 +30,11 @@ FitsFields (Cd port last word) = IsWord word
 FitsFields (M port chan id line) = IsLine line
 FitsFields (L port addr w x word) = IsWord word
 FitsFields (D port addr strobe x line) = (strobe < 2 ^ 64) × IsLine line
+FitsFields (Mem addr line) = IsLine line
 FitsFields _ = ⊤
 
--- Each number has the digits of its field. Domains, barriers, word numbers and write responses are at most 3, a write
--- snoop at most 7, a snoop response at most 1f (hexadecimal).
+-- Each number has the digits of its field in a trace of version 1. Domains, barriers, word numbers and write responses are
+-- at most 3, a write snoop at most 7, a snoop response at most 1f (hexadecimal). MEM is no record of version 1.
 abbrev pub InRange : Event → Type 0
 InRange (Ar port id addr snoop dom bar lock) =
     IsDigit port × IsDigit id × IsAddress addr × IsDigit snoop × (dom ≤ 3) × (bar ≤ 3)
@@ -53,3 +54,4 @@ InRange (S port addr st) = IsDigit port × IsAddress addr
 InRange (L port addr w x word) = IsDigit port × IsAddress addr × (w ≤ 3) × IsWord word
 InRange (D port addr strobe x line) = IsDigit port × IsAddress addr × (strobe < 2 ^ 64) × IsLine line
 InRange (Op port k res) = IsDigit port × (k < 2 ^ 16)
+InRange (Mem addr line) = ⊥

@@ -11,7 +11,7 @@ use Rattle.ace_event.specs.declared.event.Channel.TheVariants.{Read, Write}
 use Rattle.ace_event.specs.declared.event.Outcome.{Outcome}
 use Rattle.ace_event.specs.declared.event.Outcome.TheVariants.{Ok, Skip, Fail}
 use Rattle.ace_event.specs.declared.event.Event.{Event}
-use Rattle.ace_event.specs.declared.event.Event.TheVariants.{Ar, R, Rk, Aw, W, B, Wk, Ac, Cr, Cd, G, M, S, L, D, Op}
+use Rattle.ace_event.specs.declared.event.Event.TheVariants.{Ar, R, Rk, Aw, W, B, Wk, Ac, Cr, Cd, G, M, S, L, D, Op, Mem}
 use Rattle.ace_event.specs.Ports.{port_letters}
 
 -- so many lower-case hexadecimal digits of a number, the most significant first
@@ -71,6 +71,7 @@ fields (L port addr w x word) =
 fields (D port addr strobe x line) =
     codes "D" ∷ hex_text 1 port ∷ hex_text 8 addr ∷ hex_text 16 strobe ∷ flag_text x ∷ line_digits line ∷ []
 fields (Op port k res) = codes "OP" ∷ hex_text 1 port ∷ hex_text 4 k ∷ outcome_text res ∷ []
+fields (Mem addr line) = codes "MEM" ∷ hex_text 8 addr ∷ line_digits line ∷ []
 
 -- The line of an event, without its line feed: one space stands between each two fields.
 abbrev pub event_text : Event → List ℕ

@@ -16,8 +16,8 @@ pub enum Outcome {
     Fail,
 }
 
-/// One event of a trace: a completed handshake, a grant, a memory write, a silent transition, a load, a store, or
-/// the end of an operation. `port` is the number of the port, from 0; `addr` is a byte address.
+/// One event of a trace: a completed handshake, a grant, a memory write, a silent transition, a load, a store, the end
+/// of an operation, or the opening memory of a line. `port` is the number of the port, from 0; `addr` is a byte address.
 #[derive(Clone, Copy, Debug, PartialEq, Eq)]
 pub enum Event {
     /// A read address: identifier, ARSNOOP, ARDOMAIN, ARBAR, and whether the access is exclusive.
@@ -128,5 +128,10 @@ pub enum Event {
         port: u8,
         k: u16,
         res: Outcome,
+    },
+    /// The opening memory of a line: what memory has there before the first event of another kind.
+    Mem {
+        addr: u32,
+        line: Line,
     },
 }

@@ -4,7 +4,7 @@ ghost use Rattle.std.specs.Prelude.{◌≡◌, true, false, [], ◌∷◌, ◌++
 ghost use Rattle.ace_codes.specs.declared.state.LineState.TheVariants.{I, UC, UD, SC, SD};
 ghost use Rattle.ace_event.specs.declared.event.Channel.TheVariants.{Read, Write};
 ghost use Rattle.ace_event.specs.declared.event.Outcome.TheVariants.{Skip};
-ghost use Rattle.ace_event.specs.declared.event.Event.TheVariants.{Ar, R, Rk, Aw, W, B, Wk, Ac, Cr, Cd, G, M, S, L, D, Op};
+ghost use Rattle.ace_event.specs.declared.event.Event.TheVariants.{Ar, R, Rk, Aw, W, B, Wk, Ac, Cr, Cd, G, M, S, L, D, Op, Mem};
 ghost use Rattle.ace_event.specs.Range.{IsWord, IsLine, FitsFields};
 ghost use Rattle.ace_event.specs.Text.{event_text, header_text};
 
@@ -30,6 +30,7 @@ pub fn worked_lines()
     ensures l { event_text (L 3 128 2 true 255) ≡ codes "L 3 00000080 2 1 000000000000000000000000000000ff" }
     ensures d { event_text (D 1 192 0x8000000000000001 false (record { words = 16 ∷ 0 ∷ 0 ∷ 1 ∷ [] })) ≡ codes "D 1 000000c0 8000000000000001 0 00000000000000000000000000000010000000000000000000000000000000000000000000000000000000000000000000000000000000000000000000000001" }
     ensures op { event_text (Op 2 0x1f Skip) ≡ codes "OP 2 001f skip" }
+    ensures mem { event_text (Mem 0x40 (record { words = 0 ∷ 1 ∷ 0 ∷ 0xf ∷ [] })) ≡ codes "MEM 00000040 0000000000000000000000000000000000000000000000000000000000000001000000000000000000000000000000000000000000000000000000000000000f" }
     ensures dirty { event_text (Rk 0 UD) ≡ codes "RK 0 UD" }
 {}
 
@@ -65,7 +66,7 @@ pub fn every_event_fits(event: Event)
             strobe_fits(strb);
             word_fits(word)
         }
-        Event::M { line, .. } => line_fits(line),
+        Event::M { line, .. } | Event::Mem { line, .. } => line_fits(line),
         Event::D { strobe, line, .. } => {
             line_strobe_fits(strobe);
             line_fits(line)

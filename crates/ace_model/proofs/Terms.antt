@@ -13,7 +13,7 @@ pub use Rattle.ace_event.specs.Range.{FitsFields, IsDigit, IsLine, IsWord}
 pub use Rattle.ace_event.specs.declared.event.Channel.{Channel}
 pub use Rattle.ace_event.specs.declared.event.Channel.TheVariants.{Read, Write}
 pub use Rattle.ace_event.specs.declared.event.Event.{Event}
-pub use Rattle.ace_event.specs.declared.event.Event.TheVariants.{Ac, Ar, Aw, B, Cd, Cr, D, G, L, M, Op, R, Rk, S, W, Wk}
+pub use Rattle.ace_event.specs.declared.event.Event.TheVariants.{Ac, Ar, Aw, B, Cd, Cr, D, G, L, M, Mem, Op, R, Rk, S, W, Wk}
 pub use Rattle.ace_event.specs.declared.header.Header.{Header}
 pub use Rattle.ace_event.specs.declared.line.Line.{Line}
 pub use Rattle.ace_tables.specs.Answers.{fits_answer, fits_transfer, fits_update, goes_with_update, is_line_row, is_plain_row, is_snoop_row, must_pass_dirty, same_test, states_after}
@@ -23,12 +23,12 @@ pub use Rattle.ace_tables.specs.SnoopKinds.{snoop_of_read, snoop_of_write}
 pub use Rattle.ace_tables.specs.StartStates.{starts_read, starts_write}
 pub use Rattle.ace_tables.specs.States.{is_among, is_dirty, is_invalid, is_unique, same_state}
 pub use Rattle.ace_model.specs.Accepted.{AreInOrder, BreaksAt, FirstBreakBy, IsAccepted, IsAcceptedBy, Rule, break_or, breaks_of, first_break_after, first_break_by, is_accepted_by, least_of, rise_from, rule, rules}
-pub use Rattle.ace_model.specs.AddressRules.{fits_line, has_free_line, has_free_name, has_known_codes, is_no_snoop, is_used_alike, k1, k10, k2, k3, k4, k5, k6, k7, k8, k9, may_issue_read, starts_well}
+pub use Rattle.ace_model.specs.AddressRules.{fits_line, has_free_line, has_free_name, has_known_codes, is_no_snoop, is_opened_below, is_used_alike, k1, k10, k2, k3, k4, k5, k6, k7, k8, k9, may_issue_read, may_open, starts_well}
 pub use Rattle.ace_model.specs.BarrierHolds.{BarrierHolds, IsOrderedAt, IsOrderedBy}
 pub use Rattle.ace_model.specs.Barriers.{Pair, barrier_in, barriers, is_awaited, is_barrier_half, is_barrier_of, is_before, is_pair_complete, is_synchronisation, may_answer, number_of, pair_of, paired, pairs, place_of}
 pub use Rattle.ace_model.specs.CacheRules.{full_line, k29, k30, k31, k32, k33, may_store, wants_store}
 pub use Rattle.ace_model.specs.Coherent.{Coherent}
-pub use Rattle.ace_model.specs.Copies.{copy_of, is_line_read_transaction, memory_of, same_line, word_of, words_read, written}
+pub use Rattle.ace_model.specs.Copies.{copy_of, is_line_read_transaction, memory_of, opened, same_line, word_of, words_read, written}
 pub use Rattle.ace_model.specs.DirtyPlace.{AreCopiesTrue, DirtyPlace, HasDirtyHolder, IsValueSafe, replaces_line}
 pub use Rattle.ace_model.specs.DvmHolds.{DvmHolds, HasCompleted, IsCompletedAt, IsDoneWith}
 pub use Rattle.ace_model.specs.ExclusiveHolds.{ExclusiveHolds, disturbs, is_exclusive_load, is_undisturbed}

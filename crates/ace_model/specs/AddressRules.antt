@@ -1,11 +1,11 @@
 -- The rules of AR and AW, K1 to K10; K1 and K2 look at other records too. Each test says, of an event after a trace, that the
 -- event keeps the rule. A rule is looked at only where the event keeps every rule with a smaller number.
-use Rattle.std.specs.Prelude.{ℕ, ◌%◌, Bool, true, false, not, ◌&&◌, ◌||◌, ◌==◌, nat_lt, nat_le, if◌then◌else◌, length, take, Option, Some, None, is_some, is_none}
+use Rattle.std.specs.Prelude.{ℕ, ◌%◌, Bool, true, false, not, ◌&&◌, ◌||◌, ◌==◌, nat_lt, nat_le, if◌then◌else◌, length, take, Option, Some, None, is_some, is_none, List, [], ◌∷◌}
 use Rattle.std.specs.List.{list_all}
 use Rattle.ace_codes.specs.declared.kind.ArKind.{ArKind}
 use Rattle.ace_codes.specs.declared.kind.AwKind.{AwKind}
 use Rattle.ace_event.specs.declared.event.Event.{Event}
-use Rattle.ace_event.specs.declared.event.Event.TheVariants.{B, Rk, R, Wk, Ac, Cr, Cd, S, L, D, Ar, Aw}
+use Rattle.ace_event.specs.declared.event.Event.TheVariants.{B, Rk, R, Wk, Ac, Cr, Cd, S, L, D, Ar, Aw, Mem}
 use Rattle.ace_event.specs.declared.header.Header.{Header}
 use Rattle.ace_codes.specs.Reads.{ar_kind_of}
 use Rattle.ace_codes.specs.Responses.{low_bits, has_error}
@@ -36,9 +36,14 @@ wants_ace (L p addr w x word) = true
 wants_ace (D p addr strobe x line) = true
 wants_ace _ = false
 
--- K1: the port is in the header, and it is an ACE port for RK, WK, AC, CR, CD, S, L and D (Arm IHI 0022E, C11).
+-- the port may have the event
+abbrev pub may_have : Header → Event → ℕ → Bool
+may_have h e p = nat_lt p h.ports && implies (wants_ace e) (is_ace h p)
+
+-- K1: the port is in the header, and it is an ACE port for RK, WK, AC, CR, CD, S, L and D (Arm IHI 0022E, C11). A MEM names
+-- no port.
 abbrev pub k1 : Header → Trace → Event → Bool
-k1 h past e = nat_lt (port_of e) h.ports && implies (wants_ace e) (is_ace h (port_of e))
+k1 h past e = is_none_or (port_of e) (may_have h e)
 
 -- the port may issue a read, a write of this kind
 abbrev pub may_issue_read : Header → ℕ → ArKind → Bool
@@ -70,15 +75,32 @@ line_address (Ac p addr snoop) = if snoops_a_line snoop then Some addr else None
 line_address (S p addr st) = Some addr
 line_address (L p addr w x word) = Some addr
 line_address (D p addr strobe x line) = Some addr
+line_address (Mem addr line) = Some addr
 line_address _ = None
 
 -- the address is a multiple of the 64 bytes of a line
 abbrev pub is_aligned : ℕ → Bool
 is_aligned addr = addr % 64 == 0
 
--- K3: in AR, AW, AC, S, L and D the address of a line is a multiple of 64.
+-- every event of the trace is a MEM with a smaller address
+abbrev pub is_opened_below : Trace → ℕ → Bool
+is_opened_below [] addr = true
+is_opened_below (Mem before line ∷ past) addr = is_opened_below past addr && nat_lt before addr
+is_opened_below (_ ∷ past) addr = false
+
+-- the trace is of version 2, every event before is a MEM with a smaller address, and there are fewer than 4,096 of them
+abbrev pub opens_memory : Header → Trace → ℕ → Bool
+opens_memory h past addr = (h.version == 2) && is_opened_below past addr && nat_lt (length past) 4096
+
+-- a MEM opens memory
+abbrev pub may_open : Header → Trace → Event → Bool
+may_open h past (Mem addr line) = opens_memory h past addr
+may_open h past _ = true
+
+-- K3: in AR, AW, AC, S, L, D and MEM the address of a line is a multiple of 64. A MEM stands in a trace of version 2, after
+-- no event but MEM events, with a greater address than each of them, and it is at most the 4,096th (our choice).
 abbrev pub k3 : Header → Trace → Event → Bool
-k3 h past e = is_none_or (line_address e) is_aligned
+k3 h past e = is_none_or (line_address e) is_aligned && may_open h past e
 
 -- K4: no transaction of the port, channel and identifier of an AR or AW is outstanding (our choice).
 abbrev pub has_free_name : Header → Trace → Transaction → Bool

@@ -2,7 +2,7 @@
 use Rattle.std.specs.Prelude.{ℕ, Bool, ◌&&◌, ◌==◌, if◌then◌else◌, List, [], ◌∷◌, ◌++◌, length, slice_index, Option, Some, None, unwrap_or}
 use Rattle.ace_event.specs.declared.event.Channel.TheVariants.{Read}
 use Rattle.ace_event.specs.declared.event.Event.{Event}
-use Rattle.ace_event.specs.declared.event.Event.TheVariants.{Ar, R, D, M}
+use Rattle.ace_event.specs.declared.event.Event.TheVariants.{Ar, R, D, M, Mem}
 use Rattle.ace_event.specs.declared.line.Line.{Line}
 use Rattle.ace_event.specs.Bytes.{merged}
 use Rattle.ace_model.specs.declared.transactions.Transaction.{Transaction}
@@ -10,7 +10,7 @@ use Rattle.ace_model.specs.Trace.{is_some_and, Trace}
 use Rattle.ace_model.specs.Kinds.{reads_a_line}
 use Rattle.ace_model.specs.Transactions.{read_kind, transaction_of, is_on, is_some_on}
 
--- the line that memory and copies start with
+-- the line that copies start with, and memory where no MEM opens it
 abbrev pub zero_line : Line
 zero_line = record { words = 0 ∷ 0 ∷ 0 ∷ 0 ∷ [] }
 
@@ -50,12 +50,17 @@ abbrev pub copy_of : Trace → ℕ → ℕ → Line
 copy_of [] p l = zero_line
 copy_of (e ∷ past) p l = unwrap_or (received past e p l) (stored_into (copy_of past p l) e p l)
 
--- what the event writes to memory for the line
+-- the line that the event opens memory with, where it is its MEM
+abbrev pub opened : Event → ℕ → Option Line
+opened (Mem addr line) l = if l == addr then Some line else None
+opened _ l = None
+
+-- what memory of the line is from the event on, where the event is an M for it, or its MEM
 abbrev pub written : Trace → Event → ℕ → Option Line
 written past (M p c i line) l = if is_some_on (transaction_of past p c i) l then Some line else None
-written past _ l = None
+written past e l = opened e l
 
--- Memory of the line: what the last M for it wrote. It starts as zeros.
+-- Memory of the line: what the last M for it wrote, else the line of its MEM, else zeros.
 abbrev pub memory_of : Trace → ℕ → Line
 memory_of [] l = zero_line
 memory_of (e ∷ past) l = unwrap_or (written past e l) (memory_of past l)

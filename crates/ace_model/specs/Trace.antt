@@ -1,7 +1,7 @@
 -- A trace as definitions see it: the newest event first. `e ∷ past` is the trace `past` and then the event `e`.
 use Rattle.std.specs.Prelude.{ℕ, ◌-◌, Bool, true, false, not, ◌||◌, List, [], ◌∷◌, ◌++◌, reverse, length, drop, slice_get, Option, Some, None}
 use Rattle.ace_event.specs.declared.event.Event.{Event}
-use Rattle.ace_event.specs.declared.event.Event.TheVariants.{L, Op, Ar, R, Rk, Aw, W, B, Wk, Ac, Cr, Cd, G, M, S, D}
+use Rattle.ace_event.specs.declared.event.Event.TheVariants.{L, Op, Ar, R, Rk, Aw, W, B, Wk, Ac, Cr, Cd, G, M, S, D, Mem}
 
 abbrev pub Trace : Type 0
 Trace = List Event
@@ -19,24 +19,25 @@ abbrev pub AtEveryPoint : (Trace → Type 0) → Trace → Type 0
 AtEveryPoint P [] = P []
 AtEveryPoint P (e ∷ past) = AtEveryPoint P past × P (e ∷ past)
 
--- the port of an event
-abbrev pub port_of : Event → ℕ
-port_of (Ar p i addr snoop dom bar lock) = p
-port_of (R p i resp last word) = p
-port_of (Rk p st) = p
-port_of (Aw p i addr snoop dom bar) = p
-port_of (W p strb last word) = p
-port_of (B p i resp) = p
-port_of (Wk p st) = p
-port_of (Ac p addr snoop) = p
-port_of (Cr p resp st) = p
-port_of (Cd p last word) = p
-port_of (G p c i) = p
-port_of (M p c i line) = p
-port_of (S p addr st) = p
-port_of (L p addr w x word) = p
-port_of (D p addr strobe x line) = p
-port_of (Op p k res) = p
+-- the port that the event names: every event but a MEM names one
+abbrev pub port_of : Event → Option ℕ
+port_of (Ar p i addr snoop dom bar lock) = Some p
+port_of (R p i resp last word) = Some p
+port_of (Rk p st) = Some p
+port_of (Aw p i addr snoop dom bar) = Some p
+port_of (W p strb last word) = Some p
+port_of (B p i resp) = Some p
+port_of (Wk p st) = Some p
+port_of (Ac p addr snoop) = Some p
+port_of (Cr p resp st) = Some p
+port_of (Cd p last word) = Some p
+port_of (G p c i) = Some p
+port_of (M p c i line) = Some p
+port_of (S p addr st) = Some p
+port_of (L p addr w x word) = Some p
+port_of (D p addr strobe x line) = Some p
+port_of (Op p k res) = Some p
+port_of (Mem addr line) = None
 
 -- if a, then b
 abbrev pub implies : Bool → Bool → Bool

@@ -1,5 +1,6 @@
--- What a line should hold: the stores of the line, in the order of the trace. Memory and copies may lag behind.
-use Rattle.std.specs.Prelude.{ℕ, ◌+◌, ◌*◌, Bool, ◌&&◌, ◌||◌, ◌==◌, if◌then◌else◌, List, [], ◌∷◌, map, Option, Some, None, option_and_then}
+-- What a line should hold: what memory was opened with, and then the stores of the line in the order of the trace. Memory and
+-- copies may lag behind.
+use Rattle.std.specs.Prelude.{ℕ, ◌+◌, ◌*◌, Bool, ◌&&◌, ◌||◌, ◌==◌, if◌then◌else◌, List, [], ◌∷◌, map, Option, Some, None, unwrap_or, option_and_then}
 use Rattle.ace_event.specs.declared.event.Event.{Event}
 use Rattle.ace_event.specs.declared.event.Event.TheVariants.{D, M}
 use Rattle.ace_event.specs.declared.line.Line.{Line}
@@ -9,7 +10,7 @@ use Rattle.ace_model.specs.Trace.{Trace, more, is_some_and}
 use Rattle.ace_model.specs.Kinds.{is_unique_write, is_no_snoop_write}
 use Rattle.ace_model.specs.Transactions.{write_kind, is_on, transaction_of}
 use Rattle.ace_model.specs.Writes.{Beat, burst_of}
-use Rattle.ace_model.specs.Copies.{zero_line}
+use Rattle.ace_model.specs.Copies.{zero_line, opened}
 
 -- the strobes of a burst as one strobe of the line: bit 16 k + n is bit n of beat k
 abbrev pub burst_strobe : List Beat → ℕ
@@ -50,7 +51,7 @@ abbrev pub after_store : Line → Option Store → Line
 after_store line None = line
 after_store line (Some s) = merged line s.strobe s.line
 
--- The value of the line: zeros, changed by its stores in the order of the trace.
+-- The value of the line: the line of its MEM, or zeros where there is none, changed by its stores in the order of the trace.
 abbrev pub value_of : Trace → ℕ → Line
 value_of [] l = zero_line
-value_of (e ∷ past) l = after_store (value_of past l) (store_at past e l)
+value_of (e ∷ past) l = after_store (unwrap_or (opened e l) (value_of past l)) (store_at past e l)
