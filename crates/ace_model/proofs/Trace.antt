@@ -46,5 +46,7 @@ pub mod Served
 pub mod LineOnce
 -- The beats of a write.
 pub mod WriteBursts
+-- Before a MEM there are MEM events alone (K3).
+pub mod Opening
 -- The complete writes that wait for their WK (K4, K26).
 pub mod WriteQueue

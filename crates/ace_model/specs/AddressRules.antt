@@ -1,6 +1,6 @@
 -- The rules of AR and AW, K1 to K10; K1 and K2 look at other records too. Each test says, of an event after a trace, that the
 -- event keeps the rule. A rule is looked at only where the event keeps every rule with a smaller number.
-use Rattle.std.specs.Prelude.{ℕ, ◌%◌, Bool, true, false, not, ◌&&◌, ◌||◌, ◌==◌, nat_lt, nat_le, if◌then◌else◌, length, take, Option, Some, None, is_some, is_none, List, [], ◌∷◌}
+use Rattle.std.specs.Prelude.{ℕ, ◌%◌, Bool, true, false, not, ◌&&◌, ◌||◌, ◌==◌, nat_lt, nat_le, if◌then◌else◌, length, take, Option, Some, None, is_some, is_none, [], ◌∷◌}
 use Rattle.std.specs.List.{list_all}
 use Rattle.ace_codes.specs.declared.kind.ArKind.{ArKind}
 use Rattle.ace_codes.specs.declared.kind.AwKind.{AwKind}

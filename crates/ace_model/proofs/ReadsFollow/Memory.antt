@@ -135,9 +135,10 @@ memory_or_holder h (e ∷ past) a range l x g reads none =
                 low = omega arith;
                 same = kept ∙ m.same ∙ ap (λ (t : Trace). value_of t l) (sym (at_point-before e past m.point low));
               }
-          | inr w ↦ elim (writer h past e l w a) [
+          | inr (inr opens) ↦ value-now h (e ∷ past) l (opens.stored l)
+          | inr (inl w) ↦ elim (writer h past e l w a) [
             | inl passed ↦ absurd (none-passed h past a.0 l w.one passed.stands passed.has before)
-            | inr (inl u) ↦ value-now h (e ∷ past) l (update_true h past e l w a range.0 f.updates u)
+            | inr (inl u) ↦ value-now h (e ∷ past) l (update_true h past e l w a range f.updates u)
             | inr (inr s) ↦
                 let one : s.one ≡ x = Some-injective s.one x (sym s.stands ∙ stays.was) in
                 let bad : false ≡ true = sym s.writes ∙ ap (λ (y : Transaction). is_read y.chan) one ∙ ap is_read (line_read-chan x reads) in cc

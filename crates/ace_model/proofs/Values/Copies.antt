@@ -2,8 +2,9 @@
 use Rattle.std.proofs.Common.{◌==◌, length, ◌≡◌, ◌⊎◌, ℕ, Bool, true, false, ◌&&◌, nat_eq, ◌∷◌, Some, refl, sym, ap, subst, ◌∙◌, inl, inr}
 use Rattle.std.proofs.lemmas.Bool.{and_parts, or_left, cases_Bool, eqb-true, eq-eqb}
 use Rattle.std.proofs.Math.Bool.{and-false}
-use Rattle.ace_model.proofs.Terms.{LineState, I, Read, Event, R, Rk, M, D, Header, Line, merged, is_invalid, is_unique, Transaction, Trace, is_some_and, is_granted_write, is_on, write_kind, outstanding}
+use Rattle.ace_model.proofs.Terms.{LineState, I, Read, Event, R, Rk, M, Mem, D, Header, Line, merged, is_invalid, is_unique, Transaction, Trace, is_some_and, is_granted_write, is_on, write_kind, outstanding}
 use Rattle.ace_model.proofs.Terms.{words_read, transaction_of, state_of, is_line_read_transaction, copy_of, value_of, IsAccepted, AreCopiesTrue}
+use Rattle.ace_model.proofs.Trace.Opening.{opens_of}
 use Rattle.ace_model.proofs.Tables.States.{valid_not, invalid_not, unique_valid}
 use Rattle.ace_model.proofs.Tables.Kinds.{fetch_is, make_unique_is}
 use Rattle.ace_model.proofs.Holders.Acknowledge.{is_named_by_rk}
@@ -131,7 +132,8 @@ module _ (h : Header) (past : Trace) where
         | inl same ↦ f.copies l p held ∙ sym same
         | inr (inl d) ↦ let is = d.is in cc
         | inr (inr (inl d)) ↦ let is = d.is in cc
-        | inr (inr (inr w)) ↦ absurd (held (all_empty h past a.0 w.port w.chan w.id l w.by p))
+        | inr (inr (inr (inl w))) ↦ absurd (held (all_empty h past a.0 w.port w.chan w.id l w.by p))
+        | inr (inr (inr (inr m))) ↦ let is = m.is in cc
       ]
   copies_step (R q j resp last word) a f l p held =
       elim (copy_moves (R q j resp last word) a p l) [
@@ -147,6 +149,7 @@ module _ (h : Header) (past : Trace) where
             copies_rk q st a f l p t (λ gone. held (after ∙ gone))
         | inr other ↦ f.copies l p (λ gone. held (rw other gone))
       ]
+  copies_step (Mem addr line) a f l p held = absurd (held ((opens_of h past addr line a).unheld p l))
   copies_step e a f l p held =
       elim (state_moves h past e a p l) [
         | inl less ↦ f.copies l p (λ gone. held (less.gone gone))

@@ -1,7 +1,8 @@
 -- A read that keeps the line receives its value.
 use Rattle.std.proofs.Common.{◌≡◌, ◌≢◌, ◌==◌, ℕ, ◌+◌, Bool, true, false, ◌&&◌, nat_eq, [], ◌∷◌, ◌++◌, length, Some, None, slice_get, refl, sym, ap, subst, ◌∙◌, arith, inl, inr}
 use Rattle.std.proofs.lemmas.Bool.{and_parts, and_from, or_cases, cases_eq, eqb-true, eq-eqb, ne_eqb}
-use Rattle.ace_model.proofs.Terms.{ArKind, ar_kind_of, Event, Ar, R, Aw, Read, Header, is_fetch, is_unique, Transaction, Trace, is_lite_read}
+use Rattle.std.specs.List.{AllByRecursion}
+use Rattle.ace_model.proofs.Terms.{ArKind, FitsFields, ar_kind_of, Event, Ar, R, Aw, Read, Header, is_fetch, is_unique, Transaction, Trace, is_lite_read}
 use Rattle.ace_model.proofs.Terms.{first_sender, memory_at_first_beat, reply_of, value_of, may_issue_read, has_word, IsAccepted}
 use Rattle.ace_model.proofs.Terms.{is_ace, is_line, has_name, read_kind, issued, ended, transfers, outstanding, granted, has_failed, state_of, is_line_read_transaction, words_read, word_of}
 use Rattle.ace_model.proofs.Trace.Looks.{has_name-is, is_on-addr, without-some}
@@ -62,8 +63,8 @@ module _ (h : Header) (past : Trace) where
       let here : memory_at_first_beat past x.port x.id l ≡ value_of past l = ap (memory_at_first_beat past x.port x.id) (sym addr) ∙ sym memory ∙ replies in
       rw some (here ∙ sym same))
 
-  pub fetches_step : (e : Event) → IsAccepted h (e ∷ past) → DirtyPlaced h past → FetchesTrue h (e ∷ past)
-  fetches_step e a f p i l x k o on kind fetch some =
+  pub fetches_step : (e : Event) → IsAccepted h (e ∷ past) → AllByRecursion FitsFields past → DirtyPlaced h past → FetchesTrue h (e ∷ past)
+  fetches_step e a fits f p i l x k o on kind fetch some =
       elim (outstanding-origin h past e p Read i x o) [
         | inl new ↦ absurd (some (issue_transfers past e p i x new.0 new.1))
         | inr old ↦ elim (transfer_moves past e p i old.other) [
@@ -160,6 +161,6 @@ module _ (h : Header) (past : Trace) where
                 let fourth : (length (words_read past p i) == 3) ≡ true = eq-eqb _ 3 (words-length past p i ∙ omega (arith, three)) in
                 let named = outstanding-named h past p Read i x was in
                 let whole : record { words = words_read past p i ++ word ∷ [] } ≡ value_of past l = whole_line (words_read past p i ++ word ∷ []) (value_of past l)
-                (ap length (sym more_words) ∙ words-length t p i ∙ four) (value-length past l) (λ n v is. words n v (ap (λ ws. slice_get ws n) more_words ∙ is)) in
+                (ap length (sym more_words) ∙ words-length t p i ∙ four) (value-length past l fits) (λ n v is. words n v (ap (λ ws. slice_get ws n) more_words ∙ is)) in
                 rw (eq-eqb p p refl, fourth, named, on, reads) whole;
           }

@@ -20,7 +20,7 @@ module _ (h : Header) (past : Trace) where
     safe = safe_step h past e a r f;
     passed = passed_step h past e a f;
     sent = sent_step h past e a f;
-    fetches = fetches_step h past e a f;
+    fetches = fetches_step h past e a r.1 f;
     made = made_step h past e a f;
     written = written_step h past e a r f;
     updates = updates_step h past e a f;

@@ -3,11 +3,12 @@ use Rattle.std.proofs.Common.{◌≡◌, ◌⊎◌, ℕ, ◌<◌, ◌^◌, true,
 use Rattle.std.proofs.lemmas.Bool.{and_parts, and_from, or_right, cases_Bool}
 use Rattle.std.specs.List.{AllByRecursion}
 use Rattle.ace_codes.specs.declared.kind.AwKind.TheVariants as write
-use Rattle.ace_model.proofs.Terms.{AwKind, FitsFields, Channel, Write, Event, W, M, Header, Line, Transaction, Trace, is_some_and, is_none_or, is_update}
+use Rattle.ace_model.proofs.Terms.{AwKind, FitsFields, Channel, Write, Event, W, M, Mem, Header, Line, Transaction, Trace, is_some_and, is_none_or, is_update}
 use Rattle.ace_model.proofs.Terms.{is_write_line_unique, has_write_data, is_granted_write, is_read, is_on, write_kind, outstanding, transaction_of, updates_memory, is_burst_whole, granted, is_granted}
 use Rattle.ace_model.proofs.Terms.{has_passed_data, memory_of, same_line, Beat, burst_of, burst_line, stores_data, value_of, full_beat, may_write_memory, data_of, data_of_write, has_data, IsAccepted}
 use Rattle.ace_model.proofs.Trace.Looks.{is_on-addr, is_write-is}
 use Rattle.ace_model.proofs.Trace.Issued.{outstanding-named, outstanding-name}
+use Rattle.ace_model.proofs.Trace.Opening.{Opens, opens_of}
 use Rattle.ace_model.proofs.Tables.Kinds.{granted_stores}
 use Rattle.ace_model.proofs.Rules.Keeps.{accepted_keeps}
 use Rattle.ace_model.proofs.Values.MergedLines.{same_line-is, lines_by_words, value-length}
@@ -32,19 +33,20 @@ module _ (h : Header) (past : Trace) where
     pub on : is_on one l ≡ true
     pub may : may_write_memory h past one ≡ true
 
-  -- an event leaves memory of the line, or is such an M
-  pub memory_moves : (e : Event) → IsAccepted h (e ∷ past) → (l : ℕ) → (memory_of (e ∷ past) l ≡ memory_of past l) ⊎ WritesLine e l
+  -- an event leaves memory of the line, or is such an M, or opens memory
+  pub memory_moves : (e : Event) → IsAccepted h (e ∷ past) → (l : ℕ) → (memory_of (e ∷ past) l ≡ memory_of past l) ⊎ WritesLine e l ⊎ Opens h past e
   memory_moves (M q c j line) a l = by (transaction_of past q c j) refl
     where
-      by : (o : Option Transaction) → transaction_of past q c j ≡ o → (memory_of (M q c j line ∷ past) l ≡ memory_of past l) ⊎ WritesLine (M q c j line) l
+      by : (o : Option Transaction) → transaction_of past q c j ≡ o → (memory_of (M q c j line ∷ past) l ≡ memory_of past l) ⊎ WritesLine (M q c j line) l ⊎ Opens h past (M q c j line)
       by None is = inl (rw is refl)
       by (Some x) is =
           elim (cases_Bool (is_on x l)) [
             | inr f ↦ inl (rw (is, f) refl)
             | inl t ↦
                 let m = may_write h past q c j line a x is in
-                inr (record { port = q; chan = c; id = j; line = line; is = refl; one = x; out = m.out; on = t; may = m.may })
+                inr (inl (record { port = q; chan = c; id = j; line = line; is = refl; one = x; out = m.out; on = t; may = m.may }))
           ]
+  memory_moves (Mem addr line) a l = inr (inr (opens_of h past addr line a))
   memory_moves _ a l = inl refl
 
 -- a granted write stores
@@ -77,12 +79,12 @@ update-writes h past y write.WriteEvict u = refl
 update-writes h past y k u = cc
 
 -- the burst of an update is the value
-pub update_is : (h : Header) (past : Trace) → IsAccepted h past → UpdatesTrue h past → (p i l : ℕ) (x : Transaction) → outstanding h past p Write i ≡ Some x
+pub update_is : (h : Header) (past : Trace) → IsAccepted h past → AllByRecursion FitsFields past → UpdatesTrue h past → (p i l : ℕ) (x : Transaction) → outstanding h past p Write i ≡ Some x
     → is_on x l ≡ true → updates_memory x ≡ true → is_burst_whole past x ≡ true → burst_line (burst_of past x) ≡ value_of past l
-update_is h past a f p i l x o on updates whole =
+update_is h past a r f p i l x o on updates whole =
     let four = four_beats past x whole in
     ap burst_line four.is
-    ∙ lines_by_words (burst_line (four.b0 ∷ four.b1 ∷ four.b2 ∷ four.b3 ∷ [])) (value_of past l) refl (value-length past l)
+    ∙ lines_by_words (burst_line (four.b0 ∷ four.b1 ∷ four.b2 ∷ four.b3 ∷ [])) (value_of past l) refl (value-length past l r)
     (f p i l x 0 four.b0 o on updates (ap (λ bs. slice_get bs 0) four.is)) (f p i l x 1 four.b1 o on updates (ap (λ bs. slice_get bs 1) four.is))
     (f p i l x 2 four.b2 o on updates (ap (λ bs. slice_get bs 2) four.is)) (f p i l x 3 four.b3 o on updates (ap (λ bs. slice_get bs 3) four.is))
 
@@ -132,7 +134,7 @@ module _ (h : Header) (past : Trace) (e : Event) (l : ℕ) (w : WritesLine h pas
       same_line-is w.line d (line_length r) n same
 
   -- an update makes memory the value
-  pub update_true : IsAccepted h (e ∷ past) → FitsFields e → UpdatesTrue h past → ByUpdate h past w.one → memory_of (e ∷ past) l ≡ value_of (e ∷ past) l
+  pub update_true : IsAccepted h (e ∷ past) → AllByRecursion FitsFields (e ∷ past) → UpdatesTrue h past → ByUpdate h past w.one → memory_of (e ∷ past) l ≡ value_of (e ∷ past) l
   update_true a r f u =
       let x = w.one in
       let name = outstanding-name h past w.port w.chan w.id x w.out in
@@ -140,8 +142,8 @@ module _ (h : Header) (past : Trace) (e : Event) (l : ℕ) (w : WritesLine h pas
       let out : outstanding h past w.port Write w.id ≡ Some x = rw (← chan) w.out in
       let k = is_some_and-is (write_kind x) is_update u.updates in
       let is : data_of h past x ≡ Some (burst_line (burst_of past x)) = kind_data h past x k.0 u.writes k.1 ∙ ap (λ v. Some v) (update-writes h past x k.0 k.2) in
-      let value = update_is h past a.0 f w.port w.id l x out w.on u.updates u.whole in
-      let line = line_is a r (burst_line (burst_of past x)) is (ap (λ (v : Line). length v.words) value ∙ value-length past l) in
+      let value = update_is h past a.0 r.1 f w.port w.id l x out w.on u.updates u.whole in
+      let line = line_is a r.0 (burst_line (burst_of past x)) is (ap (λ (v : Line). length v.words) value ∙ value-length past l r.1) in
       memory_now ∙ line ∙ value ∙ sym (value_updating h past e a w.port w.id l x out w.on u.updates)
 
 -- A beat of a write with data: its word, and its strobe where the write replaces the line.

@@ -1,9 +1,10 @@
 -- Stores of a whole line, and lines by their words.
-use Rattle.std.proofs.Common.{◌≡◌, ℕ, zero, Option, Some, None, suc, ◌+◌, ◌-◌, ◌*◌, ◌/◌, ◌%◌, ◌^◌, ◌<◌, ◌&&◌, true, nat_eq, List, [], ◌∷◌, length, refl, sym, ap, ◌∙◌, arith, slice_get, slice_index, get_or}
-use Rattle.std.proofs.lemmas.Bool.{and_parts, eqb-true}
+use Rattle.std.proofs.Common.{◌≡◌, ℕ, zero, Option, Some, None, suc, ◌+◌, ◌-◌, ◌*◌, ◌/◌, ◌%◌, ◌^◌, ◌<◌, ◌&&◌, true, nat_eq, List, [], ◌∷◌, length, refl, sym, ap, ◌∙◌, arith, inl, inr, slice_get, slice_index, get_or, unwrap_or}
+use Rattle.std.proofs.lemmas.Bool.{and_parts, cases_Bool, eqb-true}
 use Rattle.std.proofs.Math.Nat.{pow-suc, div-div-eq-div-mul, div-eq_of_lt}
 use Rattle.std.specs.Int.{byte_at}
-use Rattle.ace_model.proofs.Terms.{Line, Trace, Store, value_of, after_store, store_at, number_of_bytes, merged, word_of, same_line, full_line, Beat, burst_strobe, full_beat}
+use Rattle.std.specs.List.{AllByRecursion}
+use Rattle.ace_model.proofs.Terms.{Event, FitsFields, Line, Mem, opened, Trace, Store, value_of, after_store, store_at, number_of_bytes, merged, word_of, same_line, full_line, Beat, burst_strobe, full_beat}
 use Rattle.std.proofs.lemmas.Option.{slice_get-get_or}
 
 -- a store of all bytes leaves nothing of the line before
@@ -56,13 +57,21 @@ unfolding merged
 merged-length a strobe bytes = refl
 
 -- the value of a line has four words
-pub value-length : (past : Trace) (l : ℕ) → length (value_of past l).words ≡ 4
-value-length [] l = refl
-value-length (e ∷ past) l = by (store_at past e l) (value-length past l)
+pub value-length : (past : Trace) (l : ℕ) → AllByRecursion FitsFields past → length (value_of past l).words ≡ 4
+value-length [] l r = refl
+value-length (e ∷ past) l r = by (store_at past e l) (unwrap_or (opened e l) (value_of past l)) (begins e r.0 (value-length past l r.1))
   where
-    by : (o : Option Store) → length (value_of past l).words ≡ 4 → length (after_store (value_of past l) o).words ≡ 4
-    by None n = n
-    by (Some s) n = merged-length (value_of past l) s.strobe s.line
+    begins : (e : Event) → FitsFields e → length (value_of past l).words ≡ 4 → length (unwrap_or (opened e l) (value_of past l)).words ≡ 4
+    begins (Mem addr line) fits n =
+        elim (cases_Bool (nat_eq l addr)) [
+          | inl t ↦ rw t fits.0
+          | inr f ↦ rw f n
+        ]
+    begins e fits n = n
+
+    by : (o : Option Store) (v : Line) → length v.words ≡ 4 → length (after_store v o).words ≡ 4
+    by None v n = n
+    by (Some s) v n = merged-length v s.strobe s.line
 
 four_words : (xs ys : List ℕ) → length xs ≡ 4 → length ys ≡ 4
     → word_of (record { words = xs }) 0 ≡ word_of (record { words = ys }) 0 → word_of (record { words = xs }) 1 ≡ word_of (record { words = ys }) 1

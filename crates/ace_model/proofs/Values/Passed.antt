@@ -123,7 +123,8 @@ module _ (h : Header) (past : Trace) where
                 let causes : snoop_of x ≡ Some snoop.MakeInvalid = ap snoop_of (sym one) ∙ ap (λ v. snoop_kind_of v (write_kind m.made.one)) m.made.kind in
                 let kind : k.0 ≡ snoop.MakeInvalid = Some-injective k.0 snoop.MakeInvalid (sym k.1 ∙ causes) in
                 let bad : true ≡ false = sym (ap is_make_invalid kind) ∙ k.2 in cc
-            | inr (inr (inr m)) ↦
+            | inr (inr (inr (inr m))) ↦ let bad : None ≡ Some x = sym (m.ungranted l) ∙ was in cc
+            | inr (inr (inr (inl m))) ↦
                 let one : m.by.one ≡ x = Some-injective m.by.one x (sym m.by.stands ∙ was) in
                 let name = has_name-is m.by.one m.port m.chan m.id (transaction_of-stands past m.port m.chan m.id m.by.one m.by.named).named in
                 let now : has_memory_write (e ∷ past) m.by.one.port m.by.one.chan m.by.one.id ≡ true =

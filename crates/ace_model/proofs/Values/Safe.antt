@@ -181,7 +181,7 @@ module _ (h : Header) (past : Trace) where
               let addr = is_on-addr w.one l w.on in
               let is : data_of h past w.one ≡ Some (value_of past l) =
               then_of (is_read w.one.chan) (passed_data h past w.one.addr) _ b.reads ∙ ap (passed_data h past) addr ∙ same in
-              inl (memory_now h past e l w ∙ line_is h past e l w a r.0 (value_of past l) is (value-length past l) ∙ sym value)
+              inl (memory_now h past e l w ∙ line_is h past e l w a r.0 (value_of past l) is (value-length past l r.1) ∙ sym value)
           | inr holder ↦ inr (inl (holder.0, rw w.is holder.1))
         ]
       where
@@ -195,7 +195,7 @@ module _ (h : Header) (past : Trace) where
     memory_written w =
         elim (writer h past e l w a) [
           | inl passed ↦ passed_written w passed
-          | inr (inl u) ↦ inl (update_true h past e l w a r.0 f.updates u)
+          | inr (inl u) ↦ inl (update_true h past e l w a r f.updates u)
           | inr (inr s) ↦ inl (store_true h past e a r f l w s)
         ]
 
@@ -209,13 +209,15 @@ module _ (h : Header) (past : Trace) where
     pub safe_step : IsValueSafe h (e ∷ past) l
     safe_step =
         elim (memory_moves h past e a l) [
-          | inr w ↦ memory_written w
+          | inr (inl w) ↦ memory_written w
+          | inr (inr m) ↦ inl (m.stored l)
           | inl kept ↦ elim (value_moves h past e a l) [
             | inl same ↦ carries kept same
             | inr (inl d) ↦ inr (inl (d.port, rw d.is (store_dirty h past d.port l d.strobe d.ex d.line d.may)))
             | inr (inr (inl d)) ↦
                 inr (inr (inr (rw (d.is, d.made.stands, d.made.kind) refl)))
-            | inr (inr (inr d)) ↦ memory_written (store_writes d.port d.chan d.id d.line d.is d.by)
+            | inr (inr (inr (inl d))) ↦ memory_written (store_writes d.port d.chan d.id d.line d.is d.by)
+            | inr (inr (inr (inr m))) ↦ inl (m.stored l)
           ]
         ]
       where

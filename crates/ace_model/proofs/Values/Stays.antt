@@ -50,7 +50,8 @@ module _ (h : Header) (past : Trace) where
         | inl same ↦ same
         | inr (inl d) ↦ absurd (no_port d.port d.may)
         | inr (inr (inl d)) ↦ absurd (no_make d.port d.strobe d.made (Some-injective d.made.one x (sym d.made.stands ∙ g)))
-        | inr (inr (inr w)) ↦ absurd (no_write w.port w.chan w.id w.by (Some-injective w.by.one x (sym w.by.stands ∙ g)))
+        | inr (inr (inr (inl w))) ↦ absurd (no_write w.port w.chan w.id w.by (Some-injective w.by.one x (sym w.by.stands ∙ g)))
+        | inr (inr (inr (inr m))) ↦ let bad : None ≡ Some x = sym (m.ungranted l) ∙ g in cc
       ]
 
   -- a read writes nothing, and a write makes nothing
@@ -80,7 +81,8 @@ module _ (h : Header) (past : Trace) where
               absurd (write_no_make x l (ap is_read (outstanding-name h past p Write i x o).chan) d.port d.strobe d.made one)
           | inr apart ↦ absurd (valid (d.made.alone p apart))
         ]
-        | inr (inr (inr w)) ↦ absurd (valid (all_empty h past a.0 w.port w.chan w.id l w.by p))
+        | inr (inr (inr (inl w))) ↦ absurd (valid (all_empty h past a.0 w.port w.chan w.id l w.by p))
+        | inr (inr (inr (inr m))) ↦ let bad : None ≡ Some x = sym (m.free p Write i) ∙ o in cc
       ]
 
 -- an answer knows how many events came before it

@@ -2,12 +2,13 @@
 use Rattle.ace_codes.specs.declared.kind.ArKind.TheVariants as read
 use Rattle.std.proofs.Common.{◌≡◌, ◌⊎◌, ℕ, Bool, true, false, not, ◌&&◌, ◌||◌, nat_eq, nat_lt, ◌∷◌, Option, Some, None, refl, sym, ap, subst, ◌∙◌, inl, inr}
 use Rattle.std.proofs.lemmas.Bool.{and_parts, or_cases, not-true, cases_Bool, eqb-true, or_right, cases_eq}
-use Rattle.ace_model.proofs.Terms.{AwKind, Channel, Read, Event, M, D, Header, Line, Transaction, Trace, is_some_and, is_make_unique, is_update, is_unique_write, is_no_snoop_write, is_ace, is_read}
+use Rattle.ace_model.proofs.Terms.{AwKind, Channel, Read, Event, M, Mem, D, Header, Line, Transaction, Trace, is_some_and, is_make_unique, is_update, is_unique_write, is_no_snoop_write, is_ace, is_read}
 use Rattle.ace_codes.specs.declared.kind.ArKind.TheVariants as read
 use Rattle.ace_model.proofs.Terms.{SnoopKind, I, is_shared, snoop_of_write, is_granted_write, snoop_of, snoop_kind_of, has_failed, state_of, is_line_read_transaction, is_line, is_on, read_kind, write_kind, outstanding, transaction_of, is_outstanding, is_make_unique_on, is_complete, updates_memory, has_memory_write, is_burst_whole, granted, is_granted, awaits_store, has_store, are_snoops_done, stores_data, value_of, may_store, wants_store, full_line, may_write_memory, is_write_due, IsAccepted}
 use Rattle.ace_model.proofs.Trace.Looks.{is_read-is, is_on-addr, read_writes_none, snoops_done-ports}
 use Rattle.ace_model.proofs.Trace.Issued.{outstanding-named, transaction_of-stands}
 use Rattle.ace_model.proofs.Trace.Growth.{some_issued-is}
+use Rattle.ace_model.proofs.Trace.Opening.{Opens, opens_of}
 use Rattle.ace_model.proofs.Rules.Keeps.{accepted_keeps}
 use Rattle.ace_model.proofs.Holders.Facts.{OthersInvalid}
 use Rattle.ace_model.proofs.Trace.LineOnce.{outstanding_is}
@@ -183,9 +184,9 @@ module _ (h : Header) (past : Trace) where
     pub by : Writes port chan id l
 
   abbrev pub Stored : Event → ℕ → Type 0
-  Stored e l = ByPort e l ⊎ ByMake e l ⊎ ByWrite e l
+  Stored e l = ByPort e l ⊎ ByMake e l ⊎ ByWrite e l ⊎ Opens h past e
 
-  -- an event leaves the value of the line, or is a store to it
+  -- an event leaves the value of the line, or is a store to it, or opens memory
   pub value_moves : (e : Event) → IsAccepted h (e ∷ past) → (l : ℕ) → (value_of (e ∷ past) l ≡ value_of past l) ⊎ Stored e l
   value_moves (D q addr strobe b line) a l =
       elim (cases_Bool (nat_eq l addr)) [
@@ -205,8 +206,9 @@ module _ (h : Header) (past : Trace) where
       by (Some x) is =
           elim (cases_Bool (stores_data x && is_on x l)) [
             | inr f ↦ inl (rw (is, f) refl)
-            | inl t ↦ inr (inr (inr (record { port = q; chan = c; id = j; line = line; is = refl; by = stores_m q c j line l a x is t })))
+            | inl t ↦ inr (inr (inr (inl (record { port = q; chan = c; id = j; line = line; is = refl; by = stores_m q c j line l a x is t }))))
           ]
+  value_moves (Mem addr line) a l = inr (inr (inr (inr (opens_of h past addr line a))))
   value_moves _ a l = inl refl
 
 pub snoop_of_kind : (x : Transaction) (k : AwKind) (s : SnoopKind) → is_read x.chan ≡ false → write_kind x ≡ Some k → snoop_of_write k ≡ Some s → snoop_of x ≡ Some s

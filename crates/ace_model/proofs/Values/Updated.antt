@@ -57,7 +57,7 @@ updated_step h past e a r f p i l x o on dirty m =
           | inr (inl u) ↦
               let addr = is_on-addr w.one l w.on in
               record {
-                stored = update_true h past e l w a r.0 f.updates u;
+                stored = update_true h past e l w a r f.updates u;
                 none = still_none h past e a l
                     (λ y g. not-true (has_passed_data h past y) (is_none_or-at (granted h past w.one.addr) (λ y. not (has_passed_data h past y)) y u.clear (ap (granted h past) addr ∙ g)))
                     (λ q v new d. let bad = sym w.is ∙ new.is in cc);
@@ -75,9 +75,10 @@ updated_step h past e a r f p i l x o on dirty m =
         record {
           stored = elim (memory_moves h past e a l) [
             | inl kept ↦ kept ∙ q.stored ∙ sym value
-            | inr w ↦ elim (writer h past e l w a) [
+            | inr (inr opens) ↦ opens.stored l
+            | inr (inl w) ↦ elim (writer h past e l w a) [
               | inl passed ↦ let bad : true ≡ false = sym passed.has ∙ q.none w.one passed.stands in cc
-              | inr (inl u) ↦ update_true h past e l w a r.0 f.updates u
+              | inr (inl u) ↦ update_true h past e l w a r f.updates u
               | inr (inr s) ↦ let bad : true ≡ false = sym (ap is_invalid (all_empty h past a.0 w.port w.chan w.id l s p)) ∙ k.held in cc
             ]
           ];

@@ -173,11 +173,12 @@ module _ (h : Header) (past : Trace) where
           let value = value_stays h past e a l x was (λ p may. unique_valid (state_of h past p l) (may_unique h past p l may) (q.nowhere p)) (write_no_make h past x l writes) (again earlier) in
           elim (memory_moves h past e a l) [
             | inl kept ↦ kept ∙ q.stored ∙ sym value
-            | inr w ↦ elim (writer h past e l w a) [
+            | inr (inr m) ↦ m.stored l
+            | inr (inl w) ↦ elim (writer h past e l w a) [
               | inl passed ↦
                   let one : w.one ≡ x = Some-injective w.one x (sym passed.stands ∙ was) in
                   let bad : true ≡ false = sym passed.reads ∙ ap (λ (y : Transaction). is_read y.chan) one ∙ writes in cc
-              | inr (inl u) ↦ update_true h past e l w a r.0 f.updates u
+              | inr (inl u) ↦ update_true h past e l w a r f.updates u
               | inr (inr s) ↦ absurd (again earlier w.port w.chan w.id s (Some-injective s.one x (sym s.stands ∙ was)))
             ]
           ]
