@@ -1,9 +1,9 @@
 //! The rules of the address events, of grants and of snoops, over the events so far, the oldest first.
 
-ghost use Rattle.std.specs.Prelude.{◌≡◌, reverse, false};
+ghost use Rattle.std.specs.Prelude.{◌≡◌, reverse, true, false};
 ghost use Rattle.ace_model.specs.Grants.{granted};
-ghost use Rattle.ace_model.specs.Trace.{port_of, is_some_and};
-ghost use Rattle.ace_model.specs.AddressRules.{wants_ace, k1, has_known_codes, line_address, k3, has_free_name, k4, has_free_line, k5, starts_well, k6, may_lock, k7};
+ghost use Rattle.ace_model.specs.Trace.{port_of, is_none_or, is_some_and};
+ghost use Rattle.ace_model.specs.AddressRules.{wants_ace, k1, has_known_codes, line_address, is_aligned, k3, has_free_name, k4, has_free_line, k5, starts_well, k6, may_lock, k7};
 ghost use Rattle.ace_model.specs.SnoopRules.{may_be_granted, k12, has_snoop_code, may_snoop_for, may_snoop, k13, k14, answers_by_row, k15};
 ghost use Rattle.ace_model.specs.Accepted.{IsAcceptedBy};
 ghost use Rattle.ace_model.specs.Today.{is_known_today, k2_today, rules_today};
@@ -27,7 +27,8 @@ use ace_event::{Event, Header};
 use ace_model::{Snoop, Transaction};
 use ace_tables::{is_snoop_row, start_read_ok, start_write_ok};
 
-fn port_of(e: &Event) -> u8
+/// The port that the event names.
+fn port_of(e: &Event) -> Option<u8>
     ensures { result ≡ port_of e.now }
 {
     match *e {
@@ -46,7 +47,8 @@ fn port_of(e: &Event) -> u8
         | Event::S { port, .. }
         | Event::L { port, .. }
         | Event::D { port, .. }
-        | Event::Op { port, .. } => port,
+        | Event::Op { port, .. } => Some(port),
+        Event::Mem { .. } => None,
     }
 }
 
@@ -71,7 +73,7 @@ fn wants_ace(e: &Event) -> bool
 pub fn keeps_port(h: &Header, past: &[Event], e: &Event) -> bool
     ensures { result ≡ k1 h.now (reverse past.now) e.now }
 {
-    port_of(e) < h.ports && (!wants_ace(e) || is_ace(h, port_of(e)))
+    port_of(e).is_none_or(|port| port < h.ports && (!wants_ace(e) || is_ace(h, port)))
 }
 
 /// The event is one that is known today.
@@ -152,16 +154,27 @@ fn line_address(e: &Event) -> Option<u32>
                 .then_some(addr)
         }
         Event::Ac { addr, snoop, .. } => snoops_a_line(snoop).then_some(addr),
-        Event::S { addr, .. } | Event::L { addr, .. } | Event::D { addr, .. } => Some(addr),
+        Event::S { addr, .. }
+        | Event::L { addr, .. }
+        | Event::D { addr, .. }
+        | Event::Mem { addr, .. } => Some(addr),
         _ => None,
     }
 }
 
-/// K3
-pub fn keeps_alignment(h: &Header, past: &[Event], e: &Event) -> bool
-    ensures { result ≡ k3 h.now (reverse past.now) e.now }
+/// The address of the line that the event names, if it names one, is that of a line.
+fn has_aligned_address(e: &Event) -> bool
+    ensures { result ≡ is_none_or (line_address e.now) is_aligned }
 {
     line_address(e).is_none_or(|addr| addr % 64 == 0)
+}
+
+/// K3, of an event that keeps K2: none that is known today opens memory.
+pub fn keeps_alignment(h: &Header, past: &[Event], e: &Event) -> bool
+    requires { k2_today h.now (reverse past.now) e.now ≡ true }
+    ensures { result ≡ k3 h.now (reverse past.now) e.now }
+{
+    has_aligned_address(e)
 }
 
 fn has_free_name(h: &Header, past: &[Event], x: Transaction) -> bool

@@ -1,12 +1,12 @@
 -- Fields have no reason exactly where they are those of an event in range.
-use Rattle.std.proofs.Common.{◌≡◌, ℕ, cond, List, [], ◌∷◌, Option, Some, None, refl, sym, ap, subst, ◌∙◌, arith, inl, inr}
+use Rattle.std.proofs.Common.{◌≡◌, ℕ, false, cond, List, [], ◌∷◌, Option, Some, None, refl, sym, ap, subst, ◌∙◌, arith, inl, inr}
 use Rattle.std.specs.Prelude.{codes}
 use Rattle.std.specs.List.{AllByRecursion}
 use Rattle.std.specs.Str.{bytes_eq}
 use Rattle.std.proofs.lemmas.Bool.{cases_Bool}
 use Rattle.std.proofs.lemmas.Slice.Eq.{bytes_eq-Decides}
 use Rattle.ace_event.specs.declared.event.Event.{Event}
-use Rattle.ace_event.specs.declared.event.Event.TheVariants.{Ar, R, Rk, Aw, W, B, Wk, Ac, Cr, Cd, G, M, S, L, D, Op}
+use Rattle.ace_event.specs.declared.event.Event.TheVariants.{Ar, R, Rk, Aw, W, B, Wk, Ac, Cr, Cd, G, M, S, L, D, Op, Mem}
 use Rattle.ace_event.specs.Range.{InRange}
 use Rattle.ace_event.specs.Text.{fields}
 use Rattle.ace_grammar.specs.declared.reason.Reason.TheVariants.{F2}
@@ -127,6 +127,7 @@ event_without_reason (S port addr st) h = s.encode (port, (addr, st)) (omega (ar
 event_without_reason (L port addr w x word) h = l.encode (port, (addr, (w, (x, word)))) (omega (arith, h.0), (omega (arith, h.1), (h.2, (tt, omega (arith, h.3)))))
 event_without_reason (D port addr strobe x line) h = d.encode (port, (addr, (strobe, (x, line)))) (omega (arith, h.0), (omega (arith, h.1), (omega (arith, h.2), (tt, h.3))))
 event_without_reason (Op port k res) h = op.encode (port, (k, res)) (omega (arith, h.0), (omega (arith, h.1), tt))
+event_without_reason (Mem addr line) h = absurd h
 
 -- the characters of an event's fields show
 pub event_visible : (event : Event) → AllByRecursion IsVisible (fields event)
@@ -146,3 +147,4 @@ event_visible (S port addr st) = ((omega arith, tt), s.visible (port, (addr, st)
 event_visible (L port addr w x word) = ((omega arith, tt), l.visible (port, (addr, (w, (x, word)))))
 event_visible (D port addr strobe x line) = ((omega arith, tt), d.visible (port, (addr, (strobe, (x, line)))))
 event_visible (Op port k res) = ((omega arith, (omega arith, tt)), op.visible (port, (k, res)))
+event_visible (Mem addr line) = let of_d = d.visible (0, (addr, (0, (false, line)))) in ((omega arith, (omega arith, (omega arith, tt))), (of_d.1.0, of_d.1.1.1.1))

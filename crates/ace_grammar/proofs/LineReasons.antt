@@ -5,7 +5,7 @@ use Rattle.std.proofs.lemmas.List.Elements.{All-from_recursion}
 use Rattle.ace_io.specs.Line.{HasNoLf}
 use Rattle.std.proofs.lemmas.List.Splits.{join_with_byte-slice_split}
 use Rattle.ace_event.specs.declared.event.Event.{Event}
-use Rattle.ace_event.specs.declared.event.Event.TheVariants.{Ar, R, Rk, Aw, W, B, Wk, Ac, Cr, Cd, G, M, S, L, D, Op}
+use Rattle.ace_event.specs.declared.event.Event.TheVariants.{Ar, R, Rk, Aw, W, B, Wk, Ac, Cr, Cd, G, M, S, L, D, Op, Mem}
 use Rattle.ace_event.specs.Range.{InRange}
 use Rattle.ace_event.specs.Text.{event_text, fields}
 use Rattle.ace_grammar.specs.declared.reason.Reason.{Reason}
@@ -34,6 +34,7 @@ some_fields (S port addr st) e = absurd cc
 some_fields (L port addr w x word) e = absurd cc
 some_fields (D port addr strobe x line) e = absurd cc
 some_fields (Op port k res) e = absurd cc
+some_fields (Mem addr line) e = absurd cc
 
 event_fields : (event : Event) → AreFields (event_text event) (fields event)
 event_fields event = record { some_field = some_fields event; joined = refl; no_space = all-weaker IsVisible IsPlain visible-plain (fields event) (event_visible event) }

@@ -3,7 +3,7 @@ use Rattle.std.proofs.Common.{◌≡◌, ℕ, ◌<◌, cond, List, [], ◌∷◌
 use Rattle.std.specs.Option.{option_map}
 use Rattle.std.proofs.lemmas.Bool.{eqb-true}
 use Rattle.ace_event.specs.declared.event.Event.{Event}
-use Rattle.ace_event.specs.declared.event.Event.TheVariants.{Ar, R, Rk, Aw, W, B, Wk, Ac, Cr, Cd, G, M, S, L, D, Op}
+use Rattle.ace_event.specs.declared.event.Event.TheVariants.{Ar, R, Rk, Aw, W, B, Wk, Ac, Cr, Cd, G, M, S, L, D, Op, Mem}
 use Rattle.ace_event.specs.Text.{event_text}
 use Rattle.ace_grammar.specs.Reading.{IsReadable}
 use Rattle.ace_grammar.specs.Records.{ar_fields, r_fields, rk_fields, aw_fields, w_fields, b_fields, wk_fields, ac_fields, cr_fields, cd_fields, g_fields, m_fields, s_fields, l_fields, d_fields, op_fields, ar_event, r_event, rk_event, aw_event, w_event, b_event, wk_event, ac_event, cr_event, cd_event, g_event, m_event, s_event, l_event, d_event, op_event, a_at, c_at, o_at, r_at, w_at, event_at}
@@ -176,6 +176,7 @@ event_again (S port addr st) h = ap (option_map s_event) (s.exact.again (port, (
 event_again (L port addr w x word) h = ap (option_map l_event) (l.exact.again (port, (addr, (w, (x, word)))) (omega (arith, h.0), (omega (arith, h.1), (h.2, (tt, omega (arith, h.3))))))
 event_again (D port addr strobe x line) h = ap (option_map d_event) (d.exact.again (port, (addr, (strobe, (x, line)))) (omega (arith, h.0), (omega (arith, h.1), (omega (arith, h.2), (tt, h.3)))))
 event_again (Op port k res) h = ap (option_map op_event) (op.exact.again (port, (k, res)) (omega (arith, h.0), (omega (arith, h.1), tt)))
+event_again (Mem addr line) h = absurd h
 
 -- the line of an event is shorter than 256 bytes
 pub event_short : (event : Event) → IsReadable event → length (event_text event) < 256
@@ -195,3 +196,4 @@ event_short (S port addr st) h = omega (arith, s.exact.short (port, (addr, st)) 
 event_short (L port addr w x word) h = omega (arith, l.exact.short (port, (addr, (w, (x, word)))) (omega (arith, h.0), (omega (arith, h.1), (h.2, (tt, omega (arith, h.3))))))
 event_short (D port addr strobe x line) h = omega (arith, d.exact.short (port, (addr, (strobe, (x, line)))) (omega (arith, h.0), (omega (arith, h.1), (omega (arith, h.2), (tt, h.3)))))
 event_short (Op port k res) h = omega (arith, op.exact.short (port, (k, res)) (omega (arith, h.0), (omega (arith, h.1), tt)))
+event_short (Mem addr line) h = absurd h

@@ -34,7 +34,8 @@
 --    RK, WK, and at an ACE-Lite port the last R and the B: they don't end it. A read is acknowledged after all its
 --    transfers. A write that causes a snoop has data, and has its M before its B, by K26. So what ends has begun, or has its
 --    snoops done.
---    AR, AW: they have another name, by K4. W, CD, S, L, D, OP: no part of the fact looks at them.
+--    AR, AW: they have another name, by K4. W, CD, S, L, D, OP, MEM: no part of the fact looks
+--    at them.
 --
 -- 5. An answer to a line snoop is under the present grant, by fact 4. By K15 it is a row of the snoop that the granted
 --    transaction causes; and where a memory update of the port on the line is outstanding, by K16 a row that goes with it

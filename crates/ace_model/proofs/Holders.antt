@@ -48,7 +48,7 @@
 -- * S. A silent transition leaves no more than there was (K29).
 -- * D. It names a state only where its port may store: it holds the line in UC or UD (K32), so no other port holds anything
 --   of it. UD is no more than that, but for the dirt.
--- * W, CD, M, L, OP. None of the facts speaks of them.
+-- * W, CD, M, L, OP, MEM. None of the facts speaks of them.
 --
 -- One state is no more than another (`Less` in Tables/Less) where it is I if the other is, not unique if the other is not, I
 -- or SC if the other is, and clean if the other is. Where the state of each port becomes no more, a fact that limits what

@@ -1,6 +1,6 @@
 -- All reads follow one order of the stores: the law `ReadsFollow`, for every accepted trace of events that a program can hold.
 --
--- The stores of a line are taken in the order of the trace; its value at a point is zeros changed by the stores before it
+-- The stores of a line are taken in the order of the trace; its value at a point is the line of its MEM, or zeros, changed by the stores before it
 -- [value_of]. The law gives each read a point of the trace. A load has the point right before it, and its word is that word
 -- of the value there. A read of a line has a point after its G and not after its first transfer, and all its transfers are
 -- words of the value there. The points of the reads of one port and line, in the order of their L and AR, never go back. The
@@ -27,6 +27,7 @@
 --    M: on the line it is that of a memory update, by K24, and by K25 it writes its burst, which is the value. The granted
 --    read has no passed data to write, and a write would want the grant for itself.
 --    CR: a dirty port that answers the snoop of a read of a line sends data, by K15; then a port has sent.
+--    MEM: nothing is granted yet (Trace/Opening).
 --    WK, RK, S, D: a dirty port stays dirty, or its update ends, which has made memory the value [dirt_moves]. Other events
 --    change neither.
 --

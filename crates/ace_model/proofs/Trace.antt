@@ -16,6 +16,8 @@
 --
 -- Of **accepted** traces:
 --
+-- - **Before a MEM there are MEM events alone** (`Opens`), by K3. So nothing is outstanding, no line is granted, no port holds
+--   one, and memory is the value of each line.
 -- - **A port has one outstanding transaction on a line** (`one_on_line`). Only an AR or AW makes one outstanding, and by
 --   K5 the port had none on the line then.
 -- - **The complete writes of an ACE port that wait for their WK are outstanding, and none waits twice** (`WriteQueue`).

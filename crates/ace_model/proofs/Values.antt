@@ -1,7 +1,7 @@
 -- Data newer than memory have a place, and every valid copy is the line's value [DirtyPlace].
 --
--- The value of a line [value_of] is zeros changed by its stores in the order of the trace. The law says of every point of
--- an accepted trace, and of every line: each port whose state isn't I has a copy equal to the value [AreCopiesTrue]; and
+-- The value of a line [value_of] is the line of its MEM, or zeros, changed by its stores in the order of the trace. The law says
+-- of every point of an accepted trace, and of every line: each port whose state isn't I has a copy equal to the value [AreCopiesTrue]; and
 -- the value isn't lost [IsValueSafe]: memory has it, or a port holds the line in UD or SD, or there are passed data and
 -- they are the value, or the granted transaction is a MakeUnique or WriteLineUnique, which replaces the whole line. The
 -- law of the holders (Holders) is taken for granted: a unique line has one holder, a dirty line has one owner.
@@ -63,8 +63,10 @@
 -- S: a silent transition takes no port out of I, and from UD only to SD (K29) (DirtMoves).
 -- G: under a new grant no snoop is answered yet, and its transaction has had no M (K12, K24).
 -- AR, AW: a new transaction has had no transfer, beat, D or M.
+-- MEM: before it there are MEM events alone (K3), so nothing is outstanding or granted and no port holds a line; and it makes
+--   memory and the value the same line (Trace/Opening).
 --
--- The law's one premise beside acceptance is what the types of the fields of an event give [FitsFields]: the line of an M has
+-- The law's one premise beside acceptance is what the types of the fields of an event give [FitsFields]: the line of an M or a MEM has
 -- four words, and a word of data sixteen bytes (MemoryWrites).
 
 -- the facts that hold at every point

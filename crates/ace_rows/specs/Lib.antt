@@ -5,6 +5,7 @@ pub mod WorkedStores
 pub mod WorkedUpdates
 pub mod WorkedExclusives
 pub mod WorkedBarriers
+pub mod WorkedMemory
 pub mod WorkedMessages
 pub mod Terms
 pub mod Broken

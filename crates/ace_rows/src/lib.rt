@@ -8,6 +8,7 @@ pub mod shortest;
 pub mod terms;
 pub mod worked_barriers;
 pub mod worked_exclusives;
+pub mod worked_memory;
 pub mod worked_messages;
 pub mod worked_reads;
 pub mod worked_stores;

@@ -76,6 +76,7 @@ impl TextBuf {
                 line,
             } => self.push_d(*port, *addr, *strobe, *x, line),
             Event::Op { port, k, res } => self.push_op(*port, *k, *res),
+            Event::Mem { .. } => unreachable!(),
         }
     }
 
