@@ -18,7 +18,7 @@
 --   had answered are the first among its messages, and with n of them answered the n-th was: this Sync.
 
 -- The messages for a port and its answers at an earlier point.
-pub mod Messages
+pub mod Parts
 -- The k-th snoop that forwards a message forwards the k-th message (K36).
 pub mod Forwarding
 -- A complete message was answered by every other ACE port (K37).

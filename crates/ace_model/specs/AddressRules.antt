@@ -156,7 +156,8 @@ begins_well past x =
 
 -- K9: a barrier has address 0, and every earlier pair of the port is complete on both channels; its own other half, if it was
 -- issued, has the same bar and domain. The first part of a DVM message has a word that means one, and is a Sync only where
--- the port's last Sync, if there was one, has had its AC DVM Complete; a second part has the domain and bar of its first. A DVM Complete has address 0 (Arm IHI 0022E, C8 and C12).
+-- the port's last Sync, if there was one, has had its AC DVM Complete; a second part has the domain and bar of its first. A
+-- DVM Complete has address 0 (Arm IHI 0022E, C8 and C12).
 abbrev pub k9 : Header → Trace → Event → Bool
 k9 h past e = is_none_or (issued (length past) e) (begins_well past)
 

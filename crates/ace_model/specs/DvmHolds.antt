@@ -27,8 +27,8 @@ IsCompletedAt h past e =
     (p : ℕ) → completes_sync e p ≡ true
     → (x : Transaction) × (last_sync past p ≡ Some x) × ((q : ℕ) → is_ace h q ≡ true → q ≢ p → IsDoneWith past x q)
 
--- At each AC DVM Complete to a port every other ACE port has answered that port's last Sync and every part of every DVM message that
--- the port issued before it, and has issued a DVM Complete after its answer to that Sync.
+-- At each AC DVM Complete to a port every other ACE port has answered that port's last Sync and every part of every DVM message
+-- that the port issued before it, and has issued a DVM Complete after its answer to that Sync.
 abbrev pub DvmHolds : Header → Trace → Type 0
 DvmHolds h [] = ⊤
 DvmHolds h (e ∷ past) = DvmHolds h past × IsCompletedAt h past e

@@ -1,22 +1,24 @@
--- DVM messages (Arm IHI 0022E, C12). A message has one part or two, each an AR DVM Message; the first part says whether a second
--- follows. The interconnect forwards the messages of the other ports to each ACE port, in the order in which they are issued, each part
--- by an AC DVM Message. A Sync asks every port to say, by a DVM Complete of its own, that it has done what came before.
+-- DVM messages (Arm IHI 0022E, C12). A message has one part or two, each an AR DVM Message; the first part says whether a
+-- second follows, and the message is issued with its last part. The interconnect forwards the messages of the other ports to
+-- each ACE port, in the order in which they are issued, each part by an AC DVM Message. A Sync asks every port to say, by a
+-- DVM Complete of its own, that it has done what came before.
 use Rattle.std.specs.Prelude.{ℕ, ◌+◌, ◌/◌, ◌%◌, Bool, true, false, not, ◌&&◌, ◌||◌, ◌==◌, if◌then◌else◌, List, [], ◌∷◌, ◌++◌, length, take, slice_get, Option, Some, None, is_some}
 use Rattle.std.specs.Int.{bit_at}
-use Rattle.std.specs.List.{count_by, list_any}
+use Rattle.std.specs.List.{count_by, flat_map, list_any}
+use Rattle.std.specs.Option.{option_to_list}
 use Rattle.ace_event.specs.declared.event.Event.{Event}
 use Rattle.ace_event.specs.declared.event.Event.TheVariants.{Ac}
 use Rattle.ace_event.specs.declared.header.Header.{Header}
 use Rattle.ace_codes.specs.Places.{entry}
 use Rattle.ace_codes.specs.Snoops.{ac_kind_of}
 use Rattle.ace_tables.specs.Answers.{same_test}
+use Rattle.ace_model.specs.declared.snoops.Snoop.{Snoop}
 use Rattle.ace_model.specs.declared.transactions.Transaction.{Transaction}
 use Rattle.ace_model.specs.Trace.{is_some_and, Trace, at_point, newer}
 use Rattle.ace_model.specs.Kinds.{is_dvm_message, is_dvm_complete, is_message_snoop, is_complete_snoop}
 use Rattle.ace_model.specs.Transactions.{read_kind, issued, is_ace}
-use Rattle.ace_model.specs.Snoops.{snoops_of, answers}
 use Rattle.ace_model.specs.Progress.{transactions}
-use Rattle.ace_model.specs.Snoops.{answers}
+use Rattle.ace_model.specs.Snoops.{snoop_at, answers}
 
 -- what a DVM message asks for, in bits 14 to 12 of its word
 pub data Operation : Type 0 where
@@ -49,7 +51,7 @@ is_sync_operation _ = false
 abbrev pub is_sync_word : ℕ → Bool
 is_sync_word word = is_some_and (operation_of word) is_sync_operation
 
--- a second part follows the one with this word
+-- a second part follows a first part with this word
 abbrev pub has_second : ℕ → Bool
 has_second word = bit_at word 0 == 1
 
@@ -70,7 +72,7 @@ abbrev pub part_in : Option Transaction → ℕ → Option Transaction
 part_in None p = None
 part_in (Some x) p = if is_message_part x && (x.port == p) then Some x else None
 
--- the first part that waits for its second, once this part is issued: it is the second of the one that waits, or else a first one
+-- the first part that waits for its second once this part is issued, which is the second of the one that waits, or a first one
 abbrev pub waits_after : Option Transaction → Option Transaction → Option Transaction
 waits_after waiting None = waiting
 waits_after (Some first) (Some x) = None
@@ -81,15 +83,15 @@ abbrev pub first_waiting : Trace → ℕ → Option Transaction
 first_waiting [] p = None
 first_waiting (e ∷ past) p = waits_after (first_waiting past p) (part_in (issued (length past) e) p)
 
--- the part is a second one
+-- the part of the trace is a second one
 abbrev pub is_second_part : Trace → Transaction → Bool
 is_second_part past x = is_some (first_waiting (at_point x.place past) x.port)
 
--- a second part is no Sync, whatever its word is
+-- it is a Sync; a second part is none, whatever its word is
 abbrev pub is_sync : Trace → Transaction → Bool
 is_sync past x = is_message_part x && is_sync_word x.addr && not (is_second_part past x)
 
--- the parts of the message that is issued with this part, after the first part that waits: a message is issued with its last part
+-- the parts of the message that is issued with this part, after the first part that waits
 abbrev pub parts_with : Option Transaction → Transaction → List Transaction
 parts_with (Some first) x = first ∷ x ∷ []
 parts_with None x = if has_second x.addr then [] else x ∷ []
@@ -104,44 +106,47 @@ abbrev pub parts_for : Trace → ℕ → List Transaction
 parts_for [] p = []
 parts_for (e ∷ past) p = parts_for past p ++ parts_in past (issued (length past) e) p
 
--- the part, if it has the address
-abbrev pub with_address : Option Transaction → ℕ → Option Transaction
-with_address None addr = None
-with_address (Some x) addr = if x.addr == addr then Some x else None
+-- those parts that are there
+abbrev pub parts_among : List (Option Transaction) → List Transaction
+parts_among parts = flat_map option_to_list parts
 
--- the part that is forwarded next, after those that were
-abbrev pub next_of : List Transaction → List (Option Transaction) → Option Transaction
-next_of parts done = slice_get parts (count_by is_some done)
+-- the part for the port that comes after those that were forwarded
+abbrev pub next_after : Trace → ℕ → List (Option Transaction) → Option Transaction
+next_after past p done = slice_get (parts_for past p) (length (parts_among done))
 
--- the part that an AC forwards: an AC DVM Message forwards the next one, if it has its address
-abbrev pub forwards : List Transaction → List (Option Transaction) → ℕ → ℕ → Option Transaction
-forwards parts done addr snoop = if is_some_and (ac_kind_of snoop) is_message_snoop then with_address (next_of parts done) addr else None
+-- the part that a snoop forwards: an AC DVM Message forwards the next one, if it has its address
+abbrev pub forwards : Option Transaction → Snoop → Option Transaction
+forwards None s = None
+forwards (Some x) s = if is_some_and (ac_kind_of s.snoop) is_message_snoop && (x.addr == s.addr) then Some x else None
 
-abbrev pub add_forwarded : List Transaction → List (Option Transaction) → ℕ → ℕ → List (Option Transaction)
-add_forwarded parts done addr snoop = done ++ forwards parts done addr snoop ∷ []
+abbrev pub add_forwarded : Trace → ℕ → List (Option Transaction) → Option Snoop → List (Option Transaction)
+add_forwarded past p done None = done
+add_forwarded past p done (Some s) = done ++ forwards (next_after past p done) s ∷ []
 
--- for each AC of the port, in order, the part that it forwards
+-- for each snoop of the port, in order, the part that it forwards
 abbrev pub forwarded : Trace → ℕ → List (Option Transaction)
 forwarded [] p = []
-forwarded (Ac q addr snoop ∷ past) p =
-    if p == q then add_forwarded (parts_for past p) (forwarded past p) addr snoop else forwarded past p
-forwarded (_ ∷ past) p = forwarded past p
+forwarded (e ∷ past) p = add_forwarded past p (forwarded past p) (snoop_at (length past) e p)
 
 -- the part that is forwarded to the port next
 abbrev pub next_part : Trace → ℕ → Option Transaction
-next_part past p = next_of (parts_for past p) (forwarded past p)
+next_part past p = next_after past p (forwarded past p)
 
--- for each AC of the port that it has answered, the part that it forwarded
-abbrev pub answered_parts : Trace → ℕ → List (Option Transaction)
-answered_parts past p = take (answers past p) (forwarded past p)
+-- the parts that the port has answered: those that its answered snoops forward
+abbrev pub answered_parts : Trace → ℕ → List Transaction
+answered_parts past p = parts_among (take (answers past p) (forwarded past p))
+
+-- the part is among these
+abbrev pub has_part : List Transaction → Transaction → Bool
+has_part parts x = list_any (λ y. y.place == x.place) parts
 
 -- the part was forwarded to the port, which has answered it
 abbrev pub has_answered : Trace → Transaction → ℕ → Bool
-has_answered past x p = list_any (λ o. is_some_and o (λ y. y.place == x.place)) (answered_parts past p)
+has_answered past x p = has_part (answered_parts past p) x
 
 -- how many Syncs the port has answered
 abbrev pub answered_syncs : Trace → ℕ → ℕ
-answered_syncs past p = count_by (λ o. is_some_and o (is_sync past)) (answered_parts past p)
+answered_syncs past p = count_by (is_sync past) (answered_parts past p)
 
 -- which of the Syncs that the port gets the Sync is, from 1
 abbrev pub sync_number : Trace → Transaction → ℕ → ℕ
