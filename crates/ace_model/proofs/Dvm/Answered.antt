@@ -1,5 +1,5 @@
 -- A complete part of a DVM message was answered by every other ACE port.
-use Rattle.std.proofs.Common.{◌≡◌, List, [], ◌++◌, ◌≢◌, ℕ, Bool, true, nat_eq, nat_lt, ◌∷◌, Some, None, refl, arith}
+use Rattle.std.proofs.Common.{◌≡◌, List, [], ◌++◌, ◌≢◌, ℕ, Bool, true, nat_eq, nat_lt, ◌∷◌, Some, None, refl}
 use Rattle.std.proofs.lemmas.Bool.{and_parts, and_from, ne_eqb, ltb-true}
 use Rattle.ace_model.proofs.Terms.{each_port, is_transaction, may_respond, Read, Write, Event, R, B, Header, Transaction, Trace, implies, is_some_and, is_dvm_message, is_ace, outstanding, served_by}
 use Rattle.ace_model.proofs.Terms.{is_completion_event, is_completed, is_message_part, is_other_ace, has_answered, is_due, is_answered_by_all, IsAccepted}

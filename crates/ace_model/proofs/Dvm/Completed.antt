@@ -1,20 +1,21 @@
 -- The DVM Completes of a port come after its answers to the Syncs that they complete.
-use Rattle.std.proofs.Common.{◌≡◌, ◌≢◌, ℕ, ◌-◌, ◌≤◌, ◌<◌, Bool, true, false, not, ◌&&◌, cond, nat_eq, List, [], ◌∷◌, ◌++◌, length, length-append, slice_get, count_by, Option, Some, None, is_some, refl, ap, ◌∙◌, arith, inl, inr}
+use Rattle.std.proofs.Common.{◌≡◌, ◌≢◌, ℕ, ◌-◌, ◌≤◌, ◌<◌, Bool, true, ◌&&◌, cond, nat_eq, List, [], ◌∷◌, ◌++◌, length, length-append, slice_get, count_by, Option, Some, None, refl, ap, ◌∙◌, arith, inl, inr}
 use Rattle.std.specs.List.{All}
-use Rattle.std.proofs.lemmas.Bool.{cases_Bool, cases_lt, and_parts, eq-eqb, eqb-true, ne_eqb, ltb-true}
+use Rattle.std.proofs.lemmas.Bool.{cases_Bool, cases_lt, and_parts, eq-eqb, eqb-true, ltb-true}
 use Rattle.std.proofs.lemmas.List.Elements.{All-weaker}
 use Rattle.std.proofs.lemmas.List.Sums.{sum_by_push}
-use Rattle.ace_model.proofs.Terms.{Event, Header, Transaction, Trace, at_point, more, issued, transactions, IsTransaction, is_message_part, is_sync, is_sync_word, has_second, is_message_word, first_waiting, parts_in, parts_for, is_dvm_completion}
-use Rattle.ace_model.proofs.Terms.{dvm_completes, answered_parts, answered_syncs, has_answered, HasCompleted, k38, owes_completion, begins_message, begins_well, is_part_in_order, IsAccepted}
+use Rattle.ace_model.proofs.Terms.{Event, Header, Transaction, Trace, at_point, more, issued, transactions, IsTransaction, is_sync, parts_for, is_dvm_completion, dvm_completes, answered_parts, answered_syncs, has_answered, HasCompleted}
+use Rattle.ace_model.proofs.Terms.{k38, owes_completion, IsAccepted}
 use Rattle.ace_model.proofs.Rules.Keeps.{accepted_keeps}
-use Rattle.ace_model.proofs.General.Lists.{IsStart, start-self, start-trans, start-append, start-both, start-all, start-any, any-right, count_by-agree, count_by-start, slice_get-at_end, start-more, slice_get-start}
+use Rattle.ace_model.proofs.General.Lists.{IsStart, start-trans, start-both, start-all, start-any, any-right, count_by-agree, count_by-start, slice_get-at_end, start-more, slice_get-start}
 use Rattle.ace_model.proofs.Trace.Issued.{issued-place}
-use Rattle.ace_model.proofs.Trace.Growth.{IsIssued, issued-cases, at_point-before}
+use Rattle.ace_model.proofs.Trace.Growth.{at_point-before}
 use Rattle.ace_model.proofs.Trace.Places.{at_point-last, at_point-length, at_point-twice}
 use Rattle.ace_model.proofs.Dvm.Parts.{IsBelow, parts-placed, parts-before}
 use Rattle.ace_model.proofs.Dvm.Forwarding.{answered-first}
+use Rattle.ace_model.proofs.Dvm.Syncs.{IsSyncIn, sync-next}
 use Rattle.ace_model.proofs.General.Options.{is_none_or-at}
-use Rattle.ace_model.proofs.General.Booleans.{implies-at, not_both}
+use Rattle.ace_model.proofs.General.Booleans.{implies-at}
 
 -- the DVM Complete of the port that so many came before: the port had answered more Syncs by then
 pub record IsOwed (past : Trace) (q m : ℕ) : Type 0 where
@@ -74,63 +75,16 @@ completes-owed h (e ∷ past) q m a lt =
           owed-now h e past x.0 q m x.1 parts.0 (eqb-true x.0.port q parts.1) x.3 (accepted_keeps h past e a).rule_38
     ]
 
--- a part is a Sync at an earlier point exactly where it is one
-is_sync-earlier : (past : Trace) (n : ℕ) (x : Transaction) → x.place ≤ n → n ≤ length past → is_sync (at_point n past) x ≡ is_sync past x
-is_sync-earlier past n x le within = rw (at_point-twice past x.place n le within) refl
-
--- A Sync that is issued at this point: the port's last part waits for no second.
-pub record IsSyncAt (past : Trace) (x : Transaction) : Type 0 where
-  pub part : is_message_part x ≡ true
-  pub word : is_sync_word x.addr ≡ true
-  pub first : first_waiting past x.port ≡ None
-
-pub sync-at : (past : Trace) (x : Transaction) → (is_message_part x && is_sync_word x.addr && not (is_some (first_waiting past x.port))) ≡ true → IsSyncAt past x
-sync-at past x sync =
-    let parts = and_parts (is_message_part x && is_sync_word x.addr) _ sync in
-    let both = and_parts (is_message_part x) (is_sync_word x.addr) parts.0 in
-    record { part = both.0; word = both.1; first = not_some (first_waiting past x.port) parts.1 }
-  where
-    not_some : (o : Option Transaction) → not (is_some o) ≡ true → o ≡ None
-    not_some None e = refl
-    not_some (Some y) e = cc
-
--- by the rule on messages it has one part
-sync-alone : (past : Trace) (x : Transaction) (q : ℕ) → IsSyncAt past x → x.port ≢ q → is_part_in_order past x (first_waiting past x.port) ≡ true
-    → parts_in past (Some x) q ≡ x ∷ []
-sync-alone past x q s other order =
-    let begins : begins_message past x ≡ true = rw s.first at order in
-    let word = (and_parts (is_message_word x.addr) _ begins).0 in
-    rw (s.part, ne_eqb x.port q other, s.first, not_both _ (is_sync_word x.addr) (has_second x.addr) word s.word) refl
-
--- a Sync has one part, so that it is for another port next after what was for it when the Sync was issued
-sync-next : (h : Header) (past : Trace) (x : Transaction) (q : ℕ) → IsAccepted h past → IsIssued past x → is_sync past x ≡ true → x.port ≢ q
-    → IsStart (parts_for (at_point x.place past) q ++ x ∷ []) (parts_for past q)
-sync-next h [] x q a i sync other = let low = i.before in absurd (omega arith)
-sync-next h (e ∷ past) x q a i sync other =
-    elim (issued-cases e past x i) [
-      | inl new ↦
-          let now = at_point-last e past x.place (issued-place (length past) e x new) in
-          let s = sync-at past x (rw now at sync) in
-          let begins = is_none_or-at (issued (length past) e) (begins_well past) x (accepted_keeps h past e a).rule_9 new in
-          let order = implies-at (is_message_part x) _ (and_parts _ _ (and_parts _ _ begins).0).1 s.part in
-          rw (now, new, sync-alone past x q s other order) (start-self (parts_for past q ++ x ∷ []))
-      | inr old ↦
-          let low = old.before in
-          let before = at_point-before e past x.place (omega arith) in
-          rw before (start-trans (parts_for (at_point x.place past) q ++ x ∷ []) (parts_for past q) (parts_for (e ∷ past) q)
-          (sync-next h past x q a.0 old (rw before at sync) other) (start-append (parts_for past q) (parts_in past (issued (length past) e) q)))
-    ]
-
 -- a port that has answered more Syncs than were for it before this one has answered this one
-answered-by_count : (h : Header) (past : Trace) (x : Transaction) (q n : ℕ) → IsAccepted h past → IsIssued past x → is_sync past x ≡ true → x.port ≢ q → n ≤ length past
+answered-by_count : (h : Header) (past : Trace) (x : Transaction) (q n : ℕ) → IsAccepted h past → IsSyncIn past x → x.port ≢ q → n ≤ length past
     → count_by (is_sync past) (parts_for (at_point x.place past) q) < answered_syncs (at_point n past) q → has_answered (at_point n past) x q ≡ true
-answered-by_count h past x q n a i sync other within lt =
+answered-by_count h past x q n a s other within lt =
     let then = at_point n past in
     let first = parts_for (at_point x.place past) q in
     let answered = answered_parts then q in
     let all = parts_for past q in
     let long = at_point-length past n within in
-    let upto = sync-next h past x q a i sync other in
+    let upto = sync-next h past x q a s other in
     let start : IsStart answered all = start-trans answered (parts_for then q) all (answered-first then q) (parts-before (length past - n) past q) in
     let longer = length-append first (x ∷ []) in
     elim (cases_lt (length first) (length answered)) [
@@ -140,16 +94,16 @@ answered-by_count h past x q n a i sync other within lt =
       | inr few ↦
           let below : All (IsBelow (length then)) answered = start-all (IsBelow (length then)) answered (parts_for then q) (answered-first then q) (parts-placed then q) in
           let same = count_by-agree (is_sync then) (is_sync past) answered
-          (All-weaker (IsBelow (length then)) (λ y. is_sync then y ≡ is_sync past y) (λ y low. is_sync-earlier past n y (omega arith) within) answered below) in
+          (All-weaker (IsBelow (length then)) (λ y. is_sync then y ≡ is_sync past y) (λ y low. rw (at_point-twice past y.place n (omega arith) within) refl) answered below) in
           let fewer = count_by-start (is_sync past) answered first
           (start-both answered first all start (parts-before (length past - x.place) past q) few) in
           absurd (omega arith)
     ]
 
 -- a port that has issued more DVM Completes than Syncs were for it before this one has completed this one
-pub sync-completed : (h : Header) (past : Trace) (x : Transaction) (q : ℕ) → IsAccepted h past → IsIssued past x → is_sync past x ≡ true → x.port ≢ q
+pub sync-completed : (h : Header) (past : Trace) (x : Transaction) (q : ℕ) → IsAccepted h past → IsSyncIn past x → x.port ≢ q
     → count_by (is_sync past) (parts_for (at_point x.place past) q) < dvm_completes past q → HasCompleted past x q
-sync-completed h past x q a i sync other lt =
+sync-completed h past x q a s other lt =
     let o = completes-owed h past q (count_by (is_sync past) (parts_for (at_point x.place past) q)) a lt in
     let low = o.before in
-    (o.completion, o.there, o.kind, o.port, answered-by_count h past x q o.completion.place a i sync other (omega arith) o.answered)
+    (o.completion, o.there, o.kind, o.port, answered-by_count h past x q o.completion.place a s other (omega arith) o.answered)

@@ -1,61 +1,31 @@
 -- In an accepted trace a Sync waits for all.
-use Rattle.std.proofs.Common.{◌≡◌, ◌≢◌, ℕ, ◌<◌, ◌≤◌, Bool, true, ◌&&◌, not, nat_eq, nat_le, [], ◌∷◌, length, Option, Some, None, sym, ap, ◌∙◌, refl, arith, inl, inr}
+use Rattle.std.proofs.Common.{◌≡◌, ◌≢◌, ℕ, ◌<◌, true, ◌&&◌, not, nat_eq, nat_le, [], ◌∷◌, Some, None, sym, ap, ◌∙◌, arith, inl, inr}
 use Rattle.std.proofs.lemmas.Bool.{and_parts, eqb-true, leb-true}
-use Rattle.ace_model.proofs.Terms.{ac_kind_of, Event, Ac, Header, Transaction, Trace, at_point, is_complete_snoop, is_ace, issued, is_completed, is_message_part, is_sync, first_waiting, answered_parts, parts_for}
-use Rattle.ace_model.proofs.Terms.{has_answered, sync_number, dvm_completes, sync_in, last_sync, is_sync_completed, completes_next, may_complete}
+use Rattle.ace_model.proofs.Terms.{ac_kind_of, Event, Ac, Header, Transaction, Trace, at_point, is_complete_snoop, is_ace, is_completed, is_message_part, first_waiting, answered_parts, parts_for}
+use Rattle.ace_model.proofs.Terms.{has_answered, sync_number, dvm_completes, last_sync, is_sync_completed, completes_next, may_complete}
 use Rattle.ace_model.proofs.Terms.{has_every_completion, DvmHolds, IsCompletedAt, IsDoneWith, IsAccepted}
 use Rattle.ace_model.proofs.Rules.Keeps.{accepted_keeps}
-use Rattle.ace_model.proofs.Trace.Growth.{IsIssued, issued-new, issued-old, transaction-issued, at_point-before}
+use Rattle.ace_model.proofs.Trace.Growth.{IsIssued, transaction-issued}
 use Rattle.ace_model.proofs.Trace.Places.{issued-earlier}
 use Rattle.ace_model.proofs.Dvm.Parts.{parts-cases}
 use Rattle.ace_model.proofs.Dvm.Forwarding.{answered-before}
 use Rattle.ace_model.proofs.Dvm.Answered.{at_other_ace, complete_part-answered}
-use Rattle.ace_model.proofs.Dvm.Completed.{IsSyncAt, sync-at, sync-completed}
+use Rattle.ace_model.proofs.Dvm.Syncs.{IsSyncIn, last_sync-is, sync-at}
+use Rattle.ace_model.proofs.Dvm.Completed.{sync-completed}
 use Rattle.ace_model.proofs.General.Lists.{start-any}
-use Rattle.ace_model.proofs.General.Options.{some_where-is, newer-cases, is_some_and-is, is_none_or-at}
+use Rattle.ace_model.proofs.General.Options.{is_some_and-is, is_none_or-at}
 use Rattle.ace_model.proofs.General.Booleans.{implies-at}
 
--- the last Sync of a port stands in the trace, and is one of the port
-record IsSyncOf (past : Trace) (p : ℕ) (x : Transaction) : Type 0 where
-  pub issued : IsIssued past x
-  pub kind : is_sync past x ≡ true
-  pub port : x.port ≡ p
-
-is_sync-grown : (e : Event) (past : Trace) (x : Transaction) → x.place ≤ length past → is_sync past x ≡ true → is_sync (e ∷ past) x ≡ true
-is_sync-grown e past x low sync = rw (at_point-before e past x.place low) sync
-
-last_sync-is : (past : Trace) (p : ℕ) (x : Transaction) → last_sync past p ≡ Some x → IsSyncOf past p x
-last_sync-is [] p x l = cc
-last_sync-is (e ∷ past) p x l =
-    elim (newer-cases (sync_in past (issued (length past) e) p) (last_sync past p) x l) [
-      | inl new ↦
-          let s = sync_in-is (issued (length past) e) p x new in
-          let i = issued-new e past x s.0 in
-          let low = i.before in
-          record { issued = i; kind = is_sync-grown e past x (omega arith) s.1; port = s.2 }
-      | inr old ↦
-          let s = last_sync-is past p x old in
-          let low = s.issued.before in
-          record { issued = issued-old e past x s.issued; kind = is_sync-grown e past x (omega arith) s.kind; port = s.port }
-    ]
-  where
-    sync_in-is : (o : Option Transaction) (p : ℕ) (x : Transaction) → sync_in past o p ≡ Some x → (o ≡ Some x) × (is_sync past x ≡ true) × (x.port ≡ p)
-    sync_in-is None p x e = cc
-    sync_in-is (Some y) p x e =
-        let s = some_where-is (λ z. is_sync past z && nat_eq z.port p) y x e in
-        let parts = and_parts (is_sync past x) (nat_eq x.port p) s.1 in
-        (ap Some s.0, parts.0, eqb-true x.port p parts.1)
-
 -- a port that has answered a Sync has answered each part of its port before it
-earlier_answered : (past : Trace) (x y : Transaction) (q : ℕ) → IsIssued past x → is_sync past x ≡ true → x.port ≢ q → has_answered past x q ≡ true
+earlier_answered : (past : Trace) (x y : Transaction) (q : ℕ) → IsSyncIn past x → x.port ≢ q → has_answered past x q ≡ true
     → IsIssued past y → is_message_part y ≡ true → y.port ≡ x.port → y.place < x.place → has_answered past y q ≡ true
-earlier_answered past x y q i sync other a there m port lt =
-    let low = i.before in
-    let s = sync-at (at_point x.place past) x sync in
+earlier_answered past x y q s other a there m port lt =
+    let low = s.issued.before in
+    let at = sync-at past x s.kind in
     elim (parts-cases y q m (λ e. other (sym port ∙ e)) (at_point x.place past) (issued-earlier past x.place y there lt (omega arith))) [
       | inl among ↦ start-any (λ z. nat_eq z.place y.place) (parts_for (at_point x.place past) q) (answered_parts past q) (answered-before past x q (omega arith) a) among
       | inr waits ↦
-          let none : first_waiting (at_point x.place past) y.port ≡ None = rw port s.first in
+          let none : first_waiting (at_point x.place past) y.port ≡ None = rw port at.first in
           let bad : Some y ≡ None = sym waits ∙ none in cc
     ]
 
@@ -66,15 +36,17 @@ done_with h past p x a l may q ace other =
     let s = last_sync-is past p x l in
     let parts = and_parts (is_completed past x && not (is_sync_completed past p)) (has_every_completion h past x) may in
     let completed = (and_parts (is_completed past x) _ parts.0).0 in
-    let part = (sync-at (at_point x.place past) x s.kind).part in
-    let apart : q ≢ x.port = λ e. other (e ∙ s.port) in
-    let sync = complete_part-answered h x q part ace apart past completed a s.issued.there in
-    let counts = at_other_ace h x.port q (λ r. nat_le (sync_number past x r) (dvm_completes past r)) parts.1 ace apart in
+    let sync = s.0 in
+    let part = (sync-at past x sync.kind).part in
+    let apart : x.port ≢ q = λ e. other (sym e ∙ s.1) in
+    let back : q ≢ x.port = λ e. apart (sym e) in
+    let answered = complete_part-answered h x q part ace back past completed a sync.issued.there in
+    let counts = at_other_ace h x.port q (λ r. nat_le (sync_number past x r) (dvm_completes past r)) parts.1 ace back in
     let enough = leb-true (sync_number past x q) (dvm_completes past q) counts in
     record {
-      sync = sync;
-      messages = λ y there m port earlier. earlier_answered past x y q s.issued s.kind (λ e. apart (sym e)) sync (transaction-issued past there.0 y there.1) m port earlier;
-      completed = sync-completed h past x q a s.issued s.kind (λ e. apart (sym e)) (omega arith);
+      sync = answered;
+      messages = λ y there m port earlier. earlier_answered past x y q sync apart answered (transaction-issued past there.0 y there.1) m port earlier;
+      completed = sync-completed h past x q a sync apart (omega arith);
     }
 
 -- what the rule on AC DVM Complete says of one
