@@ -9,7 +9,7 @@ pub use Rattle.ace_codes.specs.declared.kind.SnoopKind.{SnoopKind}
 pub use Rattle.ace_codes.specs.declared.state.LineState.{LineState}
 pub use Rattle.ace_codes.specs.declared.state.LineState.TheVariants.{I, SC, SD, UC, UD}
 unfoldable pub use Rattle.ace_event.specs.Bytes.{merged, number_of_bytes}
-pub use Rattle.ace_event.specs.Range.{InRange, IsDigit, IsLine, IsWord}
+pub use Rattle.ace_event.specs.Range.{FitsFields, IsDigit, IsLine, IsWord}
 pub use Rattle.ace_event.specs.declared.event.Channel.{Channel}
 pub use Rattle.ace_event.specs.declared.event.Channel.TheVariants.{Read, Write}
 pub use Rattle.ace_event.specs.declared.event.Event.{Event}
@@ -49,9 +49,9 @@ pub use Rattle.ace_model.specs.Today.{is_known_today, rules_today}
 pub use Rattle.ace_model.specs.Trace.{Trace, at_point, event_at, implies, is_none_or, is_some_and, more, newer}
 pub use Rattle.ace_model.specs.Transactions.{acknowledged, acknowledgements, completed, completes, ended, first_resp, has_name, has_outstanding_on, is_ace, is_complete, is_completion, is_exclusive_store, is_line, is_make_unique_on, is_named, is_on, is_outstanding, is_outstanding_on, is_read, is_some_on, is_transaction, issued, newest_named, next_complete, outstanding, read_kind, same_channel, snoop_kind_of, snoop_of, some_issued, takes_grant, transaction_of, transaction_under, transfers, without, write_kind}
 pub use Rattle.ace_model.specs.Unique.{OneDirty, OneDirtyNow, Unique, UniqueNow}
-pub use Rattle.ace_model.specs.Values.{Beat, Store, after_store, beat_at, beats, burst_line, burst_of, burst_strobe, store_at, store_of, stores_data, value_of}
+pub use Rattle.ace_model.specs.Values.{Store, after_store, burst_line, burst_strobe, store_at, store_of, stores_data, value_of}
 pub use Rattle.ace_model.specs.WriteRules.{burst_into, data_of, data_of_write, ends_write_well, has_data, is_update_due, is_write_due, k24, k25, k26, k27, k28, may_respond, may_write_data, may_write_memory, may_write_passed}
-pub use Rattle.ace_model.specs.Writes.{data_write, data_write_in, data_writes, has_memory_write, is_burst_whole, is_memory_write, next_write, next_write_beat, stands_before, write_beats}
+pub use Rattle.ace_model.specs.Writes.{Beat, beat_at, beats, burst_of, data_write, data_write_in, data_writes, has_memory_write, is_burst_whole, is_memory_write, next_write, next_write_beat}
 pub use Rattle.ace_model.specs.declared.breaks.Break.{Break}
 pub use Rattle.ace_model.specs.declared.snoops.Answer.{Answer}
 pub use Rattle.ace_model.specs.declared.snoops.Snoop.{Snoop}

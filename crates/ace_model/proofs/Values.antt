@@ -64,8 +64,8 @@
 -- G: under a new grant no snoop is answered yet, and its transaction has had no M (K12, K24).
 -- AR, AW: a new transaction has had no transfer, beat, D or M.
 --
--- The law's one premise beside acceptance, that the numbers of the events are in range [InRange], gives the line of an M
--- four words and a word of data sixteen bytes (MemoryWrites).
+-- The law's one premise beside acceptance is what the types of the fields of an event give [FitsFields]: the line of an M has
+-- four words, and a word of data sixteen bytes (MemoryWrites).
 
 -- the facts that hold at every point
 pub mod Facts
@@ -75,14 +75,14 @@ pub mod FullReads
 pub mod Beats
 -- the stores to a line, and that the M of a store finds no port with the line
 pub mod Stores
--- what ends a transaction of a line, what an update holds, and where dirt goes
+-- what ends a write of a line, what an update holds, and where dirt goes
 pub mod Ended
 pub mod UpdateHolds
 pub mod DirtMoves
 -- the copies; that the value stays while data of it are on their way
 pub mod Copies
 pub mod Stays
--- passed data are there until the M, and their read has PassDirty; the reply is the value; what fetches and MakeUniques leave
+-- passed data are there until the M, and their read has PassDirty; the reply is the value; what reads leave at their port
 pub mod PassedData
 pub mod Replies
 pub mod Fetches

@@ -1,8 +1,8 @@
 -- A line snoop that isn't answered yet is of the present grant, whose transaction hasn't begun, and its port has no other.
-use Rattle.std.proofs.Common.{le_refl, ◌≡◌, ◌⊎◌, ℕ, ◌+◌, ◌≤◌, Bool, true, false, not, if◌then◌else◌, ◌&&◌, ◌||◌, nat_eq, nat_le, nat_lt, [], ◌∷◌, length, Option, Some, None, is_none, slice_get, refl, sym, ap, subst, ◌∙◌, arith, inl, inr}
-use Rattle.std.proofs.lemmas.Bool.{false_from_ne_true, or_parts, and_parts, and_from, or_left, or_right, not-true, cases_Bool, eqb-true, eq-eqb, ltb-true}
+use Rattle.std.proofs.Common.{le_refl, ◌≡◌, ◌⊎◌, ℕ, ◌+◌, ◌≤◌, true, false, not, ◌&&◌, ◌||◌, nat_eq, nat_le, nat_lt, [], ◌∷◌, length, Option, Some, None, is_none, slice_get, refl, sym, ap, subst, ◌∙◌, arith, inl, inr}
+use Rattle.std.proofs.lemmas.Bool.{false_from_ne_true, or_parts, and_parts, and_from, or_left, or_right, not-true, cases_Bool, eqb-true, eq-eqb, ltb-true, ne_eqb}
 use Rattle.ace_model.proofs.Terms.{AwKind, SnoopKind, Read, Write, Event, R, Rk, B, Wk, Ac, Cr, Header, snoop_of_write, Snoop, Transaction, Trace, is_some_and, newer, is_update}
-use Rattle.ace_model.proofs.Terms.{has_write_data, beats_of, reads_a_line, is_read, is_line, read_kind, write_kind, snoop_of, snoop_kind_of, ended, transfers, acknowledgements, updates_memory}
+use Rattle.ace_model.proofs.Terms.{has_write_data, is_read, is_line, read_kind, write_kind, snoop_of, snoop_kind_of, ended, transfers, updates_memory}
 use Rattle.ace_model.proofs.Terms.{has_memory_write, snoop_at, snoops_of, snoops_a_line, answers, answered, is_snoop_on, gives_line, granted, grant_place, is_begun, is_snoop_to, was_snooped}
 use Rattle.ace_model.proofs.Terms.{answers_grant, answer_at, answer_of, owes_answer, owes_data, has_failed, is_port_done, has_snoop_code, may_snoop, may_snoop_for, IsAccepted}
 use Rattle.ace_model.proofs.Tables.Kinds.{granted_apart, granted_data, snooping_granted}
@@ -21,6 +21,7 @@ use Rattle.ace_model.proofs.Holders.Law.{accepted_holds}
 use Rattle.ace_model.proofs.General.Options.{Some-injective, is_some_and-is}
 use Rattle.ace_model.proofs.General.Booleans.{implies-at, then_of}
 use Rattle.ace_model.proofs.General.Ports.{each_at}
+use Rattle.ace_model.proofs.Trace.Transfers.{full_some}
 
 -- An unanswered snoop of the line.
 pub record IsPending (past : Trace) (r n l : ℕ) (s : Snoop) : Type 0 where
@@ -94,18 +95,12 @@ module _ (h : Header) (past : Trace) where
       let o = f.grants l x g in
       let zd : e.ended_one ≡ z = Some-injective e.ended_one z (sym e.is ∙ is) in
       let one : e.ended_one ≡ x = same_place past q x.port Read x.chan e.id x.id e.ended_one x e.named (outstanding-named h past x.port x.chan x.id x o.0) (ap (λ (y : Transaction). y.place) zd ∙ same) in
-      let s = f.queue q (acknowledgements past q Read) e.id e.ace (le_refl (acknowledgements past q Read)) e.next in
-      let kind = is_some_and-is (read_kind s.0) (λ c. nat_eq (transfers past q e.id) (beats_of c)) s.2 in
-      let some : nat_eq (transfers past q e.id) 0 ≡ false = beats_some (reads_a_line kind.0) (transfers past q e.id) (eqb-true (transfers past q e.id) (beats_of kind.0) kind.2) in
+      let some : nat_eq (transfers past q e.id) 0 ≡ false = ne_eqb (transfers past q e.id) 0 (full_some past q e.id e.ended_one e.full) in
       let name = has_name-is e.ended_one q Read e.id (transaction_of-stands past q Read e.id e.ended_one e.named).named in
       let reads : is_read x.chan ≡ true = ap (λ (y : Transaction). is_read y.chan) (sym one) ∙ ap is_read name.chan in
       let here : transfers past x.port x.id ≡ transfers past q e.id =
       ap (λ (y : Transaction). transfers past y.port y.id) (sym one) ∙ ap (λ b. transfers past b e.ended_one.id) e.port ∙ ap (transfers past q) e.is_id in
       inl (then_of (is_read x.chan) _ _ reads ∙ ap (λ n. not (nat_eq n 0)) here ∙ ap not some)
-    where
-      beats_some : (b : Bool) (n : ℕ) → n ≡ (if b then 4 else 1) → nat_eq n 0 ≡ false
-      beats_some true n e = rw e refl
-      beats_some false n e = rw e refl
   ends_begun (B q j resp) a l x z k g c is same = written_begun a.0 l q x z k g c same (ends_lite_written h past q j resp a z is)
   ends_begun (Wk q st) a l x z k g c is same = written_begun a.0 l q x z k g c same (ends_write_of h past q st a z is)
   ends_begun e a l x z k g c is same = cc

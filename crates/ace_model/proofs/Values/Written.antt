@@ -2,7 +2,7 @@
 use Rattle.std.proofs.Common.{◌≡◌, ℕ, true, false, ◌||◌, ◌∷◌, length, Option, Some, None, unwrap_or, option_and_then, slice_get, refl, sym, ap, subst, ◌∙◌, inl, inr}
 use Rattle.std.proofs.lemmas.Bool.{and_from, cases_Bool}
 use Rattle.std.specs.List.{AllByRecursion}
-use Rattle.ace_model.proofs.Terms.{AwKind, I, InRange, Channel, Write, Event, M, Header, Line, merged, Transaction, Trace, is_some_and, is_write_line_unique, has_write_data, is_unique_write}
+use Rattle.ace_model.proofs.Terms.{AwKind, I, FitsFields, Channel, Write, Event, M, Header, Line, merged, Transaction, Trace, is_some_and, is_write_line_unique, has_write_data, is_unique_write}
 use Rattle.ace_model.proofs.Terms.{is_no_snoop_write, is_read, read_kind, write_kind, snoop_of, snoop_kind_of, outstanding, has_memory_write, granted, has_passed_data, state_of, memory_of, passed_to}
 use Rattle.ace_model.proofs.Terms.{passed_data, burst_of, burst_line, burst_strobe, value_of, full_line, data_of, data_of_write, burst_into, IsAccepted, replaces_line, HasDirtyHolder}
 use Rattle.ace_codes.specs.declared.kind.AwKind.TheVariants as write
@@ -56,7 +56,7 @@ module _ (h : Header) (past : Trace) where
             | inr holder ↦ absurd (no_holder holder)
           ]
 
-  writing : IsAccepted h past → AllByRecursion InRange past → DirtyPlaced h past → (q : ℕ) (c : Channel) (j l : ℕ) → (w : Writes h past q c j l)
+  writing : IsAccepted h past → AllByRecursion FitsFields past → DirtyPlaced h past → (q : ℕ) (c : Channel) (j l : ℕ) → (w : Writes h past q c j l)
       → Writing l w.one
   writing a r f q c j l w =
       let k = stores_kind w.one w.stores in by k.0 k.1 k.2
@@ -125,7 +125,7 @@ module _ (h : Header) (past : Trace) where
       by k kind s = cc
 
   -- a store makes memory the value
-  pub store_true : (e : Event) → IsAccepted h (e ∷ past) → AllByRecursion InRange (e ∷ past) → DirtyPlaced h past → (l : ℕ) (w : WritesLine h past e l)
+  pub store_true : (e : Event) → IsAccepted h (e ∷ past) → AllByRecursion FitsFields (e ∷ past) → DirtyPlaced h past → (l : ℕ) (w : WritesLine h past e l)
       → (s : Writes h past w.port w.chan w.id l) → memory_of (e ∷ past) l ≡ value_of (e ∷ past) l
   store_true e a r f l w s =
       let one : w.one ≡ s.one = Some-injective w.one s.one (sym (outstanding-named h past w.port w.chan w.id w.one w.out) ∙ s.named) in
@@ -135,7 +135,7 @@ module _ (h : Header) (past : Trace) where
       let value : value_of (M w.port w.chan w.id w.line ∷ past) l ≡ burst_into past s.one (value_of past l) = rw (s.named, both) refl in
       memory_now h past e l w ∙ line ∙ d.stores ∙ sym (rw w.is value)
 
-  pub written_step : (e : Event) → IsAccepted h (e ∷ past) → AllByRecursion InRange (e ∷ past) → DirtyPlaced h past → WrittenTrue h (e ∷ past)
+  pub written_step : (e : Event) → IsAccepted h (e ∷ past) → AllByRecursion FitsFields (e ∷ past) → DirtyPlaced h past → WrittenTrue h (e ∷ past)
   written_step e a r f l x g writes m =
       elim (granted_before h past e l x g) [
         | inr gives ↦ absurd (given_unwritten h past e a l x g gives m)
