@@ -23,7 +23,7 @@ pub use Rattle.ace_tables.specs.SnoopKinds.{snoop_of_read, snoop_of_write}
 pub use Rattle.ace_tables.specs.StartStates.{starts_read, starts_write}
 pub use Rattle.ace_tables.specs.States.{is_among, is_dirty, is_invalid, is_unique, same_state}
 pub use Rattle.ace_model.specs.Accepted.{AreInOrder, BreaksAt, FirstBreakBy, IsAccepted, IsAcceptedBy, Rule, break_or, breaks_of, first_break_after, first_break_by, is_accepted_by, least_of, rise_from, rule, rules}
-pub use Rattle.ace_model.specs.AddressRules.{fits_line, has_free_line, has_free_name, has_known_codes, is_no_snoop, is_opened_below, is_used_alike, k1, k10, k2, k3, k4, k5, k6, k7, k8, k9, may_issue_read, may_open, starts_well}
+pub use Rattle.ace_model.specs.AddressRules.{begins_message, begins_well, fits_line, has_free_line, has_free_name, has_known_codes, is_no_snoop, is_opened_below, is_part_in_order, is_used_alike, k1, k10, k2, k3, k4, k5, k6, k7, k8, k9, may_issue_read, may_open, starts_well}
 pub use Rattle.ace_model.specs.BarrierHolds.{BarrierHolds, IsOrderedAt, IsOrderedBy}
 pub use Rattle.ace_model.specs.Barriers.{Pair, barrier_in, barriers, is_awaited, is_barrier_half, is_barrier_of, is_before, is_pair_complete, is_synchronisation, may_answer, number_of, pair_of, paired, pairs, place_of}
 pub use Rattle.ace_model.specs.CacheRules.{full_line, k29, k30, k31, k32, k33, may_store, wants_store}
@@ -35,9 +35,9 @@ pub use Rattle.ace_model.specs.ExclusiveHolds.{ExclusiveHolds, disturbs, is_excl
 pub use Rattle.ace_model.specs.Exclusives.{has_failed, is_false, passed_at_grant, store_result}
 pub use Rattle.ace_model.specs.Grants.{answer_at, answer_of, answers_grant, are_passed_data_whole, each_port, find_port, given, gives_line, grant_place, granted, has_grant, has_passed_data, has_sharer, is_begun, is_granted, is_snoop_to, newest_on, owes_answer, owes_data, passer, passes, shares, some_port, was_snooped}
 pub use Rattle.ace_model.specs.Kinds.{beats_of, has_write_data, is_clean_unique, is_complete_snoop, is_dvm_message, is_evict, is_granted_write, is_line_read, is_line_snoop, is_line_write, is_lite_read, is_make_unique, is_message_snoop, is_no_snoop_read, is_no_snoop_write, is_read_not_shared_dirty, is_unique_write, is_update, is_write_line_unique, may_be_shared, reads_a_line, takes_passed_data}
-pub use Rattle.ace_model.specs.Messages.{answered_messages, answered_snoops, answered_syncs, dvm_completes, forwarded, forwards_message, forwards_sync, has_answered, is_dvm_completion, is_message, is_other_ace, is_sync, is_sync_completed, is_sync_word, last_sync, messages_for, next_message, sync_in, sync_number, syncs_for}
+pub use Rattle.ace_model.specs.Messages.{add_forwarded, answered_parts, answered_syncs, dvm_completes, first_waiting, forwarded, forwards, has_answered, has_part, has_second, is_dvm_completion, is_message_part, is_message_word, is_other_ace, is_sync, is_sync_completed, is_sync_word, last_sync, next_after, part_in, parts_among, parts_for, parts_in, parts_with, sync_in, sync_number, waits_after}
 pub use Rattle.ace_model.specs.Monitors.{is_monitored, is_set_by}
-pub use Rattle.ace_model.specs.OrderRules.{completes_next, forwards_next, has_every_completion, is_answered_by_all, is_past_barriers, k34, k35, k36, k37, k38, k39, k40, may_answer_half, may_complete, owes_completion}
+pub use Rattle.ace_model.specs.OrderRules.{completes_next, has_every_completion, is_answered_by_all, is_past_barriers, k34, k35, k36, k37, k38, k39, k40, may_answer_half, may_complete, owes_completion}
 pub use Rattle.ace_model.specs.Progress.{IsTransaction, each_issued, evicts, has_had, has_update, is_completed, is_completion_event, is_grant, is_ordered, is_update_on, is_write_of_memory, served_by, transactions, updates_memory}
 pub use Rattle.ace_model.specs.ReadRules.{ends_well, fits_kind, has_upper_bits, has_word, held_of, is_due, is_end, is_next_transfer, k18, k19, k20, k21, k22, k23, may_transfer, must_be_shared, takes_passed}
 pub use Rattle.ace_model.specs.ReadsFollow.{HasBeat, IsBeat, IsGrantOf, IsLoad, IsReadBy, ReadsFollow}

@@ -63,7 +63,8 @@ pub fn barriers_order()
 {}
 
 /// In every accepted trace a Sync waits for all: where its port is told that it is complete, every other ACE port has
-/// answered it and all that its port sent before it, and has issued a DVM Complete after that answer.
+/// answered it and every part of the messages that its port sent before it, and has issued a DVM Complete after its answer
+/// to the Sync.
 pub fn a_sync_waits_for_all()
     ensures { (h : Header) (past : Trace) → IsAccepted h past → DvmHolds h past }
 {}
