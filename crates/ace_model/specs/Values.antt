@@ -1,15 +1,16 @@
 -- What a line should hold: the stores of the line, in the order of the trace. Memory and copies may lag behind.
 use Rattle.std.specs.Prelude.{ℕ, ◌+◌, ◌*◌, Bool, ◌&&◌, ◌||◌, ◌==◌, if◌then◌else◌, List, [], ◌∷◌, map, length, take, drop, Option, Some, None, option_and_then}
 use Rattle.ace_event.specs.declared.event.Event.{Event}
-use Rattle.ace_event.specs.declared.event.Event.TheVariants.{W, D, M}
+use Rattle.ace_event.specs.declared.event.Event.TheVariants.{R, W, D, M}
+use Rattle.ace_event.specs.declared.event.Channel.TheVariants.{Read}
 use Rattle.ace_event.specs.declared.line.Line.{Line}
 use Rattle.ace_event.specs.Bytes.{merged}
 use Rattle.ace_model.specs.declared.transactions.Transaction.{Transaction}
 use Rattle.ace_model.specs.Trace.{Trace, more, at_point, is_some_and}
-use Rattle.ace_model.specs.Kinds.{is_unique_write, is_no_snoop_write}
-use Rattle.ace_model.specs.Transactions.{write_kind, is_on, transaction_of}
+use Rattle.ace_model.specs.Kinds.{is_unique_write, is_no_snoop_write, is_make_invalid}
+use Rattle.ace_model.specs.Transactions.{read_kind, write_kind, is_on, transaction_of}
 use Rattle.ace_model.specs.Writes.{data_writes}
-use Rattle.ace_model.specs.Copies.{zero_line}
+use Rattle.ace_model.specs.Copies.{zero_line, memory_of}
 
 -- a beat of write data: WSTRB and WDATA
 pub record Beat : Type 0 where
@@ -53,10 +54,25 @@ store_of past l x =
     if stores_data x && is_on x l
     then Some (record { port = x.port; strobe = burst_strobe (burst_of past x); line = burst_line (burst_of past x) }) else None
 
--- The store to the line that the event makes: a D, or the M of a write that stores. What the M itself carries isn't looked at.
+-- all strobes of a line
+abbrev pub full_line : ℕ
+full_line = 18446744073709551615
+
+-- the transaction gives up data that are newer than memory: MakeInvalid
+abbrev pub discards_data : Transaction → Bool
+discards_data x = is_some_and (read_kind x) is_make_invalid
+
+-- what is then left of the line is what memory has
+abbrev pub discard_of : Trace → ℕ → Transaction → Option Store
+discard_of past l x =
+    if discards_data x && is_on x l then Some (record { port = x.port; strobe = full_line; line = memory_of past l }) else None
+
+-- The store to the line that the event makes: a D, the M of a write that stores, or the R of a MakeInvalid, which makes the
+-- line what memory has. What the M itself carries isn't looked at.
 abbrev pub store_at : Trace → Event → ℕ → Option Store
 store_at past (D p addr strobe x line) l = if l == addr then Some (record { port = p; strobe = strobe; line = line }) else None
 store_at past (M p c i line) l = option_and_then (store_of past l) (transaction_of past p c i)
+store_at past (R p i resp last word) l = option_and_then (discard_of past l) (transaction_of past p Read i)
 store_at past _ l = None
 
 -- the stores to the line, in the order of the trace
