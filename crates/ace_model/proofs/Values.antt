@@ -75,14 +75,14 @@ pub mod FullReads
 pub mod Beats
 -- the stores to a line, and that the M of a store finds no port with the line
 pub mod Stores
--- what ends a transaction of a line, what an update holds, and where dirt goes
+-- what ends a write of a line, what an update holds, and where dirt goes
 pub mod Ended
 pub mod UpdateHolds
 pub mod DirtMoves
 -- the copies; that the value stays while data of it are on their way
 pub mod Copies
 pub mod Stays
--- passed data are there until the M, and their read has PassDirty; the reply is the value; what fetches and MakeUniques leave
+-- passed data are there until the M, and their read has PassDirty; the reply is the value; what reads leave at their port
 pub mod PassedData
 pub mod Replies
 pub mod Fetches

@@ -11,8 +11,7 @@ use Rattle.ace_model.proofs.Holders.Rises.{state_moves, stays_empty, ends_line_o
 use Rattle.ace_model.proofs.Grants.Begins.{may_of}
 use Rattle.ace_model.proofs.Values.MergedLines.{merged-same}
 use Rattle.ace_model.proofs.Values.Stores.{stores_d, value_moves, all_empty}
-use Rattle.ace_model.proofs.Trace.Transfers.{full_some}
-use Rattle.ace_model.proofs.Trace.Transfers.{full_count}
+use Rattle.ace_model.proofs.Trace.Transfers.{full_some, full_count}
 use Rattle.ace_model.proofs.Values.Facts.{DirtyPlaced}
 use Rattle.ace_model.proofs.Holders.Law.{accepted_holds}
 use Rattle.ace_model.proofs.General.Options.{is_some_and-is}

@@ -1,8 +1,7 @@
 -- Data newer than memory have a place, at every point of an accepted trace.
 use Rattle.std.proofs.Common.{[], ◌∷◌, refl, inl}
 use Rattle.std.specs.List.{AllByRecursion}
-use Rattle.ace_model.proofs.Terms.{InRange, Event, Header, Trace}
-use Rattle.ace_model.proofs.Terms.{IsAccepted, DirtyPlace}
+use Rattle.ace_model.proofs.Terms.{InRange, Event, Header, Trace, IsAccepted, DirtyPlace}
 use Rattle.ace_model.proofs.Values.Fetches.{fetches_step}
 use Rattle.ace_model.proofs.Values.Copies.{copies_step}
 use Rattle.ace_model.proofs.Values.Made.{made_step}

@@ -1,10 +1,10 @@
 -- The value of a line is in memory, dirty at a port, passed on, or to be replaced whole.
 use Rattle.std.proofs.Common.{◌≡◌, ◌⊎◌, ℕ, true, false, ◌&&◌, ◌||◌, nat_eq, ◌∷◌, length, Option, Some, None, refl, sym, ap, subst, ◌∙◌, inl, inr}
 use Rattle.std.proofs.lemmas.Bool.{and_parts, and_from, or_left, or_right, cases_Bool, cases_eq, eq-eqb}
-use Rattle.ace_model.proofs.Terms.{ArKind, AwKind, SnoopKind, LineState, passes_dirty, is_shared, Read, Write, Event, R, Rk, B, Wk, Cr, Header, is_dirty, Answer, Transaction, Trace, implies, InRange, Channel, M, Line, passed_data, data_of}
-use Rattle.ace_model.proofs.Terms.{is_some_and, is_none_or, is_make_unique, has_write_data, is_ace, is_read, is_line, is_some_on, read_kind, write_kind, snoop_of, snoop_kind_of, ended}
-use Rattle.ace_model.proofs.Terms.{outstanding, acknowledged, first_resp, has_memory_write, data_answers, granted, answers_grant, answer_of, has_passed_data, state_of, memory_of, value_of}
-use Rattle.ace_model.proofs.Terms.{has_upper_bits, fits_kind, IsAccepted, replaces_line, IsValueSafe}
+use Rattle.ace_model.proofs.Terms.{ArKind, AwKind, SnoopKind, LineState, passes_dirty, is_shared, Read, Write, Event, R, Rk, B, Wk, Cr, Header, is_dirty, Answer, Transaction, Trace, implies}
+use Rattle.ace_model.proofs.Terms.{InRange, Channel, M, Line, passed_data, data_of, is_some_and, is_none_or, is_make_unique, has_write_data, is_ace, is_read, is_line, is_some_on, read_kind}
+use Rattle.ace_model.proofs.Terms.{write_kind, snoop_of, snoop_kind_of, ended, outstanding, acknowledged, first_resp, has_memory_write, data_answers, granted, answers_grant, answer_of}
+use Rattle.ace_model.proofs.Terms.{has_passed_data, state_of, memory_of, value_of, has_upper_bits, fits_kind, IsAccepted, replaces_line, IsValueSafe}
 use Rattle.ace_codes.specs.declared.kind.ArKind.TheVariants as read
 use Rattle.ace_model.proofs.Trace.Issued.{same_place, outstanding-named}
 use Rattle.ace_model.proofs.Rules.Keeps.{accepted_keeps}

@@ -3,9 +3,8 @@ use Rattle.ace_codes.specs.declared.kind.ArKind.TheVariants as read
 use Rattle.std.proofs.Common.{◌≡◌, ◌⊎◌, ℕ, Bool, true, false, not, ◌&&◌, ◌||◌, nat_eq, nat_lt, ◌∷◌, Option, Some, None, refl, sym, ap, subst, ◌∙◌, inl, inr}
 use Rattle.std.proofs.lemmas.Bool.{and_parts, or_cases, not-true, cases_Bool, eqb-true, or_right, cases_eq}
 use Rattle.ace_model.proofs.Terms.{AwKind, Channel, Read, Event, M, D, Header, Line, Transaction, Trace, is_some_and, is_make_unique, is_update, is_unique_write, is_no_snoop_write, is_ace, is_read}
-use Rattle.ace_model.proofs.Terms.{SnoopKind, I, is_shared, snoop_of_write, is_granted_write, snoop_of, snoop_kind_of, has_failed, state_of, is_line_read_transaction, is_line, is_on, read_kind, write_kind}
-use Rattle.ace_model.proofs.Terms.{outstanding, transaction_of, is_outstanding, is_make_unique_on, is_complete, updates_memory, has_memory_write, is_burst_whole, granted, is_granted, awaits_store}
-use Rattle.ace_model.proofs.Terms.{has_store, are_snoops_done, stores_data, value_of, may_store, wants_store, full_line, may_write_memory, is_write_due, IsAccepted}
+use Rattle.ace_codes.specs.declared.kind.ArKind.TheVariants as read
+use Rattle.ace_model.proofs.Terms.{SnoopKind, I, is_shared, snoop_of_write, is_granted_write, snoop_of, snoop_kind_of, has_failed, state_of, is_line_read_transaction, is_line, is_on, read_kind, write_kind, outstanding, transaction_of, is_outstanding, is_make_unique_on, is_complete, updates_memory, has_memory_write, is_burst_whole, granted, is_granted, awaits_store, has_store, are_snoops_done, stores_data, value_of, may_store, wants_store, full_line, may_write_memory, is_write_due, IsAccepted}
 use Rattle.ace_model.proofs.Trace.Looks.{is_read-is, is_on-addr, read_writes_none, snoops_done-ports}
 use Rattle.ace_model.proofs.Trace.Issued.{outstanding-named, transaction_of-stands}
 use Rattle.ace_model.proofs.Trace.Growth.{some_issued-is}

@@ -2,9 +2,9 @@
 -- a WriteEvict and an Evict the line stays clean.
 use Rattle.std.proofs.Common.{◌≡◌, ◌≢◌, ℕ, Bool, true, false, not, if◌then◌else◌, ◌&&◌, nat_eq, [], ◌∷◌, length, Some, None, unwrap_or, refl, sym, ap, subst, ◌∙◌, inl, inr}
 use Rattle.std.proofs.lemmas.Bool.{and_parts, and_from, not-true, eqb-true, eq-eqb}
-use Rattle.ace_model.proofs.Terms.{AwKind, LineState, UD, Channel, Read, Write, Event, Rk, Wk, Cr, S, D, Header, is_silent_move, starts_read, starts_write, is_invalid, is_dirty, is_unique, Transaction}
-use Rattle.ace_model.proofs.Terms.{Trace, is_some_and, is_none_or, is_update, is_line, is_on, is_some_on, issued, ended, read_kind, write_kind, outstanding, is_outstanding, acknowledged, has_outstanding_on}
-use Rattle.ace_model.proofs.Terms.{updates_memory, is_update_on, has_update, answers_line, state_of, starts_well, IsAccepted}
+use Rattle.ace_model.proofs.Terms.{AwKind, LineState, UD, Channel, Read, Write, Event, Rk, Wk, Cr, S, D, Header, is_silent_move, starts_read, starts_write, is_invalid, is_dirty, is_unique}
+use Rattle.ace_model.proofs.Terms.{Transaction, Trace, is_some_and, is_none_or, is_update, is_line, is_on, is_some_on, issued, ended, read_kind, write_kind, outstanding, is_outstanding}
+use Rattle.ace_model.proofs.Terms.{acknowledged, has_outstanding_on, updates_memory, is_update_on, has_update, answers_line, state_of, starts_well, IsAccepted}
 use Rattle.ace_model.proofs.Trace.Looks.{has_name-is, is_on-addr}
 use Rattle.ace_model.proofs.Trace.Issued.{outstanding-named, transaction_of-stands, outstanding-name, outstanding-origin}
 use Rattle.ace_model.proofs.Trace.Growth.{some_issued-found}
