@@ -10,7 +10,7 @@ use Rattle.ace_model.proofs.Holders.Acknowledge.{is_named_by_rk}
 use Rattle.ace_model.proofs.Holders.Rises.{state_moves, stays_empty, ends_line_of}
 use Rattle.ace_model.proofs.Grants.Begins.{may_of}
 use Rattle.ace_model.proofs.Values.MergedLines.{merged-same}
-use Rattle.ace_model.proofs.Values.Stores.{stores_d, value_moves, all_empty}
+use Rattle.ace_model.proofs.Values.Stores.{stores_d, value_moves, unheld_of, all_empty}
 use Rattle.ace_model.proofs.Trace.Transfers.{full_some, full_count}
 use Rattle.ace_model.proofs.Values.Facts.{DirtyPlaced}
 use Rattle.ace_model.proofs.Holders.Law.{accepted_holds}
@@ -131,13 +131,18 @@ module _ (h : Header) (past : Trace) where
         | inl same ↦ f.copies l p held ∙ sym same
         | inr (inl d) ↦ let is = d.is in cc
         | inr (inr (inl d)) ↦ let is = d.is in cc
-        | inr (inr (inr w)) ↦ absurd (held (all_empty h past a.0 w.port w.chan w.id l w.by p))
+        | inr (inr (inr by)) ↦ absurd (held (all_empty h past a.0 l (unheld_of h past (M q c j line) l by) p))
       ]
   copies_step (R q j resp last word) a f l p held =
       elim (copy_moves (R q j resp last word) a p l) [
-        | inl kept ↦ kept ∙ f.copies l p held
+        | inl kept ↦ elim (value_moves h past (R q j resp last word) a l) [
+          | inl same ↦ kept ∙ f.copies l p held ∙ sym same
+          | inr (inl d) ↦ let is = d.is in cc
+          | inr (inr (inl d)) ↦ let is = d.is in cc
+          | inr (inr (inr by)) ↦ absurd (held (all_empty h past a.0 l (unheld_of h past (R q j resp last word) l by) p))
+        ]
         | inr (inl r) ↦
-            absurd (held (stays_empty h past a.0 p Read r.id l r.one r.out r.on (or_left (is_line_read_transaction r.one) (is_some_and (write_kind r.one) is_granted_write) r.reads)))
+            absurd (held (stays_empty h past a.0 p Read r.id l r.one r.out r.on (inl r.reads)))
         | inr (inr d) ↦ let is = d.is in cc
       ]
   copies_step (Rk q st) a f l p held =

@@ -47,7 +47,7 @@ module _ (h : Header) (past : Trace) where
         ]
         | inr granted ↦
             let empty = stays_empty h past a.0 p Write w.id l w.one w.out w.on
-            (or_right (is_line_read_transaction w.one) (is_some_and (write_kind w.one) is_granted_write) (rw k.1 granted)) in
+            (inr (inl (rw k.1 granted))) in
             absurd (dirty_valid (state_of h past p l) d empty)
       ]
 

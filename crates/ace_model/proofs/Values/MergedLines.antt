@@ -1,9 +1,10 @@
 -- Stores of a whole line, and lines by their words.
-use Rattle.std.proofs.Common.{◌≡◌, ℕ, zero, Option, Some, None, suc, ◌+◌, ◌-◌, ◌*◌, ◌/◌, ◌%◌, ◌^◌, ◌<◌, ◌&&◌, true, nat_eq, List, [], ◌∷◌, length, refl, sym, ap, ◌∙◌, arith, slice_get, slice_index, get_or}
-use Rattle.std.proofs.lemmas.Bool.{and_parts, eqb-true}
+use Rattle.std.proofs.Common.{◌≡◌, ℕ, zero, Option, Some, None, suc, ◌+◌, ◌-◌, ◌*◌, ◌/◌, ◌%◌, ◌^◌, ◌<◌, ◌&&◌, true, nat_eq, List, [], ◌∷◌, length, refl, sym, ap, ◌∙◌, arith, slice_get, slice_index, get_or, inl, inr}
+use Rattle.std.proofs.lemmas.Bool.{and_parts, cases_Bool, eqb-true}
 use Rattle.std.proofs.Math.Nat.{pow-suc, div-div-eq-div-mul, div-eq_of_lt}
 use Rattle.std.specs.Int.{byte_at}
-use Rattle.ace_model.proofs.Terms.{Line, Trace, Store, value_of, after_store, store_at, number_of_bytes, merged, word_of, same_line, full_line, Beat, burst_strobe, full_beat}
+use Rattle.std.specs.List.{AllByRecursion}
+use Rattle.ace_model.proofs.Terms.{InRange, IsLine, IsWord, M, is_some_on, transaction_of, memory_of, Line, Trace, Store, value_of, after_store, store_at, number_of_bytes, merged, word_of, same_line, full_line, Beat, burst_strobe, full_beat}
 use Rattle.std.proofs.lemmas.Option.{slice_get-get_or}
 
 -- a store of all bytes leaves nothing of the line before
@@ -49,6 +50,23 @@ merged-all a w x y z lw lx ly lz =
 
     four : {a b c d w x y z : ℕ} → a ≡ w → b ≡ x → c ≡ y → d ≡ z → line_of a b c d ≡ line_of w x y z
     four p q r s = cc
+
+pub merged-line : (a line : Line) → IsLine line → merged a full_line line ≡ line
+merged-line a line r = by line.words r.0 r.1
+  where
+    by : (ws : List ℕ) → length ws ≡ 4 → AllByRecursion IsWord ws → merged a full_line (record { words = ws }) ≡ record { words = ws }
+    by (w ∷ x ∷ y ∷ z ∷ []) four low = merged-all a w x y z low.0 low.1.0 low.1.1.0 low.1.1.1.0
+    by ws four _ = absurd (omega arith)
+
+-- memory of a line has four words of sixteen bytes
+pub memory-line : (past : Trace) → AllByRecursion InRange past → (l : ℕ) → IsLine (memory_of past l)
+memory-line [] r l = (refl, (omega arith, (omega arith, (omega arith, (omega arith, tt)))))
+memory-line (M q c j line ∷ past) r l =
+    elim (cases_Bool (is_some_on (transaction_of past q c j) l)) [
+      | inl t ↦ rw t r.0.2
+      | inr f ↦ rw f (memory-line past r.1 l)
+    ]
+memory-line (_ ∷ past) r l = memory-line past r.1 l
 
 -- a line after a store has four words
 pub merged-length : (a : Line) (strobe : ℕ) (bytes : Line) → length (merged a strobe bytes).words ≡ 4
