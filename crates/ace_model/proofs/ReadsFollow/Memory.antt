@@ -1,11 +1,11 @@
 -- Under the grant of a read of a line, while no port has sent data, memory was the value at a point since, or a port that holds the
 -- line dirty hasn't answered. Once the snoops of the read are done there is no such port.
 use Rattle.std.proofs.Common.{[], None, Option, Some, ap, arith, false, inl, inr, le_refl, length, nat_eq, option_and_then, refl, subst, sym, true, ℕ, ◌&&◌, ◌∙◌, ◌∷◌, ◌≡◌, ◌≤◌, ◌⊎◌}
-use Rattle.std.proofs.lemmas.Bool.{false_from_ne_true, or_left, and_from, and_parts, cases_Bool, eq-eqb, or_cases}
+use Rattle.std.proofs.lemmas.Bool.{false_from_ne_true, or_left, and_from, and_parts, cases_Bool, eq-eqb}
 use Rattle.std.specs.List.{AllByRecursion}
 use Rattle.ace_model.proofs.Terms.{has_failed, is_on, Answer, ArKind, Channel, Cr, Event, HasDirtyHolder, Header, I, InRange, IsAccepted, IsValueSafe, Read, SnoopKind, Trace, Transaction, answer_of}
 use Rattle.ace_model.proofs.Terms.{answers_grant, are_snoops_done, at_point, data_answers, first_sender, grant_place, granted, has_passed_data, is_clean_unique, is_dirty}
-use Rattle.ace_model.proofs.Terms.{is_exclusive_store, is_line_read_transaction, is_make_unique, is_no_snoop, is_no_snoop_read, is_no_snoop_write, is_read, is_some_and, is_write_line_unique}
+use Rattle.ace_model.proofs.Terms.{is_exclusive_store, is_line_read_transaction, is_no_snoop, is_no_snoop_read, is_no_snoop_write, is_read, is_some_and}
 use Rattle.ace_model.proofs.Terms.{memory_of, outstanding, passed_to, read_kind, reads_a_line, may_lose_data, snoop_kind_of, snoop_of, snoop_of_read, state_of, transfers_data, value_of, write_kind}
 use Rattle.ace_model.proofs.Tables.Kinds.{read_invalid, reads_apart, reads_unsnooped}
 use Rattle.ace_model.proofs.Trace.Issued.{Stands, outstanding-named, transaction_of-stands}

@@ -1,9 +1,9 @@
 -- From its first beat on a read of a line is granted, no answer comes under its grant any more, and its reply stays the same.
-use Rattle.std.proofs.Common.{length, [], ap, None, Option, Some, false, inl, inr, nat_eq, option_and_then, option_map, refl, subst, sym, true, ℕ, ◌∙◌, ◌∷◌, ◌≡◌, ◌≢◌}
+use Rattle.std.proofs.Common.{ap, None, Option, Some, false, inl, inr, nat_eq, option_and_then, option_map, refl, subst, sym, true, ℕ, ◌∙◌, ◌∷◌, ◌≡◌, ◌≢◌}
 use Rattle.std.proofs.Math.Bool.{and-false}
 use Rattle.std.proofs.lemmas.Bool.{false_from_ne_true, and_from, cases_eq, eq-eqb, ne_eqb}
-use Rattle.ace_model.proofs.Terms.{is_named, issued, Answer, Cr, Event, Header, IsAccepted, Read, Trace, Transaction, answer_at, answer_of, answers, answers_grant, are_snoops_done, at_point}
-use Rattle.ace_model.proofs.Terms.{copy_at_answer, copy_of, first_sender, gives_line, granted, is_begun, is_line_read_transaction, is_read, memory_at_first_beat, outstanding, reply_of, sender_at}
+use Rattle.ace_model.proofs.Terms.{Answer, Cr, Event, Header, IsAccepted, Read, Trace, Transaction, answer_at, answer_of, answers, answers_grant, at_point}
+use Rattle.ace_model.proofs.Terms.{copy_at_answer, copy_of, first_sender, gives_line, granted, is_begun, is_line_read_transaction, memory_at_first_beat, outstanding, reply_of, sender_at}
 use Rattle.ace_model.proofs.Terms.{transfers, transfers_data}
 use Rattle.ace_model.proofs.Trace.Issued.{outstanding-origin, outstanding-name}
 use Rattle.ace_model.proofs.General.Options.{Some-injective, newer-none}

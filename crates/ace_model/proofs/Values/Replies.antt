@@ -1,6 +1,6 @@
 -- The reply to a read that keeps the line is the line's value.
 use Rattle.std.proofs.Common.{◌≡◌, ℕ, true, false, ◌&&◌, nat_eq, [], ◌∷◌, length, Option, Some, None, option_and_then, unwrap_or, refl, sym, ap, subst, ◌∙◌, inl, inr}
-use Rattle.std.proofs.lemmas.Bool.{and_parts, and_from, or_left, cases_Bool, cases_eq, eq-eqb}
+use Rattle.std.proofs.lemmas.Bool.{and_parts, and_from, cases_Bool, cases_eq, eq-eqb}
 use Rattle.ace_model.proofs.Terms.{ArKind, SnoopKind, snoop_of_read, transfers_data, Event, Cr, Header, is_fetch, is_dirty, Answer, Transaction, Trace, at_point, is_some_and, newer, transfers}
 use Rattle.ace_model.proofs.Terms.{is_make_invalid, is_make_unique, is_on, read_kind, write_kind, snoop_of, snoop_kind_of, outstanding, data_answers, gives_line, granted, answers_grant, answer_of}
 use Rattle.ace_model.proofs.Terms.{each_port, has_failed, state_of, are_snoops_done, is_port_done, is_line_read_transaction, copy_of, memory_of, copy_at_answer, passed_data, sender_at, first_sender}

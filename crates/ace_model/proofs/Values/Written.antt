@@ -4,7 +4,7 @@ use Rattle.std.proofs.Common.{◌≡◌, ◌≢◌, ◌⊎◌, ℕ, true, false,
 use Rattle.std.proofs.lemmas.Bool.{and_parts, and_from, cases_Bool}
 use Rattle.std.specs.List.{AllByRecursion}
 use Rattle.ace_model.proofs.Terms.{AwKind, I, InRange, Channel, Read, Write, Event, M, Header, Line, merged, Transaction, Trace, is_some_and, is_make_unique, is_write_line_unique, has_write_data}
-use Rattle.ace_model.proofs.Terms.{is_unique_write, is_no_snoop_write, is_read, is_line, read_kind, write_kind, snoop_of, snoop_kind_of, outstanding, transfers, has_memory_write, gives_line, granted, is_begun}
+use Rattle.ace_model.proofs.Terms.{is_unique_write, is_no_snoop_write, is_read, is_line, read_kind, write_kind, snoop_of, snoop_kind_of, outstanding, transfers, gives_line, granted, is_begun}
 use Rattle.ace_model.proofs.Terms.{has_passed_data, state_of, memory_of, passed_to, passed_data, burst_of, burst_line, burst_strobe, value_of, full_line, data_of, data_of_write, burst_into, IsAccepted}
 use Rattle.ace_model.proofs.Terms.{may_lose_data, HasDirtyHolder}
 use Rattle.ace_codes.specs.declared.kind.ArKind.TheVariants as read
