@@ -6,7 +6,7 @@ use Rattle.ace_model.proofs.Terms.{I, Header, Read, Event, R, L, D, M, is_invali
 use Rattle.ace_model.proofs.Terms.{IsAccepted, is_exclusive_load, disturbs, is_undisturbed, ExclusiveHolds}
 use Rattle.ace_model.proofs.Rules.Keeps.{accepted_keeps}
 use Rattle.ace_model.proofs.Holders.Law.{accepted_holds}
-use Rattle.ace_model.proofs.Values.Stores.{stores_d, stores_m, discards_r, discards_unheld, all_empty, write_empty}
+use Rattle.ace_model.proofs.Values.Stores.{stores_d, stores_m, discards_r, all_empty}
 
 -- the transaction that the store to the line is of
 stored_by : (f : Transaction → Option Store) (o : Option Transaction) (test : Store → Bool) → is_some_and (option_and_then f o) test ≡ true
@@ -47,10 +47,10 @@ module _ (h : Header) (p l : ℕ) where
       ]
   gone_at_store past (M q c i line) a d =
       let by = stored_by (store_of past l) (transaction_of past q c i) _ d in
-      write_empty h past a.0 q c i l (stores_m h past q c i line l a by.0 by.1 (stored_if _ _ _ by.2)) p
+      all_empty h past a.0 l (stores_m h past q c i line l a by.0 by.1 (stored_if _ _ _ by.2)).unheld p
   gone_at_store past (R q i resp last word) a d =
       let by = stored_by (discard_of past l) (transaction_of past q Read i) _ d in
-      all_empty h past a.0 l (discards_unheld h past q i l (discards_r h past q i resp last word l a by.0 by.1 (stored_if _ _ _ by.2))) p
+      all_empty h past a.0 l (discards_r h past q i resp last word l a by.0 by.1 (stored_if _ _ _ by.2)).unheld p
   gone_at_store past e a d = cc
 
   -- a port whose monitor was set before the event is undisturbed by it

@@ -1,19 +1,17 @@
 -- Passed data are the value of their line, or their port has stored since and holds the line dirty.
 use Rattle.std.proofs.Common.{◌≡◌, ◌⊎◌, ℕ, Bool, true, false, ◌&&◌, nat_eq, ◌∷◌, Some, None, option_and_then, option_map, refl, sym, ap, subst, ◌∙◌, inl, inr}
-use Rattle.std.proofs.lemmas.Bool.{and_from, and_parts, cases_Bool, cases_eq, eq-eqb}
+use Rattle.std.proofs.lemmas.Bool.{and_from, cases_Bool, cases_eq, eq-eqb}
 use Rattle.ace_model.proofs.Terms.{LineState, passes_dirty, Event, Cr, D, Header, Line, is_dirty, Answer, Transaction, Trace, at_point, write_kind, snoop_of, snoop_kind_of}
 use Rattle.ace_model.proofs.Terms.{has_outstanding_on, is_outstanding_on, has_memory_write, granted, answers_grant, answer_at, answer_of, passer, has_passed_data}
-use Rattle.ace_model.proofs.Terms.{state_of, is_in_make_unique, awaits_store, copy_of, copy_at_answer, passed_to, passed_data, discards_data, value_of, may_store, IsAccepted, HasDirtyHolder, IsValueSafe}
-use Rattle.ace_codes.specs.declared.kind.SnoopKind.TheVariants as snoop
+use Rattle.ace_model.proofs.Terms.{state_of, is_in_make_unique, awaits_store, copy_of, copy_at_answer, passed_to, passed_data, value_of, may_store, IsAccepted, HasDirtyHolder, IsValueSafe}
 use Rattle.ace_model.proofs.Trace.Looks.{has_name-is, same_channel-self}
 use Rattle.ace_model.proofs.Trace.Issued.{transaction_of-stands}
 use Rattle.ace_model.proofs.Tables.States.{row_is, unique_unsettled, dirty_valid}
 use Rattle.ace_model.proofs.Trace.Growth.{some_issued-weaker}
 use Rattle.ace_model.proofs.Grants.Stays.{granted_before}
-use Rattle.ace_model.proofs.Tables.SnoopRows.{is_make_invalid_snoop}
 use Rattle.ace_model.proofs.Tables.ReadSnoops.{discards_causes}
 use Rattle.ace_model.proofs.Grants.SnoopAnswers.{answer_cases}
-use Rattle.ace_model.proofs.Grants.Answers.{new_answer, others_settled, passed_kind}
+use Rattle.ace_model.proofs.Grants.Answers.{new_answer, others_settled, passed_no_make}
 use Rattle.ace_model.proofs.Values.Stores.{value_moves, awaits_store-is}
 use Rattle.ace_model.proofs.Values.Stays.{may_unique, may_free, copy_at-old, copy_at-new, value_cr}
 use Rattle.ace_model.proofs.Grants.Granted.{unwritten_before, has_passed, Passes}
@@ -23,7 +21,6 @@ use Rattle.ace_model.proofs.Values.Facts.{PassedTrue, DirtyPlaced}
 use Rattle.ace_model.proofs.Holders.Law.{accepted_holds}
 use Rattle.ace_model.proofs.General.Options.{Some-injective}
 use Rattle.ace_model.proofs.General.Booleans.{then_of}
-use Rattle.ace_codes.specs.declared.kind.SnoopKind.TheVariants as snoop
 
 module _ (h : Header) (past : Trace) where
   -- a line that a port may store to is in no MakeUnique of the port
@@ -108,12 +105,6 @@ module _ (h : Header) (past : Trace) where
           let both : (nat_eq r r && answers_grant past r l) ≡ true = and_from _ _ (eq-eqb r r refl) under in
           let bad = rw both at once in cc
 
-      no_make_invalid : granted h past l ≡ Some x → answer_of past r l ≡ Some w → snoop_of x ≡ Some snoop.MakeInvalid → ⊥
-      no_make_invalid was old causes =
-          let k = passed_kind h past a.0 l r x w was old d in
-          let kind : k.0 ≡ snoop.MakeInvalid = Some-injective k.0 snoop.MakeInvalid (sym k.1 ∙ causes) in
-          let bad : true ≡ false = sym (ap is_make_invalid_snoop kind) ∙ k.2 in cc
-
       keeps_value : granted h past l ≡ Some x → answer_of past r l ≡ Some w → copy_of (at_point w.place past) r l ≡ value_of past l
           → (copy_of (at_point w.place (e ∷ past)) r l ≡ value_of (e ∷ past) l) ⊎ (is_dirty (state_of h (e ∷ past) r l) ≡ true)
       keeps_value was old same =
@@ -126,10 +117,10 @@ module _ (h : Header) (past : Trace) where
             ]
             | inr (inr (inl m)) ↦
                 let one : m.made.one ≡ x = Some-injective m.made.one x (sym m.made.stands ∙ was) in
-                absurd (no_make_invalid was old (ap snoop_of (sym one) ∙ ap (λ v. snoop_kind_of v (write_kind m.made.one)) m.made.kind))
+                absurd (passed_no_make h past a.0 l r x w was old d (ap snoop_of (sym one) ∙ ap (λ v. snoop_kind_of v (write_kind m.made.one)) m.made.kind))
             | inr (inr (inr (inr m))) ↦
                 let one : m.by.one ≡ x = Some-injective m.by.one x (sym m.by.stands ∙ was) in
-                absurd (no_make_invalid was old (ap snoop_of (sym one) ∙ discards_causes m.by.one (and_parts (discards_data m.by.one) _ m.by.discards).0))
+                absurd (passed_no_make h past a.0 l r x w was old d (ap snoop_of (sym one) ∙ discards_causes m.by.one m.by.discards))
             | inr (inr (inr (inl m))) ↦
                 let one : m.by.one ≡ x = Some-injective m.by.one x (sym m.by.stands ∙ was) in
                 let name = has_name-is m.by.one m.port m.chan m.id (transaction_of-stands past m.port m.chan m.id m.by.one m.by.named).named in

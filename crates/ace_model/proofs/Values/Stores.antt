@@ -1,16 +1,16 @@
 -- The stores to a line: a D of a port that may store, the D of a MakeUnique, and the M of a write and the R of a MakeInvalid, which
 -- find no port with the line.
 use Rattle.std.proofs.Common.{◌≡◌, ◌⊎◌, ◌<◌, ℕ, Bool, true, false, not, ◌&&◌, ◌||◌, nat_eq, nat_lt, ◌∷◌, Option, Some, None, refl, sym, ap, subst, ◌∙◌, arith, inl, inr}
-use Rattle.std.proofs.lemmas.Bool.{and_parts, or_cases, not-true, cases_Bool, eqb-true, or_right, cases_eq}
+use Rattle.std.proofs.lemmas.Bool.{and_from, and_parts, or_cases, not-true, cases_Bool, eqb-true, or_right, cases_eq}
 use Rattle.std.proofs.Math.Bool.{and-false}
 use Rattle.std.specs.List.{AllByRecursion}
 use Rattle.ace_model.proofs.Terms.{InRange, AwKind, Channel, Read, Event, R, M, D, Header, Line, merged, Transaction, Trace, is_some_and, is_make_unique, is_update, is_unique_write, is_no_snoop_write, beats_of}
 use Rattle.ace_model.proofs.Terms.{SnoopKind, I, is_shared, snoop_of_write, snoop_of, snoop_kind_of, has_failed, state_of, is_ace, is_read, is_line, is_on, read_kind, write_kind, outstanding, transaction_of}
-use Rattle.ace_model.proofs.Terms.{is_outstanding, is_make_unique_on, is_complete, transfers, updates_memory, has_memory_write, is_burst_whole, granted, is_granted, is_begun, awaits_store, has_store}
+use Rattle.ace_model.proofs.Terms.{is_outstanding, is_make_unique_on, is_complete, transfers, updates_memory, is_burst_whole, granted, is_granted, is_begun, awaits_store, has_store}
 use Rattle.ace_model.proofs.Terms.{are_snoops_done, memory_of, stores_data, discards_data, value_of, may_store, wants_store, full_line, may_write_memory, is_write_due, IsAccepted}
 use Rattle.ace_codes.specs.declared.kind.ArKind.TheVariants as read
 use Rattle.ace_codes.specs.declared.kind.SnoopKind.TheVariants as snoop
-use Rattle.ace_model.proofs.Trace.Looks.{is_read-is, is_on-addr, read_writes_none, snoops_done-ports}
+use Rattle.ace_model.proofs.Trace.Looks.{at_name, is_read-is, is_on-addr, read_writes_none, snoops_done-ports}
 use Rattle.ace_model.proofs.Trace.Issued.{outstanding-name, outstanding-named, transaction_of-stands}
 use Rattle.ace_model.proofs.Trace.Growth.{some_issued-is}
 use Rattle.ace_model.proofs.Rules.Keeps.{accepted_keeps}
@@ -112,18 +112,31 @@ module _ (h : Header) (past : Trace) where
             })
       ]
 
-  -- The M of a write that stores.
-  pub record Writes (q : ℕ) (c : Channel) (j l : ℕ) : Type 0 where
+  -- A granted transaction before its M or its transfer, which is a store to the line that no port holds.
+  pub record Unheld (l : ℕ) : Type 0 where
     pub one : Transaction
-    pub named : transaction_of past q c j ≡ Some one
     pub out : outstanding h past one.port one.chan one.id ≡ Some one
     pub on : is_on one l ≡ true
-    pub writes : is_read one.chan ≡ false
     pub stands : granted h past l ≡ Some one
     pub done : are_snoops_done h past one ≡ true
+    pub first : is_begun past one ≡ false
+    pub stores : StoresUnheld one
+
+  -- The M of a write that stores.
+  pub record Writes (q : ℕ) (c : Channel) (j l : ℕ) : Type 0 where
+    pub unheld : Unheld l
+    pub open unheld use {one, out, on, stands}
+    pub named : transaction_of past q c j ≡ Some one
+    pub writes : is_read one.chan ≡ false
     pub whole : is_burst_whole past one ≡ true
-    pub first : has_memory_write past one.port one.chan one.id ≡ false
     pub stores : stores_data one ≡ true
+
+  -- The R of a MakeInvalid.
+  pub record Discards (q j l : ℕ) : Type 0 where
+    pub unheld : Unheld l
+    pub open unheld use {one, on, stands}
+    pub named : transaction_of past q Read j ≡ Some one
+    pub discards : discards_data one ≡ true
 
   -- what an M names is outstanding, and may write memory
   pub record MayWrite (q : ℕ) (c : Channel) (j : ℕ) (x : Transaction) : Type 0 where
@@ -152,48 +165,20 @@ module _ (h : Header) (past : Trace) where
       ] in
       let two = and_parts (is_granted h past x) (are_snoops_done h past x) due in
       record {
-        one = x;
+        unheld = record {
+          one = x;
+          out = outstanding_own h past q c j x m.out;
+          on = parts.1;
+          stands = ap (granted h past) (sym (is_on-addr x l parts.1)) ∙ granted_at h past a.0 q c j x m.out two.0;
+          done = two.1;
+          first = rw writes d.first;
+          stores = inl parts.0;
+        };
         named = named;
-        out = outstanding_own h past q c j x m.out;
-        on = parts.1;
         writes = writes;
-        stands = ap (granted h past) (sym (is_on-addr x l parts.1)) ∙ granted_at h past a.0 q c j x m.out two.0;
-        done = two.1;
         whole = d.whole;
-        first = d.first;
         stores = parts.0;
       }
-
-  -- A granted transaction before its M or its transfer, which is a store to the line that no port holds.
-  pub record Unheld (l : ℕ) : Type 0 where
-    pub one : Transaction
-    pub out : outstanding h past one.port one.chan one.id ≡ Some one
-    pub on : is_on one l ≡ true
-    pub stands : granted h past l ≡ Some one
-    pub done : are_snoops_done h past one ≡ true
-    pub first : is_begun past one ≡ false
-    pub stores : StoresUnheld one
-
-  abbrev pub writes_unheld : (q : ℕ) (c : Channel) (j l : ℕ) → Writes q c j l → Unheld l
-  writes_unheld q c j l w = record {
-    one = w.one;
-    out = w.out;
-    on = w.on;
-    stands = w.stands;
-    done = w.done;
-    first = rw w.writes w.first;
-    stores = inl w.stores;
-  }
-
-  -- The R of a MakeInvalid.
-  pub record Discards (q j l : ℕ) : Type 0 where
-    pub one : Transaction
-    pub named : transaction_of past q Read j ≡ Some one
-    pub discards : (discards_data one && is_on one l) ≡ true
-    pub out : outstanding h past q Read j ≡ Some one
-    pub stands : granted h past l ≡ Some one
-    pub done : are_snoops_done h past one ≡ true
-    pub first : is_begun past one ≡ false
 
   pub discards_r : (q j resp : ℕ) (last : Bool) (word : ℕ) (l : ℕ) → IsAccepted h (R q j resp last word ∷ past) → (x : Transaction)
       → transaction_of past q Read j ≡ Some x → (discards_data x && is_on x l) ≡ true → Discards q j l
@@ -207,27 +192,19 @@ module _ (h : Header) (past : Trace) where
       let few : transfers past q j < 1 = subst (λ k. transfers past q j < beats_of k) kind m.few in
       let none : transfers past q j ≡ 0 = omega arith in
       let name = outstanding-name h past q Read j x out in
-      let here : transfers past x.port x.id ≡ 0 = ap (λ v. transfers past v x.id) name.port ∙ ap (transfers past q) name.id ∙ none in
+      let here : transfers past x.port x.id ≡ 0 = at_name (λ b c. transfers past b) x q Read j name ∙ none in
       record {
-        one = x;
+        unheld = record {
+          one = x;
+          out = outstanding_own h past q Read j x out;
+          on = parts.1;
+          stands = ap (granted h past) (sym (is_on-addr x l parts.1)) ∙ due.stands;
+          done = due.done none;
+          first = rw (ap is_read name.chan) (rw here refl);
+          stores = inr parts.0;
+        };
         named = named;
-        discards = t;
-        out = out;
-        stands = ap (granted h past) (sym (is_on-addr x l parts.1)) ∙ due.stands;
-        done = due.done none;
-        first = rw (ap is_read name.chan) (rw here refl);
-      }
-
-  pub discards_unheld : (q j l : ℕ) → Discards q j l → Unheld l
-  discards_unheld q j l d =
-      let parts = and_parts (discards_data d.one) (is_on d.one l) d.discards in record {
-        one = d.one;
-        out = outstanding_own h past q Read j d.one d.out;
-        on = parts.1;
-        stands = d.stands;
-        done = d.done;
-        first = d.first;
-        stores = inr parts.0;
+        discards = parts.0;
       }
 
   pub record ByPort (e : Event) (l : ℕ) : Type 0 where
@@ -269,8 +246,8 @@ module _ (h : Header) (past : Trace) where
   pub unheld_of : (e : Event) (l : ℕ) → ByWrite e l ⊎ ByDiscard e l → Unheld l
   unheld_of e l by =
       elim by [
-        | inl w ↦ writes_unheld w.port w.chan w.id l w.by
-        | inr d ↦ discards_unheld d.port d.id l d.by
+        | inl w ↦ w.by.unheld
+        | inr d ↦ d.by.unheld
       ]
 
   -- an event leaves the value of the line, or is a store to it
@@ -316,7 +293,7 @@ pub discard_true : (h : Header) (past : Trace) (q j resp : ℕ) (last : Bool) (w
     → value_of (R q j resp last word ∷ past) l ≡ memory_of past l
 discard_true h past q j resp last word l r d =
     let named = d.named in
-    let discards = d.discards in
+    let discards = and_from (discards_data d.one) (is_on d.one l) d.discards d.on in
     let value : value_of (R q j resp last word ∷ past) l ≡ merged (value_of past l) full_line (memory_of past l) = rw (named, discards) refl in
     value ∙ merged-line (value_of past l) (memory_of past l) (memory-line past r l)
 
@@ -362,6 +339,3 @@ module _ (h : Header) (past : Trace) where
                   | inr answered ↦ (f.answers x.addr p x answered.answer s stands answered.is causes).gone (or_right (not (is_shared answered.answer.resp)) (invalidates s) gone)
                 ])
           ]
-
-  pub write_empty : IsAccepted h past → (q : ℕ) (c : Channel) (j l : ℕ) → Writes h past q c j l → (p : ℕ) → state_of h past p l ≡ I
-  write_empty a q c j l w = all_empty a l (writes_unheld h past q c j l w)

@@ -19,7 +19,7 @@ use Rattle.ace_model.proofs.Values.MemoryWrites.{WritesLine, memory_moves, write
 use Rattle.ace_model.proofs.Values.Facts.{Updated, UpdatedTrue, DirtyPlaced}
 use Rattle.ace_model.proofs.Holders.Law.{accepted_holds}
 use Rattle.ace_model.proofs.General.Options.{Some-injective, is_some_and-is, is_none_or-at}
-use Rattle.ace_model.proofs.Values.Stores.{write_empty}
+use Rattle.ace_model.proofs.Values.Stores.{all_empty}
 
 -- no passed data come but by an answer with PassDirty
 still_none : (h : Header) (past : Trace) (e : Event) → IsAccepted h (e ∷ past) → (l : ℕ) → ((y : Transaction) → granted h past l ≡ Some y → has_passed_data h past y ≡ false)
@@ -78,7 +78,7 @@ updated_step h past e a r f p i l x o on dirty m =
             | inr w ↦ elim (writer h past e l w a) [
               | inl passed ↦ let bad : true ≡ false = sym passed.has ∙ q.none w.one passed.stands in cc
               | inr (inl u) ↦ update_true h past e l w a r.0 f.updates u
-              | inr (inr s) ↦ let bad : true ≡ false = sym (ap is_invalid (write_empty h past a.0 w.port w.chan w.id l s p)) ∙ k.held in cc
+              | inr (inr s) ↦ let bad : true ≡ false = sym (ap is_invalid (all_empty h past a.0 l s.unheld p)) ∙ k.held in cc
             ]
           ];
           none = still_none h past e a l q.none (λ z v new d.

@@ -9,19 +9,17 @@ use Rattle.ace_model.proofs.Terms.{has_passed_data, state_of, memory_of, passed_
 use Rattle.ace_model.proofs.Terms.{may_lose_data, HasDirtyHolder}
 use Rattle.ace_codes.specs.declared.kind.ArKind.TheVariants as read
 use Rattle.ace_codes.specs.declared.kind.AwKind.TheVariants as write
-use Rattle.ace_codes.specs.declared.kind.SnoopKind.TheVariants as snoop
 use Rattle.ace_model.proofs.Trace.Looks.{is_on-addr, is_read-is, is_write-is, read_writes_none}
 use Rattle.ace_model.proofs.Trace.Issued.{outstanding-named, outstanding-origin}
 use Rattle.ace_model.proofs.Holders.Rises.{state_moves}
 use Rattle.ace_model.proofs.Grants.Stays.{Stays, gives_none, granted_before}
 use Rattle.ace_model.proofs.Grants.SnoopAnswers.{no_rise}
-use Rattle.ace_model.proofs.Grants.Answers.{passed_kind}
+use Rattle.ace_model.proofs.Grants.Answers.{passed_kind, passed_no_make}
 use Rattle.ace_model.proofs.Values.FullReads.{issue_transfers, transfer_moves, under_way}
 use Rattle.ace_model.proofs.Values.MergedLines.{line_of, merged-length, merged-all, full_burst}
 use Rattle.ace_model.proofs.Trace.WriteBursts.{four_beats}
-use Rattle.ace_model.proofs.Values.Stores.{Writes, Made, Unheld, writes_unheld, discards_unheld, discards_r, discard_true, stores_m, stores_kind, stores_write, all_empty, write_empty}
+use Rattle.ace_model.proofs.Values.Stores.{Writes, Made, Unheld, discards_r, discard_true, stores_m, stores_kind, stores_write, all_empty}
 use Rattle.ace_model.proofs.Tables.States.{unique_valid, dirty_valid}
-use Rattle.ace_model.proofs.Tables.SnoopRows.{is_make_invalid_snoop}
 use Rattle.ace_model.proofs.Tables.ReadSnoops.{discards_kind, discards_causes}
 use Rattle.ace_model.proofs.Values.Stays.{may_unique, value_stays, write_no_make}
 use Rattle.ace_model.proofs.Grants.Granted.{not_named, given_unwritten, written_cases}
@@ -76,7 +74,7 @@ module _ (h : Header) (past : Trace) where
       addr = is_on-addr w.one l w.on
 
       empty : (p : ℕ) → state_of h past p l ≡ I
-      empty p = write_empty h past a q c j l w p
+      empty p = all_empty h past a l w.unheld p
 
       no_read : read_kind w.one ≡ None
       no_read = rw w.writes refl
@@ -180,7 +178,7 @@ module _ (h : Header) (past : Trace) where
                   (outstanding-named h past x.port x.chan x.id x o.0) (and_from _ _ writes_data o.1) in
                   inr (record {
                     stored = store_true e a r f l w s;
-                    nowhere = λ p. rw now.is (write_empty h past a.0 x.port x.chan x.id l s p);
+                    nowhere = λ p. rw now.is (all_empty h past a.0 l s.unheld p);
                   })
             ]
         | inr discards ↦
@@ -193,7 +191,7 @@ module _ (h : Header) (past : Trace) where
                   (outstanding-named h past x.port Read x.id x out) (and_from _ _ discards o.1) in
                   inr (record {
                     stored = rw t.is (sym (discard_true h past x.port x.id t.resp t.last t.word l r.1 d));
-                    nowhere = λ p. rw t.is (all_empty h past a.0 l (discards_unheld h past x.port x.id l d) p);
+                    nowhere = λ p. rw t.is (all_empty h past a.0 l d.unheld p);
                   })
             ]
       ]
@@ -236,9 +234,7 @@ module _ (h : Header) (past : Trace) where
             | inl stored ↦ let writes = stores_write x stored in cc
             | inr discards ↦
                 let p = passes_line h past a.0 l x was has in
-                let k = passed_kind h past a.0 l p.port x p.answer was p.is p.dirty in
-                let kind = Some-injective k.0 snoop.MakeInvalid (sym k.1 ∙ discards_causes x discards) in
-                let bad : true ≡ false = sym (ap is_make_invalid_snoop kind) ∙ k.2 in cc
+                passed_no_make h past a.0 l p.port x p.answer was p.is p.dirty (discards_causes x discards)
           ]
 
       later : granted h past l ≡ Some x → is_begun past x ≡ true → Quiet h past l → memory_of (e ∷ past) l ≡ value_of (e ∷ past) l
@@ -251,6 +247,6 @@ module _ (h : Header) (past : Trace) where
                   let one : w.one ≡ x = Some-injective w.one x (sym passed.stands ∙ was) in
                   absurd (no_passed was (ap (λ (y : Transaction). is_read y.chan) (sym one) ∙ passed.reads) (subst (λ y. has_passed_data h past y ≡ true) one passed.has))
               | inr (inl u) ↦ update_true h past e l w a r.0 f.updates u
-              | inr (inr s) ↦ absurd (again earlier (writes_unheld h past w.port w.chan w.id l s) (Some-injective s.one x (sym s.stands ∙ was)))
+              | inr (inr s) ↦ absurd (again earlier s.unheld (Some-injective s.one x (sym s.stands ∙ was)))
             ]
           ]
