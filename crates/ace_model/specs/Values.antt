@@ -62,7 +62,7 @@ full_line = 18446744073709551615
 abbrev pub discards_data : Transaction → Bool
 discards_data x = is_some_and (read_kind x) is_make_invalid
 
--- what is then left of the line is what memory has
+-- its store: the whole line becomes what memory has
 abbrev pub discard_of : Trace → ℕ → Transaction → Option Store
 discard_of past l x =
     if discards_data x && is_on x l then Some (record { port = x.port; strobe = full_line; line = memory_of past l }) else None

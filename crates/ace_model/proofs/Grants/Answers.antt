@@ -122,7 +122,7 @@ passed_kind h past a l r x w g is d =
     (n.1.kind, new_causes h past r l w x n stays.was, m, dirty_sends n.1.kind held w.resp n.0 n.1.of_line n.1.row m dirty))
     (λ past e a stays was before. before) past a g is
 
--- so none is passed on to a MakeUnique or MakeInvalid
+-- so none is passed on to a transaction that causes it
 pub passed_no_make : (h : Header) (past : Trace) → IsAccepted h past → (l r : ℕ) (x : Transaction) (w : Answer) → granted h past l ≡ Some x
     → answer_of past r l ≡ Some w → passes_dirty w.resp ≡ true → snoop_of x ≡ Some snoop.MakeInvalid → ⊥
 passed_no_make h past a l r x w g is d causes =

@@ -37,8 +37,7 @@ digits w (suc m) i e small =
 abbrev pub line_of : ℕ → ℕ → ℕ → ℕ → Line
 line_of a b c d = record { words = a ∷ b ∷ c ∷ d ∷ [] }
 
--- the line of four words, each of sixteen bytes, stored whole
-pub merged-all : (a : Line) (w x y z : ℕ) → w < 2 ^ 128 → x < 2 ^ 128 → y < 2 ^ 128 → z < 2 ^ 128
+merged-all : (a : Line) (w x y z : ℕ) → w < 2 ^ 128 → x < 2 ^ 128 → y < 2 ^ 128 → z < 2 ^ 128
     → merged a full_line (line_of w x y z) ≡ line_of w x y z
 unfolding merged number_of_bytes
 merged-all a w x y z lw lx ly lz =
@@ -51,6 +50,7 @@ merged-all a w x y z lw lx ly lz =
     four : {a b c d w x y z : ℕ} → a ≡ w → b ≡ x → c ≡ y → d ≡ z → line_of a b c d ≡ line_of w x y z
     four p q r s = cc
 
+-- a line of four words, each of sixteen bytes, stored whole
 pub merged-line : (a line : Line) → IsLine line → merged a full_line line ≡ line
 merged-line a line r = by line.words r.0 r.1
   where

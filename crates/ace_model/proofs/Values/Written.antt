@@ -3,7 +3,7 @@
 use Rattle.std.proofs.Common.{◌≡◌, ◌≢◌, ◌⊎◌, ℕ, true, false, not, ◌||◌, nat_eq, ◌∷◌, length, Option, Some, None, unwrap_or, option_and_then, slice_get, refl, sym, ap, subst, ◌∙◌, inl, inr}
 use Rattle.std.proofs.lemmas.Bool.{and_parts, and_from, cases_Bool}
 use Rattle.std.specs.List.{AllByRecursion}
-use Rattle.ace_model.proofs.Terms.{AwKind, I, InRange, Channel, Read, Write, Event, M, Header, Line, merged, Transaction, Trace, is_some_and, is_make_unique, is_write_line_unique, has_write_data}
+use Rattle.ace_model.proofs.Terms.{AwKind, I, InRange, Channel, Read, Write, Event, M, Header, Line, merged, Transaction, Trace, is_some_and, is_write_line_unique, has_write_data}
 use Rattle.ace_model.proofs.Terms.{is_unique_write, is_no_snoop_write, is_read, is_line, read_kind, write_kind, snoop_of, snoop_kind_of, outstanding, transfers, gives_line, granted, is_begun}
 use Rattle.ace_model.proofs.Terms.{has_passed_data, state_of, memory_of, passed_to, passed_data, burst_of, burst_line, burst_strobe, value_of, full_line, data_of, data_of_write, burst_into, IsAccepted}
 use Rattle.ace_model.proofs.Terms.{may_lose_data, HasDirtyHolder}
@@ -16,7 +16,7 @@ use Rattle.ace_model.proofs.Grants.Stays.{Stays, gives_none, granted_before}
 use Rattle.ace_model.proofs.Grants.SnoopAnswers.{no_rise}
 use Rattle.ace_model.proofs.Grants.Answers.{passed_kind, passed_no_make}
 use Rattle.ace_model.proofs.Values.FullReads.{issue_transfers, transfer_moves, under_way}
-use Rattle.ace_model.proofs.Values.MergedLines.{line_of, merged-length, merged-all, full_burst}
+use Rattle.ace_model.proofs.Values.MergedLines.{line_of, merged-length, merged-line, full_burst}
 use Rattle.ace_model.proofs.Trace.WriteBursts.{four_beats}
 use Rattle.ace_model.proofs.Values.Stores.{Writes, Made, Unheld, discards_r, discard_true, stores_m, stores_kind, stores_write, all_empty}
 use Rattle.ace_model.proofs.Tables.States.{unique_valid, dirty_valid}
@@ -126,7 +126,7 @@ module _ (h : Header) (past : Trace) where
             is = kind_data h past w.one write.WriteLineUnique w.writes kind;
             four = ap (λ (v : Line). length v.words) line;
             stores = sym (ap (λ s. merged (value_of past l) s (burst_line (burst_of past w.one))) strobe ∙ ap (merged (value_of past l) full_line) line
-                ∙ merged-all (value_of past l) four.b0.word four.b1.word four.b2.word four.b3.word f0.low f1.low f2.low f3.low ∙ sym line);
+                ∙ merged-line (value_of past l) (line_of four.b0.word four.b1.word four.b2.word four.b3.word) (refl, (f0.low, (f1.low, (f2.low, (f3.low, tt))))) ∙ sym line);
           }
       by k kind s = cc
 
@@ -223,9 +223,7 @@ module _ (h : Header) (past : Trace) where
       no_make q t m one =
           elim stores [
             | inl writes ↦ write_no_make h past x l (stores_write x writes) q t m one
-            | inr discards ↦
-                let same = Some-injective read.MakeUnique read.MakeInvalid (sym m.kind ∙ ap read_kind one ∙ discards_kind x discards) in
-                let bad : true ≡ false = ap is_make_unique same in cc
+            | inr discards ↦ let bad = sym m.kind ∙ ap read_kind one ∙ discards_kind x discards in cc
           ]
 
       no_passed : granted h past l ≡ Some x → is_read x.chan ≡ true → has_passed_data h past x ≡ true → ⊥
