@@ -1,5 +1,5 @@
 -- Which numbers the fields of an event may have in a trace.
-use Rattle.std.specs.Prelude.{◌≡◌, ℕ, ◌<◌, ◌≤◌, ◌^◌, length}
+use Rattle.std.specs.Prelude.{◌≡◌, ℕ, ◌<◌, ◌≤◌, ◌^◌, length, ⊤}
 use Rattle.std.specs.List.{AllByRecursion}
 use Rattle.ace_event.specs.declared.line.Line.{Line}
 use Rattle.ace_event.specs.declared.event.Event.{Event}
@@ -20,6 +20,17 @@ IsWord word = word < 2 ^ 128
 -- the four words of a line
 abbrev pub IsLine : Line → Type 0
 IsLine line = (length line.words ≡ 4) × AllByRecursion IsWord line.words
+
+-- What the types of the fields give alone: words and strobes have their widths, and a line has four words. Every event that a
+-- program can hold is so.
+abbrev pub FitsFields : Event → Type 0
+FitsFields (R port id resp last word) = IsWord word
+FitsFields (W port strb last word) = (strb < 2 ^ 16) × IsWord word
+FitsFields (Cd port last word) = IsWord word
+FitsFields (M port chan id line) = IsLine line
+FitsFields (L port addr w x word) = IsWord word
+FitsFields (D port addr strobe x line) = (strobe < 2 ^ 64) × IsLine line
+FitsFields _ = ⊤
 
 -- Each number has the digits of its field. Domains, barriers, word numbers and write responses are at most 3, a write
 -- snoop at most 7, a snoop response at most 1f (hexadecimal).

@@ -1,11 +1,14 @@
 //! Facts about the definitions, as contracts of functions that do nothing.
 
-ghost use Rattle.std.specs.Prelude.{◌≡◌, true, false, [], ◌∷◌, ◌++◌, codes};
+ghost use Rattle.std.specs.Prelude.{◌≡◌, true, false, [], ◌∷◌, ◌++◌, codes, ◌<◌, ◌^◌};
 ghost use Rattle.ace_codes.specs.declared.state.LineState.TheVariants.{I, UC, UD, SC, SD};
 ghost use Rattle.ace_event.specs.declared.event.Channel.TheVariants.{Read, Write};
 ghost use Rattle.ace_event.specs.declared.event.Outcome.TheVariants.{Skip};
 ghost use Rattle.ace_event.specs.declared.event.Event.TheVariants.{Ar, R, Rk, Aw, W, B, Wk, Ac, Cr, Cd, G, M, S, L, D, Op};
+ghost use Rattle.ace_event.specs.Range.{IsWord, IsLine, FitsFields};
 ghost use Rattle.ace_event.specs.Text.{event_text, header_text};
+
+use crate::{Event, Line};
 
 /// A line of each record, and a header.
 #[tactic(auto, unfolding(crate::specs::Text::hex_text))]
@@ -29,3 +32,44 @@ pub fn worked_lines()
     ensures op { event_text (Op 2 0x1f Skip) ≡ codes "OP 2 001f skip" }
     ensures dirty { event_text (Rk 0 UD) ≡ codes "RK 0 UD" }
 {}
+
+fn word_fits(word: u128)
+    ensures { IsWord word }
+{}
+
+fn strobe_fits(strobe: u16)
+    ensures { strobe < 2 ^ 16 }
+{}
+
+fn line_fits(line: Line)
+    ensures { IsLine line }
+{
+    let [first, second, third, fourth] = line.words;
+    word_fits(first);
+    word_fits(second);
+    word_fits(third);
+    word_fits(fourth)
+}
+
+fn line_strobe_fits(strobe: u64)
+    ensures { strobe < 2 ^ 64 }
+{}
+
+/// The types of the fields give the widths of words and strobes, and lines of four words.
+pub fn every_event_fits(event: Event)
+    ensures { FitsFields event }
+{
+    match event {
+        Event::R { word, .. } | Event::Cd { word, .. } | Event::L { word, .. } => word_fits(word),
+        Event::W { strb, word, .. } => {
+            strobe_fits(strb);
+            word_fits(word)
+        }
+        Event::M { line, .. } => line_fits(line),
+        Event::D { strobe, line, .. } => {
+            line_strobe_fits(strobe);
+            line_fits(line)
+        }
+        _ => {}
+    }
+}

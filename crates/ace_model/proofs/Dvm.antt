@@ -1,28 +1,33 @@
 -- A Sync waits for all (law `a_sync_waits_for_all`, fact `DvmHolds`): at each AC DVM Complete to a port, every other ACE
--- port has answered the last Sync of that port and every DVM message that the port issued before it, and has issued a DVM
--- Complete after its answer to the Sync (Arm IHI 0022E, C12).
+-- port has answered the last Sync of that port and every part of the DVM messages that the port issued before it, and has
+-- issued a DVM Complete after its answer to the Sync (Arm IHI 0022E, C12).
 --
 -- By K39 the Sync is complete at that AC, and each other ACE port, for which it was the n-th Sync, has issued at least n
--- DVM Completes. From there, for one such port:
+-- DVM Completes. From there, for one such port, of which this is used throughout: each AC DVM Message that forwards a part
+-- forwards the next of the parts for the port (`forwarded`, by its definition), and a port answers its snoops in order, so
+-- that what it has answered is the first so many of the parts for it (`answered-first`). A longer trace adds to the end of
+-- both lists.
 --
--- - **It has answered the Sync** (`complete_message-answered`). A message is a read, so it was completed by an R, and at
---   that R every other ACE port had answered it (K37). That a port has answered a message (`has_answered`) is a matter
---   of counts, and no event lowers the count of its answers, while the messages before this one stay the same.
--- - **It has answered every earlier message of the port** (`earlier_answered`): its snoops forward the messages in the
---   order of their AR events, so fewer come before the earlier one.
+-- - **It has answered the Sync** (`complete_part-answered`). A part is a read, so it was completed by an R, and at that R
+--   every other ACE port had answered it (K37).
+-- - **It has answered every earlier part of the port** (`earlier_answered`). Such a part was for this port when the Sync was
+--   issued, or else it was a first part that waited for its second (`parts-cases`); then the Sync would be the second part,
+--   and no Sync. What was for the port by then came before the Sync, and the answered parts reach the Sync, so they have all
+--   of it (`answered-before`).
 -- - **It has issued a DVM Complete after its answer** (`sync-completed`). By K38 each DVM Complete of a port comes where
 --   it has answered more Syncs than it has issued DVM Completes (`IsOwed`); an AR is the only event that issues one, and
---   a longer trace keeps it. Take the n-th: when it was issued, the port had answered at least n Syncs. Its snoops
---   forward its messages one by one, a Sync where the message is a Sync (`Forwards`, by K36 at each AC DVM Message; no
---   other event adds a snoop that forwards, and an AR DVM Message only adds a message at the end). So the Syncs that it
---   had answered are the first among its messages, and with n of them answered the n-th was: this Sync.
+--   a longer trace keeps it. Take the n-th: when it was issued, the port had answered at least n Syncs. By K9 a Sync has
+--   one part, so that it is for the port next after what was for it before, which has n - 1 Syncs (`sync-next`). The parts
+--   that it had answered have n, so they reach this one.
 
--- The messages for a port and its answers at an earlier point.
-pub mod Messages
--- The k-th snoop that forwards a message forwards the k-th message (K36).
+-- The parts for a port: their places, and what they are at an earlier point.
+pub mod Parts
+-- What a port has forwarded to it, and has answered, is the first of the parts for it.
 pub mod Forwarding
--- A complete message was answered by every other ACE port (K37).
+-- A complete part was answered by every other ACE port (K37).
 pub mod Answered
+-- A Sync has one part (K9).
+pub mod Syncs
 -- A DVM Complete comes after the answer to its Sync (K38).
 pub mod Completed
 -- At an AC DVM Complete (K39).

@@ -1,4 +1,4 @@
--- All reads follow one order of the stores: the law `ReadsFollow`, for every accepted trace whose numbers are in range.
+-- All reads follow one order of the stores: the law `ReadsFollow`, for every accepted trace of events that a program can hold.
 --
 -- The stores of a line are taken in the order of the trace; its value at a point is zeros changed by the stores before it
 -- [value_of]. The law gives each read a point of the trace. A load has the point right before it, and its word is that word
@@ -6,7 +6,7 @@
 -- words of the value there. The points of the reads of one port and line, in the order of their L and AR, never go back. The
 -- proof rests on the law on holders [OneHolder], on the facts under a grant [SnoopsStand], and on the law `DirtyPlace` with
 -- its facts [DirtyPlaced]: each port whose state isn't I has the value as its copy, data newer than memory have a place, and
--- the burst of an outstanding memory update is the value. The numbers are in range so that the line of an M has four words.
+-- the burst of an outstanding memory update is the value. The line of an M has four words, as the type of the field says.
 --
 -- Two facts come first. They hold at every point of such a trace.
 --

@@ -10,14 +10,14 @@
 -- - What is in a trace stays: events, transactions and points keep their places in the longer trace. What a transaction
 --   has had (`has_had`: its grant, its M, its last R or B) it keeps. Where a transaction has had an event, that event
 --   belongs to it, and under the rules it was outstanding then (`Outstands`).
+-- - A W beat belongs to the oldest write with data of its port that has fewer than four, so the writes have at most four
+--   each (`few_beats`). A new write has no beats yet, a whole burst has four (`four_beats`), and a burst grows only by a W
+--   that belongs to it (`burst_grows`).
 --
 -- Of **accepted** traces:
 --
 -- - **A port has one outstanding transaction on a line** (`one_on_line`). Only an AR or AW makes one outstanding, and by
 --   K5 the port had none on the line then.
--- - **A port sends no more W beats than its writes with data have**, four each (`few_beats`): by K11 each W belongs to a
---   write whose burst is not whole. So a new write has no beats yet, a whole burst has four (`four_beats`), and a burst
---   grows only by a W that belongs to it.
 -- - **The complete writes of an ACE port that wait for their WK are outstanding, and none waits twice** (`WriteQueue`).
 --   An AR or AW takes no name that is in use (K4), so that each one that waits stays the last of its name. R and RK end
 --   reads only. A B adds its write to those that wait: by K26 it was outstanding and had had no B, so it was not among
@@ -44,7 +44,7 @@ pub mod Snoops
 pub mod Served
 -- A port has one outstanding transaction on a line (K5).
 pub mod LineOnce
--- The beats of a write (K11).
+-- The beats of a write.
 pub mod WriteBursts
 -- The complete writes that wait for their WK (K4, K26).
 pub mod WriteQueue

@@ -74,8 +74,8 @@
 -- G: under a new grant no snoop is answered yet, and its transaction has had no M and no R (K12, K18, K24).
 -- AR, AW: a new transaction has had no transfer, beat, D or M.
 --
--- The law's one premise beside acceptance, that the numbers of the events are in range [InRange], gives the line of an M,
--- and so memory, four words and a word of data sixteen bytes (MemoryWrites, MergedLines).
+-- The law's one premise beside acceptance is what the types of the fields of an event give [FitsFields]: the line of an M, and
+-- so memory, has four words, and a word of data sixteen bytes (MemoryWrites, MergedLines).
 
 -- the facts that hold at every point
 pub mod Facts

@@ -21,7 +21,7 @@ use Rattle.ace_model.specs.Progress.{each_issued}
 use Rattle.ace_model.specs.Snoops.{snoops_a_line}
 use Rattle.ace_model.specs.States.{state_of}
 use Rattle.ace_model.specs.Barriers.{pairs, is_pair_complete, number_of, partner_of, is_barrier_half}
-use Rattle.ace_model.specs.Messages.{is_message, is_message_word, is_sync, last_sync, is_sync_completed, is_dvm_completion}
+use Rattle.ace_model.specs.Messages.{is_message_part, is_message_word, is_sync_word, first_waiting, last_sync, is_sync_completed, is_dvm_completion}
 
 -- events that only a master with a cache has: acknowledges, snoops and their answers and data, silent transitions,
 -- loads and stores
@@ -137,20 +137,27 @@ abbrev pub begins_barrier : Trace → Transaction → Bool
 begins_barrier past x =
     (x.addr == 0) && are_complete past x.port (number_of past x) && is_none_or (partner_of past x) (is_like_half x)
 
--- a port has one Sync at a time, until the interconnect says that it is completed
+-- a first part; a port has one Sync at a time, until the interconnect says that it is completed
 abbrev pub begins_message : Trace → Transaction → Bool
 begins_message past x =
-    is_message_word x.addr && implies (is_sync x && is_some (last_sync past x.port)) (is_sync_completed past x.port)
+    is_message_word x.addr
+    && implies (is_sync_word x.addr && is_some (last_sync past x.port)) (is_sync_completed past x.port)
+
+-- a part, after the first part of the port that waits for its second, if there is one
+abbrev pub is_part_in_order : Trace → Transaction → Option Transaction → Bool
+is_part_in_order past x (Some first) = (x.dom == first.dom) && (x.bar == first.bar)
+is_part_in_order past x None = begins_message past x
 
 abbrev pub begins_well : Trace → Transaction → Bool
 begins_well past x =
     implies (is_barrier_half x) (begins_barrier past x)
-    && implies (is_message x) (begins_message past x)
+    && implies (is_message_part x) (is_part_in_order past x (first_waiting past x.port))
     && implies (is_dvm_completion x) (x.addr == 0)
 
 -- K9: a barrier has address 0, and every earlier pair of the port is complete on both channels; its own other half, if it was
--- issued, has the same bar and domain. A DVM message has a word that means one, and is a Sync only where the port's last
--- Sync, if there was one, has had its AC DVM Complete. A DVM Complete has address 0 (Arm IHI 0022E, C8 and C12).
+-- issued, has the same bar and domain. The first part of a DVM message has a word that means one, and is a Sync only where
+-- the port's last Sync, if there was one, has had its AC DVM Complete; a second part has the domain and bar of its first. A
+-- DVM Complete has address 0 (Arm IHI 0022E, C8 and C12).
 abbrev pub k9 : Header → Trace → Event → Bool
 k9 h past e = is_none_or (issued (length past) e) (begins_well past)
 

@@ -1,5 +1,5 @@
 -- What a port has of a line, and what memory has of it.
-use Rattle.std.specs.Prelude.{ℕ, Bool, ◌&&◌, ◌==◌, if◌then◌else◌, List, [], ◌∷◌, ◌++◌, slice_index, Option, Some, None, unwrap_or}
+use Rattle.std.specs.Prelude.{ℕ, Bool, ◌&&◌, ◌==◌, if◌then◌else◌, List, [], ◌∷◌, ◌++◌, length, slice_index, Option, Some, None, unwrap_or}
 use Rattle.ace_event.specs.declared.event.Channel.TheVariants.{Read}
 use Rattle.ace_event.specs.declared.event.Event.{Event}
 use Rattle.ace_event.specs.declared.event.Event.TheVariants.{Ar, R, D, M}
@@ -33,10 +33,10 @@ words_read (R q j resp last word ∷ past) p i =
     if (p == q) && (i == j) then words_read past p i ++ word ∷ [] else words_read past p i
 words_read (_ ∷ past) p i = words_read past p i
 
--- the line that the port has received whole with the event: the last R of its read of that line
+-- the line that the port has received whole with the event: the fourth R of its read of that line
 abbrev pub received : Trace → Event → ℕ → ℕ → Option Line
 received past (R q i resp last word) p l =
-    if (p == q) && last && is_some_and (transaction_of past p Read i) (λ x. is_on x l && is_line_read_transaction x)
+    if (p == q) && (length (words_read past p i) == 3) && is_some_and (transaction_of past p Read i) (λ x. is_on x l && is_line_read_transaction x)
     then Some (record { words = words_read past p i ++ word ∷ [] }) else None
 received past _ p l = None
 

@@ -1,5 +1,5 @@
 -- The rules of barriers, DVM messages and operations, K34 to K40.
-use Rattle.std.specs.Prelude.{ℕ, ◌+◌, Bool, true, not, ◌&&◌, ◌==◌, nat_lt, nat_le, if◌then◌else◌, [], ◌∷◌, length}
+use Rattle.std.specs.Prelude.{ℕ, ◌+◌, Bool, true, not, ◌&&◌, ◌||◌, ◌==◌, nat_lt, nat_le, if◌then◌else◌, [], ◌∷◌, length}
 use Rattle.std.specs.List.{list_all}
 use Rattle.ace_codes.specs.declared.kind.SnoopKind.{SnoopKind}
 use Rattle.ace_event.specs.declared.event.Channel.TheVariants.{Read, Write}
@@ -14,7 +14,7 @@ use Rattle.ace_model.specs.Transactions.{outstanding, issued}
 use Rattle.ace_model.specs.Progress.{is_completed}
 use Rattle.ace_model.specs.Grants.{each_port}
 use Rattle.ace_model.specs.Barriers.{may_answer, is_barrier_half, pair_of, place_of, is_pair_complete, pairs}
-use Rattle.ace_model.specs.Messages.{is_message, next_message, is_other_ace, has_answered, is_dvm_completion, dvm_completes, answered_syncs, sync_number, is_sync_completed, last_sync}
+use Rattle.ace_model.specs.Messages.{is_message_part, is_second_part, next_part, is_other_ace, has_answered, is_dvm_completion, dvm_completes, answered_syncs, sync_number, is_sync_completed, last_sync}
 
 -- a barrier is answered once what is before it has come far enough
 abbrev pub may_answer_half : Trace → Transaction → Bool
@@ -39,24 +39,28 @@ abbrev pub k35 : Header → Trace → Event → Bool
 k35 h past (G p c i) = is_none_or (outstanding h past p c i) (is_past_barriers past)
 k35 h past _ = true
 
+-- an AC DVM Message forwards the next part, and no other AC comes before a second part whose first was forwarded
 abbrev pub forwards_next : Trace → ℕ → ℕ → SnoopKind → Bool
-forwards_next past p addr k = implies (is_message_snoop k) (is_some_and (next_message past p) (λ x. x.addr == addr))
+forwards_next past p addr k =
+    implies (is_message_snoop k || is_some_and (next_part past p) (is_second_part past))
+    (is_message_snoop k && is_some_and (next_part past p) (λ x. x.addr == addr))
 
--- K36: an AC DVM Message has the address of the oldest DVM message of another port that wasn't yet forwarded to this port
--- (Arm IHI 0022E, C12; the order is our choice).
+-- K36: where the last AC to this port forwards the first of two parts, this is the AC DVM Message of the second, with its
+-- address. Any other AC DVM Message has the address of the first part of the oldest DVM message of another port, in the order
+-- in which they are issued, that wasn't yet forwarded to this port (Arm IHI 0022E, C12; the order is our choice).
 abbrev pub k36 : Header → Trace → Event → Bool
 k36 h past (Ac p addr snoop) = is_none_or (ac_kind_of snoop) (forwards_next past p addr)
 k36 h past _ = true
 
--- every other ACE port has answered the message
+-- every other ACE port has answered the part
 abbrev pub is_answered_by_all : Header → Trace → Transaction → Bool
 is_answered_by_all h past x = each_port h.ports (λ q. implies (is_other_ace h x.port q) (has_answered past x q))
 
--- K37: an R of a DVM message comes after the message was forwarded to every other ACE port and each has answered
+-- K37: an R of a DVM Message comes after this part was forwarded to every other ACE port and each has answered it
 -- (Arm IHI 0022E, C12).
 abbrev pub k37 : Header → Trace → Event → Bool
 k37 h past (R p i resp last word) =
-    is_none_or (outstanding h past p Read i) (λ x. implies (is_message x) (is_answered_by_all h past x))
+    is_none_or (outstanding h past p Read i) (λ x. implies (is_message_part x) (is_answered_by_all h past x))
 k37 h past _ = true
 
 -- K38: the port of an AR DVM Complete has answered more Syncs than it has issued DVM Completes (Arm IHI 0022E, C12).

@@ -1,34 +1,16 @@
 -- What a line should hold: the stores of the line, in the order of the trace. Memory and copies may lag behind.
-use Rattle.std.specs.Prelude.{ℕ, ◌+◌, ◌*◌, Bool, ◌&&◌, ◌||◌, ◌==◌, if◌then◌else◌, List, [], ◌∷◌, map, length, take, drop, Option, Some, None, option_and_then}
+use Rattle.std.specs.Prelude.{ℕ, ◌+◌, ◌*◌, Bool, ◌&&◌, ◌||◌, ◌==◌, if◌then◌else◌, List, [], ◌∷◌, map, Option, Some, None, option_and_then}
 use Rattle.ace_event.specs.declared.event.Event.{Event}
-use Rattle.ace_event.specs.declared.event.Event.TheVariants.{R, W, D, M}
+use Rattle.ace_event.specs.declared.event.Event.TheVariants.{R, D, M}
 use Rattle.ace_event.specs.declared.event.Channel.TheVariants.{Read}
 use Rattle.ace_event.specs.declared.line.Line.{Line}
 use Rattle.ace_event.specs.Bytes.{merged}
 use Rattle.ace_model.specs.declared.transactions.Transaction.{Transaction}
-use Rattle.ace_model.specs.Trace.{Trace, more, at_point, is_some_and}
+use Rattle.ace_model.specs.Trace.{Trace, more, is_some_and}
 use Rattle.ace_model.specs.Kinds.{is_unique_write, is_no_snoop_write, is_make_invalid}
 use Rattle.ace_model.specs.Transactions.{read_kind, write_kind, is_on, transaction_of}
-use Rattle.ace_model.specs.Writes.{data_writes}
+use Rattle.ace_model.specs.Writes.{Beat, burst_of}
 use Rattle.ace_model.specs.Copies.{zero_line, memory_of}
-
--- a beat of write data: WSTRB and WDATA
-pub record Beat : Type 0 where
-  pub strobe : ℕ
-  pub word : ℕ
-
-abbrev pub beat_at : Event → ℕ → Option Beat
-beat_at (W q strb last word) p = if p == q then Some (record { strobe = strb; word = word }) else None
-beat_at _ p = None
-
--- the port's beats of write data, in order
-abbrev pub beats : Trace → ℕ → List Beat
-beats [] p = []
-beats (e ∷ past) p = more (beats past p) (beat_at e p)
-
--- the beats so far of a write with data: four for each of the port's earlier ones come first
-abbrev pub burst_of : Trace → Transaction → List Beat
-burst_of past x = take 4 (drop (4 * length (data_writes (at_point x.place past) x.port)) (beats past x.port))
 
 -- the strobes of a burst as one strobe of the line: bit 16 k + n is bit n of beat k
 abbrev pub burst_strobe : List Beat → ℕ

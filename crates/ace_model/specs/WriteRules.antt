@@ -15,12 +15,12 @@ use Rattle.ace_model.specs.Trace.{Trace, is_none_or, is_some_and, implies}
 use Rattle.ace_model.specs.Kinds.{has_write_data}
 use Rattle.ace_model.specs.Transactions.{transfers, is_read, outstanding, write_kind, is_complete, next_complete, acknowledged}
 use Rattle.ace_model.specs.Progress.{updates_memory}
-use Rattle.ace_model.specs.Writes.{is_burst_whole, has_memory_write}
+use Rattle.ace_model.specs.Writes.{burst_of, is_burst_whole, has_memory_write}
 use Rattle.ace_model.specs.Grants.{has_passed_data, are_passed_data_whole, is_granted, granted}
 use Rattle.ace_model.specs.States.{are_snoops_done}
 use Rattle.ace_model.specs.Copies.{memory_of, same_line}
 use Rattle.ace_model.specs.Replies.{passed_data}
-use Rattle.ace_model.specs.Values.{burst_strobe, burst_of, burst_line}
+use Rattle.ace_model.specs.Values.{burst_strobe, burst_line}
 use Rattle.ace_model.specs.ReadRules.{held_of}
 
 -- the dirty data that a snooped port passed on are written before the read has had a transfer, once they are whole

@@ -1,11 +1,11 @@
 -- Write data. W has no identifier: the beats of a port belong to its writes with data in the order of their AW, four
 -- beats to each (Arm IHI 0022E, A5.3).
-use Rattle.std.specs.Prelude.{ℕ, ◌+◌, ◌-◌, ◌/◌, ◌%◌, Bool, false, not, ◌&&◌, ◌||◌, ◌==◌, nat_le, if◌then◌else◌, List, [], ◌∷◌, Option, Some, None, length, slice_get}
+use Rattle.std.specs.Prelude.{ℕ, ◌*◌, ◌/◌, ◌%◌, Bool, false, not, ◌&&◌, ◌||◌, ◌==◌, nat_lt, if◌then◌else◌, List, [], ◌∷◌, Option, Some, None, length, take, drop, slice_get}
 use Rattle.ace_event.specs.declared.event.Channel.{Channel}
 use Rattle.ace_event.specs.declared.event.Event.{Event}
 use Rattle.ace_event.specs.declared.event.Event.TheVariants.{W, M}
 use Rattle.ace_model.specs.declared.transactions.Transaction.{Transaction}
-use Rattle.ace_model.specs.Trace.{Trace, is_some_and, more}
+use Rattle.ace_model.specs.Trace.{Trace, at_point, is_some_and, more}
 use Rattle.ace_model.specs.Kinds.{has_write_data}
 use Rattle.ace_model.specs.Transactions.{issued, write_kind, is_named, same_channel}
 
@@ -23,26 +23,38 @@ abbrev pub data_writes : Trace → ℕ → List Transaction
 data_writes [] p = []
 data_writes (e ∷ past) p = more (data_writes past p) (data_write (length past) e p)
 
--- how many W events the port has
-abbrev pub write_beats : Trace → ℕ → ℕ
-write_beats [] p = 0
-write_beats (W q strb last word ∷ past) p = if p == q then write_beats past p + 1 else write_beats past p
-write_beats (_ ∷ past) p = write_beats past p
+-- a beat of write data: WSTRB and WDATA
+pub record Beat : Type 0 where
+  pub strobe : ℕ
+  pub word : ℕ
+
+-- the port's beat with the event, where it has a write for it, after these beats of these writes with data
+abbrev pub beat_at : List Beat → List Transaction → Event → ℕ → Option Beat
+beat_at before writes (W q strb last word) p =
+    if (p == q) && nat_lt (length before) (4 * length writes) then Some (record { strobe = strb; word = word }) else None
+beat_at before writes _ p = None
+
+abbrev pub add_beat : List Beat → List Transaction → Event → ℕ → List Beat
+add_beat before writes e p = more before (beat_at before writes e p)
+
+-- the port's beats of write data, in order
+abbrev pub beats : Trace → ℕ → List Beat
+beats [] p = []
+beats (e ∷ past) p = add_beat (beats past p) (data_writes past p) e p
 
 -- the write that the port's next W belongs to, and which of its beats that is, from 0
 abbrev pub next_write : Trace → ℕ → Option Transaction
-next_write past p = slice_get (data_writes past p) (write_beats past p / 4)
+next_write past p = slice_get (data_writes past p) (length (beats past p) / 4)
 
 abbrev pub next_write_beat : Trace → ℕ → ℕ
-next_write_beat past p = write_beats past p % 4
+next_write_beat past p = length (beats past p) % 4
 
--- the write has had its four beats: it stands among the port's writes with data before the one that is next
-abbrev pub stands_before : List Transaction → ℕ → Transaction → Bool
-stands_before [] n x = false
-stands_before (y ∷ ys) n x = ((y.place == x.place) && nat_le 4 n) || stands_before ys (n - 4) x
+-- the beats so far of a write with data: four for each of the port's earlier ones come first
+abbrev pub burst_of : Trace → Transaction → List Beat
+burst_of past x = take 4 (drop (4 * length (data_writes (at_point x.place past) x.port)) (beats past x.port))
 
 abbrev pub is_burst_whole : Trace → Transaction → Bool
-is_burst_whole past x = stands_before (data_writes past x.port) (write_beats past x.port) x
+is_burst_whole past x = length (burst_of past x) == 4
 
 -- the event writes memory for the port's transaction on the channel under the identifier
 abbrev pub is_memory_write : Event → ℕ → Channel → ℕ → Bool

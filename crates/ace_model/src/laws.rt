@@ -2,7 +2,7 @@
 
 ghost use Rattle.std.specs.Prelude.{◌≡◌, ◌↔◌, List, reverse, None, Some};
 ghost use Rattle.std.specs.List.{AllByRecursion};
-ghost use Rattle.ace_event.specs.Range.{InRange};
+ghost use Rattle.ace_event.specs.Range.{FitsFields};
 ghost use Rattle.ace_event.specs.declared.event.Event.{Event};
 ghost use Rattle.ace_event.specs.declared.header.Header.{Header};
 ghost use Rattle.ace_model.specs.declared.breaks.Break.{Break};
@@ -30,11 +30,11 @@ pub fn rules_are_in_order()
     ensures today { AreInOrder rules_today }
 {}
 
-/// An accepted trace is coherent, if the numbers of its events are in range: at every point a unique line has one holder, a line
-/// has at most one dirty holder, and data newer than memory are with that holder or in flight; and all reads follow one
-/// order of the line's stores. The definitions know no widths of numbers; the events that a program holds are in range.
+/// An accepted trace is coherent: at every point a unique line has one holder, a line has at most one dirty holder, and data
+/// newer than memory are with that holder or in flight; and all reads follow one order of the line's stores. The definitions
+/// know no widths of numbers, so this is said of events whose words and lines fit their fields, as those of a program do.
 pub fn accepted_trace_is_coherent()
-    ensures { (h : Header) (past : Trace) → IsAccepted h past → AllByRecursion InRange past → Coherent h past }
+    ensures { (h : Header) (past : Trace) → IsAccepted h past → AllByRecursion FitsFields past → Coherent h past }
 {}
 
 /// In every accepted trace, whatever its numbers, a unique line has one holder, and a dirty line one owner: at every point, where
@@ -63,7 +63,8 @@ pub fn barriers_order()
 {}
 
 /// In every accepted trace a Sync waits for all: where its port is told that it is complete, every other ACE port has
-/// answered it and all that its port sent before it, and has issued a DVM Complete after that answer.
+/// answered it and every part of the messages that its port sent before it, and has issued a DVM Complete after its answer
+/// to the Sync.
 pub fn a_sync_waits_for_all()
     ensures { (h : Header) (past : Trace) → IsAccepted h past → DvmHolds h past }
 {}

@@ -9,7 +9,7 @@ ghost use Rattle.ace_model.specs.ExclusiveHolds.{ExclusiveHolds};
 ghost use Rattle.ace_model.specs.BarrierHolds.{BarrierHolds};
 ghost use Rattle.ace_model.specs.DvmHolds.{DvmHolds};
 ghost use Rattle.ace_rows.specs.Shorthands.{two_ace};
-ghost use Rattle.ace_rows.specs.Broken.{both_unique, both_dirty, loses_a_store, loads_old_data, stores_between, overtakes_a_barrier, completes_unheard};
+ghost use Rattle.ace_rows.specs.Broken.{both_unique, both_dirty, loses_a_store, loads_old_data, stores_between, overtakes_a_barrier, completes_unheard, answers_a_stray_message};
 
 /// Each run lacks a property.
 pub fn broken_runs_lack_a_property()
@@ -21,4 +21,5 @@ pub fn broken_runs_lack_a_property()
     ensures exclusive_holds { ¬ ExclusiveHolds (reverse stores_between) }
     ensures barrier_holds { ¬ BarrierHolds (reverse overtakes_a_barrier) }
     ensures dvm_holds { ¬ DvmHolds two_ace (reverse completes_unheard) }
+    ensures dvm_holds_of_a_stray { ¬ DvmHolds two_ace (reverse answers_a_stray_message) }
 {}

@@ -44,8 +44,8 @@ zero-unique (Some bytes) answer s v = verdict-unique bytes answer s v
 pub check_answers : (told left : Option (List ℕ)) (answer : Answer) (status : ℕ) (out out' notes notes' : Option (List ℕ))
     → IfSome told (λ bytes. IsVerdict bytes answer) → status ≡ status_of answer → Appends out out' (out_text_of answer) → Appends notes notes' (notes_text_of answer)
     → Answers Check told left status out out' notes notes'
-check_answers None left answer status out out' notes notes' v s given noted = (answer, out_text_of answer, tt, s, given, noted)
-check_answers (Some bytes) left answer status out out' notes notes' v s given noted = (answer, out_text_of answer, (v, refl), s, given, noted)
+check_answers None left answer status out out' notes notes' v s given noted = (answer, out_text_of answer, refl, tt, s, given, noted)
+check_answers (Some bytes) left answer status out out' notes notes' v s given noted = (answer, out_text_of answer, refl, v, s, given, noted)
 
 -- a verdict that an output broke off
 pub check_breaks_off : (told : Option (List ℕ)) (answer : Answer) (out out' notes notes' : Option (List ℕ))

@@ -15,7 +15,7 @@ use Rattle.ace_grammar.specs.Reading.{Reads, Ending, Ends, Whole, Full, Bad, IsR
 use Rattle.ace_top.specs.declared.answer.Answer.{Answer}
 use Rattle.ace_top.specs.declared.answer.Answer.TheVariants.{Accepted, Refused, Shown, Usage, Malformed, ReadFault, LimitEvents, NoMemory}
 use Rattle.ace_top.specs.declared.words.Command.TheVariants.{Show}
-use Rattle.ace_top.specs.Answer.{Answers, BreaksOff, IsBegun}
+use Rattle.ace_top.specs.Answer.{Answers, FitsAnswer, BreaksOff, IsBegun}
 use Rattle.ace_top.specs.Copy.{HasWritten, WritesPart, EndsCopy}
 use Rattle.ace_top.specs.ErrorAnswer.{error_answer}
 use Rattle.ace_top.specs.Output.{AppendsPart, AppendsParts}
@@ -77,12 +77,17 @@ pub shows_copy : (old mid next left out out' out'' notes notes' : Option (List �
 shows_copy old mid next left out out' out'' notes notes' header events answer status readable head w e given more told is = (
   answer,
   trace_text header events,
+  fits answer e,
   shown old head,
   is,
   subst (Appends out out'') (ap (λ t. trace_text header events ++ t) (quiet answer (length events) next left e) ∙ append-nil (trace_text header events)) (Appends-trans out out' out'' _ _ given more),
   told,
 )
   where
+    fits : (answer : Answer) → EndsCopy answer (length events) next left → FitsAnswer Show answer (trace_text header events)
+    fits NoMemory e = absurd e
+    fits answer e = tt
+
     shown : (old : Option (List ℕ)) → Consumes old mid (header_text header) → IfSome old (λ bytes. IsShown bytes left answer (trace_text header events))
     shown None head = tt
     shown (Some bytes) head = copied_shown bytes header events next left answer (copied_from bytes header events mid next readable head w) e
@@ -112,12 +117,17 @@ pub shows_no_header : (old left out out' notes notes' : Option (List ℕ)) (stat
 shows_no_header old left out out' notes notes' status before now e answer is none given told same = (
   answer,
   [],
+  fits answer,
   subst (λ (a : Answer). IfSome old (λ bytes. IsShown bytes left a [])) (sym is) (shown e old none),
   same,
   subst (Appends out out') (ap out_text_of is ∙ silent e) given,
   told,
 )
   where
+    fits : (answer : Answer) → FitsAnswer Show answer []
+    fits NoMemory = refl
+    fits answer = tt
+
     shown : (e : ReadErr) (old : Option (List ℕ)) → HasNoHeader e old before left now → IfSome old (λ bytes. IsShown bytes left (error_answer e) [])
     shown e None none = tt
     shown (error.Malformed line reason) (Some bytes) none = inl (none.0, refl)

@@ -1,10 +1,10 @@
 -- What a call of the program answers, by its words and by the bytes of its input, where these are told.
-use Rattle.std.specs.Prelude.{◌≡◌, ◌≢◌, ◌<◌, ◌≤◌, ◌-◌, ◌^◌, ◌⊎◌, ℕ, List, [], Option, String, IfSome, codes}
+use Rattle.std.specs.Prelude.{◌≡◌, ◌≢◌, ◌<◌, ◌≤◌, ◌-◌, ◌^◌, ◌⊎◌, ℕ, List, [], Option, String, IfSome, codes, ⊤}
 use Rattle.std.specs.Io.KnownBytes.{Appends}
 use Rattle.std.specs.declared.alloc.Global.{Global}
 use Rattle.ace_io.specs.Faults.{Rose}
 use Rattle.ace_top.specs.declared.answer.Answer.{Answer}
-use Rattle.ace_top.specs.declared.answer.Answer.TheVariants.{Usage}
+use Rattle.ace_top.specs.declared.answer.Answer.TheVariants.{NoMemory, Usage}
 use Rattle.ace_top.specs.declared.words.Command.{Command}
 use Rattle.ace_top.specs.declared.words.Command.TheVariants.{Check, Show}
 use Rattle.ace_top.specs.Command.{Names}
@@ -16,15 +16,23 @@ use Rattle.ace_top.specs.Words.{IsCommand}
 
 -- what a command answers to these bytes, of which these are left, with this text on the standard output
 abbrev pub IsAnswer : Command → List ℕ → Option (List ℕ) → Answer → List ℕ → Type 0
-IsAnswer Check bytes left answer text = IsVerdict bytes answer × (text ≡ out_text_of answer)
+IsAnswer Check bytes left answer text = IsVerdict bytes answer
 IsAnswer Show bytes left answer text = IsShown bytes left answer text
 
--- The status is that of an answer of the command, and its texts were appended to the two outputs.
+-- what the answer alone says of that text: `check` writes no more than its answer, and `show` nothing where there was no
+-- memory
+abbrev pub FitsAnswer : Command → Answer → List ℕ → Type 0
+FitsAnswer Check answer text = text ≡ out_text_of answer
+FitsAnswer Show NoMemory text = text ≡ []
+FitsAnswer Show answer text = ⊤
+
+-- The status is that of an answer of the command, and its texts were appended to the two outputs, whether or not the input
+-- tells its bytes.
 abbrev pub Answers : Command → Option (List ℕ) → Option (List ℕ) → ℕ
     → Option (List ℕ) → Option (List ℕ) → Option (List ℕ) → Option (List ℕ) → Type 0
 Answers command input left status out out' notes notes' =
-    (answer : Answer) × (text : List ℕ) × IfSome input (λ bytes. IsAnswer command bytes left answer text)
-    × (status ≡ status_of answer) × Appends out out' text × Appends notes notes' (notes_text_of answer)
+    (answer : Answer) × (text : List ℕ) × FitsAnswer command answer text
+    × IfSome input (λ bytes. IsAnswer command bytes left answer text) × (status ≡ status_of answer) × Appends out out' text × Appends notes notes' (notes_text_of answer)
 
 -- the same for a list of words: where they name no command, the usage is told
 abbrev pub AnswersWords : List (String Global) → Option (List ℕ) → Option (List ℕ) → ℕ

@@ -1,16 +1,19 @@
 -- The DVM Completes of a port come after its answers to the Syncs that they complete.
-use Rattle.std.proofs.Common.{◌≡◌, ℕ, ◌-◌, ◌≤◌, ◌<◌, Bool, true, ◌&&◌, cond, nat_eq, List, [], ◌∷◌, length, filter, slice_get, count_by, Option, Some, None, refl, sym, ap, subst, ◌∙◌, arith, inl, inr}
-use Rattle.std.proofs.lemmas.Bool.{cases_Bool, cases_lt, and_parts, eqb-true, ltb-true, lt-ltb}
-use Rattle.std.proofs.lemmas.List.Sums.{sum_by_push, length-filter}
-use Rattle.ace_model.proofs.Terms.{Event, Header, Transaction, Trace, at_point, more, issued, transactions, IsTransaction, snoops_of, answers, is_sync, messages_for, syncs_for, is_dvm_completion}
-use Rattle.ace_model.proofs.Terms.{dvm_completes, answered_snoops, answered_messages, answered_syncs, has_answered, HasCompleted, k38, owes_completion, IsAccepted}
+use Rattle.std.proofs.Common.{◌≡◌, ◌≢◌, ℕ, ◌-◌, ◌≤◌, ◌<◌, Bool, true, ◌&&◌, cond, nat_eq, List, [], ◌∷◌, ◌++◌, length, length-append, slice_get, count_by, Option, Some, None, refl, ap, ◌∙◌, arith, inl, inr}
+use Rattle.std.specs.List.{All}
+use Rattle.std.proofs.lemmas.Bool.{cases_Bool, cases_lt, and_parts, eq-eqb, eqb-true, ltb-true}
+use Rattle.std.proofs.lemmas.List.Elements.{All-weaker}
+use Rattle.std.proofs.lemmas.List.Sums.{sum_by_push}
+use Rattle.ace_model.proofs.Terms.{Event, Header, Transaction, Trace, at_point, more, issued, transactions, IsTransaction, is_sync, parts_for, is_dvm_completion, dvm_completes, answered_parts, answered_syncs, has_answered, HasCompleted}
+use Rattle.ace_model.proofs.Terms.{k38, owes_completion, IsAccepted}
 use Rattle.ace_model.proofs.Rules.Keeps.{accepted_keeps}
-use Rattle.ace_model.proofs.General.Lists.{slice_get-at_end, start-more, slice_get-start}
+use Rattle.ace_model.proofs.General.Lists.{IsStart, start-trans, start-both, start-all, start-any, any-right, count_by-agree, count_by-start, slice_get-at_end, start-more, slice_get-start}
 use Rattle.ace_model.proofs.Trace.Issued.{issued-place}
-use Rattle.ace_model.proofs.Trace.Growth.{at_point-before, accepted-before}
-use Rattle.ace_model.proofs.Trace.Places.{at_point-last}
-use Rattle.ace_model.proofs.Dvm.Messages.{messages-before, fewer_messages-twice}
-use Rattle.ace_model.proofs.Dvm.Forwarding.{Forwards, forwards-grow, forwards-take, forwards-syncs, accepted_forwards}
+use Rattle.ace_model.proofs.Trace.Growth.{at_point-before}
+use Rattle.ace_model.proofs.Trace.Places.{at_point-last, at_point-length, at_point-twice}
+use Rattle.ace_model.proofs.Dvm.Parts.{IsBelow, parts-placed, parts-before}
+use Rattle.ace_model.proofs.Dvm.Forwarding.{answered-first}
+use Rattle.ace_model.proofs.Dvm.Syncs.{IsSyncIn, sync-next}
 use Rattle.ace_model.proofs.General.Options.{is_none_or-at}
 use Rattle.ace_model.proofs.General.Booleans.{implies-at}
 
@@ -72,29 +75,35 @@ completes-owed h (e ∷ past) q m a lt =
           owed-now h e past x.0 q m x.1 parts.0 (eqb-true x.0.port q parts.1) x.3 (accepted_keeps h past e a).rule_38
     ]
 
--- a port that has answered more Syncs than came before this one, among its messages, has answered this one
-answered-by_count : (h : Header) (past : Trace) (x : Transaction) (q n : ℕ) → IsAccepted h past
-    → length (syncs_for (at_point x.place past) q) < answered_syncs (at_point n past) q → has_answered (at_point n past) x q ≡ true
-answered-by_count h past x q n a lt =
+-- a port that has answered more Syncs than were for it before this one has answered this one
+answered-by_count : (h : Header) (past : Trace) (x : Transaction) (q n : ℕ) → IsAccepted h past → IsSyncIn past x → x.port ≢ q → n ≤ length past
+    → count_by (is_sync past) (parts_for (at_point x.place past) q) < answered_syncs (at_point n past) q → has_answered (at_point n past) x q ≡ true
+answered-by_count h past x q n a s other within lt =
     let then = at_point n past in
-    let first = messages_for (at_point x.place past) q in
-    let start = messages-before (length past - x.place) past q in
-    let forwards : Forwards (snoops_of then q) (messages_for then q) = accepted_forwards h then q (accepted-before h (length past - n) past a) in
-    let of_all : Forwards (snoops_of then q) (messages_for past q) = forwards-grow (snoops_of then q) (messages_for then q) (messages_for past q) (messages-before (length past - n) past q) forwards in
-    let of_answered : Forwards (answered_snoops then q) (messages_for past q) = forwards-take (answers then q) (snoops_of then q) (messages_for past q) of_all in
-    let fewer = fewer_messages-twice x.place n past q in
-    let counted : length (filter is_sync first) ≡ count_by is_sync first = length-filter is_sync first in
-    elim (cases_lt (length first) (answered_messages then q)) [
-      | inl more_messages ↦ lt-ltb (length (messages_for (at_point x.place then) q)) (answered_messages then q) (omega arith)
-      | inr as_few ↦
-          let syncs : answered_syncs then q ≤ count_by is_sync first =
-          forwards-syncs (answered_snoops then q) first start.rest (subst (Forwards (answered_snoops then q)) (sym start.joined) of_answered) as_few in
+    let first = parts_for (at_point x.place past) q in
+    let answered = answered_parts then q in
+    let all = parts_for past q in
+    let long = at_point-length past n within in
+    let upto = sync-next h past x q a s other in
+    let start : IsStart answered all = start-trans answered (parts_for then q) all (answered-first then q) (parts-before (length past - n) past q) in
+    let longer = length-append first (x ∷ []) in
+    elim (cases_lt (length first) (length answered)) [
+      | inl many ↦
+          start-any (λ y. nat_eq y.place x.place) (first ++ x ∷ []) answered (start-both (first ++ x ∷ []) answered all upto start (omega arith))
+          (any-right (λ y. nat_eq y.place x.place) first (x ∷ []) (rw (eq-eqb x.place x.place refl) refl))
+      | inr few ↦
+          let below : All (IsBelow (length then)) answered = start-all (IsBelow (length then)) answered (parts_for then q) (answered-first then q) (parts-placed then q) in
+          let same = count_by-agree (is_sync then) (is_sync past) answered
+          (All-weaker (IsBelow (length then)) (λ y. is_sync then y ≡ is_sync past y) (λ y low. rw (at_point-twice past y.place n (omega arith) within) refl) answered below) in
+          let fewer = count_by-start (is_sync past) answered first
+          (start-both answered first all start (parts-before (length past - x.place) past q) few) in
           absurd (omega arith)
     ]
 
--- a port that has issued more DVM Completes than Syncs came before this one has completed this one
-pub sync-completed : (h : Header) (past : Trace) (x : Transaction) (q : ℕ) → IsAccepted h past
-    → length (syncs_for (at_point x.place past) q) < dvm_completes past q → HasCompleted past x q
-sync-completed h past x q a lt =
-    let o = completes-owed h past q (length (syncs_for (at_point x.place past) q)) a lt in
-    (o.completion, o.there, o.kind, o.port, answered-by_count h past x q o.completion.place a o.answered)
+-- a port that has issued more DVM Completes than Syncs were for it before this one has completed this one
+pub sync-completed : (h : Header) (past : Trace) (x : Transaction) (q : ℕ) → IsAccepted h past → IsSyncIn past x → x.port ≢ q
+    → count_by (is_sync past) (parts_for (at_point x.place past) q) < dvm_completes past q → HasCompleted past x q
+sync-completed h past x q a s other lt =
+    let o = completes-owed h past q (count_by (is_sync past) (parts_for (at_point x.place past) q)) a lt in
+    let low = o.before in
+    (o.completion, o.there, o.kind, o.port, answered-by_count h past x q o.completion.place a s other (omega arith) o.answered)

@@ -1,107 +1,81 @@
--- The snoops that forward messages to a port, and the messages that they forward: the k-th forwards the k-th, so that the
--- Syncs among the one are those among the other.
-use Rattle.std.proofs.Common.{◌≡◌, map, filter, ℕ, ◌≤◌, Bool, true, ◌&&◌, not, nat_eq, List, [], ◌∷◌, ◌++◌, length, take, count_by, slice_get, Option, Some, None, refl, sym, ap, ap₂, subst, ◌∙◌, arith, inl, inr}
-use Rattle.std.proofs.lemmas.List.{append-nil, map-append, length-map}
-use Rattle.std.proofs.lemmas.List.Elements.{filter-append}
-use Rattle.std.proofs.lemmas.List.Sums.{length-filter}
-use Rattle.std.proofs.lemmas.Option.{slice_get-map}
-use Rattle.std.specs.Option.{option_map}
-use Rattle.std.proofs.lemmas.Bool.{cases_Bool, and_parts, eqb-true}
-use Rattle.ace_model.proofs.Terms.{Event, Ac, Header, ac_kind_of, Snoop, Transaction, Trace, more, is_message_snoop, issued, transactions, snoops_of, snoop_at, is_message, is_sync, is_sync_word}
-use Rattle.ace_model.proofs.Terms.{messages_for, next_message, forwarded, forwards_message, forwards_sync, k36, forwards_next, IsAccepted}
-use Rattle.ace_model.proofs.Rules.Keeps.{accepted_keeps}
-use Rattle.ace_model.proofs.General.Options.{some_if-is, is_some_and-is, is_none_or-at}
-use Rattle.ace_model.proofs.General.Booleans.{implies-at}
-use Rattle.ace_model.proofs.General.Lists.{start-self, start-trans, start-map, start-take, start-next, start-within, count_by-map, count_by-start, IsStart, start-more, start-filter, slice_get-filter, count_by-cons}
+-- The parts that a port's snoops forward, and those that it has answered, are the first of the parts for it, and what was
+-- answered stays so.
+use Rattle.std.proofs.Common.{◌≡◌, ◌⊎◌, ℕ, ◌-◌, ◌≤◌, true, ◌&&◌, nat_eq, List, [], ◌∷◌, ◌++◌, length, take, Option, Some, None, refl, sym, subst, arith, inl, inr}
+use Rattle.std.specs.Option.{option_to_list}
+use Rattle.std.proofs.lemmas.Bool.{cases_Bool, cases_lt}
+use Rattle.std.proofs.lemmas.List.{append-nil}
+use Rattle.std.proofs.lemmas.List.Concat.{flat_map-append}
+use Rattle.ace_model.proofs.Terms.{Event, Transaction, Trace, Snoop, at_point, is_some_and, ac_kind_of, is_message_snoop, issued, snoop_at, answers, parts_in, parts_for, parts_among, next_after, forwards, add_forwarded}
+use Rattle.ace_model.proofs.Terms.{forwarded, answered_parts, has_answered}
+use Rattle.ace_model.proofs.Trace.Growth.{answers-grow}
+use Rattle.ace_model.proofs.Trace.Places.{at_point-length}
+use Rattle.ace_model.proofs.Dvm.Parts.{IsBelow, parts-placed, part-placed, parts-before}
+use Rattle.ace_model.proofs.General.Lists.{IsStart, start-self, start-trans, start-append, start-flat_map, start-take, start-take-more, start-next, start-both, start-all, start-any}
 
--- the message at this place is a Sync, or isn't
-abbrev pub IsNext : List Transaction → ℕ → Bool → Type 0
-IsNext ms k sync = (m : Transaction) × (slice_get ms k ≡ Some m) × (is_sync m ≡ sync)
-
--- which of the messages that the snoops forward are Syncs, in order
-abbrev pub forwarded_syncs : List Snoop → List Bool
-forwarded_syncs ss = map (λ s. is_sync_word s.addr) (filter forwards_message ss)
-
--- the snoops forward the first of the messages, in order
-abbrev pub Forwards : List Snoop → List Transaction → Type 0
-Forwards ss ms = IsStart (forwarded_syncs ss) (map is_sync ms)
-
--- more messages
-pub forwards-grow : (ss : List Snoop) (ms ns : List Transaction) → IsStart ms ns → Forwards ss ms → Forwards ss ns
-forwards-grow ss ms ns s f = start-trans (forwarded_syncs ss) (map is_sync ms) (map is_sync ns) f (start-map is_sync ms ns s)
-
--- fewer snoops
-pub forwards-take : (n : ℕ) (ss : List Snoop) (ms : List Transaction) → Forwards ss ms → Forwards (take n ss) ms
-forwards-take n ss ms f =
-    start-trans (forwarded_syncs (take n ss)) (forwarded_syncs ss) (map is_sync ms)
-    (start-map (λ (s : Snoop). is_sync_word s.addr) (filter forwards_message (take n ss)) (filter forwards_message ss)
-    (start-filter forwards_message (take n ss) ss (start-take n ss))) f
-
--- one more snoop, or none
-forwards-more : (ss : List Snoop) (new : Option Snoop) (ms : List Transaction) → Forwards ss ms
-    → ((s : Snoop) → new ≡ Some s → forwards_message s ≡ true → IsNext ms (count_by forwards_message ss) (is_sync_word s.addr)) → Forwards (more ss new) ms
-forwards-more ss None ms f next = f
-forwards-more ss (Some s) ms f next =
-    subst (λ l. IsStart l (map is_sync ms)) (sym joined) (elim (cases_Bool (forwards_message s)) [
-      | inl t ↦
-          let n = next s refl t in
-          let there : slice_get (map is_sync ms) (length (forwarded_syncs ss)) ≡ Some (is_sync_word s.addr) =
-          ap (slice_get (map is_sync ms)) (length-map (filter forwards_message ss) (λ (s : Snoop). is_sync_word s.addr) ∙ length-filter forwards_message ss)
-          ∙ slice_get-map is_sync ms (count_by forwards_message ss) ∙ ap (option_map is_sync) n.1 ∙ ap Some n.2 in
-          rw t (start-next (forwarded_syncs ss) (map is_sync ms) (is_sync_word s.addr) f there)
-      | inr none ↦ rw (none, append-nil (forwarded_syncs ss)) f
-    ])
-  where
-    joined : forwarded_syncs (ss ++ s ∷ []) ≡ forwarded_syncs ss ++ forwarded_syncs (s ∷ [])
-    joined =
-        ap (map (λ (s : Snoop). is_sync_word s.addr)) (filter-append forwards_message ss (s ∷ []))
-        ∙ map-append (λ (s : Snoop). is_sync_word s.addr) (filter forwards_message ss) (filter forwards_message (s ∷ []))
-
-count_syncs : (ss : List Snoop) → count_by forwards_sync ss ≡ count_by (λ b. b) (forwarded_syncs ss)
-count_syncs [] = refl
-count_syncs (s ∷ ss) =
-    let rest = count_syncs ss in
-    elim (cases_Bool (forwards_message s)) [
-      | inl t ↦
-          let c = count_by-cons (λ (b : Bool). b) (is_sync_word s.addr) (forwarded_syncs ss) in
-          count_by-cons forwards_sync s ss ∙ rw (t, rest) (sym c)
-      | inr f ↦ count_by-cons forwards_sync s ss ∙ rw (f, rest) (omega arith)
+-- a snoop forwards nothing, or the next part
+forwards-cases : (next : Option Transaction) (s : Snoop) → (forwards next s ≡ None) ⊎ ((x : Transaction) × (next ≡ Some x) × (forwards next s ≡ Some x))
+forwards-cases None s = inl refl
+forwards-cases (Some x) s =
+    elim (cases_Bool (is_some_and (ac_kind_of s.snoop) is_message_snoop && nat_eq x.addr s.addr)) [
+      | inl t ↦ inr (x, refl, rw t refl)
+      | inr f ↦ inl (rw f refl)
     ]
 
--- where these first messages are as many as the snoops forward, or more, they have no fewer Syncs
-pub forwards-syncs : (ss : List Snoop) (ms rest : List Transaction) → Forwards ss (ms ++ rest) → count_by forwards_message ss ≤ length ms → count_by forwards_sync ss ≤ count_by is_sync ms
-forwards-syncs ss ms rest f le =
-    let long = length-map (filter forwards_message ss) (λ (s : Snoop). is_sync_word s.addr) ∙ length-filter forwards_message ss in
-    let whole = length-map ms is_sync in
-    let first = start-within (forwarded_syncs ss) (map is_sync ms) (map is_sync rest) (subst (IsStart (forwarded_syncs ss)) (map-append is_sync ms rest) f) (omega arith) in
-    rw (count_syncs ss, ← count_by-map is_sync (λ b. b) ms) (count_by-start (λ b. b) (forwarded_syncs ss) (map is_sync ms) first)
+add-forwards : (past : Trace) (q : ℕ) (done : List (Option Transaction)) (new : Option Snoop) → IsStart (parts_among done) (parts_for past q)
+    → IsStart (parts_among (add_forwarded past q done new)) (parts_for past q)
+add-forwards past q done None start = start
+add-forwards past q done (Some s) start =
+    let next = next_after past q done in
+    subst (λ l. IsStart l (parts_for past q)) (sym (flat_map-append option_to_list done (forwards next s ∷ []))) (elim (forwards-cases next s) [
+      | inl none ↦ rw (none, append-nil (parts_among done)) start
+      | inr some ↦ rw some.2 (start-next (parts_among done) (parts_for past q) some.0 start some.1)
+    ])
 
--- an event that is a snoop is an AC
-snoop_at-is : (n : ℕ) (e : Event) (q : ℕ) (s : Snoop) → snoop_at n e q ≡ Some s → e ≡ Ac q s.addr s.snoop
-snoop_at-is n (Ac p addr snoop) q s e =
-    let is = some_if-is (nat_eq q p) (record { place = n; addr = addr; snoop = snoop }) s e in
-    rw (eqb-true q p is.0, ← is.1) refl
-snoop_at-is n _ q s e = cc
+-- the forwarded parts are the first of those for the port
+forwarded-first : (past : Trace) (q : ℕ) → IsStart (parts_among (forwarded past q)) (parts_for past q)
+forwarded-first [] q = start-self []
+forwarded-first (e ∷ past) q =
+    start-trans (parts_among (forwarded (e ∷ past) q)) (parts_for past q) (parts_for (e ∷ past) q)
+    (add-forwards past q (forwarded past q) (snoop_at (length past) e q) (forwarded-first past q))
+    (start-append (parts_for past q) (parts_in past (issued (length past) e) q))
 
--- what the rule on the order of messages says: an AC DVM Message forwards the next
-forwarded_next : (h : Header) (past : Trace) (q addr snoop : ℕ) (s : Snoop) → s.addr ≡ addr → s.snoop ≡ snoop → k36 h past (Ac q addr snoop) ≡ true → forwards_message s ≡ true
-    → IsNext (messages_for past q) (forwarded past q) (is_sync_word s.addr)
-forwarded_next h past q addr snoop s a n k t =
-    let kind = is_some_and-is (ac_kind_of s.snoop) is_message_snoop t in
-    let next = is_none_or-at (ac_kind_of snoop) (forwards_next past q addr) kind.0 k (ap ac_kind_of (sym n) ∙ kind.1) in
-    let found = is_some_and-is (next_message past q) (λ x. nat_eq x.addr addr) (implies-at (is_message_snoop kind.0) _ next kind.2) in
-    let message = slice_get-filter (λ x. is_message x && not (nat_eq x.port q)) (transactions past) (forwarded past q) found.0 found.1 in
-    let is : is_message found.0 ≡ true = (and_parts (is_message found.0) _ message).0 in
-    let same : found.0.addr ≡ s.addr = eqb-true found.0.addr addr found.2 ∙ sym a in
-    (found.0, found.1, ap₂ (λ b w. b && is_sync_word w) is same)
+-- and so are the answered ones
+pub answered-first : (past : Trace) (q : ℕ) → IsStart (answered_parts past q) (parts_for past q)
+answered-first past q =
+    let n = answers past q in
+    start-trans (answered_parts past q) (parts_among (forwarded past q)) (parts_for past q)
+    (start-flat_map option_to_list (take n (forwarded past q)) (forwarded past q) (start-take n (forwarded past q))) (forwarded-first past q)
 
--- in an accepted trace a port's snoops forward the first of its messages
-pub accepted_forwards : (h : Header) (past : Trace) (q : ℕ) → IsAccepted h past → Forwards (snoops_of past q) (messages_for past q)
-accepted_forwards h [] q a = start-self []
-accepted_forwards h (e ∷ past) q a =
-    let start = start-filter (λ x. is_message x && not (nat_eq x.port q)) (transactions past) (transactions (e ∷ past)) (start-more (transactions past) (issued (length past) e)) in
-    let before = accepted_forwards h past q a.0 in
-    let kept = (accepted_keeps h past e a).rule_36 in
-    forwards-grow (snoops_of (e ∷ past) q) (messages_for past q) (messages_for (e ∷ past) q) start
-    (forwards-more (snoops_of past q) (snoop_at (length past) e q) (messages_for past q) before
-    (λ s is t. forwarded_next h past q s.addr s.snoop s refl refl (subst (λ v. k36 h past v ≡ true) (snoop_at-is (length past) e q s is) kept) t))
+-- a longer trace has the answered parts, and maybe more
+answered-grown : (e : Event) (past : Trace) (q : ℕ) → IsStart (answered_parts past q) (answered_parts (e ∷ past) q)
+answered-grown e past q =
+    start-flat_map option_to_list (take (answers past q) (forwarded past q)) (take (answers (e ∷ past) q) (forwarded (e ∷ past) q))
+    (start-take-more (forwarded past q) (forwarded (e ∷ past) q) (answers past q) (answers (e ∷ past) q)
+    (forwarded-grown (snoop_at (length past) e q)) (answers-grow e past q))
+  where
+    forwarded-grown : (new : Option Snoop) → IsStart (forwarded past q) (add_forwarded past q (forwarded past q) new)
+    forwarded-grown None = start-self (forwarded past q)
+    forwarded-grown (Some s) = start-append (forwarded past q) (forwards (next_after past q (forwarded past q)) s ∷ [])
+
+pub has_answered-later : (later : List Event) (before : Trace) (x : Transaction) (q : ℕ) → has_answered before x q ≡ true → has_answered (later ++ before) x q ≡ true
+has_answered-later [] before x q a = a
+has_answered-later (e ∷ later) before x q a =
+    start-any (λ y. nat_eq y.place x.place) (answered_parts (later ++ before) q) (answered_parts (e ∷ later ++ before) q)
+    (answered-grown e (later ++ before) q) (has_answered-later later before x q a)
+
+-- where the port has answered a part, it has answered all that were for it when that one was issued
+pub answered-before : (past : Trace) (x : Transaction) (q : ℕ) → x.place ≤ length past → has_answered past x q ≡ true
+    → IsStart (parts_for (at_point x.place past) q) (answered_parts past q)
+answered-before past x q low a =
+    let first = parts_for (at_point x.place past) q in
+    let start = parts-before (length past - x.place) past q in
+    let answered = answered-first past q in
+    elim (cases_lt (length (answered_parts past q)) (length first)) [
+      | inl few ↦
+          let placed = start-all (IsBelow (length (at_point x.place past))) (answered_parts past q) first
+          (start-both (answered_parts past q) first (parts_for past q) answered start (omega arith)) (parts-placed (at_point x.place past) q) in
+          let before = part-placed (answered_parts past q) (length (at_point x.place past)) x placed a in
+          let long = at_point-length past x.place low in
+          absurd (omega arith)
+      | inr many ↦ start-both first (answered_parts past q) (parts_for past q) start answered many
+    ]

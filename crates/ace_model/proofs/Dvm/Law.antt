@@ -1,44 +1,33 @@
 -- In an accepted trace a Sync waits for all.
-use Rattle.std.proofs.Common.{◌≡◌, ◌≢◌, ℕ, ◌-◌, ◌<◌, true, ◌&&◌, not, nat_eq, nat_le, [], ◌∷◌, length, Option, Some, None, sym, ap, ◌∙◌, arith, inl, inr}
-use Rattle.std.proofs.lemmas.Bool.{and_parts, eqb-true, leb-true, ltb-true, lt-ltb}
-use Rattle.ace_model.proofs.Terms.{ac_kind_of, Event, Ac, Header, Transaction, Trace, at_point, is_complete_snoop, is_ace, issued, is_completed, is_message, is_sync, is_sync_word}
-use Rattle.ace_model.proofs.Terms.{messages_for, answered_messages, has_answered, sync_number, dvm_completes, sync_in, last_sync, is_sync_completed, completes_next, may_complete}
+use Rattle.std.proofs.Common.{◌≡◌, ◌≢◌, ℕ, ◌<◌, true, ◌&&◌, not, nat_eq, nat_le, [], ◌∷◌, Some, None, sym, ap, ◌∙◌, arith, inl, inr}
+use Rattle.std.proofs.lemmas.Bool.{and_parts, eqb-true, leb-true}
+use Rattle.ace_model.proofs.Terms.{ac_kind_of, Event, Ac, Header, Transaction, Trace, at_point, is_complete_snoop, is_ace, is_completed, is_message_part, first_waiting, answered_parts, parts_for}
+use Rattle.ace_model.proofs.Terms.{has_answered, sync_number, dvm_completes, last_sync, is_sync_completed, completes_next, may_complete}
 use Rattle.ace_model.proofs.Terms.{has_every_completion, DvmHolds, IsCompletedAt, IsDoneWith, IsAccepted}
 use Rattle.ace_model.proofs.Rules.Keeps.{accepted_keeps}
-use Rattle.ace_model.proofs.Dvm.Messages.{fewer_messages}
-use Rattle.ace_model.proofs.Trace.Growth.{IsIssued, issued-new, issued-old}
-use Rattle.ace_model.proofs.Dvm.Answered.{at_other_ace, complete_message-answered}
+use Rattle.ace_model.proofs.Trace.Growth.{IsIssued, transaction-issued}
+use Rattle.ace_model.proofs.Trace.Places.{issued-earlier}
+use Rattle.ace_model.proofs.Dvm.Parts.{parts-cases}
+use Rattle.ace_model.proofs.Dvm.Forwarding.{answered-before}
+use Rattle.ace_model.proofs.Dvm.Answered.{at_other_ace, complete_part-answered}
+use Rattle.ace_model.proofs.Dvm.Syncs.{IsSyncIn, last_sync-is, sync-at}
 use Rattle.ace_model.proofs.Dvm.Completed.{sync-completed}
-use Rattle.ace_model.proofs.General.Options.{some_where-is, newer-cases, is_some_and-is, is_none_or-at}
+use Rattle.ace_model.proofs.General.Lists.{start-any}
+use Rattle.ace_model.proofs.General.Options.{is_some_and-is, is_none_or-at}
 use Rattle.ace_model.proofs.General.Booleans.{implies-at}
 
--- the last Sync of a port stands in the trace, and is one of the port
-record IsSyncOf (past : Trace) (p : ℕ) (x : Transaction) : Type 0 where
-  pub issued : IsIssued past x
-  pub kind : is_sync x ≡ true
-  pub port : x.port ≡ p
-
-last_sync-is : (past : Trace) (p : ℕ) (x : Transaction) → last_sync past p ≡ Some x → IsSyncOf past p x
-last_sync-is [] p x l = cc
-last_sync-is (e ∷ past) p x l =
-    elim (newer-cases (sync_in (issued (length past) e) p) (last_sync past p) x l) [
-      | inl new ↦ let s = sync_in-is (issued (length past) e) p x new in record { issued = issued-new e past x s.0; kind = s.1; port = s.2 }
-      | inr old ↦ let s = last_sync-is past p x old in record { issued = issued-old e past x s.issued; kind = s.kind; port = s.port }
+-- a port that has answered a Sync has answered each part of its port before it
+earlier_answered : (past : Trace) (x y : Transaction) (q : ℕ) → IsSyncIn past x → x.port ≢ q → has_answered past x q ≡ true
+    → IsIssued past y → is_message_part y ≡ true → y.port ≡ x.port → y.place < x.place → has_answered past y q ≡ true
+earlier_answered past x y q s other a there m port lt =
+    let low = s.issued.before in
+    let at = sync-at past x s.kind in
+    elim (parts-cases y q m (λ e. other (sym port ∙ e)) (at_point x.place past) (issued-earlier past x.place y there lt (omega arith))) [
+      | inl among ↦ start-any (λ z. nat_eq z.place y.place) (parts_for (at_point x.place past) q) (answered_parts past q) (answered-before past x q (omega arith) a) among
+      | inr waits ↦
+          let none : first_waiting (at_point x.place past) y.port ≡ None = rw port at.first in
+          let bad : Some y ≡ None = sym waits ∙ none in cc
     ]
-  where
-    sync_in-is : (o : Option Transaction) (p : ℕ) (x : Transaction) → sync_in o p ≡ Some x → (o ≡ Some x) × (is_sync x ≡ true) × (x.port ≡ p)
-    sync_in-is None p x e = cc
-    sync_in-is (Some y) p x e =
-        let s = some_where-is (λ z. is_sync z && nat_eq z.port p) y x e in
-        let parts = and_parts (is_sync x) (nat_eq x.port p) s.1 in
-        (ap Some s.0, parts.0, eqb-true x.port p parts.1)
-
--- a port that has answered a message has answered each one before it
-earlier_answered : (past : Trace) (x y : Transaction) (q : ℕ) → y.place < x.place → has_answered past x q ≡ true → has_answered past y q ≡ true
-earlier_answered past x y q lt a =
-    let fewer = fewer_messages (length past - x.place) (length past - y.place) past q (omega arith) in
-    let later = ltb-true (length (messages_for (at_point x.place past) q)) (answered_messages past q) a in
-    lt-ltb (length (messages_for (at_point y.place past) q)) (answered_messages past q) (omega arith)
 
 -- every other ACE port is done with a Sync that may complete
 done_with : (h : Header) (past : Trace) (p : ℕ) (x : Transaction) → IsAccepted h past → last_sync past p ≡ Some x → may_complete h past p x ≡ true
@@ -47,15 +36,17 @@ done_with h past p x a l may q ace other =
     let s = last_sync-is past p x l in
     let parts = and_parts (is_completed past x && not (is_sync_completed past p)) (has_every_completion h past x) may in
     let completed = (and_parts (is_completed past x) _ parts.0).0 in
-    let message = (and_parts (is_message x) (is_sync_word x.addr) s.kind).0 in
-    let apart : q ≢ x.port = λ e. other (e ∙ s.port) in
-    let sync = complete_message-answered h x q message ace apart past completed a s.issued.there in
-    let counts = at_other_ace h x.port q (λ r. nat_le (sync_number past x r) (dvm_completes past r)) parts.1 ace apart in
+    let sync = s.0 in
+    let part = (sync-at past x sync.kind).part in
+    let apart : x.port ≢ q = λ e. other (sym e ∙ s.1) in
+    let back : q ≢ x.port = λ e. apart (sym e) in
+    let answered = complete_part-answered h x q part ace back past completed a sync.issued.there in
+    let counts = at_other_ace h x.port q (λ r. nat_le (sync_number past x r) (dvm_completes past r)) parts.1 ace back in
     let enough = leb-true (sync_number past x q) (dvm_completes past q) counts in
     record {
-      sync = sync;
-      messages = λ y there m port earlier. earlier_answered past x y q earlier sync;
-      completed = sync-completed h past x q a (omega arith);
+      sync = answered;
+      messages = λ y there m port earlier. earlier_answered past x y q sync apart answered (transaction-issued past there.0 y there.1) m port earlier;
+      completed = sync-completed h past x q a sync apart (omega arith);
     }
 
 -- what the rule on AC DVM Complete says of one

@@ -76,5 +76,5 @@ pub accepted_exclusive_holds : (h : Header) (past : Trace) → IsAccepted h past
 accepted_exclusive_holds h [] a = tt
 accepted_exclusive_holds h (D p addr strobe true line ∷ past) a =
     let monitored : is_monitored h past p addr ≡ true = (accepted_keeps h past (D p addr strobe true line) a).rule_33 in
-    (accepted_exclusive_holds h past a.0, monitored_undisturbed h p addr past a.0 monitored)
+    (accepted_exclusive_holds h past a.0, λ load. monitored_undisturbed h p addr past a.0 monitored)
 accepted_exclusive_holds h (e ∷ past) a = accepted_exclusive_holds h past a.0

@@ -1,5 +1,5 @@
 -- What is true of any two Booleans.
-use Rattle.std.proofs.Common.{◌≡◌, ◌&&◌, ◌⊎◌, inl, inr, ℕ, ◌+◌, ◌≤◌, if◌then◌else◌, arith, Bool, true, false, refl, sym, ◌∙◌}
+use Rattle.std.proofs.Common.{◌≡◌, ◌&&◌, ◌⊎◌, inl, inr, ℕ, ◌+◌, ◌≤◌, if◌then◌else◌, arith, Bool, true, false, not, refl, sym, ◌∙◌}
 use Rattle.std.proofs.lemmas.Bool.{and_parts}
 use Rattle.ace_model.proofs.Terms.{same_test, implies}
 
@@ -12,6 +12,12 @@ same_test-at true true e = refl
 same_test-at true false e = cc
 same_test-at false true e = cc
 same_test-at false false e = refl
+
+-- of two that are not both so, the other isn't
+pub not_both : (a b c : Bool) → (a && not (b && c)) ≡ true → b ≡ true → c ≡ false
+not_both a b false e f = refl
+not_both a true true e f = let no = (and_parts a false e).1 in cc
+not_both a false true e f = cc
 
 -- what is counted no less than one more
 pub above_count : (b : Bool) (count n : ℕ) → (if b then count + 1 else count) ≤ n → count ≤ n

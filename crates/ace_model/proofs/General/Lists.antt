@@ -1,12 +1,14 @@
 -- Lists: one more element at the end, a list that a longer one begins with, and counts in both.
-use Rattle.std.specs.List.{All, list_all}
-use Rattle.std.proofs.Common.{◌≡◌, le_refl, ◌⊎◌, ℕ, zero, suc, List, [], ◌∷◌, ◌++◌, length, ◌<◌, drop, map, subst, Option, Some, None, slice_get, refl, sym, ◌∙◌, arith, inl, inr, ◌+◌, ◌≤◌, Bool, true, cond, take, filter, count_by, ap, append_assoc, length-append}
-use Rattle.std.proofs.lemmas.Bool.{cases_eq}
+use Rattle.std.specs.List.{All, flat_map, list_all, list_any}
+use Rattle.std.proofs.Common.{◌≡◌, le_refl, ◌⊎◌, ℕ, zero, suc, List, [], ◌∷◌, ◌++◌, length, ◌<◌, drop, subst, Option, Some, None, slice_get, refl, sym, ◌∙◌, arith, inl, inr, ◌+◌, ◌≤◌, Bool, true, cond, take, count_by, ap, append_assoc, length-append}
+use Rattle.std.proofs.lemmas.Bool.{cases_eq, or_left, or_right}
 use Rattle.ace_model.proofs.Terms.{more}
 use Rattle.std.proofs.Math.Seq.{take-length}
-use Rattle.std.proofs.lemmas.List.{append-nil, length-take, map-append, take-append-drop, take-append-le}
+use Rattle.std.proofs.lemmas.List.{append-nil, length-take, take-append-drop, take-append-le}
+use Rattle.std.proofs.lemmas.List.Concat.{flat_map-append}
 use Rattle.std.proofs.lemmas.Option.{slice_get_within, get_or_from_slice_get}
-use Rattle.std.proofs.lemmas.List.Elements.{filter-append, filter_passes, All-get_or}
+use Rattle.std.proofs.lemmas.List.Elements.{All-get_or, All-head, All-tail, All-take}
+use Rattle.std.proofs.lemmas.List.Folds.{list_any-append}
 use Rattle.std.proofs.lemmas.List.Sums.{AllPass-from_list_all, sum_by-cons, sum_by-append}
 use Rattle.ace_model.proofs.General.Options.{Some-injective}
 
@@ -51,14 +53,11 @@ pub start-more : {A : Type 0} → (xs : List A) (new : Option A) → IsStart xs 
 start-more xs None = start-self xs
 start-more xs (Some x) = record { rest = x ∷ []; joined = refl }
 
-pub start-filter : {A : Type 0} → (test : A → Bool) (xs ys : List A) → IsStart xs ys → IsStart (filter test xs) (filter test ys)
-start-filter test xs ys s = record {
-  rest = filter test s.rest;
-  joined = sym (filter-append test xs s.rest) ∙ ap (filter test) s.joined;
-}
+pub start-append : {A : Type 0} → (xs ys : List A) → IsStart xs (xs ++ ys)
+start-append xs ys = record { rest = ys; joined = refl }
 
-pub start-map : {A B : Type 0} → (f : A → B) (xs ys : List A) → IsStart xs ys → IsStart (map f xs) (map f ys)
-start-map f xs ys s = record { rest = map f s.rest; joined = sym (map-append f xs s.rest) ∙ ap (map f) s.joined }
+pub start-flat_map : {A B : Type 0} → (f : A → List B) (xs ys : List A) → IsStart xs ys → IsStart (flat_map f xs) (flat_map f ys)
+start-flat_map f xs ys s = record { rest = flat_map f s.rest; joined = sym (flat_map-append f xs s.rest) ∙ ap (flat_map f) s.joined }
 
 pub start-take : {A : Type 0} → (n : ℕ) (xs : List A) → IsStart (take n xs) xs
 start-take n xs = record { rest = drop n xs; joined = take-append-drop n xs }
@@ -72,15 +71,39 @@ start-next xs ys y s there = subst (IsStart (xs ++ y ∷ [])) s.joined (next xs 
     next [] (z ∷ rest) e = record { rest = rest; joined = ap (λ v. v ∷ rest) (sym (Some-injective z _ e)) }
     next (x ∷ xs) rest e = let n = next xs rest e in record { rest = n.rest; joined = ap (λ l. x ∷ l) n.joined }
 
--- a list that two others begin with, the shorter begins the longer
-pub start-within : {A : Type 0} → (xs ys rest : List A) → IsStart xs (ys ++ rest) → length xs ≤ length ys → IsStart xs ys
-start-within xs ys rest s le =
-    let whole = take-append-le (length xs) xs s.rest (le_refl (length xs)) ∙ take-length xs in
-    let same : take (length xs) ys ≡ xs = sym (take-append-le (length xs) ys rest le) ∙ ap (take (length xs)) (sym s.joined) ∙ whole in
+-- it is the first elements of the second list
+pub start-is : {A : Type 0} → (xs ys : List A) → IsStart xs ys → take (length xs) ys ≡ xs
+start-is xs ys s = ap (take (length xs)) (sym s.joined) ∙ take-append-le (length xs) xs s.rest (le_refl (length xs)) ∙ take-length xs
+
+-- of two lists that a third begins with, the shorter begins the longer
+pub start-both : {A : Type 0} → (xs ys zs : List A) → IsStart xs zs → IsStart ys zs → length xs ≤ length ys → IsStart xs ys
+start-both xs ys zs s t le =
+    let same : take (length xs) ys ≡ xs = sym (take-append-le (length xs) ys t.rest le) ∙ ap (take (length xs)) t.joined ∙ start-is xs zs s in
     subst (λ l. IsStart l ys) same (start-take (length xs) ys)
 
 pub start-length : {A : Type 0} → (xs ys : List A) → IsStart xs ys → length xs ≤ length ys
 start-length xs ys s = let e = ap length s.joined in let l = length-append xs s.rest in omega arith
+
+-- the first elements of the longer list, as many or more
+pub start-take-more : {A : Type 0} → (xs ys : List A) (n m : ℕ) → IsStart xs ys → n ≤ m → IsStart (take n xs) (take m ys)
+start-take-more xs ys n m s le =
+    let long = start-length xs ys s in
+    let a = length-take n xs in
+    let b = length-take m ys in
+    start-both (take n xs) (take m ys) ys (start-trans (take n xs) xs ys (start-take n xs) s) (start-take m ys) (omega arith)
+
+-- what holds of all of the longer list, and what holds of some of the shorter
+pub start-all : {A : Type 0} → (P : A → Type 0) (xs ys : List A) → IsStart xs ys → All P ys → All P xs
+start-all P xs ys s all = subst (All P) (start-is xs ys s) (All-take P (length xs) ys all)
+
+pub any-left : {A : Type 0} → (test : A → Bool) (xs ys : List A) → list_any test xs ≡ true → list_any test (xs ++ ys) ≡ true
+any-left test xs ys any = list_any-append test xs ys ∙ or_left (list_any test xs) (list_any test ys) any
+
+pub any-right : {A : Type 0} → (test : A → Bool) (xs ys : List A) → list_any test ys ≡ true → list_any test (xs ++ ys) ≡ true
+any-right test xs ys any = list_any-append test xs ys ∙ or_right (list_any test xs) (list_any test ys) any
+
+pub start-any : {A : Type 0} → (test : A → Bool) (xs ys : List A) → IsStart xs ys → list_any test xs ≡ true → list_any test ys ≡ true
+start-any test xs ys s any = subst (λ l. list_any test l ≡ true) s.joined (any-left test xs s.rest any)
 
 -- an element of the first list stands at the same place of the second
 pub slice_get-append : {A : Type 0} → (xs ys : List A) (k : ℕ) (x : A) → slice_get xs k ≡ Some x → slice_get (xs ++ ys) k ≡ Some x
@@ -111,38 +134,28 @@ pub slice_get-within_take : {A : Type 0} → (xs : List A) (n k : ℕ) (x : A) �
 slice_get-within_take xs n k x e =
     let low = slice_get_within (take n xs) k x e in let long = length-take n xs in omega arith
 
--- what holds of all elements holds of each, as of those that pass a test, and of those of a selection
+-- what holds of all elements holds of each, as of those that pass a test
 pub slice_get-all : {A : Type 0} → (P : A → Type 0) (xs : List A) (k : ℕ) (x : A) → All P xs → slice_get xs k ≡ Some x → P x
 slice_get-all P xs k x all there = subst P (get_or_from_slice_get xs k x x there) (All-get_or P xs k x (slice_get_within xs k x there) all)
 
 pub list_all-at : {A : Type 0} → (test : A → Bool) (xs : List A) (k : ℕ) (x : A) → list_all test xs ≡ true → slice_get xs k ≡ Some x → test x ≡ true
 list_all-at test xs k x all there = slice_get-all (λ y. test y ≡ true) xs k x (AllPass-from_list_all test xs all) there
 
-pub slice_get-filter : {A : Type 0} → (test : A → Bool) (xs : List A) (k : ℕ) (x : A) → slice_get (filter test xs) k ≡ Some x → test x ≡ true
-slice_get-filter test xs k x e = slice_get-all (λ y. test y ≡ true) (filter test xs) k x (filter_passes test xs) e
-
 -- a count with one more element in front
 pub count_by-cons : {A : Type 0} → (test : A → Bool) (x : A) (xs : List A) → count_by test (x ∷ xs) ≡ cond (test x) 1 0 + count_by test xs
 count_by-cons test x xs = sum_by-cons (λ y. cond (test y) 1 0) x xs
 
--- more of a longer list has at least as many
-pub count_by-take : {A : Type 0} → (test : A → Bool) (xs rest : List A) (n m : ℕ) → n ≤ m → count_by test (take n xs) ≤ count_by test (take m (xs ++ rest))
-count_by-take test xs rest zero m le = omega arith
-count_by-take test [] rest (suc n) m le = omega arith
-count_by-take test (x ∷ xs) rest (suc n) zero le = absurd (omega arith)
-count_by-take test (x ∷ xs) rest (suc n) (suc m) le =
-    let later : count_by test (take n xs) ≤ count_by test (take m (xs ++ rest)) = count_by-take test xs rest n m (omega arith) in
-    let a = count_by-cons test x (take n xs) in
-    let b = count_by-cons test x (take m (xs ++ rest)) in
-    omega arith
-
+-- a longer list has at least as many
 pub count_by-start : {A : Type 0} → (test : A → Bool) (xs ys : List A) → IsStart xs ys → count_by test xs ≤ count_by test ys
 count_by-start test xs ys s =
     let e = ap (count_by test) s.joined in
     let both = sum_by-append (λ x. cond {A = ℕ} (test x) 1 0) xs s.rest in
     omega arith
 
-pub count_by-map : {A B : Type 0} → (f : A → B) (test : B → Bool) (xs : List A) → count_by test (map f xs) ≡ count_by (λ x. test (f x)) xs
-count_by-map f test [] = refl
-count_by-map f test (x ∷ xs) =
-    count_by-cons test (f x) (map f xs) ∙ ap (λ n. cond {A = ℕ} (test (f x)) 1 0 + n) (count_by-map f test xs) ∙ sym (count_by-cons (λ y. test (f y)) x xs)
+-- tests that agree on all elements count as many
+pub count_by-agree : {A : Type 0} → (test other : A → Bool) (xs : List A) → All (λ x. test x ≡ other x) xs → count_by test xs ≡ count_by other xs
+count_by-agree test other [] all = refl
+count_by-agree test other (x ∷ xs) all =
+    let here : test x ≡ other x = All-head (λ y. test y ≡ other y) x xs all in
+    let rest = count_by-agree test other xs (All-tail (λ y. test y ≡ other y) x xs all) in
+    count_by-cons test x xs ∙ rw (here, rest) (sym (count_by-cons other x xs))

@@ -2,7 +2,7 @@
 use Rattle.std.proofs.Common.{Bool, None, Option, Some, ap, arith, inl, inr, option_and_then, option_map, refl, sym, true, unwrap_or, ℕ, ◌∙◌, ◌∷◌, ◌≡◌, ◌≢◌}
 use Rattle.std.proofs.lemmas.Bool.{cases_eq}
 use Rattle.std.specs.List.{AllByRecursion}
-use Rattle.ace_model.proofs.Terms.{Answer, Event, Header, InRange, IsAccepted, R, Read, Trace, Transaction, at_point, copy_at_answer, copy_of, first_sender, is_line_read_transaction}
+use Rattle.ace_model.proofs.Terms.{Answer, Event, Header, FitsFields, IsAccepted, R, Read, Trace, Transaction, at_point, copy_at_answer, copy_of, first_sender, is_line_read_transaction}
 use Rattle.ace_model.proofs.Terms.{memory_at_first_beat, outstanding, reply_of, transaction_of, transfers, value_of}
 use Rattle.ace_model.proofs.Trace.Issued.{outstanding-origin, outstanding-named, outstanding-name}
 use Rattle.ace_model.proofs.Trace.Growth.{at_point-before}
@@ -19,7 +19,7 @@ use Rattle.ace_model.proofs.ReadsFollow.Memory.{memory_follows}
 
 -- before the first beat of a read there is a point for it
 pub first-point : (h : Header) (past : Trace) (p i resp : ℕ) (last : Bool) (word : ℕ) (x : Transaction) → IsAccepted h (R p i resp last word ∷ past)
-    → AllByRecursion InRange past → outstanding h past p Read i ≡ Some x → is_line_read_transaction x ≡ true → transfers past p i ≡ 0
+    → AllByRecursion FitsFields past → outstanding h past p Read i ≡ Some x → is_line_read_transaction x ≡ true → transfers past p i ≡ 0
     → (n : ℕ) × IsPointOf past x n
 first-point h past p i resp last word x a range o reads none =
     let u = beat_due h past p i x (R p i resp last word) a (record { resp = resp; last = last; word = word; is = refl }) o (line_read-line x reads) in
@@ -70,7 +70,7 @@ abbrev pub Ready : Trace → Event → (ℕ → ℕ) → Type 0
 Ready past e point = (x : Transaction) (k word : ℕ) → NewBeat past e x k word → IsPointOf past x (point x.place)
 
 -- with its points ready, the event is one more
-pub more : (h : Header) (past : Trace) (e : Event) (point : ℕ → ℕ) → IsAccepted h (e ∷ past) → AllByRecursion InRange past → Follows h past point → Ready past e point
+pub more : (h : Header) (past : Trace) (e : Event) (point : ℕ → ℕ) → IsAccepted h (e ∷ past) → AllByRecursion FitsFields past → Follows h past point → Ready past e point
     → Follows h (e ∷ past) point
 more h past e point a range f ready =
     follows-step h past e point f a (facts h past a.0 range).copies ready (λ p i x o reads some.

@@ -2,7 +2,7 @@
 use Rattle.std.proofs.Common.{false, [], ap, subst, Bool, Some, arith, if◌then◌else◌, inl, inr, nat_eq, refl, sym, true, ℕ, ◌∙◌, ◌∷◌, ◌≡◌}
 use Rattle.std.proofs.lemmas.Bool.{cases_Bool, cases_eq, eq-eqb}
 use Rattle.std.specs.List.{AllByRecursion}
-use Rattle.ace_model.proofs.Terms.{Event, Header, InRange, IsAccepted, L, R, Read, ReadsFollow, Trace, Transaction, is_line_read_transaction, outstanding, transaction_of, transfers}
+use Rattle.ace_model.proofs.Terms.{Event, Header, FitsFields, IsAccepted, L, R, Read, ReadsFollow, Trace, Transaction, is_line_read_transaction, outstanding, transaction_of, transfers}
 use Rattle.ace_model.proofs.Rules.Keeps.{accepted_keeps}
 use Rattle.ace_model.proofs.Holders.Transfer.{MayTransfer, may}
 use Rattle.ace_model.proofs.Trace.Places.{NewBeat, event_at-below, beat-below}
@@ -25,7 +25,7 @@ one-beat h past q j resp last word x k w m b =
     Some-injective m.one x (sym m.named ∙ ap (λ v. transaction_of past v Read j) port ∙ ap (transaction_of past x.port Read) id ∙ b.named)
 
 -- the point of a read is chosen at its first beat
-with-beat : (h : Header) (past : Trace) (q j resp : ℕ) (last : Bool) (word : ℕ) → IsAccepted h (R q j resp last word ∷ past) → AllByRecursion InRange past
+with-beat : (h : Header) (past : Trace) (q j resp : ℕ) (last : Bool) (word : ℕ) → IsAccepted h (R q j resp last word ∷ past) → AllByRecursion FitsFields past
     → Points h past → Points h (R q j resp last word ∷ past)
 with-beat h past q j resp last word a range points =
     elim (cases_eq (transfers past q j) 0) [
@@ -62,7 +62,7 @@ with-beat h past q j resp last word a range points =
         (chosen, more h past (R q j resp last word) chosen a range (follows-choose h past point m.one p.0 f out count) ready)
 
 -- the points of the trace that is one event longer
-with-event : (h : Header) (past : Trace) (e : Event) → IsAccepted h (e ∷ past) → AllByRecursion InRange past → Points h past → Points h (e ∷ past)
+with-event : (h : Header) (past : Trace) (e : Event) → IsAccepted h (e ∷ past) → AllByRecursion FitsFields past → Points h past → Points h (e ∷ past)
 with-event h past (R q j resp last word) a range points = with-beat h past q j resp last word a range points
 with-event h past e a range points = (points.0, more h past e points.0 a range points.1 (λ x k w b. let no = b.event in cc))
 
@@ -82,12 +82,12 @@ start h = (
   },
 )
 
-all-points : (h : Header) (past : Trace) → IsAccepted h past → AllByRecursion InRange past → Points h past
+all-points : (h : Header) (past : Trace) → IsAccepted h past → AllByRecursion FitsFields past → Points h past
 all-points h [] a range = start h
 all-points h (e ∷ past) a range = with-event h past e a range.1 (all-points h past a.0 range.1)
 
--- In an accepted trace all reads follow one order of the stores, if the numbers of its events are in range.
-pub reads_follow : (h : Header) (past : Trace) → IsAccepted h past → AllByRecursion InRange past → ReadsFollow past
+-- In an accepted trace all reads follow one order of the stores.
+pub reads_follow : (h : Header) (past : Trace) → IsAccepted h past → AllByRecursion FitsFields past → ReadsFollow past
 reads_follow h past a range =
     let p = all-points h past a range in
     let f = p.1 in (

@@ -3,7 +3,7 @@
 use Rattle.std.proofs.Common.{[], None, Option, Some, ap, arith, false, inl, inr, le_refl, length, nat_eq, option_and_then, refl, subst, sym, true, ℕ, ◌&&◌, ◌∙◌, ◌∷◌, ◌≡◌, ◌≤◌, ◌⊎◌}
 use Rattle.std.proofs.lemmas.Bool.{false_from_ne_true, or_left, and_from, and_parts, cases_Bool, eq-eqb}
 use Rattle.std.specs.List.{AllByRecursion}
-use Rattle.ace_model.proofs.Terms.{has_failed, is_on, Answer, ArKind, Channel, Cr, Event, HasDirtyHolder, Header, I, InRange, IsAccepted, IsValueSafe, Read, SnoopKind, Trace, Transaction, answer_of}
+use Rattle.ace_model.proofs.Terms.{has_failed, is_on, Answer, ArKind, Channel, Cr, Event, HasDirtyHolder, Header, I, FitsFields, IsAccepted, IsValueSafe, Read, SnoopKind, Trace, Transaction, answer_of}
 use Rattle.ace_model.proofs.Terms.{answers_grant, are_snoops_done, at_point, data_answers, first_sender, grant_place, granted, has_passed_data, is_clean_unique, is_dirty}
 use Rattle.ace_model.proofs.Terms.{is_exclusive_store, is_line_read_transaction, is_no_snoop, is_no_snoop_read, is_no_snoop_write, is_read, is_some_and}
 use Rattle.ace_model.proofs.Terms.{memory_of, outstanding, passed_to, read_kind, reads_a_line, may_lose_data, snoop_kind_of, snoop_of, snoop_of_read, state_of, transfers_data, value_of, write_kind}
@@ -96,7 +96,7 @@ module _ (h : Header) (past : Trace) where
         let bad : false ≡ true = rw (apart.0, apart.2) at makes in cc) in
         dirty_sends n.1.kind (state_of h past q l) w.resp n.0 n.1.of_line n.1.row other dirty
 
-memory_or_holder : (h : Header) (past : Trace) → IsAccepted h past → AllByRecursion InRange past → (l : ℕ) (x : Transaction) → granted h past l ≡ Some x
+memory_or_holder : (h : Header) (past : Trace) → IsAccepted h past → AllByRecursion FitsFields past → (l : ℕ) (x : Transaction) → granted h past l ≡ Some x
     → is_line_read_transaction x ≡ true → first_sender past l ≡ None → MemorySince past l ⊎ DirtyUnanswered h past l
 memory_or_holder h [] a range l x g reads none = cc
 memory_or_holder h (e ∷ past) a range l x g reads none =
@@ -189,7 +189,7 @@ none-dirty h past a x g reads done q =
         ]
 
 -- Where the snoops of a read of a line are done and no port has sent data under its grant, memory was the value at a point since.
-pub memory_follows : (h : Header) (past : Trace) → IsAccepted h past → AllByRecursion InRange past → (x : Transaction) → granted h past x.addr ≡ Some x
+pub memory_follows : (h : Header) (past : Trace) → IsAccepted h past → AllByRecursion FitsFields past → (x : Transaction) → granted h past x.addr ≡ Some x
     → is_line_read_transaction x ≡ true → are_snoops_done h past x ≡ true → first_sender past x.addr ≡ None → MemorySince past x.addr
 memory_follows h past a range x g reads done none =
     elim (memory_or_holder h past a range x.addr x g reads none) [

@@ -1,7 +1,7 @@
 -- The G of a granted read comes before the answers under its grant, and the line that an answer sends was the value then.
 use Rattle.std.proofs.Common.{[], ap, subst, Some, arith, inl, inr, length, refl, sym, true, ℕ, ◌+◌, ◌∙◌, ◌∷◌, ◌≡◌, ◌≢◌, ◌≤◌}
 use Rattle.std.specs.List.{AllByRecursion}
-use Rattle.ace_model.proofs.Terms.{Answer, Channel, Event, G, Header, I, InRange, IsAccepted, IsGrantOf, Read, Trace, Transaction, answer_of, at_point, copy_of, ended, given, grant_place, granted}
+use Rattle.ace_model.proofs.Terms.{Answer, Channel, Event, G, Header, I, FitsFields, IsAccepted, IsGrantOf, Read, Trace, Transaction, answer_of, at_point, copy_of, ended, given, grant_place, granted}
 use Rattle.ace_model.proofs.Terms.{is_on, state_of, transaction_of, transfers_data, value_of, without}
 use Rattle.ace_model.proofs.Grants.SnoopAnswers.{since_answer}
 use Rattle.ace_model.proofs.Trace.Growth.{at_point-before}
@@ -60,10 +60,10 @@ answer-after h past a r l x w g is =
     (λ past e a stays was before. rw stays.gives before) past a g is
 
 -- the line that an answer with data sends is the value at that point
-pub sent_value : (h : Header) (past : Trace) → IsAccepted h past → AllByRecursion InRange past → (r l : ℕ) (x : Transaction) (w : Answer) → granted h past l ≡ Some x
+pub sent_value : (h : Header) (past : Trace) → IsAccepted h past → AllByRecursion FitsFields past → (r l : ℕ) (x : Transaction) (w : Answer) → granted h past l ≡ Some x
     → answer_of past r l ≡ Some w → transfers_data w.resp ≡ true → copy_of (at_point w.place past) r l ≡ value_of (at_point w.place past) l
 sent_value h past a range r l x w g is sends =
-    since_answer h l r x w (λ t. AllByRecursion InRange t → copy_of (at_point w.place t) r l ≡ value_of (at_point w.place t) l)
+    since_answer h l r x w (λ t. AllByRecursion FitsFields t → copy_of (at_point w.place t) r l ≡ value_of (at_point w.place t) l)
     (λ past e a stays new now range.
     let n = new_answer h past e a r l w new in
     let held : state_of h past r l ≢ I = λ gone. sends_held n.1.kind w.resp n.0 (rw gone at n.1.row) sends in

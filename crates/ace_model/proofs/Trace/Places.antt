@@ -1,12 +1,12 @@
 -- The events of a trace by their places, and what a longer trace says of them: loads, beats and grants.
-use Rattle.std.proofs.Common.{◌≡◌, ◌⊎◌, ℕ, ◌-◌, ◌<◌, ◌≤◌, Bool, true, [], ◌∷◌, ◌++◌, length, reverse, drop, Some, slice_get, sym, ap, ◌∙◌, arith, inl, inr, zero, nat_eq, suc, subst}
+use Rattle.std.proofs.Common.{◌≡◌, ◌⊎◌, ℕ, ◌-◌, ◌<◌, ◌≤◌, Bool, true, [], ◌∷◌, ◌++◌, length, reverse, drop, take, Some, slice_get, sym, ap, ◌∙◌, arith, inl, inr, zero, nat_eq, suc, subst}
 use Rattle.std.proofs.lemmas.Option.{slice_get_within}
 use Rattle.std.proofs.lemmas.Bool.{cases_Bool, eqb-true}
-use Rattle.std.proofs.lemmas.List.{reverse-append, length-reverse, drop-drop, length-drop}
+use Rattle.std.proofs.lemmas.List.{reverse-append, length-reverse, drop-drop, length-drop, take-append-drop}
 use Rattle.std.proofs.lemmas.Option.{slice_get_within}
 use Rattle.ace_model.proofs.Terms.{Channel, Header, IsAccepted, issued, Event, L, R, G, Read, Transaction, Trace, event_at, at_point, transaction_of, transfers, is_line_read_transaction, IsLoad}
 use Rattle.ace_model.proofs.Terms.{IsBeat, IsGrantOf}
-use Rattle.ace_model.proofs.Trace.Growth.{issued_at-before, at_point-before, at_point-end}
+use Rattle.ace_model.proofs.Trace.Growth.{IsIssued, issued_at-before, issued_at-grown, at_point-before, at_point-end}
 use Rattle.ace_model.proofs.General.Lists.{slice_get-grown, slice_get-more, slice_get-at_end}
 use Rattle.ace_model.proofs.Trace.Issued.{issued_at, transaction_of-stands}
 use Rattle.ace_model.proofs.General.Options.{Some-injective}
@@ -45,6 +45,14 @@ at_point-twice past n m le within =
 
 pub at_point-length : (past : Trace) (n : ℕ) → n ≤ length past → length (at_point n past) ≡ n
 at_point-length past n le = let long = length-drop (length past - n) past in omega arith
+
+-- a transaction that was issued before a point was there at it
+pub issued-earlier : (past : Trace) (n : ℕ) (x : Transaction) → IsIssued past x → x.place < n → n ≤ length past → IsIssued (at_point n past) x
+issued-earlier past n x i low within =
+    let k = length past - n in
+    let long = at_point-length past n within in
+    let whole : issued_at (take k past ++ drop k past) x.place ≡ Some x = rw (take-append-drop k past) i.there in
+    record { there = sym (issued_at-grown (take k past) (drop k past) x.place (omega arith)) ∙ whole; before = omega arith }
 
 -- a load of the longer trace was there, or is the new event
 pub load-cases : (e : Event) (past : Trace) (n p l w word : ℕ) → IsLoad (e ∷ past) n p l w word

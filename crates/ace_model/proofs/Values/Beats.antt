@@ -19,7 +19,7 @@ module _ (h : Header) (past : Trace) (e : Event) (x : Transaction) (k : ℕ) (b 
       → slice_get (burst_of (e ∷ past) x) k ≡ Some b → BeatOrigin p i
   beat_origin a p i o sends is =
       elim (outstanding-origin h past e p Write i x o) [
-        | inl new ↦ absurd (burst_new h past e a.0 x k b new.0 is)
+        | inl new ↦ absurd (burst_new past e x k b new.0 is)
         | inr old ↦
             let s = transaction_of-stands past p Write i x (outstanding-named h past p Write i x old.was) in
             record { was = old.was; comes = burst_grows past e x k b (record { there = s.there; before = s.before }) sends is }

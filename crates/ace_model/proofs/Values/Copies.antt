@@ -1,9 +1,9 @@
 -- The copies of the ports that hold a line stay its value.
-use Rattle.std.proofs.Common.{◌≡◌, ◌⊎◌, ℕ, Bool, true, false, ◌&&◌, nat_eq, ◌∷◌, Some, refl, sym, ap, subst, ◌∙◌, inl, inr}
-use Rattle.std.proofs.lemmas.Bool.{and_parts, cases_Bool, eqb-true, eq-eqb}
+use Rattle.std.proofs.Common.{◌==◌, length, ◌≡◌, ◌⊎◌, ℕ, Bool, true, false, ◌&&◌, nat_eq, ◌∷◌, Some, refl, sym, ap, subst, ◌∙◌, inl, inr}
+use Rattle.std.proofs.lemmas.Bool.{and_parts, or_left, cases_Bool, eqb-true, eq-eqb}
 use Rattle.std.proofs.Math.Bool.{and-false}
-use Rattle.ace_model.proofs.Terms.{LineState, I, Read, Event, R, Rk, M, D, Header, Line, merged, is_invalid, is_unique, Transaction, Trace, is_some_and, is_on, outstanding}
-use Rattle.ace_model.proofs.Terms.{transaction_of, state_of, is_line_read_transaction, copy_of, value_of, IsAccepted, AreCopiesTrue}
+use Rattle.ace_model.proofs.Terms.{LineState, I, Read, Event, R, Rk, M, D, Header, Line, merged, is_invalid, is_unique, Transaction, Trace, is_some_and, is_granted_write, is_on, write_kind, outstanding}
+use Rattle.ace_model.proofs.Terms.{words_read, transaction_of, state_of, is_line_read_transaction, copy_of, value_of, IsAccepted, AreCopiesTrue}
 use Rattle.ace_model.proofs.Tables.States.{valid_not, invalid_not, unique_valid}
 use Rattle.ace_model.proofs.Tables.Kinds.{fetch_is, make_unique_is}
 use Rattle.ace_model.proofs.Holders.Acknowledge.{is_named_by_rk}
@@ -88,11 +88,11 @@ module _ (h : Header) (past : Trace) where
   pub copy_moves : (e : Event) → IsAccepted h (e ∷ past) → (p l : ℕ)
       → (copy_of (e ∷ past) p l ≡ copy_of past p l) ⊎ Receives e p l ⊎ StoresLine e p l
   copy_moves (R q j resp last word) a p l =
-      elim (cases_Bool ((nat_eq p q && last) && is_some_and (transaction_of past p Read j) (λ x. is_on x l && is_line_read_transaction x))) [
+      elim (cases_Bool ((nat_eq p q && (length (words_read past p j) == 3)) && is_some_and (transaction_of past p Read j) (λ x. is_on x l && is_line_read_transaction x))) [
         | inr f ↦ inl (rw f refl)
         | inl t ↦
-            let parts = and_parts (nat_eq p q && last) _ t in
-            let port = eqb-true p q (and_parts (nat_eq p q) last parts.0).0 in
+            let parts = and_parts (nat_eq p q && (length (words_read past p j) == 3)) _ t in
+            let port = eqb-true p q (and_parts (nat_eq p q) _ parts.0).0 in
             let x = is_some_and-is (transaction_of past p Read j) (λ x. is_on x l && is_line_read_transaction x) parts.1 in
             let m = may_of h past q j resp last word a in
             let out : outstanding h past p Read j ≡ Some m.one = ap (λ v. outstanding h past v Read j) port ∙ m.out in

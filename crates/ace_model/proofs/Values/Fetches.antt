@@ -1,8 +1,8 @@
 -- A read that keeps the line receives its value.
-use Rattle.std.proofs.Common.{◌≡◌, ◌≢◌, ◌==◌, ℕ, ◌+◌, Bool, true, false, ◌&&◌, nat_eq, nat_lt, [], ◌∷◌, ◌++◌, length, Some, None, slice_get, refl, sym, ap, subst, ◌∙◌, arith, inl, inr}
+use Rattle.std.proofs.Common.{◌≡◌, ◌≢◌, ◌==◌, ℕ, ◌+◌, Bool, true, false, ◌&&◌, nat_eq, [], ◌∷◌, ◌++◌, length, Some, None, slice_get, refl, sym, ap, subst, ◌∙◌, arith, inl, inr}
 use Rattle.std.proofs.lemmas.Bool.{and_parts, and_from, or_cases, cases_eq, eqb-true, eq-eqb, ne_eqb}
-use Rattle.ace_model.proofs.Terms.{ArKind, ar_kind_of, Event, Ar, R, Aw, Read, Header, same_test, is_fetch, is_unique, Transaction, Trace, is_some_and, is_lite_read, beats_of}
-use Rattle.ace_model.proofs.Terms.{first_sender, memory_at_first_beat, reply_of, value_of, may_issue_read, k18, is_due, is_next_transfer, has_word, discards_data, is_make_invalid, copy_of, IsAccepted}
+use Rattle.ace_model.proofs.Terms.{ArKind, ar_kind_of, Event, Ar, R, Aw, Read, Header, is_fetch, is_unique, Transaction, Trace, is_some_and, is_make_invalid, is_lite_read}
+use Rattle.ace_model.proofs.Terms.{first_sender, memory_at_first_beat, reply_of, value_of, may_issue_read, has_word, discards_data, copy_of, IsAccepted}
 use Rattle.ace_model.proofs.Terms.{is_ace, is_line, has_name, read_kind, issued, ended, transfers, outstanding, granted, has_failed, state_of, is_line_read_transaction, words_read, word_of}
 use Rattle.ace_model.proofs.Trace.Looks.{has_name-is, is_on-addr, without-some}
 use Rattle.ace_model.proofs.Trace.Issued.{outstanding-named, outstanding-name, outstanding-origin}
@@ -23,7 +23,6 @@ use Rattle.ace_model.proofs.Values.Replies.{memory-before}
 use Rattle.ace_model.proofs.Values.Facts.{SentTrue, Fetches, FetchesTrue, DirtyPlaced}
 use Rattle.ace_model.proofs.Holders.Law.{accepted_holds}
 use Rattle.ace_model.proofs.General.Options.{Some-injective, is_some_and-at, is_none_or-at}
-use Rattle.ace_model.proofs.General.Booleans.{same_test-at}
 use Rattle.std.proofs.lemmas.Option.{slice_get_within}
 
 -- only an ACE port issues what an ACE-Lite port may not
@@ -51,16 +50,6 @@ ace_read h (e ∷ past) a p i x k o kind lite =
     by d a new named = cc
 
 module _ (h : Header) (past : Trace) where
-  -- the last of four transfers says that it is
-  last_is : (p i resp : ℕ) (last : Bool) (word : ℕ) (x : Transaction) (k : ArKind) → k18 h past (R p i resp last word) ≡ true
-      → outstanding h past p Read i ≡ Some x → x.port ≡ p → x.id ≡ i → read_kind x ≡ Some k → beats_of k ≡ 4 → transfers past p i + 1 ≡ 4 → last ≡ true
-  last_is p i resp last word x k keeps o port id kind beats n =
-      let due = is_some_and-at (outstanding h past p Read i) (is_due h past resp last) x keeps o in
-      let next = is_some_and-at (read_kind x) (is_next_transfer past x last) k (and_parts (is_some_and (read_kind x) (is_next_transfer past x last)) _ due).0 kind in
-      let same = (and_parts (nat_lt (transfers past x.port x.id) (beats_of k)) (same_test last (transfers past x.port x.id + 1 == beats_of k)) next).1 in
-      let count : transfers past x.port x.id + 1 ≡ beats_of k = ap (λ v. transfers past v x.id + 1) port ∙ ap (λ v. transfers past p v + 1) id ∙ n ∙ sym beats in
-      same_test-at last _ same ∙ eq-eqb (transfers past x.port x.id + 1) (beats_of k) count
-
   -- the reply after an event
   reply_next : (e : Event) → IsAccepted h (e ∷ past) → SentTrue h (e ∷ past) → (l : ℕ) (x : Transaction) (k : ArKind) → granted h past l ≡ Some x
       → granted h (e ∷ past) l ≡ Some x → x.addr ≡ l → read_kind x ≡ Some k → is_fetch k ≡ true → value_of (e ∷ past) l ≡ value_of past l
@@ -171,9 +160,9 @@ module _ (h : Header) (past : Trace) where
             words = λ n v is. words n v is ∙ ap (λ b. word_of b n) (sym value);
             whole = λ four.
                 let three : transfers past p i + 1 ≡ 4 = sym count ∙ four in
-                let ends = last_is p i resp last word x k (accepted_keeps h past (R p i resp last word) b).rule_18 was name.port name.id kind tables.beats three in
+                let fourth : (length (words_read past p i) == 3) ≡ true = eq-eqb _ 3 (words-length past p i ∙ omega (arith, three)) in
                 let whole : record { words = words_read past p i ++ word ∷ [] } ≡ value_of past l = whole_line (words_read past p i ++ word ∷ []) (value_of past l)
                 (ap length (sym more_words) ∙ words-length t p i ∙ four) (value-length past l) (λ n v is. words n v (ap (λ ws. slice_get ws n) more_words ∙ is)) in
-                let copy : copy_of t p l ≡ record { words = words_read past p i ++ word ∷ [] } = rw (eq-eqb p p refl, ends, named, on, reads) refl in
+                let copy : copy_of t p l ≡ record { words = words_read past p i ++ word ∷ [] } = rw (eq-eqb p p refl, fourth, named, on, reads) refl in
                 copy ∙ whole ∙ sym value;
           }

@@ -1,7 +1,7 @@
 -- Data newer than memory have a place, at every point of an accepted trace.
 use Rattle.std.proofs.Common.{[], ◌∷◌, refl, inl}
 use Rattle.std.specs.List.{AllByRecursion}
-use Rattle.ace_model.proofs.Terms.{InRange, Event, Header, Trace, IsAccepted, DirtyPlace}
+use Rattle.ace_model.proofs.Terms.{FitsFields, Event, Header, Trace, IsAccepted, DirtyPlace}
 use Rattle.ace_model.proofs.Values.Fetches.{fetches_step}
 use Rattle.ace_model.proofs.Values.Copies.{copies_step}
 use Rattle.ace_model.proofs.Values.Made.{made_step}
@@ -14,7 +14,7 @@ use Rattle.ace_model.proofs.Values.Facts.{DirtyPlaced}
 
 module _ (h : Header) (past : Trace) where
   -- each event keeps the facts
-  facts_step : (e : Event) → IsAccepted h (e ∷ past) → AllByRecursion InRange (e ∷ past) → DirtyPlaced h past → DirtyPlaced h (e ∷ past)
+  facts_step : (e : Event) → IsAccepted h (e ∷ past) → AllByRecursion FitsFields (e ∷ past) → DirtyPlaced h past → DirtyPlaced h (e ∷ past)
   facts_step e a r f = record {
     copies = copies_step h past e a f;
     safe = safe_step h past e a r f;
@@ -40,11 +40,11 @@ facts_start h = record {
   updated = λ p i l x o. cc;
 }
 
--- at each point of an accepted trace whose events are in range
-pub facts : (h : Header) (past : Trace) → IsAccepted h past → AllByRecursion InRange past → DirtyPlaced h past
+-- at each point of an accepted trace
+pub facts : (h : Header) (past : Trace) → IsAccepted h past → AllByRecursion FitsFields past → DirtyPlaced h past
 facts h [] a r = facts_start h
 facts h (e ∷ past) a r = facts_step h past e a r (facts h past a.0 r.1)
 
-pub dirty_data_placed : (h : Header) (past : Trace) → IsAccepted h past → AllByRecursion InRange past → DirtyPlace h past
+pub dirty_data_placed : (h : Header) (past : Trace) → IsAccepted h past → AllByRecursion FitsFields past → DirtyPlace h past
 dirty_data_placed h [] a r = λ l. ((facts_start h).copies l, (facts_start h).safe l)
 dirty_data_placed h (e ∷ past) a r = (dirty_data_placed h past a.0 r.1, λ l. ((facts h (e ∷ past) a r).copies l, (facts h (e ∷ past) a r).safe l))

@@ -3,7 +3,7 @@ use Rattle.std.proofs.Common.{◌≡◌, ◌⊎◌, ℕ, ◌<◌, ◌^◌, true,
 use Rattle.std.proofs.lemmas.Bool.{and_parts, and_from, or_right, cases_Bool}
 use Rattle.std.specs.List.{AllByRecursion}
 use Rattle.ace_codes.specs.declared.kind.AwKind.TheVariants as write
-use Rattle.ace_model.proofs.Terms.{AwKind, InRange, Channel, Write, Event, W, M, Header, Line, Transaction, Trace, is_some_and, is_none_or, is_update}
+use Rattle.ace_model.proofs.Terms.{AwKind, FitsFields, Channel, Write, Event, W, M, Header, Line, Transaction, Trace, is_some_and, is_none_or, is_update}
 use Rattle.ace_model.proofs.Terms.{is_write_line_unique, has_write_data, is_granted_write, is_read, is_on, write_kind, outstanding, transaction_of, updates_memory, is_burst_whole, granted, is_granted}
 use Rattle.ace_model.proofs.Terms.{has_passed_data, memory_of, same_line, Beat, burst_of, burst_line, stores_data, value_of, full_beat, may_write_memory, data_of, data_of_write, has_data, IsAccepted}
 use Rattle.ace_model.proofs.Trace.Looks.{is_on-addr, is_write-is}
@@ -119,12 +119,12 @@ module _ (h : Header) (past : Trace) (e : Event) (l : ℕ) (w : WritesLine h pas
       ]
 
   -- the line of an M has four words
-  pub line_length : InRange e → length w.line.words ≡ 4
+  pub line_length : FitsFields e → length w.line.words ≡ 4
   line_length r =
-      let here : InRange (M w.port w.chan w.id w.line) = subst InRange w.is r in here.2.0
+      let here : FitsFields (M w.port w.chan w.id w.line) = subst FitsFields w.is r in here.0
 
   -- it is the data that the transaction writes
-  pub line_is : IsAccepted h (e ∷ past) → InRange e → (d : Line) → data_of h past w.one ≡ Some d → length d.words ≡ 4 → w.line ≡ d
+  pub line_is : IsAccepted h (e ∷ past) → FitsFields e → (d : Line) → data_of h past w.one ≡ Some d → length d.words ≡ 4 → w.line ≡ d
   line_is a r d is n =
       let keeps = (accepted_keeps h past (M w.port w.chan w.id w.line) (subst (λ v. IsAccepted h (v ∷ past)) w.is a)).rule_25 in
       let has = is_none_or-at (outstanding h past w.port w.chan w.id) (has_data h past w.line) w.one keeps w.out in
@@ -132,7 +132,7 @@ module _ (h : Header) (past : Trace) (e : Event) (l : ℕ) (w : WritesLine h pas
       same_line-is w.line d (line_length r) n same
 
   -- an update makes memory the value
-  pub update_true : IsAccepted h (e ∷ past) → InRange e → UpdatesTrue h past → ByUpdate h past w.one → memory_of (e ∷ past) l ≡ value_of (e ∷ past) l
+  pub update_true : IsAccepted h (e ∷ past) → FitsFields e → UpdatesTrue h past → ByUpdate h past w.one → memory_of (e ∷ past) l ≡ value_of (e ∷ past) l
   update_true a r f u =
       let x = w.one in
       let name = outstanding-name h past w.port w.chan w.id x w.out in
@@ -149,7 +149,7 @@ pub record BeatFits (x : Transaction) (b : Beat) : Type 0 where
   pub low : b.word < 2 ^ 128
   pub full : is_some_and (write_kind x) is_write_line_unique ≡ true → b.strobe ≡ full_beat
 
-pub beats_fit : (h : Header) (past : Trace) → IsAccepted h past → AllByRecursion InRange past → (p i : ℕ) (x : Transaction) (k : ℕ) (b : Beat) → outstanding h past p Write i ≡ Some x
+pub beats_fit : (h : Header) (past : Trace) → IsAccepted h past → AllByRecursion FitsFields past → (p i : ℕ) (x : Transaction) (k : ℕ) (b : Beat) → outstanding h past p Write i ≡ Some x
     → is_some_and (write_kind x) has_write_data ≡ true → slice_get (burst_of past x) k ≡ Some b → BeatFits x b
 beats_fit h [] a r p i x k b o sends is = cc
 beats_fit h (e ∷ past) a r p i x k b o sends is =
@@ -157,7 +157,7 @@ beats_fit h (e ∷ past) a r p i x k b o sends is =
     elim beat.comes [
       | inl before ↦ beats_fit h past a.0 r.1 p i x k b beat.was sends before
       | inr new ↦ record {
-        low = let here : InRange (W x.port b.strobe new.last b.word) = subst InRange new.is r.0 in here.2;
+        low = let here : FitsFields (W x.port b.strobe new.last b.word) = subst FitsFields new.is r.0 in here.1;
         full = λ unique.
             let kind = is_some_and-is (write_kind x) is_write_line_unique unique in
             (beat_fits h past e x k b a new kind.0 kind.1).full (or_right (is_update kind.0) (is_write_line_unique kind.0) kind.2);

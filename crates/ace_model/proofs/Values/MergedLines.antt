@@ -4,7 +4,7 @@ use Rattle.std.proofs.lemmas.Bool.{and_parts, cases_Bool, eqb-true}
 use Rattle.std.proofs.Math.Nat.{pow-suc, div-div-eq-div-mul, div-eq_of_lt}
 use Rattle.std.specs.Int.{byte_at}
 use Rattle.std.specs.List.{AllByRecursion}
-use Rattle.ace_model.proofs.Terms.{InRange, IsLine, IsWord, M, is_some_on, transaction_of, memory_of, Line, Trace, Store, value_of, after_store, store_at, number_of_bytes, merged, word_of, same_line, full_line, Beat, burst_strobe, full_beat}
+use Rattle.ace_model.proofs.Terms.{FitsFields, IsLine, IsWord, M, is_some_on, transaction_of, memory_of, Line, Trace, Store, value_of, after_store, store_at, number_of_bytes, merged, word_of, same_line, full_line, Beat, burst_strobe, full_beat}
 use Rattle.std.proofs.lemmas.Option.{slice_get-get_or}
 
 -- a store of all bytes leaves nothing of the line before
@@ -59,11 +59,11 @@ merged-line a line r = by line.words r.0 r.1
     by ws four _ = absurd (omega arith)
 
 -- memory of a line has four words of sixteen bytes
-pub memory-line : (past : Trace) → AllByRecursion InRange past → (l : ℕ) → IsLine (memory_of past l)
+pub memory-line : (past : Trace) → AllByRecursion FitsFields past → (l : ℕ) → IsLine (memory_of past l)
 memory-line [] r l = (refl, (omega arith, (omega arith, (omega arith, (omega arith, tt)))))
 memory-line (M q c j line ∷ past) r l =
     elim (cases_Bool (is_some_on (transaction_of past q c j) l)) [
-      | inl t ↦ rw t r.0.2
+      | inl t ↦ rw t r.0
       | inr f ↦ rw f (memory-line past r.1 l)
     ]
 memory-line (_ ∷ past) r l = memory-line past r.1 l

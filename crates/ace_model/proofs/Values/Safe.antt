@@ -2,7 +2,7 @@
 use Rattle.std.proofs.Common.{◌≡◌, ◌⊎◌, ℕ, true, false, ◌&&◌, ◌||◌, nat_eq, ◌∷◌, length, Option, Some, None, refl, sym, ap, subst, ◌∙◌, inl, inr}
 use Rattle.std.proofs.lemmas.Bool.{and_parts, and_from, or_cases, or_left, or_right, cases_Bool, cases_eq, eq-eqb}
 use Rattle.ace_model.proofs.Terms.{ArKind, AwKind, SnoopKind, LineState, passes_dirty, is_shared, Read, Write, Event, R, Rk, B, Wk, Cr, Header, is_dirty, Answer, Transaction, Trace, implies}
-use Rattle.ace_model.proofs.Terms.{InRange, Channel, M, Line, passed_data, data_of, is_some_and, is_none_or, is_make_unique, has_write_data, is_ace, is_read, is_line, is_some_on, read_kind}
+use Rattle.ace_model.proofs.Terms.{FitsFields, Channel, M, Line, passed_data, data_of, is_some_and, is_none_or, is_make_unique, has_write_data, is_ace, is_read, is_line, is_some_on, read_kind}
 use Rattle.ace_model.proofs.Terms.{write_kind, snoop_of, snoop_kind_of, ended, outstanding, acknowledged, first_resp, has_memory_write, data_answers, granted, answers_grant, answer_of}
 use Rattle.ace_model.proofs.Terms.{has_passed_data, state_of, memory_of, value_of, has_upper_bits, fits_kind, IsAccepted, discards_data, is_make_invalid, is_write_line_unique, may_lose_data, IsValueSafe}
 use Rattle.ace_codes.specs.declared.kind.ArKind.TheVariants as read
@@ -96,7 +96,7 @@ module _ (h : Header) (past : Trace) where
       (f l x g (inl (grant_stores x k.0 k.1 k.2)) (rw writes had)).stored
 
   -- the end of a granted transaction that has passed data, or may lose data
-  pub ended_safe : (e : Event) → IsAccepted h (e ∷ past) → AllByRecursion InRange past → BegunTrue h past → (l : ℕ) (x : Transaction) → granted h past l ≡ Some x
+  pub ended_safe : (e : Event) → IsAccepted h (e ∷ past) → AllByRecursion FitsFields past → BegunTrue h past → (l : ℕ) (x : Transaction) → granted h past l ≡ Some x
       → (has_passed_data h past x ≡ true) ⊎ (may_lose_data x ≡ true) → (z : Transaction) → ended h past e ≡ Some z → z.place ≡ x.place → IsValueSafe h (e ∷ past) l
   ended_safe (Rk q st) a range f l x g wants z is same =
       let n = ends_granted q st a l x g z is same in
@@ -192,7 +192,7 @@ module _ (h : Header) (past : Trace) where
       by None g = let bad : None ≡ Some d = rw g at is in cc
       by (Some x) g = (x, g, passed_has h past l x d g is)
 
-  module _ (e : Event) (a : IsAccepted h (e ∷ past)) (r : AllByRecursion InRange (e ∷ past)) (f : DirtyPlaced h past) (l : ℕ) where
+  module _ (e : Event) (a : IsAccepted h (e ∷ past)) (r : AllByRecursion FitsFields (e ∷ past)) (f : DirtyPlaced h past) (l : ℕ) where
     -- the M of passed data makes memory the value, or a port holds the line dirty
     passed_written : (w : WritesLine h past e l) → ByPassed h past l w.one → IsValueSafe h (e ∷ past) l
     passed_written w b =

@@ -4,7 +4,7 @@ use Rattle.std.proofs.Common.{◌≡◌, ◌⊎◌, ◌<◌, ℕ, Bool, true, fa
 use Rattle.std.proofs.lemmas.Bool.{and_from, and_parts, or_cases, not-true, cases_Bool, eqb-true, or_right, cases_eq}
 use Rattle.std.proofs.Math.Bool.{and-false}
 use Rattle.std.specs.List.{AllByRecursion}
-use Rattle.ace_model.proofs.Terms.{InRange, AwKind, Channel, Read, Event, R, M, D, Header, Line, merged, Transaction, Trace, is_some_and, is_make_unique, is_update, is_unique_write, is_no_snoop_write, beats_of}
+use Rattle.ace_model.proofs.Terms.{FitsFields, AwKind, Channel, Read, Event, R, M, D, Header, Line, merged, Transaction, Trace, is_some_and, is_make_unique, is_update, is_unique_write, is_no_snoop_write, beats_of}
 use Rattle.ace_model.proofs.Terms.{SnoopKind, I, is_shared, snoop_of_write, snoop_of, snoop_kind_of, has_failed, state_of, is_ace, is_read, is_line, is_on, read_kind, write_kind, outstanding, transaction_of}
 use Rattle.ace_model.proofs.Terms.{is_outstanding, is_make_unique_on, is_complete, transfers, updates_memory, is_burst_whole, granted, is_granted, is_begun, awaits_store, has_store}
 use Rattle.ace_model.proofs.Terms.{are_snoops_done, memory_of, stores_data, discards_data, value_of, may_store, wants_store, full_line, may_write_memory, is_write_due, IsAccepted}
@@ -289,7 +289,7 @@ snoop_of_kind x k s writes kind c =
     ap (λ o. snoop_kind_of o (write_kind x)) none ∙ ap (snoop_kind_of None) kind ∙ c
 
 -- the R of a MakeInvalid makes the value what memory has
-pub discard_true : (h : Header) (past : Trace) (q j resp : ℕ) (last : Bool) (word : ℕ) (l : ℕ) → AllByRecursion InRange past → Discards h past q j l
+pub discard_true : (h : Header) (past : Trace) (q j resp : ℕ) (last : Bool) (word : ℕ) (l : ℕ) → AllByRecursion FitsFields past → Discards h past q j l
     → value_of (R q j resp last word ∷ past) l ≡ memory_of past l
 discard_true h past q j resp last word l r d =
     let named = d.named in

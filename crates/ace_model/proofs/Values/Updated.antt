@@ -2,7 +2,7 @@
 use Rattle.std.proofs.Common.{◌≡◌, ℕ, true, false, not, ◌∷◌, Some, refl, sym, ap, subst, ◌∙◌, inl, inr}
 use Rattle.std.proofs.lemmas.Bool.{not-true, cases_Bool}
 use Rattle.std.specs.List.{AllByRecursion}
-use Rattle.ace_model.proofs.Terms.{passes_dirty, InRange, Write, Event, Header, is_invalid, Answer, Transaction, Trace, is_read, write_kind, outstanding, updates_memory}
+use Rattle.ace_model.proofs.Terms.{passes_dirty, FitsFields, Write, Event, Header, is_invalid, Answer, Transaction, Trace, is_read, write_kind, outstanding, updates_memory}
 use Rattle.ace_model.proofs.Terms.{has_update, granted, has_passed_data, state_of, IsAccepted}
 use Rattle.ace_model.proofs.Trace.Looks.{is_on-addr}
 use Rattle.ace_model.proofs.Trace.Issued.{outstanding-named, outstanding-name, outstanding-origin}
@@ -34,7 +34,7 @@ still_none h past e a l none no_new y g =
       ]
     ]
 
-pub updated_step : (h : Header) (past : Trace) (e : Event) → IsAccepted h (e ∷ past) → AllByRecursion InRange (e ∷ past) → DirtyPlaced h past → UpdatedTrue h (e ∷ past)
+pub updated_step : (h : Header) (past : Trace) (e : Event) → IsAccepted h (e ∷ past) → AllByRecursion FitsFields (e ∷ past) → DirtyPlaced h past → UpdatedTrue h (e ∷ past)
 updated_step h past e a r f p i l x o on dirty m =
     elim (outstanding-origin h past e p Write i x o) [
       | inl new ↦ absurd (new_unwritten past e x p Write i new.0 new.1 m)

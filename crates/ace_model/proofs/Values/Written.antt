@@ -3,7 +3,7 @@
 use Rattle.std.proofs.Common.{◌≡◌, ◌≢◌, ◌⊎◌, ℕ, true, false, not, ◌||◌, nat_eq, ◌∷◌, length, Option, Some, None, unwrap_or, option_and_then, slice_get, refl, sym, ap, subst, ◌∙◌, inl, inr}
 use Rattle.std.proofs.lemmas.Bool.{and_parts, and_from, cases_Bool}
 use Rattle.std.specs.List.{AllByRecursion}
-use Rattle.ace_model.proofs.Terms.{AwKind, I, InRange, Channel, Read, Write, Event, M, Header, Line, merged, Transaction, Trace, is_some_and, is_write_line_unique, has_write_data}
+use Rattle.ace_model.proofs.Terms.{AwKind, I, FitsFields, Channel, Read, Write, Event, M, Header, Line, merged, Transaction, Trace, is_some_and, is_write_line_unique, has_write_data}
 use Rattle.ace_model.proofs.Terms.{is_unique_write, is_no_snoop_write, is_read, is_line, read_kind, write_kind, snoop_of, snoop_kind_of, outstanding, transfers, gives_line, granted, is_begun}
 use Rattle.ace_model.proofs.Terms.{has_passed_data, state_of, memory_of, passed_to, passed_data, burst_of, burst_line, burst_strobe, value_of, full_line, data_of, data_of_write, burst_into, IsAccepted}
 use Rattle.ace_model.proofs.Terms.{may_lose_data, HasDirtyHolder}
@@ -62,7 +62,7 @@ module _ (h : Header) (past : Trace) where
             | inr holder ↦ absurd (no_holder holder)
           ]
 
-  writing : IsAccepted h past → AllByRecursion InRange past → DirtyPlaced h past → (q : ℕ) (c : Channel) (j l : ℕ) → (w : Writes h past q c j l)
+  writing : IsAccepted h past → AllByRecursion FitsFields past → DirtyPlaced h past → (q : ℕ) (c : Channel) (j l : ℕ) → (w : Writes h past q c j l)
       → Writing l w.one
   writing a r f q c j l w =
       let k = stores_kind w.one w.stores in by k.0 k.1 k.2
@@ -131,7 +131,7 @@ module _ (h : Header) (past : Trace) where
       by k kind s = cc
 
   -- a store makes memory the value
-  pub store_true : (e : Event) → IsAccepted h (e ∷ past) → AllByRecursion InRange (e ∷ past) → DirtyPlaced h past → (l : ℕ) (w : WritesLine h past e l)
+  pub store_true : (e : Event) → IsAccepted h (e ∷ past) → AllByRecursion FitsFields (e ∷ past) → DirtyPlaced h past → (l : ℕ) (w : WritesLine h past e l)
       → (s : Writes h past w.port w.chan w.id l) → memory_of (e ∷ past) l ≡ value_of (e ∷ past) l
   store_true e a r f l w s =
       let one : w.one ≡ s.one = Some-injective w.one s.one (sym (outstanding-named h past w.port w.chan w.id w.one w.out) ∙ s.named) in
@@ -163,7 +163,7 @@ module _ (h : Header) (past : Trace) where
       ]
 
   -- where it begins, memory becomes the value
-  begins_true : (e : Event) → IsAccepted h (e ∷ past) → AllByRecursion InRange (e ∷ past) → DirtyPlaced h past → (l : ℕ) (x : Transaction) → Stays h past e l x
+  begins_true : (e : Event) → IsAccepted h (e ∷ past) → AllByRecursion FitsFields (e ∷ past) → DirtyPlaced h past → (l : ℕ) (x : Transaction) → Stays h past e l x
       → StoresUnheld x → is_begun (e ∷ past) x ≡ true → (is_begun past x ≡ true) ⊎ Quiet h (e ∷ past) l
   begins_true e a r f l x stays stores b =
       let o = (accepted_holds h past a.0).grants l x stays.was in
@@ -196,7 +196,7 @@ module _ (h : Header) (past : Trace) where
             ]
       ]
 
-  pub begun_step : (e : Event) → IsAccepted h (e ∷ past) → AllByRecursion InRange (e ∷ past) → DirtyPlaced h past → BegunTrue h (e ∷ past)
+  pub begun_step : (e : Event) → IsAccepted h (e ∷ past) → AllByRecursion FitsFields (e ∷ past) → DirtyPlaced h past → BegunTrue h (e ∷ past)
   begun_step e a r f l x g stores b =
       elim (granted_before h past e l x g) [
         | inr gives ↦ absurd (given_unbegun e a l x g gives b)

@@ -49,3 +49,8 @@ pub returns-clause-dvm_holds : goal.returns-clause-dvm_holds
 unfolding ar_kind_of aw_kind_of ac_kind_of
 returns-clause-dvm_holds c d =
     let h = d.1 0 refl in let s = (h.2 1 refl (λ e. cc)).sync in cc
+
+pub returns-clause-dvm_holds_of_a_stray : goal.returns-clause-dvm_holds_of_a_stray
+unfolding ar_kind_of aw_kind_of ac_kind_of
+returns-clause-dvm_holds_of_a_stray c d =
+    let h = d.1 0 refl in let s = (h.2 1 refl (λ e. cc)).sync in cc
