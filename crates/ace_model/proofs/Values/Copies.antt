@@ -1,8 +1,8 @@
 -- The copies of the ports that hold a line stay its value.
 use Rattle.std.proofs.Common.{◌==◌, length, ◌≡◌, ◌⊎◌, ℕ, Bool, true, false, ◌&&◌, nat_eq, ◌∷◌, Some, refl, sym, ap, subst, ◌∙◌, inl, inr}
-use Rattle.std.proofs.lemmas.Bool.{and_parts, or_left, cases_Bool, eqb-true, eq-eqb}
+use Rattle.std.proofs.lemmas.Bool.{and_parts, cases_Bool, eqb-true, eq-eqb}
 use Rattle.std.proofs.Math.Bool.{and-false}
-use Rattle.ace_model.proofs.Terms.{LineState, I, Read, Event, R, Rk, M, D, Header, Line, merged, is_invalid, is_unique, Transaction, Trace, is_some_and, is_granted_write, is_on, write_kind, outstanding}
+use Rattle.ace_model.proofs.Terms.{LineState, I, Read, Event, R, Rk, M, D, Header, Line, merged, is_invalid, is_unique, Transaction, Trace, is_some_and, is_on, outstanding}
 use Rattle.ace_model.proofs.Terms.{words_read, transaction_of, state_of, is_line_read_transaction, copy_of, value_of, IsAccepted, AreCopiesTrue}
 use Rattle.ace_model.proofs.Tables.States.{valid_not, invalid_not, unique_valid}
 use Rattle.ace_model.proofs.Tables.Kinds.{fetch_is, make_unique_is}
