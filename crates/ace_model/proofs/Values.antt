@@ -7,7 +7,7 @@
 -- MakeInvalid, which gives up what is newer than memory. The law of the holders (Holders) is taken for granted: a unique
 -- line has one holder, a dirty line has one owner.
 --
--- The value changes by four kinds of store only, and each finds the line alone (Stores):
+-- After the MEM events the value changes by four kinds of store only, and each finds the line alone (Stores):
 --   * the D of a port that may store. K32: it holds the line in UC or UD, so every other port is in I, and has nothing
 --     outstanding on it.
 --   * the D of a MakeUnique. K32: the MakeUnique is complete and has had no D, and all bytes are stored. It is still
