@@ -3,9 +3,9 @@ use Rattle.ace_grammar.proofs.Letters.{no_letters, made_letters}
 use Rattle.ace_grammar.proofs.header.parse_letters.Goals as goal
 
 pub returns-then-not-are_letters : goal.returns-then-not-are_letters
-returns-then-not-are_letters c = no_letters c.args.letters.now (iff_false c.are_letters.ensures c.if-not-are_letters.true)
+returns-then-not-are_letters c = no_letters c.args.version c.args.letters.now (iff_false c.are_letters.ensures c.if-not-are_letters.true)
 
 pub returns : goal.returns
 returns c =
     let letters = c.are_letters.ensures.0 c.if-not-are_letters.false in
-    rw c.ace_bits.ensures.value (made_letters c.args.letters.now letters)
+    rw c.ace_bits.ensures.value (made_letters c.args.version c.args.letters.now c.requires letters)
