@@ -896,7 +896,10 @@ fn reads_traces_in_pieces(rt: HostRuntime) -> Result<(), Fail> {
         (b"ACE 1\nPORTS A A\n", no_header(2, Reason::F7)),
         (b"ACE 2\nPORTS A\n", End::After(0, Ok(two))),
         (b"ACE 2\nPORTS AAAAAAAAA\n", End::After(0, Ok(nine))),
-        (b"ACE 2\nPORTS LLLLLLLLLLLLLLLL\n", End::After(0, Ok(sixteen))),
+        (
+            b"ACE 2\nPORTS LLLLLLLLLLLLLLLL\n",
+            End::After(0, Ok(sixteen)),
+        ),
         (
             b"ACE 2\nPORTS LLLLLLLLLLLLLLLLAAAAAAAAAAAAAAAA\n",
             End::After(0, Ok(all)),
