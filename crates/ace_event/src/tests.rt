@@ -45,4 +45,18 @@ fn tells_kinds_of_ports(rt: HostRuntime) {
     for (port, kind) in kinds {
         assert_eq!(rt; kind_of(&header, port), kind);
     }
+    let wide = Header {
+        version: 2,
+        ports: 32,
+        ace: 0xffff_0000,
+    };
+    let wide_kinds = [
+        (15, Some(PortKind::Lite)),
+        (16, Some(PortKind::Ace)),
+        (31, Some(PortKind::Ace)),
+        (32, None),
+    ];
+    for (port, kind) in wide_kinds {
+        assert_eq!(rt; kind_of(&wide, port), kind);
+    }
 }
