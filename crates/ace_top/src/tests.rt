@@ -36,7 +36,7 @@ const SIXTEEN: &str = "ACE 1\nPORTS AL\n\
     D 0 00000040 ffffffffffffffff 0 55555555555555555555555555555555555555555555555555555555555555555555555555555555555555555555555555555555555555555555555555555555\n\
     OP 0 0001 skip\n";
 
-const USAGE: &str = "usage: ace check|run|show|report|gen N|trial N\n";
+const USAGE: &str = "usage: ace check|run|show|migrate|report|gen N|trial N\n";
 
 /// Calls `ace` with so much room on its outputs: the status, and what these then hold.
 fn answer<R: Threads + Wait + Sync, S: Source>(
