@@ -27,10 +27,10 @@ cut_joined (x ∷ y ∷ l) some plain =
     slice_split_at is_space x 32 (join_with_byte 32 (y ∷ l)) (plain_all x plain.0) refl
     ∙ ap (λ (r : List (List ℕ)). x ∷ r) (cut_joined (y ∷ l) (λ e. absurd cc) plain.1)
 
-not_empty_is_wrong : (l : List (List ℕ)) → l ≢ [] → fields_reason [] l ≡ Some F3
+not_empty_is_wrong : (version : ℕ) (l : List (List ℕ)) → l ≢ [] → fields_reason version [] l ≡ Some F3
 unfolding fields_reason
-not_empty_is_wrong [] some = absurd (some refl)
-not_empty_is_wrong (x ∷ l) some = refl
+not_empty_is_wrong version [] some = absurd (some refl)
+not_empty_is_wrong version (x ∷ l) some = refl
 
 onto_plain : (x : ℕ) (l : List (List ℕ)) → x ≢ 32 → AllByRecursion IsPlain l → AllByRecursion IsPlain (onto_first x l)
 onto_plain x [] h plain = ((h, tt), tt)
@@ -65,8 +65,8 @@ pub are_cut : (line : List ℕ) (l : List (List ℕ)) → AreFields line l → c
 are_cut line l h = ap cut h.joined ∙ cut_joined l h.some_field h.no_space
 
 -- more fields than shapes
-pub too_many : (bytes : List ℕ) → fields_reason [] (cut bytes) ≡ Some F3
-too_many bytes = not_empty_is_wrong (cut bytes) (cut_plain bytes).0
+pub too_many : (version : ℕ) (bytes : List ℕ) → fields_reason version [] (cut bytes) ≡ Some F3
+too_many version bytes = not_empty_is_wrong version (cut bytes) (cut_plain bytes).0
 
 -- ---- the first field
 

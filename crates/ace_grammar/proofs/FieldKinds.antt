@@ -12,10 +12,11 @@ use Rattle.ace_event.specs.declared.event.Channel.{Channel}
 use Rattle.ace_event.specs.declared.event.Channel.TheVariants.{Read, Write}
 use Rattle.ace_event.specs.declared.event.Outcome.{Outcome}
 use Rattle.ace_event.specs.declared.event.Outcome.TheVariants.{Ok, Skip, Fail}
-use Rattle.ace_event.specs.Text.{hex_text, flag_text, channel_text, state_text, outcome_text}
+use Rattle.ace_event.specs.Range.{IsPort}
+use Rattle.ace_event.specs.Text.{hex_text, port_digits, port_text, flag_text, channel_text, state_text, outcome_text}
 use Rattle.ace_grammar.specs.declared.reason.Reason.TheVariants.{F4, F5, F6}
 use Rattle.ace_grammar.specs.declared.shapes.Shape.{Shape}
-use Rattle.ace_grammar.specs.declared.shapes.Shape.TheVariants.{Digits, AtMost, SnoopResponse, ChannelWord, StateWord, OutcomeWord}
+use Rattle.ace_grammar.specs.declared.shapes.Shape.TheVariants.{Port, Digits, AtMost, SnoopResponse, ChannelWord, StateWord, OutcomeWord}
 use Rattle.ace_grammar.specs.Fields.{digits_onto, state_of, outcome_of}
 use Rattle.ace_grammar.specs.Reasons.{is_digit, digits_reason, number_reason, limited_reason, word_reason, field_reason}
 use Rattle.ace_grammar.proofs.Options.{is_there, chosen}
@@ -27,12 +28,12 @@ pub some_isn't_none : {A : Type 0} (x : A) (P : Type 0) → Some x ≡ None → 
 some_isn't_none x P e = absurd cc
 
 -- a field of some shape: the values whose texts have no reason, and no other text
-pub record Kind (A : Type 0) : Type 1 where
+pub record Kind (version : ℕ) (A : Type 0) : Type 1 where
   pub shape : Shape
   pub text : A → List ℕ
   pub IsIn : A → Type 0
-  pub decode : (field : List ℕ) → field_reason shape field ≡ None → (value : A) × IsIn value × (field ≡ text value)
-  pub encode : (value : A) → IsIn value → field_reason shape (text value) ≡ None
+  pub decode : (field : List ℕ) → field_reason version shape field ≡ None → (value : A) × IsIn value × (field ≡ text value)
+  pub encode : (value : A) → IsIn value → field_reason version shape (text value) ≡ None
   pub visible : (value : A) → IsVisible (text value)
 
 -- ---- digits
@@ -61,14 +62,25 @@ digits_fine count field size all =
 pub digits_encode : (count number : ℕ) → digits_reason count (hex_text count number) ≡ None
 digits_encode count number = digits_fine count (hex_text count number) (length-hex_text count number) (hex_digits count number)
 
-abbrev pub digits : ℕ → Kind ℕ
-digits count = record {
+abbrev pub digits : {version : ℕ} → ℕ → Kind version ℕ
+digits {version} count = record {
   shape = Digits count;
   text = hex_text count;
   IsIn = λ number. number < 16 ^ count;
   decode = digits_decode count;
   encode = λ number h. digits_encode count number;
   visible = hex_text-visible count;
+}
+
+-- a port, in a trace of a version
+abbrev pub port : {version : ℕ} → Kind version ℕ
+port {version} = record {
+  shape = Port;
+  text = port_text version;
+  IsIn = IsPort version;
+  decode = digits_decode (port_digits version);
+  encode = λ number h. digits_encode (port_digits version) number;
+  visible = hex_text-visible (port_digits version);
 }
 
 number_none : (most : ℕ) (read : Option ℕ) → number_reason most read ≡ None → (number : ℕ) × (read ≡ Some number) × (number ≤ most)
@@ -94,8 +106,8 @@ limited_encode count most number room h =
     ∙ ap (number_reason most) (number_again count number (omega (arith, room, h)))
     ∙ cond-true (leb number most) _ _ (le-leb number most h)
 
-abbrev pub at_most : (most : ℕ) → most < 16 ^ 1 → Kind ℕ
-at_most most room = record {
+abbrev pub at_most : {version : ℕ} (most : ℕ) → most < 16 ^ 1 → Kind version ℕ
+at_most {version} most room = record {
   shape = AtMost most;
   text = hex_text 1;
   IsIn = λ number. number ≤ most;
@@ -104,8 +116,8 @@ at_most most room = record {
   visible = hex_text-visible 1;
 }
 
-abbrev pub response : Kind ℕ
-response = record {
+abbrev pub response : {version : ℕ} → Kind version ℕ
+response {version} = record {
   shape = SnoopResponse;
   text = hex_text 2;
   IsIn = λ number. number ≤ 0x1f;
@@ -128,8 +140,8 @@ pub flag_text-visible : (flag : Bool) → IsVisible (flag_text flag)
 flag_text-visible false = grind arith
 flag_text-visible true = grind arith
 
-abbrev pub flag : Kind Bool
-flag = record {
+abbrev pub flag : {version : ℕ} → Kind version Bool
+flag {version} = record {
   shape = AtMost 1;
   text = flag_text;
   IsIn = Any;
@@ -144,38 +156,38 @@ word_none : (known : Bool) → word_reason known ≡ None → known ≡ true
 word_none true e = refl
 word_none false e = some_isn't_none F5 _ e
 
-pub channel_decode : (field : List ℕ) → field_reason ChannelWord field ≡ None → (value : Channel) × Any value × (field ≡ channel_text value)
-channel_decode field e =
+pub channel_decode : (version : ℕ) (field : List ℕ) → field_reason version ChannelWord field ≡ None → (value : Channel) × Any value × (field ≡ channel_text value)
+channel_decode version field e =
     elim (or_cases (bytes_eq field (codes "R")) (bytes_eq field (codes "W")) (word_none _ e)) [
       | inl p ↦ (Read, tt, (bytes_eq-Decides field (codes "R")).0 p)
       | inr p ↦ (Write, tt, (bytes_eq-Decides field (codes "W")).0 p)
     ]
 
-pub channel_encode : (value : Channel) → field_reason ChannelWord (channel_text value) ≡ None
-channel_encode Read = refl
-channel_encode Write = refl
+pub channel_encode : (version : ℕ) (value : Channel) → field_reason version ChannelWord (channel_text value) ≡ None
+channel_encode version Read = refl
+channel_encode version Write = refl
 
 pub channel_text-visible : (channel : Channel) → IsVisible (channel_text channel)
 channel_text-visible Read = grind arith
 channel_text-visible Write = grind arith
 
-abbrev pub channel : Kind Channel
-channel = record {
+abbrev pub channel : {version : ℕ} → Kind version Channel
+channel {version} = record {
   shape = ChannelWord;
   text = channel_text;
   IsIn = Any;
-  decode = channel_decode;
-  encode = λ value h. channel_encode value;
+  decode = channel_decode version;
+  encode = λ value h. channel_encode version value;
   visible = channel_text-visible;
 }
 
-pub state_decode : (field : List ℕ) → field_reason StateWord field ≡ None → (value : LineState) × Any value × (field ≡ state_text value)
-state_decode field e =
+pub state_decode : (version : ℕ) (field : List ℕ) → field_reason version StateWord field ≡ None → (value : LineState) × Any value × (field ≡ state_text value)
+state_decode version field e =
     let there = is_there (state_of field) (word_none (is_some (state_of field)) e) in
     (there.0, tt, state_takes field there.0 there.1)
 
-pub state_encode : (value : LineState) → field_reason StateWord (state_text value) ≡ None
-state_encode value = ap (λ (o : Option LineState). word_reason (is_some o)) (state_again value)
+pub state_encode : (version : ℕ) (value : LineState) → field_reason version StateWord (state_text value) ≡ None
+state_encode version value = ap (λ (o : Option LineState). word_reason (is_some o)) (state_again value)
 
 pub state_text-visible : (st : LineState) → IsVisible (state_text st)
 state_text-visible I = grind arith
@@ -184,35 +196,35 @@ state_text-visible UD = grind arith
 state_text-visible SC = grind arith
 state_text-visible SD = grind arith
 
-abbrev pub state : Kind LineState
-state = record {
+abbrev pub state : {version : ℕ} → Kind version LineState
+state {version} = record {
   shape = StateWord;
   text = state_text;
   IsIn = Any;
-  decode = state_decode;
-  encode = λ value h. state_encode value;
+  decode = state_decode version;
+  encode = λ value h. state_encode version value;
   visible = state_text-visible;
 }
 
-pub outcome_decode : (field : List ℕ) → field_reason OutcomeWord field ≡ None → (value : Outcome) × Any value × (field ≡ outcome_text value)
-outcome_decode field e =
+pub outcome_decode : (version : ℕ) (field : List ℕ) → field_reason version OutcomeWord field ≡ None → (value : Outcome) × Any value × (field ≡ outcome_text value)
+outcome_decode version field e =
     let there = is_there (outcome_of field) (word_none (is_some (outcome_of field)) e) in
     (there.0, tt, outcome_takes field there.0 there.1)
 
-pub outcome_encode : (value : Outcome) → field_reason OutcomeWord (outcome_text value) ≡ None
-outcome_encode value = ap (λ (o : Option Outcome). word_reason (is_some o)) (outcome_again value)
+pub outcome_encode : (version : ℕ) (value : Outcome) → field_reason version OutcomeWord (outcome_text value) ≡ None
+outcome_encode version value = ap (λ (o : Option Outcome). word_reason (is_some o)) (outcome_again value)
 
 pub outcome_text-visible : (res : Outcome) → IsVisible (outcome_text res)
 outcome_text-visible Ok = grind arith
 outcome_text-visible Skip = grind arith
 outcome_text-visible Fail = grind arith
 
-abbrev pub outcome : Kind Outcome
-outcome = record {
+abbrev pub outcome : {version : ℕ} → Kind version Outcome
+outcome {version} = record {
   shape = OutcomeWord;
   text = outcome_text;
   IsIn = Any;
-  decode = outcome_decode;
-  encode = λ value h. outcome_encode value;
+  decode = outcome_decode version;
+  encode = λ value h. outcome_encode version value;
   visible = outcome_text-visible;
 }

@@ -10,8 +10,9 @@ use Rattle.ace_event.specs.declared.event.Channel.{Channel}
 use Rattle.ace_event.specs.declared.event.Channel.TheVariants.{Read, Write}
 use Rattle.ace_event.specs.declared.event.Outcome.{Outcome}
 use Rattle.ace_event.specs.declared.event.Outcome.TheVariants.{Ok, Skip, Fail}
-use Rattle.ace_event.specs.Text.{hex_text, flag_text, channel_text, state_text, outcome_text}
-use Rattle.ace_grammar.specs.Fields.{digits_at, number_at, flag_at, channel_of, letter_at, channel_at, state_of, state_at, outcome_of, outcome_at}
+use Rattle.ace_event.specs.Range.{IsPort}
+use Rattle.ace_event.specs.Text.{hex_text, port_text, flag_text, channel_text, state_text, outcome_text}
+use Rattle.ace_grammar.specs.Fields.{digits_at, number_at, port_at, flag_at, channel_of, letter_at, channel_at, state_of, state_at, outcome_of, outcome_at}
 use Rattle.ace_grammar.proofs.Options.{map_some, some_is, none_isn't, chosen}
 use Rattle.ace_grammar.proofs.Hex.{length-hex_text, digits_takes, digits_again}
 use Rattle.ace_grammar.proofs.Exact.{Takes, ReadsAll, takes_spaced, reads_spaced, Field, Rest}
@@ -216,6 +217,34 @@ room_of_word = omega arith
 
 abbrev pub digit : Field ℕ
 digit = number 1 15 room_of_digit
+
+room_of_two : 0xff < 16 ^ 2
+room_of_two = omega arith
+
+-- every number of its digits is in range
+port_exact_by : (one : Bool) → Takes (λ bytes. cond one (number_at 1 15 bytes) (number_at 2 0xff bytes)) (λ port. 32 ∷ hex_text (cond one 1 2) port) (λ port. port < 16 ^ cond one 1 2) 3
+port_exact_by true =
+    let f = number_exact 1 15 room_of_digit in
+    record {
+      takes = λ bytes rest port e. let taken = f.takes bytes rest port e in (omega (arith, taken.0), taken.1);
+      again = λ port rest h. f.again port rest (omega (arith, h));
+      short = λ port h. omega (arith, f.short port (omega (arith, h)));
+    }
+port_exact_by false =
+    let f = number_exact 2 0xff room_of_two in
+    record {
+      takes = λ bytes rest port e. let taken = f.takes bytes rest port e in (omega (arith, taken.0), taken.1);
+      again = λ port rest h. f.again port rest (omega (arith, h));
+      short = λ port h. omega (arith, f.short port (omega (arith, h)));
+    }
+
+pub port_exact : (version : ℕ) → Takes (port_at version) (λ port. 32 ∷ port_text version port) (IsPort version) 3
+unfolding port_at
+port_exact version = port_exact_by (eqb version 1)
+
+-- a port, in a trace of a version
+abbrev pub port : ℕ → Field ℕ
+port version = record { take_first = port_at version; text = λ p. 32 ∷ port_text version p; IsIn = IsPort version; size = 3; exact = port_exact version }
 
 -- a domain, a barrier, a write response, or the number of a word
 abbrev pub two_bits : Field ℕ

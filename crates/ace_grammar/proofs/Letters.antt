@@ -8,8 +8,8 @@ use Rattle.std.proofs.lemmas.Bool.Decides.{eqb_tells}
 use Rattle.std.proofs.lemmas.List.FromFn.{fill_by_all, length-map-range_with_len, get_or-map-range_with_len}
 use Rattle.std.proofs.lemmas.List.Sums.{sum_by-cons}
 use Rattle.ace_event.specs.declared.header.Header.{Header}
-use Rattle.ace_event.specs.Ports.{IsHeader, port_letter, port_letters}
-use Rattle.ace_grammar.specs.Reading.{IsReadableHeader}
+use Rattle.ace_event.specs.Ports.{IsHeader, port_letter, port_letters, most_letters}
+use Rattle.ace_grammar.specs.Reading.{IsReadableHeader, IsVersion}
 use Rattle.ace_grammar.specs.Letters.{ArePortLetters, ace_bits}
 use Rattle.ace_grammar.proofs.Visible.{IsClean}
 
@@ -72,12 +72,14 @@ letters-clean ace (p ∷ places) = ((letter_of_bit (eqb (bit_at ace p) 1)).1, le
 pub letters-length : (header : Header) → length (port_letters header) ≡ header.ports
 letters-length header = length-map-range_with_len (port_letter header.ace) 0 header.ports
 
-readable_are_letters : (header : Header) → IsReadableHeader header → ArePortLetters (port_letters header)
+readable_are_letters : (header : Header) → IsReadableHeader header → ArePortLetters (most_letters header.version) (port_letters header)
 readable_are_letters header h =
     (omega (arith, h.some_port, letters-length header), h.most_ace, h.most_lite, all_known header.ace (range_with_len 0 header.ports))
 
-pub no_letters : (letters : List ℕ) → (ArePortLetters letters → ⊥) → (header : Header) → IsReadableHeader header → port_letters header ≢ letters
-no_letters letters not header h same = not (subst ArePortLetters same (readable_are_letters header h))
+pub no_letters : (version : ℕ) (letters : List ℕ) → (ArePortLetters (most_letters version) letters → ⊥)
+    → (header : Header) → IsReadableHeader header → header.version ≡ version → port_letters header ≢ letters
+no_letters version letters not header h of same =
+    not (subst (λ v. ArePortLetters (most_letters v) letters) of (subst (ArePortLetters (most_letters header.version)) same (readable_are_letters header h)))
 
 -- ---- the header of letters
 
@@ -125,20 +127,25 @@ letter_is (x ∷ xs) (suc p) all h =
     letter_is xs p (first_known x xs all).1 (omega (arith, h))
     ∙ ap (λ d. cond (eqb d 1) 65 76) (sym (next_bit (is_ace x) (ace_bits xs) p (omega (arith, at_most_one x))))
 
--- the header with these letters
-abbrev pub header_of : List ℕ → Header
-header_of letters = record { version = 1; ports = length letters; ace = ace_bits letters }
+-- the header of a version with these letters
+abbrev pub header_of : ℕ → List ℕ → Header
+header_of version letters = record { version = version; ports = length letters; ace = ace_bits letters }
 
-written_again : (letters : List ℕ) → AreKnown letters → port_letters (header_of letters) ≡ letters
-written_again letters all = sym (fill_by_all (port_letter (ace_bits letters)) letters (length letters) 0 refl (λ p lt. letter_is letters p all lt))
+written_again : (version : ℕ) (letters : List ℕ) → AreKnown letters → port_letters (header_of version letters) ≡ letters
+written_again version letters all = sym (fill_by_all (port_letter (ace_bits letters)) letters (length letters) 0 refl (λ p lt. letter_is letters p all lt))
 
-pub made_letters : (letters : List ℕ) → ArePortLetters letters → IsReadableHeader (header_of letters) × (port_letters (header_of letters) ≡ letters)
-made_letters letters h =
-    let written = written_again letters h.3 in
-    let header : IsHeader (header_of letters) = record {
-      version = refl;
+most_by : (one : Bool) → cond one 8 16 ≤ 16
+most_by true = omega arith
+most_by false = omega arith
+
+pub made_letters : (version : ℕ) (letters : List ℕ) → IsVersion version → ArePortLetters (most_letters version) letters
+    → IsReadableHeader (header_of version letters) × (port_letters (header_of version letters) ≡ letters)
+made_letters version letters is h =
+    let written = written_again version letters h.3 in
+    let header : IsHeader (header_of version letters) = record {
+      version = is;
       some_port = h.0;
-      most_ports = omega (arith, h.1, h.2, h.3);
+      most_ports = omega (arith, h.1, h.2, h.3, most_by (eqb version 1));
       most_ace = rw written h.1;
       most_lite = rw written h.2;
       no_other = bits_below letters;
@@ -158,15 +165,14 @@ digit_of_letter a (suc (suc b)) h k e = absurd (omega (arith, k))
 letter_at_place : (header : Header) (p : ℕ) → p < header.ports → get_or (port_letters header) p 0 ≡ port_letter header.ace p
 letter_at_place header p h = get_or-map-range_with_len (port_letter header.ace) 0 header.ports p p 0 h (omega arith)
 
-pub same_header : (one other : Header) → IsReadableHeader one → IsReadableHeader other → port_letters one ≡ port_letters other → one ≡ other
-same_header one other h k same =
+pub same_header : (one other : Header) → one.version ≡ other.version → IsReadableHeader one → IsReadableHeader other → port_letters one ≡ port_letters other → one ≡ other
+same_header one other version h k same =
     let size : one.ports ≡ other.ports = sym (letters-length one) ∙ ap length same ∙ letters-length other in
     let bits : one.ace ≡ other.ace =
     same_from_bits_below one.ports one.ace other.ace h.no_other (rw size k.no_other)
     (λ p lt.
     let letters = sym (letter_at_place one p lt) ∙ ap (λ (l : List ℕ). get_or l p 0) same ∙ letter_at_place other p (omega (arith, lt, size)) in
     digit_of_letter (bit_at one.ace p) (bit_at other.ace p) (bit_at-lt one.ace p) (bit_at-lt other.ace p) letters) in
-    let version : one.version ≡ other.version = h.version ∙ sym k.version in
     ap (λ v. record { version = v; ports = one.ports; ace = one.ace }) version
     ∙ ap (λ p. record { version = other.version; ports = p; ace = one.ace }) size
     ∙ ap (λ a. record { version = other.version; ports = other.ports; ace = a }) bits

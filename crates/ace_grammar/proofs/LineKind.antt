@@ -65,5 +65,5 @@ digits_all count (word ∷ words) =
 pub line_encode : (value : Line) → IsLine value → digits_reason 128 (line_digits value) ≡ None
 line_encode value h = digits_fine 128 (line_digits value) (digits_length 32 value.words ∙ omega (arith, h.0)) (digits_all 32 value.words)
 
-abbrev pub line : Kind Line
-line = record { shape = Digits 128; text = line_digits; IsIn = IsLine; decode = line_decode; encode = line_encode; visible = λ value. digits-visible 32 value.words }
+abbrev pub line : {version : ℕ} → Kind version Line
+line {version} = record { shape = Digits 128; text = line_digits; IsIn = IsLine; decode = line_decode; encode = line_encode; visible = λ value. digits-visible 32 value.words }

@@ -17,63 +17,68 @@ use Rattle.ace_grammar.proofs.CutFields.{cut, cut_are_fields, are_cut}
 use Rattle.ace_grammar.proofs.EventReasons.{without_reason, event_without_reason, event_visible}
 use Rattle.ace_grammar.proofs.Visible.{IsPlain, IsVisible, all-weaker, visible-plain, joined-clean}
 
-some_fields : (event : Event) → fields event ≢ []
-some_fields (Ar port id addr snoop dom bar lock) e = absurd cc
-some_fields (R port id resp last word) e = absurd cc
-some_fields (Rk port st) e = absurd cc
-some_fields (Aw port id addr snoop dom bar) e = absurd cc
-some_fields (W port strb last word) e = absurd cc
-some_fields (B port id resp) e = absurd cc
-some_fields (Wk port st) e = absurd cc
-some_fields (Ac port addr snoop) e = absurd cc
-some_fields (Cr port resp st) e = absurd cc
-some_fields (Cd port last word) e = absurd cc
-some_fields (G port chan id) e = absurd cc
-some_fields (M port chan id line) e = absurd cc
-some_fields (S port addr st) e = absurd cc
-some_fields (L port addr w x word) e = absurd cc
-some_fields (D port addr strobe x line) e = absurd cc
-some_fields (Op port k res) e = absurd cc
-some_fields (Mem addr line) e = absurd cc
+some_fields : (version : ℕ) (event : Event) → fields version event ≢ []
+some_fields version (Ar port id addr snoop dom bar lock) e = absurd cc
+some_fields version (R port id resp last word) e = absurd cc
+some_fields version (Rk port st) e = absurd cc
+some_fields version (Aw port id addr snoop dom bar) e = absurd cc
+some_fields version (W port strb last word) e = absurd cc
+some_fields version (B port id resp) e = absurd cc
+some_fields version (Wk port st) e = absurd cc
+some_fields version (Ac port addr snoop) e = absurd cc
+some_fields version (Cr port resp st) e = absurd cc
+some_fields version (Cd port last word) e = absurd cc
+some_fields version (G port chan id) e = absurd cc
+some_fields version (M port chan id line) e = absurd cc
+some_fields version (S port addr st) e = absurd cc
+some_fields version (L port addr w x word) e = absurd cc
+some_fields version (D port addr strobe x line) e = absurd cc
+some_fields version (Op port k res) e = absurd cc
+some_fields version (Mem addr line) e = absurd cc
 
-event_fields : (event : Event) → AreFields (event_text event) (fields event)
-event_fields event = record { some_field = some_fields event; joined = refl; no_space = all-weaker IsVisible IsPlain visible-plain (fields event) (event_visible event) }
+event_fields : (version : ℕ) (event : Event) → AreFields (event_text version event) (fields version event)
+event_fields version event = record {
+  some_field = some_fields version event;
+  joined = refl;
+  no_space = all-weaker IsVisible IsPlain visible-plain (fields version event) (event_visible version event);
+}
 
 -- the line of an event holds no line feed
-pub event_no_lf : (event : Event) → HasNoLf (event_text event)
-event_no_lf event = All-from_recursion (λ b. b ≢ 10) (event_text event) (joined-clean (fields event) (event_visible event))
+pub event_no_lf : (version : ℕ) (event : Event) → HasNoLf (event_text version event)
+event_no_lf version event = All-from_recursion (λ b. b ≢ 10) (event_text version event) (joined-clean (fields version event) (event_visible version event))
 
 -- ---- reasons of lines
 
-pub has_reason : (line : List ℕ) (reason : Reason) → line_reason (cut line) ≡ Some reason → HasReason line reason
-has_reason line reason e = (cut line, cut_are_fields line, e)
+pub has_reason : (version : ℕ) (line : List ℕ) (reason : Reason) → line_reason version (cut line) ≡ Some reason → HasReason version line reason
+has_reason version line reason e = (cut line, cut_are_fields line, e)
 
-pub same_reason : (line : List ℕ) (one other : Reason) → HasReason line one → HasReason line other → one ≡ other
-same_reason line one other h k =
-    some_is one other (sym h.2 ∙ ap line_reason (sym (are_cut line h.0 h.1) ∙ are_cut line k.0 k.1) ∙ k.2)
+pub same_reason : (version : ℕ) (line : List ℕ) (one other : Reason) → HasReason version line one → HasReason version line other → one ≡ other
+same_reason version line one other h k =
+    some_is one other (sym h.2 ∙ ap (line_reason version) (sym (are_cut line h.0 h.1) ∙ are_cut line k.0 k.1) ∙ k.2)
 
 -- the line of an event in range has no reason
-pub event_has_none : (line : List ℕ) (reason : Reason) (event : Event) → HasReason line reason → InRange event → event_text event ≢ line
-event_has_none line reason event h is e =
-    let same : cut line ≡ fields event = ap cut (sym e) ∙ are_cut (event_text event) (fields event) (event_fields event) in
-    none_isn't reason _ (sym (event_without_reason event is) ∙ ap line_reason (sym same ∙ are_cut line h.0 h.1) ∙ h.2)
+pub event_has_none : (version : ℕ) (line : List ℕ) (reason : Reason) (event : Event) → HasReason version line reason → InRange version event → event_text version event ≢ line
+event_has_none version line reason event h is e =
+    let same : cut line ≡ fields version event = ap cut (sym e) ∙ are_cut (event_text version event) (fields version event) (event_fields version event) in
+    none_isn't reason _ (sym (event_without_reason version event is) ∙ ap (line_reason version) (sym same ∙ are_cut line h.0 h.1) ∙ h.2)
 
 -- a line without a reason is that of an event in range
-pub line_without_reason : (line : List ℕ) → line_reason (cut line) ≡ None → (event : Event) × InRange event × (event_text event ≡ line)
-line_without_reason line e =
-    let told = without_reason (cut line) e in
+pub line_without_reason : (version : ℕ) (line : List ℕ) → line_reason version (cut line) ≡ None → (event : Event) × InRange version event × (event_text version event ≡ line)
+line_without_reason version line e =
+    let told = without_reason version (cut line) e in
     (told.0, told.1, ap (join_with_byte 32) told.2 ∙ join_with_byte-slice_split 32 line)
 
 -- what isn't read as an event has a reason
-pub unread_has_reason : (line : List ℕ) → event_at line ≡ None → line_reason (cut line) ≢ None
-unread_has_reason line none e =
-    let told = line_without_reason line e in
-    none_isn't told.0 _ (sym none ∙ ap event_at (sym told.2) ∙ event_again told.0 told.1)
+pub unread_has_reason : (version : ℕ) (line : List ℕ) → event_at version line ≡ None → line_reason version (cut line) ≢ None
+unread_has_reason version line none e =
+    let told = line_without_reason version line e in
+    none_isn't told.0 _ (sym none ∙ ap (event_at version) (sym told.2) ∙ event_again version told.0 told.1)
 
-told : (line : List ℕ) (reason : Option Reason) → line_reason (cut line) ≡ reason → ((event : Event) × InRange event × (event_text event ≡ line)) ⊎ ((why : Reason) × HasReason line why)
-told line None e = inl (line_without_reason line e)
-told line (Some why) e = inr (why, has_reason line why e)
+told : (version : ℕ) (line : List ℕ) (reason : Option Reason) → line_reason version (cut line) ≡ reason
+    → ((event : Event) × InRange version event × (event_text version event ≡ line)) ⊎ ((why : Reason) × HasReason version line why)
+told version line None e = inl (line_without_reason version line e)
+told version line (Some why) e = inr (why, has_reason version line why e)
 
 -- each line is that of an event in range, or has a reason
-pub event_or_reason : (line : List ℕ) → ((event : Event) × InRange event × (event_text event ≡ line)) ⊎ ((why : Reason) × HasReason line why)
-event_or_reason line = told line (line_reason (cut line)) refl
+pub event_or_reason : (version : ℕ) (line : List ℕ) → ((event : Event) × InRange version event × (event_text version event ≡ line)) ⊎ ((why : Reason) × HasReason version line why)
+event_or_reason version line = told version line (line_reason version (cut line)) refl

@@ -1,5 +1,5 @@
 -- A trace with one more event.
-use Rattle.std.proofs.Common.{◌≡◌, ◌++◌, List, [], ◌∷◌, sym, ap, ◌∙◌, append_assoc, append-nil}
+use Rattle.std.proofs.Common.{◌≡◌, ℕ, ◌++◌, List, [], ◌∷◌, sym, ap, ◌∙◌, append_assoc, append-nil}
 use Rattle.std.specs.List.{AllByRecursion}
 use Rattle.std.proofs.lemmas.Grind.{flat_map-append}
 use Rattle.ace_event.specs.declared.event.Event.{Event}
@@ -8,15 +8,16 @@ use Rattle.ace_event.specs.Text.{trace_text, events_text, header_text, event_tex
 use Rattle.ace_grammar.specs.Reading.{IsReadable}
 use Rattle.ace_grammar.proofs.Visible.{all-append}
 
-pub readable-more : (events : List Event) (e : Event) → AllByRecursion IsReadable events → IsReadable e → AllByRecursion IsReadable (events ++ e ∷ [])
-readable-more events e all one = all-append IsReadable events (e ∷ []) all (one, tt)
+pub readable-more : (version : ℕ) (events : List Event) (e : Event) → AllByRecursion (IsReadable version) events → IsReadable version e
+    → AllByRecursion (IsReadable version) (events ++ e ∷ [])
+readable-more version events e all one = all-append (IsReadable version) events (e ∷ []) all (one, tt)
 
 -- the text of its lines
-pub events_text-more : (events : List Event) (e : Event) → events_text (events ++ e ∷ []) ≡ events_text events ++ line_text (event_text e)
-events_text-more events e =
-    flat_map-append (λ event. line_text (event_text event)) events (e ∷ []) ∙ ap (λ t. events_text events ++ t) (append-nil (line_text (event_text e)))
+pub events_text-more : (version : ℕ) (events : List Event) (e : Event) → events_text version (events ++ e ∷ []) ≡ events_text version events ++ line_text (event_text version e)
+events_text-more version events e =
+    flat_map-append (λ event. line_text (event_text version event)) events (e ∷ []) ∙ ap (λ t. events_text version events ++ t) (append-nil (line_text (event_text version e)))
 
 -- its whole text
-pub trace_text-more : (h : Header) (events : List Event) (e : Event) → trace_text h (events ++ e ∷ []) ≡ trace_text h events ++ line_text (event_text e)
+pub trace_text-more : (h : Header) (events : List Event) (e : Event) → trace_text h (events ++ e ∷ []) ≡ trace_text h events ++ line_text (event_text h.version e)
 trace_text-more h events e =
-    ap (λ t. header_text h ++ t) (events_text-more events e) ∙ sym (append_assoc (header_text h) (events_text events) (line_text (event_text e)))
+    ap (λ t. header_text h ++ t) (events_text-more h.version events e) ∙ sym (append_assoc (header_text h) (events_text h.version events) (line_text (event_text h.version e)))

@@ -1,53 +1,57 @@
 -- The records: their fields behind the record word, in order.
-use Rattle.ace_grammar.specs.Records.{ArFields, RFields, RkFields, AwFields, WFields, BFields, WkFields, AcFields, CrFields, CdFields, GFields, MFields, SFields, LFields, DFields, OpFields}
+use Rattle.std.proofs.Common.{ℕ}
+use Rattle.ace_grammar.specs.Records.{ArFields, RFields, RkFields, AwFields, WFields, BFields, WkFields, AcFields, CrFields, CdFields, GFields, MFields, SFields, LFields, DFields, OpFields, MemFields}
 use Rattle.ace_grammar.proofs.Exact.{Rest, last, ◌then◌}
-use Rattle.ace_grammar.proofs.FieldTexts.{digit, two_bits, write_snoop, response, place, address, strobe_of_word, strobe_of_line, word, flag, channel, state, outcome}
+use Rattle.ace_grammar.proofs.FieldTexts.{digit, port, two_bits, write_snoop, response, place, address, strobe_of_word, strobe_of_line, word, flag, channel, state, outcome}
 use Rattle.ace_grammar.proofs.CacheLines.{line}
 
-abbrev pub ar : Rest ArFields
-ar = digit then digit then address then digit then two_bits then two_bits then last flag
+abbrev pub ar : ℕ → Rest ArFields
+ar version = port version then digit then address then digit then two_bits then two_bits then last flag
 
-abbrev pub r : Rest RFields
-r = digit then digit then digit then flag then last word
+abbrev pub r : ℕ → Rest RFields
+r version = port version then digit then digit then flag then last word
 
-abbrev pub rk : Rest RkFields
-rk = digit then state
+abbrev pub rk : ℕ → Rest RkFields
+rk version = port version then state
 
-abbrev pub aw : Rest AwFields
-aw = digit then digit then address then write_snoop then two_bits then last two_bits
+abbrev pub aw : ℕ → Rest AwFields
+aw version = port version then digit then address then write_snoop then two_bits then last two_bits
 
-abbrev pub w : Rest WFields
-w = digit then strobe_of_word then flag then last word
+abbrev pub w : ℕ → Rest WFields
+w version = port version then strobe_of_word then flag then last word
 
-abbrev pub b : Rest BFields
-b = digit then digit then last two_bits
+abbrev pub b : ℕ → Rest BFields
+b version = port version then digit then last two_bits
 
-abbrev pub wk : Rest WkFields
-wk = digit then state
+abbrev pub wk : ℕ → Rest WkFields
+wk version = port version then state
 
-abbrev pub ac : Rest AcFields
-ac = digit then address then last digit
+abbrev pub ac : ℕ → Rest AcFields
+ac version = port version then address then last digit
 
-abbrev pub cr : Rest CrFields
-cr = digit then response then state
+abbrev pub cr : ℕ → Rest CrFields
+cr version = port version then response then state
 
-abbrev pub cd : Rest CdFields
-cd = digit then flag then last word
+abbrev pub cd : ℕ → Rest CdFields
+cd version = port version then flag then last word
 
-abbrev pub g : Rest GFields
-g = digit then channel then last digit
+abbrev pub g : ℕ → Rest GFields
+g version = port version then channel then last digit
 
-abbrev pub m : Rest MFields
-m = digit then channel then digit then line
+abbrev pub m : ℕ → Rest MFields
+m version = port version then channel then digit then line
 
-abbrev pub s : Rest SFields
-s = digit then address then state
+abbrev pub s : ℕ → Rest SFields
+s version = port version then address then state
 
-abbrev pub l : Rest LFields
-l = digit then address then two_bits then flag then last word
+abbrev pub l : ℕ → Rest LFields
+l version = port version then address then two_bits then flag then last word
 
-abbrev pub d : Rest DFields
-d = digit then address then strobe_of_line then flag then line
+abbrev pub d : ℕ → Rest DFields
+d version = port version then address then strobe_of_line then flag then line
 
-abbrev pub op : Rest OpFields
-op = digit then place then outcome
+abbrev pub op : ℕ → Rest OpFields
+op version = port version then place then outcome
+
+abbrev pub mem : Rest MemFields
+mem = address then line

@@ -30,8 +30,8 @@ split bytes text (Some rest) P c p = (rest, c, p)
 
 -- the text of a trace was taken, and what is left ends so
 pub reads_to : (bytes : List ℕ) (header : Header) (events : List Event) (left : Option (List ℕ)) (ending : Ending) (P : List ℕ → Type 0)
-    → IsReadableHeader header → AllByRecursion IsReadable events → Consumes (Some bytes) left (trace_text header events)
-    → IfTold left P → ((rest : List ℕ) → P rest → Ends ending events rest) → Reads bytes header events ending
+    → IsReadableHeader header → AllByRecursion (IsReadable header.version) events → Consumes (Some bytes) left (trace_text header events)
+    → IfTold left P → ((rest : List ℕ) → P rest → Ends header.version ending events rest) → Reads bytes header events ending
 reads_to bytes header events left ending P readable all text p end =
     let parts = split bytes _ left P text p in
     record { header_is_readable = readable; events_are_readable = all; text = (parts.0, parts.1, end parts.0 parts.2) }

@@ -21,15 +21,15 @@ HasNoHeader TooManyEvents old faults new faults' = ⊥
 HasNoHeader ReadFault old faults new faults' = TakesNoHeader old new × Rose faults faults'
 HasNoHeader NoMemory old faults new faults' = Keeps old new × (faults' ≡ faults)
 
--- What stands next after so many events, by the bytes that no line had before and has after it, and those that the
--- source has left then.
-abbrev pub StandsNext : Result (Option Event) ReadErr → ℕ → Option (List ℕ) → Option (List ℕ) → Option (List ℕ) → Type 0
-StandsNext (Ok (Some event)) count old new left = (count < most_events) × IsReadable event × Consumes old new (line_text (event_text event))
-StandsNext (Ok None) count old new left = IsAtEnd old × IsAtEnd new
-StandsNext (Err (Malformed line reason)) count old new left = (count < most_events) × (line ≡ count + 3) × IfTold old (λ bytes. HasBadLine bytes reason)
-StandsNext (Err TooManyEvents) count old new left = (count ≡ most_events) × IfTold old (λ bytes. bytes ≢ [])
-StandsNext (Err ReadFault) count old new left = IsPending old left
-StandsNext (Err NoMemory) count old new left = ⊥
+-- What stands next in a trace of a version after so many events, by the bytes that no line had before and has after it,
+-- and those that the source has left then.
+abbrev pub StandsNext : ℕ → Result (Option Event) ReadErr → ℕ → Option (List ℕ) → Option (List ℕ) → Option (List ℕ) → Type 0
+StandsNext version (Ok (Some event)) count old new left = (count < most_events) × IsReadable version event × Consumes old new (line_text (event_text version event))
+StandsNext version (Ok None) count old new left = IsAtEnd old × IsAtEnd new
+StandsNext version (Err (Malformed line reason)) count old new left = (count < most_events) × (line ≡ count + 3) × IfTold old (λ bytes. HasBadLine version bytes reason)
+StandsNext version (Err TooManyEvents) count old new left = (count ≡ most_events) × IfTold old (λ bytes. bytes ≢ [])
+StandsNext version (Err ReadFault) count old new left = IsPending old left
+StandsNext version (Err NoMemory) count old new left = ⊥
 
 -- The source's count of faults rose where the answer is that it failed, and else it is the same.
 abbrev pub HasFaultCause : Result (Option Event) ReadErr → ℕ → ℕ → Type 0

@@ -41,6 +41,10 @@ digits_at count most bytes =
 unfoldable pub number_at : ℕ → ℕ → Taker ℕ
 number_at count most bytes = option_and_then (digits_at count most) (space_at bytes)
 
+-- a port, in a trace of a version
+unfoldable pub port_at : ℕ → Taker ℕ
+port_at version bytes = if version == 1 then number_at 1 15 bytes else number_at 2 0xff bytes
+
 unfoldable pub flag_at : Taker Bool
 flag_at bytes = option_map (λ bit. (bit.0 == 1, bit.1)) (number_at 1 1 bytes)
 

@@ -56,7 +56,7 @@ count_after count (Err error) = count
 -- Of these bytes the reader has read its header and these events, oldest first, and no more.
 pub record HasRead {S : Type 0} {g : Ghosts S} (left : S → Option (List ℕ)) (bytes : List ℕ) (events : List Event) (reader : Reader S g) : Type 0 where
   pub header_is_readable : IsReadableHeader (header_of reader)
-  pub events_are_readable : AllByRecursion IsReadable events
+  pub events_are_readable : AllByRecursion (IsReadable (header_of reader).version) events
   pub few : length events ≤ most_events
   pub counted : length events ≡ count_of reader
   pub text : Consumes (Some bytes) (unread left reader) (trace_text (header_of reader) events)

@@ -6,15 +6,15 @@ use Rattle.ace_event.specs.declared.header.Header.{Header}
 use Rattle.ace_event.specs.declared.event.Event.{Event}
 use Rattle.ace_event.specs.Ports.{IsHeader, port_letters}
 use Rattle.ace_event.specs.Range.{InRange}
-use Rattle.ace_event.specs.Text.{line_text, header_text, trace_text}
+use Rattle.ace_event.specs.Text.{line_text, version_text, header_text, trace_text}
 use Rattle.ace_grammar.specs.declared.reason.Reason.{Reason}
 use Rattle.ace_grammar.specs.declared.reason.Reason.TheVariants.{F1, F7}
 use Rattle.ace_grammar.specs.Lines.{BeginsWith, IsFirstLine, HasNoLine}
 use Rattle.ace_grammar.specs.Reasons.{HasReason}
 
--- an event whose line is read
-abbrev pub IsReadable : Event → Type 0
-IsReadable event = InRange event
+-- an event whose line is read in a trace of a version
+abbrev pub IsReadable : ℕ → Event → Type 0
+IsReadable version event = InRange version event
 
 -- a header whose two lines are read
 abbrev pub IsReadableHeader : Header → Type 0
@@ -24,9 +24,17 @@ IsReadableHeader header = IsHeader header
 abbrev pub ports_text : Header → List ℕ
 ports_text header = codes "PORTS " ++ port_letters header
 
--- the second header line of some readable header
-abbrev pub IsPortsLine : List ℕ → Type 0
-IsPortsLine line = (header : Header) × IsReadableHeader header × (ports_text header ≡ line)
+-- the versions of a trace
+abbrev pub IsVersion : ℕ → Type 0
+IsVersion version = (version ≡ 1) ⊎ (version ≡ 2)
+
+-- the first header line of some version
+abbrev pub IsVersionLine : List ℕ → Type 0
+IsVersionLine line = (version : ℕ) × IsVersion version × (version_text version ≡ line)
+
+-- the second header line of some readable header of a version
+abbrev pub IsPortsLine : ℕ → List ℕ → Type 0
+IsPortsLine version line = (header : Header) × IsReadableHeader header × (header.version ≡ version) × (ports_text header ≡ line)
 
 -- A header line stands at the front, and it is malformed for this reason: it is missing or has no end, or it isn't as
 -- it has to be.
@@ -37,18 +45,19 @@ HasBadHeaderLine IsRight bytes reason =
 -- The header line of this number, 1 or 2, is the first that is malformed, for this reason.
 abbrev pub HasBadHeader : List ℕ → ℕ → Reason → Type 0
 HasBadHeader bytes number reason =
-    ((number ≡ 1) × HasBadHeaderLine (λ line. line ≡ codes "ACE 1") bytes reason)
-    ⊎ ((number ≡ 2) × ((rest : List ℕ) × (bytes ≡ line_text (codes "ACE 1") ++ rest) × HasBadHeaderLine IsPortsLine rest reason))
+    ((number ≡ 1) × HasBadHeaderLine IsVersionLine bytes reason)
+    ⊎ ((number ≡ 2) × ((version : ℕ) × (rest : List ℕ) × IsVersion version × (bytes ≡ line_text (version_text version) ++ rest)
+    × HasBadHeaderLine (IsPortsLine version) rest reason))
 
 -- What was taken of the bytes holds no header whole.
 abbrev pub TakesNoHeader : Option (List ℕ) → Option (List ℕ) → Type 0
 TakesNoHeader old new = (taken : List ℕ) × Consumes old new taken
     × ((header : Header) → IsReadableHeader header → ¬ BeginsWith taken (header_text header))
 
--- A line stands at the front, and it is malformed for this reason, the least that applies.
-abbrev pub HasBadLine : List ℕ → Reason → Type 0
-HasBadLine bytes reason =
-    ((reason ≡ F1) × (bytes ≢ []) × HasNoLine bytes) ⊎ ((line : List ℕ) × IsFirstLine line bytes × HasReason line reason)
+-- A line stands at the front, and it is malformed for this reason, the least that applies in a trace of a version.
+abbrev pub HasBadLine : ℕ → List ℕ → Reason → Type 0
+HasBadLine version bytes reason =
+    ((reason ≡ F1) × (bytes ≢ []) × HasNoLine bytes) ⊎ ((line : List ℕ) × IsFirstLine line bytes × HasReason version line reason)
 
 -- the same of bytes that may not be told
 abbrev pub IfTold : Option (List ℕ) → (List ℕ → Type 0) → Type 0
@@ -66,15 +75,15 @@ pub data Ending : Type 0 where
   Full : Ending
   Bad : ℕ → Reason → Ending
 
--- what stands after the events, by the ending
-abbrev pub Ends : Ending → List Event → List ℕ → Type 0
-Ends Whole events rest = (length events ≤ most_events) × (rest ≡ [])
-Ends Full events rest = (length events ≡ most_events) × (rest ≢ [])
-Ends (Bad line reason) events rest = (length events < most_events) × (line ≡ length events + 3) × HasBadLine rest reason
+-- what stands after the events of a trace of a version, by the ending
+abbrev pub Ends : ℕ → Ending → List Event → List ℕ → Type 0
+Ends version Whole events rest = (length events ≤ most_events) × (rest ≡ [])
+Ends version Full events rest = (length events ≡ most_events) × (rest ≢ [])
+Ends version (Bad line reason) events rest = (length events < most_events) × (line ≡ length events + 3) × HasBadLine version rest reason
 
 -- The bytes are the text of this header and these events, oldest first, and then end so. Bytes with a bad header have
 -- no such reading.
 pub record Reads (bytes : List ℕ) (header : Header) (events : List Event) (ending : Ending) : Type 0 where
   pub header_is_readable : IsReadableHeader header
-  pub events_are_readable : AllByRecursion IsReadable events
-  pub text : (rest : List ℕ) × (bytes ≡ trace_text header events ++ rest) × Ends ending events rest
+  pub events_are_readable : AllByRecursion (IsReadable header.version) events
+  pub text : (rest : List ℕ) × (bytes ≡ trace_text header events ++ rest) × Ends header.version ending events rest

@@ -3,10 +3,11 @@ use Rattle.std.specs.Prelude.{◌≡◌, ◌≢◌, ℕ, ◌==◌, ◌||◌, Boo
 use Rattle.std.specs.Option.{is_some}
 use Rattle.std.specs.List.{list_all, AllByRecursion, join_with_byte}
 use Rattle.std.specs.Str.{bytes_eq}
+use Rattle.ace_event.specs.Text.{port_digits}
 use Rattle.ace_grammar.specs.declared.reason.Reason.{Reason}
 use Rattle.ace_grammar.specs.declared.reason.Reason.TheVariants.{F1, F2, F3, F4, F5, F6, F7}
 use Rattle.ace_grammar.specs.declared.shapes.Shape.{Shape}
-use Rattle.ace_grammar.specs.declared.shapes.Shape.TheVariants.{Digits, AtMost, SnoopResponse, ChannelWord, StateWord, OutcomeWord}
+use Rattle.ace_grammar.specs.declared.shapes.Shape.TheVariants.{Port, Digits, AtMost, SnoopResponse, ChannelWord, StateWord, OutcomeWord}
 use Rattle.ace_grammar.specs.Fields.{digit_of, digits_onto, state_of, outcome_of}
 use Rattle.ace_grammar.specs.Shapes.{shapes_of}
 
@@ -48,31 +49,32 @@ limited_reason count most field =
 abbrev pub word_reason : Bool → Option Reason
 word_reason is_known = if is_known then None else Some F5
 
--- the least reason of a field that applies
-abbrev pub field_reason : Shape → List ℕ → Option Reason
-field_reason (Digits count) field = digits_reason count field
-field_reason (AtMost most) field = limited_reason 1 most field
-field_reason SnoopResponse field = limited_reason 2 0x1f field
-field_reason ChannelWord field = word_reason (bytes_eq field (codes "R") || bytes_eq field (codes "W"))
-field_reason StateWord field = word_reason (is_some (state_of field))
-field_reason OutcomeWord field = word_reason (is_some (outcome_of field))
+-- the least reason of a field that applies, in a trace of a version
+abbrev pub field_reason : ℕ → Shape → List ℕ → Option Reason
+field_reason version Port field = digits_reason (port_digits version) field
+field_reason version (Digits count) field = digits_reason count field
+field_reason version (AtMost most) field = limited_reason 1 most field
+field_reason version SnoopResponse field = limited_reason 2 0x1f field
+field_reason version ChannelWord field = word_reason (bytes_eq field (codes "R") || bytes_eq field (codes "W"))
+field_reason version StateWord field = word_reason (is_some (state_of field))
+field_reason version OutcomeWord field = word_reason (is_some (outcome_of field))
 
 -- the least reason of the fields behind a record word
-unfoldable pub fields_reason : List Shape → List (List ℕ) → Option Reason
-fields_reason [] [] = None
-fields_reason [] (field ∷ fields) = Some F3
-fields_reason (shape ∷ shapes) [] = Some F3
-fields_reason (shape ∷ shapes) (field ∷ fields) = least (field_reason shape field) (fields_reason shapes fields)
+unfoldable pub fields_reason : ℕ → List Shape → List (List ℕ) → Option Reason
+fields_reason version [] [] = None
+fields_reason version [] (field ∷ fields) = Some F3
+fields_reason version (shape ∷ shapes) [] = Some F3
+fields_reason version (shape ∷ shapes) (field ∷ fields) = least (field_reason version shape field) (fields_reason version shapes fields)
 
 -- the same, with the shapes of a record word, where there is one
-abbrev pub record_reason : Option (List Shape) → List (List ℕ) → Option Reason
-record_reason None fields = Some F2
-record_reason (Some shapes) fields = fields_reason shapes fields
+abbrev pub record_reason : ℕ → Option (List Shape) → List (List ℕ) → Option Reason
+record_reason version None fields = Some F2
+record_reason version (Some shapes) fields = fields_reason version shapes fields
 
--- the least reason of a line with these fields, the first of which has to be a record word
-abbrev pub line_reason : List (List ℕ) → Option Reason
-line_reason [] = Some F2
-line_reason (word ∷ fields) = record_reason (shapes_of word) fields
+-- the least reason of a line with these fields, the first of which has to be a record word of the version
+abbrev pub line_reason : ℕ → List (List ℕ) → Option Reason
+line_reason version [] = Some F2
+line_reason version (word ∷ fields) = record_reason version (shapes_of version word) fields
 
 -- The fields of a line: it is these, one space between each two, and none in a field.
 pub record AreFields (line : List ℕ) (fields : List (List ℕ)) : Type 0 where
@@ -80,6 +82,6 @@ pub record AreFields (line : List ℕ) (fields : List (List ℕ)) : Type 0 where
   pub joined : line ≡ join_with_byte 32 fields
   pub no_space : AllByRecursion (λ field. AllByRecursion (λ byte. byte ≢ 32) field) fields
 
--- A line, without its line feed, has this reason.
-abbrev pub HasReason : List ℕ → Reason → Type 0
-HasReason line reason = (fields : List (List ℕ)) × AreFields line fields × (line_reason fields ≡ Some reason)
+-- A line, without its line feed, has this reason in a trace of a version.
+abbrev pub HasReason : ℕ → List ℕ → Reason → Type 0
+HasReason version line reason = (fields : List (List ℕ)) × AreFields line fields × (line_reason version fields ≡ Some reason)

@@ -1,31 +1,35 @@
--- The records of a trace: each has a word and the shapes of its fields.
-use Rattle.std.specs.Prelude.{ℕ, List, [], ◌∷◌, codes, Option}
+-- The records of a trace: each has a word and the shapes of its fields. The shape of a port is the version's.
+use Rattle.std.specs.Prelude.{ℕ, ◌==◌, if◌then◌else◌, List, [], ◌∷◌, codes, Option}
 use Rattle.std.specs.Str.{bytes_eq}
 use Rattle.std.specs.Map.{lookup}
 use Rattle.ace_grammar.specs.declared.shapes.Shape.{Shape}
-use Rattle.ace_grammar.specs.declared.shapes.Shape.TheVariants.{Digits, AtMost, SnoopResponse, ChannelWord, StateWord, OutcomeWord}
+use Rattle.ace_grammar.specs.declared.shapes.Shape.TheVariants.{Port, Digits, AtMost, SnoopResponse, ChannelWord, StateWord, OutcomeWord}
 
--- the record words, each with the shapes of the fields behind it
+-- the record words of version 1, each with the shapes of the fields behind it
 abbrev pub records : List (List ℕ × List Shape)
 records =
-    (codes "AR", Digits 1 ∷ Digits 1 ∷ Digits 8 ∷ Digits 1 ∷ AtMost 3 ∷ AtMost 3 ∷ AtMost 1 ∷ [])
-    ∷ (codes "R", Digits 1 ∷ Digits 1 ∷ Digits 1 ∷ AtMost 1 ∷ Digits 32 ∷ [])
-    ∷ (codes "RK", Digits 1 ∷ StateWord ∷ [])
-    ∷ (codes "AW", Digits 1 ∷ Digits 1 ∷ Digits 8 ∷ AtMost 7 ∷ AtMost 3 ∷ AtMost 3 ∷ [])
-    ∷ (codes "W", Digits 1 ∷ Digits 4 ∷ AtMost 1 ∷ Digits 32 ∷ [])
-    ∷ (codes "B", Digits 1 ∷ Digits 1 ∷ AtMost 3 ∷ [])
-    ∷ (codes "WK", Digits 1 ∷ StateWord ∷ [])
-    ∷ (codes "AC", Digits 1 ∷ Digits 8 ∷ Digits 1 ∷ [])
-    ∷ (codes "CR", Digits 1 ∷ SnoopResponse ∷ StateWord ∷ [])
-    ∷ (codes "CD", Digits 1 ∷ AtMost 1 ∷ Digits 32 ∷ [])
-    ∷ (codes "G", Digits 1 ∷ ChannelWord ∷ Digits 1 ∷ [])
-    ∷ (codes "M", Digits 1 ∷ ChannelWord ∷ Digits 1 ∷ Digits 128 ∷ [])
-    ∷ (codes "S", Digits 1 ∷ Digits 8 ∷ StateWord ∷ [])
-    ∷ (codes "L", Digits 1 ∷ Digits 8 ∷ AtMost 3 ∷ AtMost 1 ∷ Digits 32 ∷ [])
-    ∷ (codes "D", Digits 1 ∷ Digits 8 ∷ Digits 16 ∷ AtMost 1 ∷ Digits 128 ∷ [])
-    ∷ (codes "OP", Digits 1 ∷ Digits 4 ∷ OutcomeWord ∷ [])
+    (codes "AR", Port ∷ Digits 1 ∷ Digits 8 ∷ Digits 1 ∷ AtMost 3 ∷ AtMost 3 ∷ AtMost 1 ∷ [])
+    ∷ (codes "R", Port ∷ Digits 1 ∷ Digits 1 ∷ AtMost 1 ∷ Digits 32 ∷ [])
+    ∷ (codes "RK", Port ∷ StateWord ∷ [])
+    ∷ (codes "AW", Port ∷ Digits 1 ∷ Digits 8 ∷ AtMost 7 ∷ AtMost 3 ∷ AtMost 3 ∷ [])
+    ∷ (codes "W", Port ∷ Digits 4 ∷ AtMost 1 ∷ Digits 32 ∷ [])
+    ∷ (codes "B", Port ∷ Digits 1 ∷ AtMost 3 ∷ [])
+    ∷ (codes "WK", Port ∷ StateWord ∷ [])
+    ∷ (codes "AC", Port ∷ Digits 8 ∷ Digits 1 ∷ [])
+    ∷ (codes "CR", Port ∷ SnoopResponse ∷ StateWord ∷ [])
+    ∷ (codes "CD", Port ∷ AtMost 1 ∷ Digits 32 ∷ [])
+    ∷ (codes "G", Port ∷ ChannelWord ∷ Digits 1 ∷ [])
+    ∷ (codes "M", Port ∷ ChannelWord ∷ Digits 1 ∷ Digits 128 ∷ [])
+    ∷ (codes "S", Port ∷ Digits 8 ∷ StateWord ∷ [])
+    ∷ (codes "L", Port ∷ Digits 8 ∷ AtMost 3 ∷ AtMost 1 ∷ Digits 32 ∷ [])
+    ∷ (codes "D", Port ∷ Digits 8 ∷ Digits 16 ∷ AtMost 1 ∷ Digits 128 ∷ [])
+    ∷ (codes "OP", Port ∷ Digits 4 ∷ OutcomeWord ∷ [])
     ∷ []
 
--- the shapes of the fields behind a word, where it is a record word
-abbrev pub shapes_of : List ℕ → Option (List Shape)
-shapes_of word = lookup (bytes_eq word) records
+-- MEM, which version 2 has besides
+abbrev pub mem_record : List ℕ × List Shape
+mem_record = (codes "MEM", Digits 8 ∷ Digits 128 ∷ [])
+
+-- the shapes of the fields behind a word, where it is a record word of the version
+abbrev pub shapes_of : ℕ → List ℕ → Option (List Shape)
+shapes_of version word = lookup (bytes_eq word) (if version == 1 then records else mem_record ∷ records)

@@ -1,7 +1,7 @@
 // Fields, from the front of a line. Each comes with the space before it.
 ghost use Rattle.std.specs.Prelude.{◌≡◌, ◌≤◌, ◌^◌, ◌<◌, length, IfSome};
 ghost use Rattle.std.specs.Option.{option_map};
-ghost use Rattle.ace_grammar.specs.Fields.{digit_of, digits_onto, space_at, digits_at, number_at, flag_at, letter_at, channel_at, state_of, state_at, outcome_of, outcome_at, line_at, ended};
+ghost use Rattle.ace_grammar.specs.Fields.{digit_of, digits_onto, space_at, digits_at, number_at, port_at, flag_at, letter_at, channel_at, state_of, state_at, outcome_of, outcome_at, line_at, ended};
 
 use ace_codes::LineState;
 use ace_event::{Channel, Line, Outcome};
@@ -70,6 +70,21 @@ pub fn take_number(bytes: &[u8], count: usize, most: u128) -> Option<(u128, &[u8
     ensures bound { IfSome result (λ x. x.0 ≤ most) }
 {
     take_digits(take_space(bytes)?, count, most)
+}
+
+/// A port: one digit in version 1, and two in version 2.
+#[tactic(auto, unfolding(crate::specs::Fields::port_at))]
+#[inline(always)]
+pub fn take_port(bytes: &[u8], version: u8) -> Option<(u8, &[u8])>
+    ensures { option_map (λ x. (x.0, x.1.now)) result ≡ port_at version bytes.now }
+{
+    if version == 1 {
+        let (port, rest) = take_number(bytes, 1, 15)?;
+        Some((port as u8, rest))
+    } else {
+        let (port, rest) = take_number(bytes, 2, 0xff)?;
+        Some((port as u8, rest))
+    }
 }
 
 /// A flag: `0` or `1`.

@@ -22,12 +22,13 @@ pub fn one_reading()
         → HasBadHeader bytes number reason → HasBadHeader bytes line other → (number ≡ line) × (reason ≡ other) }
 {}
 
-/// A line, without its line feed, is that of an event in range, or it has one reason.
+/// A line, without its line feed, is in a trace of a version that of an event in range, or it has one reason.
 pub fn one_reason()
-    ensures some { (line : List ℕ) → ((event : Event) × InRange event × (event_text event ≡ line)) ⊎ ((reason : Reason) × HasReason line reason) }
-    ensures one { (line : List ℕ) (reason other : Reason) → HasReason line reason → HasReason line other → reason ≡ other }
-    ensures apart { (line : List ℕ) (reason : Reason) (event : Event)
-        → HasReason line reason → InRange event → event_text event ≢ line }
+    ensures some { (version : ℕ) (line : List ℕ)
+        → ((event : Event) × InRange version event × (event_text version event ≡ line)) ⊎ ((reason : Reason) × HasReason version line reason) }
+    ensures one { (version : ℕ) (line : List ℕ) (reason other : Reason) → HasReason version line reason → HasReason version line other → reason ≡ other }
+    ensures apart { (version : ℕ) (line : List ℕ) (reason : Reason) (event : Event)
+        → HasReason version line reason → InRange version event → event_text version event ≢ line }
 {}
 
 /// Every list of bytes has a reading: a bad header, or a header, events and an ending.
@@ -38,6 +39,6 @@ pub fn some_reading()
 
 /// The text of a trace reads as that trace.
 pub fn text_reads_back()
-    ensures { (header : Header) (events : List Event) → IsReadableHeader header → AllByRecursion IsReadable events
+    ensures { (header : Header) (events : List Event) → IsReadableHeader header → AllByRecursion (IsReadable header.version) events
         → length events ≤ most_events → Reads (trace_text header events) header events Whole }
 {}

@@ -15,7 +15,7 @@ mod shapes;
 
 pub use error::ReadErr;
 pub use event::parse_event;
-pub use header::{is_version_line, parse_ports};
+pub use header::{parse_ports, parse_version};
 pub use reader::{Reader, StartErr};
 pub use reason::Reason;
 pub use shapes::Shape;

@@ -1,8 +1,9 @@
 // The reason of a malformed line, field by field.
-ghost use Rattle.std.specs.Prelude.{◌≡◌, [], ◌==◌, ◌∷◌, ◌≤◌, ◌<◌, ◌≢◌, length, take, slice_index, All, MatchOption};
+ghost use Rattle.std.specs.Prelude.{◌≡◌, ℕ, [], ◌==◌, ◌∷◌, ◌≤◌, ◌<◌, ◌≢◌, length, take, slice_index, All, MatchOption};
 ghost use Rattle.std.specs.Option.{option_map};
 ghost use Rattle.std.specs.List.{slice_split, list_all};
 ghost use Rattle.ace_grammar.specs.Reasons.{least, is_digit, digits_reason, limited_reason, word_reason, field_reason, fields_reason, line_reason};
+ghost use Rattle.ace_event.specs.Text.{port_digits};
 ghost use Rattle.ace_grammar.specs.Parts.{parts};
 
 use crate::Reason;
@@ -59,10 +60,18 @@ fn word_reason(is_known: bool) -> Option<Reason>
     if is_known { None } else { Some(Reason::F5) }
 }
 
-fn field_reason(shape: Shape, field: &[u8]) -> Option<Reason>
-    ensures { result ≡ field_reason shape field.now }
+/// How many digits a port has.
+fn port_digits(version: u8) -> usize
+    ensures { result ≡ port_digits version }
+{
+    if version == 1 { 1 } else { 2 }
+}
+
+fn field_reason(shape: Shape, field: &[u8], version: u8) -> Option<Reason>
+    ensures { result ≡ field_reason version shape field.now }
 {
     match shape {
+        Shape::Port => digits_reason(field, port_digits(version)),
         Shape::Digits { count } => digits_reason(field, count),
         Shape::AtMost { most } => limited_reason(field, 1, u128::from(most)),
         Shape::SnoopResponse => limited_reason(field, 2, 0x1f),
@@ -90,10 +99,10 @@ fn cut_field(bytes: &[u8]) -> (&[u8], Option<&[u8]>)
     }
 }
 
-/// The reason of the rest of a line, where it has no more fields.
+/// The reason of the rest of a line, where it has no more fields, in a trace of any version.
 #[tactic(auto, unfolding(crate::specs::Reasons::fields_reason))]
 fn end_reason(rest: Option<&[u8]>) -> Option<Reason>
-    ensures { result ≡ fields_reason [] (parts (option_map (λ bytes. bytes.now) rest.entry)) }
+    ensures { (version : ℕ) → result ≡ fields_reason version [] (parts (option_map (λ bytes. bytes.now) rest.entry)) }
 {
     match rest {
         None => None,
@@ -103,8 +112,8 @@ fn end_reason(rest: Option<&[u8]>) -> Option<Reason>
 
 /// The reason of the rest of a line, by the shapes of the fields that are left.
 #[tactic(auto, unfolding(crate::specs::Reasons::fields_reason))]
-fn fields_reason(shapes: &[Shape], rest: Option<&[u8]>) -> Option<Reason>
-    ensures { result ≡ fields_reason shapes.now (parts (option_map (λ bytes. bytes.now) rest.entry)) }
+fn fields_reason(shapes: &[Shape], rest: Option<&[u8]>, version: u8) -> Option<Reason>
+    ensures { result ≡ fields_reason version shapes.now (parts (option_map (λ bytes. bytes.now) rest.entry)) }
 {
     match shapes {
         [] => end_reason(rest),
@@ -112,19 +121,22 @@ fn fields_reason(shapes: &[Shape], rest: Option<&[u8]>) -> Option<Reason>
             None => Some(Reason::F3),
             Some(bytes) => {
                 let (field, rest) = cut_field(bytes);
-                least(field_reason(*shape, field), fields_reason(shapes, rest))
+                least(
+                    field_reason(*shape, field, version),
+                    fields_reason(shapes, rest, version),
+                )
             }
         },
     }
 }
 
-/// The least reason of the line, without its line feed, that applies.
-pub fn line_reason(line: &[u8]) -> Option<Reason>
-    ensures { result ≡ line_reason (slice_split (λ byte. byte == 32) line.now) }
+/// The least reason of the line, without its line feed, that applies in a trace of a version.
+pub fn line_reason(line: &[u8], version: u8) -> Option<Reason>
+    ensures { result ≡ line_reason version (slice_split (λ byte. byte == 32) line.now) }
 {
     let (word, rest) = cut_field(line);
-    match shapes_of(word) {
-        Some(shapes) => fields_reason(shapes, rest),
+    match shapes_of(word, version) {
+        Some(shapes) => fields_reason(shapes, rest, version),
         None => Some(Reason::F2),
     }
 }

@@ -1,5 +1,5 @@
 // The header and the events of a trace, line by line.
-ghost use Rattle.std.specs.Prelude.{◌≡◌, ◌<◌, ◌≤◌, length, IfOk, IfErr, OnOk, OnErr, IsTrue, false};
+ghost use Rattle.std.specs.Prelude.{◌≡◌, ℕ, ◌<◌, ◌≤◌, length, IfOk, IfErr, OnOk, OnErr, IsTrue, false};
 ghost use Rattle.std.specs.Io.KnownBytes.{Consumes};
 ghost use Rattle.ace_io.specs.Faults.{Rose};
 ghost use Rattle.ace_io.specs.Line.{HasNoLf, IsPending};
@@ -9,7 +9,7 @@ ghost use Rattle.ace_grammar.specs.Errors.{HasNoHeader, HasFaultCause, StandsNex
 ghost use Rattle.ace_grammar.specs.Lines.{HasNoLine};
 ghost use Rattle.ace_grammar.specs.Reading.{IsReadableHeader, IfTold, most_events};
 
-use crate::{ReadErr, Reason, is_version_line, parse_event, parse_ports};
+use crate::{ReadErr, Reason, parse_event, parse_ports, parse_version};
 use ace_event::{Event, Header};
 use ace_io::{Failed, LineBuf, LineEnd, LineReader, Source};
 
@@ -60,12 +60,13 @@ pub fn read_header<S: Source>(
         }),
         Err(_) => return Err(ReadErr::ReadFault),
     }
-    if !is_version_line(line.bytes()) {
-        return Err(ReadErr::Malformed {
+    let version = match parse_version(line.bytes()) {
+        Some(version) => version,
+        None => return Err(ReadErr::Malformed {
             line: 1,
             reason: Reason::F7,
-        });
-    }
+        }),
+    };
     match take_line(lines, line) {
         Ok(true) => {}
         Ok(false) => return Err(ReadErr::Malformed {
@@ -74,7 +75,7 @@ pub fn read_header<S: Source>(
         }),
         Err(_) => return Err(ReadErr::ReadFault),
     }
-    match parse_ports(line.bytes()) {
+    match parse_ports(line.bytes(), version) {
         Some(header) => Ok(header),
         None => Err(ReadErr::Malformed {
             line: 2,
@@ -89,7 +90,7 @@ fn read_end<S: Source>(
     line: &mut LineBuf,
 ) -> Result<Option<Event>, ReadErr>
     ensures same_source { (source_of lines.new).ghost_name ≡ (source_of lines.old).ghost_name }
-    ensures next { StandsNext result most_events (waiting S.left lines.old) (waiting S.left lines.new) (S.left (source_of lines.new).now) }
+    ensures next { (version : ℕ) → StandsNext version result most_events (waiting S.left lines.old) (waiting S.left lines.new) (S.left (source_of lines.new).now) }
     ensures cause { HasFaultCause result (S.faults (source_of lines.old).now) (S.faults (source_of lines.new).now) }
 {
     match lines.next(line) {
@@ -99,23 +100,24 @@ fn read_end<S: Source>(
     }
 }
 
-/// Reads the next event, after so many, or None at the end of the input after a whole line. After an error read no more.
+/// Reads the next event of a trace of a version, after so many, or None at the end of the input after a whole line. After an error read no more.
 /// `line` is room for a line.
 pub fn read_event<S: Source>(
     lines: &mut LineReader<S>,
     line: &mut LineBuf,
     count: u64,
+    version: u8,
 ) -> Result<Option<Event>, ReadErr>
     requires { count ≤ most_events }
     ensures same_source { (source_of lines.new).ghost_name ≡ (source_of lines.old).ghost_name }
-    ensures next { StandsNext result count (waiting S.left lines.old) (waiting S.left lines.new) (S.left (source_of lines.new).now) }
+    ensures next { StandsNext version result count (waiting S.left lines.old) (waiting S.left lines.new) (S.left (source_of lines.new).now) }
     ensures cause { HasFaultCause result (S.faults (source_of lines.old).now) (S.faults (source_of lines.new).now) }
 {
     if count == MOST_EVENTS {
         return read_end(lines, line);
     }
     match lines.next(line) {
-        Ok(LineEnd::Whole) => match parse_event(line.bytes()) {
+        Ok(LineEnd::Whole) => match parse_event(line.bytes(), version) {
             Ok(event) => Ok(Some(event)),
             Err(reason) => Err(ReadErr::Malformed {
                 line: count + FIRST_EVENT_LINE,

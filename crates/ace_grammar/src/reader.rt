@@ -106,7 +106,7 @@ impl<'a, S: Source> Reader<'a, S> {
     pub fn next(&mut self) -> Result<Option<Event>, ReadErr>
         ensures same_source { (source_of self.new).ghost_name ≡ (source_of self.old).ghost_name }
         ensures same_header { header_of self.new ≡ header_of self.old }
-        ensures next { last_answer self.old ≡ None → StandsNext result (count_of self.old) (unread S.left self.old)
+        ensures next { last_answer self.old ≡ None → StandsNext (header_of self.old).version result (count_of self.old) (unread S.left self.old)
             (unread S.left self.new) (S.left (source_of self.new).now) }
         ensures reads { last_answer self.old ≡ None → (bytes : List ℕ) (events : List Event)
             → HasRead S.left bytes events self.old → IsReading S.left bytes events self.old self.new result }
@@ -122,7 +122,8 @@ impl<'a, S: Source> Reader<'a, S> {
             Stage::Ended => return Ok(None),
             Stage::Failed(error) => return Err(error),
         }
-        let answer = read_event(&mut self.lines, &mut self.line, self.count);
+        let version = self.header.version;
+        let answer = read_event(&mut self.lines, &mut self.line, self.count, version);
         match answer {
             Ok(Some(_)) => self.count += 1,
             Ok(None) => self.stage = Stage::Ended,

@@ -1,19 +1,19 @@
 // Each record, from the fields behind its record word.
 ghost use Rattle.std.specs.Prelude.{◌≡◌};
 ghost use Rattle.std.specs.Option.{option_map};
-ghost use Rattle.ace_grammar.specs.Records.{ar_event, ar_fields, r_event, r_fields, rk_event, rk_fields, aw_event, aw_fields, w_event, w_fields, b_event, b_fields, wk_event, wk_fields, ac_event, ac_fields, cr_event, cr_fields, cd_event, cd_fields, g_event, g_fields, m_event, m_fields, s_event, s_fields, l_event, l_fields, d_event, d_fields, op_event, op_fields};
+ghost use Rattle.ace_grammar.specs.Records.{ar_event, ar_fields, r_event, r_fields, rk_event, rk_fields, aw_event, aw_fields, w_event, w_fields, b_event, b_fields, wk_event, wk_fields, ac_event, ac_fields, cr_event, cr_fields, cd_event, cd_fields, g_event, g_fields, m_event, m_fields, s_event, s_fields, l_event, l_fields, d_event, d_fields, op_event, op_fields, mem_event, mem_fields};
 
 use crate::fields::{
-    at_end, take_channel, take_flag, take_line, take_number, take_outcome, take_state,
+    at_end, take_channel, take_flag, take_line, take_number, take_outcome, take_port, take_state,
 };
 use ace_event::Event;
 
 /// The record `AR`.
 #[tactic(auto, unfolding(crate::specs::Records::ar_fields))]
-pub fn read_ar(bytes: &[u8]) -> Option<Event>
-    ensures { result ≡ option_map ar_event (ar_fields bytes.now) }
+pub fn read_ar(bytes: &[u8], version: u8) -> Option<Event>
+    ensures { result ≡ option_map ar_event (ar_fields version bytes.now) }
 {
-    let (port, rest) = take_number(bytes, 1, 15)?;
+    let (port, rest) = take_port(bytes, version)?;
     let (id, rest) = take_number(rest, 1, 15)?;
     let (addr, rest) = take_number(rest, 8, 0xffff_ffff)?;
     let (snoop, rest) = take_number(rest, 1, 15)?;
@@ -21,7 +21,7 @@ pub fn read_ar(bytes: &[u8]) -> Option<Event>
     let (bar, rest) = take_number(rest, 1, 3)?;
     let (lock, rest) = take_flag(rest)?;
     let event = Event::Ar {
-        port: port as u8,
+        port,
         id: id as u8,
         addr: addr as u32,
         snoop: snoop as u8,
@@ -34,16 +34,16 @@ pub fn read_ar(bytes: &[u8]) -> Option<Event>
 
 /// The record `R`.
 #[tactic(auto, unfolding(crate::specs::Records::r_fields))]
-pub fn read_r(bytes: &[u8]) -> Option<Event>
-    ensures { result ≡ option_map r_event (r_fields bytes.now) }
+pub fn read_r(bytes: &[u8], version: u8) -> Option<Event>
+    ensures { result ≡ option_map r_event (r_fields version bytes.now) }
 {
-    let (port, rest) = take_number(bytes, 1, 15)?;
+    let (port, rest) = take_port(bytes, version)?;
     let (id, rest) = take_number(rest, 1, 15)?;
     let (resp, rest) = take_number(rest, 1, 15)?;
     let (last, rest) = take_flag(rest)?;
     let (word, rest) = take_number(rest, 32, u128::MAX)?;
     let event = Event::R {
-        port: port as u8,
+        port,
         id: id as u8,
         resp: resp as u8,
         last,
@@ -54,30 +54,27 @@ pub fn read_r(bytes: &[u8]) -> Option<Event>
 
 /// The record `RK`.
 #[tactic(auto, unfolding(crate::specs::Records::rk_fields))]
-pub fn read_rk(bytes: &[u8]) -> Option<Event>
-    ensures { result ≡ option_map rk_event (rk_fields bytes.now) }
+pub fn read_rk(bytes: &[u8], version: u8) -> Option<Event>
+    ensures { result ≡ option_map rk_event (rk_fields version bytes.now) }
 {
-    let (port, rest) = take_number(bytes, 1, 15)?;
+    let (port, rest) = take_port(bytes, version)?;
     let st = take_state(rest)?;
-    Some(Event::Rk {
-        port: port as u8,
-        st,
-    })
+    Some(Event::Rk { port, st })
 }
 
 /// The record `AW`.
 #[tactic(auto, unfolding(crate::specs::Records::aw_fields))]
-pub fn read_aw(bytes: &[u8]) -> Option<Event>
-    ensures { result ≡ option_map aw_event (aw_fields bytes.now) }
+pub fn read_aw(bytes: &[u8], version: u8) -> Option<Event>
+    ensures { result ≡ option_map aw_event (aw_fields version bytes.now) }
 {
-    let (port, rest) = take_number(bytes, 1, 15)?;
+    let (port, rest) = take_port(bytes, version)?;
     let (id, rest) = take_number(rest, 1, 15)?;
     let (addr, rest) = take_number(rest, 8, 0xffff_ffff)?;
     let (snoop, rest) = take_number(rest, 1, 7)?;
     let (dom, rest) = take_number(rest, 1, 3)?;
     let (bar, rest) = take_number(rest, 1, 3)?;
     let event = Event::Aw {
-        port: port as u8,
+        port,
         id: id as u8,
         addr: addr as u32,
         snoop: snoop as u8,
@@ -89,15 +86,15 @@ pub fn read_aw(bytes: &[u8]) -> Option<Event>
 
 /// The record `W`.
 #[tactic(auto, unfolding(crate::specs::Records::w_fields))]
-pub fn read_w(bytes: &[u8]) -> Option<Event>
-    ensures { result ≡ option_map w_event (w_fields bytes.now) }
+pub fn read_w(bytes: &[u8], version: u8) -> Option<Event>
+    ensures { result ≡ option_map w_event (w_fields version bytes.now) }
 {
-    let (port, rest) = take_number(bytes, 1, 15)?;
+    let (port, rest) = take_port(bytes, version)?;
     let (strb, rest) = take_number(rest, 4, 0xffff)?;
     let (last, rest) = take_flag(rest)?;
     let (word, rest) = take_number(rest, 32, u128::MAX)?;
     let event = Event::W {
-        port: port as u8,
+        port,
         strb: strb as u16,
         last,
         word,
@@ -107,14 +104,14 @@ pub fn read_w(bytes: &[u8]) -> Option<Event>
 
 /// The record `B`.
 #[tactic(auto, unfolding(crate::specs::Records::b_fields))]
-pub fn read_b(bytes: &[u8]) -> Option<Event>
-    ensures { result ≡ option_map b_event (b_fields bytes.now) }
+pub fn read_b(bytes: &[u8], version: u8) -> Option<Event>
+    ensures { result ≡ option_map b_event (b_fields version bytes.now) }
 {
-    let (port, rest) = take_number(bytes, 1, 15)?;
+    let (port, rest) = take_port(bytes, version)?;
     let (id, rest) = take_number(rest, 1, 15)?;
     let (resp, rest) = take_number(rest, 1, 3)?;
     let event = Event::B {
-        port: port as u8,
+        port,
         id: id as u8,
         resp: resp as u8,
     };
@@ -123,27 +120,24 @@ pub fn read_b(bytes: &[u8]) -> Option<Event>
 
 /// The record `WK`.
 #[tactic(auto, unfolding(crate::specs::Records::wk_fields))]
-pub fn read_wk(bytes: &[u8]) -> Option<Event>
-    ensures { result ≡ option_map wk_event (wk_fields bytes.now) }
+pub fn read_wk(bytes: &[u8], version: u8) -> Option<Event>
+    ensures { result ≡ option_map wk_event (wk_fields version bytes.now) }
 {
-    let (port, rest) = take_number(bytes, 1, 15)?;
+    let (port, rest) = take_port(bytes, version)?;
     let st = take_state(rest)?;
-    Some(Event::Wk {
-        port: port as u8,
-        st,
-    })
+    Some(Event::Wk { port, st })
 }
 
 /// The record `AC`.
 #[tactic(auto, unfolding(crate::specs::Records::ac_fields))]
-pub fn read_ac(bytes: &[u8]) -> Option<Event>
-    ensures { result ≡ option_map ac_event (ac_fields bytes.now) }
+pub fn read_ac(bytes: &[u8], version: u8) -> Option<Event>
+    ensures { result ≡ option_map ac_event (ac_fields version bytes.now) }
 {
-    let (port, rest) = take_number(bytes, 1, 15)?;
+    let (port, rest) = take_port(bytes, version)?;
     let (addr, rest) = take_number(rest, 8, 0xffff_ffff)?;
     let (snoop, rest) = take_number(rest, 1, 15)?;
     let event = Event::Ac {
-        port: port as u8,
+        port,
         addr: addr as u32,
         snoop: snoop as u8,
     };
@@ -152,14 +146,14 @@ pub fn read_ac(bytes: &[u8]) -> Option<Event>
 
 /// The record `CR`.
 #[tactic(auto, unfolding(crate::specs::Records::cr_fields))]
-pub fn read_cr(bytes: &[u8]) -> Option<Event>
-    ensures { result ≡ option_map cr_event (cr_fields bytes.now) }
+pub fn read_cr(bytes: &[u8], version: u8) -> Option<Event>
+    ensures { result ≡ option_map cr_event (cr_fields version bytes.now) }
 {
-    let (port, rest) = take_number(bytes, 1, 15)?;
+    let (port, rest) = take_port(bytes, version)?;
     let (resp, rest) = take_number(rest, 2, 0x1f)?;
     let st = take_state(rest)?;
     Some(Event::Cr {
-        port: port as u8,
+        port,
         resp: resp as u8,
         st,
     })
@@ -167,30 +161,26 @@ pub fn read_cr(bytes: &[u8]) -> Option<Event>
 
 /// The record `CD`.
 #[tactic(auto, unfolding(crate::specs::Records::cd_fields))]
-pub fn read_cd(bytes: &[u8]) -> Option<Event>
-    ensures { result ≡ option_map cd_event (cd_fields bytes.now) }
+pub fn read_cd(bytes: &[u8], version: u8) -> Option<Event>
+    ensures { result ≡ option_map cd_event (cd_fields version bytes.now) }
 {
-    let (port, rest) = take_number(bytes, 1, 15)?;
+    let (port, rest) = take_port(bytes, version)?;
     let (last, rest) = take_flag(rest)?;
     let (word, rest) = take_number(rest, 32, u128::MAX)?;
-    let event = Event::Cd {
-        port: port as u8,
-        last,
-        word,
-    };
+    let event = Event::Cd { port, last, word };
     at_end(event, rest)
 }
 
 /// The record `G`.
 #[tactic(auto, unfolding(crate::specs::Records::g_fields))]
-pub fn read_g(bytes: &[u8]) -> Option<Event>
-    ensures { result ≡ option_map g_event (g_fields bytes.now) }
+pub fn read_g(bytes: &[u8], version: u8) -> Option<Event>
+    ensures { result ≡ option_map g_event (g_fields version bytes.now) }
 {
-    let (port, rest) = take_number(bytes, 1, 15)?;
+    let (port, rest) = take_port(bytes, version)?;
     let (chan, rest) = take_channel(rest)?;
     let (id, rest) = take_number(rest, 1, 15)?;
     let event = Event::G {
-        port: port as u8,
+        port,
         chan,
         id: id as u8,
     };
@@ -199,15 +189,15 @@ pub fn read_g(bytes: &[u8]) -> Option<Event>
 
 /// The record `M`.
 #[tactic(auto, unfolding(crate::specs::Records::m_fields))]
-pub fn read_m(bytes: &[u8]) -> Option<Event>
-    ensures { result ≡ option_map m_event (m_fields bytes.now) }
+pub fn read_m(bytes: &[u8], version: u8) -> Option<Event>
+    ensures { result ≡ option_map m_event (m_fields version bytes.now) }
 {
-    let (port, rest) = take_number(bytes, 1, 15)?;
+    let (port, rest) = take_port(bytes, version)?;
     let (chan, rest) = take_channel(rest)?;
     let (id, rest) = take_number(rest, 1, 15)?;
     let line = take_line(rest)?;
     Some(Event::M {
-        port: port as u8,
+        port,
         chan,
         id: id as u8,
         line,
@@ -216,14 +206,14 @@ pub fn read_m(bytes: &[u8]) -> Option<Event>
 
 /// The record `S`.
 #[tactic(auto, unfolding(crate::specs::Records::s_fields))]
-pub fn read_s(bytes: &[u8]) -> Option<Event>
-    ensures { result ≡ option_map s_event (s_fields bytes.now) }
+pub fn read_s(bytes: &[u8], version: u8) -> Option<Event>
+    ensures { result ≡ option_map s_event (s_fields version bytes.now) }
 {
-    let (port, rest) = take_number(bytes, 1, 15)?;
+    let (port, rest) = take_port(bytes, version)?;
     let (addr, rest) = take_number(rest, 8, 0xffff_ffff)?;
     let st = take_state(rest)?;
     Some(Event::S {
-        port: port as u8,
+        port,
         addr: addr as u32,
         st,
     })
@@ -231,16 +221,16 @@ pub fn read_s(bytes: &[u8]) -> Option<Event>
 
 /// The record `L`.
 #[tactic(auto, unfolding(crate::specs::Records::l_fields))]
-pub fn read_l(bytes: &[u8]) -> Option<Event>
-    ensures { result ≡ option_map l_event (l_fields bytes.now) }
+pub fn read_l(bytes: &[u8], version: u8) -> Option<Event>
+    ensures { result ≡ option_map l_event (l_fields version bytes.now) }
 {
-    let (port, rest) = take_number(bytes, 1, 15)?;
+    let (port, rest) = take_port(bytes, version)?;
     let (addr, rest) = take_number(rest, 8, 0xffff_ffff)?;
     let (w, rest) = take_number(rest, 1, 3)?;
     let (x, rest) = take_flag(rest)?;
     let (word, rest) = take_number(rest, 32, u128::MAX)?;
     let event = Event::L {
-        port: port as u8,
+        port,
         addr: addr as u32,
         w: w as u8,
         x,
@@ -251,16 +241,16 @@ pub fn read_l(bytes: &[u8]) -> Option<Event>
 
 /// The record `D`.
 #[tactic(auto, unfolding(crate::specs::Records::d_fields))]
-pub fn read_d(bytes: &[u8]) -> Option<Event>
-    ensures { result ≡ option_map d_event (d_fields bytes.now) }
+pub fn read_d(bytes: &[u8], version: u8) -> Option<Event>
+    ensures { result ≡ option_map d_event (d_fields version bytes.now) }
 {
-    let (port, rest) = take_number(bytes, 1, 15)?;
+    let (port, rest) = take_port(bytes, version)?;
     let (addr, rest) = take_number(rest, 8, 0xffff_ffff)?;
     let (strobe, rest) = take_number(rest, 16, 0xffff_ffff_ffff_ffff)?;
     let (x, rest) = take_flag(rest)?;
     let line = take_line(rest)?;
     Some(Event::D {
-        port: port as u8,
+        port,
         addr: addr as u32,
         strobe: strobe as u64,
         x,
@@ -270,15 +260,28 @@ pub fn read_d(bytes: &[u8]) -> Option<Event>
 
 /// The record `OP`.
 #[tactic(auto, unfolding(crate::specs::Records::op_fields))]
-pub fn read_op(bytes: &[u8]) -> Option<Event>
-    ensures { result ≡ option_map op_event (op_fields bytes.now) }
+pub fn read_op(bytes: &[u8], version: u8) -> Option<Event>
+    ensures { result ≡ option_map op_event (op_fields version bytes.now) }
 {
-    let (port, rest) = take_number(bytes, 1, 15)?;
+    let (port, rest) = take_port(bytes, version)?;
     let (k, rest) = take_number(rest, 4, 0xffff)?;
     let res = take_outcome(rest)?;
     Some(Event::Op {
-        port: port as u8,
+        port,
         k: k as u16,
         res,
+    })
+}
+
+/// The record `MEM`.
+#[tactic(auto, unfolding(crate::specs::Records::mem_fields))]
+pub fn read_mem(bytes: &[u8]) -> Option<Event>
+    ensures { result ≡ option_map mem_event (mem_fields bytes.now) }
+{
+    let (addr, rest) = take_number(bytes, 8, 0xffff_ffff)?;
+    let line = take_line(rest)?;
+    Some(Event::Mem {
+        addr: addr as u32,
+        line,
     })
 }

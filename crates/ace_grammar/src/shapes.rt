@@ -6,6 +6,8 @@ ghost use Rattle.ace_grammar.specs.Shapes.{shapes_of};
 /// What a field of a record may be.
 #[derive(Clone, Copy, Debug, PartialEq, Eq)]
 pub enum Shape {
+    /// A port: one lower-case hexadecimal digit in version 1, and two in version 2.
+    Port,
     /// So many lower-case hexadecimal digits.
     Digits { count: usize },
     /// One such digit, of a number that isn't above the most.
@@ -21,7 +23,7 @@ pub enum Shape {
 }
 
 static AR: [Shape; 7] = [
-    Shape::Digits { count: 1 },
+    Shape::Port,
     Shape::Digits { count: 1 },
     Shape::Digits { count: 8 },
     Shape::Digits { count: 1 },
@@ -31,17 +33,17 @@ static AR: [Shape; 7] = [
 ];
 
 static R: [Shape; 5] = [
-    Shape::Digits { count: 1 },
+    Shape::Port,
     Shape::Digits { count: 1 },
     Shape::Digits { count: 1 },
     Shape::AtMost { most: 1 },
     Shape::Digits { count: 32 },
 ];
 
-static RK: [Shape; 2] = [Shape::Digits { count: 1 }, Shape::StateWord];
+static RK: [Shape; 2] = [Shape::Port, Shape::StateWord];
 
 static AW: [Shape; 6] = [
-    Shape::Digits { count: 1 },
+    Shape::Port,
     Shape::Digits { count: 1 },
     Shape::Digits { count: 8 },
     Shape::AtMost { most: 7 },
@@ -50,59 +52,47 @@ static AW: [Shape; 6] = [
 ];
 
 static W: [Shape; 4] = [
-    Shape::Digits { count: 1 },
+    Shape::Port,
     Shape::Digits { count: 4 },
     Shape::AtMost { most: 1 },
     Shape::Digits { count: 32 },
 ];
 
 static B: [Shape; 3] = [
-    Shape::Digits { count: 1 },
+    Shape::Port,
     Shape::Digits { count: 1 },
     Shape::AtMost { most: 3 },
 ];
 
-static WK: [Shape; 2] = [Shape::Digits { count: 1 }, Shape::StateWord];
+static WK: [Shape; 2] = [Shape::Port, Shape::StateWord];
 
 static AC: [Shape; 3] = [
-    Shape::Digits { count: 1 },
+    Shape::Port,
     Shape::Digits { count: 8 },
     Shape::Digits { count: 1 },
 ];
 
-static CR: [Shape; 3] = [
-    Shape::Digits { count: 1 },
-    Shape::SnoopResponse,
-    Shape::StateWord,
-];
+static CR: [Shape; 3] = [Shape::Port, Shape::SnoopResponse, Shape::StateWord];
 
 static CD: [Shape; 3] = [
-    Shape::Digits { count: 1 },
+    Shape::Port,
     Shape::AtMost { most: 1 },
     Shape::Digits { count: 32 },
 ];
 
-static G: [Shape; 3] = [
-    Shape::Digits { count: 1 },
-    Shape::ChannelWord,
-    Shape::Digits { count: 1 },
-];
+static G: [Shape; 3] = [Shape::Port, Shape::ChannelWord, Shape::Digits { count: 1 }];
 
 static M: [Shape; 4] = [
-    Shape::Digits { count: 1 },
+    Shape::Port,
     Shape::ChannelWord,
     Shape::Digits { count: 1 },
     Shape::Digits { count: 128 },
 ];
 
-static S: [Shape; 3] = [
-    Shape::Digits { count: 1 },
-    Shape::Digits { count: 8 },
-    Shape::StateWord,
-];
+static S: [Shape; 3] = [Shape::Port, Shape::Digits { count: 8 }, Shape::StateWord];
 
 static L: [Shape; 5] = [
-    Shape::Digits { count: 1 },
+    Shape::Port,
     Shape::Digits { count: 8 },
     Shape::AtMost { most: 3 },
     Shape::AtMost { most: 1 },
@@ -110,22 +100,20 @@ static L: [Shape; 5] = [
 ];
 
 static D: [Shape; 5] = [
-    Shape::Digits { count: 1 },
+    Shape::Port,
     Shape::Digits { count: 8 },
     Shape::Digits { count: 16 },
     Shape::AtMost { most: 1 },
     Shape::Digits { count: 128 },
 ];
 
-static OP: [Shape; 3] = [
-    Shape::Digits { count: 1 },
-    Shape::Digits { count: 4 },
-    Shape::OutcomeWord,
-];
+static OP: [Shape; 3] = [Shape::Port, Shape::Digits { count: 4 }, Shape::OutcomeWord];
 
-/// The shapes of the fields behind this word, where it is a record word.
-pub fn shapes_of(word: &[u8]) -> Option<&'static [Shape]>
-    ensures { option_map (λ shapes. shapes.now) result ≡ shapes_of word.now }
+static MEM: [Shape; 2] = [Shape::Digits { count: 8 }, Shape::Digits { count: 128 }];
+
+/// The shapes of the fields behind this word, where it is a record word of version 1.
+fn first_shapes_of(word: &[u8]) -> Option<&'static [Shape]>
+    ensures { option_map (λ shapes. shapes.now) result ≡ shapes_of 1 word.now }
 {
     if word == b"AR".as_slice() {
         Some(&AR)
@@ -161,5 +149,18 @@ pub fn shapes_of(word: &[u8]) -> Option<&'static [Shape]>
         Some(&OP)
     } else {
         None
+    }
+}
+
+/// The shapes of the fields behind this word, where it is a record word of the version.
+pub fn shapes_of(word: &[u8], version: u8) -> Option<&'static [Shape]>
+    ensures { option_map (λ shapes. shapes.now) result ≡ shapes_of version word.now }
+{
+    if version == 1 {
+        first_shapes_of(word)
+    } else if word == b"MEM".as_slice() {
+        Some(&MEM)
+    } else {
+        first_shapes_of(word)
     }
 }

@@ -204,7 +204,7 @@ fn reads_each_record(rt: HostRuntime) {
         ),
     ];
     for (line, event) in cases {
-        assert_eq!(rt; parse_event(line), Ok(event));
+        assert_eq!(rt; parse_event(line, 1), Ok(event));
     }
 }
 
@@ -213,8 +213,9 @@ fn reads_lines_of_memory(rt: HostRuntime) {
     let line = Line {
         words: [0x10, u128::MAX, 0x2000, 1 << 127],
     };
-    let cases: [(&[u8], Event); 2] = [
+    let cases: [(u8, &[u8], Event); 5] = [
         (
+            1,
             b"M 1 W 2 00000000000000000000000000000010ffffffffffffffffffffffffffffffff0000000000000000000000000000200080000000000000000000000000000000",
             Event::M {
                 port: 1,
@@ -224,6 +225,7 @@ fn reads_lines_of_memory(rt: HostRuntime) {
             },
         ),
         (
+            1,
             b"D 3 00000040 8000000000000001 1 00000000000000000000000000000010ffffffffffffffffffffffffffffffff0000000000000000000000000000200080000000000000000000000000000000",
             Event::D {
                 port: 3,
@@ -233,9 +235,239 @@ fn reads_lines_of_memory(rt: HostRuntime) {
                 line,
             },
         ),
+        (
+            2,
+            b"M 1f W 2 00000000000000000000000000000010ffffffffffffffffffffffffffffffff0000000000000000000000000000200080000000000000000000000000000000",
+            Event::M {
+                port: 31,
+                chan: Channel::Write,
+                id: 2,
+                line,
+            },
+        ),
+        (
+            2,
+            b"D 13 00000040 8000000000000001 1 00000000000000000000000000000010ffffffffffffffffffffffffffffffff0000000000000000000000000000200080000000000000000000000000000000",
+            Event::D {
+                port: 19,
+                addr: 0x40,
+                strobe: 0x8000_0000_0000_0001,
+                x: true,
+                line,
+            },
+        ),
+        (
+            2,
+            b"MEM 00000040 00000000000000000000000000000010ffffffffffffffffffffffffffffffff0000000000000000000000000000200080000000000000000000000000000000",
+            Event::Mem { addr: 0x40, line },
+        ),
     ];
-    for (text, event) in cases {
-        assert_eq!(rt; parse_event(text), Ok(event));
+    for (version, text, event) in cases {
+        assert_eq!(rt; parse_event(text, version), Ok(event));
+    }
+}
+
+/// Ports of two digits.
+#[test]
+fn reads_each_record_of_version_2(rt: HostRuntime) {
+    let word = 0x0123_4567_89ab_cdef_0011_2233_4455_6677;
+    let cases: [(&[u8], Event); 15] = [
+        (
+            b"AR 1a 5 0123cdef 7 2 1 0",
+            Event::Ar {
+                port: 26,
+                id: 5,
+                addr: 0x0123_cdef,
+                snoop: 7,
+                dom: 2,
+                bar: 1,
+                lock: false,
+            },
+        ),
+        (
+            b"R 01 2 c 0 0123456789abcdef0011223344556677",
+            Event::R {
+                port: 1,
+                id: 2,
+                resp: 12,
+                last: false,
+                word,
+            },
+        ),
+        (
+            b"RK 1f UC",
+            Event::Rk {
+                port: 31,
+                st: LineState::UC,
+            },
+        ),
+        (
+            b"RK 00 SD",
+            Event::Rk {
+                port: 0,
+                st: LineState::SD,
+            },
+        ),
+        (
+            b"AW 0c 6 fedcba98 7 3 2",
+            Event::Aw {
+                port: 12,
+                id: 6,
+                addr: 0xfedc_ba98,
+                snoop: 7,
+                dom: 3,
+                bar: 2,
+            },
+        ),
+        (
+            b"W 14 f00d 1 0123456789abcdef0011223344556677",
+            Event::W {
+                port: 20,
+                strb: 0xf00d,
+                last: true,
+                word,
+            },
+        ),
+        (
+            b"B ff 2 3",
+            Event::B {
+                port: 255,
+                id: 2,
+                resp: 3,
+            },
+        ),
+        (
+            b"WK 15 SC",
+            Event::Wk {
+                port: 21,
+                st: LineState::SC,
+            },
+        ),
+        (
+            b"AC 04 89abcdef e",
+            Event::Ac {
+                port: 4,
+                addr: 0x89ab_cdef,
+                snoop: 14,
+            },
+        ),
+        (
+            b"CR 16 09 SD",
+            Event::Cr {
+                port: 22,
+                resp: 9,
+                st: LineState::SD,
+            },
+        ),
+        (
+            b"CD 17 0 0123456789abcdef0011223344556677",
+            Event::Cd {
+                port: 23,
+                last: false,
+                word,
+            },
+        ),
+        (
+            b"G 19 W 8",
+            Event::G {
+                port: 25,
+                chan: Channel::Write,
+                id: 8,
+            },
+        ),
+        (
+            b"S 12 00000040 I",
+            Event::S {
+                port: 18,
+                addr: 0x40,
+                st: LineState::I,
+            },
+        ),
+        (
+            b"L 13 00000080 2 1 0123456789abcdef0011223344556677",
+            Event::L {
+                port: 19,
+                addr: 0x80,
+                w: 2,
+                x: true,
+                word,
+            },
+        ),
+        (
+            b"OP 10 001f skip",
+            Event::Op {
+                port: 16,
+                k: 0x1f,
+                res: Outcome::Skip,
+            },
+        ),
+    ];
+    for (line, event) in cases {
+        assert_eq!(rt; parse_event(line, 2), Ok(event));
+    }
+}
+
+/// Where the versions differ, and lines of version 2 that are malformed.
+#[test]
+fn tells_versions_apart(rt: HostRuntime) {
+    let cases: [(u8, &[u8], Reason); 30] = [
+        (
+            1,
+            b"MEM 00000040 00000000000000000000000000000010ffffffffffffffffffffffffffffffff0000000000000000000000000000200080000000000000000000000000000000",
+            Reason::F2,
+        ),
+        (1, b"MEM", Reason::F2),
+        (1, b"ME", Reason::F2),
+        (1, b"RK 1f UC", Reason::F4),
+        (1, b"OP 10 001f skip", Reason::F4),
+        (2, b"ME", Reason::F2),
+        (2, b"MEN 00000040 00", Reason::F2),
+        (2, b"MEMM", Reason::F2),
+        (2, b"EM", Reason::F2),
+        (2, b"XX 00", Reason::F2),
+        (2, b"", Reason::F2),
+        (2, b"MEM", Reason::F3),
+        (2, b"MEM 00000040", Reason::F3),
+        (2, b"MEM 00000040 00 ", Reason::F3),
+        (
+            2,
+            b"MEM 00 00000040 00000000000000000000000000000010ffffffffffffffffffffffffffffffff0000000000000000000000000000200080000000000000000000000000000000",
+            Reason::F3,
+        ),
+        (
+            2,
+            b"MEM 0000040 00000000000000000000000000000010ffffffffffffffffffffffffffffffff0000000000000000000000000000200080000000000000000000000000000000",
+            Reason::F4,
+        ),
+        (
+            2,
+            b"MEM 00000040 00000000000000000000000000000010ffffffffffffffffffffffffffffffff00000000000000000000000000002000800000000000000000000000000000000",
+            Reason::F4,
+        ),
+        (
+            2,
+            b"MEM 0000004g 00000000000000000000000000000010ffffffffffffffffffffffffffffffff0000000000000000000000000000200080000000000000000000000000000000",
+            Reason::F5,
+        ),
+        (
+            2,
+            b"MEM 00000040 00000000000000000000000000000010ffffffffffffffffffffffffffffffff000000000000000000000000000020008000000000000000000000000000000G",
+            Reason::F5,
+        ),
+        (2, b"AR a 5 0123cdef 7 2 1 0", Reason::F4),
+        (2, b"R 1 2 c 0 0123456789abcdef0011223344556677", Reason::F4),
+        (2, b"RK 1 UC", Reason::F4),
+        (2, b"RK 001 UC", Reason::F4),
+        (2, b"RK 1F UC", Reason::F5),
+        (2, b"RK g0 UC", Reason::F5),
+        (2, b"RK 1f UX", Reason::F5),
+        (2, b"WK  UC", Reason::F4),
+        (2, b"B 10 2 4", Reason::F6),
+        (2, b"AR 10 5 0123cdef 7 4 1 0", Reason::F6),
+        (2, b"CR 10 20 SD", Reason::F6),
+    ];
+    for (version, line, reason) in cases {
+        assert_eq!(rt; parse_event(line, version), Err(reason));
     }
 }
 
@@ -310,7 +542,7 @@ fn tells_the_least_reason(rt: HostRuntime) {
         ),
     ];
     for (line, reason) in cases {
-        assert_eq!(rt; parse_event(line), Err(reason));
+        assert_eq!(rt; parse_event(line, 1), Err(reason));
     }
 }
 
@@ -413,7 +645,7 @@ fn tells_each_length(rt: HostRuntime) {
         (b"OP 0 00000 skip", Reason::F4),
     ];
     for (line, reason) in cases {
-        assert_eq!(rt; parse_event(line), Err(reason));
+        assert_eq!(rt; parse_event(line, 1), Err(reason));
     }
 }
 
@@ -526,7 +758,7 @@ fn tells_each_character(rt: HostRuntime) {
         (b"OP 0 0000 skipx", Reason::F5),
     ];
     for (line, reason) in cases {
-        assert_eq!(rt; parse_event(line), Err(reason));
+        assert_eq!(rt; parse_event(line, 1), Err(reason));
     }
 }
 
@@ -586,7 +818,32 @@ fn reads_traces_in_pieces(rt: HostRuntime) -> Result<(), Fail> {
         ports: 16,
         ace: 0xe80f,
     };
-    let cases: [(&[u8], End); 26] = [
+    let two = Header {
+        version: 2,
+        ports: 1,
+        ace: 1,
+    };
+    let nine = Header {
+        version: 2,
+        ports: 9,
+        ace: 0x1ff,
+    };
+    let sixteen = Header {
+        version: 2,
+        ports: 16,
+        ace: 0,
+    };
+    let all = Header {
+        version: 2,
+        ports: 32,
+        ace: 0xffff_0000,
+    };
+    let turned = Header {
+        version: 2,
+        ports: 32,
+        ace: 0xffff,
+    };
+    let cases: [(&[u8], End); 43] = [
         (b"ACE 1\nPORTS A\n", End::After(0, Ok(one))),
         (b"ACE 1\nPORTS AAAAAAAA\n", End::After(0, Ok(eight))),
         (b"ACE 1\nPORTS AAAALLLLLLLALAAA\n", End::After(0, Ok(mixed))),
@@ -637,6 +894,53 @@ fn reads_traces_in_pieces(rt: HostRuntime) -> Result<(), Fail> {
         (b"ACE 1\nPORTS AM\n", no_header(2, Reason::F7)),
         (b"ACE 1\nPORTS a\n", no_header(2, Reason::F7)),
         (b"ACE 1\nPORTS A A\n", no_header(2, Reason::F7)),
+        (b"ACE 2\nPORTS A\n", End::After(0, Ok(two))),
+        (b"ACE 2\nPORTS AAAAAAAAA\n", End::After(0, Ok(nine))),
+        (
+            b"ACE 2\nPORTS LLLLLLLLLLLLLLLL\n",
+            End::After(0, Ok(sixteen)),
+        ),
+        (
+            b"ACE 2\nPORTS LLLLLLLLLLLLLLLLAAAAAAAAAAAAAAAA\n",
+            End::After(0, Ok(all)),
+        ),
+        (
+            b"ACE 2\nPORTS AAAAAAAAAAAAAAAALLLLLLLLLLLLLLLL\nRK 1f I\n",
+            End::After(1, Ok(turned)),
+        ),
+        (
+            b"ACE 2\nPORTS A\nMEM 00000040 00000000000000000000000000000010ffffffffffffffffffffffffffffffff0000000000000000000000000000200080000000000000000000000000000000\nRK 00 I\n",
+            End::After(2, Ok(two)),
+        ),
+        (
+            b"ACE 1\nPORTS A\nMEM 00000040 00000000000000000000000000000010ffffffffffffffffffffffffffffffff0000000000000000000000000000200080000000000000000000000000000000\nRK 0 I\n",
+            End::After(0, bad(3, Reason::F2)),
+        ),
+        (
+            b"ACE 1\nPORTS A\nRK 00 I\n",
+            End::After(0, bad(3, Reason::F4)),
+        ),
+        (
+            b"ACE 2\nPORTS A\nRK 00 I\nRK 0 I\n",
+            End::After(1, bad(4, Reason::F4)),
+        ),
+        (
+            b"ACE 2\nPORTS A\nMEM 00000040",
+            End::After(0, bad(3, Reason::F1)),
+        ),
+        (b"ACE 2", no_header(1, Reason::F1)),
+        (b"ACE 2\nPORTS A", no_header(2, Reason::F1)),
+        (b"ACE 3\nPORTS A\n", no_header(1, Reason::F7)),
+        (b"ACE 02\nPORTS A\n", no_header(1, Reason::F7)),
+        (
+            b"ACE 2\nPORTS AAAAAAAAAAAAAAAAA\n",
+            no_header(2, Reason::F7),
+        ),
+        (
+            b"ACE 2\nPORTS ALLLLLLLLLLLLLLLLL\n",
+            no_header(2, Reason::F7),
+        ),
+        (b"ACE 2\nPORTS \n", no_header(2, Reason::F7)),
     ];
     for (text, end) in cases {
         let mut source = HonestSource::new(text);

@@ -3,4 +3,4 @@ use Rattle.ace_grammar.proofs.LineTexts.{event_takes}
 use Rattle.ace_grammar.proofs.event.parse_event.Goals as goal
 
 pub returns-in-Some-clause-event : goal.returns-in-Some-clause-event
-returns-in-Some-clause-event c = event_takes c.args.line.now c.in-Some.event (sym c.in-Some.ensures)
+returns-in-Some-clause-event c = event_takes c.args.version c.args.line.now c.in-Some.event (sym c.in-Some.ensures)

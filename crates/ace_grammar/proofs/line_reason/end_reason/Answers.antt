@@ -3,4 +3,4 @@ use Rattle.ace_grammar.proofs.CutFields.{too_many}
 use Rattle.ace_grammar.proofs.line_reason.end_reason.Goals as goal
 
 pub returns-in-Some : goal.returns-in-Some
-returns-in-Some c = rw c.in-Some.is (sym (too_many c.in-Some.field-0.now))
+returns-in-Some c version = rw c.in-Some.is (sym (too_many version c.in-Some.field-0.now))

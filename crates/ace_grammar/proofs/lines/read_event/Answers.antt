@@ -5,4 +5,4 @@ use Rattle.ace_grammar.proofs.lines.read_event.Goals as goal
 pub returns-in-Ok-NoLf-clause-next : goal.returns-in-Ok-NoLf-clause-next
 returns-in-Ok-NoLf-clause-next g c =
     let cut = rw c.in-Ok-NoLf.field-0-is at c.in-Ok-NoLf.ensures.line in
-    (omega arith, refl, cut_line_is_bad _ _ c.next.new.into c.in-Ok-NoLf.ensures.no_lf cut.0 cut.2 cut.3)
+    (omega arith, refl, cut_line_is_bad _ _ _ c.next.new.into c.in-Ok-NoLf.ensures.no_lf cut.0 cut.2 cut.3)

@@ -6,7 +6,7 @@ pub returns : goal.returns
 unfolding l_fields
 returns c =
     rw (
-      ← c.in_ok-port.ensures.value,
+      ← c.in_ok-port.ensures,
       ← c.in_ok-addr.ensures.value,
       ← c.in_ok-w.ensures.value,
       ← c.in_ok-x.ensures,

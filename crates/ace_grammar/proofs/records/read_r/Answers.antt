@@ -6,7 +6,7 @@ pub returns : goal.returns
 unfolding r_fields
 returns c =
     rw (
-      ← c.in_ok-port.ensures.value,
+      ← c.in_ok-port.ensures,
       ← c.in_ok-id.ensures.value,
       ← c.in_ok-resp.ensures.value,
       ← c.in_ok-last.ensures,
