@@ -3,7 +3,6 @@ use Rattle.std.specs.Prelude.{◌≡◌, ◌≢◌, ◌≤◌, ◌<◌, ◌+◌,
 use Rattle.std.specs.List.{AllByRecursion}
 use Rattle.std.specs.Io.KnownBytes.{Consumes, Appends, IsAtEnd}
 use Rattle.ace_event.specs.declared.event.Event.{Event}
-use Rattle.ace_event.specs.Range.{InRange}
 use Rattle.ace_event.specs.Text.{events_text, event_text, line_text}
 use Rattle.ace_io.specs.Line.{IsPending}
 use Rattle.ace_grammar.specs.Reading.{IsReadable, HasBadLine, IfTold, most_events}
@@ -12,10 +11,6 @@ use Rattle.ace_writer.specs.Given.{GivesFront}
 use Rattle.ace_top.specs.Output.{AppendsPart}
 use Rattle.ace_top.specs.declared.answer.Answer.{Answer}
 use Rattle.ace_top.specs.declared.answer.Answer.TheVariants.{Accepted, Refused, Shown, Usage, Malformed, ReadFault, LimitEvents, NoMemory}
-
--- what a trace of the one version may have, one of the other may have too
-abbrev pub Allows : ℕ → ℕ → Type 0
-Allows from to = (event : Event) → InRange from event → InRange to event
 
 -- These events were read in a trace of the one version, and their lines in the other were added to the text of the writer.
 pub record HasCopied {K : Type 0} (held : K → Option (List ℕ)) (from to : ℕ) (old new : Option (List ℕ)) (writer writer' : Writer K)
