@@ -1,5 +1,5 @@
 -- What is known today opens no memory, so K3 asks of it only that a line's address is one.
-use Rattle.std.proofs.Common.{◌≡◌, Bool, true, ◌&&◌, refl}
+use Rattle.std.proofs.Common.{◌≡◌, true, refl}
 use Rattle.std.proofs.lemmas.Bool.{and_parts}
 use Rattle.ace_event.specs.declared.event.Event.{Event}
 use Rattle.ace_event.specs.declared.event.Event.TheVariants.{Mem}

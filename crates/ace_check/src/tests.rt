@@ -564,6 +564,7 @@ fn unknown_records(rt: HostRuntime) -> Result<(), Fail> {
             k: 0,
             res: Outcome::Ok,
         },
+        Event::Mem { addr: 64, line },
     ];
     for e in events {
         assert!(rt; alone(alloc, TWO_ACE, &[e])? == Some((1, 2)));

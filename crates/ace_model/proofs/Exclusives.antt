@@ -9,8 +9,8 @@
 -- - A D of another port to the line ends the monitor. By K32 that port holds the line in a unique state, or has made it
 --   by a MakeUnique that is complete; either way every other port holds I (the law of the holders), and a port that
 --   holds I is not monitored.
--- - The same for an M that stores to the line, of a WriteUnique, WriteLineUnique or WriteNoSnoop: at it no port holds
---   the line (`all_empty`).
+-- - The same for an M that stores to the line, of a WriteUnique, WriteLineUnique or WriteNoSnoop, and for the R of a
+--   MakeInvalid of the line: at it no port holds the line (`all_empty`).
 -- - A D with x 1 of the port itself ends its monitor. Any other event at most ends it, by taking the line to I, and
 --   stores nothing for another port.
 

@@ -57,7 +57,7 @@
 --    line, so no other had it alone.
 -- 9. A port that has answered one of these snoops without data doesn't hold the line dirty [unsent_clean]. A dirty line is
 --    sent, but to MakeInvalid, which leaves I; and later the port may not store, as its state isn't unique.
--- 10. A line that is passed on dirty is sent too, and the snoop isn't MakeInvalid [passed_kind].
+-- 10. A line that is passed on dirty is sent too, and the snoop isn't MakeInvalid [passed_kind, passed_no_make].
 
 -- Fact 2: what is granted before and after an event.
 pub mod Stays

@@ -23,7 +23,7 @@
 -- 2. While a read of a line is granted and no port has sent data under the grant, memory was the value at some point since
 --    the G [MemorySince], or a port that holds the line dirty hasn't answered under the grant [DirtyUnanswered].
 --    G: by `DirtyPlace` memory is the value or a port holds the line dirty, which can't have answered yet. There are no
---    passed data where no port has sent any, and a read of a line doesn't replace the line.
+--    passed data where no port has sent any, and a read of a line neither replaces the line nor gives it up.
 --    M: on the line it is that of a memory update, by K24, and by K25 it writes its burst, which is the value. The granted
 --    read has no passed data to write, and a write would want the grant for itself.
 --    CR: a dirty port that answers the snoop of a read of a line sends data, by K15; then a port has sent.

@@ -13,7 +13,7 @@
 -- - Every line snoop but MakeInvalid is sent a dirty line (DataTransfer), and where PassDirty is 0 the port stays dirty;
 --   where it is 1, the port was dirty and no longer is. A port that sends a line held it. With a memory update
 --   outstanding the port keeps the line, and PassDirty is 0 (`Beside`).
--- - The reads of a line and the granted writes with data start from I (K6).
+-- - The reads of a line, MakeInvalid and the granted writes with data start from I (K6).
 -- - Only the end of a read (RK, K23) makes a state more. It is unique only where the held state was, or where the kind
 --   takes the line alone (`takes_alone`): ReadUnique, MakeUnique, a CleanUnique that is no exclusive store that failed,
 --   and ReadShared, ReadClean, ReadNotSharedDirty and CleanShared with IsShared 0. It is other than I only where the

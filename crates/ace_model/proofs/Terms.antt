@@ -26,15 +26,15 @@ pub use Rattle.ace_model.specs.Accepted.{AreInOrder, BreaksAt, FirstBreakBy, IsA
 pub use Rattle.ace_model.specs.AddressRules.{begins_message, begins_well, fits_line, has_free_line, has_free_name, has_known_codes, is_no_snoop, is_opened_below, is_part_in_order, is_used_alike, k1, k10, k2, k3, k4, k5, k6, k7, k8, k9, may_issue_read, may_open, starts_well}
 pub use Rattle.ace_model.specs.BarrierHolds.{BarrierHolds, IsOrderedAt, IsOrderedBy}
 pub use Rattle.ace_model.specs.Barriers.{Pair, barrier_in, barriers, is_awaited, is_barrier_half, is_barrier_of, is_before, is_pair_complete, is_synchronisation, may_answer, number_of, pair_of, paired, pairs, place_of}
-pub use Rattle.ace_model.specs.CacheRules.{full_line, k29, k30, k31, k32, k33, may_store, wants_store}
+pub use Rattle.ace_model.specs.CacheRules.{k29, k30, k31, k32, k33, may_store, wants_store}
 pub use Rattle.ace_model.specs.Coherent.{Coherent}
 pub use Rattle.ace_model.specs.Copies.{copy_of, is_line_read_transaction, memory_of, opened, same_line, word_of, words_read, written}
-pub use Rattle.ace_model.specs.DirtyPlace.{AreCopiesTrue, DirtyPlace, HasDirtyHolder, IsValueSafe, replaces_line}
+pub use Rattle.ace_model.specs.DirtyPlace.{AreCopiesTrue, DirtyPlace, HasDirtyHolder, IsValueSafe, may_lose_data}
 pub use Rattle.ace_model.specs.DvmHolds.{DvmHolds, HasCompleted, IsCompletedAt, IsDoneWith}
 pub use Rattle.ace_model.specs.ExclusiveHolds.{ExclusiveHolds, disturbs, is_exclusive_load, is_undisturbed}
 pub use Rattle.ace_model.specs.Exclusives.{has_failed, is_false, passed_at_grant, store_result}
 pub use Rattle.ace_model.specs.Grants.{answer_at, answer_of, answers_grant, are_passed_data_whole, each_port, find_port, given, gives_line, grant_place, granted, has_grant, has_passed_data, has_sharer, is_begun, is_granted, is_snoop_to, newest_on, owes_answer, owes_data, passer, passes, shares, some_port, was_snooped}
-pub use Rattle.ace_model.specs.Kinds.{beats_of, has_write_data, is_clean_unique, is_complete_snoop, is_dvm_message, is_evict, is_granted_write, is_line_read, is_line_snoop, is_line_write, is_lite_read, is_make_unique, is_message_snoop, is_no_snoop_read, is_no_snoop_write, is_read_not_shared_dirty, is_unique_write, is_update, is_write_line_unique, may_be_shared, reads_a_line, takes_passed_data}
+pub use Rattle.ace_model.specs.Kinds.{beats_of, has_write_data, is_clean_unique, is_complete_snoop, is_dvm_message, is_evict, is_granted_write, is_line_read, is_line_snoop, is_line_write, is_lite_read, is_make_invalid, is_make_unique, is_message_snoop, is_no_snoop_read, is_no_snoop_write, is_read_not_shared_dirty, is_unique_write, is_update, is_write_line_unique, may_be_shared, reads_a_line, takes_passed_data}
 pub use Rattle.ace_model.specs.Messages.{add_forwarded, answered_parts, answered_syncs, dvm_completes, first_waiting, forwarded, forwards, has_answered, has_part, has_second, is_dvm_completion, is_message_part, is_message_word, is_other_ace, is_sync, is_sync_completed, is_sync_word, last_sync, next_after, part_in, parts_among, parts_for, parts_in, parts_with, sync_in, sync_number, waits_after}
 pub use Rattle.ace_model.specs.Monitors.{is_monitored, is_set_by}
 pub use Rattle.ace_model.specs.OrderRules.{completes_next, has_every_completion, is_answered_by_all, is_past_barriers, k34, k35, k36, k37, k38, k39, k40, may_answer_half, may_complete, owes_completion}
@@ -49,7 +49,7 @@ pub use Rattle.ace_model.specs.Today.{is_known_today, rules_today}
 pub use Rattle.ace_model.specs.Trace.{Trace, at_point, event_at, implies, is_none_or, is_some_and, more, newer}
 pub use Rattle.ace_model.specs.Transactions.{acknowledged, acknowledgements, completed, completes, ended, first_resp, has_name, has_outstanding_on, is_ace, is_complete, is_completion, is_exclusive_store, is_line, is_make_unique_on, is_named, is_on, is_outstanding, is_outstanding_on, is_read, is_some_on, is_transaction, issued, newest_named, next_complete, outstanding, read_kind, same_channel, snoop_kind_of, snoop_of, some_issued, takes_grant, transaction_of, transaction_under, transfers, without, write_kind}
 pub use Rattle.ace_model.specs.Unique.{OneDirty, OneDirtyNow, Unique, UniqueNow}
-pub use Rattle.ace_model.specs.Values.{Store, after_store, burst_line, burst_strobe, store_at, store_of, stores_data, value_of}
+pub use Rattle.ace_model.specs.Values.{Store, after_store, burst_line, burst_strobe, discard_of, discards_data, full_line, store_at, store_of, stores_data, value_of}
 pub use Rattle.ace_model.specs.WriteRules.{burst_into, data_of, data_of_write, ends_write_well, has_data, is_update_due, is_write_due, k24, k25, k26, k27, k28, may_respond, may_write_data, may_write_memory, may_write_passed}
 pub use Rattle.ace_model.specs.Writes.{Beat, beat_at, beats, burst_of, data_write, data_write_in, data_writes, has_memory_write, is_burst_whole, is_memory_write, next_write, next_write_beat}
 pub use Rattle.ace_model.specs.declared.breaks.Break.{Break}

@@ -10,6 +10,7 @@ use Rattle.ace_model.specs.Transactions.{has_outstanding_on, some_issued}
 use Rattle.ace_model.specs.Progress.{has_update}
 use Rattle.ace_model.specs.States.{state_of, awaits_store, has_store}
 use Rattle.ace_model.specs.Copies.{word_of, copy_of}
+use Rattle.ace_model.specs.Values.{full_line}
 use Rattle.ace_model.specs.Monitors.{is_monitored}
 
 -- K29: the state of an S is one to which the port's state of the line may move silently, and it isn't I while a memory update of
@@ -27,10 +28,6 @@ k30 h past _ = true
 abbrev pub k31 : Header → Trace → Event → Bool
 k31 h past (L p addr w x word) = word == word_of (copy_of past p addr) w
 k31 h past _ = true
-
--- all strobes of a line
-abbrev pub full_line : ℕ
-full_line = 18446744073709551615
 
 -- the port holds the line alone, and nothing of it is on its way
 abbrev pub may_store : Header → Trace → ℕ → ℕ → Bool

@@ -11,22 +11,23 @@ use Rattle.ace_model.specs.Grants.{granted}
 use Rattle.ace_model.specs.States.{state_of}
 use Rattle.ace_model.specs.Copies.{memory_of, copy_of}
 use Rattle.ace_model.specs.Replies.{passed_data}
-use Rattle.ace_model.specs.Values.{value_of}
+use Rattle.ace_model.specs.Values.{discards_data, value_of}
 
--- the transaction replaces the whole line
-abbrev pub replaces_line : Transaction → Bool
-replaces_line x = is_some_and (read_kind x) is_make_unique || is_some_and (write_kind x) is_write_line_unique
+-- the transaction replaces the whole line, or gives up what is newer than memory
+abbrev pub may_lose_data : Transaction → Bool
+may_lose_data x =
+    is_some_and (read_kind x) is_make_unique || is_some_and (write_kind x) is_write_line_unique || discards_data x
 
 -- a port holds the line in UD or SD
 abbrev pub HasDirtyHolder : Header → Trace → ℕ → Type 0
 HasDirtyHolder h past l = (p : ℕ) × (is_dirty (state_of h past p l) ≡ true)
 
 -- Memory is the line's value; or a port holds the line in UD or SD; or there are passed data and they are the value; or the
--- granted transaction replaces the whole line.
+-- granted transaction is a MakeUnique, WriteLineUnique or MakeInvalid.
 abbrev pub IsValueSafe : Header → Trace → ℕ → Type 0
 IsValueSafe h past l =
     (memory_of past l ≡ value_of past l) ⊎ HasDirtyHolder h past l ⊎ (passed_data h past l ≡ Some (value_of past l))
-    ⊎ (is_some_and (granted h past l) replaces_line ≡ true)
+    ⊎ (is_some_and (granted h past l) may_lose_data ≡ true)
 
 -- each port whose state isn't I has a copy equal to the value
 abbrev pub AreCopiesTrue : Header → Trace → ℕ → Type 0

@@ -136,6 +136,10 @@ abbrev pub is_make_unique : ArKind → Bool
 is_make_unique read.MakeUnique = true
 is_make_unique _ = false
 
+abbrev pub is_make_invalid : ArKind → Bool
+is_make_invalid read.MakeInvalid = true
+is_make_invalid _ = false
+
 abbrev pub is_read_unique : ArKind → Bool
 is_read_unique read.ReadUnique = true
 is_read_unique _ = false

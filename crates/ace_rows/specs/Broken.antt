@@ -4,7 +4,7 @@ use Rattle.ace_codes.specs.declared.state.LineState.TheVariants.{I}
 use Rattle.ace_event.specs.declared.event.Channel.TheVariants.{Read}
 use Rattle.ace_event.specs.declared.event.Event.{Event}
 use Rattle.ace_event.specs.declared.event.Event.TheVariants.{Ar, Ac, Cr, G, S, L, D}
-use Rattle.ace_model.specs.CacheRules.{full_line}
+use Rattle.ace_model.specs.Values.{full_line}
 use Rattle.ace_rows.specs.Shorthands.{line_a, read_once, dvm_complete, dvm_message, repeated_line, store, get}
 use Rattle.ace_rows.specs.Shortest.{read_half, write_half}
 

@@ -6,7 +6,7 @@ use Rattle.ace_event.specs.declared.event.Channel.TheVariants.{Read, Write}
 use Rattle.ace_event.specs.declared.event.Outcome.TheVariants.{Ok}
 use Rattle.ace_event.specs.declared.event.Event.{Event}
 use Rattle.ace_event.specs.declared.event.Event.TheVariants.{Ar, R, Rk, Aw, W, B, Wk, Ac, Cr, Cd, G, M, S, L, D, Op}
-use Rattle.ace_model.specs.CacheRules.{full_line}
+use Rattle.ace_model.specs.Values.{full_line}
 use Rattle.ace_rows.specs.Shorthands.{read_once, read_unique, write_unique, write_back, dvm_complete, dvm_message, memory_barrier, line_a, repeated_line, one_transfer, four_writes, issue_read, issue_exclusive, issue_write, ask, snoop, store, make}
 
 -- port 0 issues the half of a memory barrier on the read channel, on the write channel

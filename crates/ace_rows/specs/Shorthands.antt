@@ -7,7 +7,7 @@ use Rattle.ace_event.specs.declared.line.Line.{Line}
 use Rattle.ace_event.specs.declared.event.Channel.TheVariants.{Read}
 use Rattle.ace_event.specs.declared.event.Event.{Event}
 use Rattle.ace_event.specs.declared.event.Event.TheVariants.{Ar, R, Rk, Aw, W, Ac, Cd, G, D}
-use Rattle.ace_model.specs.CacheRules.{full_line}
+use Rattle.ace_model.specs.Values.{full_line}
 
 -- the ports of a trace, port 0 the last bit
 abbrev pub one_ace : Header

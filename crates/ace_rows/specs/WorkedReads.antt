@@ -4,7 +4,7 @@ use Rattle.ace_codes.specs.declared.state.LineState.TheVariants.{I, UC, UD, SC, 
 use Rattle.ace_event.specs.declared.event.Channel.TheVariants.{Read, Write}
 use Rattle.ace_event.specs.declared.event.Event.{Event}
 use Rattle.ace_event.specs.declared.event.Event.TheVariants.{Ar, R, Rk, B, Wk, Cr, G, M}
-use Rattle.ace_rows.specs.Shorthands.{line_a, read_once, read_shared, read_clean, read_not_shared_dirty, read_unique, make_invalid, write_line_unique, write_clean, repeated_word, repeated_line, four_transfers, four_writes, four_data, issue_read, issue_write, ask, snoop, store, get, share}
+use Rattle.ace_rows.specs.Shorthands.{line_a, read_once, read_shared, read_clean, read_not_shared_dirty, read_unique, make_invalid, write_line_unique, write_clean, repeated_word, repeated_line, four_transfers, one_transfer, four_writes, four_data, issue_read, issue_write, ask, snoop, store, get, share}
 
 -- Port 0 holds the line clean and unique. Port 1 gets it, for which port 0 is snooped and gives it up.
 abbrev pub takes_a_line_over : List Event
@@ -80,6 +80,17 @@ three_share =
     get 0 ++ store 0 0x11 ∷ ask 1 read_shared ++ snoop 0 read_shared ∷ Cr 0 9 SD ∷ four_data 0 0x11
     ++ four_transfers 1 8 0x11 ++ Rk 1 SC ∷ ask 2 read_shared ++ snoop 0 read_shared ∷ snoop 1 read_shared ∷ Cr 0 9 SD
     ∷ four_data 0 0x11 ++ Cr 1 8 SC ∷ four_transfers 2 8 0x11 ++ Rk 2 SC ∷ []
+
+-- Port 0 gives up what is newer than memory, for which port 1 is snooped by this kind.
+abbrev pub asks_to_discard : ℕ → List Event
+asks_to_discard kind = holds_dirty ++ ask 0 make_invalid ++ snoop 1 kind ∷ []
+
+-- port 1 gives the dirty line up, which no one writes to memory
+abbrev pub gives_dirty_line_up : List Event
+gives_dirty_line_up = asks_to_discard make_invalid ++ Cr 1 0 I ∷ []
+
+abbrev pub discards_dirty_data : List Event
+discards_dirty_data = gives_dirty_line_up ++ one_transfer 0 0 ∷ Rk 0 I ∷ []
 
 -- an ACE-Lite port writes the whole line, for which the three give it up
 abbrev pub writes_a_shared_line : List Event

@@ -13,7 +13,7 @@ ghost use Rattle.ace_model.specs.Values.{stores_of, value_of};
 ghost use Rattle.ace_model.specs.Accepted.{first_break_by};
 ghost use Rattle.ace_model.specs.Today.{rules_today};
 ghost use Rattle.ace_rows.specs.Shorthands.{two_ace, line_a, read_clean, repeated_line, get};
-ghost use Rattle.ace_rows.specs.WorkedReads.{cleans_for_a_read, stores_during_a_read, writes_a_shared_line};
+ghost use Rattle.ace_rows.specs.WorkedReads.{cleans_for_a_read, stores_during_a_read, gives_dirty_line_up, discards_dirty_data, writes_a_shared_line};
 ghost use Rattle.ace_rows.specs.Terms.{stores, writes_back, passes_dirt, sends_dirt, second_read, writes_dirt, read_once_of_the_line, makes, makes_and_stores_a_line};
 
 /// Today a store breaks K2, whatever came before it.
@@ -77,4 +77,14 @@ pub fn a_write_is_a_store()
     ensures two { length (stores_of (reverse writes_a_shared_line) line_a) ≡ 2 }
     ensures value { value_of (reverse writes_a_shared_line) line_a ≡ repeated_line 0x44 }
     ensures lost { copy_of (reverse writes_a_shared_line) 2 line_a ≡ repeated_line 0x11 }
+{}
+
+/// The transfer of a MakeInvalid makes the value of the line what memory has, and no cache holds the line then.
+pub fn a_discard_is_a_store()
+    ensures held { copy_of (reverse gives_dirty_line_up) 1 line_a ≡ repeated_line 0x11 }
+    ensures before { value_of (reverse gives_dirty_line_up) line_a ≡ repeated_line 0x11 }
+    ensures memory { memory_of (reverse gives_dirty_line_up) line_a ≡ zero_line }
+    ensures gone { state_of two_ace (reverse gives_dirty_line_up) 1 line_a ≡ I }
+    ensures after { value_of (reverse discards_dirty_data) line_a ≡ zero_line }
+    ensures two { length (stores_of (reverse discards_dirty_data) line_a) ≡ 2 }
 {}

@@ -2,8 +2,8 @@
 
 ghost use Rattle.std.specs.Prelude.{◌≡◌, None, Some};
 ghost use Rattle.ace_model.specs.Accepted.{first_break};
-ghost use Rattle.ace_rows.specs.Shorthands.{one_lite, two_ace, one_ace_one_lite, three_ace_one_lite};
-ghost use Rattle.ace_rows.specs.WorkedReads.{takes_a_line_over, takes_a_line_without_a_snoop, passes_dirty_line_on, forgets_passed_dirt, hides_a_sharer, drops_passed_data, writes_passed_data, keeps_the_reply, tears_the_reply, grants_before_the_acknowledge, writes_a_shared_line, mixes_shareability};
+ghost use Rattle.ace_rows.specs.Shorthands.{clean_invalid, one_lite, two_ace, one_ace_one_lite, three_ace_one_lite};
+ghost use Rattle.ace_rows.specs.WorkedReads.{takes_a_line_over, takes_a_line_without_a_snoop, passes_dirty_line_on, forgets_passed_dirt, hides_a_sharer, drops_passed_data, writes_passed_data, asks_to_discard, discards_dirty_data, keeps_the_reply, tears_the_reply, grants_before_the_acknowledge, writes_a_shared_line, mixes_shareability};
 
 /// A port gets a line that another port holds: that port is snooped first. Without the snoop the first transfer breaks K18.
 pub fn another_port_is_snooped()
@@ -26,6 +26,12 @@ pub fn a_sharer_is_told()
 pub fn passed_data_go_somewhere()
     ensures refused { first_break two_ace drops_passed_data ≡ Some (record { index = 17; rule = 18 }) }
     ensures accepted { first_break two_ace writes_passed_data ≡ None }
+{}
+
+/// A MakeInvalid may discard dirty data, and is snooped as what it is.
+pub fn dirty_data_are_discarded()
+    ensures accepted { first_break two_ace discards_dirty_data ≡ None }
+    ensures refused { first_break two_ace (asks_to_discard clean_invalid) ≡ Some (record { index = 11; rule = 13 }) }
 {}
 
 /// The transfers of a read are of one line, as the snooped port held it when it answered.

@@ -1,4 +1,4 @@
--- The snoop that a transaction causes (Arm IHI 0022E, C5.1). CleanInvalid for MakeInvalid is our choice.
+-- The snoop that a transaction causes (Arm IHI 0022E, C5.1).
 use Rattle.std.specs.Prelude.{Option, Some, None}
 use Rattle.ace_codes.specs.declared.kind.ArKind.{ArKind}
 use Rattle.ace_codes.specs.declared.kind.ArKind.TheVariants as read
@@ -17,7 +17,7 @@ snoop_of_read read.ReadUnique = Some snoop.ReadUnique
 snoop_of_read read.CleanShared = Some snoop.CleanShared
 snoop_of_read read.CleanInvalid = Some snoop.CleanInvalid
 snoop_of_read read.CleanUnique = Some snoop.CleanInvalid
-snoop_of_read read.MakeInvalid = Some snoop.CleanInvalid
+snoop_of_read read.MakeInvalid = Some snoop.MakeInvalid
 snoop_of_read read.MakeUnique = Some snoop.MakeInvalid
 snoop_of_read _ = None
 

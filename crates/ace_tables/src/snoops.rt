@@ -15,10 +15,8 @@ pub fn snoop_of_read(kind: ArKind) -> Option<SnoopKind>
         ArKind::ReadNotSharedDirty => Some(SnoopKind::ReadNotSharedDirty),
         ArKind::ReadUnique => Some(SnoopKind::ReadUnique),
         ArKind::CleanShared => Some(SnoopKind::CleanShared),
-        ArKind::CleanInvalid | ArKind::CleanUnique | ArKind::MakeInvalid => {
-            Some(SnoopKind::CleanInvalid)
-        }
-        ArKind::MakeUnique => Some(SnoopKind::MakeInvalid),
+        ArKind::CleanInvalid | ArKind::CleanUnique => Some(SnoopKind::CleanInvalid),
+        ArKind::MakeUnique | ArKind::MakeInvalid => Some(SnoopKind::MakeInvalid),
         ArKind::ReadNoSnoop | ArKind::DvmComplete | ArKind::DvmMessage | ArKind::Barrier => None,
     }
 }

@@ -87,7 +87,7 @@ fn lists_of_rows(rt: HostRuntime) -> Result<(), Fail> {
 fn states_of_transactions(rt: HostRuntime) -> Result<(), Fail> {
     assert_eq!(rt;
         snoop_of_read(ArKind::MakeInvalid),
-        Some(SnoopKind::CleanInvalid)
+        Some(SnoopKind::MakeInvalid)
     );
     assert_eq!(rt; snoop_of_read(ArKind::ReadNoSnoop), None);
     assert_eq!(rt;

@@ -1,21 +1,23 @@
 -- In an accepted trace an exclusive store is exclusive.
-use Rattle.std.proofs.Common.{◌≡◌, ◌≢◌, ◌⊎◌, ℕ, Bool, true, false, not, ◌&&◌, nat_eq, [], ◌∷◌, Option, Some, None, refl, sym, ap, ◌∙◌, inl, inr}
+use Rattle.std.proofs.Common.{◌≡◌, ◌≢◌, ◌⊎◌, ℕ, Bool, true, false, not, if◌then◌else◌, ◌&&◌, nat_eq, [], ◌∷◌, Option, Some, None, refl, sym, ap, ◌∙◌, inl, inr}
 use Rattle.std.specs.Option.{option_and_then}
 use Rattle.std.proofs.lemmas.Bool.{and_parts, or_left, or_right, cases_Bool, eqb-true, eq-eqb, ne_eqb, not-true}
-use Rattle.ace_model.proofs.Terms.{I, Header, Event, L, D, M, is_invalid, is_unique, Transaction, Trace, is_some_and, is_on, transaction_of, state_of, is_set_by, is_monitored, Store, stores_data, store_of}
+use Rattle.ace_model.proofs.Terms.{I, Header, Read, Event, R, L, D, M, is_invalid, is_unique, Transaction, Trace, is_some_and, transaction_of, state_of, is_set_by, is_monitored, Store, store_of, discard_of}
 use Rattle.ace_model.proofs.Terms.{IsAccepted, is_exclusive_load, disturbs, is_undisturbed, ExclusiveHolds}
 use Rattle.ace_model.proofs.Rules.Keeps.{accepted_keeps}
-use Rattle.ace_model.proofs.General.Options.{some_if-is, is_some_and-is}
 use Rattle.ace_model.proofs.Holders.Law.{accepted_holds}
-use Rattle.ace_model.proofs.Values.Stores.{stores_d, stores_m, all_empty}
+use Rattle.ace_model.proofs.Values.Stores.{stores_d, stores_m, discards_r, all_empty}
 
--- the write whose M stores to the line
-stored_by : (past : Trace) (l : ℕ) (o : Option Transaction) (test : Store → Bool) → is_some_and (option_and_then (store_of past l) o) test ≡ true
-    → (x : Transaction) × (o ≡ Some x) × ((stores_data x && is_on x l) ≡ true)
-stored_by past l None test d = cc
-stored_by past l (Some x) test d =
-    let s = is_some_and-is (store_of past l x) test d in
-    (x, refl, (some_if-is (stores_data x && is_on x l) _ s.0 s.1).0)
+-- the transaction that the store to the line is of
+stored_by : (f : Transaction → Option Store) (o : Option Transaction) (test : Store → Bool) → is_some_and (option_and_then f o) test ≡ true
+    → (x : Transaction) × (o ≡ Some x) × (is_some_and (f x) test ≡ true)
+stored_by f None test d = cc
+stored_by f (Some x) test d = (x, refl, d)
+
+-- where it is a store under a condition, the condition holds
+stored_if : (b : Bool) (s : Store) (test : Store → Bool) → is_some_and (if b then Some s else None) test ≡ true → b ≡ true
+stored_if true s test d = refl
+stored_if false s test d = cc
 
 -- what the event says of a monitor that is set after it
 set_by : (e : Event) (p l : ℕ) (was : Bool) → is_set_by e p l was ≡ true → (is_exclusive_load e p ≡ true) ⊎ (was ≡ true)
@@ -44,8 +46,11 @@ module _ (h : Header) (p l : ℕ) where
         | inr other ↦ let bad : false ≡ true = rw other at d in cc
       ]
   gone_at_store past (M q c i line) a d =
-      let by = stored_by past l (transaction_of past q c i) _ d in
-      all_empty h past a.0 q c i l (stores_m h past q c i line l a by.0 by.1 by.2) p
+      let by = stored_by (store_of past l) (transaction_of past q c i) _ d in
+      all_empty h past a.0 l (stores_m h past q c i line l a by.0 by.1 (stored_if _ _ _ by.2)).unheld p
+  gone_at_store past (R q i resp last word) a d =
+      let by = stored_by (discard_of past l) (transaction_of past q Read i) _ d in
+      all_empty h past a.0 l (discards_r h past q i resp last word l a by.0 by.1 (stored_if _ _ _ by.2)).unheld p
   gone_at_store past e a d = cc
 
   -- a port whose monitor was set before the event is undisturbed by it

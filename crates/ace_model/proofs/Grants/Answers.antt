@@ -12,7 +12,7 @@ use Rattle.ace_model.proofs.Holders.Facts.{OneHolder}
 use Rattle.ace_model.proofs.Holders.Snoop.{less_cr}
 use Rattle.ace_model.proofs.Rules.Keeps.{accepted_keeps}
 use Rattle.ace_model.proofs.Holders.Rises.{dirty_moves}
-use Rattle.ace_model.proofs.Tables.SnoopRows.{is_make_invalid, dirty_sends, sends_held, passes_other}
+use Rattle.ace_model.proofs.Tables.SnoopRows.{is_make_invalid_snoop, dirty_sends, sends_held, passes_other}
 use Rattle.ace_model.proofs.Holders.Law.{accepted_holds}
 use Rattle.ace_model.proofs.General.Options.{Some-injective}
 use Rattle.ace_model.proofs.Tables.Less.{less-clean, settled}
@@ -78,7 +78,7 @@ pub unsent_clean : (h : Header) (past : Trace) → IsAccepted h past → (l r : 
     → answer_of past r l ≡ Some w → transfers_data w.resp ≡ false → snoop_of x ≡ Some k → is_levelling k ≡ true → is_dirty (state_of h past r l) ≡ false
 unsent_clean h past a l r x w k g is d c lev = since_answer h l r x w (λ t. is_dirty (state_of h t r l) ≡ false) at_answer kept past a g is
   where
-    make_gone : (k : SnoopKind) → is_make_invalid k ≡ true → invalidates k ≡ true
+    make_gone : (k : SnoopKind) → is_make_invalid_snoop k ≡ true → invalidates k ≡ true
     make_gone snoop.MakeInvalid m = refl
     make_gone k m = cc
 
@@ -97,12 +97,12 @@ unsent_clean h past a l r x w k g is d c lev = since_answer h l r x w (λ t. is_
     at_answer past e a stays new now =
         let n = new_answer h past e a r l w new in
         let kind : n.1.kind ≡ k = Some-injective n.1.kind k (sym (new_causes h past r l w x n stays.was) ∙ c) in
-        elim (cases_Bool (is_make_invalid k)) [
+        elim (cases_Bool (is_make_invalid_snoop k)) [
           | inl m ↦ ap is_dirty (((accepted_holds h (e ∷ past) a).answers l r x w k stays.is now c).gone (or_right (not (is_shared w.resp)) (invalidates k) (make_gone k m)))
           | inr m ↦
               let row = n.1.row in
               elim (cases_Bool (is_dirty (state_of h past r l))) [
-                | inl dirty ↦ let sends = dirty_sends n.1.kind (state_of h past r l) w.resp n.0 n.1.of_line row (ap is_make_invalid kind ∙ m) dirty in cc
+                | inl dirty ↦ let sends = dirty_sends n.1.kind (state_of h past r l) w.resp n.0 n.1.of_line row (ap is_make_invalid_snoop kind ∙ m) dirty in cc
                 | inr clean ↦
                     let keeps = (accepted_keeps h past (Cr r new.resp new.st) (subst (λ d. IsAccepted h (d ∷ past)) new.is a)).rule_15 in
                     subst (λ d. is_dirty (state_of h (d ∷ past) r l) ≡ false) (sym new.is) (less-clean _ _ (less_cr h past r new.resp new.st keeps r l) clean)
@@ -111,9 +111,9 @@ unsent_clean h past a l r x w k g is d c lev = since_answer h l r x w (λ t. is_
 
 -- a dirty line is passed on to no snoop that makes it invalid
 pub passed_kind : (h : Header) (past : Trace) → IsAccepted h past → (l r : ℕ) (x : Transaction) (w : Answer) → granted h past l ≡ Some x
-    → answer_of past r l ≡ Some w → passes_dirty w.resp ≡ true → (k : SnoopKind) × (snoop_of x ≡ Some k) × (is_make_invalid k ≡ false) × (transfers_data w.resp ≡ true)
+    → answer_of past r l ≡ Some w → passes_dirty w.resp ≡ true → (k : SnoopKind) × (snoop_of x ≡ Some k) × (is_make_invalid_snoop k ≡ false) × (transfers_data w.resp ≡ true)
 passed_kind h past a l r x w g is d =
-    since_answer h l r x w (λ t. (k : SnoopKind) × (snoop_of x ≡ Some k) × (is_make_invalid k ≡ false) × (transfers_data w.resp ≡ true))
+    since_answer h l r x w (λ t. (k : SnoopKind) × (snoop_of x ≡ Some k) × (is_make_invalid_snoop k ≡ false) × (transfers_data w.resp ≡ true))
     (λ past e a stays new is.
     let n = new_answer h past e a r l w new in
     let held = state_of h past r l in
@@ -121,3 +121,11 @@ passed_kind h past a l r x w g is d =
     let m = passes_other n.1.kind held w.resp n.0 n.1.of_line n.1.row d dirty in
     (n.1.kind, new_causes h past r l w x n stays.was, m, dirty_sends n.1.kind held w.resp n.0 n.1.of_line n.1.row m dirty))
     (λ past e a stays was before. before) past a g is
+
+-- so none is passed on to a transaction that causes it
+pub passed_no_make : (h : Header) (past : Trace) → IsAccepted h past → (l r : ℕ) (x : Transaction) (w : Answer) → granted h past l ≡ Some x
+    → answer_of past r l ≡ Some w → passes_dirty w.resp ≡ true → snoop_of x ≡ Some snoop.MakeInvalid → ⊥
+passed_no_make h past a l r x w g is d causes =
+    let k = passed_kind h past a l r x w g is d in
+    let kind : k.0 ≡ snoop.MakeInvalid = Some-injective k.0 snoop.MakeInvalid (sym k.1 ∙ causes) in
+    let bad : true ≡ false = sym (ap is_make_invalid_snoop kind) ∙ k.2 in cc

@@ -1,8 +1,8 @@
 -- A port comes to hold more of a line by the RK of its own read alone, and makes it dirty by that or by a store alone.
-use Rattle.std.proofs.Common.{◌≡◌, ◌⊎◌, ℕ, Bool, true, false, ◌||◌, [], ◌∷◌, length, Some, refl, ap, ◌∙◌, inl, inr}
-use Rattle.std.proofs.lemmas.Bool.{and_parts, or_cases, cases_Bool, eqb-true}
+use Rattle.std.proofs.Common.{◌≡◌, ◌⊎◌, ℕ, true, false, [], ◌∷◌, length, Some, refl, ap, ◌∙◌, inl, inr}
+use Rattle.std.proofs.lemmas.Bool.{and_parts, cases_Bool, eqb-true}
 use Rattle.ace_model.proofs.Terms.{LineState, I, Channel, Read, Event, Ar, Rk, Aw, D, Header, starts_read, starts_write, is_dirty, Transaction}
-use Rattle.ace_model.proofs.Terms.{Trace, is_some_and, is_none_or, reads_a_line, is_granted_write, is_line, is_on, issued, ended, read_kind, write_kind, outstanding, state_of}
+use Rattle.ace_model.proofs.Terms.{Trace, is_some_and, is_none_or, reads_a_line, is_granted_write, is_line, is_on, issued, ended, read_kind, write_kind, outstanding, state_of, discards_data}
 use Rattle.ace_model.proofs.Terms.{is_line_read_transaction, starts_well, may_store, IsAccepted}
 use Rattle.ace_model.proofs.Trace.Looks.{has_name-is, newest_named-cases, without-some}
 use Rattle.ace_model.proofs.Rules.Keeps.{accepted_keeps}
@@ -15,8 +15,10 @@ use Rattle.ace_model.proofs.Holders.Law.{accepted_holds}
 use Rattle.ace_model.proofs.Trace.LineOnce.{one_on_line}
 use Rattle.ace_model.proofs.General.Options.{is_some_and-is, is_none_or-at}
 use Rattle.ace_model.proofs.General.Booleans.{implies-at}
+use Rattle.ace_model.proofs.Tables.ReadSnoops.{discards_kind}
+use Rattle.ace_codes.specs.declared.kind.ArKind.TheVariants as read
 use Rattle.ace_model.proofs.Tables.Less.{less-clean}
-use Rattle.ace_model.proofs.Tables.StartStates.{read_starts, write_starts}
+use Rattle.ace_model.proofs.Tables.StartStates.{read_starts, write_starts, discard_starts}
 
 module _ (h : Header) (past : Trace) where
   -- The read of the port on the line that the event ends by its RK.
@@ -73,26 +75,29 @@ module _ (h : Header) (past : Trace) where
   issue_leaves e x p l s = cc
 
 -- the transaction starts where its port holds nothing
-abbrev pub starts_empty : Transaction → Bool
-starts_empty x = is_line_read_transaction x || is_some_and (write_kind x) is_granted_write
+abbrev pub StartsEmpty : Transaction → Type 0
+StartsEmpty x =
+    (is_line_read_transaction x ≡ true) ⊎ (is_some_and (write_kind x) is_granted_write ≡ true) ⊎ (discards_data x ≡ true)
 
 -- such a transaction finds its port with nothing
-starts : (h : Header) (past : Trace) (x : Transaction) → starts_well h past x ≡ true → is_line x ≡ true → starts_empty x ≡ true → state_of h past x.port x.addr ≡ I
+starts : (h : Header) (past : Trace) (x : Transaction) → starts_well h past x ≡ true → is_line x ≡ true → StartsEmpty x → state_of h past x.port x.addr ≡ I
 starts h past x well line empty =
     let both = implies-at (is_line x) _ well line in
     let parts = and_parts (is_none_or (read_kind x) (λ k. starts_read k (state_of h past x.port x.addr))) _ both in
-    elim (or_cases (is_line_read_transaction x) (is_some_and (write_kind x) is_granted_write) empty) [
+    elim empty [
       | inl reads ↦
           let k = is_some_and-is (read_kind x) reads_a_line reads in
           read_starts k.0 _ k.2 (is_none_or-at (read_kind x) (λ k. starts_read k (state_of h past x.port x.addr)) k.0 parts.0 k.1)
-      | inr writes ↦
+      | inr (inl writes) ↦
           let k = is_some_and-is (write_kind x) is_granted_write writes in
           write_starts k.0 _ k.2 (is_none_or-at (write_kind x) (λ k. starts_write k (state_of h past x.port x.addr)) k.0 parts.1 k.1)
+      | inr (inr discards) ↦
+          discard_starts _ (is_none_or-at (read_kind x) (λ k. starts_read k (state_of h past x.port x.addr)) read.MakeInvalid parts.0 (discards_kind x discards))
     ]
 
 -- and its port holds nothing as long as it is outstanding
 pub stays_empty : (h : Header) (past : Trace) → IsAccepted h past → (p : ℕ) (c : Channel) (i l : ℕ) (x : Transaction)
-    → outstanding h past p c i ≡ Some x → is_on x l ≡ true → starts_empty x ≡ true → state_of h past p l ≡ I
+    → outstanding h past p c i ≡ Some x → is_on x l ≡ true → StartsEmpty x → state_of h past p l ≡ I
 stays_empty h [] a p c i l x o on empty = refl
 stays_empty h (e ∷ past) a p c i l x o on empty =
     elim (newest_named-cases (issued (length past) e) p c i _ x o) [

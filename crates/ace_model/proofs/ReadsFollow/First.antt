@@ -9,11 +9,11 @@ use Rattle.ace_model.proofs.Trace.Growth.{at_point-before}
 use Rattle.ace_model.proofs.Trace.Places.{NewBeat, grant-old}
 use Rattle.ace_model.proofs.Values.Stays.{answer-before}
 use Rattle.ace_model.proofs.Values.Replies.{memory-before, sender_sent}
-use Rattle.ace_model.proofs.Values.FullReads.{issue_transfers}
+use Rattle.ace_model.proofs.Values.FullReads.{issue_transfers, first-transfer, BeatDue, beat_due}
 use Rattle.ace_model.proofs.Values.Law.{facts}
 use Rattle.ace_model.proofs.ReadsFollow.Points.{IsPointOf, Follows, follows-step}
-use Rattle.ace_model.proofs.ReadsFollow.Outstanding.{line_read-chan}
-use Rattle.ace_model.proofs.ReadsFollow.UnderWay.{first-transfer, BeatDue, beat_due, reply-stays}
+use Rattle.ace_model.proofs.ReadsFollow.Outstanding.{line_read-chan, line_read-line}
+use Rattle.ace_model.proofs.ReadsFollow.UnderWay.{reply-stays}
 use Rattle.ace_model.proofs.ReadsFollow.Sent.{GrantedAt, granted-at, answer-after, sent_value}
 use Rattle.ace_model.proofs.ReadsFollow.Memory.{memory_follows}
 
@@ -22,7 +22,7 @@ pub first-point : (h : Header) (past : Trace) (p i resp : ℕ) (last : Bool) (wo
     → AllByRecursion FitsFields past → outstanding h past p Read i ≡ Some x → is_line_read_transaction x ≡ true → transfers past p i ≡ 0
     → (n : ℕ) × IsPointOf past x n
 first-point h past p i resp last word x a range o reads none =
-    let u = beat_due h past p i x (R p i resp last word) a (record { resp = resp; last = last; word = word; is = refl }) o reads in
+    let u = beat_due h past p i x (R p i resp last word) a (record { resp = resp; last = last; word = word; is = refl }) o (line_read-line x reads) in
     cases (granted-at h past x.addr x u.stands (line_read-chan x reads)) u (first_sender past x.addr) refl
   where
     reply : (v : Option ℕ) → first_sender past x.addr ≡ v

@@ -1,12 +1,12 @@
 -- Under the grant of a read of a line, while no port has sent data, memory was the value at a point since, or a port that holds the
 -- line dirty hasn't answered. Once the snoops of the read are done there is no such port.
 use Rattle.std.proofs.Common.{[], None, Option, Some, ap, arith, false, inl, inr, le_refl, length, nat_eq, option_and_then, refl, subst, sym, true, ℕ, ◌&&◌, ◌∙◌, ◌∷◌, ◌≡◌, ◌≤◌, ◌⊎◌}
-use Rattle.std.proofs.lemmas.Bool.{false_from_ne_true, or_left, and_from, and_parts, cases_Bool, eq-eqb, or_cases}
+use Rattle.std.proofs.lemmas.Bool.{false_from_ne_true, or_left, and_from, and_parts, cases_Bool, eq-eqb}
 use Rattle.std.specs.List.{AllByRecursion}
 use Rattle.ace_model.proofs.Terms.{has_failed, is_on, Answer, ArKind, Channel, Cr, Event, HasDirtyHolder, Header, I, FitsFields, IsAccepted, IsValueSafe, Read, SnoopKind, Trace, Transaction, answer_of}
 use Rattle.ace_model.proofs.Terms.{answers_grant, are_snoops_done, at_point, data_answers, first_sender, grant_place, granted, has_passed_data, is_clean_unique, is_dirty}
-use Rattle.ace_model.proofs.Terms.{is_exclusive_store, is_line_read_transaction, is_make_unique, is_no_snoop, is_no_snoop_read, is_no_snoop_write, is_read, is_some_and, is_write_line_unique}
-use Rattle.ace_model.proofs.Terms.{memory_of, outstanding, passed_to, read_kind, reads_a_line, replaces_line, snoop_kind_of, snoop_of, snoop_of_read, state_of, transfers_data, value_of, write_kind}
+use Rattle.ace_model.proofs.Terms.{is_exclusive_store, is_line_read_transaction, is_no_snoop, is_no_snoop_read, is_no_snoop_write, is_read, is_some_and}
+use Rattle.ace_model.proofs.Terms.{memory_of, outstanding, passed_to, read_kind, reads_a_line, may_lose_data, snoop_kind_of, snoop_of, snoop_of_read, state_of, transfers_data, value_of, write_kind}
 use Rattle.ace_model.proofs.Tables.Kinds.{read_invalid, reads_apart, reads_unsnooped}
 use Rattle.ace_model.proofs.Trace.Issued.{Stands, outstanding-named, transaction_of-stands}
 use Rattle.ace_model.proofs.Trace.Looks.{snoops_done-ports, is_on-addr}
@@ -14,7 +14,7 @@ use Rattle.ace_model.proofs.General.Options.{Some-injective, is_some_and-is}
 use Rattle.ace_model.proofs.Trace.Growth.{at_point-before, at_point-end}
 use Rattle.ace_model.proofs.Holders.Law.{accepted_holds}
 use Rattle.ace_model.proofs.Grants.Stays.{Stays, grant_place-low, granted_before}
-use Rattle.ace_model.proofs.Tables.SnoopRows.{is_make_invalid, dirty_sends}
+use Rattle.ace_model.proofs.Tables.SnoopRows.{is_make_invalid_snoop, dirty_sends}
 use Rattle.ace_model.proofs.Holders.FirstTransfer.{done_port}
 use Rattle.ace_model.proofs.Holders.ShareableLines.{no_snoop_unheld}
 use Rattle.ace_model.proofs.Grants.Granted.{has_passed, passes_of}
@@ -40,14 +40,13 @@ pub record DirtyUnanswered (h : Header) (past : Trace) (l : ℕ) : Type 0 where
   pub dirty : is_dirty (state_of h past port l) ≡ true
   pub unanswered : answer_of past port l ≡ None
 
--- a read of a line replaces none
-reads-replaces : (x : Transaction) → is_line_read_transaction x ≡ true → replaces_line x ≡ true → ⊥
-reads-replaces x reads replaces =
+-- a read of a line loses no data
+reads-lose : (x : Transaction) → is_line_read_transaction x ≡ true → may_lose_data x ≡ true → ⊥
+reads-lose x reads loses =
     let k = is_some_and-is (read_kind x) reads_a_line reads in
-    elim (or_cases (is_some_and (read_kind x) is_make_unique) (is_some_and (write_kind x) is_write_line_unique) replaces) [
-      | inl makes ↦ let made : is_make_unique k.0 ≡ true = rw k.1 at makes in let none = (reads_apart k.0 k.2).0 in cc
-      | inr writes ↦ let none : write_kind x ≡ None = rw (line_read-chan x reads) refl in let bad : false ≡ true = rw none at writes in cc
-    ]
+    let apart = reads_apart k.0 k.2 in
+    let none : write_kind x ≡ None = rw (line_read-chan x reads) refl in
+    let bad : false ≡ true = rw (k.1, none, apart.0, apart.2) at loses in cc
 
 module _ (h : Header) (past : Trace) where
   -- memory is the value now
@@ -81,7 +80,7 @@ module _ (h : Header) (past : Trace) where
                 | inl has ↦ absurd (none-passed a l x g has none)
                 | inr unpassed ↦ let bad : None ≡ Some (value_of past l) = rw unpassed at to in cc
               ]
-          | inr (inr (inr replaces)) ↦ absurd (reads-replaces x reads (rw g at replaces))
+          | inr (inr (inr loses)) ↦ absurd (reads-lose x reads (rw g at loses))
         ]
 
     -- a port that holds the line dirty sends it with its answer
@@ -91,9 +90,10 @@ module _ (h : Header) (past : Trace) where
         let n = new_answer h past e a q l w new in
         let k = is_some_and-is (read_kind x) reads_a_line reads in
         let causes : snoop_of_read k.0 ≡ Some n.1.kind = sym (ap (λ o. snoop_kind_of o (write_kind x)) k.1) ∙ new_causes h past q l w x n g in
-        let other : is_make_invalid n.1.kind ≡ false = false_from_ne_true (is_make_invalid n.1.kind) (λ t.
-        let makes = read_invalid k.0 (subst (λ o. is_some_and o is_make_invalid ≡ true) (sym causes) t) in
-        let none = (reads_apart k.0 k.2).0 in cc) in
+        let other : is_make_invalid_snoop n.1.kind ≡ false = false_from_ne_true (is_make_invalid_snoop n.1.kind) (λ t.
+        let makes = read_invalid k.0 (subst (λ o. is_some_and o is_make_invalid_snoop ≡ true) (sym causes) t) in
+        let apart = reads_apart k.0 k.2 in
+        let bad : false ≡ true = rw (apart.0, apart.2) at makes in cc) in
         dirty_sends n.1.kind (state_of h past q l) w.resp n.0 n.1.of_line n.1.row other dirty
 
 memory_or_holder : (h : Header) (past : Trace) → IsAccepted h past → AllByRecursion FitsFields past → (l : ℕ) (x : Transaction) → granted h past l ≡ Some x

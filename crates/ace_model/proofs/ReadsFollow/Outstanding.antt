@@ -44,4 +44,4 @@ line_read-on x reads = and_from (is_line x) (nat_eq x.addr x.addr) (line_read-li
 pub empty_while_read : (h : Header) (past : Trace) → IsAccepted h past → (p i : ℕ) (x : Transaction) → outstanding h past p Read i ≡ Some x
     → is_line_read_transaction x ≡ true → state_of h past p x.addr ≡ I
 empty_while_read h past a p i x o reads =
-    stays_empty h past a p Read i x.addr x o (line_read-on x reads) (or_left (is_line_read_transaction x) _ reads)
+    stays_empty h past a p Read i x.addr x o (line_read-on x reads) (inl reads)

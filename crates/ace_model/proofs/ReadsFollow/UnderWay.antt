@@ -1,60 +1,17 @@
 -- From its first beat on a read of a line is granted, no answer comes under its grant any more, and its reply stays the same.
-use Rattle.std.proofs.Common.{length, [], ap, None, Option, Some, false, inl, inr, nat_eq, option_and_then, option_map, refl, subst, sym, true, ℕ, ◌∙◌, ◌∷◌, ◌≡◌, ◌≢◌}
+use Rattle.std.proofs.Common.{ap, None, Option, Some, false, inl, inr, nat_eq, option_and_then, option_map, refl, subst, sym, true, ℕ, ◌∙◌, ◌∷◌, ◌≡◌, ◌≢◌}
 use Rattle.std.proofs.Math.Bool.{and-false}
 use Rattle.std.proofs.lemmas.Bool.{false_from_ne_true, and_from, cases_eq, eq-eqb, ne_eqb}
-use Rattle.ace_model.proofs.Terms.{is_named, issued, Answer, Cr, Event, Header, IsAccepted, Read, Trace, Transaction, answer_at, answer_of, answers, answers_grant, are_snoops_done, at_point}
-use Rattle.ace_model.proofs.Terms.{copy_at_answer, copy_of, first_sender, gives_line, granted, is_begun, is_line_read_transaction, is_read, memory_at_first_beat, outstanding, reply_of, sender_at}
+use Rattle.ace_model.proofs.Terms.{Answer, Cr, Event, Header, IsAccepted, Read, Trace, Transaction, answer_at, answer_of, answers, answers_grant, at_point}
+use Rattle.ace_model.proofs.Terms.{copy_at_answer, copy_of, first_sender, gives_line, granted, is_begun, is_line_read_transaction, memory_at_first_beat, outstanding, reply_of, sender_at}
 use Rattle.ace_model.proofs.Terms.{transfers, transfers_data}
 use Rattle.ace_model.proofs.Trace.Issued.{outstanding-origin, outstanding-name}
 use Rattle.ace_model.proofs.General.Options.{Some-injective, newer-none}
-use Rattle.ace_model.proofs.Grants.Stays.{gives_none, granted_after}
-use Rattle.ace_model.proofs.Grants.Begins.{line_due}
-use Rattle.ace_model.proofs.Grants.Granted.{granted_at}
+use Rattle.ace_model.proofs.Grants.Stays.{gives_none}
 use Rattle.ace_model.proofs.Grants.Pending.{answering, snoops}
-use Rattle.ace_model.proofs.Values.FullReads.{issue_transfers, Transfer, transfer_moves}
+use Rattle.ace_model.proofs.Values.FullReads.{issue_transfers, first-transfer, under_way, begun_read}
 use Rattle.ace_model.proofs.Values.Stays.{copy_at-old}
 use Rattle.ace_model.proofs.ReadsFollow.Outstanding.{line_read-line}
-
--- a name that has its first transfer with the event
-pub first-transfer : (e : Event) (past : Trace) (p i : ℕ) → is_named (issued (length past) e) p Read i ≡ false → transfers past p i ≡ 0 → transfers (e ∷ past) p i ≢ 0 → Transfer e p i
-first-transfer e past p i other none some =
-    elim (transfer_moves past e p i other) [
-      | inl same ↦ absurd (some (same.count ∙ none))
-      | inr t ↦ t
-    ]
-
--- What the rule on transfers says of a read of a line.
-pub record BeatDue (h : Header) (past : Trace) (p i : ℕ) (x : Transaction) : Type 0 where
-  pub stands : granted h past x.addr ≡ Some x
-  pub done : transfers past p i ≡ 0 → are_snoops_done h past x ≡ true
-
-pub beat_due : (h : Header) (past : Trace) (p i : ℕ) (x : Transaction) (e : Event) → IsAccepted h (e ∷ past) → Transfer e p i
-    → outstanding h past p Read i ≡ Some x → is_line_read_transaction x ≡ true → BeatDue h past p i x
-beat_due h past p i x e a b o reads =
-    let t = line_due h past p i b.resp b.last b.word (subst (λ (v : Event). IsAccepted h (v ∷ past)) b.is a) x o (line_read-line x reads) in
-    let n = outstanding-name h past p Read i x o in
-    record {
-      stands = granted_at h past a.0 p Read i x o t.stands;
-      done = λ none. t.first (eq-eqb (transfers past x.port x.id) 0 (ap (λ v. transfers past v x.id) n.port ∙ ap (transfers past p) n.id ∙ none));
-    }
-
--- a read of a line that has had a beat is granted
-under_way : (h : Header) (past : Trace) → IsAccepted h past → (p i : ℕ) (x : Transaction) → outstanding h past p Read i ≡ Some x
-    → is_line_read_transaction x ≡ true → transfers past p i ≢ 0 → granted h past x.addr ≡ Some x
-under_way h [] a p i x o reads some = cc
-under_way h (e ∷ past) a p i x o reads some =
-    elim (outstanding-origin h past e p Read i x o) [
-      | inl new ↦ absurd (some (issue_transfers past e p i x new.0 new.1))
-      | inr old ↦
-          let was : granted h past x.addr ≡ Some x = elim (cases_eq (transfers past p i) 0) [
-            | inr earlier ↦ under_way h past a.0 p i x old.was reads earlier
-            | inl none ↦ (beat_due h past p i x e a (first-transfer e past p i old.other none some) old.was reads).stands
-          ] in
-          elim (granted_after h past e a x.addr x was) [
-            | inl stays ↦ stays.is
-            | inr ends ↦ absurd (old.lasts ends.0 ends.1 ends.2)
-          ]
-    ]
 
 -- The event leaves the grant of the line and the answers under it.
 record LeavesAnswers (past : Trace) (e : Event) (l : ℕ) : Type 0 where
@@ -86,12 +43,6 @@ module _ (h : Header) (past : Trace) (x : Transaction) where
       sender (Cr p resp st) = rw (none p, and-false (transfers_data resp)) refl
       sender d = refl
 
-  begun : (p i : ℕ) → outstanding h past p Read i ≡ Some x → transfers past p i ≢ 0 → is_begun past x ≡ true
-  begun p i o some =
-      let n = outstanding-name h past p Read i x o in
-      let count : transfers past x.port x.id ≡ transfers past p i = ap (λ v. transfers past v x.id) n.port ∙ ap (transfers past p) n.id in
-      rw (ap is_read n.chan) (rw count (rw (ne_eqb (transfers past p i) 0 some) refl))
-
   -- the reply to a read that is under way
   pub reply-stays : (e : Event) (p i : ℕ) → IsAccepted h (e ∷ past) → outstanding h (e ∷ past) p Read i ≡ Some x
       → is_line_read_transaction x ≡ true → transfers (e ∷ past) p i ≢ 0 → reply_of (e ∷ past) x ≡ reply_of past x
@@ -99,7 +50,7 @@ module _ (h : Header) (past : Trace) (x : Transaction) where
       elim (outstanding-origin h past e p Read i x o) [
         | inl new ↦ absurd (some (issue_transfers past e p i x new.0 new.1))
         | inr old ↦ elim (cases_eq (transfers past p i) 0) [
-          | inr earlier ↦ same (leaves_answers e a (under_way h past a.0 p i x old.was reads earlier) (begun p i old.was earlier))
+          | inr earlier ↦ same (leaves_answers e a (under_way h past a.0 p i x old.was (line_read-line x reads) earlier) (begun_read h past p i x old.was earlier))
           | inl none ↦
               let b = first-transfer e past p i old.other none some in
               same (subst (λ (v : Event). LeavesAnswers past v x.addr) (sym b.is) (record { gives = refl; answer = λ q. refl; sender = refl }))

@@ -2,11 +2,11 @@
 use Rattle.std.proofs.Common.{None, Some, ◌≡◌, ◌⊎◌, Bool, true, false, ◌||◌, refl, inl, inr, ◌≢◌, arith}
 use Rattle.ace_model.proofs.Terms.{SnoopKind, is_line_read, is_no_snoop_read}
 use Rattle.ace_model.proofs.Terms.{ArKind, AwKind, LineState, UC, UD, is_fetch, snoop_of_read, snoop_of_write, starts_write, is_invalid, is_dirty, is_some_and, reads_a_line, beats_of, is_lite_read}
-use Rattle.ace_model.proofs.Terms.{is_clean_unique, is_make_unique, is_update, has_write_data, is_unique_write, is_no_snoop_write, is_write_line_unique, is_granted_write, is_line_write}
+use Rattle.ace_model.proofs.Terms.{is_clean_unique, is_make_invalid, is_make_unique, is_update, has_write_data, is_unique_write, is_no_snoop_write, is_write_line_unique, is_granted_write, is_line_write}
 use Rattle.ace_codes.specs.declared.kind.ArKind.TheVariants as read
 use Rattle.ace_codes.specs.declared.kind.AwKind.TheVariants as write
 use Rattle.ace_model.proofs.Tables.States.{invalidates, shares_line}
-use Rattle.ace_model.proofs.Tables.SnoopRows.{is_make_invalid}
+use Rattle.ace_model.proofs.Tables.SnoopRows.{is_make_invalid_snoop}
 use Rattle.ace_model.proofs.Tables.ReadEnds.{takes_alone, takes_shared}
 
 -- A read that fetches a line to keep.
@@ -16,14 +16,15 @@ pub record Fetch (k : ArKind) : Type 0 where
   pub beats : beats_of k ≡ 4
   pub cleans : is_clean_unique k ≡ false
   pub makes : is_make_unique k ≡ false
+  pub discards : is_make_invalid k ≡ false
   pub snoops : is_some_and (snoop_of_read k) (λ s. invalidates s || shares_line s) ≡ true
   pub takes : (shared failed : Bool) → (takes_alone k shared failed ≡ true) ⊎ (takes_shared k ≡ true)
 
 pub fetch_is : (k : ArKind) → is_fetch k ≡ true → Fetch k
-fetch_is read.ReadClean f = record { full = refl; reads = refl; beats = refl; cleans = refl; makes = refl; snoops = refl; takes = λ s f. inr refl }
-fetch_is read.ReadNotSharedDirty f = record { full = refl; reads = refl; beats = refl; cleans = refl; makes = refl; snoops = refl; takes = λ s f. inr refl }
-fetch_is read.ReadShared f = record { full = refl; reads = refl; beats = refl; cleans = refl; makes = refl; snoops = refl; takes = λ s f. inr refl }
-fetch_is read.ReadUnique f = record { full = refl; reads = refl; beats = refl; cleans = refl; makes = refl; snoops = refl; takes = λ s f. inl refl }
+fetch_is read.ReadClean f = record { full = refl; reads = refl; beats = refl; cleans = refl; makes = refl; discards = refl; snoops = refl; takes = λ s f. inr refl }
+fetch_is read.ReadNotSharedDirty f = record { full = refl; reads = refl; beats = refl; cleans = refl; makes = refl; discards = refl; snoops = refl; takes = λ s f. inr refl }
+fetch_is read.ReadShared f = record { full = refl; reads = refl; beats = refl; cleans = refl; makes = refl; discards = refl; snoops = refl; takes = λ s f. inr refl }
+fetch_is read.ReadUnique f = record { full = refl; reads = refl; beats = refl; cleans = refl; makes = refl; discards = refl; snoops = refl; takes = λ s f. inl refl }
 fetch_is k f = cc
 
 -- every read has a transfer
@@ -34,6 +35,10 @@ beats_some k e = absurd (omega (arith, e))
 pub make_unique_is : (k : ArKind) → is_make_unique k ≡ true → k ≡ read.MakeUnique
 make_unique_is read.MakeUnique e = refl
 make_unique_is k e = cc
+
+pub make_invalid_is : (k : ArKind) → is_make_invalid k ≡ true → k ≡ read.MakeInvalid
+make_invalid_is read.MakeInvalid e = refl
+make_invalid_is k e = cc
 
 -- updates of a dirty line; writes that tell of a clean one
 abbrev pub is_dirty_update : AwKind → Bool
@@ -83,11 +88,11 @@ unique_write_snoops write.WriteBack u = cc
 unique_write_snoops k u = cc
 
 -- what makes the other copies invalid at once is a MakeUnique, a WriteLineUnique or a MakeInvalid
-pub read_invalid : (k : ArKind) → is_some_and (snoop_of_read k) is_make_invalid ≡ true → is_make_unique k ≡ true
+pub read_invalid : (k : ArKind) → is_some_and (snoop_of_read k) is_make_invalid_snoop ≡ true → (is_make_unique k || is_make_invalid k) ≡ true
 read_invalid read.ReadOnce t = cc
 read_invalid k t = cc
 
-pub write_invalid : (k : AwKind) → is_some_and (snoop_of_write k) is_make_invalid ≡ true → is_write_line_unique k ≡ true
+pub write_invalid : (k : AwKind) → is_some_and (snoop_of_write k) is_make_invalid_snoop ≡ true → is_write_line_unique k ≡ true
 write_invalid write.WriteBack t = cc
 write_invalid k t = cc
 
@@ -115,10 +120,11 @@ reads_line read.DvmComplete t = cc
 reads_line read.Barrier t = cc
 reads_line k t = refl
 
-pub reads_apart : (k : ArKind) → reads_a_line k ≡ true → (is_make_unique k ≡ false) × (is_clean_unique k ≡ false)
+pub reads_apart : (k : ArKind) → reads_a_line k ≡ true → (is_make_unique k ≡ false) × (is_clean_unique k ≡ false) × (is_make_invalid k ≡ false)
 reads_apart read.MakeUnique t = cc
 reads_apart read.CleanUnique t = cc
-reads_apart k t = (refl, refl)
+reads_apart read.MakeInvalid t = cc
+reads_apart k t = (refl, refl, refl)
 
 pub reads_unsnooped : (k : ArKind) → reads_a_line k ≡ true → snoop_of_read k ≡ None → is_no_snoop_read k ≡ true
 reads_unsnooped read.ReadNoSnoop t e = refl

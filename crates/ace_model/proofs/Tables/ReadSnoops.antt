@@ -1,11 +1,13 @@
 -- The snoops that the kinds of reads cause, and what they leave to the ports that answer them.
-use Rattle.std.proofs.Common.{◌≡◌, Bool, true, false, Some, refl, inl, inr, not, ◌||◌, ap, ◌⊎◌, None}
-use Rattle.ace_model.proofs.Terms.{ArKind, SnoopKind, snoop_of_read, may_be_shared, is_clean_unique, LineState, ac_code, ac_kind_of, is_unique, takes_passed_data, Transaction, is_no_snoop_read, is_read, read_kind, write_kind, is_no_snoop}
+use Rattle.std.proofs.Common.{◌≡◌, Bool, true, false, Some, refl, inl, inr, not, ◌||◌, ap, ◌⊎◌, None, ◌∙◌}
+use Rattle.ace_model.proofs.Terms.{ArKind, SnoopKind, snoop_of_read, may_be_shared, is_clean_unique, LineState, ac_code, ac_kind_of, is_unique, takes_passed_data, Transaction, is_no_snoop_read, is_read, read_kind, write_kind, is_no_snoop, discards_data, is_make_invalid, snoop_of, snoop_kind_of}
 use Rattle.ace_model.proofs.Tables.States.{shares_line, invalidates, Leaves}
 use Rattle.ace_model.proofs.Tables.ReadEnds.{takes_alone, takes_shared}
 use Rattle.ace_codes.specs.declared.kind.ArKind.TheVariants as read
 use Rattle.ace_codes.specs.declared.kind.SnoopKind.TheVariants as snoop
 use Rattle.std.proofs.lemmas.Bool.{or_cases, or_right, cases_Bool}
+use Rattle.ace_model.proofs.Tables.Kinds.{make_invalid_is}
+use Rattle.ace_model.proofs.General.Options.{is_some_and-is}
 
 -- The snoop of a read that may end in a unique state leaves the other ports with nothing, or the response says IsShared where
 -- it doesn't.
@@ -73,3 +75,11 @@ read_snoops x k is snoops =
           rw (is, none) (rw snoops refl)
       | inr writes ↦ let bad : None ≡ Some k = rw writes at is in cc
     ]
+
+-- what gives up data that are newer than memory is a MakeInvalid, and is snooped as one
+pub discards_kind : (x : Transaction) → discards_data x ≡ true → read_kind x ≡ Some read.MakeInvalid
+discards_kind x t =
+    let k = is_some_and-is (read_kind x) is_make_invalid t in k.1 ∙ ap (λ v. Some v) (make_invalid_is k.0 k.2)
+
+pub discards_causes : (x : Transaction) → discards_data x ≡ true → snoop_of x ≡ Some snoop.MakeInvalid
+discards_causes x t = ap (λ o. snoop_kind_of o (write_kind x)) (discards_kind x t)

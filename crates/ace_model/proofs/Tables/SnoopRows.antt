@@ -6,9 +6,9 @@ use Rattle.ace_model.proofs.Terms.{goes_with_update, is_line_row, is_plain_row, 
 use Rattle.ace_codes.specs.declared.kind.SnoopKind.TheVariants as snoop
 use Rattle.ace_model.proofs.Tables.LineRow.{line_row}
 
-abbrev pub is_make_invalid : SnoopKind → Bool
-is_make_invalid snoop.MakeInvalid = true
-is_make_invalid _ = false
+abbrev pub is_make_invalid_snoop : SnoopKind → Bool
+is_make_invalid_snoop snoop.MakeInvalid = true
+is_make_invalid_snoop _ = false
 
 -- a port that holds the line answers a line snoop by a row of a line
 pub held_row : (k : SnoopKind) (held : LineState) (update : Bool) (resp : ℕ) (next : LineState) → is_line_snoop k ≡ true → is_invalid held ≡ false
@@ -28,23 +28,23 @@ dirty_held UD e = refl
 dirty_held SD e = refl
 dirty_held held e = cc
 
-dirty_transfers : (k : SnoopKind) (held : LineState) (transfer : Bool) → is_make_invalid k ≡ false → is_dirty held ≡ true → fits_transfer k held transfer ≡ true → transfer ≡ true
+dirty_transfers : (k : SnoopKind) (held : LineState) (transfer : Bool) → is_make_invalid_snoop k ≡ false → is_dirty held ≡ true → fits_transfer k held transfer ≡ true → transfer ≡ true
 dirty_transfers snoop.MakeInvalid held transfer m d f = cc
 dirty_transfers k held transfer m d f = rw d at f
 
-must_stay : (k : SnoopKind) (held next : LineState) → is_make_invalid k ≡ false → is_dirty held ≡ true → must_pass_dirty k held next ≡ false → is_dirty next ≡ true
+must_stay : (k : SnoopKind) (held next : LineState) → is_make_invalid_snoop k ≡ false → is_dirty held ≡ true → must_pass_dirty k held next ≡ false → is_dirty next ≡ true
 must_stay snoop.MakeInvalid held next m d f = cc
 must_stay k held next m d f = not-false (is_dirty next) (rw d at f)
 
 -- a dirty line is sent
 pub dirty_sends : (k : SnoopKind) (held : LineState) (resp : ℕ) (next : LineState) → is_line_snoop k ≡ true → is_snoop_row k held false resp next ≡ true
-    → is_make_invalid k ≡ false → is_dirty held ≡ true → transfers_data resp ≡ true
+    → is_make_invalid_snoop k ≡ false → is_dirty held ≡ true → transfers_data resp ≡ true
 dirty_sends k held resp next line e m d =
     dirty_transfers k held (transfers_data resp) m d (line_row k held false resp next (held_row k held false resp next line (dirty_held held d) e)).transfer
 
 -- a dirty line that isn't passed on stays dirty
 pub dirty_stays : (k : SnoopKind) (held : LineState) (update : Bool) (resp : ℕ) (next : LineState) → is_line_snoop k ≡ true → is_snoop_row k held update resp next ≡ true
-    → is_make_invalid k ≡ false → is_dirty held ≡ true → passes_dirty resp ≡ false → is_dirty next ≡ true
+    → is_make_invalid_snoop k ≡ false → is_dirty held ≡ true → passes_dirty resp ≡ false → is_dirty next ≡ true
 dirty_stays k held update resp next line e m d p =
     must_stay k held next m d (sym (line_row k held update resp next (held_row k held update resp next line (dirty_held held d) e)).pass ∙ p)
 
@@ -59,7 +59,7 @@ sends_held k resp next e t =
 pub record Beside (k : SnoopKind) (resp : ℕ) (next : LineState) : Type 0 where
   pub keeps : is_invalid next ≡ false
   pub no_pass : passes_dirty resp ≡ false
-  pub no_make : is_make_invalid k ≡ false
+  pub no_make : is_make_invalid_snoop k ≡ false
 
 pub beside_update : (k : SnoopKind) (held : LineState) (resp : ℕ) (next : LineState) → is_line_snoop k ≡ true → is_invalid held ≡ false
     → is_snoop_row k held true resp next ≡ true → Beside k resp next
@@ -73,7 +73,7 @@ beside_update k held resp next line v e =
       no_make = make k two.0;
     }
   where
-    make : (k : SnoopKind) → goes_with_update k ≡ true → is_make_invalid k ≡ false
+    make : (k : SnoopKind) → goes_with_update k ≡ true → is_make_invalid_snoop k ≡ false
     make snoop.MakeInvalid g = cc
     make k g = refl
 
@@ -84,7 +84,7 @@ silent_dirty held next e d = cc
 
 -- a line is not passed on to a snoop that makes it invalid
 pub passes_other : (k : SnoopKind) (held : LineState) (resp : ℕ) (next : LineState) → is_line_snoop k ≡ true → is_snoop_row k held false resp next ≡ true
-    → passes_dirty resp ≡ true → is_dirty held ≡ true → is_make_invalid k ≡ false
+    → passes_dirty resp ≡ true → is_dirty held ≡ true → is_make_invalid_snoop k ≡ false
 passes_other snoop.MakeInvalid held resp next line e p d =
     let pass = (line_row snoop.MakeInvalid held false resp next (held_row snoop.MakeInvalid held false resp next line (dirty_held held d) e)).pass in
     let bad : false ≡ true = sym pass ∙ p in cc

@@ -12,6 +12,9 @@ pub read_starts : (k : ArKind) (st : LineState) → reads_a_line k ≡ true → 
 read_starts read.Barrier st r s = cc
 read_starts k st r s = first_of (cc, search only_invalid)
 
+pub discard_starts : (st : LineState) → starts_read read.MakeInvalid st ≡ true → st ≡ I
+discard_starts st s = only_invalid st s
+
 pub write_starts : (k : AwKind) (st : LineState) → is_granted_write k ≡ true → starts_write k st ≡ true → st ≡ I
 write_starts write.Barrier st r s = cc
 write_starts k st r s = first_of (cc, search only_invalid)

@@ -1,8 +1,8 @@
 -- The copies of the ports that hold a line stay its value.
 use Rattle.std.proofs.Common.{◌==◌, length, ◌≡◌, ◌⊎◌, ℕ, Bool, true, false, ◌&&◌, nat_eq, ◌∷◌, Some, refl, sym, ap, subst, ◌∙◌, inl, inr}
-use Rattle.std.proofs.lemmas.Bool.{and_parts, or_left, cases_Bool, eqb-true, eq-eqb}
+use Rattle.std.proofs.lemmas.Bool.{and_parts, cases_Bool, eqb-true, eq-eqb}
 use Rattle.std.proofs.Math.Bool.{and-false}
-use Rattle.ace_model.proofs.Terms.{LineState, I, Read, Event, R, Rk, M, Mem, D, Header, Line, merged, is_invalid, is_unique, Transaction, Trace, is_some_and, is_granted_write, is_on, write_kind, outstanding}
+use Rattle.ace_model.proofs.Terms.{LineState, I, Read, Event, R, Rk, M, Mem, D, Header, Line, merged, is_invalid, is_unique, Transaction, Trace, is_some_and, is_on, outstanding}
 use Rattle.ace_model.proofs.Terms.{words_read, transaction_of, state_of, is_line_read_transaction, copy_of, value_of, IsAccepted, AreCopiesTrue}
 use Rattle.ace_model.proofs.Trace.Opening.{opens_of}
 use Rattle.ace_model.proofs.Tables.States.{valid_not, invalid_not, unique_valid}
@@ -11,7 +11,7 @@ use Rattle.ace_model.proofs.Holders.Acknowledge.{is_named_by_rk}
 use Rattle.ace_model.proofs.Holders.Rises.{state_moves, stays_empty, ends_line_of}
 use Rattle.ace_model.proofs.Grants.Begins.{may_of}
 use Rattle.ace_model.proofs.Values.MergedLines.{merged-same}
-use Rattle.ace_model.proofs.Values.Stores.{stores_d, value_moves, all_empty}
+use Rattle.ace_model.proofs.Values.Stores.{stores_d, value_moves, unheld_of, all_empty}
 use Rattle.ace_model.proofs.Trace.Transfers.{full_some, full_count}
 use Rattle.ace_model.proofs.Values.Facts.{DirtyPlaced}
 use Rattle.ace_model.proofs.Holders.Law.{accepted_holds}
@@ -132,14 +132,20 @@ module _ (h : Header) (past : Trace) where
         | inl same ↦ f.copies l p held ∙ sym same
         | inr (inl d) ↦ let is = d.is in cc
         | inr (inr (inl d)) ↦ let is = d.is in cc
-        | inr (inr (inr (inl w))) ↦ absurd (held (all_empty h past a.0 w.port w.chan w.id l w.by p))
+        | inr (inr (inr (inl by))) ↦ absurd (held (all_empty h past a.0 l (unheld_of h past (M q c j line) l by) p))
         | inr (inr (inr (inr m))) ↦ let is = m.is in cc
       ]
   copies_step (R q j resp last word) a f l p held =
       elim (copy_moves (R q j resp last word) a p l) [
-        | inl kept ↦ kept ∙ f.copies l p held
+        | inl kept ↦ elim (value_moves h past (R q j resp last word) a l) [
+          | inl same ↦ kept ∙ f.copies l p held ∙ sym same
+          | inr (inl d) ↦ let is = d.is in cc
+          | inr (inr (inl d)) ↦ let is = d.is in cc
+          | inr (inr (inr (inl by))) ↦ absurd (held (all_empty h past a.0 l (unheld_of h past (R q j resp last word) l by) p))
+          | inr (inr (inr (inr m))) ↦ let is = m.is in cc
+        ]
         | inr (inl r) ↦
-            absurd (held (stays_empty h past a.0 p Read r.id l r.one r.out r.on (or_left (is_line_read_transaction r.one) (is_some_and (write_kind r.one) is_granted_write) r.reads)))
+            absurd (held (stays_empty h past a.0 p Read r.id l r.one r.out r.on (inl r.reads)))
         | inr (inr d) ↦ let is = d.is in cc
       ]
   copies_step (Rk q st) a f l p held =

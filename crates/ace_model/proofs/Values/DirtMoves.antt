@@ -2,7 +2,7 @@
 use Rattle.std.proofs.Common.{◌≡◌, ◌⊎◌, ℕ, true, false, ◌&&◌, ◌||◌, nat_eq, ◌∷◌, Some, None, refl, sym, ap, subst, inl, inr}
 use Rattle.std.proofs.lemmas.Bool.{and_parts, or_cases, or_left, or_right, cases_Bool, eqb-true}
 use Rattle.ace_model.proofs.Terms.{is_make_unique, AwKind, LineState, Write, Event, Rk, Wk, Cr, S, D, Header, is_dirty, Transaction, Trace, is_some_and, is_line_read, is_line_write, is_granted_write}
-use Rattle.ace_model.proofs.Terms.{is_line, is_some_on, read_kind, write_kind, acknowledged, answers_line, state_of, is_line_read_transaction, IsAccepted}
+use Rattle.ace_model.proofs.Terms.{is_line, is_some_on, read_kind, write_kind, acknowledged, answers_line, state_of, IsAccepted}
 use Rattle.ace_model.proofs.Tables.Kinds.{is_dirty_update, is_clean_write, write_kinds, update_data, dirty_updates}
 use Rattle.ace_model.proofs.Holders.Stores.{is_named_by_d}
 use Rattle.ace_model.proofs.Holders.Acknowledge.{is_named_by_rk}
@@ -47,7 +47,7 @@ module _ (h : Header) (past : Trace) where
         ]
         | inr granted ↦
             let empty = stays_empty h past a.0 p Write w.id l w.one w.out w.on
-            (or_right (is_line_read_transaction w.one) (is_some_and (write_kind w.one) is_granted_write) (rw k.1 granted)) in
+            (inr (inl (rw k.1 granted))) in
             absurd (dirty_valid (state_of h past p l) d empty)
       ]
 

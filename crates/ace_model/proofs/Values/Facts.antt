@@ -1,8 +1,8 @@
 -- What holds at each point of an accepted trace, beside the law that data newer than memory have a place, and makes it inductive.
 use Rattle.std.proofs.Common.{◌≡◌, ◌≢◌, ◌⊎◌, ℕ, true, false, Some, slice_get}
-use Rattle.ace_model.proofs.Terms.{ArKind, I, passes_dirty, transfers_data, Header, Read, Write, is_fetch, is_dirty, Answer, Transaction, Trace, at_point, is_some_and, is_read, is_on, read_kind}
-use Rattle.ace_model.proofs.Terms.{write_kind, outstanding, transfers, updates_memory, has_memory_write, granted, answer_of, has_passed_data, state_of, has_store, words_read, word_of, copy_of}
-use Rattle.ace_model.proofs.Terms.{memory_of, reply_of, Beat, burst_of, value_of, AreCopiesTrue, IsValueSafe}
+use Rattle.ace_model.proofs.Terms.{ArKind, I, passes_dirty, transfers_data, Header, Read, Write, is_fetch, is_dirty, Answer, Transaction, Trace, at_point, is_some_and, is_on, read_kind}
+use Rattle.ace_model.proofs.Terms.{write_kind, outstanding, transfers, updates_memory, has_memory_write, granted, is_begun, answer_of, has_passed_data, state_of, has_store, words_read, word_of, copy_of}
+use Rattle.ace_model.proofs.Terms.{memory_of, reply_of, Beat, burst_of, stores_data, discards_data, value_of, AreCopiesTrue, IsValueSafe}
 use Rattle.ace_codes.specs.declared.kind.ArKind.TheVariants as read
 use Rattle.ace_model.proofs.Tables.Kinds.{is_dirty_update}
 
@@ -36,14 +36,17 @@ MadeTrue h past =
     (p i l : ℕ) (x : Transaction) → outstanding h past p Read i ≡ Some x → is_on x l ≡ true → read_kind x ≡ Some read.MakeUnique
     → has_store h past p i ≡ true → copy_of past p l ≡ value_of past l
 
--- Once a granted write has written memory, memory is the value and no port holds the line.
+-- The transaction stores to its line where no port holds it: a write that stores, or a MakeInvalid.
+abbrev pub StoresUnheld : Transaction → Type 0
+StoresUnheld x = (stores_data x ≡ true) ⊎ (discards_data x ≡ true)
+
+-- Once such a granted transaction has had its M or its transfer, memory is the value and no port holds the line.
 pub record Quiet (h : Header) (past : Trace) (l : ℕ) : Type 0 where
   pub stored : memory_of past l ≡ value_of past l
   pub nowhere : (p : ℕ) → state_of h past p l ≡ I
 
-abbrev pub WrittenTrue : Header → Trace → Type 0
-WrittenTrue h past =
-    (l : ℕ) (x : Transaction) → granted h past l ≡ Some x → is_read x.chan ≡ false → has_memory_write past x.port x.chan x.id ≡ true → Quiet h past l
+abbrev pub BegunTrue : Header → Trace → Type 0
+BegunTrue h past = (l : ℕ) (x : Transaction) → granted h past l ≡ Some x → StoresUnheld x → is_begun past x ≡ true → Quiet h past l
 
 -- The words of an outstanding memory update are those of the value.
 abbrev pub UpdatesTrue : Header → Trace → Type 0
@@ -68,6 +71,6 @@ pub record DirtyPlaced (h : Header) (past : Trace) : Type 0 where
   pub sent : SentTrue h past
   pub fetches : FetchesTrue h past
   pub made : MadeTrue h past
-  pub written : WrittenTrue h past
+  pub begun : BegunTrue h past
   pub updates : UpdatesTrue h past
   pub updated : UpdatedTrue h past

@@ -2,8 +2,8 @@
 use Rattle.std.proofs.Common.{◌≡◌, ◌≢◌, ◌==◌, ℕ, ◌+◌, Bool, true, false, ◌&&◌, nat_eq, [], ◌∷◌, ◌++◌, length, Some, None, slice_get, refl, sym, ap, subst, ◌∙◌, arith, inl, inr}
 use Rattle.std.proofs.lemmas.Bool.{and_parts, and_from, or_cases, cases_eq, eqb-true, eq-eqb, ne_eqb}
 use Rattle.std.specs.List.{AllByRecursion}
-use Rattle.ace_model.proofs.Terms.{ArKind, FitsFields, ar_kind_of, Event, Ar, R, Aw, Read, Header, is_fetch, is_unique, Transaction, Trace, is_lite_read}
-use Rattle.ace_model.proofs.Terms.{first_sender, memory_at_first_beat, reply_of, value_of, may_issue_read, has_word, IsAccepted}
+use Rattle.ace_model.proofs.Terms.{ArKind, FitsFields, ar_kind_of, Event, Ar, R, Aw, Read, Header, is_fetch, is_unique, Transaction, Trace, is_some_and, is_make_invalid, is_lite_read}
+use Rattle.ace_model.proofs.Terms.{first_sender, memory_at_first_beat, reply_of, value_of, may_issue_read, has_word, discards_data, copy_of, IsAccepted}
 use Rattle.ace_model.proofs.Terms.{is_ace, is_line, has_name, read_kind, issued, ended, transfers, outstanding, granted, has_failed, state_of, is_line_read_transaction, words_read, word_of}
 use Rattle.ace_model.proofs.Trace.Looks.{has_name-is, is_on-addr, without-some}
 use Rattle.ace_model.proofs.Trace.Issued.{outstanding-named, outstanding-name, outstanding-origin}
@@ -18,7 +18,7 @@ use Rattle.ace_model.proofs.Grants.Stays.{gives_none}
 use Rattle.ace_model.proofs.Values.MergedLines.{value-length, whole_line}
 use Rattle.ace_model.proofs.Values.Stores.{stores_d}
 use Rattle.ace_model.proofs.Values.Copies.{copy_moves}
-use Rattle.ace_model.proofs.Values.Stays.{value_stays, made_apart, sent_step, none_may_store, read_no_write}
+use Rattle.ace_model.proofs.Values.Stays.{value_stays, made_apart, sent_step, none_may_store, read_no_store}
 use Rattle.ace_model.proofs.Values.Replies.{sender_before, reply_true, memory_true}
 use Rattle.ace_model.proofs.Values.Replies.{memory-before}
 use Rattle.ace_model.proofs.Values.Facts.{SentTrue, Fetches, FetchesTrue, DirtyPlaced}
@@ -101,7 +101,7 @@ module _ (h : Header) (past : Trace) where
             | inl alone ↦ let gone = r.alone k kind alone q apart in let bad = sym (ap is_unique gone) ∙ unique in cc
             | inr shared ↦ let beside = r.beside k kind shared q apart in cc
           ]) in
-          let value = value_stays h past e a l x g no_port (made_apart h past l x k kind fetch) (read_no_write h past x k l kind) in
+          let value = value_stays h past e a l x g no_port (made_apart h past l x k kind fetch) (read_no_store h past x k l kind tables.discards) in
           let known = f.fetches p i l x k was on kind fetch before in
           let some_named : nat_eq (transfers (e ∷ past) x.port x.id) 0 ≡ false = rw (name.port, name.id) (ne_eqb (transfers (e ∷ past) p i) 0 some) in
           record {
@@ -126,6 +126,9 @@ module _ (h : Header) (past : Trace) where
       arrives resp last word b was out =
           let t = R p i resp last word ∷ past in
           let name = outstanding-name h past p Read i x was in
+          let named = outstanding-named h past p Read i x was in
+          let keeps : discards_data x ≡ false = ap (λ o. is_some_and o is_make_invalid) kind ∙ tables.discards in
+          let value : value_of t l ≡ value_of past l = rw (named, keeps) refl in
           let own : (nat_eq p p && nat_eq i i) ≡ true = and_from _ _ (eq-eqb p p refl) (eq-eqb i i refl) in
           let count : transfers t p i ≡ transfers past p i + 1 = rw own refl in
           let more_words : words_read t p i ≡ words_read past p i ++ word ∷ [] = rw own refl in
@@ -154,13 +157,13 @@ module _ (h : Header) (past : Trace) where
           ] in
           let some_named : nat_eq (transfers t x.port x.id) 0 ≡ false = rw (name.port, name.id, own) (ne_eqb (transfers past p i + 1) 0 (λ q. absurd (omega (arith, q)))) in
           record {
-            replies = reply_next (R p i resp last word) b (sent_step h past (R p i resp last word) b f) l x k g g' addr kind fetch refl some_named replies;
-            words = words;
+            replies = reply_next (R p i resp last word) b (sent_step h past (R p i resp last word) b f) l x k g g' addr kind fetch value some_named replies;
+            words = λ n v is. words n v is ∙ ap (λ b. word_of b n) (sym value);
             whole = λ four.
                 let three : transfers past p i + 1 ≡ 4 = sym count ∙ four in
                 let fourth : (length (words_read past p i) == 3) ≡ true = eq-eqb _ 3 (words-length past p i ∙ omega (arith, three)) in
-                let named = outstanding-named h past p Read i x was in
                 let whole : record { words = words_read past p i ++ word ∷ [] } ≡ value_of past l = whole_line (words_read past p i ++ word ∷ []) (value_of past l)
                 (ap length (sym more_words) ∙ words-length t p i ∙ four) (value-length past l fits) (λ n v is. words n v (ap (λ ws. slice_get ws n) more_words ∙ is)) in
-                rw (eq-eqb p p refl, fourth, named, on, reads) whole;
+                let copy : copy_of t p l ≡ record { words = words_read past p i ++ word ∷ [] } = rw (eq-eqb p p refl, fourth, named, on, reads) refl in
+                copy ∙ whole ∙ sym value;
           }

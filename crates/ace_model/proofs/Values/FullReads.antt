@@ -1,14 +1,17 @@
--- The transfers of a read: what an event adds to them, and that a read which is complete has had them all.
-use Rattle.std.proofs.Common.{◌≡◌, ◌⊎◌, ◌==◌, ℕ, ◌+◌, Bool, true, false, not, ◌&&◌, nat_eq, [], ◌∷◌, length, Some, refl, sym, ap, subst, ◌∙◌, arith, inl, inr, length-append}
-use Rattle.std.proofs.lemmas.Bool.{and_parts, or_cases, cases_Bool, eqb-true, eq-eqb}
+-- The transfers of a read: what an event adds to them, that a read which is complete has had them all, and that a read of a line
+-- is granted from its first transfer on.
+use Rattle.std.proofs.Common.{◌≡◌, ◌≢◌, ◌⊎◌, ◌==◌, ℕ, ◌+◌, Bool, true, false, not, ◌&&◌, nat_eq, [], ◌∷◌, length, Some, refl, sym, ap, subst, ◌∙◌, arith, inl, inr, length-append}
+use Rattle.std.proofs.lemmas.Bool.{and_parts, or_cases, cases_Bool, cases_eq, eqb-true, eq-eqb, ne_eqb}
 use Rattle.ace_model.proofs.Trace.Transfers.{full_count}
 use Rattle.ace_model.proofs.Terms.{Read, Write, Event, Ar, Aw, R, Header, Transaction, Trace, is_some_and, beats_of, has_name, is_named, read_kind, issued, transfers, first_resp}
-use Rattle.ace_model.proofs.Terms.{outstanding, is_completion, is_complete, words_read, IsAccepted}
+use Rattle.ace_model.proofs.Terms.{outstanding, is_completion, is_complete, words_read, is_line, is_read, granted, is_begun, are_snoops_done, IsAccepted}
 use Rattle.ace_model.proofs.Trace.Looks.{has_name-is}
-use Rattle.ace_model.proofs.Trace.Issued.{outstanding-origin}
+use Rattle.ace_model.proofs.Trace.Issued.{outstanding-origin, outstanding-name}
 use Rattle.ace_model.proofs.Trace.WriteQueue.{issue_completes}
 use Rattle.ace_model.proofs.Trace.Outstanding.{named_read}
-use Rattle.ace_model.proofs.Grants.Begins.{may_of}
+use Rattle.ace_model.proofs.Grants.Begins.{may_of, line_due}
+use Rattle.ace_model.proofs.Grants.Granted.{granted_at}
+use Rattle.ace_model.proofs.Grants.Stays.{granted_after}
 use Rattle.ace_model.proofs.General.Options.{Some-injective}
 use Rattle.ace_model.proofs.Trace.Transfers.{IsFull}
 
@@ -112,3 +115,51 @@ module _ (h : Header) where
               subst (λ n. is_some_and (read_kind x) (λ k. n == beats_of k) ≡ true) (sym (transfers_stay past e a p i x old.was old.other full)) full
         ]
       ]
+
+-- a name that has its first transfer with the event
+pub first-transfer : (e : Event) (past : Trace) (p i : ℕ) → is_named (issued (length past) e) p Read i ≡ false → transfers past p i ≡ 0 → transfers (e ∷ past) p i ≢ 0 → Transfer e p i
+first-transfer e past p i other none some =
+    elim (transfer_moves past e p i other) [
+      | inl same ↦ absurd (some (same.count ∙ none))
+      | inr t ↦ t
+    ]
+
+-- What the rule on transfers says of a read of a line.
+pub record BeatDue (h : Header) (past : Trace) (p i : ℕ) (x : Transaction) : Type 0 where
+  pub stands : granted h past x.addr ≡ Some x
+  pub done : transfers past p i ≡ 0 → are_snoops_done h past x ≡ true
+
+pub beat_due : (h : Header) (past : Trace) (p i : ℕ) (x : Transaction) (e : Event) → IsAccepted h (e ∷ past) → Transfer e p i
+    → outstanding h past p Read i ≡ Some x → is_line x ≡ true → BeatDue h past p i x
+beat_due h past p i x e a b o line =
+    let t = line_due h past p i b.resp b.last b.word (subst (λ (v : Event). IsAccepted h (v ∷ past)) b.is a) x o line in
+    let n = outstanding-name h past p Read i x o in
+    record {
+      stands = granted_at h past a.0 p Read i x o t.stands;
+      done = λ none. t.first (eq-eqb (transfers past x.port x.id) 0 (ap (λ v. transfers past v x.id) n.port ∙ ap (transfers past p) n.id ∙ none));
+    }
+
+-- a read of a line that has had a beat is granted
+pub under_way : (h : Header) (past : Trace) → IsAccepted h past → (p i : ℕ) (x : Transaction) → outstanding h past p Read i ≡ Some x
+    → is_line x ≡ true → transfers past p i ≢ 0 → granted h past x.addr ≡ Some x
+under_way h [] a p i x o line some = cc
+under_way h (e ∷ past) a p i x o line some =
+    elim (outstanding-origin h past e p Read i x o) [
+      | inl new ↦ absurd (some (issue_transfers past e p i x new.0 new.1))
+      | inr old ↦
+          let was : granted h past x.addr ≡ Some x = elim (cases_eq (transfers past p i) 0) [
+            | inr earlier ↦ under_way h past a.0 p i x old.was line earlier
+            | inl none ↦ (beat_due h past p i x e a (first-transfer e past p i old.other none some) old.was line).stands
+          ] in
+          elim (granted_after h past e a x.addr x was) [
+            | inl stays ↦ stays.is
+            | inr ends ↦ absurd (old.lasts ends.0 ends.1 ends.2)
+          ]
+    ]
+
+-- then it has begun
+pub begun_read : (h : Header) (past : Trace) (p i : ℕ) (x : Transaction) → outstanding h past p Read i ≡ Some x → transfers past p i ≢ 0 → is_begun past x ≡ true
+begun_read h past p i x o some =
+    let n = outstanding-name h past p Read i x o in
+    let count : transfers past x.port x.id ≡ transfers past p i = ap (λ v. transfers past v x.id) n.port ∙ ap (transfers past p) n.id in
+    rw (ap is_read n.chan) (rw count (rw (ne_eqb (transfers past p i) 0 some) refl))

@@ -7,7 +7,7 @@ use Rattle.ace_model.proofs.Values.Copies.{copies_step}
 use Rattle.ace_model.proofs.Values.Made.{made_step}
 use Rattle.ace_model.proofs.Values.Stays.{sent_step, updates_step}
 use Rattle.ace_model.proofs.Values.Passed.{passed_step}
-use Rattle.ace_model.proofs.Values.Written.{written_step}
+use Rattle.ace_model.proofs.Values.Written.{begun_step}
 use Rattle.ace_model.proofs.Values.Updated.{updated_step}
 use Rattle.ace_model.proofs.Values.Safe.{safe_step}
 use Rattle.ace_model.proofs.Values.Facts.{DirtyPlaced}
@@ -22,7 +22,7 @@ module _ (h : Header) (past : Trace) where
     sent = sent_step h past e a f;
     fetches = fetches_step h past e a r.1 f;
     made = made_step h past e a f;
-    written = written_step h past e a r f;
+    begun = begun_step h past e a r f;
     updates = updates_step h past e a f;
     updated = updated_step h past e a r f;
   }
@@ -35,7 +35,7 @@ facts_start h = record {
   sent = λ l r x w k g. cc;
   fetches = λ p i l x k o. cc;
   made = λ p i l x o. cc;
-  written = λ l x g. cc;
+  begun = λ l x g. cc;
   updates = λ p i l x k b o. cc;
   updated = λ p i l x o. cc;
 }

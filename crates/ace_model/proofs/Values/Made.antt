@@ -14,7 +14,7 @@ use Rattle.ace_model.proofs.Values.FullReads.{done_read}
 use Rattle.ace_model.proofs.Trace.Transfers.{full_some}
 use Rattle.ace_model.proofs.Values.Copies.{copy_moves}
 use Rattle.ace_model.proofs.Tables.States.{unique_valid}
-use Rattle.ace_model.proofs.Values.Stays.{value_stays, busy, none_may_store, read_no_write}
+use Rattle.ace_model.proofs.Values.Stays.{value_stays, busy, none_may_store, read_no_store}
 use Rattle.ace_model.proofs.Values.Facts.{MadeTrue, DirtyPlaced}
 use Rattle.ace_model.proofs.Holders.Law.{accepted_holds}
 use Rattle.ace_model.proofs.General.Options.{is_some_and-at}
@@ -121,7 +121,7 @@ made_step h past e a f p i l x o on kind s =
         let id : m.id ≡ i = sym made_name.id ∙ ap (λ (y : Transaction). y.id) one ∙ name.id in
         let first : has_store h past p i ≡ false = rw (← port, ← id) m.first in cc in
         elim (copy_moves h past e a p l) [
-          | inl same ↦ same ∙ f.made p i l x was on kind stored ∙ sym (value_stays h past e a l x stands no_port no_make (read_no_write h past x read.MakeUnique l kind))
+          | inl same ↦ same ∙ f.made p i l x was on kind stored ∙ sym (value_stays h past e a l x stands no_port no_make (read_no_store h past x read.MakeUnique l kind refl))
           | inr (inl r) ↦
               let one = one_on_line h past a.0 p Read Read r.id i l r.one x r.out was r.on on in
               let bad : false ≡ true = sym (ap (λ o. is_some_and o reads_a_line) (ap read_kind one ∙ kind)) ∙ r.reads in cc

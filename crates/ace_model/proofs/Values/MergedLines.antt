@@ -4,7 +4,7 @@ use Rattle.std.proofs.lemmas.Bool.{and_parts, cases_Bool, eqb-true}
 use Rattle.std.proofs.Math.Nat.{pow-suc, div-div-eq-div-mul, div-eq_of_lt}
 use Rattle.std.specs.Int.{byte_at}
 use Rattle.std.specs.List.{AllByRecursion}
-use Rattle.ace_model.proofs.Terms.{Event, FitsFields, Line, Mem, opened, Trace, Store, value_of, after_store, store_at, number_of_bytes, merged, word_of, same_line, full_line, Beat, burst_strobe, full_beat}
+use Rattle.ace_model.proofs.Terms.{Event, FitsFields, IsLine, IsWord, M, Mem, opened, is_some_on, transaction_of, memory_of, Line, Trace, Store, value_of, after_store, store_at, number_of_bytes, merged, word_of, same_line, full_line, Beat, burst_strobe, full_beat}
 use Rattle.std.proofs.lemmas.Option.{slice_get-get_or}
 
 -- a store of all bytes leaves nothing of the line before
@@ -37,8 +37,7 @@ digits w (suc m) i e small =
 abbrev pub line_of : ℕ → ℕ → ℕ → ℕ → Line
 line_of a b c d = record { words = a ∷ b ∷ c ∷ d ∷ [] }
 
--- the line of four words, each of sixteen bytes, stored whole
-pub merged-all : (a : Line) (w x y z : ℕ) → w < 2 ^ 128 → x < 2 ^ 128 → y < 2 ^ 128 → z < 2 ^ 128
+merged-all : (a : Line) (w x y z : ℕ) → w < 2 ^ 128 → x < 2 ^ 128 → y < 2 ^ 128 → z < 2 ^ 128
     → merged a full_line (line_of w x y z) ≡ line_of w x y z
 unfolding merged number_of_bytes
 merged-all a w x y z lw lx ly lz =
@@ -50,6 +49,29 @@ merged-all a w x y z lw lx ly lz =
 
     four : {a b c d w x y z : ℕ} → a ≡ w → b ≡ x → c ≡ y → d ≡ z → line_of a b c d ≡ line_of w x y z
     four p q r s = cc
+
+-- a line of four words, each of sixteen bytes, stored whole
+pub merged-line : (a line : Line) → IsLine line → merged a full_line line ≡ line
+merged-line a line r = by line.words r.0 r.1
+  where
+    by : (ws : List ℕ) → length ws ≡ 4 → AllByRecursion IsWord ws → merged a full_line (record { words = ws }) ≡ record { words = ws }
+    by (w ∷ x ∷ y ∷ z ∷ []) four low = merged-all a w x y z low.0 low.1.0 low.1.1.0 low.1.1.1.0
+    by ws four _ = absurd (omega arith)
+
+-- memory of a line has four words of sixteen bytes
+pub memory-line : (past : Trace) → AllByRecursion FitsFields past → (l : ℕ) → IsLine (memory_of past l)
+memory-line [] r l = (refl, (omega arith, (omega arith, (omega arith, (omega arith, tt)))))
+memory-line (M q c j line ∷ past) r l =
+    elim (cases_Bool (is_some_on (transaction_of past q c j) l)) [
+      | inl t ↦ rw t r.0
+      | inr f ↦ rw f (memory-line past r.1 l)
+    ]
+memory-line (Mem addr line ∷ past) r l =
+    elim (cases_Bool (nat_eq l addr)) [
+      | inl t ↦ rw t r.0
+      | inr f ↦ rw f (memory-line past r.1 l)
+    ]
+memory-line (_ ∷ past) r l = memory-line past r.1 l
 
 -- a line after a store has four words
 pub merged-length : (a : Line) (strobe : ℕ) (bytes : Line) → length (merged a strobe bytes).words ≡ 4

@@ -4,15 +4,14 @@ use Rattle.std.proofs.lemmas.Bool.{and_from, cases_Bool, cases_eq, eq-eqb}
 use Rattle.ace_model.proofs.Terms.{LineState, passes_dirty, Event, Cr, D, Header, Line, is_dirty, Answer, Transaction, Trace, at_point, write_kind, snoop_of, snoop_kind_of}
 use Rattle.ace_model.proofs.Terms.{has_outstanding_on, is_outstanding_on, has_memory_write, granted, answers_grant, answer_at, answer_of, passer, has_passed_data}
 use Rattle.ace_model.proofs.Terms.{state_of, is_in_make_unique, awaits_store, copy_of, copy_at_answer, passed_to, passed_data, value_of, may_store, IsAccepted, HasDirtyHolder, IsValueSafe}
-use Rattle.ace_codes.specs.declared.kind.SnoopKind.TheVariants as snoop
 use Rattle.ace_model.proofs.Trace.Looks.{has_name-is, same_channel-self}
 use Rattle.ace_model.proofs.Trace.Issued.{transaction_of-stands}
 use Rattle.ace_model.proofs.Tables.States.{row_is, unique_unsettled, dirty_valid}
 use Rattle.ace_model.proofs.Trace.Growth.{some_issued-weaker}
 use Rattle.ace_model.proofs.Grants.Stays.{granted_before}
-use Rattle.ace_model.proofs.Tables.SnoopRows.{is_make_invalid}
+use Rattle.ace_model.proofs.Tables.ReadSnoops.{discards_causes}
 use Rattle.ace_model.proofs.Grants.SnoopAnswers.{answer_cases}
-use Rattle.ace_model.proofs.Grants.Answers.{new_answer, others_settled, passed_kind}
+use Rattle.ace_model.proofs.Grants.Answers.{new_answer, others_settled, passed_no_make}
 use Rattle.ace_model.proofs.Values.Stores.{value_moves, awaits_store-is}
 use Rattle.ace_model.proofs.Values.Stays.{may_unique, may_free, copy_at-old, copy_at-new, value_cr}
 use Rattle.ace_model.proofs.Grants.Granted.{unwritten_before, has_passed, Passes}
@@ -22,7 +21,6 @@ use Rattle.ace_model.proofs.Values.Facts.{PassedTrue, DirtyPlaced}
 use Rattle.ace_model.proofs.Holders.Law.{accepted_holds}
 use Rattle.ace_model.proofs.General.Options.{Some-injective}
 use Rattle.ace_model.proofs.General.Booleans.{then_of}
-use Rattle.ace_codes.specs.declared.kind.SnoopKind.TheVariants as snoop
 
 module _ (h : Header) (past : Trace) where
   -- a line that a port may store to is in no MakeUnique of the port
@@ -119,12 +117,12 @@ module _ (h : Header) (past : Trace) where
             ]
             | inr (inr (inl m)) ↦
                 let one : m.made.one ≡ x = Some-injective m.made.one x (sym m.made.stands ∙ was) in
-                let k = passed_kind h past a.0 l r x w was old d in
-                let causes : snoop_of x ≡ Some snoop.MakeInvalid = ap snoop_of (sym one) ∙ ap (λ v. snoop_kind_of v (write_kind m.made.one)) m.made.kind in
-                let kind : k.0 ≡ snoop.MakeInvalid = Some-injective k.0 snoop.MakeInvalid (sym k.1 ∙ causes) in
-                let bad : true ≡ false = sym (ap is_make_invalid kind) ∙ k.2 in cc
+                absurd (passed_no_make h past a.0 l r x w was old d (ap snoop_of (sym one) ∙ ap (λ v. snoop_kind_of v (write_kind m.made.one)) m.made.kind))
             | inr (inr (inr (inr m))) ↦ let bad : None ≡ Some x = sym (m.ungranted l) ∙ was in cc
-            | inr (inr (inr (inl m))) ↦
+            | inr (inr (inr (inl (inr m)))) ↦
+                let one : m.by.one ≡ x = Some-injective m.by.one x (sym m.by.stands ∙ was) in
+                absurd (passed_no_make h past a.0 l r x w was old d (ap snoop_of (sym one) ∙ discards_causes m.by.one m.by.discards))
+            | inr (inr (inr (inl (inl m)))) ↦
                 let one : m.by.one ≡ x = Some-injective m.by.one x (sym m.by.stands ∙ was) in
                 let name = has_name-is m.by.one m.port m.chan m.id (transaction_of-stands past m.port m.chan m.id m.by.one m.by.named).named in
                 let now : has_memory_write (e ∷ past) m.by.one.port m.by.one.chan m.by.one.id ≡ true =

@@ -1,10 +1,10 @@
 -- The reply to a read that keeps the line is the line's value.
 use Rattle.std.proofs.Common.{◌≡◌, ℕ, true, false, ◌&&◌, nat_eq, [], ◌∷◌, length, Option, Some, None, option_and_then, unwrap_or, refl, sym, ap, subst, ◌∙◌, inl, inr}
-use Rattle.std.proofs.lemmas.Bool.{and_parts, and_from, or_left, cases_Bool, cases_eq, eq-eqb}
+use Rattle.std.proofs.lemmas.Bool.{and_parts, and_from, cases_Bool, cases_eq, eq-eqb}
 use Rattle.ace_model.proofs.Terms.{ArKind, SnoopKind, snoop_of_read, transfers_data, Event, Cr, Header, is_fetch, is_dirty, Answer, Transaction, Trace, at_point, is_some_and, newer, transfers}
-use Rattle.ace_model.proofs.Terms.{is_make_unique, is_granted_write, is_on, read_kind, write_kind, snoop_of, snoop_kind_of, outstanding, data_answers, gives_line, granted, answers_grant, answer_of}
+use Rattle.ace_model.proofs.Terms.{is_make_invalid, is_make_unique, is_on, read_kind, write_kind, snoop_of, snoop_kind_of, outstanding, data_answers, gives_line, granted, answers_grant, answer_of}
 use Rattle.ace_model.proofs.Terms.{each_port, has_failed, state_of, are_snoops_done, is_port_done, is_line_read_transaction, copy_of, memory_of, copy_at_answer, passed_data, sender_at, first_sender}
-use Rattle.ace_model.proofs.Terms.{memory_at_first_beat, reply_of, value_of, IsAccepted, replaces_line}
+use Rattle.ace_model.proofs.Terms.{memory_at_first_beat, reply_of, value_of, IsAccepted, may_lose_data}
 use Rattle.ace_model.proofs.Holders.FirstTransfer.{done_port}
 use Rattle.ace_model.proofs.Holders.Rises.{stays_empty}
 use Rattle.ace_model.proofs.Grants.SnoopAnswers.{answer_cases}
@@ -102,11 +102,12 @@ memory_true h past a f l x k g kind fetch done none =
       | inl same ↦ same
       | inr (inl dirty) ↦ absurd (no_holder dirty.0 dirty.1)
       | inr (inr (inl passed)) ↦ absurd (no_passed passed)
-      | inr (inr (inr replaces)) ↦
-          let r : replaces_line x ≡ true = subst (λ o. is_some_and o replaces_line ≡ true) g replaces in
+      | inr (inr (inr loses)) ↦
+          let r : may_lose_data x ≡ true = subst (λ o. is_some_and o may_lose_data ≡ true) g loses in
           let writes = (read_writes_none x k kind).0 in
           let reads : is_some_and (read_kind x) is_make_unique ≡ false = ap (λ o. is_some_and o is_make_unique) kind ∙ fetches.makes in
-          let bad : false ≡ true = rw (reads, writes) at r in cc
+          let discards : is_some_and (read_kind x) is_make_invalid ≡ false = ap (λ o. is_some_and o is_make_invalid) kind ∙ fetches.discards in
+          let bad : false ≡ true = rw (reads, writes, discards) at r in cc
     ]
   where
     fetches : Fetch k
@@ -131,7 +132,7 @@ memory_true h past a f l x k g kind fetch done none =
         elim (cases_eq x.port q) [
           | inl own ↦
               let reads : is_line_read_transaction x ≡ true = rw kind fetches.reads in
-              let gone = stays_empty h past a x.port x.chan x.id l x outs.0 outs.1 (or_left (is_line_read_transaction x) (is_some_and (write_kind x) is_granted_write) reads) in
+              let gone = stays_empty h past a x.port x.chan x.id l x outs.0 outs.1 (inl reads) in
               dirty_valid (state_of h past q l) d (ap (λ b. state_of h past b l) (sym own) ∙ gone)
           | inr apart ↦ elim (done_port h past x q (accepted_holds h past a) all apart) [
             | inl gone ↦ dirty_valid (state_of h past q l) d (ap (state_of h past q) (sym addr) ∙ gone)

@@ -1,10 +1,10 @@
--- The value of a line is in memory, dirty at a port, passed on, or to be replaced whole.
+-- The value of a line is in memory, dirty at a port, passed on, or to be replaced whole or given up.
 use Rattle.std.proofs.Common.{◌≡◌, ◌⊎◌, ℕ, true, false, ◌&&◌, ◌||◌, nat_eq, ◌∷◌, length, Option, Some, None, refl, sym, ap, subst, ◌∙◌, inl, inr}
-use Rattle.std.proofs.lemmas.Bool.{and_parts, and_from, or_left, or_right, cases_Bool, cases_eq, eq-eqb}
+use Rattle.std.proofs.lemmas.Bool.{and_parts, and_from, or_cases, or_left, or_right, cases_Bool, cases_eq, eq-eqb}
 use Rattle.ace_model.proofs.Terms.{ArKind, AwKind, SnoopKind, LineState, passes_dirty, is_shared, Read, Write, Event, R, Rk, B, Wk, Cr, Header, is_dirty, Answer, Transaction, Trace, implies}
 use Rattle.ace_model.proofs.Terms.{FitsFields, Channel, M, Line, passed_data, data_of, is_some_and, is_none_or, is_make_unique, has_write_data, is_ace, is_read, is_line, is_some_on, read_kind}
 use Rattle.ace_model.proofs.Terms.{write_kind, snoop_of, snoop_kind_of, ended, outstanding, acknowledged, first_resp, has_memory_write, data_answers, granted, answers_grant, answer_of}
-use Rattle.ace_model.proofs.Terms.{has_passed_data, state_of, memory_of, value_of, has_upper_bits, fits_kind, IsAccepted, replaces_line, IsValueSafe}
+use Rattle.ace_model.proofs.Terms.{has_passed_data, state_of, memory_of, value_of, has_upper_bits, fits_kind, IsAccepted, discards_data, is_make_invalid, is_write_line_unique, may_lose_data, IsValueSafe}
 use Rattle.ace_codes.specs.declared.kind.ArKind.TheVariants as read
 use Rattle.ace_model.proofs.Trace.Issued.{same_place, outstanding-named}
 use Rattle.ace_model.proofs.Rules.Keeps.{accepted_keeps}
@@ -13,7 +13,7 @@ use Rattle.ace_model.proofs.Trace.Outstanding.{acknowledged_is, ends_lite}
 use Rattle.ace_model.proofs.Holders.Acknowledge.{is_named_by_rk}
 use Rattle.ace_model.proofs.Grants.Begins.{may_of}
 use Rattle.ace_model.proofs.Trace.WriteQueue.{EndsWrite, ends_write_of, ends_lite_written}
-use Rattle.ace_model.proofs.Tables.SnoopRows.{is_make_invalid, dirty_stays}
+use Rattle.ace_model.proofs.Tables.SnoopRows.{is_make_invalid_snoop, dirty_stays}
 use Rattle.ace_model.proofs.Grants.SnoopAnswers.{Answering}
 use Rattle.ace_model.proofs.Grants.Answers.{others_settled}
 use Rattle.ace_model.proofs.Grants.Begins.{line_due}
@@ -27,32 +27,42 @@ use Rattle.ace_model.proofs.Values.PassedData.{written_passed, first_passes, ans
 use Rattle.std.proofs.Math.Bool.{or-false}
 use Rattle.ace_model.proofs.Tables.Kinds.{granted_data, read_invalid, write_invalid, make_unique_is}
 use Rattle.ace_model.proofs.Values.Passed.{passed_safe, passed_step, store_dirty, passed_true}
-use Rattle.ace_model.proofs.Values.Facts.{WrittenTrue, DirtyPlaced}
+use Rattle.ace_model.proofs.Values.Facts.{BegunTrue, DirtyPlaced}
 use Rattle.ace_model.proofs.Holders.Law.{accepted_holds}
 use Rattle.ace_model.proofs.General.Options.{Some-injective, is_none_or-at, is_some_and-is}
 use Rattle.ace_model.proofs.General.Booleans.{implies-at, then_of}
 use Rattle.std.specs.List.{AllByRecursion}
 use Rattle.ace_model.proofs.Grants.Stays.{Stays, granted_after}
-use Rattle.ace_model.proofs.Values.Stores.{Writes, value_moves, may_write}
+use Rattle.ace_model.proofs.Values.Stores.{Writes, value_moves, may_write, discards_r, discard_true}
+use Rattle.ace_model.proofs.Values.FullReads.{begun_read}
 use Rattle.ace_model.proofs.Values.MergedLines.{value-length}
 use Rattle.ace_model.proofs.Values.DirtMoves.{dirt_moves}
-use Rattle.ace_model.proofs.Values.MemoryWrites.{WritesLine, memory_now, memory_moves, writer, line_is, update_true, ByPassed}
+use Rattle.ace_model.proofs.Values.MemoryWrites.{WritesLine, grant_stores, memory_now, memory_moves, writer, line_is, update_true, ByPassed}
 use Rattle.ace_model.proofs.Values.Written.{store_true}
 
--- a read that replaces the line is a MakeUnique
-read_replaces : (x : Transaction) (k : ArKind) → read_kind x ≡ Some k → replaces_line x ≡ true → is_make_unique k ≡ true
-read_replaces x k kind t =
-    let none = (read_writes_none x k kind).0 in
-    let make : (is_make_unique k || false) ≡ true = rw (kind, none) at t in sym (or-false (is_make_unique k)) ∙ make
+-- a read that may lose data is a MakeUnique or a MakeInvalid
+read_loses : (x : Transaction) (k : ArKind) → read_kind x ≡ Some k → may_lose_data x ≡ true → (is_make_unique k ≡ true) ⊎ (discards_data x ≡ true)
+read_loses x k kind t =
+    elim (or_cases (is_some_and (read_kind x) is_make_unique || is_some_and (write_kind x) is_write_line_unique) (discards_data x) t) [
+      | inr discards ↦ inr discards
+      | inl replaces ↦
+          let none = (read_writes_none x k kind).0 in
+          let make : (is_make_unique k || false) ≡ true = rw (kind, none) at replaces in inl (sym (or-false (is_make_unique k)) ∙ make)
+    ]
 
--- what makes a line invalid at once replaces it
-invalid_replaces : (x : Transaction) (k : SnoopKind) → snoop_of x ≡ Some k → is_make_invalid k ≡ true → replaces_line x ≡ true
-invalid_replaces x k causes m =
+-- what makes a line invalid at once may lose data
+invalid_loses : (x : Transaction) (k : SnoopKind) → snoop_of x ≡ Some k → is_make_invalid_snoop k ≡ true → may_lose_data x ≡ true
+invalid_loses x k causes m =
     by (read_kind x) (write_kind x) refl refl (rw causes m)
   where
-    by : (o : Option ArKind) (q : Option AwKind) → read_kind x ≡ o → write_kind x ≡ q → is_some_and (snoop_kind_of o q) is_make_invalid ≡ true → replaces_line x ≡ true
-    by (Some r) q is_r is_q t = rw is_r (or_left (is_make_unique r) _ (read_invalid r t))
-    by None (Some w) is_r is_q t = rw (is_r, is_q) (write_invalid w t)
+    by : (o : Option ArKind) (q : Option AwKind) → read_kind x ≡ o → write_kind x ≡ q → is_some_and (snoop_kind_of o q) is_make_invalid_snoop ≡ true → may_lose_data x ≡ true
+    by (Some r) q is_r is_q t =
+        let replaces = is_make_unique r || is_some_and (write_kind x) is_write_line_unique in
+        rw is_r (elim (or_cases (is_make_unique r) (is_make_invalid r) (read_invalid r t)) [
+          | inl make ↦ or_left replaces (is_make_invalid r) (or_left (is_make_unique r) _ make)
+          | inr discards ↦ or_right replaces (is_make_invalid r) discards
+        ])
+    by None (Some w) is_r is_q t = let line = write_invalid w t in rw (is_r, is_q, line) refl
     by None None is_r is_q t = cc
 
 module _ (h : Header) (past : Trace) where
@@ -74,7 +84,7 @@ module _ (h : Header) (past : Trace) where
       record { r = r; same = Some-injective r.one x (sym r.ends_it ∙ is ∙ ap Some one); after = rw t refl }
 
   -- a granted write ends with memory the value
-  ended_write_stored : IsAccepted h past → WrittenTrue h past → (l : ℕ) (x : Transaction) → granted h past l ≡ Some x → (q : ℕ) (z : Transaction)
+  ended_write_stored : IsAccepted h past → BegunTrue h past → (l : ℕ) (x : Transaction) → granted h past l ≡ Some x → (q : ℕ) (z : Transaction)
       → EndsWrite h past q z → z.place ≡ x.place → memory_of past l ≡ value_of past l
   ended_write_stored a f l x g q z w same =
       let o = (accepted_holds h past a).grants l x g in
@@ -83,32 +93,39 @@ module _ (h : Header) (past : Trace) where
       let k = granted_write x (granted_given h past a l x g).kind writes in
       let sends : is_some_and (write_kind z) has_write_data ≡ true = rw (ap write_kind one ∙ k.1) (granted_data k.0 k.2) in
       let had : has_memory_write past x.port x.chan x.id ≡ true = subst (λ (y : Transaction). has_memory_write past y.port y.chan y.id ≡ true) one (w.written sends) in
-      (f l x g writes had).stored
+      (f l x g (inl (grant_stores x k.0 k.1 k.2)) (rw writes had)).stored
 
-  -- the end of a granted transaction that has passed data, or replaces the line
-  pub ended_safe : (e : Event) → IsAccepted h (e ∷ past) → WrittenTrue h past → (l : ℕ) (x : Transaction) → granted h past l ≡ Some x
-      → (has_passed_data h past x ≡ true) ⊎ (replaces_line x ≡ true) → (z : Transaction) → ended h past e ≡ Some z → z.place ≡ x.place → IsValueSafe h (e ∷ past) l
-  ended_safe (Rk q st) a f l x g wants z is same =
+  -- the end of a granted transaction that has passed data, or may lose data
+  pub ended_safe : (e : Event) → IsAccepted h (e ∷ past) → AllByRecursion FitsFields past → BegunTrue h past → (l : ℕ) (x : Transaction) → granted h past l ≡ Some x
+      → (has_passed_data h past x ≡ true) ⊎ (may_lose_data x ≡ true) → (z : Transaction) → ended h past e ≡ Some z → z.place ≡ x.place → IsValueSafe h (e ∷ past) l
+  ended_safe (Rk q st) a range f l x g wants z is same =
       let n = ends_granted q st a l x g z is same in
       let r = n.r in
-      let o = first_resp past q r.id in
-      let dirty : is_dirty st ≡ true = r.state.keeps_dirt (elim wants [
+      let some = full_some past q r.id r.one r.full in
+      let holder : (is_some_and (first_resp past q r.id) passes_dirty || is_dirty (state_of h past q l) || is_make_unique r.kind) ≡ true → IsValueSafe h (Rk q st ∷ past) l =
+      λ t. let dirty : is_dirty st ≡ true = r.state.keeps_dirt t in inr (inl (q, rw n.after dirty)) in
+      elim wants [
         | inl has ↦
-            let pass = first_passes h past a.0 q r.id r.one r.out (and_parts (is_line r.one) _ r.on).0 (full_some past q r.id r.one r.full) (rw n.same has) in
-            or_left _ (is_make_unique r.kind) (or_left (is_some_and o passes_dirty) _ pass)
-        | inr replaces ↦ or_right _ (is_make_unique r.kind) (read_replaces r.one r.kind r.is_kind (rw n.same replaces))
-      ]) in
-      inr (inl (q, rw n.after dirty))
-  ended_safe (Wk q st) a f l x g wants z is same = inl (ended_write_stored a.0 f l x g q z (ends_write_of h past q st a z is) same)
-  ended_safe (B q j resp) a f l x g wants z is same = inl (ended_write_stored a.0 f l x g q z (ends_lite_written h past q j resp a z is) same)
-  ended_safe (R q j resp last word) a f l x g wants z is same =
+            let pass = first_passes h past a.0 q r.id r.one r.out (and_parts (is_line r.one) _ r.on).0 some (rw n.same has) in
+            holder (or_left _ (is_make_unique r.kind) (or_left (is_some_and (first_resp past q r.id) passes_dirty) _ pass))
+        | inr loses ↦ elim (read_loses r.one r.kind r.is_kind (rw n.same loses)) [
+          | inl make ↦ holder (or_right _ (is_make_unique r.kind) make)
+          | inr discards ↦
+              let begun = begun_read h past q r.id r.one r.out some in
+              inl (f l r.one (g ∙ ap (λ v. Some v) (sym n.same)) (inr discards) begun).stored
+        ]
+      ]
+  ended_safe (Wk q st) a range f l x g wants z is same = inl (ended_write_stored a.0 f l x g q z (ends_write_of h past q st a z is) same)
+  ended_safe (B q j resp) a range f l x g wants z is same = inl (ended_write_stored a.0 f l x g q z (ends_lite_written h past q j resp a z is) same)
+  ended_safe (R q j resp last word) a range f l x g wants z is same =
       let lite = ends_lite h past q j resp last word z is in
       let o = (accepted_holds h past a.0).grants l x g in
       let one : z ≡ x = same_place past q x.port Read x.chan j x.id z x lite.1 (outstanding-named h past x.port x.chan x.id x o.0) same in
       let m = may_of h past q j resp last word a in
       let same_m : m.one ≡ x = Some-injective m.one z (sym m.named ∙ lite.1) ∙ one in
       let out : outstanding h past q Read j ≡ Some x = m.out ∙ ap Some same_m in
-      let ace : is_ace h q ≡ true = elim wants [
+      let at_ace : is_ace h q ≡ true → IsValueSafe h (R q j resp last word ∷ past) l = λ ace. let bad : true ≡ false = sym ace ∙ lite.0 in cc in
+      elim wants [
         | inl has ↦
             let line = (and_parts (is_line x) _ o.1).0 in
             let takes = (line_due h past q j resp last word a x out line).takes has in
@@ -118,22 +135,25 @@ module _ (h : Header) (past : Trace) where
             let share = implies (passes_dirty resp || is_shared resp) (is_ace h x.port) in
             let both = and_parts early share (and_parts (early && share) _ bits).0 in
             let here = implies-at (passes_dirty resp || is_shared resp) (is_ace h x.port) both.1 (or_left (passes_dirty resp) (is_shared resp) pass) in
-            ap (is_ace h) (sym m.port ∙ ap (λ (y : Transaction). y.port) same_m) ∙ here
-        | inr replaces ↦
+            at_ace (ap (is_ace h) (sym m.port ∙ ap (λ (y : Transaction). y.port) same_m) ∙ here)
+        | inr loses ↦
             let kind : read_kind x ≡ Some m.kind = ap read_kind (sym same_m) ∙ m.is_kind in
-            let make = read_replaces x m.kind kind replaces in
-            ace_read h past a.0 q j x read.MakeUnique out (kind ∙ ap (λ v. Some v) (make_unique_is m.kind make)) refl
-      ] in
-      let bad : true ≡ false = sym ace ∙ lite.0 in cc
-  ended_safe e a f l x g wants z is same = cc
+            elim (read_loses x m.kind kind loses) [
+              | inl make ↦ at_ace (ace_read h past a.0 q j x read.MakeUnique out (kind ∙ ap (λ v. Some v) (make_unique_is m.kind make)) refl)
+              | inr discards ↦
+                  let d = discards_r h past q j resp last word l a x (m.named ∙ ap (λ v. Some v) same_m) (and_from _ _ discards o.1) in
+                  inl (sym (discard_true h past q j resp last word l range d))
+            ]
+      ]
+  ended_safe e a range f l x g wants z is same = cc
 
   -- a port that answers a snoop of its dirty line keeps it dirty, passes it on, or the line is replaced
   pub answered_safe : (p resp : ℕ) (st : LineState) → IsAccepted h (Cr p resp st ∷ past) → DirtyPlaced h past → (l : ℕ) → is_dirty (state_of h past p l) ≡ true
       → Answering h past p resp st l → IsValueSafe h (Cr p resp st ∷ past) l
   answered_safe p resp st a f l d n =
-      elim (cases_Bool (is_make_invalid n.kind)) [
+      elim (cases_Bool (is_make_invalid_snoop n.kind)) [
         | inl m ↦
-            inr (inr (inr (rw n.pending.stands (invalid_replaces n.pending.one n.kind n.causes m))))
+            inr (inr (inr (rw n.pending.stands (invalid_loses n.pending.one n.kind n.causes m))))
         | inr m ↦ elim (cases_Bool (passes_dirty resp)) [
           | inr keeps ↦
               let after = dirty_stays n.kind (state_of h past p l) false resp st n.of_line n.row m d keeps in
@@ -216,7 +236,8 @@ module _ (h : Header) (past : Trace) where
             | inr (inl d) ↦ inr (inl (d.port, rw d.is (store_dirty h past d.port l d.strobe d.ex d.line d.may)))
             | inr (inr (inl d)) ↦
                 inr (inr (inr (rw (d.is, d.made.stands, d.made.kind) refl)))
-            | inr (inr (inr (inl d))) ↦ memory_written (store_writes d.port d.chan d.id d.line d.is d.by)
+            | inr (inr (inr (inl (inl d)))) ↦ memory_written (store_writes d.port d.chan d.id d.line d.is d.by)
+            | inr (inr (inr (inl (inr d)))) ↦ inl (kept ∙ sym (rw d.is (discard_true h past d.port d.id d.resp d.last d.word l r.1 d.by)))
             | inr (inr (inr (inr m))) ↦ inl (m.stored l)
           ]
         ]
@@ -250,12 +271,12 @@ module _ (h : Header) (past : Trace) where
                   let x = passed_granted l (value_of past l) passed in
                   elim (granted_after h past e a l x.0 x.1) [
                     | inl stays ↦ passed_on x.0 x.1 x.2 stays
-                    | inr z ↦ ended_safe h past e a f.written l x.0 x.1 (inl x.2) z.0 z.1 z.2
+                    | inr z ↦ ended_safe h past e a r.1 f.begun l x.0 x.1 (inl x.2) z.0 z.1 z.2
                   ]
-              | inr (inr (inr replaces)) ↦
-                  let x = is_some_and-is (granted h past l) replaces_line replaces in
+              | inr (inr (inr loses)) ↦
+                  let x = is_some_and-is (granted h past l) may_lose_data loses in
                   elim (granted_after h past e a l x.0 x.1) [
                     | inl stays ↦ inr (inr (inr (rw stays.is x.2)))
-                    | inr z ↦ ended_safe h past e a f.written l x.0 x.1 (inr x.2) z.0 z.1 z.2
+                    | inr z ↦ ended_safe h past e a r.1 f.begun l x.0 x.1 (inr x.2) z.0 z.1 z.2
                   ]
             ]

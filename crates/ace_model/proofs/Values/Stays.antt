@@ -1,9 +1,9 @@
 -- The value of a line stays while a port's data of it are on their way.
 use Rattle.std.proofs.Common.{◌≡◌, ℕ, ◌<◌, true, false, not, [], ◌∷◌, length, Some, None, refl, sym, ap, subst, ◌∙◌, arith, inl, inr, ◌≢◌}
 use Rattle.std.proofs.lemmas.Bool.{and_parts, cases_Bool, cases_eq, not-true}
-use Rattle.ace_model.proofs.Terms.{ArKind, I, Read, Write, Event, Header, is_fetch, snoop_of_read, is_unique, Answer, Transaction, Trace, at_point, Channel, is_update, is_make_unique}
+use Rattle.ace_model.proofs.Terms.{ArKind, I, Read, Write, Event, Header, is_fetch, snoop_of_read, is_unique, Answer, Transaction, Trace, at_point, Channel, is_some_and, is_update, is_make_invalid, is_make_unique}
 use Rattle.ace_model.proofs.Terms.{is_read, is_on, read_kind, write_kind, snoop_of, snoop_kind_of, outstanding, has_outstanding_on, updates_memory, gives_line, granted, answer_of}
-use Rattle.ace_model.proofs.Terms.{state_of, word_of, copy_of, value_of, may_store, IsAccepted}
+use Rattle.ace_model.proofs.Terms.{state_of, word_of, copy_of, discards_data, value_of, may_store, IsAccepted}
 use Rattle.ace_codes.specs.declared.kind.ArKind.TheVariants as read
 use Rattle.ace_model.proofs.Trace.Looks.{is_on-addr, read_writes_none}
 use Rattle.ace_model.proofs.Trace.Issued.{outstanding-name}
@@ -15,7 +15,7 @@ use Rattle.ace_model.proofs.Grants.SnoopAnswers.{NewAnswer, answer_cases}
 use Rattle.ace_model.proofs.Grants.Answers.{new_answer, is_levelling, none_unique}
 use Rattle.ace_model.proofs.Tables.Kinds.{fetch_is, update_data}
 use Rattle.ace_model.proofs.Values.UpdateHolds.{holds_line}
-use Rattle.ace_model.proofs.Values.Stores.{Made, value_moves, Writes, all_empty}
+use Rattle.ace_model.proofs.Values.Stores.{Made, Unheld, value_moves, unheld_of, stores_write, all_empty}
 use Rattle.ace_model.proofs.Values.Facts.{SentTrue, UpdatesTrue, DirtyPlaced}
 use Rattle.ace_model.proofs.Holders.Law.{accepted_holds}
 use Rattle.ace_model.proofs.General.Options.{Some-injective, is_some_and-is}
@@ -44,20 +44,25 @@ module _ (h : Header) (past : Trace) where
 
   -- the value stays under a grant where no port may store and the granted transaction doesn't
   pub value_stays : (e : Event) → IsAccepted h (e ∷ past) → (l : ℕ) (x : Transaction) → granted h past l ≡ Some x → ((q : ℕ) → may_store h past q l ≡ true → ⊥)
-      → ((q s : ℕ) (m : Made h past q l s) → m.one ≡ x → ⊥) → ((q : ℕ) (c : Channel) (j : ℕ) (w : Writes h past q c j l) → w.one ≡ x → ⊥) → value_of (e ∷ past) l ≡ value_of past l
-  value_stays e a l x g no_port no_make no_write =
+      → ((q s : ℕ) (m : Made h past q l s) → m.one ≡ x → ⊥) → ((u : Unheld h past l) → u.one ≡ x → ⊥) → value_of (e ∷ past) l ≡ value_of past l
+  value_stays e a l x g no_port no_make no_other =
       elim (value_moves h past e a l) [
         | inl same ↦ same
         | inr (inl d) ↦ absurd (no_port d.port d.may)
         | inr (inr (inl d)) ↦ absurd (no_make d.port d.strobe d.made (Some-injective d.made.one x (sym d.made.stands ∙ g)))
-        | inr (inr (inr (inl w))) ↦ absurd (no_write w.port w.chan w.id w.by (Some-injective w.by.one x (sym w.by.stands ∙ g)))
+        | inr (inr (inr (inl by))) ↦ let u = unheld_of h past e l by in absurd (no_other u (Some-injective u.one x (sym u.stands ∙ g)))
         | inr (inr (inr (inr m))) ↦ let bad : None ≡ Some x = sym (m.ungranted l) ∙ g in cc
       ]
 
-  -- a read writes nothing, and a write makes nothing
-  pub read_no_write : (x : Transaction) (k : ArKind) (l : ℕ) → read_kind x ≡ Some k → (q : ℕ) (c : Channel) (j : ℕ) (w : Writes h past q c j l) → w.one ≡ x → ⊥
-  read_no_write x k l kind q c j w one =
-      let bad : false ≡ true = sym w.writes ∙ ap (λ (y : Transaction). is_read y.chan) one ∙ (read_writes_none x k kind).1 in cc
+  -- no read but a MakeInvalid is such a store, and a write makes nothing
+  pub read_no_store : (x : Transaction) (k : ArKind) (l : ℕ) → read_kind x ≡ Some k → is_make_invalid k ≡ false → (u : Unheld h past l) → u.one ≡ x → ⊥
+  read_no_store x k l kind other u one =
+      elim u.stores [
+        | inl stores ↦
+            let bad : false ≡ true = sym (stores_write u.one stores) ∙ ap (λ (y : Transaction). is_read y.chan) one ∙ (read_writes_none x k kind).1 in cc
+        | inr discards ↦
+            let bad : true ≡ false = sym discards ∙ ap discards_data one ∙ ap (λ o. is_some_and o is_make_invalid) kind ∙ other in cc
+      ]
 
   pub write_no_make : (x : Transaction) (l : ℕ) → is_read x.chan ≡ false → (q s : ℕ) (m : Made h past q l s) → m.one ≡ x → ⊥
   write_no_make x l writes q s m one =
@@ -81,7 +86,7 @@ module _ (h : Header) (past : Trace) where
               absurd (write_no_make x l (ap is_read (outstanding-name h past p Write i x o).chan) d.port d.strobe d.made one)
           | inr apart ↦ absurd (valid (d.made.alone p apart))
         ]
-        | inr (inr (inr (inl w))) ↦ absurd (valid (all_empty h past a.0 w.port w.chan w.id l w.by p))
+        | inr (inr (inr (inl by))) ↦ absurd (valid (all_empty h past a.0 l (unheld_of h past e l by) p))
         | inr (inr (inr (inr m))) ↦ let bad : None ≡ Some x = sym (m.free p Write i) ∙ o in cc
       ]
 
@@ -128,7 +133,7 @@ module _ (h : Header) (past : Trace) where
               let yes = may_unique h past q l may in
               let no_unique = none_unique h past a.0 l r q x w s.0 stays.was old d causes s.2 in cc in
               copy_at-old past e r l w old ∙ f.sent l r x w k stays.was old d kind fetch
-              ∙ sym (value_stays h past e a l x stays.was no_port (made_apart l x k kind fetch) (read_no_write h past x k l kind))
+              ∙ sym (value_stays h past e a l x stays.was no_port (made_apart l x k kind fetch) (read_no_store h past x k l kind (fetch_is k fetch).discards))
           | inr new ↦
               let n = new_answer h past e a r l w new in
               let held : state_of h past r l ≡ I → ⊥ = λ gone. sends_held n.1.kind w.resp n.0 (rw gone at n.1.row) d in

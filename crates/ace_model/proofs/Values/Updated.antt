@@ -79,7 +79,7 @@ updated_step h past e a r f p i l x o on dirty m =
             | inr (inl w) ↦ elim (writer h past e l w a) [
               | inl passed ↦ let bad : true ≡ false = sym passed.has ∙ q.none w.one passed.stands in cc
               | inr (inl u) ↦ update_true h past e l w a r f.updates u
-              | inr (inr s) ↦ let bad : true ≡ false = sym (ap is_invalid (all_empty h past a.0 w.port w.chan w.id l s p)) ∙ k.held in cc
+              | inr (inr s) ↦ let bad : true ≡ false = sym (ap is_invalid (all_empty h past a.0 l s.unheld p)) ∙ k.held in cc
             ]
           ];
           none = still_none h past e a l q.none (λ z v new d.

@@ -1,28 +1,34 @@
--- Once a granted write has written memory, memory is the value and no port holds the line.
-use Rattle.std.proofs.Common.{◌≡◌, ℕ, true, false, ◌||◌, ◌∷◌, length, Option, Some, None, unwrap_or, option_and_then, slice_get, refl, sym, ap, subst, ◌∙◌, inl, inr}
-use Rattle.std.proofs.lemmas.Bool.{and_from, cases_Bool}
+-- Once a granted write has written memory, or a granted MakeInvalid has had its transfer, memory is the value and no port holds the
+-- line.
+use Rattle.std.proofs.Common.{◌≡◌, ◌≢◌, ◌⊎◌, ℕ, true, false, not, ◌||◌, nat_eq, ◌∷◌, length, Option, Some, None, unwrap_or, option_and_then, slice_get, refl, sym, ap, subst, ◌∙◌, inl, inr}
+use Rattle.std.proofs.lemmas.Bool.{and_parts, and_from, cases_Bool}
 use Rattle.std.specs.List.{AllByRecursion}
-use Rattle.ace_model.proofs.Terms.{AwKind, I, FitsFields, Channel, Write, Event, M, Header, Line, merged, Transaction, Trace, is_some_and, is_write_line_unique, has_write_data, is_unique_write}
-use Rattle.ace_model.proofs.Terms.{is_no_snoop_write, is_read, read_kind, write_kind, snoop_of, snoop_kind_of, outstanding, has_memory_write, granted, has_passed_data, state_of, memory_of, passed_to}
-use Rattle.ace_model.proofs.Terms.{passed_data, burst_of, burst_line, burst_strobe, value_of, full_line, data_of, data_of_write, burst_into, IsAccepted, replaces_line, HasDirtyHolder}
+use Rattle.ace_model.proofs.Terms.{AwKind, I, FitsFields, Channel, Read, Write, Event, M, Header, Line, merged, Transaction, Trace, is_some_and, is_write_line_unique, has_write_data}
+use Rattle.ace_model.proofs.Terms.{is_unique_write, is_no_snoop_write, is_read, is_line, read_kind, write_kind, snoop_of, snoop_kind_of, outstanding, transfers, gives_line, granted, is_begun}
+use Rattle.ace_model.proofs.Terms.{has_passed_data, state_of, memory_of, passed_to, passed_data, burst_of, burst_line, burst_strobe, value_of, full_line, data_of, data_of_write, burst_into, IsAccepted}
+use Rattle.ace_model.proofs.Terms.{may_lose_data, HasDirtyHolder}
+use Rattle.ace_codes.specs.declared.kind.ArKind.TheVariants as read
 use Rattle.ace_codes.specs.declared.kind.AwKind.TheVariants as write
-use Rattle.ace_model.proofs.Trace.Looks.{is_on-addr, is_write-is}
-use Rattle.ace_model.proofs.Trace.Issued.{outstanding-named}
+use Rattle.ace_model.proofs.Trace.Looks.{is_on-addr, is_read-is, is_write-is, read_writes_none}
+use Rattle.ace_model.proofs.Trace.Issued.{outstanding-named, outstanding-origin}
 use Rattle.ace_model.proofs.Holders.Rises.{state_moves}
-use Rattle.ace_model.proofs.Grants.Stays.{granted_before}
+use Rattle.ace_model.proofs.Grants.Stays.{Stays, gives_none, granted_before}
 use Rattle.ace_model.proofs.Grants.SnoopAnswers.{no_rise}
-use Rattle.ace_model.proofs.Grants.Answers.{passed_kind}
-use Rattle.ace_model.proofs.Values.MergedLines.{line_of, merged-length, merged-all, full_burst}
+use Rattle.ace_model.proofs.Grants.Answers.{passed_kind, passed_no_make}
+use Rattle.ace_model.proofs.Values.FullReads.{issue_transfers, transfer_moves, under_way}
+use Rattle.ace_model.proofs.Values.MergedLines.{line_of, merged-length, merged-line, full_burst}
 use Rattle.ace_model.proofs.Trace.WriteBursts.{four_beats}
-use Rattle.ace_model.proofs.Values.Stores.{Writes, stores_m, stores_kind, all_empty}
+use Rattle.ace_model.proofs.Values.Stores.{Writes, Made, Unheld, discards_r, discard_true, stores_m, stores_kind, stores_write, all_empty}
 use Rattle.ace_model.proofs.Tables.States.{unique_valid, dirty_valid}
+use Rattle.ace_model.proofs.Tables.ReadSnoops.{discards_kind, discards_causes}
 use Rattle.ace_model.proofs.Values.Stays.{may_unique, value_stays, write_no_make}
-use Rattle.ace_model.proofs.Grants.Granted.{given_unwritten, granted_given, granted_write, written_cases}
+use Rattle.ace_model.proofs.Grants.Granted.{not_named, given_unwritten, written_cases}
 use Rattle.ace_model.proofs.Values.Passed.{passed_true}
-use Rattle.ace_model.proofs.Values.MemoryWrites.{WritesLine, memory_now, memory_moves, grant_stores, writer, line_is, update_true, beats_fit, kind_data}
-use Rattle.ace_model.proofs.Values.Facts.{Quiet, WrittenTrue, DirtyPlaced}
+use Rattle.ace_model.proofs.Values.MemoryWrites.{WritesLine, memory_now, memory_moves, writer, line_is, update_true, beats_fit, kind_data}
+use Rattle.ace_model.proofs.Values.Facts.{StoresUnheld, Quiet, BegunTrue, DirtyPlaced}
 use Rattle.ace_model.proofs.Holders.Law.{accepted_holds}
 use Rattle.ace_model.proofs.General.Options.{Some-injective}
+use Rattle.ace_model.proofs.General.Booleans.{else_of}
 use Rattle.ace_model.proofs.Values.PassedData.{passes_line, passed_has}
 
 module _ (h : Header) (past : Trace) where
@@ -34,7 +40,7 @@ module _ (h : Header) (past : Trace) where
     stores : line ≡ burst_into past x (value_of past l)
 
   -- where no port holds the line, the passed data are the value, else memory is
-  base_is : IsAccepted h past → DirtyPlaced h past → (l : ℕ) (x : Transaction) → granted h past l ≡ Some x → replaces_line x ≡ false
+  base_is : IsAccepted h past → DirtyPlaced h past → (l : ℕ) (x : Transaction) → granted h past l ≡ Some x → may_lose_data x ≡ false
       → ((p : ℕ) → state_of h past p l ≡ I) → unwrap_or (passed_data h past l) (memory_of past l) ≡ value_of past l
   base_is a f l x g replaces empty = by (passed_data h past l) refl
     where
@@ -48,7 +54,7 @@ module _ (h : Header) (past : Trace) where
             | inr (inl d) ↦ absurd (no_holder d)
             | inr (inr (inl passed)) ↦ let bad : None ≡ Some (value_of past l) = sym is ∙ passed in cc
             | inr (inr (inr r)) ↦
-                let yes : replaces_line x ≡ true = subst (λ o. is_some_and o replaces_line ≡ true) g r in cc
+                let yes : may_lose_data x ≡ true = subst (λ o. is_some_and o may_lose_data ≡ true) g r in cc
           ]
       by (Some d) is =
           elim (passed_true h past a f.passed l x g (passed_has h past l x d g is)) [
@@ -68,14 +74,14 @@ module _ (h : Header) (past : Trace) where
       addr = is_on-addr w.one l w.on
 
       empty : (p : ℕ) → state_of h past p l ≡ I
-      empty p = all_empty h past a q c j l w p
+      empty p = all_empty h past a l w.unheld p
 
       no_read : read_kind w.one ≡ None
       no_read = rw w.writes refl
 
       base : (k : AwKind) → write_kind w.one ≡ Some k → is_write_line_unique k ≡ false → unwrap_or (passed_data h past l) (memory_of past l) ≡ value_of past l
       base k kind other =
-          let none : replaces_line w.one ≡ false = rw (no_read, kind) other in
+          let none : may_lose_data w.one ≡ false = rw (no_read, kind, other) refl in
           base_is a f l w.one w.stands none empty
 
       by : (k : AwKind) → write_kind w.one ≡ Some k → (is_unique_write k || is_no_snoop_write k) ≡ true → Writing l w.one
@@ -120,7 +126,7 @@ module _ (h : Header) (past : Trace) where
             is = kind_data h past w.one write.WriteLineUnique w.writes kind;
             four = ap (λ (v : Line). length v.words) line;
             stores = sym (ap (λ s. merged (value_of past l) s (burst_line (burst_of past w.one))) strobe ∙ ap (merged (value_of past l) full_line) line
-                ∙ merged-all (value_of past l) four.b0.word four.b1.word four.b2.word four.b3.word f0.low f1.low f2.low f3.low ∙ sym line);
+                ∙ merged-line (value_of past l) (line_of four.b0.word four.b1.word four.b2.word four.b3.word) (refl, (f0.low, (f1.low, (f2.low, (f3.low, tt))))) ∙ sym line);
           }
       by k kind s = cc
 
@@ -135,50 +141,111 @@ module _ (h : Header) (past : Trace) where
       let value : value_of (M w.port w.chan w.id w.line ∷ past) l ≡ burst_into past s.one (value_of past l) = rw (s.named, both) refl in
       memory_now h past e l w ∙ line ∙ d.stores ∙ sym (rw w.is value)
 
-  pub written_step : (e : Event) → IsAccepted h (e ∷ past) → AllByRecursion FitsFields (e ∷ past) → DirtyPlaced h past → WrittenTrue h (e ∷ past)
-  written_step e a r f l x g writes m =
-      elim (granted_before h past e l x g) [
-        | inr gives ↦ absurd (given_unwritten h past e a l x g gives m)
-        | inl stays ↦
-            let o = (accepted_holds h past a.0).grants l x stays.was in
-            elim (written_cases h past e a x.port x.chan x.id x o.0 m) [
-              | inl now ↦
-                  let k = granted_write x (granted_given h past a.0 l x stays.was).kind writes in
-                  let w : WritesLine h past e l = record { port = x.port; chan = x.chan; id = x.id; line = now.line; is = now.is; one = x; out = o.0; on = o.1; may = now.may } in
-                  let s = stores_m h past x.port x.chan x.id now.line l (subst (λ v. IsAccepted h (v ∷ past)) now.is a) x
-                  (outstanding-named h past x.port x.chan x.id x o.0) (and_from _ _ (grant_stores x k.0 k.1 k.2) o.1) in
-                  record {
-                    stored = store_true e a r f l w s;
-                    nowhere = λ p. rw now.is (all_empty h past a.0 x.port x.chan x.id l s p);
-                  }
-              | inr earlier ↦
-                  let q = f.written l x stays.was writes earlier in
-                  record {
-                    stored = later stays.was earlier q;
-                    nowhere = λ p. elim (state_moves h past e a p l) [
-                      | inl less ↦ less.gone (q.nowhere p)
-                      | inr up ↦ absurd (no_rise h past e l p x stays up)
-                    ];
-                  }
+  -- at its G a transaction hasn't begun
+  given_unbegun : (e : Event) → IsAccepted h (e ∷ past) → (l : ℕ) (x : Transaction) → granted h (e ∷ past) l ≡ Some x → gives_line past e l ≡ true
+      → is_begun (e ∷ past) x ≡ true → ⊥
+  given_unbegun e a l x g gives b =
+      elim (cases_Bool (is_read x.chan)) [
+        | inr writes ↦ given_unwritten h past e a l x g gives (else_of (is_read x.chan) _ _ writes b)
+        | inl reads ↦
+            let o = (accepted_holds h (e ∷ past) a).grants l x g in
+            let out : outstanding h (e ∷ past) x.port Read x.id ≡ Some x = ap (λ (c : Channel). outstanding h (e ∷ past) x.port c x.id) (sym (is_read-is x.chan reads)) ∙ o.0 in
+            let some : transfers (e ∷ past) x.port x.id ≢ 0 = λ z. let bad : false ≡ true = rw (reads, z) at b in cc in
+            elim (outstanding-origin h past e x.port Read x.id x out) [
+              | inl new ↦ some (issue_transfers past e x.port x.id x new.0 new.1)
+              | inr old ↦ elim (transfer_moves past e x.port x.id old.other) [
+                | inr t ↦ let bad : false ≡ true = subst (λ (d : Event). gives_line past d l ≡ true) t.is gives in cc
+                | inl none ↦
+                    let stands = under_way h past a.0 x.port x.id x old.was (and_parts (is_line x) _ o.1).0 (λ z. some (none.count ∙ z)) in
+                    let kept = gives_none h past e a l x (ap (granted h past) (sym (is_on-addr x l o.1)) ∙ stands) in cc
+              ]
             ]
       ]
+
+  -- where it begins, memory becomes the value
+  begins_true : (e : Event) → IsAccepted h (e ∷ past) → AllByRecursion FitsFields (e ∷ past) → DirtyPlaced h past → (l : ℕ) (x : Transaction) → Stays h past e l x
+      → StoresUnheld x → is_begun (e ∷ past) x ≡ true → (is_begun past x ≡ true) ⊎ Quiet h (e ∷ past) l
+  begins_true e a r f l x stays stores b =
+      let o = (accepted_holds h past a.0).grants l x stays.was in
+      elim stores [
+        | inl writes_data ↦
+            let writes = stores_write x writes_data in
+            elim (written_cases h past e a x.port x.chan x.id x o.0 (else_of (is_read x.chan) _ _ writes b)) [
+              | inr earlier ↦ inl (rw writes earlier)
+              | inl now ↦
+                  let w : WritesLine h past e l = record { port = x.port; chan = x.chan; id = x.id; line = now.line; is = now.is; one = x; out = o.0; on = o.1; may = now.may } in
+                  let s = stores_m h past x.port x.chan x.id now.line l (subst (λ v. IsAccepted h (v ∷ past)) now.is a) x
+                  (outstanding-named h past x.port x.chan x.id x o.0) (and_from _ _ writes_data o.1) in
+                  inr (record {
+                    stored = store_true e a r f l w s;
+                    nowhere = λ p. rw now.is (all_empty h past a.0 l s.unheld p);
+                  })
+            ]
+        | inr discards ↦
+            let reads = (read_writes_none x read.MakeInvalid (discards_kind x discards)).1 in
+            let out : outstanding h past x.port Read x.id ≡ Some x = ap (λ (c : Channel). outstanding h past x.port c x.id) (sym (is_read-is x.chan reads)) ∙ o.0 in
+            elim (transfer_moves past e x.port x.id (not_named h past e a x.port Read x.id x out)) [
+              | inl none ↦ let had = subst (λ n. not (nat_eq n 0) ≡ true) none.count (rw reads at b) in inl (rw reads had)
+              | inr t ↦
+                  let d = discards_r h past x.port x.id t.resp t.last t.word l (subst (λ v. IsAccepted h (v ∷ past)) t.is a) x
+                  (outstanding-named h past x.port Read x.id x out) (and_from _ _ discards o.1) in
+                  inr (record {
+                    stored = rw t.is (sym (discard_true h past x.port x.id t.resp t.last t.word l r.1 d));
+                    nowhere = λ p. rw t.is (all_empty h past a.0 l d.unheld p);
+                  })
+            ]
+      ]
+
+  pub begun_step : (e : Event) → IsAccepted h (e ∷ past) → AllByRecursion FitsFields (e ∷ past) → DirtyPlaced h past → BegunTrue h (e ∷ past)
+  begun_step e a r f l x g stores b =
+      elim (granted_before h past e l x g) [
+        | inr gives ↦ absurd (given_unbegun e a l x g gives b)
+        | inl stays ↦ elim (begins_true e a r f l x stays stores b) [
+          | inr now ↦ now
+          | inl earlier ↦
+              let q = f.begun l x stays.was stores earlier in
+              record {
+                stored = later stays.was earlier q;
+                nowhere = λ p. elim (state_moves h past e a p l) [
+                  | inl less ↦ less.gone (q.nowhere p)
+                  | inr up ↦ absurd (no_rise h past e l p x stays up)
+                ];
+              }
+        ]
+      ]
     where
-      again : has_memory_write past x.port x.chan x.id ≡ true → (p : ℕ) (c : Channel) (i : ℕ) (s : Writes h past p c i l) → s.one ≡ x → ⊥
-      again earlier p c i s one =
-          let first : has_memory_write past x.port x.chan x.id ≡ false = subst (λ (y : Transaction). has_memory_write past y.port y.chan y.id ≡ false) one s.first in
+      again : is_begun past x ≡ true → (u : Unheld h past l) → u.one ≡ x → ⊥
+      again earlier u one =
+          let first : is_begun past x ≡ false = subst (λ y. is_begun past y ≡ false) one u.first in
           let bad : true ≡ false = sym earlier ∙ first in cc
 
-      later : granted h past l ≡ Some x → has_memory_write past x.port x.chan x.id ≡ true → Quiet h past l → memory_of (e ∷ past) l ≡ value_of (e ∷ past) l
+      no_make : (q t : ℕ) (m : Made h past q l t) → m.one ≡ x → ⊥
+      no_make q t m one =
+          elim stores [
+            | inl writes ↦ write_no_make h past x l (stores_write x writes) q t m one
+            | inr discards ↦ let bad = sym m.kind ∙ ap read_kind one ∙ discards_kind x discards in cc
+          ]
+
+      no_passed : granted h past l ≡ Some x → is_read x.chan ≡ true → has_passed_data h past x ≡ true → ⊥
+      no_passed was reads has =
+          elim stores [
+            | inl stored ↦ let writes = stores_write x stored in cc
+            | inr discards ↦
+                let p = passes_line h past a.0 l x was has in
+                passed_no_make h past a.0 l p.port x p.answer was p.is p.dirty (discards_causes x discards)
+          ]
+
+      later : granted h past l ≡ Some x → is_begun past x ≡ true → Quiet h past l → memory_of (e ∷ past) l ≡ value_of (e ∷ past) l
       later was earlier q =
-          let value = value_stays h past e a l x was (λ p may. unique_valid (state_of h past p l) (may_unique h past p l may) (q.nowhere p)) (write_no_make h past x l writes) (again earlier) in
+          let value = value_stays h past e a l x was (λ p may. unique_valid (state_of h past p l) (may_unique h past p l may) (q.nowhere p)) no_make (again earlier) in
           elim (memory_moves h past e a l) [
             | inl kept ↦ kept ∙ q.stored ∙ sym value
             | inr (inr m) ↦ m.stored l
             | inr (inl w) ↦ elim (writer h past e l w a) [
               | inl passed ↦
                   let one : w.one ≡ x = Some-injective w.one x (sym passed.stands ∙ was) in
-                  let bad : true ≡ false = sym passed.reads ∙ ap (λ (y : Transaction). is_read y.chan) one ∙ writes in cc
+                  absurd (no_passed was (ap (λ (y : Transaction). is_read y.chan) (sym one) ∙ passed.reads) (subst (λ y. has_passed_data h past y ≡ true) one passed.has))
               | inr (inl u) ↦ update_true h past e l w a r f.updates u
-              | inr (inr s) ↦ absurd (again earlier w.port w.chan w.id s (Some-injective s.one x (sym s.stands ∙ was)))
+              | inr (inr s) ↦ absurd (again earlier s.unheld (Some-injective s.one x (sym s.stands ∙ was)))
             ]
           ]
