@@ -12,12 +12,12 @@ use Rattle.ace_top.specs.Progress.{IsNextVerdict, EndsInput, HasReadCause}
 use Rattle.ace_top.specs.Verdict.{IsVerdict}
 
 -- it is the next verdict
-pub error_next : (h : Header) (past : List Event) (count : ℕ) (old new left : Option (List ℕ)) (e : ReadErr) → count ≡ length past → StandsNext (Err e) count old new left
+pub error_next : (h : Header) (past : List Event) (version count : ℕ) (old new left : Option (List ℕ)) (e : ReadErr) → count ≡ length past → version ≡ h.version → StandsNext version (Err e) count old new left
     → IsNextVerdict h past old new (error_answer e)
-error_next h past count old new left (error.Malformed line reason) same s = (s.2, rw same at s.0, rw same at s.1)
-error_next h past count old new left error.TooManyEvents same s = (s.1, rw same at s.0)
-error_next h past count old new left error.ReadFault same s = tt
-error_next h past count old new left error.NoMemory same s = tt
+error_next h past version count old new left (error.Malformed line reason) same read s = (rw read at s.2, rw same at s.0, rw same at s.1)
+error_next h past version count old new left error.TooManyEvents same read s = (s.1, rw same at s.0)
+error_next h past version count old new left error.ReadFault same read s = tt
+error_next h past version count old new left error.NoMemory same read s = tt
 
 -- nothing is claimed of the end of the input
 pub error_end : (e : ReadErr) (left : Option (List ℕ)) → EndsInput (error_answer e) left
@@ -27,11 +27,11 @@ error_end error.ReadFault left = tt
 error_end error.NoMemory left = tt
 
 -- it ends a copy
-pub error_ends : (count : ℕ) (old new left : Option (List ℕ)) (e : ReadErr) → StandsNext (Err e) count old new left → EndsCopy (error_answer e) count old left
-error_ends count old new left (error.Malformed line reason) s = (s.2, s.0, s.1)
-error_ends count old new left error.TooManyEvents s = (s.1, s.0)
-error_ends count old new left error.ReadFault s = s
-error_ends count old new left error.NoMemory s = absurd s
+pub error_ends : (version count : ℕ) (old new left : Option (List ℕ)) (e : ReadErr) → StandsNext version (Err e) count old new left → EndsCopy version (error_answer e) count old left
+error_ends version count old new left (error.Malformed line reason) s = (s.2, s.0, s.1)
+error_ends version count old new left error.TooManyEvents s = (s.1, s.0)
+error_ends version count old new left error.ReadFault s = s
+error_ends version count old new left error.NoMemory s = absurd s
 
 -- a count of faults that stays, or rose for a read fault
 pub error_cause : (before now : ℕ) (e : ReadErr) → HasFaultCause (Err e) before now → HasReadCause before now (error_answer e)

@@ -6,3 +6,4 @@ pub mod Parts
 pub mod ProgressLemmas
 pub mod ShowLemmas
 pub mod WordsAnswered
+pub mod Written

@@ -36,14 +36,14 @@ stands_further bytes h past past' left left' (event, is, readable, consumed, kep
     let e : reverse past' ≡ reverse past ++ event ∷ [] = ap reverse is ∙ reverse-append (event ∷ []) past in
     record {
       header_is_readable = s.header_is_readable;
-      events_are_readable = subst (AllByRecursion IsReadable) (sym e) (readable-more (reverse past) event s.events_are_readable readable);
+      events_are_readable = subst (AllByRecursion (IsReadable h.version)) (sym e) (readable-more h.version (reverse past) event s.events_are_readable readable);
       text = subst (Consumes (Some bytes) left') (sym (ap (trace_text h) e ∙ trace_text-more h (reverse past) event)) (Consumes-trans (Some bytes) left left' _ _ s.text consumed);
       accepted = subst (IsAcceptedBy rules_today h) (sym is) (s.accepted, kept);
     }
 
 -- the bytes end so
 ends : (bytes : List ℕ) (h : Header) (past : List Event) (left : Option (List ℕ)) (ending : Ending) (P : List ℕ → Type 0)
-    → StandsAt bytes h past left → IfTold left P → ((rest : List ℕ) → P rest → Ends ending (reverse past) rest) → Reads bytes h (reverse past) ending
+    → StandsAt bytes h past left → IfTold left P → ((rest : List ℕ) → P rest → Ends h.version ending (reverse past) rest) → Reads bytes h (reverse past) ending
 ends bytes h past left ending P s p end = reads_to bytes h (reverse past) left ending P s.header_is_readable s.events_are_readable s.text p end
 
 -- the verdict that the next line, or the end of the bytes, gives is that of the bytes
@@ -57,7 +57,7 @@ verdict_next bytes h past left left' (Refused index rule) few (number, (event, r
       h,
       reverse past ++ event ∷ [],
       s.header_is_readable,
-      readable-more (reverse past) event s.events_are_readable readable,
+      readable-more h.version (reverse past) event s.events_are_readable readable,
       (rw (length-append, length-reverse) (omega arith)),
       (parts.0, parts.1 ∙ ap (λ t. t ++ parts.0) (sym (trace_text-more h (reverse past) event))),
       next_breaks rules_today h past event rule s.accepted broken ∙ ap (λ n. Some (record { index = n; rule = rule })) (sym number),
@@ -67,7 +67,7 @@ verdict_next bytes h past left left' (Refused index rule) few (number, (event, r
     told None = tt
     told (Some rest) = tt
 verdict_next bytes h past left left' (Malformed line reason) few next s =
-    let reads = ends bytes h past left (Bad line reason) (λ rest. HasBadLine rest reason) s next.0 (λ rest bad. ((rw length-reverse next.1), (rw length-reverse next.2), bad)) in
+    let reads = ends bytes h past left (Bad line reason) (λ rest. HasBadLine h.version rest reason) s next.0 (λ rest bad. ((rw length-reverse next.1), (rw length-reverse next.2), bad)) in
     inr (length past, (h, reverse past, reads, accepted_no_break rules_today h past s.accepted, length-reverse past))
 verdict_next bytes h past left left' LimitEvents few next s =
     let reads = ends bytes h past left Full (λ rest. rest ≢ []) s next.0 (λ rest some. ((rw length-reverse next.1), some)) in

@@ -12,48 +12,49 @@ use Rattle.ace_top.specs.Output.{AppendsPart}
 use Rattle.ace_top.specs.declared.answer.Answer.{Answer}
 use Rattle.ace_top.specs.declared.answer.Answer.TheVariants.{Accepted, Refused, Shown, Usage, Malformed, ReadFault, LimitEvents, NoMemory}
 
--- these events were read, and their lines were added to the text of the writer
-pub record HasCopied {K : Type 0} (held : K → Option (List ℕ)) (old new : Option (List ℕ)) (writer writer' : Writer K)
+-- These events were read in a trace of the one version, and their lines in the other were added to the text of the writer.
+pub record HasCopied {K : Type 0} (held : K → Option (List ℕ)) (from to : ℕ) (old new : Option (List ℕ)) (writer writer' : Writer K)
     (events : List Event) : Type 0 where
-  pub readable : AllByRecursion IsReadable events
+  pub readable : AllByRecursion (IsReadable from) events
   pub few : length events ≤ most_events
-  pub taken : Consumes old new (events_text events)
+  pub taken : Consumes old new (events_text from events)
   pub put : (before : Option (List ℕ)) (text : List ℕ) → GivesFront held before text writer
-      → GivesFront held before (text ++ events_text events) writer'
+      → GivesFront held before (text ++ events_text to events) writer'
 
--- these events, readable and not too many, were read
-pub record HasWritten (old new : Option (List ℕ)) (events : List Event) : Type 0 where
-  pub readable : AllByRecursion IsReadable events
+-- these events, readable in a trace of the version and not too many, were read
+pub record HasWritten (from : ℕ) (old new : Option (List ℕ)) (events : List Event) : Type 0 where
+  pub readable : AllByRecursion (IsReadable from) events
   pub few : length events ≤ most_events
-  pub taken : Consumes old new (events_text events)
+  pub taken : Consumes old new (events_text from events)
 
 -- whatever the text of the writer was, the sink holds that and this more of it
 abbrev pub GivesMore : {K : Type 0} → (K → Option (List ℕ)) → Writer K → List ℕ → Option (List ℕ) → Type 0
 GivesMore held writer more now = (before : Option (List ℕ)) (text : List ℕ) → GivesFront held before text writer → Appends before now (text ++ more)
 
--- a front was appended of this text and the lines of events that were read
-pub record WritesPart (before now : Option (List ℕ)) (text : List ℕ) (old : Option (List ℕ)) : Type 0 where
+-- a front was appended of this text and the lines in the one version of events that were read in the other
+pub record WritesPart (from to : ℕ) (before now : Option (List ℕ)) (text : List ℕ) (old : Option (List ℕ)) : Type 0 where
   pub events : List Event
   pub next : Option (List ℕ)
-  pub written : HasWritten old next events
-  pub part : AppendsPart before now (text ++ events_text events)
+  pub written : HasWritten from old next events
+  pub part : AppendsPart before now (text ++ events_text to events)
 
--- after so many events this one was read, and its line was added to the text of the writer
-pub record CopiesNext {K : Type 0} (held : K → Option (List ℕ)) (count : ℕ) (old new : Option (List ℕ)) (writer writer' : Writer K)
+-- After so many events this one was read in a trace of the one version, and its line in the other was added to the text of
+-- the writer.
+pub record CopiesNext {K : Type 0} (held : K → Option (List ℕ)) (from to : ℕ) (count : ℕ) (old new : Option (List ℕ)) (writer writer' : Writer K)
     (event : Event) : Type 0 where
   pub room : count < most_events
-  pub readable : IsReadable event
-  pub taken : Consumes old new (line_text (event_text event))
+  pub readable : IsReadable from event
+  pub taken : Consumes old new (line_text (event_text from event))
   pub put : (before : Option (List ℕ)) (text : List ℕ) → GivesFront held before text writer
-      → GivesFront held before (text ++ line_text (event_text event)) writer'
+      → GivesFront held before (text ++ line_text (event_text to event)) writer'
 
--- why the copy ends after so many events: by what stands next, and by what is left of the source after that was read
-abbrev pub EndsCopy : Answer → ℕ → Option (List ℕ) → Option (List ℕ) → Type 0
-EndsCopy Shown count next left = IsAtEnd next
-EndsCopy (Malformed line reason) count next left = IfTold next (λ bytes. HasBadLine bytes reason) × (count < most_events) × (line ≡ count + 3)
-EndsCopy LimitEvents count next left = IfTold next (λ bytes. bytes ≢ []) × (count ≡ most_events)
-EndsCopy ReadFault count next left = IsPending next left
-EndsCopy NoMemory count next left = ⊥
-EndsCopy (Accepted events) count next left = ⊥
-EndsCopy (Refused index rule) count next left = ⊥
-EndsCopy Usage count next left = ⊥
+-- why the copy of a trace of a version ends after so many events: by what stands next, and by what is left of the source after that was read
+abbrev pub EndsCopy : ℕ → Answer → ℕ → Option (List ℕ) → Option (List ℕ) → Type 0
+EndsCopy from Shown count next left = IsAtEnd next
+EndsCopy from (Malformed line reason) count next left = IfTold next (λ bytes. HasBadLine from bytes reason) × (count < most_events) × (line ≡ count + 3)
+EndsCopy from LimitEvents count next left = IfTold next (λ bytes. bytes ≢ []) × (count ≡ most_events)
+EndsCopy from ReadFault count next left = IsPending next left
+EndsCopy from NoMemory count next left = ⊥
+EndsCopy from (Accepted events) count next left = ⊥
+EndsCopy from (Refused index rule) count next left = ⊥
+EndsCopy from Usage count next left = ⊥

@@ -7,4 +7,5 @@ pub mod Progress
 pub mod Show
 pub mod Texts
 pub mod Verdict
+pub mod Versions
 pub mod Words

@@ -16,25 +16,25 @@ use Rattle.ace_top.specs.declared.answer.Answer.TheVariants.{Accepted, Refused, 
 -- are left.
 pub record StandsAt (bytes : List ℕ) (header : Header) (past : List Event) (left : Option (List ℕ)) : Type 0 where
   pub header_is_readable : IsReadableHeader header
-  pub events_are_readable : AllByRecursion IsReadable (reverse past)
+  pub events_are_readable : AllByRecursion (IsReadable header.version) (reverse past)
   pub text : Consumes (Some bytes) left (trace_text header (reverse past))
   pub accepted : IsAcceptedBy rules_today header past
 
 -- one more event was read and found fine
 abbrev pub TakesEvent : Header → List Event → List Event → Option (List ℕ) → Option (List ℕ) → Type 0
-TakesEvent header past past' left left' = (event : Event) × (past' ≡ event ∷ past) × IsReadable event
-    × Consumes left left' (line_text (event_text event)) × (least_of rules_today header past event ≡ None)
+TakesEvent header past past' left left' = (event : Event) × (past' ≡ event ∷ past) × IsReadable header.version event
+    × Consumes left left' (line_text (event_text header.version event)) × (least_of rules_today header past event ≡ None)
 
 -- The next line breaks a rule.
 abbrev pub TakesBroken : Header → List Event → Option (List ℕ) → Option (List ℕ) → ℕ → Type 0
-TakesBroken header past left left' rule = (event : Event) × IsReadable event
-    × Consumes left left' (line_text (event_text event)) × (least_of rules_today header past event ≡ Some rule)
+TakesBroken header past left left' rule = (event : Event) × IsReadable header.version event
+    × Consumes left left' (line_text (event_text header.version event)) × (least_of rules_today header past event ≡ Some rule)
 
 -- the answer that the next line, or the end of the bytes, gives
 abbrev pub IsNextVerdict : Header → List Event → Option (List ℕ) → Option (List ℕ) → Answer → Type 0
 IsNextVerdict header past left left' (Accepted events) = IsAtEnd left × (events ≡ length past)
 IsNextVerdict header past left left' (Refused index rule) = (index ≡ length past + 1) × TakesBroken header past left left' rule × (length past < most_events)
-IsNextVerdict header past left left' (Malformed line reason) = IfTold left (λ bytes. HasBadLine bytes reason) × (length past < most_events) × (line ≡ length past + 3)
+IsNextVerdict header past left left' (Malformed line reason) = IfTold left (λ bytes. HasBadLine header.version bytes reason) × (length past < most_events) × (line ≡ length past + 3)
 IsNextVerdict header past left left' LimitEvents = IfTold left (λ bytes. bytes ≢ []) × (length past ≡ most_events)
 IsNextVerdict header past left left' ReadFault = ⊤
 IsNextVerdict header past left left' NoMemory = ⊤

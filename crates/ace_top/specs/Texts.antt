@@ -30,7 +30,7 @@ abbrev pub notes_text_of : Answer → List ℕ
 notes_text_of (Accepted events) = []
 notes_text_of (Refused index rule) = []
 notes_text_of Shown = []
-notes_text_of Usage = codes "usage: ace check|run|show|report|gen N|trial N\n"
+notes_text_of Usage = codes "usage: ace check|run|show|migrate|report|gen N|trial N\n"
 notes_text_of (Malformed line reason) = codes "malformed line " ++ decimal line ++ codes ": F" ++ decimal (number_of_reason reason) ++ codes "\n"
 notes_text_of ReadFault = codes "read fault\n"
 notes_text_of LimitEvents = codes "limit events\n"

@@ -21,7 +21,7 @@ ReadsUnbroken bytes count ending =
 -- and this is the least rule that it breaks.
 abbrev pub BeginsBroken : List ℕ → ℕ → ℕ → Type 0
 BeginsBroken bytes index rule =
-    (header : Header) × (events : List Event) × IsReadableHeader header × AllByRecursion IsReadable events × (length events ≤ most_events)
+    (header : Header) × (events : List Event) × IsReadableHeader header × AllByRecursion (IsReadable header.version) events × (length events ≤ most_events)
     × BeginsWith bytes (trace_text header events) × (first_break_by rules_today header events ≡ Some (record { index = index; rule = rule }))
 
 -- the answer that `check` gives to these bytes; a fault of the input and want of memory may take its place

@@ -13,6 +13,9 @@ IsCheck words = IsWord words (codes "check")
 abbrev pub IsShow : List (String Global) → Type 0
 IsShow words = IsWord words (codes "show")
 
+abbrev pub IsMigrate : List (String Global) → Type 0
+IsMigrate words = IsWord words (codes "migrate")
+
 -- The words name a command that is built.
 abbrev pub IsCommand : List (String Global) → Type 0
-IsCommand words = IsCheck words ⊎ IsShow words
+IsCommand words = IsCheck words ⊎ IsShow words ⊎ IsMigrate words

@@ -14,7 +14,7 @@ pub enum Answer {
     Accepted { events: u64 },
     /// This event, counted from 1, is the first that breaks a rule, and this is the least rule that it breaks.
     Refused { index: u64, rule: u8 },
-    /// The trace was shown to its end.
+    /// The trace was written to its end.
     Shown,
     /// The words of the command line name no command.
     Usage,
@@ -94,7 +94,7 @@ pub fn notes_text(answer: Answer) -> ArrayString<64>
             text.push_str(digits.format(reason.number()));
             text.push_str("\n");
         }
-        Answer::Usage => text.push_str("usage: ace check|run|show|report|gen N|trial N\n"),
+        Answer::Usage => text.push_str("usage: ace check|run|show|migrate|report|gen N|trial N\n"),
         Answer::ReadFault => text.push_str("read fault\n"),
         Answer::LimitEvents => text.push_str("limit events\n"),
         Answer::NoMemory => text.push_str("out of memory\n"),

@@ -6,6 +6,7 @@ ghost use Rattle.ace_grammar.specs.Reading.{most_events};
 ghost use Rattle.ace_check.specs.Run.{header_of, past_of, break_of};
 ghost use Rattle.ace_top.specs.Progress.{EndsInput, HasReadCause, IsNextVerdict, TakesEvent, StandsAt};
 ghost use Rattle.ace_top.specs.Answer.{CarriesOut, HasStatusCause};
+ghost use Rattle.ace_top.specs.Versions.{version_read};
 ghost use Rattle.ace_top.specs.Verdict.{IsVerdict, ReadsUnique};
 ghost use Rattle.ace_top.specs.declared.words.Command.TheVariants.{Check};
 
@@ -58,6 +59,7 @@ fn check_events<S: Source>(checker: &mut Checker, reader: &mut Reader<S>) -> Ans
     requires unbroken { break_of checker.old ≡ None }
     requires reads_on { last_answer reader.old ≡ None }
     requires count { count_of reader.old ≡ length (past_of checker.old) }
+    requires same_version { version_read reader.old ≡ (header_of checker.old).version }
     ensures same_source { (source_of reader.new).ghost_name ≡ (source_of reader.old).ghost_name }
     ensures verdict { (bytes : List ℕ) → StandsAt bytes (header_of checker.old) (past_of checker.old) (unread S.left reader.old)
         → IsVerdict bytes result }
@@ -78,8 +80,10 @@ fn check_next<S: Source>(checker: &mut Checker, reader: &mut Reader<S>) -> Optio
     requires unbroken { break_of checker.old ≡ None }
     requires reads_on { last_answer reader.old ≡ None }
     requires count { count_of reader.old ≡ length (past_of checker.old) }
+    requires same_version { version_read reader.old ≡ (header_of checker.old).version }
     ensures same_source { (source_of reader.new).ghost_name ≡ (source_of reader.old).ghost_name }
     ensures header { header_of checker.new ≡ header_of checker.old }
+    ensures read_version { version_read reader.new ≡ version_read reader.old }
     ensures unbroken { IfNone result (break_of checker.new ≡ None) }
     ensures reads_on { IfNone result (last_answer reader.new ≡ None) }
     ensures room { IfNone result (length (past_of checker.old) < most_events) }

@@ -36,7 +36,31 @@ const SIXTEEN: &str = "ACE 1\nPORTS AL\n\
     D 0 00000040 ffffffffffffffff 0 55555555555555555555555555555555555555555555555555555555555555555555555555555555555555555555555555555555555555555555555555555555\n\
     OP 0 0001 skip\n";
 
-const USAGE: &str = "usage: ace check|run|show|report|gen N|trial N\n";
+/// The same trace in version 2.
+const SIXTEEN_IN_2: &str = "ACE 2\nPORTS AL\n\
+    AR 00 1 00000040 7 1 0 0\n\
+    R 00 1 4 1 000102030405060708090a0b0c0d0e0f\n\
+    RK 00 UD\n\
+    AW 01 2 00000080 3 1 2\n\
+    W 01 ffff 1 11111111111111111111111111111111\n\
+    B 01 2 0\n\
+    WK 01 I\n\
+    AC 00 000000c0 7\n\
+    CR 00 1d SC\n\
+    CD 00 1 22222222222222222222222222222222\n\
+    G 00 R 1\n\
+    M 01 W 2 33333333333333333333333333333333333333333333333333333333333333333333333333333333333333333333333333333333333333333333333333333333\n\
+    S 00 00000040 SD\n\
+    L 00 00000040 3 1 44444444444444444444444444444444\n\
+    D 00 00000040 ffffffffffffffff 0 55555555555555555555555555555555555555555555555555555555555555555555555555555555555555555555555555555555555555555555555555555555\n\
+    OP 00 0001 skip\n";
+
+/// An opening memory, and a port of two digits.
+const OPENING: &str = "ACE 2\nPORTS AL\n\
+    MEM 00000040 00112233445566778899aabbccddeeff00000000000000000000000000000000000000000000000000000000000000000000000000000000ffffffffffffffff\n\
+    RK 1f UC\n";
+
+const USAGE: &str = "usage: ace check|run|show|migrate|report|gen N|trial N\n";
 
 /// Calls `ace` with so much room on its outputs: the status, and what these then hold.
 fn answer<R: Threads + Wait + Sync, S: Source>(
@@ -79,6 +103,14 @@ fn verdicts_in_any_pieces(rt: HostRuntime) -> Result<(), Fail> {
             "",
         ),
         ("ACE 1\nPORTS AA", 3, "", "malformed line 2: F1\n"),
+        ("ACE 2\nPORTS AA\n", 0, "accepted 0\n", ""),
+        (OPENING, 1, "refused event 1: K2\n", ""),
+        (
+            "ACE 2\nPORTS AA\nOP 0 0000 ok\n",
+            3,
+            "",
+            "malformed line 3: F4\n",
+        ),
     ] {
         for piece in 1..65 {
             let mut input = MemSource::new(alloc, trace.as_bytes(), &[piece], &[])?;
@@ -146,8 +178,18 @@ fn shown_traces(rt: HostRuntime) -> Result<(), Fail> {
             EMPTY,
             "malformed line 3: F1\n",
         ),
-        ("ACE 2\n", (99, 99), 3, "", "malformed line 1: F7\n"),
+        ("ACE 3\n", (99, 99), 3, "", "malformed line 1: F7\n"),
+        ("ACE 2\n", (99, 99), 3, "", "malformed line 2: F1\n"),
         (SIXTEEN, (2000, 99), 0, SIXTEEN, ""),
+        (SIXTEEN_IN_2, (2000, 99), 0, SIXTEEN_IN_2, ""),
+        (OPENING, (999, 99), 0, OPENING, ""),
+        (
+            "ACE 1\nPORTS A\nMEM 00000040 0\n",
+            (99, 99),
+            3,
+            "ACE 1\nPORTS A\n",
+            "malformed line 3: F2\n",
+        ),
         (EMPTY, (7, 99), 5, "ACE 1\nP", "write fault\n"),
     ] {
         for piece in [1, 7, 64] {
@@ -172,6 +214,50 @@ fn shown_traces(rt: HostRuntime) -> Result<(), Fail> {
     assert_eq!(rt;
         out.bytes(),
         b"ACE 1\nPORTS AA\nAR 0 0 00000040 7 1 0 0\n".as_slice()
+    );
+    assert_eq!(rt; notes.bytes(), b"read fault\n".as_slice());
+    Ok(())
+}
+
+#[test]
+fn migrated_traces(rt: HostRuntime) -> Result<(), Fail> {
+    let alloc = rt.alloc();
+    for (trace, rooms, status, wanted_out, wanted_notes) in [
+        (
+            "ACE 1\nPORTS A\nOP 0 0000 ok\n",
+            (99, 99),
+            0,
+            "ACE 2\nPORTS A\nOP 00 0000 ok\n",
+            "",
+        ),
+        (SIXTEEN, (2000, 99), 0, SIXTEEN_IN_2, ""),
+        (SIXTEEN_IN_2, (2000, 99), 0, SIXTEEN_IN_2, ""),
+        (OPENING, (999, 99), 0, OPENING, ""),
+        (
+            "ACE 1\nPORTS AA\nRK f UC\nRK 00 UC\n",
+            (99, 99),
+            3,
+            "ACE 2\nPORTS AA\nRK 0f UC\n",
+            "malformed line 4: F4\n",
+        ),
+        ("ACE 3\n", (99, 99), 3, "", "malformed line 1: F7\n"),
+        ("", (99, 99), 3, "", "malformed line 1: F1\n"),
+        (EMPTY, (7, 99), 5, "ACE 2\nP", "write fault\n"),
+    ] {
+        for piece in [1, 7, 64] {
+            let mut input = MemSource::new(alloc, trace.as_bytes(), &[piece], &[])?;
+            let (given, out, notes) = answer(&rt, alloc, &["migrate"], &mut input, rooms)?;
+            assert_eq!(rt; given, status, "{trace}");
+            assert_eq!(rt; out.bytes(), wanted_out.as_bytes(), "{trace}");
+            assert_eq!(rt; notes.bytes(), wanted_notes.as_bytes(), "{trace}");
+        }
+    }
+    let mut fails = MemSource::new(alloc, SNOOPED_OUT.as_bytes(), &[8], &[5])?;
+    let (given, out, notes) = answer(&rt, alloc, &["migrate"], &mut fails, (999, 99))?;
+    assert_eq!(rt; given, 4);
+    assert_eq!(rt;
+        out.bytes(),
+        b"ACE 2\nPORTS AA\nAR 00 0 00000040 7 1 0 0\n".as_slice()
     );
     assert_eq!(rt; notes.bytes(), b"read fault\n".as_slice());
     Ok(())

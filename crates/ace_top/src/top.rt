@@ -9,7 +9,7 @@ ghost use Rattle.ace_top.specs.Answer.{AnswersWords, BreaksOffWords};
 use crate::answer::Answer;
 use crate::check::tell_verdict;
 use crate::output::conclude;
-use crate::show::show;
+use crate::show::write_out;
 use crate::words::{Command, command_of};
 use ace_io::{Gate, Sink, Source};
 use std::alloc::Global;
@@ -59,7 +59,8 @@ pub fn ace<R: Threads + Wait + Sync, S: Source, K: Sink, E: Sink, G: Gate + Sync
 {
     match command_of(words) {
         Some(Command::Check) => tell_verdict(alloc, input, out, notes),
-        Some(Command::Show) => show(alloc, input, out, notes),
+        Some(Command::Show) => write_out(alloc, input, out, notes, false),
+        Some(Command::Migrate) => write_out(alloc, input, out, notes, true),
         None => conclude(out, notes, Answer::Usage),
     }
 }

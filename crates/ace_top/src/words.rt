@@ -10,6 +10,8 @@ pub enum Command {
     Check,
     /// To write a trace as it reads.
     Show,
+    /// To write a trace in version 2.
+    Migrate,
 }
 
 /// Whether there is one word, and it is this one.
@@ -27,6 +29,8 @@ pub fn command_of(words: &[String]) -> Option<Command>
         Some(Command::Check)
     } else if is_word(words, "show") {
         Some(Command::Show)
+    } else if is_word(words, "migrate") {
+        Some(Command::Migrate)
     } else {
         None
     }

@@ -8,6 +8,10 @@ use Rattle.ace_writer.specs.declared.writer.Writer.{Writer}
 abbrev pub sink_of : {K : Type 0} → Writer K → MutBor K
 sink_of writer = writer.sink
 
+-- the version of the trace that it writes
+abbrev pub version_of : {K : Type 0} → Writer K → ℕ
+version_of writer = writer.version
+
 -- the bytes that it keeps until there are enough of them
 abbrev pub in_hand : {K : Type 0} → Writer K → List ℕ
 in_hand writer = writer.text

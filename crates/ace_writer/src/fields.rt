@@ -1,7 +1,8 @@
 // The fields of a line, each behind a space.
 ghost use Rattle.std.specs.Prelude.{◌≡◌, ◌<◌, ◌≤◌, ◌+◌, ◌*◌, ◌^◌, ◌++◌, ◌∷◌, [], length};
 ghost use Rattle.std.specs.Char.{digit_char};
-ghost use Rattle.ace_event.specs.Text.{hex_text, flag_text, state_text, channel_text, outcome_text, line_digits};
+ghost use Rattle.ace_event.specs.Text.{hex_text, flag_text, state_text, channel_text, outcome_text, line_digits, port_text};
+ghost use Rattle.ace_event.specs.Range.{IsPort};
 
 use crate::text_buf::TextBuf;
 use ace_codes::LineState;
@@ -51,6 +52,20 @@ impl TextBuf {
     {
         self.push(b' ');
         self.push(digit(n));
+    }
+
+    /// A space and a port, in a trace of the version.
+    pub(crate) fn push_port(&mut self, version: u8, port: u8)
+        requires port { IsPort version port }
+        requires room { length self.old + 3 ≤ 4096 }
+        ensures value { self.new ≡ self.old ++ 32 ∷ port_text version port }
+        ensures len { length self.new ≤ length self.old + 3 }
+    {
+        if version == 1 {
+            self.push_digit(port);
+        } else {
+            self.push_number(2, u128::from(port));
+        }
     }
 
     /// A space and `0` or `1`.

@@ -21,11 +21,20 @@ const HEADER: Header = Header {
 
 const HEADER_TEXT: &[u8] = b"ACE 1\nPORTS ALA\n";
 
+/// The same ports in version 2.
+const SECOND_HEADER: Header = Header {
+    version: 2,
+    ports: 3,
+    ace: 5,
+};
+
+const SECOND_HEADER_TEXT: &[u8] = b"ACE 2\nPORTS ALA\n";
+
 /// Writes a trace of one event.
 fn write_one<K: Sink>(sink: &mut K, header: &Header, event: &Event) -> Result<(), WriteErr>
     requires header { IsHeader header.now }
-    requires event { InRange event.now }
-    ensures { OnOk result (Appends (K.held sink.old) (K.held sink.new) (header_text header.now ++ line_text (event_text event.now))) }
+    requires event { InRange header.now.version event.now }
+    ensures { OnOk result (Appends (K.held sink.old) (K.held sink.new) (header_text header.now ++ line_text (event_text header.now.version event.now))) }
 {
     match Writer::start(sink, header) {
         Ok(mut writer) => match writer.put(event) {
@@ -36,17 +45,38 @@ fn write_one<K: Sink>(sink: &mut K, header: &Header, event: &Event) -> Result<()
     }
 }
 
-/// Whether a trace of this event has this line.
-fn has_line(alloc: Global, event: Event, line: &[u8]) -> Result<bool, Fail>
-    requires { InRange event }
+/// Whether a trace of this event has this header and this line.
+fn has_lines(
+    alloc: Global,
+    header: &Header,
+    header_text: &[u8],
+    event: Event,
+    line: &[u8],
+) -> Result<bool, Fail>
+    requires header { IsHeader header.now }
+    requires event { InRange header.now.version event }
 {
     let mut sink = MemSink::new(alloc, 1000, &[])?;
-    write_one(&mut sink, &HEADER, &event)?;
-    let (header, rest) = sink
+    write_one(&mut sink, header, &event)?;
+    let (written, rest) = sink
         .bytes()
-        .split_at_checked(HEADER_TEXT.len())
+        .split_at_checked(header_text.len())
         .ok_or("short")?;
-    Ok(header == HEADER_TEXT && rest.strip_suffix(b"\n") == Some(line))
+    Ok(written == header_text && rest.strip_suffix(b"\n") == Some(line))
+}
+
+/// Whether a trace of this event has this line in version 1.
+fn has_line(alloc: Global, event: Event, line: &[u8]) -> Result<bool, Fail>
+    requires { InRange 1 event }
+{
+    has_lines(alloc, &HEADER, HEADER_TEXT, event, line)
+}
+
+/// The same in version 2.
+fn has_second_line(alloc: Global, event: Event, line: &[u8]) -> Result<bool, Fail>
+    requires { InRange 2 event }
+{
+    has_lines(alloc, &SECOND_HEADER, SECOND_HEADER_TEXT, event, line)
 }
 
 #[test]
@@ -183,6 +213,151 @@ fn writes_each_record(rt: HostRuntime) -> Result<(), Fail> {
         res: Outcome::Skip,
     };
     assert!(rt; has_line(alloc, op, b"OP 2 001f skip")?);
+    Ok(())
+}
+
+#[test]
+fn writes_each_record_in_version_2(rt: HostRuntime) -> Result<(), Fail> {
+    let alloc = rt.alloc();
+    let word = 0x0123_4567_89ab_cdef_0011_2233_4455_6677;
+    let line = Line {
+        words: [1, word, 0, u128::MAX],
+    };
+    let ar = Event::Ar {
+        port: 26,
+        id: 5,
+        addr: 0x0123_cdef,
+        snoop: 7,
+        dom: 2,
+        bar: 1,
+        lock: true,
+    };
+    assert!(rt; has_second_line(alloc, ar, b"AR 1a 5 0123cdef 7 2 1 1")?);
+    let r = Event::R {
+        port: 1,
+        id: 2,
+        resp: 12,
+        last: false,
+        word,
+    };
+    assert!(rt; has_second_line(alloc, r, b"R 01 2 c 0 0123456789abcdef0011223344556677")?);
+    let rk = Event::Rk {
+        port: 31,
+        st: LineState::UC,
+    };
+    assert!(rt; has_second_line(alloc, rk, b"RK 1f UC")?);
+    let aw = Event::Aw {
+        port: 15,
+        id: 14,
+        addr: 0xffff_fffe,
+        snoop: 5,
+        dom: 1,
+        bar: 0,
+    };
+    assert!(rt; has_second_line(alloc, aw, b"AW 0f e fffffffe 5 1 0")?);
+    let w = Event::W {
+        port: 16,
+        strb: 0xf00d,
+        last: true,
+        word: 15,
+    };
+    assert!(rt; has_second_line(alloc, w, b"W 10 f00d 1 0000000000000000000000000000000f")?);
+    let b = Event::B {
+        port: 255,
+        id: 2,
+        resp: 3,
+    };
+    assert!(rt; has_second_line(alloc, b, b"B ff 2 3")?);
+    let wk = Event::Wk {
+        port: 5,
+        st: LineState::SC,
+    };
+    assert!(rt; has_second_line(alloc, wk, b"WK 05 SC")?);
+    let ac = Event::Ac {
+        port: 20,
+        addr: 0x89ab_cdef,
+        snoop: 14,
+    };
+    assert!(rt; has_second_line(alloc, ac, b"AC 14 89abcdef e")?);
+    let cr = Event::Cr {
+        port: 6,
+        resp: 0x19,
+        st: LineState::SD,
+    };
+    assert!(rt; has_second_line(alloc, cr, b"CR 06 19 SD")?);
+    let cd = Event::Cd {
+        port: 17,
+        last: false,
+        word: 0,
+    };
+    assert!(rt; has_second_line(alloc, cd, b"CD 11 0 00000000000000000000000000000000")?);
+    let g = Event::G {
+        port: 9,
+        chan: Channel::Write,
+        id: 8,
+    };
+    assert!(rt; has_second_line(alloc, g, b"G 09 W 8")?);
+    let m = Event::M {
+        port: 30,
+        chan: Channel::Read,
+        id: 2,
+        line,
+    };
+    assert!(rt;
+        has_second_line(
+            alloc,
+            m,
+            b"M 1e R 2 000000000000000000000000000000010123456789abcdef001122334455667700000000000000000000000000000000ffffffffffffffffffffffffffffffff"
+        )?
+    );
+    let s = Event::S {
+        port: 2,
+        addr: 64,
+        st: LineState::I,
+    };
+    assert!(rt; has_second_line(alloc, s, b"S 02 00000040 I")?);
+    let l = Event::L {
+        port: 19,
+        addr: 128,
+        w: 2,
+        x: true,
+        word: 255,
+    };
+    assert!(rt;
+        has_second_line(
+            alloc,
+            l,
+            b"L 13 00000080 2 1 000000000000000000000000000000ff"
+        )?
+    );
+    let d = Event::D {
+        port: 1,
+        addr: 192,
+        strobe: 0x8000_0000_0000_0001,
+        x: false,
+        line,
+    };
+    assert!(rt;
+        has_second_line(
+            alloc,
+            d,
+            b"D 01 000000c0 8000000000000001 0 000000000000000000000000000000010123456789abcdef001122334455667700000000000000000000000000000000ffffffffffffffffffffffffffffffff"
+        )?
+    );
+    let op = Event::Op {
+        port: 21,
+        k: 0x1f,
+        res: Outcome::Skip,
+    };
+    assert!(rt; has_second_line(alloc, op, b"OP 15 001f skip")?);
+    let mem = Event::Mem { addr: 0x40, line };
+    assert!(rt;
+        has_second_line(
+            alloc,
+            mem,
+            b"MEM 00000040 000000000000000000000000000000010123456789abcdef001122334455667700000000000000000000000000000000ffffffffffffffffffffffffffffffff"
+        )?
+    );
     Ok(())
 }
 

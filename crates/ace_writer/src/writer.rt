@@ -12,20 +12,21 @@ use ace_event::{Event, Header};
 use ace_io::{Sink, give_all};
 
 /// The most bytes of a line, with its line feed.
-const LINE_LIMIT: usize = 161;
+const LINE_LIMIT: usize = 162;
 
 /// Writes a trace: its header, and a line for each event. The text waits until there are about 4096 bytes of it, or for
 /// a call of `flush`, and then goes out in one piece. What waits when the writer is dropped is never given.
 #[derive(Drop)]
 pub struct Writer<'a, K: Sink> {
     sink: &'a mut K,
+    version: u8,
     text: TextBuf,
     given: u64,
     failed: bool,
 }
 
 impl<'a, K: Sink> Writer<'a, K> {
-    ghost use Rattle.ace_writer.specs.Given.{sink_of, in_hand, has_failed, given_of, GivesFront};
+    ghost use Rattle.ace_writer.specs.Given.{sink_of, version_of, in_hand, has_failed, given_of, GivesFront};
 
     /// A writer whose text is the header's two lines. Nothing is given yet, so it always succeeds: where the sink fails,
     /// a later call answers so.
@@ -35,35 +36,38 @@ impl<'a, K: Sink> Writer<'a, K> {
         ensures same_sink { IfOk result (λ w. (sink_of w).ghost_name ≡ sink.entry.ghost_name) }
         ensures kept { IfOk result (λ w. (sink_of w).now ≡ sink.entry.now) }
         ensures text { IfOk result (λ w. GivesFront K.held (K.held sink.entry.now) (header_text header.now) w) }
+        ensures version { IfOk result (λ w. version_of w ≡ header.now.version) }
         ensures whole { IfOk result (λ w. has_failed w ≡ false) }
     {
         let mut text = TextBuf::empty();
         text.push_header(header);
         Ok(Writer {
             sink,
+            version: header.version,
             text,
             given: 0,
             failed: false,
         })
     }
 
-    /// Adds the line of the event to the text. Some of the text before it may be given now.
+    /// Adds the line of the event, as the version of the header has it, to the text. Some of the text before it may be given now.
     ///
     /// # Errors
     ///
     /// `WriteFault` where the sink's count of faults rose in this call, or where an earlier call of this writer
     /// answered it; then nothing is given. What was given is a front of the text in each case.
     pub fn put(&mut self, event: &Event) -> Result<(), WriteErr>
-        requires { InRange event.now }
+        requires { InRange (version_of self.old) event.now }
         ensures same_sink { (sink_of self.new).ghost_name ≡ (sink_of self.old).ghost_name }
+        ensures same_version { version_of self.new ≡ version_of self.old }
         ensures text { (before : Option (List ℕ)) (text : List ℕ) → GivesFront K.held before text self.old
-            → GivesFront K.held before (text ++ line_text (event_text event.now)) self.new }
+            → GivesFront K.held before (text ++ line_text (event_text (version_of self.old) event.now)) self.new }
         ensures failed { has_failed self.new ≡ is_err result }
         ensures again { has_failed self.old ≡ true → self.new ≡ self.old }
         ensures cause { has_failed self.old ≡ false → HasCause (K.faults (sink_of self.old).now) (K.faults (sink_of self.new).now) result }
     {
         self.give_over(TEXT_ROOM - LINE_LIMIT)?;
-        self.text.push_event(event);
+        self.text.push_event(self.version, event);
         self.text.push(b'\n');
         Ok(())
     }
@@ -75,6 +79,7 @@ impl<'a, K: Sink> Writer<'a, K> {
     /// As those of `put`.
     pub fn flush(&mut self) -> Result<(), WriteErr>
         ensures same_sink { (sink_of self.new).ghost_name ≡ (sink_of self.old).ghost_name }
+        ensures same_version { version_of self.new ≡ version_of self.old }
         ensures text { (before : Option (List ℕ)) (text : List ℕ) → GivesFront K.held before text self.old
             → GivesFront K.held before text self.new }
         ensures whole { OnOk result ((before : Option (List ℕ)) (text : List ℕ) → GivesFront K.held before text self.old
@@ -96,6 +101,7 @@ impl<'a, K: Sink> Writer<'a, K> {
     /// Gives the text that waits where it has more bytes than these. Its error is as those of `put`.
     fn give_over(&mut self, most: usize) -> Result<(), WriteErr>
         ensures same_sink { (sink_of self.new).ghost_name ≡ (sink_of self.old).ghost_name }
+        ensures same_version { version_of self.new ≡ version_of self.old }
         ensures text { (before : Option (List ℕ)) (text : List ℕ) → GivesFront K.held before text self.old
             → GivesFront K.held before text self.new }
         ensures room { OnOk result (length (in_hand self.new) ≤ most) }

@@ -7,7 +7,7 @@ returns-in-Err-flush-clause-part g c before text t =
     record {
       events = copied.0;
       next = copied.1;
-      written = written _ _ _ _ _ _ copied.2;
+      written = written _ _ _ _ _ _ _ _ copied.2;
       part = front_given _ _ _ _ (c.flush.ensures.text before _ (copied.2.put before text t));
     }
 
@@ -17,6 +17,6 @@ returns-in-Err-clause-part g c before text t =
     record {
       events = copied.0;
       next = copied.1;
-      written = written _ _ _ _ _ _ copied.2;
+      written = written _ _ _ _ _ _ _ _ copied.2;
       part = front_given _ _ _ _ (copied.2.put before text t);
     }

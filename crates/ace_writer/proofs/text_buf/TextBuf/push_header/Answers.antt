@@ -1,6 +1,7 @@
 use Rattle.std.proofs.Common.{◌≡◌, arith, ◌∙◌, ap, ◌++◌, ◌∷◌, [], append_assoc, map, codes}
 use Rattle.std.specs.List.{range_with_len}
 use Rattle.std.proofs.lemmas.List.FromFn.{map-range_with_len_more}
+use Rattle.ace_event.specs.Text.{version_text, line_text}
 use Rattle.ace_event.specs.Ports.{port_letter}
 use Rattle.ace_writer.proofs.text_buf.TextBuf.push_header.Goals as goal
 
@@ -8,11 +9,15 @@ pub loop-port-preserved : goal.loop-port-preserved
 loop-port-preserved c = record {
   in_ports = omega (arith, c.loop-port-test.true);
   len = omega (arith, c.loop-port.invariant.len, c.push.ensures.len);
-  text = rw (map-range_with_len_more (port_letter c.args.header.now.ace) 0 c.loop-port.port c.loop-port.port (omega arith), c.push.ensures.value, c.letter_of.ensures, c.loop-port.invariant.text) (append_assoc c.args.self.now _ _);
+  text = let letters = codes "PORTS " ++ map (port_letter c.args.header.now.ace) (range_with_len 0 c.loop-port.port) in
+      rw (map-range_with_len_more (port_letter c.args.header.now.ace) 0 c.loop-port.port c.loop-port.port (omega arith), c.push.ensures.value, c.letter_of.ensures, c.loop-port.invariant.text) (append_assoc c.args.self.now _ _ ∙ ap (λ l. c.args.self.now ++ l) (append_assoc (line_text (version_text c.args.header.now.version)) letters (port_letter c.args.header.now.ace c.loop-port.port ∷ [])));
 }
 
 pub returns : goal.returns
 returns c =
+    let first = line_text (version_text c.args.header.now.version) in
+    let letters = codes "PORTS " ++ map (port_letter c.args.header.now.ace) (range_with_len 0 c.loop-port.port) in
     let end : c.loop-port.port ≡ c.args.header.now.ports = omega (arith, c.loop-port-test.false, c.loop-port.invariant.in_ports) in
     c.push-2.ensures.value ∙ ap (λ l. l ++ 10 ∷ []) c.loop-port.invariant.text ∙ append_assoc c.args.self.now _ (10 ∷ [])
-    ∙ ap (λ n. c.args.self.now ++ ((codes "ACE 1\nPORTS " ++ map (port_letter c.args.header.now.ace) (range_with_len 0 n)) ++ 10 ∷ [])) end
+    ∙ ap (λ l. c.args.self.now ++ l) (append_assoc first letters (10 ∷ []))
+    ∙ ap (λ n. c.args.self.now ++ (first ++ ((codes "PORTS " ++ map (port_letter c.args.header.now.ace) (range_with_len 0 n)) ++ 10 ∷ []))) end
