@@ -48,7 +48,8 @@ pub record CopiesNext {K : Type 0} (held : K → Option (List ℕ)) (from to : �
   pub put : (before : Option (List ℕ)) (text : List ℕ) → GivesFront held before text writer
       → GivesFront held before (text ++ line_text (event_text to event)) writer'
 
--- why the copy of a trace of a version ends after so many events: by what stands next, and by what is left of the source after that was read
+-- Why the copy of a trace of a version ends after so many events: by what stands next, and by what is left of the source
+-- after that was read.
 abbrev pub EndsCopy : ℕ → Answer → ℕ → Option (List ℕ) → Option (List ℕ) → Type 0
 EndsCopy from Shown count next left = IsAtEnd next
 EndsCopy from (Malformed line reason) count next left = IfTold next (λ bytes. HasBadLine from bytes reason) × (count < most_events) × (line ≡ count + 3)

@@ -25,22 +25,23 @@ abbrev pub ShowsTrace : Bool → List ℕ → List ℕ → Ending → Type 0
 ShowsTrace second bytes text ending =
     (header : Header) × (events : List Event) × Reads bytes header events ending × (text ≡ trace_text (header_written second header) events)
 
--- The text is that of a header and events, at most as many as a trace may have, with which the bytes begin.
+-- The text is that of a header and events, at most as many as a trace may have, with which the bytes begin, in
+-- version 2 where `second`.
 abbrev pub ShowsFront : Bool → List ℕ → List ℕ → Type 0
 ShowsFront second bytes text = (header : Header) × (events : List Event) × IsReadableHeader header × AllByRecursion (IsReadable header.version) events
     × (length events ≤ most_events) × BeginsWith bytes (trace_text header events) × (text ≡ trace_text (header_written second header) events)
 
--- The text is that of the header and the events that stand whole in the bytes that were taken. What was taken after them
--- is less than a line.
+-- The text is that of the header and the events that stand whole in the bytes that were taken, in version 2 where
+-- `second`. What was taken after them is less than a line.
 abbrev pub ShowsTaken : Bool → List ℕ → Option (List ℕ) → List ℕ → Type 0
 ShowsTaken second bytes left text = (header : Header) × (events : List Event) × (pending : List ℕ)
     × IsReadableHeader header × AllByRecursion (IsReadable header.version) events × (length events ≤ most_events)
     × HasNoLf pending × (length pending < 256) × Consumes (Some bytes) left (trace_text header events ++ pending)
     × (text ≡ trace_text (header_written second header) events)
 
--- The answer that `show`, or `migrate` where `second`, gives to these bytes, of which these are left, and the text that it writes: at a fault of the
--- input what stands whole in the bytes that were taken, and nothing where the header doesn't. Want of memory may take
--- its place.
+-- The answer that `show`, or `migrate` where `second`, gives to these bytes, of which these are left, and the text that it
+-- writes: at a fault of the input what stands whole in the bytes that were taken, and nothing where the header doesn't.
+-- Want of memory may take its place.
 abbrev pub IsShown : Bool → List ℕ → Option (List ℕ) → Answer → List ℕ → Type 0
 IsShown second bytes left Shown text = ShowsTrace second bytes text Whole
 IsShown second bytes left (Malformed line reason) text = (HasBadHeader bytes line reason × (text ≡ [])) ⊎ ShowsTrace second bytes text (Bad line reason)
