@@ -8,6 +8,8 @@ ghost use Rattle.ace_event.specs.declared.header.Header.{Header};
 ghost use Rattle.ace_model.specs.declared.breaks.Break.{Break};
 ghost use Rattle.ace_model.specs.Trace.{Trace};
 ghost use Rattle.ace_model.specs.Accepted.{Rule, AreInOrder, rules, IsAcceptedBy, IsAccepted, FirstBreakBy, first_break_by};
+ghost use Rattle.ace_model.specs.Accepted.{least_broken, least_of};
+ghost use Rattle.ace_model.specs.Shares.{lesser, port_rules, line_rules, system_rules};
 ghost use Rattle.ace_model.specs.Today.{rules_today};
 ghost use Rattle.ace_model.specs.Unique.{Unique, OneDirty};
 ghost use Rattle.ace_model.specs.Coherent.{Coherent};
@@ -28,6 +30,12 @@ pub fn first_break_is_exact()
 pub fn rules_are_in_order()
     ensures all { AreInOrder rules }
     ensures today { AreInOrder rules_today }
+{}
+
+/// The three shares are all rules: the least rule that an event breaks is the least over the shares.
+pub fn shares_are_all_rules()
+    ensures { (h : Header) (past : Trace) (e : Event) → least_broken h past e
+        ≡ lesser (least_of port_rules h past e) (lesser (least_of line_rules h past e) (least_of system_rules h past e)) }
 {}
 
 /// An accepted trace is coherent: at every point a unique line has one holder, a line has at most one dirty holder, and data
