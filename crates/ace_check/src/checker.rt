@@ -108,3 +108,95 @@ impl Checker {
         self.take(event, &target, failed)
     }
 }
+
+impl Checker {
+    ghost use Rattle.std.specs.Prelude.{◌≡◌, ◌<◌, ◌-◌, ◌^◌, ◌∷◌, ℕ, true, false, None, Some, Ok, Err, IfOk, OnOk, OnErr, length};
+    ghost use Rattle.ace_event.specs.declared.event.Event.{Event};
+    ghost use Rattle.ace_event.specs.declared.header.Header.{Header};
+    ghost use Rattle.ace_model.specs.declared.breaks.Break.{Break};
+    ghost use Rattle.ace_model.specs.Trace.{Trace, is_some_and};
+    ghost use Rattle.ace_model.specs.Accepted.{least_broken};
+    ghost use Rattle.ace_model.specs.Lines.{has_failed_on};
+    ghost use Rattle.ace_portck.specs.Targets.{target_of, line_in};
+    ghost use Rattle.ace_check.specs.Run.{Stands, MayTake, goes_over, MayLackMemory};
+
+    /// The granted transaction of the event's line is an exclusive store that failed.
+    fn has_failed(&self, target: &Target) -> bool
+        ensures { (h : Header) (past : Trace) (e : Event) (b : Option Break) → Stands self.now h past b → target.now ≡ target_of h past e
+            → result ≡ is_some_and (line_in h past e) (has_failed_on h past) }
+    {
+        match target.line {
+            None => false,
+            Some(line) => match self.lines.granted(line) {
+                Some((port, Channel::Read, id)) => self.system.failed(port, id),
+                _ => false,
+            },
+        }
+    }
+
+    /// The least rule that the event breaks.
+    fn least_broken(&self, event: &Event, target: &Target, failed: bool) -> Option<u8>
+        ensures { (h : Header) (past : Trace) (b : Option Break) → Stands self.now h past b → target.now ≡ target_of h past event.now
+            → failed ≡ is_some_and (line_in h past event.now) (has_failed_on h past) → result ≡ least_broken h past event.now }
+    {
+        match self.ports.test(event, target) {
+            Some(1) => Some(1),
+            rule => lesser(
+                rule,
+                lesser(
+                    self.lines.test(event, target, failed),
+                    self.system.test(event, target),
+                ),
+            ),
+        }
+    }
+
+    /// The event names one line more than a trace may have.
+    fn goes_over(&self, event: &Event, target: &Target) -> bool
+        ensures { (h : Header) (past : Trace) (b : Option Break) → Stands self.now h past b → target.now ≡ target_of h past event.now
+            → result ≡ goes_over past event.now }
+    {
+        match (event, target.line) {
+            (Event::Ar { .. } | Event::Aw { .. }, Some(line)) => {
+                !self.lines.knows(line) && self.lines.lines() >= MOST_LINES
+            }
+            _ => false,
+        }
+    }
+
+    /// Takes an event that breaks no rule, once there is room for it in each share.
+    fn take(&mut self, event: &Event, target: &Target, failed: bool) -> Result<Step, CheckErr>
+        ensures fine { OnOk result (result ≡ Ok Step.Fine) }
+        ensures err { OnErr result (result ≡ Err CheckErr.NoMemory) }
+        ensures stands { (h : Header) (past : Trace) → MayTake self.old h past event.now target.now failed → length past < 2 ^ 64 - 2
+            → OnOk result (Stands self.new h (event.now ∷ past) None) }
+        ensures stays { (h : Header) (past : Trace) → MayTake self.old h past event.now target.now failed → OnErr result (Stands self.new h past None) }
+        ensures cause { (h : Header) (past : Trace) → MayTake self.old h past event.now target.now failed → OnErr result (MayLackMemory h past event.now) }
+    {
+        if self.ports.ready(event, target).is_err() {
+            return Err(CheckErr::NoMemory);
+        }
+        if self.lines.ready(event, target).is_err() {
+            return Err(CheckErr::NoMemory);
+        }
+        if self.system.ready(event, target).is_err() {
+            return Err(CheckErr::NoMemory);
+        }
+        self.ports.apply(event, target);
+        self.lines.apply(event, target, failed);
+        self.system.apply(event, target);
+        self.count = self.count.wrapping_add(1);
+        Ok(Step::Fine)
+    }
+}
+
+/// The lesser number, where there is one.
+fn lesser(a: Option<u8>, b: Option<u8>) -> Option<u8>
+    ensures { result ≡ lesser a b }
+{
+    match (a, b) {
+        (None, b) => b,
+        (a, None) => a,
+        (Some(j), Some(k)) => Some(if k < j { k } else { j }),
+    }
+}
