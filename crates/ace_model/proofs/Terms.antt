@@ -47,7 +47,6 @@ pub use Rattle.ace_model.specs.Lines.{add_line, has_failed_on, is_known, known_l
 pub use Rattle.ace_model.specs.SnoopRules.{answers_beside_update, answers_by_row, fits_write, full_beat, has_snoop_code, is_next_beat, k11, k12, k13, k14, k15, k16, k17, may_be_granted, may_snoop, may_snoop_for}
 pub use Rattle.ace_model.specs.Snoops.{answered, answers, answers_line, data_answers, is_snoop_on, snoop_at, snoops_a_line, snoops_of}
 pub use Rattle.ace_model.specs.States.{are_snoops_done, awaits_store, has_store, is_in_make_unique, is_port_done, is_store_of, state_of}
-pub use Rattle.ace_model.specs.Today.{is_known_today, rules_today}
 pub use Rattle.ace_model.specs.Trace.{Trace, at_point, event_at, implies, is_none_or, is_some_and, more, newer}
 pub use Rattle.ace_model.specs.Transactions.{acknowledged, acknowledgements, completed, completes, ended, first_resp, has_name, has_outstanding_on, is_ace, is_complete, is_completion, is_exclusive_store, is_line, is_make_unique_on, is_named, is_on, is_outstanding, is_outstanding_on, is_read, is_some_on, is_transaction, issued, newest_named, next_complete, outstanding, read_kind, same_channel, snoop_kind_of, snoop_of, some_issued, takes_grant, transaction_of, transaction_under, transfers, without, write_kind}
 pub use Rattle.ace_model.specs.Unique.{OneDirty, OneDirtyNow, Unique, UniqueNow}

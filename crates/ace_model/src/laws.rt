@@ -10,7 +10,6 @@ ghost use Rattle.ace_model.specs.Trace.{Trace};
 ghost use Rattle.ace_model.specs.Accepted.{Rule, AreInOrder, rules, IsAcceptedBy, IsAccepted, FirstBreakBy, first_break_by};
 ghost use Rattle.ace_model.specs.Accepted.{least_broken, least_of};
 ghost use Rattle.ace_model.specs.Shares.{lesser, port_rules, line_rules, system_rules};
-ghost use Rattle.ace_model.specs.Today.{rules_today};
 ghost use Rattle.ace_model.specs.Unique.{Unique, OneDirty};
 ghost use Rattle.ace_model.specs.Coherent.{Coherent};
 ghost use Rattle.ace_model.specs.ExclusiveHolds.{ExclusiveHolds};
@@ -26,10 +25,9 @@ pub fn first_break_is_exact()
         → (first_break_by rs h events ≡ None) ↔ IsAcceptedBy rs h (reverse events) }
 {}
 
-/// The rules are in order, and so are those that the checker of today applies.
+/// The rules are in order.
 pub fn rules_are_in_order()
-    ensures all { AreInOrder rules }
-    ensures today { AreInOrder rules_today }
+    ensures { AreInOrder rules }
 {}
 
 /// The three shares are all rules: the least rule that an event breaks is the least over the shares.
@@ -50,12 +48,6 @@ pub fn accepted_trace_is_coherent()
 pub fn accepted_line_has_one_holder()
     ensures unique { (h : Header) (past : Trace) → IsAccepted h past → Unique h past }
     ensures one_dirty { (h : Header) (past : Trace) → IsAccepted h past → OneDirty h past }
-{}
-
-/// In a trace that the checker of today accepts a unique line has one holder: at every point, where a port holds a line
-/// in UC or UD, every other port's state of it is I.
-pub fn unique_line_has_one_holder()
-    ensures { (h : Header) (past : Trace) → IsAcceptedBy rules_today h past → Unique h past }
 {}
 
 /// In every accepted trace an exclusive store is exclusive: between it and the last exclusive load of its port before it no
