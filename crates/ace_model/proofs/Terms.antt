@@ -41,7 +41,7 @@ pub use Rattle.ace_model.specs.OrderRules.{completes_next, has_every_completion,
 pub use Rattle.ace_model.specs.Progress.{IsTransaction, each_issued, evicts, has_had, has_update, is_completed, is_completion_event, is_grant, is_ordered, is_update_on, is_write_of_memory, served_by, transactions, updates_memory}
 pub use Rattle.ace_model.specs.ReadRules.{ends_well, fits_kind, has_upper_bits, has_word, held_of, is_due, is_end, is_next_transfer, k18, k19, k20, k21, k22, k23, may_transfer, must_be_shared, takes_passed}
 pub use Rattle.ace_model.specs.ReadsFollow.{HasBeat, IsBeat, IsGrantOf, IsLoad, IsReadBy, ReadsFollow}
-pub use Rattle.ace_model.specs.Replies.{copy_at_answer, first_sender, memory_at_first_beat, passed_data, passed_to, reply_of, sender_at}
+pub use Rattle.ace_model.specs.Replies.{copy_at_answer, first_sender, memory_at_first_beat, passed_data, reply_of, sender_at}
 pub use Rattle.ace_model.specs.SnoopRules.{answers_beside_update, answers_by_row, fits_write, full_beat, has_snoop_code, is_next_beat, k11, k12, k13, k14, k15, k16, k17, may_be_granted, may_snoop, may_snoop_for}
 pub use Rattle.ace_model.specs.Snoops.{answered, answers, answers_line, data_answers, is_snoop_on, snoop_at, snoops_a_line, snoops_of}
 pub use Rattle.ace_model.specs.States.{are_snoops_done, awaits_store, has_store, is_in_make_unique, is_port_done, is_store_of, state_of}
