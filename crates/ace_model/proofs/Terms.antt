@@ -25,7 +25,7 @@ pub use Rattle.ace_tables.specs.States.{is_among, is_dirty, is_invalid, is_uniqu
 pub use Rattle.ace_model.specs.Accepted.{AreInOrder, BreaksAt, FirstBreakBy, IsAccepted, IsAcceptedBy, Rule, break_or, breaks_of, first_break_after, first_break_by, is_accepted_by, least_of, rise_from, rule, rules}
 pub use Rattle.ace_model.specs.AddressRules.{begins_message, begins_well, fits_line, has_free_line, has_free_name, has_known_codes, is_no_snoop, is_opened_below, is_part_in_order, is_used_alike, k1, k10, k2, k3, k4, k5, k6, k7, k8, k9, may_issue_read, may_open, starts_well}
 pub use Rattle.ace_model.specs.BarrierHolds.{BarrierHolds, IsOrderedAt, IsOrderedBy}
-pub use Rattle.ace_model.specs.Barriers.{Pair, barrier_in, barriers, is_awaited, is_barrier_half, is_barrier_of, is_before, is_pair_complete, is_synchronisation, may_answer, number_of, pair_of, paired, pairs, place_of}
+pub use Rattle.ace_model.specs.Barriers.{Pair, barriers, is_awaited, is_barrier_half, is_barrier_of, is_before, is_pair_complete, is_synchronisation, may_answer, number_of, pair_of, paired, pairs, place_of}
 pub use Rattle.ace_model.specs.CacheRules.{k29, k30, k31, k32, k33, may_store, wants_store}
 pub use Rattle.ace_model.specs.Coherent.{Coherent}
 pub use Rattle.ace_model.specs.Copies.{copy_of, is_line_read_transaction, memory_of, opened, same_line, word_of, words_read, written}
@@ -46,12 +46,12 @@ pub use Rattle.ace_model.specs.SnoopRules.{answers_beside_update, answers_by_row
 pub use Rattle.ace_model.specs.Snoops.{answered, answers, answers_line, data_answers, is_snoop_on, snoop_at, snoops_a_line, snoops_of}
 pub use Rattle.ace_model.specs.States.{are_snoops_done, awaits_store, has_store, is_in_make_unique, is_port_done, is_store_of, state_of}
 pub use Rattle.ace_model.specs.Today.{is_known_today, rules_today}
-pub use Rattle.ace_model.specs.Trace.{Trace, at_point, event_at, implies, is_none_or, is_some_and, more, newer}
-pub use Rattle.ace_model.specs.Transactions.{acknowledged, acknowledgements, completed, completes, ended, first_resp, has_name, has_outstanding_on, is_ace, is_complete, is_completion, is_exclusive_store, is_line, is_make_unique_on, is_named, is_on, is_outstanding, is_outstanding_on, is_read, is_some_on, is_transaction, issued, newest_named, next_complete, outstanding, read_kind, same_channel, snoop_kind_of, snoop_of, some_issued, takes_grant, transaction_of, transaction_under, transfers, without, write_kind}
+pub use Rattle.ace_model.specs.Trace.{Trace, at_point, event_at, implies, is_none_or, is_some_and, more, newer, option_filter}
+pub use Rattle.ace_model.specs.Transactions.{acknowledged, acknowledgements, completed, completes, ended, first_resp, has_name, has_outstanding_on, is_ace, is_complete, is_completion, is_exclusive_store, is_line, is_make_unique_on, is_named, is_on, is_outstanding, is_outstanding_on, is_read, is_some_on, is_transaction, issued, issued_where, newest_named, next_complete, outstanding, read_kind, same_channel, snoop_kind_of, snoop_of, some_issued, takes_grant, transaction_of, transaction_under, transfers, without, write_kind}
 pub use Rattle.ace_model.specs.Unique.{OneDirty, OneDirtyNow, Unique, UniqueNow}
 pub use Rattle.ace_model.specs.Values.{Store, after_store, burst_line, burst_strobe, discard_of, discards_data, full_line, store_at, store_of, stores_data, value_of}
 pub use Rattle.ace_model.specs.WriteRules.{burst_into, data_of, data_of_write, ends_write_well, has_data, is_update_due, is_write_due, k24, k25, k26, k27, k28, may_respond, may_write_data, may_write_memory, may_write_passed}
-pub use Rattle.ace_model.specs.Writes.{Beat, beat_at, beats, burst_of, data_write, data_write_in, data_writes, has_memory_write, is_burst_whole, is_memory_write, next_write, next_write_beat}
+pub use Rattle.ace_model.specs.Writes.{Beat, beat_at, beats, burst_of, data_writes, is_data_write_of, has_memory_write, is_burst_whole, is_memory_write, next_write, next_write_beat}
 pub use Rattle.ace_model.specs.declared.breaks.Break.{Break}
 pub use Rattle.ace_model.specs.declared.snoops.Answer.{Answer}
 pub use Rattle.ace_model.specs.declared.snoops.Snoop.{Snoop}

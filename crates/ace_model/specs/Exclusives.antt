@@ -1,9 +1,9 @@
 -- Exclusive transactions and the monitor of the interconnect, kept by port and line (Arm IHI 0022E, C9).
-use Rattle.std.specs.Prelude.{ℕ, Bool, false, not, ◌&&◌, ◌||◌, ◌==◌, if◌then◌else◌, [], ◌∷◌, Option, Some, None, length}
+use Rattle.std.specs.Prelude.{ℕ, Bool, false, not, ◌&&◌, ◌||◌, ◌==◌, if◌then◌else◌, [], ◌∷◌, Option, None, length, option_map}
 use Rattle.ace_event.specs.declared.event.Channel.TheVariants.{Read}
 use Rattle.ace_event.specs.declared.event.Event.{Event}
 use Rattle.ace_model.specs.declared.transactions.Transaction.{Transaction}
-use Rattle.ace_model.specs.Trace.{Trace, newer, is_some_and}
+use Rattle.ace_model.specs.Trace.{Trace, newer, is_some_and, option_filter}
 use Rattle.ace_model.specs.Transactions.{has_name, is_named, is_on, issued, is_exclusive_store}
 use Rattle.ace_model.specs.Grants.{given}
 
@@ -25,8 +25,7 @@ store_passes past x = is_registered past x.port x.addr
 
 -- what the event says of the port's exclusive store under the identifier: it passes or fails at its G
 abbrev pub store_result : Trace → Option Transaction → ℕ → ℕ → Option Bool
-store_result past None p i = None
-store_result past (Some x) p i = if has_name x p Read i && is_exclusive_store x then Some (store_passes past x) else None
+store_result past o p i = option_map (store_passes past) (option_filter (λ x. has_name x p Read i && is_exclusive_store x) o)
 
 -- whether the port's last read under the identifier, where it is an exclusive store that had its G, passed
 abbrev pub passed_at_grant : Trace → ℕ → ℕ → Option Bool

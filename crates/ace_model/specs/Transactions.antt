@@ -11,7 +11,7 @@ use Rattle.ace_event.specs.declared.event.Channel.TheVariants.{Read, Write}
 use Rattle.ace_event.specs.declared.event.Event.{Event}
 use Rattle.ace_event.specs.declared.event.Event.TheVariants.{Ar, R, Rk, Aw, B, Wk}
 use Rattle.ace_model.specs.declared.transactions.Transaction.{Transaction}
-use Rattle.ace_model.specs.Trace.{Trace, is_some_and, more}
+use Rattle.ace_model.specs.Trace.{Trace, is_some_and, option_filter, more}
 use Rattle.ace_codes.specs.Reads.{ar_kind_of}
 use Rattle.ace_codes.specs.Writes.{aw_kind_of}
 use Rattle.ace_model.specs.Kinds.{is_line_read, is_line_write, is_granted_write, is_clean_unique, is_make_unique}
@@ -151,6 +151,11 @@ outstanding h (e ∷ past) p c i =
 
 abbrev pub is_outstanding : Header → Trace → Transaction → Bool
 is_outstanding h past x = is_transaction (outstanding h past x.port x.chan x.id) x
+
+-- the transactions of the trace that pass the test, in order
+abbrev pub issued_where : Trace → (Transaction → Bool) → List Transaction
+issued_where [] test = []
+issued_where (e ∷ past) test = more (issued_where past test) (option_filter test (issued (length past) e))
 
 -- a transaction of the trace passes the test
 abbrev pub some_issued : Trace → (Transaction → Bool) → Bool
