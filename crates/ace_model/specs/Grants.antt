@@ -9,7 +9,7 @@ use Rattle.ace_model.specs.declared.transactions.Transaction.{Transaction}
 use Rattle.ace_model.specs.declared.snoops.Answer.{Answer}
 use Rattle.ace_model.specs.Trace.{Trace, is_some_and, newer}
 use Rattle.ace_codes.specs.Responses.{transfers_data, passes_dirty, is_shared}
-use Rattle.ace_model.specs.Transactions.{is_named, is_transaction, is_read, is_on, is_some_on, issued, transaction_of, ended, without, transfers}
+use Rattle.ace_model.specs.Transactions.{is_named, is_transaction, is_read, is_on, is_some_on, has_since, transaction_of, ended, without, transfers}
 use Rattle.ace_model.specs.Writes.{has_memory_write}
 use Rattle.ace_model.specs.Snoops.{answered, is_snoop_on, snoops_a_line, data_answers, data_beats}
 
@@ -37,9 +37,7 @@ is_granted h past x = is_transaction (granted h past x.addr) x
 
 -- the port's last transaction on the channel under the identifier has had its G
 abbrev pub has_grant : Trace → ℕ → Channel → ℕ → Bool
-has_grant [] p c i = false
-has_grant (e ∷ past) p c i =
-    is_named (given past e) p c i || (not (is_named (issued (length past) e) p c i) && has_grant past p c i)
+has_grant past p c i = has_since (λ before e. is_named (given before e)) past p c i
 
 -- it has had its first R or, if it is a write, its M
 abbrev pub is_begun : Trace → Transaction → Bool

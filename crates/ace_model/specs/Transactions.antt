@@ -185,12 +185,15 @@ first_resp (R q j resp last word ∷ past) p i =
     if (p == q) && (i == j) && (transfers past p i == 0) then Some resp else first_resp past p i
 first_resp (_ ∷ past) p i = first_resp past p i
 
+-- an event of which the test holds came after the port's last transaction on the channel under the identifier was issued
+abbrev pub has_since : (Trace → Event → ℕ → Channel → ℕ → Bool) → Trace → ℕ → Channel → ℕ → Bool
+has_since test [] p c i = false
+has_since test (e ∷ past) p c i = test past e p c i || (not (is_named (issued (length past) e) p c i) && has_since test past p c i)
+
 -- the event completes the port's transaction on the channel under the identifier
 abbrev pub is_completion : Event → ℕ → Channel → ℕ → Bool
 is_completion e p c i = is_some_and (completes e p c) (λ j. i == j)
 
 -- the port's last transaction on the channel under the identifier has had its last R or its B
 abbrev pub is_complete : Trace → ℕ → Channel → ℕ → Bool
-is_complete [] p c i = false
-is_complete (e ∷ past) p c i =
-    is_completion e p c i || (not (is_named (issued (length past) e) p c i) && is_complete past p c i)
+is_complete past p c i = has_since (λ before. is_completion) past p c i

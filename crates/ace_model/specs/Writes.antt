@@ -7,7 +7,7 @@ use Rattle.ace_event.specs.declared.event.Event.TheVariants.{W, M}
 use Rattle.ace_model.specs.declared.transactions.Transaction.{Transaction}
 use Rattle.ace_model.specs.Trace.{Trace, at_point, is_some_and, more}
 use Rattle.ace_model.specs.Kinds.{has_write_data}
-use Rattle.ace_model.specs.Transactions.{issued, issued_where, write_kind, is_named, same_channel}
+use Rattle.ace_model.specs.Transactions.{issued_where, write_kind, has_since, same_channel}
 
 -- it is a write of the port with data
 abbrev pub is_data_write_of : ℕ → Transaction → Bool
@@ -57,6 +57,4 @@ is_memory_write _ p c i = false
 
 -- the port's last transaction on the channel under the identifier has had its M
 abbrev pub has_memory_write : Trace → ℕ → Channel → ℕ → Bool
-has_memory_write [] p c i = false
-has_memory_write (e ∷ past) p c i =
-    is_memory_write e p c i || (not (is_named (issued (length past) e) p c i) && has_memory_write past p c i)
+has_memory_write past p c i = has_since (λ before. is_memory_write) past p c i
