@@ -57,7 +57,7 @@ is_snoop_to _ p l = false
 -- the port was snooped under the present grant of the line
 abbrev pub was_snooped : Trace → ℕ → ℕ → Bool
 was_snooped [] p l = false
-was_snooped (e ∷ past) p l = not (gives_line past e l) && (is_snoop_to e p l || was_snooped past p l)
+was_snooped (e ∷ past) p l = if gives_line past e l then false else is_snoop_to e p l || was_snooped past p l
 
 -- the port's next CR answers a snoop under the present grant of the line
 abbrev pub answers_grant : Trace → ℕ → ℕ → Bool
@@ -71,14 +71,10 @@ answer_at past (Cr q resp st) p l =
     else None
 answer_at past _ p l = None
 
-abbrev pub unless_given : {A : Type 0} → Bool → Option A → Option A
-unless_given true answer = None
-unless_given false answer = answer
-
 -- the port's answer under the present grant of the line; it is snooped once under a grant
 abbrev pub answer_of : Trace → ℕ → ℕ → Option Answer
 answer_of [] p l = None
-answer_of (e ∷ past) p l = unless_given (gives_line past e l) (newer (answer_at past e p l) (answer_of past p l))
+answer_of (e ∷ past) p l = if gives_line past e l then None else newer (answer_at past e p l) (answer_of past p l)
 
 -- the answer announces data, and their CD burst isn't whole
 abbrev pub is_short : Trace → ℕ → Answer → Bool

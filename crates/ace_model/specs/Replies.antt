@@ -10,7 +10,7 @@ use Rattle.ace_model.specs.declared.transactions.Transaction.{Transaction}
 use Rattle.ace_model.specs.Trace.{Trace, is_some_and, more, at_point, newer}
 use Rattle.ace_model.specs.Transactions.{transfers}
 use Rattle.ace_model.specs.Snoops.{answered, data_beats}
-use Rattle.ace_model.specs.Grants.{answer_of, has_passed_data, passer, granted, answers_grant, unless_given, gives_line}
+use Rattle.ace_model.specs.Grants.{answer_of, has_passed_data, passer, granted, answers_grant, gives_line}
 use Rattle.ace_model.specs.Copies.{copy_of, zero_line, memory_of}
 
 -- the line that the event announces: the port's copy at its answer with DataTransfer
@@ -49,7 +49,7 @@ sender_at past _ l = None
 -- the port that was the first to answer with DataTransfer under the present grant of the line
 abbrev pub first_sender : Trace → ℕ → Option ℕ
 first_sender [] l = None
-first_sender (e ∷ past) l = unless_given (gives_line past e l) (newer (first_sender past l) (sender_at past e l))
+first_sender (e ∷ past) l = if gives_line past e l then None else newer (first_sender past l) (sender_at past e l)
 
 -- memory of the line at the point before the first beat of the port's read under the identifier
 abbrev pub memory_at_first_beat : Trace → ℕ → ℕ → ℕ → Line
