@@ -7,17 +7,17 @@ use Rattle.ace_model.specs.Trace.{Trace, newer, is_some_and, option_filter}
 use Rattle.ace_model.specs.Transactions.{has_name, is_named, is_on, issued, is_exclusive_store}
 use Rattle.ace_model.specs.Grants.{given}
 
--- the event is the G of an exclusive transaction of the port on the line
-abbrev pub registers : Trace → Event → ℕ → ℕ → Bool
-registers past e p l = is_some_and (given past e) (λ x. x.lock && is_on x l && (x.port == p))
+-- the exclusive load or store to which the event grants the line
+abbrev pub exclusive_given : Trace → Event → ℕ → Option Transaction
+exclusive_given past e l = option_filter (λ x. x.lock && is_on x l) (given past e)
 
 -- The port is registered for the line: from the G of its own exclusive load or store until an exclusive store of another port
 -- passes. A store passes where its own port is registered; that it registers its port where it fails is our choice.
 abbrev pub is_registered : Trace → ℕ → ℕ → Bool
 is_registered [] p l = false
 is_registered (e ∷ past) p l =
-    registers past e p l
-    || (not (is_some_and (given past e) (λ x. is_exclusive_store x && is_on x l && is_registered past x.port l)) && is_registered past p l)
+    is_some_and (exclusive_given past e l) (λ x. x.port == p)
+    || (not (is_some_and (exclusive_given past e l) (λ x. is_exclusive_store x && is_registered past x.port l)) && is_registered past p l)
 
 -- the exclusive store passes, if its G is next
 abbrev pub store_passes : Trace → Transaction → Bool
