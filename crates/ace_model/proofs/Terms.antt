@@ -1,4 +1,5 @@
 -- The terms that the proofs speak in: each name of the definitions, passed on, so that a proof takes them from one place.
+pub use Rattle.std.specs.List.{find, list_all, list_any}
 pub use Rattle.ace_codes.specs.Reads.{ar_kind_of}
 pub use Rattle.ace_codes.specs.Responses.{has_error, is_shared, passes_dirty, transfers_data, was_unique}
 pub use Rattle.ace_codes.specs.Snoops.{ac_code}
@@ -33,7 +34,7 @@ pub use Rattle.ace_model.specs.DirtyPlace.{AreCopiesTrue, DirtyPlace, HasDirtyHo
 pub use Rattle.ace_model.specs.DvmHolds.{DvmHolds, HasCompleted, IsCompletedAt, IsDoneWith}
 pub use Rattle.ace_model.specs.ExclusiveHolds.{ExclusiveHolds, disturbs, is_exclusive_load, is_undisturbed}
 pub use Rattle.ace_model.specs.Exclusives.{has_failed, passed_at_grant, store_result}
-pub use Rattle.ace_model.specs.Grants.{answer_at, answer_of, answers_grant, are_passed_data_whole, each_port, find_port, given, gives_line, grant_place, granted, has_grant, has_passed_data, has_sharer, is_begun, is_granted, is_snoop_to, newest_on, owes_answer, owes_data, passer, passes, shares, some_port, was_snooped}
+pub use Rattle.ace_model.specs.Grants.{answer_at, answer_of, answers_grant, are_passed_data_whole, given, gives_line, grant_place, granted, has_grant, has_passed_data, has_sharer, is_begun, is_granted, is_snoop_to, newest_on, owes_answer, owes_data, passer, passes, ports_below, shares, was_snooped}
 pub use Rattle.ace_model.specs.Kinds.{beats_of, has_write_data, is_clean_unique, is_complete_snoop, is_dvm_message, is_evict, is_granted_write, is_line_read, is_line_snoop, is_line_write, is_lite_read, is_make_invalid, is_make_unique, is_message_snoop, is_no_snoop_read, is_no_snoop_write, is_read_not_shared_dirty, is_unique_write, is_update, is_write_line_unique, may_be_shared, reads_a_line, takes_passed_data}
 pub use Rattle.ace_model.specs.Messages.{add_forwarded, answered_parts, answered_syncs, dvm_completes, first_waiting, forwarded, forwards, has_answered, has_part, has_second, is_dvm_completion, is_message_part, is_message_word, is_other_ace, is_sync, is_sync_completed, is_sync_word, last_sync, next_after, part_in, parts_among, parts_for, parts_in, parts_with, sync_in, sync_number, waits_after}
 pub use Rattle.ace_model.specs.Monitors.{is_monitored, is_set_by}
