@@ -1,6 +1,6 @@
 -- A look that finds the only transaction that passes a test: two such looks find the same one.
 use Rattle.std.specs.List.{find}
-use Rattle.std.proofs.Common.{◌≡◌, ℕ, Bool, true, false, ◌&&◌, nat_eq, Option, Some, None, refl, sym, ap, ◌∙◌, inl, inr}
+use Rattle.std.proofs.Common.{◌≡◌, ℕ, Bool, true, false, ◌&&◌, ◌==◌, Option, Some, None, refl, sym, ap, ◌∙◌, inl, inr}
 use Rattle.std.proofs.lemmas.Bool.{and_parts, and_from, cases_Bool, eqb-true, eq-eqb}
 use Rattle.ace_model.proofs.Terms.{Channel, Header, Transaction, Trace, same_channel, outstanding, is_outstanding, transactions}
 use Rattle.ace_model.proofs.General.Options.{Some-injective}

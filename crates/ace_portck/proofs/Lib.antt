@@ -1,0 +1,5 @@
+pub mod Renewed
+pub mod Ending
+pub mod Heard
+pub mod Few
+pub mod Found
