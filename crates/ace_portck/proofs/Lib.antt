@@ -1,5 +1,1 @@
 pub mod Renewed
-pub mod Ending
-pub mod Heard
-pub mod Few
-pub mod Found

@@ -1,3 +1,4 @@
 pub mod Targets
 pub mod Unfinished
 pub mod Heard
+pub mod Pending

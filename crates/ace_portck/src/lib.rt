@@ -3,6 +3,7 @@
 
 mod kinds;
 mod no_memory;
+mod pending;
 mod target;
 
 pub use no_memory::NoMemory;
