@@ -47,15 +47,18 @@ record AreSame (a b : Progress) : Type 0 where
   written : a.written ≡ b.written
   stored : a.stored ≡ b.stored
 
+abbrev made : Transaction → ℕ → ℕ → Bool → Bool → Bool → Bool → Progress
+made x n r c g w d = record { transaction = x; transfers = n; response = r; complete = c; granted = g; written = w; stored = d }
+
 are_one : (a b : Progress) → AreSame a b → a ≡ b
 are_one a b s =
-    let t = s.transaction in
-    let n = s.transfers in
-    let r = s.response in
-    let c = s.complete in
-    let g = s.granted in
-    let w = s.written in
-    let d = s.stored in cc
+    ap (λ v. made v a.transfers a.response a.complete a.granted a.written a.stored) s.transaction
+    ∙ ap (λ v. made b.transaction v a.response a.complete a.granted a.written a.stored) s.transfers
+    ∙ ap (λ v. made b.transaction b.transfers v a.complete a.granted a.written a.stored) s.response
+    ∙ ap (λ v. made b.transaction b.transfers b.response v a.granted a.written a.stored) s.complete
+    ∙ ap (λ v. made b.transaction b.transfers b.response b.complete v a.written a.stored) s.granted
+    ∙ ap (λ v. made b.transaction b.transfers b.response b.complete b.granted v a.stored) s.written
+    ∙ ap (λ v. made b.transaction b.transfers b.response b.complete b.granted b.written v) s.stored
 
 module _ (h : Header) (past : Trace) (x : Transaction) (out : outstanding h past x.port x.chan x.id ≡ Some x) where
   of_name : transaction_of past x.port x.chan x.id ≡ Some x
@@ -241,8 +244,8 @@ module _ (h : Header) (past : Trace) (x : Transaction) (out : outstanding h past
       let there : outstanding h past x.port Read x.id ≡ Some x = rw (← chan) out in
       let self : is_outstanding h past x ≡ true = rw out (eq-eqb x.place x.place refl) in
       elim (cases_Bool (nat_eq x.port q)) [
-        | inr off ↦ rw (off, there) refl
-        | inl t ↦ rw (t, there, self) (all (is_make_unique_on x addr) (is_complete past x.port x.chan x.id))
+        | inr off ↦ rw off refl
+        | inl t ↦ rw (t, there, self, eq-eqb x.port x.port refl) (all (is_make_unique_on x addr) (is_complete past x.port x.chan x.id))
       ]
     where
       all : (m c : Bool) → (((true && m) && true) && c) ≡ ((true && m) && c)
@@ -265,16 +268,19 @@ module _ (h : Header) (past : Trace) (x : Transaction) (out : outstanding h past
               | inl t ↦
                   are_one _ _ (record {
                       transaction = rw t refl; transfers = rw t refl; response = rw t refl; complete = rw t refl;
-                      granted = rw t refl; written = rw t refl; stored = rw (is, read) (rw t refl);
+                      granted = rw t refl; written = rw t refl; stored = stored_then true (is ∙ t) ∙ ap (λ r. r && true) read ∙ rw t refl;
                   })
               | inr f ↦
                   are_one _ _ (record {
                       transaction = rw f refl; transfers = rw f refl; response = rw f refl; complete = rw f refl;
-                      granted = rw f refl; written = rw f refl; stored = rw (is, read) (rw f refl);
+                      granted = rw f refl; written = rw f refl; stored = stored_then false (is ∙ f) ∙ rw f refl;
                   })
             ]
       ]
     where
+      stored_then : (v : Bool) → is_store_of h past (D q addr strobe b line) x.port x.id ≡ v
+          → (is_read x.chan && has_store h (D q addr strobe b line ∷ past) x.port x.id) ≡ (is_read x.chan && (v || has_store h past x.port x.id))
+      stored_then v is = ap (λ s. is_read x.chan && (s || has_store h past x.port x.id)) is
       nothing : (m : Bool) → ((m && false) && is_complete past x.port x.chan x.id) ≡ false
       nothing true = refl
       nothing false = refl

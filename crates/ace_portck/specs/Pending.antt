@@ -7,7 +7,7 @@ use Rattle.ace_event.specs.declared.event.Event.{Event}
 use Rattle.ace_event.specs.declared.event.Event.TheVariants.{Ar, R, Rk, Aw, B, Wk, G, M, D}
 use Rattle.ace_event.specs.declared.header.Header.{Header}
 use Rattle.ace_model.specs.declared.transactions.Transaction.{Transaction}
-use Rattle.ace_model.specs.Trace.{Trace, more, is_some_and}
+use Rattle.ace_model.specs.Trace.{Trace, port_of, more, is_some_and}
 use Rattle.ace_model.specs.Transactions.{is_ace, is_read, same_channel, has_name, is_make_unique_on, is_outstanding, acknowledgements, completed}
 use Rattle.ace_model.specs.Progress.{transactions}
 use Rattle.ace_portck.specs.declared.target.Progress.{Progress}
@@ -45,16 +45,17 @@ HasByteId (R p i resp last word) = i < 256
 HasByteId (B p i resp) = i < 256
 HasByteId _ = ⊤
 
+-- a read after one more transfer
+abbrev pub transferred : ℕ → Bool → Progress → Progress
+transferred resp last x = record x {
+  transfers = (x.transfers + 1) % 256;
+  response = if x.transfers == 0 then resp else x.response;
+  complete = x.complete || last;
+}
+
 -- how far a transaction has come after an event of its port, by how far it had come before
 abbrev pub renewed : Event → Progress → Progress
-renewed (R p i resp last word) x =
-    if has_name x.transaction p Read i
-    then record x {
-      transfers = (x.transfers + 1) % 256;
-      response = if x.transfers == 0 then resp else x.response;
-      complete = x.complete || last;
-    }
-    else x
+renewed (R p i resp last word) x = if has_name x.transaction p Read i then transferred resp last x else x
 renewed (B p i resp) x = if has_name x.transaction p Write i then record x { complete = true } else x
 renewed (G p c i) x = if has_name x.transaction p c i then record x { granted = true } else x
 renewed (M p c i line) x = if has_name x.transaction p c i then record x { written = true } else x
@@ -93,15 +94,19 @@ on_channel c (Some x) = if same_channel x.chan c then Some x else None
 abbrev pub without_id : Option ℕ → List Progress → List Progress
 without_id ended list = filter (λ x. not (is_some_and ended (λ i. x.transaction.id == i))) list
 
--- the event may change something of the port's outstanding transactions on the channel
+-- the event may change something of the outstanding transactions of its port on the channel
+abbrev pub moves_channel : Event → Channel → Bool
+moves_channel (Ar q i addr snoop dom bar lock) c = is_read c
+moves_channel (R q i resp last word) c = is_read c
+moves_channel (Rk q st) c = is_read c
+moves_channel (D q addr strobe x line) c = is_read c
+moves_channel (Aw q i addr snoop dom bar) c = not (is_read c)
+moves_channel (B q i resp) c = not (is_read c)
+moves_channel (Wk q st) c = not (is_read c)
+moves_channel (G q d i) c = same_channel c d
+moves_channel (M q d i line) c = same_channel c d
+moves_channel _ c = false
+
+-- and of this port
 abbrev pub moves_pending : Event → ℕ → Channel → Bool
-moves_pending (Ar q i addr snoop dom bar lock) p c = (p == q) && is_read c
-moves_pending (R q i resp last word) p c = (p == q) && is_read c
-moves_pending (Rk q st) p c = (p == q) && is_read c
-moves_pending (D q addr strobe x line) p c = (p == q) && is_read c
-moves_pending (Aw q i addr snoop dom bar) p c = (p == q) && not (is_read c)
-moves_pending (B q i resp) p c = (p == q) && not (is_read c)
-moves_pending (Wk q st) p c = (p == q) && not (is_read c)
-moves_pending (G q d i) p c = (p == q) && same_channel c d
-moves_pending (M q d i line) p c = (p == q) && same_channel c d
-moves_pending _ p c = false
+moves_pending e p c = is_some_and (port_of e) (λ q. p == q) && moves_channel e c

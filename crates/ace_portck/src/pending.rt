@@ -1,9 +1,10 @@
 //! The outstanding transactions of a port on one channel.
 
-ghost use Rattle.std.specs.Prelude.{◌≡◌, ◌<◌, ◌≤◌, None, map, vec_len, vec_capacity, option_map};
+ghost use Rattle.std.specs.Prelude.{◌≡◌, ◌==◌, ◌<◌, ◌≤◌, None, find, length, map, vec_capacity, option_map};
+ghost use Rattle.std.specs.VecDeque.{deque_capacity};
 ghost use Rattle.ace_model.specs.Trace.{more};
 ghost use Rattle.ace_model.specs.Transactions.{issued, is_make_unique_on};
-ghost use Rattle.ace_portck.specs.Pending.{renewed, is_acknowledge, completed_by, on_channel, without_id};
+ghost use Rattle.ace_portck.specs.Pending.{transferred, renewed, is_acknowledge, completed_by, waiting_after, on_channel, without_id};
 ghost use Rattle.ace_portck.specs.Targets.{begun};
 
 use crate::NoMemory;
@@ -95,7 +96,9 @@ fn is_make_unique_on(transaction: &Transaction, line: u32) -> bool
 }
 
 /// The read after one more transfer.
-fn transferred(x: Progress, resp: u8, last: bool) -> Progress {
+fn transferred(x: Progress, resp: u8, last: bool) -> Progress
+    ensures { result ≡ transferred resp last x }
+{
     Progress {
         transfers: x.transfers.wrapping_add(1),
         response: if x.transfers == 0 { resp } else { x.response },
@@ -144,19 +147,35 @@ fn renew(list: &mut [Progress], event: &Event)
     }
 }
 
+/// The same, of a list with its room.
+fn renew_all(list: &mut Vec<Progress>, event: &Event)
+    ensures items { list.new.items ≡ map (renewed event.now) list.old.items }
+    ensures capacity { vec_capacity list.new ≡ vec_capacity list.old }
+{
+    renew(list, event);
+}
+
+/// The first transaction of the list under the identifier.
+fn find_id(list: &[Progress], id: u8) -> Option<Progress>
+    ensures { result ≡ find (λ x. x.transaction.id == id) list.now }
+{
+    list.iter().copied().find(|x| x.transaction.id == id)
+}
+
 /// Takes the transaction under the identifier out of the list, if there is one.
 fn take_out(list: &mut Vec<Progress>, ended: Option<u8>)
     ensures items { list.new.items ≡ without_id ended list.old.items }
     ensures capacity { vec_capacity list.new ≡ vec_capacity list.old }
 {
-    if let Some(id) = ended {
-        list.retain(|x| x.transaction.id != id);
+    match ended {
+        None => {}
+        Some(id) => list.retain(|x| x.transaction.id != id),
     }
 }
 
 /// Puts a new transaction behind the others, if there is one. Where there is room, it takes no memory.
 fn put_in(list: &mut Vec<Progress>, new: Option<Transaction>)
-    ensures items { vec_len list.old < vec_capacity list.old → list.new.items ≡ more list.old.items (option_map begun new) }
+    ensures items { length list.old.items < vec_capacity list.old → list.new.items ≡ more list.old.items (option_map begun new) }
     ensures none { new ≡ None → list.new.items ≡ list.old.items }
     ensures capacity { vec_capacity list.old ≤ vec_capacity list.new }
 {
@@ -194,16 +213,31 @@ fn is_acknowledge(event: &Event, chan: Channel) -> bool
     }
 }
 
+/// The complete ones that wait after an event of the port.
+fn wait(waiting: &mut VecDeque<u8>, ace: bool, chan: Channel, event: &Event)
+    ensures waiting { length waiting.old.items < deque_capacity waiting.old
+        → waiting.new.items ≡ waiting_after waiting.old.items ace chan event.now }
+    ensures idle { completed_by event.now chan ≡ None → waiting.new.items ≡ waiting_after waiting.old.items ace chan event.now }
+    ensures capacity { deque_capacity waiting.old ≤ deque_capacity waiting.new }
+{
+    if is_acknowledge(event, chan) {
+        let _first = waiting.pop_front();
+    } else if ace {
+        if let Some(id) = completed_by(event, chan) {
+            let _full = waiting.push_back(id);
+        }
+    }
+}
+
 impl Pending {
-    ghost use Rattle.std.specs.Prelude.{ℕ, true, [], ◌∷◌, length, slice_get, IfOk};
-    ghost use Rattle.std.specs.VecDeque.{deque_capacity};
+    ghost use Rattle.std.specs.Prelude.{ℕ, true, [], ◌∷◌, slice_get, IfOk};
     ghost use Rattle.ace_event.specs.declared.event.Channel.{Channel};
     ghost use Rattle.ace_event.specs.declared.header.Header.{Header};
     ghost use Rattle.std.specs.List.{AllByRecursion};
     ghost use Rattle.ace_model.specs.Trace.{Trace};
     ghost use Rattle.ace_model.specs.Transactions.{is_ace, outstanding, next_complete};
     ghost use Rattle.ace_portck.specs.Heard.{IsHeard};
-    ghost use Rattle.ace_portck.specs.Pending.{HasByteId, PendingStands, ending_of, waiting_after};
+    ghost use Rattle.ace_portck.specs.Pending.{HasByteId, PendingStands, ending_of};
     ghost use Rattle.ace_portck.specs.Targets.{progress_of};
 
     /// The outstanding transactions of a port without events: none.
@@ -227,7 +261,7 @@ impl Pending {
         ensures { (h : Header) (past : Trace) (p : ℕ) (c : Channel) → PendingStands h past p c self.now
             → result ≡ option_map (progress_of h past) (outstanding h past p c id) }
     {
-        self.list.iter().copied().find(|x| x.transaction.id == id)
+        find_id(&self.list, id)
     }
 
     /// The identifier of the complete transaction that the port's next RK or WK belongs to, at an ACE port.
@@ -253,23 +287,6 @@ impl Pending {
         }
     }
 
-    /// The complete ones after an event of the port.
-    fn wait(&mut self, ace: bool, chan: Channel, event: &Event)
-        ensures list { self.new.list ≡ self.old.list }
-        ensures waiting { length self.old.waiting.items < deque_capacity self.old.waiting
-            → self.new.waiting.items ≡ waiting_after self.old.waiting.items ace chan event.now }
-        ensures full { completed_by event.now chan ≡ None → self.new.waiting.items ≡ waiting_after self.old.waiting.items ace chan event.now }
-        ensures capacity { deque_capacity self.old.waiting ≤ deque_capacity self.new.waiting }
-    {
-        if is_acknowledge(event, chan) {
-            let _first = self.waiting.pop_front();
-        } else if ace {
-            if let Some(id) = completed_by(event, chan) {
-                let _full = self.waiting.push_back(id);
-            }
-        }
-    }
-
     /// Hears an event of the port that keeps the rules, with `place` events before it. It takes no memory.
     pub fn hear(&mut self, header: &Header, port: u8, chan: Channel, place: usize, event: &Event)
         ensures { (past : Trace) → IsHeard header.now past place event.now port → AllByRecursion HasByteId (event.now ∷ past)
@@ -277,8 +294,8 @@ impl Pending {
     {
         let ace = is_ace(header, port);
         let ended = self.ending(ace, chan, event);
-        self.wait(ace, chan, event);
-        renew(&mut self.list, event);
+        wait(&mut self.waiting, ace, chan, event);
+        renew_all(&mut self.list, event);
         take_out(&mut self.list, ended);
         put_in(&mut self.list, on_channel(chan, issued(place, event)));
     }

@@ -79,3 +79,8 @@ any_kept known test look both (x ∷ xs) is =
       | inr n ↦ let none : both x ≡ false = rw n at b in rw (n, none) rest
       | inl t ↦ let look_too : both x ≡ look (known x) = rw t at b in rw (t, look_too, rest) refl
     ]
+
+-- a test that every element passes keeps all
+pub kept_all : {A : Type 0} → (xs : List A) → filter (λ (x : A). true) xs ≡ xs
+kept_all [] = refl
+kept_all (x ∷ xs) = ap (λ l. x ∷ l) (kept_all xs)
