@@ -39,6 +39,12 @@ stays gone v = not (is_some_and gone (λ i. nat_eq v.transaction.id i))
 pending-out : (h : Header) (past : Trace) (p : ℕ) (c : Channel) (x : Transaction) → IsIssued past x → is_pending h past p c x ≡ true → outstanding h past x.port x.chan x.id ≡ Some x
 pending-out h past p c x i t = outstanding_is h past x i (and_parts _ (is_outstanding h past x) t).1
 
+-- the port of an event is that of the transaction that it issues
+pub issued-port : (n : ℕ) (e : Event) (p : ℕ) (y : Transaction) → issued n e ≡ Some y → port_of e ≡ Some p → y.port ≡ p
+issued-port n (Ar q j addr snoop dom bar lock) p y new own = ap (λ (v : Transaction). v.port) (sym (Some-injective _ y new)) ∙ Some-injective q p own
+issued-port n (Aw q j addr snoop dom bar) p y new own = ap (λ (v : Transaction). v.port) (sym (Some-injective _ y new)) ∙ Some-injective q p own
+issued-port n e p y new own = cc
+
 -- what has just been issued has come nowhere
 begun_is : (h : Header) (past : Trace) (e : Event) (y : Transaction) → issued (length past) e ≡ Some y → progress_of h (e ∷ past) y ≡ begun y
 begun_is h past (Ar q j addr snoop dom bar lock) y new =
@@ -91,7 +97,7 @@ module _ (h : Header) (past : Trace) (e : Event) (p : ℕ) (c : Channel) (waitin
       let kept : List Transaction = filter (is_pending h (e ∷ past) p c) (transactions past) in
       let split = filter-append (is_pending h (e ∷ past) p c) (transactions past) (y ∷ []) in
       let out = outstanding_new_one h past e y new in
-      let port : nat_eq y.port p ≡ true = eq-eqb y.port p (issued-port e new own) in
+      let port : nat_eq y.port p ≡ true = eq-eqb y.port p (issued-port (length past) e p y new own) in
       elim (cases_Bool (same_channel y.chan c)) [
         | inr f ↦
             let none : kept ++ filter (is_pending h (e ∷ past) p c) (y ∷ []) ≡ kept = rw (port, f) (append-nil kept) in
@@ -102,13 +108,6 @@ module _ (h : Header) (past : Trace) (e : Event) (p : ℕ) (c : Channel) (waitin
             rw t (ap (λ l. map (progress_of h (e ∷ past)) kept ++ l) (sym begins) ∙ sym (map-append (progress_of h (e ∷ past)) kept (y ∷ []))
             ∙ ap (map (progress_of h (e ∷ past))) (sym (split ∙ one)))
       ]
-    where
-      issued-port : (e : Event) → issued (length past) e ≡ Some y → port_of e ≡ Some p → y.port ≡ p
-      issued-port (Ar q j addr snoop dom bar lock) new own =
-          ap (λ (v : Transaction). v.port) (sym (Some-injective _ y new)) ∙ Some-injective q p own
-      issued-port (Aw q j addr snoop dom bar) new own =
-          ap (λ (v : Transaction). v.port) (sym (Some-injective _ y new)) ∙ Some-injective q p own
-      issued-port e new own = cc
 
   pub lists_heard : (list : List Progress) → list ≡ map (progress_of h past) (pending_of h past p c)
       → more (without_id gone (map (renewed e) list)) (option_map begun (on_channel c (issued (length past) e)))

@@ -2,3 +2,4 @@ pub mod Targets
 pub mod Unfinished
 pub mod Heard
 pub mod Pending
+pub mod Transactions

@@ -6,7 +6,8 @@ use Rattle.std.proofs.lemmas.List.Folds.{list_any-append}
 use Rattle.ace_model.proofs.Terms.{Event, Transaction, Trace, is_some_and, more, issued, some_issued, transactions}
 use Rattle.ace_model.proofs.General.Lists.{slice_get-at_end, slice_get-grown}
 use Rattle.ace_model.proofs.Trace.Growth.{IsIssued, issued-cases, transaction-issued}
-use Rattle.ace_model.proofs.Outstanding.Lists.{all_from_places}
+use Rattle.ace_model.proofs.Trace.Issued.{issued-place}
+use Rattle.ace_model.proofs.Outstanding.Lists.{Rises, rises_more, all_from_places, all_implies}
 
 swapped : (a b : Bool) → (a || b) ≡ (b || (a || false))
 swapped true true = refl
@@ -60,3 +61,16 @@ find-none test (y ∷ ys) k x e there =
     at : (k : ℕ) → slice_get (y ∷ ys) k ≡ Some x → test y ≡ false → ((j : ℕ) → slice_get ys j ≡ Some x → test x ≡ false) → test x ≡ false
     at zero there f rest = let one : y ≡ x = cc in subst (λ v. test v ≡ false) one f
     at (suc k) there f rest = rest k there
+
+-- their places rise
+pub places_rise : (past : Trace) → Rises (λ (x : Transaction). x.place) (transactions past)
+places_rise [] = tt
+places_rise (e ∷ past) = by (issued (length past) e) refl (places_rise past)
+  where
+    by : (o : Option Transaction) → issued (length past) e ≡ o → Rises (λ (x : Transaction). x.place) (transactions past)
+        → Rises (λ (x : Transaction). x.place) (more (transactions past) o)
+    by None new rises = rises
+    by (Some y) new rises =
+        let at = issued-place (length past) e y new in
+        rises_more (λ (x : Transaction). x.place) (transactions past) y rises
+        (all_implies (IsIssued past) (λ (x : Transaction). x.place < y.place) (transactions past) (λ x i. let b = i.before in omega (arith, b, at)) (transactions-issued past))
