@@ -1,2 +1,5 @@
 pub mod Targets
 pub mod Unfinished
+pub mod Heard
+pub mod Pending
+pub mod Transactions

@@ -3,7 +3,9 @@
 
 mod kinds;
 mod no_memory;
+mod pending;
 mod target;
+mod transactions;
 
 pub use no_memory::NoMemory;
 pub use target::{Progress, Target, WriteData};
