@@ -70,8 +70,10 @@ fn has_lines(alloc: Global, event: Event, first: &[u8], second: &[u8]) -> Result
     requires first { InRange 1 event }
     requires second { InRange 2 event }
 {
-    Ok(has_line(alloc, &HEADER, HEADER_TEXT, event, first)?
-        && has_line(alloc, &SECOND_HEADER, SECOND_HEADER_TEXT, event, second)?)
+    Ok(
+        has_line(alloc, &HEADER, HEADER_TEXT, event, first)?
+            && has_line(alloc, &SECOND_HEADER, SECOND_HEADER_TEXT, event, second)?,
+    )
 }
 
 #[test]
@@ -117,14 +119,7 @@ fn writes_each_record(rt: HostRuntime) -> Result<(), Fail> {
         port: 3,
         st: LineState::UC,
     };
-    assert!(rt;
-        has_lines(
-            alloc,
-            rk,
-            b"RK 3 UC",
-            b"RK 03 UC"
-        )?
-    );
+    assert!(rt; has_lines(alloc, rk, b"RK 3 UC", b"RK 03 UC")?);
     let aw = Event::Aw {
         port: 15,
         id: 14,
@@ -160,52 +155,24 @@ fn writes_each_record(rt: HostRuntime) -> Result<(), Fail> {
         id: 2,
         resp: 3,
     };
-    assert!(rt;
-        has_lines(
-            alloc,
-            b,
-            b"B 1 2 3",
-            b"B 01 2 3"
-        )?
-    );
+    assert!(rt; has_lines(alloc, b, b"B 1 2 3", b"B 01 2 3")?);
     let wk = Event::Wk {
         port: 5,
         st: LineState::SC,
     };
-    assert!(rt;
-        has_lines(
-            alloc,
-            wk,
-            b"WK 5 SC",
-            b"WK 05 SC"
-        )?
-    );
+    assert!(rt; has_lines(alloc, wk, b"WK 5 SC", b"WK 05 SC")?);
     let ac = Event::Ac {
         port: 4,
         addr: 0x89ab_cdef,
         snoop: 14,
     };
-    assert!(rt;
-        has_lines(
-            alloc,
-            ac,
-            b"AC 4 89abcdef e",
-            b"AC 04 89abcdef e"
-        )?
-    );
+    assert!(rt; has_lines(alloc, ac, b"AC 4 89abcdef e", b"AC 04 89abcdef e")?);
     let cr = Event::Cr {
         port: 6,
         resp: 0x19,
         st: LineState::SD,
     };
-    assert!(rt;
-        has_lines(
-            alloc,
-            cr,
-            b"CR 6 19 SD",
-            b"CR 06 19 SD"
-        )?
-    );
+    assert!(rt; has_lines(alloc, cr, b"CR 6 19 SD", b"CR 06 19 SD")?);
     let cd = Event::Cd {
         port: 7,
         last: false,
@@ -224,14 +191,7 @@ fn writes_each_record(rt: HostRuntime) -> Result<(), Fail> {
         chan: Channel::Write,
         id: 8,
     };
-    assert!(rt;
-        has_lines(
-            alloc,
-            g,
-            b"G 9 W 8",
-            b"G 09 W 8"
-        )?
-    );
+    assert!(rt; has_lines(alloc, g, b"G 9 W 8", b"G 09 W 8")?);
     let m = Event::M {
         port: 1,
         chan: Channel::Read,
@@ -251,14 +211,7 @@ fn writes_each_record(rt: HostRuntime) -> Result<(), Fail> {
         addr: 64,
         st: LineState::I,
     };
-    assert!(rt;
-        has_lines(
-            alloc,
-            s,
-            b"S 2 00000040 I",
-            b"S 02 00000040 I"
-        )?
-    );
+    assert!(rt; has_lines(alloc, s, b"S 2 00000040 I", b"S 02 00000040 I")?);
     let l = Event::L {
         port: 3,
         addr: 128,
@@ -294,14 +247,7 @@ fn writes_each_record(rt: HostRuntime) -> Result<(), Fail> {
         k: 0x1f,
         res: Outcome::Skip,
     };
-    assert!(rt;
-        has_lines(
-            alloc,
-            op,
-            b"OP 2 001f skip",
-            b"OP 02 001f skip"
-        )?
-    );
+    assert!(rt; has_lines(alloc, op, b"OP 2 001f skip", b"OP 02 001f skip")?);
     Ok(())
 }
 
