@@ -5,6 +5,7 @@ use Rattle.std.specs.Io.KnownBytes.{Consumes, Appends, IsAtEnd}
 use Rattle.ace_event.specs.declared.event.Event.{Event}
 use Rattle.ace_event.specs.Text.{events_text, event_text, line_text}
 use Rattle.ace_io.specs.Line.{IsPending}
+use Rattle.ace_grammar.specs.Errors.{LeavesNothing}
 use Rattle.ace_grammar.specs.Reading.{IsReadable, HasBadLine, IfTold, most_events}
 use Rattle.ace_writer.specs.declared.writer.Writer.{Writer}
 use Rattle.ace_writer.specs.Given.{GivesFront}
@@ -51,7 +52,7 @@ pub record CopiesNext {K : Type 0} (held : K → Option (List ℕ)) (from to : �
 -- Why the copy of a trace of a version ends after so many events: by what stands next, and by what is left of the source
 -- after that was read.
 abbrev pub EndsCopy : ℕ → Answer → ℕ → Option (List ℕ) → Option (List ℕ) → Type 0
-EndsCopy from Shown count next left = IsAtEnd next
+EndsCopy from Shown count next left = IsAtEnd next × LeavesNothing next left
 EndsCopy from (Malformed line reason) count next left = IfTold next (λ bytes. HasBadLine from bytes reason) × (count < most_events) × (line ≡ count + 3)
 EndsCopy from LimitEvents count next left = IfTold next (λ bytes. bytes ≢ []) × (count ≡ most_events)
 EndsCopy from ReadFault count next left = IsPending next left

@@ -6,6 +6,7 @@ use Rattle.ace_io.specs.Faults.{Rose}
 use Rattle.ace_event.specs.declared.header.Header.{Header}
 use Rattle.ace_event.specs.declared.event.Event.{Event}
 use Rattle.ace_event.specs.Text.{trace_text, event_text, line_text}
+use Rattle.ace_grammar.specs.Errors.{LeavesNothing}
 use Rattle.ace_grammar.specs.Reading.{IsReadable, IsReadableHeader, HasBadLine, IfTold, most_events}
 use Rattle.ace_model.specs.Accepted.{IsAcceptedBy, least_of}
 use Rattle.ace_model.specs.Today.{rules_today}
@@ -41,16 +42,16 @@ IsNextVerdict header past left left' NoMemory = ⊤
 IsNextVerdict header past left left' Shown = ⊥
 IsNextVerdict header past left left' Usage = ⊥
 
--- a trace that is accepted or shown was read to the end of the input
-abbrev pub EndsInput : Answer → Option (List ℕ) → Type 0
-EndsInput (Accepted events) left = IsAtEnd left
-EndsInput (Refused index rule) left = ⊤
-EndsInput Shown left = IsAtEnd left
-EndsInput Usage left = ⊤
-EndsInput (Malformed line reason) left = ⊤
-EndsInput ReadFault left = ⊤
-EndsInput LimitEvents left = ⊤
-EndsInput NoMemory left = ⊤
+-- Of the input before and after: a trace that is accepted or shown was read to its end.
+abbrev pub EndsInput : Answer → Option (List ℕ) → Option (List ℕ) → Type 0
+EndsInput (Accepted events) old left = LeavesNothing old left
+EndsInput (Refused index rule) old left = ⊤
+EndsInput Shown old left = LeavesNothing old left
+EndsInput Usage old left = ⊤
+EndsInput (Malformed line reason) old left = ⊤
+EndsInput ReadFault old left = ⊤
+EndsInput LimitEvents old left = ⊤
+EndsInput NoMemory old left = ⊤
 
 -- A count of faults goes up exactly where the answer is that the input failed.
 pub record HasReadCause (before now : ℕ) (answer : Answer) : Type 0 where
