@@ -6,7 +6,7 @@ use Rattle.ace_model.specs.Today.{rules_today}
 use Rattle.ace_model.proofs.Rules.FirstBreak.{no_break_accepted}
 use Rattle.ace_model.proofs.Holders.Today.{accepted_unique}
 use Rattle.ace_top.specs.declared.answer.Answer.{Answer}
-use Rattle.ace_top.specs.declared.answer.Answer.TheVariants.{Accepted, Refused, Shown, Usage, Malformed, ReadFault, LimitEvents, NoMemory}
+use Rattle.ace_top.specs.declared.answer.Answer.TheVariants.{Accepted, Refused, Shown, Reported, Usage, Malformed, ReadFault, LimitEvents, LimitLines, NoMemory}
 use Rattle.ace_top.specs.declared.words.Command.TheVariants.{Check}
 use Rattle.ace_top.specs.Answer.{Answers, BreaksOff}
 use Rattle.ace_top.specs.Output.{AppendsPart, AppendsParts}

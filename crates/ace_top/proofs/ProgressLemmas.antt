@@ -15,7 +15,7 @@ use Rattle.ace_model.specs.Accepted.{IsAcceptedBy}
 use Rattle.ace_model.specs.Today.{rules_today}
 use Rattle.ace_model.proofs.Rules.FirstBreak.{accepted_no_break, next_breaks}
 use Rattle.ace_top.specs.declared.answer.Answer.{Answer}
-use Rattle.ace_top.specs.declared.answer.Answer.TheVariants.{Accepted, Refused, Shown, Usage, Malformed, ReadFault, LimitEvents, NoMemory}
+use Rattle.ace_top.specs.declared.answer.Answer.TheVariants.{Accepted, Refused, Shown, Reported, Usage, Malformed, ReadFault, LimitEvents, LimitLines, NoMemory}
 use Rattle.ace_top.specs.Progress.{StandsAt, TakesEvent, IsNextVerdict, EndsInput}
 use Rattle.ace_top.specs.Verdict.{IsVerdict}
 

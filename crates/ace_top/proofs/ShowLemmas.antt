@@ -13,7 +13,7 @@ use Rattle.ace_grammar.specs.Lines.{BeginsWith}
 use Rattle.ace_grammar.proofs.Taken.{reads_to, at_end}
 use Rattle.ace_grammar.specs.Reading.{Reads, Ending, Ends, Whole, Full, Bad, IsReadable, IsReadableHeader, HasBadLine, IfTold, most_events}
 use Rattle.ace_top.specs.declared.answer.Answer.{Answer}
-use Rattle.ace_top.specs.declared.answer.Answer.TheVariants.{Accepted, Refused, Shown, Usage, Malformed, ReadFault, LimitEvents, NoMemory}
+use Rattle.ace_top.specs.declared.answer.Answer.TheVariants.{Accepted, Refused, Shown, Reported, Usage, Malformed, ReadFault, LimitEvents, LimitLines, NoMemory}
 use Rattle.ace_top.specs.declared.show.Version.{Version}
 use Rattle.ace_top.specs.declared.show.Version.TheVariants.{AsRead, Two}
 use Rattle.ace_top.specs.declared.words.Command.{Command}
@@ -36,6 +36,8 @@ quiet from ReadFault count next left e = refl
 quiet from NoMemory count next left e = refl
 quiet from (Accepted events) count next left e = absurd e
 quiet from (Refused index rule) count next left e = absurd e
+quiet from Reported count next left e = absurd e
+quiet from LimitLines count next left e = absurd e
 quiet from Usage count next left e = refl
 
 -- the bytes of a trace that was copied, and what stands next
@@ -121,6 +123,8 @@ shown_ends from ReadFault count next left zero e = absurd (omega arith)
 shown_ends from NoMemory count next left zero e = absurd (omega arith)
 shown_ends from (Accepted events) count next left zero e = absurd e
 shown_ends from (Refused index rule) count next left zero e = absurd e
+shown_ends from Reported count next left zero e = absurd e
+shown_ends from LimitLines count next left zero e = absurd e
 shown_ends from Usage count next left zero e = absurd (omega arith)
 
 pub shows_whole : {S : Type 0} (left : S → Option (List ℕ)) (source source' : S) (old mid next : Option (List ℕ)) (header : Header) (events : List Event) (answer : Answer) (status : ℕ)
