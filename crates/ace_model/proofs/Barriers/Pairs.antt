@@ -1,5 +1,5 @@
 -- The halves of a barrier and its pair: which of the port's they are doesn't change while the trace grows.
-use Rattle.std.proofs.Common.{◌≡◌, ℕ, zero, suc, ◌<◌, true, ◌&&◌, ◌==◌, List, [], ◌∷◌, ◌++◌, length, Option, Some, None, slice_get, sym, ap, ◌∙◌, arith, inl, inr}
+use Rattle.std.proofs.Common.{◌≡◌, ℕ, zero, suc, ◌<◌, true, ◌&&◌, ◌==◌, List, [], ◌∷◌, ◌++◌, length, Some, slice_get, sym, ap, ◌∙◌, arith, inl, inr}
 use Rattle.std.proofs.lemmas.Bool.{and_parts, eqb-true}
 use Rattle.ace_model.proofs.Terms.{Event, Channel, Read, Write, Transaction, Trace, at_point, issued, same_channel, is_barrier_half, is_barrier_of, option_filter, barriers, Pair, paired, pairs, number_of}
 use Rattle.ace_model.proofs.Trace.Growth.{at_point-before, at_point-later, IsIssued, issued-new, issued-old}

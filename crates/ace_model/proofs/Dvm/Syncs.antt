@@ -1,5 +1,5 @@
 -- The Syncs of a trace: each has one part, which is forwarded next after what was issued before it.
-use Rattle.std.proofs.Common.{◌≡◌, ◌≢◌, ℕ, true, not, ◌&&◌, nat_eq, [], ◌∷◌, ◌++◌, length, Option, Some, None, is_some, refl, ap, arith, inl, inr}
+use Rattle.std.proofs.Common.{◌≡◌, ◌≢◌, ℕ, true, not, ◌&&◌, nat_eq, [], ◌∷◌, ◌++◌, length, Option, Some, None, is_some, refl, arith, inl, inr}
 use Rattle.std.proofs.lemmas.Bool.{and_parts, eqb-true, ne_eqb}
 use Rattle.ace_model.proofs.Terms.{Header, Transaction, Trace, at_point, issued, is_message_part, is_message_word, is_sync, is_sync_word, has_second, first_waiting, parts_in, parts_for, sync_in, last_sync}
 use Rattle.ace_model.proofs.Terms.{begins_message, begins_well, is_part_in_order, IsAccepted}

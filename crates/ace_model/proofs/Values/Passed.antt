@@ -2,7 +2,7 @@
 use Rattle.std.proofs.Common.{◌≡◌, ◌⊎◌, ℕ, Bool, true, false, ◌&&◌, nat_eq, ◌∷◌, Some, None, option_and_then, option_map, refl, sym, ap, subst, ◌∙◌, inl, inr}
 use Rattle.std.proofs.lemmas.Bool.{and_from, cases_Bool, cases_eq, eq-eqb}
 use Rattle.ace_model.proofs.Terms.{LineState, passes_dirty, Event, Cr, D, Header, Line, is_dirty, Answer, Transaction, Trace, is_some_and, at_point, write_kind, snoop_of, snoop_kind_of}
-use Rattle.ace_model.proofs.Terms.{has_outstanding_on, is_outstanding_on, has_memory_write, granted, answers_grant, answer_at, answer_of, passer, has_passed_data}
+use Rattle.ace_model.proofs.Terms.{has_outstanding_on, is_outstanding_on, has_memory_write, granted, answers_grant, answer_at, answer_of, has_passed_data}
 use Rattle.ace_model.proofs.Terms.{state_of, is_in_make_unique, awaits_store, copy_of, copy_at_answer, passed_data, value_of, may_store, IsAccepted, HasDirtyHolder, IsValueSafe}
 use Rattle.ace_model.proofs.Trace.Looks.{has_name-is, same_channel-self}
 use Rattle.ace_model.proofs.Trace.Issued.{transaction_of-stands}

@@ -1,6 +1,6 @@
 -- Once a granted write has written memory, or a granted MakeInvalid has had its transfer, memory is the value and no port holds the
 -- line.
-use Rattle.std.proofs.Common.{◌≡◌, ◌≢◌, ◌⊎◌, ℕ, true, false, not, ◌||◌, nat_eq, ◌∷◌, length, Option, Some, None, unwrap_or, option_and_then, slice_get, refl, sym, ap, subst, ◌∙◌, inl, inr}
+use Rattle.std.proofs.Common.{◌≡◌, ◌≢◌, ◌⊎◌, ℕ, true, false, not, ◌||◌, nat_eq, ◌∷◌, length, Option, Some, None, unwrap_or, slice_get, refl, sym, ap, subst, ◌∙◌, inl, inr}
 use Rattle.std.proofs.lemmas.Bool.{and_parts, and_from, cases_Bool}
 use Rattle.std.specs.List.{AllByRecursion}
 use Rattle.ace_model.proofs.Terms.{AwKind, I, FitsFields, Channel, Read, Write, Event, M, Header, Line, merged, Transaction, Trace, is_some_and, is_write_line_unique, has_write_data}
