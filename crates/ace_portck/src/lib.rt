@@ -3,7 +3,13 @@
 
 mod kinds;
 mod no_memory;
+mod opening;
+mod retired;
+mod snoops;
 mod target;
 
 pub use no_memory::NoMemory;
+pub use opening::OpeningMemory;
+pub use retired::RetiredCount;
+pub use snoops::SnoopQueues;
 pub use target::{Progress, Target, WriteData};
