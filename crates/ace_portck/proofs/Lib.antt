@@ -4,3 +4,4 @@ pub mod Few
 pub mod Heard
 pub mod Stays
 pub mod Found
+pub mod SnoopSteps

@@ -10,7 +10,7 @@ use Rattle.ace_event.specs.declared.event.Event.{Event}
 use Rattle.ace_event.specs.declared.event.Event.TheVariants.{Ar, R, Rk, Aw, B, Wk, G, M, D}
 use Rattle.ace_event.specs.declared.header.Header.{Header}
 use Rattle.ace_model.specs.declared.transactions.Transaction.{Transaction}
-use Rattle.ace_model.specs.Trace.{Trace, more}
+use Rattle.ace_model.specs.Trace.{Trace, port_of, is_some_and, more}
 use Rattle.ace_model.specs.Accepted.{IsAccepted}
 use Rattle.ace_model.specs.Progress.{transactions}
 use Rattle.ace_model.specs.Transactions.{is_ace, is_read, same_channel, has_name, read_kind, is_make_unique_on, is_transaction, issued, ended, acknowledged, next_complete, transaction_of, transaction_under, outstanding, is_outstanding, acknowledgements, completed, completes}
@@ -25,7 +25,8 @@ use Rattle.ace_model.proofs.Outstanding.Names.{named_is}
 use Rattle.ace_model.proofs.Outstanding.Steps.{outstanding_after}
 use Rattle.ace_portck.specs.declared.target.Progress.{Progress}
 use Rattle.ace_portck.specs.Targets.{progress_of}
-use Rattle.ace_portck.specs.Pending.{ListsStand, is_pending, pending_of, renewed, moves_channel, moves_pending}
+use Rattle.ace_portck.specs.declared.pending.Pending.{Pending}
+use Rattle.ace_portck.specs.Pending.{PendingStands, ListsStand, is_pending, pending_of, renewed, moves_channel, moves_pending}
 use Rattle.ace_portck.proofs.Renewed.{renewed_is}
 
 -- It is on the channel of the port.
@@ -206,3 +207,18 @@ module _ (h : Header) (past : Trace) (e : Event) (p : ℕ) (c : Channel) (accept
             ∙ ap (map (progress_of h (e ∷ past))) (new_out (issued (length past) e) refl);
         waiting_is = λ ace. s.waiting_is ace ∙ ap (λ l. drop (acknowledgements past p c) l) (sym d) ∙ ap (λ n. drop n (completed (e ∷ past) p c)) (sym a);
       }
+
+-- what is kept of them stands
+pub pending_stays : (h : Header) (past : Trace) (e : Event) (p : ℕ) (c : Channel) (s : Pending) → IsAccepted h (e ∷ past) → moves_channel e c ≡ false
+    → PendingStands h past p c s → PendingStands h (e ∷ past) p c s
+pending_stays h past e p c s accepted still stands = record {
+  lists = lists_stay h past e p c accepted (idle (port_of e)) s.list.items s.waiting.items stands.lists;
+  roomy = stands.roomy;
+}
+  where
+    idle : (o : Option ℕ) → (is_some_and o (λ q. nat_eq p q) && moves_channel e c) ≡ false
+    idle o = rw still (none (is_some_and o (λ q. nat_eq p q)))
+      where
+        none : (b : Bool) → (b && false) ≡ false
+        none true = refl
+        none false = refl

@@ -3,3 +3,6 @@ pub mod Unfinished
 pub mod Heard
 pub mod Pending
 pub mod Transactions
+pub mod Snoops
+pub mod Retired
+pub mod Opening

@@ -3,7 +3,10 @@
 
 mod kinds;
 mod no_memory;
+mod opening;
 mod pending;
+mod retired;
+mod snoops;
 mod target;
 mod transactions;
 

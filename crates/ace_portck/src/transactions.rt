@@ -104,18 +104,18 @@ fn place_of(x: Option<Progress>) -> Option<usize>
     x.map(|v| v.transaction.place)
 }
 
-/// The place of the first of the list that barriers order, without its order point.
-fn first_unordered(list: &[Progress]) -> Option<usize>
-    ensures { result ≡ option_map (λ x. x.transaction.place) (find is_unordered list.now) }
+/// The first of the list that barriers order, without its order point.
+fn find_unordered(list: &[Progress]) -> Option<Progress>
+    ensures { result ≡ find (λ x. is_unordered x) list.now }
 {
-    place_of(list.iter().copied().find(|x| is_unordered(x)))
+    list.iter().copied().find(|x| is_unordered(x))
 }
 
-/// The place of the first of the list that barriers order and that isn't complete.
-fn first_incomplete(list: &[Progress]) -> Option<usize>
-    ensures { result ≡ option_map (λ x. x.transaction.place) (find is_incomplete list.now) }
+/// The first of the list that barriers order and that isn't complete.
+fn find_incomplete(list: &[Progress]) -> Option<Progress>
+    ensures { result ≡ find (λ x. is_incomplete x) list.now }
 {
-    place_of(list.iter().copied().find(|x| is_incomplete(x)))
+    list.iter().copied().find(|x| is_incomplete(x))
 }
 
 /// The lesser place, where there is one.
@@ -144,13 +144,13 @@ fn moves_channel(event: &Event, chan: Channel) -> bool
 }
 
 impl Transactions {
-    ghost use Rattle.std.specs.Prelude.{ℕ, true, [], IfOk};
+    ghost use Rattle.std.specs.Prelude.{ℕ, true, not, [], IfOk};
     ghost use Rattle.ace_event.specs.declared.header.Header.{Header};
     ghost use Rattle.ace_event.specs.declared.event.Event.TheVariants.{R, B};
-    ghost use Rattle.ace_model.specs.AddressRules.{has_free_name, has_free_line, keeps_apart};
+    ghost use Rattle.ace_model.specs.AddressRules.{has_free_name, has_free_line, has_write, keeps_apart};
     ghost use Rattle.ace_model.specs.Shares.{k18_transfer, k26_response};
     ghost use Rattle.ace_model.specs.Trace.{is_none_or};
-    ghost use Rattle.ace_model.specs.Transactions.{is_ace, outstanding, acknowledged, next_complete};
+    ghost use Rattle.ace_model.specs.Transactions.{is_ace, outstanding, has_outstanding_on, acknowledged, next_complete};
     ghost use Rattle.ace_portck.specs.Targets.{progress_of, own_of, first_unordered, first_incomplete};
     ghost use Rattle.ace_portck.specs.Transactions.{TransactionsStand};
 
@@ -205,10 +205,7 @@ impl Transactions {
         ensures { (h : Header) (past : Trace) (p : ℕ) → TransactionsStand h past p self.now
             → result ≡ option_map (progress_of h past) (own_of h past p line) }
     {
-        match find_on(self.reads.list(), line) {
-            None => find_on(self.writes.list(), line),
-            Some(x) => Some(x),
-        }
+        find_on(self.reads.list(), line).or(find_on(self.writes.list(), line))
     }
 
     /// The place of the oldest line transaction with bar 0 without its order point.
@@ -216,8 +213,8 @@ impl Transactions {
         ensures { (h : Header) (past : Trace) (p : ℕ) → TransactionsStand h past p self.now → result ≡ first_unordered past p }
     {
         lesser(
-            first_unordered(self.reads.list()),
-            first_unordered(self.writes.list()),
+            place_of(find_unordered(self.reads.list())),
+            place_of(find_unordered(self.writes.list())),
         )
     }
 
@@ -226,8 +223,8 @@ impl Transactions {
         ensures { (h : Header) (past : Trace) (p : ℕ) → TransactionsStand h past p self.now → result ≡ first_incomplete past p }
     {
         lesser(
-            first_incomplete(self.reads.list()),
-            first_incomplete(self.writes.list()),
+            place_of(find_incomplete(self.reads.list())),
+            place_of(find_incomplete(self.writes.list())),
         )
     }
 
@@ -238,11 +235,32 @@ impl Transactions {
         self.named(x.chan, x.id).is_none()
     }
 
+    /// None on the line is outstanding.
+    fn is_line_free(&self, line: u32) -> bool
+        ensures { (h : Header) (past : Trace) (p : ℕ) → TransactionsStand h past p self.now → result ≡ not (has_outstanding_on h past p line) }
+    {
+        self.own(line).is_none()
+    }
+
+    /// A WriteUnique or WriteLineUnique is outstanding.
+    fn has_unique_write(&self) -> bool
+        ensures { (h : Header) (past : Trace) (p : ℕ) → TransactionsStand h past p self.now → result ≡ has_write h past p is_unique_write }
+    {
+        has_unique_write(self.writes.list())
+    }
+
+    /// A memory update or an Evict is outstanding.
+    fn has_giving_up(&self) -> bool
+        ensures { (h : Header) (past : Trace) (p : ℕ) → TransactionsStand h past p self.now → result ≡ has_write h past p gives_up }
+    {
+        has_giving_up(self.writes.list())
+    }
+
     /// K5, of a new transaction of the port: none on its line is outstanding.
     pub fn has_free_line(&self, x: &Transaction) -> bool
         ensures { (h : Header) (past : Trace) → TransactionsStand h past x.now.port self.now → result ≡ has_free_line h past x.now }
     {
-        !is_line(x) || self.own(x.addr).is_none()
+        !is_line(x) || self.is_line_free(x.addr)
     }
 
     /// K10, of a new transaction of the port: memory updates and Evict keep apart from WriteUnique and WriteLineUnique.
@@ -253,8 +271,8 @@ impl Transactions {
         match write_kind(x) {
             None => true,
             Some(kind) => {
-                (!gives_up(kind) || !has_unique_write(self.writes.list()))
-                    && (!is_unique_write(kind) || !has_giving_up(self.writes.list()))
+                (!gives_up(kind) || !self.has_unique_write())
+                    && (!is_unique_write(kind) || !self.has_giving_up())
             }
         }
     }
