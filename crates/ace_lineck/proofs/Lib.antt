@@ -1,0 +1,3 @@
+pub mod OnLine
+pub mod Own
+pub mod OffLine

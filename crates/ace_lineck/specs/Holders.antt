@@ -1,5 +1,5 @@
 -- What is kept of the ports that may hold a line, and of its memory, says what there is to say of the line after a trace.
-use Rattle.std.specs.Prelude.{ℕ, ◌≡◌, Bool, false, ◌&&◌, ◌==◌, if◌then◌else◌, List, [], ◌∷◌, slice_get, Option, Some, unwrap_or}
+use Rattle.std.specs.Prelude.{ℕ, ◌≡◌, Bool, false, ◌&&◌, ◌==◌, if◌then◌else◌, List, [], ◌∷◌, length, slice_get, Option, Some, unwrap_or}
 use Rattle.ace_codes.specs.declared.state.LineState.TheVariants.{I}
 use Rattle.ace_codes.specs.Responses.{transfers_data}
 use Rattle.ace_event.specs.declared.event.Event.{Event}
@@ -7,12 +7,15 @@ use Rattle.ace_event.specs.declared.event.Event.TheVariants.{Cr}
 use Rattle.ace_event.specs.declared.header.Header.{Header}
 use Rattle.ace_event.specs.declared.line.Line.{Line}
 use Rattle.ace_event.specs.Ports.{IsHeader}
-use Rattle.ace_model.specs.Trace.{Trace}
+use Rattle.ace_model.specs.Kinds.{is_make_unique}
+use Rattle.ace_model.specs.Trace.{Trace, port_of, is_some_and}
+use Rattle.ace_model.specs.Transactions.{read_kind}
 use Rattle.ace_model.specs.Snoops.{answers_line}
 use Rattle.ace_model.specs.States.{state_of}
-use Rattle.ace_model.specs.Copies.{zero_line, copy_of, memory_of}
+use Rattle.ace_model.specs.Copies.{zero_line, received, copy_of, memory_of}
 use Rattle.ace_model.specs.Accepted.{IsAccepted}
 use Rattle.ace_portck.specs.Targets.{target_of}
+use Rattle.ace_portck.specs.declared.target.Progress.{Progress}
 use Rattle.ace_portck.specs.declared.target.Target.{Target}
 use Rattle.ace_lineck.specs.declared.record.Holder.{Holder}
 
@@ -34,7 +37,13 @@ abbrev pub sent_on : Trace → ℕ → ℕ → Line
 sent_on [] p l = zero_line
 sent_on (e ∷ past) p l = if sends_line past e p l then copy_of past p l else sent_on past p l
 
--- what is kept of the ports is what they have of the line, for every port
+-- what is kept of the port is what it has of the line
+pub record HolderStands (h : Header) (past : Trace) (p l : ℕ) (x : Holder) : Type 0 where
+  pub state : x.state ≡ state_of h past p l
+  pub copy : x.copy ≡ copy_of past p l
+  pub sent : x.sent ≡ sent_on past p l
+
+-- the same of every port
 pub record HoldersStand (h : Header) (past : Trace) (l : ℕ) (holders : List Holder) : Type 0 where
   pub state : (p : ℕ) → (holder_at holders p).state ≡ state_of h past p l
   pub copy : (p : ℕ) → (holder_at holders p).copy ≡ copy_of past p l
@@ -50,3 +59,21 @@ pub record IsLineStep (h : Header) (past : Trace) (l : ℕ) (e : Event) (t : Tar
   pub accepted : IsAccepted h (e ∷ past)
   pub target : t ≡ target_of h past e
   pub line : t.line ≡ Some l
+
+-- a MakeUnique that is complete: the next store of its port to the line belongs to it
+abbrev pub awaits_store : Progress → Bool
+awaits_store x = is_some_and (read_kind x.transaction) is_make_unique && x.complete
+
+-- The event of the line is the port's, this is what is kept of the port, and `whole` is the line that it has received with it.
+pub record IsHolderStep (h : Header) (past : Trace) (p l : ℕ) (e : Event) (t : Target) (whole : Option Line) (x : Holder) : Type 0 where
+  pub step : IsLineStep h past l e t
+  pub port : port_of e ≡ Some p
+  pub whole : whole ≡ received past e p l
+  pub stands : HolderStands h past p l x
+
+-- The same of every port, where something is kept of each port of the header.
+pub record IsHoldersStep (h : Header) (past : Trace) (l : ℕ) (e : Event) (t : Target) (whole : Option Line) (xs : List Holder) : Type 0 where
+  pub step : IsLineStep h past l e t
+  pub room : length xs ≡ h.ports
+  pub whole : (p : ℕ) → port_of e ≡ Some p → whole ≡ received past e p l
+  pub stand : HoldersStand h past l xs

@@ -3,6 +3,17 @@
 use ace_codes::LineState;
 use ace_event::Line;
 
+/// How the transactions of a line use it.
+#[derive(Clone, Copy, Debug, PartialEq, Eq)]
+pub enum Use {
+    /// No transaction has named the line.
+    Unknown,
+    /// Its transactions are those of lines that caches may hold.
+    Shareable,
+    /// Its transactions are NoSnoop.
+    NoSnoop,
+}
+
 /// What is kept of a port and a line.
 #[derive(Clone, Copy, Debug, PartialEq, Eq)]
 pub struct Holder {

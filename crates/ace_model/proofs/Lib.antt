@@ -12,3 +12,4 @@ pub mod Exclusives
 pub mod Barriers
 pub mod Dvm
 pub mod Coherence
+pub mod Lines

@@ -26,6 +26,10 @@ pub record Recording : Type 0 where
   pub header : Header
   pub past : Trace
 
+-- the recording with one more event
+abbrev pub after : Recording → Event → Recording
+after r e = record { header = r.header; past = e ∷ r.past }
+
 -- a transaction that has just been issued
 abbrev pub begun : Transaction → Progress
 begun x = record {
