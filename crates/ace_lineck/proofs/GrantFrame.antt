@@ -41,7 +41,7 @@ stage-same longer past p l snooped answer short = rw (snooped, answer) (by (answ
     by (Some w) is = let same = short w is in rw same refl
 
 -- memory at the first beat of a read, by what tells it
-fetched-same : (longer past : Trace) (x : Transaction) → (is_read x.chan ≡ true → transfers longer x.port x.id ≡ transfers past x.port x.id)
+pub fetched-same : (longer past : Trace) (x : Transaction) → (is_read x.chan ≡ true → transfers longer x.port x.id ≡ transfers past x.port x.id)
     → (transfers longer x.port x.id ≢ 0 → memory_at_first_beat longer x.port x.id x.addr ≡ memory_at_first_beat past x.port x.id x.addr)
     → fetched longer x ≡ fetched past x
 fetched-same longer past x count memory =

@@ -29,21 +29,17 @@ use Rattle.ace_lineck.specs.declared.stages.Stage.{Stage}
 use Rattle.ace_lineck.specs.declared.stages.Stage.TheVariants.{Unsnooped, Unanswered, Sending, Done}
 use Rattle.ace_lineck.specs.declared.grant.Passed.{Passed}
 use Rattle.ace_lineck.specs.declared.grant.Grant.{Grant}
-use Rattle.ace_lineck.specs.Grants.{GrantFits, GrantStands, stage_at, stage_by, stage_of, passed_by, fetched, settled_reply}
+use Rattle.ace_lineck.specs.Grants.{GrantFits, GrantStands, IsMoved, stage_at, stage_by, stage_of, passed_by, fetched, settled_reply}
 use Rattle.ace_lineck.proofs.OnLine.{on-transaction, on-snoop}
 use Rattle.ace_lineck.proofs.GrantFrame.{passed_at, stage-same, fits-stays, stages-stay, passed-stays, fetched-stays, reply-stays}
 use Rattle.ace_lineck.proofs.Bursts.{sent_few, short-apart, beat_of, short-before, whole-now, short-now}
-
--- the port has come to this stage, and the others haven't moved
-abbrev pub IsMoved : List Stage → List Stage → ℕ → Stage → Type 0
-IsMoved old new q stage = (p : ℕ) → stage_at new p ≡ (if (p == q) && nat_lt p 32 then stage else stage_at old p)
 
 otherwise_of : {A : Type 0} → (b : Bool) (t u : A) → b ≡ false → (if b then t else u) ≡ u
 otherwise_of true t u e = cc
 otherwise_of false t u e = refl
 
 -- what hasn't begun has had no beat
-unfetched : (past : Trace) (x : Transaction) → is_begun past x ≡ false → fetched past x ≡ None
+pub unfetched : (past : Trace) (x : Transaction) → is_begun past x ≡ false → fetched past x ≡ None
 unfetched past x unbegun =
     elim (cases_Bool (is_read x.chan)) [
       | inr writes ↦ rw writes refl
@@ -132,7 +128,7 @@ module _ (h : Header) (past : Trace) (l : ℕ) (g : Grant) (f : GrantFits h past
       (ap (λ c. Some (record { port = p; line = unwrap_or c zero_line })) copy, copy)
 
   -- and the reply
-  settled_same : (e : Event) → first_sender (e ∷ past) l ≡ first_sender past l
+  pub settled_same : (e : Event) → first_sender (e ∷ past) l ≡ first_sender past l
       → option_and_then (copy_at_answer (e ∷ past) l) (first_sender past l) ≡ option_and_then (copy_at_answer past l) (first_sender past l)
       → Untouched past e g.transaction → settled_reply (e ∷ past) l g.transaction ≡ settled_reply past l g.transaction
   settled_same e sender copies idle =
