@@ -1,3 +1,4 @@
 pub mod OnLine
 pub mod Own
 pub mod OffLine
+pub mod HolderSteps
