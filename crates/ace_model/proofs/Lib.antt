@@ -7,6 +7,7 @@ pub mod Holders
 pub mod Grants
 pub mod Values
 pub mod ReadsFollow
+pub mod GrantLooks
 pub mod Exclusives
 pub mod Barriers
 pub mod Dvm
