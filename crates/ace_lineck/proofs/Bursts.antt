@@ -1,12 +1,14 @@
 -- The burst that a port sends for a snoop of a line is that of its answer under the present grant of the line.
 use Rattle.std.proofs.Common.{◌≡◌, ◌≢◌, ℕ, ◌+◌, ◌*◌, ◌/◌, ◌%◌, ◌<◌, ◌≤◌, arith, true, false, Bool, not, ◌&&◌, if◌then◌else◌, nat_eq, nat_le, [], ◌∷◌, ◌++◌, length, length-append, slice_get, Option, Some, None, refl, sym, ap, subst, ◌∙◌, inl, inr}
 use Rattle.std.proofs.lemmas.Bool.{and_parts, and_from, cases_Bool, cases_eq, eqb-true, eq-eqb, ne_eqb, le-leb, lt-leb, leb-true, leb-false}
+use Rattle.std.proofs.lemmas.Option.{slice_get_within}
 use Rattle.ace_model.specs.declared.snoops.Snoop.{Snoop}
 use Rattle.ace_model.specs.declared.snoops.Answer.{Answer}
 use Rattle.ace_model.specs.Snoops.{data_beats}
+use Rattle.ace_model.specs.Replies.{sent, next_sent}
 use Rattle.ace_model.specs.Grants.{is_short}
 use Rattle.ace_model.specs.Trace.{more}
-use Rattle.ace_model.proofs.Terms.{Header, Trace, Event, Cr, Cd, LineState, IsAccepted, is_some_and, answered, answers_line, answers_grant, answer_of, data_answers, is_snoop_on, transfers_data, gives_line}
+use Rattle.ace_model.proofs.Terms.{Header, Trace, Event, Cr, Cd, LineState, IsAccepted, is_some_and, answered, answers_line, answers_grant, answer_of, data_answers, is_snoop_on, transfers_data, gives_line, copy_of}
 use Rattle.ace_model.proofs.General.Options.{Some-injective, some_is, is_some_and-is}
 use Rattle.ace_model.proofs.General.Lists.{slice_get-more, slice_get-at_end, slice_get-grown}
 use Rattle.ace_model.proofs.Rules.Keeps.{accepted_keeps}
@@ -98,6 +100,42 @@ unfinished h (e ∷ past) a p n l s there on short =
               })
         ]
     by d a is at = cc
+
+-- the lines that a port announces are as many as its answers with data
+sent_count : (h : Header) (past : Trace) → IsAccepted h past → (p : ℕ) → length (sent past p) ≡ data_answers past p
+sent_count h [] a p = refl
+sent_count h (Cr q resp st ∷ past) a p =
+    let before = sent_count h past a.0 p in
+    elim (cases_Bool (nat_eq p q && transfers_data resp)) [
+      | inr f ↦ rw f before
+      | inl t ↦
+          let s = some_is (answered past q) (accepted_keeps h past (Cr q resp st) a).rule_14 in
+          let there : answered past p ≡ Some s.0 = ap (answered past) (eqb-true p q (and_parts (nat_eq p q) (transfers_data resp) t).0) ∙ s.1 in
+          rw (t, there) (length-append (sent past p) (copy_of past p s.0.addr ∷ []) ∙ ap (λ n. n + 1) before)
+    ]
+sent_count h (_ ∷ past) a p = sent_count h past a.0 p
+
+-- no port has sent more beats than it has announced
+pub sent_few : (h : Header) (past : Trace) → IsAccepted h past → (p : ℕ) → data_beats past p ≤ 4 * data_answers past p
+sent_few h [] a p = omega arith
+sent_few h (Cd q last word ∷ past) a p =
+    let before = sent_few h past a.0 p in
+    elim (cases_Bool (nat_eq p q)) [
+      | inr f ↦ rw f before
+      | inl t ↦
+          let line = is_some_and-is (next_sent past q) (λ line. _) (accepted_keeps h past (Cd q last word) a).rule_17 in
+          let port = eqb-true p q t in
+          let within = slice_get_within (sent past q) (data_beats past q / 4) line.0 line.1 in
+          let count = sent_count h past a.0 q in
+          rw t (subst (λ v. data_beats past v + 1 ≤ 4 * data_answers past v) (sym port) (omega arith))
+    ]
+sent_few h (Cr q resp st ∷ past) a p =
+    let before = sent_few h past a.0 p in
+    elim (cases_Bool (nat_eq p q && transfers_data resp)) [
+      | inr f ↦ rw f before
+      | inl t ↦ rw t (omega arith)
+    ]
+sent_few h (_ ∷ past) a p = sent_few h past a.0 p
 
 -- a beat more makes the burst whole, or leaves it as it was
 le-step : (m d : ℕ) → d + 1 ≢ m → nat_le m (d + 1) ≡ nat_le m d

@@ -1,16 +1,17 @@
 -- What is kept of the grant of a line says what there is to say of it after a trace.
-use Rattle.std.specs.Prelude.{ℕ, ◌≡◌, Bool, false, not, ◌&&◌, ◌==◌, if◌then◌else◌, List, slice_get, Option, Some, None, unwrap_or, option_map, option_and_then}
+use Rattle.std.specs.Prelude.{ℕ, ◌≡◌, Bool, false, not, ◌&&◌, ◌==◌, if◌then◌else◌, List, slice_get, replicate, nat_lt, Option, Some, None, unwrap_or, option_map, option_and_then}
 use Rattle.ace_event.specs.declared.event.Event.{Event}
 use Rattle.ace_event.specs.declared.header.Header.{Header}
 use Rattle.ace_event.specs.declared.line.Line.{Line}
 use Rattle.ace_model.specs.declared.snoops.Answer.{Answer}
 use Rattle.ace_model.specs.declared.transactions.Transaction.{Transaction}
-use Rattle.ace_model.specs.Trace.{Trace, newer}
+use Rattle.ace_model.specs.Trace.{Trace, newer, is_some_and}
 use Rattle.ace_model.specs.Transactions.{is_read, transfers}
 use Rattle.ace_model.specs.Writes.{has_memory_write}
 use Rattle.ace_model.specs.Grants.{granted, is_begun, was_snooped, answer_of, is_short, has_sharer, passer}
 use Rattle.ace_model.specs.Copies.{zero_line}
 use Rattle.ace_model.specs.Replies.{copy_at_answer, first_sender, memory_at_first_beat}
+use Rattle.ace_portck.specs.declared.target.Progress.{Progress}
 use Rattle.ace_portck.specs.declared.target.Target.{Target}
 use Rattle.ace_lineck.specs.declared.record.Holder.{Holder}
 use Rattle.ace_lineck.specs.declared.stages.Stage.{Stage}
@@ -62,6 +63,20 @@ pub record GrantFits (h : Header) (past : Trace) (l : ℕ) (g : Grant) : Type 0 
 abbrev pub GrantStands : Header → Trace → ℕ → Option Grant → Type 0
 GrantStands h past l None = granted h past l ≡ None
 GrantStands h past l (Some g) = GrantFits h past l g
+
+-- a grant under which nothing has come
+abbrev pub fresh_grant : Transaction → Grant
+fresh_grant x = record {
+  transaction = x; begun = false; written = false; stages = replicate 32 Unsnooped; shared = false; passed = None; reply = None;
+}
+
+-- what an event belongs to is this transaction
+abbrev pub is_of : Option Progress → Transaction → Bool
+is_of target x = is_some_and target (λ y. y.transaction.place == x.place)
+
+-- the port has come to this stage, and the others haven't moved
+abbrev pub IsMoved : List Stage → List Stage → ℕ → Stage → Type 0
+IsMoved old new q stage = (p : ℕ) → stage_at new p ≡ (if (p == q) && nat_lt p 32 then stage else stage_at old p)
 
 -- the event is the next of the line, and what is kept of the line stands
 pub record IsGrantStep (h : Header) (past : Trace) (l : ℕ) (e : Event) (t : Target) (g : Option Grant) (xs : List Holder) (line : Line) : Type 0 where
