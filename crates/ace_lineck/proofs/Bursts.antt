@@ -18,7 +18,7 @@ use Rattle.ace_portck.specs.Targets.{data_snoop_at, data_snoops, sending, line_i
 use Rattle.ace_lineck.proofs.OnLine.{IsOff, on-snoop, line-snoop}
 
 -- the answers with data are as many as the snoops that they answer
-data_count : (h : Header) (past : Trace) → IsAccepted h past → (p : ℕ) → length (data_snoops past p) ≡ data_answers past p
+pub data_count : (h : Header) (past : Trace) → IsAccepted h past → (p : ℕ) → length (data_snoops past p) ≡ data_answers past p
 data_count h [] a p = refl
 data_count h (Cr q resp st ∷ past) a p =
     let before = data_count h past a.0 p in

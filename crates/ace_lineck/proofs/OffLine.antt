@@ -2,10 +2,11 @@
 -- how it is used.
 use Rattle.std.proofs.Common.{◌≡◌, ℕ, true, false, Bool, not, ◌&&◌, nat_eq, [], ◌∷◌, length, Option, Some, None, option_map, unwrap_or, refl, sym, ap, subst, ◌∙◌, inl, inr}
 use Rattle.std.proofs.lemmas.Bool.{and_parts, and_from, cases_Bool, eqb-true, eq-eqb}
+use Rattle.ace_model.specs.declared.transactions.Transaction.{Transaction}
 use Rattle.ace_model.specs.States.{left_by}
 use Rattle.ace_model.specs.Trace.{port_of}
 use Rattle.ace_model.specs.Copies.{received, stored_into}
-use Rattle.ace_model.proofs.Terms.{Header, Trace, Transaction, Channel, Read, Write, Event, Ar, R, Rk, Aw, W, B, Wk, Ac, Cr, Cd, G, M, S, L, D, Op, Mem, LineState, IsAccepted, is_ace, is_some_and, is_line, is_on, is_some_on, issued, outstanding, transaction_of, acknowledged}
+use Rattle.ace_model.proofs.Terms.{Header, Trace, Channel, Read, Write, Event, Ar, R, Rk, Aw, W, B, Wk, Ac, Cr, Cd, G, M, S, L, D, Op, Mem, LineState, IsAccepted, is_ace, is_some_and, is_line, is_on, is_some_on, issued, outstanding, transaction_of, acknowledged}
 use Rattle.ace_model.proofs.Terms.{answers_line, answered, transfers_data, state_of, copy_of, memory_of, written, words_read, is_line_read_transaction, is_due, may_write_memory, is_in_make_unique}
 use Rattle.ace_model.proofs.Rules.Keeps.{accepted_keeps}
 use Rattle.ace_model.proofs.General.Options.{Some-injective, is_some_and-is}

@@ -1,9 +1,10 @@
 -- A port has at most one outstanding transaction on a line (K5), so what the rules ask of all its transactions is asked of that one.
-use Rattle.std.proofs.Common.{◌≡◌, ◌⊎◌, ℕ, true, false, Bool, not, ◌&&◌, nat_eq, [], ◌∷◌, length, Option, Some, None, is_none, is_some, refl, sym, ap, subst, ◌∙◌, inl, inr}
+use Rattle.std.proofs.Common.{◌≡◌, ◌⊎◌, ℕ, true, false, Bool, not, ◌&&◌, ◌||◌, if◌then◌else◌, nat_eq, [], ◌∷◌, length, Option, Some, None, is_none, is_some, refl, sym, ap, subst, ◌∙◌, inl, inr}
 use Rattle.std.proofs.lemmas.Bool.{and_parts, and_from, cases_Bool, eqb-true, eq-eqb, false_from_ne_true, or_left}
 use Rattle.ace_codes.specs.declared.kind.ArKind.TheVariants as read
+use Rattle.ace_model.specs.declared.transactions.Transaction.{Transaction}
 use Rattle.ace_model.specs.States.{owes_wack, awaits_wack}
-use Rattle.ace_model.proofs.Terms.{ArKind, Header, Trace, Transaction, Channel, Event, IsAccepted, is_some_and, is_read, is_line, is_on, is_make_unique, is_make_unique_on, is_line_read, is_line_write, read_kind, write_kind, issued, outstanding, is_outstanding, is_outstanding_on, has_outstanding_on, is_complete, some_issued}
+use Rattle.ace_model.proofs.Terms.{ArKind, Header, Trace, Channel, Event, IsAccepted, is_some_and, is_read, is_line, is_on, is_make_unique, is_make_unique_on, is_line_read, is_line_write, read_kind, write_kind, issued, outstanding, is_outstanding, is_outstanding_on, has_outstanding_on, is_complete, some_issued}
 use Rattle.ace_model.proofs.Terms.{updates_memory, is_update_on, has_update, has_store, awaits_store, is_in_make_unique, wants_store}
 use Rattle.ace_model.proofs.General.Options.{Some-injective, some_or-cases, is_some_and-is}
 use Rattle.ace_model.proofs.Trace.Growth.{IsIssued, issued-new, issued-old, issued-cases, named-issued, some_issued-is, some_issued-found}
@@ -33,14 +34,15 @@ last_issued-is (e ∷ past) test x is =
 -- where none passes it, there is none
 pub last_issued-none : (past : Trace) (test : Transaction → Bool) → last_issued past test ≡ None → some_issued past test ≡ false
 last_issued-none [] test none = refl
-last_issued-none (e ∷ past) test none = by (issued (length past) e) none
+last_issued-none (e ∷ past) test none = by (issued (length past) e) (last_issued-none past test) none
   where
-    by : (o : Option Transaction) → (if is_some_and o test then o else last_issued past test) ≡ None → (is_some_and o test || some_issued past test) ≡ false
-    by None n = last_issued-none past test n
-    by (Some y) n =
+    by : (o : Option Transaction) → (last_issued past test ≡ None → some_issued past test ≡ false) → (if is_some_and o test then o else last_issued past test) ≡ None
+        → (is_some_and o test || some_issued past test) ≡ false
+    by None older n = older n
+    by (Some y) older n =
         elim (cases_Bool (test y)) [
           | inl t ↦ let bad : Some y ≡ None = rw t at n in cc
-          | inr f ↦ let old : last_issued past test ≡ None = rw f at n in rw f (last_issued-none past test old)
+          | inr f ↦ let old : last_issued past test ≡ None = rw f at n in rw f (older old)
         ]
 
 module _ (h : Header) (past : Trace) (a : IsAccepted h past) (p l : ℕ) where
@@ -106,11 +108,11 @@ module _ (h : Header) (past : Trace) (a : IsAccepted h past) (p l : ℕ) where
 -- what is asked of a transaction beside that it is outstanding
 stripped : (x y z m c : Bool) → x ≡ true → y ≡ true → z ≡ true → (((x && (m && y)) && z) && c) ≡ (m && c)
 stripped x y z true c ex ey ez = rw (ex, ey, ez) refl
-stripped x y z false c ex ey ez = rw (ex, ey, ez) refl
+stripped x y z false c ex ey ez = rw ex refl
 
 stripped_two : (x y z m : Bool) → x ≡ true → y ≡ true → z ≡ true → (((x && m) && y) && z) ≡ m
 stripped_two x y z true ex ey ez = rw (ex, ey, ez) refl
-stripped_two x y z false ex ey ez = rw (ex, ey, ez) refl
+stripped_two x y z false ex ey ez = rw ex refl
 
 -- a MakeUnique has a line
 make_unique-line : (k : ArKind) → is_make_unique k ≡ true → is_line_read k ≡ true

@@ -50,8 +50,8 @@ pub record HoldersStand (h : Header) (past : Trace) (l : ℕ) (holders : List Ho
   pub sent : (p : ℕ) → (holder_at holders p).sent ≡ sent_on past p l
 
 -- the line is what memory has
-pub record MemoryStands (past : Trace) (l : ℕ) (memory : Line) : Type 0 where
-  pub memory : memory ≡ memory_of past l
+pub record MemoryStands (past : Trace) (l : ℕ) (line : Line) : Type 0 where
+  pub memory : line ≡ memory_of past l
 
 -- the event is the next of an accepted trace, the target is its own, and this is its line
 pub record IsLineStep (h : Header) (past : Trace) (l : ℕ) (e : Event) (t : Target) : Type 0 where
@@ -64,16 +64,16 @@ pub record IsLineStep (h : Header) (past : Trace) (l : ℕ) (e : Event) (t : Tar
 abbrev pub awaits_store : Progress → Bool
 awaits_store x = is_some_and (read_kind x.transaction) is_make_unique && x.complete
 
--- The event of the line is the port's, this is what is kept of the port, and `whole` is the line that it has received with it.
-pub record IsHolderStep (h : Header) (past : Trace) (p l : ℕ) (e : Event) (t : Target) (whole : Option Line) (x : Holder) : Type 0 where
+-- The event of the line is the port's, this is what is kept of the port, and this is the line that it has received whole with it, if there is one.
+pub record IsHolderStep (h : Header) (past : Trace) (p l : ℕ) (e : Event) (t : Target) (line : Option Line) (x : Holder) : Type 0 where
   pub step : IsLineStep h past l e t
   pub port : port_of e ≡ Some p
-  pub whole : whole ≡ received past e p l
+  pub whole : line ≡ received past e p l
   pub stands : HolderStands h past p l x
 
 -- The same of every port, where something is kept of each port of the header.
-pub record IsHoldersStep (h : Header) (past : Trace) (l : ℕ) (e : Event) (t : Target) (whole : Option Line) (xs : List Holder) : Type 0 where
+pub record IsHoldersStep (h : Header) (past : Trace) (l : ℕ) (e : Event) (t : Target) (line : Option Line) (xs : List Holder) : Type 0 where
   pub step : IsLineStep h past l e t
   pub room : length xs ≡ h.ports
-  pub whole : (p : ℕ) → port_of e ≡ Some p → whole ≡ received past e p l
+  pub whole : (p : ℕ) → port_of e ≡ Some p → line ≡ received past e p l
   pub stand : HoldersStand h past l xs

@@ -3,10 +3,14 @@
 
 mod grant;
 mod heard;
+mod holders;
 mod kinds;
+mod memory;
 mod record;
+mod rules;
 mod stages;
+mod uses;
 
 pub use grant::{Grant, Passed};
-pub use record::Holder;
+pub use record::{Holder, LineRecord, Use};
 pub use stages::Stage;

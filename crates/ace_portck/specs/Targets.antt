@@ -189,7 +189,7 @@ target_of h past e = record {
   line = line_in h past e;
   own = own_in h past e;
   beat = beat_in past e;
-  data = data_in h past e;
+  «data» = data_in h past e;
   unordered = unordered_in h past e;
   incomplete = incomplete_in h past e;
 }
