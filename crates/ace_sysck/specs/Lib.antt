@@ -1,0 +1,4 @@
+pub mod Steps
+pub mod Registrations
+pub mod Results
+pub mod Monitors

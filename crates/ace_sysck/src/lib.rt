@@ -1,0 +1,7 @@
+//! The rules that look at the system as a whole: barriers, DVM messages and exclusive transactions.
+#![tactic(auto)]
+
+mod kinds;
+mod monitors;
+mod registrations;
+mod results;
