@@ -10,4 +10,5 @@ pub mod ReadsFollow
 pub mod Exclusives
 pub mod Barriers
 pub mod Dvm
+pub mod Outstanding
 pub mod Coherence
