@@ -2,7 +2,9 @@
 use Rattle.std.proofs.Common.{◌≡◌, ℕ, ◌<◌, Bool, true, false, not, ◌&&◌, nat_eq, if◌then◌else◌, [], ◌∷◌, length, Option, Some, None, unwrap_or, get_or, slice_set, refl, sym, ap, subst, ◌∙◌, arith, inl, inr, length-set}
 use Rattle.std.specs.Option.{option_map}
 use Rattle.std.proofs.lemmas.Bool.{cases_Bool, cases_eq, and_parts, eqb-true, eq-eqb, ne_eqb, not-true}
-use Rattle.ace_model.proofs.Terms.{Event, Rk, Wk, Cr, S, L, D, Read, Write, Channel, Header, Transaction, Trace, LineState, UD, is_invalid, is_ace, is_some_and, is_some_on, state_of, is_monitored, is_set_by, Line, acknowledged, answered, answers_line, is_snoop_on, snoops_a_line, is_line, is_in_make_unique, IsAccepted, Snoop}
+use Rattle.ace_model.specs.declared.snoops.Snoop.{Snoop}
+use Rattle.ace_model.specs.declared.transactions.Transaction.{Transaction}
+use Rattle.ace_model.proofs.Terms.{Event, Rk, Wk, Cr, S, L, D, Read, Write, Channel, Header, Trace, LineState, UD, is_invalid, is_ace, is_some_and, is_some_on, state_of, is_monitored, is_set_by, Line, acknowledged, answered, answers_line, is_snoop_on, snoops_a_line, is_line, is_in_make_unique, IsAccepted}
 use Rattle.ace_model.specs.States.{left_by}
 use Rattle.ace_model.specs.Trace.{port_of}
 use Rattle.ace_model.proofs.General.Options.{Some-injective}
@@ -160,10 +162,10 @@ monitors_stay r s e sets_none leaves_none stands = record {
 
 -- a load that isn't exclusive, and a store that isn't
 pub monitors_load : (r : Recording) (s : Monitors) (q addr w word : ℕ) → MonitorsStand r s → MonitorsStand (after r (L q addr w false word)) s
-monitors_load r s q addr w word stands = monitors_stay r s (L q addr w false word) (λ p l was. by p was) (λ p l. refl) stands
+monitors_load r s q addr w word stands = monitors_stay r s (L q addr w false word) (λ p l was. by p was (nat_eq l addr)) (λ p l. refl) stands
   where
-    by : (p : ℕ) (was : Bool) {other : Bool} → (if nat_eq p q && false then other else was) ≡ was
-    by p was =
+    by : (p : ℕ) (was other : Bool) → (if nat_eq p q && false then other else was) ≡ was
+    by p was other =
         elim (cases_Bool (nat_eq p q)) [
           | inl t ↦ rw t refl
           | inr f ↦ rw f refl

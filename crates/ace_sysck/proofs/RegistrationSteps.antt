@@ -1,10 +1,11 @@
 -- The registrations, event by event.
 use Rattle.std.proofs.Common.{◌≡◌, ◌⊎◌, ℕ, ◌*◌, ◌%◌, ◌^◌, ◌<◌, ◌≤◌, Bool, true, false, not, ◌&&◌, ◌||◌, nat_eq, nat_lt, if◌then◌else◌, bit_or, [], ◌∷◌, length, Option, Some, None, IsSome, unwrap_or, refl, sym, ap, subst, ◌∙◌, arith, inl, inr, w32}
 use Rattle.std.specs.Int.{bit_at}
-use Rattle.std.proofs.lemmas.Bool.{cases_Bool, cases_eq, and_parts, and_from, or_cases, or_left, or_right, eqb-true, eq-eqb, ne_eqb, not-true, ltb-true}
+use Rattle.std.proofs.lemmas.Bool.{cases_Bool, cases_eq, and_parts, and_from, or_cases, or_left, or_right, eqb-true, eq-eqb, ne_eqb, le-ltb}
 use Rattle.std.proofs.lemmas.Nat.Bits.{bit_at_set_same, bit_at_set_other, bit_at_above, bit_at-zero}
 use Rattle.indexmap.specs.IndexMap.{get}
-use Rattle.ace_model.proofs.Terms.{Event, G, Channel, Header, Transaction, Trace, is_some_and, is_line, is_on, is_exclusive_store, outstanding, transaction_of, given, IsAccepted}
+use Rattle.ace_model.specs.declared.transactions.Transaction.{Transaction}
+use Rattle.ace_model.proofs.Terms.{Event, G, Channel, Header, Trace, is_some_and, is_line, is_on, is_exclusive_store, outstanding, transaction_of, given, IsAccepted}
 use Rattle.ace_model.specs.Exclusives.{is_registered, registers, registers_given}
 use Rattle.ace_model.specs.Trace.{port_of}
 use Rattle.std.specs.Option.{option_map}
@@ -27,11 +28,8 @@ bit_set bits q p low =
     ]
 
 -- no bit is set from the width on
-pub bit_unset : (bits q : ℕ) → bits < 2 ^ 32 → nat_lt q 32 ≡ false → false ≡ nat_eq (bit_at bits q) 1
-bit_unset bits q small high = rw (bit_at_above bits 32 q small (not_below high)) refl
-  where
-    not_below : nat_lt q 32 ≡ false → 32 ≤ q
-    not_below f = omega arith
+pub bit_unset : (bits q : ℕ) → bits < 2 ^ 32 → 32 ≤ q → nat_lt q 32 ≡ nat_eq (bit_at bits q) 1
+bit_unset bits q small high = rw (le-ltb q 32 high, bit_at_above bits 32 q small high) refl
 
 -- What it says of an event that it grants a line to a transaction with lock 1.
 pub record Locks (h : Header) (past : Trace) (e : Event) (x : Transaction) : Type 0 where

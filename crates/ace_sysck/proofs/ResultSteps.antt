@@ -1,7 +1,8 @@
 -- The results of the exclusive stores, event by event.
 use Rattle.std.proofs.Common.{◌≡◌, ℕ, ◌<◌, ◌*◌, Bool, true, false, not, ◌&&◌, nat_eq, if◌then◌else◌, [], ◌∷◌, length, Option, Some, None, get_or, slice_set, refl, sym, ap, subst, ◌∙◌, arith, inl, inr, length-set}
 use Rattle.std.proofs.lemmas.Bool.{cases_Bool, and_parts, eqb-true}
-use Rattle.ace_model.proofs.Terms.{Event, Ar, Aw, G, Read, Header, Transaction, Trace, is_read, same_channel, read_kind, is_exclusive_store, transaction_of, given, issued, is_named, has_name, passed_at_grant, store_result, is_clean_unique, is_some_and, newer, Channel}
+use Rattle.ace_model.specs.declared.transactions.Transaction.{Transaction}
+use Rattle.ace_model.proofs.Terms.{Event, Ar, Aw, G, Read, Header, Trace, is_read, same_channel, read_kind, is_exclusive_store, transaction_of, given, issued, is_named, has_name, passed_at_grant, store_result, is_clean_unique, is_some_and, newer, Channel}
 use Rattle.ace_model.specs.Exclusives.{store_passes}
 use Rattle.ace_model.proofs.Trace.Looks.{is_read-is, same_channel-self}
 use Rattle.ace_model.proofs.Trace.Outstanding.{write_issued}
@@ -32,13 +33,13 @@ at_ar past q j addr snoop dom bar lock p i =
 at_store : (past : Trace) (e : Event) (x : Transaction) (passes : Bool) (p i : ℕ) → issued (length past) e ≡ None → given past e ≡ Some x
     → is_exclusive_store x ≡ true → passes ≡ store_passes past x
     → passed_at_grant (e ∷ past) p i ≡ (if nat_eq x.port p && nat_eq x.id i then Some passes else passed_at_grant past p i)
-at_store past e x passes p i no grants store result =
+at_store past e x passes p i unissued grants store result =
     elim (cases_Bool (nat_eq x.port p)) [
       | inl t ↦ elim (cases_Bool (nat_eq x.id i)) [
-        | inl u ↦ rw (no, grants, t, u, store_reads x store, store, result) refl
-        | inr f ↦ rw (no, grants, t, f, store_reads x store) refl
+        | inl u ↦ rw (unissued, grants, t, u, store_reads x store, store, result) refl
+        | inr f ↦ rw (unissued, grants, t, f, store_reads x store) refl
       ]
-      | inr f ↦ rw (no, grants, f) refl
+      | inr f ↦ rw (unissued, grants, f) refl
     ]
 
 -- a transaction that is no exclusive store has no result
@@ -53,8 +54,8 @@ no_result past (Some x) p i plain =
 -- any other event leaves all as it is
 at_other : (past : Trace) (e : Event) (p i : ℕ) → is_named (issued (length past) e) p Read i ≡ false
     → is_some_and (given past e) is_exclusive_store ≡ false → passed_at_grant (e ∷ past) p i ≡ passed_at_grant past p i
-at_other past e p i no plain =
-    rw no (ap (λ o. newer o (passed_at_grant past p i)) (no_result past (given past e) p i plain))
+at_other past e p i unnamed plain =
+    rw unnamed (ap (λ o. newer o (passed_at_grant past p i)) (no_result past (given past e) p i plain))
 
 -- a table in which the place of one name is set stands after an event that says so of that name
 results_set : (r : Recording) (s t : Results) (e : Event) (q j : ℕ) (v : Option Bool) → ResultsStand r s → q < r.header.ports → j < 256
@@ -77,14 +78,14 @@ results_ar r s t q j addr snoop dom bar lock stands within low items =
 pub results_store : (r : Recording) (s t : Results) (e : Event) (x : Transaction) (passes : Bool) → ResultsStand r s → x.port < r.header.ports → x.id < 256
     → issued (length r.past) e ≡ None → given r.past e ≡ Some x → is_exclusive_store x ≡ true → passes ≡ store_passes r.past x
     → t.passed.items ≡ slice_set s.passed.items (slot_of x.port x.id) (Some passes) → ResultsStand (after r e) t
-results_store r s t e x passes stands within low no grants store result items =
-    results_set r s t e x.port x.id (Some passes) stands within low items (λ p i. at_store r.past e x passes p i no grants store result)
+results_store r s t e x passes stands within low unissued grants store result items =
+    results_set r s t e x.port x.id (Some passes) stands within low items (λ p i. at_store r.past e x passes p i unissued grants store result)
 
 pub results_stay : (r : Recording) (s : Results) (e : Event) → ((p i : ℕ) → is_named (issued (length r.past) e) p Read i ≡ false)
     → is_some_and (given r.past e) is_exclusive_store ≡ false → ResultsStand r s → ResultsStand (after r e) s
-results_stay r s e no plain stands = record {
+results_stay r s e unnamed plain stands = record {
   size = stands.size;
-  passed = λ p i small. stands.passed p i small ∙ sym (at_other r.past e p i (no p i) plain);
+  passed = λ p i small. stands.passed p i small ∙ sym (at_other r.past e p i (unnamed p i) plain);
 }
 
 -- no write is named as a read
@@ -102,12 +103,12 @@ results_stay_at r s e not_ar not_g stands = results_stay r s e (λ p i. unnamed 
   where
     unnamed : (d : Event) → ((q j addr snoop dom bar : ℕ) (lock : Bool) → d ≡ Ar q j addr snoop dom bar lock → ⊥)
         → (p i : ℕ) → is_named (issued (length r.past) d) p Read i ≡ false
-    unnamed (Ar q j addr snoop dom bar lock) no p i = absurd (no q j addr snoop dom bar lock refl)
-    unnamed (Aw q j addr snoop dom bar) no p i = write_unnamed (write_issued r.past q j addr snoop dom bar) p i refl
-    unnamed d no p i = refl
+    unnamed (Ar q j addr snoop dom bar lock) other p i = absurd (other q j addr snoop dom bar lock refl)
+    unnamed (Aw q j addr snoop dom bar) other p i = write_unnamed (write_issued r.past q j addr snoop dom bar) p i refl
+    unnamed d other p i = refl
     ungiven : (d : Event) → ((q : ℕ) (c : Channel) (j : ℕ) → d ≡ G q c j → ⊥) → is_some_and (given r.past d) is_exclusive_store ≡ false
-    ungiven (G q c j) no = absurd (no q c j refl)
-    ungiven d no = refl
+    ungiven (G q c j) other = absurd (other q c j refl)
+    ungiven d other = refl
 
 -- the results of the empty trace
 pub results_fresh : (h : Header) (s : Results) → length s.passed.items ≡ h.ports * 256 → ((n : ℕ) → get_or s.passed.items n None ≡ None)

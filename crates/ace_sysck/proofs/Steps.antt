@@ -2,7 +2,8 @@
 use Rattle.std.proofs.Common.{◌≡◌, ℕ, ◌<◌, ◌≤◌, Bool, true, nat_lt, ◌&&◌, [], ◌∷◌, length, Option, Some, None, refl, sym, ap, ◌∙◌}
 use Rattle.std.proofs.lemmas.Bool.{and_parts, ltb-true}
 use Rattle.std.specs.Option.{option_map}
-use Rattle.ace_model.proofs.Terms.{Event, G, Channel, Header, Transaction, Trace, is_some_and, is_none_or, outstanding, transaction_of, IsAccepted, may_be_granted}
+use Rattle.ace_model.specs.declared.transactions.Transaction.{Transaction}
+use Rattle.ace_model.proofs.Terms.{Event, G, Channel, Header, Trace, is_some_and, is_none_or, outstanding, transaction_of, IsAccepted, may_be_granted}
 use Rattle.ace_model.specs.AddressRules.{may_have}
 use Rattle.ace_model.specs.Trace.{port_of}
 use Rattle.ace_model.proofs.Rules.Keeps.{accepted_keeps}

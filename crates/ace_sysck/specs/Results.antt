@@ -19,7 +19,7 @@ pub record ResultsStand (r : Recording) (s : Results) : Type 0 where
   pub passed : (p i : ℕ) → i < 256 → slice_index_or s.passed.items (slot_of p i) None ≡ passed_at_grant r.past p i
 
 -- the table stands, and it was told whether the transaction that the event grants would pass
-pub record MayHearResult (r : Recording) (s : Results) (e : Event) (t : Target) (passes : Bool) : Type 0 where
+pub record MayHearResult (r : Recording) (s : Results) (e : Event) (t : Target) (passing : Bool) : Type 0 where
   pub step : IsStep r e t
   pub stands : ResultsStand r s
-  pub passes : (x : Transaction) → given r.past e ≡ Some x → passes ≡ store_passes r.past x
+  pub passes : (x : Transaction) → given r.past e ≡ Some x → passing ≡ store_passes r.past x
