@@ -5,3 +5,8 @@ pub mod Steps
 pub mod ResultSteps
 pub mod MonitorSteps
 pub mod RegistrationSteps
+pub mod EventLaws
+pub mod FirstIssued
+pub mod BarrierRules
+pub mod BarrierAnswers
+pub mod BarrierSteps

@@ -12,7 +12,7 @@ use Rattle.ace_model.proofs.Rules.Keeps.{accepted_keeps}
 use Rattle.ace_portck.specs.Targets.{Recording, line_in, line_of, line_of_snoop, progress_of}
 use Rattle.ace_sysck.specs.declared.monitors.Monitors.{Monitors}
 use Rattle.ace_sysck.specs.Monitors.{MonitorsStand, is_line_of, kept_after, left_state}
-use Rattle.ace_sysck.specs.Steps.{after}
+use Rattle.ace_portck.specs.Targets.{after}
 use Rattle.ace_sysck.proofs.Tables.{set_at}
 
 -- a port that is monitored for a line holds it

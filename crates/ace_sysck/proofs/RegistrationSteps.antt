@@ -16,8 +16,8 @@ use Rattle.ace_portck.specs.declared.target.Target.{Target}
 use Rattle.ace_portck.specs.declared.target.Progress.{Progress}
 use Rattle.ace_portck.specs.Targets.{Recording, target_of, progress_of}
 use Rattle.ace_sysck.specs.declared.registrations.Registrations.{Registrations}
-use Rattle.ace_sysck.specs.Registrations.{RegistrationsStand, IsNewLock, locked_in, locked_of, grants_locked, was_locked, registered_bits}
-use Rattle.ace_sysck.specs.Steps.{after}
+use Rattle.ace_sysck.specs.Registrations.{RegistrationsStand, IsNewLock, locked_in, locked_of, grants_locked, was_locked, registered_bits, kept_bits}
+use Rattle.ace_portck.specs.Targets.{after}
 
 -- the bits with one more set
 pub bit_set : (bits q p : ℕ) → q < 32 → nat_eq (bit_at (bit_or bits (1 * 2 ^ q % 4294967296)) p) 1 ≡ (nat_eq q p || nat_eq (bit_at bits p) 1)
@@ -125,7 +125,7 @@ bits_after x p bits kept is =
 -- the registrations stand once the line of the transaction has the new bits, and each other line those that it had
 pub registrations_lock : (r : Recording) (s n : Registrations) (e : Event) (t : Target) (x : Transaction) (kept new : ℕ) → IsAccepted r.header (e ∷ r.past) → r.header.ports ≤ 32
     → t ≡ target_of r.header r.past e → locked_in e t ≡ Some x → RegistrationsStand r s
-    → kept ≡ (if is_exclusive_store x && nat_eq (bit_at (registered_bits s x.addr) x.port) 1 then 0 else registered_bits s x.addr)
+    → kept ≡ kept_bits x (registered_bits s x.addr)
     → (x.port < 32 → (p : ℕ) → nat_eq (bit_at new p) 1 ≡ (nat_eq x.port p || nat_eq (bit_at kept p) 1))
     → get nat_eq n.lines x.addr ≡ Some new → ((l : ℕ) → (l ≡ x.addr → ⊥) → get nat_eq n.lines l ≡ get nat_eq s.lines l)
     → RegistrationsStand (after r e) n
@@ -153,7 +153,7 @@ registrations_lock r s n e t x kept new accepted few own is stands keeps sets he
     known : (l : ℕ) → was_locked (e ∷ r.past) l ≡ true → IsSome (get nat_eq n.lines l)
     known l was =
         elim (cases_eq l x.addr) [
-          | inl same ↦ subst (λ o. IsSome o) (sym (ap (get nat_eq n.lines) same ∙ here)) tt
+          | inl same ↦ subst (λ o. IsSome o) (sym (ap (get nat_eq n.lines) same ∙ here)) refl
           | inr off ↦
               let other : grants_locked r.past e l ≡ false = rw (k.grants, k.lock, k.line, ne_eqb x.addr l (λ q. off (sym q))) refl in
               subst (λ o. IsSome o) (sym (there l off)) (stands.known l (rw other at was))
@@ -167,7 +167,7 @@ new_lock r s e t x own is stands none =
     (x.addr, rw (k.grants, k.lock, k.line, eq-eqb x.addr x.addr refl) refl, unknown (cases_Bool (was_locked r.past x.addr)))
   where
     unknown : (was_locked r.past x.addr ≡ true) ⊎ (was_locked r.past x.addr ≡ false) → was_locked r.past x.addr ≡ false
-    unknown (inl t) = absurd (subst (λ o. IsSome o) none (stands.known x.addr t))
+    unknown (inl t) = let bad : false ≡ true = subst (λ o. IsSome o) none (stands.known x.addr t) in cc
     unknown (inr f) = f
 
 -- the registrations of the empty trace

@@ -9,7 +9,7 @@ use Rattle.ace_model.proofs.Trace.Outstanding.{write_issued}
 use Rattle.ace_portck.specs.Targets.{Recording}
 use Rattle.ace_sysck.specs.declared.results.Results.{Results}
 use Rattle.ace_sysck.specs.Results.{ResultsStand, slot_of}
-use Rattle.ace_sysck.specs.Steps.{after}
+use Rattle.ace_portck.specs.Targets.{after}
 use Rattle.ace_sysck.proofs.Tables.{set_at, same_slot, slot_within}
 
 -- an exclusive store is a read
@@ -114,3 +114,9 @@ results_stay_at r s e not_ar not_g stands = results_stay r s e (λ p i. unnamed 
 pub results_fresh : (h : Header) (s : Results) → length s.passed.items ≡ h.ports * 256 → ((n : ℕ) → get_or s.passed.items n None ≡ None)
     → ResultsStand (record { header = h; past = [] }) s
 results_fresh h s size none = record { size = size; passed = λ p i low. none (slot_of p i) }
+
+-- a G of any other transaction
+pub results_plain : (r : Recording) (s : Results) (e : Event) (x : Transaction) → issued (length r.past) e ≡ None → given r.past e ≡ Some x → is_exclusive_store x ≡ false
+    → ResultsStand r s → ResultsStand (after r e) s
+results_plain r s e x unissued grants plain stands =
+    results_stay r s e (λ p i. ap (λ o. is_named o p Read i) unissued) (ap (λ o. is_some_and o is_exclusive_store) grants ∙ plain) stands

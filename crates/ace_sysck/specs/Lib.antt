@@ -2,3 +2,5 @@ pub mod Steps
 pub mod Registrations
 pub mod Results
 pub mod Monitors
+pub mod Events
+pub mod Barriers

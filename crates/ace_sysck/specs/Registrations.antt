@@ -6,7 +6,7 @@ use Rattle.ace_event.specs.declared.event.Event.{Event}
 use Rattle.ace_event.specs.declared.event.Event.TheVariants.{G}
 use Rattle.ace_model.specs.declared.transactions.Transaction.{Transaction}
 use Rattle.ace_model.specs.Trace.{Trace, is_some_and}
-use Rattle.ace_model.specs.Transactions.{is_line, is_on}
+use Rattle.ace_model.specs.Transactions.{is_line, is_on, is_exclusive_store}
 use Rattle.ace_model.specs.Grants.{given}
 use Rattle.ace_model.specs.Exclusives.{is_registered}
 use Rattle.ace_portck.specs.declared.target.Progress.{Progress}
@@ -37,6 +37,10 @@ locked_in _ t = None
 -- the ports that are registered for the line, as bits
 abbrev pub registered_bits : Registrations → ℕ → ℕ
 registered_bits s l = unwrap_or (get nat_eq s.lines l) 0
+
+-- those of the ports whose registrations the G of the transaction doesn't end
+abbrev pub kept_bits : Transaction → ℕ → ℕ
+kept_bits x bits = if is_exclusive_store x && (bit_at bits x.port == 1) then 0 else bits
 
 pub record RegistrationsStand (r : Recording) (s : Registrations) : Type 0 where
   pub lines : (p l : ℕ) → (bit_at (registered_bits s l) p == 1) ≡ is_registered r.past p l

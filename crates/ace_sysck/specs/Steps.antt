@@ -20,7 +20,3 @@ pub record IsStep (r : Recording) (e : Event) (t : Target) : Type 0 where
   pub accepted : IsAccepted r.header (e ∷ r.past)
   pub target : t ≡ target_of r.header r.past e
   pub few : length r.past < 2 ^ 64 - 1
-
--- the recording with one more event
-abbrev pub after : Recording → Event → Recording
-after r e = record { header = r.header; past = e ∷ r.past }

@@ -42,8 +42,7 @@ impl Monitors {
     ghost use Rattle.std.specs.Prelude.{◌≡◌, [], IfOk, None, slice_set, slice_index_or};
     ghost use Rattle.ace_event.specs.declared.header.Header.{Header};
     ghost use Rattle.ace_model.specs.CacheRules.{k33};
-    ghost use Rattle.ace_portck.specs.Targets.{Recording};
-    ghost use Rattle.ace_sysck.specs.Steps.{after};
+    ghost use Rattle.ace_portck.specs.Targets.{Recording, after};
     ghost use Rattle.ace_sysck.specs.Monitors.{MonitorsStand, MayHearMonitors, kept_after};
 
     /// The monitors of the empty trace, of so many ports.

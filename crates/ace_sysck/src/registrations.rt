@@ -2,7 +2,7 @@
 
 ghost use Rattle.std.specs.Prelude.{◌≡◌, ◌<◌, ◌==◌, ◌||◌, ℕ};
 ghost use Rattle.std.specs.Int.{bit_at};
-ghost use Rattle.ace_sysck.specs.Registrations.{locked_in};
+ghost use Rattle.ace_sysck.specs.Registrations.{locked_in, kept_bits};
 
 use crate::kinds::{is_exclusive_store, is_line};
 use ace_event::Event;
@@ -31,6 +31,17 @@ fn has_port(bits: u32, port: u8) -> bool
     port < 32 && bits >> port & 1 == 1
 }
 
+/// The ports whose registrations the G of the transaction doesn't end: none where it is an exclusive store that passes.
+fn kept_bits(x: &Transaction, bits: u32) -> u32
+    ensures { result ≡ kept_bits x.now bits }
+{
+    if is_exclusive_store(x) && has_port(bits, x.port) {
+        0
+    } else {
+        bits
+    }
+}
+
 /// The transaction with lock 1 to which the event grants a line.
 fn locked_in(event: &Event, target: &Target) -> Option<Transaction>
     ensures { result ≡ locked_in event.now target.now }
@@ -47,8 +58,7 @@ impl Registrations {
     ghost use Rattle.std.specs.Prelude.{◌≡◌, [], OnOk, OnErr, nat_eq};
     ghost use Rattle.ace_event.specs.declared.header.Header.{Header};
     ghost use Rattle.ace_model.specs.Exclusives.{is_registered};
-    ghost use Rattle.ace_portck.specs.Targets.{Recording};
-    ghost use Rattle.ace_sysck.specs.Steps.{after};
+    ghost use Rattle.ace_portck.specs.Targets.{Recording, after};
     ghost use Rattle.ace_sysck.specs.Registrations.{RegistrationsStand, MayMakeLineRoom, MayHearRegistrations, HasLineRoom, IsNewLock, registered_bits};
 
     /// The registrations of the empty trace.
@@ -104,9 +114,7 @@ impl Registrations {
         ensures { RegistrationsStand (after r event.now) self.new }
     {
         if let Some(x) = locked_in(event, target) {
-            let bits = self.bits_of(x.addr);
-            let ends = is_exclusive_store(&x) && has_port(bits, x.port);
-            let kept = if ends { 0 } else { bits };
+            let kept = kept_bits(&x, self.bits_of(x.addr));
             if let Some(line) = self.lines.get_mut(&x.addr) {
                 *line = with_port(kept, x.port);
             }

@@ -16,8 +16,7 @@ impl Results {
     ghost use Rattle.std.specs.Prelude.{◌≡◌, [], IfOk, slice_set, Option};
     ghost use Rattle.ace_event.specs.declared.header.Header.{Header};
     ghost use Rattle.ace_model.specs.Exclusives.{passed_at_grant};
-    ghost use Rattle.ace_portck.specs.Targets.{Recording};
-    ghost use Rattle.ace_sysck.specs.Steps.{after};
+    ghost use Rattle.ace_portck.specs.Targets.{Recording, after};
     ghost use Rattle.ace_sysck.specs.Results.{ResultsStand, MayHearResult, slot_of};
 
     /// The results of the empty trace, of so many ports.
@@ -63,11 +62,10 @@ impl Results {
     {
         match *event {
             Event::Ar { port, id, .. } => self.set(port, id, None),
-            Event::G { .. } => {
+            Event::G { port, id, .. } => {
                 if let Some(granted) = target.transaction {
-                    let x = granted.transaction;
-                    if is_exclusive_store(&x) {
-                        self.set(x.port, x.id, Some(passes));
+                    if is_exclusive_store(&granted.transaction) {
+                        self.set(port, id, Some(passes));
                     }
                 }
             }
