@@ -83,6 +83,6 @@ completes-none h past (R p i resp true word) t y accepted own none =
     let bad : Some o.0 ≡ None = sym o.1 ∙ sym (carried-progress h past (outstanding h past p Read i)) ∙ ap carried (sym own) ∙ none in cc
 completes-none h past (R p i resp false word) t y accepted own none = refl
 completes-none h past (B p i resp) t y accepted own none =
-    let o = is_some_and-is (outstanding h past p Write i) (may_respond past) (and_parts _ _ (accepted_keeps h past (B p i resp) accepted).rule_26).1 in
+    let o = is_some_and-is (outstanding h past p Write i) (may_respond past) (and_parts (nat_eq resp 0) _ (accepted_keeps h past (B p i resp) accepted).rule_26).1 in
     let bad : Some o.0 ≡ None = sym o.1 ∙ sym (carried-progress h past (outstanding h past p Write i)) ∙ ap carried (sym own) ∙ none in cc
 completes-none h past e t y accepted own none = refl
