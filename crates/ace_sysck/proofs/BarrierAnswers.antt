@@ -6,7 +6,7 @@ use Rattle.std.proofs.lemmas.List.{append-nil, length-map}
 use Rattle.std.proofs.lemmas.Option.{slice_get_within, slice_get-get_or}
 use Rattle.ace_event.specs.declared.event.Channel.TheVariants.{Read, Write}
 use Rattle.ace_model.specs.declared.transactions.Transaction.{Transaction}
-use Rattle.ace_model.proofs.Terms.{Channel, Header, Event, Trace, at_point, is_some_and, is_read, issued, Pair, barriers, barrier_in, pairs, pair_of, number_of, place_of, is_barrier_half, is_barrier_of, may_answer, is_awaited, is_before, is_completed, is_ordered, same_channel, each_issued, implies, is_line}
+use Rattle.ace_model.proofs.Terms.{Channel, Header, Event, Trace, at_point, is_some_and, is_read, issued, Pair, barriers, option_filter, is_barrier_of, pairs, pair_of, number_of, place_of, is_barrier_half, may_answer, is_awaited, is_before, is_completed, is_ordered, same_channel, each_issued, implies, is_line}
 use Rattle.ace_model.proofs.Barriers.Pairs.{IsHalf, barriers-half, is_barrier_of-is}
 use Rattle.ace_model.proofs.Trace.Growth.{IsIssued, issued-cases, at_point-before}
 use Rattle.ace_model.proofs.Trace.Issued.{issued_at, issued-place}
@@ -37,7 +37,7 @@ half-there (e ∷ past) x i half =
       | inr old ↦
           let low = old.before in
           ap (λ t. slice_get (barriers (e ∷ past) x.port x.chan) (length (barriers t x.port x.chan))) (at_point-before e past x.place (omega arith))
-          ∙ slice_get-grown (barriers past x.port x.chan) (barrier_in (issued (length past) e) x.port x.chan) (number_of past x) x (half-there past x old half)
+          ∙ slice_get-grown (barriers past x.port x.chan) (option_filter (λ y. is_barrier_of y x.port x.chan) (issued (length past) e)) (number_of past x) x (half-there past x old half)
     ]
 
 -- the halves of a pair and of a barrier on a channel

@@ -6,7 +6,7 @@ use Rattle.std.proofs.lemmas.List.{append-nil, map-append}
 use Rattle.std.proofs.lemmas.List.Elements.{All-nil, All-weaker, All-push}
 use Rattle.ace_event.specs.declared.event.Channel.TheVariants.{Read, Write}
 use Rattle.ace_model.specs.declared.transactions.Transaction.{Transaction}
-use Rattle.ace_model.proofs.Terms.{Channel, Header, Event, Ar, Aw, R, B, G, M, Trace, transaction_of, more, implies, is_some_and, is_none_or, is_read, same_channel, issued, Pair, barriers, barrier_in, pair_of, place_of, is_pair_complete, is_barrier_half, is_barrier_of, may_answer, is_awaited, is_before, is_synchronisation, is_completed, is_ordered, is_transaction, served_by, has_had, is_completion_event, outstanding, begins_well, may_answer_half, is_past_barriers, k34, k35, IsAccepted, is_line}
+use Rattle.ace_model.proofs.Terms.{Channel, Header, Event, Ar, Aw, R, B, G, M, Trace, transaction_of, more, implies, is_some_and, is_none_or, is_read, same_channel, issued, Pair, barriers, option_filter, is_barrier_of, pair_of, place_of, is_pair_complete, is_barrier_half, may_answer, is_awaited, is_before, is_synchronisation, is_completed, is_ordered, is_transaction, served_by, has_had, is_completion_event, outstanding, begins_well, may_answer_half, is_past_barriers, k34, k35, IsAccepted, is_line}
 use Rattle.ace_model.specs.AddressRules.{begins_barrier}
 use Rattle.ace_model.specs.Trace.{port_of}
 use Rattle.ace_model.proofs.Rules.Keeps.{accepted_keeps}
@@ -95,7 +95,7 @@ under_way-stays past e (Open o) none u = record {
 }
 
 -- an event that issues no half of the port, and completes none of its barrier
-barrier_stays : (past : Trace) (e : Event) (p : ℕ) (b : Barrier) → ((c : Channel) → barrier_in (issued (length past) e) p c ≡ None)
+barrier_stays : (past : Trace) (e : Event) (p : ℕ) (b : Barrier) → ((c : Channel) → option_filter (λ y. is_barrier_of y p c) (issued (length past) e) ≡ None)
     → ((c : Channel) (y : Transaction) → halves_on c b ≡ y ∷ [] → hits past e y ≡ false) → BarrierStands past p b → BarrierStands (e ∷ past) p b
 barrier_stays past e p b issues completes s = record {
   done = s.done;
@@ -143,7 +143,7 @@ push_nil xs x = ap (λ l. l ++ x ∷ []) (append-nil xs)
 
 -- a half of the port that its barrier lets begin joins it
 module _ (past : Trace) (e : Event) (x : Transaction) (new : issued (length past) e ≡ Some x) (half : is_barrier_half x ≡ true) where
-  joins : (c : Channel) → barrier_in (issued (length past) e) x.port c ≡ (if same_channel x.chan c then Some x else None)
+  joins : (c : Channel) → option_filter (λ y. is_barrier_of y x.port c) (issued (length past) e) ≡ (if same_channel x.chan c then Some x else None)
   joins c = rw (new, half, eq-eqb x.port x.port refl) refl
 
   fresh : is_completed (e ∷ past) x ≡ false
@@ -152,7 +152,7 @@ module _ (past : Trace) (e : Event) (x : Transaction) (new : issued (length past
   kept : (y : Transaction) → is_completed past y ≡ false → is_completed (e ∷ past) y ≡ false
   kept y was = rw (issue-hits past e x y new) was
 
-  joined_on : (c d : Channel) → x.chan ≡ d → barrier_in (issued (length past) e) x.port c ≡ (if same_channel d c then Some x else None)
+  joined_on : (c d : Channel) → x.chan ≡ d → option_filter (λ y. is_barrier_of y x.port c) (issued (length past) e) ≡ (if same_channel d c then Some x else None)
   joined_on c d chan = joins c ∙ ap (λ v. if same_channel v c then Some x else None) chan
 
   barrier_joins : (b : Barrier) (c : Channel) → x.chan ≡ c → begins_after b x ≡ true → BarrierStands past x.port b → BarrierStands (e ∷ past) x.port (joined b x)
@@ -254,8 +254,8 @@ module _ (h : Header) (past : Trace) (e : Event) (t : Target) (x : Transaction) 
   hit-is : (y : Transaction) → hits past e y ≡ nat_eq x.place y.place
   hit-is y = rw (d.completes.completes, (responds-at h past e x d.completes.answers).served) refl
 
-  unissued : (p : ℕ) (c : Channel) → barrier_in (issued (length past) e) p c ≡ None
-  unissued p c = ap (λ o. barrier_in o p c) (answers-unissued h past e x d.completes.answers)
+  unissued : (p : ℕ) (c : Channel) → option_filter (λ y. is_barrier_of y p c) (issued (length past) e) ≡ None
+  unissued p c = ap (λ o. option_filter (λ y. is_barrier_of y p c) o) (answers-unissued h past e x d.completes.answers)
 
   -- the barrier of another port
   pub barrier_elsewhere : (p : ℕ) (b : Barrier) → (x.port ≡ p → ⊥) → BarrierStands past p b → BarrierStands (e ∷ past) p b
@@ -368,7 +368,7 @@ barriers_set r s n e q v stands within items new others = record {
     by p (inr off) = rw (ne_eqb q p off) (others p (get_or s.ports.items p Idle) off (stands.ports p))
 
 -- a transaction is no half of another port, and none where it is no half
-no_half : (x : Transaction) (p : ℕ) (c : Channel) → (is_barrier_half x && nat_eq x.port p) ≡ false → barrier_in (Some x) p c ≡ None
+no_half : (x : Transaction) (p : ℕ) (c : Channel) → (is_barrier_half x && nat_eq x.port p) ≡ false → option_filter (λ y. is_barrier_of y p c) (Some x) ≡ None
 no_half x p c other = rw other refl
 
 -- an event that issues a barrier half
@@ -393,7 +393,7 @@ barriers_begun r s n e t x accepted own begun half stands items =
     joins_own : BarrierStands (e ∷ r.past) x.port (joined b x)
     joins_own = barrier_joins r.past e x new half b x.chan refl begins (stands.ports x.port)
     others : (p : ℕ) (b : Barrier) → (x.port ≡ p → ⊥) → BarrierStands r.past p b → BarrierStands (e ∷ r.past) p b
-    others p b off = barrier_stays r.past e p b (λ c. ap (λ o. barrier_in o p c) new ∙ no_half x p c (rw half (ne_eqb x.port p off))) (λ c y is. issue-hits r.past e x y new)
+    others p b off = barrier_stays r.past e p b (λ c. ap (λ o. option_filter (λ y. is_barrier_of y p c) o) new ∙ no_half x p c (rw half (ne_eqb x.port p off))) (λ c y is. issue-hits r.past e x y new)
 
 -- an event that issues another transaction
 pub barriers_plain : (r : Recording) (s : Barriers) (e : Event) (t : Target) (x : Transaction) → t ≡ target_of r.header r.past e → begun_in e t ≡ Some x
@@ -401,7 +401,7 @@ pub barriers_plain : (r : Recording) (s : Barriers) (e : Event) (t : Target) (x 
 barriers_plain r s e t x own begun plain stands =
     let new : issued (length r.past) e ≡ Some x = sym (begun-is r.header r.past e t own) ∙ begun in record {
       size = stands.size;
-      ports = λ p. barrier_stays r.past e p (get_or s.ports.items p Idle) (λ c. ap (λ o. barrier_in o p c) new ∙ no_half x p c (rw plain refl)) (λ c y is. issue-hits r.past e x y new) (stands.ports p);
+      ports = λ p. barrier_stays r.past e p (get_or s.ports.items p Idle) (λ c. ap (λ o. option_filter (λ y. is_barrier_of y p c) o) new ∙ no_half x p c (rw plain refl)) (λ c y is. issue-hits r.past e x y new) (stands.ports p);
     }
 
 -- an event that completes a transaction
@@ -418,6 +418,6 @@ pub barriers_stay : (r : Recording) (s : Barriers) (e : Event) (t : Target) → 
     → begun_in e t ≡ None → completed_in e t ≡ None → BarriersStand r s → BarriersStand (after r e) s
 barriers_stay r s e t accepted own begun completed stands = record {
   size = stands.size;
-  ports = λ p. barrier_stays r.past e p (get_or s.ports.items p Idle) (λ c. ap (λ o. barrier_in o p c) (sym (begun-is r.header r.past e t own) ∙ begun))
+  ports = λ p. barrier_stays r.past e p (get_or s.ports.items p Idle) (λ c. ap (λ o. option_filter (λ y. is_barrier_of y p c) o) (sym (begun-is r.header r.past e t own) ∙ begun))
       (λ c y is. completes-none r.header r.past e t y accepted own completed) (stands.ports p);
 }

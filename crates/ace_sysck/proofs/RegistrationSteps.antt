@@ -6,7 +6,7 @@ use Rattle.std.proofs.lemmas.Nat.Bits.{bit_at_set_same, bit_at_set_other, bit_at
 use Rattle.indexmap.specs.IndexMap.{get}
 use Rattle.ace_model.specs.declared.transactions.Transaction.{Transaction}
 use Rattle.ace_model.proofs.Terms.{Event, G, Channel, Header, Trace, is_some_and, is_line, is_on, is_exclusive_store, outstanding, transaction_of, given, IsAccepted}
-use Rattle.ace_model.specs.Exclusives.{is_registered, registers, registers_given}
+use Rattle.ace_model.specs.Exclusives.{is_registered}
 use Rattle.ace_model.specs.Trace.{port_of}
 use Rattle.std.specs.Option.{option_map}
 use Rattle.ace_sysck.proofs.Steps.{granted_one, port_within}
@@ -36,7 +36,8 @@ pub record Locks (h : Header) (past : Trace) (e : Event) (x : Transaction) : Typ
   pub grants : given past e ≡ Some x
   pub lock : x.lock ≡ true
   pub line : is_line x ≡ true
-  pub registered : (p l : ℕ) → is_registered (e ∷ past) p l ≡ registers x p l (is_registered past p l) (is_registered past x.port l)
+  pub registered : (p l : ℕ) → is_registered (e ∷ past) p l
+      ≡ (if x.lock && is_on x l then nat_eq x.port p || (not (is_exclusive_store x && is_registered past x.port l) && is_registered past p l) else is_registered past p l)
   pub named : port_of e ≡ Some x.port
 
 locked_of-is : (o : Option Transaction) (of : Transaction → Progress) → ((y : Transaction) → (of y).transaction ≡ y) → (x : Transaction)
@@ -57,8 +58,10 @@ locked-at h past (G q c j) t x own is =
       grants = named;
       lock = o.1;
       line = o.2;
-      registered = λ p l. ap (λ v. registers_given v p l (is_registered past p l) (is_registered past q l)) named
-          ∙ ap (λ m. registers x p l (is_registered past p l) (is_registered past m l)) (sym name.port);
+      registered = λ p l. elim (cases_Bool (x.lock && is_on x l)) [
+        | inl t ↦ rw (named, t) refl
+        | inr f ↦ rw (named, f) refl
+      ];
       named = ap Some (sym name.port);
     }
 locked-at h past e t x own is = cc
@@ -91,7 +94,7 @@ unlocked-at h past (G q c j) t accepted own none =
     let x : Transaction = g.0 in
     let plain = unlocked_given (outstanding h past q c j) (progress_of h past) (λ y. refl) x g.1 (ap (λ (v : Target). locked_of v.transaction) (sym own) ∙ none) in
     record {
-      registered = λ p l. ap (λ v. registers_given v p l (is_registered past p l) (is_registered past q l)) g.2 ∙ rw (no_lock x l plain) refl;
+      registered = λ p l. rw (g.2, no_lock x l plain) refl;
       locked = λ l. ap (λ o. is_some_and o (λ z. z.lock && is_on z l)) g.2 ∙ no_lock x l plain;
     }
 unlocked-at h past e t accepted own none = record { registered = λ p l. refl; locked = λ l. refl }
@@ -108,19 +111,12 @@ registrations_stay r s e t accepted own none stands =
 -- the bits of the line once it is granted: `kept` are those of the ports whose registration doesn't end
 bits_after : (x : Transaction) (p bits : ℕ) (kept : ℕ) → kept ≡ (if is_exclusive_store x && nat_eq (bit_at bits x.port) 1 then 0 else bits)
     → (nat_eq x.port p || nat_eq (bit_at kept p) 1)
-    ≡ (nat_eq x.port p || (nat_eq (bit_at bits p) 1 && not (is_exclusive_store x && nat_eq (bit_at bits x.port) 1)))
+    ≡ (nat_eq x.port p || (not (is_exclusive_store x && nat_eq (bit_at bits x.port) 1) && nat_eq (bit_at bits p) 1))
 bits_after x p bits kept is =
     elim (cases_Bool (is_exclusive_store x && nat_eq (bit_at bits x.port) 1)) [
-      | inl t ↦ let zero : kept ≡ 0 = rw t at is in rw (t, zero, bit_at-zero p) (ap (λ b. nat_eq x.port p || b) (none (nat_eq (bit_at bits p) 1)))
-      | inr f ↦ let all : kept ≡ bits = rw f at is in rw (f, all) (ap (λ b. nat_eq x.port p || b) (same (nat_eq (bit_at bits p) 1)))
+      | inl t ↦ let zero : kept ≡ 0 = rw t at is in rw (t, zero, bit_at-zero p) refl
+      | inr f ↦ let all : kept ≡ bits = rw f at is in rw (f, all) refl
     ]
-  where
-    none : (b : Bool) → false ≡ (b && false)
-    none true = refl
-    none false = refl
-    same : (b : Bool) → b ≡ (b && true)
-    same true = refl
-    same false = refl
 
 -- the registrations stand once the line of the transaction has the new bits, and each other line those that it had
 pub registrations_lock : (r : Recording) (s n : Registrations) (e : Event) (t : Target) (x : Transaction) (kept new : ℕ) → IsAccepted r.header (e ∷ r.past) → r.header.ports ≤ 32
