@@ -6,3 +6,5 @@ pub mod Transactions
 pub mod Snoops
 pub mod Retired
 pub mod Opening
+pub mod WriteData
+pub mod Port

@@ -5,10 +5,13 @@ mod kinds;
 mod no_memory;
 mod opening;
 mod pending;
+mod port;
 mod retired;
+mod rules;
 mod snoops;
 mod target;
 mod transactions;
+mod write_data;
 
 pub use no_memory::NoMemory;
 pub use target::{Progress, Target, WriteData};
