@@ -1,1 +1,4 @@
 mod SnoopSteps
+mod WriteLaws
+mod WriteSteps
+mod Parts

@@ -4,3 +4,4 @@ pub mod Heard
 pub mod Snoops
 pub mod Retired
 pub mod Opening
+pub mod WriteData

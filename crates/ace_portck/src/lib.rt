@@ -7,9 +7,11 @@ mod opening;
 mod retired;
 mod snoops;
 mod target;
+mod write_data;
 
 pub use no_memory::NoMemory;
 pub use opening::OpeningMemory;
 pub use retired::RetiredCount;
 pub use snoops::SnoopQueues;
 pub use target::{Progress, Target, WriteData};
+pub use write_data::WriteBursts;
