@@ -2,3 +2,4 @@ mod SnoopSteps
 mod WriteLaws
 mod WriteSteps
 mod Parts
+mod Elsewhere
