@@ -13,5 +13,7 @@ pub mod Issued
 pub mod Steps
 -- What a transaction has had, by its name.
 pub mod Names
+-- What waits for its acknowledge, and that what is no longer outstanding is complete.
+pub mod Waiting
 -- A look that finds the only one.
 pub mod Only

@@ -1,5 +1,11 @@
-mod SnoopSteps
-mod WriteLaws
-mod WriteSteps
-mod Parts
-mod Elsewhere
+pub mod Renewed
+pub mod Ending
+pub mod Few
+pub mod Heard
+pub mod Stays
+pub mod Found
+pub mod SnoopSteps
+pub mod WriteLaws
+pub mod WriteSteps
+pub mod Parts
+pub mod Elsewhere

@@ -4,9 +4,11 @@
 mod kinds;
 mod no_memory;
 mod opening;
+mod pending;
 mod retired;
 mod snoops;
 mod target;
+mod transactions;
 mod write_data;
 
 pub use no_memory::NoMemory;

@@ -1,5 +1,5 @@
 -- What the last transaction of a name has had is what the looks by name say.
-use Rattle.std.proofs.Common.{◌≡◌, ◌≢◌, ℕ, ◌≤◌, Bool, true, false, not, ◌&&◌, ◌||◌, nat_eq, [], ◌∷◌, length, Option, Some, None, refl, sym, ap, ◌∙◌, inl, inr, arith}
+use Rattle.std.proofs.Common.{◌≡◌, ◌≢◌, ℕ, ◌≤◌, Bool, true, false, not, cond, ◌&&◌, ◌||◌, nat_eq, [], ◌∷◌, length, Option, Some, None, refl, sym, ap, ◌∙◌, inl, inr, arith}
 use Rattle.std.proofs.lemmas.Bool.{cases_Bool, eqb-true, eq-eqb, ne_eqb, and_right}
 use Rattle.std.proofs.lemmas.Bool.Decides.{nat_tests}
 use Rattle.ace_model.proofs.Terms.{Event, Ar, R, Aw, B, G, M, Channel, Read, Write, Transaction, Trace, is_some_and, is_read, same_channel, has_name, is_named, issued, is_transaction, transaction_of}
@@ -21,15 +21,15 @@ named_is past p q c d i j x of_name =
       | inr f ↦ rw f (other (transaction_of past q d j) refl f)
     ]
   where
+    self : (q : ℕ) (d : Channel) (j : ℕ) → ((nat_eq q q && same_channel d d) && nat_eq j j) ≡ true
+    self q d j = rw (eq-eqb q q refl, eq-eqb j j refl, same_channel-self d) refl
     other : (o : Option Transaction) → transaction_of past q d j ≡ o → has_name x q d j ≡ false → is_transaction o x ≡ false
     other None is f = refl
     other (Some y) is f =
         ne_eqb y.place x.place (λ same.
         let n = one_name past q p d c j i y x is of_name same in
         let m = transaction_of-name past p c i x of_name in
-        let named : has_name x q d j ≡ true = rw (m.port, m.chan, m.id) (rw (← n.port, ← n.chan, ← n.id) self q d j) in cc)
-    self : (q : ℕ) (d : Channel) (j : ℕ) → ((nat_eq q q && same_channel d d) && nat_eq j j) ≡ true
-    self q d j = rw (eq-eqb q q refl, eq-eqb j j refl, same_channel-self d) refl
+        let named : has_name x q d j ≡ true = rw (m.port ∙ sym n.port, m.chan ∙ sym n.chan, m.id ∙ sym n.id) (self q d j) in cc)
 
 -- nothing belongs to a transaction before it is issued
 not_yet : (test : Event → Bool) (past : Trace) (x : Transaction) → length past ≤ x.place → has_had test past x ≡ false
@@ -91,7 +91,7 @@ names : (past : Trace) (p q : ℕ) (c d : Channel) (i j : ℕ) (x : Transaction)
 names past p q c d i j x of_name =
     let m = transaction_of-name past p c i x of_name in named_is past p q c d i j x of_name ∙ rw (m.port, m.chan, m.id) refl
 
-completion_agrees : (past : Trace) (e : Event) (p : ℕ) (c : Channel) (i : ℕ) (x : Transaction) → transaction_of past p c i ≡ Some x
+pub completion_agrees : (past : Trace) (e : Event) (p : ℕ) (c : Channel) (i : ℕ) (x : Transaction) → transaction_of past p c i ≡ Some x
     → is_completion e p c i ≡ (is_completion_event e && is_transaction (served_by past e) x)
 completion_agrees past (R q j resp last word) p c i x of_name = rw (names past p q c Read i j x of_name) (tests c last (nat_eq p q))
   where
@@ -125,7 +125,7 @@ complete_by_name =
     had_by_name is_completion_event (λ past e p c i. is_completion e p c i) is_complete
     (record { step = λ past e p c i. refl; agrees = completion_agrees; idle = completion_idle })
 
-grant_agrees : (past : Trace) (e : Event) (p : ℕ) (c : Channel) (i : ℕ) (x : Transaction) → transaction_of past p c i ≡ Some x
+pub grant_agrees : (past : Trace) (e : Event) (p : ℕ) (c : Channel) (i : ℕ) (x : Transaction) → transaction_of past p c i ≡ Some x
     → is_named (given past e) p c i ≡ (is_grant e && is_transaction (served_by past e) x)
 grant_agrees past (G q d j) p c i x of_name = elim (cases_Bool (has_name x q d j)) [
   | inl t ↦
@@ -162,7 +162,7 @@ grant_by_name =
     had_by_name is_grant (λ past e p c i. is_named (given past e) p c i) has_grant
     (record { step = λ past e p c i. refl; agrees = grant_agrees; idle = grant_idle })
 
-memory_agrees : (past : Trace) (e : Event) (p : ℕ) (c : Channel) (i : ℕ) (x : Transaction) → transaction_of past p c i ≡ Some x
+pub memory_agrees : (past : Trace) (e : Event) (p : ℕ) (c : Channel) (i : ℕ) (x : Transaction) → transaction_of past p c i ≡ Some x
     → is_memory_write e p c i ≡ (is_write_of_memory e && is_transaction (served_by past e) x)
 memory_agrees past (M q d j line) p c i x of_name = sym (names past p q c d i j x of_name)
 memory_agrees past _ p c i x of_name = refl

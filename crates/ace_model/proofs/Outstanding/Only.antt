@@ -1,13 +1,13 @@
 -- A look that finds the only transaction that passes a test: two such looks find the same one.
 use Rattle.std.specs.List.{find}
-use Rattle.std.proofs.Common.{◌≡◌, ℕ, Bool, true, false, ◌&&◌, nat_eq, Option, Some, None, refl, sym, ap, ◌∙◌, inl, inr}
+use Rattle.std.proofs.Common.{◌≡◌, ℕ, Bool, true, false, ◌&&◌, ◌==◌, Option, Some, None, is_some, refl, sym, ap, ◌∙◌, inl, inr}
 use Rattle.std.proofs.lemmas.Bool.{and_parts, and_from, cases_Bool, eqb-true, eq-eqb}
-use Rattle.ace_model.proofs.Terms.{Channel, Header, Transaction, Trace, same_channel, outstanding, is_outstanding, transactions}
+use Rattle.ace_model.proofs.Terms.{Channel, Header, Transaction, Trace, same_channel, is_on, outstanding, is_outstanding, is_outstanding_on, some_issued, transactions, IsAccepted}
 use Rattle.ace_model.proofs.General.Options.{Some-injective}
 use Rattle.ace_model.proofs.Trace.Looks.{same_channel-is, same_channel-self}
 use Rattle.ace_model.proofs.Trace.Issued.{outstanding-named, outstanding-name}
-use Rattle.ace_model.proofs.Trace.Growth.{IsIssued, named-issued, transaction-issued}
-use Rattle.ace_model.proofs.Trace.LineOnce.{outstanding_is}
+use Rattle.ace_model.proofs.Trace.Growth.{IsIssued, named-issued, transaction-issued, some_issued-is, some_issued-found}
+use Rattle.ace_model.proofs.Trace.LineOnce.{outstanding_is, one_on_line}
 use Rattle.ace_model.proofs.Trace.Outstanding.{outstanding_own}
 use Rattle.ace_model.proofs.Outstanding.Issued.{issued-place_in, find-some, find-none}
 
@@ -74,3 +74,25 @@ outstanding-find h past p c i =
     some x out = let f = outstanding_at-from h past p c i x out in (f.0, and_from _ _ f.1 (eq-eqb x.id i f.2))
     none : outstanding h past p c i ≡ None → (x : Transaction) → IsIssued past x → test x ≡ true → ⊥
     none out x issued t = let s = is x issued t in let no : None ≡ Some x = sym out ∙ s in cc
+
+-- whether there is one
+pub found_some : (past : Trace) (test : Transaction → Bool) (o : Option Transaction) → IsFound past test o → some_issued past test ≡ is_some o
+found_some past test (Some x) f = let s = f.some x refl in some_issued-found past test x.place x s.0.there s.1
+found_some past test None f =
+    elim (cases_Bool (some_issued past test)) [
+      | inr none ↦ none
+      | inl t ↦ let x = some_issued-is past test t in absurd (f.none refl x.0 x.1 x.2)
+    ]
+
+-- the port's outstanding transaction on a line is the only one
+pub one_outstanding_on : (h : Header) (past : Trace) (p l : ℕ) (x y : Transaction) → IsAccepted h past → IsIssued past x → IsIssued past y
+    → is_outstanding_on h past p l x ≡ true → is_outstanding_on h past p l y ≡ true → x ≡ y
+one_outstanding_on h past p l x y a ix iy tx ty =
+    let ax = and_parts ((x.port == p) && is_on x l) (is_outstanding h past x) tx in
+    let ay = and_parts ((y.port == p) && is_on y l) (is_outstanding h past y) ty in
+    let bx = and_parts (x.port == p) (is_on x l) ax.0 in
+    let by = and_parts (y.port == p) (is_on y l) ay.0 in
+    one_on_line h past a p x.chan y.chan x.id y.id l x y
+    (ap (λ q. outstanding h past q x.chan x.id) (sym (eqb-true x.port p bx.0)) ∙ outstanding_is h past x ix ax.1)
+    (ap (λ q. outstanding h past q y.chan y.id) (sym (eqb-true y.port p by.0)) ∙ outstanding_is h past y iy ay.1)
+    bx.1 by.1

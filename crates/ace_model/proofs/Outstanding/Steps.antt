@@ -25,7 +25,7 @@ without-is (Some y) (Some w) x =
       | inl t ↦
           let same = eqb-true w.place y.place t in
           rw t (not_both_ways (nat_eq y.place x.place) ∙ ap (λ n. nat_eq n x.place && not (nat_eq y.place x.place)) (sym same))
-      | inr f ↦ rw f (apart (nat_eq w.place x.place) refl)
+      | inr f ↦ rw f (apart (nat_eq w.place x.place) refl f)
     ]
   where
     apart : (b : Bool) → nat_eq w.place x.place ≡ b → nat_eq w.place y.place ≡ false → b ≡ (b && not (nat_eq y.place x.place))
