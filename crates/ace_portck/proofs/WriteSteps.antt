@@ -5,7 +5,7 @@ use Rattle.std.proofs.lemmas.Bool.{and_right, cases_Bool, eq-eqb, ne_eqb}
 use Rattle.std.proofs.lemmas.List.{drop-append-le, drop-drop, drop_all, map-append, length-map}
 use Rattle.std.proofs.lemmas.List.Elements.{All-push, All-filter, All-drop, All-get_or}
 use Rattle.std.proofs.lemmas.Option.{slice_get_within, slice_get-get_or, get_or_from_slice_get}
-use Rattle.ace_model.proofs.Terms.{Channel, Read, Write, Event, Ar, Aw, W, M, Line, Header, Trace, IsAccepted, at_point, is_some_and, more, has_write_data, issued, write_kind, outstanding, data_write, data_write_in, data_writes, next_write, next_write_beat, Beat, beats, burst_of}
+use Rattle.ace_model.proofs.Terms.{Channel, Read, Write, Event, Ar, Aw, W, M, Line, Header, Trace, IsAccepted, at_point, is_some_and, more, has_write_data, issued, write_kind, outstanding, option_filter, is_data_write_of, data_writes, next_write, next_write_beat, Beat, beats, burst_of}
 use Rattle.ace_model.specs.declared.transactions.Transaction.{Transaction}
 use Rattle.ace_model.proofs.General.Lists.{slice_get-drop}
 use Rattle.ace_model.proofs.General.Options.{Some-injective, none_is}
@@ -71,10 +71,10 @@ abbrev pub beat_of : ℕ → ℕ → Beat
 beat_of strb word = record { strobe = strb; word = word }
 
 -- whether a new transaction is a write of the port with data
-no_data_write : (x : Transaction) (p : ℕ) → is_some_and (write_kind x) has_write_data ≡ false → data_write_in (Some x) p ≡ None
+no_data_write : (x : Transaction) (p : ℕ) → is_some_and (write_kind x) has_write_data ≡ false → option_filter (is_data_write_of p) (Some x) ≡ None
 no_data_write x p none = rw (none, and_right (nat_eq x.port p) false refl) refl
 
-new_data_write : (x : Transaction) (p : ℕ) → x.port ≡ p → is_some_and (write_kind x) has_write_data ≡ true → data_write_in (Some x) p ≡ Some x
+new_data_write : (x : Transaction) (p : ℕ) → x.port ≡ p → is_some_and (write_kind x) has_write_data ≡ true → option_filter (is_data_write_of p) (Some x) ≡ Some x
 new_data_write x p port sends = rw (eq-eqb x.port p port, sends) refl
 
 module _ (h : Header) (past : Trace) (p : ℕ) (fl : List Transaction) (part : Part) (wh : List Burst) (fr wr : ℕ) (s : BurstsStand h past p fl part wh fr wr) where
@@ -132,7 +132,7 @@ module _ (h : Header) (past : Trace) (p : ℕ) (fl : List Transaction) (part : P
     -- a write without data
     pub writes_aw_none : is_some_and (write_kind x) has_write_data ≡ false → BurstsStand h (Aw p i addr snoop dom bar ∷ past) p fl part wh fr wr
     writes_aw_none none =
-        let d : data_write (length past) (Aw p i addr snoop dom bar) p ≡ None = ap (λ o. data_write_in o p) new ∙ no_data_write x p none in
+        let d : option_filter (is_data_write_of p) (issued (length past) (Aw p i addr snoop dom bar)) ≡ None = ap (option_filter (is_data_write_of p)) new ∙ no_data_write x p none in
         quiet (Aw p i addr snoop dom bar) a (ap (more (data_writes past p)) d) refl refl
 
     -- the identifier of a new write is free
@@ -150,7 +150,7 @@ module _ (h : Header) (past : Trace) (p : ℕ) (fl : List Transaction) (part : P
         → (length fl < 256) × BurstsStand h (Aw p i addr snoop dom bar ∷ past) p (fl ++ x ∷ []) part wh fr wr
     writes_aw sends low =
         let port : x.port ≡ p = sym (ap (λ (v : Transaction). v.port) (Some-injective _ x new)) in
-        let is : data_write (length past) (Aw p i addr snoop dom bar) p ≡ Some x = ap (λ o. data_write_in o p) new ∙ new_data_write x p port sends in
+        let is : option_filter (is_data_write_of p) (issued (length past) (Aw p i addr snoop dom bar)) ≡ Some x = ap (option_filter (is_data_write_of p)) new ∙ new_data_write x p port sends in
         let d : data_writes (Aw p i addr snoop dom bar ∷ past) p ≡ data_writes past p ++ x ∷ [] = ap (more (data_writes past p)) is in
         let within = few_beats past p in (
           room_for_one (λ (y : Transaction). y.id) 256 fl x filling_apart s.filling_below other_filling low,
