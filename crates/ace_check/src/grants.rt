@@ -1,8 +1,8 @@
 //! Looks at the grants of a line and at the answers under them.
 
-ghost use Rattle.std.specs.Prelude.{◌≡◌, ◌≤◌, reverse, length, nat_le, ◌&&◌};
+ghost use Rattle.std.specs.Prelude.{◌≡◌, ◌≤◌, reverse, length, nat_le, ◌&&◌, if◌then◌else◌, None};
 ghost use Rattle.ace_model.specs.Snoops.{is_snoop_on};
-ghost use Rattle.ace_model.specs.Grants.{given, gives_line, newest_on, granted, is_granted, has_grant, is_begun, grant_place, is_snoop_to, was_snooped, answers_grant, answer_at, unless_given, answer_of, is_short, owes_data, owes_answer, shares, passes, has_sharer, passer, has_passed_data, are_passed_data_whole};
+ghost use Rattle.ace_model.specs.Grants.{given, gives_line, newest_on, granted, is_granted, has_grant, is_begun, grant_place, is_snoop_to, was_snooped, answers_grant, answer_at, answer_of, is_short, owes_data, owes_answer, shares, passes, has_sharer, passer, has_passed_data, are_passed_data_whole};
 
 use crate::snoops::{answered, data_answers, data_beats, is_snoop_on, snoops_a_line};
 use crate::transactions::{
@@ -154,7 +154,7 @@ fn answer_at(past: &[Event], e: &Event, p: u8, l: u32) -> Option<Answer>
 }
 
 fn unless_given(is_given: bool, answer: Option<Answer>) -> Option<Answer>
-    ensures { result ≡ unless_given is_given answer }
+    ensures { result ≡ (if is_given then None else answer) }
 {
     if is_given { None } else { answer }
 }

@@ -1,7 +1,8 @@
 //! Looks at the state of a line at a port, and at whether the snoops of a granted transaction are done.
 
 ghost use Rattle.std.specs.Prelude.{◌≡◌, reverse, false, ◌&&◌};
-ghost use Rattle.ace_model.specs.Grants.{each_port};
+ghost use Rattle.std.specs.List.{list_all};
+ghost use Rattle.ace_model.specs.Grants.{ports_below};
 ghost use Rattle.ace_model.specs.States.{awaits_store, is_in_make_unique, left_by, state_of, is_store_of, has_store, awaits_wack, owes_wack, is_port_done, are_snoops_done};
 
 use crate::exclusives::has_failed;
@@ -133,7 +134,7 @@ fn both(a: bool, b: bool) -> bool
 }
 
 fn is_each_port_done(h: &Header, past: &[Event], x: Transaction) -> bool
-    ensures { result ≡ each_port h.now.ports (is_port_done h.now (reverse past.now) x) }
+    ensures { result ≡ list_all (is_port_done h.now (reverse past.now) x) (ports_below h.now.ports) }
 {
     let mut all = true;
     for q in 0..h.ports {

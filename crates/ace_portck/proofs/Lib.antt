@@ -8,3 +8,4 @@ pub mod SnoopSteps
 pub mod WriteLaws
 pub mod WriteSteps
 pub mod Parts
+pub mod Elsewhere
