@@ -296,3 +296,15 @@ module _ (h : Header) (past : Trace) (p : ℕ) (accepted : IsAccepted h past) (r
       (λ x i port out.
           let c = complete_by_name past x.port x.chan x.id x (of_name x i out) in
           ap (λ b. b && not (is_completed past x)) (ordered_at x port) ∙ ap (λ b. is_ordered_by (progress_of h past x) && not b) (sym c))
+
+-- an acknowledge belongs to a transaction where one waits
+pub acknowledged_some : (h : Header) (past : Trace) (p : ℕ) (c : Channel) → IsAccepted h past → is_ace h p ≡ true
+    → is_some (acknowledged past p c) ≡ is_some (next_complete past p c)
+acknowledged_some h past p c a ace = by (next_complete past p c) refl
+  where
+    by : (o : Option ℕ) → next_complete past p c ≡ o → is_some (acknowledged past p c) ≡ is_some (next_complete past p c)
+    by None next = rw next refl
+    by (Some i) next =
+        let w = waits_is h past p c (acknowledgements past p c) i a ace (le_refl (acknowledgements past p c)) next in
+        let there = sym (acknowledged_named h past p c i a ace next) ∙ w.1 in
+        rw (there, next) refl

@@ -9,3 +9,5 @@ pub mod WriteLaws
 pub mod WriteSteps
 pub mod Parts
 pub mod Elsewhere
+pub mod Kept
+pub mod AllPorts

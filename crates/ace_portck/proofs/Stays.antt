@@ -209,16 +209,17 @@ module _ (h : Header) (past : Trace) (e : Event) (p : ℕ) (c : Channel) (accept
       }
 
 -- what is kept of them stands
-pub pending_stays : (h : Header) (past : Trace) (e : Event) (p : ℕ) (c : Channel) (s : Pending) → IsAccepted h (e ∷ past) → moves_channel e c ≡ false
+pub pending_elsewhere : (h : Header) (past : Trace) (e : Event) (p : ℕ) (c : Channel) (s : Pending) → IsAccepted h (e ∷ past) → moves_pending e p c ≡ false
     → PendingStands h past p c s → PendingStands h (e ∷ past) p c s
-pending_stays h past e p c s accepted still stands = record {
-  lists = lists_stay h past e p c accepted (idle (port_of e)) s.list.items s.waiting.items stands.lists;
+pending_elsewhere h past e p c s accepted still stands = record {
+  lists = lists_stay h past e p c accepted still s.list.items s.waiting.items stands.lists;
   roomy = stands.roomy;
 }
+
+pub pending_stays : (h : Header) (past : Trace) (e : Event) (p : ℕ) (c : Channel) (s : Pending) → IsAccepted h (e ∷ past) → moves_channel e c ≡ false
+    → PendingStands h past p c s → PendingStands h (e ∷ past) p c s
+pending_stays h past e p c s accepted still stands = pending_elsewhere h past e p c s accepted (idle (is_some_and (port_of e) (λ q. nat_eq p q))) stands
   where
-    idle : (o : Option ℕ) → (is_some_and o (λ q. nat_eq p q) && moves_channel e c) ≡ false
-    idle o = rw still (none (is_some_and o (λ q. nat_eq p q)))
-      where
-        none : (b : Bool) → (b && false) ≡ false
-        none true = refl
-        none false = refl
+    idle : (b : Bool) → (b && moves_channel e c) ≡ false
+    idle true = still
+    idle false = refl

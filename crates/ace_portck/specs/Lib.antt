@@ -8,3 +8,4 @@ pub mod Retired
 pub mod Opening
 pub mod WriteData
 pub mod Port
+pub mod Stands

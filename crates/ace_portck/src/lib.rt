@@ -6,6 +6,8 @@ mod no_memory;
 mod opening;
 mod pending;
 mod port;
+mod port_rules;
+mod ports;
 mod retired;
 mod rules;
 mod snoops;
@@ -14,4 +16,5 @@ mod transactions;
 mod write_data;
 
 pub use no_memory::NoMemory;
+pub use ports::PortCheck;
 pub use target::{Progress, Target, WriteData};
