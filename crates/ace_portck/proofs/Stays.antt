@@ -177,10 +177,12 @@ module _ (h : Header) (past : Trace) (e : Event) (p : ℕ) (c : Channel) (accept
           let a = and_parts (nat_eq x.port p && same_channel x.chan c) (is_outstanding h past x) t in
           let b = and_parts (nat_eq x.port p) (same_channel x.chan c) a.0 in
           record { port = eqb-true x.port p b.0; chan = same_channel-is x.chan c b.1 }
+
       stay : (a o : Bool) → (a && o) ≡ (a && (o && true))
       stay true true = refl
       stay true false = refl
       stay false o = refl
+
       tests : (a b o t : Bool) → ((a && b) && o) ≡ false → ((a && b) && (o && not t)) ≡ false
       tests true true o t f = rw f refl
       tests true false o t f = refl
@@ -192,7 +194,7 @@ module _ (h : Header) (past : Trace) (e : Event) (p : ℕ) (c : Channel) (accept
   new_out (Some y) new =
       let f = no_new (length past) e p c y still new in
       let none : filter (is_pending h (e ∷ past) p c) (transactions past) ++ filter (is_pending h (e ∷ past) p c) (y ∷ [])
-          ≡ filter (is_pending h (e ∷ past) p c) (transactions past) = rw f (append-nil (filter (is_pending h (e ∷ past) p c) (transactions past))) in
+      ≡ filter (is_pending h (e ∷ past) p c) (transactions past) = rw f (append-nil (filter (is_pending h (e ∷ past) p c) (transactions past))) in
       sym (filter-append (is_pending h (e ∷ past) p c) (transactions past) (y ∷ []) ∙ none)
 
   pub lists_stay : (list : List Progress) (waiting : List ℕ) → ListsStand h past p c list waiting → ListsStand h (e ∷ past) p c list waiting

@@ -12,6 +12,8 @@ mod retired;
 mod rules;
 mod snoops;
 mod target;
+#[cfg(test)]
+mod tests;
 mod transactions;
 mod write_data;
 

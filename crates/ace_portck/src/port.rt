@@ -152,19 +152,6 @@ impl PortRecord {
         }
     }
 
-    /// The snoop that the event of the port begins, answers, or sends data for.
-    fn snoop(&self, place: usize, event: &Event) -> Option<Snoop>
-        ensures { (h : Header) (past : Trace) (p : ℕ) → PortStands h past p self.now → port_of event.now ≡ Some p → place ≡ length past
-            → result ≡ snoop_in past event.now }
-    {
-        match *event {
-            Event::Ac { addr, snoop, .. } => Some(Snoop { place, addr, snoop }),
-            Event::Cr { .. } => self.snoops.answered(),
-            Event::Cd { .. } => self.snoops.sending(),
-            _ => None,
-        }
-    }
-
     /// The outstanding transaction of the port of an S, L, D, AC or CR on the line of the event.
     fn own(&self, event: &Event, line: Option<u32>) -> Option<Progress>
         ensures { (h : Header) (past : Trace) (p : ℕ) → PortStands h past p self.now → port_of event.now ≡ Some p
@@ -225,7 +212,7 @@ impl PortRecord {
             → result ≡ target_of header.now past event.now }
     {
         let transaction = self.transaction(header, place, event);
-        let snoop = self.snoop(place, event);
+        let snoop = self.snoops.snoop_of(event, place);
         let line = line_in(event, transaction, snoop);
         let answers = answers_barrier(event, transaction);
         Target {

@@ -165,8 +165,11 @@ impl PortCheck {
         ensures { (r : Recording) → Stands self.now r → result ≡ target_of r.header r.past event.now }
     {
         match port_of(event) {
-            Some(port) => record_of(&self.ports, &self.outside, port)
-                .target(&self.header, self.count, event),
+            Some(port) => record_of(&self.ports, &self.outside, port).target(
+                &self.header,
+                self.count,
+                event,
+            ),
             None => target_without_port(event),
         }
     }
@@ -193,8 +196,11 @@ impl PortCheck {
             → result ≡ least_of (drop 3 port_rules) r.header r.past event.now }
     {
         match port_of(event) {
-            Some(port) => record_of(&self.ports, &self.outside, port)
-                .test(&self.header, event, target),
+            Some(port) => record_of(&self.ports, &self.outside, port).test(
+                &self.header,
+                event,
+                target,
+            ),
             None => None,
         }
     }

@@ -14,9 +14,7 @@ ghost use Rattle.ace_portck.specs.Pending.{HasByteId, PendingStands, moves_chann
 ghost use Rattle.ace_portck.specs.Transactions.{is_ordered_by, has_order_point, is_unordered, is_incomplete};
 
 use crate::NoMemory;
-use crate::kinds::{
-    gives_up, is_evict, is_line, is_on, is_unique_write, is_update, write_kind,
-};
+use crate::kinds::{gives_up, is_evict, is_line, is_on, is_unique_write, is_update, write_kind};
 use crate::pending::Pending;
 use crate::target::Progress;
 use ace_event::{Channel, Event, Header};
@@ -41,8 +39,7 @@ fn find_on(list: &[Progress], line: u32) -> Option<Progress>
 fn has_unique_write(list: &[Progress]) -> bool
     ensures { result ≡ list_any (λ x. is_some_and (write_kind x.transaction) is_unique_write) list.now }
 {
-    list.iter()
-        .any(|x| write_kind(&x.transaction).is_some_and(is_unique_write))
+    list.iter().any(|x| write_kind(&x.transaction).is_some_and(is_unique_write))
 }
 
 /// The list has a memory update or an Evict.
@@ -286,7 +283,14 @@ impl Transactions {
 }
 
 /// The same of one channel, which most events leave as it is.
-fn hear_on(pending: &mut Pending, header: &Header, port: u8, chan: Channel, place: usize, event: &Event)
+fn hear_on(
+    pending: &mut Pending,
+    header: &Header,
+    port: u8,
+    chan: Channel,
+    place: usize,
+    event: &Event,
+)
     ensures { (past : Trace) → IsHeard header.now past place event.now port → AllByRecursion HasByteId (event.now ∷ past)
         → PendingStands header.now past port chan pending.old → PendingStands header.now (event.now ∷ past) port chan pending.new }
 {
