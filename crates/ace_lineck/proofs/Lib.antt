@@ -5,3 +5,8 @@ pub mod HolderSteps
 pub mod Bursts
 pub mod Sent
 pub mod RuleLaws
+pub mod GrantFrame
+pub mod GrantSteps
+pub mod GrantServes
+pub mod KnownLines
+pub mod AllLines

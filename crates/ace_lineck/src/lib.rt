@@ -2,14 +2,18 @@
 #![tactic(auto)]
 
 mod grant;
+mod heard;
 mod holders;
 mod kinds;
+mod lines;
 mod memory;
 mod record;
 mod rules;
 mod stages;
+mod step;
 mod uses;
 
 pub use grant::{Grant, Passed};
-pub use record::{Holder, LineRecord, Use};
+pub use lines::LineCheck;
+pub use record::{Holder, LineRecord, NoMemory, Use};
 pub use stages::Stage;
