@@ -8,5 +8,7 @@ pub mod RuleLaws
 pub mod GrantFrame
 pub mod GrantSteps
 pub mod GrantServes
+pub mod GrantHear
 pub mod KnownLines
 pub mod AllLines
+pub mod Received

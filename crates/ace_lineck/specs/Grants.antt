@@ -1,12 +1,13 @@
 -- What is kept of the grant of a line says what there is to say of it after a trace.
 use Rattle.std.specs.Prelude.{ℕ, ◌≡◌, Bool, false, not, ◌&&◌, ◌==◌, if◌then◌else◌, List, slice_get, replicate, nat_lt, Option, Some, None, unwrap_or, option_map, option_and_then}
 use Rattle.ace_event.specs.declared.event.Event.{Event}
+use Rattle.ace_event.specs.declared.event.Event.TheVariants.{R, Rk, B, Wk}
 use Rattle.ace_event.specs.declared.header.Header.{Header}
 use Rattle.ace_event.specs.declared.line.Line.{Line}
 use Rattle.ace_model.specs.declared.snoops.Answer.{Answer}
 use Rattle.ace_model.specs.declared.transactions.Transaction.{Transaction}
 use Rattle.ace_model.specs.Trace.{Trace, newer, is_some_and}
-use Rattle.ace_model.specs.Transactions.{is_read, transfers}
+use Rattle.ace_model.specs.Transactions.{is_ace, is_read, transfers}
 use Rattle.ace_model.specs.Writes.{has_memory_write}
 use Rattle.ace_model.specs.Grants.{granted, is_begun, was_snooped, answer_of, is_short, has_sharer, passer}
 use Rattle.ace_model.specs.Copies.{zero_line}
@@ -73,6 +74,15 @@ fresh_grant x = record {
 -- what an event belongs to is this transaction
 abbrev pub is_of : Option Progress → Transaction → Bool
 is_of target x = is_some_and target (λ y. y.transaction.place == x.place)
+
+-- With the event its transaction is no longer outstanding, where that is the granted one: at an ACE port it ends with its RK or WK,
+-- at an ACE-Lite port with its last R or its B.
+abbrev pub is_over : Header → Event → Bool → Bool
+is_over h (Rk p st) own = own
+is_over h (Wk p st) own = own
+is_over h (R p i resp last word) own = last && not (is_ace h p) && own
+is_over h (B p i resp) own = not (is_ace h p) && own
+is_over h e own = false
 
 -- the port has come to this stage, and the others haven't moved
 abbrev pub IsMoved : List Stage → List Stage → ℕ → Stage → Type 0

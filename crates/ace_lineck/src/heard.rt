@@ -11,7 +11,7 @@ ghost use Rattle.ace_model.specs.Transactions.{is_ace, is_read, is_transaction, 
 ghost use Rattle.ace_portck.specs.declared.target.Progress.{Progress};
 ghost use Rattle.ace_lineck.specs.Holders.{IsLineStep, HoldersStand, MemoryStands, holder_at};
 ghost use Rattle.ace_lineck.specs.declared.stages.Stage.TheVariants.{Unanswered, Sending, Done};
-ghost use Rattle.ace_lineck.specs.Grants.{GrantFits, GrantStands, IsGrantStep, IsMoved, fresh_grant, is_of};
+ghost use Rattle.ace_lineck.specs.Grants.{GrantFits, GrantStands, IsGrantStep, IsMoved, fresh_grant, is_of, is_over};
 
 use crate::grant::{Grant, Passed};
 use crate::record::Holder;
@@ -19,7 +19,7 @@ use crate::stages::{Stage, set_stage};
 use ace_codes::{is_shared, passes_dirty, transfers_data};
 use ace_event::{Channel, Event, Header, Line, PortKind, kind_of};
 use ace_model::Transaction;
-use ace_portck::{Progress, Target};
+use ace_portck::Target;
 
 /// Whether the port is an ACE port of the header.
 pub fn is_ace(header: &Header, port: u8) -> bool
@@ -29,10 +29,10 @@ pub fn is_ace(header: &Header, port: u8) -> bool
 }
 
 /// Whether what the event belongs to is this transaction.
-fn is_of(target: &Option<Progress>, x: &Transaction) -> bool
-    ensures { result ≡ is_of target.now x.now }
+fn is_of(target: &Target, x: &Transaction) -> bool
+    ensures { result ≡ is_of target.now.transaction x.now }
 {
-    match target {
+    match target.transaction {
         Some(y) => y.transaction.place == x.place,
         None => false,
     }
@@ -148,16 +148,18 @@ impl Grant {
 
     /// Whether the event ends the granted transaction.
     fn is_ended(&self, event: &Event, target: &Target, header: &Header) -> bool
-        ensures { (past : Trace) → (l : ℕ) → IsLineStep header.now past l event.now target.now → GrantFits header.now past l self.now
-            → result ≡ is_transaction (ended header.now past event.now) self.now.transaction }
+        ensures { result ≡ is_over header.now event.now (is_of target.now.transaction self.now.transaction) }
     {
+        let own = is_of(target, &self.transaction);
         match *event {
-            Event::Rk { .. } | Event::Wk { .. } => is_of(&target.transaction, &self.transaction),
+            Event::Rk { .. } | Event::Wk { .. } => own,
             Event::R { port, last, .. } => {
-                last && !is_ace(header, port) && is_of(&target.transaction, &self.transaction)
+                let ace = is_ace(header, port);
+                last && !ace && own
             }
             Event::B { port, .. } => {
-                !is_ace(header, port) && is_of(&target.transaction, &self.transaction)
+                let ace = is_ace(header, port);
+                !ace && own
             }
             _ => false,
         }
@@ -170,14 +172,20 @@ impl Grant {
     {
         match *event {
             Event::Ac { port, .. } => set_stage(&mut self.stages, port, Stage::Unanswered),
-            Event::Cr { port, resp, .. } => self.hear_answer(port, resp, &copy_at(holders, port)),
+            Event::Cr { port, resp, .. } => {
+                let copy = copy_at(holders, port);
+                self.hear_answer(port, resp, &copy);
+            }
             Event::Cd { port, .. } => {
                 if target.beat == 3 {
                     set_stage(&mut self.stages, port, Stage::Done);
                 }
             }
             Event::R { .. } => self.hear_beat(memory),
-            Event::M { .. } => self.hear_write(is_of(&target.transaction, &self.transaction)),
+            Event::M { .. } => {
+                let own = is_of(target, &self.transaction);
+                self.hear_write(own);
+            }
             _ => {}
         }
     }

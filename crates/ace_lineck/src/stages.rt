@@ -1,7 +1,7 @@
 //! How far the snoops under a grant have come.
 
-ghost use Rattle.std.specs.Prelude.{◌≡◌, ◌==◌, ◌&&◌, nat_lt, ℕ, if◌then◌else◌};
-ghost use Rattle.ace_lineck.specs.Grants.{stage_at};
+ghost use Rattle.std.specs.Prelude.{◌≡◌};
+ghost use Rattle.ace_lineck.specs.Grants.{stage_at, IsMoved};
 
 
 /// How far the snoop of a port under the grant of a line has come.
@@ -29,7 +29,7 @@ pub fn stage_at(stages: &[Stage; 32], port: u8) -> Stage
 
 /// The port has come to this stage. A port that isn't there has none.
 pub fn set_stage(stages: &mut [Stage; 32], port: u8, stage: Stage)
-    ensures { (p : ℕ) → stage_at stages.new p ≡ (if (p == port) && nat_lt port 32 then stage else stage_at stages.old p) }
+    ensures { IsMoved stages.old stages.new port stage }
 {
     if usize::from(port) < 32 {
         stages[usize::from(port)] = stage;
