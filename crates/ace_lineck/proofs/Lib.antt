@@ -9,3 +9,4 @@ pub mod GrantFrame
 pub mod GrantSteps
 pub mod GrantServes
 pub mod GrantHear
+pub mod GrantLaws
