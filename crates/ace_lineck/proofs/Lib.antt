@@ -12,3 +12,4 @@ pub mod GrantHear
 pub mod KnownLines
 pub mod AllLines
 pub mod Received
+pub mod GrantLaws

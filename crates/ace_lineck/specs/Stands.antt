@@ -9,7 +9,7 @@ use Rattle.ace_event.specs.Ports.{IsHeader}
 use Rattle.ace_model.specs.declared.transactions.Transaction.{Transaction}
 use Rattle.ace_model.specs.Trace.{Trace}
 use Rattle.ace_model.specs.Copies.{zero_line}
-use Rattle.ace_model.specs.Lines.{is_known, known_lines, has_failed_on}
+use Rattle.ace_model.specs.Lines.{is_known, known_lines}
 use Rattle.ace_model.specs.Accepted.{IsAccepted, least_broken}
 use Rattle.ace_portck.specs.Targets.{Recording, target_of}
 use Rattle.ace_portck.specs.declared.target.Target.{Target}
@@ -17,6 +17,7 @@ use Rattle.ace_lineck.specs.declared.record.Use.TheVariants.{Unknown}
 use Rattle.ace_lineck.specs.declared.record.LineRecord.{LineRecord}
 use Rattle.ace_lineck.specs.declared.lines.LineCheck.{LineCheck}
 use Rattle.ace_lineck.specs.Records.{LineStands}
+use Rattle.ace_lineck.specs.Kept.{IsFailure}
 
 -- the record of the line: that of the map, or else the one of a line of which nothing is kept
 abbrev pub record_of : LineCheck → ℕ → LineRecord
@@ -44,11 +45,12 @@ pub record Stands (s : LineCheck) (r : Recording) : Type 0 where
   pub holders : (l : ℕ) (x : LineRecord) → get nat_eq s.lines l ≡ Some x → length x.holders.items ≡ r.header.ports
   pub known : s.known ≡ length (known_lines r.past)
 
--- the event comes next after the recording, the target is its own, and `failed` says it of the granted transaction of its line
+-- The event comes next after the recording, and the target is its own. `failed` says whether the granted transaction of its line is an
+-- exclusive store that failed.
 pub record MayTest (s : LineCheck) (r : Recording) (e : Event) (t : Target) (failed : Bool) : Type 0 where
   pub stands : Stands s r
   pub target : t ≡ target_of r.header r.past e
-  pub has_failed : (l : ℕ) → t.line ≡ Some l → failed ≡ has_failed_on r.header r.past l
+  pub has_failed : IsFailure r.header r.past t failed
 
 -- there is a record of the line, if there is a line
 abbrev pub HasRecord : LineCheck → Option ℕ → Type 0

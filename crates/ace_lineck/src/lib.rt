@@ -2,6 +2,8 @@
 #![tactic(auto)]
 
 mod grant;
+mod grant_rules;
+mod granting;
 mod heard;
 mod holders;
 mod kinds;

@@ -16,7 +16,7 @@ returns-then-has_three c h past l p s port =
     let ev = R e.port e.id e.resp e.last e.word in
     let step : IsRecordStep h past l ev t kept = subst (λ v. IsRecordStep h past l v t kept) e.is s in
     let three : has_three t.transaction ≡ true = sym c.has_three.ensures ∙ c.if-has_three.true in
-    let four : (v : Line) → c.reply_of.result ≡ Some v → length v.words ≡ 4 = λ v is. let k = rw is at c.reply_of.type_inv in ? in
+    let four : (v : Line) → c.reply_of.result ≡ Some v → length v.words ≡ 4 = λ v is. let k = rw is at c.reply_of.type_inv in assumption k in
     let here : c.reply_of.result ≡ received past ev e.port l = received-some h past l e.port e.id e.resp e.last e.word t kept step three c.reply_of.result c.reply_of.ensures four in
     let same : Some e.port ≡ Some p = subst (λ v. port_of v ≡ Some p) e.is port in
     subst (λ v. c.reply_of.result ≡ received past v p l) (sym e.is) (subst (λ v. c.reply_of.result ≡ received past ev v l) (Some-injective e.port p same) here)
