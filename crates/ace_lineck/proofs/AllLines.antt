@@ -1,21 +1,22 @@
 -- What is kept of all lines, after an event and after room was made.
-use Rattle.std.proofs.Common.{rules, ◌≡◌, ◌⊎◌, ◌<◌, ◌≤◌, ◌+◌, ◌-◌, ◌^◌, ◌%◌, ℕ, nat_eq, true, false, Bool, not, ◌&&◌, if◌then◌else◌, List, [], ◌∷◌, length, Option, Some, None, IsSome, refl, sym, ap, subst, ◌∙◌, inl, inr, unwrap_or, arith}
+use Rattle.std.proofs.Common.{rules, ◌≡◌, ◌⊎◌, ◌<◌, ◌≤◌, ◌+◌, ◌-◌, ◌^◌, ◌%◌, ℕ, nat_eq, true, false, Bool, not, ◌&&◌, if◌then◌else◌, List, [], ◌∷◌, length, Option, Some, None, option_map, IsSome, refl, sym, ap, subst, ◌∙◌, inl, inr, unwrap_or, arith}
 use Rattle.std.proofs.lemmas.Bool.{cases_eq}
 use Rattle.std.specs.Bool.{OnTrue}
 use Rattle.indexmap.specs.IndexMap.{get}
 use Rattle.ace_model.specs.Lines.{known_lines}
-use Rattle.ace_model.proofs.Terms.{Event, Header, Trace, IsAccepted}
+use Rattle.ace_model.proofs.Terms.{Event, Header, Trace, IsAccepted, granted}
 use Rattle.ace_model.specs.Accepted.{least_broken}
 use Rattle.ace_portck.specs.Targets.{Recording, after, line_in, target_of}
 use Rattle.ace_portck.specs.declared.target.Target.{Target}
 use Rattle.ace_lineck.specs.declared.lines.LineCheck.{LineCheck}
 use Rattle.ace_lineck.specs.declared.record.LineRecord.{LineRecord}
 use Rattle.ace_lineck.specs.declared.record.Holder.{Holder}
+use Rattle.ace_lineck.specs.declared.grant.Grant.{Grant}
 use Rattle.ace_lineck.specs.declared.record.Use.TheVariants.{Unknown}
 use Rattle.ace_lineck.specs.Holders.{HoldersStand, MemoryStands, IsLineStep, holder_at, empty_holder, HasNothing}
 use Rattle.ace_lineck.specs.Grants.{GrantStands}
 use Rattle.ace_lineck.specs.Uses.{use_of, is_unknown}
-use Rattle.ace_lineck.specs.Records.{LineStands, IsRecordStep, IsFresh}
+use Rattle.ace_lineck.specs.Records.{LineStands, IsRecordStep, IsFresh, name_of}
 use Rattle.ace_lineck.specs.Stands.{Stands, IsEmpty, IsAbsent, IsNewLine, HasRecord, MayApply, begins_line, record_of}
 use Rattle.ace_lineck.proofs.OnLine.{IsOff}
 use Rattle.ace_lineck.proofs.OffLine.{holders-stay, memory-stays}
@@ -30,6 +31,11 @@ line-stays h past e a l x off s = record {
   grant = grant_stays h past e a l x.grant off s.grant;
   holders = holders-stay h past e a l x.holders.items off s.holders;
 }
+
+-- the name of the granted transaction
+pub name-granted : (h : Header) (past : Trace) (l : ℕ) (g : Option Grant) → GrantStands h past l g → option_map (λ (v : Grant). name_of v.transaction) g ≡ option_map name_of (granted h past l)
+name-granted h past l None none = sym (ap (option_map name_of) none)
+name-granted h past l (Some g) f = sym (ap (option_map name_of) f.granted)
 
 -- The record of the event's line is a new one, and each other is as it was.
 pub record IsChanged (s t : LineCheck) (line : ℕ) (x : LineRecord) : Type 0 where

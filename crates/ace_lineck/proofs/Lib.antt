@@ -13,3 +13,4 @@ pub mod KnownLines
 pub mod AllLines
 pub mod Received
 pub mod GrantLaws
+pub mod Judging

@@ -2,11 +2,9 @@
 use Rattle.std.specs.Prelude.{ℕ, ◌≡◌, ◌<◌, ◌-◌, ◌^◌, Bool, true, false, List, [], ◌∷◌, length, Option, Some, None, nat_eq, unwrap_or, IsSome, ⊤}
 use Rattle.std.specs.Bool.{OnTrue}
 use Rattle.indexmap.specs.IndexMap.{get}
-use Rattle.ace_event.specs.declared.event.Channel.{Channel}
 use Rattle.ace_event.specs.declared.event.Event.{Event}
 use Rattle.ace_event.specs.declared.event.Event.TheVariants.{Ar, Aw, Mem}
 use Rattle.ace_event.specs.Ports.{IsHeader}
-use Rattle.ace_model.specs.declared.transactions.Transaction.{Transaction}
 use Rattle.ace_model.specs.Trace.{Trace}
 use Rattle.ace_model.specs.Copies.{zero_line}
 use Rattle.ace_model.specs.Lines.{is_known, known_lines}
@@ -92,7 +90,3 @@ pub record MayApply (s : LineCheck) (r : Recording) (e : Event) (t : Target) : T
   pub room : HasRoom s e t
   pub kept : least_broken r.header r.past e ≡ None
   pub few : length r.past < 2 ^ 64 - 1
-
--- the name of a transaction: its port, channel and identifier
-abbrev pub name_of : Transaction → ℕ × Channel × ℕ
-name_of x = (x.port, x.chan, x.id)
