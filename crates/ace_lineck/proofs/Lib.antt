@@ -10,3 +10,6 @@ pub mod GrantSteps
 pub mod GrantServes
 pub mod GrantHear
 pub mod GrantLaws
+pub mod KnownLines
+pub mod AllLines
+pub mod ReplyLaws

@@ -3,3 +3,4 @@ pub mod Uses
 pub mod Grants
 pub mod Records
 pub mod Kept
+pub mod Stands

@@ -7,12 +7,16 @@ mod granting;
 mod heard;
 mod holders;
 mod kinds;
+mod lines;
 mod memory;
 mod record;
+mod replies;
 mod rules;
 mod stages;
+mod step;
 mod uses;
 
 pub use grant::{Grant, Passed};
-pub use record::{Holder, LineRecord, Use};
+pub use lines::LineCheck;
+pub use record::{Holder, LineRecord, NoMemory, Use};
 pub use stages::Stage;
