@@ -1,30 +1,39 @@
--- The reply of a granted read, and the line that its port receives whole, in the words of what is kept of the line.
-use Rattle.std.proofs.Common.{◌≡◌, ◌≢◌, ℕ, true, false, Bool, not, ◌&&◌, ◌==◌, if◌then◌else◌, nat_eq, List, [], ◌∷◌, ◌++◌, length, Option, Some, None, option_map, option_and_then, unwrap_or, refl, sym, ap, subst, ◌∙◌, inl, inr}
-use Rattle.std.proofs.lemmas.Bool.{and_parts, and_from, cases_Bool, cases_eq, eqb-true, eq-eqb, ne_eqb}
+-- The rules of the answers to reads, in the words of what is kept of the line.
+use Rattle.std.proofs.Common.{arith, ◌≡◌, ◌≢◌, ℕ, ◌+◌, true, false, Bool, not, ◌&&◌, ◌||◌, ◌==◌, if◌then◌else◌, nat_eq, nat_lt, List, [], ◌∷◌, length, Option, Some, None, is_some, is_none, option_map, option_and_then, unwrap_or, refl, sym, ap, subst, ◌∙◌, inl, inr}
+use Rattle.std.proofs.lemmas.Bool.{false_from_ne_true, and_parts, and_from, cases_Bool, cases_eq, eqb-true, eq-eqb, ne_eqb, or_left}
+use Rattle.ace_codes.specs.Responses.{passes_dirty, is_shared}
+use Rattle.ace_codes.specs.declared.kind.ArKind.{ArKind}
+use Rattle.ace_codes.specs.declared.kind.ArKind.TheVariants as read
+use Rattle.ace_codes.specs.declared.state.LineState.{LineState}
+use Rattle.ace_codes.specs.declared.state.LineState.TheVariants.{I}
 use Rattle.ace_event.specs.declared.line.Line.{Line}
 use Rattle.ace_model.specs.declared.transactions.Transaction.{Transaction}
-use Rattle.ace_model.specs.Trace.{port_of}
-use Rattle.ace_model.specs.Copies.{received}
-use Rattle.ace_model.proofs.Terms.{Header, Trace, Read, Event, R, IsAccepted, newer, is_some_and, is_read, is_line, is_on, outstanding, transaction_of, transfers, granted, memory_of, words_read, first_sender, copy_at_answer, memory_at_first_beat, reply_of, is_line_read_transaction}
-use Rattle.ace_model.proofs.General.Options.{Some-injective, is_some_and-is}
-use Rattle.ace_model.proofs.Trace.Looks.{is_on-addr}
+use Rattle.ace_model.specs.Shares.{k18_line}
+use Rattle.ace_model.specs.ReadRules.{same_upper_bits}
+use Rattle.ace_model.proofs.Terms.{Header, Trace, Read, Event, Ar, R, Rk, IsAccepted, newer, implies, is_some_and, is_none_or, is_ace, is_read, is_line, is_line_read, is_line_write, is_on, read_kind, write_kind, outstanding, transaction_of, acknowledged, next_complete, transfers, first_resp, granted, is_granted, has_passed_data}
+use Rattle.ace_model.proofs.Terms.{has_sharer, memory_of, word_of, first_sender, copy_at_answer, memory_at_first_beat, reply_of, is_line_read_transaction, reads_a_line, has_word, has_upper_bits, fits_kind, must_be_shared, may_be_shared, is_read_not_shared_dirty, is_make_unique, is_clean_unique, k1, k19, k20, k22, k23, ends_well, is_end, held_of, ends_read, has_failed, has_store, state_of, is_exclusive_store, may_transfer}
+use Rattle.ace_model.proofs.General.Options.{Some-injective, is_some_and-is, is_none_or-at}
+use Rattle.ace_model.proofs.General.Booleans.{implies-at}
+use Rattle.ace_model.proofs.Trace.Looks.{is_on-addr, read_writes_none}
 use Rattle.ace_model.proofs.Trace.Issued.{outstanding-name}
+use Rattle.ace_model.proofs.Trace.Outstanding.{acknowledged_is}
+use Rattle.ace_model.proofs.Trace.Transfers.{full_some}
 use Rattle.ace_model.proofs.Holders.Law.{accepted_holds}
-use Rattle.ace_model.proofs.Grants.Begins.{line_due}
+use Rattle.ace_model.proofs.Holders.Acknowledge.{ends}
 use Rattle.ace_model.proofs.Grants.Granted.{granted_at}
-use Rattle.ace_model.proofs.Values.FullReads.{words-length}
+use Rattle.ace_model.proofs.Values.FullReads.{under_way}
 use Rattle.ace_model.proofs.Values.Replies.{memory-before}
-use Rattle.ace_model.proofs.GrantLooks.Replied.{whole_reply}
 use Rattle.ace_portck.specs.Targets.{line_in, progress_of}
 use Rattle.ace_portck.specs.declared.target.Progress.{Progress}
 use Rattle.ace_portck.specs.declared.target.Target.{Target}
-use Rattle.ace_lineck.specs.declared.record.Holder.{Holder}
+use Rattle.ace_lineck.specs.declared.record.LineRecord.{LineRecord}
 use Rattle.ace_lineck.specs.declared.grant.Grant.{Grant}
-use Rattle.ace_lineck.specs.Grants.{GrantFits, GrantStands, IsGrantStep, fetched, settled_reply}
-use Rattle.ace_lineck.specs.Kept.{whole_by}
-use Rattle.ace_lineck.proofs.OnLine.{on-transaction}
-use Rattle.ace_lineck.proofs.OffLine.{read-of}
-use Rattle.ace_lineck.proofs.GrantServes.{beat_of_granted}
+use Rattle.ace_lineck.specs.Holders.{holder_at}
+use Rattle.ace_lineck.specs.Grants.{GrantFits, GrantStands, fetched, settled_reply}
+use Rattle.ace_lineck.specs.Records.{LineStands, IsNext}
+use Rattle.ace_lineck.specs.Kept.{reply_kept, fits_reply, fits_shared, fits_bits, has_passed, has_passed_for, is_shared_under, is_its, ends_kept, IsFailure}
+use Rattle.ace_lineck.proofs.OnLine.{line-transaction}
+use Rattle.ace_lineck.proofs.GrantLaws.{its-is, its-granted, passed-law, read-line, read-count}
 
 -- the reply of the granted read
 pub reply-law : (h : Header) (past : Trace) → IsAccepted h past → (l : ℕ) (g : Grant) → GrantFits h past l g → is_read g.transaction.chan ≡ true → (memory : Line) → memory ≡ memory_of past l
@@ -51,3 +60,79 @@ reply-law h past a l g f reads memory kept =
     by : (o : Option Line) → unwrap_or (newer o (fetched past g.transaction)) memory ≡ unwrap_or o (memory_at_first_beat past g.transaction.port g.transaction.id g.transaction.addr)
     by None = fetch
     by (Some c) = refl
+
+-- a read of a line has a line
+line_read-line : (k : ArKind) → reads_a_line k ≡ true → is_line_read k ≡ true
+line_read-line read.Barrier e = cc
+line_read-line read.DvmComplete e = cc
+line_read-line read.DvmMessage e = cc
+line_read-line k e = refl
+
+shared-line : (k : ArKind) → may_be_shared k ≡ true → is_line_read k ≡ true
+shared-line read.Barrier e = cc
+shared-line read.DvmComplete e = cc
+shared-line read.DvmMessage e = cc
+shared-line k e = refl
+
+clean_unique-line : (k : ArKind) → is_clean_unique k ≡ true → is_line_read k ≡ true
+clean_unique-line read.Barrier e = cc
+clean_unique-line read.DvmComplete e = cc
+clean_unique-line read.DvmMessage e = cc
+clean_unique-line k e = refl
+
+kind-line : (x : Transaction) (k : ArKind) → read_kind x ≡ Some k → is_line_read k ≡ true → is_line x ≡ true
+kind-line x k kind line = or_left (is_some_and (read_kind x) is_line_read) (is_some_and (write_kind x) is_line_write) (rw kind line)
+
+-- a first response is there from the first transfer on
+first-none : (past : Trace) (p i : ℕ) → (transfers past p i == 0) ≡ is_none (first_resp past p i)
+first-none [] p i = refl
+first-none (Ar q j addr snoop dom bar lock ∷ past) p i =
+    elim (cases_Bool (nat_eq p q && nat_eq i j)) [
+      | inl t ↦ rw t refl
+      | inr f ↦ rw f (first-none past p i)
+    ]
+first-none (R q j resp last word ∷ past) p i =
+    elim (cases_Bool (nat_eq p q && nat_eq i j)) [
+      | inr f ↦ rw f (first-none past p i)
+      | inl t ↦ elim (cases_Bool (transfers past p i == 0)) [
+        | inl z ↦ rw (t, z) (ne_eqb (transfers past p i + 1) 0 (λ e. absurd (omega arith)))
+        | inr some ↦ let before = first-none past p i in rw (t, some) (ne_eqb (transfers past p i + 1) 0 (λ e. absurd (omega arith)) ∙ sym some ∙ before)
+      ]
+    ]
+first-none (_ ∷ past) p i = first-none past p i
+
+module _ (h : Header) (past : Trace) (t : Target) (x : LineRecord) (p i resp : ℕ) (last : Bool) (word : ℕ) (s : IsNext h past (R p i resp last word) t x) where
+  -- K20
+  pub k20-law : k18_line h past (R p i resp last word) ≡ true → is_none_or t.transaction (fits_reply x.grant x.memory word) ≡ k20 h past (R p i resp last word)
+  k20-law kept = ap (λ (v : Target). is_none_or v.transaction (fits_reply x.grant x.memory word)) s.target ∙ by (outstanding h past p Read i) refl
+    where
+      replied : (y : Transaction) → outstanding h past p Read i ≡ Some y → is_line y ≡ true → reply_kept x.grant x.memory ≡ reply_of past y
+      replied y o line = of x.grant (s.line y.addr on).grant
+        where
+          on : t.line ≡ Some y.addr
+          on = read-line h past t x p i resp last word s y o line
+
+          may : is_granted h past y ≡ true
+          may = (and_parts (is_granted h past y) _ (and_parts (is_granted h past y && _) _ (implies-at (is_line y) (may_transfer h past y resp) (is_none_or-at (outstanding h past p Read i) _ y kept o) line)).0).0
+
+          stands : granted h past y.addr ≡ Some y
+          stands = granted_at h past s.accepted p Read i y o may
+
+          of : (g : Option Grant) → GrantStands h past y.addr g → reply_kept g x.memory ≡ reply_of past y
+          of None f = let bad : None ≡ Some y = sym f ∙ stands in cc
+          of (Some g) f =
+              let one : g.transaction ≡ y = Some-injective g.transaction y (sym f.granted ∙ stands) in
+              let reads : is_read g.transaction.chan ≡ true = ap (λ (v : Transaction). is_read v.chan) one ∙ ap is_read (outstanding-name h past p Read i y o).chan in
+              reply-law h past s.accepted y.addr g f reads x.memory (s.line y.addr on).memory.memory ∙ ap (reply_of past) one
+
+      by : (o : Option Transaction) → outstanding h past p Read i ≡ o → is_none_or (option_map (progress_of h past) o) (fits_reply x.grant x.memory word) ≡ is_none_or o (has_word past word)
+      by None is = refl
+      by (Some y) is =
+          elim (cases_Bool (is_line_read_transaction y)) [
+            | inr n ↦ rw n refl
+            | inl reads ↦
+                let k = is_some_and-is (read_kind y) reads_a_line reads in
+                let line = kind-line y k.0 k.1 (line_read-line k.0 k.2) in
+                ap (λ n. word == (if is_line_read_transaction y then word_of (reply_kept x.grant x.memory) n else 0)) (read-count h past t x p i resp last word s y is)
+                ∙ ap (λ v. word == (if is_line_read_transaction y then word_of v (transfers past y.port y.id) else 0)) (replied y is line)
+          ]

@@ -8,6 +8,7 @@ ghost use Rattle.ace_event.specs.declared.header.Header.{Header};
 ghost use Rattle.ace_model.specs.Trace.{Trace, implies, is_none_or, is_some_and};
 ghost use Rattle.ace_model.specs.Kinds.{may_be_shared, is_read_not_shared_dirty, is_make_unique};
 ghost use Rattle.ace_model.specs.Copies.{word_of, is_line_read_transaction};
+ghost use Rattle.ace_model.specs.Transactions.{read_kind};
 ghost use Rattle.ace_model.specs.ReadRules.{same_upper_bits, k19, k20, k23};
 ghost use Rattle.ace_model.specs.Shares.{k18_line};
 ghost use Rattle.ace_lineck.specs.Holders.{holder_at};
