@@ -136,3 +136,154 @@ module _ (h : Header) (past : Trace) (t : Target) (x : LineRecord) (p i resp : �
                 ap (λ n. word == (if is_line_read_transaction y then word_of (reply_kept x.grant x.memory) n else 0)) (read-count h past t x p i resp last word s y is)
                 ∙ ap (λ v. word == (if is_line_read_transaction y then word_of v (transfers past y.port y.id) else 0)) (replied y is line)
           ]
+
+  -- K19
+  module _ (kept : k18_line h past (R p i resp last word) ≡ true) where
+    line-stands : (y : Transaction) → outstanding h past p Read i ≡ Some y → is_line y ≡ true → granted h past y.addr ≡ Some y
+    line-stands y o line =
+        granted_at h past s.accepted p Read i y o
+        (and_parts (is_granted h past y) _ (and_parts (is_granted h past y && _) _ (implies-at (is_line y) (may_transfer h past y resp) (is_none_or-at (outstanding h past p Read i) _ y kept o) line)).0).0
+
+    passed-for : (y : Transaction) → outstanding h past p Read i ≡ Some y → has_passed_for x.grant y ≡ has_passed_data h past y
+    passed-for y o =
+        elim (cases_Bool (is_line y)) [
+          | inr n ↦
+              let none : has_passed_data h past y ≡ false = false_from_ne_true (has_passed_data h past y) (λ t.
+              let is = (and_parts (is_granted h past y) _ (and_parts (is_granted h past y && _) _ t).0).0 in
+              let on = ((accepted_holds h past s.accepted).grants y.addr y (granted_at h past s.accepted p Read i y o is)).1 in
+              let line = (and_parts (is_line y) _ on).0 in cc) in
+              rw n (sym none)
+          | inl line ↦ rw line (of x.grant (s.line y.addr (read-line h past t x p i resp last word s y o line)).grant (line-stands y o line))
+        ]
+      where
+        of : (g : Option Grant) → GrantStands h past y.addr g → granted h past y.addr ≡ Some y → is_some_and g (λ v. is_its v y && has_passed v) ≡ has_passed_data h past y
+        of None f stands = let bad : None ≡ Some y = sym f ∙ stands in cc
+        of (Some g) f stands =
+            let one : g.transaction ≡ y = Some-injective g.transaction y (sym f.granted ∙ stands) in
+            let own : is_its g y ≡ true = eq-eqb g.transaction.place y.place (ap (λ (v : Transaction). v.place) one) in
+            rw own (passed-law h past s.accepted y.addr g f ∙ ap (has_passed_data h past) one)
+
+    shared-for : (y : Transaction) → outstanding h past p Read i ≡ Some y → is_line y ≡ true → is_shared_under x.grant ≡ has_sharer h past y.addr
+    shared-for y o line = of x.grant (s.line y.addr (read-line h past t x p i resp last word s y o line)).grant
+      where
+        of : (g : Option Grant) → GrantStands h past y.addr g → is_shared_under g ≡ has_sharer h past y.addr
+        of None f = let bad : None ≡ Some y = sym f ∙ line-stands y o line in cc
+        of (Some g) f = f.shared
+
+    kinds-for : (y : Transaction) → outstanding h past p Read i ≡ Some y → (o : Option ArKind) → read_kind y ≡ o
+        → is_none_or o (fits_shared h (is_shared_under x.grant) resp y) ≡ is_none_or o (fits_kind h past y resp)
+    kinds-for y out None is = refl
+    kinds-for y out (Some k) is =
+        elim (cases_Bool (may_be_shared k)) [
+          | inr n ↦ rw n (same (is_ace h y.port) (is_shared_under x.grant) (has_sharer h past y.addr))
+          | inl may ↦
+              ap (λ b. (implies (is_shared resp) (may_be_shared k) && not ((is_read_not_shared_dirty k && passes_dirty resp) && is_shared resp)) && implies ((is_ace h y.port && may_be_shared k) && b) (is_shared resp))
+              (shared-for y out (kind-line y k is (shared-line k may)))
+        ]
+      where
+        same : (ace b d : Bool) → ((implies (is_shared resp) false && not ((is_read_not_shared_dirty k && passes_dirty resp) && is_shared resp)) && implies ((ace && false) && b) (is_shared resp))
+            ≡ ((implies (is_shared resp) false && not ((is_read_not_shared_dirty k && passes_dirty resp) && is_shared resp)) && implies ((ace && false) && d) (is_shared resp))
+        same true b d = refl
+        same false b d = refl
+
+    first-for : (y : Transaction) → outstanding h past p Read i ≡ Some y
+        → (if (progress_of h past y).transfers == 0 then true else same_upper_bits resp (progress_of h past y).response) ≡ is_none_or (first_resp past y.port y.id) (same_upper_bits resp)
+    first-for y o =
+        let reads = ap is_read (outstanding-name h past p Read i y o).chan in
+        rw reads (by (first_resp past y.port y.id) (first-none past y.port y.id))
+      where
+        by : (r : Option ℕ) → (transfers past y.port y.id == 0) ≡ is_none r
+            → (if transfers past y.port y.id == 0 then true else same_upper_bits resp (unwrap_or r 0)) ≡ is_none_or r (same_upper_bits resp)
+        by None none = rw none refl
+        by (Some v) none = rw none refl
+
+    pub k19-law : is_none_or t.transaction (λ y. fits_bits h (has_passed_for x.grant y.transaction) (is_shared_under x.grant) resp y) ≡ k19 h past (R p i resp last word)
+    k19-law = ap (λ (v : Target). is_none_or v.transaction (λ y. fits_bits h (has_passed_for x.grant y.transaction) (is_shared_under x.grant) resp y)) s.target ∙ by (outstanding h past p Read i) refl
+      where
+        by : (o : Option Transaction) → outstanding h past p Read i ≡ o
+            → is_none_or (option_map (progress_of h past) o) (λ y. fits_bits h (has_passed_for x.grant y.transaction) (is_shared_under x.grant) resp y) ≡ is_none_or o (has_upper_bits h past resp)
+        by None is = refl
+        by (Some y) is =
+            ap (λ b. ((implies (passes_dirty resp) b && is_none_or (read_kind y) (fits_shared h (is_shared_under x.grant) resp y)) && implies (passes_dirty resp || is_shared resp) (is_ace h y.port))
+                && (if (progress_of h past y).transfers == 0 then true else same_upper_bits resp (progress_of h past y).response)) (passed-for y is)
+            ∙ ap (λ b. ((implies (passes_dirty resp) (has_passed_data h past y) && b) && implies (passes_dirty resp || is_shared resp) (is_ace h y.port))
+                && (if (progress_of h past y).transfers == 0 then true else same_upper_bits resp (progress_of h past y).response)) (kinds-for y is (read_kind y) refl)
+            ∙ ap (λ b. ((implies (passes_dirty resp) (has_passed_data h past y) && is_none_or (read_kind y) (fits_kind h past y resp)) && implies (passes_dirty resp || is_shared resp) (is_ace h y.port)) && b) (first-for y is)
+
+-- K23
+module _ (h : Header) (past : Trace) (t : Target) (x : LineRecord) (p : ℕ) (st : LineState) (s : IsNext h past (Rk p st) t x) where
+  rk-ace : is_ace h p ≡ true
+  rk-ace = (and_parts _ (is_ace h p) s.port).1
+
+  shared-first : (o : Option ℕ) → is_shared (unwrap_or o 0) ≡ is_some_and o is_shared
+  shared-first None = refl
+  shared-first (Some r) = refl
+
+  passes-first : (o : Option ℕ) → passes_dirty (unwrap_or o 0) ≡ is_some_and o passes_dirty
+  passes-first None = refl
+  passes-first (Some r) = refl
+
+  -- an exclusive store has a line
+  failed-line : (y : Transaction) → is_line y ≡ false → has_failed past y ≡ false
+  failed-line y n =
+      false_from_ne_true (has_failed past y) (λ fails.
+      let store = (and_parts (is_exclusive_store y) _ fails).0 in
+      let k = is_some_and-is (read_kind y) is_clean_unique (and_parts y.lock (is_some_and (read_kind y) is_clean_unique) store).1 in
+      let line = kind-line y k.0 k.1 (clean_unique-line k.0 k.2) in cc)
+
+  pub k23-law : (failed : Bool) → IsFailure h past t failed → is_none_or t.transaction (ends_kept failed (holder_at x.holders.items p).state st) ≡ k23 h past (Rk p st)
+  k23-law failed fails =
+      let ace = rk-ace in
+      ap (λ (v : Target). is_none_or v.transaction (ends_kept failed (holder_at x.holders.items p).state st)) s.target
+      ∙ ap (λ b. is_none_or (option_map (progress_of h past) (if b then acknowledged past p Read else None)) (ends_kept failed (holder_at x.holders.items p).state st)) ace
+      ∙ by (acknowledged past p Read) refl
+    where
+      end : (y : Transaction) → acknowledged past p Read ≡ Some y → (k : ArKind) → read_kind y ≡ Some k
+          → (ends_read k (if is_line y then (holder_at x.holders.items p).state else I) (is_shared (progress_of h past y).response) (passes_dirty (progress_of h past y).response) (is_line y && failed) st
+              && implies (is_make_unique k) (progress_of h past y).stored) ≡ is_end h past y st k
+      end y is k kind =
+          let n = acknowledged_is past p Read y is in
+          let e = ends h past p st (accepted_holds h past s.accepted) s.port (ap is_some n.next) in
+          let one : e.ended_one ≡ y = Some-injective e.ended_one y (sym e.is ∙ is) in
+          let port : y.port ≡ p = ap (λ (v : Transaction). v.port) (sym one) ∙ e.port in
+          let reads = (read_writes_none y k kind).1 in
+          let out : outstanding h past p Read e.id ≡ Some y = e.out ∙ ap (λ v. Some v) one in
+          let some = full_some past p e.id e.ended_one e.full in
+          let held : (if is_line y then (holder_at x.holders.items p).state else I) ≡ held_of h past y = elim (cases_Bool (is_line y)) [
+            | inr f ↦ rw f refl
+            | inl line ↦
+                let on : t.line ≡ Some y.addr = on_line y is line in
+                rw line ((s.line y.addr on).holders.state p ∙ ap (λ v. state_of h past v y.addr) (sym port))
+          ] in
+          let failed_is : (is_line y && failed) ≡ has_failed past y = elim (cases_Bool (is_line y)) [
+            | inr f ↦ rw f (sym (failed-line y f))
+            | inl line ↦
+                let on : t.line ≡ Some y.addr = on_line y is line in
+                let stands = under_way h past s.accepted p e.id y out line some in
+                rw line (fails y.addr on ∙ ap (λ o. is_some_and o (has_failed past)) stands)
+          ] in
+          let response : (progress_of h past y).response ≡ unwrap_or (first_resp past y.port y.id) 0 = rw reads refl in
+          let stored : (progress_of h past y).stored ≡ has_store h past y.port y.id = rw reads refl in
+          ap (λ v. ends_read k v (is_shared (progress_of h past y).response) (passes_dirty (progress_of h past y).response) (is_line y && failed) st && implies (is_make_unique k) (progress_of h past y).stored) held
+          ∙ ap (λ v. ends_read k (held_of h past y) v (passes_dirty (progress_of h past y).response) (is_line y && failed) st && implies (is_make_unique k) (progress_of h past y).stored)
+          (ap is_shared response ∙ shared-first (first_resp past y.port y.id))
+          ∙ ap (λ v. ends_read k (held_of h past y) (is_some_and (first_resp past y.port y.id) is_shared) v (is_line y && failed) st && implies (is_make_unique k) (progress_of h past y).stored)
+          (ap passes_dirty response ∙ passes-first (first_resp past y.port y.id))
+          ∙ ap (λ v. ends_read k (held_of h past y) (is_some_and (first_resp past y.port y.id) is_shared) (is_some_and (first_resp past y.port y.id) passes_dirty) v st && implies (is_make_unique k) (progress_of h past y).stored) failed_is
+          ∙ ap (λ v. ends_read k (held_of h past y) (is_some_and (first_resp past y.port y.id) is_shared) (is_some_and (first_resp past y.port y.id) passes_dirty) (has_failed past y) st && implies (is_make_unique k) v) stored
+        where
+          on_line : (y : Transaction) → acknowledged past p Read ≡ Some y → is_line y ≡ true → t.line ≡ Some y.addr
+          on_line y is line =
+              let ace = rk-ace in
+              let there : line_in h past (Rk p st) ≡ Some y.addr = rw ace (line-transaction h past (acknowledged past p Read) y.addr (rw is (and_from _ _ line (eq-eqb y.addr y.addr refl)))) in
+              ap (λ (v : Target). v.line) s.target ∙ there
+
+      kinds : (y : Transaction) → acknowledged past p Read ≡ Some y → (o : Option ArKind) → read_kind y ≡ o
+          → is_none_or o (λ k. ends_read k (if is_line y then (holder_at x.holders.items p).state else I) (is_shared (progress_of h past y).response) (passes_dirty (progress_of h past y).response) (is_line y && failed) st
+              && implies (is_make_unique k) (progress_of h past y).stored) ≡ is_none_or o (is_end h past y st)
+      kinds y is None kind = refl
+      kinds y is (Some k) kind = end y is k kind
+
+      by : (o : Option Transaction) → acknowledged past p Read ≡ o → is_none_or (option_map (progress_of h past) o) (ends_kept failed (holder_at x.holders.items p).state st) ≡ is_none_or o (ends_well h past st)
+      by None is = refl
+      by (Some y) is = kinds y is (read_kind y) refl

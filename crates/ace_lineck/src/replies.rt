@@ -170,10 +170,10 @@ fn has_bits(kept: &LineRecord, header: &Header, target: &Target, resp: u8) -> bo
     }
 }
 
-/// K19, of an R.
+/// K19, of an R that keeps the part of K18 that looks at the line.
 pub fn keeps_bits(kept: &LineRecord, header: &Header, target: &Target, resp: u8) -> bool
     ensures { (past : Trace) (p i : ℕ) (last : Bool) (word : ℕ) → IsNext header.now past (R p i resp last word) target.now kept.now
-        → result ≡ k19 header.now past (R p i resp last word) }
+        → k18_line header.now past (R p i resp last word) ≡ true → result ≡ k19 header.now past (R p i resp last word) }
 {
     has_bits(kept, header, target, resp)
 }
