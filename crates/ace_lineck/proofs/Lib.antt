@@ -13,4 +13,5 @@ pub mod KnownLines
 pub mod AllLines
 pub mod Received
 pub mod GrantLaws
+pub mod ReplyLaws
 pub mod Judging

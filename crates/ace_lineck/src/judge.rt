@@ -11,6 +11,7 @@ ghost use Rattle.ace_lineck.specs.Kept.{IsFailure};
 
 use crate::grant_rules::{keeps_grant, keeps_snoop, keeps_transfer};
 use crate::record::LineRecord;
+use crate::replies::{keeps_bits, keeps_read_end, keeps_reply};
 use crate::rules::{
     keeps_answer, keeps_hold, keeps_load, keeps_sent, keeps_silence, keeps_start, keeps_store,
     keeps_update, keeps_use, keeps_word, keeps_write_end, keeps_written,
@@ -67,11 +68,20 @@ pub fn judge(
             unless(keeps_answer(kept, target, port, resp, st), 15, last)
         }
         Event::Cd { port, word, .. } => unless(keeps_sent(kept, target, port, word), 17, None),
-        Event::R { resp, .. } => unless(
+        Event::R { resp, word, .. } => {
+            let last = unless(keeps_reply(kept, target, word), 20, None);
+            let next = unless(keeps_bits(kept, header, target, resp), 19, last);
+            unless(
                 keeps_transfer(kept, header, target, failed, resp),
                 18,
-                None,
-            ),
+                next,
+            )
+        }
+        Event::Rk { port, st } => unless(
+            keeps_read_end(kept, target, failed, port, st),
+            23,
+            None,
+        ),
         Event::B { .. } => unless(keeps_written(target), 26, None),
         Event::Wk { port, st } => unless(keeps_write_end(kept, target, port, st), 28, None),
         Event::S { port, st, .. } => unless(keeps_silence(kept, target, port, st), 29, None),

@@ -11,6 +11,7 @@ mod kinds;
 mod lines;
 mod memory;
 mod record;
+mod replies;
 mod rules;
 mod stages;
 mod step;

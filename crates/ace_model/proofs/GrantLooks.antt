@@ -23,5 +23,3 @@ pub mod Quiet
 pub mod Answered
 -- how far the granted transaction has come
 pub mod Progress
--- the words that a read has had are those of its reply
-pub mod Replied

@@ -48,3 +48,17 @@ returns-in-L c past s f =
     ∙ ruled c.keeps_hold.result (k30 h past ev) 30 c.unless-last-in-L.result (if k31 h past ev then None else Some 31) (c.keeps_hold.ensures h past e.addr e.w e.x e.word c.args.target.now step)
     (λ kept. c.unless-last-in-L.ensures ∙ ruled c.keeps_load.result (k31 h past ev) 31 None None (c.keeps_load.ensures h past e.addr e.x c.args.target.now step) (λ kept. refl))
     ∙ ap (least_of line_rules h past) (sym e.is)
+
+pub returns-in-R : goal.returns-in-R
+returns-in-R c past s f =
+    let e = c.in-R in
+    let h = c.args.header.now in
+    let ev = R e.port e.id e.resp e.last e.word in
+    let step : IsNext h past ev c.args.target.now c.args.kept.now = subst (λ v. IsNext h past v c.args.target.now c.args.kept.now) e.is s in
+    c.unless-in-R.ensures
+    ∙ ruled c.keeps_transfer.result (k18_line h past ev) 18 c.unless-next.result (if k19 h past ev then if k20 h past ev then None else Some 20 else Some 19)
+    (c.keeps_transfer.ensures past e.port e.id e.last e.word step f)
+    (λ due. c.unless-next.ensures
+        ∙ ruled c.keeps_bits.result (k19 h past ev) 19 c.unless-last-in-R.result (if k20 h past ev then None else Some 20) (c.keeps_bits.ensures past e.port e.id e.last e.word step due)
+        (λ kept. c.unless-last-in-R.ensures ∙ ruled c.keeps_reply.result (k20 h past ev) 20 None None (c.keeps_reply.ensures h past e.port e.id e.resp e.last step due) (λ kept. refl)))
+    ∙ ap (least_of line_rules h past) (sym e.is)
