@@ -9,3 +9,9 @@ pub mod GrantFrame
 pub mod GrantSteps
 pub mod GrantServes
 pub mod GrantHear
+pub mod KnownLines
+pub mod AllLines
+pub mod Received
+pub mod GrantLaws
+pub mod ReplyLaws
+pub mod Judging

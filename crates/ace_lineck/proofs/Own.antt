@@ -119,7 +119,7 @@ make_unique-line : (k : ArKind) → is_make_unique k ≡ true → is_line_read k
 make_unique-line read.MakeUnique e = refl
 make_unique-line _ e = cc
 
-make_unique-on : (x : Transaction) (l : ℕ) → is_make_unique_on x l ≡ true → is_on x l ≡ true
+pub make_unique-on : (x : Transaction) (l : ℕ) → is_make_unique_on x l ≡ true → is_on x l ≡ true
 make_unique-on x l t =
     let b = and_parts (is_some_and (read_kind x) is_make_unique) (nat_eq x.addr l) t in
     let k = is_some_and-is (read_kind x) is_make_unique b.0 in

@@ -39,7 +39,7 @@ abbrev pub may_start_of : Transaction → LineState → Bool
 may_start_of y held = implies (is_line y) (is_none_or (read_kind y) (λ k. starts_read k held) && is_none_or (write_kind y) (λ k. starts_write k held))
 
 -- the line of an event that issues a transaction
-issue-line : (h : Header) (past : Trace) (e : Event) (y : Transaction) → issued (length past) e ≡ Some y → line_in h past e ≡ (if is_line y then Some y.addr else None)
+pub issue-line : (h : Header) (past : Trace) (e : Event) (y : Transaction) → issued (length past) e ≡ Some y → line_in h past e ≡ (if is_line y then Some y.addr else None)
 issue-line h past (Ar p i addr snoop dom bar lock) y new = ap (λ (v : Transaction). if is_line v then Some v.addr else None) (Some-injective _ y new)
 issue-line h past (Aw p i addr snoop dom bar) y new = ap (λ (v : Transaction). if is_line v then Some v.addr else None) (Some-injective _ y new)
 issue-line h past e y new = cc
