@@ -4,3 +4,4 @@ pub mod Results
 pub mod Monitors
 pub mod Events
 pub mod Barriers
+pub mod Messages

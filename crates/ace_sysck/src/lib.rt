@@ -4,6 +4,8 @@
 mod barriers;
 mod events;
 mod kinds;
+mod messages;
 mod monitors;
 mod registrations;
 mod results;
+mod words;
