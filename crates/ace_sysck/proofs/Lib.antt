@@ -12,3 +12,5 @@ pub mod BarrierRules
 pub mod BarrierAnswers
 pub mod BarrierSteps
 pub mod MessageSteps
+pub mod Unanswered
+pub mod PartLaws
