@@ -14,3 +14,5 @@ pub mod BarrierSteps
 pub mod MessageSteps
 pub mod Unanswered
 pub mod PartLaws
+pub mod InboxSteps
+pub mod InboxRules

@@ -5,3 +5,4 @@ pub mod Monitors
 pub mod Events
 pub mod Barriers
 pub mod Messages
+pub mod Inboxes

@@ -3,6 +3,7 @@
 
 mod barriers;
 mod events;
+mod inboxes;
 mod kinds;
 mod messages;
 mod monitors;
