@@ -16,3 +16,4 @@ pub mod Unanswered
 pub mod PartLaws
 pub mod InboxSteps
 pub mod InboxRules
+pub mod InboxMoves

@@ -27,7 +27,7 @@ pub record Waits (past : Trace) (p : ℕ) (f : Transaction) : Type 0 where
   pub part : is_message_part f ≡ true
   pub first : is_second_part past f ≡ false
 
-waits-old : (e : Event) (past : Trace) (p : ℕ) (f : Transaction) → Waits past p f → Waits (e ∷ past) p f
+pub waits-old : (e : Event) (past : Trace) (p : ℕ) (f : Transaction) → Waits past p f → Waits (e ∷ past) p f
 waits-old e past p f w = record {
   there = issued-old e past f w.there;
   port = w.port;
@@ -171,7 +171,7 @@ forwarded-length (e ∷ past) q = go (forwarded-length past q) (snoop_at (length
         ∙ sym (length-append (snoops_of past q) (s ∷ []))
 
 -- an accepted AC to the port
-forwards-kind : (h : Header) (past : Trace) (e : Event) (q : ℕ) (s : Snoop) → IsAccepted h (e ∷ past) → snoop_at (length past) e q ≡ Some s
+pub forwards-kind : (h : Header) (past : Trace) (e : Event) (q : ℕ) (s : Snoop) → IsAccepted h (e ∷ past) → snoop_at (length past) e q ≡ Some s
     → is_some (forwards (next_after past q (forwarded past q)) s) ≡ is_some_and (ac_kind_of s.snoop) is_message_snoop
 forwards-kind h past (Ac p addr snoop) q s accepted is = by (cases_Bool (is_some_and (ac_kind_of s.snoop) is_message_snoop))
   where

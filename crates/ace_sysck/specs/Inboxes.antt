@@ -3,6 +3,7 @@ use Rattle.std.specs.Prelude.{ℕ, ◌≡◌, ◌≤◌, ◌<◌, ◌+◌, ◌-�
 use Rattle.std.specs.List.{list_any}
 use Rattle.std.specs.Option.{option_to_list}
 use Rattle.std.specs.VecDeque.{deque_capacity}
+use Rattle.ace_codes.specs.Snoops.{ac_kind_of}
 use Rattle.ace_codes.specs.declared.kind.SnoopKind.{SnoopKind}
 use Rattle.ace_event.specs.declared.event.Event.{Event}
 use Rattle.ace_event.specs.declared.header.Header.{Header}
@@ -78,6 +79,31 @@ abbrev pub SendsAll : ℕ → List Part → Inboxes → Inboxes → Type 0
 SendsAll sender sent s n =
     (q : ℕ) (b : Inbox) → slice_get s.ports.items q ≡ Some b
     → (c : Inbox) × (slice_get n.ports.items q ≡ Some c) × Receives (sent_to q sender sent) b c
+
+-- one more part of the port is forwarded, where there is one
+pub record ForwardsTo (p : ℕ) (s n : Inboxes) : Type 0 where
+  pub size : length n.ports.items ≡ length s.ports.items
+  pub one : (b : Inbox) → slice_get s.ports.items p ≡ Some b → (c : Inbox) × (slice_get n.ports.items p ≡ Some c) × (c.parts ≡ b.parts)
+      × (b.forwarded < length b.parts.items → c.forwarded ≡ b.forwarded + 1)
+  pub others : (k : ℕ) → (k ≡ p → ⊥) → slice_get n.ports.items k ≡ slice_get s.ports.items k
+
+-- the first part of the port is gone
+pub record AnswersFirst (p : ℕ) (s n : Inboxes) : Type 0 where
+  pub size : length n.ports.items ≡ length s.ports.items
+  pub one : (b : Inbox) → slice_get s.ports.items p ≡ Some b → (c : Inbox) × (slice_get n.ports.items p ≡ Some c) × (c.parts.items ≡ drop 1 b.parts.items)
+      × (c.forwarded ≡ b.forwarded - 1) × (deque_capacity c.parts ≡ deque_capacity b.parts)
+  pub others : (k : ℕ) → (k ≡ p → ⊥) → slice_get n.ports.items k ≡ slice_get s.ports.items k
+
+abbrev pub is_sync_part : Part → Bool
+is_sync_part p = p.sync
+
+-- the first part of the inbox is a Sync
+abbrev pub first_is_sync : Inbox → Bool
+first_is_sync b = is_some_and (slice_get b.parts.items 0) is_sync_part
+
+-- the snoop of the target is an AC DVM Message
+abbrev pub answers_message : Target → Bool
+answers_message t = is_some_and t.snoop (λ s. is_some_and (ac_kind_of s.snoop) is_message_snoop)
 
 -- one of the parts is at the place
 abbrev pub has_place : List Part → ℕ → Bool

@@ -3,10 +3,10 @@
 ghost use Rattle.std.specs.Prelude.{◌≡◌, ◌≤◌, ◌+◌, ◌++◌, ◌∷◌, [], length, slice_get, IfOk};
 ghost use Rattle.std.specs.Option.{option_to_list};
 ghost use Rattle.std.specs.VecDeque.{deque_capacity};
-ghost use Rattle.ace_sysck.specs.Inboxes.{parts_sent, sent_list, Receives, forwards_in, has_place};
+ghost use Rattle.ace_sysck.specs.Inboxes.{parts_sent, sent_list, Receives, forwards_in, has_place, answers_message};
 
 use crate::events::begun_in;
-use crate::kinds::{is_message_part, is_message_snoop};
+use crate::kinds::{is_ace, is_message_part, is_message_snoop};
 use crate::messages::PortMessages;
 use crate::words::{has_second, is_sync_word};
 use ace_codes::{SnoopKind, read_ac};
@@ -135,9 +135,12 @@ impl Inboxes {
     ghost use Rattle.ace_event.specs.declared.header.Header.{Header};
     ghost use Rattle.ace_model.specs.Transactions.{is_ace};
     ghost use Rattle.ace_model.specs.OrderRules.{k36};
-    ghost use Rattle.ace_model.specs.Messages.{next_part};
+    ghost use Rattle.std.specs.Prelude.{not, ◌||◌};
+    ghost use Rattle.ace_model.specs.Trace.{implies, is_some_and};
+    ghost use Rattle.ace_model.specs.Grants.{each_port};
+    ghost use Rattle.ace_model.specs.Messages.{is_other_ace};
     ghost use Rattle.ace_portck.specs.Targets.{Recording, after};
-    ghost use Rattle.ace_sysck.specs.Inboxes.{InboxesStand, MayAskInboxes, MayHearInboxes, SendsAll, SendsOne, sent_list, awaits, next_in, part_of};
+    ghost use Rattle.ace_sysck.specs.Inboxes.{InboxesStand, MayAskInboxes, MayHearInboxes, SendsAll, SendsOne, ForwardsTo, AnswersFirst, first_is_sync, sent_list, awaits, next_in, part_of};
 
     /// The inboxes of the empty trace, of so many ports. Each has room for a part under each identifier of each port.
     pub fn new(alloc: Global, ports: u8) -> Result<Inboxes, AllocError>
@@ -193,6 +196,18 @@ impl Inboxes {
         }
     }
 
+    /// Every other ACE port has answered the part, which doesn't wait for its second.
+    pub fn is_answered_by_all(&self, header: &Header, x: &Transaction, waiting: bool) -> bool
+        ensures { result ≡ each_port header.now.ports (λ q. implies (is_other_ace header.now x.now.port q) (not (waiting || awaits self.now q x.now.place))) }
+    {
+        let mut all = true;
+        for q in 0..header.ports {
+            let other = is_ace(header, q) && q != x.port;
+            all = (!other || !(waiting || self.awaits(q, x.place))) && all;
+        }
+        all
+    }
+
     /// Sends the parts to each port but the sender.
     fn send(&mut self, sender: u8, sent: &Sent)
         ensures size { length self.new.ports.items ≡ length self.old.ports.items }
@@ -213,5 +228,79 @@ impl Inboxes {
         if q < self.ports.len() {
             receive(&mut self.ports[q], sent);
         }
+    }
+
+    /// An AC DVM Message forwards the next part to the port.
+    fn forward(&mut self, port: u8)
+        ensures { ForwardsTo port self.old self.new }
+    {
+        let p = port as usize;
+        if p < self.ports.len() {
+            let inbox = &mut self.ports[p];
+            if inbox.forwarded < inbox.parts.len() {
+                inbox.forwarded += 1;
+            }
+        }
+    }
+
+    /// The port answers the first of its parts.
+    fn answer(&mut self, port: u8)
+        ensures { AnswersFirst port self.old self.new }
+    {
+        let p = port as usize;
+        if p < self.ports.len() {
+            let inbox = &mut self.ports[p];
+            let _first = inbox.parts.pop_front();
+            inbox.forwarded = inbox.forwarded.saturating_sub(1);
+        }
+    }
+
+    /// The port's next CR answers a part that is a Sync: its first part is one.
+    pub fn answers_sync(&self, port: u8) -> bool
+        ensures { result ≡ is_some_and (slice_get self.now.ports.items port) first_is_sync }
+    {
+        match self.ports.get(port as usize) {
+            None => false,
+            Some(inbox) => match inbox.parts.front() {
+                None => false,
+                Some(part) => part.sync,
+            },
+        }
+    }
+
+    /// The inboxes after the event. `kept` is what was kept of the messages of a port that issues a part by it.
+    pub fn hear(&mut self, event: &Event, target: &Target, kept: &PortMessages)
+        ensures { (r : Recording) → MayHearInboxes r self.old event.now target.now kept.now → InboxesStand (after r event.now) self.new }
+    {
+        if let Some(x) = begun_in(event, target) {
+            if is_message_part(&x) {
+                let sent = parts_sent(kept, x);
+                self.send(x.port, &sent);
+            }
+        } else {
+            match *event {
+                Event::Ac { port, snoop, .. } => {
+                    if is_message_snoop(snoop) {
+                        self.forward(port);
+                    }
+                }
+                Event::Cr { port, .. } => {
+                    if answers_message(target) {
+                        self.answer(port);
+                    }
+                }
+                _ => {}
+            }
+        }
+    }
+}
+
+/// The snoop of the target is an AC DVM Message.
+fn answers_message(target: &Target) -> bool
+    ensures { result ≡ answers_message target.now }
+{
+    match target.snoop {
+        None => false,
+        Some(s) => is_message_snoop(s.snoop),
     }
 }

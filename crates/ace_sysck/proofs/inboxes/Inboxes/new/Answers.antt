@@ -25,5 +25,5 @@ loop-port-preserved c =
     let cap = k.capacity in
     record {
       len = ap length items ∙ omega (arith, more, len);
-      fresh = λ q b at. fresh_more c.loop-port.all.items c.loop-port.ports n i.fresh (record { empty = k.items; count = refl; room = omega (arith, cap) }) q b (ap (λ v. slice_get v q) (sym items) ∙ at);
+      fresh = λ q b at. fresh_more c.loop-port.all.items c.args.ports n i.fresh (record { empty = k.items; count = refl; room = omega (arith, cap) }) q b (ap (λ v. slice_get v q) (sym items) ∙ at);
     }
