@@ -10,7 +10,7 @@ use Rattle.std.proofs.lemmas.Option.{slice_get_within, slice_get-get_or}
 use Rattle.ace_event.specs.declared.event.Channel.TheVariants.{Read, Write}
 use Rattle.ace_model.specs.declared.snoops.Snoop.{Snoop}
 use Rattle.ace_model.specs.declared.transactions.Transaction.{Transaction}
-use Rattle.ace_model.proofs.Terms.{Header, Event, Ar, Aw, Ac, Cr, Trace, is_some_and, is_none_or, more, is_ace, is_read, read_kind, issued, outstanding, is_completed, is_message_part, is_message_snoop, ac_kind_of, is_sync, is_sync_word, has_second, first_waiting, parts_with, parts_in, parts_for, parts_among, forwarded, forwards, next_after, add_forwarded, answered_parts, has_answered, has_part, snoops_of, snoop_at, answers, answered, k1, k14, IsAccepted}
+use Rattle.ace_model.proofs.Terms.{Header, Event, Ar, Aw, Ac, Cr, Trace, at_point, is_some_and, is_none_or, more, is_ace, is_read, read_kind, issued, outstanding, is_completed, is_message_part, is_message_snoop, ac_kind_of, is_sync, is_sync_word, has_second, first_waiting, parts_with, parts_in, parts_for, parts_among, forwarded, forwards, next_after, add_forwarded, answered_parts, has_answered, has_part, snoops_of, snoop_at, answers, answered, k1, k14, IsAccepted}
 use Rattle.ace_model.specs.AddressRules.{may_have}
 use Rattle.ace_model.specs.Messages.{is_second_part}
 use Rattle.ace_model.specs.Trace.{port_of}
@@ -157,7 +157,7 @@ part_of-old e past z low =
     let same = at_point-before e past z.place (omega arith) in
     ap (λ (t : Trace). record { transaction = z; second = is_some (first_waiting t z.port); sync = is_message_part z && is_sync_word z.addr && not (is_some (first_waiting t z.port)) }) same
 
-map-old : (e : Event) (past : Trace) (zs : List Transaction) → All (IsBelow (length past)) zs → map (part_of (e ∷ past)) zs ≡ map (part_of past) zs
+pub map-old : (e : Event) (past : Trace) (zs : List Transaction) → All (IsBelow (length past)) zs → map (part_of (e ∷ past)) zs ≡ map (part_of past) zs
 map-old e past [] all = refl
 map-old e past (z ∷ zs) all =
     ap (λ v. v ∷ map (part_of (e ∷ past)) zs) (part_of-old e past z (All-head (IsBelow (length past)) z zs all))

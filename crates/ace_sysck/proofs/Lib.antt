@@ -17,3 +17,4 @@ pub mod PartLaws
 pub mod InboxSteps
 pub mod InboxRules
 pub mod InboxMoves
+pub mod InboxHears
