@@ -28,3 +28,4 @@ pub mod Coherent
 pub mod ExclusiveHolds
 pub mod BarrierHolds
 pub mod DvmHolds
+pub mod Plans
