@@ -11,3 +11,4 @@ pub mod Exclusives
 pub mod Barriers
 pub mod Dvm
 pub mod Coherence
+pub mod GrowingPlans

@@ -59,6 +59,44 @@ pub enum Op {
     Dvm2 { word: u32, second: u32 },
 }
 
+impl Op {
+    ghost use Rattle.std.specs.Prelude.{◌≡◌};
+    ghost use Rattle.ace_model.specs.Plans.{line_named, wants_no_snoop, is_lite_operation};
+
+    /// The address of the line that the operation names, where it names one.
+    pub fn line(self) -> Option<u32>
+        ensures { result ≡ line_named self }
+    {
+        match self {
+            Op::Ld { addr, .. } | Op::Ldx { addr, .. } => Some(addr),
+            Op::St { addr, .. } | Op::Stx { addr, .. } | Op::Fill { addr, .. } => Some(addr),
+            Op::Pf { addr, .. } | Op::Wb { addr } | Op::Wc { addr } => Some(addr),
+            Op::Ev { addr } | Op::We { addr } | Op::Ro { addr } | Op::Cs { addr } => Some(addr),
+            Op::Ci { addr } | Op::Mi { addr } | Op::Rn { addr } => Some(addr),
+            Op::Wu { addr, .. } | Op::Wlu { addr, .. } | Op::Wn { addr, .. } => Some(addr),
+            Op::Mb | Op::Sb | Op::Dvm { .. } | Op::Sync { .. } | Op::Dvm2 { .. } => None,
+        }
+    }
+
+    /// Whether it accesses its line without a snoop.
+    pub fn wants_no_snoop(self) -> bool
+        ensures { result ≡ wants_no_snoop self }
+    {
+        matches!(self, Op::Rn { .. } | Op::Wn { .. })
+    }
+
+    /// Whether an ACE-Lite port can be asked to do it.
+    pub fn is_for_lite(self) -> bool
+        ensures { result ≡ is_lite_operation self }
+    {
+        match self {
+            Op::Ro { .. } | Op::Cs { .. } | Op::Ci { .. } | Op::Mi { .. } | Op::Rn { .. } => true,
+            Op::Wu { .. } | Op::Wlu { .. } | Op::Wn { .. } | Op::Mb | Op::Sb => true,
+            _ => false,
+        }
+    }
+}
+
 /// An operation, and the port that does it.
 #[derive(Clone, Copy, Debug, PartialEq, Eq)]
 pub struct PlanOp {
@@ -209,7 +247,8 @@ impl PlanView {
     /// Puts the operation at the end, and takes one from the room. It takes no memory.
     pub fn push(&mut self, op: PlanOp)
         requires { self.old.room ≢ 0 }
-        ensures { self.new ≡ record { plan = longer self.old.plan op; room = self.old.room - 1 } }
+        ensures value { self.new ≡ record { plan = longer self.old.plan op; room = self.old.room - 1 } }
+        ensures few { length self.old.plan.operations < most_operations }
     {
         self.operations.push_reserved(op);
         self.room -= 1;

@@ -5,3 +5,4 @@ pub mod Grammar
 pub mod Reading
 pub mod Errors
 pub mod Generated
+pub mod Written

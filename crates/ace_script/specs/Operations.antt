@@ -15,7 +15,30 @@ use Rattle.ace_script.specs.Fields.{both, made, port_of, address_of, place_of, w
 abbrev pub Row : Type 0
 Row = List (List ℕ) → Result Op Reason
 
--- the operation words, each with the fields behind it
+-- the operation words, each with the fields behind it: those that name no line
+abbrev pub order_rows : List (List ℕ × Row)
+order_rows =
+    (codes "mb", λ fields. made (λ _. Mb) (no_field fields))
+    ∷ (codes "sb", λ fields. made (λ _. Sb) (no_field fields))
+    ∷ (codes "dvm", λ fields. made (λ word. Dvm word) (one_field lone_word_of fields))
+    ∷ (codes "sync", λ fields. made (λ word. Sync word) (one_field sync_word_of fields))
+    ∷ (codes "dvm2", λ fields. made (λ x. Dvm2 x.0 x.1) (two_fields first_word_of second_word_of fields))
+    ∷ []
+
+-- with those that bring no line into a cache
+abbrev pub uncached_rows : List (List ℕ × Row)
+uncached_rows =
+    (codes "ro", λ fields. made (λ a. Ro a) (one_field address_of fields))
+    ∷ (codes "cs", λ fields. made (λ a. Cs a) (one_field address_of fields))
+    ∷ (codes "ci", λ fields. made (λ a. Ci a) (one_field address_of fields))
+    ∷ (codes "mi", λ fields. made (λ a. Mi a) (one_field address_of fields))
+    ∷ (codes "rn", λ fields. made (λ a. Rn a) (one_field address_of fields))
+    ∷ (codes "wu", λ fields. made (λ x. Wu x.0 x.1.0 x.1.1) (three_fields address_of strobe_of line_of fields))
+    ∷ (codes "wlu", λ fields. made (λ x. Wlu x.0 x.1) (two_fields address_of line_of fields))
+    ∷ (codes "wn", λ fields. made (λ x. Wn x.0 x.1.0 x.1.1) (three_fields address_of strobe_of line_of fields))
+    ∷ order_rows
+
+-- with those of a cache: all of them
 abbrev pub rows : List (List ℕ × Row)
 rows =
     (codes "ld", λ fields. made (λ x. Ld x.0 x.1) (two_fields address_of place_of fields))
@@ -28,20 +51,7 @@ rows =
     ∷ (codes "wc", λ fields. made (λ a. Wc a) (one_field address_of fields))
     ∷ (codes "ev", λ fields. made (λ a. Ev a) (one_field address_of fields))
     ∷ (codes "we", λ fields. made (λ a. We a) (one_field address_of fields))
-    ∷ (codes "ro", λ fields. made (λ a. Ro a) (one_field address_of fields))
-    ∷ (codes "cs", λ fields. made (λ a. Cs a) (one_field address_of fields))
-    ∷ (codes "ci", λ fields. made (λ a. Ci a) (one_field address_of fields))
-    ∷ (codes "mi", λ fields. made (λ a. Mi a) (one_field address_of fields))
-    ∷ (codes "rn", λ fields. made (λ a. Rn a) (one_field address_of fields))
-    ∷ (codes "wu", λ fields. made (λ x. Wu x.0 x.1.0 x.1.1) (three_fields address_of strobe_of line_of fields))
-    ∷ (codes "wlu", λ fields. made (λ x. Wlu x.0 x.1) (two_fields address_of line_of fields))
-    ∷ (codes "wn", λ fields. made (λ x. Wn x.0 x.1.0 x.1.1) (three_fields address_of strobe_of line_of fields))
-    ∷ (codes "mb", λ fields. made (λ _. Mb) (no_field fields))
-    ∷ (codes "sb", λ fields. made (λ _. Sb) (no_field fields))
-    ∷ (codes "dvm", λ fields. made (λ word. Dvm word) (one_field lone_word_of fields))
-    ∷ (codes "sync", λ fields. made (λ word. Sync word) (one_field sync_word_of fields))
-    ∷ (codes "dvm2", λ fields. made (λ x. Dvm2 x.0 x.1) (two_fields first_word_of second_word_of fields))
-    ∷ []
+    ∷ uncached_rows
 
 abbrev pub by_row : Option Row → Row
 by_row None fields = Err P2

@@ -36,8 +36,8 @@ pub fn both<A: Drop, B: Drop>(
 }
 
 /// The number of a field of so many digits.
-#[tactic(auto, unfolding(crate::specs::Fields::number_of))]
-fn number(field: &[u8], count: usize) -> Result<u128, Reason>
+#[tactic(auto, using(crate::proofs::FieldsExact::digits_below), unfolding(crate::specs::Fields::number_of))]
+pub fn number(field: &[u8], count: usize) -> Result<u128, Reason>
     requires { count ≤ 32 }
     ensures value { result ≡ number_of count field.now }
     ensures bound { IfOk result (λ n. n < 16 ^ count) }

@@ -1,20 +1,25 @@
 //! Facts about the definitions, as contracts of functions that do nothing.
 
-ghost use Rattle.std.specs.Prelude.{◌≡◌, ◌≢◌, ◌≤◌, ◌⊎◌, ℕ, List, [], ◌∷◌, ◌++◌, codes, length, Result, Ok, Err};
+ghost use Rattle.std.specs.Prelude.{◌≡◌, ◌≢◌, ◌≤◌, ◌<◌, ◌⊎◌, ◌*◌, ◌^◌, ℕ, List, [], ◌∷◌, ◌++◌, codes, Ok, Err};
 ghost use Rattle.ace_codes.specs.declared.kind.ArKind.TheVariants as read;
 ghost use Rattle.ace_event.specs.declared.header.Header.{Header};
-ghost use Rattle.ace_event.specs.declared.line.Line.{Line};
-ghost use Rattle.ace_model.specs.declared.plans.Op.{Op};
-ghost use Rattle.ace_model.specs.declared.plans.Op.TheVariants.{Ld, Ldx, St, Stx, Fill, Pf, Wb, Wc, Ev, We, Ro, Cs, Ci, Mi, Rn, Wu, Wlu, Wn, Mb, Sb, Dvm, Sync, Dvm2};
+ghost use Rattle.ace_event.specs.Range.{IsAddress, IsWord, IsLine};
 ghost use Rattle.ace_model.specs.declared.plans.PlanOp.{PlanOp};
+ghost use Rattle.ace_model.specs.Plans.{Plan, IsRightAfter};
+ghost use Rattle.ace_model.specs.declared.plans.Op.TheVariants.{Ld, Ldx, St, Stx, Fill, Pf, Wb, Wc, Ev, We, Ro, Cs, Ci, Mi, Rn, Wu, Wlu, Wn, Mb, Sb, Dvm, Sync, Dvm2};
 ghost use Rattle.ace_model.specs.declared.plans.PolicyWord.TheVariants.{Keep, Eager, Mixed};
 ghost use Rattle.ace_script.specs.declared.reason.Reason.{Reason};
 ghost use Rattle.ace_script.specs.declared.reason.Reason.TheVariants.{P2, P3, P4, P5, P6, P8};
 ghost use Rattle.ace_script.specs.Text.{operation_text, plan_text};
 ghost use Rattle.ace_script.specs.Operations.{operation_of};
+ghost use Rattle.ace_script.specs.Grammar.{OpFits, OperationFits, PolicyFits, IsScript};
+ghost use Rattle.ace_script.specs.Reading.{Ending, Whole, Reads, HasBadHeader, HasReason};
+
+use ace_event::Line;
+use ace_model::{Op, PolicyWord};
 
 /// The texts of a plan's header, and of a line of each operation.
-#[tactic(auto, unfolding(Rattle::ace_event::specs::Text::hex_text))]
+#[tactic(auto, unfolding(ace_event::specs::Text::hex_text))]
 pub fn worked_texts()
     ensures header { plan_text (record { header = record { version = 1; ports = 4; ace = 7 }; ways = 12; policy = Mixed 42; operations = [] })
         ≡ codes "ACE SCRIPT 1" ++ 10 ∷ codes "PORTS AAAL" ++ 10 ∷ codes "CACHE 12" ++ 10 ∷ codes "POLICY mixed 000000000000002a" ++ 10 ∷ [] }
@@ -40,7 +45,7 @@ pub fn worked_texts()
     ensures ci { operation_text (record { port = 10; op = Ci 0x40 }) ≡ codes "a ci 00000040" }
     ensures mi { operation_text (record { port = 11; op = Mi 0x40 }) ≡ codes "b mi 00000040" }
     ensures rn { operation_text (record { port = 12; op = Rn 0x40 }) ≡ codes "c rn 00000040" }
-    ensures wu { operation_text (record { port = 13; op = Wu 0x40 0xf0 (record { words = 0 ∷ 0 ∷ 0 ∷ 0xa ∷ [] }) }) ≡ codes "d wu 00000040 00000000000000f0 0000000000000000000000000000000000000000000000000000000000000000000000000000000000000000000000000000000000000000000000000000000000000000000000000000000a" }
+    ensures wu { operation_text (record { port = 13; op = Wu 0x40 0xf0 (record { words = 0 ∷ 0 ∷ 0 ∷ 0xa ∷ [] }) }) ≡ codes "d wu 00000040 00000000000000f0 0000000000000000000000000000000000000000000000000000000000000000000000000000000000000000000000000000000000000000000000000000000a" }
     ensures wlu { operation_text (record { port = 14; op = Wlu 0x40 (record { words = 0 ∷ 0 ∷ 0 ∷ 0xa ∷ [] }) }) ≡ codes "e wlu 00000040 0000000000000000000000000000000000000000000000000000000000000000000000000000000000000000000000000000000000000000000000000000000a" }
     ensures wn { operation_text (record { port = 0; op = Wn 0x40 0x8000000000000001 (record { words = 0 ∷ 0 ∷ 0 ∷ 0xb ∷ [] }) }) ≡ codes "0 wn 00000040 8000000000000001 0000000000000000000000000000000000000000000000000000000000000000000000000000000000000000000000000000000000000000000000000000000b" }
     ensures mb { operation_text (record { port = 0; op = Mb }) ≡ codes "0 mb" }
@@ -52,7 +57,7 @@ pub fn worked_texts()
 
 /// Lines, given by their fields, behind no operation or behind one, of a script whose ports are one ACE port and one ACE-Lite
 /// port: an operation, or the least reason that applies.
-#[tactic(auto, unfolding(crate::specs::Operations::op_of, crate::specs::Fields::number_of, crate::specs::Fields::fetch_of, crate::specs::Fields::line_of, Rattle::ace_grammar::specs::Fields::digits_onto))]
+#[tactic(auto, unfolding(crate::specs::Operations::op_of, crate::specs::Fields::number_of, crate::specs::Fields::fetch_of, crate::specs::Fields::line_of, ace_grammar::specs::Fields::digits_onto))]
 pub fn worked_reasons()
     ensures read { operation_of (record { version = 1; ports = 2; ace = 1 }) [] (codes "0" ∷ codes "ld" ∷ codes "00000040" ∷ codes "3" ∷ []) ≡ Ok (record { port = 0; op = Ld 0x40 3 }) }
     ensures no_word { operation_of (record { version = 1; ports = 2; ace = 1 }) [] (codes "0" ∷ []) ≡ Err P2 }
@@ -77,3 +82,92 @@ pub fn worked_reasons()
     ensures other_line { operation_of (record { version = 1; ports = 2; ace = 1 }) (record { port = 0; op = Ld 0x40 0 } ∷ []) (codes "0" ∷ codes "rn" ∷ codes "00000080" ∷ []) ≡ Ok (record { port = 0; op = Rn 0x80 }) }
     ensures same_class { operation_of (record { version = 1; ports = 2; ace = 1 }) (record { port = 0; op = Rn 0x40 } ∷ []) (codes "1" ∷ codes "rn" ∷ codes "00000040" ∷ []) ≡ Ok (record { port = 1; op = Rn 0x40 }) }
 {}
+
+/// The same bytes read in one way: they have one plan and one ending, or a bad header with one line and one reason.
+pub fn one_reading()
+    ensures one { (bytes : List ℕ) (plan other : Plan) (end last : Ending) → Reads bytes plan end → Reads bytes other last
+        → (plan ≡ other) × (end ≡ last) }
+    ensures apart { (bytes : List ℕ) (plan : Plan) (end : Ending) (number : ℕ) (reason : Reason)
+        → Reads bytes plan end → ¬ HasBadHeader bytes number reason }
+    ensures one_bad { (bytes : List ℕ) (number line : ℕ) (reason other : Reason)
+        → HasBadHeader bytes number reason → HasBadHeader bytes line other → (number ≡ line) × (reason ≡ other) }
+{}
+
+/// Behind some operations of a script a line, without its line feed, is that of an operation that can stand there, or it has one
+/// reason. Of at most sixteen ports a line can name each.
+pub fn one_reason()
+    ensures some { (h : Header) (before : List PlanOp) (line : List ℕ)
+        → ((o : PlanOp) × IsRightAfter h before o × OperationFits o × (operation_text o ≡ line)) ⊎ ((reason : Reason) × HasReason h before line reason) }
+    ensures one { (h : Header) (before : List PlanOp) (line : List ℕ) (reason other : Reason)
+        → HasReason h before line reason → HasReason h before line other → reason ≡ other }
+    ensures apart { (h : Header) (before : List PlanOp) (line : List ℕ) (reason : Reason) (o : PlanOp)
+        → h.ports ≤ 16 → HasReason h before line reason → IsRightAfter h before o × OperationFits o → operation_text o ≢ line }
+{}
+
+/// The text of a plan reads as that plan.
+pub fn text_reads_back()
+    ensures { (plan : Plan) → IsScript plan → Reads (plan_text plan) plan Whole }
+{}
+
+fn address_fits(addr: u32)
+    ensures { IsAddress addr }
+{}
+
+fn word_fits(word: u128)
+    ensures { IsWord word }
+{}
+
+fn strobe_fits(strobe: u64)
+    ensures { strobe < 2 ^ 64 }
+{}
+
+fn line_fits(line: Line)
+    ensures { IsLine line }
+{
+    let [first, second, third, fourth] = line.words;
+    word_fits(first);
+    word_fits(second);
+    word_fits(third);
+    word_fits(fourth)
+}
+
+/// The types of the fields give the widths of addresses, words and strobes, and lines of four words.
+pub fn every_operation_fits(op: Op)
+    ensures { OpFits op }
+{
+    match op {
+        Op::Ld { addr, .. } | Op::Ldx { addr, .. } | Op::Pf { addr, .. } => address_fits(addr),
+        Op::Wb { addr } | Op::Wc { addr } | Op::Ev { addr } | Op::We { addr } => address_fits(addr),
+        Op::Ro { addr } | Op::Cs { addr } | Op::Ci { addr } => address_fits(addr),
+        Op::Mi { addr } | Op::Rn { addr } => address_fits(addr),
+        Op::St { addr, word, .. } | Op::Stx { addr, word, .. } => {
+            address_fits(addr);
+            word_fits(word)
+        }
+        Op::Fill { addr, line } | Op::Wlu { addr, line } => {
+            address_fits(addr);
+            line_fits(line)
+        }
+        Op::Wu { addr, strobe, line } | Op::Wn { addr, strobe, line } => {
+            address_fits(addr);
+            strobe_fits(strobe);
+            line_fits(line)
+        }
+        Op::Dvm { word } | Op::Sync { word } => address_fits(word),
+        Op::Dvm2 { word, second } => {
+            address_fits(word);
+            address_fits(second)
+        }
+        Op::Mb | Op::Sb => {}
+    }
+}
+
+/// The type of a policy's number gives its sixteen digits.
+pub fn every_policy_fits(policy: PolicyWord)
+    ensures { PolicyFits policy }
+{
+    match policy {
+        PolicyWord::Mixed(n) => strobe_fits(n),
+        _ => {}
+    }
+}

@@ -2,9 +2,18 @@
 #![tactic(auto)]
 
 mod error;
+mod fields;
+mod generate;
+mod header;
 pub mod laws;
+mod lines;
+mod operation;
+mod plan;
+mod put;
+mod read;
 mod reason;
 
 pub use ace_model::{Op, PlanOp, PlanView, PolicyWord};
 pub use error::PlanErr;
+pub use plan::Plan;
 pub use reason::Reason;

@@ -1,0 +1,11 @@
+-- What of a text was given to a sink, and what waits.
+use Rattle.std.specs.Prelude.{◌≡◌, ℕ, List, ◌++◌, Option}
+use Rattle.std.specs.Io.KnownBytes.{Appends}
+
+-- The text was given to a sink that held these bytes before, up to what waits.
+abbrev pub IsWaiting : Option (List ℕ) → Option (List ℕ) → List ℕ → List ℕ → Type 0
+IsWaiting before held waiting text = (front : List ℕ) × Appends before held front × (text ≡ front ++ waiting)
+
+-- A front of the text was given.
+abbrev pub GivesFront : Option (List ℕ) → Option (List ℕ) → List ℕ → Type 0
+GivesFront before held text = (rest : List ℕ) × IsWaiting before held rest text
