@@ -7,8 +7,11 @@ pub mod Holders
 pub mod Grants
 pub mod Values
 pub mod ReadsFollow
+pub mod GrantLooks
 pub mod Exclusives
 pub mod Barriers
 pub mod Dvm
+pub mod Outstanding
 pub mod Coherence
+pub mod Lines
 pub mod GrowingPlans

@@ -20,7 +20,8 @@ pub mod WriteRules
 pub mod CacheRules
 pub mod OrderRules
 pub mod Accepted
-pub mod Today
+pub mod Shares
+pub mod Lines
 pub mod Unique
 pub mod DirtyPlace
 pub mod ReadsFollow

@@ -73,7 +73,7 @@ module _ (h : Header) (past : Trace) where
       inl (rw writes written)
 
   -- what ends has begun, or may begin
-  ends_begun : (e : Event) → IsAccepted h (e ∷ past) → (l : ℕ) (x z : Transaction) (k : SnoopKind) → granted h past l ≡ Some x → snoop_of x ≡ Some k
+  pub ends_begun : (e : Event) → IsAccepted h (e ∷ past) → (l : ℕ) (x z : Transaction) (k : SnoopKind) → granted h past l ≡ Some x → snoop_of x ≡ Some k
       → ended h past e ≡ Some z → z.place ≡ x.place → (is_begun past x ≡ true) ⊎ MayBegin h past x
   ends_begun (R q j resp last word) a l x z k g c is same =
       let f = accepted_holds h past a.0 in

@@ -1,0 +1,368 @@
+-- What is kept of a grant after an event of its line.
+use Rattle.std.proofs.Common.{arith, ◌+◌, ◌*◌, ◌<◌, ◌≤◌, nat_le, ◌≡◌, ◌≢◌, ℕ, ◌/◌, ◌%◌, true, false, Bool, not, ◌&&◌, ◌||◌, ◌==◌, if◌then◌else◌, nat_eq, nat_lt, List, [], ◌∷◌, length, Option, Some, None, option_map, option_and_then, unwrap_or, refl, sym, ap, subst, ◌∙◌, inl, inr}
+use Rattle.std.proofs.lemmas.Bool.{false_from_ne_true, and_parts, and_from, cases_Bool, cases_eq, eqb-true, eq-eqb, ne_eqb, not-true, ltb-true, lt-ltb, lt-leb}
+use Rattle.ace_event.specs.declared.line.Line.{Line}
+use Rattle.ace_model.specs.declared.snoops.Snoop.{Snoop}
+use Rattle.ace_model.specs.declared.snoops.Answer.{Answer}
+use Rattle.ace_model.specs.declared.transactions.Transaction.{Transaction}
+use Rattle.ace_model.specs.Snoops.{data_beats}
+use Rattle.ace_model.specs.Grants.{is_short}
+use Rattle.ace_model.specs.Copies.{zero_line}
+use Rattle.ace_model.proofs.Terms.{Header, Trace, Channel, Read, Write, Event, Ar, Aw, W, R, Rk, B, Wk, Ac, Cr, Cd, G, M, S, L, D, Op, Mem, LineState, IsAccepted, is_some_and, newer, is_read, is_on, is_some_on, ended, outstanding}
+use Rattle.ace_model.proofs.Terms.{gives_line, granted, is_snoop_to, was_snooped, answered, answer_at, answer_of, is_snoop_on, snoops_a_line, is_shared, passes_dirty, transfers_data, first_sender, sender_at, data_answers, passer, passes, at_point, transfers, is_memory_write, has_memory_write, is_begun}
+use Rattle.ace_model.proofs.Terms.{copy_of, memory_of, copy_at_answer, memory_at_first_beat, given, has_sharer, answers_line}
+use Rattle.ace_model.proofs.Rules.Keeps.{accepted_keeps}
+use Rattle.ace_model.proofs.General.Options.{Some-injective, is_some_and-is, newer-none}
+use Rattle.ace_model.proofs.General.Booleans.{implies-at, then_of}
+use Rattle.ace_model.proofs.Grants.Pending.{snoops}
+use Rattle.ace_model.proofs.General.Ports.{found_passes}
+use Rattle.ace_model.proofs.Trace.Looks.{is_read-is, is_write-is, newest_on-cases, is_on-addr}
+use Rattle.ace_model.proofs.Holders.Law.{accepted_holds}
+use Rattle.ace_model.proofs.Grants.Stays.{Stays, granted_after}
+use Rattle.ace_model.proofs.Values.FullReads.{Transfer}
+use Rattle.ace_model.proofs.Values.Replies.{sender_sent, memory-before}
+use Rattle.ace_model.proofs.GrantLooks.Quiet.{Quiet, copy_at_answer-old}
+use Rattle.ace_model.proofs.GrantLooks.Answered.{the_answer, answering, answer-now, answer-other, copy-now, copy-other, sharer-now, passer-same, passer-now, sender-silent, sender-now}
+use Rattle.ace_model.proofs.GrantLooks.Progress.{Untouched, begun-stays, first_beat-stays, untouched, written-now, given_fresh}
+use Rattle.ace_portck.specs.Targets.{line_in, progress_of}
+use Rattle.ace_lineck.specs.declared.stages.Stage.{Stage}
+use Rattle.ace_lineck.specs.declared.stages.Stage.TheVariants.{Unsnooped, Unanswered, Sending, Done}
+use Rattle.ace_lineck.specs.declared.grant.Passed.{Passed}
+use Rattle.ace_lineck.specs.declared.grant.Grant.{Grant}
+use Rattle.ace_lineck.specs.Grants.{GrantFits, GrantStands, IsMoved, stage_at, stage_by, stage_of, passed_by, fetched, settled_reply}
+use Rattle.ace_lineck.proofs.OnLine.{on-transaction, on-snoop}
+use Rattle.ace_lineck.proofs.GrantFrame.{passed_at, stage-same, fits-stays, stages-stay, passed-stays, fetched-stays, reply-stays}
+use Rattle.ace_lineck.proofs.Bursts.{sent_few, short-apart, beat_of, short-before, whole-now, short-now}
+
+otherwise_of : {A : Type 0} → (b : Bool) (t u : A) → b ≡ false → (if b then t else u) ≡ u
+otherwise_of true t u e = cc
+otherwise_of false t u e = refl
+
+-- what hasn't begun has had no beat
+pub unfetched : (past : Trace) (x : Transaction) → is_begun past x ≡ false → fetched past x ≡ None
+unfetched past x unbegun =
+    elim (cases_Bool (is_read x.chan)) [
+      | inr writes ↦ rw writes refl
+      | inl reads ↦ let none : not (nat_eq (transfers past x.port x.id) 0) ≡ false = rw reads at unbegun in rw (reads, none) refl
+    ]
+
+moved_here : (q : ℕ) (x y : Stage) → nat_lt q 32 ≡ true → (if (q == q) && nat_lt q 32 then x else y) ≡ x
+moved_here q x y low = rw (eq-eqb q q (refl {a = q}), low) refl
+
+moved_there : (p q : ℕ) (x y : Stage) → p ≢ q → (if (p == q) && nat_lt p 32 then x else y) ≡ y
+moved_there p q x y apart = rw (ne_eqb p q apart) refl
+
+module _ (h : Header) (past : Trace) (l : ℕ) (g : Grant) (f : GrantFits h past l g) where
+  x : Transaction
+  x = g.transaction
+
+  -- an event that ends no transaction leaves the grant
+  pub stays-unended : (e : Event) → IsAccepted h (e ∷ past) → ended h past e ≡ None → Stays h past e l g.transaction
+  stays-unended e a none =
+      elim (granted_after h past e a l g.transaction f.granted) [
+        | inl stays ↦ stays
+        | inr ends ↦ let is = ends.1 in let bad : None ≡ Some ends.0 = sym none ∙ is in cc
+      ]
+
+  -- neither a transfer nor an M
+  abbrev pub serves : Event → Bool
+  serves (R p i resp last word) = true
+  serves (M p c i line) = true
+  serves e = false
+
+  pub untouched-idle : (e : Event) → IsAccepted h (e ∷ past) → serves e ≡ false → Untouched past e g.transaction
+  untouched-idle e a idle = untouched h past e a l g.transaction f.granted (λ reads t. beat e idle t) (write e idle)
+    where
+      beat : (d : Event) → serves d ≡ false → Transfer d g.transaction.port g.transaction.id → ⊥
+      beat (R p i resp last word) s t = cc
+      beat d s t = let is = t.is in cc
+
+      write : (d : Event) → serves d ≡ false → is_memory_write d g.transaction.port g.transaction.chan g.transaction.id ≡ false
+      write (M p c i line) s = cc
+      write d s = refl
+
+  -- an event that moves nothing under a grant, whatever its line
+  abbrev pub is_calm : Event → Bool
+  is_calm (Ac p addr snoop) = false
+  is_calm (Cr p resp st) = false
+  is_calm (Cd p last word) = false
+  is_calm (G p c i) = false
+  is_calm e = true
+
+  pub quiet-calm : (e : Event) → is_calm e ≡ true → Quiet past e l
+  quiet-calm e calm = record { gives = gives e calm; snoop = λ p. snoop e calm p; answer = λ p. answer e calm p; sender = sender e calm }
+    where
+      gives : (d : Event) → is_calm d ≡ true → gives_line past d l ≡ false
+      gives (G p c i) s = cc
+      gives d s = refl
+
+      snoop : (d : Event) → is_calm d ≡ true → (p : ℕ) → is_snoop_to d p l ≡ false
+      snoop (Ac q addr code) s p = cc
+      snoop d s p = refl
+
+      answer : (d : Event) → is_calm d ≡ true → (p : ℕ) → answer_at past d p l ≡ None
+      answer (Cr q resp st) s p = cc
+      answer d s p = refl
+
+      sender : (d : Event) → is_calm d ≡ true → sender_at past d l ≡ None
+      sender (Cr q resp st) s = cc
+      sender d s = refl
+
+  short-calm : (e : Event) → is_calm e ≡ true → (p : ℕ) (w : Answer) → is_short (e ∷ past) p w ≡ is_short past p w
+  short-calm (Cd q last word) s p w = cc
+  short-calm e s p w = refl
+
+  pub stages-calm : (e : Event) → is_calm e ≡ true → (p : ℕ) → stage_of (e ∷ past) p l ≡ stage_of past p l
+  stages-calm e calm = stages-stay h past e l (quiet-calm e calm) (λ p w is. short-calm e calm p w)
+
+  -- the grant stays at such an event, where it doesn't end, and isn't served
+  pub calm-stays : (e : Event) → IsAccepted h (e ∷ past) → is_calm e ≡ true → serves e ≡ false → Stays h past e l g.transaction → GrantFits h (e ∷ past) l g
+  calm-stays e a calm idle s = fits-stays h past e l g s (quiet-calm e calm) (untouched-idle e a idle) (stages-calm e calm) f
+
+  -- where the answers stay, so do the copies at them
+  copies_same : (e : Event) → ((p : ℕ) → answer_of (e ∷ past) p l ≡ answer_of past p l) → (o : Option ℕ)
+      → (option_map (passed_at (e ∷ past) l) o ≡ option_map (passed_at past l) o) × (option_and_then (copy_at_answer (e ∷ past) l) o ≡ option_and_then (copy_at_answer past l) o)
+  copies_same e same None = (refl, refl)
+  copies_same e same (Some p) =
+      let copy = copy_at_answer-old past e p l (same p) in
+      (ap (λ c. Some (record { port = p; line = unwrap_or c zero_line })) copy, copy)
+
+  -- and the reply
+  pub settled_same : (e : Event) → first_sender (e ∷ past) l ≡ first_sender past l
+      → option_and_then (copy_at_answer (e ∷ past) l) (first_sender past l) ≡ option_and_then (copy_at_answer past l) (first_sender past l)
+      → Untouched past e g.transaction → settled_reply (e ∷ past) l g.transaction ≡ settled_reply past l g.transaction
+  settled_same e sender copies idle =
+      ap (λ o. newer (option_and_then (copy_at_answer (e ∷ past) l) o) (fetched (e ∷ past) g.transaction)) sender
+      ∙ ap (λ o. newer o (fetched (e ∷ past) g.transaction)) copies
+      ∙ ap (newer (option_and_then (copy_at_answer past l) (first_sender past l))) (fetched-stays h past e l g.transaction idle)
+
+  -- AC: the port is snooped
+  module _ (q addr code : ℕ) (a : IsAccepted h (Ac q addr code ∷ past)) (on : line_in h past (Ac q addr code) ≡ Some l) (few : h.ports ≤ 32) where
+    ac_line : (snoops_a_line code ≡ true) × (addr ≡ l)
+    ac_line =
+        let here = rw (eq-eqb q q (refl {a = q})) at on in
+        let both = and_parts (snoops_a_line code) (nat_eq addr l) (on-snoop (Some (record { place = length past; addr = addr; snoop = code })) l here) in
+        (both.0, eqb-true addr l both.1)
+
+    ac_unsnooped : was_snooped past q l ≡ false
+    ac_unsnooped =
+        let may = implies-at (snoops_a_line code) _ (accepted_keeps h past (Ac q addr code) a).rule_13 ac_line.0 in
+        let two = and_parts (_ && not (was_snooped past q addr)) _ may in
+        subst (λ b. was_snooped past q b ≡ false) ac_line.1 (not-true (was_snooped past q addr) (and_parts _ (not (was_snooped past q addr)) two.0).1)
+
+    ac_low : nat_lt q 32 ≡ true
+    ac_low = let low = ltb-true q h.ports (and_parts (nat_lt q h.ports) _ (accepted_keeps h past (Ac q addr code) a).rule_1).0 in lt-ltb q 32 (omega arith)
+
+    ac_stage : (p : ℕ) → (if (p == q) && nat_lt p 32 then Unanswered else stage_at g.stages p) ≡ stage_of (Ac q addr code ∷ past) p l
+    ac_stage p =
+        elim (cases_eq p q) [
+          | inl same ↦
+              subst (λ v. (if (v == q) && nat_lt v 32 then Unanswered else stage_at g.stages v) ≡ stage_of (Ac q addr code ∷ past) v l) (sym same)
+              (let none = (snoops h past a.0).first q l ac_unsnooped in
+               rw (eq-eqb q q (refl {a = q}), ac_low, ac_line.0, eq-eqb l addr (sym ac_line.1), none) refl)
+          | inr apart ↦
+              let other = ne_eqb p q apart in
+              let stage : stage_of (Ac q addr code ∷ past) p l ≡ stage_of past p l = stage-same (Ac q addr code ∷ past) past p l (rw other refl) refl (λ w is. refl) in
+              rw other (f.stages p) ∙ sym stage
+        ]
+
+    pub snoop_step : (stages : List Stage) → IsMoved g.stages stages q Unanswered → GrantFits h (Ac q addr code ∷ past) l (record g { stages = stages })
+    snoop_step stages moved =
+        let e = Ac q addr code in
+        let idle = untouched-idle e a refl in
+        let same = copies_same e (λ p. refl) in
+        record {
+          granted = (stays-unended e a refl).is;
+          begun = f.begun ∙ sym (begun-stays past e g.transaction idle);
+          written = f.written ∙ sym idle.written;
+          stages = λ p. moved p ∙ ac_stage p;
+          shared = f.shared;
+          passed = f.passed ∙ sym (same (passer h past l)).0;
+          reply = f.reply ∙ sym (settled_same e (newer-none (first_sender past l)) (same (first_sender past l)).1 idle);
+        }
+
+  -- CD: a beat of the port's data
+  module _ (q : ℕ) (last : Bool) (word : ℕ) (a : IsAccepted h (Cd q last word ∷ past)) (on : line_in h past (Cd q last word) ≡ Some l) (few : h.ports ≤ 32) where
+    cd_low : nat_lt q 32 ≡ true
+    cd_low = let low = ltb-true q h.ports (and_parts (nat_lt q h.ports) _ (accepted_keeps h past (Cd q last word) a).rule_1).0 in lt-ltb q 32 (omega arith)
+
+    cd_other : (p : ℕ) → p ≢ q → stage_of (Cd q last word ∷ past) p l ≡ stage_of past p l
+    cd_other p apart = stage-same (Cd q last word ∷ past) past p l refl refl (λ w is. short-apart h past q last word a l p apart w)
+
+    cd_fits : (stages : List Stage) → ((p : ℕ) → stage_at stages p ≡ stage_of (Cd q last word ∷ past) p l) → GrantFits h (Cd q last word ∷ past) l (record g { stages = stages })
+    cd_fits stages moved =
+        let e = Cd q last word in
+        let idle = untouched-idle e a refl in
+        let same = copies_same e (λ p. refl) in
+        record {
+          granted = (stays-unended e a refl).is;
+          begun = f.begun ∙ sym (begun-stays past e g.transaction idle);
+          written = f.written ∙ sym idle.written;
+          stages = moved;
+          shared = f.shared;
+          passed = f.passed ∙ sym (same (passer h past l)).0;
+          reply = f.reply ∙ sym (settled_same e (newer-none (first_sender past l)) (same (first_sender past l)).1 idle);
+        }
+
+    -- the fourth
+    pub fourth_step : data_beats past q % 4 ≡ 3 → (stages : List Stage) → IsMoved g.stages stages q Done → GrantFits h (Cd q last word ∷ past) l (record g { stages = stages })
+    fourth_step fourth stages moved = cd_fits stages (λ p. moved p ∙ stage p)
+      where
+        stage : (p : ℕ) → (if (p == q) && nat_lt p 32 then Done else stage_at g.stages p) ≡ stage_of (Cd q last word ∷ past) p l
+        stage p =
+            elim (cases_eq p q) [
+              | inr apart ↦ moved_there p q Done (stage_at g.stages p) apart ∙ f.stages p ∙ sym (cd_other p apart)
+              | inl same ↦
+                  subst (λ v. (if (v == q) && nat_lt v 32 then Done else stage_at g.stages v) ≡ stage_of (Cd q last word ∷ past) v l) (sym same)
+                  (let b = beat_of h past q last word a l on in
+                   let is : answer_of (Cd q last word ∷ past) q l ≡ Some b.answer = b.is in
+                   let whole = whole-now h past q last word a l b.answer b.sends b.bursts fourth in
+                   moved_here q Done (stage_at g.stages q) cd_low ∙ sym (ap (stage_by (Cd q last word ∷ past) q (was_snooped past q l)) is ∙ ap (λ v. if v then Sending else Done) whole))
+            ]
+
+    -- an earlier one
+    pub earlier_step : data_beats past q % 4 ≢ 3 → GrantFits h (Cd q last word ∷ past) l g
+    earlier_step earlier = cd_fits g.stages (λ p. f.stages p ∙ sym (stage p))
+      where
+        stage : (p : ℕ) → stage_of (Cd q last word ∷ past) p l ≡ stage_of past p l
+        stage p =
+            elim (cases_eq p q) [
+              | inr apart ↦ cd_other p apart
+              | inl same ↦
+                  let b = beat_of h past q last word a l on in
+                  subst (λ v. stage_of (Cd q last word ∷ past) v l ≡ stage_of past v l) (sym same)
+                  (stage-same (Cd q last word ∷ past) past q l refl refl (λ w is.
+                      let one : b.answer ≡ w = Some-injective b.answer w (sym b.is ∙ is) in
+                      subst (λ v. is_short (Cd q last word ∷ past) q v ≡ is_short past q v) one
+                      (short-now h past q last word a l b.answer b.sends b.bursts earlier ∙ sym (short-before h past q last word a l b.answer b.sends b.bursts))))
+            ]
+
+  -- CR: the port answers
+  module _ (q resp : ℕ) (st : LineState) (a : IsAccepted h (Cr q resp st ∷ past)) (on : line_in h past (Cr q resp st) ≡ Some l) (few : h.ports ≤ 32) where
+    cr_line : answers_line past q l ≡ true
+    cr_line = on-snoop (answered past q) l on
+
+    cr_low : nat_lt q 32 ≡ true
+    cr_low = let low = ltb-true q h.ports (and_parts (nat_lt q h.ports) _ (accepted_keeps h past (Cr q resp st) a).rule_1).0 in lt-ltb q 32 (omega arith)
+
+    -- its data, if it sends any, are still to come
+    cr_short : is_short (Cr q resp st ∷ past) q (the_answer h past q resp st l a cr_line) ≡ transfers_data resp
+    cr_short =
+        elim (cases_Bool (transfers_data resp)) [
+          | inr silent ↦ rw silent refl
+          | inl sends ↦
+              let few_beats = sent_few h past a.0 q in
+              let more : nat_le (4 * (data_answers past q + 1)) (data_beats past q) ≡ false = lt-leb (4 * (data_answers past q + 1)) (data_beats past q) (omega arith) in
+              rw (sends, more) refl
+        ]
+
+    cr_stage : (p : ℕ) → (if (p == q) && nat_lt p 32 then (if transfers_data resp then Sending else Done) else stage_at g.stages p) ≡ stage_of (Cr q resp st ∷ past) p l
+    cr_stage p =
+        elim (cases_eq p q) [
+          | inr apart ↦
+              moved_there p q (if transfers_data resp then Sending else Done) (stage_at g.stages p) apart ∙ f.stages p
+              ∙ sym (stage-same (Cr q resp st ∷ past) past p l refl (answer-other h past q resp st l a cr_line p apart) (λ w is. refl))
+          | inl same ↦
+              subst (λ v. (if (v == q) && nat_lt v 32 then (if transfers_data resp then Sending else Done) else stage_at g.stages v) ≡ stage_of (Cr q resp st ∷ past) v l) (sym same)
+              (moved_here q (if transfers_data resp then Sending else Done) (stage_at g.stages q) cr_low
+              ∙ sym (ap (stage_by (Cr q resp st ∷ past) q (was_snooped past q l)) (answer-now h past q resp st l a cr_line) ∙ ap (λ b. if b then Sending else Done) cr_short))
+        ]
+
+    -- the copies at the other answers
+    cr_passed : passes_dirty resp ≡ false → passed_by h (Cr q resp st ∷ past) l ≡ passed_by h past l
+    cr_passed clean = ap (option_map (passed_at (Cr q resp st ∷ past) l)) (passer-same h past q resp st l a cr_line clean) ∙ by (passer h past l) refl
+      where
+        by : (o : Option ℕ) → passer h past l ≡ o → option_map (passed_at (Cr q resp st ∷ past) l) o ≡ option_map (passed_at past l) o
+        by None is = refl
+        by (Some p) is =
+            elim (cases_eq p q) [
+              | inr apart ↦ ap (λ c. Some (record { port = p; line = unwrap_or c zero_line })) (copy-other h past q resp st l a cr_line p apart)
+              | inl same ↦
+                  let none = (answering h past q resp st l a cr_line).pending.unanswered in
+                  let passes_it : passes past l q ≡ true = subst (λ v. passes past l v ≡ true) same (found_passes h.ports (passes past l) p is) in
+                  let fails : passes past l q ≡ false = ap (λ o. is_some_and o (λ (w : Answer). passes_dirty w.resp)) none in
+                  cc
+            ]
+
+    cr_passes : (mine : Line) → mine ≡ copy_of past q l → passes_dirty resp ≡ true → Some (record { port = q; line = mine }) ≡ passed_by h (Cr q resp st ∷ past) l
+    cr_passes mine copy dirty =
+        sym (ap (option_map (passed_at (Cr q resp st ∷ past) l)) (passer-now h past q resp st l a cr_line dirty)
+        ∙ ap (λ c. Some (record { port = q; line = unwrap_or c zero_line })) (copy-now h past q resp st l a cr_line ∙ ap (λ v. Some v) (sym copy)))
+
+    cr_unbegun : fetched past g.transaction ≡ None
+    cr_unbegun =
+        let p = (answering h past q resp st l a cr_line).pending in
+        let one : p.one ≡ g.transaction = Some-injective p.one g.transaction (sym p.stands ∙ f.granted) in
+        unfetched past g.transaction (subst (λ (v : Transaction). is_begun past v ≡ false) one p.unbegun)
+
+    -- a port that sent data before is another one, and its copy at its answer is there
+    cr_sent : (p : ℕ) → first_sender past l ≡ Some p → (p ≢ q) × (c : Line) × (copy_at_answer past l p ≡ Some c)
+    cr_sent p is =
+        let s = sender_sent h past a.0 p l is in
+        let none = (answering h past q resp st l a cr_line).pending.unanswered in (
+          (λ same. let bad : None ≡ Some s.answer = sym none ∙ ap (λ v. answer_of past v l) (sym same) ∙ s.is in cc),
+          copy_of (at_point s.answer.place past) p l,
+          ap (option_map (λ (w : Answer). copy_of (at_point w.place past) p l)) s.is,
+        )
+
+    cr_silent : transfers_data resp ≡ false → Untouched past (Cr q resp st) g.transaction → g.reply ≡ settled_reply (Cr q resp st ∷ past) l g.transaction
+    cr_silent silent idle = f.reply ∙ sym (settled_same (Cr q resp st) (sender-silent h past q resp st l a cr_line silent) (by (first_sender past l) refl) idle)
+      where
+        by : (o : Option ℕ) → first_sender past l ≡ o → option_and_then (copy_at_answer (Cr q resp st ∷ past) l) o ≡ option_and_then (copy_at_answer past l) o
+        by None is = refl
+        by (Some p) is = copy-other h past q resp st l a cr_line p (cr_sent p is).0
+
+    cr_sends : (mine : Line) → mine ≡ copy_of past q l → transfers_data resp ≡ true → newer g.reply (Some mine) ≡ settled_reply (Cr q resp st ∷ past) l g.transaction
+    cr_sends mine copy sends = by (first_sender past l) refl
+      where
+        now : (o : Option ℕ) → first_sender past l ≡ o → settled_reply (Cr q resp st ∷ past) l g.transaction
+            ≡ newer (option_and_then (copy_at_answer (Cr q resp st ∷ past) l) (newer o (Some q))) (fetched (Cr q resp st ∷ past) g.transaction)
+        now o is =
+            ap (λ v. newer (option_and_then (copy_at_answer (Cr q resp st ∷ past) l) v) (fetched (Cr q resp st ∷ past) g.transaction))
+            (sender-now h past q resp st l a cr_line sends ∙ ap (λ v. newer v (Some q)) is)
+
+        before : (o : Option ℕ) → first_sender past l ≡ o → g.reply ≡ newer (option_and_then (copy_at_answer past l) o) (fetched past g.transaction)
+        before o is = f.reply ∙ ap (λ v. newer (option_and_then (copy_at_answer past l) v) (fetched past g.transaction)) is
+
+        by : (o : Option ℕ) → first_sender past l ≡ o → newer g.reply (Some mine) ≡ settled_reply (Cr q resp st ∷ past) l g.transaction
+        by None is =
+            ap (λ v. newer v (Some mine)) (before None is ∙ cr_unbegun)
+            ∙ sym (now None is ∙ ap (λ v. newer v (fetched (Cr q resp st ∷ past) g.transaction)) (copy-now h past q resp st l a cr_line ∙ ap (λ v. Some v) (sym copy)))
+        by (Some p) is =
+            let s = cr_sent p is in
+            ap (λ v. newer v (Some mine)) (before (Some p) is ∙ ap (λ v. newer v (fetched past g.transaction)) s.2)
+            ∙ sym (now (Some p) is ∙ ap (λ v. newer v (fetched (Cr q resp st ∷ past) g.transaction)) (copy-other h past q resp st l a cr_line p s.0 ∙ s.2))
+
+    pub answer_step : (stages : List Stage) (mine : Line) → IsMoved g.stages stages q (if transfers_data resp then Sending else Done) → mine ≡ copy_of past q l
+        → GrantFits h (Cr q resp st ∷ past) l (record g {
+            stages = stages;
+            shared = is_shared resp || g.shared;
+            passed = if passes_dirty resp then Some (record { port = q; line = mine }) else g.passed;
+            reply = if transfers_data resp then newer g.reply (Some mine) else g.reply;
+        })
+    answer_step stages mine moved copy =
+        let e = Cr q resp st in
+        let idle = untouched-idle e a refl in
+        record {
+          granted = (stays-unended e a refl).is;
+          begun = f.begun ∙ sym (begun-stays past e g.transaction idle);
+          written = f.written ∙ sym idle.written;
+          stages = λ p. moved p ∙ cr_stage p;
+          shared = ap (λ b. is_shared resp || b) f.shared ∙ sym (sharer-now h past q resp st l a cr_line);
+          passed = passed;
+          reply = reply idle;
+        }
+      where
+        passed : (if passes_dirty resp then Some (record { port = q; line = mine }) else g.passed) ≡ passed_by h (Cr q resp st ∷ past) l
+        passed =
+            elim (cases_Bool (passes_dirty resp)) [
+              | inl t ↦ then_of (passes_dirty resp) _ _ t ∙ cr_passes mine copy t
+              | inr n ↦ otherwise_of (passes_dirty resp) _ _ n ∙ f.passed ∙ sym (cr_passed n)
+            ]
+
+        reply : Untouched past (Cr q resp st) g.transaction → (if transfers_data resp then newer g.reply (Some mine) else g.reply) ≡ settled_reply (Cr q resp st ∷ past) l g.transaction
+        reply idle =
+            elim (cases_Bool (transfers_data resp)) [
+              | inl t ↦ then_of (transfers_data resp) _ _ t ∙ cr_sends mine copy t
+              | inr n ↦ otherwise_of (transfers_data resp) _ _ n ∙ cr_silent n idle
+            ]

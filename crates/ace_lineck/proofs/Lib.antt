@@ -1,0 +1,11 @@
+pub mod OnLine
+pub mod Own
+pub mod OffLine
+pub mod HolderSteps
+pub mod Bursts
+pub mod Sent
+pub mod RuleLaws
+pub mod GrantFrame
+pub mod GrantSteps
+pub mod GrantServes
+pub mod GrantHear

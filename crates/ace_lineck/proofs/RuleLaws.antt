@@ -1,0 +1,370 @@
+-- What the rules say, in the words of what is kept of the line.
+use Rattle.std.proofs.Common.{◌≡◌, ℕ, true, false, Bool, not, ◌&&◌, ◌||◌, ◌==◌, if◌then◌else◌, nat_eq, [], ◌∷◌, length, Option, Some, None, is_some, option_map, refl, sym, ap, subst, ◌∙◌, inl, inr}
+use Rattle.std.proofs.lemmas.Bool.{and_parts, and_from, cases_Bool, eqb-true, eq-eqb, false_from_ne_true, or_right, or_left}
+use Rattle.ace_codes.specs.declared.kind.ArKind.TheVariants as read
+use Rattle.ace_codes.specs.declared.kind.AwKind.TheVariants as write
+use Rattle.ace_codes.specs.declared.kind.SnoopKind.TheVariants as snoop
+use Rattle.ace_codes.specs.Snoops.{ac_kind_of}
+use Rattle.ace_event.specs.declared.line.Line.{Line}
+use Rattle.ace_tables.specs.Answers.{is_snoop_row, same_test}
+use Rattle.ace_tables.specs.EndStates.{ends_write}
+use Rattle.ace_model.specs.declared.transactions.Transaction.{Transaction}
+use Rattle.ace_model.specs.declared.snoops.Snoop.{Snoop}
+use Rattle.ace_model.specs.Shares.{k11_data, k17_data, fits_copy}
+use Rattle.ace_model.specs.Replies.{next_sent, next_sent_beat}
+use Rattle.ace_model.proofs.Terms.{Header, Trace, Event, Ar, Aw, W, Wk, Cr, Cd, S, L, D, Read, Write, ArKind, AwKind, SnoopKind, LineState, I, IsAccepted, implies, is_some_and, is_none_or, is_ace, is_read, is_line, is_on, is_line_write, is_line_read, is_line_snoop, is_update, is_make_unique, read_kind, write_kind}
+use Rattle.ace_model.proofs.Terms.{issued, acknowledged, starts_read, starts_write, state_of, copy_of, word_of, next_write, next_write_beat, snoops_a_line, is_snoop_on, answered, updates_memory, has_update, has_outstanding_on, has_store, each_issued, is_no_snoop, is_used_alike, fits_line}
+use Rattle.ace_model.proofs.Terms.{answers_by_row, answers_beside_update, k6, k8, k15, k16, k28, k29, k30, k31, k32, held_of, full_line, is_silent_move, is_invalid, is_unique, some_issued, wants_store}
+use Rattle.ace_model.proofs.General.Options.{Some-injective, is_none_or-at}
+use Rattle.ace_model.proofs.General.Booleans.{same_test-at, implies-at}
+use Rattle.ace_model.proofs.Trace.Growth.{IsIssued, issued-new, issued-old, issued-cases, each_issued-at, some_issued-is}
+use Rattle.ace_model.proofs.Trace.Issued.{transaction_of-name}
+use Rattle.ace_model.proofs.Trace.Outstanding.{acknowledged_is}
+use Rattle.ace_model.proofs.Holders.ShareableLines.{used_alike}
+use Rattle.ace_model.proofs.Lines.Known.{data_write-issued}
+use Rattle.ace_portck.specs.Targets.{line_in, own_of, own_in, progress_of, sending, begun}
+use Rattle.ace_portck.specs.declared.target.Progress.{Progress}
+use Rattle.ace_portck.specs.declared.target.Target.{Target}
+use Rattle.ace_lineck.specs.declared.record.Use.{Use}
+use Rattle.ace_lineck.specs.declared.record.Use.TheVariants.{Unknown, Shareable, NoSnoop}
+use Rattle.ace_lineck.specs.declared.record.LineRecord.{LineRecord}
+use Rattle.ace_lineck.specs.Holders.{holder_at, awaits_store, sent_on}
+use Rattle.ace_lineck.specs.Uses.{use_by, use_of, newest_use, goes_with}
+use Rattle.ace_lineck.specs.Records.{LineStands, IsNext}
+use Rattle.ace_lineck.proofs.Own.{has_update-own, has_outstanding-own, wants_store-own, awaits_own_store}
+use Rattle.ace_lineck.proofs.Sent.{next-sent, none-sent, sends-a_line}
+
+-- the state is a start state of the kind of a line transaction
+abbrev pub may_start_of : Transaction → LineState → Bool
+may_start_of y held = implies (is_line y) (is_none_or (read_kind y) (λ k. starts_read k held) && is_none_or (write_kind y) (λ k. starts_write k held))
+
+-- the line of an event that issues a transaction
+issue-line : (h : Header) (past : Trace) (e : Event) (y : Transaction) → issued (length past) e ≡ Some y → line_in h past e ≡ (if is_line y then Some y.addr else None)
+issue-line h past (Ar p i addr snoop dom bar lock) y new = ap (λ (v : Transaction). if is_line v then Some v.addr else None) (Some-injective _ y new)
+issue-line h past (Aw p i addr snoop dom bar) y new = ap (λ (v : Transaction). if is_line v then Some v.addr else None) (Some-injective _ y new)
+issue-line h past e y new = cc
+
+-- How a line is used: as one of its transactions does, and as none of them where there is none.
+record UsedBy (past : Trace) (l : ℕ) (b : Bool) : Type 0 where
+  one : Transaction
+  there : IsIssued past one
+  on : is_on one l ≡ true
+  alike : is_no_snoop one ≡ b
+
+abbrev UseIs : Trace → ℕ → Use → Type 0
+UseIs past l Unknown = (x : Transaction) → IsIssued past x → is_on x l ≡ true → ⊥
+UseIs past l Shareable = UsedBy past l false
+UseIs past l NoSnoop = UsedBy past l true
+
+-- what is kept of the use stays where the event issues nothing on the line
+use-older : (past : Trace) (e : Event) (l : ℕ) (u : Use) → UseIs past l u → ((x : Transaction) → issued (length past) e ≡ Some x → is_on x l ≡ false) → UseIs (e ∷ past) l u
+use-older past e l Unknown f off =
+    λ x i on. elim (issued-cases e past x i) [
+      | inl new ↦ let none = off x new in cc
+      | inr old ↦ f x old on
+    ]
+use-older past e l Shareable f off = record { one = f.one; there = issued-old e past f.one f.there; on = f.on; alike = f.alike }
+use-older past e l NoSnoop f off = record { one = f.one; there = issued-old e past f.one f.there; on = f.on; alike = f.alike }
+
+use-new : (past : Trace) (e : Event) (l : ℕ) (y : Transaction) → issued (length past) e ≡ Some y → is_on y l ≡ true → UseIs (e ∷ past) l (use_by y)
+use-new past e l y new on =
+    elim (cases_Bool (is_no_snoop y)) [
+      | inl t ↦
+          let is : use_by y ≡ NoSnoop = rw t refl in
+          subst (UseIs (e ∷ past) l) (sym is) (record { one = y; there = issued-new e past y new; on = on; alike = t })
+      | inr f ↦
+          let is : use_by y ≡ Shareable = rw f refl in
+          subst (UseIs (e ∷ past) l) (sym is) (record { one = y; there = issued-new e past y new; on = on; alike = f })
+    ]
+
+use-is : (past : Trace) (l : ℕ) → UseIs past l (use_of past l)
+use-is [] l = λ x i on. let there = i.there in cc
+use-is (e ∷ past) l = by (issued (length past) e) refl (use-is past l)
+  where
+    by : (o : Option Transaction) → issued (length past) e ≡ o → UseIs past l (use_of past l) → UseIs (e ∷ past) l (newest_use o l (use_of past l))
+    by None is f = use-older past e l (use_of past l) f (λ x new. let bad = sym is ∙ new in cc)
+    by (Some y) is f =
+        elim (cases_Bool (is_on y l)) [
+          | inl on ↦
+              let one : newest_use (Some y) l (use_of past l) ≡ use_by y = rw on refl in
+              subst (UseIs (e ∷ past) l) (sym one) (use-new past e l y is on)
+          | inr off ↦
+              let one : newest_use (Some y) l (use_of past l) ≡ use_of past l = rw off refl in
+              subst (UseIs (e ∷ past) l) (sym one)
+              (use-older past e l (use_of past l) f (λ x new. subst (λ (v : Transaction). is_on v l ≡ false) (Some-injective y x (sym is ∙ new)) off))
+        ]
+
+-- a test that holds of each transaction
+each-from : (past : Trace) (test : Transaction → Bool) → ((z : Transaction) → IsIssued past z → test z ≡ true) → each_issued past test ≡ true
+each-from past test all =
+    let none = false_from_ne_true (some_issued past (λ z. not (test z))) (λ t.
+    let z = some_issued-is past (λ z. not (test z)) t in
+    let yes = all z.0 z.1 in
+    let bad : false ≡ true = rw yes at z.2 in cc) in
+    rw none refl
+
+-- a transaction of a line with a transaction is like each of the line where it is like that one
+each-same : (h : Header) (past : Trace) → IsAccepted h past → (y : Transaction) (b : Bool) → UsedBy past y.addr b → each_issued past (is_used_alike y) ≡ same_test (is_no_snoop y) b
+each-same h past a y b u =
+    elim (cases_Bool (each_issued past (is_used_alike y))) [
+      | inl t ↦
+          let alike = each_issued-at past (is_used_alike y) u.one.place u.one t u.there.there in
+          let same = implies-at (is_on u.one y.addr) (same_test (is_no_snoop y) (is_no_snoop u.one)) alike u.on in
+          t ∙ sym (subst (λ v. same_test (is_no_snoop y) v ≡ true) u.alike same)
+      | inr f ↦
+          f ∙ sym (false_from_ne_true (same_test (is_no_snoop y) b) (λ e.
+          let all = each-from past (is_used_alike y) (λ z i.
+          elim (cases_Bool (is_on z y.addr)) [
+            | inr off ↦ rw off refl
+            | inl on ↦
+                let like : is_no_snoop z ≡ b = used_alike h past a z u.one y.addr i u.there on u.on ∙ u.alike in
+                rw (on, like) e
+          ]) in cc))
+    ]
+
+same-false : (b : Bool) → not b ≡ same_test b false
+same-false true = refl
+same-false false = refl
+
+same-true : (b : Bool) → b ≡ same_test b true
+same-true true = refl
+same-true false = refl
+
+-- a transaction goes with the use of its line exactly where it goes with each of the line
+uses-law : (h : Header) (past : Trace) → IsAccepted h past → (y : Transaction) → goes_with (use_of past y.addr) (is_no_snoop y) ≡ each_issued past (is_used_alike y)
+uses-law h past a y = by (use_of past y.addr) (use-is past y.addr)
+  where
+    by : (u : Use) → UseIs past y.addr u → goes_with u (is_no_snoop y) ≡ each_issued past (is_used_alike y)
+    by Unknown f = sym (each-from past (is_used_alike y) (λ z i. let off = false_from_ne_true (is_on z y.addr) (f z i) in rw off refl))
+    by Shareable f = same-false (is_no_snoop y) ∙ sym (each-same h past a y false f)
+    by NoSnoop f = same-true (is_no_snoop y) ∙ sym (each-same h past a y true f)
+
+-- a row of a snoop that isn't of a line asks for no state and for no memory update
+row-apart : (k : SnoopKind) (held other : LineState) (update also : Bool) (resp : ℕ) (st : LineState) → is_line_snoop k ≡ false
+    → is_snoop_row k held update resp st ≡ is_snoop_row k other also resp st
+row-apart snoop.DvmComplete held other update also resp st f = refl
+row-apart snoop.DvmMessage held other update also resp st f = refl
+row-apart k held other update also resp st f = cc
+
+rows-apart : (o : Option SnoopKind) (held other : LineState) (update also : Bool) (resp : ℕ) (st : LineState) → is_some_and o is_line_snoop ≡ false
+    → is_none_or o (λ k. is_snoop_row k held update resp st) ≡ is_none_or o (λ k. is_snoop_row k other also resp st)
+rows-apart None held other update also resp st f = refl
+rows-apart (Some k) held other update also resp st f = row-apart k held other update also resp st f
+
+implies-true : (b c : Bool) → c ≡ true → implies b c ≡ true
+implies-true true c e = e
+implies-true false c e = refl
+
+update-line : (k : AwKind) → is_update k ≡ true → is_line_write k ≡ true
+update-line write.Barrier u = cc
+update-line k u = refl
+
+make_unique-reads : (past : Trace) (x : Transaction) → awaits_own_store past x ≡ true → is_read x.chan ≡ true
+make_unique-reads past x t =
+    elim (cases_Bool (is_read x.chan)) [
+      | inl reads ↦ reads
+      | inr writes ↦ let bad = (and_parts (is_some_and (read_kind x) is_make_unique) _ t).0 in let no : false ≡ true = rw writes at bad in cc
+    ]
+
+module _ (h : Header) (past : Trace) (t : Target) (x : LineRecord) where
+  -- what is kept of the line of the event stands
+  stands : (e : Event) → IsNext h past e t x → (l : ℕ) → line_in h past e ≡ Some l → LineStands h past l x
+  stands e s l on = s.line l (ap (λ (v : Target). v.line) s.target ∙ on)
+
+  state : (e : Event) → IsNext h past e t x → (p l : ℕ) → line_in h past e ≡ Some l → (holder_at x.holders.items p).state ≡ state_of h past p l
+  state e s p l on = (stands e s l on).holders.state p
+
+  pub k6-law : (e : Event) → IsNext h past e t x → (y : Transaction) → issued (length past) e ≡ Some y
+      → implies (is_line y) (is_none_or (read_kind y) (λ k. starts_read k (holder_at x.holders.items y.port).state) && is_none_or (write_kind y) (λ k. starts_write k (holder_at x.holders.items y.port).state))
+      ≡ k6 h past e
+  k6-law e s y new =
+      elim (cases_Bool (is_line y)) [
+        | inr f ↦ rw (new, f) refl
+        | inl line ↦
+            let on : line_in h past e ≡ Some y.addr = rw line at (issue-line h past e y new) in
+            let held = state e s y.port y.addr on in
+            rw (new, held) refl
+      ]
+
+  pub k8-law : (e : Event) → IsNext h past e t x → (y : Transaction) → issued (length past) e ≡ Some y
+      → implies (is_line y) (goes_with x.used (is_no_snoop y)) ≡ k8 h past e
+  k8-law e s y new =
+      elim (cases_Bool (is_line y)) [
+        | inr f ↦ rw (new, f) refl
+        | inl line ↦
+            let on : line_in h past e ≡ Some y.addr = rw line at (issue-line h past e y new) in
+            let used = (stands e s y.addr on).used in
+            let same = uses-law h past s.accepted y in
+            rw (new, used, same) refl
+      ]
+
+  pub k11-law : (p strb : ℕ) (last : Bool) (word : ℕ) → IsNext h past (W p strb last word) t x
+      → is_none_or t.transaction (λ y. implies (updates_memory y.transaction) (word == word_of (holder_at x.holders.items p).copy t.beat)) ≡ k11_data h past (W p strb last word)
+  k11-law p strb last word s =
+      let trans : t.transaction ≡ option_map (progress_of h past) (next_write past p) = ap (λ (v : Target). v.transaction) s.target in
+      let beat : t.beat ≡ next_write_beat past p = ap (λ (v : Target). v.beat) s.target in
+      rw (trans, beat) (by (next_write past p) refl)
+    where
+      fits : (z : Transaction) → next_write past p ≡ Some z → (k : Option AwKind) → write_kind z ≡ k
+          → implies (is_some_and k is_update) (word == word_of (holder_at x.holders.items p).copy (next_write_beat past p))
+          ≡ is_none_or k (λ k. implies (is_update k) (word == word_of (copy_of past z.port z.addr) (next_write_beat past p)))
+      fits z is None kind = refl
+      fits z is (Some k) kind =
+          elim (cases_Bool (is_update k)) [
+            | inr f ↦ rw f refl
+            | inl u ↦
+                let line : is_line z ≡ true = let l = update-line k u in rw kind (or_right (is_some_and (read_kind z) is_line_read) (is_line_write k) l) in
+                let on : line_in h past (W p strb last word) ≡ Some z.addr = rw (is, line) refl in
+                let port : z.port ≡ p = (data_write-issued past p _ z is).1 in
+                let copy : (holder_at x.holders.items p).copy ≡ copy_of past z.port z.addr = (stands (W p strb last word) s z.addr on).holders.copy p ∙ ap (λ v. copy_of past v z.addr) (sym port) in
+                rw copy refl
+          ]
+      by : (o : Option Transaction) → next_write past p ≡ o
+          → is_none_or (option_map (progress_of h past) o) (λ y. implies (updates_memory y.transaction) (word == word_of (holder_at x.holders.items p).copy (next_write_beat past p)))
+          ≡ is_none_or o (fits_copy past (next_write_beat past p) word)
+      by None is = refl
+      by (Some z) is = fits z is (write_kind z) refl
+
+  -- what is asked of the port's own transaction
+  own-updates : (p addr : ℕ) (o : Option Progress) → o ≡ option_map (progress_of h past) (own_of h past p addr) → IsAccepted h past
+      → is_some_and o (λ y. updates_memory y.transaction) ≡ has_update h past p addr
+  own-updates p addr o is a = ap (λ v. is_some_and v (λ y. updates_memory y.transaction)) is ∙ by (own_of h past p addr) ∙ sym (has_update-own h past a p addr)
+    where
+      by : (w : Option Transaction) → is_some_and (option_map (progress_of h past) w) (λ y. updates_memory y.transaction) ≡ is_some_and w updates_memory
+      by None = refl
+      by (Some z) = refl
+
+  own-some : (p addr : ℕ) (o : Option Progress) → o ≡ option_map (progress_of h past) (own_of h past p addr) → IsAccepted h past → is_some o ≡ has_outstanding_on h past p addr
+  own-some p addr o is a = ap is_some is ∙ by (own_of h past p addr) ∙ sym (has_outstanding-own h past a p addr)
+    where
+      by : (w : Option Transaction) → is_some (option_map (progress_of h past) w) ≡ is_some w
+      by None = refl
+      by (Some z) = refl
+
+  own-wants : (p addr : ℕ) (o : Option Progress) → o ≡ option_map (progress_of h past) (own_of h past p addr) → IsAccepted h past
+      → is_some_and o (λ y. awaits_store y && not y.stored) ≡ wants_store h past p addr
+  own-wants p addr o is a = ap (λ v. is_some_and v (λ y. awaits_store y && not y.stored)) is ∙ by (own_of h past p addr) ∙ sym (wants_store-own h past a p addr)
+    where
+      by : (w : Option Transaction) → is_some_and (option_map (progress_of h past) w) (λ y. awaits_store y && not y.stored)
+          ≡ is_some_and w (λ z. awaits_own_store past z && not (has_store h past z.port z.id))
+      by None = refl
+      by (Some z) =
+          elim (cases_Bool (awaits_own_store past z)) [
+            | inr f ↦ rw f refl
+            | inl t ↦ let reads = make_unique-reads past z t in rw reads refl
+          ]
+
+  module _ (p resp : ℕ) (st : LineState) (s : IsNext h past (Cr p resp st) t x) where
+    asked : t.snoop ≡ answered past p
+    asked = ap (λ (v : Target). v.snoop) s.target
+
+    -- the rows of a snoop of the line are by the state that is kept
+    rows : (update : Bool) (q : Snoop) → answered past p ≡ Some q
+        → is_none_or (ac_kind_of q.snoop) (λ k. is_snoop_row k (holder_at x.holders.items p).state update resp st) ≡ is_none_or (ac_kind_of q.snoop) (λ k. is_snoop_row k (state_of h past p q.addr) update resp st)
+    rows update q is =
+        elim (cases_Bool (snoops_a_line q.snoop)) [
+          | inr f ↦ rows-apart (ac_kind_of q.snoop) (holder_at x.holders.items p).state (state_of h past p q.addr) update update resp st f
+          | inl line ↦
+              let on : line_in h past (Cr p resp st) ≡ Some q.addr = rw (is, line) refl in
+              let held = state (Cr p resp st) s p q.addr on in
+              rw held refl
+        ]
+
+    pub k15-law : is_none_or t.snoop (λ q. is_none_or (ac_kind_of q.snoop) (λ k. is_snoop_row k (holder_at x.holders.items p).state false resp st)) ≡ k15 h past (Cr p resp st)
+    k15-law = rw asked (by (answered past p) refl)
+      where
+        by : (o : Option Snoop) → answered past p ≡ o
+            → is_none_or o (λ q. is_none_or (ac_kind_of q.snoop) (λ k. is_snoop_row k (holder_at x.holders.items p).state false resp st))
+            ≡ is_none_or o (λ q. is_none_or (ac_kind_of q.snoop) (λ k. is_snoop_row k (state_of h past p q.addr) false resp st))
+        by None is = refl
+        by (Some q) is = rows false q is
+
+    pub k16-law : k15 h past (Cr p resp st) ≡ true
+        → implies (is_some_and t.own (λ y. updates_memory y.transaction)) (is_none_or t.snoop (λ q. is_none_or (ac_kind_of q.snoop) (λ k. is_snoop_row k (holder_at x.holders.items p).state true resp st)))
+        ≡ k16 h past (Cr p resp st)
+    k16-law kept = rw asked (by (answered past p) refl)
+      where
+        by : (o : Option Snoop) → answered past p ≡ o
+            → implies (is_some_and t.own (λ y. updates_memory y.transaction)) (is_none_or o (λ q. is_none_or (ac_kind_of q.snoop) (λ k. is_snoop_row k (holder_at x.holders.items p).state true resp st)))
+            ≡ is_none_or o (answers_beside_update h past p resp st)
+        by None is = implies-true (is_some_and t.own (λ y. updates_memory y.transaction)) true refl
+        by (Some q) is =
+            elim (cases_Bool (snoops_a_line q.snoop)) [
+              | inr f ↦
+                  let own : t.own ≡ None = rw (is, f) at (ap (λ (v : Target). v.own) s.target) in
+                  let row = is_none_or-at (answered past p) (answers_by_row h past p resp st) q kept is in
+                  let also : is_none_or (ac_kind_of q.snoop) (λ k. is_snoop_row k (state_of h past p q.addr) true resp st) ≡ true =
+                  rows-apart (ac_kind_of q.snoop) (state_of h past p q.addr) (state_of h past p q.addr) true false resp st f ∙ row in
+                  rw own (sym (implies-true (has_update h past p q.addr) _ also))
+              | inl line ↦
+                  let own : t.own ≡ option_map (progress_of h past) (own_of h past p q.addr) = rw (is, line) at (ap (λ (v : Target). v.own) s.target) in
+                  ap (λ b. implies b (is_none_or (ac_kind_of q.snoop) (λ k. is_snoop_row k (holder_at x.holders.items p).state true resp st))) (own-updates p q.addr t.own own s.accepted)
+                  ∙ ap (implies (has_update h past p q.addr)) (rows true q is)
+            ]
+
+  pub k17-law : (p : ℕ) (last : Bool) (word : ℕ) → IsNext h past (Cd p last word) t x
+      → is_none_or t.snoop (λ q. word == word_of (holder_at x.holders.items p).sent t.beat) ≡ k17_data h past (Cd p last word)
+  k17-law p last word s =
+      let asked : t.snoop ≡ sending past p = ap (λ (v : Target). v.snoop) s.target in
+      let beat : t.beat ≡ next_sent_beat past p = ap (λ (v : Target). v.beat) s.target in
+      rw (asked, beat) (by (sending past p) refl)
+    where
+      by : (o : Option Snoop) → sending past p ≡ o
+          → is_none_or o (λ q. word == word_of (holder_at x.holders.items p).sent (next_sent_beat past p)) ≡ is_none_or (next_sent past p) (λ line. word == word_of line (next_sent_beat past p))
+      by None is = let none = none-sent h past s.accepted p is in rw none refl
+      by (Some q) is =
+          let line = sends-a_line h past s.accepted p _ q is in
+          let on : line_in h past (Cd p last word) ≡ Some q.addr = rw (is, line) refl in
+          let here : is_snoop_on q q.addr ≡ true = and_from _ _ line (eq-eqb q.addr q.addr refl) in
+          let next = next-sent h past s.accepted p q.addr q is here in
+          let sent : (holder_at x.holders.items p).sent ≡ sent_on past p q.addr = (stands (Cd p last word) s q.addr on).holders.sent p in
+          rw (next, sent) refl
+
+  pub k28-law : (p : ℕ) (st : LineState) → IsNext h past (Wk p st) t x
+      → is_none_or t.transaction (λ y. is_none_or (write_kind y.transaction) (λ k. ends_write k (if is_line y.transaction then (holder_at x.holders.items p).state else I) st)) ≡ k28 h past (Wk p st)
+  k28-law p st s =
+      let ace : is_ace h p ≡ true = (and_parts _ (is_ace h p) s.port).1 in
+      let trans : t.transaction ≡ option_map (progress_of h past) (acknowledged past p Write) = rw ace at (ap (λ (v : Target). v.transaction) s.target) in
+      rw trans (by ace (acknowledged past p Write) refl)
+    where
+      by : is_ace h p ≡ true → (o : Option Transaction) → acknowledged past p Write ≡ o
+          → is_none_or (option_map (progress_of h past) o) (λ y. is_none_or (write_kind y.transaction) (λ k. ends_write k (if is_line y.transaction then (holder_at x.holders.items p).state else I) st))
+          ≡ is_none_or o (λ z. is_none_or (write_kind z) (λ k. ends_write k (held_of h past z) st))
+      by ace None is = refl
+      by ace (Some z) is =
+          elim (cases_Bool (is_line z)) [
+            | inr f ↦ rw f refl
+            | inl line ↦
+                let on : line_in h past (Wk p st) ≡ Some z.addr = rw (ace, is, line) refl in
+                let n = acknowledged_is past p Write z is in
+                let port : z.port ≡ p = (transaction_of-name past p Write n.id z n.named).port in
+                let held : (holder_at x.holders.items p).state ≡ state_of h past z.port z.addr = state (Wk p st) s p z.addr on ∙ ap (λ v. state_of h past v z.addr) (sym port) in
+                rw (line, held) refl
+          ]
+
+  pub k29-law : (p addr : ℕ) (st : LineState) → IsNext h past (S p addr st) t x
+      → (is_silent_move (holder_at x.holders.items p).state st && not (is_invalid st && is_some_and t.own (λ y. updates_memory y.transaction))) ≡ k29 h past (S p addr st)
+  k29-law p addr st s =
+      let held = state (S p addr st) s p addr refl in
+      let own : t.own ≡ option_map (progress_of h past) (own_of h past p addr) = ap (λ (v : Target). v.own) s.target in
+      let update = own-updates p addr t.own own s.accepted in
+      rw (held, update) refl
+
+  pub k30-law : (p addr w : ℕ) (b : Bool) (word : ℕ) → IsNext h past (L p addr w b word) t x → not (is_invalid (holder_at x.holders.items p).state) ≡ k30 h past (L p addr w b word)
+  k30-law p addr w b word s = let held = state (L p addr w b word) s p addr refl in rw held refl
+
+  pub k31-law : (p addr w : ℕ) (b : Bool) (word : ℕ) → IsNext h past (L p addr w b word) t x
+      → (word == word_of (holder_at x.holders.items p).copy w) ≡ k31 h past (L p addr w b word)
+  k31-law p addr w b word s = let copy = (stands (L p addr w b word) s addr refl).holders.copy p in rw copy refl
+
+  pub k32-law : (p addr strobe : ℕ) (b : Bool) (line : Line) → IsNext h past (D p addr strobe b line) t x
+      → ((is_unique (holder_at x.holders.items p).state && not (is_some t.own)) || (is_some_and t.own (λ y. awaits_store y && not y.stored) && not b && (strobe == full_line)))
+      ≡ k32 h past (D p addr strobe b line)
+  k32-law p addr strobe b line s =
+      let held = state (D p addr strobe b line) s p addr refl in
+      let own : t.own ≡ option_map (progress_of h past) (own_of h past p addr) = ap (λ (v : Target). v.own) s.target in
+      let some = own-some p addr t.own own s.accepted in
+      let wants = own-wants p addr t.own own s.accepted in
+      ap (λ v. (is_unique v && not (is_some t.own)) || (is_some_and t.own (λ y. awaits_store y && not y.stored) && not b && (strobe == full_line))) held
+      ∙ ap (λ v. (is_unique (state_of h past p addr) && not v) || (is_some_and t.own (λ y. awaits_store y && not y.stored) && not b && (strobe == full_line))) some
+      ∙ ap (λ v. (is_unique (state_of h past p addr) && not (has_outstanding_on h past p addr)) || (v && not b && (strobe == full_line))) wants

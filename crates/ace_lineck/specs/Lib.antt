@@ -1,0 +1,4 @@
+pub mod Holders
+pub mod Uses
+pub mod Grants
+pub mod Records
