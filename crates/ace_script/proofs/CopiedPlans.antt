@@ -1,9 +1,12 @@
 -- A plan is copied, operation by operation.
-use Rattle.std.proofs.Common.{◌≡◌, ◌≢◌, ℕ, ◌+◌, ◌-◌, ◌<◌, ◌≤◌, List, [], ◌∷◌, ◌++◌, length, take, get_or, slice_get, Option, Some, refl, sym, ap, ◌∙◌, arith}
-use Rattle.std.proofs.lemmas.List.{take_all, take_more}
+use Rattle.std.proofs.Common.{◌≡◌, ◌≢◌, ℕ, ◌+◌, ◌-◌, ◌<◌, ◌≤◌, List, [], ◌∷◌, ◌++◌, length, take, get_or, slice_get, Option, Some, Bool, true, false, IsTrue, ◌↔◌, refl, sym, ap, subst, ◌∙◌, arith}
+use Rattle.std.proofs.lemmas.List.{take_all, take_more, get_or_default}
 use Rattle.std.proofs.lemmas.Option.{get_or_from_slice_get}
 use Rattle.ace_model.specs.declared.plans.PlanOp.{PlanOp}
-use Rattle.ace_model.specs.Plans.{Plan, PlanWithRoom, longer}
+use Rattle.ace_model.specs.Plans.{Plan, PlanWithRoom, IsRightAfter, longer, most_operations}
+use Rattle.ace_script.specs.Grammar.{OperationFits, IsScript}
+use Rattle.ace_script.specs.Written.{SameSettings}
+use Rattle.ace_script.proofs.OperationReads.{script_longer}
 
 -- the first operations, and room for the others and for as many as the plan has room for
 abbrev pub copied_so_far : PlanWithRoom → ℕ → PlanWithRoom
@@ -32,3 +35,52 @@ all_copied view copy count le ge e =
     ∙ ap (λ r. record { plan = view.plan; room = r }) room
 
 pub ruleset copied_steps = (room_left, one_copied, all_copied)
+
+-- ---- plans that are pushed to, and equal plans
+
+pub pushed_script : (old new : PlanWithRoom) (o : PlanOp) (room : ℕ) → IsScript old.plan → length old.plan.operations < most_operations → IsRightAfter old.plan.header old.plan.operations o → OperationFits o
+    → new ≡ record { plan = longer old.plan o; room = room } → IsScript new.plan
+pushed_script old new o room s few right fits e = subst (λ (p : PlanWithRoom). IsScript p.plan) (sym e) (script_longer old.plan o s few right fits)
+
+pub same_parts : (one other : PlanWithRoom) → SameSettings one other → one.plan.operations ≡ other.plan.operations → one ≡ other
+same_parts one other s o =
+    ap (λ h. record { plan = record { header = h; ways = one.plan.ways; policy = one.plan.policy; operations = one.plan.operations }; room = one.room }) s.0
+    ∙ ap (λ w. record { plan = record { header = other.plan.header; ways = w; policy = one.plan.policy; operations = one.plan.operations }; room = one.room }) s.1
+    ∙ ap (λ p. record { plan = record { header = other.plan.header; ways = other.plan.ways; policy = p; operations = one.plan.operations }; room = one.room }) s.2
+    ∙ ap (λ (l : List PlanOp). record { plan = record { header = other.plan.header; ways = other.plan.ways; policy = other.plan.policy; operations = l }; room = one.room }) o
+    ∙ ap (λ r. record { plan = other.plan; room = r }) s.3
+
+pub parts_same : (one other : PlanWithRoom) → one ≡ other → SameSettings one other × (one.plan.operations ≡ other.plan.operations)
+parts_same one other e =
+    ((ap (λ (p : PlanWithRoom). p.plan.header) e, ap (λ (p : PlanWithRoom). p.plan.ways) e, ap (λ (p : PlanWithRoom). p.plan.policy) e, ap (λ (p : PlanWithRoom). p.room) e), ap (λ (p : PlanWithRoom). p.plan.operations) e)
+
+-- plans with other settings aren't equal
+pub other_settings : (one other : PlanWithRoom) → (SameSettings one other → ⊥) → IsTrue false ↔ (one ≡ other)
+other_settings one other not = ((λ t. absurd cc), (λ e. absurd (not (parts_same one other e).0)))
+
+-- plans with the same settings are equal where their operations are
+pub same_operations : (one other : PlanWithRoom) (test : Bool) → SameSettings one other → IsTrue test ↔ (one.plan.operations ≡ other.plan.operations) → IsTrue test ↔ (one ≡ other)
+same_operations one other test s told = ((λ t. same_parts one other s (told.0 t)), (λ e. told.1 (parts_same one other e).1))
+
+-- ---- equal lists of operations
+
+pub same_front : (one other : List PlanOp) (i : ℕ) (a b : PlanOp) → i < length one → i < length other → a ≡ get_or one i a → b ≡ get_or other i b → a ≡ b → take i one ≡ take i other
+    → take (i + 1) one ≡ take (i + 1) other
+same_front one other i a b lt lt' at at' is front =
+    take_more one i a lt ∙ ap (λ x. take i one ++ x ∷ []) (sym at ∙ is ∙ at') ∙ ap (λ (l : List PlanOp). l ++ get_or other i b ∷ []) front ∙ sym (take_more other i b lt')
+
+-- lists of other lengths differ
+pub other_lengths : (one other : List PlanOp) → length one ≢ length other → IsTrue false ↔ (one ≡ other)
+other_lengths one other differ = ((λ t. absurd cc), (λ e. absurd (differ (ap length e))))
+
+-- lists that differ at a place differ
+pub other_elements : (one other : List PlanOp) (i : ℕ) (a b : PlanOp) → i < length one → i < length other → a ≡ get_or one i a → b ≡ get_or other i b → (a ≡ b → ⊥) → IsTrue false ↔ (one ≡ other)
+other_elements one other i a b lt lt' at at' differ =
+    ((λ t. absurd cc), (λ e. absurd (differ (at ∙ ap (λ (l : List PlanOp). get_or l i a) e ∙ get_or_default other i a b lt' ∙ sym at'))))
+
+-- lists with one front as long as both are equal
+pub all_same : (one other : List PlanOp) (i : ℕ) → length one ≤ i → length one ≡ length other → take i one ≡ take i other → IsTrue true ↔ (one ≡ other)
+all_same one other i le lengths front =
+    ((λ t. sym (take_all i one le) ∙ front ∙ take_all i other (omega (arith, le, lengths))), (λ e. refl))
+
+pub ruleset same_steps = (same_front, other_lengths, other_elements, all_same)

@@ -6,18 +6,21 @@ use Rattle.std.proofs.lemmas.Bool.Decides.{nat_tests}
 use Rattle.std.proofs.Math.Nat.{pow-le-pow_right}
 use Rattle.rand_pcg.specs.Lcg.{Lcg, started, increment_of}
 use Rattle.rand_pcg.specs.Pcg.{pcg32, multiplier_64}
+use Rattle.ace_codes.specs.declared.kind.ArKind.TheVariants as read
 use Rattle.ace_event.specs.Ports.{IsHeader}
+use Rattle.ace_event.specs.Range.{IsLine}
 use Rattle.ace_tables.specs.Answers.{same_test}
 use Rattle.ace_grammar.proofs.Visible.{all-append}
 use Rattle.ace_model.specs.Trace.{implies, is_none_or, is_some_and}
 use Rattle.ace_model.specs.AddressRules.{is_aligned}
 use Rattle.ace_model.specs.Transactions.{is_ace}
 use Rattle.ace_model.specs.declared.plans.Op.{Op}
+use Rattle.ace_model.specs.declared.plans.Op.TheVariants.{Ld, Ldx, St, Stx, Fill, Pf, Wb, Wc, Ro, Cs, Ci, Rn, Wu, Wlu, Wn, Mb, Sb, Dvm}
 use Rattle.ace_model.specs.declared.plans.PlanOp.{PlanOp}
 use Rattle.ace_model.specs.declared.plans.PolicyWord.TheVariants.{Mixed}
 use Rattle.ace_model.specs.Plans.{Plan, IsRightAfter, longer, line_named, wants_no_snoop, is_lite_operation, is_in_range, is_word_number, is_of_one_class, most_operations}
 use Rattle.ace_script.specs.Grammar.{OpFits, OperationFits, IsScript}
-use Rattle.ace_script.specs.Generated.{generated_header, repeated, snooped_address, unsnooped_address, drawn_place, ace_op, lite_op, drawn_operation, drawn}
+use Rattle.ace_script.specs.Generated.{generated_header, repeated, repeated_line, snooped_address, unsnooped_address, drawn_place, ace_op, lite_op, drawn_operation, drawn}
 use Rattle.ace_script.proofs.OperationReads.{script_longer}
 
 -- the lines from 8000 on are those that aren't snooped
@@ -55,11 +58,15 @@ parted_all op (o ∷ before) h all =
 -- ---- what is drawn
 
 -- in range, of the widths, and of its half of the lines
-abbrev IsFine : Op → Type 0
-IsFine op = (is_in_range op ≡ true) × OpFits op × IsParted op
+record IsFine (op : Op) : Type 0 where
+  range : is_in_range op ≡ true
+  fits : OpFits op
+  parted : IsParted op
 
-abbrev IsFineLite : Op → Type 0
-IsFineLite op = IsFine op × (is_lite_operation op ≡ true)
+-- and for an ACE-Lite port
+record IsFineLite (op : Op) : Type 0 where
+  fine : IsFine op
+  for_lite : is_lite_operation op ≡ true
 
 either : (P : Op → Type 0) (b : Bool) (one other : Op) → P one → P other → P (cond b one other)
 either P true one other h k = h
@@ -104,40 +111,93 @@ strobe_fits x =
     let le : 2 ^ (16 * drawn_place x) ≤ 2 ^ 48 = pow-le-pow_right {n = 2} (omega arith) {i = 16 * drawn_place x} {j = 48} most in
     omega (arith, le)
 
+line_fits : (y : ℕ) → y < 2 ^ 32 → IsLine (repeated_line y)
+line_fits y h = let word = word_fits y h in (refl, (word, (word, (word, (word, tt)))))
+
+placed : (x : ℕ) → is_aligned (snooped_address x) && is_word_number (drawn_place x) ≡ true
+placed x = and_from (is_aligned (snooped_address x)) (is_word_number (drawn_place x)) (snooped_aligned x) (place_right x)
+
+alone : (x : ℕ) → is_aligned (snooped_address x) && true ≡ true
+alone x = aligned_alone (snooped_address x) (snooped_aligned x)
+
+other_alone : (x : ℕ) → is_aligned (unsnooped_address x) && true ≡ true
+other_alone x = aligned_alone (unsnooped_address x) (unsnooped_aligned x)
+
+ld_fine : (x : ℕ) → IsFine (Ld (snooped_address x) (drawn_place x))
+ld_fine x = record { range = placed x; fits = address_fits x; parted = snooped_parted x }
+
+st_fine : (x y : ℕ) → y < 2 ^ 32 → IsFine (St (snooped_address x) (drawn_place x) (repeated y))
+st_fine x y h = record { range = placed x; fits = (address_fits x, word_fits y h); parted = snooped_parted x }
+
+ldx_fine : (x : ℕ) → IsFine (Ldx (snooped_address x) (drawn_place x))
+ldx_fine x = record { range = placed x; fits = address_fits x; parted = snooped_parted x }
+
+stx_fine : (x y : ℕ) → y < 2 ^ 32 → IsFine (Stx (snooped_address x) (drawn_place x) (repeated y))
+stx_fine x y h = record { range = placed x; fits = (address_fits x, word_fits y h); parted = snooped_parted x }
+
+fill_fine : (x y : ℕ) → y < 2 ^ 32 → IsFine (Fill (snooped_address x) (repeated_line y))
+fill_fine x y h = record { range = alone x; fits = (address_fits x, line_fits y h); parted = snooped_parted x }
+
+wb_fine : (x : ℕ) → IsFine (Wb (snooped_address x))
+wb_fine x = record { range = alone x; fits = address_fits x; parted = snooped_parted x }
+
+wc_fine : (x : ℕ) → IsFine (Wc (snooped_address x))
+wc_fine x = record { range = alone x; fits = address_fits x; parted = snooped_parted x }
+
+cs_fine : (x : ℕ) → IsFine (Cs (snooped_address x))
+cs_fine x = record { range = alone x; fits = address_fits x; parted = snooped_parted x }
+
+pf_fine : (x : ℕ) → IsFine (Pf (snooped_address x) read.ReadUnique)
+pf_fine x = record { range = alone x; fits = address_fits x; parted = snooped_parted x }
+
+mb_fine : IsFine Mb
+mb_fine = record { range = refl; fits = tt; parted = refl }
+
+sb_fine : IsFine Sb
+sb_fine = record { range = refl; fits = tt; parted = refl }
+
+dvm_fine : IsFine (Dvm 0x1000)
+dvm_fine = record { range = refl; fits = omega arith; parted = refl }
+
+ro_fine : (x : ℕ) → IsFine (Ro (snooped_address x))
+ro_fine x = record { range = alone x; fits = address_fits x; parted = snooped_parted x }
+
+ci_fine : (x : ℕ) → IsFine (Ci (snooped_address x))
+ci_fine x = record { range = alone x; fits = address_fits x; parted = snooped_parted x }
+
+wu_fine : (x y : ℕ) → y < 2 ^ 32 → IsFine (Wu (snooped_address x) (0xffff * 2 ^ (16 * drawn_place x)) (repeated_line y))
+wu_fine x y h = record { range = alone x; fits = (address_fits x, strobe_fits x, line_fits y h); parted = snooped_parted x }
+
+wlu_fine : (x y : ℕ) → y < 2 ^ 32 → IsFine (Wlu (snooped_address x) (repeated_line y))
+wlu_fine x y h = record { range = alone x; fits = (address_fits x, line_fits y h); parted = snooped_parted x }
+
+rn_fine : (x : ℕ) → IsFine (Rn (unsnooped_address x))
+rn_fine x = record { range = other_alone x; fits = other_fits x; parted = unsnooped_parted x }
+
+wn_fine : (x y : ℕ) → y < 2 ^ 32 → IsFine (Wn (unsnooped_address x) 0xffff_ffff_ffff_ffff (repeated_line y))
+wn_fine x y h = record { range = other_alone x; fits = (other_fits x, omega arith, line_fits y h); parted = unsnooped_parted x }
+
+-- the strobe of a word isn't cut
+pub whole_strobe : (w : ℕ) → w ≤ 3 → 0xffff * 2 ^ (16 * w) % 2 ^ 64 ≡ 0xffff * 2 ^ (16 * w)
+whole_strobe w h =
+    let most : 16 * w ≤ 48 = omega (arith, h) in
+    let le : 2 ^ (16 * w) ≤ 2 ^ 48 = pow-le-pow_right {n = 2} (omega arith) {i = 16 * w} {j = 48} most in
+    omega (arith, le)
+
 ace_fine : (pick x y : ℕ) → y < 2 ^ 32 → IsFine (ace_op pick x y)
 ace_fine pick x y h =
-    let placed = and_from (is_aligned (snooped_address x)) (is_word_number (drawn_place x)) (snooped_aligned x) (place_right x) in
-    let alone = aligned_alone (snooped_address x) (snooped_aligned x) in
-    let fits = address_fits x in
-    let word = word_fits y h in
-    let parted = snooped_parted x in
-    either IsFine _ _ _ (placed, fits, parted)
-    (either IsFine _ _ _ (placed, (fits, word), parted)
-    (either IsFine _ _ _ (placed, fits, parted)
-    (either IsFine _ _ _ (placed, (fits, word), parted)
-    (either IsFine _ _ _ (alone, (fits, (refl, (word, (word, (word, (word, tt)))))), parted)
-    (either IsFine _ _ _ (alone, fits, parted)
-    (either IsFine _ _ _ (alone, fits, parted)
-    (either IsFine _ _ _ (alone, fits, parted)
-    (either IsFine _ _ _ (alone, fits, parted)
-    (either IsFine _ _ _ (refl, tt, refl) (refl, omega arith, refl))))))))))
+    either IsFine _ _ _ (ld_fine x) (either IsFine _ _ _ (st_fine x y h) (either IsFine _ _ _ (ldx_fine x) (either IsFine _ _ _ (stx_fine x y h)
+    (either IsFine _ _ _ (fill_fine x y h) (either IsFine _ _ _ (wb_fine x) (either IsFine _ _ _ (wc_fine x) (either IsFine _ _ _ (cs_fine x)
+    (either IsFine _ _ _ (pf_fine x) (either IsFine _ _ _ mb_fine dvm_fine)))))))))
+
+lite : (op : Op) → IsFine op → is_lite_operation op ≡ true → IsFineLite op
+lite op fine e = record { fine = fine; for_lite = e }
 
 lite_fine : (pick x y : ℕ) → y < 2 ^ 32 → IsFineLite (lite_op pick x y)
 lite_fine pick x y h =
-    let alone = aligned_alone (snooped_address x) (snooped_aligned x) in
-    let other = aligned_alone (unsnooped_address x) (unsnooped_aligned x) in
-    let fits = address_fits x in
-    let word = word_fits y h in
-    let parted = snooped_parted x in
-    either IsFineLite _ _ _ ((alone, fits, parted), refl)
-    (either IsFineLite _ _ _ ((alone, (fits, strobe_fits x, (refl, (word, (word, (word, (word, tt)))))), parted), refl)
-    (either IsFineLite _ _ _ ((alone, (fits, (refl, (word, (word, (word, (word, tt)))))), parted), refl)
-    (either IsFineLite _ _ _ ((alone, fits, parted), refl)
-    (either IsFineLite _ _ _ ((alone, fits, parted), refl)
-    (either IsFineLite _ _ _ ((refl, tt, refl), refl)
-    (either IsFineLite _ _ _ ((refl, tt, refl), refl)
-    (either IsFineLite _ _ _ ((other, other_fits x, unsnooped_parted x), refl)
-    ((other, (other_fits x, omega arith, (refl, (word, (word, (word, (word, tt)))))), unsnooped_parted x), refl))))))))
+    either IsFineLite _ _ _ (lite _ (ro_fine x) refl) (either IsFineLite _ _ _ (lite _ (wu_fine x y h) refl) (either IsFineLite _ _ _ (lite _ (wlu_fine x y h) refl)
+    (either IsFineLite _ _ _ (lite _ (cs_fine x) refl) (either IsFineLite _ _ _ (lite _ (ci_fine x) refl) (either IsFineLite _ _ _ (lite _ mb_fine refl)
+    (either IsFineLite _ _ _ (lite _ sb_fine refl) (either IsFineLite _ _ _ (lite _ (rn_fine x) refl) (lite _ (wn_fine x y h) refl))))))))
 
 -- ---- the plan so far
 
@@ -159,22 +219,22 @@ ace_stands : (before : List PlanOp) (p : ℕ) (op : Op) → p < 4 → eqb p 3 �
 ace_stands before p op h e fine all = (
   record {
     port = port_in p h;
-    range = fine.0;
-    allowed = and_from _ _ (ap (λ b. implies (not b) (is_lite_operation op)) (ace_port p h e)) (parted_all op before fine.2 all);
+    range = fine.range;
+    allowed = and_from _ _ (ap (λ b. implies (not b) (is_lite_operation op)) (ace_port p h e)) (parted_all op before fine.parted all);
   },
-  fine.1,
-  fine.2,
+  fine.fits,
+  fine.parted,
 )
 
 lite_stands : (before : List PlanOp) (p : ℕ) (op : Op) → p < 4 → IsFineLite op → AllByRecursion (λ o. IsParted o.op) before → StandsAfter before (record { port = p; op = op })
 lite_stands before p op h fine all = (
   record {
     port = port_in p h;
-    range = fine.0.0;
-    allowed = and_from _ _ (ap (implies (not (is_ace generated_header p))) fine.1 ∙ anything (is_ace generated_header p)) (parted_all op before fine.0.2 all);
+    range = fine.fine.range;
+    allowed = and_from _ _ (ap (implies (not (is_ace generated_header p))) fine.for_lite ∙ anything (is_ace generated_header p)) (parted_all op before fine.fine.parted all);
   },
-  fine.0.1,
-  fine.0.2,
+  fine.fine.fits,
+  fine.fine.parted,
 )
   where
     anything : (b : Bool) → implies (not b) true ≡ true

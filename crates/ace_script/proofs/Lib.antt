@@ -12,3 +12,4 @@ pub mod ShortLines
 pub mod OneReading
 pub mod Waiting
 pub mod CopiedPlans
+pub mod EveryReading

@@ -115,10 +115,11 @@ same_operation h before one other few p q e =
     ok_is one other (sym (operation_again h before one few p) ∙ ap (operation_of h before) fields ∙ operation_again h before other few q)
 
 told : (h : Header) (before : List PlanOp) (line : List ℕ) (r : Result PlanOp Reason) → operation_of h before (cut line) ≡ r
-    → ((o : PlanOp) × IsLineOf h before line o) ⊎ ((why : Reason) × HasReason h before line why)
-told h before line (Ok o) e = inl (o, line_takes h before line o (sym e))
+    → ((o : PlanOp) × IsRightAfter h before o × OperationFits o × (operation_text o ≡ line)) ⊎ ((why : Reason) × HasReason h before line why)
+told h before line (Ok o) e = let t = line_takes h before line o (sym e) in inl (o, t.0, t.1, t.2)
 told h before line (Err why) e = inr (why, line_reason h before line why (sym e))
 
 -- each line is that of an operation that can stand there, or has a reason
-pub operation_or_reason : (h : Header) (before : List PlanOp) (line : List ℕ) → ((o : PlanOp) × IsLineOf h before line o) ⊎ ((why : Reason) × HasReason h before line why)
+pub operation_or_reason : (h : Header) (before : List PlanOp) (line : List ℕ)
+    → ((o : PlanOp) × IsRightAfter h before o × OperationFits o × (operation_text o ≡ line)) ⊎ ((why : Reason) × HasReason h before line why)
 operation_or_reason h before line = told h before line (operation_of h before (cut line)) refl

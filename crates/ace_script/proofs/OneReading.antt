@@ -168,12 +168,12 @@ one_bad_header bytes number number' one other p q = same_bad header_lines 1 byte
 -- ---- the header of a script
 
 -- the bytes behind each header line
-header_regroup : (a b c d operations rest : List ℕ) → ((a ++ (b ++ (c ++ d))) ++ operations) ++ rest ≡ a ++ (b ++ (c ++ (d ++ (operations ++ rest))))
+pub header_regroup : (a b c d operations rest : List ℕ) → ((((a ++ b) ++ c) ++ d) ++ operations) ++ rest ≡ a ++ (b ++ (c ++ (d ++ (operations ++ rest))))
 header_regroup a b c d operations rest =
-    append_assoc (a ++ (b ++ (c ++ d))) operations rest ∙ append_assoc a (b ++ (c ++ d)) (operations ++ rest)
-    ∙ ap (λ (l : List ℕ). a ++ l) (append_assoc b (c ++ d) (operations ++ rest) ∙ ap (λ (l : List ℕ). b ++ l) (append_assoc c d (operations ++ rest)))
+    append_assoc (((a ++ b) ++ c) ++ d) operations rest ∙ append_assoc ((a ++ b) ++ c) d (operations ++ rest)
+    ∙ append_assoc (a ++ b) c (d ++ (operations ++ rest)) ∙ append_assoc a b (c ++ (d ++ (operations ++ rest)))
 
-script_is_good : (plan : Plan) (bytes rest : List ℕ) → IsScript plan → bytes ≡ plan_text plan ++ rest → AreGood header_lines bytes (operations_text plan.operations ++ rest)
+abbrev script_is_good : (plan : Plan) (bytes rest : List ℕ) → IsScript plan → bytes ≡ plan_text plan ++ rest → AreGood header_lines bytes (operations_text plan.operations ++ rest)
 script_is_good plan bytes rest s e = (
   first_text,
   _,
@@ -251,8 +251,8 @@ one_reading bytes one other end end' p q =
     let header = same_ports one.header other.header r.header s.header r.version s.version b.0 in
     let ways = same_ways one.ways other.ways r.most_ways s.most_ways c.0 in
     let policy = same_policy one.policy other.policy p.script.policy_fits q.script.policy_fits d.0 in
-    let next : AreNext one.header [] one.operations = (r.operations, p.script.operations_fit, r.few) in
-    let next' : AreNext one.header [] other.operations = subst (λ h. AreNext h [] other.operations) (sym header) (s.operations, q.script.operations_fit, s.few) in
+    let next : AreNext one.header [] one.operations = (r.operations, p.script.operations_fit, omega (arith, r.few)) in
+    let next' : AreNext one.header [] other.operations = subst (λ h. AreNext h [] other.operations) (sym header) (s.operations, q.script.operations_fit, omega (arith, s.few)) in
     let ends = ends_at one end p.text.0 p.text.2 in
     let ends' : EndsAt one.header other.operations end' q.text.0 = subst (λ h. EndsAt h other.operations end' q.text.0) (sym header) (ends_at other end' q.text.0 q.text.2) in
     let same = same_operations one.header [] one.operations other.operations end end' p.text.0 q.text.0 (few_ports one.header r.header r.version) next next' d.1 ends ends' in

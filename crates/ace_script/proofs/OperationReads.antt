@@ -31,7 +31,7 @@ script_longer plan o s few right fits = record {
   operations_fit = all-append OperationFits plan.operations (o ∷ []) s.operations_fit (fits, tt);
 }
 
-operations_text-more : (operations : List PlanOp) (o : PlanOp) → operations_text (operations ++ o ∷ []) ≡ operations_text operations ++ line_text (operation_text o)
+pub operations_text-more : (operations : List PlanOp) (o : PlanOp) → operations_text (operations ++ o ∷ []) ≡ operations_text operations ++ line_text (operation_text o)
 operations_text-more operations o =
     flat_map-append (λ o. line_text (operation_text o)) operations (o ∷ []) ∙ ap (λ (l : List ℕ). operations_text operations ++ l) (append-nil (line_text (operation_text o)))
 

@@ -104,6 +104,12 @@ pub fn one_reason()
         → h.ports ≤ 16 → HasReason h before line reason → IsRightAfter h before o × OperationFits o → operation_text o ≢ line }
 {}
 
+/// Every list of bytes has a reading: a bad header, or a plan and an ending.
+pub fn some_reading()
+    ensures { (bytes : List ℕ) → ((number : ℕ) × (reason : Reason) × HasBadHeader bytes number reason)
+        ⊎ ((plan : Plan) × (end : Ending) × Reads bytes plan end) }
+{}
+
 /// The text of a plan reads as that plan.
 pub fn text_reads_back()
     ensures { (plan : Plan) → IsScript plan → Reads (plan_text plan) plan Whole }

@@ -1,5 +1,8 @@
 // A plan that a script can have.
-ghost use Rattle.std.specs.Prelude.{◌≡◌, ◌+◌, [], length, IfOk};
+ghost use Rattle.std.specs.Prelude.{◌≡◌, ◌≢◌, ◌↔◌, ◌+◌, ◌-◌, [], length, IsTrue, IfOk};
+ghost use Rattle.ace_model.specs.Plans.{IsRightAfter, longer};
+ghost use Rattle.ace_script.specs.Grammar.{IsScript};
+ghost use Rattle.ace_script.specs.Written.{SameSettings};
 
 use crate::laws::{every_operation_fits, every_policy_fits};
 use ace_event::Header;
@@ -90,14 +93,12 @@ impl Plan {
     }
 
     /// Puts the operation at the end, where it can stand there, and takes one from the room. It takes no memory.
-    #[tactic(auto, using(crate::proofs::OperationReads::script_longer))]
     pub fn push(&mut self, port: u8, op: Op)
         requires room { self.old.room ≢ 0 }
         requires right { IsRightAfter self.old.plan.header self.old.plan.operations (record { port = port; op = op }) }
         ensures { self.new ≡ record { plan = longer self.old.plan (record { port = port; op = op }); room = self.old.room - 1 } }
     {
-        every_operation_fits(op);
-        self.view.push(PlanOp { port, op });
+        push_right(&mut self.view, PlanOp { port, op });
     }
 
     /// The same plan again, with the same room.
@@ -119,14 +120,63 @@ impl Plan {
     pub fn same(&self, other: &Plan) -> bool
         ensures { IsTrue result ↔ (self.now ≡ other.now) }
     {
-        let one = self.view();
-        let other = other.view();
-        one.header() == other.header()
-            && one.ways() == other.ways()
-            && one.policy() == other.policy()
-            && one.operations() == other.operations()
-            && one.room() == other.room()
+        are_same(self.view(), other.view())
     }
+}
+
+/// Puts an operation that can stand there at the end of a plan that has room for it.
+fn push_right(view: &mut PlanView, o: PlanOp)
+    requires script { IsScript view.old.plan }
+    requires room { view.old.room ≢ 0 }
+    requires right { IsRightAfter view.old.plan.header view.old.plan.operations o }
+    ensures value { view.new ≡ record { plan = longer view.old.plan o; room = view.old.room - 1 } }
+    ensures script { IsScript view.new.plan }
+{
+    every_operation_fits(o.op);
+    view.push(o);
+}
+
+/// Whether two operations are equal.
+fn is_same_operation(one: PlanOp, other: PlanOp) -> bool
+    ensures { IsTrue result ↔ (one ≡ other) }
+{
+    one == other
+}
+
+/// Whether the operations are equal, one by one.
+#[tactic(auto, using(crate::proofs::CopiedPlans::same_steps))]
+fn are_same_operations(one: &[PlanOp], other: &[PlanOp]) -> bool
+    ensures { IsTrue result ↔ (one.now ≡ other.now) }
+{
+    if one.len() != other.len() {
+        return false;
+    }
+    for i in 0..one.len() {
+        if !is_same_operation(one[i], other[i]) {
+            return false;
+        }
+    }
+    true
+}
+
+/// Whether all but the operations is equal.
+fn are_same_settings(one: &PlanView, other: &PlanView) -> bool
+    ensures { IsTrue result ↔ SameSettings one.now other.now }
+{
+    one.header() == other.header()
+        && one.ways() == other.ways()
+        && one.policy() == other.policy()
+        && one.room() == other.room()
+}
+
+/// Whether the plans are equal.
+fn are_same(one: &PlanView, other: &PlanView) -> bool
+    ensures { IsTrue result ↔ (one.now ≡ other.now) }
+{
+    if !are_same_settings(one, other) {
+        return false;
+    }
+    are_same_operations(one.operations(), other.operations())
 }
 
 /// A plan like this one, without its operations, with room for them and for those that it has room for.

@@ -1,11 +1,12 @@
 // The text of a plan is written to a sink, in large pieces.
-ghost use Rattle.std.specs.Prelude.{◌≡◌, ◌≤◌, ◌+◌, ◌++◌, ◌∷◌, [], ℕ, List, Option, length, OnOk, OnErr};
+ghost use Rattle.std.specs.Prelude.{◌≡◌, ◌≤◌, ◌+◌, ◌++◌, ◌∷◌, [], ℕ, List, Option, length, codes, OnOk, OnErr};
 ghost use Rattle.std.specs.Io.KnownBytes.{Appends};
 ghost use Rattle.std.specs.List.{join_with_byte};
 ghost use Rattle.ace_io.specs.Faults.{HasCause};
 ghost use Rattle.ace_event.specs.Ports.{IsHeader};
 ghost use Rattle.ace_event.specs.Text.{hex_text, line_digits, line_text};
-ghost use Rattle.ace_script.specs.Text.{fetch_text, op_fields, operation_text, operations_text, script_header, cache_text, policy_text};
+ghost use Rattle.ace_script.specs.Text.{fetch_text, op_fields, operation_text, operations_text, plan_text, script_header, cache_text, policy_text};
+ghost use Rattle.ace_model.specs.declared.plans.PolicyWord.TheVariants.{Mixed};
 ghost use Rattle.ace_script.specs.Written.{IsWaiting, GivesFront};
 
 use crate::Plan;
@@ -78,8 +79,8 @@ fn push_strobed(text: &mut TextBuf, word: &[u8], addr: u32, strobe: u64, line: &
 /// Those of a read ahead.
 fn push_fetch(text: &mut TextBuf, addr: u32, kind: ArKind)
     requires room { length text.old + 32 ≤ 4096 }
-    ensures value { text.new ≡ text.old ++ 112 ∷ 102 ∷ 32 ∷ hex_text 8 addr ++ 32 ∷ fetch_text kind }
-    ensures len { length text.new ≤ length text.old + 13 }
+    ensures value { text.new ≡ text.old ++ codes "pf" ++ 32 ∷ hex_text 8 addr ++ 32 ∷ fetch_text kind }
+    ensures len { length text.new ≤ length text.old + 19 }
 {
     push_addressed(text, b"pf", addr);
     text.append(match kind {
@@ -137,6 +138,16 @@ fn push_operation(text: &mut TextBuf, o: &PlanOp)
     text.push(b'\n');
 }
 
+/// The fourth header line of a mixed policy, with its line feed.
+fn push_mixed(text: &mut TextBuf, n: u64)
+    requires room { length text.old + 32 ≤ 4096 }
+    ensures { text.new ≡ text.old ++ line_text (policy_text (Mixed n)) }
+{
+    text.append(b"POLICY mixed");
+    text.push_number(16, u128::from(n));
+    text.push(b'\n');
+}
+
 /// The fourth header line, with its line feed.
 fn push_policy(text: &mut TextBuf, policy: PolicyWord)
     requires room { length text.old + 32 ≤ 4096 }
@@ -145,11 +156,7 @@ fn push_policy(text: &mut TextBuf, policy: PolicyWord)
     match policy {
         PolicyWord::Keep => text.append(b"POLICY keep\n"),
         PolicyWord::Eager => text.append(b"POLICY eager\n"),
-        PolicyWord::Mixed(n) => {
-            text.append(b"POLICY mixed");
-            text.push_number(16, u128::from(n));
-            text.push(b'\n')
-        }
+        PolicyWord::Mixed(n) => push_mixed(text, n),
     }
 }
 
@@ -165,20 +172,20 @@ fn push_cache(text: &mut TextBuf, ways: u8)
     text.push(b'\n');
 }
 
-/// The header lines.
-fn push_header(text: &mut TextBuf, view: &PlanView)
-    requires header { IsHeader view.now.plan.header }
-    requires empty { text.old ≡ [] }
-    ensures { text.new ≡ script_header view.now.plan }
+/// The text of the header lines.
+fn header_text(view: &PlanView) -> TextBuf
+    requires { IsHeader view.now.plan.header }
+    ensures { result ≡ script_header view.now.plan }
 {
+    let mut text = TextBuf::empty();
     text.append(b"ACE SCRIPT 1\n");
     text.push_ports(&view.header());
-    push_cache(text, view.ways());
-    push_policy(text, view.policy());
+    push_cache(&mut text, view.ways());
+    push_policy(&mut text, view.policy());
+    text
 }
 
 /// Gives the text that waits where it has more bytes than these.
-#[tactic(auto, using(crate::proofs::Waiting::waiting_steps))]
 fn give_over<K: Sink>(sink: &mut K, text: &mut TextBuf, most: usize) -> Result<(), WriteErr>
     ensures kept { OnOk result ((before : Option (List ℕ)) (whole : List ℕ) → IsWaiting before (K.held sink.old) text.old whole
         → IsWaiting before (K.held sink.new) text.new whole) }
@@ -199,7 +206,6 @@ fn give_over<K: Sink>(sink: &mut K, text: &mut TextBuf, most: usize) -> Result<(
 }
 
 /// Adds the lines of the operations to the text, and gives it in pieces.
-#[tactic(auto, using(crate::proofs::Waiting::waiting_steps))]
 fn give_operations<K: Sink>(
     sink: &mut K,
     text: &mut TextBuf,
@@ -220,27 +226,35 @@ fn give_operations<K: Sink>(
     give_over(sink, text, 0)
 }
 
+/// Writes the text of the plan.
+fn give_plan<K: Sink>(sink: &mut K, view: &PlanView) -> Result<(), WriteErr>
+    requires { IsHeader view.now.plan.header }
+    ensures text { OnOk result (Appends (K.held sink.old) (K.held sink.new) (plan_text view.now.plan)) }
+    ensures part { OnErr result (GivesFront (K.held sink.old) (K.held sink.new) (plan_text view.now.plan)) }
+    ensures cause { HasCause (K.faults sink.old) (K.faults sink.new) result }
+{
+    let mut text = header_text(view);
+    give_operations(sink, &mut text, view.operations())
+}
+
 impl Plan {
     ghost use Rattle.std.specs.Prelude.{OnOk, OnErr};
     ghost use Rattle.std.specs.Io.KnownBytes.{Appends};
     ghost use Rattle.ace_io.specs.Faults.{HasCause};
     ghost use Rattle.ace_script.specs.Text.{plan_text};
-    ghost use Rattle.ace_script.specs.Written.{GivesFront};
+    ghost use Rattle.ace_model.specs.declared.plans.PolicyWord.TheVariants.{Mixed};
+ghost use Rattle.ace_script.specs.Written.{GivesFront};
 
     /// Writes the text of the script.
     ///
     /// # Errors
     ///
     /// `WriteFault` where the sink's count of faults rose in this call. What was given is then a front of the text.
-    #[tactic(auto, using(crate::proofs::Waiting::waiting_steps))]
     pub fn put<K: Sink>(&self, sink: &mut K) -> Result<(), WriteErr>
         ensures text { OnOk result (Appends (K.held sink.old) (K.held sink.new) (plan_text self.now.plan)) }
         ensures part { OnErr result (GivesFront (K.held sink.old) (K.held sink.new) (plan_text self.now.plan)) }
         ensures cause { HasCause (K.faults sink.old) (K.faults sink.new) result }
     {
-        let view = self.view();
-        let mut text = TextBuf::empty();
-        push_header(&mut text, view);
-        give_operations(sink, &mut text, view.operations())
+        give_plan(sink, self.view())
     }
 }

@@ -7,6 +7,6 @@ returns-in-Ok-NoLf-clause-none g c =
     let cut = rw c.in-Ok-NoLf.field-0-is at c.in-Ok-NoLf.ensures.line in (
       omega (arith, c.count-count.ensures.value, c.count-count.ensures.bound),
       omega (arith, c.from.ensures, c.count-count.ensures.value),
-      cut_line_is_bad _ _ _ _ c.next.new.into c.in-Ok-NoLf.ensures.no_lf cut.0 cut.2 cut.3,
+      cut_line_is_bad c.args.view.now.plan.header c.args.view.now.plan.operations _ _ c.next.new.into c.in-Ok-NoLf.ensures.no_lf cut.0 cut.2 cut.3,
       c.in-Ok-NoLf.ensures.cause.steady,
     )
