@@ -18,10 +18,11 @@ use Rattle.ace_model.specs.declared.plans.Op.{Op}
 use Rattle.ace_model.specs.declared.plans.Op.TheVariants.{Ld, Ldx, St, Stx, Fill, Pf, Wb, Wc, Ro, Cs, Ci, Rn, Wu, Wlu, Wn, Mb, Sb, Dvm}
 use Rattle.ace_model.specs.declared.plans.PlanOp.{PlanOp}
 use Rattle.ace_model.specs.declared.plans.PolicyWord.TheVariants.{Mixed}
-use Rattle.ace_model.specs.Plans.{Plan, IsRightAfter, longer, line_named, wants_no_snoop, is_lite_operation, is_in_range, is_word_number, is_of_one_class, most_operations}
+use Rattle.ace_model.specs.Plans.{Plan, PlanWithRoom, IsRightAfter, longer, line_named, wants_no_snoop, is_lite_operation, is_in_range, is_word_number, is_of_one_class, most_operations}
 use Rattle.ace_script.specs.Grammar.{OpFits, OperationFits, IsScript}
-use Rattle.ace_script.specs.Generated.{generated_header, repeated, repeated_line, snooped_address, unsnooped_address, drawn_place, ace_op, lite_op, drawn_operation, drawn}
+use Rattle.ace_script.specs.Generated.{generated, generated_count, generated_header, repeated, repeated_line, snooped_address, unsnooped_address, drawn_place, ace_op, lite_op, drawn_operation, drawn}
 use Rattle.ace_script.proofs.OperationReads.{script_longer}
+use Rattle.ace_script.proofs.CopiedPlans.{same_parts}
 
 -- the lines from 8000 on are those that aren't snooped
 abbrev pub IsParted : Op → Type 0
@@ -299,8 +300,22 @@ next_drawn operations total (suc left) words some e =
     ap (λ k. (operations ++ o ∷ []) ++ drawn k (pcg32 (pcg32 words).1).1) one_less
     ∙ append_assoc operations (o ∷ []) (drawn left (pcg32 (pcg32 words).1).1) ∙ e
 
+-- the same of words that were drawn
+pub next_of_words : (operations total : List PlanOp) (left x y : ℕ) (words next last : Lcg) → 0 < left → (x, next) ≡ pcg32 words → (y, last) ≡ pcg32 next → operations ++ drawn left words ≡ total
+    → (operations ++ drawn_operation x y ∷ []) ++ drawn (left - 1) last ≡ total
+next_of_words operations total left x y words next last some first second e =
+    let one = subst (λ (p : ℕ × Lcg). (operations ++ drawn_operation p.0 (pcg32 p.1).0 ∷ []) ++ drawn (left - 1) (pcg32 p.1).1 ≡ total) (sym first) (next_drawn operations total left words some e) in
+    subst (λ (p : ℕ × Lcg). (operations ++ drawn_operation x p.0 ∷ []) ++ drawn (left - 1) p.1 ≡ total) (sym second) one
+
 pub all_drawn : (operations total : List PlanOp) (words : Lcg) → operations ++ drawn 0 words ≡ total → operations ≡ total
 unfolding drawn
 all_drawn operations total words e = sym (append-nil operations) ∙ e
 
-pub ruleset generating_steps = (nothing_drawn, one_drawn, next_drawn, all_drawn)
+-- once nothing is left to draw, it is the plan of the number
+pub generated_whole : (view : PlanWithRoom) (n left : ℕ) (words : Lcg) → left ≡ 0 → IsDrawn view.plan → view.plan.ways ≡ 4 → view.plan.policy ≡ Mixed n → view.room ≡ 0
+    → view.plan.operations ++ drawn left words ≡ drawn generated_count (started 64 multiplier_64 n (increment_of 64 1)) → view ≡ record { plan = generated n; room = 0 }
+generated_whole view n left words none d ways policy room e =
+    let operations = all_drawn view.plan.operations _ words (ap (λ k. view.plan.operations ++ drawn k words) (sym none) ∙ e) in
+    same_parts view (record { plan = generated n; room = 0 }) (d.header, ways, policy, room) operations
+
+pub ruleset generating_steps = (nothing_drawn)

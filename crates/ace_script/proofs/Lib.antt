@@ -12,4 +12,5 @@ pub mod ShortLines
 pub mod OneReading
 pub mod Waiting
 pub mod CopiedPlans
+pub mod SamePlans
 pub mod EveryReading

@@ -2,12 +2,17 @@
 ghost use Rattle.std.specs.Prelude.{◌≡◌, ◌≢◌, ◌↔◌, ◌+◌, ◌-◌, [], length, IsTrue, IfOk};
 ghost use Rattle.ace_model.specs.Plans.{IsRightAfter, longer};
 ghost use Rattle.ace_script.specs.Grammar.{IsScript};
+ghost use Rattle.ace_event.specs.Text.{line_text};
+ghost use Rattle.ace_script.specs.Text.{operation_text, operations_text};
 ghost use Rattle.ace_script.specs.Written.{SameSettings};
 
+use crate::header::is_text;
 use crate::laws::{every_operation_fits, every_policy_fits};
+use crate::put::push_operation;
 use ace_event::Header;
 use ace_io::NoMemory;
 use ace_model::{Op, PlanOp, PlanView, PolicyWord};
+use ace_writer::TextBuf;
 use std::alloc::Global;
 use std::marker::Model;
 
@@ -136,23 +141,35 @@ fn push_right(view: &mut PlanView, o: PlanOp)
     view.push(o);
 }
 
-/// Whether two operations are equal.
-fn is_same_operation(one: PlanOp, other: PlanOp) -> bool
-    ensures { IsTrue result ↔ (one ≡ other) }
+/// The line of an operation.
+fn line_of(o: &PlanOp) -> TextBuf
+    ensures { result ≡ line_text (operation_text o.now) }
 {
-    one == other
+    let mut text = TextBuf::empty();
+    push_operation(&mut text, o);
+    text
 }
 
-/// Whether the operations are equal, one by one.
-#[tactic(auto, using(crate::proofs::CopiedPlans::same_steps))]
-fn are_same_operations(one: &[PlanOp], other: &[PlanOp]) -> bool
-    ensures { IsTrue result ↔ (one.now ≡ other.now) }
+/// Whether the operations have one line.
+fn have_one_line(one: &PlanOp, other: &PlanOp) -> bool
+    ensures { IsTrue result ↔ (line_text (operation_text one.now) ≡ line_text (operation_text other.now)) }
+{
+    let text = line_of(one);
+    let other_text = line_of(other);
+    is_text(text.bytes(), other_text.bytes())
+}
+
+/// Whether the operations have one text, line by line.
+#[tactic(auto, using(crate::proofs::SamePlans::same_steps))]
+fn have_one_text(one: &[PlanOp], other: &[PlanOp]) -> bool
+    ensures text { IsTrue result → operations_text one.now ≡ operations_text other.now }
+    ensures itself { one.now ≡ other.now → IsTrue result }
 {
     if one.len() != other.len() {
         return false;
     }
     for i in 0..one.len() {
-        if !is_same_operation(one[i], other[i]) {
+        if !have_one_line(&one[i], &other[i]) {
             return false;
         }
     }
@@ -169,14 +186,16 @@ fn are_same_settings(one: &PlanView, other: &PlanView) -> bool
         && one.room() == other.room()
 }
 
-/// Whether the plans are equal.
+/// Whether the plans are equal: scripts with one text are one plan.
 fn are_same(one: &PlanView, other: &PlanView) -> bool
+    requires one { IsScript one.now.plan }
+    requires other { IsScript other.now.plan }
     ensures { IsTrue result ↔ (one.now ≡ other.now) }
 {
     if !are_same_settings(one, other) {
         return false;
     }
-    are_same_operations(one.operations(), other.operations())
+    have_one_text(one.operations(), other.operations())
 }
 
 /// A plan like this one, without its operations, with room for them and for those that it has room for.

@@ -128,7 +128,7 @@ fn push_op(text: &mut TextBuf, op: Op)
 }
 
 /// The line of an operation, with its line feed.
-fn push_operation(text: &mut TextBuf, o: &PlanOp)
+pub fn push_operation(text: &mut TextBuf, o: &PlanOp)
     requires room { length text.old + 256 ≤ 4096 }
     ensures { text.new ≡ text.old ++ line_text (operation_text o.now) }
 {

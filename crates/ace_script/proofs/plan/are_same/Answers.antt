@@ -1,5 +1,6 @@
 use Rattle.std.proofs.lemmas.Bool.{iff_false}
-use Rattle.ace_script.proofs.CopiedPlans.{other_settings, same_operations}
+use Rattle.ace_script.proofs.CopiedPlans.{other_settings}
+use Rattle.ace_script.proofs.SamePlans.{same_by_text}
 use Rattle.ace_script.proofs.plan.are_same.Goals as goal
 
 pub returns-then-not-are_same_settings : goal.returns-then-not-are_same_settings
@@ -7,5 +8,5 @@ returns-then-not-are_same_settings c = other_settings c.args.one.now c.args.othe
 
 pub returns : goal.returns
 returns c =
-    same_operations c.args.one.now c.args.other.now c.are_same_operations.result (c.are_same_settings.ensures.0 c.if-not-are_same_settings.false)
-    (rw (c.operations.ensures, c.operations-2.ensures) at c.are_same_operations.ensures)
+    same_by_text c.args.one.now c.args.other.now c.have_one_text.result c.requires.one c.requires.other (c.are_same_settings.ensures.0 c.if-not-are_same_settings.false)
+    (rw (c.operations.ensures, c.operations-2.ensures) at c.have_one_text.ensures.text) (rw (c.operations.ensures, c.operations-2.ensures) at c.have_one_text.ensures.itself)
