@@ -32,7 +32,7 @@ impl TextBuf {
     }
 
     /// A space and so many digits of a number.
-    pub(crate) fn push_number(&mut self, count: u32, n: u128)
+    pub fn push_number(&mut self, count: u32, n: u128)
         requires count { count ≤ 32 }
         requires room { length self.old + 1 + count ≤ 4096 }
         ensures value { self.new ≡ self.old ++ 32 ∷ hex_text count n }
@@ -120,7 +120,7 @@ impl TextBuf {
     }
 
     /// A space and the digits of a line.
-    pub(crate) fn push_line(&mut self, line: &Line)
+    pub fn push_line(&mut self, line: &Line)
         requires room { length self.old + 129 ≤ 4096 }
         ensures value { self.new ≡ self.old ++ 32 ∷ line_digits line.now }
         ensures len { length self.new ≡ length self.old + 129 }

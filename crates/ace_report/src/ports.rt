@@ -1,0 +1,54 @@
+//! What each port did.
+
+ghost use Rattle.std.specs.Prelude.{◌≡◌, ◌<◌, ◌-◌, ◌^◌, ◌∷◌, [], IfOk, length};
+ghost use Rattle.ace_model.specs.Trace.{Trace};
+ghost use Rattle.ace_report.specs.Heard.{PortsStand};
+
+use crate::no_memory::NoMemory;
+use crate::tally::PortTally;
+use ace_event::Event;
+use std::alloc::Global;
+
+/// So many ports that did nothing yet.
+pub(crate) fn no_counts(alloc: Global, ports: u8) -> Result<Vec<PortTally>, NoMemory>
+    ensures len { IfOk result (λ v. length v.items ≡ ports) }
+    ensures ports { IfOk result (λ v. PortsStand [] v.items) }
+{
+    let none = PortTally {
+        loads: 0,
+        stores: 0,
+        reads: 0,
+        writes: 0,
+    };
+    vec![in alloc; none; usize::from(ports)].map_err(|_| NoMemory)
+}
+
+/// Counts the event at its port.
+pub(crate) fn count(ports: &mut [PortTally], event: &Event)
+    ensures len { length ports.new ≡ length ports.old }
+    ensures ports { (past : Trace) → length past < 2 ^ 64 - 2 → PortsStand past ports.old → PortsStand (event.now ∷ past) ports.new }
+{
+    match *event {
+        Event::L { port, .. } => {
+            if let Some(tally) = ports.get_mut(usize::from(port)) {
+                tally.loads = tally.loads.saturating_add(1);
+            }
+        }
+        Event::D { port, .. } => {
+            if let Some(tally) = ports.get_mut(usize::from(port)) {
+                tally.stores = tally.stores.saturating_add(1);
+            }
+        }
+        Event::Ar { port, .. } => {
+            if let Some(tally) = ports.get_mut(usize::from(port)) {
+                tally.reads = tally.reads.saturating_add(1);
+            }
+        }
+        Event::Aw { port, .. } => {
+            if let Some(tally) = ports.get_mut(usize::from(port)) {
+                tally.writes = tally.writes.saturating_add(1);
+            }
+        }
+        _ => {}
+    }
+}
