@@ -4,7 +4,7 @@ use Rattle.std.proofs.lemmas.Bool.{and_parts, and_right, or_cases, or_parts, cas
 use Rattle.std.proofs.lemmas.List.{length-take}
 use Rattle.std.proofs.lemmas.Option.{slice_get_within}
 use Rattle.ace_model.proofs.Terms.{LineState, Channel, Read, Write, Event, Ar, R, Rk, Aw, W, B, Wk, M, Header, Transaction, Trace, IsAccepted, at_point, is_some_and, more, has_write_data, is_read, same_channel, has_name, is_named, issued, ended}
-use Rattle.ace_model.proofs.Terms.{write_kind, transaction_of, outstanding, acknowledged, newest_named, without, is_memory_write, has_memory_write, may_write_memory, may_write_data, may_write_passed, data_write, data_write_in, data_writes, beats, beat_at, burst_of, is_burst_whole}
+use Rattle.ace_model.proofs.Terms.{write_kind, transaction_of, outstanding, acknowledged, newest_named, without, is_memory_write, has_memory_write, may_write_memory, may_write_data, may_write_passed, option_filter, is_data_write_of, issued, data_writes, beats, beat_at, burst_of, is_burst_whole}
 use Rattle.ace_model.proofs.General.Booleans.{else_of}
 use Rattle.ace_model.proofs.General.Lists.{slice_get-more, start-more, start-length}
 use Rattle.ace_model.proofs.General.Options.{some_if-is, Some-injective, is_some_and-at}
@@ -108,7 +108,7 @@ pub record IsDataWrite (past : Trace) (p m : ℕ) (x : Transaction) : Type 0 whe
   pub sends : is_some_and (write_kind x) has_write_data ≡ true
   pub start : start_of past x ≡ m
 
-data_write-is : (o : Option Transaction) (p : ℕ) (x : Transaction) → data_write_in o p ≡ Some x
+data_write-is : (o : Option Transaction) (p : ℕ) (x : Transaction) → option_filter (is_data_write_of p) o ≡ Some x
     → (o ≡ Some x) × (x.port ≡ p) × (is_some_and (write_kind x) has_write_data ≡ true)
 data_write-is None p x e = cc
 data_write-is (Some y) p x e =
@@ -124,7 +124,7 @@ data_write-is (Some y) p x e =
 pub data_write-at : (past : Trace) (p m : ℕ) (x : Transaction) → slice_get (data_writes past p) m ≡ Some x → IsDataWrite past p m x
 data_write-at [] p m x there = cc
 data_write-at (e ∷ past) p m x there =
-    elim (slice_get-more (data_writes past p) (data_write (length past) e p) m x there) [
+    elim (slice_get-more (data_writes past p) (option_filter (is_data_write_of p) (issued (length past) e)) m x there) [
       | inl old ↦
           let d = data_write-at past p m x old in
           let at = at_point-before e past x.place (let low = d.issued.before in omega arith) in
@@ -185,7 +185,7 @@ pub filling_unwritten : (h : Header) (past : Trace) → IsAccepted h past → (p
     → slice_get (data_writes past p) m ≡ Some x → Unwritten h past p x.id x
 filling_unwritten h [] a p m x low there = cc
 filling_unwritten h (e ∷ past) a p m x low there =
-    elim (slice_get-more (data_writes past p) (data_write (length past) e p) m x there) [
+    elim (slice_get-more (data_writes past p) (option_filter (is_data_write_of p) (issued (length past) e)) m x there) [
       | inl old ↦
           let grown = start-length (beats past p) (beats (e ∷ past) p) (start-more (beats past p) (beat_at (beats past p) (data_writes past p) e p)) in
           let before : length (beats past p) / 4 ≤ m = omega (arith, grown, low) in
