@@ -10,8 +10,8 @@ use Rattle.ace_portck.specs.declared.target.Target.{Target}
 use Rattle.ace_portck.specs.Targets.{target_of}
 
 -- The event comes next in an accepted trace, with its target, and with memory of its line before it.
-pub record IsNext (h : Header) (past : Trace) (e : Event) (t : Target) (memory : Line) : Type 0 where
+pub record IsNext (h : Header) (past : Trace) (e : Event) (t : Target) (before : Line) : Type 0 where
   pub accepted : IsAccepted h (e ∷ past)
   pub target : t ≡ target_of h past e
-  pub memory : (l : ℕ) → t.line ≡ Some l → memory ≡ memory_of past l
+  pub memory : (l : ℕ) → t.line ≡ Some l → before ≡ memory_of past l
   pub few : length past < 2 ^ 64 - 2

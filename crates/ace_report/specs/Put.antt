@@ -1,5 +1,5 @@
 -- Text that goes to a sink by way of a page, from which it is given in large pieces.
-use Rattle.std.specs.Prelude.{ℕ, ◌≡◌, ◌×◌, List, ◌++◌, Option}
+use Rattle.std.specs.Prelude.{ℕ, ◌≡◌, List, ◌++◌, Option}
 use Rattle.std.specs.Io.KnownBytes.{Appends}
 
 -- a front of the text was appended
