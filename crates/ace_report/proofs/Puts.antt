@@ -1,5 +1,5 @@
 -- Text that goes to a sink by way of a page: one piece after the other.
-use Rattle.std.proofs.Common.{◌≡◌, ◌≤◌, ℕ, List, [], ◌++◌, Option, length, take, drop, refl, sym, ap, subst, ◌∙◌, append_assoc, append-nil, take-append-drop, arith, Result, Ok}
+use Rattle.std.proofs.Common.{◌≡◌, ◌≤◌, ℕ, List, [], ◌++◌, Option, length, take, drop, refl, sym, ap, subst, ◌∙◌, append_assoc, append-nil, take-append-drop, arith, Result, Ok, Err, OnOk, OnErr}
 use Rattle.std.proofs.lemmas.List.{take_all, nil_from_length}
 use Rattle.std.specs.Io.KnownBytes.{Appends}
 use Rattle.std.proofs.KnownBytes.{Appends-nil, Appends-trans}
@@ -59,15 +59,16 @@ pub no_room : (h0 h1 h2 : Option (List ℕ)) (p0 p1 text rest : List ℕ) → Pu
 no_room h0 h1 h2 p0 p1 text rest first second = part_next h0 h1 h2 p0 p1 text [] rest first second
 
 -- nothing was under way before, and nothing stands on the page at the end
-pub all_put : (old new : Option (List ℕ)) (page text : List ℕ) → length page ≤ 0 → Puts old [] text new page [] → Appends old new text
-all_put old new page text none puts =
-    let a = puts old [] (record { given = []; cut = refl; bytes = Appends-nil old }) in
+pub all_put : (old new : Option (List ℕ)) (start page text : List ℕ) → start ≡ [] → length page ≤ 0 → Puts old start text new page [] → Appends old new text
+all_put old new start page text clear none puts =
+    let a = subst (λ p. Puts old p text new page []) clear puts old [] (record { given = []; cut = refl; bytes = Appends-nil old }) in
     let empty : page ≡ [] = nil_from_length page (omega (arith, none)) in
     let is : a.1.given ≡ text = sym (append-nil a.1.given) ∙ ap (λ p. a.1.given ++ p) (sym empty) ∙ sym a.1.cut ∙ sym (append-nil a.0) ∙ a.2 in
     subst (Appends old new) is a.1.bytes
 
-pub part_put : (old new : Option (List ℕ)) (text : List ℕ) → PutsPart old [] text new → AppendsPart old new text
-part_put old new text part = part old [] (record { given = []; cut = refl; bytes = Appends-nil old })
+pub part_put : (old new : Option (List ℕ)) (start text : List ℕ) → start ≡ [] → PutsPart old start text new → AppendsPart old new text
+part_put old new start text clear part =
+    subst (λ p. PutsPart old p text new) clear part old [] (record { given = []; cut = refl; bytes = Appends-nil old })
 
 -- nothing of the text is left
 pub none_left : (h0 h1 : Option (List ℕ)) (p0 p1 text left : List ℕ) → left ≡ [] → Puts h0 p0 text h1 p1 left → Puts h0 p0 text h1 p1 []
@@ -93,5 +94,17 @@ part_first h0 h1 p0 next rest first = part_next h0 h0 h1 p0 p0 (next ++ rest) ne
 pub cause_kept : {T E : Type 0} (before between now : ℕ) (r s : Result T E) → between ≡ before → r ≡ s → HasCause between now r → HasCause before now s
 cause_kept before between now r s same is cause = subst (HasCause before now) is (subst (λ n. HasCause n now r) same cause)
 
-pub no_cause : {T E : Type 0} (before now : ℕ) (x : T) → now ≡ before → HasCause {T} {E} before now (Ok x)
+pub no_cause : {T E : Type 0} (before now : ℕ) (x : T) → now ≡ before → HasCause {T = T} {E = E} before now (Ok x)
 no_cause before now x same = record { later = omega (arith, same); steady = same; failed = tt }
+
+-- what the last giving of the page leaves
+pub whole_given : {T E : Type 0} (r : Result T E) (h0 h1 h2 : Option (List ℕ)) (start p1 p2 text : List ℕ) → start ≡ [] → Puts h0 start text h1 p1 []
+    → OnOk r (Puts h1 p1 [] h2 p2 []) → OnOk r (length p2 ≤ 0) → OnOk r (Appends h0 h2 text)
+whole_given (Ok x) h0 h1 h2 start p1 p2 text clear first given none =
+    all_put h0 h2 start p2 text clear none (puts_next h0 h1 h2 start p1 p2 text [] [] first given)
+whole_given (Err e) h0 h1 h2 start p1 p2 text clear first given none = tt
+
+pub part_given : {T E : Type 0} (r : Result T E) (h0 h1 h2 : Option (List ℕ)) (start p1 text : List ℕ) → start ≡ [] → Puts h0 start text h1 p1 []
+    → OnErr r (PutsPart h1 p1 [] h2) → OnErr r (AppendsPart h0 h2 text)
+part_given (Ok x) h0 h1 h2 start p1 text clear first given = tt
+part_given (Err e) h0 h1 h2 start p1 text clear first given = part_put h0 h2 start text clear (part_next h0 h1 h2 start p1 text [] [] first given)

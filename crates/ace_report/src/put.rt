@@ -1,9 +1,7 @@
 //! The text of a report is put to a sink, in large pieces.
 
 ghost use Rattle.std.specs.Prelude.{◌≡◌, ◌≤◌, ◌++◌, [], length, OnOk, OnErr};
-ghost use Rattle.std.specs.BTreeMap.{IsOrdered};
 ghost use Rattle.std.specs.Io.KnownBytes.{Appends};
-ghost use Rattle.std.specs.Ordering.{nat_cmp};
 ghost use Rattle.std.specs.List.{flat_map};
 ghost use Rattle.ace_io.specs.Faults.{HasCause};
 ghost use Rattle.ace_report.specs.Lines.{ports_text, line_line, load_line};
@@ -13,7 +11,7 @@ use crate::tally::{LineTally, Load, PortTally};
 use crate::text::{LINE_LIMIT, push_line, push_load, push_port};
 use ace_io::{Failed, Sink, give_all};
 use ace_writer::{TEXT_ROOM, TextBuf};
-use std::collections::BTreeMap;
+use std::collections::btree_map::Iter;
 
 /// Gives what stands on the page, where it has more bytes than these.
 fn give_over<K: Sink>(sink: &mut K, page: &mut TextBuf, most: usize) -> Result<(), Failed>
@@ -58,10 +56,9 @@ fn put_ports<K: Sink>(sink: &mut K, page: &mut TextBuf, ports: &[PortTally]) -> 
 }
 
 /// Puts the line of each line of memory.
-fn put_lines<K: Sink>(sink: &mut K, page: &mut TextBuf, lines: &BTreeMap<u32, LineTally>) -> Result<(), Failed>
-    ensures whole { OnOk result (Puts (K.held sink.old) page.old (flat_map line_line lines.now.entries) (K.held sink.new) page.new []) }
-    ensures part { OnErr result (PutsPart (K.held sink.old) page.old (flat_map line_line lines.now.entries) (K.held sink.new)) }
-    ensures ordered { IsOrdered nat_cmp lines.now }
+fn put_lines<K: Sink>(sink: &mut K, page: &mut TextBuf, lines: Iter<'_, u32, LineTally>) -> Result<(), Failed>
+    ensures whole { OnOk result (Puts (K.held sink.old) page.old (flat_map line_line lines) (K.held sink.new) page.new []) }
+    ensures part { OnErr result (PutsPart (K.held sink.old) page.old (flat_map line_line lines) (K.held sink.new)) }
     ensures cause { HasCause (K.faults sink.old) (K.faults sink.new) result }
 {
     for (line, tally) in lines {
@@ -89,12 +86,11 @@ fn put_loads<K: Sink>(sink: &mut K, page: &mut TextBuf, loads: &[Load]) -> Resul
 }
 
 /// Puts the lines of the ports, of the lines of memory and of the loads, and gives all that stands on the page, which is empty at first.
-pub(crate) fn put_all<K: Sink>(sink: &mut K, ports: &[PortTally], lines: &BTreeMap<u32, LineTally>, loads: &[Load]) -> Result<(), Failed>
+pub(crate) fn put_all<K: Sink>(sink: &mut K, ports: &[PortTally], lines: Iter<'_, u32, LineTally>, loads: &[Load]) -> Result<(), Failed>
     ensures whole { OnOk result (Appends (K.held sink.old) (K.held sink.new)
-        (ports_text 0 ports.now ++ flat_map line_line lines.now.entries ++ flat_map load_line loads.now)) }
+        (ports_text 0 ports.now ++ flat_map line_line lines ++ flat_map load_line loads.now)) }
     ensures part { OnErr result (AppendsPart (K.held sink.old) (K.held sink.new)
-        (ports_text 0 ports.now ++ flat_map line_line lines.now.entries ++ flat_map load_line loads.now)) }
-    ensures ordered { IsOrdered nat_cmp lines.now }
+        (ports_text 0 ports.now ++ flat_map line_line lines ++ flat_map load_line loads.now)) }
     ensures cause { HasCause (K.faults sink.old) (K.faults sink.new) result }
 {
     let mut page = TextBuf::empty();

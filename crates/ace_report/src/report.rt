@@ -84,6 +84,6 @@ impl Report {
             → OnErr result (AppendsPart (K.held sink.old) (K.held sink.new) (report_text h past)) }
         ensures cause { HasCause (K.faults sink.old) (K.faults sink.new) result }
     {
-        put_all(sink, &self.ports, &self.lines, &self.loads)
+        put_all(sink, &self.ports, self.lines.iter(), &self.loads)
     }
 }

@@ -9,7 +9,7 @@ use Rattle.ace_report.proofs.Puts.{none_put, line_next, none_left, no_room, caus
 use Rattle.ace_report.proofs.put.put_lines.Goals as goal
 
 pub loop-line-init : goal.loop-line-init
-loop-line-init g c = record { puts = subst (λ es. Puts _ _ (flat_map line_line c.args.lines.now.entries) _ _ (flat_map line_line es)) (sym c.into_iter-line-iterator.ensures.into_iter_gives.0) (none_put _ _ _); steady = refl }
+loop-line-init g c = record { puts = rw c.into_iter-line-iterator.ensures.into_iter_gives (none_put _ _ _); steady = refl }
 
 pub returns-in-Err-clause-part : goal.returns-in-Err-clause-part
 returns-in-Err-clause-part g c = no_room _ _ _ _ _ _ _ c.loop-line.invariant.puts c.in-Err.ensures.part
