@@ -13,3 +13,4 @@ pub mod GrantLaws
 pub mod KnownLines
 pub mod AllLines
 pub mod ReplyLaws
+pub mod WriteLaws

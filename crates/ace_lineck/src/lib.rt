@@ -9,6 +9,7 @@ mod holders;
 mod kinds;
 mod lines;
 mod memory;
+mod memory_writes;
 mod record;
 mod replies;
 mod rules;
