@@ -1,33 +1,50 @@
--- What a checker stands for, and what it answers to an event. Its rules are those of today.
-use Rattle.std.specs.Prelude.{◌+◌, ◌≡◌, ◌∷◌, Option, Some, None, length, reverse, MatchOption}
+-- What a checker stands for, and what it answers to an event.
+use Rattle.std.specs.Prelude.{◌+◌, ◌≡◌, ◌≤◌, ◌<◌, ◌-◌, ◌^◌, ◌∷◌, ◌⊎◌, ◌&&◌, ℕ, Bool, true, false, not, nat_le, Option, Some, None, length, MatchOption, ⊤}
+use Rattle.std.specs.List.{AllByRecursion}
+use Rattle.ace_event.specs.Range.{FitsFields}
 use Rattle.ace_event.specs.declared.event.Event.{Event}
 use Rattle.ace_event.specs.declared.header.Header.{Header}
 use Rattle.ace_model.specs.declared.breaks.Break.{Break}
-use Rattle.ace_model.specs.Trace.{Trace}
-use Rattle.ace_model.specs.Accepted.{least_of}
-use Rattle.ace_model.specs.Today.{rules_today}
+use Rattle.ace_model.specs.Trace.{Trace, is_some_and}
+use Rattle.ace_model.specs.Transactions.{issued}
+use Rattle.ace_model.specs.Accepted.{least_broken}
+use Rattle.ace_model.specs.Lines.{known_lines, names_new_line}
+use Rattle.ace_model.specs.Coherent.{Coherent}
+use Rattle.ace_model.specs.ExclusiveHolds.{ExclusiveHolds}
+use Rattle.ace_model.specs.BarrierHolds.{BarrierHolds}
+use Rattle.ace_model.specs.DvmHolds.{DvmHolds}
+use Rattle.ace_portck.specs.Targets.{Recording}
+use Rattle.ace_portck.specs.Stands as ports
+use Rattle.ace_lineck.specs.Stands as lines
+use Rattle.ace_sysck.specs.Stands as system
 use Rattle.ace_check.specs.declared.checker.Checker.{Checker}
 use Rattle.ace_check.specs.declared.checker.Step.{Step}
 use Rattle.ace_check.specs.declared.checker.Step.TheVariants.{Fine, Broken}
 
--- the header of the trace
-abbrev pub header_of : Checker → Header
-header_of c = c.header
+-- the most lines that the transactions of a trace may name
+abbrev pub most_lines : ℕ
+most_lines = 4096
 
--- the events that were answered Fine, the newest first
-abbrev pub past_of : Checker → Trace
-past_of c = reverse c.events.items
+-- the event is an AR or AW that names one line more than a trace may have
+abbrev pub goes_over : Trace → Event → Bool
+goes_over past e = is_some_and (issued (length past) e) (names_new_line past) && nat_le most_lines (length (known_lines past))
 
--- the break that was answered, if any was
-abbrev pub break_of : Checker → Option Break
-break_of c = c.broken
+-- The checker stands for a trace under its header: for each share it keeps what there is to keep of the trace, which is accepted.
+-- The last number is the break that was answered after it, if any was.
+pub record Stands (c : Checker) (h : Header) (past : Trace) (b : Option Break) : Type 0 where
+  pub ports : ports.Stands c.ports (record { header = h; past = past })
+  pub lines : lines.Stands c.lines (record { header = h; past = past })
+  pub system : system.Stands c.system (record { header = h; past = past })
+  pub count : c.count ≡ length past
+  pub few : length past < 2 ^ 64 - 1
+  pub broken : c.broken ≡ b
+  pub fits : AllByRecursion FitsFields past
 
--- the answer is the one to this event: Fine where no break was answered and the event breaks no rule; Broken with the
--- break that was answered or, if none was, with the event's number and the least rule that it breaks
-abbrev pub IsAnswer : Checker → Event → Step → Type 0
-IsAnswer c e Fine = (break_of c ≡ None) × (least_of rules_today (header_of c) (past_of c) e ≡ None)
-IsAnswer c e (Broken index rule) =
-    MatchOption (break_of c) ((index ≡ length (past_of c) + 1) × (least_of rules_today (header_of c) (past_of c) e ≡ Some rule)) (λ b. b ≡ record { index = index; rule = rule })
+-- the answer is the one to this event: Fine where the event breaks no rule and names no line too many; Broken with its number, from
+-- 1, and the least rule that it breaks
+abbrev pub IsAnswer : Header → Trace → Event → Step → Type 0
+IsAnswer h past e Fine = (least_broken h past e ≡ None) × (goes_over past e ≡ false)
+IsAnswer h past e (Broken index rule) = (index ≡ length past + 1) × (least_broken h past e ≡ Some rule)
 
 -- the trace after the answer
 abbrev pub past_after : Trace → Event → Step → Trace
@@ -38,3 +55,10 @@ past_after past e (Broken index rule) = past
 abbrev pub break_after : Step → Option Break
 break_after Fine = None
 break_after (Broken index rule) = Some (record { index = index; rule = rule })
+
+-- What acceptance promises of a trace.
+pub record IsSound (h : Header) (past : Trace) : Type 0 where
+  pub coherent : Coherent h past
+  pub exclusive : ExclusiveHolds past
+  pub barrier : BarrierHolds past
+  pub dvm : DvmHolds h past

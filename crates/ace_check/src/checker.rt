@@ -1,10 +1,11 @@
-ghost use Rattle.std.specs.Prelude.{IsTrue, reverse};
-ghost use Rattle.ace_model.specs.Accepted.{is_accepted_by};
-ghost use Rattle.ace_model.specs.Today.{rules_today};
+ghost use Rattle.std.specs.Prelude.{◌≡◌};
+ghost use Rattle.std.specs.Prelude.{ℕ};
 
-use crate::least::least_broken;
 use ace_event::{Event, Header};
+use ace_lineck::LineCheck;
 use ace_model::Break;
+use ace_portck::{PortCheck, Target};
+use ace_sysck::SysCheck;
 use std::alloc::Global;
 use thiserror::Error;
 
@@ -20,73 +21,182 @@ pub enum Step {
 /// Why an event was not looked at.
 #[derive(Clone, Copy, Debug, PartialEq, Eq, Error)]
 pub enum CheckErr {
-    /// There is no memory for one more event.
+    /// There is no memory for one more line, or for one more snoop under way.
     #[error("out of memory")]
     NoMemory,
+    /// The event breaks no rule, and its transaction names the 4,097th line.
+    #[error("limit lines")]
+    TooManyLines,
 }
 
-/// A checker of one trace, by the rules of today. It keeps the events that broke none of them and looks back through
-/// them; after the first that breaks one it gives the same answer for good.
+/// The most lines that the transactions of a trace may name.
+const MOST_LINES: usize = 4096;
+
+/// A checker of one trace by the forty rules, in three shares: what it keeps of each port, of each line, and of the system as a
+/// whole. It keeps no event. After the first event that breaks a rule it gives the same answer for good.
 #[derive(Drop)]
 pub struct Checker {
-    header: Header,
-    events: Vec<Event>,
+    ports: PortCheck,
+    lines: LineCheck,
+    system: SysCheck,
+    count: u64,
     broken: Option<Break>,
-    ghost accepted: { IsTrue (is_accepted_by rules_today header (reverse events.items)) },
 }
 
 impl Checker {
-    ghost use Rattle.std.specs.Prelude.{◌≡◌, [], None, IfOk, OnErr, length};
-    ghost use Rattle.ace_model.specs.Accepted.{IsAcceptedBy};
-    ghost use Rattle.ace_model.specs.Unique.{Unique};
-    ghost use Rattle.ace_check.specs.Run.{header_of, past_of, break_of, IsAnswer, past_after, break_after};
+    ghost use Rattle.std.specs.Prelude.{◌≡◌, ◌⊎◌, ◌<◌, ◌-◌, ◌^◌, ◌∷◌, ℕ, [], true, false, None, Some, Ok, Err, IfOk, OnErr, length};
+    ghost use Rattle.ace_event.specs.Ports.{IsHeader};
+    ghost use Rattle.ace_event.specs.declared.header.Header.{Header};
+    ghost use Rattle.ace_model.specs.declared.breaks.Break.{Break};
+    ghost use Rattle.ace_model.specs.Trace.{Trace};
+    ghost use Rattle.ace_model.specs.Accepted.{least_broken};
+    ghost use Rattle.ace_check.specs.Run.{Stands, IsAnswer, IsSound, goes_over, past_after, break_after, MayLackMemory};
 
     /// The checker of the empty trace under this header. Its only refusal is `NoMemory`.
     pub fn new(alloc: Global, header: Header) -> Result<Checker, CheckErr>
-        ensures header { IfOk result (λ c. header_of c ≡ header) }
-        ensures past { IfOk result (λ c. past_of c ≡ []) }
-        ensures broken { IfOk result (λ c. break_of c ≡ None) }
+        requires { IsHeader header }
+        ensures { IfOk result (λ c. Stands c header [] None) }
     {
+        let Ok(ports) = PortCheck::new(alloc, header) else {
+            return Err(CheckErr::NoMemory);
+        };
+        let Ok(lines) = LineCheck::new(alloc, header) else {
+            return Err(CheckErr::NoMemory);
+        };
+        let Ok(system) = SysCheck::new(alloc, header) else {
+            return Err(CheckErr::NoMemory);
+        };
         Ok(Checker {
-            header,
-            events: Vec::new(alloc),
+            ports,
+            lines,
+            system,
+            count: 0,
             broken: None,
         })
     }
 
-    /// Looks at the next event of the trace, and keeps it where it is fine. Its only refusal is `NoMemory`, after which
-    /// the checker is as it was; an event that breaks a rule takes no memory.
+    /// Looks at the next event of the trace, of fewer than 2^64 - 1. Where it breaks no rule, the checker stands for the longer
+    /// trace. Where it breaks one, that break is the answer from then on. `TooManyLines` comes exactly where the event breaks no
+    /// rule and names line 4,097; `NoMemory` only where more snoops of a port are under way than ever before, at the first
+    /// transaction or MEM of a line, and at the first exclusive grant of a line. After either the checker stands where it did.
     pub fn feed(&mut self, event: &Event) -> Result<Step, CheckErr>
-        ensures answer { IfOk result (IsAnswer self.old event.now) }
-        ensures past { IfOk result (λ s. past_of self.new ≡ past_after (past_of self.old) event.now s) }
-        ensures broken { IfOk result (λ s. break_of self.new ≡ break_after s) }
-        ensures header { header_of self.new ≡ header_of self.old }
-
-        ensures err_fine { OnErr result (IsAnswer self.old event.now Step.Fine) }
-        ensures err_past { OnErr result (past_of self.new ≡ past_of self.old) }
-        ensures err_broken { OnErr result (break_of self.new ≡ break_of self.old) }
-
-        ensures accepted { IsAcceptedBy rules_today (header_of self.new) (past_of self.new) }
-        ensures unique { Unique (header_of self.new) (past_of self.new) }
+        ensures answer { (h : Header) (past : Trace) → Stands self.old h past None → IfOk result (IsAnswer h past event.now) }
+        ensures stands { (h : Header) (past : Trace) → Stands self.old h past None → length past < 2 ^ 64 - 2
+            → IfOk result (λ s. Stands self.new h (past_after past event.now s) (break_after s)) }
+        ensures stays { (h : Header) (past : Trace) → Stands self.old h past None → OnErr result (Stands self.new h past None) }
+        ensures too_many { (h : Header) (past : Trace) → Stands self.old h past None → result ≡ Err CheckErr.TooManyLines
+            → (least_broken h past event.now ≡ None) × (goes_over past event.now ≡ true) }
+        ensures no_memory { (h : Header) (past : Trace) → Stands self.old h past None → result ≡ Err CheckErr.NoMemory
+            → MayLackMemory h past event.now }
+        ensures broken { (h : Header) (past : Trace) (b : Break) → Stands self.old h past (Some b)
+            → (result ≡ Ok (Step.Broken b.index b.rule)) × Stands self.new h past (Some b) }
+        ensures sound { (h : Header) (past : Trace) → Stands self.old h past None → result ≡ Ok Step.Fine → IsSound h (event.now ∷ past) }
     {
         if let Some(Break { index, rule }) = self.broken {
             return Ok(Step::Broken { index, rule });
         }
-        if let Some(rule) = least_broken(&self.header, self.events.as_slice(), event) {
-            let index = self.events.len() as u64 + 1;
+        let target = self.ports.target(event);
+        let failed = self.has_failed(&target);
+        if let Some(rule) = self.least_broken(event, &target, failed) {
+            let index = self.count.wrapping_add(1);
             self.broken = Some(Break { index, rule });
             return Ok(Step::Broken { index, rule });
         }
-        match self.events.push(*event) {
-            Ok(()) => Ok(Step::Fine),
-            Err(_) => Err(CheckErr::NoMemory),
+        if self.goes_over(event, &target) {
+            return Err(CheckErr::TooManyLines);
+        }
+        self.take(event, &target, failed)
+    }
+}
+
+impl Checker {
+    ghost use Rattle.std.specs.Prelude.{◌≡◌, ◌<◌, ◌-◌, ◌^◌, ◌∷◌, ℕ, true, false, None, Some, Ok, Err, IfOk, OnOk, OnErr, length};
+    ghost use Rattle.ace_event.specs.declared.event.Event.{Event};
+    ghost use Rattle.ace_event.specs.declared.header.Header.{Header};
+    ghost use Rattle.ace_model.specs.declared.breaks.Break.{Break};
+    ghost use Rattle.ace_model.specs.Trace.{Trace, is_some_and};
+    ghost use Rattle.ace_model.specs.Accepted.{least_broken};
+    ghost use Rattle.ace_model.specs.Lines.{has_failed_on};
+    ghost use Rattle.ace_portck.specs.Targets.{target_of, line_in};
+    ghost use Rattle.ace_check.specs.Run.{Stands, MayTake, goes_over, MayLackMemory};
+
+    /// The granted transaction of the event's line is an exclusive store that failed.
+    fn has_failed(&self, target: &Target) -> bool
+        ensures { (h : Header) (past : Trace) (e : Event) (b : Option Break) → Stands self.now h past b → target.now ≡ target_of h past e
+            → result ≡ is_some_and (line_in h past e) (has_failed_on h past) }
+    {
+        match target.line {
+            None => false,
+            Some(line) => match self.lines.granted(line) {
+                Some((port, Channel::Read, id)) => self.system.failed(port, id),
+                _ => false,
+            },
         }
     }
 
-    /// How many events were answered `Fine`.
-    pub fn count(&self) -> u64
-        ensures { result ≡ length (past_of self.now) }
+    /// The least rule that the event breaks.
+    fn least_broken(&self, event: &Event, target: &Target, failed: bool) -> Option<u8>
+        ensures { (h : Header) (past : Trace) (b : Option Break) → Stands self.now h past b → target.now ≡ target_of h past event.now
+            → failed ≡ is_some_and (line_in h past event.now) (has_failed_on h past) → result ≡ least_broken h past event.now }
     {
-        self.events.len() as u64
+        match self.ports.test(event, target) {
+            Some(1) => Some(1),
+            rule => lesser(
+                rule,
+                lesser(
+                    self.lines.test(event, target, failed),
+                    self.system.test(event, target),
+                ),
+            ),
+        }
+    }
+
+    /// The event names one line more than a trace may have.
+    fn goes_over(&self, event: &Event, target: &Target) -> bool
+        ensures { (h : Header) (past : Trace) (b : Option Break) → Stands self.now h past b → target.now ≡ target_of h past event.now
+            → result ≡ goes_over past event.now }
+    {
+        match (event, target.line) {
+            (Event::Ar { .. } | Event::Aw { .. }, Some(line)) => {
+                !self.lines.knows(line) && self.lines.lines() >= MOST_LINES
+            }
+            _ => false,
+        }
+    }
+
+    /// Takes an event that breaks no rule, once there is room for it in each share.
+    fn take(&mut self, event: &Event, target: &Target, failed: bool) -> Result<Step, CheckErr>
+        ensures fine { OnOk result (result ≡ Ok Step.Fine) }
+        ensures err { OnErr result (result ≡ Err CheckErr.NoMemory) }
+        ensures stands { (h : Header) (past : Trace) → MayTake self.old h past event.now target.now failed → length past < 2 ^ 64 - 2
+            → OnOk result (Stands self.new h (event.now ∷ past) None) }
+        ensures stays { (h : Header) (past : Trace) → MayTake self.old h past event.now target.now failed → OnErr result (Stands self.new h past None) }
+        ensures cause { (h : Header) (past : Trace) → MayTake self.old h past event.now target.now failed → OnErr result (MayLackMemory h past event.now) }
+    {
+        if self.ports.ready(event, target).is_err() {
+            return Err(CheckErr::NoMemory);
+        }
+        if self.lines.ready(event, target).is_err() {
+            return Err(CheckErr::NoMemory);
+        }
+        if self.system.ready(event, target).is_err() {
+            return Err(CheckErr::NoMemory);
+        }
+        self.ports.apply(event, target);
+        self.lines.apply(event, target, failed);
+        self.system.apply(event, target);
+        self.count = self.count.wrapping_add(1);
+        Ok(Step::Fine)
+    }
+}
+
+/// The lesser number, where there is one.
+fn lesser(a: Option<u8>, b: Option<u8>) -> Option<u8>
+    ensures { result ≡ lesser a b }
+{
+    match (a, b) {
+        (None, b) => b,
+        (a, None) => a,
+        (Some(j), Some(k)) => Some(if k < j { k } else { j }),
     }
 }

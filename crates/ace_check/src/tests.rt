@@ -1,5 +1,7 @@
 //! Short traces and their first breaks, as an independent checker gives them.
 
+ghost use Rattle.ace_event.specs.Ports.{IsHeader};
+
 use crate::{CheckErr, Checker, Step};
 use ace_codes::LineState::{self, I, SC, UC, UD};
 use ace_event::Channel::{self, Read, Write};
@@ -95,7 +97,9 @@ fn feed_all(checker: &mut Checker, events: &[Event]) -> Result<Option<(u64, u8)>
 }
 
 /// The first break of the events.
-fn alone(alloc: Global, header: Header, events: &[Event]) -> Result<Option<(u64, u8)>, CheckErr> {
+fn alone(alloc: Global, header: Header, events: &[Event]) -> Result<Option<(u64, u8)>, CheckErr>
+    requires { IsHeader header }
+{
     let mut checker = Checker::new(alloc, header)?;
     feed_all(&mut checker, events)
 }
@@ -105,7 +109,9 @@ fn after_get(
     alloc: Global,
     header: Header,
     events: &[Event],
-) -> Result<Option<(u64, u8)>, CheckErr> {
+) -> Result<Option<(u64, u8)>, CheckErr>
+    requires { IsHeader header }
+{
     let mut checker = Checker::new(alloc, header)?;
     match feed_all(&mut checker, &get(0))? {
         Some(first) => Ok(Some(first)),
@@ -147,12 +153,13 @@ fn ports_and_codes(rt: HostRuntime) -> Result<(), Fail> {
     assert!(rt; alone(alloc, TWO_ACE, &[read(2, 0, 64)])? == Some((1, 1)));
     assert!(rt; alone(alloc, ACE_AND_LITE, &[rk(1, I)])? == Some((1, 1)));
     assert!(rt; alone(alloc, ACE_AND_LITE, &[ac(1, 64, 7)])? == Some((1, 1)));
-    assert!(rt; alone(alloc, TWO_ACE, &[ar(0, 0, 64, 1, 1, 0, false)])? == Some((1, 2)));
+    assert!(rt; alone(alloc, TWO_ACE, &[read(99, 0, 64)])? == Some((1, 1)));
+    assert!(rt; alone(alloc, TWO_ACE, &[ar(0, 0, 64, 4, 1, 0, false)])? == Some((1, 2)));
     assert!(rt; alone(alloc, TWO_ACE, &[ar(0, 0, 64, 7, 0, 0, false)])? == Some((1, 2)));
     assert!(rt; alone(alloc, TWO_ACE, &[ar(0, 0, 64, 7, 1, 1, false)])? == Some((1, 2)));
     assert!(rt; alone(alloc, ACE_AND_LITE, &[read(1, 0, 64)])? == Some((1, 2)));
     assert!(rt; alone(alloc, TWO_ACE, &[r(0, 0, 2, false)])? == Some((1, 2)));
-    assert!(rt; alone(alloc, TWO_ACE, &[ac(0, 64, 9)])? == Some((1, 2)));
+    assert!(rt; alone(alloc, TWO_ACE, &[ac(0, 64, 4)])? == Some((1, 2)));
     assert!(rt; alone(alloc, TWO_ACE, &[cr(0, 2, I)])? == Some((1, 2)));
     assert!(rt; alone(alloc, TWO_ACE, &[read(0, 0, 65)])? == Some((1, 3)));
     assert!(rt; alone(alloc, TWO_ACE, &[ac(0, 96, 7)])? == Some((1, 3)));
@@ -503,9 +510,9 @@ fn acknowledges(rt: HostRuntime) -> Result<(), Fail> {
     Ok(())
 }
 
-/// The records that are not known today.
+/// Each record where nothing came before it that it could belong to.
 #[test]
-fn unknown_records(rt: HostRuntime) -> Result<(), Fail> {
+fn records_of_nothing(rt: HostRuntime) -> Result<(), Fail> {
     let alloc = rt.alloc();
     let line = Line { words: [0; 4] };
     let events = [
@@ -561,13 +568,34 @@ fn unknown_records(rt: HostRuntime) -> Result<(), Fail> {
         },
         Event::Op {
             port: 0,
-            k: 0,
+            k: 1,
             res: Outcome::Ok,
         },
         Event::Mem { addr: 64, line },
     ];
-    for e in events {
-        assert!(rt; alone(alloc, TWO_ACE, &[e])? == Some((1, 2)));
+    let rules = [6, 11, 26, 27, 17, 24, 29, 30, 32, 40, 3];
+    for k in 0..11 {
+        assert!(rt; alone(alloc, TWO_ACE, &[events[k]])? == Some((1, rules[k])));
     }
+    Ok(())
+}
+
+/// Identifiers that no text has are names like any other.
+#[test]
+fn large_identifiers(rt: HostRuntime) -> Result<(), Fail> {
+    let alloc = rt.alloc();
+    assert!(rt; alone(alloc, TWO_ACE, &[read(0, 200, 64), read(0, 200, 128)])? == Some((2, 4)));
+    assert!(rt; alone(alloc, TWO_ACE, &[read(0, 255, 64), g(0, Read, 254)])? == Some((2, 12)));
+    assert!(rt; alone(alloc, TWO_ACE, &[read(0, 255, 64), g(0, Read, 255)])?.is_none());
+    Ok(())
+}
+
+/// After the first break each answer is that break.
+#[test]
+fn stays_broken(rt: HostRuntime) -> Result<(), Fail> {
+    let mut checker = Checker::new(rt.alloc(), TWO_ACE)?;
+    assert!(rt; feed_all(&mut checker, &[rk(0, UC)])? == Some((1, 22)));
+    assert!(rt; feed_all(&mut checker, &get(0))? == Some((1, 22)));
+    assert!(rt; checker.count() == 0);
     Ok(())
 }

@@ -1,5 +1,5 @@
 -- What a reader of lines has taken from its source.
-use Rattle.std.proofs.Common.{◌≡◌, ℕ, List, [], ◌++◌, Option, None, Some, sym, ◌∙◌, append_assoc}
+use Rattle.std.proofs.Common.{◌≡◌, ℕ, List, [], ◌∷◌, ◌++◌, Option, None, Some, sym, ap, ◌∙◌, append_assoc}
 use Rattle.std.specs.List.{AllByRecursion}
 use Rattle.std.specs.Io.KnownBytes.{Consumes, IsAtEnd}
 use Rattle.ace_event.specs.declared.header.Header.{Header}
@@ -8,7 +8,7 @@ use Rattle.ace_event.specs.Text.{trace_text}
 use Rattle.ace_io.specs.Line.{in_front, CutsLine}
 use Rattle.ace_io.specs.declared.line_buf.LineEnd.{LineEnd}
 use Rattle.ace_io.specs.declared.line_buf.LineEnd.TheVariants.{Whole, NoLf, End}
-use Rattle.ace_grammar.specs.Errors.{TakesFront}
+use Rattle.ace_grammar.specs.Errors.{TakesFront, LeavesNothing}
 use Rattle.ace_grammar.specs.Reading.{Reads, Ending, Ends, IsReadable, IsReadableHeader, IfTold}
 
 -- what was given, and what it holds
@@ -22,6 +22,20 @@ pub cut_front : (old left : Option (List ℕ)) (held line : List ℕ) (end : Lin
 cut_front old left held line Whole cut = taken_front old left held _ cut.1
 cut_front old left held line NoLf cut = taken_front old left held _ cut.3
 cut_front old left held line End cut = taken_front old left held _ cut.2
+
+-- of bytes that make nothing together, the last are nothing
+last_nothing : (held rest : List ℕ) → held ++ rest ≡ [] → rest ≡ []
+last_nothing [] rest e = e
+last_nothing (byte ∷ held) rest e = absurd cc
+
+-- at the end of the input nothing was left, and nothing is, neither in hand nor in the source
+pub cut_end : (old left : Option (List ℕ)) (held line : List ℕ) → CutsLine old line End (in_front held left)
+    → IsAtEnd old × LeavesNothing old (in_front held left) × LeavesNothing old left
+cut_end None None held line cut = (tt, tt, tt)
+cut_end None (Some rest) held line cut = (tt, cut.1, last_nothing held rest cut.1)
+cut_end (Some bytes) None held line cut = absurd cut.2
+cut_end (Some bytes) (Some rest) held line cut =
+    (cut.2 ∙ ap (λ l. l ++ (held ++ rest)) cut.0 ∙ cut.1, ap Some cut.1, ap Some (last_nothing held rest cut.1))
 
 -- the bytes are the text that was consumed, and the rest
 pub split : (bytes text : List ℕ) (left : Option (List ℕ)) (P : List ℕ → Type 0) → Consumes (Some bytes) left text → IfTold left P → (rest : List ℕ) × (bytes ≡ text ++ rest) × P rest

@@ -14,6 +14,11 @@ pub record TakesFront (old new : Option (List ℕ)) : Type 0 where
   pub taken : List ℕ
   pub consumed : Consumes old new taken
 
+-- Nothing is left, and where the bytes were told before, that is told.
+abbrev pub LeavesNothing : Option (List ℕ) → Option (List ℕ) → Type 0
+LeavesNothing None new = IsAtEnd new
+LeavesNothing (Some bytes) new = new ≡ Some []
+
 -- Why there is no header, by the bytes and the count of faults before it was read, and those that the source has then.
 abbrev pub HasNoHeader : ReadErr → Option (List ℕ) → ℕ → Option (List ℕ) → ℕ → Type 0
 HasNoHeader (Malformed line reason) old faults new faults' = IfTold old (λ bytes. HasBadHeader bytes line reason) × TakesFront old new × (faults' ≡ faults)
@@ -25,7 +30,7 @@ HasNoHeader NoMemory old faults new faults' = Keeps old new × (faults' ≡ faul
 -- and those that the source has left then.
 abbrev pub StandsNext : ℕ → Result (Option Event) ReadErr → ℕ → Option (List ℕ) → Option (List ℕ) → Option (List ℕ) → Type 0
 StandsNext version (Ok (Some event)) count old new left = (count < most_events) × IsReadable version event × Consumes old new (line_text (event_text version event))
-StandsNext version (Ok None) count old new left = IsAtEnd old × IsAtEnd new
+StandsNext version (Ok None) count old new left = IsAtEnd old × LeavesNothing old new × LeavesNothing old left
 StandsNext version (Err (Malformed line reason)) count old new left = (count < most_events) × (line ≡ count + 3) × IfTold old (λ bytes. HasBadLine version bytes reason)
 StandsNext version (Err TooManyEvents) count old new left = (count ≡ most_events) × IfTold old (λ bytes. bytes ≢ [])
 StandsNext version (Err ReadFault) count old new left = IsPending old left

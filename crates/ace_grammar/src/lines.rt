@@ -85,6 +85,7 @@ pub fn read_header<S: Source>(
 }
 
 /// What stands after as many events as a trace may have: the end of the input, or more.
+#[tactic(auto, using(crate::proofs::Taken::cut_end))]
 fn read_end<S: Source>(
     lines: &mut LineReader<S>,
     line: &mut LineBuf,
@@ -102,6 +103,7 @@ fn read_end<S: Source>(
 
 /// Reads the next event of a trace of a version, after so many, or None at the end of the input after a whole line. After an error read no more.
 /// `line` is room for a line.
+#[tactic(auto, using(crate::proofs::Taken::cut_end))]
 pub fn read_event<S: Source>(
     lines: &mut LineReader<S>,
     line: &mut LineBuf,

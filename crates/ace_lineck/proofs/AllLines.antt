@@ -1,24 +1,27 @@
 -- What is kept of all lines, after an event and after room was made.
-use Rattle.std.proofs.Common.{◌≡◌, ◌⊎◌, ◌<◌, ◌≤◌, ◌+◌, ◌-◌, ◌^◌, ℕ, nat_eq, true, false, Bool, not, ◌&&◌, if◌then◌else◌, List, [], ◌∷◌, length, Option, Some, None, refl, sym, ap, subst, ◌∙◌, inl, inr, unwrap_or, arith}
+use Rattle.std.proofs.Common.{rules, ◌≡◌, ◌⊎◌, ◌<◌, ◌≤◌, ◌+◌, ◌-◌, ◌^◌, ◌%◌, ℕ, nat_eq, true, false, Bool, not, ◌&&◌, if◌then◌else◌, List, [], ◌∷◌, length, Option, Some, None, option_map, IsSome, refl, sym, ap, subst, ◌∙◌, inl, inr, unwrap_or, arith}
 use Rattle.std.proofs.lemmas.Bool.{cases_eq}
+use Rattle.std.specs.Bool.{OnTrue}
 use Rattle.indexmap.specs.IndexMap.{get}
 use Rattle.ace_model.specs.Lines.{known_lines}
-use Rattle.ace_model.proofs.Terms.{Event, Header, Trace, IsAccepted}
+use Rattle.ace_model.proofs.Terms.{Event, Header, Trace, IsAccepted, granted}
 use Rattle.ace_model.specs.Accepted.{least_broken}
 use Rattle.ace_portck.specs.Targets.{Recording, after, line_in, target_of}
 use Rattle.ace_portck.specs.declared.target.Target.{Target}
 use Rattle.ace_lineck.specs.declared.lines.LineCheck.{LineCheck}
 use Rattle.ace_lineck.specs.declared.record.LineRecord.{LineRecord}
 use Rattle.ace_lineck.specs.declared.record.Holder.{Holder}
+use Rattle.ace_lineck.specs.declared.grant.Grant.{Grant}
+use Rattle.ace_lineck.specs.declared.record.Use.TheVariants.{Unknown}
 use Rattle.ace_lineck.specs.Holders.{HoldersStand, MemoryStands, IsLineStep, holder_at, empty_holder, HasNothing}
 use Rattle.ace_lineck.specs.Grants.{GrantStands}
 use Rattle.ace_lineck.specs.Uses.{use_of, is_unknown}
-use Rattle.ace_lineck.specs.Records.{LineStands, IsRecordStep, IsFresh}
-use Rattle.ace_lineck.specs.Stands.{Stands, IsEmpty, MayApply, record_of}
+use Rattle.ace_lineck.specs.Records.{LineStands, IsRecordStep, IsFresh, name_of}
+use Rattle.ace_lineck.specs.Stands.{Stands, IsEmpty, IsAbsent, IsNewLine, HasRecord, MayApply, begins_line, record_of}
 use Rattle.ace_lineck.proofs.OnLine.{IsOff}
 use Rattle.ace_lineck.proofs.OffLine.{holders-stay, memory-stays}
 use Rattle.ace_lineck.proofs.GrantFrame.{grant_stays}
-use Rattle.ace_lineck.proofs.KnownLines.{use-stays, known-counts, known-same}
+use Rattle.ace_lineck.proofs.KnownLines.{use-stays, known-used, known-counts, known-same, few-known, line-known}
 
 -- what is kept of a line stays at an event of another
 pub line-stays : (h : Header) (past : Trace) (e : Event) → IsAccepted h (e ∷ past) → (l : ℕ) (x : LineRecord) → IsOff h past e l → LineStands h past l x → LineStands h (e ∷ past) l x
@@ -28,6 +31,11 @@ line-stays h past e a l x off s = record {
   grant = grant_stays h past e a l x.grant off s.grant;
   holders = holders-stay h past e a l x.holders.items off s.holders;
 }
+
+-- the name of the granted transaction
+pub name-granted : (h : Header) (past : Trace) (l : ℕ) (g : Option Grant) → GrantStands h past l g → option_map (λ (v : Grant). name_of v.transaction) g ≡ option_map name_of (granted h past l)
+name-granted h past l None none = sym (ap (option_map name_of) none)
+name-granted h past l (Some g) f = sym (ap (option_map name_of) f.granted)
 
 -- The record of the event's line is a new one, and each other is as it was.
 pub record IsChanged (s t : LineCheck) (line : ℕ) (x : LineRecord) : Type 0 where
@@ -122,3 +130,66 @@ made s t r line x c none known f st = record {
         let eq : x ≡ y = cc in
         subst (λ (v : LineRecord). length v.holders.items ≡ r.header.ports) eq fresh.count
     rooms l y is (inr off) = st.holders l y (sym (c.others l off) ∙ is)
+
+-- a line without a record is one that no transaction has named
+pub absent-new : (s : LineCheck) (r : Recording) (line : Option ℕ) → Stands s r → IsAbsent s line → IsNewLine r.past line
+absent-new s r None st none = none
+absent-new s r (Some l) st none =
+    let was : record_of s l ≡ s.empty = ap (λ v. unwrap_or v s.empty) none in
+    let used : use_of r.past l ≡ Unknown = sym (st.lines l).used ∙ ap (λ (v : LineRecord). v.used) was ∙ st.empty.used in
+    known-used r.past l ∙ ap (λ v. not (is_unknown v)) used
+
+-- where the event may be next, its line has a record
+pub has-record : (s : LineCheck) (r : Recording) (e : Event) (t : Target) → MayApply s r e t → (l : ℕ) → t.line ≡ Some l → get nat_eq s.lines l ≡ None → ⊥
+has-record s r e t m l line none = by (begins_line e) refl
+  where
+    on : line_in r.header r.past e ≡ Some l
+    on = ap (λ (v : Target). v.line) (sym m.target) ∙ line
+    by : (b : Bool) → begins_line e ≡ b → ⊥
+    by false is =
+        let known = line-known r.header r.past l e (m.stands.accepted, m.kept) is on in
+        let new = absent-new s r (Some l) m.stands none in
+        let bad : false ≡ true = sym new ∙ known in cc
+    by true is =
+        let room : HasRecord s t.line = subst (λ b. OnTrue b (HasRecord s t.line)) is m.room in
+        let here : IsSome (get nat_eq s.lines l) = subst (HasRecord s) line room in
+        let bad = subst IsSome none here in absurd (search (rules, bad))
+
+-- what is kept of the line of the event
+pub line-step : (s : LineCheck) (r : Recording) (e : Event) (t : Target) → MayApply s r e t → (l : ℕ) → t.line ≡ Some l → (x : LineRecord) → get nat_eq s.lines l ≡ Some x
+    → IsRecordStep r.header r.past l e t x
+line-step s r e t m l line x at = record {
+  step = record { header = m.stands.ports; accepted = (m.stands.accepted, m.kept); target = m.target; line = line };
+  stands = subst (LineStands r.header r.past l) (ap (λ v. unwrap_or v s.empty) at) (m.stands.lines l);
+  room = m.stands.holders l x at;
+}
+
+-- how many lines are known after the event
+counts : (s : LineCheck) (r : Recording) (e : Event) (t : Target) → MayApply s r e t → (l : ℕ) → t.line ≡ Some l → (x y : LineRecord) → LineStands r.header r.past l x
+    → LineStands r.header (e ∷ r.past) l y
+    → length (known_lines (e ∷ r.past)) ≡ (if is_unknown x.used && not (is_unknown y.used) then s.known + 1 else s.known)
+counts s r e t m l line x y old new =
+    let on : line_in r.header r.past e ≡ Some l = ap (λ (v : Target). v.line) (sym m.target) ∙ line in
+    let known = m.stands.known in
+    let used = old.used in
+    let uses = new.used in
+    rw (known, used, uses) (known-counts r.header r.past e l on)
+
+pub applied-then : (s t : LineCheck) (r : Recording) (e : Event) (g : Target) → MayApply s r e g → (l : ℕ) → g.line ≡ Some l → (x y : LineRecord) → IsRecordStep r.header r.past l e g x
+    → LineStands r.header (e ∷ r.past) l y → length y.holders.items ≡ length x.holders.items → (is_unknown x.used && not (is_unknown y.used)) ≡ true → IsChanged s t l y
+    → t.known ≡ (s.known + 1) % 18446744073709551616 → Stands t (after r e)
+applied-then s t r e g m l line x y step new room grows c known =
+    changed s t r e l y c m.stands m.kept (ap (λ (v : Target). v.line) (sym m.target) ∙ line) new (room ∙ step.room)
+    (let n : length (known_lines (e ∷ r.past)) ≡ s.known + 1 = rw grows at (counts s r e g m l line x y step.stands new) in
+        let low = few-known r.past in
+        let count = m.stands.known in
+        let few = m.few in
+        let fits : (s.known + 1) % 18446744073709551616 ≡ s.known + 1 = omega arith in
+        known ∙ fits ∙ sym n)
+
+pub applied-else : (s t : LineCheck) (r : Recording) (e : Event) (g : Target) → MayApply s r e g → (l : ℕ) → g.line ≡ Some l → (x y : LineRecord) → IsRecordStep r.header r.past l e g x
+    → LineStands r.header (e ∷ r.past) l y → length y.holders.items ≡ length x.holders.items → (is_unknown x.used && not (is_unknown y.used)) ≡ false → IsChanged s t l y
+    → t.known ≡ s.known → Stands t (after r e)
+applied-else s t r e g m l line x y step new room same c known =
+    changed s t r e l y c m.stands m.kept (ap (λ (v : Target). v.line) (sym m.target) ∙ line) new (room ∙ step.room)
+    (let n : length (known_lines (e ∷ r.past)) ≡ s.known = rw same at (counts s r e g m l line x y step.stands new) in known ∙ sym n)

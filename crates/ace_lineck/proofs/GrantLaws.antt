@@ -10,7 +10,7 @@ use Rattle.ace_model.specs.Lines.{has_failed_on}
 use Rattle.ace_model.specs.Shares.{k18_line}
 use Rattle.ace_model.specs.States.{owes_wack}
 use Rattle.ace_model.proofs.Terms.{Header, Trace, Channel, Read, Event, G, Ac, R, IsAccepted, implies, is_some_and, is_none_or, is_ace, is_read, is_line, is_on, is_transaction, read_kind, snoop_of, takes_grant, takes_passed_data, outstanding, transfers, is_complete}
-use Rattle.ace_model.proofs.Terms.{granted, is_granted, was_snooped, answer_of, owes_answer, owes_data, each_port, passer, has_passed_data, are_passed_data_whole, is_begun, has_failed, has_memory_write, state_of, is_invalid, is_port_done, are_snoops_done}
+use Rattle.ace_model.proofs.Terms.{granted, is_granted, was_snooped, answer_of, owes_answer, owes_data, passer, list_all, ports_below, has_passed_data, are_passed_data_whole, is_begun, has_failed, has_memory_write, state_of, is_invalid, is_port_done, are_snoops_done}
 use Rattle.ace_model.proofs.Terms.{snoops_a_line, k12, k13, has_snoop_code, may_snoop, may_snoop_for, may_transfer, takes_passed}
 use Rattle.ace_model.proofs.General.Options.{Some-injective, is_some_and-is}
 use Rattle.ace_model.proofs.Trace.Looks.{is_on-addr}
@@ -41,7 +41,7 @@ pub none-is : (h : Header) (past : Trace) (l : ℕ) (g : Option Grant) → Grant
 none-is h past l None f = sym (ap is_none f)
 none-is h past l (Some g) f = sym (ap is_none f.granted)
 
-each_port-agree : (n : ℕ) (test other : ℕ → Bool) → ((r : ℕ) → test r ≡ other r) → each_port n test ≡ each_port n other
+each_port-agree : (n : ℕ) (test other : ℕ → Bool) → ((r : ℕ) → test r ≡ other r) → list_all test (ports_below n) ≡ list_all other (ports_below n)
 each_port-agree zero test other same = refl
 each_port-agree (suc n) test other same = let here = same n in let rest = each_port-agree n test other same in rw (here, rest) refl
 
@@ -134,7 +134,7 @@ module _ (h : Header) (past : Trace) (a : IsAccepted h past) (l : ℕ) (g : Gran
   -- its snoops
   pub done-law : (failed : Bool) (xs : List Holder) → failed ≡ has_failed past g.transaction → HoldersStand h past l xs → are_done h failed g xs ≡ are_snoops_done h past g.transaction
   done-law failed xs is held =
-      ap (λ b. (is_none (snoop_of g.transaction) || b) || each_port h.ports (is_done_at h g xs)) is
+      ap (λ b. (is_none (snoop_of g.transaction) || b) || list_all (is_done_at h g xs) (ports_below h.ports)) is
       ∙ ap (λ b. (is_none (snoop_of g.transaction) || has_failed past g.transaction) || b) (each_port-agree h.ports (is_done_at h g xs) (is_port_done h past g.transaction) port)
     where
       port : (q : ℕ) → is_done_at h g xs q ≡ is_port_done h past g.transaction q

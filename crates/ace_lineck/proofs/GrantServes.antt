@@ -5,7 +5,7 @@ use Rattle.ace_event.specs.declared.line.Line.{Line}
 use Rattle.ace_model.specs.declared.snoops.Answer.{Answer}
 use Rattle.ace_model.specs.declared.transactions.Transaction.{Transaction}
 use Rattle.ace_model.proofs.Terms.{Header, Trace, Channel, Read, Event, R, G, M, IsAccepted, is_some_and, newer, is_read, is_line, is_on, is_some_on, is_transaction, ended, outstanding, transaction_of, without, given, gives_line, granted}
-use Rattle.ace_model.proofs.Terms.{some_port, find_port, shares, passes, has_sharer, passer, first_sender, transfers, is_memory_write, has_memory_write, same_channel, is_begun, memory_of, copy_at_answer, memory_at_first_beat, may_be_granted}
+use Rattle.ace_model.proofs.Terms.{list_any, ports_below, find, shares, passes, has_sharer, passer, first_sender, transfers, is_memory_write, has_memory_write, same_channel, is_begun, memory_of, copy_at_answer, memory_at_first_beat, may_be_granted}
 use Rattle.ace_model.proofs.Rules.Keeps.{accepted_keeps}
 use Rattle.ace_model.proofs.General.Options.{Some-injective, is_some_and-is}
 use Rattle.ace_model.proofs.Trace.Looks.{is_read-is, same_channel-is, same_channel-self, newest_on-older, is_on-addr}
@@ -33,7 +33,7 @@ all-unsnooped zero p = refl
 all-unsnooped (suc n) zero = refl
 all-unsnooped (suc n) (suc p) = all-unsnooped n p
 
-no_port : (n : ℕ) (test : ℕ → Bool) → ((p : ℕ) → test p ≡ false) → (some_port n test ≡ false) × (find_port n test ≡ None)
+no_port : (n : ℕ) (test : ℕ → Bool) → ((p : ℕ) → test p ≡ false) → (list_any test (ports_below n) ≡ false) × (find test (ports_below n) ≡ None)
 no_port zero test none = (refl, refl)
 no_port (suc n) test none = let here = none n in let rest = no_port n test none in (rw here rest.0, rw here rest.1)
 

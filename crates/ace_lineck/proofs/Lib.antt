@@ -14,3 +14,5 @@ pub mod KnownLines
 pub mod AllLines
 pub mod ReplyLaws
 pub mod WriteLaws
+pub mod Received
+pub mod Judging

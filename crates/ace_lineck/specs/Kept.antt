@@ -19,7 +19,8 @@ use Rattle.ace_model.specs.Trace.{Trace, implies, is_none_or, is_some_and}
 use Rattle.ace_model.specs.Lines.{has_failed_on}
 use Rattle.ace_model.specs.Kinds.{takes_passed_data, may_be_shared, is_read_not_shared_dirty, is_make_unique}
 use Rattle.ace_model.specs.Transactions.{is_ace, is_line, is_read, read_kind, write_kind, snoop_of}
-use Rattle.ace_model.specs.Grants.{each_port}
+use Rattle.std.specs.List.{list_all}
+use Rattle.ace_model.specs.Grants.{ports_below}
 use Rattle.ace_model.specs.SnoopRules.{has_snoop_code}
 use Rattle.ace_portck.specs.declared.target.Progress.{Progress}
 use Rattle.ace_portck.specs.declared.target.Target.{Target}
@@ -64,7 +65,7 @@ is_done_at h g holders q =
     is_settled (stage_at g.stages q) ((q == g.transaction.port) || not (is_ace h q) || is_invalid (holder_at holders q).state)
 
 abbrev pub are_done : Header → Bool → Grant → List Holder → Bool
-are_done h failed g holders = is_none (snoop_of g.transaction) || failed || each_port h.ports (is_done_at h g holders)
+are_done h failed g holders = is_none (snoop_of g.transaction) || failed || list_all (is_done_at h g holders) (ports_below h.ports)
 
 -- the grant is that of the transaction
 abbrev pub is_its : Grant → Transaction → Bool

@@ -2,14 +2,12 @@
 use Rattle.std.specs.Prelude.{ℕ, ◌≡◌, ◌<◌, ◌-◌, ◌^◌, Bool, true, false, List, [], ◌∷◌, length, Option, Some, None, nat_eq, unwrap_or, IsSome, ⊤}
 use Rattle.std.specs.Bool.{OnTrue}
 use Rattle.indexmap.specs.IndexMap.{get}
-use Rattle.ace_event.specs.declared.event.Channel.{Channel}
 use Rattle.ace_event.specs.declared.event.Event.{Event}
 use Rattle.ace_event.specs.declared.event.Event.TheVariants.{Ar, Aw, Mem}
 use Rattle.ace_event.specs.Ports.{IsHeader}
-use Rattle.ace_model.specs.declared.transactions.Transaction.{Transaction}
 use Rattle.ace_model.specs.Trace.{Trace}
 use Rattle.ace_model.specs.Copies.{zero_line}
-use Rattle.ace_model.specs.Lines.{is_known, known_lines, has_failed_on}
+use Rattle.ace_model.specs.Lines.{is_known, known_lines}
 use Rattle.ace_model.specs.Accepted.{IsAccepted, least_broken}
 use Rattle.ace_portck.specs.Targets.{Recording, target_of}
 use Rattle.ace_portck.specs.declared.target.Target.{Target}
@@ -17,6 +15,7 @@ use Rattle.ace_lineck.specs.declared.record.Use.TheVariants.{Unknown}
 use Rattle.ace_lineck.specs.declared.record.LineRecord.{LineRecord}
 use Rattle.ace_lineck.specs.declared.lines.LineCheck.{LineCheck}
 use Rattle.ace_lineck.specs.Records.{LineStands}
+use Rattle.ace_lineck.specs.Kept.{IsFailure}
 
 -- the record of the line: that of the map, or else the one of a line of which nothing is kept
 abbrev pub record_of : LineCheck → ℕ → LineRecord
@@ -44,11 +43,12 @@ pub record Stands (s : LineCheck) (r : Recording) : Type 0 where
   pub holders : (l : ℕ) (x : LineRecord) → get nat_eq s.lines l ≡ Some x → length x.holders.items ≡ r.header.ports
   pub known : s.known ≡ length (known_lines r.past)
 
--- the event comes next after the recording, the target is its own, and `failed` says it of the granted transaction of its line
+-- The event comes next after the recording, and the target is its own. `failed` says whether the granted transaction of its line is an
+-- exclusive store that failed.
 pub record MayTest (s : LineCheck) (r : Recording) (e : Event) (t : Target) (failed : Bool) : Type 0 where
   pub stands : Stands s r
   pub target : t ≡ target_of r.header r.past e
-  pub has_failed : (l : ℕ) → t.line ≡ Some l → failed ≡ has_failed_on r.header r.past l
+  pub has_failed : IsFailure r.header r.past t failed
 
 -- there is a record of the line, if there is a line
 abbrev pub HasRecord : LineCheck → Option ℕ → Type 0
@@ -90,7 +90,3 @@ pub record MayApply (s : LineCheck) (r : Recording) (e : Event) (t : Target) : T
   pub room : HasRoom s e t
   pub kept : least_broken r.header r.past e ≡ None
   pub few : length r.past < 2 ^ 64 - 1
-
--- the name of a transaction: its port, channel and identifier
-abbrev pub name_of : Transaction → ℕ × Channel × ℕ
-name_of x = (x.port, x.chan, x.id)

@@ -9,7 +9,8 @@ ghost use Rattle.ace_event.specs.declared.header.Header.{Header};
 ghost use Rattle.ace_tables.specs.States.{is_invalid};
 ghost use Rattle.ace_model.specs.Trace.{Trace, implies, is_none_or, is_some_and};
 ghost use Rattle.ace_model.specs.Transactions.{is_ace, is_line, is_read, read_kind, snoop_of, takes_grant};
-ghost use Rattle.ace_model.specs.Grants.{each_port};
+ghost use Rattle.std.specs.List.{list_all};
+ghost use Rattle.ace_model.specs.Grants.{ports_below};
 ghost use Rattle.ace_model.specs.Snoops.{snoops_a_line};
 ghost use Rattle.ace_model.specs.SnoopRules.{has_snoop_code, k12, k13};
 ghost use Rattle.ace_model.specs.Shares.{k18_line};
@@ -160,7 +161,7 @@ fn both(a: bool, b: bool) -> bool
 }
 
 fn is_each_done(kept: &LineRecord, g: &Grant, header: &Header) -> bool
-    ensures { result ≡ each_port header.now.ports (is_done_at header.now g.now kept.now.holders.items) }
+    ensures { result ≡ list_all (is_done_at header.now g.now kept.now.holders.items) (ports_below header.now.ports) }
 {
     let mut all = true;
     for port in 0..header.ports {

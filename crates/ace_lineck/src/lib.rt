@@ -6,6 +6,7 @@ mod grant_rules;
 mod granting;
 mod heard;
 mod holders;
+mod judge;
 mod kinds;
 mod lines;
 mod memory;

@@ -1,8 +1,9 @@
 //! The records of all lines.
 
+use crate::judge::judge;
 use crate::record::{LineRecord, NoMemory, empty_record, new_record};
 use crate::step::advance;
-use ace_event::{Event, Header};
+use ace_event::{Channel, Event, Header};
 use ace_portck::Target;
 use indexmap::IndexMap;
 use std::alloc::Global;
@@ -20,11 +21,16 @@ pub struct LineCheck {
 }
 
 impl LineCheck {
-    ghost use Rattle.std.specs.Prelude.{◌≡◌, [], length, OnOk, OnErr};
+    ghost use Rattle.std.specs.Prelude.{◌≡◌, true, [], length, option_map, OnOk, OnErr};
     ghost use Rattle.ace_event.specs.Ports.{IsHeader};
+    ghost use Rattle.ace_model.specs.Accepted.{least_of};
+    ghost use Rattle.ace_model.specs.AddressRules.{k1};
+    ghost use Rattle.ace_model.specs.Grants.{granted};
+    ghost use Rattle.ace_model.specs.Shares.{line_rules};
     ghost use Rattle.ace_model.specs.Lines.{is_known, known_lines};
     ghost use Rattle.ace_portck.specs.Targets.{Recording, after};
-    ghost use Rattle.ace_lineck.specs.Stands.{Stands, MayApply, HasRecord, HasRoom, IsAbsent, BeginsLine, record_on};
+    ghost use Rattle.ace_lineck.specs.Stands.{Stands, MayTest, MayApply, HasRecord, HasRoom, IsAbsent, BeginsLine, record_on};
+    ghost use Rattle.ace_lineck.specs.Records.{name_of};
 
     /// The checker of the empty trace under the header.
     pub fn new(alloc: Global, header: Header) -> LineCheck
@@ -50,6 +56,21 @@ impl LineCheck {
                 Some(kept) => kept,
             },
         }
+    }
+
+    /// The least rule of the share that the event breaks, if it breaks one and keeps K1. `failed` says whether the granted
+    /// transaction of its line is an exclusive store that failed.
+    pub fn test(&self, event: &Event, target: &Target, failed: bool) -> Option<u8>
+        ensures { (r : Recording) → MayTest self.now r event.now target.now failed → k1 r.header r.past event.now ≡ true
+            → result ≡ least_of line_rules r.header r.past event.now }
+    {
+        judge(
+            self.record(target.line),
+            event,
+            target,
+            &self.header,
+            failed,
+        )
     }
 
     /// Makes a record of the line, if there is a line without one.
@@ -108,6 +129,13 @@ impl LineCheck {
         ensures { (r : Recording) → Stands self.now r → result ≡ is_known r.past line }
     {
         !self.record(Some(line)).is_unknown()
+    }
+
+    /// The port, channel and identifier of the transaction that is granted on the line.
+    pub fn granted(&self, line: u32) -> Option<(u8, Channel, u8)>
+        ensures { (r : Recording) → Stands self.now r → result ≡ option_map name_of (granted r.header r.past line) }
+    {
+        self.record(Some(line)).granted_name()
     }
 
     /// How many lines the line transactions have named.

@@ -1,14 +1,14 @@
 //! What is kept of a line.
 
-ghost use Rattle.std.specs.Prelude.{◌≡◌, IfOk};
+ghost use Rattle.std.specs.Prelude.{◌≡◌, IfOk, option_map};
 ghost use Rattle.ace_model.specs.Copies.{word_of};
 ghost use Rattle.ace_lineck.specs.Holders.{holder_at, HasNothing};
-ghost use Rattle.ace_lineck.specs.Records.{IsFresh};
+ghost use Rattle.ace_lineck.specs.Records.{IsFresh, name_of};
 ghost use Rattle.ace_lineck.specs.Uses.{is_unknown};
 
 use crate::grant::Grant;
 use ace_codes::LineState;
-use ace_event::Line;
+use ace_event::{Channel, Line};
 use std::alloc::Global;
 use thiserror::Error;
 
@@ -114,6 +114,19 @@ impl LineRecord {
         ensures { result ≡ is_unknown self.now.used }
     {
         matches!(self.used, Use::Unknown)
+    }
+
+    /// The name of the granted transaction: its port, channel and identifier.
+    pub fn granted_name(&self) -> Option<(u8, Channel, u8)>
+        ensures { result ≡ option_map (λ g. name_of g.transaction) self.now.grant }
+    {
+        match &self.grant {
+            None => None,
+            Some(g) => {
+                let x = &g.transaction;
+                Some((x.port, x.chan, x.id))
+            }
+        }
     }
 
     /// The state in which the port has the line.

@@ -8,3 +8,5 @@ pub mod Options
 pub mod Ports
 -- One more element at the end of a list, places of its parts, a list that a longer one begins with (`IsStart`), counts.
 pub mod Lists
+-- A list whose elements have numbers of their own below n has at most n elements.
+pub mod Pigeonhole

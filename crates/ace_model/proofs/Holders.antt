@@ -81,8 +81,6 @@ pub mod Write
 pub mod Stores
 -- The laws, of every accepted trace.
 pub mod Law
--- The law of unique lines, of what the rules of today accept.
-pub mod Today
 -- Every event but an RK lessens what the ports hold, and but an RK or a D makes no line dirty.
 pub mod Lessened
 -- So a port comes to hold more by the RK of its read alone, and while it fetches a line or has a granted write of it

@@ -11,5 +11,6 @@ pub mod GrantLooks
 pub mod Exclusives
 pub mod Barriers
 pub mod Dvm
+pub mod Outstanding
 pub mod Coherence
 pub mod Lines

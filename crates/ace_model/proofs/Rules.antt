@@ -27,3 +27,5 @@ pub mod Acceptance
 pub mod Least
 -- The computed break is the first break, and the only one.
 pub mod FirstBreak
+-- The least rule of all is the least over the three shares that folds look at.
+pub mod Shares

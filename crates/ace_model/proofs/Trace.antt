@@ -52,3 +52,5 @@ pub mod WriteBursts
 pub mod Opening
 -- The complete writes that wait for their WK (K4, K26).
 pub mod WriteQueue
+-- The writes with data that have had no M (K24).
+pub mod UnwrittenWrites

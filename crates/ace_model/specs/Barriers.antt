@@ -1,12 +1,12 @@
 -- Barriers. A barrier is a pair of address events, one on each channel: the k-th AR Barrier and the k-th AW Barrier of a port
 -- (Arm IHI 0022E, C8). Its place among the port's transactions is the later of the two (our choice).
-use Rattle.std.specs.Prelude.{ℕ, max, Bool, ◌&&◌, ◌||◌, ◌==◌, nat_lt, if◌then◌else◌, List, [], ◌∷◌, length, slice_get, Option, Some, None}
+use Rattle.std.specs.Prelude.{ℕ, max, Bool, ◌&&◌, ◌||◌, ◌==◌, nat_lt, if◌then◌else◌, List, [], ◌∷◌, length, slice_get, Option}
 use Rattle.ace_event.specs.declared.event.Channel.{Channel}
 use Rattle.ace_event.specs.declared.event.Channel.TheVariants.{Read, Write}
 use Rattle.ace_model.specs.declared.transactions.Transaction.{Transaction}
-use Rattle.ace_model.specs.Trace.{is_some_and, Trace, more, at_point, implies}
+use Rattle.ace_model.specs.Trace.{is_some_and, Trace, at_point, implies}
 use Rattle.ace_model.specs.Kinds.{is_read_barrier, is_write_barrier}
-use Rattle.ace_model.specs.Transactions.{read_kind, write_kind, same_channel, issued, is_line}
+use Rattle.ace_model.specs.Transactions.{read_kind, write_kind, same_channel, issued_where, is_line}
 use Rattle.ace_model.specs.Progress.{is_completed, is_ordered, each_issued}
 
 abbrev pub is_barrier_half : Transaction → Bool
@@ -15,14 +15,9 @@ is_barrier_half x = is_some_and (read_kind x) is_read_barrier || is_some_and (wr
 abbrev pub is_barrier_of : Transaction → ℕ → Channel → Bool
 is_barrier_of x p c = is_barrier_half x && (x.port == p) && same_channel x.chan c
 
-abbrev pub barrier_in : Option Transaction → ℕ → Channel → Option Transaction
-barrier_in None p c = None
-barrier_in (Some x) p c = if is_barrier_of x p c then Some x else None
-
 -- the port's barrier halves on the channel, in order
 abbrev pub barriers : Trace → ℕ → Channel → List Transaction
-barriers [] p c = []
-barriers (e ∷ past) p c = more (barriers past p c) (barrier_in (issued (length past) e) p c)
+barriers past p c = issued_where past (λ x. is_barrier_of x p c)
 
 -- a barrier with both halves
 pub record Pair : Type 0 where

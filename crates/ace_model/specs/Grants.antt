@@ -1,6 +1,7 @@
 -- Grants: the interconnect gives a line to one transaction at a time, snoops under this grant, and answers the
 -- transaction once its snoops are done. That every answer comes before the first transfer is our choice.
-use Rattle.std.specs.Prelude.{ℕ, zero, suc, ◌+◌, ◌*◌, Bool, true, false, not, ◌&&◌, ◌||◌, ◌==◌, nat_le, if◌then◌else◌, [], ◌∷◌, Option, Some, None, length, is_some, is_none}
+use Rattle.std.specs.Prelude.{ℕ, zero, suc, ◌+◌, ◌*◌, Bool, false, not, ◌&&◌, ◌||◌, ◌==◌, nat_le, if◌then◌else◌, List, [], ◌∷◌, find, Option, Some, None, length, is_some, is_none}
+use Rattle.std.specs.List.{list_any}
 use Rattle.ace_event.specs.declared.header.Header.{Header}
 use Rattle.ace_event.specs.declared.event.Channel.{Channel}
 use Rattle.ace_event.specs.declared.event.Event.{Event}
@@ -9,7 +10,7 @@ use Rattle.ace_model.specs.declared.transactions.Transaction.{Transaction}
 use Rattle.ace_model.specs.declared.snoops.Answer.{Answer}
 use Rattle.ace_model.specs.Trace.{Trace, is_some_and, newer}
 use Rattle.ace_codes.specs.Responses.{transfers_data, passes_dirty, is_shared}
-use Rattle.ace_model.specs.Transactions.{is_named, is_transaction, is_read, is_on, is_some_on, issued, transaction_of, ended, without, transfers}
+use Rattle.ace_model.specs.Transactions.{is_named, is_transaction, is_read, is_on, is_some_on, has_since, transaction_of, ended, without, transfers}
 use Rattle.ace_model.specs.Writes.{has_memory_write}
 use Rattle.ace_model.specs.Snoops.{answered, is_snoop_on, snoops_a_line, data_answers, data_beats}
 
@@ -37,9 +38,7 @@ is_granted h past x = is_transaction (granted h past x.addr) x
 
 -- the port's last transaction on the channel under the identifier has had its G
 abbrev pub has_grant : Trace → ℕ → Channel → ℕ → Bool
-has_grant [] p c i = false
-has_grant (e ∷ past) p c i =
-    is_named (given past e) p c i || (not (is_named (issued (length past) e) p c i) && has_grant past p c i)
+has_grant past p c i = has_since (λ before e. is_named (given before e)) past p c i
 
 -- it has had its first R or, if it is a write, its M
 abbrev pub is_begun : Trace → Transaction → Bool
@@ -59,7 +58,7 @@ is_snoop_to _ p l = false
 -- the port was snooped under the present grant of the line
 abbrev pub was_snooped : Trace → ℕ → ℕ → Bool
 was_snooped [] p l = false
-was_snooped (e ∷ past) p l = not (gives_line past e l) && (is_snoop_to e p l || was_snooped past p l)
+was_snooped (e ∷ past) p l = if gives_line past e l then false else is_snoop_to e p l || was_snooped past p l
 
 -- the port's next CR answers a snoop under the present grant of the line
 abbrev pub answers_grant : Trace → ℕ → ℕ → Bool
@@ -73,14 +72,10 @@ answer_at past (Cr q resp st) p l =
     else None
 answer_at past _ p l = None
 
-abbrev pub unless_given : {A : Type 0} → Bool → Option A → Option A
-unless_given true answer = None
-unless_given false answer = answer
-
 -- the port's answer under the present grant of the line; it is snooped once under a grant
 abbrev pub answer_of : Trace → ℕ → ℕ → Option Answer
 answer_of [] p l = None
-answer_of (e ∷ past) p l = unless_given (gives_line past e l) (newer (answer_at past e p l) (answer_of past p l))
+answer_of (e ∷ past) p l = if gives_line past e l then None else newer (answer_at past e p l) (answer_of past p l)
 
 -- the answer announces data, and their CD burst isn't whole
 abbrev pub is_short : Trace → ℕ → Answer → Bool
@@ -94,20 +89,10 @@ owes_data past p l = is_some_and (answer_of past p l) (λ a. is_short past p a)
 abbrev pub owes_answer : Trace → ℕ → ℕ → Bool
 owes_answer past p l = was_snooped past p l && is_none (answer_of past p l)
 
--- the test holds of each port below n
-abbrev pub each_port : ℕ → (ℕ → Bool) → Bool
-each_port zero test = true
-each_port (suc n) test = test n && each_port n test
-
--- the test holds of some port below n
-abbrev pub some_port : ℕ → (ℕ → Bool) → Bool
-some_port zero test = false
-some_port (suc n) test = test n || some_port n test
-
--- the last port below n of which the test holds
-abbrev pub find_port : ℕ → (ℕ → Bool) → Option ℕ
-find_port zero test = None
-find_port (suc n) test = if test n then Some n else find_port n test
+-- the ports below n, the last first
+abbrev pub ports_below : ℕ → List ℕ
+ports_below zero = []
+ports_below (suc n) = n ∷ ports_below n
 
 -- the port's answer under the grant has IsShared
 abbrev pub shares : Trace → ℕ → ℕ → Bool
@@ -119,11 +104,11 @@ passes past l p = is_some_and (answer_of past p l) (λ a. passes_dirty a.resp)
 
 -- an answer under the grant of the line has IsShared
 abbrev pub has_sharer : Header → Trace → ℕ → Bool
-has_sharer h past l = some_port h.ports (shares past l)
+has_sharer h past l = list_any (shares past l) (ports_below h.ports)
 
 -- the port that answered with PassDirty under the grant of the line
 abbrev pub passer : Header → Trace → ℕ → Option ℕ
-passer h past l = find_port h.ports (passes past l)
+passer h past l = find (passes past l) (ports_below h.ports)
 
 -- the granted transaction has passed data: they are there until its M, or until it is no longer outstanding
 abbrev pub has_passed_data : Header → Trace → Transaction → Bool

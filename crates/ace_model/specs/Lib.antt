@@ -22,7 +22,6 @@ pub mod OrderRules
 pub mod Accepted
 pub mod Shares
 pub mod Lines
-pub mod Today
 pub mod Unique
 pub mod DirtyPlace
 pub mod ReadsFollow

@@ -14,7 +14,7 @@ use Rattle.ace_codes.specs.Snoops.{ac_kind_of}
 use Rattle.ace_tables.specs.Answers.{same_test}
 use Rattle.ace_model.specs.declared.snoops.Snoop.{Snoop}
 use Rattle.ace_model.specs.declared.transactions.Transaction.{Transaction}
-use Rattle.ace_model.specs.Trace.{is_some_and, Trace, at_point, newer}
+use Rattle.ace_model.specs.Trace.{is_some_and, Trace, at_point, option_filter, newer}
 use Rattle.ace_model.specs.Kinds.{is_dvm_message, is_dvm_complete, is_message_snoop, is_complete_snoop}
 use Rattle.ace_model.specs.Transactions.{read_kind, issued, is_ace}
 use Rattle.ace_model.specs.Progress.{transactions}
@@ -69,8 +69,7 @@ is_dvm_completion x = is_some_and (read_kind x) is_dvm_complete
 
 -- the port's part, where the event issues one
 abbrev pub part_in : Option Transaction → ℕ → Option Transaction
-part_in None p = None
-part_in (Some x) p = if is_message_part x && (x.port == p) then Some x else None
+part_in o p = option_filter (λ x. is_message_part x && (x.port == p)) o
 
 -- the first part that waits for its second once this part is issued, which is the second of the one that waits, or a first one
 abbrev pub waits_after : Option Transaction → Option Transaction → Option Transaction
@@ -158,8 +157,7 @@ dvm_completes past p = count_by (λ x. is_dvm_completion x && (x.port == p)) (tr
 
 -- the port's Sync, where the event issues one
 abbrev pub sync_in : Trace → Option Transaction → ℕ → Option Transaction
-sync_in past None p = None
-sync_in past (Some x) p = if is_sync past x && (x.port == p) then Some x else None
+sync_in past o p = option_filter (λ x. is_sync past x && (x.port == p)) o
 
 -- the port's last Sync
 abbrev pub last_sync : Trace → ℕ → Option Transaction

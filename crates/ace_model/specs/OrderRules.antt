@@ -12,7 +12,7 @@ use Rattle.ace_model.specs.Trace.{Trace, implies, is_some_and, is_none_or}
 use Rattle.ace_model.specs.Kinds.{is_message_snoop, is_complete_snoop}
 use Rattle.ace_model.specs.Transactions.{outstanding, issued}
 use Rattle.ace_model.specs.Progress.{is_completed}
-use Rattle.ace_model.specs.Grants.{each_port}
+use Rattle.ace_model.specs.Grants.{ports_below}
 use Rattle.ace_model.specs.Barriers.{may_answer, is_barrier_half, pair_of, place_of, is_pair_complete, pairs}
 use Rattle.ace_model.specs.Messages.{is_message_part, is_second_part, next_part, is_other_ace, has_answered, is_dvm_completion, dvm_completes, answered_syncs, sync_number, is_sync_completed, last_sync}
 
@@ -54,7 +54,7 @@ k36 h past _ = true
 
 -- every other ACE port has answered the part
 abbrev pub is_answered_by_all : Header → Trace → Transaction → Bool
-is_answered_by_all h past x = each_port h.ports (λ q. implies (is_other_ace h x.port q) (has_answered past x q))
+is_answered_by_all h past x = list_all (λ q. implies (is_other_ace h x.port q) (has_answered past x q)) (ports_below h.ports)
 
 -- K37: an R of a DVM Message comes after this part was forwarded to every other ACE port and each has answered it
 -- (Arm IHI 0022E, C12).
@@ -74,7 +74,7 @@ k38 h past e = is_none_or (issued (length past) e) (owes_completion past)
 -- every other ACE port has sent its DVM Complete for the Sync: as many as Syncs reached it up to this one
 abbrev pub has_every_completion : Header → Trace → Transaction → Bool
 has_every_completion h past x =
-    each_port h.ports (λ q. implies (is_other_ace h x.port q) (nat_le (sync_number past x q) (dvm_completes past q)))
+    list_all (λ q. implies (is_other_ace h x.port q) (nat_le (sync_number past x q) (dvm_completes past q))) (ports_below h.ports)
 
 abbrev pub may_complete : Header → Trace → ℕ → Transaction → Bool
 may_complete h past p x = is_completed past x && not (is_sync_completed past p) && has_every_completion h past x

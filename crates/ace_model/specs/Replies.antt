@@ -7,10 +7,10 @@ use Rattle.ace_event.specs.declared.header.Header.{Header}
 use Rattle.ace_event.specs.declared.line.Line.{Line}
 use Rattle.ace_codes.specs.Responses.{transfers_data}
 use Rattle.ace_model.specs.declared.transactions.Transaction.{Transaction}
-use Rattle.ace_model.specs.Trace.{Trace, more, at_point, newer}
+use Rattle.ace_model.specs.Trace.{Trace, is_some_and, more, at_point, newer}
 use Rattle.ace_model.specs.Transactions.{transfers}
 use Rattle.ace_model.specs.Snoops.{answered, data_beats}
-use Rattle.ace_model.specs.Grants.{answer_of, has_passed_data, passer, granted, answers_grant, unless_given, gives_line}
+use Rattle.ace_model.specs.Grants.{answer_of, has_passed_data, passer, granted, answers_grant, gives_line}
 use Rattle.ace_model.specs.Copies.{copy_of, zero_line, memory_of}
 
 -- the line that the event announces: the port's copy at its answer with DataTransfer
@@ -35,14 +35,11 @@ next_sent_beat past p = data_beats past p % 4
 abbrev pub copy_at_answer : Trace → ℕ → ℕ → Option Line
 copy_at_answer past l p = option_map (λ a. copy_of (at_point a.place past) p l) (answer_of past p l)
 
--- the passed data of the granted transaction
-abbrev pub passed_to : Header → Trace → ℕ → Transaction → Option Line
-passed_to h past l x = if has_passed_data h past x then option_and_then (copy_at_answer past l) (passer h past l) else None
-
--- The passed data of the line: the copy, at its answer, of the port that answered with PassDirty under the present grant.
--- They are there until the M of the granted transaction, or until that transaction is no longer outstanding.
+-- The passed data of the line, where its granted transaction has them: the copy, at its answer, of the port that answered with
+-- PassDirty under the present grant.
 abbrev pub passed_data : Header → Trace → ℕ → Option Line
-passed_data h past l = option_and_then (passed_to h past l) (granted h past l)
+passed_data h past l =
+    if is_some_and (granted h past l) (has_passed_data h past) then option_and_then (copy_at_answer past l) (passer h past l) else None
 
 -- the port whose answer with DataTransfer under the present grant of the line the event is
 abbrev pub sender_at : Trace → Event → ℕ → Option ℕ
@@ -52,7 +49,7 @@ sender_at past _ l = None
 -- the port that was the first to answer with DataTransfer under the present grant of the line
 abbrev pub first_sender : Trace → ℕ → Option ℕ
 first_sender [] l = None
-first_sender (e ∷ past) l = unless_given (gives_line past e l) (newer (first_sender past l) (sender_at past e l))
+first_sender (e ∷ past) l = if gives_line past e l then None else newer (first_sender past l) (sender_at past e l)
 
 -- memory of the line at the point before the first beat of the port's read under the identifier
 abbrev pub memory_at_first_beat : Trace → ℕ → ℕ → ℕ → Line

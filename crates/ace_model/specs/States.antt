@@ -1,5 +1,6 @@
 -- The state of a line at a port, and whether the snoops of a granted transaction are done.
-use Rattle.std.specs.Prelude.{ℕ, Bool, false, not, ◌&&◌, ◌||◌, ◌==◌, if◌then◌else◌, [], ◌∷◌, Option, Some, None, length, is_none, unwrap_or}
+use Rattle.std.specs.Prelude.{ℕ, Bool, false, not, ◌&&◌, ◌||◌, ◌==◌, if◌then◌else◌, [], ◌∷◌, Option, Some, None, is_none, unwrap_or}
+use Rattle.std.specs.List.{list_all}
 use Rattle.ace_codes.specs.declared.state.LineState.{LineState}
 use Rattle.ace_codes.specs.declared.state.LineState.TheVariants.{I, UD}
 use Rattle.ace_event.specs.declared.header.Header.{Header}
@@ -9,9 +10,9 @@ use Rattle.ace_event.specs.declared.event.Event.TheVariants.{Rk, Wk, Cr, S, D}
 use Rattle.ace_model.specs.declared.transactions.Transaction.{Transaction}
 use Rattle.ace_model.specs.Trace.{Trace, is_some_and}
 use Rattle.ace_tables.specs.States.{is_invalid}
-use Rattle.ace_model.specs.Transactions.{is_ace, is_read, is_named, is_some_on, is_make_unique_on, snoop_of, issued, acknowledged, is_outstanding, is_outstanding_on, is_complete, some_issued, outstanding}
+use Rattle.ace_model.specs.Transactions.{is_ace, is_read, has_since, is_some_on, is_make_unique_on, snoop_of, acknowledged, is_outstanding, is_outstanding_on, is_complete, some_issued, outstanding}
 use Rattle.ace_model.specs.Snoops.{answers_line}
-use Rattle.ace_model.specs.Grants.{was_snooped, owes_answer, owes_data, each_port}
+use Rattle.ace_model.specs.Grants.{was_snooped, owes_answer, owes_data, ports_below}
 use Rattle.ace_model.specs.Exclusives.{has_failed}
 
 -- a MakeUnique of the port on the line that is outstanding and complete: the next D of the line belongs to it
@@ -45,9 +46,7 @@ is_store_of h past _ p i = false
 
 -- the port's last read under the identifier, a MakeUnique, has had its D
 abbrev pub has_store : Header → Trace → ℕ → ℕ → Bool
-has_store h [] p i = false
-has_store h (e ∷ past) p i =
-    is_store_of h past e p i || (not (is_named (issued (length past) e) p Read i) && has_store h past p i)
+has_store h past p i = has_since (λ before e q c j. is_store_of h before e q j) past p Read i
 
 -- the port has a write of the line with B and without WK
 abbrev pub awaits_wack : Header → Trace → ℕ → ℕ → Transaction → Bool
@@ -67,4 +66,4 @@ is_port_done h past x q =
 -- grant every snoop is answered, announced data are whole, and each other ACE port that holds the line was snooped
 abbrev pub are_snoops_done : Header → Trace → Transaction → Bool
 are_snoops_done h past x =
-    is_none (snoop_of x) || has_failed past x || each_port h.ports (is_port_done h past x)
+    is_none (snoop_of x) || has_failed past x || list_all (is_port_done h past x) (ports_below h.ports)

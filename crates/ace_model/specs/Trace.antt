@@ -1,5 +1,5 @@
 -- A trace as definitions see it: the newest event first. `e ∷ past` is the trace `past` and then the event `e`.
-use Rattle.std.specs.Prelude.{ℕ, ◌-◌, Bool, true, false, not, ◌||◌, List, [], ◌∷◌, ◌++◌, reverse, length, drop, slice_get, Option, Some, None}
+use Rattle.std.specs.Prelude.{ℕ, ◌-◌, Bool, true, false, not, ◌||◌, if◌then◌else◌, List, [], ◌∷◌, ◌++◌, reverse, length, drop, slice_get, Option, Some, None}
 use Rattle.ace_event.specs.declared.event.Event.{Event}
 use Rattle.ace_event.specs.declared.event.Event.TheVariants.{L, Op, Ar, R, Rk, Aw, W, B, Wk, Ac, Cr, Cd, G, M, S, D, Mem}
 
@@ -52,6 +52,11 @@ is_some_and (Some x) test = test x
 abbrev pub is_none_or : {A : Type 0} → Option A → (A → Bool) → Bool
 is_none_or None test = true
 is_none_or (Some x) test = test x
+
+-- the value, if there is one and the test holds of it
+abbrev pub option_filter : {A : Type 0} → (A → Bool) → Option A → Option A
+option_filter test None = None
+option_filter test (Some x) = if test x then Some x else None
 
 -- the newer value, if there is one, else the older
 abbrev pub newer : {A : Type 0} → Option A → Option A → Option A

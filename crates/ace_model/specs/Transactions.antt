@@ -11,7 +11,7 @@ use Rattle.ace_event.specs.declared.event.Channel.TheVariants.{Read, Write}
 use Rattle.ace_event.specs.declared.event.Event.{Event}
 use Rattle.ace_event.specs.declared.event.Event.TheVariants.{Ar, R, Rk, Aw, B, Wk}
 use Rattle.ace_model.specs.declared.transactions.Transaction.{Transaction}
-use Rattle.ace_model.specs.Trace.{Trace, is_some_and, more}
+use Rattle.ace_model.specs.Trace.{Trace, is_some_and, option_filter, more}
 use Rattle.ace_codes.specs.Reads.{ar_kind_of}
 use Rattle.ace_codes.specs.Writes.{aw_kind_of}
 use Rattle.ace_model.specs.Kinds.{is_line_read, is_line_write, is_granted_write, is_clean_unique, is_make_unique}
@@ -152,6 +152,11 @@ outstanding h (e ∷ past) p c i =
 abbrev pub is_outstanding : Header → Trace → Transaction → Bool
 is_outstanding h past x = is_transaction (outstanding h past x.port x.chan x.id) x
 
+-- the transactions of the trace that pass the test, in order
+abbrev pub issued_where : Trace → (Transaction → Bool) → List Transaction
+issued_where [] test = []
+issued_where (e ∷ past) test = more (issued_where past test) (option_filter test (issued (length past) e))
+
 -- a transaction of the trace passes the test
 abbrev pub some_issued : Trace → (Transaction → Bool) → Bool
 some_issued [] test = false
@@ -180,12 +185,15 @@ first_resp (R q j resp last word ∷ past) p i =
     if (p == q) && (i == j) && (transfers past p i == 0) then Some resp else first_resp past p i
 first_resp (_ ∷ past) p i = first_resp past p i
 
+-- an event of which the test holds came after the port's last transaction on the channel under the identifier was issued
+abbrev pub has_since : (Trace → Event → ℕ → Channel → ℕ → Bool) → Trace → ℕ → Channel → ℕ → Bool
+has_since test [] p c i = false
+has_since test (e ∷ past) p c i = test past e p c i || (not (is_named (issued (length past) e) p c i) && has_since test past p c i)
+
 -- the event completes the port's transaction on the channel under the identifier
 abbrev pub is_completion : Event → ℕ → Channel → ℕ → Bool
 is_completion e p c i = is_some_and (completes e p c) (λ j. i == j)
 
 -- the port's last transaction on the channel under the identifier has had its last R or its B
 abbrev pub is_complete : Trace → ℕ → Channel → ℕ → Bool
-is_complete [] p c i = false
-is_complete (e ∷ past) p c i =
-    is_completion e p c i || (not (is_named (issued (length past) e) p c i) && is_complete past p c i)
+is_complete past p c i = has_since (λ before. is_completion) past p c i

@@ -1,27 +1,21 @@
 -- Write data. W has no identifier: the beats of a port belong to its writes with data in the order of their AW, four
 -- beats to each (Arm IHI 0022E, A5.3).
-use Rattle.std.specs.Prelude.{ℕ, ◌*◌, ◌/◌, ◌%◌, Bool, false, not, ◌&&◌, ◌||◌, ◌==◌, nat_lt, if◌then◌else◌, List, [], ◌∷◌, Option, Some, None, length, take, drop, slice_get}
+use Rattle.std.specs.Prelude.{ℕ, ◌*◌, ◌/◌, ◌%◌, Bool, false, ◌&&◌, ◌==◌, nat_lt, if◌then◌else◌, List, [], ◌∷◌, Option, Some, None, length, take, drop, slice_get}
 use Rattle.ace_event.specs.declared.event.Channel.{Channel}
 use Rattle.ace_event.specs.declared.event.Event.{Event}
 use Rattle.ace_event.specs.declared.event.Event.TheVariants.{W, M}
 use Rattle.ace_model.specs.declared.transactions.Transaction.{Transaction}
 use Rattle.ace_model.specs.Trace.{Trace, at_point, is_some_and, more}
 use Rattle.ace_model.specs.Kinds.{has_write_data}
-use Rattle.ace_model.specs.Transactions.{issued, write_kind, is_named, same_channel}
+use Rattle.ace_model.specs.Transactions.{issued_where, write_kind, has_since, same_channel}
 
--- the transaction, where it is a write of the port with data
-abbrev pub data_write_in : Option Transaction → ℕ → Option Transaction
-data_write_in None p = None
-data_write_in (Some x) p = if (x.port == p) && is_some_and (write_kind x) has_write_data then Some x else None
-
--- the port's write with data that the event issues
-abbrev pub data_write : ℕ → Event → ℕ → Option Transaction
-data_write place e p = data_write_in (issued place e) p
+-- it is a write of the port with data
+abbrev pub is_data_write_of : ℕ → Transaction → Bool
+is_data_write_of p x = (x.port == p) && is_some_and (write_kind x) has_write_data
 
 -- the port's writes with data, in the order of their AW
 abbrev pub data_writes : Trace → ℕ → List Transaction
-data_writes [] p = []
-data_writes (e ∷ past) p = more (data_writes past p) (data_write (length past) e p)
+data_writes past p = issued_where past (is_data_write_of p)
 
 -- a beat of write data: WSTRB and WDATA
 pub record Beat : Type 0 where
@@ -63,6 +57,4 @@ is_memory_write _ p c i = false
 
 -- the port's last transaction on the channel under the identifier has had its M
 abbrev pub has_memory_write : Trace → ℕ → Channel → ℕ → Bool
-has_memory_write [] p c i = false
-has_memory_write (e ∷ past) p c i =
-    is_memory_write e p c i || (not (is_named (issued (length past) e) p c i) && has_memory_write past p c i)
+has_memory_write past p c i = has_since (λ before. is_memory_write) past p c i

@@ -8,7 +8,8 @@ ghost use Rattle.ace_event.specs.declared.header.Header.{Header};
 ghost use Rattle.ace_model.specs.declared.breaks.Break.{Break};
 ghost use Rattle.ace_model.specs.Trace.{Trace};
 ghost use Rattle.ace_model.specs.Accepted.{Rule, AreInOrder, rules, IsAcceptedBy, IsAccepted, FirstBreakBy, first_break_by};
-ghost use Rattle.ace_model.specs.Today.{rules_today};
+ghost use Rattle.ace_model.specs.Accepted.{least_broken, least_of};
+ghost use Rattle.ace_model.specs.Shares.{lesser, port_rules, line_rules, system_rules};
 ghost use Rattle.ace_model.specs.Unique.{Unique, OneDirty};
 ghost use Rattle.ace_model.specs.Coherent.{Coherent};
 ghost use Rattle.ace_model.specs.ExclusiveHolds.{ExclusiveHolds};
@@ -24,10 +25,15 @@ pub fn first_break_is_exact()
         → (first_break_by rs h events ≡ None) ↔ IsAcceptedBy rs h (reverse events) }
 {}
 
-/// The rules are in order, and so are those that the checker of today applies.
+/// The rules are in order.
 pub fn rules_are_in_order()
-    ensures all { AreInOrder rules }
-    ensures today { AreInOrder rules_today }
+    ensures { AreInOrder rules }
+{}
+
+/// The three shares are all rules: the least rule that an event breaks is the least over the shares.
+pub fn shares_are_all_rules()
+    ensures { (h : Header) (past : Trace) (e : Event) → least_broken h past e
+        ≡ lesser (least_of port_rules h past e) (lesser (least_of line_rules h past e) (least_of system_rules h past e)) }
 {}
 
 /// An accepted trace is coherent: at every point a unique line has one holder, a line has at most one dirty holder, and data
@@ -42,12 +48,6 @@ pub fn accepted_trace_is_coherent()
 pub fn accepted_line_has_one_holder()
     ensures unique { (h : Header) (past : Trace) → IsAccepted h past → Unique h past }
     ensures one_dirty { (h : Header) (past : Trace) → IsAccepted h past → OneDirty h past }
-{}
-
-/// In a trace that the checker of today accepts a unique line has one holder: at every point, where a port holds a line
-/// in UC or UD, every other port's state of it is I.
-pub fn unique_line_has_one_holder()
-    ensures { (h : Header) (past : Trace) → IsAcceptedBy rules_today h past → Unique h past }
 {}
 
 /// In every accepted trace an exclusive store is exclusive: between it and the last exclusive load of its port before it no

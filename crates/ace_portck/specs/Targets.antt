@@ -1,5 +1,5 @@
 -- What an event after a trace belongs to.
-use Rattle.std.specs.Prelude.{ℕ, Bool, true, false, not, ◌&&◌, ◌==◌, if◌then◌else◌, List, [], ◌∷◌, length, slice_get, ◌/◌, Option, Some, None, unwrap_or, option_map, option_and_then}
+use Rattle.std.specs.Prelude.{ℕ, Bool, false, not, ◌&&◌, ◌==◌, if◌then◌else◌, List, [], ◌∷◌, length, slice_get, ◌/◌, Option, Some, None, unwrap_or, option_map, option_and_then}
 use Rattle.ace_event.specs.declared.event.Channel.TheVariants.{Read, Write}
 use Rattle.ace_event.specs.declared.event.Event.{Event}
 use Rattle.ace_event.specs.declared.event.Event.TheVariants.{Ar, R, Rk, Aw, W, B, Wk, Ac, Cr, Cd, G, M, S, L, D, Mem}
@@ -8,7 +8,8 @@ use Rattle.ace_codes.specs.Responses.{transfers_data}
 use Rattle.ace_model.specs.declared.snoops.Snoop.{Snoop}
 use Rattle.ace_model.specs.declared.transactions.Transaction.{Transaction}
 use Rattle.ace_model.specs.Trace.{Trace, more, is_some_and}
-use Rattle.ace_model.specs.Transactions.{is_ace, is_read, is_line, issued, outstanding, acknowledged, transfers, first_resp, is_complete, is_outstanding_on}
+use Rattle.ace_model.specs.Kinds.{has_write_data}
+use Rattle.ace_model.specs.Transactions.{is_ace, is_read, is_line, write_kind, issued, outstanding, acknowledged, transfers, first_resp, is_complete, is_outstanding_on}
 use Rattle.ace_model.specs.Progress.{is_completed, is_ordered}
 use Rattle.ace_model.specs.Snoops.{snoop_at, answered, data_beats, snoops_a_line}
 use Rattle.ace_model.specs.Writes.{next_write, next_write_beat, burst_of, is_burst_whole, has_memory_write}
@@ -135,10 +136,10 @@ beat_in past (W p strb last word) = next_write_beat past p
 beat_in past (Cd p last word) = next_sent_beat past p
 beat_in past _ = 0
 
--- the burst of a write, where it is whole and the write has had no M
+-- the burst of a write with data, where it is whole and the write has had no M
 abbrev pub data_of_write : Trace → Transaction → Option WriteData
 data_of_write past x =
-    if not (is_read x.chan) && is_burst_whole past x && not (has_memory_write past x.port x.chan x.id)
+    if is_some_and (write_kind x) has_write_data && is_burst_whole past x && not (has_memory_write past x.port x.chan x.id)
     then Some (record { strobe = burst_strobe (burst_of past x); line = burst_line (burst_of past x) }) else None
 
 abbrev pub data_in : Header → Trace → Event → Option WriteData

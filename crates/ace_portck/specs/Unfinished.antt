@@ -1,5 +1,5 @@
 -- How many snoops of a port are under way. A fold needs memory only where there are more of them than ever before.
-use Rattle.std.specs.Prelude.{ℕ, ◌+◌, ◌-◌, ◌/◌, ◌<◌, max, [], ◌∷◌, length}
+use Rattle.std.specs.Prelude.{ℕ, ◌+◌, ◌-◌, ◌/◌, ◌<◌, [], ◌∷◌, length, max}
 use Rattle.ace_event.specs.declared.event.Event.{Event}
 use Rattle.ace_event.specs.declared.event.Event.TheVariants.{Ac}
 use Rattle.ace_model.specs.Trace.{Trace}

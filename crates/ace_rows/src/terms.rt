@@ -10,17 +10,9 @@ ghost use Rattle.ace_model.specs.States.{state_of, has_store, owes_wack, are_sno
 ghost use Rattle.ace_model.specs.Copies.{copy_of, memory_of, zero_line};
 ghost use Rattle.ace_model.specs.Replies.{passed_data, reply_of};
 ghost use Rattle.ace_model.specs.Values.{stores_of, value_of};
-ghost use Rattle.ace_model.specs.Accepted.{first_break_by};
-ghost use Rattle.ace_model.specs.Today.{rules_today};
 ghost use Rattle.ace_rows.specs.Shorthands.{two_ace, line_a, read_clean, repeated_line, get};
 ghost use Rattle.ace_rows.specs.WorkedReads.{cleans_for_a_read, stores_during_a_read, gives_dirty_line_up, discards_dirty_data, writes_a_shared_line};
 ghost use Rattle.ace_rows.specs.Terms.{stores, writes_back, passes_dirt, sends_dirt, second_read, writes_dirt, read_once_of_the_line, makes, makes_and_stores_a_line};
-
-/// Today a store breaks K2, whatever came before it.
-pub fn stops_at_a_store_today()
-    ensures got { first_break_by rules_today two_ace (get 0) ≡ None }
-    ensures stored { first_break_by rules_today two_ace stores ≡ Some (record { index = 8; rule = 2 }) }
-{}
 
 /// A store makes a unique line dirty, and the write acknowledge of its WriteBack ends with the line invalid. Between
 /// the response and that acknowledge the port may not be snooped.

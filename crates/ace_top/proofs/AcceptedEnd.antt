@@ -1,11 +1,12 @@
 -- What status 0 says.
 use Rattle.std.proofs.Common.{◌≡◌, ℕ, List, Option, None, Some, IfSome, refl, codes, arith}
-use Rattle.std.specs.Io.KnownBytes.{Appends, IsAtEnd}
+use Rattle.std.specs.Io.KnownBytes.{Appends}
+use Rattle.ace_grammar.specs.Errors.{LeavesNothing}
 use Rattle.ace_model.specs.Today.{rules_today}
 use Rattle.ace_model.proofs.Rules.FirstBreak.{no_break_accepted}
 use Rattle.ace_model.proofs.Holders.Today.{accepted_unique}
 use Rattle.ace_top.specs.declared.answer.Answer.{Answer}
-use Rattle.ace_top.specs.declared.answer.Answer.TheVariants.{Accepted, Refused, Shown, Usage, Malformed, ReadFault, LimitEvents, NoMemory}
+use Rattle.ace_top.specs.declared.answer.Answer.TheVariants.{Accepted, Refused, Shown, Reported, Usage, Malformed, ReadFault, LimitEvents, LimitLines, NoMemory}
 use Rattle.ace_top.specs.declared.words.Command.TheVariants.{Check}
 use Rattle.ace_top.specs.Answer.{Answers, BreaksOff}
 use Rattle.ace_top.specs.Output.{AppendsPart, AppendsParts}
@@ -14,15 +15,15 @@ use Rattle.ace_top.specs.Texts.{status_of, out_text_of, notes_text_of}
 use Rattle.ace_top.specs.Verdict.{IsVerdict, ReadsUnique}
 
 -- of the answers that `check` gives it is the status of an accepted trace alone, which was read to the end
-pub zero-end : (answer : Answer) (left : Option (List ℕ)) → status_of answer ≡ 0 → EndsInput answer left → IsAtEnd left
-zero-end (Accepted events) left s e = e
-zero-end Shown left s e = e
-zero-end (Refused index rule) left s e = absurd (omega arith)
-zero-end Usage left s e = absurd (omega arith)
-zero-end (Malformed line reason) left s e = absurd (omega arith)
-zero-end ReadFault left s e = absurd (omega arith)
-zero-end LimitEvents left s e = absurd (omega arith)
-zero-end NoMemory left s e = absurd (omega arith)
+pub zero-end : (answer : Answer) (old left : Option (List ℕ)) → status_of answer ≡ 0 → EndsInput answer old left → LeavesNothing old left
+zero-end (Accepted events) old left s e = e
+zero-end Shown old left s e = e
+zero-end (Refused index rule) old left s e = absurd (omega arith)
+zero-end Usage old left s e = absurd (omega arith)
+zero-end (Malformed line reason) old left s e = absurd (omega arith)
+zero-end ReadFault old left s e = absurd (omega arith)
+zero-end LimitEvents old left s e = absurd (omega arith)
+zero-end NoMemory old left s e = absurd (omega arith)
 
 verdict-unique : (bytes : List ℕ) (answer : Answer) → status_of answer ≡ 0 → IsVerdict bytes answer → ReadsUnique bytes
 verdict-unique bytes (Accepted events) s (header, trace, reads, unbroken, count) =

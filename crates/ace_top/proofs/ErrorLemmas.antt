@@ -20,11 +20,11 @@ error_next h past version count old new left error.ReadFault same read s = tt
 error_next h past version count old new left error.NoMemory same read s = tt
 
 -- nothing is claimed of the end of the input
-pub error_end : (e : ReadErr) (left : Option (List ℕ)) → EndsInput (error_answer e) left
-error_end (error.Malformed line reason) left = tt
-error_end error.TooManyEvents left = tt
-error_end error.ReadFault left = tt
-error_end error.NoMemory left = tt
+pub error_end : (e : ReadErr) (old left : Option (List ℕ)) → EndsInput (error_answer e) old left
+error_end (error.Malformed line reason) old left = tt
+error_end error.TooManyEvents old left = tt
+error_end error.ReadFault old left = tt
+error_end error.NoMemory old left = tt
 
 -- it ends a copy
 pub error_ends : (version count : ℕ) (old new left : Option (List ℕ)) (e : ReadErr) → StandsNext version (Err e) count old new left → EndsCopy version (error_answer e) count old left

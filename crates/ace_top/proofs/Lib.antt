@@ -7,3 +7,4 @@ pub mod ProgressLemmas
 pub mod ShowLemmas
 pub mod WordsAnswered
 pub mod Written
+pub mod Stops

@@ -1,24 +1,23 @@
 -- One more event, and the verdict.
-use Rattle.std.proofs.Common.{◌≡◌, ◌≢◌, ◌≤◌, ◌++◌, ℕ, List, [], ◌∷◌, Option, Some, None, length, reverse, sym, ap, subst, ◌∙◌, append-nil, arith, inr}
+use Rattle.std.proofs.Common.{◌≡◌, ◌≢◌, ◌≤◌, ◌++◌, ℕ, List, [], ◌∷◌, Option, Some, None, length, reverse, sym, ap, subst, ◌∙◌, append-nil, arith, inr, refl}
 use Rattle.std.specs.List.{AllByRecursion}
 use Rattle.std.specs.Io.KnownBytes.{Consumes}
-use Rattle.std.proofs.KnownBytes.{Consumes-trans}
+use Rattle.std.proofs.KnownBytes.{Consumes-trans, Consumes-nil}
 use Rattle.std.proofs.lemmas.List.{length-reverse, length-append, reverse-append}
 use Rattle.ace_event.specs.declared.event.Event.{Event}
 use Rattle.ace_event.specs.declared.header.Header.{Header}
-use Rattle.ace_event.specs.Text.{trace_text, header_text}
+use Rattle.ace_event.specs.Text.{trace_text, header_text, line_text, event_text}
 use Rattle.ace_grammar.proofs.OneMore.{readable-more, trace_text-more}
 use Rattle.ace_grammar.proofs.Taken.{split, reads_to, at_end}
+use Rattle.ace_grammar.specs.Errors.{TakesFront, LeavesNothing}
 use Rattle.ace_grammar.specs.Reading.{Reads, Ending, Ends, Whole, Full, Bad, IsReadable, IsReadableHeader, HasBadLine, IfTold, most_events}
 use Rattle.ace_model.specs.Accepted.{IsAcceptedBy}
 use Rattle.ace_model.specs.Today.{rules_today}
 use Rattle.ace_model.proofs.Rules.FirstBreak.{accepted_no_break, next_breaks}
 use Rattle.ace_top.specs.declared.answer.Answer.{Answer}
-use Rattle.ace_top.specs.declared.answer.Answer.TheVariants.{Accepted, Refused, Shown, Usage, Malformed, ReadFault, LimitEvents, NoMemory}
-use Rattle.ace_io.specs.Line.{in_front}
+use Rattle.ace_top.specs.declared.answer.Answer.TheVariants.{Accepted, Refused, Shown, Reported, Usage, Malformed, ReadFault, LimitEvents, LimitLines, NoMemory}
 use Rattle.ace_top.specs.Progress.{StandsAt, TakesEvent, IsNextVerdict, EndsInput}
 use Rattle.ace_top.specs.Verdict.{IsVerdict}
-use Rattle.ace_top.proofs.Parts.{both_nothing}
 
 -- nothing was read but the header
 pub stands_at_start : (bytes : List ℕ) (h : Header) (old left : Option (List ℕ)) → IsReadableHeader h → old ≡ Some bytes → Consumes old left (header_text h) → StandsAt bytes h [] left
@@ -77,17 +76,33 @@ verdict_next bytes h past left left' NoMemory few next s = tt
 verdict_next bytes h past left left' Shown few next s = absurd next
 verdict_next bytes h past left left' Usage few next s = absurd next
 
--- where nothing is in hand or left, nothing is left
-pub ends_source : (held : List ℕ) (left : Option (List ℕ)) (answer : Answer) → EndsInput answer (in_front held left) → EndsInput answer left
-ends_source held None (Accepted events) e = tt
-ends_source held (Some rest) (Accepted events) e = (both_nothing held rest e).1
-ends_source held left (Refused index rule) e = tt
-ends_source held None Shown e = tt
-ends_source held (Some rest) Shown e = (both_nothing held rest e).1
-ends_source held left Usage e = tt
-ends_source held left (Malformed line reason) e = tt
-ends_source held left ReadFault e = tt
-ends_source held left LimitEvents e = tt
-ends_source held left NoMemory e = tt
+-- nothing is left, also of bytes from whose front some were taken
+pub leaves_nothing_before : (old mid left : Option (List ℕ)) (taken : List ℕ) → Consumes old mid taken → LeavesNothing mid left → LeavesNothing old left
+leaves_nothing_before None None left taken c e = e
+leaves_nothing_before None (Some rest) left taken c e = rw e refl
+leaves_nothing_before (Some bytes) None left taken c e = absurd c
+leaves_nothing_before (Some bytes) (Some rest) left taken c e = e
 
-pub ruleset progress = (stands_at_start, stands_further, verdict_next, ends_source)
+-- the end of the input, also of bytes from whose front some were taken
+pub ends_before : (old mid left : Option (List ℕ)) (taken : List ℕ) (answer : Answer) → Consumes old mid taken → EndsInput answer mid left → EndsInput answer old left
+ends_before old mid left taken (Accepted events) c e = leaves_nothing_before old mid left taken c e
+ends_before old mid left taken (Refused index rule) c e = tt
+ends_before old mid left taken Shown c e = leaves_nothing_before old mid left taken c e
+ends_before old mid left taken Usage c e = tt
+ends_before old mid left taken (Malformed line reason) c e = tt
+ends_before old mid left taken ReadFault c e = tt
+ends_before old mid left taken LimitEvents c e = tt
+ends_before old mid left taken NoMemory c e = tt
+
+pub ends_further : (old mid left : Option (List ℕ)) (answer : Answer) → TakesFront old mid → EndsInput answer mid left → EndsInput answer old left
+ends_further old mid left answer front e = ends_before old mid left front.taken answer front.consumed e
+
+-- one more event was taken from the front
+pub front_further : (h : Header) (past past' : List Event) (old mid new : Option (List ℕ)) → TakesFront old mid → TakesEvent h past past' mid new → TakesFront old new
+front_further h past past' old mid new front (event, is, readable, consumed, kept) =
+    record { taken = front.taken ++ line_text (event_text h.version event); consumed = Consumes-trans old mid new _ _ front.consumed consumed }
+
+pub no_front : (old : Option (List ℕ)) → TakesFront old old
+no_front old = record { taken = []; consumed = Consumes-nil old }
+
+pub ruleset progress = (stands_at_start, stands_further, verdict_next, ends_before, ends_further, no_front)

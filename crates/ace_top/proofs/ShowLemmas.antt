@@ -1,19 +1,21 @@
 -- What `show` and `migrate` answer.
-use Rattle.std.proofs.Common.{◌≡◌, ◌≢◌, ◌≤◌, ◌++◌, ◌⊎◌, ℕ, Bool, true, false, List, [], Option, None, Some, IfSome, length, refl, sym, ap, subst, ◌∙◌, append-nil, inl, inr, codes}
+use Rattle.std.proofs.Common.{◌≡◌, ◌≢◌, ◌≤◌, ◌++◌, ◌⊎◌, ℕ, List, [], Option, None, Some, IfSome, length, refl, sym, ap, subst, ◌∙◌, append-nil, inl, inr, codes, arith}
 use Rattle.std.specs.List.{AllByRecursion}
 use Rattle.std.specs.Io.KnownBytes.{Consumes, Appends}
 use Rattle.std.proofs.KnownBytes.{Consumes-trans, Appends-trans, Appends-nil}
 use Rattle.ace_event.specs.declared.header.Header.{Header}
 use Rattle.ace_event.specs.declared.event.Event.{Event}
-use Rattle.ace_event.specs.Text.{header_text, trace_text}
+use Rattle.ace_event.specs.Text.{header_text, events_text, trace_text}
 use Rattle.ace_grammar.specs.declared.error.ReadErr.{ReadErr}
 use Rattle.ace_grammar.specs.declared.error.ReadErr.TheVariants as error
-use Rattle.ace_grammar.specs.Errors.{HasNoHeader}
+use Rattle.ace_grammar.specs.Errors.{HasNoHeader, LeavesNothing}
 use Rattle.ace_grammar.specs.Lines.{BeginsWith}
 use Rattle.ace_grammar.proofs.Taken.{reads_to, at_end}
 use Rattle.ace_grammar.specs.Reading.{Reads, Ending, Ends, Whole, Full, Bad, IsReadable, IsReadableHeader, HasBadLine, IfTold, most_events}
 use Rattle.ace_top.specs.declared.answer.Answer.{Answer}
-use Rattle.ace_top.specs.declared.answer.Answer.TheVariants.{Accepted, Refused, Shown, Usage, Malformed, ReadFault, LimitEvents, NoMemory}
+use Rattle.ace_top.specs.declared.answer.Answer.TheVariants.{Accepted, Refused, Shown, Reported, Usage, Malformed, ReadFault, LimitEvents, LimitLines, NoMemory}
+use Rattle.ace_top.specs.declared.show.Version.{Version}
+use Rattle.ace_top.specs.declared.show.Version.TheVariants.{AsRead, Two}
 use Rattle.ace_top.specs.declared.words.Command.{Command}
 use Rattle.ace_top.specs.Command.{writing}
 use Rattle.ace_top.specs.Answer.{IsAnswer, Answers, FitsAnswer, BreaksOff, IsBegun}
@@ -23,6 +25,7 @@ use Rattle.ace_top.specs.Output.{AppendsPart, AppendsParts}
 use Rattle.ace_top.specs.Show.{IsShown, ShowsFront, header_written}
 use Rattle.ace_top.specs.Texts.{status_of, out_text_of, notes_text_of}
 use Rattle.ace_top.proofs.Parts.{both_nothing}
+use Rattle.ace_top.proofs.ProgressLemmas.{leaves_nothing_before}
 
 -- after a copy there is no further text for the standard output
 quiet : (from : ℕ) (answer : Answer) (count : ℕ) (next left : Option (List ℕ)) → EndsCopy from answer count next left → out_text_of answer ≡ []
@@ -33,6 +36,8 @@ quiet from ReadFault count next left e = refl
 quiet from NoMemory count next left e = refl
 quiet from (Accepted events) count next left e = absurd e
 quiet from (Refused index rule) count next left e = absurd e
+quiet from Reported count next left e = absurd e
+quiet from LimitLines count next left e = absurd e
 quiet from Usage count next left e = refl
 
 -- the bytes of a trace that was copied, and what stands next
@@ -47,20 +52,20 @@ ends : (bytes : List ℕ) (header : Header) (events : List Event) (next : Option
     → Copied bytes header events next → IfTold next P → ((rest : List ℕ) → P rest → Ends header.version ending events rest) → Reads bytes header events ending
 ends bytes header events next ending P c p end = reads_to bytes header events next ending P c.readable c.all c.text p end
 
-copied_shown : (second : Bool) (bytes : List ℕ) (header : Header) (events : List Event) (next left : Option (List ℕ)) (answer : Answer)
-    → Copied bytes header events next → EndsCopy header.version answer (length events) next left → IsShown second bytes left answer (trace_text (header_written second header) events)
-copied_shown second bytes header events next left Shown c e =
-    (header, events, ends bytes header events next Whole (λ rest. rest ≡ []) c (at_end next e) (λ rest none. (c.few, none)), refl)
-copied_shown second bytes header events next left (Malformed line reason) c e =
+copied_shown : (version : Version) (bytes : List ℕ) (header : Header) (events : List Event) (next left : Option (List ℕ)) (answer : Answer)
+    → Copied bytes header events next → EndsCopy header.version answer (length events) next left → IsShown version bytes left answer (trace_text (header_written version header) events)
+copied_shown version bytes header events next left Shown c e =
+    (header, events, ends bytes header events next Whole (λ rest. rest ≡ []) c (at_end next e.0) (λ rest none. (c.few, none)), refl)
+copied_shown version bytes header events next left (Malformed line reason) c e =
     inr (header, events, ends bytes header events next (Bad line reason) (λ rest. HasBadLine header.version rest reason) c e.0 (λ rest bad. (e.1, e.2, bad)), refl)
-copied_shown second bytes header events next left LimitEvents c e =
+copied_shown version bytes header events next left LimitEvents c e =
     (header, events, ends bytes header events next Full (λ rest. rest ≢ []) c e.0 (λ rest some. (e.1, some)), refl)
-copied_shown second bytes header events next left ReadFault c (pending, none, short, taken) =
+copied_shown version bytes header events next left ReadFault c (pending, none, short, taken) =
     inr (header, events, pending, c.readable, c.all, c.few, none, short, Consumes-trans (Some bytes) next left _ _ c.text taken, refl)
-copied_shown second bytes header events next left NoMemory c e = absurd e
-copied_shown second bytes header events next left (Accepted count) c e = absurd e
-copied_shown second bytes header events next left (Refused index rule) c e = absurd e
-copied_shown second bytes header events next left Usage c e = absurd e
+copied_shown version bytes header events next left NoMemory c e = absurd e
+copied_shown version bytes header events next left (Accepted count) c e = absurd e
+copied_shown version bytes header events next left (Refused index rule) c e = absurd e
+copied_shown version bytes header events next left Usage c e = absurd e
 
 copied_from : (bytes : List ℕ) (header : Header) (events : List Event) (mid next : Option (List ℕ)) → IsReadableHeader header → Consumes (Some bytes) mid (header_text header) → HasWritten header.version mid next events → Copied bytes header events next
 copied_from bytes header events mid next readable head w = record {
@@ -71,43 +76,70 @@ copied_from bytes header events mid next readable head w = record {
 }
 
 -- what the command answers, by the header that it writes
-answered : (second : Bool) (bytes : List ℕ) (left : Option (List ℕ)) (answer : Answer) (text : List ℕ) → IsShown second bytes left answer text → IsAnswer (writing second) bytes left answer text
-answered false bytes left answer text s = s
-answered true bytes left answer text s = s
+answered : (version : Version) (bytes : List ℕ) (left : Option (List ℕ)) (answer : Answer) (text : List ℕ) → IsShown version bytes left answer text → IsAnswer (writing version) bytes left answer text
+answered AsRead bytes left answer text s = s
+answered Two bytes left answer text s = s
 
-begins : (second : Bool) (bytes text : List ℕ) → (text ≡ []) ⊎ ShowsFront second bytes text → IsBegun (writing second) bytes text
-begins false bytes text b = b
-begins true bytes text b = b
+begins : (version : Version) (bytes text : List ℕ) → (text ≡ []) ⊎ ShowsFront version bytes text → IsBegun (writing version) bytes text
+begins AsRead bytes text b = b
+begins Two bytes text b = b
 
 -- no output failed: the trace stands on the standard output
-pub shows_copy : (second : Bool) (old mid next left out out' out'' notes notes' : Option (List ℕ)) (header header' : Header) (events : List Event) (answer : Answer) (status : ℕ)
-    → header' ≡ header_written second header → IsReadableHeader header → Consumes old mid (header_text header) → HasWritten header.version mid next events → EndsCopy header.version answer (length events) next left
+pub shows_copy : (version : Version) (old mid next left out out' out'' notes notes' : Option (List ℕ)) (header header' : Header) (events : List Event) (answer : Answer) (status : ℕ)
+    → header' ≡ header_written version header → IsReadableHeader header → Consumes old mid (header_text header) → HasWritten header.version mid next events → EndsCopy header.version answer (length events) next left
     → Appends out out' (trace_text header' events) → Appends out' out'' (out_text_of answer) → Appends notes notes' (notes_text_of answer) → status ≡ status_of answer
-    → Answers (writing second) old left status out out'' notes notes'
-shows_copy second old mid next left out out' out'' notes notes' header header' events answer status by readable head w e given more told is = (
+    → Answers (writing version) old left status out out'' notes notes'
+shows_copy version old mid next left out out' out'' notes notes' header header' events answer status by readable head w e given more told is = (
   answer,
   trace_text header' events,
-  fits second answer e,
-  subst (λ (h : Header). IfSome old (λ bytes. IsAnswer (writing second) bytes left answer (trace_text h events))) (sym by) (shown old head),
+  fits version answer e,
+  subst (λ (h : Header). IfSome old (λ bytes. IsAnswer (writing version) bytes left answer (trace_text h events))) (sym by) (shown old head),
   is,
   subst (Appends out out'') (ap (λ t. trace_text header' events ++ t) (quiet header.version answer (length events) next left e) ∙ append-nil (trace_text header' events)) (Appends-trans out out' out'' _ _ given more),
   told,
 )
   where
-    fits : (second : Bool) (answer : Answer) → EndsCopy header.version answer (length events) next left → FitsAnswer (writing second) answer (trace_text header' events)
-    fits false NoMemory e = absurd e
-    fits true NoMemory e = absurd e
-    fits false answer e = tt
-    fits true answer e = tt
+    fits : (version : Version) (answer : Answer) → EndsCopy header.version answer (length events) next left → FitsAnswer (writing version) answer (trace_text header' events)
+    fits AsRead NoMemory e = absurd e
+    fits Two NoMemory e = absurd e
+    fits AsRead answer e = tt
+    fits Two answer e = tt
 
-    shown : (old : Option (List ℕ)) → Consumes old mid (header_text header) → IfSome old (λ bytes. IsAnswer (writing second) bytes left answer (trace_text (header_written second header) events))
+    shown : (old : Option (List ℕ)) → Consumes old mid (header_text header) → IfSome old (λ bytes. IsAnswer (writing version) bytes left answer (trace_text (header_written version header) events))
     shown None head = tt
-    shown (Some bytes) head = answered second bytes left answer _ (copied_shown second bytes header events next left answer (copied_from bytes header events mid next readable head w) e)
+    shown (Some bytes) head = answered version bytes left answer _ (copied_shown version bytes header events next left answer (copied_from bytes header events mid next readable head w) e)
 
 -- the answer, where what is left is that of a source
 pub shows_left : {S : Type 0} (left : S → Option (List ℕ)) (command : Command) (source source' : S) (old out out' notes notes' : Option (List ℕ)) (status : ℕ)
     → source' ≡ source → Answers command old (left source) status out out' notes notes' → Answers command old (left source') status out out' notes notes'
 shows_left left command source source' old out out' notes notes' status is a = subst (λ s. Answers command old (left s) status out out' notes notes') (sym is) a
+
+-- with status 0 the input was read to its end
+shown_ends : (from : ℕ) (answer : Answer) (count : ℕ) (next left : Option (List ℕ)) → status_of answer ≡ 0 → EndsCopy from answer count next left → LeavesNothing next left
+shown_ends from Shown count next left zero e = e.1
+shown_ends from (Malformed line reason) count next left zero e = absurd (omega arith)
+shown_ends from LimitEvents count next left zero e = absurd (omega arith)
+shown_ends from ReadFault count next left zero e = absurd (omega arith)
+shown_ends from NoMemory count next left zero e = absurd (omega arith)
+shown_ends from (Accepted events) count next left zero e = absurd e
+shown_ends from (Refused index rule) count next left zero e = absurd e
+shown_ends from Reported count next left zero e = absurd e
+shown_ends from LimitLines count next left zero e = absurd e
+shown_ends from Usage count next left zero e = absurd (omega arith)
+
+pub shows_whole : {S : Type 0} (left : S → Option (List ℕ)) (source source' : S) (old mid next : Option (List ℕ)) (header : Header) (events : List Event) (answer : Answer) (status : ℕ)
+    → source' ≡ source → Consumes old mid (header_text header) → HasWritten header.version mid next events → EndsCopy header.version answer (length events) next (left source)
+    → status ≡ status_of answer → status ≡ 0 → LeavesNothing old (left source')
+shows_whole left source source' old mid next header events answer status same head w e is zero =
+    subst (λ s. LeavesNothing old (left s)) (sym same)
+    (leaves_nothing_before old next (left source) (header_text header ++ events_text header.version events) (Consumes-trans old mid next _ _ head w.taken) (shown_ends header.version answer (length events) next (left source) (sym is ∙ zero) e))
+
+-- where there is no header, the status is another
+pub error_status : (e : ReadErr) (answer : Answer) → answer ≡ error_answer e → status_of answer ≢ 0
+error_status (error.Malformed line reason) answer is zero = absurd (omega (arith, sym (ap status_of is) ∙ zero))
+error_status error.TooManyEvents answer is zero = absurd (omega (arith, sym (ap status_of is) ∙ zero))
+error_status error.ReadFault answer is zero = absurd (omega (arith, sym (ap status_of is) ∙ zero))
+error_status error.NoMemory answer is zero = absurd (omega (arith, sym (ap status_of is) ∙ zero))
 
 -- where there is no header, there is no text for the standard output
 silent : (e : ReadErr) → out_text_of (error_answer e) ≡ []
@@ -117,67 +149,67 @@ silent error.ReadFault = refl
 silent error.NoMemory = refl
 
 -- there was no header
-pub shows_no_header : (second : Bool) (old left out out' notes notes' : Option (List ℕ)) (status before now : ℕ) (e : ReadErr) (answer : Answer)
+pub shows_no_header : (version : Version) (old left out out' notes notes' : Option (List ℕ)) (status before now : ℕ) (e : ReadErr) (answer : Answer)
     → answer ≡ error_answer e → HasNoHeader e old before left now
-    → Appends out out' (out_text_of answer) → Appends notes notes' (notes_text_of answer) → status ≡ status_of answer → Answers (writing second) old left status out out' notes notes'
-shows_no_header second old left out out' notes notes' status before now e answer is none given told same = (
+    → Appends out out' (out_text_of answer) → Appends notes notes' (notes_text_of answer) → status ≡ status_of answer → Answers (writing version) old left status out out' notes notes'
+shows_no_header version old left out out' notes notes' status before now e answer is none given told same = (
   answer,
   [],
-  fits second answer,
-  subst (λ (a : Answer). IfSome old (λ bytes. IsAnswer (writing second) bytes left a [])) (sym is) (shown e old none),
+  fits version answer,
+  subst (λ (a : Answer). IfSome old (λ bytes. IsAnswer (writing version) bytes left a [])) (sym is) (shown e old none),
   same,
   subst (Appends out out') (ap out_text_of is ∙ silent e) given,
   told,
 )
   where
-    fits : (second : Bool) (answer : Answer) → FitsAnswer (writing second) answer []
-    fits false NoMemory = refl
-    fits true NoMemory = refl
-    fits false answer = tt
-    fits true answer = tt
+    fits : (version : Version) (answer : Answer) → FitsAnswer (writing version) answer []
+    fits AsRead NoMemory = refl
+    fits Two NoMemory = refl
+    fits AsRead answer = tt
+    fits Two answer = tt
 
-    shown : (e : ReadErr) (old : Option (List ℕ)) → HasNoHeader e old before left now → IfSome old (λ bytes. IsAnswer (writing second) bytes left (error_answer e) [])
+    shown : (e : ReadErr) (old : Option (List ℕ)) → HasNoHeader e old before left now → IfSome old (λ bytes. IsAnswer (writing version) bytes left (error_answer e) [])
     shown e None none = tt
-    shown (error.Malformed line reason) (Some bytes) none = answered second bytes left (Malformed line reason) [] (inl (none.0, refl))
+    shown (error.Malformed line reason) (Some bytes) none = answered version bytes left (Malformed line reason) [] (inl (none.0, refl))
     shown error.TooManyEvents (Some bytes) none = absurd none
-    shown error.ReadFault (Some bytes) none = answered second bytes left ReadFault [] (inl (refl, none.0))
-    shown error.NoMemory (Some bytes) none = answered second bytes left NoMemory [] refl
+    shown error.ReadFault (Some bytes) none = answered version bytes left ReadFault [] (inl (refl, none.0))
+    shown error.NoMemory (Some bytes) none = answered version bytes left NoMemory [] refl
 
-begun : (second : Bool) (old mid next : Option (List ℕ)) (header header' : Header) (events : List Event) → header' ≡ header_written second header → IsReadableHeader header
-    → Consumes old mid (header_text header) → HasWritten header.version mid next events → IfSome old (λ bytes. IsBegun (writing second) bytes (trace_text header' events))
-begun second None mid next header header' events by readable head w = tt
-begun second (Some bytes) mid next header header' events by readable head w =
+begun : (version : Version) (old mid next : Option (List ℕ)) (header header' : Header) (events : List Event) → header' ≡ header_written version header → IsReadableHeader header
+    → Consumes old mid (header_text header) → HasWritten header.version mid next events → IfSome old (λ bytes. IsBegun (writing version) bytes (trace_text header' events))
+begun version None mid next header header' events by readable head w = tt
+begun version (Some bytes) mid next header header' events by readable head w =
     let c = copied_from bytes header events mid next readable head w in
-    begins second bytes (trace_text header' events) (inr (header, events, readable, w.readable, w.few, front next c.text, ap (λ (h : Header). trace_text h events) by))
+    begins version bytes (trace_text header' events) (inr (header, events, readable, w.readable, w.few, front next c.text, ap (λ (h : Header). trace_text h events) by))
   where
     front : (next : Option (List ℕ)) → Consumes (Some bytes) next (trace_text header events) → BeginsWith bytes (trace_text header events)
     front None c = absurd c
     front (Some rest) c = (rest, c)
 
-begun_nothing : (second : Bool) (old : Option (List ℕ)) → IfSome old (λ bytes. IsBegun (writing second) bytes [])
-begun_nothing second None = tt
-begun_nothing second (Some bytes) = begins second bytes [] (inl refl)
+begun_nothing : (version : Version) (old : Option (List ℕ)) → IfSome old (λ bytes. IsBegun (writing version) bytes [])
+begun_nothing version None = tt
+begun_nothing version (Some bytes) = begins version bytes [] (inl refl)
 
 -- the standard output failed in the trace
-pub breaks_in_copy : (second : Bool) (old mid out out' notes notes' : Option (List ℕ)) (header header' : Header) → header' ≡ header_written second header → IsReadableHeader header
+pub breaks_in_copy : (version : Version) (old mid out out' notes notes' : Option (List ℕ)) (header header' : Header) → header' ≡ header_written version header → IsReadableHeader header
     → Consumes old mid (header_text header) → WritesPart header.version header'.version out out' (header_text header') mid → AppendsPart notes notes' (codes "write fault\n")
-    → BreaksOff (writing second) old out out' notes notes'
-breaks_in_copy second old mid out out' notes notes' header header' by readable head w told =
-    (Shown, trace_text header' w.events, begun second old mid w.next header header' w.events by readable head w.written, w.part, (notes, ([], [], refl, Appends-nil notes), told))
+    → BreaksOff (writing version) old out out' notes notes'
+breaks_in_copy version old mid out out' notes notes' header header' by readable head w told =
+    (Shown, trace_text header' w.events, begun version old mid w.next header header' w.events by readable head w.written, w.part, (notes, ([], [], refl, Appends-nil notes), told))
 
 -- an output failed behind the trace
-pub breaks_after_copy : (second : Bool) (old mid next left out out' out'' notes notes' : Option (List ℕ)) (header header' : Header) (events : List Event) (answer : Answer)
-    → header' ≡ header_written second header → IsReadableHeader header → Consumes old mid (header_text header) → HasWritten header.version mid next events → EndsCopy header.version answer (length events) next left
+pub breaks_after_copy : (version : Version) (old mid next left out out' out'' notes notes' : Option (List ℕ)) (header header' : Header) (events : List Event) (answer : Answer)
+    → header' ≡ header_written version header → IsReadableHeader header → Consumes old mid (header_text header) → HasWritten header.version mid next events → EndsCopy header.version answer (length events) next left
     → Appends out out' (trace_text header' events) → AppendsPart out' out'' (out_text_of answer) → AppendsParts notes notes' (notes_text_of answer) (codes "write fault\n")
-    → BreaksOff (writing second) old out out'' notes notes'
-breaks_after_copy second old mid next left out out' out'' notes notes' header header' events answer by readable head w e given (part, rest, cut, more) told =
+    → BreaksOff (writing version) old out out'' notes notes'
+breaks_after_copy version old mid next left out out' out'' notes notes' header header' events answer by readable head w e given (part, rest, cut, more) told =
     let none : part ≡ [] = (both_nothing part rest (sym cut ∙ quiet header.version answer (length events) next left e)).0 in
     let whole : Appends out out'' (trace_text header' events) =
     subst (Appends out out'') (ap (λ t. trace_text header' events ++ t) none ∙ append-nil (trace_text header' events)) (Appends-trans out out' out'' _ _ given more) in
-    (answer, trace_text header' events, begun second old mid next header header' events by readable head w, (trace_text header' events, [], sym (append-nil (trace_text header' events)), whole), told)
+    (answer, trace_text header' events, begun version old mid next header header' events by readable head w, (trace_text header' events, [], sym (append-nil (trace_text header' events)), whole), told)
 
 -- an output failed, and there was no header
-pub breaks_without_header : (second : Bool) (old out out' notes notes' : Option (List ℕ)) (e : ReadErr) (answer : Answer) → answer ≡ error_answer e
-    → AppendsPart out out' (out_text_of answer) → AppendsParts notes notes' (notes_text_of answer) (codes "write fault\n") → BreaksOff (writing second) old out out' notes notes'
-breaks_without_header second old out out' notes notes' error answer is part told =
-    (answer, [], begun_nothing second old, subst (AppendsPart out out') (ap out_text_of is ∙ silent error) part, told)
+pub breaks_without_header : (version : Version) (old out out' notes notes' : Option (List ℕ)) (e : ReadErr) (answer : Answer) → answer ≡ error_answer e
+    → AppendsPart out out' (out_text_of answer) → AppendsParts notes notes' (notes_text_of answer) (codes "write fault\n") → BreaksOff (writing version) old out out' notes notes'
+breaks_without_header version old out out' notes notes' error answer is part told =
+    (answer, [], begun_nothing version old, subst (AppendsPart out out') (ap out_text_of is ∙ silent error) part, told)

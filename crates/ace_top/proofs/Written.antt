@@ -1,11 +1,13 @@
 -- What may stand in a trace may stand in the trace that is written of it.
-use Rattle.std.proofs.Common.{◌≡◌, ◌≤◌, ◌⊎◌, ℕ, Bool, true, false, refl, ap, ◌∙◌, inl, inr, arith}
+use Rattle.std.proofs.Common.{◌≡◌, ◌≤◌, ◌⊎◌, ℕ, refl, ap, ◌∙◌, inl, inr, arith}
 use Rattle.ace_event.specs.declared.header.Header.{Header}
 use Rattle.ace_event.specs.declared.event.Event.{Event}
 use Rattle.ace_event.specs.declared.event.Event.TheVariants.{Ar, R, Rk, Aw, W, B, Wk, Ac, Cr, Cd, G, M, S, L, D, Op, Mem}
 use Rattle.ace_event.specs.Ports.{IsHeader, most_letters}
 use Rattle.ace_event.specs.Range.{InRange, IsPort}
 use Rattle.ace_grammar.specs.Reading.{IsReadableHeader}
+use Rattle.ace_top.specs.declared.show.Version.{Version}
+use Rattle.ace_top.specs.declared.show.Version.TheVariants.{AsRead, Two}
 use Rattle.ace_top.specs.Show.{header_written, in_version_2}
 use Rattle.ace_top.specs.Versions.{Allows}
 
@@ -53,13 +55,13 @@ readable_later header h =
     }
 
 -- of the header that was read
-pub same_header : (second : Bool) (header read written : Header) → read ≡ header → written ≡ header_written second read → written ≡ header_written second header
-same_header second header read written is by = by ∙ ap (header_written second) is
+pub same_header : (version : Version) (header read written : Header) → read ≡ header → written ≡ header_written version read → written ≡ header_written version header
+same_header version header read written is by = by ∙ ap (header_written version) is
 
-pub written_readable : (second : Bool) (header written : Header) → written ≡ header_written second header → IsReadableHeader header → IsReadableHeader written
-written_readable false header written is h = rw is h
-written_readable true header written is h = rw is (readable_later header h)
+pub written_readable : (version : Version) (header written : Header) → written ≡ header_written version header → IsReadableHeader header → IsReadableHeader written
+written_readable AsRead header written is h = rw is h
+written_readable Two header written is h = rw is (readable_later header h)
 
-pub written_allowed : (second : Bool) (header written : Header) → written ≡ header_written second header → IsReadableHeader header → Allows header.version written.version
-written_allowed false header written is h = rw is (λ event r. r)
-written_allowed true header written is h = rw is (allows_later header.version h.version)
+pub written_allowed : (version : Version) (header written : Header) → written ≡ header_written version header → IsReadableHeader header → Allows header.version written.version
+written_allowed AsRead header written is h = rw is (λ event r. r)
+written_allowed Two header written is h = rw is (allows_later header.version h.version)

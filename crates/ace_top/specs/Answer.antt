@@ -1,10 +1,11 @@
 -- What a call of the program answers, by its words and by the bytes of its input, where these are told.
-use Rattle.std.specs.Prelude.{◌≡◌, ◌≢◌, ◌<◌, ◌≤◌, ◌-◌, ◌^◌, ◌⊎◌, ℕ, true, false, List, [], Option, String, IfSome, codes, ⊤}
+use Rattle.std.specs.Prelude.{◌≡◌, ◌≢◌, ◌<◌, ◌≤◌, ◌-◌, ◌^◌, ◌⊎◌, ℕ, List, [], Option, String, IfSome, codes, ⊤}
 use Rattle.std.specs.Io.KnownBytes.{Appends}
 use Rattle.std.specs.declared.alloc.Global.{Global}
 use Rattle.ace_io.specs.Faults.{Rose}
 use Rattle.ace_top.specs.declared.answer.Answer.{Answer}
 use Rattle.ace_top.specs.declared.answer.Answer.TheVariants.{NoMemory, Usage}
+use Rattle.ace_top.specs.declared.show.Version.TheVariants.{AsRead, Two}
 use Rattle.ace_top.specs.declared.words.Command.{Command}
 use Rattle.ace_top.specs.declared.words.Command.TheVariants.{Check, Show, Migrate}
 use Rattle.ace_top.specs.Command.{Names}
@@ -17,8 +18,8 @@ use Rattle.ace_top.specs.Words.{IsCommand}
 -- what a command answers to these bytes, of which these are left, with this text on the standard output
 abbrev pub IsAnswer : Command → List ℕ → Option (List ℕ) → Answer → List ℕ → Type 0
 IsAnswer Check bytes left answer text = IsVerdict bytes answer
-IsAnswer Show bytes left answer text = IsShown false bytes left answer text
-IsAnswer Migrate bytes left answer text = IsShown true bytes left answer text
+IsAnswer Show bytes left answer text = IsShown AsRead bytes left answer text
+IsAnswer Migrate bytes left answer text = IsShown Two bytes left answer text
 
 -- what the answer alone says of that text: `check` writes no more than its answer, and `show` and `migrate` nothing
 -- where there was no memory
@@ -47,8 +48,8 @@ AnswersWords words input left status out out' notes notes' =
 -- a text that the command would write to the standard output, if no output failed
 abbrev pub IsBegun : Command → List ℕ → List ℕ → Type 0
 IsBegun Check bytes text = (answer : Answer) × IsVerdict bytes answer × (text ≡ out_text_of answer)
-IsBegun Show bytes text = (text ≡ []) ⊎ ShowsFront false bytes text
-IsBegun Migrate bytes text = (text ≡ []) ⊎ ShowsFront true bytes text
+IsBegun Show bytes text = (text ≡ []) ⊎ ShowsFront AsRead bytes text
+IsBegun Migrate bytes text = (text ≡ []) ⊎ ShowsFront Two bytes text
 
 -- A front of such a text was appended to the one output, and to the other a front of the text of an answer, and then a
 -- front of the word that an output failed.

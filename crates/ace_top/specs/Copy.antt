@@ -5,12 +5,13 @@ use Rattle.std.specs.Io.KnownBytes.{Consumes, Appends, IsAtEnd}
 use Rattle.ace_event.specs.declared.event.Event.{Event}
 use Rattle.ace_event.specs.Text.{events_text, event_text, line_text}
 use Rattle.ace_io.specs.Line.{IsPending}
+use Rattle.ace_grammar.specs.Errors.{LeavesNothing}
 use Rattle.ace_grammar.specs.Reading.{IsReadable, HasBadLine, IfTold, most_events}
 use Rattle.ace_writer.specs.declared.writer.Writer.{Writer}
 use Rattle.ace_writer.specs.Given.{GivesFront}
 use Rattle.ace_top.specs.Output.{AppendsPart}
 use Rattle.ace_top.specs.declared.answer.Answer.{Answer}
-use Rattle.ace_top.specs.declared.answer.Answer.TheVariants.{Accepted, Refused, Shown, Usage, Malformed, ReadFault, LimitEvents, NoMemory}
+use Rattle.ace_top.specs.declared.answer.Answer.TheVariants.{Accepted, Refused, Shown, Reported, Usage, Malformed, ReadFault, LimitEvents, LimitLines, NoMemory}
 
 -- These events were read in a trace of the one version, and their lines in the other were added to the text of the writer.
 pub record HasCopied {K : Type 0} (held : K → Option (List ℕ)) (from to : ℕ) (old new : Option (List ℕ)) (writer writer' : Writer K)
@@ -51,11 +52,13 @@ pub record CopiesNext {K : Type 0} (held : K → Option (List ℕ)) (from to : �
 -- Why the copy of a trace of a version ends after so many events: by what stands next, and by what is left of the source
 -- after that was read.
 abbrev pub EndsCopy : ℕ → Answer → ℕ → Option (List ℕ) → Option (List ℕ) → Type 0
-EndsCopy from Shown count next left = IsAtEnd next
+EndsCopy from Shown count next left = IsAtEnd next × LeavesNothing next left
 EndsCopy from (Malformed line reason) count next left = IfTold next (λ bytes. HasBadLine from bytes reason) × (count < most_events) × (line ≡ count + 3)
 EndsCopy from LimitEvents count next left = IfTold next (λ bytes. bytes ≢ []) × (count ≡ most_events)
 EndsCopy from ReadFault count next left = IsPending next left
 EndsCopy from NoMemory count next left = ⊥
 EndsCopy from (Accepted events) count next left = ⊥
 EndsCopy from (Refused index rule) count next left = ⊥
+EndsCopy from Reported count next left = ⊥
+EndsCopy from LimitLines count next left = ⊥
 EndsCopy from Usage count next left = ⊥

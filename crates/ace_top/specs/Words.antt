@@ -10,6 +10,9 @@ IsWord words text = map string_bytes words ≡ text ∷ []
 abbrev pub IsCheck : List (String Global) → Type 0
 IsCheck words = IsWord words (codes "check")
 
+abbrev pub IsReport : List (String Global) → Type 0
+IsReport words = IsWord words (codes "report")
+
 abbrev pub IsShow : List (String Global) → Type 0
 IsShow words = IsWord words (codes "show")
 
@@ -18,4 +21,4 @@ IsMigrate words = IsWord words (codes "migrate")
 
 -- The words name a command that is built.
 abbrev pub IsCommand : List (String Global) → Type 0
-IsCommand words = IsCheck words ⊎ IsShow words ⊎ IsMigrate words
+IsCommand words = IsCheck words ⊎ IsReport words ⊎ IsShow words ⊎ IsMigrate words

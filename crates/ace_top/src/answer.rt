@@ -16,6 +16,8 @@ pub enum Answer {
     Refused { index: u64, rule: u8 },
     /// The trace was written to its end.
     Shown,
+    /// The report of an accepted trace was written.
+    Reported,
     /// The words of the command line name no command.
     Usage,
     /// This line, counted from 1, is the first that is outside the grammar, for this reason.
@@ -24,6 +26,8 @@ pub enum Answer {
     ReadFault,
     /// The input goes on after as many events as a trace may have.
     LimitEvents,
+    /// An event breaks no rule and names one line more than a trace may have.
+    LimitLines,
     /// There was no memory.
     NoMemory,
 }
@@ -46,12 +50,12 @@ pub fn status_of(answer: Answer) -> u8
     ensures no_write_fault { result ≢ 5 }
 {
     match answer {
-        Answer::Accepted { .. } | Answer::Shown => 0,
+        Answer::Accepted { .. } | Answer::Shown | Answer::Reported => 0,
         Answer::Refused { .. } => 1,
         Answer::Usage => 2,
         Answer::Malformed { .. } => 3,
         Answer::ReadFault => 4,
-        Answer::LimitEvents => 6,
+        Answer::LimitEvents | Answer::LimitLines => 6,
         Answer::NoMemory => 7,
     }
 }
@@ -97,8 +101,12 @@ pub fn notes_text(answer: Answer) -> ArrayString<64>
         Answer::Usage => text.push_str("usage: ace check|run|show|migrate|report|gen N|trial N\n"),
         Answer::ReadFault => text.push_str("read fault\n"),
         Answer::LimitEvents => text.push_str("limit events\n"),
+        Answer::LimitLines => text.push_str("limit lines\n"),
         Answer::NoMemory => text.push_str("out of memory\n"),
-        Answer::Accepted { .. } | Answer::Refused { .. } | Answer::Shown => {}
+        Answer::Accepted { .. }
+        | Answer::Refused { .. }
+        | Answer::Shown
+        | Answer::Reported => {}
     }
     text
 }

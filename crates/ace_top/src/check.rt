@@ -1,6 +1,6 @@
 // Checks a trace, event by event, as it is read.
 ghost use Rattle.std.specs.Prelude.{◌≡◌, ◌≢◌, ◌<◌, ℕ, List, None, Some, length, IfSome, IfNone};
-ghost use Rattle.std.specs.Io.KnownBytes.{IsAtEnd};
+ghost use Rattle.ace_grammar.specs.Errors.{LeavesNothing};
 ghost use Rattle.ace_grammar.specs.Reader.{source_of, unread, count_of, last_answer};
 ghost use Rattle.ace_grammar.specs.Reading.{most_events};
 ghost use Rattle.ace_check.specs.Run.{header_of, past_of, break_of};
@@ -30,7 +30,7 @@ pub fn tell_verdict<S: Source, K: Sink, E: Sink>(
     ensures cause { HasStatusCause result (S.faults input.old) (S.faults input.new)
         (K.faults out.old) (K.faults out.new) (E.faults notes.old) (E.faults notes.new) }
     ensures unique { result ≡ 0 → IfSome (S.left input.old) ReadsUnique }
-    ensures whole { result ≡ 0 → IsAtEnd (S.left input.new) }
+    ensures whole { result ≡ 0 → LeavesNothing (S.left input.old) (S.left input.new) }
 {
     let verdict = check(alloc, input);
     conclude(out, notes, verdict)
@@ -40,7 +40,7 @@ pub fn tell_verdict<S: Source, K: Sink, E: Sink>(
 #[tactic(auto, using(crate::proofs::ProgressLemmas::progress, crate::proofs::ErrorLemmas::errors))]
 fn check<S: Source>(alloc: Global, input: &mut S) -> Answer
     ensures verdict { IfSome (S.left input.old) (λ bytes. IsVerdict bytes result) }
-    ensures end { EndsInput result (S.left input.new) }
+    ensures end { EndsInput result (S.left input.old) (S.left input.new) }
     ensures cause { HasReadCause (S.faults input.old) (S.faults input.new) result }
     ensures command { result ≢ Answer.Usage }
 {
@@ -63,7 +63,7 @@ fn check_events<S: Source>(checker: &mut Checker, reader: &mut Reader<S>) -> Ans
     ensures same_source { (source_of reader.new).ghost_name ≡ (source_of reader.old).ghost_name }
     ensures verdict { (bytes : List ℕ) → StandsAt bytes (header_of checker.old) (past_of checker.old) (unread S.left reader.old)
         → IsVerdict bytes result }
-    ensures end { EndsInput result (unread S.left reader.new) }
+    ensures end { EndsInput result (unread S.left reader.old) (S.left (source_of reader.new).now) }
     ensures cause { HasReadCause (S.faults (source_of reader.old).now) (S.faults (source_of reader.new).now) result }
     ensures command { result ≢ Answer.Usage }
 {
@@ -92,7 +92,7 @@ fn check_next<S: Source>(checker: &mut Checker, reader: &mut Reader<S>) -> Optio
         (unread S.left reader.old) (unread S.left reader.new)) }
     ensures verdict { IfSome result (IsNextVerdict (header_of checker.old) (past_of checker.old)
         (unread S.left reader.old) (unread S.left reader.new)) }
-    ensures end { IfSome result (λ answer. EndsInput answer (unread S.left reader.new)) }
+    ensures end { IfSome result (λ answer. EndsInput answer (unread S.left reader.old) (S.left (source_of reader.new).now)) }
     ensures fine_steady { IfNone result (S.faults (source_of reader.new).now ≡ S.faults (source_of reader.old).now) }
     ensures cause { IfSome result (HasReadCause (S.faults (source_of reader.old).now) (S.faults (source_of reader.new).now)) }
 {

@@ -1,7 +1,8 @@
 // The top call: all that the program does.
 ghost use Rattle.std.specs.Prelude.{◌≡◌, ◌≢◌, ◌<◌, ◌≤◌, ◌-◌, ◌^◌, ◌⊎◌, IfSome, codes};
-ghost use Rattle.std.specs.Io.KnownBytes.{Appends, IsAtEnd};
+ghost use Rattle.std.specs.Io.KnownBytes.{Appends};
 ghost use Rattle.ace_io.specs.Faults.{Rose};
+ghost use Rattle.ace_grammar.specs.Errors.{LeavesNothing};
 ghost use Rattle.ace_top.specs.Verdict.{ReadsUnique};
 ghost use Rattle.ace_top.specs.Words.{IsCheck, IsCommand};
 ghost use Rattle.ace_top.specs.Answer.{AnswersWords, BreaksOffWords};
@@ -9,7 +10,7 @@ ghost use Rattle.ace_top.specs.Answer.{AnswersWords, BreaksOffWords};
 use crate::answer::Answer;
 use crate::check::tell_verdict;
 use crate::output::conclude;
-use crate::show::write_out;
+use crate::show::{Version, write_out};
 use crate::words::{Command, command_of};
 use ace_io::{Gate, Sink, Source};
 use std::alloc::Global;
@@ -31,9 +32,10 @@ pub fn ace<R: Threads + Wait + Sync, S: Source, K: Sink, E: Sink, G: Gate + Sync
     ensures answer { result ≢ 5 → AnswersWords words.now (S.left input.old) (S.left input.new) result
         (K.held out.old) (K.held out.new) (E.held notes.old) (E.held notes.new) }
 
-    // Where the status is 0, the input was read to its end, and a unique line has one holder at each point of its trace.
+    // Where the status is 0, the input was read to its end: where its bytes were told, they still are, and none is left.
+    // Where it is that of `check`, a unique line has one holder at each point of the trace.
+    ensures whole { result ≡ 0 → LeavesNothing (S.left input.old) (S.left input.new) }
     ensures unique { IsCheck words.now → result ≡ 0 → IfSome (S.left input.old) ReadsUnique }
-    ensures whole { IsCheck words.now → result ≡ 0 → IsAtEnd (S.left input.new) }
 
     // Where an output failed, each has a front of what such an answer gives it, and then the notes tell so if they can.
     ensures broken_off { result ≡ 5 → BreaksOffWords words.now (S.left input.old)
@@ -59,8 +61,8 @@ pub fn ace<R: Threads + Wait + Sync, S: Source, K: Sink, E: Sink, G: Gate + Sync
 {
     match command_of(words) {
         Some(Command::Check) => tell_verdict(alloc, input, out, notes),
-        Some(Command::Show) => write_out(alloc, input, out, notes, false),
-        Some(Command::Migrate) => write_out(alloc, input, out, notes, true),
+        Some(Command::Show) => write_out(alloc, input, out, notes, Version::AsRead),
+        Some(Command::Migrate) => write_out(alloc, input, out, notes, Version::Two),
         None => conclude(out, notes, Answer::Usage),
     }
 }

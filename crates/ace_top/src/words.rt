@@ -8,6 +8,8 @@ ghost use Rattle.ace_top.specs.Words.{IsCommand, IsWord};
 pub enum Command {
     /// To tell the verdict on a trace.
     Check,
+    /// To report what an accepted trace did.
+    Report,
     /// To write a trace as it reads.
     Show,
     /// To write a trace in version 2.
@@ -27,6 +29,8 @@ pub fn command_of(words: &[String]) -> Option<Command>
 {
     if is_word(words, "check") {
         Some(Command::Check)
+    } else if is_word(words, "report") {
+        Some(Command::Report)
     } else if is_word(words, "show") {
         Some(Command::Show)
     } else if is_word(words, "migrate") {

@@ -46,7 +46,7 @@ fn write_one<K: Sink>(sink: &mut K, header: &Header, event: &Event) -> Result<()
 }
 
 /// Whether a trace of this event has this header and this line.
-fn has_lines(
+fn has_line(
     alloc: Global,
     header: &Header,
     header_text: &[u8],
@@ -65,18 +65,15 @@ fn has_lines(
     Ok(written == header_text && rest.strip_suffix(b"\n") == Some(line))
 }
 
-/// Whether a trace of this event has this line in version 1.
-fn has_line(alloc: Global, event: Event, line: &[u8]) -> Result<bool, Fail>
-    requires { InRange 1 event }
+/// Whether a trace of this event has the one line in version 1 and the other in version 2.
+fn has_lines(alloc: Global, event: Event, first: &[u8], second: &[u8]) -> Result<bool, Fail>
+    requires first { InRange 1 event }
+    requires second { InRange 2 event }
 {
-    has_lines(alloc, &HEADER, HEADER_TEXT, event, line)
-}
-
-/// The same in version 2.
-fn has_second_line(alloc: Global, event: Event, line: &[u8]) -> Result<bool, Fail>
-    requires { InRange 2 event }
-{
-    has_lines(alloc, &SECOND_HEADER, SECOND_HEADER_TEXT, event, line)
+    Ok(
+        has_line(alloc, &HEADER, HEADER_TEXT, event, first)?
+            && has_line(alloc, &SECOND_HEADER, SECOND_HEADER_TEXT, event, second)?,
+    )
 }
 
 #[test]
@@ -95,7 +92,14 @@ fn writes_each_record(rt: HostRuntime) -> Result<(), Fail> {
         bar: 1,
         lock: true,
     };
-    assert!(rt; has_line(alloc, ar, b"AR a 5 0123cdef 7 2 1 1")?);
+    assert!(rt;
+        has_lines(
+            alloc,
+            ar,
+            b"AR a 5 0123cdef 7 2 1 1",
+            b"AR 0a 5 0123cdef 7 2 1 1"
+        )?
+    );
     let r = Event::R {
         port: 1,
         id: 2,
@@ -103,12 +107,19 @@ fn writes_each_record(rt: HostRuntime) -> Result<(), Fail> {
         last: false,
         word,
     };
-    assert!(rt; has_line(alloc, r, b"R 1 2 c 0 0123456789abcdef0011223344556677")?);
+    assert!(rt;
+        has_lines(
+            alloc,
+            r,
+            b"R 1 2 c 0 0123456789abcdef0011223344556677",
+            b"R 01 2 c 0 0123456789abcdef0011223344556677"
+        )?
+    );
     let rk = Event::Rk {
         port: 3,
         st: LineState::UC,
     };
-    assert!(rt; has_line(alloc, rk, b"RK 3 UC")?);
+    assert!(rt; has_lines(alloc, rk, b"RK 3 UC", b"RK 03 UC")?);
     let aw = Event::Aw {
         port: 15,
         id: 14,
@@ -117,49 +128,70 @@ fn writes_each_record(rt: HostRuntime) -> Result<(), Fail> {
         dom: 1,
         bar: 0,
     };
-    assert!(rt; has_line(alloc, aw, b"AW f e fffffffe 5 1 0")?);
+    assert!(rt;
+        has_lines(
+            alloc,
+            aw,
+            b"AW f e fffffffe 5 1 0",
+            b"AW 0f e fffffffe 5 1 0"
+        )?
+    );
     let w = Event::W {
         port: 4,
         strb: 0xf00d,
         last: true,
         word: 15,
     };
-    assert!(rt; has_line(alloc, w, b"W 4 f00d 1 0000000000000000000000000000000f")?);
+    assert!(rt;
+        has_lines(
+            alloc,
+            w,
+            b"W 4 f00d 1 0000000000000000000000000000000f",
+            b"W 04 f00d 1 0000000000000000000000000000000f"
+        )?
+    );
     let b = Event::B {
         port: 1,
         id: 2,
         resp: 3,
     };
-    assert!(rt; has_line(alloc, b, b"B 1 2 3")?);
+    assert!(rt; has_lines(alloc, b, b"B 1 2 3", b"B 01 2 3")?);
     let wk = Event::Wk {
         port: 5,
         st: LineState::SC,
     };
-    assert!(rt; has_line(alloc, wk, b"WK 5 SC")?);
+    assert!(rt; has_lines(alloc, wk, b"WK 5 SC", b"WK 05 SC")?);
     let ac = Event::Ac {
         port: 4,
         addr: 0x89ab_cdef,
         snoop: 14,
     };
-    assert!(rt; has_line(alloc, ac, b"AC 4 89abcdef e")?);
+    assert!(rt; has_lines(alloc, ac, b"AC 4 89abcdef e", b"AC 04 89abcdef e")?);
     let cr = Event::Cr {
         port: 6,
         resp: 0x19,
         st: LineState::SD,
     };
-    assert!(rt; has_line(alloc, cr, b"CR 6 19 SD")?);
+    assert!(rt; has_lines(alloc, cr, b"CR 6 19 SD", b"CR 06 19 SD")?);
     let cd = Event::Cd {
         port: 7,
         last: false,
         word: 0,
     };
-    assert!(rt; has_line(alloc, cd, b"CD 7 0 00000000000000000000000000000000")?);
+    assert!(rt;
+        has_lines(
+            alloc,
+            cd,
+            b"CD 7 0 00000000000000000000000000000000",
+            b"CD 07 0 00000000000000000000000000000000"
+        )?
+    );
     let g = Event::G {
         port: 9,
         chan: Channel::Write,
         id: 8,
     };
-    assert!(rt; has_line(alloc, g, b"G 9 W 8")?);
+    assert!(rt; has_lines(alloc, g, b"G 9 W 8", b"G 09 W 8")?);
     let m = Event::M {
         port: 1,
         chan: Channel::Read,
@@ -167,10 +199,11 @@ fn writes_each_record(rt: HostRuntime) -> Result<(), Fail> {
         line,
     };
     assert!(rt;
-        has_line(
+        has_lines(
             alloc,
             m,
-            b"M 1 R 2 000000000000000000000000000000010123456789abcdef001122334455667700000000000000000000000000000000ffffffffffffffffffffffffffffffff"
+            b"M 1 R 2 000000000000000000000000000000010123456789abcdef001122334455667700000000000000000000000000000000ffffffffffffffffffffffffffffffff",
+            b"M 01 R 2 000000000000000000000000000000010123456789abcdef001122334455667700000000000000000000000000000000ffffffffffffffffffffffffffffffff"
         )?
     );
     let s = Event::S {
@@ -178,7 +211,7 @@ fn writes_each_record(rt: HostRuntime) -> Result<(), Fail> {
         addr: 64,
         st: LineState::I,
     };
-    assert!(rt; has_line(alloc, s, b"S 2 00000040 I")?);
+    assert!(rt; has_lines(alloc, s, b"S 2 00000040 I", b"S 02 00000040 I")?);
     let l = Event::L {
         port: 3,
         addr: 128,
@@ -187,10 +220,11 @@ fn writes_each_record(rt: HostRuntime) -> Result<(), Fail> {
         word: 255,
     };
     assert!(rt;
-        has_line(
+        has_lines(
             alloc,
             l,
-            b"L 3 00000080 2 1 000000000000000000000000000000ff"
+            b"L 3 00000080 2 1 000000000000000000000000000000ff",
+            b"L 03 00000080 2 1 000000000000000000000000000000ff"
         )?
     );
     let d = Event::D {
@@ -201,10 +235,11 @@ fn writes_each_record(rt: HostRuntime) -> Result<(), Fail> {
         line,
     };
     assert!(rt;
-        has_line(
+        has_lines(
             alloc,
             d,
-            b"D 1 000000c0 8000000000000001 0 000000000000000000000000000000010123456789abcdef001122334455667700000000000000000000000000000000ffffffffffffffffffffffffffffffff"
+            b"D 1 000000c0 8000000000000001 0 000000000000000000000000000000010123456789abcdef001122334455667700000000000000000000000000000000ffffffffffffffffffffffffffffffff",
+            b"D 01 000000c0 8000000000000001 0 000000000000000000000000000000010123456789abcdef001122334455667700000000000000000000000000000000ffffffffffffffffffffffffffffffff"
         )?
     );
     let op = Event::Op {
@@ -212,148 +247,36 @@ fn writes_each_record(rt: HostRuntime) -> Result<(), Fail> {
         k: 0x1f,
         res: Outcome::Skip,
     };
-    assert!(rt; has_line(alloc, op, b"OP 2 001f skip")?);
+    assert!(rt; has_lines(alloc, op, b"OP 2 001f skip", b"OP 02 001f skip")?);
     Ok(())
 }
 
+/// Ports of two digits, and the record of version 2 alone.
 #[test]
-fn writes_each_record_in_version_2(rt: HostRuntime) -> Result<(), Fail> {
+fn writes_wide_ports(rt: HostRuntime) -> Result<(), Fail> {
     let alloc = rt.alloc();
-    let word = 0x0123_4567_89ab_cdef_0011_2233_4455_6677;
-    let line = Line {
-        words: [1, word, 0, u128::MAX],
-    };
-    let ar = Event::Ar {
-        port: 26,
-        id: 5,
-        addr: 0x0123_cdef,
-        snoop: 7,
-        dom: 2,
-        bar: 1,
-        lock: true,
-    };
-    assert!(rt; has_second_line(alloc, ar, b"AR 1a 5 0123cdef 7 2 1 1")?);
-    let r = Event::R {
-        port: 1,
-        id: 2,
-        resp: 12,
-        last: false,
-        word,
-    };
-    assert!(rt; has_second_line(alloc, r, b"R 01 2 c 0 0123456789abcdef0011223344556677")?);
     let rk = Event::Rk {
         port: 31,
         st: LineState::UC,
     };
-    assert!(rt; has_second_line(alloc, rk, b"RK 1f UC")?);
-    let aw = Event::Aw {
-        port: 15,
-        id: 14,
-        addr: 0xffff_fffe,
-        snoop: 5,
-        dom: 1,
-        bar: 0,
-    };
-    assert!(rt; has_second_line(alloc, aw, b"AW 0f e fffffffe 5 1 0")?);
-    let w = Event::W {
-        port: 16,
-        strb: 0xf00d,
-        last: true,
-        word: 15,
-    };
-    assert!(rt; has_second_line(alloc, w, b"W 10 f00d 1 0000000000000000000000000000000f")?);
+    assert!(rt; has_line(alloc, &SECOND_HEADER, SECOND_HEADER_TEXT, rk, b"RK 1f UC")?);
     let b = Event::B {
         port: 255,
         id: 2,
         resp: 3,
     };
-    assert!(rt; has_second_line(alloc, b, b"B ff 2 3")?);
-    let wk = Event::Wk {
-        port: 5,
-        st: LineState::SC,
-    };
-    assert!(rt; has_second_line(alloc, wk, b"WK 05 SC")?);
-    let ac = Event::Ac {
-        port: 20,
-        addr: 0x89ab_cdef,
-        snoop: 14,
-    };
-    assert!(rt; has_second_line(alloc, ac, b"AC 14 89abcdef e")?);
-    let cr = Event::Cr {
-        port: 6,
-        resp: 0x19,
-        st: LineState::SD,
-    };
-    assert!(rt; has_second_line(alloc, cr, b"CR 06 19 SD")?);
-    let cd = Event::Cd {
-        port: 17,
-        last: false,
-        word: 0,
-    };
-    assert!(rt; has_second_line(alloc, cd, b"CD 11 0 00000000000000000000000000000000")?);
-    let g = Event::G {
-        port: 9,
-        chan: Channel::Write,
-        id: 8,
-    };
-    assert!(rt; has_second_line(alloc, g, b"G 09 W 8")?);
-    let m = Event::M {
-        port: 30,
-        chan: Channel::Read,
-        id: 2,
-        line,
+    assert!(rt; has_line(alloc, &SECOND_HEADER, SECOND_HEADER_TEXT, b, b"B ff 2 3")?);
+    let mem = Event::Mem {
+        addr: 0x40,
+        line: Line {
+            words: [1, 0x0123_4567_89ab_cdef_0011_2233_4455_6677, 0, u128::MAX],
+        },
     };
     assert!(rt;
-        has_second_line(
+        has_line(
             alloc,
-            m,
-            b"M 1e R 2 000000000000000000000000000000010123456789abcdef001122334455667700000000000000000000000000000000ffffffffffffffffffffffffffffffff"
-        )?
-    );
-    let s = Event::S {
-        port: 2,
-        addr: 64,
-        st: LineState::I,
-    };
-    assert!(rt; has_second_line(alloc, s, b"S 02 00000040 I")?);
-    let l = Event::L {
-        port: 19,
-        addr: 128,
-        w: 2,
-        x: true,
-        word: 255,
-    };
-    assert!(rt;
-        has_second_line(
-            alloc,
-            l,
-            b"L 13 00000080 2 1 000000000000000000000000000000ff"
-        )?
-    );
-    let d = Event::D {
-        port: 1,
-        addr: 192,
-        strobe: 0x8000_0000_0000_0001,
-        x: false,
-        line,
-    };
-    assert!(rt;
-        has_second_line(
-            alloc,
-            d,
-            b"D 01 000000c0 8000000000000001 0 000000000000000000000000000000010123456789abcdef001122334455667700000000000000000000000000000000ffffffffffffffffffffffffffffffff"
-        )?
-    );
-    let op = Event::Op {
-        port: 21,
-        k: 0x1f,
-        res: Outcome::Skip,
-    };
-    assert!(rt; has_second_line(alloc, op, b"OP 15 001f skip")?);
-    let mem = Event::Mem { addr: 0x40, line };
-    assert!(rt;
-        has_second_line(
-            alloc,
+            &SECOND_HEADER,
+            SECOND_HEADER_TEXT,
             mem,
             b"MEM 00000040 000000000000000000000000000000010123456789abcdef001122334455667700000000000000000000000000000000ffffffffffffffffffffffffffffffff"
         )?

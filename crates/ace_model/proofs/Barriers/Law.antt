@@ -1,8 +1,7 @@
 -- In an accepted trace a barrier orders.
 use Rattle.std.proofs.Common.{◌≡◌, ℕ, ◌<◌, Bool, true, false, ◌&&◌, ◌==◌, nat_lt, List, [], ◌∷◌, ◌++◌, length, Some, slice_get, sym, ap, subst, ◌∙◌, arith, inl, inr}
 use Rattle.std.proofs.lemmas.Bool.{and_parts, cases_Bool, eq-eqb, ltb-true, lt-ltb}
-use Rattle.std.specs.List.{list_all}
-use Rattle.ace_model.proofs.Terms.{Event, R, B, G, Read, Write, Header, Transaction, Trace, implies, is_line, is_transaction, outstanding, served_by, is_completion_event, is_completed}
+use Rattle.ace_model.proofs.Terms.{list_all, Event, R, B, G, Read, Write, Header, Transaction, Trace, implies, is_line, is_transaction, outstanding, served_by, is_completion_event, is_completed}
 use Rattle.ace_model.proofs.Terms.{is_barrier_half, Pair, pairs, pair_of, number_of, place_of, is_pair_complete, is_synchronisation, is_before, is_awaited, may_answer, may_be_granted, is_due}
 use Rattle.ace_model.proofs.Terms.{may_respond, may_answer_half, is_past_barriers, IsAccepted, IsOrderedBy, IsOrderedAt, BarrierHolds}
 use Rattle.ace_model.proofs.Trace.Growth.{issued_at-later, IsIssued, transaction-issued, each_issued-at, has_had-later, accepted-first}

@@ -1,18 +1,13 @@
 -- The halves of a barrier and its pair: which of the port's they are doesn't change while the trace grows.
-use Rattle.std.proofs.Common.{◌≡◌, ℕ, zero, suc, ◌<◌, true, ◌&&◌, ◌==◌, List, [], ◌∷◌, ◌++◌, length, Option, Some, None, slice_get, sym, ap, ◌∙◌, arith, inl, inr}
+use Rattle.std.proofs.Common.{◌≡◌, ℕ, zero, suc, ◌<◌, true, ◌&&◌, ◌==◌, List, [], ◌∷◌, ◌++◌, length, Some, slice_get, sym, ap, ◌∙◌, arith, inl, inr}
 use Rattle.std.proofs.lemmas.Bool.{and_parts, eqb-true}
-use Rattle.ace_model.proofs.Terms.{Event, Channel, Read, Write, Transaction, Trace, at_point, issued, same_channel, is_barrier_half, is_barrier_of, barrier_in, barriers, Pair, paired, pairs, number_of}
+use Rattle.ace_model.proofs.Terms.{Event, Channel, Read, Write, Transaction, Trace, at_point, issued, same_channel, is_barrier_half, is_barrier_of, option_filter, barriers, Pair, paired, pairs, number_of}
 use Rattle.ace_model.proofs.Trace.Growth.{at_point-before, at_point-later, IsIssued, issued-new, issued-old}
 use Rattle.ace_model.proofs.Trace.Issued.{issued-place}
 use Rattle.ace_model.proofs.Trace.Places.{at_point-last}
 use Rattle.ace_model.proofs.Trace.Looks.{same_channel-is}
 use Rattle.ace_model.proofs.General.Lists.{slice_get-grown, slice_get-more}
-use Rattle.ace_model.proofs.General.Options.{some_where-is, Some-injective}
-
-barrier_in-is : (o : Option Transaction) (p : ℕ) (c : Channel) (x : Transaction)
-    → barrier_in o p c ≡ Some x → (o ≡ Some x) × (is_barrier_of x p c ≡ true)
-barrier_in-is None p c x e = cc
-barrier_in-is (Some y) p c x e = let s = some_where-is (λ z. is_barrier_of z p c) y x e in (ap Some s.0, s.1)
+use Rattle.ace_model.proofs.General.Options.{option_filter-is, Some-injective}
 
 -- the k-th of the port's barrier halves on the channel
 pub record IsHalf (past : Trace) (p : ℕ) (c : Channel) (k : ℕ) (x : Transaction) : Type 0 where
@@ -24,7 +19,7 @@ pub barriers-half : (past : Trace) (p : ℕ) (c : Channel) (k : ℕ) (x : Transa
     → slice_get (barriers past p c) k ≡ Some x → IsHalf past p c k x
 barriers-half [] p c k x e = cc
 barriers-half (e ∷ past) p c k x there =
-    elim (slice_get-more (barriers past p c) (barrier_in (issued (length past) e) p c) k x there) [
+    elim (slice_get-more (barriers past p c) (option_filter (λ y. is_barrier_of y p c) (issued (length past) e)) k x there) [
       | inl old ↦
           let i = barriers-half past p c k x old in
           record {
@@ -33,7 +28,7 @@ barriers-half (e ∷ past) p c k x there =
             number = ap (λ (t : Trace). length (barriers t p c)) (at_point-before e past x.place (let b = i.stands.before in omega arith)) ∙ i.number;
           }
       | inr new ↦
-          let b = barrier_in-is (issued (length past) e) p c x new.1 in
+          let b = option_filter-is (λ y. is_barrier_of y p c) (issued (length past) e) x new.1 in
           let place = issued-place (length past) e x b.0 in
           record {
             stands = issued-new e past x b.0;
@@ -47,7 +42,7 @@ barriers-grown : (later : List Event) (before : Trace) (p : ℕ) (c : Channel) (
     → slice_get (barriers before p c) k ≡ Some x → slice_get (barriers (later ++ before) p c) k ≡ Some x
 barriers-grown [] before p c k x there = there
 barriers-grown (e ∷ later) before p c k x there =
-    slice_get-grown (barriers (later ++ before) p c) (barrier_in (issued (length (later ++ before)) e) p c) k x (barriers-grown later before p c k x there)
+    slice_get-grown (barriers (later ++ before) p c) (option_filter (λ y. is_barrier_of y p c) (issued (length (later ++ before)) e)) k x (barriers-grown later before p c k x there)
 
 -- the k-th pair has the k-th halves
 paired-halves : (rs ws : List Transaction) (k : ℕ) (b : Pair)

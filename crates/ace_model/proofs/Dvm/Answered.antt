@@ -1,7 +1,7 @@
 -- A complete part of a DVM message was answered by every other ACE port.
 use Rattle.std.proofs.Common.{◌≡◌, List, [], ◌++◌, ◌≢◌, ℕ, Bool, true, nat_eq, nat_lt, ◌∷◌, Some, None, refl}
 use Rattle.std.proofs.lemmas.Bool.{and_parts, and_from, ne_eqb, ltb-true}
-use Rattle.ace_model.proofs.Terms.{each_port, is_transaction, may_respond, Read, Write, Event, R, B, Header, Transaction, Trace, implies, is_some_and, is_dvm_message, is_ace, outstanding, served_by}
+use Rattle.ace_model.proofs.Terms.{list_all, ports_below, is_transaction, may_respond, Read, Write, Event, R, B, Header, Transaction, Trace, implies, is_some_and, is_dvm_message, is_ace, outstanding, served_by}
 use Rattle.ace_model.proofs.Terms.{is_completion_event, is_completed, is_message_part, is_other_ace, has_answered, is_due, is_answered_by_all, IsAccepted}
 use Rattle.ace_model.proofs.Rules.Keeps.{accepted_keeps}
 use Rattle.ace_model.proofs.Trace.Served.{had_some, outstands}
@@ -13,7 +13,7 @@ use Rattle.ace_model.proofs.General.Options.{is_none_or-at}
 use Rattle.ace_model.proofs.General.Booleans.{implies-at}
 
 -- what holds of every ACE port other than p holds of this one
-pub at_other_ace : (h : Header) (p q : ℕ) (test : ℕ → Bool) → each_port h.ports (λ r. implies (is_other_ace h p r) (test r)) ≡ true
+pub at_other_ace : (h : Header) (p q : ℕ) (test : ℕ → Bool) → list_all (λ r. implies (is_other_ace h p r) (test r)) (ports_below h.ports) ≡ true
     → is_ace h q ≡ true → q ≢ p → test q ≡ true
 at_other_ace h p q test each ace other =
     let within = ltb-true q h.ports (and_parts (nat_lt q h.ports) _ ace).0 in

@@ -6,7 +6,7 @@ use Rattle.std.proofs.lemmas.List.Elements.{All-append, All-cons, All-head, All-
 use Rattle.ace_model.proofs.Terms.{Transaction, Trace, issued, is_message_part, has_second, part_in, waits_after, first_waiting, parts_with, parts_in, parts_for, has_part}
 use Rattle.ace_model.proofs.Trace.Issued.{issued-place}
 use Rattle.ace_model.proofs.Trace.Growth.{IsIssued, issued-cases}
-use Rattle.ace_model.proofs.General.Options.{some_where-is}
+use Rattle.ace_model.proofs.General.Options.{some_where-is, option_filter-is}
 use Rattle.ace_model.proofs.General.Lists.{IsStart, start-self, start-trans, start-append, any-left, any-right}
 
 -- the transaction came before the event with so many before it
@@ -19,16 +19,12 @@ waiting-cases waiting None x e = inl e
 waiting-cases (Some first) (Some y) x e = cc
 waiting-cases None (Some y) x e = inr (ap Some (some_where-is (λ z. has_second z.addr) y x e).0)
 
-part_in-is : (new : Option Transaction) (p : ℕ) (x : Transaction) → part_in new p ≡ Some x → new ≡ Some x
-part_in-is None p x e = cc
-part_in-is (Some y) p x e = ap Some (some_where-is (λ z. is_message_part z && nat_eq z.port p) y x e).0
-
 waiting-placed : (past : Trace) (p : ℕ) (x : Transaction) → first_waiting past p ≡ Some x → x.place < length past
 waiting-placed [] p x w = cc
 waiting-placed (e ∷ past) p x w =
     elim (waiting-cases (first_waiting past p) (part_in (issued (length past) e) p) x w) [
       | inl old ↦ let low = waiting-placed past p x old in omega arith
-      | inr new ↦ let at = issued-place (length past) e x (part_in-is (issued (length past) e) p x new) in omega (arith, at)
+      | inr new ↦ let at = issued-place (length past) e x (option_filter-is _ (issued (length past) e) x new).0 in omega (arith, at)
     ]
 
 -- what holds of both parts holds of all that the message has

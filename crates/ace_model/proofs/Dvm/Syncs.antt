@@ -1,5 +1,5 @@
 -- The Syncs of a trace: each has one part, which is forwarded next after what was issued before it.
-use Rattle.std.proofs.Common.{◌≡◌, ◌≢◌, ℕ, true, not, ◌&&◌, nat_eq, [], ◌∷◌, ◌++◌, length, Option, Some, None, is_some, refl, ap, arith, inl, inr}
+use Rattle.std.proofs.Common.{◌≡◌, ◌≢◌, ℕ, true, not, ◌&&◌, nat_eq, [], ◌∷◌, ◌++◌, length, Option, Some, None, is_some, refl, arith, inl, inr}
 use Rattle.std.proofs.lemmas.Bool.{and_parts, eqb-true, ne_eqb}
 use Rattle.ace_model.proofs.Terms.{Header, Transaction, Trace, at_point, issued, is_message_part, is_message_word, is_sync, is_sync_word, has_second, first_waiting, parts_in, parts_for, sync_in, last_sync}
 use Rattle.ace_model.proofs.Terms.{begins_message, begins_well, is_part_in_order, IsAccepted}
@@ -8,7 +8,7 @@ use Rattle.ace_model.proofs.Trace.Issued.{issued-place}
 use Rattle.ace_model.proofs.Trace.Growth.{IsIssued, issued-new, issued-old, issued-cases, at_point-before}
 use Rattle.ace_model.proofs.Trace.Places.{at_point-last}
 use Rattle.ace_model.proofs.General.Lists.{IsStart, start-self, start-trans, start-append}
-use Rattle.ace_model.proofs.General.Options.{some_where-is, newer-cases, is_none_or-at}
+use Rattle.ace_model.proofs.General.Options.{option_filter-is, newer-cases, is_none_or-at}
 use Rattle.ace_model.proofs.General.Booleans.{implies-at, not_both}
 
 -- It is a Sync of the trace.
@@ -22,22 +22,16 @@ last_sync-is [] p x l = cc
 last_sync-is (e ∷ past) p x l =
     elim (newer-cases (sync_in past (issued (length past) e) p) (last_sync past p) x l) [
       | inl new ↦
-          let s = sync_in-is (issued (length past) e) new in
+          let s = option_filter-is (λ y. is_sync past y && nat_eq y.port p) (issued (length past) e) x new in
+          let parts = and_parts (is_sync past x) (nat_eq x.port p) s.1 in
           let i = issued-new e past x s.0 in
           let low = i.before in
-          (record { issued = i; kind = rw (at_point-before e past x.place (omega arith)) s.1 }, s.2)
+          (record { issued = i; kind = rw (at_point-before e past x.place (omega arith)) parts.0 }, eqb-true x.port p parts.1)
       | inr old ↦
           let s = last_sync-is past p x old in
           let low = s.0.issued.before in
           (record { issued = issued-old e past x s.0.issued; kind = rw (at_point-before e past x.place (omega arith)) s.0.kind }, s.1)
     ]
-  where
-    sync_in-is : (o : Option Transaction) → sync_in past o p ≡ Some x → (o ≡ Some x) × (is_sync past x ≡ true) × (x.port ≡ p)
-    sync_in-is None e = cc
-    sync_in-is (Some y) e =
-        let s = some_where-is (λ z. is_sync past z && nat_eq z.port p) y x e in
-        let parts = and_parts (is_sync past x) (nat_eq x.port p) s.1 in
-        (ap Some s.0, parts.0, eqb-true x.port p parts.1)
 
 -- It is a Sync where it is issued at this point: the port's last part waits for no second.
 pub record IsSyncAt (past : Trace) (x : Transaction) : Type 0 where

@@ -1,7 +1,7 @@
 -- What a look that may find nothing says where it finds something.
-use Rattle.std.proofs.Common.{◌≡◌, ◌⊎◌, inl, inr, Bool, true, false, if◌then◌else◌, Option, Some, None, is_some, is_none, refl, subst}
+use Rattle.std.proofs.Common.{◌≡◌, ◌⊎◌, inl, inr, Bool, true, false, if◌then◌else◌, Option, Some, None, is_some, is_none, refl, ap, subst}
 use Rattle.std.proofs.lemmas.Bool.{cases_Bool}
-use Rattle.ace_model.proofs.Terms.{is_some_and, is_none_or, newer}
+use Rattle.ace_model.proofs.Terms.{is_some_and, is_none_or, newer, option_filter}
 
 pub some_is : {A : Type 0} → (o : Option A) → is_some o ≡ true → (x : A) × (o ≡ Some x)
 some_is None e = cc
@@ -21,6 +21,10 @@ some_if-is false x y e = cc
 
 pub some_where-is : {A : Type 0} → (test : A → Bool) (x y : A) → (if test x then Some x else None) ≡ Some y → (x ≡ y) × (test y ≡ true)
 some_where-is test x y e = let s = some_if-is (test x) x y e in (s.1, subst (λ z. test z ≡ true) s.1 s.0)
+
+pub option_filter-is : {A : Type 0} → (test : A → Bool) (o : Option A) (x : A) → option_filter test o ≡ Some x → (o ≡ Some x) × (test x ≡ true)
+option_filter-is test None x e = cc
+option_filter-is test (Some y) x e = let s = some_where-is test y x e in (ap Some s.0, s.1)
 
 -- one that passes the test, or else the older
 pub some_or-cases : {A : Type 0} → (test : A → Bool) (y : A) (older : Option A) (x : A) → (if test y then Some y else older) ≡ Some x

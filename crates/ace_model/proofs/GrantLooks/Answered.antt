@@ -1,7 +1,7 @@
 -- An answer to a snoop of a line: what is looked at under the grant of the line with it.
 use Rattle.std.proofs.Common.{◌≡◌, ◌≢◌, ℕ, zero, suc, ◌<◌, arith, Bool, true, false, ◌&&◌, ◌||◌, nat_eq, ◌∷◌, length, Option, Some, None, option_map, refl, sym, ap, subst, ◌∙◌, inl, inr}
 use Rattle.std.proofs.lemmas.Bool.{false_from_ne_true, and_from, cases_eq, eq-eqb, ne_eqb, ltb-true}
-use Rattle.ace_model.proofs.Terms.{Cr, Header, LineState, Answer, Trace, at_point, newer, is_some_and, answers_line, answers_grant, answer_of, data_answers, some_port, find_port}
+use Rattle.ace_model.proofs.Terms.{Cr, Header, LineState, Answer, Trace, at_point, newer, is_some_and, answers_line, answers_grant, answer_of, data_answers, list_any, ports_below, find}
 use Rattle.ace_model.proofs.Terms.{shares, passes, has_sharer, passer, is_shared, passes_dirty, transfers_data, is_dirty, state_of, copy_of, copy_at_answer, first_sender, IsAccepted}
 use Rattle.ace_model.proofs.General.Options.{is_some_and-is}
 use Rattle.ace_model.proofs.Trace.Places.{at_point-last}
@@ -13,18 +13,18 @@ use Rattle.ace_model.proofs.GrantLooks.Quiet.{some_port-agree, find_port-agree, 
 
 -- a test that agrees with another but at one port, of which the other fails
 pub some_port-one : (n : ℕ) (test other : ℕ → Bool) (q : ℕ) → q < n → other q ≡ false → ((r : ℕ) → r ≢ q → test r ≡ other r)
-    → some_port n test ≡ (test q || some_port n other)
+    → list_any test (ports_below n) ≡ (test q || list_any other (ports_below n))
 some_port-one zero test other q low none same = absurd (omega arith)
 some_port-one (suc n) test other q low none same =
     elim (cases_eq q n) [
       | inl last ↦
-          let rest : some_port n test ≡ some_port n other = some_port-agree n test other (λ r less. same r (omega arith)) in
+          let rest : list_any test (ports_below n) ≡ list_any other (ports_below n) = some_port-agree n test other (λ r less. same r (omega arith)) in
           let fails : other n ≡ false = ap other (sym last) ∙ none in
-          subst (λ v. (test n || some_port n test) ≡ (test v || (other n || some_port n other))) (sym last) (rw (rest, fails) refl)
+          subst (λ v. (test n || list_any test (ports_below n)) ≡ (test v || (other n || list_any other (ports_below n)))) (sym last) (rw (rest, fails) refl)
       | inr apart ↦
           let rest = some_port-one n test other q (omega arith) none same in
           let here : test n ≡ other n = same n (λ e. apart (sym e)) in
-          rw (here, rest) (swap (other n) (test q) (some_port n other))
+          rw (here, rest) (swap (other n) (test q) (list_any other (ports_below n)))
     ]
   where
     swap : (a b c : Bool) → (a || (b || c)) ≡ (b || (a || c))
@@ -33,7 +33,7 @@ some_port-one (suc n) test other q low none same =
     swap false b c = refl
 
 -- the one port that passes a test is found
-pub find_port-one : (n : ℕ) (test : ℕ → Bool) (q : ℕ) → q < n → test q ≡ true → ((r : ℕ) → r ≢ q → test r ≡ false) → find_port n test ≡ Some q
+pub find_port-one : (n : ℕ) (test : ℕ → Bool) (q : ℕ) → q < n → test q ≡ true → ((r : ℕ) → r ≢ q → test r ≡ false) → find test (ports_below n) ≡ Some q
 find_port-one zero test q low found none = absurd (omega arith)
 find_port-one (suc n) test q low found none =
     elim (cases_eq q n) [

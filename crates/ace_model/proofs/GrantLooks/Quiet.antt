@@ -1,18 +1,18 @@
 -- An event that is no snoop and no answer of a line leaves what is looked at under the grant of the line.
 use Rattle.std.proofs.Common.{◌≡◌, ℕ, zero, suc, ◌<◌, arith, Bool, false, ◌∷◌, Option, Some, None, option_and_then, option_map, refl, ap, ◌∙◌}
-use Rattle.ace_model.proofs.Terms.{Event, Header, Answer, Trace, at_point, is_some_and, gives_line, is_snoop_to, was_snooped, answer_at, answer_of, some_port, find_port, shares, passes, has_sharer, passer}
+use Rattle.ace_model.proofs.Terms.{Event, Header, Answer, Trace, at_point, is_some_and, gives_line, is_snoop_to, was_snooped, answer_at, answer_of, list_any, ports_below, find, shares, passes, has_sharer, passer}
 use Rattle.ace_model.proofs.Terms.{is_shared, passes_dirty, copy_of, copy_at_answer, first_sender, sender_at}
 use Rattle.ace_model.proofs.General.Options.{newer-none}
 use Rattle.ace_model.proofs.Values.Stays.{copy_at-old}
 
 -- tests that agree on the ports below a number
-pub some_port-agree : (n : ℕ) (test other : ℕ → Bool) → ((r : ℕ) → r < n → test r ≡ other r) → some_port n test ≡ some_port n other
+pub some_port-agree : (n : ℕ) (test other : ℕ → Bool) → ((r : ℕ) → r < n → test r ≡ other r) → list_any test (ports_below n) ≡ list_any other (ports_below n)
 some_port-agree zero test other same = refl
 some_port-agree (suc n) test other same =
     let here = same n (omega arith) in
     let rest = some_port-agree n test other (λ r low. same r (omega arith)) in rw (here, rest) refl
 
-pub find_port-agree : (n : ℕ) (test other : ℕ → Bool) → ((r : ℕ) → r < n → test r ≡ other r) → find_port n test ≡ find_port n other
+pub find_port-agree : (n : ℕ) (test other : ℕ → Bool) → ((r : ℕ) → r < n → test r ≡ other r) → find test (ports_below n) ≡ find other (ports_below n)
 find_port-agree zero test other same = refl
 find_port-agree (suc n) test other same =
     let here = same n (omega arith) in

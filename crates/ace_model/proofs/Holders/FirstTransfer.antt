@@ -3,7 +3,7 @@ use Rattle.std.proofs.Common.{◌≡◌, ◌≢◌, ◌⊎◌, ℕ, ◌<◌, tru
 use Rattle.std.proofs.lemmas.Bool.{and_parts, or_left, or_right, cases_Bool, ne_eqb, ltb-true, not-true, not_from_false}
 use Rattle.ace_model.proofs.Terms.{ArKind, SnoopKind, I, passes_dirty, is_shared, Header, snoop_of_read, is_invalid, is_unique, Answer, Transaction, Trace, implies, is_some_and, is_none_or, is_clean_unique}
 use Rattle.ace_model.proofs.Terms.{is_read_not_shared_dirty, may_be_shared, takes_passed_data, is_ace, read_kind, write_kind, snoop_of, snoop_kind_of, is_exclusive_store, granted, is_granted, was_snooped}
-use Rattle.ace_model.proofs.Terms.{answer_of, owes_answer, owes_data, each_port, shares, passes, has_sharer, passer, has_passed_data, are_passed_data_whole, has_failed, state_of}
+use Rattle.ace_model.proofs.Terms.{answer_of, owes_answer, owes_data, list_all, ports_below, shares, passes, has_sharer, passer, has_passed_data, are_passed_data_whole, has_failed, state_of}
 use Rattle.ace_model.proofs.Terms.{is_port_done, are_snoops_done, has_upper_bits, fits_kind, must_be_shared, takes_passed}
 use Rattle.ace_model.proofs.Tables.States.{invalidates, is_invalid-is}
 use Rattle.ace_model.proofs.Tables.ReadEnds.{takes_alone, takes_shared}
@@ -21,7 +21,7 @@ module _ (h : Header) (past : Trace) where
     pub is : answer_of past r l ≡ Some answer
 
   -- under the grant, once its snoops are done, another port holds nothing of the line or has answered
-  pub done_port : (x : Transaction) (r : ℕ) → OneHolder h past → each_port h.ports (is_port_done h past x) ≡ true → x.port ≢ r
+  pub done_port : (x : Transaction) (r : ℕ) → OneHolder h past → list_all (is_port_done h past x) (ports_below h.ports) ≡ true → x.port ≢ r
       → (state_of h past r x.addr ≡ I) ⊎ Answered r x.addr
   done_port x r f all ne =
       elim (cases_Bool (is_ace h r)) [
@@ -79,7 +79,7 @@ module _ (h : Header) (past : Trace) where
 
       -- the snoops of a kind that causes one are done at each port, unless the read is an exclusive store that failed
       done_ports : (s : SnoopKind) → snoop_of_read k ≡ Some s → (is_clean_unique k ≡ true → has_failed past x ≡ true → ⊥)
-          → each_port h.ports (is_port_done h past x) ≡ true
+          → list_all (is_port_done h past x) (ports_below h.ports) ≡ true
       done_ports s is passed =
           elim (cases_Bool (has_failed past x)) [
             | inr fine ↦ rw (causes s is, fine) at d.done

@@ -2,7 +2,7 @@
 use Rattle.std.proofs.Common.{◌≡◌, ℕ, ◌+◌, ◌≤◌, true, false, not, ◌&&◌, ◌∷◌, length, Option, Some, None, refl, sym, ap, ◌∙◌, arith, inl, inr}
 use Rattle.std.proofs.lemmas.Bool.{and_parts, and_from, cases_Bool, eq-eqb}
 use Rattle.ace_model.proofs.Terms.{Header, Channel, Read, G, Transaction, Trace, newer, is_on, is_line, is_some_on, has_name, transaction_of, outstanding, takes_grant, is_exclusive_store}
-use Rattle.ace_model.proofs.Terms.{granted, has_grant, has_failed, is_false, passed_at_grant, store_result, state_of, k12, may_be_granted}
+use Rattle.ace_model.proofs.Terms.{granted, has_grant, has_failed, is_some_and, passed_at_grant, store_result, state_of, k12, may_be_granted}
 use Rattle.ace_model.proofs.Trace.Looks.{has_name-is, at_name, newest_on-cases, newest_on-older, is_on-addr}
 use Rattle.ace_model.proofs.Trace.Issued.{outstanding-name, outstanding-named, transaction_of-stands}
 use Rattle.ace_model.proofs.Trace.Snoops.{snoops-before}
@@ -44,7 +44,7 @@ module _ (h : Header) (past : Trace) (q : ℕ) (c : Channel) (j : ℕ) where
   pub failed_g : (p i : ℕ) (x : Transaction) → outstanding h past p Read i ≡ Some x → is_line x ≡ true
       → is_some_on (transaction_of past q c j) x.addr ≡ false → has_failed (G q c j ∷ past) x ≡ has_failed past x
   failed_g p i x o line other =
-      ap (λ v. is_exclusive_store x && is_false (newer v (passed_at_grant past x.port x.id))) (unmoved (transaction_of past q c j) refl)
+      ap (λ v. is_exclusive_store x && is_some_and (newer v (passed_at_grant past x.port x.id)) not) (unmoved (transaction_of past q c j) refl)
     where
       is_x : (y : Transaction) → transaction_of past q c j ≡ Some y → has_name y x.port Read x.id ≡ true → y ≡ x
       is_x y is named =

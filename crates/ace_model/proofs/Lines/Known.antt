@@ -2,7 +2,7 @@
 use Rattle.std.proofs.Common.{◌≡◌, ℕ, true, false, Bool, ◌&&◌, nat_eq, [], ◌∷◌, length, Option, Some, None, slice_get, sym, ap, subst, ◌∙◌, inl, inr}
 use Rattle.std.proofs.lemmas.Bool.{and_parts, or_right, cases_Bool, eqb-true}
 use Rattle.ace_model.specs.Lines.{is_known}
-use Rattle.ace_model.proofs.Terms.{Event, Ac, Channel, Header, Transaction, Snoop, Trace, IsAccepted, is_some_and, is_invalid, is_on, issued, outstanding, acknowledged, granted, state_of, next_write, data_writes, data_write, data_write_in}
+use Rattle.ace_model.proofs.Terms.{Event, Ac, Channel, Header, Transaction, Snoop, Trace, IsAccepted, is_some_and, is_invalid, is_on, issued, outstanding, acknowledged, granted, state_of, next_write, data_writes, option_filter, is_data_write_of}
 use Rattle.ace_model.proofs.Terms.{snoop_at, snoops_of, snoops_a_line, is_snoop_on, may_snoop, may_snoop_for, was_snooped, has_write_data, write_kind}
 use Rattle.ace_model.proofs.General.Booleans.{implies-at}
 use Rattle.ace_model.proofs.General.Lists.{slice_get-more}
@@ -70,7 +70,7 @@ known-snooped h (e ∷ past) a p n l s there on =
         known-granted h past b.0 l x.0 (ap (granted h past) (sym (eqb-true addr l parts.1)) ∙ x.1)
     by d b is = cc
 
-data_write_in-is : (o : Option Transaction) (p : ℕ) (y : Transaction) → data_write_in o p ≡ Some y → (o ≡ Some y) × (y.port ≡ p)
+data_write_in-is : (o : Option Transaction) (p : ℕ) (y : Transaction) → option_filter (is_data_write_of p) o ≡ Some y → (o ≡ Some y) × (y.port ≡ p)
 data_write_in-is None p y w = cc
 data_write_in-is (Some x) p y w =
     let s = some_if-is (nat_eq x.port p && is_some_and (write_kind x) has_write_data) x y w in
@@ -80,7 +80,7 @@ data_write_in-is (Some x) p y w =
 pub data_write-issued : (past : Trace) (p k : ℕ) (x : Transaction) → slice_get (data_writes past p) k ≡ Some x → IsIssued past x × (x.port ≡ p)
 data_write-issued [] p k x there = cc
 data_write-issued (e ∷ past) p k x there =
-    elim (slice_get-more (data_writes past p) (data_write (length past) e p) k x there) [
+    elim (slice_get-more (data_writes past p) (option_filter (is_data_write_of p) (issued (length past) e)) k x there) [
       | inl old ↦ let i = data_write-issued past p k x old in (issued-old e past x i.0, i.1)
       | inr new ↦ let i = data_write_in-is (issued (length past) e) p x new.1 in (issued-new e past x i.0, i.1)
     ]

@@ -1,12 +1,12 @@
 -- Under the grant of a read of a line, while no port has sent data, memory was the value at a point since, or a port that holds the
 -- line dirty hasn't answered. Once the snoops of the read are done there is no such port.
-use Rattle.std.proofs.Common.{[], None, Option, Some, ap, arith, false, inl, inr, le_refl, length, nat_eq, option_and_then, refl, subst, sym, true, ℕ, ◌&&◌, ◌∙◌, ◌∷◌, ◌≡◌, ◌≤◌, ◌⊎◌}
+use Rattle.std.proofs.Common.{[], None, Option, Some, ap, arith, false, inl, inr, le_refl, length, nat_eq, refl, subst, sym, true, ℕ, ◌&&◌, ◌∙◌, ◌∷◌, ◌≡◌, ◌≤◌, ◌⊎◌}
 use Rattle.std.proofs.lemmas.Bool.{false_from_ne_true, or_left, and_from, and_parts, cases_Bool, eq-eqb}
 use Rattle.std.specs.List.{AllByRecursion}
 use Rattle.ace_model.proofs.Terms.{has_failed, is_on, Answer, ArKind, Channel, Cr, Event, HasDirtyHolder, Header, I, FitsFields, IsAccepted, IsValueSafe, Read, SnoopKind, Trace, Transaction, answer_of}
 use Rattle.ace_model.proofs.Terms.{answers_grant, are_snoops_done, at_point, data_answers, first_sender, grant_place, granted, has_passed_data, is_clean_unique, is_dirty}
 use Rattle.ace_model.proofs.Terms.{is_exclusive_store, is_line_read_transaction, is_no_snoop, is_no_snoop_read, is_no_snoop_write, is_read, is_some_and}
-use Rattle.ace_model.proofs.Terms.{memory_of, outstanding, passed_to, read_kind, reads_a_line, may_lose_data, snoop_kind_of, snoop_of, snoop_of_read, state_of, transfers_data, value_of, write_kind}
+use Rattle.ace_model.proofs.Terms.{memory_of, outstanding, read_kind, reads_a_line, may_lose_data, snoop_kind_of, snoop_of, snoop_of_read, state_of, transfers_data, value_of, write_kind}
 use Rattle.ace_model.proofs.Tables.Kinds.{read_invalid, reads_apart, reads_unsnooped}
 use Rattle.ace_model.proofs.Trace.Issued.{Stands, outstanding-named, transaction_of-stands}
 use Rattle.ace_model.proofs.Trace.Looks.{snoops_done-ports, is_on-addr}
@@ -75,10 +75,9 @@ module _ (h : Header) (past : Trace) where
           | inl same ↦ inl same
           | inr (inl holder) ↦ inr holder
           | inr (inr (inl passed)) ↦
-              let to : passed_to h past l x ≡ Some (value_of past l) = sym (ap (option_and_then (passed_to h past l)) g) ∙ passed in
               elim (cases_Bool (has_passed_data h past x)) [
                 | inl has ↦ absurd (none-passed a l x g has none)
-                | inr unpassed ↦ let bad : None ≡ Some (value_of past l) = rw unpassed at to in cc
+                | inr unpassed ↦ let bad : None ≡ Some (value_of past l) = rw (g, unpassed) at passed in cc
               ]
           | inr (inr (inr loses)) ↦ absurd (reads-lose x reads (rw g at loses))
         ]

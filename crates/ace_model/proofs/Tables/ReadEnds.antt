@@ -1,8 +1,7 @@
 -- What the table of the ends of reads says: a state that is more than the one before takes what the kind of the read says.
 use Rattle.std.proofs.Common.{◌≡◌, ◌⊎◌, Bool, true, false, not, ◌&&◌, ◌||◌, refl, inl, inr}
-use Rattle.std.specs.List.{list_all}
 use Rattle.std.proofs.lemmas.Bool.{and_parts, or_cases, not-true}
-use Rattle.ace_model.proofs.Terms.{ArKind, LineState, I, end_states_of_read, ends_read, is_invalid, is_unique, is_dirty, implies, is_fetch, is_make_unique}
+use Rattle.ace_model.proofs.Terms.{list_all, ArKind, LineState, I, end_states_of_read, ends_read, is_invalid, is_unique, is_dirty, implies, is_fetch, is_make_unique}
 use Rattle.ace_codes.specs.declared.kind.ArKind.TheVariants as read
 use Rattle.ace_model.proofs.Tables.States.{each_state, all_among, is_invalid-is}
 use Rattle.ace_model.proofs.General.Booleans.{each_flags, implies-at}

@@ -1,9 +1,8 @@
 -- What the tables say of the state in which an event leaves a port: it is no more than the state before, or the kind of the
 -- transaction says what the other ports may hold.
 use Rattle.std.proofs.Common.{◌≡◌, ◌⊎◌, ℕ, Bool, true, false, not, ◌&&◌, ◌||◌, nat_eq, List, [], ◌∷◌, refl, sym, ap, subst, ◌∙◌, inl, inr}
-use Rattle.std.specs.List.{list_all, list_any}
 use Rattle.std.proofs.lemmas.Bool.{not-false, and_parts, or_cases, not-true, eqb-true}
-use Rattle.ace_model.proofs.Terms.{AwKind, SnoopKind, LineState, I, UC, UD, SC, SD, passes_dirty, is_shared, must_pass_dirty, states_after}
+use Rattle.ace_model.proofs.Terms.{list_all, list_any, AwKind, SnoopKind, LineState, I, UC, UD, SC, SD, passes_dirty, is_shared, must_pass_dirty, states_after}
 use Rattle.ace_model.proofs.Terms.{is_line_row, is_plain_row, is_snoop_row, end_states_of_write, ends_write, is_silent_move, is_among, is_invalid, is_unique, is_dirty, same_state, implies}
 use Rattle.ace_codes.specs.declared.kind.AwKind.TheVariants as write
 use Rattle.ace_codes.specs.declared.kind.SnoopKind.TheVariants as snoop

@@ -1,7 +1,7 @@
 -- What the small tests of the looks at a trace say.
 use Rattle.std.proofs.Common.{◌≡◌, ◌≢◌, ◌⊎◌, ℕ, true, false, ◌&&◌, nat_eq, Option, Some, None, refl, sym, ap, subst, ◌∙◌, inl, inr}
 use Rattle.std.proofs.lemmas.Bool.{and_parts, and_from, cases_Bool, eqb-true, eq-eqb}
-use Rattle.ace_model.proofs.Terms.{Channel, Read, Write, Transaction, is_read, same_channel, has_name, is_named, is_on, is_line, is_some_on, newest_named, without, newest_on, ArKind, SnoopKind, Header, Trace, read_kind, write_kind, snoop_of, has_failed, are_snoops_done, each_port, is_port_done}
+use Rattle.ace_model.proofs.Terms.{Channel, Read, Write, Transaction, is_read, same_channel, has_name, is_named, is_on, is_line, is_some_on, newest_named, without, newest_on, ArKind, SnoopKind, Header, Trace, read_kind, write_kind, snoop_of, has_failed, are_snoops_done, list_all, ports_below, is_port_done}
 use Rattle.ace_model.proofs.General.Options.{some_or-cases, Some-injective}
 
 pub is_read-is : (c : Channel) → is_read c ≡ true → c ≡ Read
@@ -119,7 +119,7 @@ read_writes_none x k kind =
 
 -- where a transaction that causes a snoop and hasn't failed has its snoops done, each port is done
 pub snoops_done-ports : (h : Header) (past : Trace) (x : Transaction) (s : SnoopKind) → snoop_of x ≡ Some s → has_failed past x ≡ false → are_snoops_done h past x ≡ true
-    → each_port h.ports (is_port_done h past x) ≡ true
+    → list_all (is_port_done h past x) (ports_below h.ports) ≡ true
 snoops_done-ports h past x s causes failed done = rw (causes, failed) at done
 
 pub is_write-is : (c : Channel) → is_read c ≡ false → c ≡ Write

@@ -1,7 +1,7 @@
 -- What is outstanding: the name of a transaction, and what an event issues or ends.
 use Rattle.std.proofs.Common.{◌≡◌, ◌≢◌, ◌⊎◌, not, ℕ, Bool, true, false, if◌then◌else◌, ◌&&◌, nat_eq, length, Option, Some, None, is_none, refl, sym, subst, ◌∙◌, inl, inr, arith}
 use Rattle.std.proofs.lemmas.Bool.{cases_Bool}
-use Rattle.ace_model.proofs.Terms.{Header, Channel, Read, Write, R, B, Transaction, Trace, transaction_of, next_complete, acknowledged, ended, is_ace, transaction_under, has_name, outstanding, newest_named, is_exclusive_store, is_false, passed_at_grant, has_failed}
+use Rattle.ace_model.proofs.Terms.{Header, Channel, Read, Write, R, B, Transaction, Trace, transaction_of, next_complete, acknowledged, ended, is_ace, transaction_under, has_name, outstanding, newest_named, is_exclusive_store, is_some_and, passed_at_grant, has_failed}
 use Rattle.ace_model.proofs.Trace.Looks.{Named, at_name, has_name-is, newest_named-cases, newest_named-older}
 use Rattle.ace_model.proofs.Trace.Issued.{transaction_of-name, outstanding-name, same_place}
 use Rattle.ace_model.proofs.General.Options.{none_if-is, none_is, Some-injective}
@@ -42,7 +42,7 @@ outstanding_stays h past y p c i x free o =
 
 -- the answer to the exclusive store under a name stays where another name is issued
 pub failed_issued : (past : Trace) (y : Transaction) (x : Transaction) → has_name y x.port Read x.id ≡ false
-    → (is_exclusive_store x && is_false (if has_name y x.port Read x.id then None else passed_at_grant past x.port x.id)) ≡ has_failed past x
+    → (is_exclusive_store x && is_some_and (if has_name y x.port Read x.id then None else passed_at_grant past x.port x.id) not) ≡ has_failed past x
 failed_issued past y x other = rw other refl
 
 -- the other name is that of an outstanding read

@@ -1,7 +1,7 @@
 -- The burst of a write: which beat of it an event adds, and that it has four once it is whole.
 use Rattle.std.proofs.Common.{nat_lt, ◌≡◌, ◌⊎◌, ℕ, ◌+◌, ◌*◌, ◌/◌, ◌%◌, ◌<◌, ◌≤◌, Bool, true, ◌&&◌, nat_eq, List, [], ◌∷◌, length, take, drop, Option, Some, None, slice_get, refl, sym, ap, ◌∙◌, arith, inl, inr, length-append}
 use Rattle.std.proofs.lemmas.Bool.{ltb-true, and_parts, eqb-true, eq-eqb}
-use Rattle.ace_model.proofs.Terms.{Event, W, Transaction, Trace, at_point, is_some_and, more, has_write_data, issued, write_kind, data_write_in, data_write, data_writes, next_write}
+use Rattle.ace_model.proofs.Terms.{Event, W, Transaction, Trace, at_point, is_some_and, more, has_write_data, issued, write_kind, is_data_write_of, option_filter, data_writes, next_write}
 use Rattle.ace_model.proofs.Terms.{next_write_beat, is_burst_whole, Beat, beat_at, beats, burst_of}
 use Rattle.ace_model.proofs.Trace.Growth.{at_point-before, IsIssued, issued-cases}
 use Rattle.ace_model.proofs.Trace.Places.{at_point-last}
@@ -22,16 +22,12 @@ stands_at (e ∷ past) x i sends =
     elim (issued-cases e past x i) [
       | inl new ↦
           let at = at_point-last e past x.place (issued-place (length past) e x new) in
-          let write : data_write (length past) e x.port ≡ Some x = rw (new, eq-eqb x.port x.port refl, sends) refl in
+          let write : option_filter (is_data_write_of x.port) (issued (length past) e) ≡ Some x = rw (new, eq-eqb x.port x.port refl, sends) refl in
           rw (at, write) (slice_get-at_end (data_writes past x.port) (length (data_writes past x.port)) x refl)
       | inr old ↦
           let at = at_point-before e past x.place (let low = old.before in omega arith) in
-          rw at (slice_get-grown (data_writes past x.port) (data_write (length past) e x.port) (start_of past x) x (stands_at past x old sends))
+          rw at (slice_get-grown (data_writes past x.port) (option_filter (is_data_write_of x.port) (issued (length past) e)) (start_of past x) x (stands_at past x old sends))
     ]
-
-data_write_in-is : (o : Option Transaction) (p : ℕ) (y : Transaction) → data_write_in o p ≡ Some y → o ≡ Some y
-data_write_in-is None p y w = cc
-data_write_in-is (Some x) p y w = ap Some (some_if-is (nat_eq x.port p && is_some_and (write_kind x) has_write_data) x y w).1
 
 -- The beat that the event adds to the burst.
 pub record IsBeat (past : Trace) (e : Event) (x : Transaction) (k : ℕ) (b : Beat) : Type 0 where
@@ -78,7 +74,7 @@ burst_grows past e x k b i sends is =
 -- the beats of a port are at most four for each of its writes with data
 pub few_beats : (past : Trace) (p : ℕ) → length (beats past p) ≤ 4 * length (data_writes past p)
 few_beats [] p = omega arith
-few_beats (e ∷ past) p = more_of (data_write (length past) e p) (beat_at (beats past p) (data_writes past p) e p) (few_beats past p) refl
+few_beats (e ∷ past) p = more_of (option_filter (is_data_write_of p) (issued (length past) e)) (beat_at (beats past p) (data_writes past p) e p) (few_beats past p) refl
   where
     more_of : (new : Option Transaction) (beat : Option Beat) → length (beats past p) ≤ 4 * length (data_writes past p)
         → beat_at (beats past p) (data_writes past p) e p ≡ beat → length (more (beats past p) beat) ≤ 4 * length (more (data_writes past p) new)

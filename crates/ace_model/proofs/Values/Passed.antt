@@ -1,9 +1,9 @@
 -- Passed data are the value of their line, or their port has stored since and holds the line dirty.
 use Rattle.std.proofs.Common.{◌≡◌, ◌⊎◌, ℕ, Bool, true, false, ◌&&◌, nat_eq, ◌∷◌, Some, None, option_and_then, option_map, refl, sym, ap, subst, ◌∙◌, inl, inr}
 use Rattle.std.proofs.lemmas.Bool.{and_from, cases_Bool, cases_eq, eq-eqb}
-use Rattle.ace_model.proofs.Terms.{LineState, passes_dirty, Event, Cr, D, Header, Line, is_dirty, Answer, Transaction, Trace, at_point, write_kind, snoop_of, snoop_kind_of}
-use Rattle.ace_model.proofs.Terms.{has_outstanding_on, is_outstanding_on, has_memory_write, granted, answers_grant, answer_at, answer_of, passer, has_passed_data}
-use Rattle.ace_model.proofs.Terms.{state_of, is_in_make_unique, awaits_store, copy_of, copy_at_answer, passed_to, passed_data, value_of, may_store, IsAccepted, HasDirtyHolder, IsValueSafe}
+use Rattle.ace_model.proofs.Terms.{LineState, passes_dirty, Event, Cr, D, Header, Line, is_dirty, Answer, Transaction, Trace, is_some_and, at_point, write_kind, snoop_of, snoop_kind_of}
+use Rattle.ace_model.proofs.Terms.{has_outstanding_on, is_outstanding_on, has_memory_write, granted, answers_grant, answer_at, answer_of, has_passed_data}
+use Rattle.ace_model.proofs.Terms.{state_of, is_in_make_unique, awaits_store, copy_of, copy_at_answer, passed_data, value_of, may_store, IsAccepted, HasDirtyHolder, IsValueSafe}
 use Rattle.ace_model.proofs.Trace.Looks.{has_name-is, same_channel-self}
 use Rattle.ace_model.proofs.Trace.Issued.{transaction_of-stands}
 use Rattle.ace_model.proofs.Tables.States.{row_is, unique_unsettled, dirty_valid}
@@ -49,8 +49,7 @@ module _ (h : Header) (past : Trace) where
   pub passed_is : (l : ℕ) (x : Transaction) → granted h past l ≡ Some x → has_passed_data h past x ≡ true → (w : Passes h past l)
       → passed_data h past l ≡ Some (copy_of (at_point w.answer.place past) w.port l)
   passed_is l x g has w =
-      ap (option_and_then (passed_to h past l)) g
-      ∙ then_of (has_passed_data h past x) (option_and_then (copy_at_answer past l) (passer h past l)) None has
+      then_of (is_some_and (granted h past l) (has_passed_data h past)) _ None (rw g has)
       ∙ ap (option_and_then (copy_at_answer past l)) w.found
       ∙ ap (option_map (λ (a : Answer). copy_of (at_point a.place past) w.port l)) w.is
 

@@ -3,7 +3,7 @@ use Rattle.std.proofs.Common.{◌≡◌, ℕ, true, false, ◌&&◌, nat_eq, [],
 use Rattle.std.proofs.lemmas.Bool.{and_parts, and_from, cases_Bool, cases_eq, eq-eqb}
 use Rattle.ace_model.proofs.Terms.{ArKind, SnoopKind, snoop_of_read, transfers_data, Event, Cr, Header, is_fetch, is_dirty, Answer, Transaction, Trace, at_point, is_some_and, newer, transfers}
 use Rattle.ace_model.proofs.Terms.{is_make_invalid, is_make_unique, is_on, read_kind, write_kind, snoop_of, snoop_kind_of, outstanding, data_answers, gives_line, granted, answers_grant, answer_of}
-use Rattle.ace_model.proofs.Terms.{each_port, has_failed, state_of, are_snoops_done, is_port_done, is_line_read_transaction, copy_of, memory_of, copy_at_answer, passed_data, sender_at, first_sender}
+use Rattle.ace_model.proofs.Terms.{list_all, ports_below, has_failed, state_of, are_snoops_done, is_port_done, is_line_read_transaction, copy_of, memory_of, copy_at_answer, passed_data, sender_at, first_sender}
 use Rattle.ace_model.proofs.Terms.{memory_at_first_beat, reply_of, value_of, IsAccepted, may_lose_data}
 use Rattle.ace_model.proofs.Holders.FirstTransfer.{done_port}
 use Rattle.ace_model.proofs.Holders.Rises.{stays_empty}
@@ -122,7 +122,7 @@ memory_true h past a f l x k g kind fetch done none =
     addr : x.addr ≡ l
     addr = is_on-addr x l outs.1
 
-    all : each_port h.ports (is_port_done h past x) ≡ true
+    all : list_all (is_port_done h past x) (ports_below h.ports) ≡ true
     all =
         let failed : has_failed past x ≡ false = rw (kind, fetches.cleans, and-false x.lock) refl in
         snoops_done-ports h past x snoop.0 snoop.1 failed done

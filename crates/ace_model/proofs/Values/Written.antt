@@ -1,11 +1,11 @@
 -- Once a granted write has written memory, or a granted MakeInvalid has had its transfer, memory is the value and no port holds the
 -- line.
-use Rattle.std.proofs.Common.{◌≡◌, ◌≢◌, ◌⊎◌, ℕ, true, false, not, ◌||◌, nat_eq, ◌∷◌, length, Option, Some, None, unwrap_or, option_and_then, slice_get, refl, sym, ap, subst, ◌∙◌, inl, inr}
+use Rattle.std.proofs.Common.{◌≡◌, ◌≢◌, ◌⊎◌, ℕ, true, false, not, ◌||◌, nat_eq, ◌∷◌, length, Option, Some, None, unwrap_or, slice_get, refl, sym, ap, subst, ◌∙◌, inl, inr}
 use Rattle.std.proofs.lemmas.Bool.{and_parts, and_from, cases_Bool}
 use Rattle.std.specs.List.{AllByRecursion}
 use Rattle.ace_model.proofs.Terms.{AwKind, I, FitsFields, Channel, Read, Write, Event, M, Header, Line, merged, Transaction, Trace, is_some_and, is_write_line_unique, has_write_data}
 use Rattle.ace_model.proofs.Terms.{is_unique_write, is_no_snoop_write, is_read, is_line, read_kind, write_kind, snoop_of, snoop_kind_of, outstanding, transfers, gives_line, granted, is_begun}
-use Rattle.ace_model.proofs.Terms.{has_passed_data, state_of, memory_of, passed_to, passed_data, burst_of, burst_line, burst_strobe, value_of, full_line, data_of, data_of_write, burst_into, IsAccepted}
+use Rattle.ace_model.proofs.Terms.{has_passed_data, state_of, memory_of, passed_data, burst_of, burst_line, burst_strobe, value_of, full_line, data_of, data_of_write, burst_into, IsAccepted}
 use Rattle.ace_model.proofs.Terms.{may_lose_data, HasDirtyHolder}
 use Rattle.ace_codes.specs.declared.kind.ArKind.TheVariants as read
 use Rattle.ace_codes.specs.declared.kind.AwKind.TheVariants as write
@@ -101,7 +101,7 @@ module _ (h : Header) (past : Trace) where
           memory_is : write_kind w.one ≡ Some write.WriteNoSnoop → memory_of past l ≡ value_of past l
           memory_is kind =
               let none : passed_data h past l ≡ None = elim (cases_Bool (has_passed_data h past w.one)) [
-                | inr lacks ↦ ap (option_and_then (passed_to h past l)) w.stands ∙ rw lacks refl
+                | inr lacks ↦ rw (w.stands, lacks) refl
                 | inl has ↦
                     let p = passes_line h past a l w.one w.stands has in
                     let k = passed_kind h past a l p.port w.one p.answer w.stands p.is p.dirty in

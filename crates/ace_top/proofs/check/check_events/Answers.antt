@@ -1,6 +1,6 @@
 use Rattle.std.proofs.Common.{rules, ap, sym, ◌∙◌}
 use Rattle.ace_event.specs.declared.header.Header.{Header}
-use Rattle.ace_top.proofs.ProgressLemmas.{stands_further}
+use Rattle.ace_top.proofs.ProgressLemmas.{stands_further, front_further}
 use Rattle.ace_top.proofs.check.check_events.Goals as goal
 
 pub events-preserved : goal.events-preserved
@@ -12,5 +12,6 @@ events-preserved g c = record {
   header = search rules;
   same_source = search rules;
   stands = λ bytes s. rw c.check_next.ensures.header (stands_further bytes _ _ _ _ _ c.in_default.ensures.fine (c.events.invariant.stands bytes s));
+  front = front_further _ _ _ _ _ _ c.events.invariant.front c.in_default.ensures.fine;
   faults = search rules;
 }

@@ -1,5 +1,6 @@
 use Rattle.std.proofs.Common.{◌≡◌, ◌-◌, ℕ, List, length, None}
 use Rattle.ace_grammar.specs.Reader.{source_of, unread, count_of, last_answer}
+use Rattle.ace_grammar.specs.Errors.{TakesFront}
 use Rattle.ace_grammar.specs.Reading.{most_events}
 use Rattle.ace_check.specs.Run.{header_of, past_of, break_of}
 use Rattle.ace_top.specs.Progress.{StandsAt}
@@ -16,6 +17,7 @@ invariant-events g l = record {
   same_source : (source_of l.reader).ghost_name ≡ (source_of l.initial.reader).ghost_name;
   stands : (bytes : List ℕ) → StandsAt bytes (header_of l.initial.checker) (past_of l.initial.checker) (unread g.S.Source.left l.initial.reader)
       → StandsAt bytes (header_of l.checker) (past_of l.checker) (unread g.S.Source.left l.reader);
+  front : TakesFront (unread g.S.Source.left l.initial.reader) (unread g.S.Source.left l.reader);
   faults : g.S.Source.faults (source_of l.reader).now ≡ g.S.Source.faults (source_of l.initial.reader).now;
 }
 

@@ -1,4 +1,0 @@
-pub mod Known
-pub mod Past
-pub mod Ports
-pub mod Unlocked

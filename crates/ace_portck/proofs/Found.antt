@@ -1,0 +1,298 @@
+-- The looks at the lists of outstanding transactions say what the looks at the whole trace say.
+use Rattle.std.specs.Option.{option_or}
+use Rattle.std.specs.List.{AllByRecursion, find, list_any, filter}
+use Rattle.std.proofs.Common.{◌≡◌, ◌⊎◌, ℕ, Bool, true, false, not, ◌&&◌, ◌||◌, ◌==◌, cond, List, [], ◌∷◌, map, length, drop, Option, Some, None, is_some, option_map, slice_get, le_refl, refl, sym, ap, subst, ◌∙◌, inl, inr, arith}
+use Rattle.std.proofs.lemmas.Bool.{and_parts, and_from, or_cases, or_left, or_right, cases_Bool, not-true, not-false}
+use Rattle.std.proofs.lemmas.List.Folds.{find-append}
+use Rattle.ace_event.specs.declared.event.Channel.{Channel}
+use Rattle.ace_event.specs.declared.event.Channel.TheVariants.{Read, Write}
+use Rattle.ace_event.specs.declared.event.Event.{Event}
+use Rattle.ace_event.specs.declared.header.Header.{Header}
+use Rattle.ace_codes.specs.declared.kind.AwKind.{AwKind}
+use Rattle.ace_model.specs.declared.transactions.Transaction.{Transaction}
+use Rattle.ace_model.specs.Trace.{Trace, more, is_some_and}
+use Rattle.ace_model.specs.Accepted.{IsAccepted}
+use Rattle.ace_model.specs.AddressRules.{has_write}
+use Rattle.ace_model.specs.Grants.{has_grant}
+use Rattle.ace_model.specs.Progress.{transactions, has_had, is_grant, is_write_of_memory, is_completed, is_ordered, updates_memory, evicts}
+use Rattle.ace_model.specs.Shares.{lesser}
+use Rattle.ace_model.specs.Writes.{has_memory_write}
+use Rattle.ace_model.specs.Transactions.{is_ace, is_read, is_line, is_on, same_channel, write_kind, issued, outstanding, is_outstanding, is_outstanding_on, has_outstanding_on, some_issued, transaction_of, transaction_under, acknowledged, acknowledgements, completed, next_complete, is_complete}
+use Rattle.ace_model.proofs.General.Options.{Some-injective, is_some_and-is, is_some_and-at}
+use Rattle.ace_model.proofs.Barriers.OrderPoints.{completed-ordered}
+use Rattle.ace_model.proofs.Trace.Looks.{same_channel-is, same_channel-self}
+use Rattle.ace_model.proofs.Trace.Issued.{issued-place, outstanding-named}
+use Rattle.ace_model.proofs.Trace.Growth.{IsIssued, issued-cases, issued-new, issued-old}
+use Rattle.ace_model.proofs.Trace.LineOnce.{outstanding_is}
+use Rattle.ace_model.proofs.Outstanding.Issued.{transactions-issued, places_rise, some_issued-any}
+use Rattle.ace_model.proofs.Outstanding.Lists.{find_kept, any_kept, all_implies, IsSplit, first_split}
+use Rattle.ace_model.proofs.Outstanding.Names.{complete_by_name, grant_by_name, memory_by_name}
+use Rattle.ace_model.proofs.Outstanding.Only.{IsFound, find-found, found_same, found_some, one_outstanding_on, outstanding-find}
+use Rattle.ace_model.proofs.Outstanding.Waiting.{waits_is, ended_complete}
+use Rattle.ace_portck.specs.declared.target.Progress.{Progress}
+use Rattle.ace_portck.specs.Targets.{progress_of, last_issued, own_of, first_issued, is_ordered_by_barriers, first_unordered, first_incomplete}
+use Rattle.ace_portck.specs.Pending.{is_pending, pending_of}
+use Rattle.ace_portck.specs.Transactions.{is_ordered_by, has_order_point, is_unordered, is_incomplete}
+
+-- what the list has under an identifier
+pub named_is_found : (h : Header) (past : Trace) (p : ℕ) (c : Channel) (i : ℕ) (list : List Progress)
+    → list ≡ map (progress_of h past) (pending_of h past p c)
+    → find (λ v. v.transaction.id == i) list ≡ option_map (progress_of h past) (outstanding h past p c i)
+named_is_found h past p c i list is =
+    ap (find (λ (v : Progress). v.transaction.id == i)) is
+    ∙ find_kept (progress_of h past) (is_pending h past p c) (λ v. v.transaction.id == i) (λ x. is_pending h past p c x && (x.id == i))
+    (transactions past) (λ x. refl)
+    ∙ ap (option_map (progress_of h past)) (outstanding-find h past p c i)
+
+-- the transaction that an acknowledge belongs to is outstanding
+pub acknowledged_out : (h : Header) (past : Trace) (p : ℕ) (c : Channel) → IsAccepted h past → is_ace h p ≡ true
+    → (o : Option ℕ) → next_complete past p c ≡ o → transaction_under past p c o ≡ acknowledged past p c
+acknowledged_out h past p c a ace o next = ap (transaction_under past p c) (sym next)
+
+pub acknowledged_named : (h : Header) (past : Trace) (p : ℕ) (c : Channel) (i : ℕ) → IsAccepted h past → is_ace h p ≡ true → next_complete past p c ≡ Some i
+    → outstanding h past p c i ≡ acknowledged past p c
+acknowledged_named h past p c i a ace next =
+    let w = waits_is h past p c (acknowledgements past p c) i a ace (le_refl (acknowledgements past p c)) next in
+    w.1 ∙ sym (outstanding-named h past p c i w.0 w.1) ∙ ap (transaction_under past p c) (sym next)
+
+-- the last one that passes a test is one that passes it
+last-found : (past : Trace) (test : Transaction → Bool) → IsFound past test (last_issued past test)
+last-found [] test = record { some = λ x e. cc; none = λ e x i t. let b = i.before in absurd (omega arith) }
+last-found (e ∷ past) test =
+    let old = last-found past test in
+    elim (cases_Bool (is_some_and (issued (length past) e) test)) [
+      | inl t ↦
+          let y = is_some_and-is (issued (length past) e) test t in
+          rw (t, y.1) (record {
+              some = λ x is. let one = Some-injective y.0 x is in (issued-new e past x (y.1 ∙ is), subst (λ (v : Transaction). test v ≡ true) one y.2);
+              none = λ is x i tx. cc;
+          })
+      | inr f ↦
+          rw f (record {
+              some = λ x is. let s = old.some x is in (issued-old e past x s.0, s.1);
+              none = λ is x i tx. elim (issued-cases e past x i) [
+                | inl new ↦ let yes : is_some_and (issued (length past) e) test ≡ true = rw new tx in let no : true ≡ false = sym yes ∙ f in cc
+                | inr there ↦ old.none is x there tx
+              ];
+          })
+    ]
+
+-- whether a list has one on the line
+abbrev on_line : Header → Trace → ℕ → Channel → ℕ → Transaction → Bool
+on_line h past p c l x = is_pending h past p c x && is_on x l
+
+option_or-map : {A B : Type 0} → (f : A → B) (a b : Option A) → option_or (option_map f a) (option_map f b) ≡ option_map f (option_or a b)
+option_or-map f None b = refl
+option_or-map f (Some x) b = refl
+
+channel_cases : (c : Channel) → (same_channel c Read ≡ true) ⊎ (same_channel c Write ≡ true)
+channel_cases Read = inl refl
+channel_cases Write = inr refl
+
+-- the first one of the trace is the first of the list
+first_is_found : (past : Trace) (test : Transaction → Bool) → first_issued past test ≡ option_map (λ (x : Transaction). x.place) (find test (transactions past))
+first_is_found [] test = refl
+first_is_found (e ∷ past) test = by (issued (length past) e) refl (find test (transactions past)) refl (first_is_found past test)
+  where
+    by : (o : Option Transaction) → issued (length past) e ≡ o → (f : Option Transaction) → find test (transactions past) ≡ f
+        → first_issued past test ≡ option_map (λ (x : Transaction). x.place) (find test (transactions past))
+        → first_issued (e ∷ past) test ≡ option_map (λ (x : Transaction). x.place) (find test (more (transactions past) o))
+    by None new None found before = rw (before ∙ ap (option_map (λ (x : Transaction). x.place)) found, new, found) refl
+    by None new (Some x) found before = rw (before ∙ ap (option_map (λ (x : Transaction). x.place)) found, found) refl
+    by (Some y) new None found before =
+        let at = issued-place (length past) e y new in
+        rw (before ∙ ap (option_map (λ (x : Transaction). x.place)) found, new, find-append test (transactions past) (y ∷ []), found) (last (test y) at)
+      where
+        last : (t : Bool) → y.place ≡ length past → cond t (Some (length past)) None ≡ option_map (λ (x : Transaction). x.place) (cond t (Some y) None)
+        last true at = ap Some (sym at)
+        last false at = refl
+    by (Some y) new (Some x) found before =
+        rw (before ∙ ap (option_map (λ (x : Transaction). x.place)) found, find-append test (transactions past) (y ∷ []), found) refl
+
+-- The looks at both channels of a port.
+module _ (h : Header) (past : Trace) (p : ℕ) (accepted : IsAccepted h past) (reads writes : List Progress)
+    (reads_are : reads ≡ map (progress_of h past) (pending_of h past p Read)) (writes_are : writes ≡ map (progress_of h past) (pending_of h past p Write)) where
+  module _ (l : ℕ) where
+    to_test : (c : Channel) (x : Transaction) → on_line h past p c l x ≡ true → is_outstanding_on h past p l x ≡ true
+    to_test c x t =
+        let a = and_parts (is_pending h past p c x) (is_on x l) t in
+        let b = and_parts ((x.port == p) && same_channel x.chan c) (is_outstanding h past x) a.0 in
+        let d = and_parts (x.port == p) (same_channel x.chan c) b.0 in
+        and_from _ _ (and_from _ _ d.0 a.1) b.1
+
+    from_test : (c : Channel) (x : Transaction) → same_channel x.chan c ≡ true → is_outstanding_on h past p l x ≡ true → on_line h past p c l x ≡ true
+    from_test c x chan t =
+        let a = and_parts ((x.port == p) && is_on x l) (is_outstanding h past x) t in
+        let b = and_parts (x.port == p) (is_on x l) a.0 in
+        and_from _ _ (and_from _ _ (and_from _ _ b.0 chan) a.1) b.1
+
+    found-either : (r w : Option Transaction) → IsFound past (on_line h past p Read l) r → IsFound past (on_line h past p Write l) w
+        → IsFound past (is_outstanding_on h past p l) (option_or r w)
+    found-either (Some y) w fr fw = record {
+      some = λ x is. let s = fr.some x is in (s.0, to_test Read x s.1);
+      none = λ is x i t. cc;
+    }
+    found-either None w fr fw = record {
+      some = λ x is. let s = fw.some x is in (s.0, to_test Write x s.1);
+      none = λ is x i t. elim (channel_cases x.chan) [
+        | inl read ↦ fr.none refl x i (from_test Read x read t)
+        | inr write ↦ fw.none is x i (from_test Write x write t)
+      ];
+    }
+
+    pub own_is_found : option_or (find (λ v. is_on v.transaction l) reads) (find (λ v. is_on v.transaction l) writes) ≡ option_map (progress_of h past) (own_of h past p l)
+    own_is_found =
+        let r : Option Transaction = find (on_line h past p Read l) (transactions past) in
+        let w : Option Transaction = find (on_line h past p Write l) (transactions past) in
+        let in_reads = ap (find (λ (v : Progress). is_on v.transaction l)) reads_are
+        ∙ find_kept (progress_of h past) (is_pending h past p Read) (λ v. is_on v.transaction l) (on_line h past p Read l) (transactions past) (λ x. refl) in
+        let in_writes = ap (find (λ (v : Progress). is_on v.transaction l)) writes_are
+        ∙ find_kept (progress_of h past) (is_pending h past p Write) (λ v. is_on v.transaction l) (on_line h past p Write l) (transactions past) (λ x. refl) in
+        let one = found_same past (is_outstanding_on h past p l) (option_or r w) (own_of h past p l)
+        (λ x y ix iy tx ty. one_outstanding_on h past p l x y accepted ix iy tx ty)
+        (found-either r w (find-found past (on_line h past p Read l)) (find-found past (on_line h past p Write l)))
+        (last-found past (is_outstanding_on h past p l)) in
+        ap (λ o. option_or o (find (λ v. is_on v.transaction l) writes)) in_reads
+        ∙ ap (λ o. option_or (option_map (progress_of h past) r) o) in_writes
+        ∙ option_or-map (progress_of h past) r w
+        ∙ ap (option_map (progress_of h past)) one
+
+    pub has_own : has_outstanding_on h past p l ≡ is_some (own_of h past p l)
+    has_own = found_some past (is_outstanding_on h past p l) (own_of h past p l) (last-found past (is_outstanding_on h past p l))
+
+  -- an outstanding write of some kind
+  pub has_write_is : (test : AwKind → Bool) → has_write h past p test ≡ list_any (λ v. is_some_and (write_kind v.transaction) test) writes
+  has_write_is test =
+      some_issued-any past (λ y. (y.port == p) && is_some_and (write_kind y) test && is_outstanding h past y)
+      ∙ sym (ap (list_any (λ (v : Progress). is_some_and (write_kind v.transaction) test)) writes_are
+      ∙ any_kept (progress_of h past) (is_pending h past p Write) (λ v. is_some_and (write_kind v.transaction) test)
+      (λ y. (y.port == p) && is_some_and (write_kind y) test && is_outstanding h past y) (transactions past) same)
+    where
+      none : (a o : Bool) → ((a && false) && o) ≡ (((a && false) && o) && false)
+      none true o = refl
+      none false o = refl
+      some : (a k o : Bool) → ((a && k) && o) ≡ (((a && true) && o) && k)
+      some true true true = refl
+      some true true false = refl
+      some true false true = refl
+      some true false false = refl
+      some false k o = refl
+      same : (x : Transaction) → ((x.port == p) && is_some_and (write_kind x) test && is_outstanding h past x)
+          ≡ (is_pending h past p Write x && is_some_and (write_kind x) test)
+      same x =
+          elim (cases_Bool (is_read x.chan)) [
+            | inl read ↦ rw read (none (x.port == p) (is_outstanding h past x))
+            | inr write ↦ rw write (some (x.port == p) _ (is_outstanding h past x))
+          ]
+
+  -- the first of the trace that passes a test of outstanding transactions is the first of the two lists
+  module _ (test : Transaction → Bool) (look : Progress → Bool)
+      (outstanding_one : (x : Transaction) → IsIssued past x → test x ≡ true → ((x.port == p) ≡ true) × (is_outstanding h past x ≡ true))
+      (is_look : (x : Transaction) → IsIssued past x → (x.port == p) ≡ true → is_outstanding h past x ≡ true → test x ≡ look (progress_of h past x)) where
+    abbrev among : Channel → Transaction → Bool
+    among c x = is_pending h past p c x && look (progress_of h past x)
+
+    among-test : (c : Channel) (x : Transaction) → IsIssued past x → among c x ≡ true → (test x ≡ true) × (same_channel x.chan c ≡ true)
+    among-test c x i t =
+        let a = and_parts (is_pending h past p c x) (look (progress_of h past x)) t in
+        let b = and_parts ((x.port == p) && same_channel x.chan c) (is_outstanding h past x) a.0 in
+        let d = and_parts (x.port == p) (same_channel x.chan c) b.0 in
+        (is_look x i d.0 b.1 ∙ a.1, d.1)
+
+    test-among : (c : Channel) (x : Transaction) → IsIssued past x → same_channel x.chan c ≡ true → test x ≡ true → among c x ≡ true
+    test-among c x i chan t =
+        let o = outstanding_one x i t in
+        and_from _ _ (and_from _ _ (and_from _ _ o.0 chan) o.1) (sym (is_look x i o.0 o.1) ∙ t)
+
+    both_ways : (a b : Bool) → (a ≡ true → b ≡ true) → (b ≡ true → a ≡ true) → a ≡ b
+    both_ways true true f g = refl
+    both_ways true false f g = sym (f refl)
+    both_ways false true f g = g refl
+    both_ways false false f g = refl
+
+    one_channel : (c : Channel) → same_channel c Read ≡ true → same_channel c Write ≡ true → ⊥
+    one_channel Read r w = cc
+    one_channel Write r w = cc
+
+    splits : (x : Transaction) → IsIssued past x → IsSplit test (among Read) (among Write) x
+    splits x i = record {
+      either = both_ways (test x) (among Read x || among Write x)
+      (λ t. elim (channel_cases x.chan) [
+        | inl read ↦ or_left (among Read x) (among Write x) (test-among Read x i read t)
+        | inr write ↦ or_right (among Read x) (among Write x) (test-among Write x i write t)
+      ])
+      (λ t. elim (or_cases (among Read x) (among Write x) t) [ | inl r ↦ (among-test Read x i r).0 | inr w ↦ (among-test Write x i w).0 ]);
+      not_both = λ r. elim (cases_Bool (among Write x)) [
+        | inr f ↦ f
+        | inl w ↦ absurd (one_channel x.chan (among-test Read x i r).1 (among-test Write x i w).1)
+      ];
+    }
+
+    place_mapped : (o : Option Transaction) → option_map (λ (v : Progress). v.transaction.place) (option_map (progress_of h past) o) ≡ option_map (λ (x : Transaction). x.place) o
+    place_mapped None = refl
+    place_mapped (Some x) = refl
+
+    in_list : (c : Channel) (list : List Progress) → list ≡ map (progress_of h past) (pending_of h past p c)
+        → option_map (λ v. v.transaction.place) (find look list) ≡ option_map (λ (x : Transaction). x.place) (find (among c) (transactions past))
+    in_list c list is =
+        ap (λ l. option_map (λ (v : Progress). v.transaction.place) (find look l)) is
+        ∙ ap (option_map (λ (v : Progress). v.transaction.place)) (find_kept (progress_of h past) (is_pending h past p c) look (among c) (transactions past) (λ x. refl))
+        ∙ place_mapped (find (among c) (transactions past))
+
+    first_of_both : lesser (option_map (λ v. v.transaction.place) (find look reads)) (option_map (λ v. v.transaction.place) (find look writes)) ≡ first_issued past test
+    first_of_both =
+        ap (λ o. lesser o (option_map (λ v. v.transaction.place) (find look writes))) (in_list Read reads reads_are)
+        ∙ ap (lesser (option_map (λ (x : Transaction). x.place) (find (among Read) (transactions past)))) (in_list Write writes writes_are)
+        ∙ sym (first_split (λ (x : Transaction). x.place) test (among Read) (among Write) (transactions past) (places_rise past)
+        (all_implies (IsIssued past) (IsSplit test (among Read) (among Write)) (transactions past) splits (transactions-issued past)))
+        ∙ sym (first_is_found past test)
+
+  -- by barriers
+  ordered_at : (x : Transaction) → (x.port == p) ≡ true → is_ordered_by_barriers p x ≡ is_ordered_by (progress_of h past x)
+  ordered_at x port = rw port refl
+
+  of_name : (x : Transaction) → IsIssued past x → is_outstanding h past x ≡ true → transaction_of past x.port x.chan x.id ≡ Some x
+  of_name x i out = outstanding-named h past x.port x.chan x.id x (outstanding_is h past x i out)
+
+  still_out : (x : Transaction) → IsIssued past x → is_completed past x ≡ false → is_outstanding h past x ≡ true
+  still_out x i incomplete =
+      elim (cases_Bool (is_outstanding h past x)) [
+        | inl out ↦ out
+        | inr gone ↦ let no : true ≡ false = sym (ended_complete h past x accepted i gone) ∙ incomplete in cc
+      ]
+
+  ordered_parts : (x : Transaction) (b : Bool) → (is_ordered_by_barriers p x && not b) ≡ true → ((x.port == p) ≡ true) × (is_line x ≡ true) × (b ≡ false)
+  ordered_parts x b t =
+      let a = and_parts (is_ordered_by_barriers p x) (not b) t in
+      let c = and_parts ((x.port == p) && is_line x) (x.bar == 0) a.0 in
+      let d = and_parts (x.port == p) (is_line x) c.0 in
+      (d.0, d.1, not-true b a.1)
+
+  pub first_unordered_is : lesser (option_map (λ v. v.transaction.place) (find is_unordered reads)) (option_map (λ v. v.transaction.place) (find is_unordered writes))
+      ≡ first_unordered past p
+  first_unordered_is =
+      first_of_both (λ x. is_ordered_by_barriers p x && not (is_ordered past x)) is_unordered
+      (λ x i t.
+          let parts = ordered_parts x (is_ordered past x) t in
+          (parts.0, elim (cases_Bool (is_completed past x)) [
+            | inr f ↦ still_out x i f
+            | inl complete ↦
+                let ordered = completed-ordered h x past complete accepted i.there parts.1 in
+                let no : true ≡ false = sym ordered ∙ parts.2 in cc
+          ]))
+      (λ x i port out.
+          let n = of_name x i out in
+          let g = grant_by_name past x.port x.chan x.id x n in
+          let m = memory_by_name past x.port x.chan x.id x n in
+          ap (λ b. b && not (is_ordered past x)) (ordered_at x port)
+          ∙ ap (λ b. is_ordered_by (progress_of h past x) && not (evicts x || (cond (updates_memory x) b (has_had is_grant past x)))) (sym m)
+          ∙ ap (λ b. is_ordered_by (progress_of h past x) && not (evicts x || (cond (updates_memory x) (has_memory_write past x.port x.chan x.id) b))) (sym g))
+
+  pub first_incomplete_is : lesser (option_map (λ v. v.transaction.place) (find is_incomplete reads)) (option_map (λ v. v.transaction.place) (find is_incomplete writes))
+      ≡ first_incomplete past p
+  first_incomplete_is =
+      first_of_both (λ x. is_ordered_by_barriers p x && not (is_completed past x)) is_incomplete
+      (λ x i t. let parts = ordered_parts x (is_completed past x) t in (parts.0, still_out x i parts.2))
+      (λ x i port out.
+          let c = complete_by_name past x.port x.chan x.id x (of_name x i out) in
+          ap (λ b. b && not (is_completed past x)) (ordered_at x port) ∙ ap (λ b. is_ordered_by (progress_of h past x) && not b) (sym c))

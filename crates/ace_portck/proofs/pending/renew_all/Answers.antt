@@ -1,0 +1,6 @@
+use Rattle.std.proofs.Common.{◌≡◌, ◌++◌, map, take, drop, length, arith}
+use Rattle.std.proofs.lemmas.Grind.{common_steps}
+use Rattle.ace_portck.proofs.pending.renew_all.Goals as goal
+
+pub returns-clause-items : goal.returns-clause-items
+returns-clause-items c = grind (arith, common_steps)

@@ -1,0 +1,173 @@
+//! The snoops of one port that are under way.
+
+ghost use Rattle.std.specs.Prelude.{◌≡◌, slice_get};
+ghost use Rattle.ace_model.specs.Snoops.{snoops_a_line};
+
+use ace_codes::{SnoopKind, read_ac, transfers_data};
+use ace_event::Event;
+use ace_model::Snoop;
+use std::alloc::{AllocError, Global};
+use std::collections::VecDeque;
+
+/// The snoops of one port that are under way, the oldest first: those without an answer, and those answered with data whose
+/// burst isn't whole.
+#[derive(Drop)]
+pub struct SnoopQueues {
+    waiting: VecDeque<Snoop>,
+    sending: VecDeque<Snoop>,
+    /// How many CD beats of the first of `sending` came, 0 to 3.
+    beats: u8,
+}
+
+/// ACSNOOP is the code of a line snoop.
+pub fn snoops_a_line(snoop: u8) -> bool
+    ensures { result ≡ snoops_a_line snoop }
+{
+    match read_ac(snoop) {
+        Some(kind) => !matches!(kind, SnoopKind::DvmComplete | SnoopKind::DvmMessage),
+        None => false,
+    }
+}
+
+/// The oldest of the queue.
+fn first(queue: &VecDeque<Snoop>) -> Option<Snoop>
+    ensures { result ≡ slice_get queue.now.items 0 }
+{
+    queue.front().copied()
+}
+
+impl SnoopQueues {
+    ghost use Rattle.std.specs.Prelude.{ℕ, Bool, ◌∷◌, OnOk, OnErr, Some, []};
+    ghost use Rattle.ace_codes.specs.declared.state.LineState.{LineState};
+    ghost use Rattle.ace_event.specs.declared.event.Event.TheVariants.{Ac, Cd, Cr};
+    ghost use Rattle.ace_event.specs.declared.header.Header.{Header};
+    ghost use Rattle.ace_model.specs.Accepted.{IsAccepted};
+    ghost use Rattle.ace_model.specs.Replies.{next_sent_beat};
+    ghost use Rattle.ace_model.specs.Shares.{k17_burst};
+    ghost use Rattle.ace_model.specs.SnoopRules.{k14};
+    ghost use Rattle.ace_model.specs.Snoops.{answered};
+    ghost use Rattle.ace_model.specs.Trace.{Trace, port_of};
+    ghost use Rattle.ace_portck.specs.Heard.{IsHeard};
+    ghost use Rattle.ace_portck.specs.Snoops.{SnoopsStand, HasRoom, HasRoomForOne};
+    ghost use Rattle.ace_portck.specs.Targets.{sending};
+    ghost use Rattle.ace_portck.specs.Unfinished.{RisesAt};
+
+    /// The queues of a port without events.
+    pub fn new(alloc: Global) -> SnoopQueues
+        ensures { (p : ℕ) → SnoopsStand [] p result }
+    {
+        SnoopQueues {
+            waiting: VecDeque::new(alloc),
+            sending: VecDeque::new(alloc),
+            beats: 0,
+        }
+    }
+
+    /// The snoop that the port's next CR answers.
+    pub fn answered(&self) -> Option<Snoop>
+        ensures { (past : Trace) (p : ℕ) → SnoopsStand past p self.now → result ≡ answered past p }
+    {
+        first(&self.waiting)
+    }
+
+    /// The snoop that the port's next CD sends data for.
+    pub fn sending(&self) -> Option<Snoop>
+        ensures { (past : Trace) (p : ℕ) → SnoopsStand past p self.now → result ≡ sending past p }
+    {
+        first(&self.sending)
+    }
+
+    /// Which beat of its burst the port's next CD is, from 0.
+    pub fn beat(&self) -> u8
+        ensures { (past : Trace) (p : ℕ) → SnoopsStand past p self.now → result ≡ next_sent_beat past p }
+    {
+        self.beats
+    }
+
+    /// K14: a CR answers a snoop of the port.
+    pub fn may_answer(&self, event: &Event) -> bool
+        ensures { (h : Header) (past : Trace) (p : ℕ) → SnoopsStand past p self.now → port_of event.now ≡ Some p
+            → result ≡ k14 h past event.now }
+    {
+        match *event {
+            Event::Cr { .. } => self.answered().is_some(),
+            _ => true,
+        }
+    }
+
+    /// K17 but its data: a CD belongs to an answer with data, and is the last beat exactly where it says so.
+    pub fn may_send(&self, event: &Event) -> bool
+        ensures { (h : Header) (past : Trace) (p : ℕ) → SnoopsStand past p self.now → port_of event.now ≡ Some p
+            → result ≡ k17_burst h past event.now }
+    {
+        match *event {
+            Event::Cd { last, .. } => self.sending().is_some() && last == (self.beat() == 3),
+            _ => true,
+        }
+    }
+
+    /// Makes room for the snoop of an AC, and for its data. Memory runs out only where the port has more snoops under way than
+    /// ever before.
+    pub fn ready(&mut self, event: &Event) -> Result<(), AllocError>
+        ensures stands { (past : Trace) (p : ℕ) → SnoopsStand past p self.old → SnoopsStand past p self.new }
+        ensures room { OnOk result (HasRoom self.new event.now) }
+        ensures cause { OnErr result ((past : Trace) (p : ℕ) → SnoopsStand past p self.old → port_of event.now ≡ Some p
+            → RisesAt past event.now) }
+    {
+        match *event {
+            Event::Ac { .. } => self.make_room(),
+            _ => Ok(()),
+        }
+    }
+
+    /// Hears an event of the port that keeps the rules, with `place` events before it. It takes no memory.
+    pub fn hear(&mut self, event: &Event, place: usize)
+        ensures { (h : Header) (past : Trace) (p : ℕ) → IsHeard h past place event.now p → SnoopsStand past p self.old
+            → HasRoom self.old event.now → SnoopsStand (event.now ∷ past) p self.new }
+    {
+        match *event {
+            Event::Ac { addr, snoop, .. } => {
+                let _full = self.waiting.push_back(Snoop { place, addr, snoop });
+            }
+            Event::Cr { resp, .. } => self.answer(resp),
+            Event::Cd { .. } => self.send(),
+            _ => {}
+        }
+    }
+
+    /// Makes room for one more snoop, and for its data.
+    fn make_room(&mut self) -> Result<(), AllocError>
+        ensures stands { (past : Trace) (p : ℕ) → SnoopsStand past p self.old → SnoopsStand past p self.new }
+        ensures room { OnOk result (HasRoomForOne self.new) }
+        ensures cause { OnErr result ((past : Trace) (p addr snoop : ℕ) → SnoopsStand past p self.old
+            → RisesAt past (Ac p addr snoop)) }
+    {
+        self.waiting.reserve(self.sending.len() + 1)?;
+        self.sending.reserve(self.waiting.len() + 1)
+    }
+
+    /// The oldest unanswered snoop has its answer; where that announces data, they are awaited.
+    fn answer(&mut self, resp: u8)
+        ensures { (h : Header) (past : Trace) (p : ℕ) (st : LineState) → IsAccepted h (Cr p resp st ∷ past)
+            → SnoopsStand past p self.old → SnoopsStand (Cr p resp st ∷ past) p self.new }
+    {
+        if let Some(snoop) = self.waiting.pop_front() {
+            if transfers_data(resp) {
+                let _full = self.sending.push_back(snoop);
+            }
+        }
+    }
+
+    /// One more beat of the oldest data that are awaited; the fourth makes them whole.
+    fn send(&mut self)
+        ensures { (h : Header) (past : Trace) (p : ℕ) (last : Bool) (word : ℕ) → IsAccepted h (Cd p last word ∷ past)
+            → SnoopsStand past p self.old → SnoopsStand (Cd p last word ∷ past) p self.new }
+    {
+        if self.beats < 3 {
+            self.beats += 1;
+        } else {
+            let _whole = self.sending.pop_front();
+            self.beats = 0;
+        }
+    }
+}

@@ -1,0 +1,326 @@
+//! The outstanding transactions of a port.
+
+ghost use Rattle.std.specs.Prelude.{◌≡◌, ◌∷◌, find, option_map};
+ghost use Rattle.std.specs.List.{list_any};
+ghost use Rattle.ace_model.specs.AddressRules.{gives_up};
+ghost use Rattle.ace_model.specs.Kinds.{is_unique_write};
+ghost use Rattle.ace_model.specs.Progress.{updates_memory, evicts};
+ghost use Rattle.ace_model.specs.Shares.{lesser};
+ghost use Rattle.ace_model.specs.Transactions.{is_on, write_kind};
+ghost use Rattle.std.specs.List.{AllByRecursion};
+ghost use Rattle.ace_model.specs.Trace.{Trace, is_some_and};
+ghost use Rattle.ace_portck.specs.Heard.{IsHeard};
+ghost use Rattle.ace_portck.specs.Pending.{HasByteId, PendingStands, moves_channel};
+ghost use Rattle.ace_portck.specs.Transactions.{is_ordered_by, has_order_point, is_unordered, is_incomplete};
+
+use crate::NoMemory;
+use crate::kinds::{
+    beats_of, gives_up, is_evict, is_line, is_on, is_unique_write, is_update, read_kind, write_kind,
+};
+use crate::pending::Pending;
+use crate::target::Progress;
+use ace_event::{Channel, Event, Header};
+use ace_model::Transaction;
+use std::alloc::Global;
+
+/// The outstanding transactions of a port.
+#[derive(Drop)]
+pub struct Transactions {
+    reads: Pending,
+    writes: Pending,
+}
+
+/// The first transaction of the list that is on the line.
+fn find_on(list: &[Progress], line: u32) -> Option<Progress>
+    ensures { result ≡ find (λ x. is_on x.transaction line) list.now }
+{
+    list.iter().copied().find(|x| is_on(&x.transaction, line))
+}
+
+/// The list has a WriteUnique or WriteLineUnique.
+fn has_unique_write(list: &[Progress]) -> bool
+    ensures { result ≡ list_any (λ x. is_some_and (write_kind x.transaction) is_unique_write) list.now }
+{
+    list.iter()
+        .any(|x| write_kind(&x.transaction).is_some_and(is_unique_write))
+}
+
+/// The list has a memory update or an Evict.
+fn has_giving_up(list: &[Progress]) -> bool
+    ensures { result ≡ list_any (λ x. is_some_and (write_kind x.transaction) gives_up) list.now }
+{
+    list.iter()
+        .any(|x| write_kind(&x.transaction).is_some_and(gives_up))
+}
+
+/// The transaction is a memory update.
+fn updates_memory(transaction: &Transaction) -> bool
+    ensures { result ≡ updates_memory transaction.now }
+{
+    write_kind(transaction).is_some_and(is_update)
+}
+
+fn evicts(transaction: &Transaction) -> bool
+    ensures { result ≡ evicts transaction.now }
+{
+    write_kind(transaction).is_some_and(is_evict)
+}
+
+/// A line transaction with bar 0: one that barriers order.
+fn is_ordered_by(x: &Progress) -> bool
+    ensures { result ≡ is_ordered_by x.now }
+{
+    is_line(&x.transaction) && x.transaction.bar == 0
+}
+
+/// It has had its order point: its M if it is a memory update, else its G; an Evict has none to wait for.
+fn has_order_point(x: &Progress) -> bool
+    ensures { result ≡ has_order_point x.now }
+{
+    evicts(&x.transaction)
+        || if updates_memory(&x.transaction) {
+            x.written
+        } else {
+            x.granted
+        }
+}
+
+fn is_unordered(x: &Progress) -> bool
+    ensures { result ≡ is_unordered x.now }
+{
+    is_ordered_by(x) && !has_order_point(x)
+}
+
+fn is_incomplete(x: &Progress) -> bool
+    ensures { result ≡ is_incomplete x.now }
+{
+    is_ordered_by(x) && !x.complete
+}
+
+/// The place of the transaction.
+fn place_of(x: Option<Progress>) -> Option<usize>
+    ensures { result ≡ option_map (λ v. v.transaction.place) x }
+{
+    x.map(|v| v.transaction.place)
+}
+
+/// The first of the list that barriers order, without its order point.
+fn find_unordered(list: &[Progress]) -> Option<Progress>
+    ensures { result ≡ find (λ x. is_unordered x) list.now }
+{
+    list.iter().copied().find(|x| is_unordered(x))
+}
+
+/// The first of the list that barriers order and that isn't complete.
+fn find_incomplete(list: &[Progress]) -> Option<Progress>
+    ensures { result ≡ find (λ x. is_incomplete x) list.now }
+{
+    list.iter().copied().find(|x| is_incomplete(x))
+}
+
+/// The lesser place, where there is one.
+fn lesser(a: Option<usize>, b: Option<usize>) -> Option<usize>
+    ensures { result ≡ lesser a b }
+{
+    match (a, b) {
+        (None, _) => b,
+        (_, None) => a,
+        (Some(j), Some(k)) => Some(if k < j { k } else { j }),
+    }
+}
+
+/// The event may change something of the outstanding transactions of its port on the channel.
+fn moves_channel(event: &Event, chan: Channel) -> bool
+    ensures { result ≡ moves_channel event.now chan }
+{
+    match *event {
+        Event::Ar { .. } | Event::R { .. } | Event::Rk { .. } | Event::D { .. } => {
+            chan == Channel::Read
+        }
+        Event::Aw { .. } | Event::B { .. } | Event::Wk { .. } => chan == Channel::Write,
+        Event::G { chan: named, .. } | Event::M { chan: named, .. } => named == chan,
+        _ => false,
+    }
+}
+
+impl Transactions {
+    ghost use Rattle.std.specs.Prelude.{ℕ, true, not, [], IfOk};
+    ghost use Rattle.ace_event.specs.declared.header.Header.{Header};
+    ghost use Rattle.ace_event.specs.declared.event.Event.TheVariants.{R, B};
+    ghost use Rattle.ace_model.specs.AddressRules.{has_free_name, has_free_line, has_write, keeps_apart};
+    ghost use Rattle.ace_model.specs.Shares.{k18_transfer, k26_response};
+    ghost use Rattle.ace_model.specs.Trace.{is_none_or};
+    ghost use Rattle.ace_model.specs.Transactions.{is_ace, outstanding, has_outstanding_on, acknowledged, next_complete};
+    ghost use Rattle.ace_portck.specs.Targets.{progress_of, own_of, first_unordered, first_incomplete};
+    ghost use Rattle.ace_portck.specs.Transactions.{TransactionsStand};
+
+    /// Those of a port without events: none.
+    pub fn new(alloc: Global) -> Result<Transactions, NoMemory>
+        ensures { IfOk result (λ s. (h : Header) → (p : ℕ) → TransactionsStand h [] p s) }
+    {
+        let reads = Pending::new(alloc)?;
+        let writes = Pending::new(alloc)?;
+        Ok(Transactions { reads, writes })
+    }
+
+    /// Those of the channel.
+    fn channel(&self, chan: Channel) -> &Pending
+        ensures { (h : Header) (past : Trace) (p : ℕ) → TransactionsStand h past p self.now → PendingStands h past p chan result.now }
+    {
+        match chan {
+            Channel::Read => &self.reads,
+            Channel::Write => &self.writes,
+        }
+    }
+
+    /// The outstanding transaction under the identifier.
+    pub fn named(&self, chan: Channel, id: u8) -> Option<Progress>
+        ensures { (h : Header) (past : Trace) (p : ℕ) → TransactionsStand h past p self.now
+            → result ≡ option_map (progress_of h past) (outstanding h past p chan id) }
+    {
+        self.channel(chan).named(id)
+    }
+
+    /// The identifier of the complete transaction that the next RK or WK of the port belongs to, which is an ACE port.
+    pub fn next_complete(&self, chan: Channel) -> Option<u8>
+        ensures { (h : Header) (past : Trace) (p : ℕ) → TransactionsStand h past p self.now → is_ace h p ≡ true
+            → result ≡ next_complete past p chan }
+    {
+        self.channel(chan).next_complete()
+    }
+
+    /// The transaction that the next RK or WK of the port belongs to, which is an ACE port.
+    pub fn acknowledged(&self, chan: Channel) -> Option<Progress>
+        ensures { (h : Header) (past : Trace) (p : ℕ) → TransactionsStand h past p self.now → is_ace h p ≡ true
+            → result ≡ option_map (progress_of h past) (acknowledged past p chan) }
+    {
+        match self.next_complete(chan) {
+            None => None,
+            Some(id) => self.named(chan, id),
+        }
+    }
+
+    /// The outstanding transaction on the line.
+    pub fn own(&self, line: u32) -> Option<Progress>
+        ensures { (h : Header) (past : Trace) (p : ℕ) → TransactionsStand h past p self.now
+            → result ≡ option_map (progress_of h past) (own_of h past p line) }
+    {
+        find_on(self.reads.list(), line).or(find_on(self.writes.list(), line))
+    }
+
+    /// The place of the oldest line transaction with bar 0 without its order point.
+    pub fn first_unordered(&self) -> Option<usize>
+        ensures { (h : Header) (past : Trace) (p : ℕ) → TransactionsStand h past p self.now → result ≡ first_unordered past p }
+    {
+        lesser(
+            place_of(find_unordered(self.reads.list())),
+            place_of(find_unordered(self.writes.list())),
+        )
+    }
+
+    /// The place of the oldest line transaction with bar 0 that isn't complete.
+    pub fn first_incomplete(&self) -> Option<usize>
+        ensures { (h : Header) (past : Trace) (p : ℕ) → TransactionsStand h past p self.now → result ≡ first_incomplete past p }
+    {
+        lesser(
+            place_of(find_incomplete(self.reads.list())),
+            place_of(find_incomplete(self.writes.list())),
+        )
+    }
+
+    /// K4, of a new transaction of the port: none with its name is outstanding.
+    pub fn has_free_name(&self, x: &Transaction) -> bool
+        ensures { (h : Header) (past : Trace) → TransactionsStand h past x.now.port self.now → result ≡ has_free_name h past x.now }
+    {
+        self.named(x.chan, x.id).is_none()
+    }
+
+    /// None on the line is outstanding.
+    fn is_line_free(&self, line: u32) -> bool
+        ensures { (h : Header) (past : Trace) (p : ℕ) → TransactionsStand h past p self.now → result ≡ not (has_outstanding_on h past p line) }
+    {
+        self.own(line).is_none()
+    }
+
+    /// A WriteUnique or WriteLineUnique is outstanding.
+    fn has_unique_write(&self) -> bool
+        ensures { (h : Header) (past : Trace) (p : ℕ) → TransactionsStand h past p self.now → result ≡ has_write h past p is_unique_write }
+    {
+        has_unique_write(self.writes.list())
+    }
+
+    /// A memory update or an Evict is outstanding.
+    fn has_giving_up(&self) -> bool
+        ensures { (h : Header) (past : Trace) (p : ℕ) → TransactionsStand h past p self.now → result ≡ has_write h past p gives_up }
+    {
+        has_giving_up(self.writes.list())
+    }
+
+    /// K5, of a new transaction of the port: none on its line is outstanding.
+    pub fn has_free_line(&self, x: &Transaction) -> bool
+        ensures { (h : Header) (past : Trace) → TransactionsStand h past x.now.port self.now → result ≡ has_free_line h past x.now }
+    {
+        !is_line(x) || self.is_line_free(x.addr)
+    }
+
+    /// K10, of a new transaction of the port: memory updates and Evict keep apart from WriteUnique and WriteLineUnique.
+    pub fn keeps_apart(&self, x: &Transaction) -> bool
+        ensures { (h : Header) (past : Trace) → TransactionsStand h past x.now.port self.now
+            → result ≡ is_none_or (write_kind x.now) (keeps_apart h past x.now.port) }
+    {
+        match write_kind(x) {
+            None => true,
+            Some(kind) => {
+                (!gives_up(kind) || !self.has_unique_write())
+                    && (!is_unique_write(kind) || !self.has_giving_up())
+            }
+        }
+    }
+
+    /// K18 but grant, snoops and passed data: an R names an outstanding read with transfers left, and is the last exactly where it
+    /// says so.
+    pub fn may_transfer(&self, id: u8, last: bool) -> bool
+        ensures { (h : Header) (past : Trace) (p resp word : ℕ) → TransactionsStand h past p self.now
+            → result ≡ k18_transfer h past (R p id resp last word) }
+    {
+        match self.named(Channel::Read, id) {
+            None => false,
+            Some(x) => {
+                match read_kind(&x.transaction) {
+                    None => false,
+                    Some(kind) => {
+                        let beats = beats_of(kind);
+                        x.transfers < beats && last == (x.transfers.wrapping_add(1) == beats)
+                    }
+                }
+            }
+        }
+    }
+
+    /// K26 but M: a B names an outstanding write without B, and its response is 0.
+    pub fn may_respond(&self, id: u8, resp: u8) -> bool
+        ensures { (h : Header) (past : Trace) (p : ℕ) → TransactionsStand h past p self.now
+            → result ≡ k26_response h past (B p id resp) }
+    {
+        resp == 0 && self.named(Channel::Write, id).is_some_and(|x| !x.complete)
+    }
+
+    /// Hears an event of the port that keeps the rules, with `place` events before it. It takes no memory.
+    pub fn hear(&mut self, header: &Header, port: u8, place: usize, event: &Event)
+        ensures { (past : Trace) → IsHeard header.now past place event.now port → AllByRecursion HasByteId (event.now ∷ past)
+            → TransactionsStand header.now past port self.old → TransactionsStand header.now (event.now ∷ past) port self.new }
+    {
+        hear_on(&mut self.reads, header, port, Channel::Read, place, event);
+        hear_on(&mut self.writes, header, port, Channel::Write, place, event);
+    }
+}
+
+/// The same of one channel, which most events leave as it is.
+fn hear_on(pending: &mut Pending, header: &Header, port: u8, chan: Channel, place: usize, event: &Event)
+    ensures { (past : Trace) → IsHeard header.now past place event.now port → AllByRecursion HasByteId (event.now ∷ past)
+        → PendingStands header.now past port chan pending.old → PendingStands header.now (event.now ∷ past) port chan pending.new }
+{
+    if moves_channel(event, chan) {
+        pending.hear(header, port, chan, place, event);
+    }
+}

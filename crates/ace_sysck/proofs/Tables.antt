@@ -1,0 +1,36 @@
+-- A list with a value set at a place.
+use Rattle.std.proofs.Common.{◌≡◌, ◌≢◌, ℕ, zero, suc, ◌+◌, ◌*◌, ◌<◌, ◌≤◌, Bool, true, false, ◌&&◌, nat_eq, if◌then◌else◌, List, [], ◌∷◌, ◌++◌, length, get_or, slice_set, refl, sym, ap, ◌∙◌, arith, inl, inr, length-append}
+use Rattle.std.proofs.lemmas.Bool.{cases_eq, eq-eqb, ne_eqb}
+use Rattle.std.proofs.lemmas.List.{get_or-set_same, get_or-set_other}
+use Rattle.ace_sysck.specs.Results.{slot_of}
+
+-- the place has the value, and each other place what it had
+pub set_at : {A : Type 0} → (xs : List A) (k n : ℕ) (v d : A) → k < length xs
+    → get_or (slice_set xs k v) n d ≡ (if nat_eq k n then v else get_or xs n d)
+set_at xs k n v d low =
+    elim (cases_eq k n) [
+      | inl is ↦ rw (eq-eqb k n is) (ap (λ m. get_or (slice_set xs k v) m d) (sym is) ∙ get_or-set_same xs k v d low)
+      | inr off ↦ rw (ne_eqb k n off) (get_or-set_other xs k n v d (λ q. off (sym q)))
+    ]
+
+-- two places of a table of names are one where port and identifier are
+pub same_slot : (q j p i : ℕ) → j < 256 → i < 256 → nat_eq (slot_of q j) (slot_of p i) ≡ (nat_eq q p && nat_eq j i)
+same_slot q j p i low_j low_i =
+    elim (cases_eq q p) [
+      | inl port ↦ elim (cases_eq j i) [
+        | inl id ↦ rw (eq-eqb q p port, eq-eqb j i id) (eq-eqb (slot_of q j) (slot_of p i) (omega arith))
+        | inr off ↦ rw (eq-eqb q p port, ne_eqb j i off) (ne_eqb (slot_of q j) (slot_of p i) (λ s. off (omega arith)))
+      ]
+      | inr off ↦ rw (ne_eqb q p off) (ne_eqb (slot_of q j) (slot_of p i) (λ s. off (omega arith)))
+    ]
+
+-- a name of a port of the header has a place
+pub slot_within : (q j ports n : ℕ) → j < 256 → q < ports → n ≡ ports * 256 → slot_of q j < n
+slot_within q j ports n low within size = omega arith
+
+-- a list of one value repeated has it at each place, and with one more too
+pub all_more : {A : Type 0} → (xs : List A) (d : A) → ((n : ℕ) → get_or xs n d ≡ d) → (n : ℕ) → get_or (xs ++ d ∷ []) n d ≡ d
+all_more [] d all zero = refl
+all_more [] d all (suc n) = refl
+all_more (x ∷ xs) d all zero = all 0
+all_more (x ∷ xs) d all (suc n) = all_more xs d (λ m. all (suc m)) n

@@ -1,0 +1,30 @@
+use Rattle.std.proofs.Common.{◌≡◌, ◌&&◌, ◌==◌, ℕ, nat_eq, true, false, None, Some, refl, sym, ap, subst, ◌∙◌, arith, get_or, slice_set}
+use Rattle.std.proofs.lemmas.Grind.{common_steps}
+use Rattle.std.proofs.lemmas.Bool.{eq-eqb}
+use Rattle.ace_model.specs.Trace.{implies, is_none_or, is_some_and}
+use Rattle.ace_model.specs.AddressRules.{begins_barrier}
+use Rattle.ace_model.specs.Barriers.{is_barrier_half, pair_of, may_answer}
+use Rattle.ace_model.specs.OrderRules.{may_answer_half, is_past_barriers}
+use Rattle.ace_sysck.specs.declared.barriers.Barrier.TheVariants.{Idle}
+use Rattle.ace_sysck.specs.Events.{begun_in, completed_in, responded_in, granted_in}
+use Rattle.ace_sysck.specs.Barriers.{BarrierStands, begins_after, may_answer_after, is_past, joined, answered}
+use Rattle.ace_sysck.proofs.EventLaws.{responding, responded-is, responds-at, granted-is}
+use Rattle.ace_sysck.proofs.BarrierRules.{begins-is, past-is}
+use Rattle.ace_sysck.proofs.BarrierAnswers.{answer-is}
+use Rattle.ace_sysck.proofs.BarrierSteps.{awaits-at, k34-is, k35-is, barriers_begun, barriers_plain, barriers_completed, barriers_stay}
+use Rattle.ace_sysck.proofs.barriers.Barriers.keeps_k34.Goals as goal
+
+pub returns-else-not-is_barrier_half : goal.returns-else-not-is_barrier_half
+returns-else-not-is_barrier_half g c =
+    let h = g.r.header in
+    let past = g.r.past in
+    let e = c.args.event.now in
+    let t = c.args.target.now in
+    let x = c.in-Some.x in
+    let b = get_or c.args.self.now.ports.items x.port Idle in
+    let half : is_barrier_half x ≡ true = sym c.is_barrier_half.ensures ∙ c.if-not-is_barrier_half.false in
+    let responds : responding h past e ≡ Some x = sym (responded-is h past e t c.requires.asked.target) ∙ sym c.responded_in.ensures ∙ c.in-Some.is in
+    let a = awaits-at h past e t x c.requires.asked.target responds half in
+    let is = answer-is past x t (responds-at h past e x responds).there half a.unordered a.incomplete b (c.requires.stands.ports x.port) in
+    let may : may_answer_half past x ≡ may_answer_after b t x = ap (λ v. implies v (is_some_and (pair_of past x) (may_answer past x.port))) half ∙ is in
+    c.may_answer_after.ensures ∙ ap (λ v. may_answer_after v t x) c.barrier_of.ensures ∙ sym may ∙ sym (ap (λ o. is_none_or o (may_answer_half past)) responds) ∙ sym (k34-is h past e)

@@ -1,0 +1,139 @@
+-- What is kept of the barriers of each port.
+use Rattle.std.specs.Prelude.{ℕ, ◌≡◌, ◌<◌, Bool, true, false, not, max, ◌&&◌, ◌||◌, ◌==◌, nat_le, if◌then◌else◌, List, [], ◌∷◌, ◌++◌, length, map, slice_index_or, Option, Some, None, ⊤}
+use Rattle.std.specs.List.{All}
+use Rattle.ace_event.specs.declared.event.Channel.TheVariants.{Read, Write}
+use Rattle.ace_event.specs.declared.event.Event.{Event}
+use Rattle.ace_model.specs.declared.transactions.Transaction.{Transaction}
+use Rattle.ace_model.specs.Trace.{Trace}
+use Rattle.ace_model.specs.Transactions.{is_read}
+use Rattle.ace_model.specs.Progress.{is_completed}
+use Rattle.ace_model.specs.AddressRules.{is_like_half}
+use Rattle.ace_model.specs.Barriers.{Pair, barriers, is_pair_complete, may_answer, place_of}
+use Rattle.ace_portck.specs.declared.target.Target.{Target}
+use Rattle.ace_portck.specs.Targets.{Recording}
+use Rattle.ace_sysck.specs.declared.barriers.OpenPair.{OpenPair}
+use Rattle.ace_sysck.specs.declared.barriers.Barrier.{Barrier}
+use Rattle.ace_sysck.specs.declared.barriers.Barrier.TheVariants.{Idle, ReadHalf, WriteHalf, Open}
+use Rattle.ace_sysck.specs.declared.barriers.Barriers.{Barriers}
+use Rattle.ace_sysck.specs.Steps.{IsStep, IsAsked}
+
+-- the halves of a barrier on each channel
+abbrev pub reads_of : Barrier → List Transaction
+reads_of Idle = []
+reads_of (ReadHalf x) = x ∷ []
+reads_of (WriteHalf x) = []
+reads_of (Open b) = b.read ∷ []
+
+abbrev pub writes_of : Barrier → List Transaction
+writes_of Idle = []
+writes_of (ReadHalf x) = []
+writes_of (WriteHalf x) = x ∷ []
+writes_of (Open b) = b.write ∷ []
+
+abbrev pub read_half : Pair → Transaction
+read_half b = b.read
+
+abbrev pub write_half : Pair → Transaction
+write_half b = b.write
+
+abbrev pub pair_in : OpenPair → Pair
+pair_in b = record { read = b.read; write = b.write }
+
+-- the pair is complete, what is before it has come far enough, and it came before
+pub record IsDone (past : Trace) (p : ℕ) (b : Pair) : Type 0 where
+  pub complete : is_pair_complete past b ≡ true
+  pub answered : may_answer past p b ≡ true
+  pub placed : place_of b < length past
+
+pub record IsOpen (past : Trace) (b : OpenPair) : Type 0 where
+  pub read : is_completed past b.read ≡ b.read_answered
+  pub write : is_completed past b.write ≡ b.write_answered
+  pub open_still : (b.read_answered && b.write_answered) ≡ false
+
+-- a half without its partner isn't complete, and of an open pair not both halves are
+abbrev pub IsUnderWay : Trace → Barrier → Type 0
+IsUnderWay past Idle = ⊤
+IsUnderWay past (ReadHalf x) = is_completed past x ≡ false
+IsUnderWay past (WriteHalf x) = is_completed past x ≡ false
+IsUnderWay past (Open b) = IsOpen past b
+
+-- the halves of the port are those of pairs that are done, and then those of the barrier
+pub record BarrierStands (past : Trace) (p : ℕ) (b : Barrier) : Type 0 where
+  pub done : List Pair
+  pub reads : barriers past p Read ≡ map read_half done ++ reads_of b
+  pub writes : barriers past p Write ≡ map write_half done ++ writes_of b
+  pub are_done : All (IsDone past p) done
+  pub under_way : IsUnderWay past b
+
+pub record BarriersStand (r : Recording) (s : Barriers) : Type 0 where
+  pub size : length s.ports.items ≡ r.header.ports
+  pub ports : (p : ℕ) → BarrierStands r.past p (slice_index_or s.ports.items p Idle)
+
+pub record MayHearBarriers (r : Recording) (s : Barriers) (e : Event) (t : Target) : Type 0 where
+  pub step : IsStep r e t
+  pub stands : BarriersStand r s
+
+pub record MayAskBarriers (r : Recording) (s : Barriers) (e : Event) (t : Target) : Type 0 where
+  pub asked : IsAsked r e t
+  pub stands : BarriersStand r s
+
+-- an accepted trace may go on with the transaction as the next that is issued
+pub record MayBegin (r : Recording) (s : Barriers) (x : Transaction) : Type 0 where
+  pub stands : BarriersStand r s
+  pub place : x.place ≡ length r.past
+
+-- a port with this barrier may issue the half
+abbrev pub begins_after : Barrier → Transaction → Bool
+begins_after Idle x = true
+begins_after (ReadHalf y) x = not (is_read x.chan) && is_like_half x y
+begins_after (WriteHalf y) x = is_read x.chan && is_like_half x y
+begins_after (Open b) x = false
+
+-- the barrier once the port has issued the half
+abbrev pub joined : Barrier → Transaction → Barrier
+joined Idle x = if is_read x.chan then ReadHalf x else WriteHalf x
+joined (ReadHalf y) x =
+    if is_read x.chan then ReadHalf y else Open (record { read = y; write = x; read_answered = false; write_answered = false })
+joined (WriteHalf y) x =
+    if is_read x.chan then Open (record { read = x; write = y; read_answered = false; write_answered = false }) else WriteHalf y
+joined (Open b) x = Open b
+
+-- the pair, once the transaction at the place is complete
+abbrev pub answered_at : OpenPair → ℕ → OpenPair
+answered_at b place = record {
+  read = b.read;
+  write = b.write;
+  read_answered = (place == b.read.place) || b.read_answered;
+  write_answered = (place == b.write.place) || b.write_answered;
+}
+
+abbrev pub unless_complete : OpenPair → Barrier
+unless_complete b = if b.read_answered && b.write_answered then Idle else Open b
+
+-- the barrier once the transaction at the place is complete
+abbrev pub answered : Barrier → ℕ → Barrier
+answered (Open b) place = unless_complete (answered_at b place)
+answered b place = b
+
+-- no transaction before the place is awaited, where this is the first that is
+abbrev pub is_awaited_by : ℕ → Option ℕ → Bool
+is_awaited_by place None = true
+is_awaited_by place (Some first) = nat_le place first
+
+-- what is before the pair has come far enough, by the first transactions of the target that have not
+abbrev pub comes_far_enough : OpenPair → Target → Bool
+comes_far_enough b t =
+    if b.read.bar == 3 then is_awaited_by (max b.read.place b.write.place) t.incomplete
+    else is_awaited_by (max b.read.place b.write.place) t.unordered
+
+-- the half may be answered
+abbrev pub may_answer_after : Barrier → Target → Transaction → Bool
+may_answer_after Idle t x = true
+may_answer_after (ReadHalf y) t x = not (x.place == y.place)
+may_answer_after (WriteHalf y) t x = not (x.place == y.place)
+may_answer_after (Open b) t x = (not (x.place == b.read.place) && not (x.place == b.write.place)) || comes_far_enough b t
+
+-- no pair that isn't complete is before the transaction, where barriers order it
+abbrev pub is_past : Barrier → Transaction → Bool
+is_past (Open b) x = not (x.bar == 0) || nat_le x.place (max b.read.place b.write.place)
+is_past b x = true

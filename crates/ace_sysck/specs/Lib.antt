@@ -1,0 +1,6 @@
+pub mod Steps
+pub mod Registrations
+pub mod Results
+pub mod Monitors
+pub mod Events
+pub mod Barriers

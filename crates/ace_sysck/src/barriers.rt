@@ -1,0 +1,259 @@
+//! The barriers of the ports.
+
+ghost use Rattle.std.specs.Prelude.{◌≡◌, max};
+ghost use Rattle.ace_model.specs.AddressRules.{is_like_half};
+ghost use Rattle.ace_sysck.specs.Barriers.{begins_after, joined, answered, is_awaited_by, comes_far_enough, may_answer_after, is_past};
+
+use crate::events::{begun_in, completed_in, granted_in, responded_in};
+use crate::kinds::is_barrier_half;
+use ace_event::{Channel, Event};
+use ace_model::Transaction;
+use ace_portck::Target;
+use std::alloc::{AllocError, Global};
+
+/// A barrier pair that isn't complete: its halves, and whether they have had their R and B.
+#[derive(Clone, Copy, Debug, PartialEq, Eq)]
+pub struct OpenPair {
+    pub read: Transaction,
+    pub write: Transaction,
+    pub read_answered: bool,
+    pub write_answered: bool,
+}
+
+/// What a port has of its newest barrier, while that isn't complete: every earlier one is (Arm IHI 0022E, C8).
+#[derive(Clone, Copy, Debug, PartialEq, Eq)]
+pub enum Barrier {
+    /// Every barrier half of the port is of a complete pair.
+    Idle,
+    /// A half on the read channel has no partner yet.
+    ReadHalf(Transaction),
+    /// A half on the write channel has no partner yet.
+    WriteHalf(Transaction),
+    /// A pair isn't complete.
+    Open(OpenPair),
+}
+
+/// For each port of the header, its newest barrier.
+#[derive(Drop)]
+pub struct Barriers {
+    ports: Vec<Barrier>,
+}
+
+/// Both halves of a barrier have the same bar and domain.
+fn is_like_half(x: &Transaction, y: &Transaction) -> bool
+    ensures { result ≡ is_like_half x.now y.now }
+{
+    x.bar == y.bar && x.dom == y.dom
+}
+
+/// A port with this barrier may issue the half.
+fn begins_after(barrier: &Barrier, x: &Transaction) -> bool
+    ensures { result ≡ begins_after barrier.now x.now }
+{
+    match (barrier, x.chan) {
+        (Barrier::Idle, _) => true,
+        (Barrier::ReadHalf(y), Channel::Write) => is_like_half(x, y),
+        (Barrier::WriteHalf(y), Channel::Read) => is_like_half(x, y),
+        _ => false,
+    }
+}
+
+/// The barrier of the port once it has issued the half.
+fn joined(barrier: Barrier, x: Transaction) -> Barrier
+    ensures { result ≡ joined barrier x }
+{
+    match (barrier, x.chan) {
+        (Barrier::Idle, Channel::Read) => Barrier::ReadHalf(x),
+        (Barrier::Idle, Channel::Write) => Barrier::WriteHalf(x),
+        (Barrier::ReadHalf(read), Channel::Write) => Barrier::Open(OpenPair {
+            read,
+            write: x,
+            read_answered: false,
+            write_answered: false,
+        }),
+        (Barrier::WriteHalf(write), Channel::Read) => Barrier::Open(OpenPair {
+            read: x,
+            write,
+            read_answered: false,
+            write_answered: false,
+        }),
+        _ => barrier,
+    }
+}
+
+/// The barrier of the port once the transaction at the place is complete.
+fn answered(barrier: Barrier, place: usize) -> Barrier
+    ensures { result ≡ answered barrier place }
+{
+    match barrier {
+        Barrier::Open(pair) => {
+            let read_answered = place == pair.read.place || pair.read_answered;
+            let write_answered = place == pair.write.place || pair.write_answered;
+            if read_answered && write_answered {
+                Barrier::Idle
+            } else {
+                Barrier::Open(OpenPair {
+                    read: pair.read,
+                    write: pair.write,
+                    read_answered,
+                    write_answered,
+                })
+            }
+        }
+        _ => barrier,
+    }
+}
+
+/// How many events came before the later half.
+fn place_of(pair: &OpenPair) -> usize
+    ensures { result ≡ max pair.now.read.place pair.now.write.place }
+{
+    if pair.read.place < pair.write.place {
+        pair.write.place
+    } else {
+        pair.read.place
+    }
+}
+
+/// No transaction from this place on is awaited.
+fn is_awaited_by(place: usize, awaited: Option<usize>) -> bool
+    ensures { result ≡ is_awaited_by place awaited }
+{
+    match awaited {
+        None => true,
+        Some(first) => place <= first,
+    }
+}
+
+/// What is before the pair has come far enough: to its order point, or for a synchronisation barrier to its end.
+fn comes_far_enough(pair: &OpenPair, target: &Target) -> bool
+    ensures { result ≡ comes_far_enough pair.now target.now }
+{
+    if pair.read.bar == 3 {
+        is_awaited_by(place_of(pair), target.incomplete)
+    } else {
+        is_awaited_by(place_of(pair), target.unordered)
+    }
+}
+
+/// The half may be answered: it is of a complete pair, or of one before which everything has come far enough.
+fn may_answer_after(barrier: &Barrier, target: &Target, x: &Transaction) -> bool
+    ensures { result ≡ may_answer_after barrier.now target.now x.now }
+{
+    match barrier {
+        Barrier::Idle => true,
+        Barrier::ReadHalf(y) => x.place != y.place,
+        Barrier::WriteHalf(y) => x.place != y.place,
+        Barrier::Open(pair) => {
+            (x.place != pair.read.place && x.place != pair.write.place)
+                || comes_far_enough(pair, target)
+        }
+    }
+}
+
+/// No pair that isn't complete is before the transaction, where barriers order it.
+fn is_past(barrier: &Barrier, x: &Transaction) -> bool
+    ensures { result ≡ is_past barrier.now x.now }
+{
+    match barrier {
+        Barrier::Open(pair) => x.bar != 0 || x.place <= place_of(pair),
+        _ => true,
+    }
+}
+
+impl Barriers {
+    ghost use Rattle.std.specs.Prelude.{◌≡◌, [], IfOk, slice_set, slice_index_or, length, Some, is_some};
+    ghost use Rattle.ace_event.specs.declared.header.Header.{Header};
+    ghost use Rattle.ace_model.specs.Trace.{is_none_or, implies};
+    ghost use Rattle.ace_model.specs.Transactions.{issued};
+    ghost use Rattle.ace_model.specs.OrderRules.{k34, k35};
+    ghost use Rattle.ace_model.specs.AddressRules.{begins_barrier};
+    ghost use Rattle.ace_model.specs.Barriers.{is_barrier_half};
+    ghost use Rattle.ace_portck.specs.Targets.{Recording, after};
+    ghost use Rattle.ace_sysck.specs.Barriers.{BarriersStand, MayBegin, MayHearBarriers, MayAskBarriers};
+    ghost use Rattle.ace_sysck.specs.declared.barriers.Barrier.TheVariants.{Idle};
+
+    /// The barriers of the empty trace, of so many ports.
+    pub fn new(alloc: Global, ports: u8) -> Result<Barriers, AllocError>
+        ensures { IfOk result (λ s. (h : Header) → h.ports ≡ ports → BarriersStand (record { header = h; past = [] }) s) }
+    {
+        let mut all = Vec::new(alloc);
+        for _port in 0..ports {
+            all.push(Barrier::Idle)?;
+        }
+        Ok(Barriers { ports: all })
+    }
+
+    fn barrier_of(&self, port: u8) -> Barrier
+        ensures { result ≡ slice_index_or self.now.ports.items port Idle }
+    {
+        let p = port as usize;
+        if p < self.ports.len() {
+            self.ports[p]
+        } else {
+            Barrier::Idle
+        }
+    }
+
+    fn set(&mut self, port: u8, barrier: Barrier)
+        ensures { self.new.ports.items ≡ slice_set self.old.ports.items port barrier }
+    {
+        let p = port as usize;
+        if p < self.ports.len() {
+            self.ports[p] = barrier;
+        }
+    }
+
+    /// Of K9, where the event issues the transaction: a barrier half has address 0, every earlier pair of the port is complete, and
+    /// its own other half, if it was issued, is alike.
+    pub fn keeps_k9(&self, x: &Transaction) -> bool
+        ghost r: { Recording }
+        requires { MayBegin r self.now x.now }
+        ensures { result ≡ implies (is_barrier_half x.now) (begins_barrier r.past x.now) }
+    {
+        !is_barrier_half(x) || (x.addr == 0 && begins_after(&self.barrier_of(x.port), x))
+    }
+
+    /// K34: a barrier is answered once both halves were issued and what is before it has come far enough.
+    pub fn keeps_k34(&self, event: &Event, target: &Target) -> bool
+        ghost r: { Recording }
+        requires { MayAskBarriers r self.now event.now target.now }
+        ensures { result ≡ k34 r.header r.past event.now }
+    {
+        match responded_in(event, target) {
+            None => true,
+            Some(x) => {
+                !is_barrier_half(&x) || may_answer_after(&self.barrier_of(x.port), target, &x)
+            }
+        }
+    }
+
+    /// K35: where a G grants a transaction with bar 0, every barrier pair of the port before it is complete.
+    pub fn keeps_k35(&self, event: &Event, target: &Target) -> bool
+        ghost r: { Recording }
+        requires { MayAskBarriers r self.now event.now target.now }
+        ensures { result ≡ k35 r.header r.past event.now }
+    {
+        match granted_in(event, target) {
+            None => true,
+            Some(x) => is_past(&self.barrier_of(x.port), &x),
+        }
+    }
+
+    /// The barriers after the event.
+    pub fn hear(&mut self, event: &Event, target: &Target)
+        ghost r: { Recording }
+        requires { MayHearBarriers r self.old event.now target.now }
+        ensures { BarriersStand (after r event.now) self.new }
+    {
+        if let Some(x) = begun_in(event, target) {
+            if is_barrier_half(&x) {
+                let barrier = joined(self.barrier_of(x.port), x);
+                self.set(x.port, barrier);
+            }
+        } else if let Some(x) = completed_in(event, target) {
+            let barrier = answered(self.barrier_of(x.port), x.place);
+            self.set(x.port, barrier);
+        }
+    }
+}

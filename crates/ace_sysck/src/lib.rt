@@ -1,0 +1,9 @@
+//! The rules that look at the system as a whole: barriers, DVM messages and exclusive transactions.
+#![tactic(auto)]
+
+mod barriers;
+mod events;
+mod kinds;
+mod monitors;
+mod registrations;
+mod results;

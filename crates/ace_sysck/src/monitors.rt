@@ -1,0 +1,123 @@
+//! The monitors of the ports.
+
+ghost use Rattle.std.specs.Prelude.{◌≡◌};
+ghost use Rattle.ace_sysck.specs.Monitors.{kept_after, left_state};
+
+use ace_codes::LineState;
+use ace_event::Event;
+use ace_portck::Target;
+use std::alloc::{AllocError, Global};
+
+/// For each port of the header, the line that its monitor is set for: the line of its last exclusive load, where it made no
+/// exclusive store since then and never held the line in I (Arm IHI 0022E, C9).
+#[derive(Drop)]
+pub struct Monitors {
+    lines: Vec<Option<u32>>,
+}
+
+/// The line that a monitor is set for, once its port is left in a state of a line: in I the monitor is no longer set for it.
+fn kept_after(kept: Option<u32>, line: Option<u32>, state: LineState) -> Option<u32>
+    ensures { result ≡ kept_after kept line state }
+{
+    match (kept, line) {
+        (Some(own), Some(left)) if state == LineState::I && left == own => None,
+        _ => kept,
+    }
+}
+
+/// The port that an RK, WK, CR or S leaves in a state of the line of its target, and the state.
+fn left_state(event: &Event) -> Option<(u8, LineState)>
+    ensures { result ≡ left_state event.now }
+{
+    match *event {
+        Event::Rk { port, st } => Some((port, st)),
+        Event::Wk { port, st } => Some((port, st)),
+        Event::Cr { port, st, .. } => Some((port, st)),
+        Event::S { port, st, .. } => Some((port, st)),
+        _ => None,
+    }
+}
+
+impl Monitors {
+    ghost use Rattle.std.specs.Prelude.{◌≡◌, [], IfOk, None, slice_set, slice_index_or};
+    ghost use Rattle.ace_event.specs.declared.header.Header.{Header};
+    ghost use Rattle.ace_model.specs.CacheRules.{k33};
+    ghost use Rattle.ace_portck.specs.Targets.{Recording, after};
+    ghost use Rattle.ace_sysck.specs.Monitors.{MonitorsStand, MayHearMonitors, kept_after};
+
+    /// The monitors of the empty trace, of so many ports.
+    pub fn new(alloc: Global, ports: u8) -> Result<Monitors, AllocError>
+        ensures { IfOk result (λ s. (h : Header) → h.ports ≡ ports → MonitorsStand (record { header = h; past = [] }) s) }
+    {
+        let mut lines = Vec::new(alloc);
+        for _port in 0..ports {
+            lines.push(None)?;
+        }
+        Ok(Monitors { lines })
+    }
+
+    fn line_of(&self, port: u8) -> Option<u32>
+        ensures { result ≡ slice_index_or self.now.lines.items port None }
+    {
+        let p = port as usize;
+        if p < self.lines.len() {
+            self.lines[p]
+        } else {
+            None
+        }
+    }
+
+    fn set(&mut self, port: u8, line: Option<u32>)
+        ensures { self.new.lines.items ≡ slice_set self.old.lines.items port line }
+    {
+        let p = port as usize;
+        if p < self.lines.len() {
+            self.lines[p] = line;
+        }
+    }
+
+    /// K33: at a D with x 1 the monitor of the port is set for the line.
+    pub fn keeps_k33(&self, event: &Event) -> bool
+        ghost r: { Recording }
+        requires { MonitorsStand r self.now }
+        ensures { result ≡ k33 r.header r.past event.now }
+    {
+        match *event {
+            Event::D { port, addr, x, .. } => !x || self.line_of(port) == Some(addr),
+            _ => true,
+        }
+    }
+
+    /// The port is left in this state of the line.
+    fn leave(&mut self, port: u8, line: Option<u32>, state: LineState)
+        ensures { self.new.lines.items ≡ slice_set self.old.lines.items port (kept_after (slice_index_or self.old.lines.items port None) line state) }
+    {
+        let kept = kept_after(self.line_of(port), line, state);
+        self.set(port, kept);
+    }
+
+    /// The monitors after the event.
+    pub fn hear(&mut self, event: &Event, target: &Target)
+        ghost r: { Recording }
+        requires { MayHearMonitors r self.old event.now target.now }
+        ensures { MonitorsStand (after r event.now) self.new }
+    {
+        match *event {
+            Event::L { port, addr, x, .. } => {
+                if x {
+                    self.set(port, Some(addr));
+                }
+            }
+            Event::D { port, x, .. } => {
+                if x {
+                    self.set(port, None);
+                }
+            }
+            _ => {
+                if let Some((port, state)) = left_state(event) {
+                    self.leave(port, target.line, state);
+                }
+            }
+        }
+    }
+}

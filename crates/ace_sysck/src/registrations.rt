@@ -1,0 +1,123 @@
+//! The monitor of the interconnect.
+
+ghost use Rattle.std.specs.Prelude.{◌≡◌, ◌<◌, ◌==◌, ◌||◌, ℕ};
+ghost use Rattle.std.specs.Int.{bit_at};
+ghost use Rattle.ace_sysck.specs.Registrations.{locked_in, kept_bits};
+
+use crate::kinds::{is_exclusive_store, is_line};
+use ace_event::Event;
+use ace_model::Transaction;
+use ace_portck::Target;
+use indexmap::IndexMap;
+use std::alloc::{AllocError, Global};
+
+/// For each line that was granted to a transaction with lock 1, the ports that are registered for it: bit p is 1 exactly where
+/// port p is (Arm IHI 0022E, C9).
+#[derive(Drop)]
+pub struct Registrations {
+    lines: IndexMap<u32, u32>,
+}
+
+/// The bits with that of the port set. No header has a port from 32 on.
+fn with_port(bits: u32, port: u8) -> u32
+    ensures { port < 32 → (p : ℕ) → (bit_at result p == 1) ≡ ((port == p) || (bit_at bits p == 1)) }
+{
+    if port < 32 { bits | 1 << port } else { bits }
+}
+
+fn has_port(bits: u32, port: u8) -> bool
+    ensures { result ≡ (bit_at bits port == 1) }
+{
+    port < 32 && bits >> port & 1 == 1
+}
+
+/// The ports whose registrations the G of the transaction doesn't end: none where it is an exclusive store that passes.
+fn kept_bits(x: &Transaction, bits: u32) -> u32
+    ensures { result ≡ kept_bits x.now bits }
+{
+    if is_exclusive_store(x) && has_port(bits, x.port) {
+        0
+    } else {
+        bits
+    }
+}
+
+/// The transaction with lock 1 to which the event grants a line.
+fn locked_in(event: &Event, target: &Target) -> Option<Transaction>
+    ensures { result ≡ locked_in event.now target.now }
+{
+    match (event, target.transaction) {
+        (Event::G { .. }, Some(x)) if x.transaction.lock && is_line(&x.transaction) => {
+            Some(x.transaction)
+        }
+        _ => None,
+    }
+}
+
+impl Registrations {
+    ghost use Rattle.std.specs.Prelude.{◌≡◌, [], OnOk, OnErr, nat_eq};
+    ghost use Rattle.ace_event.specs.declared.header.Header.{Header};
+    ghost use Rattle.ace_model.specs.Exclusives.{is_registered};
+    ghost use Rattle.ace_portck.specs.Targets.{Recording, after};
+    ghost use Rattle.ace_sysck.specs.Registrations.{RegistrationsStand, MayMakeLineRoom, MayHearRegistrations, HasLineRoom, IsNewLock, registered_bits};
+
+    /// The registrations of the empty trace.
+    pub fn new(alloc: Global) -> Registrations
+        ensures { (h : Header) → RegistrationsStand (record { header = h; past = [] }) result }
+    {
+        Registrations {
+            lines: IndexMap::new(alloc),
+        }
+    }
+
+    fn bits_of(&self, line: u32) -> u32
+        ensures { result ≡ registered_bits self.now line }
+    {
+        match self.lines.get(&line) {
+            None => 0,
+            Some(bits) => *bits,
+        }
+    }
+
+    /// Whether the port is registered for the line.
+    pub fn is_registered(&self, port: u8, line: u32) -> bool
+        ghost r: { Recording }
+        requires { RegistrationsStand r self.now }
+        ensures { result ≡ is_registered r.past port line }
+    {
+        has_port(self.bits_of(line), port)
+    }
+
+    /// Makes room for the line that the event grants to a transaction with lock 1. There is no memory only where it is the first
+    /// of its line.
+    pub fn ready(&mut self, event: &Event, target: &Target) -> Result<(), AllocError>
+        ghost r: { Recording }
+        requires { MayMakeLineRoom r self.old event.now target.now }
+        ensures stands { RegistrationsStand r self.new }
+        ensures room { OnOk result (HasLineRoom self.new event.now target.now) }
+        ensures cause { OnErr result (IsNewLock r.past event.now) }
+    {
+        if let Some(x) = locked_in(event, target) {
+            if !self.lines.contains_key(&x.addr) {
+                if self.lines.insert(x.addr, 0).is_err() {
+                    return Err(AllocError);
+                }
+            }
+        }
+        Ok(())
+    }
+
+    /// The registrations after the event.
+    pub fn hear(&mut self, event: &Event, target: &Target)
+        ghost r: { Recording }
+        requires { MayHearRegistrations r self.old event.now target.now }
+        ensures { RegistrationsStand (after r event.now) self.new }
+    {
+        if let Some(x) = locked_in(event, target) {
+            let kept = kept_bits(&x, self.bits_of(x.addr));
+            if let Some(line) = self.lines.get_mut(&x.addr) {
+                *line = with_port(kept, x.port);
+            }
+        }
+    }
+}

@@ -1,0 +1,75 @@
+//! What became of the exclusive stores.
+
+use crate::kinds::is_exclusive_store;
+use ace_event::Event;
+use ace_portck::Target;
+use std::alloc::{AllocError, Global};
+
+/// For each port and identifier: whether the exclusive store that the port issued last under it passed at its G. None where
+/// there is none, or it had no G. It has 256 places for each port of the header.
+#[derive(Drop)]
+pub struct Results {
+    passed: Vec<Option<bool>>,
+}
+
+impl Results {
+    ghost use Rattle.std.specs.Prelude.{◌≡◌, [], IfOk, slice_set, Option};
+    ghost use Rattle.ace_event.specs.declared.header.Header.{Header};
+    ghost use Rattle.ace_model.specs.Exclusives.{passed_at_grant};
+    ghost use Rattle.ace_portck.specs.Targets.{Recording, after};
+    ghost use Rattle.ace_sysck.specs.Results.{ResultsStand, MayHearResult, slot_of};
+
+    /// The results of the empty trace, of so many ports.
+    pub fn new(alloc: Global, ports: u8) -> Result<Results, AllocError>
+        ensures { IfOk result (λ s. (h : Header) → h.ports ≡ ports → ResultsStand (record { header = h; past = [] }) s) }
+    {
+        let size = ports as usize * 256;
+        let mut passed = Vec::new(alloc);
+        for _slot in 0..size {
+            passed.push(None)?;
+        }
+        Ok(Results { passed })
+    }
+
+    /// Whether the exclusive store that the port issued last under the identifier passed at its G.
+    pub fn passed(&self, port: u8, id: u8) -> Option<bool>
+        ghost r: { Recording }
+        requires { ResultsStand r self.now }
+        ensures { result ≡ passed_at_grant r.past port id }
+    {
+        let slot = port as usize * 256 + id as usize;
+        if slot < self.passed.len() {
+            self.passed[slot]
+        } else {
+            None
+        }
+    }
+
+    fn set(&mut self, port: u8, id: u8, passed: Option<bool>)
+        ensures { self.new.passed.items ≡ slice_set self.old.passed.items (slot_of port id) passed }
+    {
+        let slot = port as usize * 256 + id as usize;
+        if slot < self.passed.len() {
+            self.passed[slot] = passed;
+        }
+    }
+
+    /// The results after the event. `passes` says whether an exclusive store that it grants passes.
+    pub fn hear(&mut self, event: &Event, target: &Target, passes: bool)
+        ghost r: { Recording }
+        requires { MayHearResult r self.old event.now target.now passes }
+        ensures { ResultsStand (after r event.now) self.new }
+    {
+        match *event {
+            Event::Ar { port, id, .. } => self.set(port, id, None),
+            Event::G { port, id, .. } => {
+                if let Some(granted) = target.transaction {
+                    if is_exclusive_store(&granted.transaction) {
+                        self.set(port, id, Some(passes));
+                    }
+                }
+            }
+            _ => {}
+        }
+    }
+}
