@@ -34,7 +34,7 @@ use Rattle.ace_lineck.proofs.OnLine.{on-transaction, on-snoop}
 use Rattle.ace_lineck.proofs.GrantFrame.{passed_at, stage-same, fits-stays, stages-stay, passed-stays, fetched-stays, reply-stays}
 use Rattle.ace_lineck.proofs.Bursts.{sent_few, short-apart, beat_of, short-before, whole-now, short-now}
 
-otherwise_of : {A : Type 0} → (b : Bool) (t u : A) → b ≡ false → (if b then t else u) ≡ u
+pub otherwise_of : {A : Type 0} → (b : Bool) (t u : A) → b ≡ false → (if b then t else u) ≡ u
 otherwise_of true t u e = cc
 otherwise_of false t u e = refl
 

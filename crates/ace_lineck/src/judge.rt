@@ -10,6 +10,7 @@ ghost use Rattle.ace_lineck.specs.Records.{IsNext, issues};
 ghost use Rattle.ace_lineck.specs.Kept.{IsFailure};
 
 use crate::grant_rules::{keeps_grant, keeps_snoop, keeps_transfer};
+use crate::memory_writes::{keeps_data, keeps_write};
 use crate::record::LineRecord;
 use crate::replies::{keeps_bits, keeps_read_end, keeps_reply};
 use crate::rules::{
@@ -82,6 +83,10 @@ pub fn judge(
             23,
             None,
         ),
+        Event::M { line, .. } => {
+            let last = unless(keeps_data(kept, target, &line), 25, None);
+            unless(keeps_write(kept, header, target, failed), 24, last)
+        }
         Event::B { .. } => unless(keeps_written(target), 26, None),
         Event::Wk { port, st } => unless(keeps_write_end(kept, target, port, st), 28, None),
         Event::S { port, st, .. } => unless(keeps_silence(kept, target, port, st), 29, None),
@@ -92,6 +97,7 @@ pub fn judge(
         Event::D { port, strobe, x, .. } => {
             unless(keeps_store(kept, target, port, strobe, x), 32, None)
         }
-        _ => None,
+        Event::Op { .. } => None,
+        Event::Mem { .. } => None,
     }
 }
