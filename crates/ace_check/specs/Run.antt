@@ -13,7 +13,11 @@ use Rattle.ace_model.specs.Coherent.{Coherent}
 use Rattle.ace_model.specs.ExclusiveHolds.{ExclusiveHolds}
 use Rattle.ace_model.specs.BarrierHolds.{BarrierHolds}
 use Rattle.ace_model.specs.DvmHolds.{DvmHolds}
-use Rattle.ace_portck.specs.Targets.{Recording}
+use Rattle.ace_portck.specs.declared.target.Target.{Target}
+use Rattle.ace_portck.specs.Targets.{Recording, target_of}
+use Rattle.ace_portck.specs.Unfinished.{RisesAt}
+use Rattle.ace_lineck.specs.Stands.{BeginsLine}
+use Rattle.ace_sysck.specs.Registrations.{IsNewLock}
 use Rattle.ace_portck.specs.Stands as ports
 use Rattle.ace_lineck.specs.Stands as lines
 use Rattle.ace_sysck.specs.Stands as system
@@ -39,6 +43,18 @@ pub record Stands (c : Checker) (h : Header) (past : Trace) (b : Option Break) :
   pub few : length past < 2 ^ 64 - 1
   pub broken : c.broken ≡ b
   pub fits : AllByRecursion FitsFields past
+
+-- The event may be taken: it breaks no rule, names no line too many, and the target is its own.
+pub record MayTake (c : Checker) (h : Header) (past : Trace) (e : Event) (t : Target) : Type 0 where
+  pub stands : Stands c h past None
+  pub target : t ≡ target_of h past e
+  pub fine : least_broken h past e ≡ None
+  pub fits : FitsFields e
+
+-- where there may be no memory for an event: at an AC with which more snoops of its port are under way than ever before, at the first AR
+-- or AW of a line and a MEM, and at the first exclusive grant of a line
+abbrev pub MayLackMemory : Header → Trace → Event → Type 0
+MayLackMemory h past e = RisesAt past e ⊎ BeginsLine past e (target_of h past e) ⊎ IsNewLock past e
 
 -- the answer is the one to this event: Fine where the event breaks no rule and names no line too many; Broken with its number, from
 -- 1, and the least rule that it breaks

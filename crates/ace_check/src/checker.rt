@@ -1,7 +1,7 @@
-ghost use Rattle.std.specs.Prelude.{◌≡◌};
-ghost use Rattle.std.specs.Prelude.{ℕ};
+ghost use Rattle.std.specs.Prelude.{◌≡◌, Option};
+ghost use Rattle.ace_model.specs.Shares.{lesser};
 
-use ace_event::{Event, Header};
+use ace_event::{Channel, Event, Header, Line};
 use ace_lineck::LineCheck;
 use ace_model::Break;
 use ace_portck::{PortCheck, Target};
@@ -50,6 +50,9 @@ impl Checker {
     ghost use Rattle.ace_model.specs.declared.breaks.Break.{Break};
     ghost use Rattle.ace_model.specs.Trace.{Trace};
     ghost use Rattle.ace_model.specs.Accepted.{least_broken};
+    ghost use Rattle.std.specs.Prelude.{Option};
+    ghost use Rattle.ace_model.specs.Copies.{memory_of};
+    ghost use Rattle.ace_portck.specs.Targets.{target_of};
     ghost use Rattle.ace_check.specs.Run.{Stands, IsAnswer, IsSound, goes_over, past_after, break_after, MayLackMemory};
 
     /// The checker of the empty trace under this header. Its only refusal is `NoMemory`.
@@ -60,9 +63,7 @@ impl Checker {
         let Ok(ports) = PortCheck::new(alloc, header) else {
             return Err(CheckErr::NoMemory);
         };
-        let Ok(lines) = LineCheck::new(alloc, header) else {
-            return Err(CheckErr::NoMemory);
-        };
+        let lines = LineCheck::new(alloc, header);
         let Ok(system) = SysCheck::new(alloc, header) else {
             return Err(CheckErr::NoMemory);
         };
@@ -105,7 +106,28 @@ impl Checker {
         if self.goes_over(event, &target) {
             return Err(CheckErr::TooManyLines);
         }
-        self.take(event, &target, failed)
+        self.take(event, &target)
+    }
+
+    /// What the next event belongs to: its transaction with how far that has come, its snoop, its line.
+    pub fn target(&self, event: &Event) -> Target
+        ensures { (h : Header) (past : Trace) (b : Option Break) → Stands self.now h past b → result ≡ target_of h past event.now }
+    {
+        self.ports.target(event)
+    }
+
+    /// Memory of the line.
+    pub fn memory(&self, line: u32) -> Line
+        ensures { (h : Header) (past : Trace) (b : Option Break) → Stands self.now h past b → result ≡ memory_of past line }
+    {
+        self.lines.memory(line)
+    }
+
+    /// How many events were answered `Fine`.
+    pub fn count(&self) -> u64
+        ensures { (h : Header) (past : Trace) (b : Option Break) → Stands self.now h past b → result ≡ length past }
+    {
+        self.count
     }
 }
 
@@ -165,15 +187,15 @@ impl Checker {
     }
 
     /// Takes an event that breaks no rule, once there is room for it in each share.
-    fn take(&mut self, event: &Event, target: &Target, failed: bool) -> Result<Step, CheckErr>
+    fn take(&mut self, event: &Event, target: &Target) -> Result<Step, CheckErr>
         ensures fine { OnOk result (result ≡ Ok Step.Fine) }
         ensures err { OnErr result (result ≡ Err CheckErr.NoMemory) }
-        ensures stands { (h : Header) (past : Trace) → MayTake self.old h past event.now target.now failed → length past < 2 ^ 64 - 2
+        ensures stands { (h : Header) (past : Trace) → MayTake self.old h past event.now target.now → length past < 2 ^ 64 - 2
             → OnOk result (Stands self.new h (event.now ∷ past) None) }
-        ensures stays { (h : Header) (past : Trace) → MayTake self.old h past event.now target.now failed → OnErr result (Stands self.new h past None) }
-        ensures cause { (h : Header) (past : Trace) → MayTake self.old h past event.now target.now failed → OnErr result (MayLackMemory h past event.now) }
+        ensures stays { (h : Header) (past : Trace) → MayTake self.old h past event.now target.now → OnErr result (Stands self.new h past None) }
+        ensures cause { (h : Header) (past : Trace) → MayTake self.old h past event.now target.now → OnErr result (MayLackMemory h past event.now) }
     {
-        if self.ports.ready(event, target).is_err() {
+        if self.ports.ready(event).is_err() {
             return Err(CheckErr::NoMemory);
         }
         if self.lines.ready(event, target).is_err() {
@@ -182,8 +204,8 @@ impl Checker {
         if self.system.ready(event, target).is_err() {
             return Err(CheckErr::NoMemory);
         }
-        self.ports.apply(event, target);
-        self.lines.apply(event, target, failed);
+        self.ports.apply(event);
+        self.lines.apply(event, target);
         self.system.apply(event, target);
         self.count = self.count.wrapping_add(1);
         Ok(Step::Fine)

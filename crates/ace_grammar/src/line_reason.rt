@@ -89,8 +89,8 @@ fn find_space(bytes: &[u8]) -> Option<usize>
     bytes.iter().position(|byte| *byte == b' ')
 }
 
-/// The first field, and what is behind its space.
-fn cut_field(bytes: &[u8]) -> (&[u8], Option<&[u8]>)
+/// The first field of what is left of a line, and what is behind its space, if it has one.
+pub fn cut_field(bytes: &[u8]) -> (&[u8], Option<&[u8]>)
     ensures { slice_split (λ byte. byte == 32) bytes.now ≡ result.0.now ∷ parts (option_map (λ rest. rest.now) result.1) }
 {
     match find_space(bytes) {

@@ -177,10 +177,12 @@ module _ (h : Header) (past : Trace) (e : Event) (p : ℕ) (c : Channel) (accept
           let a = and_parts (nat_eq x.port p && same_channel x.chan c) (is_outstanding h past x) t in
           let b = and_parts (nat_eq x.port p) (same_channel x.chan c) a.0 in
           record { port = eqb-true x.port p b.0; chan = same_channel-is x.chan c b.1 }
+
       stay : (a o : Bool) → (a && o) ≡ (a && (o && true))
       stay true true = refl
       stay true false = refl
       stay false o = refl
+
       tests : (a b o t : Bool) → ((a && b) && o) ≡ false → ((a && b) && (o && not t)) ≡ false
       tests true true o t f = rw f refl
       tests true false o t f = refl
@@ -192,7 +194,7 @@ module _ (h : Header) (past : Trace) (e : Event) (p : ℕ) (c : Channel) (accept
   new_out (Some y) new =
       let f = no_new (length past) e p c y still new in
       let none : filter (is_pending h (e ∷ past) p c) (transactions past) ++ filter (is_pending h (e ∷ past) p c) (y ∷ [])
-          ≡ filter (is_pending h (e ∷ past) p c) (transactions past) = rw f (append-nil (filter (is_pending h (e ∷ past) p c) (transactions past))) in
+      ≡ filter (is_pending h (e ∷ past) p c) (transactions past) = rw f (append-nil (filter (is_pending h (e ∷ past) p c) (transactions past))) in
       sym (filter-append (is_pending h (e ∷ past) p c) (transactions past) (y ∷ []) ∙ none)
 
   pub lists_stay : (list : List Progress) (waiting : List ℕ) → ListsStand h past p c list waiting → ListsStand h (e ∷ past) p c list waiting
@@ -209,16 +211,17 @@ module _ (h : Header) (past : Trace) (e : Event) (p : ℕ) (c : Channel) (accept
       }
 
 -- what is kept of them stands
-pub pending_stays : (h : Header) (past : Trace) (e : Event) (p : ℕ) (c : Channel) (s : Pending) → IsAccepted h (e ∷ past) → moves_channel e c ≡ false
+pub pending_elsewhere : (h : Header) (past : Trace) (e : Event) (p : ℕ) (c : Channel) (s : Pending) → IsAccepted h (e ∷ past) → moves_pending e p c ≡ false
     → PendingStands h past p c s → PendingStands h (e ∷ past) p c s
-pending_stays h past e p c s accepted still stands = record {
-  lists = lists_stay h past e p c accepted (idle (port_of e)) s.list.items s.waiting.items stands.lists;
+pending_elsewhere h past e p c s accepted still stands = record {
+  lists = lists_stay h past e p c accepted still s.list.items s.waiting.items stands.lists;
   roomy = stands.roomy;
 }
+
+pub pending_stays : (h : Header) (past : Trace) (e : Event) (p : ℕ) (c : Channel) (s : Pending) → IsAccepted h (e ∷ past) → moves_channel e c ≡ false
+    → PendingStands h past p c s → PendingStands h (e ∷ past) p c s
+pending_stays h past e p c s accepted still stands = pending_elsewhere h past e p c s accepted (idle (is_some_and (port_of e) (λ q. nat_eq p q))) stands
   where
-    idle : (o : Option ℕ) → (is_some_and o (λ q. nat_eq p q) && moves_channel e c) ≡ false
-    idle o = rw still (none (is_some_and o (λ q. nat_eq p q)))
-      where
-        none : (b : Bool) → (b && false) ≡ false
-        none true = refl
-        none false = refl
+    idle : (b : Bool) → (b && moves_channel e c) ≡ false
+    idle true = still
+    idle false = refl

@@ -18,7 +18,7 @@ pub(crate) fn digit(n: u8) -> u8
 
 impl TextBuf {
     /// So many digits of the number, the most significant first.
-    pub(crate) fn push_digits(&mut self, count: u32, n: u128)
+    pub fn push_digits(&mut self, count: u32, n: u128)
         requires count { count ≤ 32 }
         requires room { length self.old + count ≤ 4096 }
         ensures value { self.new ≡ self.old ++ hex_text count n }
@@ -32,7 +32,7 @@ impl TextBuf {
     }
 
     /// A space and so many digits of a number.
-    pub(crate) fn push_number(&mut self, count: u32, n: u128)
+    pub fn push_number(&mut self, count: u32, n: u128)
         requires count { count ≤ 32 }
         requires room { length self.old + 1 + count ≤ 4096 }
         ensures value { self.new ≡ self.old ++ 32 ∷ hex_text count n }
@@ -44,7 +44,7 @@ impl TextBuf {
 
     /// A space and a number of one digit.
     #[tactic(auto, using(crate::proofs::Digits::one_digit))]
-    pub(crate) fn push_digit(&mut self, n: u8)
+    pub fn push_digit(&mut self, n: u8)
         requires digit { n < 16 }
         requires room { length self.old + 2 ≤ 4096 }
         ensures value { self.new ≡ self.old ++ 32 ∷ hex_text 1 n }
@@ -120,7 +120,7 @@ impl TextBuf {
     }
 
     /// A space and the digits of a line.
-    pub(crate) fn push_line(&mut self, line: &Line)
+    pub fn push_line(&mut self, line: &Line)
         requires room { length self.old + 129 ≤ 4096 }
         ensures value { self.new ≡ self.old ++ 32 ∷ line_digits line.now }
         ensures len { length self.new ≡ length self.old + 129 }
