@@ -24,11 +24,7 @@ use ace_portck::Target;
 fn unless(kept: bool, number: u8, rest: Option<u8>) -> Option<u8>
     ensures { result ≡ (if kept then rest else Some number) }
 {
-    if kept {
-        rest
-    } else {
-        Some(number)
-    }
+    if kept { rest } else { Some(number) }
 }
 
 /// Of an AR or AW.
@@ -72,17 +68,9 @@ pub fn judge(
         Event::R { resp, word, .. } => {
             let last = unless(keeps_reply(kept, target, word), 20, None);
             let next = unless(keeps_bits(kept, header, target, resp), 19, last);
-            unless(
-                keeps_transfer(kept, header, target, failed, resp),
-                18,
-                next,
-            )
+            unless(keeps_transfer(kept, header, target, failed, resp), 18, next)
         }
-        Event::Rk { port, st } => unless(
-            keeps_read_end(kept, target, failed, port, st),
-            23,
-            None,
-        ),
+        Event::Rk { port, st } => unless(keeps_read_end(kept, target, failed, port, st), 23, None),
         Event::M { line, .. } => {
             let last = unless(keeps_data(kept, target, &line), 25, None);
             unless(keeps_write(kept, header, target, failed), 24, last)
@@ -94,9 +82,12 @@ pub fn judge(
             let last = unless(keeps_load(kept, port, w, word), 31, None);
             unless(keeps_hold(kept, port), 30, last)
         }
-        Event::D { port, strobe, x, .. } => {
-            unless(keeps_store(kept, target, port, strobe, x), 32, None)
-        }
+        Event::D {
+            port,
+            strobe,
+            x,
+            ..
+        } => { unless(keeps_store(kept, target, port, strobe, x), 32, None) }
         Event::Op { .. } => None,
         Event::Mem { .. } => None,
     }

@@ -16,6 +16,8 @@ mod replies;
 mod rules;
 mod stages;
 mod step;
+#[cfg(test)]
+mod tests;
 mod uses;
 
 pub use grant::{Grant, Passed};

@@ -59,8 +59,8 @@ returns-in-R c past s f =
     ∙ ruled c.keeps_transfer.result (k18_line h past ev) 18 c.unless-next.result (if k19 h past ev then if k20 h past ev then None else Some 20 else Some 19)
     (c.keeps_transfer.ensures past e.port e.id e.last e.word step f)
     (λ due. c.unless-next.ensures
-        ∙ ruled c.keeps_bits.result (k19 h past ev) 19 c.unless-last-in-R.result (if k20 h past ev then None else Some 20) (c.keeps_bits.ensures past e.port e.id e.last e.word step due)
-        (λ kept. c.unless-last-in-R.ensures ∙ ruled c.keeps_reply.result (k20 h past ev) 20 None None (c.keeps_reply.ensures h past e.port e.id e.resp e.last step due) (λ kept. refl)))
+    ∙ ruled c.keeps_bits.result (k19 h past ev) 19 c.unless-last-in-R.result (if k20 h past ev then None else Some 20) (c.keeps_bits.ensures past e.port e.id e.last e.word step due)
+    (λ kept. c.unless-last-in-R.ensures ∙ ruled c.keeps_reply.result (k20 h past ev) 20 None None (c.keeps_reply.ensures h past e.port e.id e.resp e.last step due) (λ kept. refl)))
     ∙ ap (least_of line_rules h past) (sym e.is)
 
 pub returns-in-M : goal.returns-in-M
