@@ -59,6 +59,7 @@ changed s t r e line x c st fine on new room known = record {
   where
     accepted : IsAccepted r.header (e ∷ r.past)
     accepted = (st.accepted, fine)
+
     by : (l : ℕ) → (l ≡ line) ⊎ (l ≡ line → ⊥) → LineStands r.header (e ∷ r.past) l (record_of t l)
     by l (inl is) =
         let one : record_of t l ≡ x = ap (record_of t) is ∙ ap (λ v. unwrap_or v t.empty) c.here in
@@ -67,6 +68,7 @@ changed s t r e line x c st fine on new room known = record {
         let one : record_of t l ≡ record_of s l = ap (λ v. unwrap_or v t.empty) (c.others l off) ∙ ap (unwrap_or (get nat_eq s.lines l)) c.empty in
         let apart : IsOff r.header r.past e l = λ q. let f : Some line ≡ Some l = sym on ∙ q in off cc in
         subst (LineStands r.header (e ∷ r.past) l) (sym one) (line-stays r.header r.past e accepted l (record_of s l) apart (st.lines l))
+
     rooms : (l : ℕ) (y : LineRecord) → get nat_eq t.lines l ≡ Some y → (l ≡ line) ⊎ (l ≡ line → ⊥) → length y.holders.items ≡ r.header.ports
     rooms l y is (inl same) =
         let one : Some x ≡ Some y = sym c.here ∙ ap (get nat_eq t.lines) (sym same) ∙ is in
@@ -116,6 +118,7 @@ made s t r line x c none known f st = record {
   where
     fresh : IsFresh r.header.ports x
     fresh = subst (λ (v : Header). IsFresh v.ports x) st.header f
+
     by : (l : ℕ) → (l ≡ line) ⊎ (l ≡ line → ⊥) → LineStands r.header r.past l (record_of t l)
     by l (inl is) =
         let one : record_of t l ≡ x = ap (record_of t) is ∙ ap (λ v. unwrap_or v t.empty) c.here in
@@ -124,6 +127,7 @@ made s t r line x c none known f st = record {
     by l (inr off) =
         let one : record_of t l ≡ record_of s l = ap (λ v. unwrap_or v t.empty) (c.others l off) ∙ ap (unwrap_or (get nat_eq s.lines l)) c.empty in
         subst (LineStands r.header r.past l) (sym one) (st.lines l)
+
     rooms : (l : ℕ) (y : LineRecord) → get nat_eq t.lines l ≡ Some y → (l ≡ line) ⊎ (l ≡ line → ⊥) → length y.holders.items ≡ r.header.ports
     rooms l y is (inl same) =
         let one : Some x ≡ Some y = sym c.here ∙ ap (get nat_eq t.lines) (sym same) ∙ is in
@@ -145,6 +149,7 @@ has-record s r e t m l line none = by (begins_line e) refl
   where
     on : line_in r.header r.past e ≡ Some l
     on = ap (λ (v : Target). v.line) (sym m.target) ∙ line
+
     by : (b : Bool) → begins_line e ≡ b → ⊥
     by false is =
         let known = line-known r.header r.past l e (m.stands.accepted, m.kept) is on in
@@ -181,11 +186,11 @@ pub applied-then : (s t : LineCheck) (r : Recording) (e : Event) (g : Target) �
 applied-then s t r e g m l line x y step new room grows c known =
     changed s t r e l y c m.stands m.kept (ap (λ (v : Target). v.line) (sym m.target) ∙ line) new (room ∙ step.room)
     (let n : length (known_lines (e ∷ r.past)) ≡ s.known + 1 = rw grows at (counts s r e g m l line x y step.stands new) in
-        let low = few-known r.past in
-        let count = m.stands.known in
-        let few = m.few in
-        let fits : (s.known + 1) % 18446744073709551616 ≡ s.known + 1 = omega arith in
-        known ∙ fits ∙ sym n)
+    let low = few-known r.past in
+    let count = m.stands.known in
+    let few = m.few in
+    let fits : (s.known + 1) % 18446744073709551616 ≡ s.known + 1 = omega arith in
+    known ∙ fits ∙ sym n)
 
 pub applied-else : (s t : LineCheck) (r : Recording) (e : Event) (g : Target) → MayApply s r e g → (l : ℕ) → g.line ≡ Some l → (x y : LineRecord) → IsRecordStep r.header r.past l e g x
     → LineStands r.header (e ∷ r.past) l y → length y.holders.items ≡ length x.holders.items → (is_unknown x.used && not (is_unknown y.used)) ≡ false → IsChanged s t l y

@@ -80,6 +80,7 @@ known-counts h past e l line = by (issued (length past) e) refl
     never : (b : Bool) → (b && not b) ≡ false
     never true = refl
     never false = refl
+
     by : (o : Option Transaction) → issued (length past) e ≡ o
         → length (add_line past o (known_lines past)) ≡ (if is_unknown (use_of past l) && not (is_unknown (newest_use o l (use_of past l))) then length (known_lines past) + 1 else length (known_lines past))
     by None is = let none = never (is_unknown (use_of past l)) in rw none refl
@@ -180,14 +181,14 @@ module _ (h : Header) (past : Trace) (l : ℕ) where
       let at = Some-injective addr l line in
       subst (λ v. is_known past v ≡ true) at
       (elim (or_cases (may_store h past p addr) _ (accepted_keeps h past (D p addr strobe x data') a).rule_32) [
-          | inl may ↦ known-held h past a.0 p addr (unique-valid (state_of h past p addr) (and_parts (is_unique (state_of h past p addr)) _ may).0)
-          | inr makes ↦
-              let wants = (and_parts (wants_store h past p addr) _ (and_parts (wants_store h past p addr && _) _ makes).0).0 in
-              let y = some_issued-is past (λ y. awaits_store h past p addr y && not (has_store h past y.port y.id)) wants in
-              let awaits = (and_parts (awaits_store h past p addr y.0) _ y.2).0 in
-              let out = (and_parts ((nat_eq y.0.port p && is_make_unique_on y.0 addr) && is_outstanding h past y.0) _ awaits).0 in
-              let two = (and_parts (nat_eq y.0.port p && is_make_unique_on y.0 addr) _ out).0 in
-              known-issued past y.0 addr y.1 (make_unique-on y.0 addr (and_parts (nat_eq y.0.port p) _ two).1)
+        | inl may ↦ known-held h past a.0 p addr (unique-valid (state_of h past p addr) (and_parts (is_unique (state_of h past p addr)) _ may).0)
+        | inr makes ↦
+            let wants = (and_parts (wants_store h past p addr) _ (and_parts (wants_store h past p addr && _) _ makes).0).0 in
+            let y = some_issued-is past (λ y. awaits_store h past p addr y && not (has_store h past y.port y.id)) wants in
+            let awaits = (and_parts (awaits_store h past p addr y.0) _ y.2).0 in
+            let out = (and_parts ((nat_eq y.0.port p && is_make_unique_on y.0 addr) && is_outstanding h past y.0) _ awaits).0 in
+            let two = (and_parts (nat_eq y.0.port p && is_make_unique_on y.0 addr) _ out).0 in
+            known-issued past y.0 addr y.1 (make_unique-on y.0 addr (and_parts (nat_eq y.0.port p) _ two).1)
       ])
   line-known (Op p k res) a none line = cc
   line-known (Ar p i addr code dom bar lock) a none line = cc

@@ -34,7 +34,7 @@ reply-kept h past l None s x g addr reads some = let bad : None ≡ Some x = sym
 reply-kept h past l (Some g) s x is addr reads some =
     let one : g.transaction ≡ x = Some-injective g.transaction x (sym s.granted ∙ is) in
     let here : settled_reply past x.addr x ≡ Some (reply_of past x) = rw (reads, ne_eqb (transfers past x.port x.id) 0 some)
-        (newer-some (option_and_then (copy_at_answer past x.addr) (first_sender past x.addr)) (memory_at_first_beat past x.port x.id x.addr)) in
+    (newer-some (option_and_then (copy_at_answer past x.addr) (first_sender past x.addr)) (memory_at_first_beat past x.port x.id x.addr)) in
     s.reply ∙ ap (λ v. settled_reply past v g.transaction) (sym addr) ∙ ap (settled_reply past x.addr) one ∙ here
 
 -- the words with the fourth are those of the reply

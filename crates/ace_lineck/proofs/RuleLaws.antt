@@ -219,6 +219,7 @@ module _ (h : Header) (past : Trace) (t : Target) (x : LineRecord) where
                 let copy : (holder_at x.holders.items p).copy ≡ copy_of past z.port z.addr = (stands (W p strb last word) s z.addr on).holders.copy p ∙ ap (λ v. copy_of past v z.addr) (sym port) in
                 rw copy refl
           ]
+
       by : (o : Option Transaction) → next_write past p ≡ o
           → is_none_or (option_map (progress_of h past) o) (λ y. implies (updates_memory y.transaction) (word == word_of (holder_at x.holders.items p).copy (next_write_beat past p)))
           ≡ is_none_or o (fits_copy past (next_write_beat past p) word)

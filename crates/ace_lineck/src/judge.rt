@@ -10,6 +10,7 @@ ghost use Rattle.ace_lineck.specs.Records.{IsNext, issues};
 ghost use Rattle.ace_lineck.specs.Kept.{IsFailure};
 
 use crate::grant_rules::{keeps_grant, keeps_snoop, keeps_transfer};
+use crate::memory_writes::{keeps_data, keeps_write};
 use crate::record::LineRecord;
 use crate::replies::{keeps_bits, keeps_read_end, keeps_reply};
 use crate::rules::{
@@ -23,11 +24,7 @@ use ace_portck::Target;
 fn unless(kept: bool, number: u8, rest: Option<u8>) -> Option<u8>
     ensures { result ≡ (if kept then rest else Some number) }
 {
-    if kept {
-        rest
-    } else {
-        Some(number)
-    }
+    if kept { rest } else { Some(number) }
 }
 
 /// Of an AR or AW.
@@ -71,17 +68,13 @@ pub fn judge(
         Event::R { resp, word, .. } => {
             let last = unless(keeps_reply(kept, target, word), 20, None);
             let next = unless(keeps_bits(kept, header, target, resp), 19, last);
-            unless(
-                keeps_transfer(kept, header, target, failed, resp),
-                18,
-                next,
-            )
+            unless(keeps_transfer(kept, header, target, failed, resp), 18, next)
         }
-        Event::Rk { port, st } => unless(
-            keeps_read_end(kept, target, failed, port, st),
-            23,
-            None,
-        ),
+        Event::Rk { port, st } => unless(keeps_read_end(kept, target, failed, port, st), 23, None),
+        Event::M { line, .. } => {
+            let last = unless(keeps_data(kept, target, &line), 25, None);
+            unless(keeps_write(kept, header, target, failed), 24, last)
+        }
         Event::B { .. } => unless(keeps_written(target), 26, None),
         Event::Wk { port, st } => unless(keeps_write_end(kept, target, port, st), 28, None),
         Event::S { port, st, .. } => unless(keeps_silence(kept, target, port, st), 29, None),
@@ -89,9 +82,13 @@ pub fn judge(
             let last = unless(keeps_load(kept, port, w, word), 31, None);
             unless(keeps_hold(kept, port), 30, last)
         }
-        Event::D { port, strobe, x, .. } => {
-            unless(keeps_store(kept, target, port, strobe, x), 32, None)
-        }
-        _ => None,
+        Event::D {
+            port,
+            strobe,
+            x,
+            ..
+        } => { unless(keeps_store(kept, target, port, strobe, x), 32, None) }
+        Event::Op { .. } => None,
+        Event::Mem { .. } => None,
     }
 }

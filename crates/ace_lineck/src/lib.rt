@@ -10,11 +10,14 @@ mod judge;
 mod kinds;
 mod lines;
 mod memory;
+mod memory_writes;
 mod record;
 mod replies;
 mod rules;
 mod stages;
 mod step;
+#[cfg(test)]
+mod tests;
 mod uses;
 
 pub use grant::{Grant, Passed};

@@ -3,7 +3,7 @@
 use crate::judge::judge;
 use crate::record::{LineRecord, NoMemory, empty_record, new_record};
 use crate::step::advance;
-use ace_event::{Channel, Event, Header};
+use ace_event::{Channel, Event, Header, Line};
 use ace_portck::Target;
 use indexmap::IndexMap;
 use std::alloc::Global;
@@ -25,6 +25,7 @@ impl LineCheck {
     ghost use Rattle.ace_event.specs.Ports.{IsHeader};
     ghost use Rattle.ace_model.specs.Accepted.{least_of};
     ghost use Rattle.ace_model.specs.AddressRules.{k1};
+    ghost use Rattle.ace_model.specs.Copies.{memory_of};
     ghost use Rattle.ace_model.specs.Grants.{granted};
     ghost use Rattle.ace_model.specs.Shares.{line_rules};
     ghost use Rattle.ace_model.specs.Lines.{is_known, known_lines};
@@ -136,6 +137,13 @@ impl LineCheck {
         ensures { (r : Recording) → Stands self.now r → result ≡ option_map name_of (granted r.header r.past line) }
     {
         self.record(Some(line)).granted_name()
+    }
+
+    /// What memory has of the line.
+    pub fn memory(&self, line: u32) -> Line
+        ensures { (r : Recording) → Stands self.now r → result ≡ memory_of r.past line }
+    {
+        self.record(Some(line)).memory
     }
 
     /// How many lines the line transactions have named.

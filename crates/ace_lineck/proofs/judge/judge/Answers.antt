@@ -59,6 +59,17 @@ returns-in-R c past s f =
     ∙ ruled c.keeps_transfer.result (k18_line h past ev) 18 c.unless-next.result (if k19 h past ev then if k20 h past ev then None else Some 20 else Some 19)
     (c.keeps_transfer.ensures past e.port e.id e.last e.word step f)
     (λ due. c.unless-next.ensures
-        ∙ ruled c.keeps_bits.result (k19 h past ev) 19 c.unless-last-in-R.result (if k20 h past ev then None else Some 20) (c.keeps_bits.ensures past e.port e.id e.last e.word step due)
-        (λ kept. c.unless-last-in-R.ensures ∙ ruled c.keeps_reply.result (k20 h past ev) 20 None None (c.keeps_reply.ensures h past e.port e.id e.resp e.last step due) (λ kept. refl)))
+    ∙ ruled c.keeps_bits.result (k19 h past ev) 19 c.unless-last-in-R.result (if k20 h past ev then None else Some 20) (c.keeps_bits.ensures past e.port e.id e.last e.word step due)
+    (λ kept. c.unless-last-in-R.ensures ∙ ruled c.keeps_reply.result (k20 h past ev) 20 None None (c.keeps_reply.ensures h past e.port e.id e.resp e.last step due) (λ kept. refl)))
+    ∙ ap (least_of line_rules h past) (sym e.is)
+
+pub returns-in-M : goal.returns-in-M
+returns-in-M c past s f =
+    let e = c.in-M in
+    let h = c.args.header.now in
+    let ev = M e.port e.chan e.id e.line in
+    let step : IsNext h past ev c.args.target.now c.args.kept.now = subst (λ v. IsNext h past v c.args.target.now c.args.kept.now) e.is s in
+    c.unless-in-M.ensures
+    ∙ ruled c.keeps_write.result (k24 h past ev) 24 c.unless-last-in-M.result (if k25 h past ev then None else Some 25) (c.keeps_write.ensures past e.port e.chan e.id e.line step f)
+    (λ kept. c.unless-last-in-M.ensures ∙ ruled c.keeps_data.result (k25 h past ev) 25 None None (c.keeps_data.ensures h past e.port e.chan e.id step kept) (λ kept. refl))
     ∙ ap (least_of line_rules h past) (sym e.is)
