@@ -1,8 +1,9 @@
 -- What a checker stands for, and what it answers to an event.
-use Rattle.std.specs.Prelude.{◌+◌, ◌≡◌, ◌≤◌, ◌<◌, ◌-◌, ◌^◌, ◌∷◌, ◌⊎◌, ◌&&◌, ℕ, Bool, true, false, not, nat_le, Option, Some, None, length, MatchOption, ⊤}
+use Rattle.std.specs.Prelude.{◌+◌, ◌≡◌, ◌≤◌, ◌<◌, ◌-◌, ◌^◌, ◌∷◌, ◌⊎◌, ◌&&◌, ◌==◌, ℕ, Bool, true, false, not, nat_le, Option, Some, None, length, MatchOption, ⊤}
 use Rattle.std.specs.List.{AllByRecursion}
 use Rattle.ace_event.specs.Range.{FitsFields}
 use Rattle.ace_event.specs.declared.event.Event.{Event}
+use Rattle.ace_event.specs.declared.event.Event.TheVariants.{Ar, Aw}
 use Rattle.ace_event.specs.declared.header.Header.{Header}
 use Rattle.ace_model.specs.declared.breaks.Break.{Break}
 use Rattle.ace_model.specs.Trace.{Trace, is_some_and}
@@ -28,6 +29,16 @@ use Rattle.ace_check.specs.declared.checker.Step.TheVariants.{Fine, Broken}
 -- the most lines that the transactions of a trace may name
 abbrev pub most_lines : ℕ
 most_lines = 4096
+
+-- it is K1
+abbrev pub is_first : Option ℕ → Bool
+is_first rule = is_some_and rule (λ k. k == 1)
+
+-- the event issues a transaction
+abbrev pub begins : Event → Bool
+begins (Ar p i addr snoop dom bar lock) = true
+begins (Aw p i addr snoop dom bar) = true
+begins _ = false
 
 -- the event is an AR or AW that names one line more than a trace may have
 abbrev pub goes_over : Trace → Event → Bool

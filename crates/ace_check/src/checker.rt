@@ -1,6 +1,8 @@
 ghost use Rattle.std.specs.Prelude.{◌≡◌, Option};
 ghost use Rattle.ace_model.specs.Shares.{lesser};
+ghost use Rattle.ace_check.specs.Run.{begins, is_first};
 
+use ace_event::laws::every_event_fits;
 use ace_event::{Channel, Event, Header, Line};
 use ace_lineck::LineCheck;
 use ace_model::Break;
@@ -136,41 +138,52 @@ impl Checker {
     ghost use Rattle.ace_event.specs.declared.event.Event.{Event};
     ghost use Rattle.ace_event.specs.declared.header.Header.{Header};
     ghost use Rattle.ace_model.specs.declared.breaks.Break.{Break};
-    ghost use Rattle.ace_model.specs.Trace.{Trace, is_some_and};
+    ghost use Rattle.ace_model.specs.Trace.{Trace};
     ghost use Rattle.ace_model.specs.Accepted.{least_broken};
     ghost use Rattle.ace_model.specs.Lines.{has_failed_on};
-    ghost use Rattle.ace_portck.specs.Targets.{target_of, line_in};
+    ghost use Rattle.ace_portck.specs.Targets.{target_of};
+    ghost use Rattle.ace_lineck.specs.Kept.{IsFailure};
     ghost use Rattle.ace_check.specs.Run.{Stands, MayTake, goes_over, MayLackMemory};
+
+    /// The granted transaction of the line is an exclusive store that failed.
+    fn has_failed_on(&self, line: u32) -> bool
+        ensures { (h : Header) (past : Trace) (b : Option Break) → Stands self.now h past b → result ≡ has_failed_on h past line }
+    {
+        let Some((port, chan, id)) = self.lines.granted(line) else {
+            return false;
+        };
+        match chan {
+            Channel::Read => self.system.failed(port, id),
+            Channel::Write => false,
+        }
+    }
 
     /// The granted transaction of the event's line is an exclusive store that failed.
     fn has_failed(&self, target: &Target) -> bool
-        ensures { (h : Header) (past : Trace) (e : Event) (b : Option Break) → Stands self.now h past b → target.now ≡ target_of h past e
-            → result ≡ is_some_and (line_in h past e) (has_failed_on h past) }
+        ensures { (h : Header) (past : Trace) (b : Option Break) → Stands self.now h past b → IsFailure h past target.now result }
     {
         match target.line {
             None => false,
-            Some(line) => match self.lines.granted(line) {
-                Some((port, Channel::Read, id)) => self.system.failed(port, id),
-                _ => false,
-            },
+            Some(line) => self.has_failed_on(line),
         }
     }
 
     /// The least rule that the event breaks.
     fn least_broken(&self, event: &Event, target: &Target, failed: bool) -> Option<u8>
         ensures { (h : Header) (past : Trace) (b : Option Break) → Stands self.now h past b → target.now ≡ target_of h past event.now
-            → failed ≡ is_some_and (line_in h past event.now) (has_failed_on h past) → result ≡ least_broken h past event.now }
+            → IsFailure h past target.now failed → result ≡ least_broken h past event.now }
     {
-        match self.ports.test(event, target) {
-            Some(1) => Some(1),
-            rule => lesser(
-                rule,
-                lesser(
-                    self.lines.test(event, target, failed),
-                    self.system.test(event, target),
-                ),
-            ),
+        let rule = self.ports.test(event, target);
+        if is_first(rule) {
+            return rule;
         }
+        lesser(
+            rule,
+            lesser(
+                self.lines.test(event, target, failed),
+                self.system.test(event, target),
+            ),
+        )
     }
 
     /// The event names one line more than a trace may have.
@@ -178,12 +191,10 @@ impl Checker {
         ensures { (h : Header) (past : Trace) (b : Option Break) → Stands self.now h past b → target.now ≡ target_of h past event.now
             → result ≡ goes_over past event.now }
     {
-        match (event, target.line) {
-            (Event::Ar { .. } | Event::Aw { .. }, Some(line)) => {
-                !self.lines.knows(line) && self.lines.lines() >= MOST_LINES
-            }
-            _ => false,
-        }
+        let Some(line) = target.line else {
+            return false;
+        };
+        begins(event) && !self.lines.knows(line) && self.lines.lines() >= MOST_LINES
     }
 
     /// Takes an event that breaks no rule, once there is room for it in each share.
@@ -204,12 +215,30 @@ impl Checker {
         if self.system.ready(event, target).is_err() {
             return Err(CheckErr::NoMemory);
         }
+        every_event_fits(*event);
         self.ports.apply(event);
         self.lines.apply(event, target);
         self.system.apply(event, target);
         self.count = self.count.wrapping_add(1);
         Ok(Step::Fine)
     }
+}
+
+/// It is K1, which no rule goes before.
+fn is_first(rule: Option<u8>) -> bool
+    ensures { result ≡ is_first rule }
+{
+    match rule {
+        None => false,
+        Some(number) => number == 1,
+    }
+}
+
+/// The event issues a transaction.
+fn begins(event: &Event) -> bool
+    ensures { result ≡ begins event.now }
+{
+    matches!(event, Event::Ar { .. } | Event::Aw { .. })
 }
 
 /// The lesser number, where there is one.

@@ -154,3 +154,20 @@ least_of_shares h past e =
     rules_of_shares h past e
     ∙ merged h past e 0 0 port_rules (merge line_rules system_rules) refl refl
     ∙ ap (lesser (least_of port_rules h past e)) (merged h past e 0 0 line_rules system_rules refl refl)
+
+-- where the rules of the ports say 1, so do all
+lesser_at_least : (h : Header) (past : Trace) (e : Event) (n : ℕ) (a b : Option ℕ) → AtLeast h past e n a → AtLeast h past e n b → AtLeast h past e n (lesser a b)
+lesser_at_least h past e n None b low low' = low'
+lesser_at_least h past e n (Some j) None low low' = low
+lesser_at_least h past e n (Some j) (Some k) low low' = by (nat_lt k j) refl
+  where
+    by : (t : Bool) → nat_lt k j ≡ t → AtLeast h past e n (lesser (Some j) (Some k))
+    by true t m is = low' m (rw t at is)
+    by false t m is = low m (rw t at is)
+
+pub least_is_one : (h : Header) (past : Trace) (e : Event) → least_of port_rules h past e ≡ Some 1 → least_broken h past e ≡ Some 1
+least_is_one h past e one =
+    least_of_shares h past e
+    ∙ ap (λ k. lesser k (lesser (least_of line_rules h past e) (least_of system_rules h past e))) one
+    ∙ first_is_least h past e 1 _
+        (lesser_at_least h past e 1 (least_of line_rules h past e) (least_of system_rules h past e) (above h past e 1 line_rules refl) (above h past e 1 system_rules refl))

@@ -1,0 +1,145 @@
+-- What the parts of a checker say together.
+use Rattle.std.proofs.Common.{◌≡◌, ℕ, ◌+◌, ◌<◌, Bool, true, false, not, ◌&&◌, nat_le, nat_lt, if◌then◌else◌, List, [], ◌∷◌, Option, Some, None, length, option_map, Result, Ok, Err, is_err, OnOk, OnErr, refl, sym, ap, subst, ◌∙◌, inl, inr, arith}
+use Rattle.std.proofs.lemmas.Bool.{cases_Bool, eqb-true}
+use Rattle.std.specs.List.{AllByRecursion}
+use Rattle.ace_event.specs.Range.{FitsFields}
+use Rattle.ace_event.specs.declared.event.Channel.{Channel}
+use Rattle.ace_event.specs.declared.event.Channel.TheVariants.{Read, Write}
+use Rattle.ace_event.specs.declared.event.Event.{Event}
+use Rattle.ace_event.specs.declared.event.Event.TheVariants.{Ar, Aw}
+use Rattle.ace_event.specs.declared.header.Header.{Header}
+use Rattle.ace_model.specs.declared.transactions.Transaction.{Transaction}
+use Rattle.ace_model.specs.Trace.{Trace, is_some_and}
+use Rattle.ace_model.specs.Transactions.{issued, is_line, outstanding}
+use Rattle.ace_model.specs.Accepted.{IsAccepted, least_broken, least_of}
+use Rattle.ace_model.specs.AddressRules.{k1}
+use Rattle.ace_model.specs.Exclusives.{has_failed}
+use Rattle.ace_model.specs.Grants.{granted}
+use Rattle.ace_model.specs.Lines.{is_known, known_lines, has_failed_on, names_new_line}
+use Rattle.ace_model.specs.Shares.{lesser, port_rules, line_rules, system_rules}
+use Rattle.ace_model.proofs.Rules.Shares.{least_of_shares}
+use Rattle.ace_model.proofs.Coherence.{accepted_coherent}
+use Rattle.ace_model.proofs.Barriers.Law.{accepted_barriers_order}
+use Rattle.ace_model.proofs.Exclusives.Law.{accepted_exclusive_holds}
+use Rattle.ace_model.proofs.Dvm.Law.{accepted_dvm_holds}
+use Rattle.ace_model.proofs.Holders.Law.{accepted_holds}
+use Rattle.ace_portck.specs.Targets.{Recording, line_in}
+use Rattle.ace_check.specs.Run.{IsSound, begins, is_first, goes_over}
+
+-- an accepted trace whose events fit their fields is sound
+pub accepted_sound : (h : Header) (past : Trace) → IsAccepted h past → AllByRecursion FitsFields past → IsSound h past
+accepted_sound h past a fits = record {
+  coherent = accepted_coherent h past a fits;
+  exclusive = accepted_exclusive_holds h past a;
+  barrier = accepted_barriers_order h past a;
+  dvm = accepted_dvm_holds h past a;
+}
+
+begins_over : (past : Trace) (x : Transaction) (l n : ℕ) → (if is_line x then Some x.addr else None) ≡ Some l
+    → (names_new_line past x && nat_le n (length (known_lines past))) ≡ (not (is_known past l) && nat_le n (length (known_lines past)))
+begins_over past x l n is = by (is_line x) refl
+  where
+    by : (b : Bool) → is_line x ≡ b → (names_new_line past x && nat_le n (length (known_lines past))) ≡ (not (is_known past l) && nat_le n (length (known_lines past)))
+    by true t = let same : Some x.addr ≡ Some l = rw t at is in let addr : x.addr ≡ l = cc in rw (t, addr) refl
+    by false f = let bad : None ≡ Some l = rw f at is in cc
+
+begins_none : (x : Transaction) → (if is_line x then Some x.addr else None) ≡ None → is_line x ≡ false
+begins_none x is = by (is_line x) refl
+  where
+    by : (b : Bool) → is_line x ≡ b → is_line x ≡ false
+    by true t = let bad : Some x.addr ≡ None = rw t at is in cc
+    by false f = f
+
+abbrev new_read : Trace → ℕ → ℕ → ℕ → ℕ → ℕ → ℕ → Bool → Transaction
+new_read past p i addr snoop dom bar lock = record { place = length past; port = p; chan = Read; id = i; addr = addr; snoop = snoop; dom = dom; bar = bar; lock = lock }
+
+abbrev new_write : Trace → ℕ → ℕ → ℕ → ℕ → ℕ → ℕ → Transaction
+new_write past p i addr snoop dom bar = record { place = length past; port = p; chan = Write; id = i; addr = addr; snoop = snoop; dom = dom; bar = bar; lock = false }
+
+-- an AR or AW of a line names one too many where the line isn't known and all are
+pub over_of_line : (h : Header) (past : Trace) (e : Event) (l : ℕ) → begins e ≡ true → line_in h past e ≡ Some l
+    → goes_over past e ≡ (not (is_known past l) && nat_le 4096 (length (known_lines past)))
+over_of_line h past (Ar p i addr snoop dom bar lock) l b is = begins_over past (new_read past p i addr snoop dom bar lock) l 4096 is
+over_of_line h past (Aw p i addr snoop dom bar) l b is = begins_over past (new_write past p i addr snoop dom bar) l 4096 is
+over_of_line h past e l b is = cc
+
+-- any other event names none
+pub over_of_none : (h : Header) (past : Trace) (e : Event) → line_in h past e ≡ None → goes_over past e ≡ false
+over_of_none h past (Ar p i addr snoop dom bar lock) is = let no = begins_none (new_read past p i addr snoop dom bar lock) is in rw no refl
+over_of_none h past (Aw p i addr snoop dom bar) is = let no = begins_none (new_write past p i addr snoop dom bar) is in rw no refl
+over_of_none h past _ is = refl
+
+pub over_of_other : (past : Trace) (e : Event) → begins e ≡ false → goes_over past e ≡ false
+over_of_other past (Ar p i addr snoop dom bar lock) b = cc
+over_of_other past (Aw p i addr snoop dom bar) b = cc
+over_of_other past _ b = refl
+
+-- the name of a transaction
+abbrev pub name_of : Transaction → ℕ × Channel × ℕ
+name_of x = (x.port, x.chan, x.id)
+
+named : (o : Option Transaction) (n : ℕ × Channel × ℕ) → option_map name_of o ≡ Some n → (x : Transaction) × (o ≡ Some x) × (name_of x ≡ n)
+named None n is = cc
+named (Some x) n is = (x, refl, cc)
+
+-- the granted transaction of a line failed exactly where the outstanding read of its name did
+pub failed_read : (h : Header) (past : Trace) (l p i : ℕ) → IsAccepted h past → option_map name_of (granted h past l) ≡ Some (p, Read, i)
+    → has_failed_on h past l ≡ is_some_and (outstanding h past p Read i) (has_failed past)
+failed_read h past l p i a is =
+    let n = named (granted h past l) (p, Read, i) is in
+    let x = n.0 in
+    let out : outstanding h past x.port x.chan x.id ≡ Some x = ((accepted_holds h past a).grants l x n.1).0 in
+    let port : x.port ≡ p = ap (λ (m : ℕ × Channel × ℕ). m.0) n.2 in
+    let chan : x.chan ≡ Read = ap (λ (m : ℕ × Channel × ℕ). m.1) n.2 in
+    let id : x.id ≡ i = ap (λ (m : ℕ × Channel × ℕ). m.2) n.2 in
+    let found : outstanding h past p Read i ≡ Some x =
+        subst (λ q. outstanding h past q Read i ≡ Some x) port (subst (λ c. outstanding h past x.port c i ≡ Some x) chan (subst (λ j. outstanding h past x.port x.chan j ≡ Some x) id out)) in
+    rw (n.1, found) refl
+
+no_write_fails : (past : Trace) (x : Transaction) → x.chan ≡ Write → has_failed past x ≡ false
+no_write_fails past x chan = by x.lock refl
+  where
+    by : (b : Bool) → x.lock ≡ b → has_failed past x ≡ false
+    by true t = rw (t, chan) refl
+    by false f = rw f refl
+
+pub failed_write : (h : Header) (past : Trace) (l p i : ℕ) → option_map name_of (granted h past l) ≡ Some (p, Write, i) → has_failed_on h past l ≡ false
+failed_write h past l p i is =
+    let n = named (granted h past l) (p, Write, i) is in
+    let chan : n.0.chan ≡ Write = ap (λ (m : ℕ × Channel × ℕ). m.1) n.2 in
+    rw n.1 (no_write_fails past n.0 chan)
+
+pub failed_none : (h : Header) (past : Trace) (l : ℕ) → option_map name_of (granted h past l) ≡ None → has_failed_on h past l ≡ false
+failed_none h past l is = by (granted h past l) refl
+  where
+    by : (o : Option Transaction) → granted h past l ≡ o → has_failed_on h past l ≡ false
+    by None n = rw n refl
+    by (Some x) s = let bad : Some (name_of x) ≡ None = rw s at is in cc
+
+-- where K1 is broken, the ports say so
+pub ports_say_1 : (h : Header) (past : Trace) (e : Event) → k1 h past e ≡ false → least_of port_rules h past e ≡ Some 1
+ports_say_1 h past e f = rw f refl
+
+pub from_err : {A E P : Type 0} → (r : Result A E) → is_err r ≡ true → OnErr r P → P
+from_err (Ok x) b p = cc
+from_err (Err e) b p = p
+
+pub from_ok : {A E P : Type 0} → (r : Result A E) → is_err r ≡ false → OnOk r P → P
+from_ok (Ok x) b p = p
+from_ok (Err e) b p = cc
+
+pub first_is : (rule : Option ℕ) → is_first rule ≡ true → rule ≡ Some 1
+first_is None t = cc
+first_is (Some k) t = ap Some (eqb-true k 1 t)
+
+-- where the rule of the ports isn't K1, K1 is kept
+pub k1_kept : (h : Header) (past : Trace) (e : Event) (rule : Option ℕ) → rule ≡ least_of port_rules h past e → is_first rule ≡ false → k1 h past e ≡ true
+k1_kept h past e rule is f =
+    elim (cases_Bool (k1 h past e)) [
+      | inl k ↦ k
+      | inr n ↦ let one : rule ≡ Some 1 = is ∙ ports_say_1 h past e n in let bad : is_first (Some 1) ≡ false = subst (λ o. is_first o ≡ false) one f in cc
+    ]
+
+pub least_with : (h : Header) (past : Trace) (e : Event) (a b c : Option ℕ) → a ≡ least_of port_rules h past e → b ≡ least_of line_rules h past e → c ≡ least_of system_rules h past e
+    → lesser a (lesser b c) ≡ least_broken h past e
+least_with h past e a b c p l s = rw (p, l, s) (sym (least_of_shares h past e))

@@ -1,0 +1,13 @@
+use Rattle.std.proofs.Common.{refl, arith}
+use Rattle.ace_check.proofs.checker.Checker.new.Goals as goal
+
+pub returns : goal.returns
+returns c = record {
+  ports = ?;
+  lines = c.new-lines.ensures c.requires;
+  system = ?;
+  count = refl;
+  few = omega arith;
+  broken = refl;
+  fits = tt;
+}
