@@ -8,7 +8,7 @@ use Rattle.ace_model.specs.declared.snoops.Answer.{Answer}
 use Rattle.ace_model.specs.declared.transactions.Transaction.{Transaction}
 use Rattle.ace_model.specs.Copies.{zero_line}
 use Rattle.ace_model.proofs.Terms.{Header, Trace, Channel, Event, M, IsAccepted, is_some_and, is_none_or, is_read, is_line, is_line_read, is_line_write, is_update, is_on, is_transaction, read_kind, write_kind, has_write_data, updates_memory, outstanding, transfers, granted, is_granted, answer_of}
-use Rattle.ace_model.proofs.Terms.{has_passed_data, are_passed_data_whole, are_snoops_done, passer, passes, copy_of, at_point, copy_at_answer, passed_to, passed_data, passes_dirty, has_failed, has_memory_write, is_burst_whole, may_write_memory, may_write_passed, may_write_data, is_write_due, is_update_due, data_of, has_data, same_line, memory_of, k24, k25}
+use Rattle.ace_model.proofs.Terms.{has_passed_data, are_passed_data_whole, are_snoops_done, passer, passes, copy_of, at_point, copy_at_answer, passed_data, passes_dirty, has_failed, has_memory_write, is_burst_whole, may_write_memory, may_write_passed, may_write_data, is_write_due, is_update_due, data_of, has_data, same_line, memory_of, k24, k25}
 use Rattle.ace_model.proofs.General.Options.{Some-injective, is_some_and-is, is_some_and-at}
 use Rattle.ace_model.proofs.General.Booleans.{then_of}
 use Rattle.ace_model.proofs.General.Ports.{found_passes}
@@ -132,12 +132,12 @@ module _ (h : Header) (past : Trace) (a : IsAccepted h past) (p : ℕ) (c : Chan
             ap (λ v. Some (unwrap_or v zero_line)) copy ∙ sym copy
 
         by : (g : Option Grant) → GrantStands h past y.addr g → passed_kept g ≡ passed_data h past y.addr
-        by None f = sym (ap (option_and_then (passed_to h past y.addr)) f)
+        by None f = sym (ap (λ o. if is_some_and o (has_passed_data h past) then option_and_then (copy_at_answer past y.addr) (passer h past y.addr) else None) f)
         by (Some g) f =
             ap (λ b. if b then option_map (λ q. q.line) g.passed else None) (passed-law h past a y.addr g f)
             ∙ ap (λ v. if has_passed_data h past g.transaction then option_map (λ q. q.line) v else None) f.passed
             ∙ ap (λ v. if has_passed_data h past g.transaction then v else None) (lines (passer h past y.addr) refl)
-            ∙ sym (ap (option_and_then (passed_to h past y.addr)) f.granted)
+            ∙ sym (ap (λ o. if is_some_and o (has_passed_data h past) then option_and_then (copy_at_answer past y.addr) (passer h past y.addr) else None) f.granted)
 
 module _ (h : Header) (past : Trace) (t : Target) (x : LineRecord) (p : ℕ) (c : Channel) (i : ℕ) (line : Line) (s : IsNext h past (M p c i line) t x) where
   line-for : (y : Transaction) → outstanding h past p c i ≡ Some y → is_line y ≡ true → t.line ≡ Some y.addr
