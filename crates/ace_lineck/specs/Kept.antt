@@ -119,17 +119,17 @@ abbrev pub ends_kept : Bool → LineState → LineState → Progress → Bool
 ends_kept failed held st x =
     is_none_or (read_kind x.transaction)
     (λ k. ends_read k (if is_line x.transaction then held else I) (is_shared x.response) (passes_dirty x.response) (is_line x.transaction && failed) st
-        && implies (is_make_unique k) x.stored)
+    && implies (is_make_unique k) x.stored)
 
 -- K24: the transaction may write memory: a granted read its passed data, a granted write or a memory update its burst
 abbrev pub may_write_kept : Header → Bool → Option Grant → List Holder → Option WriteData → Progress → Bool
 may_write_kept h failed grant holders burst x =
     is_line x.transaction
     && (if is_read x.transaction.chan
-        then is_some_and grant (λ g. is_its g x.transaction && has_passed g && is_passed_whole g) && (x.transfers == 0)
-        else is_some burst
-            && (is_some_and grant (λ g. is_its g x.transaction && are_done h failed g holders)
-                || (updates_memory x.transaction && is_none_or grant (λ g. not (has_passed g)))))
+    then is_some_and grant (λ g. is_its g x.transaction && has_passed g && is_passed_whole g) && (x.transfers == 0)
+    else is_some burst
+    && (is_some_and grant (λ g. is_its g x.transaction && are_done h failed g holders)
+    || (updates_memory x.transaction && is_none_or grant (λ g. not (has_passed g)))))
 
 -- the passed data of the line
 abbrev pub passed_kept : Option Grant → Option Line

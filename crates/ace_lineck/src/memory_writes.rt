@@ -60,7 +60,13 @@ fn is_update_due(grant: &Option<Grant>, x: &Transaction) -> bool
 }
 
 /// The transaction may write memory.
-fn may_write(kept: &LineRecord, header: &Header, failed: bool, burst: &Option<WriteData>, x: &Progress) -> bool
+fn may_write(
+    kept: &LineRecord,
+    header: &Header,
+    failed: bool,
+    burst: &Option<WriteData>,
+    x: &Progress,
+) -> bool
     ensures { result ≡ may_write_kept header.now failed kept.now.grant kept.now.holders.items burst.now x.now }
 {
     if !is_line(&x.transaction) {
@@ -149,7 +155,13 @@ fn same_passed(passed: &Option<Line>, line: &Line) -> bool
     }
 }
 
-fn fits_burst(passed: &Option<Line>, memory: &Line, burst: &WriteData, line: &Line, x: &Transaction) -> bool
+fn fits_burst(
+    passed: &Option<Line>,
+    memory: &Line,
+    burst: &WriteData,
+    line: &Line,
+    x: &Transaction,
+) -> bool
     ensures { result ≡ is_none_or (write_kind x.now) (λ k. same_line line.now (written_kept passed.now memory.now burst.now k)) }
 {
     match write_kind(x) {
@@ -162,7 +174,13 @@ fn fits_burst(passed: &Option<Line>, memory: &Line, burst: &WriteData, line: &Li
 }
 
 /// The line is the one that the transaction writes.
-fn fits_data(passed: &Option<Line>, memory: &Line, burst: &Option<WriteData>, line: &Line, x: &Transaction) -> bool
+fn fits_data(
+    passed: &Option<Line>,
+    memory: &Line,
+    burst: &Option<WriteData>,
+    line: &Line,
+    x: &Transaction,
+) -> bool
     ensures { result ≡ fits_data passed.now memory.now burst.now line.now x.now }
 {
     if is_read(x) {
