@@ -62,7 +62,7 @@ module _ (h : Header) (past : Trace) (a : IsAccepted h past) (p l : ℕ) where
       by None is true s = refl
       by None is false s = refl
       by (Some w) is true s =
-          elim (cases_Bool (is_short past p w)) [ | inl t ↦ rw t refl | inr f ↦ rw f refl ]
+          elim (cases_Bool (is_short past p w)) [ inl t ↦ rw t refl | inr f ↦ rw f refl ]
       by (Some w) is false s = let yes = answered-snooped w is in cc
 
   pub sending-is : is_sending (stage_of past p l) ≡ owes_data past p l
@@ -71,7 +71,7 @@ module _ (h : Header) (past : Trace) (a : IsAccepted h past) (p l : ℕ) where
       by : (o : Option Answer) (b : Bool) → is_sending (stage_by past p b o) ≡ is_some_and o (is_short past p)
       by None true = refl
       by None false = refl
-      by (Some w) b = elim (cases_Bool (is_short past p w)) [ | inl t ↦ rw t refl | inr f ↦ rw f refl ]
+      by (Some w) b = elim (cases_Bool (is_short past p w)) [ inl t ↦ rw t refl | inr f ↦ rw f refl ]
 
   pub settled-is : (spared : Bool) → is_settled (stage_of past p l) spared ≡ (not (owes_answer past p l) && not (owes_data past p l) && (spared || was_snooped past p l))
   settled-is spared = by (answer_of past p l) refl (was_snooped past p l) refl
@@ -89,7 +89,7 @@ module _ (h : Header) (past : Trace) (a : IsAccepted h past) (p l : ℕ) where
       by None is true s = refl
       by None is false s = plain spared
       by (Some w) is true s =
-          elim (cases_Bool (is_short past p w)) [ | inl t ↦ rw t refl | inr f ↦ rw f (certain spared) ]
+          elim (cases_Bool (is_short past p w)) [ inl t ↦ rw t refl | inr f ↦ rw f (certain spared) ]
       by (Some w) is false s = let yes = answered-snooped w is in cc
 
 module _ (h : Header) (past : Trace) (a : IsAccepted h past) (l : ℕ) (g : Grant) (f : GrantFits h past l g) where

@@ -14,4 +14,5 @@ pub mod AllLines
 pub mod Received
 pub mod GrantLaws
 pub mod ReplyLaws
+pub mod WriteLaws
 pub mod Judging

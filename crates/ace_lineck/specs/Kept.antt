@@ -1,13 +1,16 @@
 -- What the rules of a grant ask, asked of what is kept of the line.
-use Rattle.std.specs.Prelude.{ℕ, ◌≡◌, Bool, true, false, not, ◌&&◌, ◌||◌, ◌==◌, List, Option, Some, None, is_some, is_none, unwrap_or, if◌then◌else◌}
+use Rattle.std.specs.Prelude.{ℕ, ◌≡◌, Bool, true, false, not, ◌&&◌, ◌||◌, ◌==◌, List, Option, Some, None, is_some, is_none, option_map, unwrap_or, if◌then◌else◌}
 use Rattle.ace_codes.specs.declared.kind.ArKind.{ArKind}
+use Rattle.ace_codes.specs.declared.kind.AwKind.{AwKind}
+use Rattle.ace_codes.specs.declared.kind.AwKind.TheVariants.{WriteUnique, WriteNoSnoop}
 use Rattle.ace_codes.specs.declared.state.LineState.{LineState}
 use Rattle.ace_codes.specs.declared.state.LineState.TheVariants.{I}
 use Rattle.ace_codes.specs.Responses.{passes_dirty, is_shared}
 use Rattle.ace_event.specs.declared.header.Header.{Header}
 use Rattle.ace_event.specs.declared.line.Line.{Line}
+use Rattle.ace_event.specs.Bytes.{merged}
 use Rattle.ace_tables.specs.EndStates.{ends_read}
-use Rattle.ace_model.specs.Copies.{is_line_read_transaction, word_of}
+use Rattle.ace_model.specs.Copies.{is_line_read_transaction, word_of, same_line}
 use Rattle.ace_model.specs.Progress.{updates_memory}
 use Rattle.ace_model.specs.ReadRules.{same_upper_bits}
 use Rattle.ace_tables.specs.States.{is_invalid}
@@ -17,7 +20,7 @@ use Rattle.ace_model.specs.Lines.{has_failed_on}
 use Rattle.std.specs.List.{list_all}
 use Rattle.ace_model.specs.Grants.{ports_below}
 use Rattle.ace_model.specs.Kinds.{takes_passed_data, may_be_shared, is_read_not_shared_dirty, is_make_unique}
-use Rattle.ace_model.specs.Transactions.{is_ace, is_line, is_read, read_kind, snoop_of}
+use Rattle.ace_model.specs.Transactions.{is_ace, is_line, is_read, read_kind, snoop_of, write_kind}
 use Rattle.ace_model.specs.SnoopRules.{has_snoop_code}
 use Rattle.ace_portck.specs.declared.target.Progress.{Progress}
 use Rattle.ace_portck.specs.declared.target.Target.{Target}
@@ -116,14 +119,31 @@ abbrev pub ends_kept : Bool → LineState → LineState → Progress → Bool
 ends_kept failed held st x =
     is_none_or (read_kind x.transaction)
     (λ k. ends_read k (if is_line x.transaction then held else I) (is_shared x.response) (passes_dirty x.response) (is_line x.transaction && failed) st
-        && implies (is_make_unique k) x.stored)
+    && implies (is_make_unique k) x.stored)
 
 -- K24: the transaction may write memory: a granted read its passed data, a granted write or a memory update its burst
 abbrev pub may_write_kept : Header → Bool → Option Grant → List Holder → Option WriteData → Progress → Bool
 may_write_kept h failed grant holders burst x =
     is_line x.transaction
     && (if is_read x.transaction.chan
-        then is_some_and grant (λ g. is_its g x.transaction && has_passed g && is_passed_whole g) && (x.transfers == 0)
-        else is_some burst
-            && (is_some_and grant (λ g. is_its g x.transaction && are_done h failed g holders)
-                || (updates_memory x.transaction && is_none_or grant (λ g. not (has_passed g)))))
+    then is_some_and grant (λ g. is_its g x.transaction && has_passed g && is_passed_whole g) && (x.transfers == 0)
+    else is_some burst
+    && (is_some_and grant (λ g. is_its g x.transaction && are_done h failed g holders)
+    || (updates_memory x.transaction && is_none_or grant (λ g. not (has_passed g)))))
+
+-- the passed data of the line
+abbrev pub passed_kept : Option Grant → Option Line
+passed_kept None = None
+passed_kept (Some g) = if has_passed g then option_map (λ p. p.line) g.passed else None
+
+-- K25: what a write of this kind writes
+abbrev pub written_kept : Option Line → Line → WriteData → AwKind → Line
+written_kept passed memory burst WriteUnique = merged (unwrap_or passed memory) burst.strobe burst.line
+written_kept passed memory burst WriteNoSnoop = merged memory burst.strobe burst.line
+written_kept passed memory burst _ = burst.line
+
+-- the line is the one that the transaction writes
+abbrev pub fits_data : Option Line → Line → Option WriteData → Line → Transaction → Bool
+fits_data passed memory burst line x =
+    if is_read x.chan then is_none_or passed (same_line line)
+    else is_none_or burst (λ b. is_none_or (write_kind x) (λ k. same_line line (written_kept passed memory b k)))

@@ -10,6 +10,7 @@ mod judge;
 mod kinds;
 mod lines;
 mod memory;
+mod memory_writes;
 mod record;
 mod replies;
 mod rules;

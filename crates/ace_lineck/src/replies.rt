@@ -211,7 +211,13 @@ fn ends_well(failed: bool, held: LineState, st: LineState, x: &Option<Progress>)
 }
 
 /// K23, of an RK. `failed` says that the line's granted transaction is an exclusive store that failed.
-pub fn keeps_read_end(kept: &LineRecord, target: &Target, failed: bool, port: u8, st: LineState) -> bool
+pub fn keeps_read_end(
+    kept: &LineRecord,
+    target: &Target,
+    failed: bool,
+    port: u8,
+    st: LineState,
+) -> bool
     ensures { (h : Header) (past : Trace) → IsNext h past (Rk port st) target.now kept.now → IsFailure h past target.now failed
         → result ≡ k23 h past (Rk port st) }
 {
