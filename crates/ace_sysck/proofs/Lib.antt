@@ -18,3 +18,4 @@ pub mod InboxSteps
 pub mod InboxRules
 pub mod InboxMoves
 pub mod InboxHears
+pub mod SyncSteps

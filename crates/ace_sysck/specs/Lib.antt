@@ -6,3 +6,4 @@ pub mod Events
 pub mod Barriers
 pub mod Messages
 pub mod Inboxes
+pub mod Syncs

@@ -296,7 +296,7 @@ impl Inboxes {
 }
 
 /// The snoop of the target is an AC DVM Message.
-fn answers_message(target: &Target) -> bool
+pub fn answers_message(target: &Target) -> bool
     ensures { result ≡ answers_message target.now }
 {
     match target.snoop {

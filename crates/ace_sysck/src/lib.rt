@@ -9,4 +9,5 @@ mod messages;
 mod monitors;
 mod registrations;
 mod results;
+mod syncs;
 mod words;

@@ -31,7 +31,8 @@ pub struct Messages {
     ports: Vec<PortMessages>,
 }
 
-fn is_new_sync(kept: &PortMessages, x: &Transaction) -> bool
+/// The part is a Sync, after what the port has issued.
+pub fn is_new_sync(kept: &PortMessages, x: &Transaction) -> bool
     ensures { result ≡ is_new_sync kept.now x.now }
 {
     is_sync_word(x.addr) && kept.first.is_none()
