@@ -42,7 +42,7 @@ pub record Idle (past : Trace) (e : Event) (q : ℕ) : Type 0 where
   pub same_answers : answers (e ∷ past) q ≡ answers past q
   pub no_snoop : snoop_at (length past) e q ≡ None
 
-idle-answered : (past : Trace) (e : Event) (q : ℕ) → Idle past e q → answered_parts (e ∷ past) q ≡ answered_parts past q
+pub idle-answered : (past : Trace) (e : Event) (q : ℕ) → Idle past e q → answered_parts (e ∷ past) q ≡ answered_parts past q
 idle-answered past e q i =
     ap (λ o. parts_among (take (answers (e ∷ past) q) (add_forwarded past q (forwarded past q) o))) i.no_snoop ∙ ap (λ n. parts_among (take n (forwarded past q))) i.same_answers
 
@@ -97,11 +97,11 @@ answers-within h (e ∷ past) q accepted = answers-within h past q accepted.0
 among-more : (xs : List (Option Transaction)) (o : Option Transaction) → parts_among (xs ++ o ∷ []) ≡ parts_among xs ++ option_to_list o
 among-more xs o = flat_map-append option_to_list xs (o ∷ []) ∙ ap (λ l. parts_among xs ++ l) (append-nil (option_to_list o))
 
-one_more : (xs : List Transaction) (o : Option Transaction) → is_some o ≡ true → length (xs ++ option_to_list o) ≡ length xs + 1
+pub one_more : (xs : List Transaction) (o : Option Transaction) → is_some o ≡ true → length (xs ++ option_to_list o) ≡ length xs + 1
 one_more xs None s = cc
 one_more xs (Some x) s = length-append xs (x ∷ [])
 
-no_more : (xs : List Transaction) (o : Option Transaction) → is_some o ≡ false → xs ++ option_to_list o ≡ xs
+pub no_more : (xs : List Transaction) (o : Option Transaction) → is_some o ≡ false → xs ++ option_to_list o ≡ xs
 no_more xs None s = append-nil xs
 no_more xs (Some x) s = cc
 
@@ -124,7 +124,7 @@ module _ (h : Header) (past : Trace) (q addr snoop : ℕ) (accepted : IsAccepted
   kind : is_some new ≡ is_some_and (ac_kind_of snoop) is_message_snoop
   kind = forwards-kind h past e q snooped accepted here
 
-  answered-now : answered_parts (e ∷ past) q ≡ answered_parts past q
+  pub answered-now : answered_parts (e ∷ past) q ≡ answered_parts past q
   answered-now =
       let within = answers-within h past q accepted.0 in
       let long = forwarded-length past q in
@@ -171,10 +171,10 @@ module _ (h : Header) (past : Trace) (q resp : ℕ) (st : LineState) (accepted :
   abbrev pub cr : Event
   cr = Cr q resp st
 
-  snoop_there : (s : Snoop) × (answered past q ≡ Some s)
+  pub snoop_there : (s : Snoop) × (answered past q ≡ Some s)
   snoop_there = some_is (answered past q) (accepted_keeps h past cr accepted).rule_14
 
-  answered-more : (o : Option Transaction) → slice_get (forwarded past q) (answers past q) ≡ Some o → answered_parts (cr ∷ past) q ≡ answered_parts past q ++ option_to_list o
+  pub answered-more : (o : Option Transaction) → slice_get (forwarded past q) (answers past q) ≡ Some o → answered_parts (cr ∷ past) q ≡ answered_parts past q ++ option_to_list o
   answered-more o there =
       let low = slice_get_within (forwarded past q) (answers past q) o there in
       ap (λ b. parts_among (take (if b then answers past q + 1 else answers past q) (forwarded past q))) (eq-eqb q q refl)

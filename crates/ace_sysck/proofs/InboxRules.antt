@@ -26,7 +26,7 @@ use Rattle.ace_sysck.specs.Inboxes.{InboxesStand, InboxStands, MayAskInboxes, pa
 use Rattle.ace_sysck.proofs.PartLaws.{parts-apart, waiting-apart, AreOthers}
 
 -- an element of a list that is mapped
-slice_get-map : {A B : Type 0} → (f : A → B) (xs : List A) (k : ℕ) → slice_get (map f xs) k ≡ option_map f (slice_get xs k)
+pub slice_get-map : {A B : Type 0} → (f : A → B) (xs : List A) (k : ℕ) → slice_get (map f xs) k ≡ option_map f (slice_get xs k)
 slice_get-map f [] k = refl
 slice_get-map f (x ∷ xs) zero = refl
 slice_get-map f (x ∷ xs) (suc k) = slice_get-map f xs k
@@ -36,6 +36,9 @@ pub inbox_at : (xs : List Inbox) (k : ℕ) → k < length xs → (b : Inbox) × 
 inbox_at [] k low = absurd (omega arith)
 inbox_at (b ∷ xs) zero low = (b, refl)
 inbox_at (b ∷ xs) (suc k) low = inbox_at xs k (omega arith)
+
+pub inbox_of : (r : Recording) (s : Inboxes) (p : ℕ) → InboxesStand r s → is_ace r.header p ≡ true → (b : Inbox) × (slice_get s.ports.items p ≡ Some b)
+inbox_of r s p stands ace = inbox_at s.ports.items p (let n = stands.size in let low = ltb-true p r.header.ports (and_parts (nat_lt p r.header.ports) _ ace).0 in omega arith)
 
 -- the next part is the first that was not forwarded
 pub next-is : (r : Recording) (s : Inboxes) (p : ℕ) → InboxesStand r s → is_ace r.header p ≡ true → next_in (slice_get s.ports.items p) ≡ option_map (part_of r.past) (next_part r.past p)

@@ -1,18 +1,20 @@
 -- The Syncs that reach the ports, event by event.
-use Rattle.std.proofs.Common.{◌≡◌, ◌≢◌, ◌⊎◌, ℕ, zero, suc, ◌+◌, ◌-◌, ◌*◌, ◌^◌, ◌<◌, ◌≤◌, Bool, true, false, not, cond, min, ◌&&◌, ◌||◌, nat_eq, nat_le, nat_lt, if◌then◌else◌, List, [], ◌∷◌, ◌++◌, length, take, drop, slice_get, slice_set, get_or, count_by, Option, Some, None, is_some, refl, sym, ap, subst, ◌∙◌, arith, inl, inr, length-append, length-set}
+use Rattle.std.proofs.Common.{◌≡◌, ◌≢◌, ◌⊎◌, ℕ, zero, suc, ◌+◌, ◌-◌, ◌*◌, ◌^◌, ◌<◌, ◌≤◌, Bool, true, false, not, cond, min, ◌&&◌, ◌||◌, nat_eq, nat_le, nat_lt, if◌then◌else◌, List, [], ◌∷◌, ◌++◌, length, map, take, drop, slice_get, slice_set, get_or, count_by, Option, Some, None, is_some, refl, sym, ap, subst, ◌∙◌, arith, inl, inr, length-append, length-set}
 use Rattle.std.specs.List.{All}
 use Rattle.std.proofs.lemmas.Bool.{cases_Bool, cases_eq, and_parts, and_right, eqb-true, eq-eqb, ne_eqb, ltb-true}
 use Rattle.std.proofs.lemmas.List.{append-nil, get_or-set_same, get_or-set_other}
 use Rattle.std.proofs.lemmas.List.Elements.{All-weaker, All-take}
 use Rattle.std.proofs.lemmas.List.Sums.{sum_by-append, sum_by_push}
 use Rattle.ace_model.specs.declared.transactions.Transaction.{Transaction}
-use Rattle.ace_model.proofs.Terms.{Header, Event, Ar, Aw, Ac, Cr, Trace, at_point, newer, more, is_some_and, is_none_or, implies, issued, transactions, is_ace, is_message_part, is_message_word, is_sync, is_sync_word, has_second, first_waiting, part_in, waits_after, parts_with, parts_in, parts_for, last_sync, sync_in, sync_number, answered_parts, answered_syncs, dvm_completes, is_dvm_completion, begins_well, begins_message, is_part_in_order, IsAccepted, each_port, is_other_ace, owes_completion, has_every_completion}
+use Rattle.ace_model.proofs.Terms.{Header, Event, Ar, Aw, Ac, Cr, Trace, at_point, newer, more, is_some_and, is_none_or, implies, issued, transactions, is_ace, is_message_part, is_message_word, is_sync, is_sync_word, has_second, first_waiting, part_in, waits_after, parts_with, parts_in, parts_for, last_sync, sync_in, sync_number, answered_parts, answered_syncs, dvm_completes, is_dvm_completion, begins_well, begins_message, is_part_in_order, IsAccepted, each_port, is_other_ace, owes_completion, has_every_completion, LineState, read_kind, ArKind, is_dvm_message, answers, ac_kind_of, is_message_snoop}
+use Rattle.ace_model.specs.Kinds.{is_dvm_complete}
+use Rattle.ace_codes.specs.declared.kind.ArKind.TheVariants as kind
 use Rattle.ace_model.specs.Messages.{is_second_part}
 use Rattle.ace_model.proofs.Rules.Keeps.{accepted_keeps}
 use Rattle.ace_model.proofs.Dvm.Parts.{IsBelow, parts-placed}
 use Rattle.ace_model.proofs.Dvm.Forwarding.{answered-first}
 use Rattle.ace_model.proofs.Dvm.Syncs.{last_sync-is}
-use Rattle.ace_model.proofs.Trace.Growth.{IsIssued, at_point-before}
+use Rattle.ace_model.proofs.Trace.Growth.{IsIssued, at_point-before, at_point-end}
 use Rattle.ace_model.proofs.Trace.Places.{at_point-last, at_point-length}
 use Rattle.ace_model.proofs.Trace.Issued.{issued-place}
 use Rattle.ace_model.proofs.General.Options.{Some-injective, is_none_or-at, some_where-is}
@@ -27,12 +29,21 @@ use Rattle.ace_sysck.specs.Events.{begun_in}
 use Rattle.ace_sysck.specs.Messages.{PortMessagesStand, is_new_sync}
 use Rattle.ace_sysck.specs.Syncs.{SyncsStand, PortSyncsStand, MayIssueCompletion, ReachesAll, syncs_for, next_count, untold, reached_by, one_answered, one_completed, completes_all}
 use Rattle.ace_sysck.proofs.EventLaws.{begun-is}
+use Rattle.ace_sysck.proofs.InboxHears.{Idle, idle-answered, answered-now, answered-more, snoop_there, no_more}
+use Rattle.std.specs.Option.{option_map, option_to_list}
+use Rattle.std.proofs.lemmas.List.Elements.{All-drop}
+use Rattle.ace_model.specs.declared.snoops.Snoop.{Snoop}
+use Rattle.ace_model.proofs.General.Lists.{slice_get-at_end, slice_get-start, slice_get-drop, slice_get-all}
+use Rattle.ace_sysck.specs.declared.inboxes.Inboxes.{Inboxes}
+use Rattle.ace_sysck.specs.Inboxes.{InboxesStand, part_of, first_is_sync, is_sync_part, answers_message}
+use Rattle.ace_sysck.proofs.PartLaws.{Forwards, forwards-at}
+use Rattle.ace_sysck.proofs.InboxRules.{unanswered, inbox_of, slice_get-map}
 use Rattle.ace_sysck.proofs.PartLaws.{Waits, waits-is, waits-old}
 
 -- what is kept after the empty trace
 pub syncs_fresh : (h : Header) (s : Syncs) → length s.ports.items ≡ h.ports → ((q : ℕ) → get_or s.ports.items q untold ≡ untold)
     → SyncsStand (record { header = h; past = [] }) s
-syncs_fresh h s size none = record { size = size; ports = λ q low. subst (PortSyncsStand [] q) (sym (none q)) (record { reached = refl; answered = refl; completes = refl; numbers = λ p x small is. cc }) }
+syncs_fresh h s size none = record { size = size; ports = λ q low. subst (PortSyncsStand [] q) (sym (none q)) (record { reached = refl; answered = refl; completes = refl; table = refl; numbers = λ p x small is. cc }) }
 
 -- K9 of a part that an accepted event issues
 message_order : (h : Header) (past : Trace) (e : Event) (x : Transaction) → IsAccepted h (e ∷ past) → issued (length past) e ≡ Some x → is_message_part x ≡ true
@@ -53,7 +64,7 @@ first-plain h (e ∷ past) p f accepted w = go (λ g. first-plain h past p g acc
         let s = some_where-is (λ z. has_second z.addr) x f w in
         let parts = and_parts (is_message_part x) (nat_eq x.port p) t in
         let order = message_order h past e x accepted new parts.0 in
-        let begins : begins_message past x ≡ true = rw (eqb-true x.port p parts.1, was) at order in
+        let begins : begins_message past x ≡ true = sym (ap (is_part_in_order past x) (ap (first_waiting past) (eqb-true x.port p parts.1) ∙ was)) ∙ order in
         let word = (and_parts (is_message_word x.addr) _ begins).0 in
         elim (cases_Bool (is_sync_word f.addr)) [
           | inl y ↦
@@ -84,6 +95,17 @@ grown e past q =
     sum_by-append (λ x. cond {A = ℕ} (is_sync (e ∷ past) x) 1 0) (parts_for past q) (parts_in past (issued (length past) e) q)
     ∙ ap (λ n. n + count_by (is_sync (e ∷ past)) (parts_in past (issued (length past) e) q)) (count-old e past (parts_for past q) (parts-placed past q))
 
+one_count : (test : Transaction → Bool) (x : Transaction) (b : Bool) → test x ≡ b → count_by test (x ∷ []) ≡ (if b then 1 else 0)
+one_count test x true t = let c = count_by-cons test x [] in let v : cond {A = ℕ} (test x) 1 0 ≡ 1 = rw t refl in omega arith
+one_count test x false f = let c = count_by-cons test x [] in let v : cond {A = ℕ} (test x) 1 0 ≡ 0 = rw f refl in omega arith
+
+two_count : (test : Transaction → Bool) (f x : Transaction) → test f ≡ false → test x ≡ false → count_by test (f ∷ x ∷ []) ≡ 0
+two_count test f x first last =
+    let c = count_by-cons test f (x ∷ []) in
+    let v : cond {A = ℕ} (test f) 1 0 ≡ 0 = rw first refl in
+    let d = one_count test x false last in
+    omega arith
+
 -- the parts of a message have one Sync where it is one
 module _ (h : Header) (past : Trace) (e : Event) (x : Transaction) (accepted : IsAccepted h (e ∷ past)) (new : issued (length past) e ≡ Some x) (part : is_message_part x ≡ true) where
   now : at_point x.place (e ∷ past) ≡ past
@@ -98,7 +120,7 @@ module _ (h : Header) (past : Trace) (e : Event) (x : Transaction) (accepted : I
       let plain = first-plain h past x.port f accepted.0 was in
       let first : is_sync (e ∷ past) f ≡ false = rw (w.part, plain) refl in
       let last : is_sync (e ∷ past) x ≡ false = is-sync (Some f) was ∙ and_right (is_sync_word x.addr) false refl in
-      count_by-cons (is_sync (e ∷ past)) f (x ∷ []) ∙ rw first (ap (λ n. 0 + n) (count_by-cons (is_sync (e ∷ past)) x [] ∙ rw last refl))
+      two_count (is_sync (e ∷ past)) f x first last
       ∙ sym (ap (λ b. if b then 1 else 0) (and_right (is_sync_word x.addr) false refl))
   message-syncs None was =
       let order = message_order h past e x accepted new part in
@@ -108,12 +130,12 @@ module _ (h : Header) (past : Trace) (e : Event) (x : Transaction) (accepted : I
         | inl t ↦
             let none : has_second x.addr ≡ false = not_both _ (is_sync_word x.addr) (has_second x.addr) word t in
             let yes : is_sync (e ∷ past) x ≡ true = is-sync None was ∙ rw t refl in
-            rw (none, t) (count_by-cons (is_sync (e ∷ past)) x [] ∙ rw yes refl)
+            ap (λ b. count_by (is_sync (e ∷ past)) (if b then [] else x ∷ [])) none ∙ one_count (is_sync (e ∷ past)) x true yes ∙ sym (ap (λ b. if b && true then 1 else 0) t)
         | inr f ↦ elim (cases_Bool (has_second x.addr)) [
-          | inl y ↦ rw (y, f) refl
+          | inl y ↦ ap (λ b. count_by (is_sync (e ∷ past)) (if b then [] else x ∷ [])) y ∙ sym (ap (λ b. if b && true then 1 else 0) f)
           | inr n ↦
               let other : is_sync (e ∷ past) x ≡ false = is-sync None was ∙ rw f refl in
-              rw (n, f) (count_by-cons (is_sync (e ∷ past)) x [] ∙ rw other refl)
+              ap (λ b. count_by (is_sync (e ∷ past)) (if b then [] else x ∷ [])) n ∙ one_count (is_sync (e ∷ past)) x false other ∙ sym (ap (λ b. if b && true then 1 else 0) f)
         ]
       ]
 
@@ -184,3 +206,200 @@ number-old e past x q low =
 
 next-is : (n m : ℕ) → n ≡ m → m < 2 ^ 64 - 1 → next_count n ≡ m + 1
 next-is n m is low = omega arith
+
+-- the last Syncs stay where the event issues none
+no_sync : (past : Trace) (e : Event) → ((p : ℕ) → sync_in past (issued (length past) e) p ≡ None) → (p : ℕ) → last_sync (e ∷ past) p ≡ last_sync past p
+no_sync past e none p = ap (λ o. newer o (last_sync past p)) (none p)
+
+-- what the port has answered, where the event is no CR of it
+answered-same : (h : Header) (past : Trace) (e : Event) (q : ℕ) → IsAccepted h (e ∷ past) → ((resp : ℕ) (st : LineState) → e ≡ Cr q resp st → ⊥) → answered_parts (e ∷ past) q ≡ answered_parts past q
+answered-same h past (Ac p addr snoop) q accepted not_cr =
+    elim (cases_eq q p) [
+      | inl same ↦ subst (λ m. answered_parts (Ac p addr snoop ∷ past) m ≡ answered_parts past m) (sym same) (answered-now h past p addr snoop accepted)
+      | inr off ↦ idle-answered past (Ac p addr snoop) q (record { same_answers = refl; no_snoop = rw (ne_eqb q p off) refl })
+    ]
+answered-same h past (Cr p resp st) q accepted not_cr =
+    idle-answered past (Cr p resp st) q (record { same_answers = rw (ne_eqb q p (λ same. not_cr resp st (ap (λ m. Cr m resp st) (sym same)))) refl; no_snoop = refl })
+answered-same h past e q accepted not_cr = refl
+
+answered-count : (e : Event) (past : Trace) (q : ℕ) → answered_parts (e ∷ past) q ≡ answered_parts past q → answered_syncs (e ∷ past) q ≡ answered_syncs past q
+answered-count e past q same =
+    ap (count_by (is_sync (e ∷ past))) same
+    ∙ count-old e past (answered_parts past q) (start-all (IsBelow (length past)) (answered_parts past q) (parts_for past q) (answered-first past q) (parts-placed past q))
+
+-- an event that issues no Sync and no DVM Complete of the port, and is no CR of it
+port_stays : (h : Header) (past : Trace) (e : Event) (q : ℕ) (s : PortSyncs) → IsAccepted h (e ∷ past) → ((resp : ℕ) (st : LineState) → e ≡ Cr q resp st → ⊥)
+    → count_by (is_sync (e ∷ past)) (parts_in past (issued (length past) e) q) ≡ 0 → ((p : ℕ) → sync_in past (issued (length past) e) p ≡ None)
+    → dvm_completes (e ∷ past) q ≡ dvm_completes past q → PortSyncsStand past q s → PortSyncsStand (e ∷ past) q s
+port_stays h past e q s accepted not_cr none plain same k = record {
+  reached = let was = k.reached in let sum = grown e past q in omega arith;
+  answered = k.answered ∙ sym (answered-count e past q (answered-same h past e q accepted not_cr));
+  completes = k.completes ∙ sym same;
+  table = k.table;
+  numbers = λ p x small is.
+      let was : last_sync past p ≡ Some x = sym (no_sync past e plain p) ∙ is in
+      let low = (last_sync-is past p x was).0.issued.before in
+      k.numbers p x small was ∙ sym (number-old e past x q low);
+}
+
+-- what an event issues, of Syncs
+sync-in : (past : Trace) (e : Event) (x : Transaction) (p : ℕ) → issued (length past) e ≡ Some x → is_message_part x ≡ true
+    → sync_in past (issued (length past) e) p ≡ (if is_sync_word x.addr && not (is_some (first_waiting past x.port)) && nat_eq x.port p then Some x else None)
+sync-in past e x p new part =
+    ap (λ o. sync_in past o p) new ∙ rw part (ap (λ (t : Trace). if is_sync_word x.addr && not (is_some (first_waiting t x.port)) && nat_eq x.port p then Some x else None) (at_point-end past x.place (issued-place (length past) e x new)))
+
+no_sync-in : (past : Trace) (e : Event) (n : Option Transaction) (p : ℕ) → is_some_and n is_message_part ≡ false → sync_in past n p ≡ None
+no_sync-in past e None p plain = refl
+no_sync-in past e (Some x) p plain = rw plain refl
+
+not_completion : (x : Transaction) → is_message_part x ≡ true → is_dvm_completion x ≡ false
+not_completion x part = by (read_kind x) part
+  where
+    by : (o : Option ArKind) → is_some_and o is_dvm_message ≡ true → is_some_and o is_dvm_complete ≡ false
+    by None m = cc
+    by (Some kind.DvmMessage) m = refl
+    by (Some k) m = cc
+
+completes-same : (past : Trace) (e : Event) (q : ℕ) → is_some_and (issued (length past) e) (λ x. is_dvm_completion x && nat_eq x.port q) ≡ false → dvm_completes (e ∷ past) q ≡ dvm_completes past q
+completes-same past e q other = let more_by = completes-more past e q (issued (length past) e) refl in more_by ∙ rw other (omega arith)
+
+-- a Sync of the port x.port
+port_reached : (h : Header) (past : Trace) (e : Event) (x : Transaction) (q : ℕ) (s : PortSyncs) → IsAccepted h (e ∷ past) → h.ports ≤ 32 → length past < 2 ^ 64 - 1 → issued (length past) e ≡ Some x
+    → is_message_part x ≡ true → (is_sync_word x.addr && not (is_some (first_waiting past x.port))) ≡ true → x.port < h.ports
+    → PortSyncsStand past q s → PortSyncsStand (e ∷ past) q (reached_by s x.port (nat_eq q x.port))
+port_reached h past e x q s accepted few_ports few new part sync within k = record {
+  reached = reached (cases_eq q x.port);
+  answered = k.answered ∙ sym (answered-count e past q (answered-same h past e q accepted not_cr));
+  completes = k.completes ∙ sym (completes-same past e q (rw (new, not_completion x part) refl));
+  table = length-set s.numbers x.port (next_count s.reached) ∙ k.table;
+  numbers = λ p y small is. numbers p y small is (cases_eq p x.port);
+}
+  where
+    not_cr : (resp : ℕ) (st : LineState) → e ≡ Cr q resp st → ⊥
+    not_cr resp st is = let bad : None ≡ Some x = sym (ap (issued (length past)) is) ∙ new in cc
+    small_count : syncs_for past q < 2 ^ 64 - 1
+    small_count = let n = syncs-few h past q accepted.0 in omega arith
+    next : next_count s.reached ≡ syncs_for past q + 1
+    next = next-is s.reached (syncs_for past q) k.reached small_count
+    reached : (q ≡ x.port) ⊎ (q ≡ x.port → ⊥) → (if nat_eq q x.port then s.reached else next_count s.reached) ≡ syncs_for (e ∷ past) q
+    reached (inl same) =
+        let none : count_by (is_sync (e ∷ past)) (parts_in past (issued (length past) e) q) ≡ 0 = ap (λ m. count_by (is_sync (e ∷ past)) (parts_in past (issued (length past) e) m)) same ∙ own-syncs h past e x accepted new part in
+        rw (eq-eqb q x.port same) (let was = k.reached in let sum = grown e past q in omega arith)
+    reached (inr off) =
+        let one : count_by (is_sync (e ∷ past)) (parts_in past (issued (length past) e) q) ≡ 1 = sent-syncs h past e x accepted new part q (λ i. off (sym i)) ∙ rw sync refl in
+        rw (ne_eqb q x.port off) (next ∙ (let sum = grown e past q in omega arith))
+    numbers : (p : ℕ) (y : Transaction) → p < 32 → last_sync (e ∷ past) p ≡ Some y → (p ≡ x.port) ⊎ (p ≡ x.port → ⊥) → get_or (slice_set s.numbers x.port (next_count s.reached)) p 0 ≡ sync_number (e ∷ past) y q
+    numbers p y small is (inl same) =
+        let issues : sync_in past (issued (length past) e) p ≡ Some x = sync-in past e x p new part ∙ rw (sync, eq-eqb x.port p (sym same)) refl in
+        let mine : last_sync (e ∷ past) p ≡ Some x = ap (λ o. newer o (last_sync past p)) issues in
+        let one : x ≡ y = Some-injective x y (sym mine ∙ is) in
+        let at = at_point-last e past x.place (issued-place (length past) e x new) in
+        let number : sync_number (e ∷ past) x q ≡ syncs_for past q + 1 =
+        ap (λ (t : Trace). count_by (is_sync (e ∷ past)) (parts_for t q) + 1) at ∙ ap (λ n. n + 1) (count-old e past (parts_for past q) (parts-placed past q)) in
+        ap (λ m. get_or (slice_set s.numbers x.port (next_count s.reached)) m 0) same ∙ get_or-set_same s.numbers x.port (next_count s.reached) 0 (let size = k.table in omega (arith, size, within, few_ports))
+        ∙ next ∙ sym number ∙ ap (λ z. sync_number (e ∷ past) z q) one
+    numbers p y small is (inr off) =
+        let none : sync_in past (issued (length past) e) p ≡ None = sync-in past e x p new part ∙ rw (sync, ne_eqb x.port p (λ i. off (sym i))) refl in
+        let was : last_sync past p ≡ Some y = sym (ap (λ o. newer o (last_sync past p)) none) ∙ is in
+        let low = (last_sync-is past p y was).0.issued.before in
+        get_or-set_other s.numbers x.port p (next_count s.reached) 0 off ∙ k.numbers p y small was ∙ sym (number-old e past y q low)
+
+-- a DVM Complete of the port
+port_completed : (h : Header) (past : Trace) (e : Event) (x : Transaction) (s : PortSyncs) → IsAccepted h (e ∷ past) → length past < 2 ^ 64 - 1 → issued (length past) e ≡ Some x
+    → is_message_part x ≡ false → is_dvm_completion x ≡ true → PortSyncsStand past x.port s → PortSyncsStand (e ∷ past) x.port (one_completed s)
+port_completed h past e x s accepted few new plain completion k =
+    let z = port_stays-but h past e x.port s accepted (λ resp st is. let bad : None ≡ Some x = sym (ap (issued (length past)) is) ∙ new in cc)
+        (plain-syncs past e (issued (length past) e) x.port (rw new plain)) (λ p. no_sync-in past e (issued (length past) e) p (rw new plain)) k in
+    record {
+      reached = z.0;
+      answered = z.1;
+      completes =
+          let n = completes-few past x.port in
+          next-is s.completes (dvm_completes past x.port) k.completes (omega (arith, n, few))
+          ∙ sym (completes-more past e x.port (issued (length past) e) refl ∙ rw (new, completion, eq-eqb x.port x.port refl) refl);
+      table = k.table;
+      numbers = z.2;
+    }
+  where
+    port_stays-but : (h : Header) (past : Trace) (e : Event) (q : ℕ) (s : PortSyncs) → IsAccepted h (e ∷ past) → ((resp : ℕ) (st : LineState) → e ≡ Cr q resp st → ⊥)
+        → count_by (is_sync (e ∷ past)) (parts_in past (issued (length past) e) q) ≡ 0 → ((p : ℕ) → sync_in past (issued (length past) e) p ≡ None)
+        → PortSyncsStand past q s
+        → (s.reached ≡ syncs_for (e ∷ past) q) × (s.answered ≡ answered_syncs (e ∷ past) q)
+          × ((p : ℕ) (y : Transaction) → p < 32 → last_sync (e ∷ past) p ≡ Some y → get_or s.numbers p 0 ≡ sync_number (e ∷ past) y q)
+    port_stays-but h past e q s accepted not_cr none plain k = (
+        (let was = k.reached in let sum = grown e past q in omega arith),
+        k.answered ∙ sym (answered-count e past q (answered-same h past e q accepted not_cr)),
+        λ p y small is.
+          let was : last_sync past p ≡ Some y = sym (no_sync past e plain p) ∙ is in
+          let low = (last_sync-is past p y was).0.issued.before in
+          k.numbers p y small was ∙ sym (number-old e past y q low),
+      )
+
+-- a CR of the port: what it answers, and whether that is a Sync
+module _ (h : Header) (past : Trace) (q resp : ℕ) (st : LineState) (accepted : IsAccepted h (Cr q resp st ∷ past)) (t : Target) (own : t ≡ target_of h past (Cr q resp st)) where
+  abbrev cr_event : Event
+  cr_event = Cr q resp st
+
+  forwards-part : Forwards past q (answers past q) (snoop_there h past q resp st accepted).0
+  forwards-part = forwards-at h past q (answers past q) (snoop_there h past q resp st accepted).0 accepted.0 (snoop_there h past q resp st accepted).1
+
+  is-message : (part : Option Transaction) → is_some part ≡ is_some_and (ac_kind_of (snoop_there h past q resp st accepted).0.snoop) is_message_snoop → is_some part ≡ answers_message t
+  is-message part kind = kind ∙ sym (ap (λ o. is_some_and o (λ (v : Snoop). is_some_and (ac_kind_of v.snoop) is_message_snoop)) (snoop_there h past q resp st accepted).1) ∙ sym (ap answers_message own)
+
+  -- the part that is answered is the first that was not
+  first-part : (y : Transaction) → answered_parts (cr_event ∷ past) q ≡ answered_parts past q ++ y ∷ [] → slice_get (unanswered past q) 0 ≡ Some y
+  first-part y is =
+      let a = length (answered_parts past q) in
+      let at : slice_get (answered_parts (cr_event ∷ past) q) a ≡ Some y = ap (λ l. slice_get l a) is ∙ slice_get-at_end (answered_parts past q) a y refl in
+      let there = slice_get-start (answered_parts (cr_event ∷ past) q) (parts_for (cr_event ∷ past) q) a y (answered-first (cr_event ∷ past) q) at in
+      slice_get-drop (parts_for past q) a 0 a (omega arith) ∙ ap (λ l. slice_get l a) (sym (append-nil (parts_for past q))) ∙ there
+
+  first-sync : (s : Inboxes) (r : Recording) → r.header ≡ h → r.past ≡ past → InboxesStand r s → is_ace h q ≡ true → (y : Transaction) → slice_get (unanswered past q) 0 ≡ Some y
+      → is_some_and (slice_get s.ports.items q) first_is_sync ≡ is_sync past y
+  first-sync s r hs ps stands ace y there =
+      let b = inbox_of r s q stands (ap (λ v. is_ace v q) hs ∙ ace) in
+      let k = stands.ports q b.0 b.1 (ap (λ v. is_ace v q) hs ∙ ace) in
+      ap (λ o. is_some_and o first_is_sync) b.1 ∙ ap (λ l. is_some_and (slice_get l 0) is_sync_part) (k.parts_are ∙ ap (λ v. map (part_of v) (unanswered v q)) ps)
+      ∙ ap (λ o. is_some_and o is_sync_part) (slice_get-map (part_of past) (unanswered past q) 0 ∙ ap (option_map (part_of past)) there)
+
+  -- how many Syncs it has answered
+  pub answers-none : answers_message t ≡ false → answered_syncs (cr_event ∷ past) q ≡ answered_syncs past q
+  answers-none other =
+      let k = forwards-part in
+      let none : is_some k.part ≡ false = is-message k.part k.kind ∙ other in
+      answered-count cr_event past q (answered-more h past q resp st accepted k.part k.there ∙ no_more (answered_parts past q) k.part none)
+
+  pub answers-one : (s : Inboxes) (r : Recording) (sync : Bool) → r.header ≡ h → r.past ≡ past → InboxesStand r s → is_ace h q ≡ true → answers_message t ≡ true
+      → sync ≡ is_some_and (slice_get s.ports.items q) first_is_sync → answered_syncs (cr_event ∷ past) q ≡ answered_syncs past q + (if sync then 1 else 0)
+  answers-one s r sync hs ps stands ace message told = go forwards-part.part refl
+    where
+      k : Forwards past q (answers past q) (snoop_there h past q resp st accepted).0
+      k = forwards-part
+      below : (y : Transaction) → slice_get (unanswered past q) 0 ≡ Some y → y.place < length past
+      below y there = slice_get-all (IsBelow (length past)) (unanswered past q) 0 y (All-drop (IsBelow (length past)) (length (answered_parts past q)) (parts_for past q) (parts-placed past q)) there
+      go : (o : Option Transaction) → forwards-part.part ≡ o → answered_syncs (cr_event ∷ past) q ≡ answered_syncs past q + (if sync then 1 else 0)
+      go None is = let bad : false ≡ true = sym (ap is_some is) ∙ is-message forwards-part.part forwards-part.kind ∙ message in cc
+      go (Some y) is =
+          let new : answered_parts (cr_event ∷ past) q ≡ answered_parts past q ++ y ∷ [] = answered-more h past q resp st accepted forwards-part.part forwards-part.there ∙ ap (λ o. answered_parts past q ++ option_to_list o) is in
+          let there = first-part y new in
+          let same : is_sync (cr_event ∷ past) y ≡ sync = sync-old cr_event past y (below y there) ∙ sym (first-sync s r hs ps stands ace y there) ∙ sym told in
+          ap (count_by (is_sync (cr_event ∷ past))) new ∙ sum_by_push (λ z. cond {A = ℕ} (is_sync (cr_event ∷ past) z) 1 0) (answered_parts past q) y
+          ∙ ap (λ n. n + cond {A = ℕ} (is_sync (cr_event ∷ past) y) 1 0)
+            (count-old cr_event past (answered_parts past q) (start-all (IsBelow (length past)) (answered_parts past q) (parts_for past q) (answered-first past q) (parts-placed past q)))
+          ∙ ap (λ b. answered_syncs past q + cond {A = ℕ} b 1 0) same
+
+  -- so what is kept of the port
+  pub port_answers : (s n : PortSyncs) → PortSyncsStand past q s → n.reached ≡ s.reached → n.completes ≡ s.completes → n.numbers ≡ s.numbers → n.answered ≡ answered_syncs (cr_event ∷ past) q
+      → PortSyncsStand (cr_event ∷ past) q n
+  port_answers s n k reached completes numbers answered = record {
+    reached = reached ∙ k.reached ∙ sym (grown cr_event past q ∙ add_zero (syncs_for past q));
+    answered = answered;
+    completes = completes ∙ k.completes;
+    table = ap length numbers ∙ k.table;
+    numbers = λ p x small is.
+        let low = (last_sync-is past p x is).0.issued.before in
+        ap (λ l. get_or l p 0) numbers ∙ k.numbers p x small is ∙ sym (number-old cr_event past x q low);
+  }
+    where
+      add_zero : (n : ℕ) → n + 0 ≡ n
+      add_zero n = omega arith

@@ -31,6 +31,7 @@ pub record PortSyncsStand (past : Trace) (q : ℕ) (s : PortSyncs) : Type 0 wher
   pub reached : s.reached ≡ syncs_for past q
   pub answered : s.answered ≡ answered_syncs past q
   pub completes : s.completes ≡ dvm_completes past q
+  pub table : length s.numbers ≡ 32
   pub numbers : (p : ℕ) (x : Transaction) → p < 32 → last_sync past p ≡ Some x → slice_index_or s.numbers p 0 ≡ sync_number past x q
 
 pub record SyncsStand (r : Recording) (s : Syncs) : Type 0 where

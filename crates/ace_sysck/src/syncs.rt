@@ -184,9 +184,11 @@ impl Syncs {
                 self.set(x.port, more);
             }
         } else if let Event::Cr { port, .. } = *event {
-            if answers_message(target) && sync {
-                let more = one_answered(self.of(port));
-                self.set(port, more);
+            if answers_message(target) {
+                if sync {
+                    let more = one_answered(self.of(port));
+                    self.set(port, more);
+                }
             }
         }
     }
