@@ -8,7 +8,7 @@ use Rattle.std.proofs.lemmas.List.Folds.{list_any-append, list_any_none}
 use Rattle.std.proofs.lemmas.Option.{slice_get_within}
 use Rattle.ace_codes.specs.declared.kind.SnoopKind.{SnoopKind}
 use Rattle.ace_model.specs.declared.transactions.Transaction.{Transaction}
-use Rattle.ace_model.proofs.Terms.{Header, Event, Ac, Trace, implies, is_some_and, is_none_or, is_ace, is_message_part, is_message_snoop, ac_kind_of, first_waiting, parts_for, parts_among, forwarded, answered_parts, has_answered, has_part, each_port, is_other_ace, is_answered_by_all, k36, IsAccepted}
+use Rattle.ace_model.proofs.Terms.{Header, Event, Ac, Trace, implies, is_some_and, is_none_or, is_ace, is_message_part, is_message_snoop, ac_kind_of, first_waiting, parts_for, parts_among, forwarded, answered_parts, has_answered, has_part, list_all, ports_below, is_other_ace, is_answered_by_all, k36, IsAccepted}
 use Rattle.ace_model.specs.Messages.{next_part, is_second_part}
 use Rattle.ace_model.specs.OrderRules.{forwards_next}
 use Rattle.ace_model.proofs.Dvm.Parts.{parts-cases}
@@ -152,16 +152,16 @@ awaits-is r s q x stands ace =
     ap (λ o. is_some_and o (λ (v : Inbox). has_place v.parts.items x.place)) b.1 ∙ ap (λ l. has_place l x.place) k.parts_are ∙ place-in r.past (unanswered r.past q) x
 
 -- two tests that agree on each port below a number
-each_port-same : (n : ℕ) (test other : ℕ → Bool) → ((q : ℕ) → q < n → test q ≡ other q) → each_port n test ≡ each_port n other
-each_port-same zero test other same = refl
-each_port-same (suc n) test other same = rw (same n (omega arith), each_port-same n test other (λ q low. same q (omega arith))) refl
+all_ports-same : (n : ℕ) (test other : ℕ → Bool) → ((q : ℕ) → q < n → test q ≡ other q) → list_all test (ports_below n) ≡ list_all other (ports_below n)
+all_ports-same zero test other same = refl
+all_ports-same (suc n) test other same = rw (same n (omega arith), all_ports-same n test other (λ q low. same q (omega arith))) refl
 
 -- every other ACE port has answered the part
 pub answered_by_all-is : (r : Recording) (s : Inboxes) (x : Transaction) → InboxesStand r s → IsIssued r.past x → is_message_part x ≡ true
     → is_answered_by_all r.header r.past x
-    ≡ each_port r.header.ports (λ q. implies (is_other_ace r.header x.port q) (not (is_at (first_waiting r.past x.port) x.place || awaits s q x.place)))
+    ≡ list_all (λ q. implies (is_other_ace r.header x.port q) (not (is_at (first_waiting r.past x.port) x.place || awaits s q x.place))) (ports_below r.header.ports)
 answered_by_all-is r s x stands i part =
-    each_port-same r.header.ports (λ q. implies (is_other_ace r.header x.port q) (has_answered r.past x q))
+    all_ports-same r.header.ports (λ q. implies (is_other_ace r.header x.port q) (has_answered r.past x q))
     (λ q. implies (is_other_ace r.header x.port q) (not (is_at (first_waiting r.past x.port) x.place || awaits s q x.place)))
     (λ q low. elim (cases_Bool (is_other_ace r.header x.port q)) [
       | inl t ↦

@@ -6,7 +6,7 @@ use Rattle.std.proofs.lemmas.List.{append-nil, get_or-set_same, get_or-set_other
 use Rattle.std.proofs.lemmas.List.Elements.{All-weaker, All-take}
 use Rattle.std.proofs.lemmas.List.Sums.{sum_by-append, sum_by_push}
 use Rattle.ace_model.specs.declared.transactions.Transaction.{Transaction}
-use Rattle.ace_model.proofs.Terms.{Header, Event, Ar, Aw, Ac, Cr, Trace, at_point, newer, more, is_some_and, is_none_or, implies, issued, transactions, is_ace, is_message_part, is_message_word, is_sync, is_sync_word, has_second, first_waiting, part_in, waits_after, parts_with, parts_in, parts_for, last_sync, sync_in, sync_number, answered_parts, answered_syncs, dvm_completes, is_dvm_completion, begins_well, begins_message, is_part_in_order, IsAccepted, each_port, is_other_ace, owes_completion, has_every_completion, LineState, read_kind, ArKind, is_dvm_message, answers, ac_kind_of, is_message_snoop}
+use Rattle.ace_model.proofs.Terms.{Header, Event, Ar, Aw, Ac, Cr, Trace, at_point, newer, more, is_some_and, is_none_or, implies, issued, transactions, is_ace, is_message_part, is_message_word, is_sync, is_sync_word, has_second, first_waiting, part_in, waits_after, parts_with, parts_in, parts_for, last_sync, sync_in, sync_number, answered_parts, answered_syncs, dvm_completes, is_dvm_completion, begins_well, begins_message, is_part_in_order, IsAccepted, list_all, ports_below, is_other_ace, owes_completion, has_every_completion, LineState, read_kind, ArKind, is_dvm_message, answers, ac_kind_of, is_message_snoop}
 use Rattle.ace_model.specs.Kinds.{is_dvm_complete}
 use Rattle.ace_codes.specs.declared.kind.ArKind.TheVariants as kind
 use Rattle.ace_model.specs.Messages.{is_second_part}

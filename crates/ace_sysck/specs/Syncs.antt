@@ -6,7 +6,8 @@ use Rattle.ace_event.specs.declared.event.Event.TheVariants.{Cr}
 use Rattle.ace_event.specs.declared.header.Header.{Header}
 use Rattle.ace_model.specs.declared.transactions.Transaction.{Transaction}
 use Rattle.ace_model.specs.Trace.{Trace, implies, is_some_and}
-use Rattle.ace_model.specs.Grants.{each_port}
+use Rattle.std.specs.List.{list_all}
+use Rattle.ace_model.specs.Grants.{ports_below}
 use Rattle.ace_model.specs.Messages.{is_sync, parts_for, answered_syncs, dvm_completes, last_sync, sync_number, is_other_ace}
 use Rattle.ace_portck.specs.declared.target.Target.{Target}
 use Rattle.ace_portck.specs.Targets.{Recording}
@@ -67,8 +68,10 @@ pub record ReachesAll (sender : ℕ) (s n : Syncs) : Type 0 where
 -- every other ACE port has issued as many DVM Completes as the number that the port's last Sync has for it
 abbrev pub completes_all : Header → Syncs → ℕ → Bool
 completes_all h s p =
-    each_port h.ports (λ q. implies (is_other_ace h p q)
+    list_all
+    (λ q. implies (is_other_ace h p q)
     (nat_le (slice_index_or (slice_index_or s.ports.items q untold).numbers p 0) (slice_index_or s.ports.items q untold).completes))
+    (ports_below h.ports)
 
 -- an accepted trace may go on with the transaction, which is of a port of the header
 pub record MayIssueCompletion (r : Recording) (s : Syncs) (x : Transaction) : Type 0 where

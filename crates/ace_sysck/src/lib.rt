@@ -10,4 +10,7 @@ mod monitors;
 mod registrations;
 mod results;
 mod syncs;
+mod system;
 mod words;
+
+pub use system::SysCheck;

@@ -1,0 +1,10 @@
+use Rattle.std.proofs.Common.{◌≡◌, ◌∙◌, None, Some, refl, sym}
+use Rattle.ace_model.specs.Trace.{is_some_and}
+use Rattle.ace_sysck.proofs.ExclusiveLaws.{failed-is}
+use Rattle.ace_sysck.proofs.system.SysCheck.failed.Goals as goal
+
+pub returns-in-None : goal.returns-in-None
+returns-in-None c r x s out = failed-is r.header r.past c.args.port c.args.id x None out (c.in-None.ensures r s.results)
+
+pub returns-in-Some : goal.returns-in-Some
+returns-in-Some c r x s out = failed-is r.header r.past c.args.port c.args.id x (Some c.in-Some.passed) out (c.in-Some.ensures r s.results)
