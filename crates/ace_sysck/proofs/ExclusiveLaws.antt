@@ -37,18 +37,19 @@ result-store (e ∷ past) p i x v t r =
     elim (cases_Bool (is_named (issued (length past) e) p Read i)) [
       | inl named ↦ let bad : None ≡ Some v = rw named at r in cc
       | inr other ↦
-          here (given past e) (sym (newest_named-older (issued (length past) e) p Read i (transaction_of past p Read i) other) ∙ t) refl (rw other at r)
+          let was : transaction_of past p Read i ≡ Some x = sym (newest_named-older (issued (length past) e) p Read i (transaction_of past p Read i) other) ∙ t in
+          here (λ old. result-store past p i x v was old) was (given past e) refl (rw other at r)
     ]
   where
-    here : (o : Option Transaction) → transaction_of past p Read i ≡ Some x → given past e ≡ o → newer (store_result past o p i) (passed_at_grant past p i) ≡ Some v
-        → is_exclusive_store x ≡ true
-    here None was is r = result-store past p i x v was r
-    here (Some y) was is r =
+    here : (passed_at_grant past p i ≡ Some v → is_exclusive_store x ≡ true) → transaction_of past p Read i ≡ Some x → (o : Option Transaction) → given past e ≡ o
+        → newer (store_result past o p i) (passed_at_grant past p i) ≡ Some v → is_exclusive_store x ≡ true
+    here old was None is now = old now
+    here old was (Some y) is now =
         elim (cases_Bool (has_name y p Read i && is_exclusive_store y)) [
           | inl both ↦
               let parts = and_parts (has_name y p Read i) (is_exclusive_store y) both in
               ap is_exclusive_store (Some-injective x y (sym was ∙ given-named past e y p i is parts.0)) ∙ parts.1
-          | inr plain ↦ result-store past p i x v was (rw plain at r)
+          | inr plain ↦ old (rw plain at now)
         ]
 
 -- the outstanding read under a name is an exclusive store that failed, where the result of the name says so

@@ -9,6 +9,7 @@ mod messages;
 mod monitors;
 mod registrations;
 mod results;
+mod rules;
 mod syncs;
 mod system;
 mod words;

@@ -1,5 +1,4 @@
-use Rattle.std.proofs.Common.{◌≡◌, ◌∙◌, None, Some, refl, sym}
-use Rattle.ace_model.specs.Trace.{is_some_and}
+use Rattle.std.proofs.Common.{None, Some}
 use Rattle.ace_sysck.proofs.ExclusiveLaws.{failed-is}
 use Rattle.ace_sysck.proofs.system.SysCheck.failed.Goals as goal
 

@@ -1,5 +1,4 @@
-use Rattle.std.proofs.Common.{◌≡◌, ◌∙◌, Some, sym}
-use Rattle.ace_model.specs.declared.transactions.Transaction.{Transaction}
+use Rattle.std.proofs.Common.{◌∙◌, sym, ap}
 use Rattle.ace_model.specs.Exclusives.{store_passes}
 use Rattle.ace_model.proofs.General.Options.{Some-injective}
 use Rattle.ace_sysck.proofs.ExclusiveLaws.{granted-given}
