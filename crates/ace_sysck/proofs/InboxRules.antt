@@ -152,7 +152,7 @@ awaits-is r s q x stands ace =
     ap (λ o. is_some_and o (λ (v : Inbox). has_place v.parts.items x.place)) b.1 ∙ ap (λ l. has_place l x.place) k.parts_are ∙ place-in r.past (unanswered r.past q) x
 
 -- two tests that agree on each port below a number
-each_port-same : (n : ℕ) (test other : ℕ → Bool) → ((q : ℕ) → q < n → test q ≡ other q) → each_port n test ≡ each_port n other
+pub each_port-same : (n : ℕ) (test other : ℕ → Bool) → ((q : ℕ) → q < n → test q ≡ other q) → each_port n test ≡ each_port n other
 each_port-same zero test other same = refl
 each_port-same (suc n) test other same = rw (same n (omega arith), each_port-same n test other (λ q low. same q (omega arith))) refl
 

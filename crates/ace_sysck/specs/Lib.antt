@@ -7,3 +7,4 @@ pub mod Barriers
 pub mod Messages
 pub mod Inboxes
 pub mod Syncs
+pub mod Rules

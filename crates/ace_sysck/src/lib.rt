@@ -9,5 +9,6 @@ mod messages;
 mod monitors;
 mod registrations;
 mod results;
+mod rules;
 mod syncs;
 mod words;

@@ -75,7 +75,8 @@ fn part_issued(kept: PortMessages, x: Transaction) -> PortMessages
     }
 }
 
-fn is_at(x: Option<Transaction>, place: usize) -> bool
+/// It is the transaction at the place.
+pub fn is_at(x: Option<Transaction>, place: usize) -> bool
     ensures { result ≡ is_at x place }
 {
     match x {
