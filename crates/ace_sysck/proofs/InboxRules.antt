@@ -152,7 +152,7 @@ awaits-is r s q x stands ace =
     ap (λ o. is_some_and o (λ (v : Inbox). has_place v.parts.items x.place)) b.1 ∙ ap (λ l. has_place l x.place) k.parts_are ∙ place-in r.past (unanswered r.past q) x
 
 -- two tests that agree on each port below a number
-all_ports-same : (n : ℕ) (test other : ℕ → Bool) → ((q : ℕ) → q < n → test q ≡ other q) → list_all test (ports_below n) ≡ list_all other (ports_below n)
+pub all_ports-same : (n : ℕ) (test other : ℕ → Bool) → ((q : ℕ) → q < n → test q ≡ other q) → list_all test (ports_below n) ≡ list_all other (ports_below n)
 all_ports-same zero test other same = refl
 all_ports-same (suc n) test other same = rw (same n (omega arith), all_ports-same n test other (λ q low. same q (omega arith))) refl
 

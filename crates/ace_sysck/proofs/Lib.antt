@@ -20,3 +20,4 @@ pub mod InboxMoves
 pub mod InboxHears
 pub mod SyncSteps
 pub mod ExclusiveLaws
+pub mod RuleLaws

@@ -28,6 +28,10 @@ use Rattle.ace_sysck.specs.declared.syncs.Syncs.{Syncs}
 use Rattle.ace_sysck.specs.Events.{begun_in}
 use Rattle.ace_sysck.specs.Messages.{PortMessagesStand, is_new_sync}
 use Rattle.ace_sysck.specs.Syncs.{SyncsStand, PortSyncsStand, MayIssueCompletion, ReachesAll, syncs_for, next_count, untold, reached_by, one_answered, one_completed, completes_all}
+use Rattle.ace_sysck.specs.Steps.{IsStep}
+use Rattle.ace_sysck.proofs.Tables.{set_at}
+use Rattle.ace_sysck.proofs.Steps.{port_within}
+use Rattle.ace_sysck.proofs.BarrierSteps.{issuing-port}
 use Rattle.ace_sysck.proofs.EventLaws.{begun-is}
 use Rattle.ace_sysck.proofs.InboxHears.{Idle, idle-answered, answered-now, answered-more, snoop_there, no_more}
 use Rattle.std.specs.Option.{option_map, option_to_list}
@@ -37,7 +41,7 @@ use Rattle.ace_model.proofs.General.Lists.{slice_get-at_end, slice_get-start, sl
 use Rattle.ace_sysck.specs.declared.inboxes.Inboxes.{Inboxes}
 use Rattle.ace_sysck.specs.Inboxes.{InboxesStand, part_of, first_is_sync, is_sync_part, answers_message}
 use Rattle.ace_sysck.proofs.PartLaws.{Forwards, forwards-at}
-use Rattle.ace_sysck.proofs.InboxRules.{unanswered, inbox_of, slice_get-map}
+use Rattle.ace_sysck.proofs.InboxRules.{unanswered, inbox_of, slice_get-map, all_ports-same}
 use Rattle.ace_sysck.proofs.PartLaws.{Waits, waits-is, waits-old}
 
 -- what is kept after the empty trace
@@ -403,3 +407,149 @@ module _ (h : Header) (past : Trace) (q resp : ℕ) (st : LineState) (accepted :
     where
       add_zero : (n : ℕ) → n + 0 ≡ n
       add_zero n = omega arith
+
+-- a list in which one port's is set
+syncs_set : (r : Recording) (s n : Syncs) (e : Event) (q : ℕ) (v : PortSyncs) → SyncsStand r s → q < r.header.ports → n.ports.items ≡ slice_set s.ports.items q v
+    → PortSyncsStand (e ∷ r.past) q v → ((p : ℕ) (m : PortSyncs) → (q ≡ p → ⊥) → PortSyncsStand r.past p m → PortSyncsStand (e ∷ r.past) p m) → SyncsStand (after r e) n
+syncs_set r s n e q v stands within items new others = record {
+  size = ap length items ∙ length-set s.ports.items q v ∙ stands.size;
+  ports = λ p low_p.
+      let low : q < length s.ports.items = let k = stands.size in omega arith in
+      subst (PortSyncsStand (e ∷ r.past) p) (sym (ap (λ xs. get_or xs p untold) items ∙ set_at s.ports.items q p v untold low)) (by p low_p (cases_eq q p));
+}
+  where
+    by : (p : ℕ) → p < r.header.ports → (q ≡ p) ⊎ (q ≡ p → ⊥) → PortSyncsStand (e ∷ r.past) p (if nat_eq q p then v else get_or s.ports.items p untold)
+    by p low (inl same) = rw (eq-eqb q p same) (subst (λ m. PortSyncsStand (e ∷ r.past) m v) same new)
+    by p low (inr off) = rw (ne_eqb q p off) (others p (get_or s.ports.items p untold) off (stands.ports p low))
+
+syncs_all : (r : Recording) (s : Syncs) (e : Event) → SyncsStand r s → ((p : ℕ) (m : PortSyncs) → PortSyncsStand r.past p m → PortSyncsStand (e ∷ r.past) p m) → SyncsStand (after r e) s
+syncs_all r s e stands each = record { size = stands.size; ports = λ p low. each p (get_or s.ports.items p untold) (stands.ports p low) }
+
+-- an event that issues something is no CR
+issues-no_cr : (past : Trace) (e : Event) (x : Transaction) (q : ℕ) → issued (length past) e ≡ Some x → (resp : ℕ) (st : LineState) → e ≡ Cr q resp st → ⊥
+issues-no_cr past e x q new resp st is = let bad : None ≡ Some x = sym (ap (issued (length past)) is) ∙ new in cc
+
+-- a Sync
+pub syncs_sync : (r : Recording) (s n : Syncs) (e : Event) (t : Target) (x : Transaction) (m : PortMessages) → IsStep r e t → begun_in e t ≡ Some x → is_message_part x ≡ true
+    → is_new_sync m x ≡ true → PortMessagesStand r.past x.port m → SyncsStand r s → ReachesAll x.port s n → SyncsStand (after r e) n
+syncs_sync r s n e t x m step begun part sync kept stands reaches = record {
+  size = reaches.size ∙ stands.size;
+  ports = λ q low.
+      let inside : q < length s.ports.items = let k = stands.size in omega arith in
+      subst (PortSyncsStand (e ∷ r.past) q) (sym (reaches.each q inside))
+      (port_reached r.header r.past e x q (get_or s.ports.items q untold) step.accepted step.header.most_ports step.few new part
+      (ap (λ o. is_sync_word x.addr && not (is_some o)) (sym kept.first) ∙ sync) (port_within r.header r.past e x.port step.accepted (issuing-port r.past e x new)) (stands.ports q low));
+}
+  where
+    new : issued (length r.past) e ≡ Some x
+    new = sym (begun-is r.header r.past e t step.target) ∙ begun
+
+-- any other part
+pub syncs_part : (r : Recording) (s : Syncs) (e : Event) (t : Target) (x : Transaction) (m : PortMessages) → IsStep r e t → begun_in e t ≡ Some x → is_message_part x ≡ true
+    → is_new_sync m x ≡ false → PortMessagesStand r.past x.port m → SyncsStand r s → SyncsStand (after r e) s
+syncs_part r s e t x m step begun part other kept stands = syncs_all r s e stands (λ q k st.
+    port_stays r.header r.past e q k step.accepted (issues-no_cr r.past e x q new) (none q (cases_eq x.port q))
+    (λ p. sync-in r.past e x p new part ∙ ap (λ b. if b && nat_eq x.port p then Some x else None) plain)
+    (completes-same r.past e q (rw (new, not_completion x part) refl)) st)
+  where
+    new : issued (length r.past) e ≡ Some x
+    new = sym (begun-is r.header r.past e t step.target) ∙ begun
+    plain : (is_sync_word x.addr && not (is_some (first_waiting r.past x.port))) ≡ false
+    plain = ap (λ o. is_sync_word x.addr && not (is_some o)) (sym kept.first) ∙ other
+    none : (q : ℕ) → (x.port ≡ q) ⊎ (x.port ≡ q → ⊥) → count_by (is_sync (e ∷ r.past)) (parts_in r.past (issued (length r.past) e) q) ≡ 0
+    none q (inl same) = ap (λ k. count_by (is_sync (e ∷ r.past)) (parts_in r.past (issued (length r.past) e) k)) (sym same) ∙ own-syncs r.header r.past e x step.accepted new part
+    none q (inr off) = sent-syncs r.header r.past e x step.accepted new part q off ∙ ap (λ b. if b then 1 else 0) plain
+
+-- a DVM Complete
+pub syncs_completion : (r : Recording) (s n : Syncs) (e : Event) (t : Target) (x : Transaction) → IsStep r e t → begun_in e t ≡ Some x → is_message_part x ≡ false → is_dvm_completion x ≡ true
+    → SyncsStand r s → n.ports.items ≡ slice_set s.ports.items x.port (one_completed (get_or s.ports.items x.port untold)) → SyncsStand (after r e) n
+syncs_completion r s n e t x step begun plain completion stands items =
+    syncs_set r s n e x.port (one_completed (get_or s.ports.items x.port untold)) stands within items
+    (port_completed r.header r.past e x (get_or s.ports.items x.port untold) step.accepted step.few new plain completion (stands.ports x.port within))
+    (λ p k off st. port_stays r.header r.past e p k step.accepted (issues-no_cr r.past e x p new) (plain-syncs r.past e (issued (length r.past) e) p (rw new plain))
+      (λ m. no_sync-in r.past e (issued (length r.past) e) m (rw new plain)) (completes-same r.past e p (rw (new, completion, ne_eqb x.port p off) refl)) st)
+  where
+    new : issued (length r.past) e ≡ Some x
+    new = sym (begun-is r.header r.past e t step.target) ∙ begun
+    within : x.port < r.header.ports
+    within = port_within r.header r.past e x.port step.accepted (issuing-port r.past e x new)
+
+-- any other transaction
+pub syncs_plain : (r : Recording) (s : Syncs) (e : Event) (t : Target) (x : Transaction) → IsStep r e t → begun_in e t ≡ Some x → is_message_part x ≡ false → is_dvm_completion x ≡ false
+    → SyncsStand r s → SyncsStand (after r e) s
+syncs_plain r s e t x step begun plain other stands =
+    let new : issued (length r.past) e ≡ Some x = sym (begun-is r.header r.past e t step.target) ∙ begun in
+    syncs_all r s e stands (λ p k st. port_stays r.header r.past e p k step.accepted (issues-no_cr r.past e x p new) (plain-syncs r.past e (issued (length r.past) e) p (rw new plain))
+      (λ m. no_sync-in r.past e (issued (length r.past) e) m (rw new plain)) (completes-same r.past e p (rw (new, other) refl)) st)
+
+-- an event that issues nothing, for a port of which it is no CR
+quiet_port : (h : Header) (past : Trace) (e : Event) (q : ℕ) (s : PortSyncs) → IsAccepted h (e ∷ past) → issued (length past) e ≡ None → ((resp : ℕ) (st : LineState) → e ≡ Cr q resp st → ⊥)
+    → PortSyncsStand past q s → PortSyncsStand (e ∷ past) q s
+quiet_port h past e q s accepted none not_cr st =
+    port_stays h past e q s accepted not_cr (ap (λ o. count_by (is_sync (e ∷ past)) (parts_in past o q)) none) (λ p. ap (λ o. sync_in past o p) none) (completes-same past e q (rw none refl)) st
+
+pub syncs_quiet : (r : Recording) (s : Syncs) (e : Event) (t : Target) → IsStep r e t → begun_in e t ≡ None → ((q resp : ℕ) (st : LineState) → e ≡ Cr q resp st → ⊥) → SyncsStand r s → SyncsStand (after r e) s
+syncs_quiet r s e t step begun not_cr stands =
+    syncs_all r s e stands (λ q k st. quiet_port r.header r.past e q k step.accepted (sym (begun-is r.header r.past e t step.target) ∙ begun) (not_cr q) st)
+
+-- a CR that answers a Sync
+pub syncs_answer : (r : Recording) (s n : Syncs) (t : Target) (q resp : ℕ) (st : LineState) (boxes : Inboxes) (sync : Bool) → IsStep r (Cr q resp st) t → answers_message t ≡ true → sync ≡ true
+    → InboxesStand r boxes → sync ≡ is_some_and (slice_get boxes.ports.items q) first_is_sync → SyncsStand r s
+    → n.ports.items ≡ slice_set s.ports.items q (one_answered (get_or s.ports.items q untold)) → SyncsStand (after r (Cr q resp st)) n
+syncs_answer r s n t q resp st boxes sync step message is_one boxes_stand told stands items =
+    syncs_set r s n e q (one_answered k) stands within items
+    (port_answers r.header r.past q resp st step.accepted t step.target k (one_answered k) (stands.ports q within) refl refl refl answered)
+    (λ p m off z. quiet_port r.header r.past e p m step.accepted refl (λ a b is. off (cr-port is)) z)
+  where
+    e : Event
+    e = Cr q resp st
+    k : PortSyncs
+    k = get_or s.ports.items q untold
+    within : q < r.header.ports
+    within = port_within r.header r.past (Cr q resp st) q step.accepted refl
+    ace : is_ace r.header q ≡ true
+    ace = (and_parts (nat_lt q r.header.ports) (is_ace r.header q) (accepted_keeps r.header r.past (Cr q resp st) step.accepted).rule_1).1
+    answered : next_count k.answered ≡ answered_syncs (Cr q resp st ∷ r.past) q
+    answered =
+        let few = answered-few r.header r.past q step.accepted.0 in
+        let low = step.few in
+        next-is k.answered (answered_syncs r.past q) (stands.ports q within).answered (omega (arith, few, low))
+        ∙ sym (answers-one r.header r.past q resp st step.accepted t step.target boxes r sync refl refl boxes_stand ace message told ∙ ap (λ b. answered_syncs r.past q + (if b then 1 else 0)) is_one)
+    cr-port : {p a : ℕ} {b : LineState} → Cr q resp st ≡ Cr p a b → q ≡ p
+    cr-port is = cc
+
+-- any other CR
+pub syncs_other_cr : (r : Recording) (s : Syncs) (t : Target) (q resp : ℕ) (st : LineState) → IsStep r (Cr q resp st) t
+    → answered_syncs (Cr q resp st ∷ r.past) q ≡ answered_syncs r.past q → SyncsStand r s → SyncsStand (after r (Cr q resp st)) s
+syncs_other_cr r s t q resp st step same stands = syncs_all r s (Cr q resp st) stands (λ p k z. elim (cases_eq q p) [
+    | inl own ↦ subst (λ m. PortSyncsStand (Cr q resp st ∷ r.past) m k) own (mine k (subst (λ m. PortSyncsStand r.past m k) (sym own) z))
+    | inr off ↦ quiet_port r.header r.past (Cr q resp st) p k step.accepted refl (λ a b is. off (cr-port is)) z
+  ])
+  where
+    cr-port : {p a : ℕ} {b : LineState} → Cr q resp st ≡ Cr p a b → q ≡ p
+    cr-port is = cc
+    mine : (k : PortSyncs) → PortSyncsStand r.past q k → PortSyncsStand (Cr q resp st ∷ r.past) q k
+    mine k z = port_answers r.header r.past q resp st step.accepted t step.target k k z refl refl refl (z.answered ∙ sym same)
+
+pub syncs_no_message : (r : Recording) (s : Syncs) (t : Target) (q resp : ℕ) (st : LineState) → IsStep r (Cr q resp st) t → answers_message t ≡ false → SyncsStand r s → SyncsStand (after r (Cr q resp st)) s
+syncs_no_message r s t q resp st step other stands =
+    syncs_other_cr r s t q resp st step (answers-none r.header r.past q resp st step.accepted t step.target other) stands
+
+pub syncs_no_sync : (r : Recording) (s : Syncs) (t : Target) (q resp : ℕ) (st : LineState) (boxes : Inboxes) (sync : Bool) → IsStep r (Cr q resp st) t → answers_message t ≡ true → sync ≡ false
+    → InboxesStand r boxes → sync ≡ is_some_and (slice_get boxes.ports.items q) first_is_sync → SyncsStand r s → SyncsStand (after r (Cr q resp st)) s
+syncs_no_sync r s t q resp st boxes sync step message other boxes_stand told stands =
+    let ace = (and_parts (nat_lt q r.header.ports) (is_ace r.header q) (accepted_keeps r.header r.past (Cr q resp st) step.accepted).rule_1).1 in
+    syncs_other_cr r s t q resp st step
+    (answers-one r.header r.past q resp st step.accepted t step.target boxes r sync refl refl boxes_stand ace message told ∙ rw other (omega arith)) stands
+
+-- K39's part on the other ports
+pub completes_all-is : (r : Recording) (s : Syncs) (x : Transaction) (p : ℕ) → SyncsStand r s → p < 32 → last_sync r.past p ≡ Some x → x.port ≡ p
+    → has_every_completion r.header r.past x ≡ completes_all r.header s p
+completes_all-is r s x p stands small is port =
+    all_ports-same r.header.ports (λ q. implies (is_other_ace r.header x.port q) (nat_le (sync_number r.past x q) (dvm_completes r.past q)))
+    (λ q. implies (is_other_ace r.header p q) (nat_le (get_or (get_or s.ports.items q untold).numbers p 0) (get_or s.ports.items q untold).completes))
+    (λ q low.
+      let k = stands.ports q low in
+      ap (λ m. implies (is_other_ace r.header m q) (nat_le (sync_number r.past x q) (dvm_completes r.past q))) port
+      ∙ ap (λ n. implies (is_other_ace r.header p q) (nat_le n (dvm_completes r.past q))) (sym (k.numbers p x small is))
+      ∙ ap (λ n. implies (is_other_ace r.header p q) (nat_le (get_or (get_or s.ports.items q untold).numbers p 0) n)) (sym k.completes))

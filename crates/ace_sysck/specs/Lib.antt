@@ -7,4 +7,5 @@ pub mod Barriers
 pub mod Messages
 pub mod Inboxes
 pub mod Syncs
+pub mod Rules
 pub mod Stands

@@ -1,5 +1,5 @@
 -- What is kept of the Syncs that reach each port, and of its DVM Completes.
-use Rattle.std.specs.Prelude.{ℕ, ◌≡◌, ◌≤◌, ◌<◌, ◌+◌, ◌-◌, ◌^◌, Bool, true, false, not, min, ◌&&◌, ◌==◌, nat_lt, nat_le, if◌then◌else◌, [], ◌∷◌, length, replicate, slice_set, slice_index_or, slice_get, count_by, Option, Some, is_some}
+use Rattle.std.specs.Prelude.{ℕ, ◌≡◌, ◌≤◌, ◌<◌, ◌+◌, ◌-◌, ◌^◌, Bool, true, false, not, min, ◌&&◌, ◌==◌, nat_lt, nat_le, if◌then◌else◌, [], ◌∷◌, length, replicate, slice_set, slice_index_or, slice_get, count_by, Option, Some}
 use Rattle.ace_codes.specs.declared.state.LineState.{LineState}
 use Rattle.ace_event.specs.declared.event.Event.{Event}
 use Rattle.ace_event.specs.declared.event.Event.TheVariants.{Cr}
@@ -86,7 +86,3 @@ pub record MayHearSyncs (r : Recording) (s : Syncs) (e : Event) (t : Target) (ke
   pub inboxes : Inboxes
   pub inboxes_stand : InboxesStand r inboxes
   pub sync_is : (p resp : ℕ) (st : LineState) → e ≡ Cr p resp st → sync ≡ is_some_and (slice_get inboxes.ports.items p) first_is_sync
-
--- the port's last Sync may have its AC DVM Complete
-abbrev pub may_complete : Header → PortMessages → Syncs → ℕ → Bool
-may_complete h m s p = is_some m.sync && m.sync_done && not m.sync_completed && completes_all h s p

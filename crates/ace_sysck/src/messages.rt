@@ -75,6 +75,7 @@ fn part_issued(kept: PortMessages, x: Transaction) -> PortMessages
     }
 }
 
+/// It is the transaction at the place.
 pub fn is_at(x: Option<Transaction>, place: usize) -> bool
     ensures { result ≡ is_at x place }
 {

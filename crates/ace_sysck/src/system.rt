@@ -1,6 +1,6 @@
 //! The rules that look at the system as a whole, over what is kept of it.
 
-ghost use Rattle.std.specs.Prelude.{◌≡◌};
+ghost use Rattle.std.specs.Prelude.{◌≡◌, Some, if◌then◌else◌};
 
 use crate::barriers::Barriers;
 use crate::events::{begun_in, granted_in};
@@ -9,6 +9,7 @@ use crate::messages::{Messages, PortMessages};
 use crate::monitors::Monitors;
 use crate::registrations::Registrations;
 use crate::results::Results;
+use crate::rules::{keeps_k9, keeps_k21, keeps_k37, keeps_k38, keeps_k39};
 use crate::syncs::Syncs;
 use ace_event::{Event, Header};
 use ace_portck::{NoMemory, Target};
@@ -27,6 +28,17 @@ pub struct SysCheck {
     syncs: Syncs,
 }
 
+/// The number of a rule that isn't kept, else what the rules after it say.
+fn unless(kept: bool, number: u8, rest: Option<u8>) -> Option<u8>
+    ensures { result ≡ (if kept then rest else Some number) }
+{
+    if kept {
+        rest
+    } else {
+        Some(number)
+    }
+}
+
 impl SysCheck {
     ghost use Rattle.std.specs.Prelude.{◌≡◌, ℕ, [], true, Some, OnOk, OnErr, IfOk, slice_get};
     ghost use Rattle.ace_codes.specs.declared.state.LineState.{LineState};
@@ -34,6 +46,9 @@ impl SysCheck {
     ghost use Rattle.ace_event.specs.declared.event.Channel.TheVariants.{Read};
     ghost use Rattle.ace_event.specs.declared.event.Event.TheVariants.{Cr};
     ghost use Rattle.ace_model.specs.declared.transactions.Transaction.{Transaction};
+    ghost use Rattle.ace_model.specs.Accepted.{least_of};
+    ghost use Rattle.ace_model.specs.AddressRules.{k1};
+    ghost use Rattle.ace_model.specs.Shares.{system_rules};
     ghost use Rattle.ace_model.specs.Exclusives.{has_failed, store_passes};
     ghost use Rattle.ace_model.specs.Grants.{given};
     ghost use Rattle.ace_model.specs.Trace.{is_some_and};
@@ -78,6 +93,24 @@ impl SysCheck {
             inboxes,
             syncs,
         })
+    }
+
+    /// The least rule of the share that the event breaks, if it breaks one and keeps K1.
+    pub fn test(&self, event: &Event, target: &Target) -> Option<u8>
+        ensures { (r : Recording) → MayTest self.now r event.now target.now → k1 r.header r.past event.now ≡ true
+            → result ≡ least_of system_rules r.header r.past event.now }
+    {
+        let header = &self.header;
+        let from_39 = unless(keeps_k39(header, &self.messages, &self.syncs, event), 39, None);
+        let from_38 = unless(keeps_k38(&self.syncs, event, target), 38, from_39);
+        let answered = keeps_k37(header, &self.messages, &self.inboxes, event, target);
+        let from_37 = unless(answered, 37, from_38);
+        let from_36 = unless(self.inboxes.keeps_k36(event), 36, from_37);
+        let from_35 = unless(self.barriers.keeps_k35(event, target), 35, from_36);
+        let from_34 = unless(self.barriers.keeps_k34(event, target), 34, from_35);
+        let from_33 = unless(self.monitors.keeps_k33(event), 33, from_34);
+        let from_21 = unless(keeps_k21(&self.results, event, target), 21, from_33);
+        unless(keeps_k9(&self.barriers, &self.messages, event, target), 9, from_21)
     }
 
     /// Makes room for what the event leaves. There is no memory for it only where the event grants a line to a transaction with
