@@ -1,5 +1,5 @@
 -- What the result under a name says of the transaction that has it, and what a G grants.
-use Rattle.std.proofs.Common.{◌≡◌, ℕ, Bool, true, false, not, ◌&&◌, if◌then◌else◌, [], ◌∷◌, length, Option, Some, None, refl, sym, ap, ◌∙◌, inl, inr}
+use Rattle.std.proofs.Common.{◌≡◌, ℕ, Bool, true, false, not, ◌&&◌, [], ◌∷◌, length, Option, Some, None, refl, sym, ap, ◌∙◌, inl, inr}
 use Rattle.std.proofs.lemmas.Bool.{cases_Bool, and_parts, and_right}
 use Rattle.ace_model.specs.declared.transactions.Transaction.{Transaction}
 use Rattle.ace_model.proofs.Terms.{Event, G, Read, Header, Trace, IsAccepted, is_exclusive_store, transaction_of, outstanding, given, issued, is_named, has_name, passed_at_grant, has_failed, store_result, is_some_and, newer}

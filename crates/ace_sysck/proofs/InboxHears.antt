@@ -1,20 +1,19 @@
 -- The inboxes, event by event.
-use Rattle.std.proofs.Common.{◌≡◌, ◌≢◌, ◌⊎◌, ℕ, zero, suc, ◌+◌, ◌-◌, ◌*◌, ◌<◌, ◌≤◌, Bool, true, false, not, ◌&&◌, nat_eq, if◌then◌else◌, List, [], ◌∷◌, ◌++◌, length, map, take, drop, slice_get, get_or, Option, Some, None, is_some, refl, sym, ap, subst, ◌∙◌, arith, inl, inr, length-append, length-drop, le_refl}
-use Rattle.std.specs.List.{All, flat_map}
+use Rattle.std.proofs.Common.{◌≡◌, ℕ, zero, suc, ◌+◌, ◌-◌, ◌*◌, ◌<◌, ◌≤◌, true, false, nat_eq, if◌then◌else◌, List, [], ◌∷◌, ◌++◌, length, map, take, drop, slice_get, Option, Some, None, is_some, refl, sym, ap, subst, ◌∙◌, arith, inl, inr, length-append, length-drop}
 use Rattle.std.specs.Option.{option_to_list}
 use Rattle.std.specs.VecDeque.{deque_capacity}
-use Rattle.std.proofs.lemmas.Bool.{cases_Bool, cases_eq, cases_lt, and_parts, eqb-true, eq-eqb, ne_eqb, ltb-true}
+use Rattle.std.proofs.lemmas.Bool.{cases_Bool, cases_eq, eq-eqb, ne_eqb}
 use Rattle.std.proofs.lemmas.List.{append-nil, map-append, length-map, drop-append-le, drop-drop, take-append-le, take_more}
 use Rattle.std.proofs.lemmas.List.Concat.{flat_map-append}
 use Rattle.std.proofs.lemmas.List.Elements.{All-drop}
 use Rattle.std.proofs.lemmas.Option.{slice_get_within, get_or_from_slice_get}
 use Rattle.ace_model.specs.declared.snoops.Snoop.{Snoop}
 use Rattle.ace_model.specs.declared.transactions.Transaction.{Transaction}
-use Rattle.ace_model.proofs.Terms.{Header, Event, Ar, Aw, Ac, Cr, Trace, is_some_and, more, is_ace, issued, transactions, IsTransaction, LineState, is_message_part, is_message_snoop, ac_kind_of, first_waiting, parts_with, parts_in, parts_for, parts_among, forwarded, forwards, next_after, add_forwarded, answered_parts, snoops_of, snoop_at, answers, answered, IsAccepted}
+use Rattle.ace_model.proofs.Terms.{Header, Event, Ar, Aw, Ac, Cr, Trace, is_some_and, is_ace, issued, transactions, IsTransaction, LineState, is_message_part, is_message_snoop, ac_kind_of, parts_in, parts_for, parts_among, forwarded, forwards, next_after, add_forwarded, answered_parts, snoops_of, snoop_at, answers, answered, IsAccepted}
 use Rattle.ace_model.proofs.Rules.Keeps.{accepted_keeps}
 use Rattle.ace_model.proofs.Dvm.Parts.{IsBelow, parts-placed}
 use Rattle.ace_model.proofs.Dvm.Forwarding.{answered-first}
-use Rattle.ace_model.proofs.Trace.Growth.{IsIssued, transaction-issued}
+use Rattle.ace_model.proofs.Trace.Growth.{IsIssued}
 use Rattle.ace_model.proofs.Outstanding.Issued.{issued-place_in}
 use Rattle.ace_model.proofs.General.Options.{Some-injective, some_is}
 use Rattle.ace_model.proofs.General.Lists.{start-length, slice_get-more}

@@ -21,3 +21,4 @@ pub mod InboxHears
 pub mod SyncSteps
 pub mod ExclusiveLaws
 pub mod RuleLaws
+pub mod Judging

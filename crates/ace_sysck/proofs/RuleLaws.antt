@@ -1,26 +1,18 @@
 -- What the rules over several groups say.
-use Rattle.std.proofs.Common.{◌≡◌, ◌⊎◌, ℕ, ◌<◌, Bool, true, false, not, ◌&&◌, nat_eq, nat_lt, if◌then◌else◌, [], ◌∷◌, length, get_or, Option, Some, None, is_some, refl, sym, ap, subst, ◌∙◌, arith, inl, inr}
-use Rattle.std.proofs.lemmas.Bool.{cases_Bool, and_parts, ltb-true}
+use Rattle.std.proofs.Common.{◌≡◌, ℕ, ◌<◌, Bool, true, false, not, ◌&&◌, nat_eq, nat_lt, get_or, Option, Some, None, is_some, refl, sym, ap, ◌∙◌, arith}
+use Rattle.std.proofs.lemmas.Bool.{and_parts, ltb-true}
 use Rattle.ace_codes.specs.declared.kind.SnoopKind.{SnoopKind}
-use Rattle.ace_event.specs.declared.event.Channel.TheVariants.{Read, Write}
 use Rattle.ace_model.specs.declared.transactions.Transaction.{Transaction}
-use Rattle.ace_model.proofs.Terms.{Header, Event, Ac, R, G, Channel, Trace, implies, is_some_and, is_none_or, newer, is_named, has_name, issued, given, transaction_of, newest_named, outstanding, is_exclusive_store, passed_at_grant, store_result, is_message_part, is_answered_by_all, is_completed, is_complete_snoop, ac_kind_of, last_sync, is_sync_completed, may_complete, has_every_completion, completes_next, k37, k39, IsAccepted}
-use Rattle.ace_model.specs.Exclusives.{store_passes}
-use Rattle.ace_model.specs.Trace.{port_of}
-use Rattle.ace_model.specs.AddressRules.{may_have}
+use Rattle.ace_model.proofs.Terms.{Header, Ac, implies, is_some_and, is_none_or, is_complete_snoop, ac_kind_of, last_sync, is_sync_completed, may_complete, has_every_completion, k39}
 use Rattle.ace_model.proofs.Dvm.Syncs.{last_sync-is}
-use Rattle.ace_model.proofs.Trace.Looks.{has_name-is, newest_named-older}
-use Rattle.ace_model.proofs.Trace.Issued.{transaction_of-name, outstanding-named, outstanding-name}
-use Rattle.ace_model.proofs.General.Options.{Some-injective, newer-cases, none_if-is, some_if-is}
 use Rattle.ace_portck.specs.declared.target.Target.{Target}
 use Rattle.ace_portck.specs.Targets.{Recording}
 use Rattle.ace_sysck.specs.declared.messages.PortMessages.{PortMessages}
 use Rattle.ace_sysck.specs.declared.messages.Messages.{Messages}
-use Rattle.ace_sysck.specs.declared.inboxes.Inboxes.{Inboxes}
 use Rattle.ace_sysck.specs.declared.syncs.Syncs.{Syncs}
-use Rattle.ace_sysck.specs.Messages.{PortMessagesStand, silent}
+use Rattle.ace_sysck.specs.Messages.{silent}
 use Rattle.ace_sysck.specs.Syncs.{completes_all}
-use Rattle.ace_sysck.specs.Rules.{MayAskK39, completes_with, completes_now}
+use Rattle.ace_sysck.specs.Rules.{MayAskK39, completes_now}
 use Rattle.ace_sysck.proofs.SyncSteps.{completes_all-is}
 
 -- K39 of an AC DVM Complete

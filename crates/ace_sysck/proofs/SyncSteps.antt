@@ -1,25 +1,24 @@
 -- The Syncs that reach the ports, event by event.
-use Rattle.std.proofs.Common.{◌≡◌, ◌≢◌, ◌⊎◌, ℕ, zero, suc, ◌+◌, ◌-◌, ◌*◌, ◌^◌, ◌<◌, ◌≤◌, Bool, true, false, not, cond, min, ◌&&◌, ◌||◌, nat_eq, nat_le, nat_lt, if◌then◌else◌, List, [], ◌∷◌, ◌++◌, length, map, take, drop, slice_get, slice_set, get_or, count_by, Option, Some, None, is_some, refl, sym, ap, subst, ◌∙◌, arith, inl, inr, length-append, length-set}
+use Rattle.std.proofs.Common.{◌≡◌, ◌≢◌, ◌⊎◌, ℕ, ◌+◌, ◌-◌, ◌^◌, ◌<◌, ◌≤◌, Bool, true, false, not, cond, ◌&&◌, nat_eq, nat_le, nat_lt, if◌then◌else◌, List, [], ◌∷◌, ◌++◌, length, map, slice_get, slice_set, get_or, count_by, Option, Some, None, is_some, refl, sym, ap, subst, ◌∙◌, arith, inl, inr, length-set}
 use Rattle.std.specs.List.{All}
-use Rattle.std.proofs.lemmas.Bool.{cases_Bool, cases_eq, and_parts, and_right, eqb-true, eq-eqb, ne_eqb, ltb-true}
+use Rattle.std.proofs.lemmas.Bool.{cases_Bool, cases_eq, and_parts, and_right, eqb-true, eq-eqb, ne_eqb}
 use Rattle.std.proofs.lemmas.List.{append-nil, get_or-set_same, get_or-set_other}
-use Rattle.std.proofs.lemmas.List.Elements.{All-weaker, All-take}
+use Rattle.std.proofs.lemmas.List.Elements.{All-weaker}
 use Rattle.std.proofs.lemmas.List.Sums.{sum_by-append, sum_by_push}
 use Rattle.ace_model.specs.declared.transactions.Transaction.{Transaction}
-use Rattle.ace_model.proofs.Terms.{Header, Event, Ar, Aw, Ac, Cr, Trace, at_point, newer, more, is_some_and, is_none_or, implies, issued, transactions, is_ace, is_message_part, is_message_word, is_sync, is_sync_word, has_second, first_waiting, part_in, waits_after, parts_with, parts_in, parts_for, last_sync, sync_in, sync_number, answered_parts, answered_syncs, dvm_completes, is_dvm_completion, begins_well, begins_message, is_part_in_order, IsAccepted, list_all, ports_below, is_other_ace, owes_completion, has_every_completion, LineState, read_kind, ArKind, is_dvm_message, answers, ac_kind_of, is_message_snoop}
+use Rattle.ace_model.proofs.Terms.{Header, Event, Ac, Cr, Trace, at_point, newer, is_some_and, implies, issued, transactions, is_ace, is_message_part, is_message_word, is_sync, is_sync_word, has_second, first_waiting, part_in, waits_after, parts_with, parts_in, parts_for, last_sync, sync_in, sync_number, answered_parts, answered_syncs, dvm_completes, is_dvm_completion, begins_well, begins_message, is_part_in_order, IsAccepted, is_other_ace, has_every_completion, LineState, read_kind, ArKind, is_dvm_message, answers, ac_kind_of, is_message_snoop}
 use Rattle.ace_model.specs.Kinds.{is_dvm_complete}
 use Rattle.ace_codes.specs.declared.kind.ArKind.TheVariants as kind
-use Rattle.ace_model.specs.Messages.{is_second_part}
 use Rattle.ace_model.proofs.Rules.Keeps.{accepted_keeps}
 use Rattle.ace_model.proofs.Dvm.Parts.{IsBelow, parts-placed}
 use Rattle.ace_model.proofs.Dvm.Forwarding.{answered-first}
 use Rattle.ace_model.proofs.Dvm.Syncs.{last_sync-is}
-use Rattle.ace_model.proofs.Trace.Growth.{IsIssued, at_point-before, at_point-end}
+use Rattle.ace_model.proofs.Trace.Growth.{at_point-before, at_point-end}
 use Rattle.ace_model.proofs.Trace.Places.{at_point-last, at_point-length}
 use Rattle.ace_model.proofs.Trace.Issued.{issued-place}
 use Rattle.ace_model.proofs.General.Options.{Some-injective, is_none_or-at, some_where-is}
 use Rattle.ace_model.proofs.General.Booleans.{implies-at, not_both}
-use Rattle.ace_model.proofs.General.Lists.{IsStart, start-all, count_by-start, count_by-agree, count_by-cons}
+use Rattle.ace_model.proofs.General.Lists.{start-all, count_by-start, count_by-agree, count_by-cons}
 use Rattle.ace_portck.specs.declared.target.Target.{Target}
 use Rattle.ace_portck.specs.Targets.{Recording, after, target_of}
 use Rattle.ace_sysck.specs.declared.messages.PortMessages.{PortMessages}
@@ -27,13 +26,13 @@ use Rattle.ace_sysck.specs.declared.syncs.PortSyncs.{PortSyncs}
 use Rattle.ace_sysck.specs.declared.syncs.Syncs.{Syncs}
 use Rattle.ace_sysck.specs.Events.{begun_in}
 use Rattle.ace_sysck.specs.Messages.{PortMessagesStand, is_new_sync}
-use Rattle.ace_sysck.specs.Syncs.{SyncsStand, PortSyncsStand, MayIssueCompletion, ReachesAll, syncs_for, next_count, untold, reached_by, one_answered, one_completed, completes_all}
+use Rattle.ace_sysck.specs.Syncs.{SyncsStand, PortSyncsStand, ReachesAll, syncs_for, next_count, untold, reached_by, one_answered, one_completed, completes_all}
 use Rattle.ace_sysck.specs.Steps.{IsStep}
 use Rattle.ace_sysck.proofs.Tables.{set_at}
 use Rattle.ace_sysck.proofs.Steps.{port_within}
 use Rattle.ace_sysck.proofs.BarrierSteps.{issuing-port}
 use Rattle.ace_sysck.proofs.EventLaws.{begun-is}
-use Rattle.ace_sysck.proofs.InboxHears.{Idle, idle-answered, answered-now, answered-more, snoop_there, no_more}
+use Rattle.ace_sysck.proofs.InboxHears.{idle-answered, answered-now, answered-more, snoop_there, no_more}
 use Rattle.std.specs.Option.{option_map, option_to_list}
 use Rattle.std.proofs.lemmas.List.Elements.{All-drop}
 use Rattle.ace_model.specs.declared.snoops.Snoop.{Snoop}
@@ -42,7 +41,7 @@ use Rattle.ace_sysck.specs.declared.inboxes.Inboxes.{Inboxes}
 use Rattle.ace_sysck.specs.Inboxes.{InboxesStand, part_of, first_is_sync, is_sync_part, answers_message}
 use Rattle.ace_sysck.proofs.PartLaws.{Forwards, forwards-at}
 use Rattle.ace_sysck.proofs.InboxRules.{unanswered, inbox_of, slice_get-map, all_ports-same}
-use Rattle.ace_sysck.proofs.PartLaws.{Waits, waits-is, waits-old}
+use Rattle.ace_sysck.proofs.PartLaws.{waits-is, waits-old}
 
 -- what is kept after the empty trace
 pub syncs_fresh : (h : Header) (s : Syncs) → length s.ports.items ≡ h.ports → ((q : ℕ) → get_or s.ports.items q untold ≡ untold)
