@@ -19,3 +19,4 @@ pub mod InboxRules
 pub mod InboxMoves
 pub mod InboxHears
 pub mod SyncSteps
+pub mod RuleLaws

@@ -1,11 +1,11 @@
 //! The rules that look at one or more groups: K9, K21, K37, K38 and K39.
 
-ghost use Rattle.std.specs.Prelude.{◌≡◌, Some};
+ghost use Rattle.std.specs.Prelude.{◌≡◌, Some, if◌then◌else◌};
 ghost use Rattle.ace_model.specs.AddressRules.{begins_well, k9};
 ghost use Rattle.ace_model.specs.ReadRules.{k21};
 ghost use Rattle.ace_model.specs.OrderRules.{k37, k38, k39};
 ghost use Rattle.ace_model.specs.Transactions.{outstanding};
-ghost use Rattle.ace_model.specs.Exclusives.{has_failed};
+ghost use Rattle.ace_model.specs.Exclusives.{has_failed, is_false};
 ghost use Rattle.ace_event.specs.declared.event.Channel.TheVariants.{Read};
 ghost use Rattle.ace_model.specs.declared.transactions.Transaction.{Transaction};
 ghost use Rattle.ace_portck.specs.Targets.{Recording};
@@ -49,6 +49,20 @@ fn is_okay(x: &Transaction, passed: Option<bool>) -> bool
     x.lock && (!is_exclusive_store(x) || matches!(passed, Some(true)))
 }
 
+/// EXOKAY, or OKAY.
+fn low_bits_of(okay: bool) -> u8
+    ensures { result ≡ (if okay then 1 else 0) }
+{
+    if okay { 1 } else { 0 }
+}
+
+/// It failed.
+fn is_false(passed: Option<bool>) -> bool
+    ensures { result ≡ is_false passed }
+{
+    matches!(passed, Some(false))
+}
+
 /// K21: the low two bits of RRESP are EXOKAY for an exclusive load and for an exclusive store that passed, else OKAY
 /// (Arm IHI 0022E, C9).
 pub fn keeps_k21(results: &Results, event: &Event, target: &Target) -> bool
@@ -59,7 +73,7 @@ pub fn keeps_k21(results: &Results, event: &Event, target: &Target) -> bool
             None => true,
             Some(x) => {
                 let okay = is_okay(&x, results.passed(x.port, x.id));
-                low_bits(resp) == u8::from(okay)
+                low_bits(resp) == low_bits_of(okay)
             }
         },
         _ => true,
@@ -70,7 +84,7 @@ pub fn keeps_k21(results: &Results, event: &Event, target: &Target) -> bool
 pub fn failed(results: &Results, port: u8, id: u8) -> bool
     ensures { (r : Recording) (x : Transaction) → ResultsStand r results.now → outstanding r.header r.past port Read id ≡ Some x → result ≡ has_failed r.past x }
 {
-    matches!(results.passed(port, id), Some(false))
+    is_false(results.passed(port, id))
 }
 
 /// K37: an R of a DVM Message comes after every other ACE port has answered it (Arm IHI 0022E, C12).
