@@ -1,41 +1,31 @@
 -- The parts for a port, and how many of them it has answered, event by event.
-use Rattle.std.proofs.Common.{◌≡◌, ◌≢◌, ◌⊎◌, ℕ, zero, suc, ◌+◌, ◌-◌, ◌*◌, ◌<◌, ◌≤◌, Bool, true, false, not, ◌&&◌, ◌||◌, nat_eq, if◌then◌else◌, List, [], ◌∷◌, ◌++◌, length, map, take, drop, slice_get, get_or, Option, Some, None, is_some, refl, sym, ap, subst, ◌∙◌, arith, inl, inr, length-append, length-drop}
+use Rattle.std.proofs.Common.{◌≡◌, ◌≢◌, ℕ, zero, suc, ◌+◌, ◌*◌, ◌<◌, ◌≤◌, Bool, true, false, not, ◌&&◌, ◌||◌, nat_eq, List, [], ◌∷◌, length, map, get_or, Option, Some, None, is_some, refl, sym, ap, ◌∙◌, arith, inl, inr, length-drop}
 use Rattle.std.specs.List.{All, AllPairs}
-use Rattle.std.specs.Option.{option_to_list}
-use Rattle.std.proofs.lemmas.Bool.{cases_Bool, cases_eq, cases_lt, and_parts, and_right, eqb-true, eq-eqb, ne_eqb, not-true}
-use Rattle.std.proofs.lemmas.List.{append-nil, map-append, length-map, drop-append-le, drop-drop, get_or-drop, take_all}
-use Rattle.std.proofs.lemmas.List.Concat.{flat_map-append}
+use Rattle.std.proofs.lemmas.Bool.{cases_Bool, and_parts, and_right, eq-eqb}
+use Rattle.std.proofs.lemmas.List.{get_or-drop}
 use Rattle.std.proofs.lemmas.List.Elements.{All-nil, All-cons, All-append, All-weaker, All-head, All-tail, All-drop, All-get_or}
-use Rattle.std.proofs.lemmas.Option.{slice_get_within, slice_get-get_or}
-use Rattle.ace_event.specs.declared.event.Channel.TheVariants.{Read, Write}
-use Rattle.ace_model.specs.declared.snoops.Snoop.{Snoop}
+use Rattle.ace_event.specs.declared.event.Channel.TheVariants.{Read}
 use Rattle.ace_model.specs.declared.transactions.Transaction.{Transaction}
-use Rattle.ace_model.proofs.Terms.{Header, Event, Ar, Aw, Ac, Cr, Trace, at_point, is_some_and, is_none_or, more, is_ace, is_read, read_kind, issued, outstanding, is_completed, is_message_part, is_message_snoop, ac_kind_of, is_sync, is_sync_word, has_second, first_waiting, parts_with, parts_in, parts_for, parts_among, forwarded, forwards, next_after, add_forwarded, answered_parts, has_answered, has_part, snoops_of, snoop_at, answers, answered, k1, k14, IsAccepted}
-use Rattle.ace_model.specs.AddressRules.{may_have}
-use Rattle.ace_model.specs.Messages.{is_second_part}
-use Rattle.ace_model.specs.Trace.{port_of}
-use Rattle.ace_model.proofs.Rules.Keeps.{accepted_keeps}
-use Rattle.ace_model.proofs.Dvm.Parts.{IsBelow, parts-placed}
-use Rattle.ace_model.proofs.Dvm.Forwarding.{answered-first}
+use Rattle.ace_model.proofs.Terms.{Header, Event, Trace, at_point, is_ace, is_read, issued, outstanding, is_completed, is_message_part, is_sync_word, has_second, first_waiting, parts_with, parts_in, parts_for, answered_parts, has_part, IsAccepted}
+use Rattle.ace_model.proofs.Dvm.Parts.{IsBelow}
 use Rattle.ace_model.proofs.Dvm.Answered.{complete_part-answered}
 use Rattle.ace_model.proofs.Trace.Growth.{IsIssued, issued-new, issued-old, issued-cases, at_point-before}
 use Rattle.ace_model.proofs.Trace.Places.{at_point-last}
-use Rattle.ace_model.proofs.Trace.Issued.{issued_at, issued-place}
+use Rattle.ace_model.proofs.Trace.Issued.{issued-place}
 use Rattle.ace_model.proofs.Trace.LineOnce.{outstanding_is}
-use Rattle.ace_model.proofs.Trace.Looks.{is_read-is, is_write-is}
-use Rattle.ace_model.proofs.General.Options.{Some-injective, is_some_and-is, some_is}
-use Rattle.ace_model.proofs.General.Lists.{IsStart, start-length, start-is, slice_get-drop}
+use Rattle.ace_model.proofs.Trace.Looks.{is_read-is}
+use Rattle.ace_model.proofs.General.Options.{Some-injective}
 use Rattle.ace_model.proofs.General.Pigeonhole.{few_apart}
 use Rattle.ace_sysck.specs.Results.{slot_of}
 use Rattle.ace_sysck.specs.declared.messages.PortMessages.{PortMessages}
 use Rattle.ace_sysck.specs.declared.inboxes.Part.{Part}
 use Rattle.ace_sysck.specs.Messages.{PortMessagesStand}
-use Rattle.ace_sysck.specs.Inboxes.{InboxStands, part_of, parts_sent}
+use Rattle.ace_sysck.specs.Inboxes.{part_of, parts_sent}
 use Rattle.ace_sysck.proofs.Steps.{port_within}
 use Rattle.ace_sysck.proofs.BarrierSteps.{issuing-port}
 use Rattle.ace_sysck.proofs.Unanswered.{still-outstanding}
-use Rattle.ace_sysck.proofs.PartLaws.{Waits, waits-is, waits-old, parts-apart, Forwards, forwards-at, forwards-kind, forwarded-length}
-use Rattle.ace_sysck.proofs.InboxRules.{unanswered, not_answered, both-parts}
+use Rattle.ace_sysck.proofs.PartLaws.{Waits, waits-is, waits-old, parts-apart}
+use Rattle.ace_sysck.proofs.InboxRules.{unanswered, not_answered}
 
 -- A part for a port was issued by another port.
 pub record IsPartFor (past : Trace) (q : ℕ) (z : Transaction) : Type 0 where
@@ -55,23 +45,25 @@ parts-are (e ∷ past) q = All-append (IsPartFor (e ∷ past) q) (parts_for past
     new : (n : Option Transaction) → issued (length past) e ≡ n → All (IsPartFor (e ∷ past) q) (parts_in past n q)
     new None is = All-nil (IsPartFor (e ∷ past) q)
     new (Some x) is = elim (cases_Bool (is_message_part x && not (nat_eq x.port q))) [
-        | inl t ↦ rw t (message t (first_waiting past x.port) refl)
-        | inr f ↦ rw f (All-nil (IsPartFor (e ∷ past) q))
-      ]
+      | inl t ↦ rw t (message t (first_waiting past x.port) refl)
+      | inr f ↦ rw f (All-nil (IsPartFor (e ∷ past) q))
+    ]
       where
         apart : (is_message_part x && not (nat_eq x.port q)) ≡ true → x.port ≢ q
         apart t same = let bad : not true ≡ true = rw (eq-eqb x.port q same) at (and_parts (is_message_part x) (not (nat_eq x.port q)) t).1 in cc
+
         own : (is_message_part x && not (nat_eq x.port q)) ≡ true → IsPartFor (e ∷ past) q x
         own t = record { there = issued-new e past x is; part = (and_parts (is_message_part x) (not (nat_eq x.port q)) t).0; other = apart t }
+
         message : (is_message_part x && not (nat_eq x.port q)) ≡ true → (o : Option Transaction) → first_waiting past x.port ≡ o → All (IsPartFor (e ∷ past) q) (parts_with o x)
         message t (Some f) was =
             let w = waits-is past x.port f was in
             All-cons (IsPartFor (e ∷ past) q) f (x ∷ []) (record { there = issued-old e past f w.there; part = w.part; other = λ same. apart t (sym w.port ∙ same) })
             (All-cons (IsPartFor (e ∷ past) q) x [] (own t) (All-nil (IsPartFor (e ∷ past) q)))
         message t None was = elim (cases_Bool (has_second x.addr)) [
-            | inl y ↦ rw y (All-nil (IsPartFor (e ∷ past) q))
-            | inr n ↦ rw n (All-cons (IsPartFor (e ∷ past) q) x [] (own t) (All-nil (IsPartFor (e ∷ past) q)))
-          ]
+          | inl y ↦ rw y (All-nil (IsPartFor (e ∷ past) q))
+          | inr n ↦ rw n (All-cons (IsPartFor (e ∷ past) q) x [] (own t) (All-nil (IsPartFor (e ∷ past) q)))
+        ]
 
 -- a part is a read
 part-reads : (x : Transaction) → is_message_part x ≡ true → x.chan ≡ Read
@@ -115,9 +107,6 @@ unanswered-out h past q k d accepted ace low =
     let read = part-reads z i.part in
     ap (λ c. outstanding h past z.port c z.id) (sym read) ∙ outstanding_is h past z i.there (still-outstanding h past z accepted i.there read incomplete)
 
-
-
-
 -- so there are no more of them than names
 pub few-unanswered : (h : Header) (past : Trace) (q : ℕ) → IsAccepted h past → is_ace h q ≡ true → ((x : Transaction) → IsIssued past x → x.id < 256)
     → length (unanswered past q) ≤ h.ports * 256
@@ -125,16 +114,20 @@ few-unanswered h past q accepted ace ids = few_apart (λ (x : Transaction). slot
   where
     xs : List Transaction
     xs = unanswered past q
+
     a : ℕ
     a = length (answered_parts past q)
+
     is : (k : ℕ) (d : Transaction) → k < length xs → IsPartFor past q (get_or xs k d)
     is k d low = All-get_or (IsPartFor past q) xs k d low (All-drop (IsPartFor past q) a (parts_for past q) (parts-are past q))
+
     below : All (λ (x : Transaction). slot_of x.port x.id < h.ports * 256) xs
     below k d low =
         let i = is k d low in
         let port = issued-within h past (get_or xs k d) accepted i.there in
         let id = ids (get_or xs k d) i.there in
         omega arith
+
     apart : AllPairs (λ (x : Transaction) (y : Transaction). slot_of x.port x.id ≢ slot_of y.port y.id) xs
     apart i j d low within same =
         let x = get_or xs i d in
@@ -170,27 +163,32 @@ sent-is e past x m new part s = go (first_waiting past x.port) refl (m.first) s.
   where
     now : at_point x.place (e ∷ past) ≡ past
     now = at_point-last e past x.place (issued-place (length past) e x new)
+
     whole : Trace → Part
     whole t = record { transaction = x; second = is_some (first_waiting t x.port); sync = is_message_part x && is_sync_word x.addr && not (is_some (first_waiting t x.port)) }
+
     last-second : (f : Transaction) → first_waiting past x.port ≡ Some f → part_of (e ∷ past) x ≡ record { transaction = x; second = true; sync = false }
     last-second f was = ap whole now ∙ rw was (ap (λ b. record { transaction = x; second = true; sync = b }) (and_right (is_message_part x && is_sync_word x.addr) false refl))
+
     last-only : first_waiting past x.port ≡ None → part_of (e ∷ past) x ≡ record { transaction = x; second = false; sync = is_sync_word x.addr }
     last-only was = ap whole now ∙ rw (was, part) (ap (λ b. record { transaction = x; second = false; sync = b }) (true-right (is_sync_word x.addr)))
       where
         true-right : (b : Bool) → (b && true) ≡ b
         true-right true = refl
         true-right false = refl
+
     first-is : (f : Transaction) → Waits (e ∷ past) x.port f → part_of (e ∷ past) f ≡ record { transaction = f; second = false; sync = is_sync_word f.addr }
     first-is f w = rw (w.part, w.first) (ap (λ b. record { transaction = f; second = false; sync = b }) (true-right (is_sync_word f.addr)))
       where
         true-right : (b : Bool) → (b && true) ≡ b
         true-right true = refl
         true-right false = refl
+
     go : (o : Option Transaction) → first_waiting past x.port ≡ o → (n : Option Transaction) → n ≡ first_waiting past x.port → map (part_of (e ∷ past)) (parts_with o x) ≡ parts_sent m x
     go (Some f) was n is =
         rw (s.first, was) (ap (λ v. v ∷ part_of (e ∷ past) x ∷ []) (first-is f (waits-old e past x.port f (waits-is past x.port f was)))
         ∙ ap (λ v. record { transaction = f; second = false; sync = is_sync_word f.addr } ∷ v ∷ []) (last-second f was))
     go None was n is = elim (cases_Bool (has_second x.addr)) [
-        | inl t ↦ rw (s.first, was, t) refl
-        | inr f ↦ rw (s.first, was, f) (ap (λ v. v ∷ []) (last-only was))
-      ]
+      | inl t ↦ rw (s.first, was, t) refl
+      | inr f ↦ rw (s.first, was, f) (ap (λ v. v ∷ []) (last-only was))
+    ]

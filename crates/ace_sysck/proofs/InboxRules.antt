@@ -1,28 +1,25 @@
 -- What the rules on the parts of messages say where the inboxes stand.
-use Rattle.std.proofs.Common.{◌≡◌, ◌≢◌, ◌⊎◌, ℕ, zero, suc, ◌+◌, ◌<◌, ◌≤◌, Bool, true, false, not, ◌&&◌, ◌||◌, nat_eq, nat_lt, List, [], ◌∷◌, ◌++◌, length, map, take, drop, slice_get, get_or, Option, Some, None, is_some, refl, sym, ap, subst, ◌∙◌, arith, inl, inr, length-append}
-use Rattle.std.specs.List.{All, AllPairs, list_any}
+use Rattle.std.proofs.Common.{◌≡◌, ◌≢◌, ◌⊎◌, ℕ, zero, suc, ◌+◌, ◌<◌, Bool, true, false, not, ◌&&◌, ◌||◌, nat_eq, nat_lt, List, [], ◌∷◌, ◌++◌, length, map, take, drop, slice_get, get_or, Option, Some, None, refl, sym, ap, subst, ◌∙◌, arith, inl, inr, length-append}
+use Rattle.std.specs.List.{AllPairs}
 use Rattle.std.specs.Option.{option_map}
-use Rattle.std.proofs.lemmas.Bool.{cases_Bool, cases_eq, and_parts, eqb-true, eq-eqb, ne_eqb, lt-ltb, ltb-true, or_left, or_right}
+use Rattle.std.proofs.lemmas.Bool.{cases_Bool, and_parts, eqb-true, eq-eqb, ne_eqb, ltb-true, or_left}
 use Rattle.std.proofs.lemmas.List.{take-append-drop, get_or_append_left, get_or-append-add, get_or_default}
 use Rattle.std.proofs.lemmas.List.Folds.{list_any-append, list_any_none}
-use Rattle.std.proofs.lemmas.Option.{slice_get_within}
 use Rattle.ace_codes.specs.declared.kind.SnoopKind.{SnoopKind}
 use Rattle.ace_model.specs.declared.transactions.Transaction.{Transaction}
-use Rattle.ace_model.proofs.Terms.{Header, Event, Ac, Trace, implies, is_some_and, is_none_or, is_ace, is_message_part, is_message_snoop, ac_kind_of, first_waiting, parts_for, parts_among, forwarded, answered_parts, has_answered, has_part, each_port, is_other_ace, is_answered_by_all, k36, IsAccepted}
+use Rattle.ace_model.proofs.Terms.{Ac, Trace, implies, is_some_and, is_none_or, is_ace, is_message_part, is_message_snoop, ac_kind_of, first_waiting, parts_for, parts_among, forwarded, answered_parts, has_answered, has_part, each_port, is_other_ace, is_answered_by_all, k36}
 use Rattle.ace_model.specs.Messages.{next_part, is_second_part}
 use Rattle.ace_model.specs.OrderRules.{forwards_next}
 use Rattle.ace_model.proofs.Dvm.Parts.{parts-cases}
 use Rattle.ace_model.proofs.Dvm.Forwarding.{answered-first}
 use Rattle.ace_model.proofs.Trace.Growth.{IsIssued}
-use Rattle.ace_model.proofs.General.Lists.{IsStart, start-is, slice_get-drop}
-use Rattle.ace_model.proofs.General.Options.{Some-injective}
+use Rattle.ace_model.proofs.General.Lists.{start-is, slice_get-drop}
 use Rattle.ace_portck.specs.declared.target.Target.{Target}
 use Rattle.ace_portck.specs.Targets.{Recording}
-use Rattle.ace_sysck.specs.declared.inboxes.Part.{Part}
 use Rattle.ace_sysck.specs.declared.inboxes.Inbox.{Inbox}
 use Rattle.ace_sysck.specs.declared.inboxes.Inboxes.{Inboxes}
 use Rattle.ace_sysck.specs.Messages.{is_at}
-use Rattle.ace_sysck.specs.Inboxes.{InboxesStand, InboxStands, MayAskInboxes, part_of, next_in, forwards_in, awaits, has_place}
+use Rattle.ace_sysck.specs.Inboxes.{InboxesStand, MayAskInboxes, part_of, next_in, forwards_in, awaits, has_place}
 use Rattle.ace_sysck.proofs.PartLaws.{parts-apart, waiting-apart, AreOthers}
 
 -- an element of a list that is mapped
@@ -85,10 +82,10 @@ apart_parts xs ys x apart has =
     let low_a = a.1 in
     let long = length-append xs ys in
     list_any_none (λ y. nat_eq y.place x.place) ys (λ k d low. ne_eqb (get_or ys k d).place x.place (λ e.
-      let first : get_or (xs ++ ys) a.0 d ≡ get_or xs a.0 x = get_or_append_left xs ys d a.0 low_a ∙ get_or_default xs a.0 d x low_a in
-      let second : get_or (xs ++ ys) (length xs + k) d ≡ get_or ys k d = get_or-append-add xs ys k d in
-      apart a.0 (length xs + k) d (omega (arith, low_a)) (omega (arith, low, long))
-      (ap (λ (z : Transaction). z.place) first ∙ a.2 ∙ sym e ∙ ap (λ (z : Transaction). z.place) (sym second))))
+    let first : get_or (xs ++ ys) a.0 d ≡ get_or xs a.0 x = get_or_append_left xs ys d a.0 low_a ∙ get_or_default xs a.0 d x low_a in
+    let second : get_or (xs ++ ys) (length xs + k) d ≡ get_or ys k d = get_or-append-add xs ys k d in
+    apart a.0 (length xs + k) d (omega (arith, low_a)) (omega (arith, low, long))
+    (ap (λ (z : Transaction). z.place) first ∙ a.2 ∙ sym e ∙ ap (λ (z : Transaction). z.place) (sym second))))
 
 -- the parts that a port has answered are the first of those for it
 pub answered-take : (past : Trace) (q : ℕ) → take (length (answered_parts past q)) (parts_for past q) ≡ answered_parts past q
@@ -129,10 +126,12 @@ answered-is past x q i part other =
     unwaited has None is = refl
     unwaited has (Some f) is =
         ne_eqb x.place f.place (λ e.
-          let bad : false ≡ true = sym (without-part (parts_for past q) f x (waiting-apart past x.port q f is) (sym e)) ∙ has in cc)
+        let bad : false ≡ true = sym (without-part (parts_for past q) f x (waiting-apart past x.port q f is) (sym e)) ∙ has in cc)
+
     one : (a d : Bool) → (a || d) ≡ true → (a ≡ true → d ≡ false) → a ≡ not (false || d)
     one true d some apart = rw (apart refl) refl
     one false d some apart = let t : d ≡ true = some in rw t refl
+
     none : first_waiting past x.port ≡ Some x → (has_answered past x q ≡ true) ⊎ (has_answered past x q ≡ false) → has_answered past x q ≡ false
     none waits (inl t) =
         let bad : false ≡ true =

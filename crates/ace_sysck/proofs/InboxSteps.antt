@@ -1,18 +1,16 @@
 -- The inboxes, event by event.
-use Rattle.std.proofs.Common.{◌≡◌, ◌≢◌, ◌⊎◌, ℕ, zero, suc, ◌+◌, ◌-◌, ◌*◌, ◌<◌, ◌≤◌, Bool, true, false, not, ◌&&◌, ◌||◌, nat_eq, if◌then◌else◌, List, [], ◌∷◌, ◌++◌, length, map, take, drop, slice_get, slice_set, length-set, Option, Some, None, is_some, refl, sym, ap, subst, ◌∙◌, arith, inl, inr}
-use Rattle.std.proofs.lemmas.Bool.{cases_Bool, cases_eq, eq-eqb, ne_eqb}
+use Rattle.std.proofs.Common.{◌≡◌, ℕ, ◌+◌, ◌-◌, ◌<◌, ◌≤◌, List, [], ◌∷◌, ◌++◌, length, drop, slice_get, slice_set, length-set, Some, refl, sym, ap, subst, ◌∙◌, arith, inl, inr}
+use Rattle.std.proofs.lemmas.Bool.{eq-eqb, ne_eqb}
 use Rattle.std.proofs.lemmas.List.{append-nil}
 use Rattle.std.proofs.lemmas.Option.{slice_get_within}
 use Rattle.std.specs.VecDeque.{deque_capacity}
-use Rattle.ace_model.specs.declared.transactions.Transaction.{Transaction}
-use Rattle.ace_model.proofs.Terms.{Header, Event, Trace}
+use Rattle.ace_model.proofs.Terms.{Header}
 use Rattle.ace_model.proofs.General.Lists.{slice_get-more}
 use Rattle.ace_model.proofs.General.Options.{Some-injective}
-use Rattle.ace_portck.specs.Targets.{Recording, after}
 use Rattle.ace_sysck.specs.declared.inboxes.Part.{Part}
 use Rattle.ace_sysck.specs.declared.inboxes.Inbox.{Inbox}
 use Rattle.ace_sysck.specs.declared.inboxes.Inboxes.{Inboxes}
-use Rattle.ace_sysck.specs.Inboxes.{InboxesStand, InboxStands, IsEmptyInbox, Receives, SendsOne, ForwardsTo, AnswersFirst, sent_to, part_of}
+use Rattle.ace_sysck.specs.Inboxes.{InboxesStand, IsEmptyInbox, Receives, SendsOne, ForwardsTo, AnswersFirst}
 use Rattle.ace_sysck.proofs.Tables.{slice_get-set_same, slice_get-set_other}
 
 -- the inboxes of the empty trace
@@ -54,10 +52,10 @@ pub sends_one : (s n : Inboxes) (q sender : ℕ) (sent : List Part) (b c : Inbox
 sends_one s n q sender sent b c other at receives items = record {
   size = ap length items ∙ length-set s.ports.items q c;
   one = λ d there. (
-      c,
-      ap (λ l. slice_get l q) items ∙ slice_get-set_same s.ports.items q c (slice_get_within s.ports.items q b at),
-      rw (ne_eqb q sender other) (subst (λ v. Receives sent v c) (Some-injective b d (sym at ∙ there)) receives),
-    );
+    c,
+    ap (λ l. slice_get l q) items ∙ slice_get-set_same s.ports.items q c (slice_get_within s.ports.items q b at),
+    rw (ne_eqb q sender other) (subst (λ v. Receives sent v c) (Some-injective b d (sym at ∙ there)) receives),
+  );
   others = λ k off. ap (λ l. slice_get l k) items ∙ slice_get-set_other s.ports.items q k c off;
 }
 

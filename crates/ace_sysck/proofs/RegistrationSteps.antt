@@ -1,11 +1,11 @@
 -- The registrations, event by event.
-use Rattle.std.proofs.Common.{◌≡◌, ◌⊎◌, ℕ, ◌*◌, ◌%◌, ◌^◌, ◌<◌, ◌≤◌, Bool, true, false, not, ◌&&◌, ◌||◌, nat_eq, nat_lt, if◌then◌else◌, bit_or, [], ◌∷◌, length, Option, Some, None, IsSome, unwrap_or, refl, sym, ap, subst, ◌∙◌, arith, inl, inr, w32}
+use Rattle.std.proofs.Common.{◌≡◌, ◌⊎◌, ℕ, ◌*◌, ◌%◌, ◌^◌, ◌<◌, ◌≤◌, Bool, true, false, not, ◌&&◌, ◌||◌, nat_eq, nat_lt, if◌then◌else◌, bit_or, [], ◌∷◌, Option, Some, None, IsSome, unwrap_or, refl, sym, ap, subst, ◌∙◌, arith, inl, inr, w32}
 use Rattle.std.specs.Int.{bit_at}
-use Rattle.std.proofs.lemmas.Bool.{cases_Bool, cases_eq, and_parts, and_from, or_cases, or_left, or_right, eqb-true, eq-eqb, ne_eqb, le-ltb}
+use Rattle.std.proofs.lemmas.Bool.{cases_Bool, cases_eq, and_parts, eq-eqb, ne_eqb, le-ltb}
 use Rattle.std.proofs.lemmas.Nat.Bits.{bit_at_set_same, bit_at_set_other, bit_at_above, bit_at-zero}
 use Rattle.indexmap.specs.IndexMap.{get}
 use Rattle.ace_model.specs.declared.transactions.Transaction.{Transaction}
-use Rattle.ace_model.proofs.Terms.{Event, G, Channel, Header, Trace, is_some_and, is_line, is_on, is_exclusive_store, outstanding, transaction_of, given, IsAccepted}
+use Rattle.ace_model.proofs.Terms.{Event, G, Header, Trace, is_some_and, is_line, is_on, is_exclusive_store, outstanding, given, IsAccepted}
 use Rattle.ace_model.specs.Exclusives.{is_registered, registers, registers_given}
 use Rattle.ace_model.specs.Trace.{port_of}
 use Rattle.std.specs.Option.{option_map}
@@ -118,6 +118,7 @@ bits_after x p bits kept is =
     none : (b : Bool) → false ≡ (b && false)
     none true = refl
     none false = refl
+
     same : (b : Bool) → b ≡ (b && true)
     same true = refl
     same false = refl
@@ -136,12 +137,15 @@ registrations_lock r s n e t x kept new accepted few own is stands keeps sets he
   where
     k : Locks r.header r.past e x
     k = locked-at r.header r.past e t x own is
+
     low : x.port < 32
     low = let within = port_within r.header r.past e x.port accepted k.named in omega arith
+
     at_line : (p : ℕ) → nat_eq (bit_at (registered_bits n x.addr) p) 1 ≡ is_registered (e ∷ r.past) p x.addr
     at_line p =
         ap (λ o. nat_eq (bit_at (unwrap_or o 0) p) 1) here ∙ sets low p ∙ bits_after x p (registered_bits s x.addr) kept keeps
         ∙ rw (stands.lines p x.addr, stands.lines x.port x.addr) (sym (k.registered p x.addr ∙ rw (k.lock, k.line, eq-eqb x.addr x.addr refl) refl))
+
     lines : (p l : ℕ) → nat_eq (bit_at (registered_bits n l) p) 1 ≡ is_registered (e ∷ r.past) p l
     lines p l =
         elim (cases_eq l x.addr) [
@@ -150,6 +154,7 @@ registrations_lock r s n e t x kept new accepted few own is stands keeps sets he
               ap (λ o. nat_eq (bit_at (unwrap_or o 0) p) 1) (there l off) ∙ stands.lines p l
               ∙ sym (k.registered p l ∙ rw (k.lock, k.line, ne_eqb x.addr l (λ q. off (sym q))) refl)
         ]
+
     known : (l : ℕ) → was_locked (e ∷ r.past) l ≡ true → IsSome (get nat_eq n.lines l)
     known l was =
         elim (cases_eq l x.addr) [

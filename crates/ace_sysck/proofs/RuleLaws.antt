@@ -1,13 +1,11 @@
 -- What the rules over several groups say.
-use Rattle.std.proofs.Common.{◌≡◌, ◌⊎◌, ℕ, ◌<◌, Bool, true, false, not, ◌&&◌, nat_eq, nat_lt, if◌then◌else◌, [], ◌∷◌, length, get_or, Option, Some, None, is_some, refl, sym, ap, subst, ◌∙◌, arith, inl, inr}
-use Rattle.std.proofs.lemmas.Bool.{cases_Bool, and_parts, ltb-true}
+use Rattle.std.proofs.Common.{◌≡◌, ℕ, ◌<◌, Bool, true, false, not, ◌&&◌, nat_eq, nat_lt, [], ◌∷◌, length, get_or, Option, Some, None, is_some, refl, sym, ap, ◌∙◌, arith, inl, inr}
+use Rattle.std.proofs.lemmas.Bool.{and_parts, ltb-true}
 use Rattle.ace_codes.specs.declared.kind.SnoopKind.{SnoopKind}
-use Rattle.ace_event.specs.declared.event.Channel.TheVariants.{Read, Write}
+use Rattle.ace_event.specs.declared.event.Channel.TheVariants.{Read}
 use Rattle.ace_model.specs.declared.transactions.Transaction.{Transaction}
-use Rattle.ace_model.proofs.Terms.{Header, Event, Ac, R, G, Channel, Trace, implies, is_some_and, is_none_or, newer, is_named, has_name, issued, given, transaction_of, newest_named, outstanding, is_exclusive_store, passed_at_grant, store_result, has_failed, is_false, is_message_part, is_answered_by_all, is_completed, is_complete_snoop, ac_kind_of, last_sync, is_sync_completed, may_complete, has_every_completion, completes_next, k37, k39, IsAccepted}
+use Rattle.ace_model.proofs.Terms.{Header, Event, Ac, G, Channel, Trace, implies, is_some_and, is_none_or, newer, is_named, has_name, issued, given, transaction_of, outstanding, is_exclusive_store, passed_at_grant, store_result, has_failed, is_false, is_complete_snoop, ac_kind_of, last_sync, is_sync_completed, may_complete, has_every_completion, k39}
 use Rattle.ace_model.specs.Exclusives.{store_passes}
-use Rattle.ace_model.specs.Trace.{port_of}
-use Rattle.ace_model.specs.AddressRules.{may_have}
 use Rattle.ace_model.proofs.Dvm.Syncs.{last_sync-is}
 use Rattle.ace_model.proofs.Trace.Looks.{has_name-is, newest_named-older}
 use Rattle.ace_model.proofs.Trace.Issued.{transaction_of-name, outstanding-named, outstanding-name}
@@ -16,11 +14,10 @@ use Rattle.ace_portck.specs.declared.target.Target.{Target}
 use Rattle.ace_portck.specs.Targets.{Recording}
 use Rattle.ace_sysck.specs.declared.messages.PortMessages.{PortMessages}
 use Rattle.ace_sysck.specs.declared.messages.Messages.{Messages}
-use Rattle.ace_sysck.specs.declared.inboxes.Inboxes.{Inboxes}
 use Rattle.ace_sysck.specs.declared.syncs.Syncs.{Syncs}
-use Rattle.ace_sysck.specs.Messages.{PortMessagesStand, silent}
+use Rattle.ace_sysck.specs.Messages.{silent}
 use Rattle.ace_sysck.specs.Syncs.{completes_all}
-use Rattle.ace_sysck.specs.Rules.{MayAskK39, completes_with, completes_now}
+use Rattle.ace_sysck.specs.Rules.{MayAskK39, completes_now}
 use Rattle.ace_sysck.proofs.SyncSteps.{completes_all-is}
 
 -- what passed or failed under a name is the last read of the name, an exclusive store
@@ -45,6 +42,7 @@ passed-store (e ∷ past) p i b is =
         ap (λ n. transaction_of past n Read i) (sym mine.port ∙ other.port) ∙ ap (λ d. transaction_of past q d i) (sym mine.chan ∙ other.chan)
         ∙ ap (transaction_of past q c) (sym mine.id ∙ other.id) ∙ named in
         (y, same, parts.1)
+
     at_grant : (past : Trace) (e : Event) (p i : ℕ) (b : Bool) → store_result past (given past e) p i ≡ Some b
         → (x : Transaction) × (transaction_of past p Read i ≡ Some x) × (is_exclusive_store x ≡ true)
     at_grant past (G q c j) p i b result = from past q c j p i b (transaction_of past q c j) refl result
@@ -79,14 +77,18 @@ k39-is r h m s p addr snoop t a complete =
   where
     kept : PortMessages
     kept = get_or m.ports.items p silent
+
     small : p < 32
     small = let low = ltb-true p r.header.ports (and_parts (nat_lt p r.header.ports) _ a.asked.first).0 in let few = a.asked.header.most_ports in omega arith
+
     grouped : (x b c d : Bool) → (x && (b && c && d)) ≡ (x && true && b && c && d)
     grouped true b c d = refl
     grouped false b c d = refl
+
     never : (x b c d : Bool) → (x && false) ≡ (x && false && b && c && d)
     never true b c d = refl
     never false b c d = refl
+
     go : (o : Option Transaction) → last_sync r.past p ≡ o → (nat_eq addr 0 && is_some_and (last_sync r.past p) (may_complete r.header r.past p)) ≡ completes_now h m s p addr
     go None is =
         let none : kept.sync ≡ None = (a.messages.ports p).sync ∙ is in

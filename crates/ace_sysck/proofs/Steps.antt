@@ -1,9 +1,9 @@
 -- What an accepted event says of the port and the transaction that it names.
-use Rattle.std.proofs.Common.{◌≡◌, ℕ, ◌<◌, ◌≤◌, Bool, true, nat_lt, ◌&&◌, [], ◌∷◌, length, Option, Some, None, refl, sym, ap, ◌∙◌}
+use Rattle.std.proofs.Common.{◌≡◌, ℕ, ◌<◌, nat_lt, ◌∷◌, length, Option, Some, None, sym, ap, ◌∙◌}
 use Rattle.std.proofs.lemmas.Bool.{and_parts, ltb-true}
 use Rattle.std.specs.Option.{option_map}
 use Rattle.ace_model.specs.declared.transactions.Transaction.{Transaction}
-use Rattle.ace_model.proofs.Terms.{Event, G, Channel, issued, Header, Trace, is_some_and, is_none_or, outstanding, transaction_of, IsAccepted, may_be_granted}
+use Rattle.ace_model.proofs.Terms.{Event, G, Channel, issued, Header, Trace, outstanding, transaction_of, IsAccepted, may_be_granted}
 use Rattle.ace_model.specs.AddressRules.{may_have}
 use Rattle.ace_model.specs.Trace.{port_of}
 use Rattle.ace_model.proofs.Rules.Keeps.{accepted_keeps}

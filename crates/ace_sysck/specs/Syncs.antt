@@ -1,5 +1,5 @@
 -- What is kept of the Syncs that reach each port, and of its DVM Completes.
-use Rattle.std.specs.Prelude.{ℕ, ◌≡◌, ◌≤◌, ◌<◌, ◌+◌, ◌-◌, ◌^◌, Bool, true, false, not, min, ◌&&◌, ◌==◌, nat_lt, nat_le, if◌then◌else◌, [], ◌∷◌, length, replicate, slice_set, slice_index_or, slice_get, count_by, Option, Some}
+use Rattle.std.specs.Prelude.{ℕ, ◌≡◌, ◌<◌, ◌+◌, ◌-◌, ◌^◌, Bool, min, ◌==◌, nat_le, if◌then◌else◌, length, replicate, slice_set, slice_index_or, slice_get, count_by, Some}
 use Rattle.ace_codes.specs.declared.state.LineState.{LineState}
 use Rattle.ace_event.specs.declared.event.Event.{Event}
 use Rattle.ace_event.specs.declared.event.Event.TheVariants.{Cr}

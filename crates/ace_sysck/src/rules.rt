@@ -133,13 +133,7 @@ pub fn keeps_k39(header: &Header, messages: &Messages, syncs: &Syncs, event: &Ev
 }
 
 /// The port's last Sync may have its AC DVM Complete with the address.
-fn may_complete(
-    header: &Header,
-    messages: &Messages,
-    syncs: &Syncs,
-    port: u8,
-    addr: u32,
-) -> bool
+fn may_complete(header: &Header, messages: &Messages, syncs: &Syncs, port: u8, addr: u32) -> bool
     ensures { result ≡ completes_now header.now messages.now syncs.now port addr }
 {
     let kept = messages.of(port);

@@ -1,10 +1,10 @@
-use Rattle.std.proofs.Common.{◌≡◌, ◌≤◌, ◌<◌, ◌+◌, ◌-◌, ℕ, length, slice_get, slice_set, drop, Some, arith, refl, sym, ap, subst, ◌∙◌}
+use Rattle.std.proofs.Common.{◌≡◌, ◌<◌, length, slice_get, slice_set, Some, arith, sym, ap, ◌∙◌}
 use Rattle.std.proofs.lemmas.Grind.{common_steps}
 use Rattle.std.proofs.lemmas.Option.{slice_get-get_or}
 use Rattle.std.specs.Vec.{with_item}
 use Rattle.ace_sysck.specs.declared.inboxes.Inbox.{Inbox}
 use Rattle.ace_sysck.specs.declared.inboxes.Inboxes.{Inboxes}
-use Rattle.ace_sysck.proofs.InboxSteps.{forwards_outside, answers_outside, forwards_one, answers_one}
+use Rattle.ace_sysck.proofs.InboxSteps.{answers_outside, answers_one}
 use Rattle.ace_sysck.proofs.inboxes.Inboxes.answer.Goals as goal
 
 pub returns-then-p-len : goal.returns-then-p-len

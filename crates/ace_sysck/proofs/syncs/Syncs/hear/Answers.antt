@@ -1,6 +1,6 @@
-use Rattle.std.proofs.Common.{◌≡◌, ◌∷◌, ℕ, true, false, None, Some, refl, sym, ap, subst, ◌∙◌, arith, slice_set}
+use Rattle.std.proofs.Common.{◌≡◌, None, Some, sym, ap, subst, ◌∙◌, arith, slice_set}
 use Rattle.std.proofs.lemmas.Grind.{common_steps}
-use Rattle.ace_model.proofs.Terms.{Event, Cr, IsAccepted}
+use Rattle.ace_model.proofs.Terms.{Event, Cr}
 use Rattle.ace_portck.specs.Targets.{after}
 use Rattle.ace_sysck.specs.Steps.{IsStep}
 use Rattle.ace_sysck.specs.Events.{begun_in}
