@@ -12,6 +12,8 @@ mod results;
 mod rules;
 mod syncs;
 mod system;
+#[cfg(test)]
+mod tests;
 mod words;
 
 pub use system::SysCheck;
