@@ -1,17 +1,15 @@
 -- Whether a barrier half may be answered, where the barriers of its port stand.
-use Rattle.std.proofs.Common.{◌≡◌, ◌⊎◌, ℕ, zero, suc, ◌+◌, ◌-◌, ◌<◌, ◌≤◌, Bool, true, false, not, max, ◌&&◌, ◌||◌, ◌==◌, nat_eq, nat_le, nat_lt, if◌then◌else◌, List, [], ◌∷◌, ◌++◌, length, map, slice_get, Option, Some, None, refl, sym, ap, subst, ◌∙◌, arith, inl, inr, length-append}
-use Rattle.std.specs.List.{All}
-use Rattle.std.proofs.lemmas.Bool.{cases_Bool, cases_eq, cases_lt, and_parts, and_from, eqb-true, eq-eqb, ne_eqb}
+use Rattle.std.proofs.Common.{◌≡◌, ◌⊎◌, ℕ, zero, suc, ◌-◌, ◌<◌, Bool, true, false, not, ◌&&◌, ◌||◌, nat_eq, List, [], ◌∷◌, ◌++◌, length, map, slice_get, Some, None, refl, sym, ap, ◌∙◌, arith, inl, inr}
+use Rattle.std.proofs.lemmas.Bool.{cases_Bool, eq-eqb, ne_eqb}
 use Rattle.std.proofs.lemmas.List.{append-nil, length-map}
-use Rattle.std.proofs.lemmas.Option.{slice_get_within, slice_get-get_or}
 use Rattle.ace_event.specs.declared.event.Channel.TheVariants.{Read, Write}
 use Rattle.ace_model.specs.declared.transactions.Transaction.{Transaction}
-use Rattle.ace_model.proofs.Terms.{Channel, Header, Event, Trace, at_point, is_some_and, is_read, issued, Pair, barriers, option_filter, is_barrier_of, pairs, pair_of, number_of, place_of, is_barrier_half, may_answer, is_awaited, is_before, is_completed, is_ordered, same_channel, each_issued, implies, is_line}
+use Rattle.ace_model.proofs.Terms.{Channel, Trace, at_point, is_some_and, issued, Pair, barriers, option_filter, is_barrier_of, pairs, pair_of, number_of, place_of, is_barrier_half, may_answer, is_completed, is_ordered}
 use Rattle.ace_model.proofs.Barriers.Pairs.{IsHalf, barriers-half, is_barrier_of-is}
 use Rattle.ace_model.proofs.Trace.Growth.{IsIssued, issued-cases, at_point-before}
 use Rattle.ace_model.proofs.Trace.Issued.{issued_at, issued-place}
 use Rattle.ace_model.proofs.Trace.Places.{at_point-last}
-use Rattle.ace_model.proofs.Trace.Looks.{is_read-is, is_write-is, same_channel-self}
+use Rattle.ace_model.proofs.Trace.Looks.{same_channel-self}
 use Rattle.ace_model.proofs.General.Options.{Some-injective}
 use Rattle.ace_model.proofs.General.Lists.{slice_get-at_end, slice_get-grown, slice_get-append, slice_get-all}
 use Rattle.ace_portck.specs.declared.target.Target.{Target}
@@ -19,7 +17,7 @@ use Rattle.ace_portck.specs.Targets.{first_unordered, first_incomplete, is_order
 use Rattle.ace_sysck.specs.declared.barriers.OpenPair.{OpenPair}
 use Rattle.ace_sysck.specs.declared.barriers.Barrier.{Barrier}
 use Rattle.ace_sysck.specs.declared.barriers.Barrier.TheVariants.{Idle, ReadHalf, WriteHalf, Open}
-use Rattle.ace_sysck.specs.Barriers.{BarrierStands, IsDone, reads_of, writes_of, read_half, write_half, pair_in, may_answer_after, comes_far_enough, is_awaited_by}
+use Rattle.ace_sysck.specs.Barriers.{BarrierStands, IsDone, reads_of, writes_of, pair_in, may_answer_after, comes_far_enough}
 use Rattle.ace_sysck.proofs.FirstIssued.{each-before}
 use Rattle.ace_sysck.proofs.BarrierRules.{pairs-of, past_end}
 

@@ -1,15 +1,15 @@
 -- What the rules on barriers say where the barriers of a port stand.
-use Rattle.std.proofs.Common.{◌≡◌, ◌⊎◌, ℕ, zero, suc, ◌+◌, ◌-◌, ◌<◌, ◌≤◌, Bool, true, false, not, max, ◌&&◌, ◌||◌, ◌==◌, nat_eq, nat_le, nat_lt, if◌then◌else◌, List, [], ◌∷◌, ◌++◌, length, map, take, slice_get, Option, Some, None, refl, sym, ap, subst, ◌∙◌, arith, inl, inr, length-append}
+use Rattle.std.proofs.Common.{◌≡◌, ℕ, zero, suc, ◌+◌, ◌≤◌, Bool, true, false, not, ◌&&◌, ◌||◌, nat_eq, nat_le, nat_lt, List, [], ◌∷◌, ◌++◌, length, map, slice_get, Some, None, refl, sym, ap, ◌∙◌, arith, inl, inr, length-append}
 use Rattle.std.specs.List.{All, list_all}
-use Rattle.std.proofs.lemmas.Bool.{cases_Bool, cases_eq, cases_lt, and_parts, and_from, and_left, and_right, eqb-true, eq-eqb, ne_eqb, le-leb, lt-leb, leb-true, ltb-true, lt-ltb, le-ltb, false_from_ne_true, true_from_ne_false}
+use Rattle.std.proofs.lemmas.Bool.{cases_Bool, cases_lt, and_from, and_left, and_right, le-leb, lt-leb, lt-ltb, le-ltb}
 use Rattle.std.proofs.lemmas.List.{append-nil, length-map, take_at, take_all}
 use Rattle.std.proofs.lemmas.List.Elements.{All-weaker}
 use Rattle.std.proofs.lemmas.List.Folds.{list_all-append}
 use Rattle.std.proofs.lemmas.List.Sums.{list_all-from_AllPass}
 use Rattle.ace_event.specs.declared.event.Channel.TheVariants.{Read, Write}
 use Rattle.ace_model.specs.declared.transactions.Transaction.{Transaction}
-use Rattle.ace_model.proofs.Terms.{Channel, Header, Trace, at_point, implies, is_none_or, is_some_and, is_read, Pair, barriers, paired, pairs, number_of, place_of, is_pair_complete, is_past_barriers, is_completed}
-use Rattle.ace_model.specs.Barriers.{partner_of, other_channel}
+use Rattle.ace_model.proofs.Terms.{Channel, Trace, at_point, implies, is_none_or, is_read, Pair, barriers, paired, pairs, number_of, place_of, is_pair_complete, is_past_barriers, is_completed}
+use Rattle.ace_model.specs.Barriers.{other_channel}
 use Rattle.ace_model.specs.AddressRules.{are_complete, begins_barrier, is_like_half}
 use Rattle.ace_model.proofs.Trace.Growth.{at_point-end}
 use Rattle.ace_model.proofs.Trace.Looks.{is_read-is, is_write-is}

@@ -1,12 +1,12 @@
 -- The barriers, event by event.
-use Rattle.std.proofs.Common.{◌≡◌, ◌⊎◌, ℕ, ◌+◌, ◌<◌, ◌≤◌, Bool, true, false, not, max, ◌&&◌, ◌||◌, nat_eq, nat_lt, if◌then◌else◌, List, [], ◌∷◌, ◌++◌, length, map, get_or, slice_set, Option, Some, None, refl, sym, ap, subst, ◌∙◌, arith, inl, inr, length-set, append_assoc}
+use Rattle.std.proofs.Common.{◌≡◌, ◌⊎◌, ℕ, ◌<◌, Bool, true, false, not, ◌&&◌, ◌||◌, nat_eq, nat_lt, if◌then◌else◌, List, [], ◌∷◌, ◌++◌, length, map, get_or, slice_set, Option, Some, None, refl, sym, ap, subst, ◌∙◌, arith, inl, inr, length-set}
 use Rattle.std.specs.List.{All}
-use Rattle.std.proofs.lemmas.Bool.{cases_Bool, cases_eq, and_parts, and_from, and_left, and_right, or_right, or_cases, eqb-true, eq-eqb, ne_eqb, le-ltb}
+use Rattle.std.proofs.lemmas.Bool.{cases_Bool, cases_eq, and_parts, and_from, and_right, or_right, or_cases, eqb-true, eq-eqb, ne_eqb, le-ltb}
 use Rattle.std.proofs.lemmas.List.{append-nil, map-append}
 use Rattle.std.proofs.lemmas.List.Elements.{All-nil, All-weaker, All-push}
 use Rattle.ace_event.specs.declared.event.Channel.TheVariants.{Read, Write}
 use Rattle.ace_model.specs.declared.transactions.Transaction.{Transaction}
-use Rattle.ace_model.proofs.Terms.{Channel, Header, Event, Ar, Aw, R, B, G, M, Trace, transaction_of, more, implies, is_some_and, is_none_or, is_read, same_channel, issued, Pair, barriers, option_filter, is_barrier_of, pair_of, place_of, is_pair_complete, is_barrier_half, may_answer, is_awaited, is_before, is_synchronisation, is_completed, is_ordered, is_transaction, served_by, has_had, is_completion_event, outstanding, begins_well, may_answer_half, is_past_barriers, k34, k35, IsAccepted, is_line}
+use Rattle.ace_model.proofs.Terms.{Channel, Header, Event, Ar, Aw, R, B, G, M, Trace, transaction_of, more, implies, is_some_and, is_none_or, is_read, same_channel, issued, Pair, barriers, option_filter, is_barrier_of, place_of, is_barrier_half, may_answer, is_awaited, is_before, is_synchronisation, is_completed, is_transaction, served_by, has_had, is_completion_event, outstanding, begins_well, may_answer_half, is_past_barriers, k34, k35, IsAccepted}
 use Rattle.ace_model.specs.AddressRules.{begins_barrier}
 use Rattle.ace_model.specs.Trace.{port_of}
 use Rattle.ace_model.proofs.Rules.Keeps.{accepted_keeps}
@@ -14,7 +14,6 @@ use Rattle.ace_model.proofs.Barriers.OrderPoints.{is_ordered-later}
 use Rattle.ace_model.proofs.Barriers.Pairs.{is_barrier_of-is}
 use Rattle.ace_model.proofs.Trace.Growth.{IsIssued, issued-cases, each_issued-at}
 use Rattle.ace_model.proofs.Trace.Issued.{issued_at, issued-place, transaction_of-stands}
-use Rattle.ace_model.proofs.Trace.Looks.{is_read-is, is_write-is}
 use Rattle.ace_model.proofs.General.Options.{Some-injective, is_none_or-at}
 use Rattle.ace_model.proofs.General.Booleans.{implies-at}
 use Rattle.ace_portck.specs.declared.target.Target.{Target}
@@ -24,13 +23,13 @@ use Rattle.ace_sysck.specs.declared.barriers.Barrier.{Barrier}
 use Rattle.ace_sysck.specs.declared.barriers.Barrier.TheVariants.{Idle, ReadHalf, WriteHalf, Open}
 use Rattle.ace_sysck.specs.declared.barriers.Barriers.{Barriers}
 use Rattle.ace_sysck.specs.Events.{begun_in, completed_in}
-use Rattle.ace_sysck.specs.Barriers.{BarriersStand, BarrierStands, IsDone, IsOpen, IsUnderWay, reads_of, writes_of, read_half, write_half, pair_in, begins_after, joined, answered, answered_at, unless_complete, comes_far_enough, may_answer_after}
+use Rattle.ace_sysck.specs.Barriers.{BarriersStand, BarrierStands, IsDone, IsUnderWay, read_half, write_half, pair_in, begins_after, joined, answered, may_answer_after}
 use Rattle.ace_sysck.proofs.Tables.{set_at}
 use Rattle.ace_sysck.proofs.Steps.{port_within}
 use Rattle.ace_sysck.proofs.EventLaws.{granting, responding, responds-at, Completes, completes-at, completes-none, begun-is}
 use Rattle.ace_sysck.proofs.FirstIssued.{each-from}
 use Rattle.ace_sysck.proofs.BarrierRules.{begins-is}
-use Rattle.ace_sysck.proofs.BarrierAnswers.{half_on, halves_on, current, come-is, answer-is}
+use Rattle.ace_sysck.proofs.BarrierAnswers.{halves_on, current, come-is, answer-is}
 
 -- the barriers of the empty trace
 pub barriers_fresh : (h : Header) (s : Barriers) → length s.ports.items ≡ h.ports → ((p : ℕ) → get_or s.ports.items p Idle ≡ Idle)

@@ -1,17 +1,16 @@
 -- The transaction of an event's own target.
-use Rattle.std.proofs.Common.{◌≡◌, ℕ, ◌<◌, Bool, true, false, ◌&&◌, nat_eq, [], ◌∷◌, length, Option, Some, None, refl, sym, ap, subst, ◌∙◌}
+use Rattle.std.proofs.Common.{◌≡◌, true, false, ◌&&◌, nat_eq, ◌∷◌, length, Option, Some, None, refl, sym, ap, ◌∙◌}
 use Rattle.std.specs.Option.{option_map}
-use Rattle.std.proofs.lemmas.Bool.{and_parts, cases_Bool, eq-eqb}
+use Rattle.std.proofs.lemmas.Bool.{and_parts}
 use Rattle.ace_event.specs.declared.event.Channel.TheVariants.{Read, Write}
 use Rattle.ace_model.specs.declared.transactions.Transaction.{Transaction}
-use Rattle.ace_model.proofs.Terms.{Event, Ar, Aw, R, B, G, Channel, Header, Trace, is_some_and, is_transaction, issued, outstanding, transaction_of, served_by, is_completion_event, is_due, may_respond, is_ace, IsAccepted}
+use Rattle.ace_model.proofs.Terms.{Event, Ar, Aw, R, B, G, Header, Trace, is_transaction, issued, outstanding, served_by, is_completion_event, is_due, may_respond, IsAccepted}
 use Rattle.ace_model.specs.Trace.{port_of}
 use Rattle.ace_model.proofs.Rules.Keeps.{accepted_keeps}
-use Rattle.ace_model.proofs.General.Options.{is_some_and-is, Some-injective}
+use Rattle.ace_model.proofs.General.Options.{is_some_and-is}
 use Rattle.ace_model.proofs.Trace.Issued.{outstanding-named, outstanding-name}
 use Rattle.ace_model.proofs.Trace.Growth.{IsIssued, named-issued}
 use Rattle.ace_portck.specs.declared.target.Target.{Target}
-use Rattle.ace_portck.specs.declared.target.Progress.{Progress}
 use Rattle.ace_portck.specs.Targets.{target_of, progress_of, begun}
 use Rattle.ace_sysck.specs.Events.{own_of, carried, begun_in, responded_in, completed_in, granted_in}
 

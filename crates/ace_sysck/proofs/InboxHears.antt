@@ -1,20 +1,19 @@
 -- The inboxes, event by event.
-use Rattle.std.proofs.Common.{◌≡◌, ◌≢◌, ◌⊎◌, ℕ, zero, suc, ◌+◌, ◌-◌, ◌*◌, ◌<◌, ◌≤◌, Bool, true, false, not, ◌&&◌, nat_eq, if◌then◌else◌, List, [], ◌∷◌, ◌++◌, length, map, take, drop, slice_get, get_or, Option, Some, None, is_some, refl, sym, ap, subst, ◌∙◌, arith, inl, inr, length-append, length-drop}
-use Rattle.std.specs.List.{All, flat_map}
+use Rattle.std.proofs.Common.{◌≡◌, ℕ, zero, suc, ◌+◌, ◌-◌, ◌*◌, ◌<◌, ◌≤◌, true, false, nat_eq, if◌then◌else◌, List, [], ◌∷◌, ◌++◌, length, map, take, drop, slice_get, Option, Some, None, is_some, refl, sym, ap, subst, ◌∙◌, arith, inl, inr, length-append, length-drop}
 use Rattle.std.specs.Option.{option_to_list}
 use Rattle.std.specs.VecDeque.{deque_capacity}
-use Rattle.std.proofs.lemmas.Bool.{cases_Bool, cases_eq, cases_lt, and_parts, eqb-true, eq-eqb, ne_eqb, ltb-true}
+use Rattle.std.proofs.lemmas.Bool.{cases_Bool, cases_eq, eq-eqb, ne_eqb}
 use Rattle.std.proofs.lemmas.List.{append-nil, map-append, length-map, drop-append-le, drop-drop, take-append-le, take_more}
 use Rattle.std.proofs.lemmas.List.Concat.{flat_map-append}
 use Rattle.std.proofs.lemmas.List.Elements.{All-drop}
 use Rattle.std.proofs.lemmas.Option.{slice_get_within, get_or_from_slice_get}
 use Rattle.ace_model.specs.declared.snoops.Snoop.{Snoop}
 use Rattle.ace_model.specs.declared.transactions.Transaction.{Transaction}
-use Rattle.ace_model.proofs.Terms.{Header, Event, Ar, Aw, Ac, Cr, Trace, is_some_and, more, is_ace, issued, transactions, IsTransaction, LineState, is_message_part, is_message_snoop, ac_kind_of, first_waiting, parts_with, parts_in, parts_for, parts_among, forwarded, forwards, next_after, add_forwarded, answered_parts, snoops_of, snoop_at, answers, answered, IsAccepted}
+use Rattle.ace_model.proofs.Terms.{Header, Event, Ar, Aw, Ac, Cr, Trace, is_some_and, is_ace, issued, transactions, IsTransaction, LineState, is_message_part, is_message_snoop, ac_kind_of, parts_in, parts_for, parts_among, forwarded, forwards, next_after, add_forwarded, answered_parts, snoops_of, snoop_at, answers, answered, IsAccepted}
 use Rattle.ace_model.proofs.Rules.Keeps.{accepted_keeps}
 use Rattle.ace_model.proofs.Dvm.Parts.{IsBelow, parts-placed}
 use Rattle.ace_model.proofs.Dvm.Forwarding.{answered-first}
-use Rattle.ace_model.proofs.Trace.Growth.{IsIssued, transaction-issued}
+use Rattle.ace_model.proofs.Trace.Growth.{IsIssued}
 use Rattle.ace_model.proofs.Outstanding.Issued.{issued-place_in}
 use Rattle.ace_model.proofs.General.Options.{Some-injective, some_is}
 use Rattle.ace_model.proofs.General.Lists.{start-length, slice_get-more}
@@ -42,7 +41,7 @@ pub record Idle (past : Trace) (e : Event) (q : ℕ) : Type 0 where
   pub same_answers : answers (e ∷ past) q ≡ answers past q
   pub no_snoop : snoop_at (length past) e q ≡ None
 
-idle-answered : (past : Trace) (e : Event) (q : ℕ) → Idle past e q → answered_parts (e ∷ past) q ≡ answered_parts past q
+pub idle-answered : (past : Trace) (e : Event) (q : ℕ) → Idle past e q → answered_parts (e ∷ past) q ≡ answered_parts past q
 idle-answered past e q i =
     ap (λ o. parts_among (take (answers (e ∷ past) q) (add_forwarded past q (forwarded past q) o))) i.no_snoop ∙ ap (λ n. parts_among (take n (forwarded past q))) i.same_answers
 
@@ -97,11 +96,11 @@ answers-within h (e ∷ past) q accepted = answers-within h past q accepted.0
 among-more : (xs : List (Option Transaction)) (o : Option Transaction) → parts_among (xs ++ o ∷ []) ≡ parts_among xs ++ option_to_list o
 among-more xs o = flat_map-append option_to_list xs (o ∷ []) ∙ ap (λ l. parts_among xs ++ l) (append-nil (option_to_list o))
 
-one_more : (xs : List Transaction) (o : Option Transaction) → is_some o ≡ true → length (xs ++ option_to_list o) ≡ length xs + 1
+pub one_more : (xs : List Transaction) (o : Option Transaction) → is_some o ≡ true → length (xs ++ option_to_list o) ≡ length xs + 1
 one_more xs None s = cc
 one_more xs (Some x) s = length-append xs (x ∷ [])
 
-no_more : (xs : List Transaction) (o : Option Transaction) → is_some o ≡ false → xs ++ option_to_list o ≡ xs
+pub no_more : (xs : List Transaction) (o : Option Transaction) → is_some o ≡ false → xs ++ option_to_list o ≡ xs
 no_more xs None s = append-nil xs
 no_more xs (Some x) s = cc
 
@@ -124,7 +123,7 @@ module _ (h : Header) (past : Trace) (q addr snoop : ℕ) (accepted : IsAccepted
   kind : is_some new ≡ is_some_and (ac_kind_of snoop) is_message_snoop
   kind = forwards-kind h past e q snooped accepted here
 
-  answered-now : answered_parts (e ∷ past) q ≡ answered_parts past q
+  pub answered-now : answered_parts (e ∷ past) q ≡ answered_parts past q
   answered-now =
       let within = answers-within h past q accepted.0 in
       let long = forwarded-length past q in
@@ -171,10 +170,10 @@ module _ (h : Header) (past : Trace) (q resp : ℕ) (st : LineState) (accepted :
   abbrev pub cr : Event
   cr = Cr q resp st
 
-  snoop_there : (s : Snoop) × (answered past q ≡ Some s)
+  pub snoop_there : (s : Snoop) × (answered past q ≡ Some s)
   snoop_there = some_is (answered past q) (accepted_keeps h past cr accepted).rule_14
 
-  answered-more : (o : Option Transaction) → slice_get (forwarded past q) (answers past q) ≡ Some o → answered_parts (cr ∷ past) q ≡ answered_parts past q ++ option_to_list o
+  pub answered-more : (o : Option Transaction) → slice_get (forwarded past q) (answers past q) ≡ Some o → answered_parts (cr ∷ past) q ≡ answered_parts past q ++ option_to_list o
   answered-more o there =
       let low = slice_get_within (forwarded past q) (answers past q) o there in
       ap (λ b. parts_among (take (if b then answers past q + 1 else answers past q) (forwarded past q))) (eq-eqb q q refl)
@@ -236,6 +235,10 @@ inboxes_from r s n e stands size each ids = record {
   ids = ids;
 }
 
+-- the same queue has no less room
+same_room : (b c : Inbox) → c.parts ≡ b.parts → deque_capacity b.parts ≤ deque_capacity c.parts
+same_room b c same = let n = ap deque_capacity same in omega (arith, n)
+
 -- a port has an inbox before where it has one after
 before-there : (xs ys : List Inbox) (q : ℕ) (c : Inbox) → length ys ≡ length xs → slice_get ys q ≡ Some c → (b : Inbox) × (slice_get xs q ≡ Some b)
 before-there xs ys q c size at = inbox_at xs q (let low = slice_get_within ys q c at in omega (arith, low, size))
@@ -294,7 +297,7 @@ inboxes_sent r s n e t x m accepted own begun low part kept stands size sends =
     ]
       where
         grown : (b : Inbox) → length b.parts.items + 0 ≤ deque_capacity b.parts
-        grown b = ?
+        grown b = let len = b.parts.ok.0 in let cap = b.parts.small.1 in omega (arith, len, cap)
     each : (q : ℕ) (c : Inbox) → slice_get n.ports.items q ≡ Some c → (b : Inbox) × (slice_get s.ports.items q ≡ Some b) × (deque_capacity b.parts ≤ deque_capacity c.parts)
       × (is_ace r.header q ≡ true → InboxStands r.past q b.parts.items b.forwarded → InboxStands (e ∷ r.past) q c.parts.items c.forwarded)
     each q c at =
@@ -303,3 +306,105 @@ inboxes_sent r s n e t x m accepted own begun low part kept stands size sends =
         let one : k.0 ≡ c = Some-injective k.0 c (sym k.1 ∙ at) in
         let receives : Receives (sent_to q x.port (parts_sent m x)) b.0 c = subst (Receives (sent_to q x.port (parts_sent m x)) b.0) one k.2 in
         (b.0, b.1, receives.room, step q b.0 c receives.room (stands.room q b.0 b.1) receives)
+
+-- a transaction that is no part
+pub inboxes_plain : (r : Recording) (s : Inboxes) (e : Event) (t : Target) (x : Transaction) → t ≡ target_of r.header r.past e
+    → begun_in e t ≡ Some x → x.id < 256 → is_message_part x ≡ false → InboxesStand r s → InboxesStand (after r e) s
+inboxes_plain r s e t x own begun low plain stands =
+    let new : issued (length r.past) e ≡ Some x = sym (begun-is r.header r.past e t own) ∙ begun in
+    inboxes_stay r s e (ids-new r e stands.ids (λ y is. let same : x.id ≡ y.id = ap (λ (z : Transaction). z.id) (Some-injective x y (sym new ∙ is)) in omega (arith, same, low)))
+    (λ q parts count ace. inbox_stays r.past e q parts count (issue-idle r.past e x q new) (rw (new, plain) refl)) stands
+
+-- an event that issues nothing
+none-new : (r : Recording) (e : Event) → ((x : Transaction) → IsTransaction r.past x → x.id < 256) → issued (length r.past) e ≡ None
+    → (x : Transaction) → IsTransaction (e ∷ r.past) x → x.id < 256
+none-new r e old none = ids-new r e old (λ x is. let bad : None ≡ Some x = sym none ∙ is in cc)
+
+pub inboxes_forward : (r : Recording) (s n : Inboxes) (p addr snoop : ℕ) → IsAccepted r.header (Ac p addr snoop ∷ r.past) → is_some_and (ac_kind_of snoop) is_message_snoop ≡ true
+    → InboxesStand r s → ForwardsTo p s n → InboxesStand (after r (Ac p addr snoop)) n
+inboxes_forward r s n p addr snoop accepted message stands f =
+    inboxes_from r s n (Ac p addr snoop) stands f.size each (none-new r (Ac p addr snoop) stands.ids refl)
+  where
+    other : (q : ℕ) → (q ≡ p → ⊥) → Idle r.past (Ac p addr snoop) q
+    other q off = record { same_answers = refl; no_snoop = rw (ne_eqb q p off) refl }
+    at_port : (b c : Inbox) → c.parts ≡ b.parts → (b.forwarded < length b.parts.items → c.forwarded ≡ b.forwarded + 1) → InboxStands r.past p b.parts.items b.forwarded
+        → InboxStands (Ac p addr snoop ∷ r.past) p c.parts.items c.forwarded
+    at_port b c parts count s =
+        let low = part_left r.header r.past p addr snoop accepted b.parts.items b.forwarded message s in
+        rw (ap (λ v. v.items) parts, count low) (inbox_forwards r.header r.past p addr snoop accepted b.parts.items b.forwarded message s)
+    each : (q : ℕ) (c : Inbox) → slice_get n.ports.items q ≡ Some c → (b : Inbox) × (slice_get s.ports.items q ≡ Some b) × (deque_capacity b.parts ≤ deque_capacity c.parts)
+      × (is_ace r.header q ≡ true → InboxStands r.past q b.parts.items b.forwarded → InboxStands (Ac p addr snoop ∷ r.past) q c.parts.items c.forwarded)
+    each q c at =
+        let b = before-there s.ports.items n.ports.items q c f.size at in
+        elim (cases_eq q p) [
+          | inl same ↦
+              let k = f.one b.0 (ap (slice_get s.ports.items) (sym same) ∙ b.1) in
+              let one : k.0 ≡ c = Some-injective k.0 c (sym k.1 ∙ ap (slice_get n.ports.items) (sym same) ∙ at) in
+              let parts : c.parts ≡ b.0.parts = ap (λ (v : Inbox). v.parts) (sym one) ∙ k.2 in
+              let count : b.0.forwarded < length b.0.parts.items → c.forwarded ≡ b.0.forwarded + 1 = λ l. ap (λ (v : Inbox). v.forwarded) (sym one) ∙ k.3 l in
+              (b.0, b.1, same_room b.0 c parts, λ ace st. subst (λ m. InboxStands (Ac p addr snoop ∷ r.past) m c.parts.items c.forwarded) (sym same)
+                (at_port b.0 c parts count (subst (λ m. InboxStands r.past m b.0.parts.items b.0.forwarded) same st)))
+          | inr off ↦
+              let one : b.0 ≡ c = Some-injective b.0 c (sym b.1 ∙ sym (f.others q off) ∙ at) in
+              (b.0, b.1, same_room b.0 c (ap (λ (v : Inbox). v.parts) (sym one)), λ ace st. subst (λ (v : Inbox). InboxStands (Ac p addr snoop ∷ r.past) q v.parts.items v.forwarded) one
+                (inbox_stays r.past (Ac p addr snoop) q b.0.parts.items b.0.forwarded (other q off) refl st))
+        ]
+
+pub inboxes_other_ac : (r : Recording) (s : Inboxes) (p addr snoop : ℕ) → IsAccepted r.header (Ac p addr snoop ∷ r.past) → is_some_and (ac_kind_of snoop) is_message_snoop ≡ false
+    → InboxesStand r s → InboxesStand (after r (Ac p addr snoop)) s
+inboxes_other_ac r s p addr snoop accepted message stands =
+    inboxes_stay r s (Ac p addr snoop) (none-new r (Ac p addr snoop) stands.ids refl)
+    (λ q parts count ace st. elim (cases_eq q p) [
+      | inl same ↦ subst (λ m. InboxStands (Ac p addr snoop ∷ r.past) m parts count) (sym same)
+          (inbox_other_ac r.header r.past p addr snoop accepted parts count message (subst (λ m. InboxStands r.past m parts count) same st))
+      | inr off ↦ inbox_stays r.past (Ac p addr snoop) q parts count (record { same_answers = refl; no_snoop = rw (ne_eqb q p off) refl }) refl st
+    ]) stands
+
+pub inboxes_answer : (r : Recording) (s n : Inboxes) (p resp : ℕ) (st : LineState) (t : Target) → IsAccepted r.header (Cr p resp st ∷ r.past) → t ≡ target_of r.header r.past (Cr p resp st)
+    → answers_message t ≡ true → InboxesStand r s → AnswersFirst p s n → InboxesStand (after r (Cr p resp st)) n
+inboxes_answer r s n p resp st t accepted own message stands f =
+    inboxes_from r s n (Cr p resp st) stands f.size each (none-new r (Cr p resp st) stands.ids refl)
+  where
+    at_port : (b c : Inbox) → c.parts.items ≡ drop 1 b.parts.items → c.forwarded ≡ b.forwarded - 1 → InboxStands r.past p b.parts.items b.forwarded
+        → InboxStands (Cr p resp st ∷ r.past) p c.parts.items c.forwarded
+    at_port b c items count z = rw (items, count) (inbox_answers r.header r.past p resp st accepted t b.parts.items b.forwarded own message z)
+    each : (q : ℕ) (c : Inbox) → slice_get n.ports.items q ≡ Some c → (b : Inbox) × (slice_get s.ports.items q ≡ Some b) × (deque_capacity b.parts ≤ deque_capacity c.parts)
+      × (is_ace r.header q ≡ true → InboxStands r.past q b.parts.items b.forwarded → InboxStands (Cr p resp st ∷ r.past) q c.parts.items c.forwarded)
+    each q c at =
+        let b = before-there s.ports.items n.ports.items q c f.size at in
+        elim (cases_eq q p) [
+          | inl same ↦
+              let k = f.one b.0 (ap (slice_get s.ports.items) (sym same) ∙ b.1) in
+              let one : k.0 ≡ c = Some-injective k.0 c (sym k.1 ∙ ap (slice_get n.ports.items) (sym same) ∙ at) in
+              let items : c.parts.items ≡ drop 1 b.0.parts.items = ap (λ (v : Inbox). v.parts.items) (sym one) ∙ k.2 in
+              let count : c.forwarded ≡ b.0.forwarded - 1 = ap (λ (v : Inbox). v.forwarded) (sym one) ∙ k.3 in
+              let room : deque_capacity c.parts ≡ deque_capacity b.0.parts = ap (λ (v : Inbox). deque_capacity v.parts) (sym one) ∙ k.4 in
+              (b.0, b.1, omega (arith, room), λ ace z. subst (λ m. InboxStands (Cr p resp st ∷ r.past) m c.parts.items c.forwarded) (sym same)
+                (at_port b.0 c items count (subst (λ m. InboxStands r.past m b.0.parts.items b.0.forwarded) same z)))
+          | inr off ↦
+              let one : b.0 ≡ c = Some-injective b.0 c (sym b.1 ∙ sym (f.others q off) ∙ at) in
+              (b.0, b.1, same_room b.0 c (ap (λ (v : Inbox). v.parts) (sym one)), λ ace z. subst (λ (v : Inbox). InboxStands (Cr p resp st ∷ r.past) q v.parts.items v.forwarded) one
+                (inbox_stays r.past (Cr p resp st) q b.0.parts.items b.0.forwarded (record { same_answers = rw (ne_eqb q p off) refl; no_snoop = refl }) refl z))
+        ]
+
+pub inboxes_other_cr : (r : Recording) (s : Inboxes) (p resp : ℕ) (st : LineState) (t : Target) → IsAccepted r.header (Cr p resp st ∷ r.past) → t ≡ target_of r.header r.past (Cr p resp st)
+    → answers_message t ≡ false → InboxesStand r s → InboxesStand (after r (Cr p resp st)) s
+inboxes_other_cr r s p resp st t accepted own message stands =
+    inboxes_stay r s (Cr p resp st) (none-new r (Cr p resp st) stands.ids refl)
+    (λ q parts count ace z. elim (cases_eq q p) [
+      | inl same ↦ subst (λ m. InboxStands (Cr p resp st ∷ r.past) m parts count) (sym same)
+          (inbox_other_cr r.header r.past p resp st accepted t parts count own message (subst (λ m. InboxStands r.past m parts count) same z))
+      | inr off ↦ inbox_stays r.past (Cr p resp st) q parts count (record { same_answers = rw (ne_eqb q p off) refl; no_snoop = refl }) refl z
+    ]) stands
+
+-- any other event
+pub inboxes_other : (r : Recording) (s : Inboxes) (e : Event) (t : Target) → t ≡ target_of r.header r.past e → begun_in e t ≡ None
+    → ((p addr snoop : ℕ) → e ≡ Ac p addr snoop → ⊥) → ((p resp : ℕ) (st : LineState) → e ≡ Cr p resp st → ⊥) → InboxesStand r s → InboxesStand (after r e) s
+inboxes_other r s e t own begun not_ac not_cr stands =
+    let none : issued (length r.past) e ≡ None = sym (begun-is r.header r.past e t own) ∙ begun in
+    inboxes_stay r s e (none-new r e stands.ids none) (λ q parts count ace. inbox_stays r.past e q parts count (idle e not_ac not_cr q) (ap (λ o. parts_in r.past o q) none)) stands
+  where
+    idle : (d : Event) → ((p addr snoop : ℕ) → d ≡ Ac p addr snoop → ⊥) → ((p resp : ℕ) (st : LineState) → d ≡ Cr p resp st → ⊥) → (q : ℕ) → Idle r.past d q
+    idle (Ac p addr snoop) no_ac no_cr q = absurd (no_ac p addr snoop refl)
+    idle (Cr p resp st) no_ac no_cr q = absurd (no_cr p resp st refl)
+    idle d no_ac no_cr q = record { same_answers = refl; no_snoop = refl }

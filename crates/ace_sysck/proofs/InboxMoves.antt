@@ -1,41 +1,31 @@
 -- The parts for a port, and how many of them it has answered, event by event.
-use Rattle.std.proofs.Common.{◌≡◌, ◌≢◌, ◌⊎◌, ℕ, zero, suc, ◌+◌, ◌-◌, ◌*◌, ◌<◌, ◌≤◌, Bool, true, false, not, ◌&&◌, ◌||◌, nat_eq, if◌then◌else◌, List, [], ◌∷◌, ◌++◌, length, map, take, drop, slice_get, get_or, Option, Some, None, is_some, refl, sym, ap, subst, ◌∙◌, arith, inl, inr, length-append, length-drop}
+use Rattle.std.proofs.Common.{◌≡◌, ◌≢◌, ℕ, zero, suc, ◌+◌, ◌*◌, ◌<◌, ◌≤◌, Bool, true, false, not, ◌&&◌, ◌||◌, nat_eq, List, [], ◌∷◌, length, map, get_or, Option, Some, None, is_some, refl, sym, ap, ◌∙◌, arith, inl, inr, length-drop}
 use Rattle.std.specs.List.{All, AllPairs}
-use Rattle.std.specs.Option.{option_to_list}
-use Rattle.std.proofs.lemmas.Bool.{cases_Bool, cases_eq, cases_lt, and_parts, and_right, eqb-true, eq-eqb, ne_eqb, not-true}
-use Rattle.std.proofs.lemmas.List.{append-nil, map-append, length-map, drop-append-le, drop-drop, get_or-drop, take_all}
-use Rattle.std.proofs.lemmas.List.Concat.{flat_map-append}
+use Rattle.std.proofs.lemmas.Bool.{cases_Bool, and_parts, and_right, eq-eqb}
+use Rattle.std.proofs.lemmas.List.{get_or-drop}
 use Rattle.std.proofs.lemmas.List.Elements.{All-nil, All-cons, All-append, All-weaker, All-head, All-tail, All-drop, All-get_or}
-use Rattle.std.proofs.lemmas.Option.{slice_get_within, slice_get-get_or}
-use Rattle.ace_event.specs.declared.event.Channel.TheVariants.{Read, Write}
-use Rattle.ace_model.specs.declared.snoops.Snoop.{Snoop}
+use Rattle.ace_event.specs.declared.event.Channel.TheVariants.{Read}
 use Rattle.ace_model.specs.declared.transactions.Transaction.{Transaction}
-use Rattle.ace_model.proofs.Terms.{Header, Event, Ar, Aw, Ac, Cr, Trace, at_point, is_some_and, is_none_or, more, is_ace, is_read, read_kind, issued, outstanding, is_completed, is_message_part, is_message_snoop, ac_kind_of, is_sync, is_sync_word, has_second, first_waiting, parts_with, parts_in, parts_for, parts_among, forwarded, forwards, next_after, add_forwarded, answered_parts, has_answered, has_part, snoops_of, snoop_at, answers, answered, k1, k14, IsAccepted}
-use Rattle.ace_model.specs.AddressRules.{may_have}
-use Rattle.ace_model.specs.Messages.{is_second_part}
-use Rattle.ace_model.specs.Trace.{port_of}
-use Rattle.ace_model.proofs.Rules.Keeps.{accepted_keeps}
-use Rattle.ace_model.proofs.Dvm.Parts.{IsBelow, parts-placed}
-use Rattle.ace_model.proofs.Dvm.Forwarding.{answered-first}
+use Rattle.ace_model.proofs.Terms.{Header, Event, Trace, at_point, is_ace, is_read, issued, outstanding, is_completed, is_message_part, is_sync_word, has_second, first_waiting, parts_with, parts_in, parts_for, answered_parts, has_part, IsAccepted}
+use Rattle.ace_model.proofs.Dvm.Parts.{IsBelow}
 use Rattle.ace_model.proofs.Dvm.Answered.{complete_part-answered}
 use Rattle.ace_model.proofs.Trace.Growth.{IsIssued, issued-new, issued-old, issued-cases, at_point-before}
 use Rattle.ace_model.proofs.Trace.Places.{at_point-last}
-use Rattle.ace_model.proofs.Trace.Issued.{issued_at, issued-place}
+use Rattle.ace_model.proofs.Trace.Issued.{issued-place}
 use Rattle.ace_model.proofs.Trace.LineOnce.{outstanding_is}
-use Rattle.ace_model.proofs.Trace.Looks.{is_read-is, is_write-is}
-use Rattle.ace_model.proofs.General.Options.{Some-injective, is_some_and-is, some_is}
-use Rattle.ace_model.proofs.General.Lists.{IsStart, start-length, start-is, slice_get-drop}
+use Rattle.ace_model.proofs.Trace.Looks.{is_read-is}
+use Rattle.ace_model.proofs.General.Options.{Some-injective}
 use Rattle.ace_model.proofs.General.Pigeonhole.{few_apart}
 use Rattle.ace_sysck.specs.Results.{slot_of}
 use Rattle.ace_sysck.specs.declared.messages.PortMessages.{PortMessages}
 use Rattle.ace_sysck.specs.declared.inboxes.Part.{Part}
 use Rattle.ace_sysck.specs.Messages.{PortMessagesStand}
-use Rattle.ace_sysck.specs.Inboxes.{InboxStands, part_of, parts_sent}
+use Rattle.ace_sysck.specs.Inboxes.{part_of, parts_sent}
 use Rattle.ace_sysck.proofs.Steps.{port_within}
 use Rattle.ace_sysck.proofs.BarrierSteps.{issuing-port}
 use Rattle.ace_sysck.proofs.Unanswered.{still-outstanding}
-use Rattle.ace_sysck.proofs.PartLaws.{Waits, waits-is, waits-old, parts-apart, Forwards, forwards-at, forwards-kind, forwarded-length}
-use Rattle.ace_sysck.proofs.InboxRules.{unanswered, not_answered, both-parts}
+use Rattle.ace_sysck.proofs.PartLaws.{Waits, waits-is, waits-old, parts-apart}
+use Rattle.ace_sysck.proofs.InboxRules.{unanswered, not_answered}
 
 -- A part for a port was issued by another port.
 pub record IsPartFor (past : Trace) (q : ℕ) (z : Transaction) : Type 0 where

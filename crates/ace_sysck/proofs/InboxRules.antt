@@ -1,32 +1,29 @@
 -- What the rules on the parts of messages say where the inboxes stand.
-use Rattle.std.proofs.Common.{◌≡◌, ◌≢◌, ◌⊎◌, ℕ, zero, suc, ◌+◌, ◌<◌, ◌≤◌, Bool, true, false, not, ◌&&◌, ◌||◌, nat_eq, nat_lt, List, [], ◌∷◌, ◌++◌, length, map, take, drop, slice_get, get_or, Option, Some, None, is_some, refl, sym, ap, subst, ◌∙◌, arith, inl, inr, length-append}
-use Rattle.std.specs.List.{All, AllPairs, list_any}
+use Rattle.std.proofs.Common.{◌≡◌, ◌≢◌, ◌⊎◌, ℕ, zero, suc, ◌+◌, ◌<◌, Bool, true, false, not, ◌&&◌, ◌||◌, nat_eq, nat_lt, List, [], ◌∷◌, ◌++◌, length, map, take, drop, slice_get, get_or, Option, Some, None, refl, sym, ap, subst, ◌∙◌, arith, inl, inr, length-append}
+use Rattle.std.specs.List.{AllPairs}
 use Rattle.std.specs.Option.{option_map}
-use Rattle.std.proofs.lemmas.Bool.{cases_Bool, cases_eq, and_parts, eqb-true, eq-eqb, ne_eqb, lt-ltb, ltb-true, or_left, or_right}
+use Rattle.std.proofs.lemmas.Bool.{cases_Bool, and_parts, eqb-true, eq-eqb, ne_eqb, ltb-true, or_left}
 use Rattle.std.proofs.lemmas.List.{take-append-drop, get_or_append_left, get_or-append-add, get_or_default}
 use Rattle.std.proofs.lemmas.List.Folds.{list_any-append, list_any_none}
-use Rattle.std.proofs.lemmas.Option.{slice_get_within}
 use Rattle.ace_codes.specs.declared.kind.SnoopKind.{SnoopKind}
 use Rattle.ace_model.specs.declared.transactions.Transaction.{Transaction}
-use Rattle.ace_model.proofs.Terms.{Header, Event, Ac, Trace, implies, is_some_and, is_none_or, is_ace, is_message_part, is_message_snoop, ac_kind_of, first_waiting, parts_for, parts_among, forwarded, answered_parts, has_answered, has_part, each_port, is_other_ace, is_answered_by_all, k36, IsAccepted}
+use Rattle.ace_model.proofs.Terms.{Ac, Trace, implies, is_some_and, is_none_or, is_ace, is_message_part, is_message_snoop, ac_kind_of, first_waiting, parts_for, parts_among, forwarded, answered_parts, has_answered, has_part, list_all, ports_below, is_other_ace, is_answered_by_all, k36}
 use Rattle.ace_model.specs.Messages.{next_part, is_second_part}
 use Rattle.ace_model.specs.OrderRules.{forwards_next}
 use Rattle.ace_model.proofs.Dvm.Parts.{parts-cases}
 use Rattle.ace_model.proofs.Dvm.Forwarding.{answered-first}
 use Rattle.ace_model.proofs.Trace.Growth.{IsIssued}
-use Rattle.ace_model.proofs.General.Lists.{IsStart, start-is, slice_get-drop}
-use Rattle.ace_model.proofs.General.Options.{Some-injective}
+use Rattle.ace_model.proofs.General.Lists.{start-is, slice_get-drop}
 use Rattle.ace_portck.specs.declared.target.Target.{Target}
 use Rattle.ace_portck.specs.Targets.{Recording}
-use Rattle.ace_sysck.specs.declared.inboxes.Part.{Part}
 use Rattle.ace_sysck.specs.declared.inboxes.Inbox.{Inbox}
 use Rattle.ace_sysck.specs.declared.inboxes.Inboxes.{Inboxes}
 use Rattle.ace_sysck.specs.Messages.{is_at}
-use Rattle.ace_sysck.specs.Inboxes.{InboxesStand, InboxStands, MayAskInboxes, part_of, next_in, forwards_in, awaits, has_place}
+use Rattle.ace_sysck.specs.Inboxes.{InboxesStand, MayAskInboxes, part_of, next_in, forwards_in, awaits, has_place}
 use Rattle.ace_sysck.proofs.PartLaws.{parts-apart, waiting-apart, AreOthers}
 
 -- an element of a list that is mapped
-slice_get-map : {A B : Type 0} → (f : A → B) (xs : List A) (k : ℕ) → slice_get (map f xs) k ≡ option_map f (slice_get xs k)
+pub slice_get-map : {A B : Type 0} → (f : A → B) (xs : List A) (k : ℕ) → slice_get (map f xs) k ≡ option_map f (slice_get xs k)
 slice_get-map f [] k = refl
 slice_get-map f (x ∷ xs) zero = refl
 slice_get-map f (x ∷ xs) (suc k) = slice_get-map f xs k
@@ -36,6 +33,9 @@ pub inbox_at : (xs : List Inbox) (k : ℕ) → k < length xs → (b : Inbox) × 
 inbox_at [] k low = absurd (omega arith)
 inbox_at (b ∷ xs) zero low = (b, refl)
 inbox_at (b ∷ xs) (suc k) low = inbox_at xs k (omega arith)
+
+pub inbox_of : (r : Recording) (s : Inboxes) (p : ℕ) → InboxesStand r s → is_ace r.header p ≡ true → (b : Inbox) × (slice_get s.ports.items p ≡ Some b)
+inbox_of r s p stands ace = inbox_at s.ports.items p (let n = stands.size in let low = ltb-true p r.header.ports (and_parts (nat_lt p r.header.ports) _ ace).0 in omega arith)
 
 -- the next part is the first that was not forwarded
 pub next-is : (r : Recording) (s : Inboxes) (p : ℕ) → InboxesStand r s → is_ace r.header p ≡ true → next_in (slice_get s.ports.items p) ≡ option_map (part_of r.past) (next_part r.past p)
@@ -149,16 +149,16 @@ awaits-is r s q x stands ace =
     ap (λ o. is_some_and o (λ (v : Inbox). has_place v.parts.items x.place)) b.1 ∙ ap (λ l. has_place l x.place) k.parts_are ∙ place-in r.past (unanswered r.past q) x
 
 -- two tests that agree on each port below a number
-each_port-same : (n : ℕ) (test other : ℕ → Bool) → ((q : ℕ) → q < n → test q ≡ other q) → each_port n test ≡ each_port n other
-each_port-same zero test other same = refl
-each_port-same (suc n) test other same = rw (same n (omega arith), each_port-same n test other (λ q low. same q (omega arith))) refl
+pub all_ports-same : (n : ℕ) (test other : ℕ → Bool) → ((q : ℕ) → q < n → test q ≡ other q) → list_all test (ports_below n) ≡ list_all other (ports_below n)
+all_ports-same zero test other same = refl
+all_ports-same (suc n) test other same = rw (same n (omega arith), all_ports-same n test other (λ q low. same q (omega arith))) refl
 
 -- every other ACE port has answered the part
 pub answered_by_all-is : (r : Recording) (s : Inboxes) (x : Transaction) → InboxesStand r s → IsIssued r.past x → is_message_part x ≡ true
     → is_answered_by_all r.header r.past x
-    ≡ each_port r.header.ports (λ q. implies (is_other_ace r.header x.port q) (not (is_at (first_waiting r.past x.port) x.place || awaits s q x.place)))
+    ≡ list_all (λ q. implies (is_other_ace r.header x.port q) (not (is_at (first_waiting r.past x.port) x.place || awaits s q x.place))) (ports_below r.header.ports)
 answered_by_all-is r s x stands i part =
-    each_port-same r.header.ports (λ q. implies (is_other_ace r.header x.port q) (has_answered r.past x q))
+    all_ports-same r.header.ports (λ q. implies (is_other_ace r.header x.port q) (has_answered r.past x q))
     (λ q. implies (is_other_ace r.header x.port q) (not (is_at (first_waiting r.past x.port) x.place || awaits s q x.place)))
     (λ q low. elim (cases_Bool (is_other_ace r.header x.port q)) [
       | inl t ↦

@@ -18,3 +18,7 @@ pub mod InboxSteps
 pub mod InboxRules
 pub mod InboxMoves
 pub mod InboxHears
+pub mod SyncSteps
+pub mod ExclusiveLaws
+pub mod RuleLaws
+pub mod Judging

@@ -1,20 +1,19 @@
 -- The messages that the ports issue, event by event.
-use Rattle.std.proofs.Common.{◌≡◌, ◌⊎◌, ℕ, ◌<◌, ◌≤◌, Bool, true, false, not, ◌&&◌, ◌||◌, nat_eq, if◌then◌else◌, List, [], ◌∷◌, length, get_or, slice_set, Option, Some, None, is_some, refl, sym, ap, subst, ◌∙◌, arith, inl, inr, length-set}
-use Rattle.std.proofs.lemmas.Bool.{cases_Bool, cases_eq, and_parts, and_right, eqb-true, eq-eqb, ne_eqb}
+use Rattle.std.proofs.Common.{◌≡◌, ◌⊎◌, ℕ, ◌<◌, Bool, true, false, not, ◌&&◌, nat_eq, if◌then◌else◌, [], ◌∷◌, length, get_or, slice_set, Option, Some, None, is_some, refl, sym, ap, subst, ◌∙◌, arith, inl, inr, length-set}
+use Rattle.std.proofs.lemmas.Bool.{cases_Bool, cases_eq, and_right, eq-eqb, ne_eqb}
 use Rattle.ace_model.specs.declared.transactions.Transaction.{Transaction}
-use Rattle.ace_model.proofs.Terms.{Header, Event, Ar, Aw, Ac, R, B, Trace, at_point, newer, implies, is_some_and, is_none_or, issued, is_completed, is_completion_event, is_transaction, served_by, is_message_part, is_message_word, is_sync, is_sync_word, has_second, first_waiting, part_in, waits_after, last_sync, sync_in, is_sync_completed, is_part_in_order, begins_message, IsAccepted, is_complete_snoop, ac_kind_of}
-use Rattle.ace_model.specs.Messages.{completes_sync, is_second_part}
-use Rattle.ace_model.specs.Trace.{port_of}
+use Rattle.ace_model.proofs.Terms.{Header, Event, Ac, Trace, newer, is_some_and, issued, is_completed, is_message_part, is_sync, is_sync_word, first_waiting, part_in, waits_after, last_sync, sync_in, is_sync_completed, is_part_in_order, IsAccepted, is_complete_snoop, ac_kind_of}
+use Rattle.ace_model.specs.Messages.{completes_sync}
 use Rattle.ace_model.proofs.Dvm.Syncs.{last_sync-is}
-use Rattle.ace_model.proofs.Trace.Growth.{IsIssued, at_point-end}
+use Rattle.ace_model.proofs.Trace.Growth.{at_point-end}
 use Rattle.ace_model.proofs.Trace.Issued.{issued_at, issued-place}
-use Rattle.ace_model.proofs.General.Options.{Some-injective, newer-cases}
+use Rattle.ace_model.proofs.General.Options.{Some-injective}
 use Rattle.ace_portck.specs.declared.target.Target.{Target}
 use Rattle.ace_portck.specs.Targets.{Recording, after, target_of}
 use Rattle.ace_sysck.specs.declared.messages.PortMessages.{PortMessages}
 use Rattle.ace_sysck.specs.declared.messages.Messages.{Messages}
 use Rattle.ace_sysck.specs.Events.{begun_in, completed_in}
-use Rattle.ace_sysck.specs.Messages.{MessagesStand, PortMessagesStand, silent, is_new_sync, part_issued, part_completed, told_complete, is_in_order, is_at}
+use Rattle.ace_sysck.specs.Messages.{MessagesStand, PortMessagesStand, silent, is_new_sync, part_issued, part_completed, told_complete, is_in_order}
 use Rattle.ace_sysck.proofs.Tables.{set_at}
 use Rattle.ace_sysck.proofs.Steps.{port_within}
 use Rattle.ace_sysck.proofs.EventLaws.{responding, responds-at, completes-at, completes-none, begun-is}

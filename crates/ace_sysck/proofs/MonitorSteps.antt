@@ -1,10 +1,10 @@
 -- The monitors, event by event.
 use Rattle.std.proofs.Common.{◌≡◌, ℕ, ◌<◌, Bool, true, false, not, ◌&&◌, nat_eq, if◌then◌else◌, [], ◌∷◌, length, Option, Some, None, unwrap_or, get_or, slice_set, refl, sym, ap, subst, ◌∙◌, arith, inl, inr, length-set}
 use Rattle.std.specs.Option.{option_map}
-use Rattle.std.proofs.lemmas.Bool.{cases_Bool, cases_eq, and_parts, eqb-true, eq-eqb, ne_eqb, not-true}
+use Rattle.std.proofs.lemmas.Bool.{cases_Bool, cases_eq, and_parts, eq-eqb, ne_eqb, not-true}
 use Rattle.ace_model.specs.declared.snoops.Snoop.{Snoop}
 use Rattle.ace_model.specs.declared.transactions.Transaction.{Transaction}
-use Rattle.ace_model.proofs.Terms.{Event, Rk, Wk, Cr, S, L, D, Read, Write, Channel, Header, Trace, LineState, UD, is_invalid, is_ace, is_some_and, is_some_on, state_of, is_monitored, is_set_by, Line, acknowledged, answered, answers_line, is_snoop_on, snoops_a_line, is_line, is_in_make_unique, IsAccepted}
+use Rattle.ace_model.proofs.Terms.{Event, Rk, Wk, Cr, S, L, D, Read, Write, Header, Trace, LineState, is_invalid, is_ace, is_some_and, is_some_on, state_of, is_monitored, is_set_by, Line, acknowledged, answered, answers_line, is_snoop_on, snoops_a_line, is_line, is_in_make_unique, IsAccepted}
 use Rattle.ace_model.specs.States.{left_by}
 use Rattle.ace_model.specs.Trace.{port_of}
 use Rattle.ace_model.proofs.General.Options.{Some-injective}

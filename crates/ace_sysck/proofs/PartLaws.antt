@@ -1,19 +1,19 @@
 -- The parts of messages for a port: no two are the same, and the snoops that forward them are the AC DVM Messages.
-use Rattle.std.proofs.Common.{◌≡◌, ◌≢◌, ◌⊎◌, ℕ, suc, ◌+◌, ◌<◌, ◌≤◌, Bool, true, false, not, ◌&&◌, ◌||◌, nat_eq, if◌then◌else◌, List, [], ◌∷◌, ◌++◌, length, slice_get, Option, Some, None, is_some, refl, sym, ap, subst, ◌∙◌, arith, inl, inr, append_assoc, length-append}
-use Rattle.std.specs.List.{All, AllPairs}
-use Rattle.std.proofs.lemmas.Bool.{cases_Bool, and_parts, eqb-true, eq-eqb, not-true}
+use Rattle.std.proofs.Common.{◌≡◌, ◌≢◌, ◌⊎◌, ℕ, ◌+◌, ◌≤◌, true, false, not, ◌&&◌, ◌||◌, nat_eq, List, [], ◌∷◌, ◌++◌, length, slice_get, Option, Some, None, is_some, refl, sym, ap, subst, ◌∙◌, arith, inl, inr, append_assoc, length-append}
+use Rattle.std.specs.List.{All}
+use Rattle.std.proofs.lemmas.Bool.{cases_Bool, and_parts, eqb-true, eq-eqb}
 use Rattle.std.proofs.lemmas.List.{append-nil}
 use Rattle.std.proofs.lemmas.List.Elements.{All-nil, All-cons, All-append, All-weaker, All-push}
 use Rattle.std.proofs.lemmas.List.Quantifiers.{all_pairs_push}
 use Rattle.ace_codes.specs.declared.kind.SnoopKind.{SnoopKind}
 use Rattle.ace_model.specs.declared.snoops.Snoop.{Snoop}
 use Rattle.ace_model.specs.declared.transactions.Transaction.{Transaction}
-use Rattle.ace_model.proofs.Terms.{Header, Event, Ac, Trace, at_point, implies, is_some_and, is_none_or, more, issued, is_message_part, has_second, part_in, waits_after, first_waiting, parts_with, parts_in, parts_for, forwarded, forwards, next_after, add_forwarded, snoops_of, snoop_at, ac_kind_of, is_message_snoop, IsAccepted, is_sync}
+use Rattle.ace_model.proofs.Terms.{Header, Event, Ac, Trace, implies, is_some_and, is_none_or, more, issued, is_message_part, has_second, part_in, waits_after, first_waiting, parts_with, parts_in, parts_for, forwarded, forwards, next_after, add_forwarded, snoops_of, snoop_at, ac_kind_of, is_message_snoop, IsAccepted}
 use Rattle.ace_model.specs.Messages.{is_second_part}
 use Rattle.ace_model.specs.OrderRules.{forwards_next}
 use Rattle.ace_model.proofs.Rules.Keeps.{accepted_keeps}
 use Rattle.ace_model.proofs.Dvm.Parts.{IsBelow, parts-placed}
-use Rattle.ace_model.proofs.Trace.Growth.{IsIssued, issued-new, issued-old, at_point-before, at_point-end}
+use Rattle.ace_model.proofs.Trace.Growth.{IsIssued, issued-new, issued-old, at_point-before}
 use Rattle.ace_model.proofs.Trace.Places.{at_point-last}
 use Rattle.ace_model.proofs.Trace.Issued.{issued_at, issued-place}
 use Rattle.ace_model.proofs.General.Options.{Some-injective, some_if-is, some_where-is}

@@ -1,11 +1,11 @@
 -- The registrations, event by event.
-use Rattle.std.proofs.Common.{◌≡◌, ◌⊎◌, ℕ, ◌*◌, ◌%◌, ◌^◌, ◌<◌, ◌≤◌, Bool, true, false, not, ◌&&◌, ◌||◌, nat_eq, nat_lt, if◌then◌else◌, bit_or, [], ◌∷◌, length, Option, Some, None, IsSome, unwrap_or, refl, sym, ap, subst, ◌∙◌, arith, inl, inr, w32}
+use Rattle.std.proofs.Common.{◌≡◌, ◌⊎◌, ℕ, ◌*◌, ◌%◌, ◌^◌, ◌<◌, ◌≤◌, true, false, not, ◌&&◌, ◌||◌, nat_eq, nat_lt, if◌then◌else◌, bit_or, [], ◌∷◌, Option, Some, None, IsSome, unwrap_or, refl, sym, ap, subst, ◌∙◌, arith, inl, inr, w32}
 use Rattle.std.specs.Int.{bit_at}
-use Rattle.std.proofs.lemmas.Bool.{cases_Bool, cases_eq, and_parts, and_from, or_cases, or_left, or_right, eqb-true, eq-eqb, ne_eqb, le-ltb}
+use Rattle.std.proofs.lemmas.Bool.{cases_Bool, cases_eq, and_parts, eq-eqb, ne_eqb, le-ltb}
 use Rattle.std.proofs.lemmas.Nat.Bits.{bit_at_set_same, bit_at_set_other, bit_at_above, bit_at-zero}
 use Rattle.indexmap.specs.IndexMap.{get}
 use Rattle.ace_model.specs.declared.transactions.Transaction.{Transaction}
-use Rattle.ace_model.proofs.Terms.{Event, G, Channel, Header, Trace, is_some_and, is_line, is_on, is_exclusive_store, outstanding, transaction_of, given, IsAccepted}
+use Rattle.ace_model.proofs.Terms.{Event, G, Header, Trace, is_some_and, is_line, is_on, is_exclusive_store, outstanding, given, IsAccepted}
 use Rattle.ace_model.specs.Exclusives.{is_registered}
 use Rattle.ace_model.specs.Trace.{port_of}
 use Rattle.std.specs.Option.{option_map}

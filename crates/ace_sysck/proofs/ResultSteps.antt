@@ -1,10 +1,9 @@
 -- The results of the exclusive stores, event by event.
-use Rattle.std.proofs.Common.{◌≡◌, ℕ, ◌<◌, ◌*◌, Bool, true, false, not, ◌&&◌, nat_eq, if◌then◌else◌, [], ◌∷◌, length, Option, Some, None, get_or, slice_set, refl, sym, ap, subst, ◌∙◌, arith, inl, inr, length-set}
-use Rattle.std.proofs.lemmas.Bool.{cases_Bool, and_parts, eqb-true}
+use Rattle.std.proofs.Common.{◌≡◌, ℕ, ◌<◌, ◌*◌, Bool, true, false, ◌&&◌, nat_eq, if◌then◌else◌, [], ◌∷◌, length, Option, Some, None, get_or, slice_set, refl, sym, ap, ◌∙◌, inl, inr, length-set}
+use Rattle.std.proofs.lemmas.Bool.{cases_Bool, and_parts}
 use Rattle.ace_model.specs.declared.transactions.Transaction.{Transaction}
-use Rattle.ace_model.proofs.Terms.{Event, Ar, Aw, G, Read, Header, Trace, is_read, same_channel, read_kind, is_exclusive_store, transaction_of, given, issued, is_named, has_name, passed_at_grant, store_result, is_clean_unique, is_some_and, newer, Channel}
+use Rattle.ace_model.proofs.Terms.{Event, Ar, Aw, G, Read, Header, Trace, is_read, same_channel, is_exclusive_store, given, issued, is_named, has_name, passed_at_grant, store_result, is_clean_unique, is_some_and, newer, Channel}
 use Rattle.ace_model.specs.Exclusives.{store_passes}
-use Rattle.ace_model.proofs.Trace.Looks.{is_read-is, same_channel-self}
 use Rattle.ace_model.proofs.Trace.Outstanding.{write_issued}
 use Rattle.ace_portck.specs.Targets.{Recording}
 use Rattle.ace_sysck.specs.declared.results.Results.{Results}

@@ -1,9 +1,9 @@
 -- What an accepted event says of the port and the transaction that it names.
-use Rattle.std.proofs.Common.{◌≡◌, ℕ, ◌<◌, ◌≤◌, Bool, true, nat_lt, ◌&&◌, [], ◌∷◌, length, Option, Some, None, refl, sym, ap, ◌∙◌}
+use Rattle.std.proofs.Common.{◌≡◌, ℕ, ◌<◌, nat_lt, ◌∷◌, length, Option, Some, None, sym, ap, ◌∙◌}
 use Rattle.std.proofs.lemmas.Bool.{and_parts, ltb-true}
 use Rattle.std.specs.Option.{option_map}
 use Rattle.ace_model.specs.declared.transactions.Transaction.{Transaction}
-use Rattle.ace_model.proofs.Terms.{Event, G, Channel, issued, Header, Trace, is_some_and, is_none_or, outstanding, transaction_of, IsAccepted, may_be_granted}
+use Rattle.ace_model.proofs.Terms.{Event, G, Channel, issued, Header, Trace, outstanding, transaction_of, IsAccepted, may_be_granted}
 use Rattle.ace_model.specs.AddressRules.{may_have}
 use Rattle.ace_model.specs.Trace.{port_of}
 use Rattle.ace_model.proofs.Rules.Keeps.{accepted_keeps}
@@ -13,7 +13,7 @@ use Rattle.ace_model.specs.Grants.{given}
 use Rattle.ace_portck.specs.declared.target.Target.{Target}
 use Rattle.ace_portck.specs.declared.target.Progress.{Progress}
 use Rattle.ace_portck.specs.Targets.{Recording, target_of, progress_of}
-use Rattle.ace_sysck.specs.Steps.{IsStep}
+use Rattle.ace_sysck.specs.Steps.{IsStep, IsAsked}
 
 -- the port of an event of an accepted trace is one of the header
 pub port_within : (h : Header) (past : Trace) (e : Event) (p : ℕ) → IsAccepted h (e ∷ past) → port_of e ≡ Some p → p < h.ports
@@ -54,3 +54,7 @@ grants-at r q c j e t y step is some =
       grants = ap (given r.past) is ∙ named;
       port = rw name.port (port_within r.header r.past e q step.accepted (ap port_of is));
     }
+
+-- the port of an event that keeps K1 is one of the header
+pub within-asked : (r : Recording) (e : Event) (t : Target) (p : ℕ) → IsAsked r e t → port_of e ≡ Some p → p < r.header.ports
+within-asked r e t p asked port = ltb-true p r.header.ports (and_parts (nat_lt p r.header.ports) _ (is_none_or-at (port_of e) (may_have r.header e) p asked.first port)).0

@@ -1,16 +1,16 @@
 -- A read of an accepted trace that isn't complete is outstanding.
-use Rattle.std.proofs.Common.{◌≡◌, ◌≢◌, ◌⊎◌, ℕ, ◌+◌, ◌<◌, ◌≤◌, Bool, true, false, not, ◌&&◌, ◌||◌, nat_eq, if◌then◌else◌, [], ◌∷◌, length, slice_get, Option, Some, None, is_some, refl, sym, ap, subst, ◌∙◌, arith, inl, inr}
+use Rattle.std.proofs.Common.{◌≡◌, ℕ, ◌≤◌, true, false, ◌&&◌, nat_eq, [], ◌∷◌, slice_get, Option, Some, None, refl, sym, ap, ◌∙◌, arith, inl, inr}
 use Rattle.std.proofs.lemmas.Bool.{cases_Bool, and_parts, or_left, or_right, or_parts, eqb-true, eq-eqb}
 use Rattle.ace_event.specs.declared.event.Channel.TheVariants.{Read, Write}
 use Rattle.ace_model.specs.declared.transactions.Transaction.{Transaction}
-use Rattle.ace_model.proofs.Terms.{Header, Event, R, Rk, B, Wk, Channel, Trace, is_some_and, is_ace, is_named, issued, completes, completed, acknowledgements, next_complete, acknowledged, transaction_of, transaction_under, is_transaction, ended, outstanding, is_outstanding, is_completion, is_complete, is_completed, is_completion_event, served_by, IsAccepted}
+use Rattle.ace_model.proofs.Terms.{Header, Event, R, Rk, B, Wk, Trace, is_ace, completes, completed, acknowledgements, next_complete, transaction_of, transaction_under, is_transaction, ended, is_outstanding, is_completion, is_complete, is_completed, is_completion_event, served_by, IsAccepted}
 use Rattle.ace_model.proofs.Rules.Keeps.{accepted_keeps}
 use Rattle.ace_model.proofs.Holders.Law.{accepted_holds}
 use Rattle.ace_model.proofs.Trace.Growth.{IsIssued, issued-cases}
 use Rattle.ace_model.proofs.Trace.Issued.{issued_at, transaction_of-stands, transaction_of-name}
 use Rattle.ace_model.proofs.Outstanding.Names.{complete_by_name}
 use Rattle.ace_model.proofs.Outstanding.Steps.{other_name_issued, outstanding_after, outstanding_new_one}
-use Rattle.ace_model.proofs.General.Options.{Some-injective, some_is}
+use Rattle.ace_model.proofs.General.Options.{Some-injective}
 use Rattle.ace_model.proofs.General.Lists.{slice_get-more}
 use Rattle.ace_sysck.proofs.BarrierSteps.{hits}
 

@@ -1,6 +1,5 @@
 -- The word of a DVM message.
-use Rattle.std.proofs.Common.{◌≡◌, ℕ, zero, suc, ◌+◌, ◌/◌, ◌%◌, ◌<◌, Bool, true, false, ◌||◌, ◌==◌, nat_eq, nat_le, Option, Some, None, is_some, refl, sym, ap, ◌∙◌, arith}
-use Rattle.std.specs.Int.{bit_at}
+use Rattle.std.proofs.Common.{◌≡◌, ℕ, zero, suc, ◌/◌, ◌%◌, ◌<◌, ◌||◌, nat_eq, nat_le, is_some, refl, ap, arith}
 use Rattle.std.proofs.lemmas.Nat.Bits.{bit_at_lowest}
 use Rattle.ace_codes.specs.Places.{entry}
 use Rattle.ace_model.specs.Trace.{is_some_and}

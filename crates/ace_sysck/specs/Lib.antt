@@ -6,3 +6,6 @@ pub mod Events
 pub mod Barriers
 pub mod Messages
 pub mod Inboxes
+pub mod Syncs
+pub mod Rules
+pub mod Stands

@@ -9,7 +9,7 @@ use Rattle.ace_model.specs.Monitors.{is_monitored}
 use Rattle.ace_portck.specs.declared.target.Target.{Target}
 use Rattle.ace_portck.specs.Targets.{Recording}
 use Rattle.ace_sysck.specs.declared.monitors.Monitors.{Monitors}
-use Rattle.ace_sysck.specs.Steps.{IsStep, IsAsked}
+use Rattle.ace_sysck.specs.Steps.{IsStep}
 
 -- there is a line, and it is this one
 abbrev pub is_line_of : Option ℕ → ℕ → Bool

@@ -1,5 +1,5 @@
 -- What is kept of the exclusive stores of each port.
-use Rattle.std.specs.Prelude.{ℕ, ◌≡◌, ◌+◌, ◌*◌, ◌<◌, Bool, Option, Some, None, length, slice_index_or}
+use Rattle.std.specs.Prelude.{ℕ, ◌≡◌, ◌+◌, ◌*◌, ◌<◌, Bool, Some, None, length, slice_index_or}
 use Rattle.ace_event.specs.declared.event.Event.{Event}
 use Rattle.ace_model.specs.declared.transactions.Transaction.{Transaction}
 use Rattle.ace_model.specs.Grants.{given}

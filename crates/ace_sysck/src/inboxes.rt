@@ -137,7 +137,8 @@ impl Inboxes {
     ghost use Rattle.ace_model.specs.OrderRules.{k36};
     ghost use Rattle.std.specs.Prelude.{not, ◌||◌};
     ghost use Rattle.ace_model.specs.Trace.{implies, is_some_and};
-    ghost use Rattle.ace_model.specs.Grants.{each_port};
+    ghost use Rattle.std.specs.List.{list_all};
+    ghost use Rattle.ace_model.specs.Grants.{ports_below};
     ghost use Rattle.ace_model.specs.Messages.{is_other_ace};
     ghost use Rattle.ace_portck.specs.Targets.{Recording, after};
     ghost use Rattle.ace_sysck.specs.Inboxes.{InboxesStand, MayAskInboxes, MayHearInboxes, SendsAll, SendsOne, ForwardsTo, AnswersFirst, first_is_sync, sent_list, awaits, next_in, part_of};
@@ -198,7 +199,7 @@ impl Inboxes {
 
     /// Every other ACE port has answered the part, which doesn't wait for its second.
     pub fn is_answered_by_all(&self, header: &Header, x: &Transaction, waiting: bool) -> bool
-        ensures { result ≡ each_port header.now.ports (λ q. implies (is_other_ace header.now x.now.port q) (not (waiting || awaits self.now q x.now.place))) }
+        ensures { result ≡ list_all (λ q. implies (is_other_ace header.now x.now.port q) (not (waiting || awaits self.now q x.now.place))) (ports_below header.now.ports) }
     {
         let mut all = true;
         for q in 0..header.ports {
@@ -296,7 +297,7 @@ impl Inboxes {
 }
 
 /// The snoop of the target is an AC DVM Message.
-fn answers_message(target: &Target) -> bool
+pub fn answers_message(target: &Target) -> bool
     ensures { result ≡ answers_message target.now }
 {
     match target.snoop {

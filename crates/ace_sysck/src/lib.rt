@@ -9,4 +9,11 @@ mod messages;
 mod monitors;
 mod registrations;
 mod results;
+mod rules;
+mod syncs;
+mod system;
+#[cfg(test)]
+mod tests;
 mod words;
+
+pub use system::SysCheck;

@@ -31,7 +31,8 @@ pub struct Messages {
     ports: Vec<PortMessages>,
 }
 
-fn is_new_sync(kept: &PortMessages, x: &Transaction) -> bool
+/// The part is a Sync, after what the port has issued.
+pub fn is_new_sync(kept: &PortMessages, x: &Transaction) -> bool
     ensures { result ≡ is_new_sync kept.now x.now }
 {
     is_sync_word(x.addr) && kept.first.is_none()
@@ -74,7 +75,8 @@ fn part_issued(kept: PortMessages, x: Transaction) -> PortMessages
     }
 }
 
-fn is_at(x: Option<Transaction>, place: usize) -> bool
+/// It is the transaction at the place.
+pub fn is_at(x: Option<Transaction>, place: usize) -> bool
     ensures { result ≡ is_at x place }
 {
     match x {

@@ -89,9 +89,9 @@ impl Registrations {
     /// Makes room for the line that the event grants to a transaction with lock 1. There is no memory only where it is the first
     /// of its line.
     pub fn ready(&mut self, event: &Event, target: &Target) -> Result<(), AllocError>
-        ensures stands { (r : Recording) → MayMakeLineRoom r self.old event.now target.now → RegistrationsStand r self.new }
-        ensures room { (r : Recording) → MayMakeLineRoom r self.old event.now target.now → OnOk result (HasLineRoom self.new event.now target.now) }
-        ensures cause { (r : Recording) → MayMakeLineRoom r self.old event.now target.now → OnErr result (IsNewLock r.past event.now) }
+        ensures stands { (r : Recording) → RegistrationsStand r self.old → RegistrationsStand r self.new }
+        ensures room { OnOk result (HasLineRoom self.new event.now target.now) }
+        ensures cause { OnErr result ((r : Recording) → MayMakeLineRoom r self.old event.now target.now → IsNewLock r.past event.now) }
     {
         if let Some(x) = locked_in(event, target) {
             if !self.lines.contains_key(&x.addr) {

@@ -1,17 +1,8 @@
-use Rattle.std.proofs.Common.{◌≡◌, ◌&&◌, ◌==◌, ℕ, nat_eq, true, false, None, Some, refl, sym, ap, subst, ◌∙◌, arith, get_or, slice_set}
+use Rattle.std.proofs.Common.{◌≡◌, None, Some, sym, ap, ◌∙◌, arith, slice_set}
 use Rattle.std.proofs.lemmas.Grind.{common_steps}
-use Rattle.std.proofs.lemmas.Bool.{eq-eqb}
-use Rattle.ace_model.specs.Trace.{implies, is_none_or}
-use Rattle.ace_model.specs.AddressRules.{begins_barrier}
-use Rattle.ace_model.specs.Barriers.{is_barrier_half}
-use Rattle.ace_model.specs.OrderRules.{may_answer_half, is_past_barriers}
-use Rattle.ace_sysck.specs.declared.barriers.Barrier.TheVariants.{Idle}
-use Rattle.ace_sysck.specs.Events.{begun_in, completed_in, responded_in, granted_in}
-use Rattle.ace_sysck.specs.Barriers.{BarrierStands, begins_after, may_answer_after, is_past, joined, answered}
-use Rattle.ace_sysck.proofs.EventLaws.{responded-is, responds-at, granted-is}
-use Rattle.ace_sysck.proofs.BarrierRules.{begins-is, past-is}
-use Rattle.ace_sysck.proofs.BarrierAnswers.{answer-is}
-use Rattle.ace_sysck.proofs.BarrierSteps.{awaits-at, k34-is, k35-is, barriers_begun, barriers_plain, barriers_completed, barriers_stay}
+use Rattle.ace_sysck.specs.Events.{begun_in, completed_in}
+use Rattle.ace_sysck.specs.Barriers.{joined, answered}
+use Rattle.ace_sysck.proofs.BarrierSteps.{barriers_begun, barriers_plain, barriers_completed, barriers_stay}
 use Rattle.ace_sysck.proofs.barriers.Barriers.hear.Goals as goal
 
 pub returns-then-is_barrier_half : goal.returns-then-is_barrier_half

@@ -1,8 +1,6 @@
-use Rattle.std.proofs.Common.{◌≡◌, ◌≤◌, ◌<◌, ◌+◌, ◌*◌, ◌++◌, ℕ, [], ◌∷◌, Some, length, slice_get, arith, refl, sym, ap, ◌∙◌, length-append}
+use Rattle.std.proofs.Common.{◌≡◌, ◌+◌, ◌++◌, [], ◌∷◌, length, slice_get, arith, refl, sym, ap, ◌∙◌, length-append}
 use Rattle.std.proofs.lemmas.Grind.{common_steps}
-use Rattle.std.specs.VecDeque.{deque_capacity}
 use Rattle.ace_sysck.specs.declared.inboxes.Inbox.{Inbox}
-use Rattle.ace_sysck.specs.Inboxes.{IsEmptyInbox}
 use Rattle.ace_sysck.proofs.InboxSteps.{inboxes_fresh, fresh_more}
 use Rattle.ace_sysck.proofs.inboxes.Inboxes.new.Goals as goal
 

@@ -1,11 +1,9 @@
-use Rattle.std.proofs.Common.{◌≡◌, ◌≤◌, ◌<◌, ◌+◌, ◌++◌, ℕ, [], length, nat_eq, slice_get, slice_set, Some, true, false, arith, refl, sym, ap, subst, ◌∙◌, length-set}
+use Rattle.std.proofs.Common.{◌≡◌, ◌<◌, length, slice_get, slice_set, Some, arith, sym, ap, ◌∙◌}
 use Rattle.std.proofs.lemmas.Grind.{common_steps}
-use Rattle.std.proofs.lemmas.Bool.{eq-eqb, ne_eqb}
-use Rattle.std.proofs.lemmas.Option.{slice_get_within, slice_get-get_or}
+use Rattle.std.proofs.lemmas.Option.{slice_get-get_or}
 use Rattle.std.specs.Vec.{with_item}
-use Rattle.ace_sysck.specs.declared.inboxes.Inbox.{Inbox}
 use Rattle.ace_sysck.specs.declared.inboxes.Inboxes.{Inboxes}
-use Rattle.ace_sysck.specs.Inboxes.{Receives, SendsOne, sent_to, sent_list}
+use Rattle.ace_sysck.specs.Inboxes.{sent_list}
 use Rattle.ace_sysck.proofs.InboxSteps.{sends_own, sends_one, sends_outside}
 use Rattle.ace_sysck.proofs.inboxes.Inboxes.send_one.Goals as goal
 

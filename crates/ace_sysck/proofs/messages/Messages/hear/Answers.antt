@@ -1,4 +1,4 @@
-use Rattle.std.proofs.Common.{◌≡◌, ◌∷◌, ℕ, true, false, None, Some, refl, sym, ap, subst, ◌∙◌, arith, get_or, slice_set}
+use Rattle.std.proofs.Common.{◌≡◌, ◌∷◌, None, Some, sym, ap, subst, ◌∙◌, arith, slice_set}
 use Rattle.std.proofs.lemmas.Grind.{common_steps}
 use Rattle.ace_model.proofs.Terms.{Event, Ac, IsAccepted}
 use Rattle.ace_portck.specs.Targets.{after}

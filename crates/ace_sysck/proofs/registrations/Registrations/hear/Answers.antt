@@ -1,8 +1,6 @@
-use Rattle.std.proofs.Common.{◌≡◌, ◌&&◌, if◌then◌else◌, ℕ, true, false, None, Some, nat_eq, refl, sym, ap, subst, ◌∙◌, arith}
-use Rattle.std.specs.Int.{bit_at}
+use Rattle.std.proofs.Common.{◌≡◌, ℕ, None, Some, nat_eq, sym, arith}
 use Rattle.std.proofs.lemmas.Grind.{common_steps}
 use Rattle.indexmap.specs.IndexMap.{get}
-use Rattle.ace_model.specs.Transactions.{is_exclusive_store}
 use Rattle.ace_sysck.specs.Registrations.{locked_in, registered_bits, kept_bits}
 use Rattle.ace_sysck.proofs.RegistrationSteps.{registrations_stay, registrations_lock}
 use Rattle.ace_sysck.proofs.registrations.Registrations.hear.Goals as goal

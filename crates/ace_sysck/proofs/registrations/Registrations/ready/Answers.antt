@@ -1,4 +1,4 @@
-use Rattle.std.proofs.Common.{◌≡◌, None, Some, nat_eq, sym, arith}
+use Rattle.std.proofs.Common.{◌≡◌, None, nat_eq, sym, arith}
 use Rattle.std.proofs.lemmas.Grind.{common_steps}
 use Rattle.indexmap.specs.IndexMap.{get}
 use Rattle.ace_sysck.proofs.RegistrationSteps.{new_lock}

@@ -1,8 +1,4 @@
-use Rattle.std.proofs.Common.{◌≡◌, ◌<◌, ℕ, true, false, None, Some, refl, sym, ap, subst, slice_set, ◌∙◌, arith}
-use Rattle.std.proofs.lemmas.Grind.{common_steps}
-use Rattle.ace_model.specs.Trace.{is_some_and}
-use Rattle.ace_model.specs.Grants.{given}
-use Rattle.ace_model.specs.Transactions.{is_exclusive_store}
+use Rattle.std.proofs.Common.{◌<◌, Some, refl, sym, ap, slice_set, ◌∙◌, arith}
 use Rattle.ace_sysck.proofs.Steps.{grants-at}
 use Rattle.ace_sysck.proofs.ResultSteps.{results_store, results_plain}
 use Rattle.ace_sysck.proofs.results.Results.hear.Goals as goal

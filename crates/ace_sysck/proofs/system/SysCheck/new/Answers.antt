@@ -1,0 +1,16 @@
+use Rattle.std.proofs.Common.{refl}
+use Rattle.ace_sysck.proofs.system.SysCheck.new.Goals as goal
+
+pub returns : goal.returns
+returns c = λ is_header. record {
+  header = refl;
+  ports = is_header;
+  accepted = tt;
+  barriers = c.in-Ok.ensures c.args.header refl;
+  monitors = c.in-Ok-new.ensures c.args.header refl;
+  results = c.in-Ok-new-2.ensures c.args.header refl;
+  registrations = c.new-7.ensures c.args.header;
+  messages = c.in-Ok-new-3.ensures c.args.header refl;
+  inboxes = c.in-Ok-new-4.ensures c.args.header refl;
+  syncs = c.in-Ok-new-5.ensures c.args.header refl;
+}

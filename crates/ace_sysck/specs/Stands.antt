@@ -1,0 +1,45 @@
+-- What is kept of the system as a whole says what there is to say of it after a recording.
+use Rattle.std.specs.Prelude.{◌≡◌, ◌<◌, ◌-◌, ◌^◌, None, length}
+use Rattle.ace_event.specs.Ports.{IsHeader}
+use Rattle.ace_event.specs.declared.event.Event.{Event}
+use Rattle.ace_model.specs.Accepted.{IsAccepted, least_broken}
+use Rattle.ace_portck.specs.declared.target.Target.{Target}
+use Rattle.ace_portck.specs.Targets.{Recording, target_of}
+use Rattle.ace_sysck.specs.declared.system.SysCheck.{SysCheck}
+use Rattle.ace_sysck.specs.Barriers.{BarriersStand}
+use Rattle.ace_sysck.specs.Monitors.{MonitorsStand}
+use Rattle.ace_sysck.specs.Results.{ResultsStand}
+use Rattle.ace_sysck.specs.Registrations.{RegistrationsStand, HasLineRoom}
+use Rattle.ace_sysck.specs.Messages.{MessagesStand}
+use Rattle.ace_sysck.specs.Inboxes.{InboxesStand}
+use Rattle.ace_sysck.specs.Syncs.{SyncsStand}
+
+-- What is kept is what there is of barriers, exclusive transactions and DVM messages after the recording, which is accepted.
+pub record Stands (s : SysCheck) (r : Recording) : Type 0 where
+  pub header : s.header ≡ r.header
+  pub ports : IsHeader r.header
+  pub accepted : IsAccepted r.header r.past
+  pub barriers : BarriersStand r s.barriers
+  pub monitors : MonitorsStand r s.monitors
+  pub results : ResultsStand r s.results
+  pub registrations : RegistrationsStand r s.registrations
+  pub messages : MessagesStand r s.messages
+  pub inboxes : InboxesStand r s.inboxes
+  pub syncs : SyncsStand r s.syncs
+
+-- the event comes next after the recording, and the target is its own
+pub record MayTest (s : SysCheck) (r : Recording) (e : Event) (t : Target) : Type 0 where
+  pub stands : Stands s r
+  pub target : t ≡ target_of r.header r.past e
+
+-- there is room for what the event leaves: a place for the line that it grants to a transaction with lock 1
+abbrev pub HasRoom : SysCheck → Event → Target → Type 0
+HasRoom s e t = HasLineRoom s.registrations e t
+
+-- the event may be next: it breaks no rule, the target is its own, and there is room for what it leaves
+pub record MayApply (s : SysCheck) (r : Recording) (e : Event) (t : Target) : Type 0 where
+  pub stands : Stands s r
+  pub target : t ≡ target_of r.header r.past e
+  pub room : HasRoom s e t
+  pub kept : least_broken r.header r.past e ≡ None
+  pub few : length r.past < 2 ^ 64 - 1

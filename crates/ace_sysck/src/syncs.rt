@@ -1,0 +1,195 @@
+//! The Syncs that reach the ports, and the DVM Completes of the ports.
+
+ghost use Rattle.std.specs.Prelude.{◌≡◌};
+ghost use Rattle.ace_sysck.specs.Syncs.{next_count, reached_by, one_answered, one_completed};
+
+use crate::events::begun_in;
+use crate::inboxes::answers_message;
+use crate::kinds::{is_ace, is_dvm_completion, is_message_part};
+use crate::messages::{PortMessages, is_new_sync};
+use ace_event::{Event, Header};
+use ace_model::Transaction;
+use ace_portck::Target;
+use std::alloc::{AllocError, Global};
+
+/// What is kept of the Syncs of other ports that reach one port (Arm IHI 0022E, C12).
+#[derive(Clone, Copy, Debug, PartialEq, Eq)]
+pub struct PortSyncs {
+    /// How many Syncs are for the port.
+    pub reached: usize,
+    /// How many of them it has answered.
+    pub answered: usize,
+    /// How many DVM Completes it has issued.
+    pub completes: usize,
+    /// For each port, which of the Syncs for this port its last Sync is, from 1.
+    pub numbers: [usize; 32],
+}
+
+/// For each port of the header, what is kept of the Syncs that reach it.
+#[derive(Drop)]
+pub struct Syncs {
+    ports: Vec<PortSyncs>,
+}
+
+/// One more, up to the greatest number.
+fn next_count(n: usize) -> usize
+    ensures { result ≡ next_count n }
+{
+    n.saturating_add(1)
+}
+
+/// What is kept of a port once a Sync of the sender is for it; it isn't, where this is the sender.
+fn reached_by(kept: PortSyncs, sender: u8, own: bool) -> PortSyncs
+    ensures { result ≡ reached_by kept sender own }
+{
+    let number = next_count(kept.reached);
+    let mut numbers = kept.numbers;
+    let p = sender as usize;
+    if p < 32 {
+        numbers[p] = number;
+    }
+    PortSyncs {
+        reached: if own { kept.reached } else { number },
+        answered: kept.answered,
+        completes: kept.completes,
+        numbers,
+    }
+}
+
+fn one_answered(kept: PortSyncs) -> PortSyncs
+    ensures { result ≡ one_answered kept }
+{
+    let numbers = kept.numbers;
+    PortSyncs {
+        reached: kept.reached,
+        answered: next_count(kept.answered),
+        completes: kept.completes,
+        numbers,
+    }
+}
+
+fn one_completed(kept: PortSyncs) -> PortSyncs
+    ensures { result ≡ one_completed kept }
+{
+    let numbers = kept.numbers;
+    PortSyncs {
+        reached: kept.reached,
+        answered: kept.answered,
+        completes: next_count(kept.completes),
+        numbers,
+    }
+}
+
+impl Syncs {
+    ghost use Rattle.std.specs.Prelude.{◌≡◌, [], ◌==◌, IfOk, slice_set, slice_index_or, nat_le};
+    ghost use Rattle.ace_event.specs.declared.header.Header.{Header};
+    ghost use Rattle.ace_model.specs.Trace.{implies};
+    ghost use Rattle.ace_model.specs.OrderRules.{owes_completion};
+    ghost use Rattle.ace_portck.specs.Targets.{Recording, after};
+    ghost use Rattle.ace_sysck.specs.Syncs.{SyncsStand, MayHearSyncs, MayIssueCompletion, ReachesAll, completes_all, untold};
+
+    /// What is kept after the empty trace, of so many ports.
+    pub fn new(alloc: Global, ports: u8) -> Result<Syncs, AllocError>
+        ensures { IfOk result (λ s. (h : Header) → h.ports ≡ ports → SyncsStand (record { header = h; past = [] }) s) }
+    {
+        let mut all = Vec::new(alloc);
+        for _port in 0..ports {
+            all.push(PortSyncs {
+                reached: 0,
+                answered: 0,
+                completes: 0,
+                numbers: [0; 32],
+            })?;
+        }
+        Ok(Syncs { ports: all })
+    }
+
+    fn of(&self, port: u8) -> PortSyncs
+        ensures { result ≡ slice_index_or self.now.ports.items port untold }
+    {
+        let p = port as usize;
+        if p < self.ports.len() {
+            self.ports[p]
+        } else {
+            PortSyncs {
+                reached: 0,
+                answered: 0,
+                completes: 0,
+                numbers: [0; 32],
+            }
+        }
+    }
+
+    fn set(&mut self, port: u8, kept: PortSyncs)
+        ensures { self.new.ports.items ≡ slice_set self.old.ports.items port kept }
+    {
+        let p = port as usize;
+        if p < self.ports.len() {
+            self.ports[p] = kept;
+        }
+    }
+
+    /// K38, where the event issues the transaction: the port of a DVM Complete has answered more Syncs than it has issued DVM
+    /// Completes.
+    pub fn keeps_k38(&self, x: &Transaction) -> bool
+        ensures { (r : Recording) → MayIssueCompletion r self.now x.now → result ≡ owes_completion r.past x.now }
+    {
+        let kept = self.of(x.port);
+        !is_dvm_completion(x) || kept.completes < kept.answered
+    }
+
+    /// Every other ACE port has issued its DVM Complete for the port's last Sync.
+    pub fn completes_all(&self, header: &Header, port: u8) -> bool
+        ensures { result ≡ completes_all header.now self.now port }
+    {
+        let mut all = true;
+        for q in 0..header.ports {
+            all = (!(is_ace(header, q) && q != port) || self.has_completed(q, port)) && all;
+        }
+        all
+    }
+
+    /// The port has issued its DVM Complete for the last Sync of the sender.
+    fn has_completed(&self, q: u8, sender: u8) -> bool
+        ensures { result ≡ nat_le (slice_index_or (slice_index_or self.now.ports.items q untold).numbers sender 0) (slice_index_or self.now.ports.items q untold).completes }
+    {
+        let kept = self.of(q);
+        let p = sender as usize;
+        let number = if p < 32 { kept.numbers[p] } else { 0 };
+        number <= kept.completes
+    }
+
+    /// The sender has issued a Sync.
+    fn reach_all(&mut self, sender: u8)
+        ensures { ReachesAll sender self.old self.new }
+    {
+        for q in 0..self.ports.len() {
+            let kept = reached_by(self.ports[q], sender, q == sender as usize);
+            self.ports[q] = kept;
+        }
+    }
+
+    /// What is kept after the event. `kept` is what was kept of the messages of a port that issues a transaction by it, and `sync`
+    /// says whether the part that a CR answers is a Sync.
+    pub fn hear(&mut self, event: &Event, target: &Target, kept: &PortMessages, sync: bool)
+        ensures { (r : Recording) → MayHearSyncs r self.old event.now target.now kept.now sync → SyncsStand (after r event.now) self.new }
+    {
+        if let Some(x) = begun_in(event, target) {
+            if is_message_part(&x) {
+                if is_new_sync(kept, &x) {
+                    self.reach_all(x.port);
+                }
+            } else if is_dvm_completion(&x) {
+                let more = one_completed(self.of(x.port));
+                self.set(x.port, more);
+            }
+        } else if let Event::Cr { port, .. } = *event {
+            if answers_message(target) {
+                if sync {
+                    let more = one_answered(self.of(port));
+                    self.set(port, more);
+                }
+            }
+        }
+    }
+}

@@ -1,0 +1,186 @@
+//! The rules that look at the system as a whole, over what is kept of it.
+
+ghost use Rattle.std.specs.Prelude.{◌≡◌, Some, if◌then◌else◌};
+
+use crate::barriers::Barriers;
+use crate::events::{begun_in, granted_in};
+use crate::inboxes::Inboxes;
+use crate::messages::{Messages, PortMessages};
+use crate::monitors::Monitors;
+use crate::registrations::Registrations;
+use crate::results::Results;
+use crate::rules::{keeps_k9, keeps_k21, keeps_k37, keeps_k38, keeps_k39};
+use crate::syncs::Syncs;
+use ace_event::{Event, Header};
+use ace_portck::{NoMemory, Target};
+use std::alloc::Global;
+
+/// The checker of the rules on barriers, DVM messages and exclusive transactions: what is kept of each after a trace.
+#[derive(Drop)]
+pub struct SysCheck {
+    header: Header,
+    barriers: Barriers,
+    monitors: Monitors,
+    results: Results,
+    registrations: Registrations,
+    messages: Messages,
+    inboxes: Inboxes,
+    syncs: Syncs,
+}
+
+/// The number of a rule that isn't kept, else what the rules after it say.
+fn unless(kept: bool, number: u8, rest: Option<u8>) -> Option<u8>
+    ensures { result ≡ (if kept then rest else Some number) }
+{
+    if kept {
+        rest
+    } else {
+        Some(number)
+    }
+}
+
+impl SysCheck {
+    ghost use Rattle.std.specs.Prelude.{◌≡◌, ℕ, [], true, Some, OnOk, OnErr, IfOk, slice_get};
+    ghost use Rattle.ace_codes.specs.declared.state.LineState.{LineState};
+    ghost use Rattle.ace_event.specs.Ports.{IsHeader};
+    ghost use Rattle.ace_event.specs.declared.event.Channel.TheVariants.{Read};
+    ghost use Rattle.ace_event.specs.declared.event.Event.TheVariants.{Cr};
+    ghost use Rattle.ace_model.specs.declared.transactions.Transaction.{Transaction};
+    ghost use Rattle.ace_model.specs.Accepted.{least_of};
+    ghost use Rattle.ace_model.specs.AddressRules.{k1};
+    ghost use Rattle.ace_model.specs.Shares.{system_rules};
+    ghost use Rattle.ace_model.specs.Exclusives.{has_failed, store_passes};
+    ghost use Rattle.ace_model.specs.Grants.{given};
+    ghost use Rattle.ace_model.specs.Trace.{is_some_and};
+    ghost use Rattle.ace_model.specs.Transactions.{outstanding};
+    ghost use Rattle.ace_portck.specs.Targets.{Recording, after};
+    ghost use Rattle.ace_sysck.specs.Events.{begun_in};
+    ghost use Rattle.ace_sysck.specs.Inboxes.{first_is_sync};
+    ghost use Rattle.ace_sysck.specs.Messages.{MessagesStand, PortMessagesStand};
+    ghost use Rattle.ace_sysck.specs.Registrations.{RegistrationsStand, IsNewLock};
+    ghost use Rattle.ace_sysck.specs.Stands.{Stands, MayTest, HasRoom, MayApply};
+    ghost use Rattle.ace_sysck.specs.Steps.{IsStep};
+
+    /// The checker of the empty trace under the header. There is no memory for it where there is none for its ports.
+    pub fn new(alloc: Global, header: Header) -> Result<SysCheck, NoMemory>
+        ensures { IfOk result (λ s. IsHeader header → Stands s (record { header = header; past = [] })) }
+    {
+        let Ok(barriers) = Barriers::new(alloc, header.ports) else {
+            return Err(NoMemory);
+        };
+        let Ok(monitors) = Monitors::new(alloc, header.ports) else {
+            return Err(NoMemory);
+        };
+        let Ok(results) = Results::new(alloc, header.ports) else {
+            return Err(NoMemory);
+        };
+        let Ok(messages) = Messages::new(alloc, header.ports) else {
+            return Err(NoMemory);
+        };
+        let Ok(inboxes) = Inboxes::new(alloc, header.ports) else {
+            return Err(NoMemory);
+        };
+        let Ok(syncs) = Syncs::new(alloc, header.ports) else {
+            return Err(NoMemory);
+        };
+        Ok(SysCheck {
+            header,
+            barriers,
+            monitors,
+            results,
+            registrations: Registrations::new(alloc),
+            messages,
+            inboxes,
+            syncs,
+        })
+    }
+
+    /// The least rule of the share that the event breaks, if it breaks one and keeps K1.
+    pub fn test(&self, event: &Event, target: &Target) -> Option<u8>
+        ensures { (r : Recording) → MayTest self.now r event.now target.now → k1 r.header r.past event.now ≡ true
+            → result ≡ least_of system_rules r.header r.past event.now }
+    {
+        let header = &self.header;
+        let from_39 = unless(keeps_k39(header, &self.messages, &self.syncs, event), 39, None);
+        let from_38 = unless(keeps_k38(&self.syncs, event, target), 38, from_39);
+        let answered = keeps_k37(header, &self.messages, &self.inboxes, event, target);
+        let from_37 = unless(answered, 37, from_38);
+        let from_36 = unless(self.inboxes.keeps_k36(event), 36, from_37);
+        let from_35 = unless(self.barriers.keeps_k35(event, target), 35, from_36);
+        let from_34 = unless(self.barriers.keeps_k34(event, target), 34, from_35);
+        let from_33 = unless(self.monitors.keeps_k33(event), 33, from_34);
+        let from_21 = unless(keeps_k21(&self.results, event, target), 21, from_33);
+        unless(keeps_k9(&self.barriers, &self.messages, event, target), 9, from_21)
+    }
+
+    /// Makes room for what the event leaves. There is no memory for it only where the event grants a line to a transaction with
+    /// lock 1 for the first time.
+    pub fn ready(&mut self, event: &Event, target: &Target) -> Result<(), NoMemory>
+        ensures stands { (r : Recording) → Stands self.old r → Stands self.new r }
+        ensures room { OnOk result (HasRoom self.new event.now target.now) }
+        ensures cause { OnErr result ((r : Recording) → MayTest self.old r event.now target.now → IsNewLock r.past event.now) }
+    {
+        match self.registrations.ready(event, target) {
+            Ok(()) => Ok(()),
+            Err(_) => Err(NoMemory),
+        }
+    }
+
+    /// What is kept of the messages of the port that issues a transaction by the event.
+    fn messages_of_issuer(&self, event: &Event, target: &Target) -> PortMessages
+        ensures { (r : Recording) → MessagesStand r self.now.messages → (x : Transaction) → begun_in event.now target.now ≡ Some x
+            → PortMessagesStand r.past x.port result }
+    {
+        match begun_in(event, target) {
+            Some(x) => self.messages.of(x.port),
+            None => self.messages.of(0),
+        }
+    }
+
+    /// Whether the part that a CR answers, if it answers one, is a Sync.
+    fn answers_sync(&self, event: &Event) -> bool
+        ensures { (p resp : ℕ) (st : LineState) → event.now ≡ Cr p resp st → result ≡ is_some_and (slice_get self.now.inboxes.ports.items p) first_is_sync }
+    {
+        match *event {
+            Event::Cr { port, .. } => self.inboxes.answers_sync(port),
+            _ => false,
+        }
+    }
+
+    /// Whether an exclusive store that the event grants passes.
+    fn passes(&self, event: &Event, target: &Target) -> bool
+        ensures { (r : Recording) → IsStep r event.now target.now → RegistrationsStand r self.now.registrations → (x : Transaction)
+            → given r.past event.now ≡ Some x → result ≡ store_passes r.past x }
+    {
+        match granted_in(event, target) {
+            None => false,
+            Some(x) => self.registrations.is_registered(x.port, x.addr),
+        }
+    }
+
+    /// Takes an event that breaks no rule. The room for it was made.
+    pub fn apply(&mut self, event: &Event, target: &Target)
+        ensures { (r : Recording) → MayApply self.old r event.now target.now → Stands self.new (after r event.now) }
+    {
+        let kept = self.messages_of_issuer(event, target);
+        let sync = self.answers_sync(event);
+        let passes = self.passes(event, target);
+        self.barriers.hear(event, target);
+        self.monitors.hear(event, target);
+        self.results.hear(event, target, passes);
+        self.registrations.hear(event, target);
+        self.syncs.hear(event, target, &kept, sync);
+        self.messages.hear(event, target);
+        self.inboxes.hear(event, target, &kept);
+    }
+
+    /// Whether the port's outstanding read under the identifier is an exclusive store that failed.
+    pub fn failed(&self, port: u8, id: u8) -> bool
+        ensures { (r : Recording) (x : Transaction) → Stands self.now r → outstanding r.header r.past port Read id ≡ Some x → result ≡ has_failed r.past x }
+    {
+        match self.results.passed(port, id) {
+            None => false,
+            Some(passed) => !passed,
+        }
+    }
+}
