@@ -150,13 +150,7 @@ given_heard h past l p c i t s x is =
     let one : y.0 ≡ x.transaction = ap (λ (v : Progress). v.transaction) (Some-injective (progress_of h past y.0) x there) in
     subst (λ v. GrantFits h (G p c i ∷ past) l (fresh_grant v)) one (given_step h past l p c i s.accepted y.0 y.1 y.2)
 
--- a G of a line belongs to a transaction
-pub given_some : (h : Header) (past : Trace) (l p : ℕ) (c : Channel) (i : ℕ) (t : Target) → IsLineStep h past l (G p c i) t → t.transaction ≡ None → ⊥
-given_some h past l p c i t s is =
-    let y = is_some_and-is (outstanding h past p c i) (λ y. is_on y l) (on-transaction h past (outstanding h past p c i) l (line-of_step h past l (G p c i) t s)) in
-    let bad : Some (progress_of h past y.0) ≡ None = ap (option_map (progress_of h past)) (sym y.1) ∙ ap (λ (v : Target). v.transaction) (sym s.target) ∙ is in cc
-
--- any event
+-- the event is a G
 abbrev pub is_grant : Event → Bool
 is_grant (G p c i) = true
 is_grant e = false

@@ -53,9 +53,6 @@ moved_there : (p q : ℕ) (x y : Stage) → p ≢ q → (if (p == q) && nat_lt p
 moved_there p q x y apart = rw (ne_eqb p q apart) refl
 
 module _ (h : Header) (past : Trace) (l : ℕ) (g : Grant) (f : GrantFits h past l g) where
-  x : Transaction
-  x = g.transaction
-
   -- an event that ends no transaction leaves the grant
   pub stays-unended : (e : Event) → IsAccepted h (e ∷ past) → ended h past e ≡ None → Stays h past e l g.transaction
   stays-unended e a none =

@@ -11,7 +11,7 @@
 --   that passed on, the first port that sent data, and the copies at the answers [Quiet].
 -- * An answer of the line is the port's first under the grant. It adds itself to the sharers; where it has PassDirty, its
 --   port is the one that passed on: no other did, since two ports would have held the line dirty; and where it has
---   DataTransfer, its port is the first that sent, unless there was one [answers_now].
+--   DataTransfer, its port is the first that sent, unless there was one [sharer-now, passer-now, sender-now].
 -- * How many transfers the transaction has had changes at its own R alone, and whether it has had its M at its own M alone: an
 --   AR or AW can't take its name. Memory at the first beat is settled with the first R. At its G it has had neither.
 

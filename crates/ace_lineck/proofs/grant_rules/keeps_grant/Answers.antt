@@ -1,4 +1,4 @@
-use Rattle.std.proofs.Common.{◌≡◌, ◌&&◌, is_none, sym, ◌∙◌, ap}
+use Rattle.std.proofs.Common.{◌&&◌, ◌∙◌, ap}
 use Rattle.ace_model.proofs.Terms.{is_some_and, takes_grant}
 use Rattle.ace_lineck.proofs.GrantLaws.{k12-law, flip-none}
 use Rattle.ace_lineck.proofs.grant_rules.keeps_grant.Goals as goal

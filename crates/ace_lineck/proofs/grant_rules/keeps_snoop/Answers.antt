@@ -1,4 +1,4 @@
-use Rattle.std.proofs.Common.{◌≡◌, ◌∙◌}
+use Rattle.std.proofs.Common.{◌∙◌}
 use Rattle.ace_lineck.proofs.GrantLaws.{k13-law}
 use Rattle.ace_lineck.proofs.grant_rules.keeps_snoop.Goals as goal
 

@@ -1,8 +1,7 @@
-use Rattle.std.proofs.Common.{◌≡◌, ◌∷◌, Some, sym, subst, ◌∙◌, ap}
-use Rattle.ace_event.specs.declared.event.Event.TheVariants.{G}
+use Rattle.std.proofs.Common.{◌∷◌, sym, subst, ◌∙◌}
 use Rattle.ace_lineck.specs.Holders.{IsLineStep}
 use Rattle.ace_lineck.specs.Grants.{GrantStands, IsGrantStep}
-use Rattle.ace_lineck.proofs.GrantHear.{ends_heard, none_heard, over_heard, no_grant}
+use Rattle.ace_lineck.proofs.GrantHear.{ends_heard, over_heard, no_grant}
 use Rattle.ace_lineck.proofs.heard.hear.Goals as goal
 
 pub returns-in-G : goal.returns-in-G

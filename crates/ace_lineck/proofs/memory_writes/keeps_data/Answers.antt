@@ -1,4 +1,4 @@
-use Rattle.std.proofs.Common.{◌≡◌, ◌∙◌}
+use Rattle.std.proofs.Common.{◌∙◌}
 use Rattle.ace_lineck.proofs.WriteLaws.{k25-law}
 use Rattle.ace_lineck.proofs.memory_writes.keeps_data.Goals as goal
 

@@ -1,4 +1,4 @@
-use Rattle.std.proofs.Common.{◌≡◌, ◌∙◌}
+use Rattle.std.proofs.Common.{◌∙◌}
 use Rattle.ace_lineck.proofs.ReplyLaws.{k20-law}
 use Rattle.ace_lineck.proofs.replies.keeps_reply.Goals as goal
 

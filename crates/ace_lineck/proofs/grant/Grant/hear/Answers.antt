@@ -1,10 +1,6 @@
-use Rattle.std.proofs.Common.{◌≡◌, ◌∷◌, false, ℕ, Some, sym, subst, ◌∙◌, ap}
-use Rattle.ace_event.specs.declared.header.Header.{Header}
-use Rattle.ace_event.specs.declared.event.Event.{Event}
-use Rattle.ace_event.specs.declared.event.Event.TheVariants.{Ac, Cr, Cd, R, M}
-use Rattle.ace_model.specs.Trace.{Trace}
+use Rattle.std.proofs.Common.{◌≡◌, ◌∷◌, false, Some, sym, subst}
+use Rattle.ace_event.specs.declared.event.Event.TheVariants.{Cr, R, M}
 use Rattle.ace_model.specs.Transactions.{is_transaction, ended}
-use Rattle.ace_lineck.specs.declared.grant.Grant.{Grant}
 use Rattle.ace_lineck.specs.Grants.{GrantFits, IsGrantStep}
 use Rattle.ace_lineck.proofs.GrantHear.{snoop_heard, answer_heard, fourth_heard, earlier_heard, beat_heard, write_heard, other_heard, unheard}
 use Rattle.ace_lineck.proofs.grant.Grant.hear.Goals as goal
