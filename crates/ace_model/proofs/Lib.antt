@@ -15,3 +15,4 @@ pub mod Outstanding
 pub mod Coherence
 pub mod Lines
 pub mod GrowingPlans
+pub mod Report

@@ -1,9 +1,8 @@
 -- Which of the port's outstanding transactions on the channel an event of the port ends.
-use Rattle.std.proofs.Common.{◌≡◌, ℕ, ◌+◌, ◌≤◌, ◌<◌, Bool, true, false, not, ◌&&◌, nat_eq, nat_lt, if◌then◌else◌, cond, List, [], ◌∷◌, ◌++◌, length, drop, Option, Some, None, is_some, slice_get, refl, sym, ap, subst, ◌∙◌, inl, inr, arith}
+use Rattle.std.proofs.Common.{◌≡◌, ℕ, ◌+◌, ◌≤◌, ◌<◌, Bool, true, false, not, ◌&&◌, nat_eq, nat_lt, if◌then◌else◌, cond, List, [], ◌∷◌, ◌++◌, length, drop, Option, Some, None, slice_get, refl, sym, ap, ◌∙◌, inl, inr, arith}
 use Rattle.std.proofs.lemmas.Bool.{and_parts, cases_Bool, eq-eqb, eqb-true}
 use Rattle.std.proofs.lemmas.List.{drop-append-le, drop-drop, length-append}
 use Rattle.std.proofs.lemmas.Option.{slice_get_within}
-use Rattle.ace_codes.specs.declared.state.LineState.{LineState}
 use Rattle.ace_event.specs.declared.event.Channel.{Channel}
 use Rattle.ace_event.specs.declared.event.Channel.TheVariants.{Read, Write}
 use Rattle.ace_event.specs.declared.event.Event.{Event}
@@ -12,13 +11,13 @@ use Rattle.ace_event.specs.declared.header.Header.{Header}
 use Rattle.ace_model.specs.declared.transactions.Transaction.{Transaction}
 use Rattle.ace_model.specs.Trace.{Trace, port_of, is_some_and, more}
 use Rattle.ace_model.specs.Accepted.{IsAccepted}
-use Rattle.ace_model.specs.Transactions.{is_ace, is_read, same_channel, has_name, is_transaction, transaction_of, transaction_under, outstanding, ended, acknowledged, acknowledgements, completed, completes, next_complete}
+use Rattle.ace_model.specs.Transactions.{is_ace, is_read, same_channel, is_transaction, transaction_of, transaction_under, outstanding, ended, acknowledgements, completed, completes, next_complete}
 use Rattle.ace_model.proofs.General.Lists.{slice_get-drop}
 use Rattle.ace_model.proofs.General.Options.{some_is, Some-injective}
 use Rattle.ace_model.proofs.Rules.Keeps.{accepted_keeps}
 use Rattle.ace_model.proofs.Trace.Issued.{outstanding-named, outstanding-name}
 use Rattle.ace_model.proofs.Outstanding.Names.{named_is}
-use Rattle.ace_portck.specs.Pending.{completed_by, is_acknowledge, ending_of, waiting_after}
+use Rattle.ace_portck.specs.Pending.{completed_by, ending_of, waiting_after}
 
 -- the acknowledges of an accepted trace are no more than what is complete
 pub acknowledgements-within : (h : Header) (past : Trace) (p : ℕ) (c : Channel) → IsAccepted h past → acknowledgements past p c ≤ length (completed past p c)

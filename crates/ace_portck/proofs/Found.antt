@@ -1,26 +1,23 @@
 -- The looks at the lists of outstanding transactions say what the looks at the whole trace say.
 use Rattle.std.specs.Option.{option_or}
-use Rattle.std.specs.List.{AllByRecursion, find, list_any, filter}
-use Rattle.std.proofs.Common.{◌≡◌, ◌⊎◌, ℕ, Bool, true, false, not, ◌&&◌, ◌||◌, ◌==◌, cond, List, [], ◌∷◌, map, length, drop, Option, Some, None, is_some, option_map, slice_get, le_refl, refl, sym, ap, subst, ◌∙◌, inl, inr, arith}
-use Rattle.std.proofs.lemmas.Bool.{and_parts, and_from, or_cases, or_left, or_right, cases_Bool, not-true, not-false}
+use Rattle.std.specs.List.{find, list_any}
+use Rattle.std.proofs.Common.{◌≡◌, ◌⊎◌, ℕ, Bool, true, false, not, ◌&&◌, ◌||◌, ◌==◌, cond, List, [], ◌∷◌, map, length, Option, Some, None, is_some, option_map, le_refl, refl, sym, ap, subst, ◌∙◌, inl, inr, arith}
+use Rattle.std.proofs.lemmas.Bool.{and_parts, and_from, or_cases, or_left, or_right, cases_Bool, not-true}
 use Rattle.std.proofs.lemmas.List.Folds.{find-append}
 use Rattle.ace_event.specs.declared.event.Channel.{Channel}
 use Rattle.ace_event.specs.declared.event.Channel.TheVariants.{Read, Write}
-use Rattle.ace_event.specs.declared.event.Event.{Event}
 use Rattle.ace_event.specs.declared.header.Header.{Header}
 use Rattle.ace_codes.specs.declared.kind.AwKind.{AwKind}
 use Rattle.ace_model.specs.declared.transactions.Transaction.{Transaction}
 use Rattle.ace_model.specs.Trace.{Trace, more, is_some_and}
 use Rattle.ace_model.specs.Accepted.{IsAccepted}
 use Rattle.ace_model.specs.AddressRules.{has_write}
-use Rattle.ace_model.specs.Grants.{has_grant}
-use Rattle.ace_model.specs.Progress.{transactions, has_had, is_grant, is_write_of_memory, is_completed, is_ordered, updates_memory, evicts}
+use Rattle.ace_model.specs.Progress.{transactions, has_had, is_grant, is_completed, is_ordered, updates_memory, evicts}
 use Rattle.ace_model.specs.Shares.{lesser}
 use Rattle.ace_model.specs.Writes.{has_memory_write}
-use Rattle.ace_model.specs.Transactions.{is_ace, is_read, is_line, is_on, same_channel, write_kind, issued, outstanding, is_outstanding, is_outstanding_on, has_outstanding_on, some_issued, transaction_of, transaction_under, acknowledged, acknowledgements, completed, next_complete, is_complete}
-use Rattle.ace_model.proofs.General.Options.{Some-injective, is_some_and-is, is_some_and-at}
+use Rattle.ace_model.specs.Transactions.{is_ace, is_read, is_line, is_on, same_channel, write_kind, issued, outstanding, is_outstanding, is_outstanding_on, has_outstanding_on, transaction_of, transaction_under, acknowledged, acknowledgements, next_complete}
+use Rattle.ace_model.proofs.General.Options.{Some-injective, is_some_and-is}
 use Rattle.ace_model.proofs.Barriers.OrderPoints.{completed-ordered}
-use Rattle.ace_model.proofs.Trace.Looks.{same_channel-is, same_channel-self}
 use Rattle.ace_model.proofs.Trace.Issued.{issued-place, outstanding-named}
 use Rattle.ace_model.proofs.Trace.Growth.{IsIssued, issued-cases, issued-new, issued-old}
 use Rattle.ace_model.proofs.Trace.LineOnce.{outstanding_is}
@@ -32,7 +29,7 @@ use Rattle.ace_model.proofs.Outstanding.Waiting.{waits_is, ended_complete}
 use Rattle.ace_portck.specs.declared.target.Progress.{Progress}
 use Rattle.ace_portck.specs.Targets.{progress_of, last_issued, own_of, first_issued, is_ordered_by_barriers, first_unordered, first_incomplete}
 use Rattle.ace_portck.specs.Pending.{is_pending, pending_of}
-use Rattle.ace_portck.specs.Transactions.{is_ordered_by, has_order_point, is_unordered, is_incomplete}
+use Rattle.ace_portck.specs.Transactions.{is_ordered_by, is_unordered, is_incomplete}
 
 -- what the list has under an identifier
 pub named_is_found : (h : Header) (past : Trace) (p : ℕ) (c : Channel) (i : ℕ) (list : List Progress)

@@ -1,7 +1,7 @@
 -- The outstanding transactions of a port on a channel after an event.
 use Rattle.std.specs.List.{AllByRecursion, filter}
-use Rattle.std.proofs.Common.{◌≡◌, ℕ, ◌+◌, ◌≤◌, ◌<◌, Bool, true, false, not, ◌&&◌, nat_eq, List, [], ◌∷◌, ◌++◌, map, length, drop, Option, Some, None, option_map, refl, sym, ap, ◌∙◌, inl, inr, arith}
-use Rattle.std.proofs.lemmas.Bool.{and_parts, cases_Bool, eq-eqb, eqb-true}
+use Rattle.std.proofs.Common.{◌≡◌, ℕ, ◌≤◌, ◌<◌, Bool, true, false, not, ◌&&◌, nat_eq, List, [], ◌∷◌, ◌++◌, map, length, drop, Option, Some, None, option_map, refl, sym, ap, ◌∙◌, inl, inr, arith}
+use Rattle.std.proofs.lemmas.Bool.{and_parts, cases_Bool, eq-eqb}
 use Rattle.std.proofs.lemmas.List.{append-nil, map-append, length-map, length-append}
 use Rattle.std.proofs.lemmas.List.Elements.{filter-append}
 use Rattle.ace_event.specs.declared.event.Channel.{Channel}
@@ -12,9 +12,8 @@ use Rattle.ace_model.specs.declared.transactions.Transaction.{Transaction}
 use Rattle.ace_model.specs.Trace.{Trace, port_of, is_some_and, more}
 use Rattle.ace_model.specs.Accepted.{IsAccepted}
 use Rattle.ace_model.specs.Progress.{transactions}
-use Rattle.ace_model.specs.Transactions.{is_ace, is_read, same_channel, is_transaction, issued, ended, outstanding, is_outstanding, acknowledgements, completed}
+use Rattle.ace_model.specs.Transactions.{is_ace, same_channel, is_transaction, issued, ended, outstanding, is_outstanding, acknowledgements, completed}
 use Rattle.ace_model.proofs.General.Options.{Some-injective}
-use Rattle.ace_model.proofs.Trace.Looks.{same_channel-is}
 use Rattle.ace_model.proofs.Trace.Growth.{IsIssued}
 use Rattle.ace_model.proofs.Trace.LineOnce.{outstanding_is}
 use Rattle.ace_model.proofs.Outstanding.Issued.{transactions-issued}

@@ -1,8 +1,7 @@
 -- An RK or WK keeps its rule exactly where its target has a transaction.
-use Rattle.std.proofs.Common.{◌≡◌, ℕ, true, ◌&&◌, nat_lt, Option, Some, None, option_map, is_some, refl, sym, ap, subst, ◌∙◌}
+use Rattle.std.proofs.Common.{◌≡◌, ℕ, true, nat_lt, Option, Some, None, option_map, is_some, refl, sym, ap, subst, ◌∙◌}
 use Rattle.std.proofs.lemmas.Bool.{and_parts}
 use Rattle.ace_codes.specs.declared.state.LineState.{LineState}
-use Rattle.ace_event.specs.declared.event.Channel.{Channel}
 use Rattle.ace_event.specs.declared.event.Channel.TheVariants.{Read, Write}
 use Rattle.ace_event.specs.declared.event.Event.{Event}
 use Rattle.ace_event.specs.declared.event.Event.TheVariants.{Rk, Wk}
@@ -12,7 +11,7 @@ use Rattle.ace_model.specs.Accepted.{IsAccepted}
 use Rattle.ace_model.specs.AddressRules.{k1}
 use Rattle.ace_model.specs.ReadRules.{k22}
 use Rattle.ace_model.specs.WriteRules.{k27}
-use Rattle.ace_model.specs.Transactions.{is_ace, acknowledged, next_complete}
+use Rattle.ace_model.specs.Transactions.{is_ace, acknowledged}
 use Rattle.ace_portck.specs.declared.target.Progress.{Progress}
 use Rattle.ace_portck.specs.Targets.{progress_of, transaction_in}
 use Rattle.ace_portck.proofs.Found.{acknowledged_some}

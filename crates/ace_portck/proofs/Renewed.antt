@@ -1,6 +1,6 @@
 -- How far an outstanding transaction has come after an event.
-use Rattle.std.proofs.Common.{◌≡◌, ℕ, ◌+◌, ◌≤◌, ◌<◌, ◌%◌, cond, Bool, true, false, not, ◌&&◌, ◌||◌, nat_eq, if◌then◌else◌, [], ◌∷◌, length, Option, Some, None, unwrap_or, refl, sym, ap, ◌∙◌, inl, inr, arith}
-use Rattle.std.proofs.lemmas.Bool.{and_parts, cases_Bool, eq-eqb, eqb-true, ltb-true}
+use Rattle.std.proofs.Common.{◌≡◌, ℕ, ◌+◌, ◌≤◌, ◌<◌, ◌%◌, cond, Bool, true, false, ◌&&◌, ◌||◌, nat_eq, if◌then◌else◌, ◌∷◌, length, Option, Some, None, unwrap_or, refl, sym, ap, ◌∙◌, inl, inr, arith}
+use Rattle.std.proofs.lemmas.Bool.{and_parts, cases_Bool, eq-eqb, ltb-true}
 use Rattle.ace_event.specs.declared.event.Channel.{Channel}
 use Rattle.ace_event.specs.declared.event.Channel.TheVariants.{Read, Write}
 use Rattle.ace_event.specs.declared.event.Event.{Event}
@@ -10,15 +10,15 @@ use Rattle.ace_event.specs.declared.line.Line.{Line}
 use Rattle.ace_model.specs.declared.transactions.Transaction.{Transaction}
 use Rattle.ace_model.specs.Trace.{Trace, is_some_and}
 use Rattle.ace_model.specs.Accepted.{IsAccepted}
-use Rattle.ace_model.specs.Transactions.{is_read, same_channel, has_name, is_named, read_kind, is_make_unique_on, issued, transaction_of, outstanding, is_outstanding, transfers, first_resp, is_completion, is_complete}
+use Rattle.ace_model.specs.Transactions.{is_read, has_name, is_named, read_kind, is_make_unique_on, issued, transaction_of, outstanding, is_outstanding, transfers, first_resp, is_completion, is_complete}
 use Rattle.ace_model.specs.Kinds.{beats_of, reads_a_line}
 use Rattle.ace_model.specs.Grants.{given, has_grant}
 use Rattle.ace_model.specs.Writes.{is_memory_write, has_memory_write}
-use Rattle.ace_model.specs.States.{awaits_store, is_store_of, has_store}
+use Rattle.ace_model.specs.States.{is_store_of, has_store}
 use Rattle.ace_model.specs.ReadRules.{is_due, is_next_transfer}
 use Rattle.ace_model.proofs.General.Options.{is_some_and-at, is_some_and-is}
 use Rattle.ace_model.proofs.Rules.Keeps.{accepted_keeps}
-use Rattle.ace_model.proofs.Trace.Looks.{has_name-is, is_read-is, is_write-is}
+use Rattle.ace_model.proofs.Trace.Looks.{has_name-is, is_read-is}
 use Rattle.ace_model.proofs.Trace.Issued.{outstanding-named}
 use Rattle.ace_model.proofs.Trace.Outstanding.{named_read, read_issued}
 use Rattle.ace_model.proofs.Outstanding.Names.{named_is, completion_agrees, grant_agrees, memory_agrees}

@@ -1,6 +1,6 @@
 -- An event of another port, or of another kind, leaves the outstanding transactions of a port on a channel as they are.
-use Rattle.std.specs.List.{AllByRecursion, filter}
-use Rattle.std.proofs.Common.{◌≡◌, ℕ, Bool, true, false, not, ◌&&◌, nat_eq, cond, List, [], ◌∷◌, ◌++◌, map, length, drop, Option, Some, None, refl, sym, ap, ◌∙◌, inl, inr}
+use Rattle.std.specs.List.{filter}
+use Rattle.std.proofs.Common.{◌≡◌, ℕ, Bool, true, false, not, ◌&&◌, nat_eq, List, [], ◌∷◌, ◌++◌, map, length, drop, Option, Some, None, refl, sym, ap, ◌∙◌, inl, inr}
 use Rattle.std.proofs.lemmas.Bool.{and_parts, and_cases, cases_Bool, eq-eqb, eqb-true, ne_eqb}
 use Rattle.std.proofs.lemmas.List.{append-nil}
 use Rattle.std.proofs.lemmas.List.Elements.{filter-append}
@@ -13,7 +13,7 @@ use Rattle.ace_model.specs.declared.transactions.Transaction.{Transaction}
 use Rattle.ace_model.specs.Trace.{Trace, port_of, is_some_and, more}
 use Rattle.ace_model.specs.Accepted.{IsAccepted}
 use Rattle.ace_model.specs.Progress.{transactions}
-use Rattle.ace_model.specs.Transactions.{is_ace, is_read, same_channel, has_name, read_kind, is_make_unique_on, is_transaction, issued, ended, acknowledged, next_complete, transaction_of, transaction_under, outstanding, is_outstanding, acknowledgements, completed, completes}
+use Rattle.ace_model.specs.Transactions.{is_ace, is_read, same_channel, has_name, read_kind, is_make_unique_on, is_transaction, issued, ended, next_complete, transaction_of, transaction_under, outstanding, is_outstanding, acknowledgements, completed}
 use Rattle.ace_model.proofs.General.Options.{Some-injective}
 use Rattle.ace_model.proofs.Trace.Looks.{same_channel-is}
 use Rattle.ace_model.proofs.Trace.Issued.{outstanding-named}
@@ -26,7 +26,7 @@ use Rattle.ace_model.proofs.Outstanding.Steps.{outstanding_after}
 use Rattle.ace_portck.specs.declared.target.Progress.{Progress}
 use Rattle.ace_portck.specs.Targets.{progress_of}
 use Rattle.ace_portck.specs.declared.pending.Pending.{Pending}
-use Rattle.ace_portck.specs.Pending.{PendingStands, ListsStand, is_pending, pending_of, renewed, moves_channel, moves_pending}
+use Rattle.ace_portck.specs.Pending.{PendingStands, ListsStand, is_pending, renewed, moves_channel, moves_pending}
 use Rattle.ace_portck.proofs.Renewed.{renewed_is}
 
 -- It is on the channel of the port.

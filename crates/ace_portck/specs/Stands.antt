@@ -1,5 +1,5 @@
 -- What is kept of all ports says of a trace.
-use Rattle.std.specs.Prelude.{ℕ, ◌≡◌, ◌<◌, ◌-◌, ◌^◌, List, Option, Some, None, length, slice_get, slice_index_or, [], ◌∷◌}
+use Rattle.std.specs.Prelude.{ℕ, ◌≡◌, ◌<◌, ◌-◌, ◌^◌, List, Some, None, length, slice_get, slice_index_or, []}
 use Rattle.std.specs.List.{AllByRecursion}
 use Rattle.ace_event.specs.Ports.{IsHeader}
 use Rattle.ace_event.specs.declared.event.Event.{Event}

@@ -2,7 +2,7 @@
 
 use crate::PortCheck;
 use ace_codes::LineState;
-use ace_event::{Channel, Event, Header, Line};
+use ace_event::{Channel, Event, Header, Line, Outcome};
 use std::alloc::Global;
 
 const HEADER: Header = Header {
@@ -59,6 +59,14 @@ fn w(port: u8, last: bool) -> Event {
     }
 }
 
+fn op(k: u16) -> Event {
+    Event::Op {
+        port: 0,
+        k,
+        res: Outcome::Ok,
+    }
+}
+
 /// A checker that has heard these events.
 fn after(alloc: Global, events: &[Event]) -> Option<PortCheck> {
     let Ok(mut check) = PortCheck::new(alloc, HEADER) else {
@@ -95,41 +103,18 @@ fn makes_room(rt: HostRuntime) {
     }
 }
 
+/// A ReadUnique of line 0x40 and a WriteUnique of line 0x80.
+fn begun() -> [Event; 2] {
+    [ar(0, 5, 0x40, 7, false), aw(0, 5, 0x80, 0)]
+}
+
 #[test]
-fn names_broken_rules(rt: HostRuntime) {
-    let alloc = rt.alloc();
-    let rk = Event::Rk {
-        port: 0,
-        st: LineState::UC,
-    };
-    let wk = Event::Wk {
-        port: 0,
-        st: LineState::I,
-    };
+fn looks_at_addresses(rt: HostRuntime) {
     let mem = Event::Mem {
         addr: 0x40,
         line: ZEROS,
     };
-    let cr = Event::Cr {
-        port: 0,
-        resp: 0,
-        st: LineState::I,
-    };
-    let cd = Event::Cd {
-        port: 0,
-        last: false,
-        word: 0,
-    };
-    // a ReadUnique of line 0x40 and a WriteUnique of line 0x80
-    let begun = [ar(0, 5, 0x40, 7, false), aw(0, 5, 0x80, 0)];
     let cases = [
-        (
-            Event::Rk {
-                port: 1,
-                st: LineState::I,
-            },
-            Some(1),
-        ),
         (ar(2, 0, 0x40, 7, false), Some(1)),
         (ar(1, 0, 0xc0, 7, false), Some(2)),
         (ar(0, 1, 0xc1, 7, false), Some(3)),
@@ -139,40 +124,56 @@ fn names_broken_rules(rt: HostRuntime) {
         (ar(0, 6, 0x80, 7, false), Some(5)),
         (ar(0, 6, 0xc0, 7, true), Some(7)),
         (aw(0, 6, 0xc0, 3), Some(10)),
-        (w(1, false), Some(11)),
-        (w(0, true), Some(11)),
-        (cr, Some(14)),
-        (cd, Some(17)),
-        (r(6, false), Some(18)),
-        (r(5, true), Some(18)),
-        (rk, Some(22)),
-        (b(0, 5, 1), Some(26)),
-        (b(0, 6, 0), Some(26)),
-        (wk, Some(27)),
-        (
-            Event::Op {
-                port: 0,
-                k: 1,
-                res: ace_event::Outcome::Ok,
-            },
-            Some(40),
-        ),
         (ar(0, 6, 0xc0, 7, false), None),
         (aw(1, 5, 0xc0, 0), None),
-        (r(5, false), None),
-        (w(0, false), None),
-        (b(0, 5, 0), None),
-        (
-            Event::Op {
-                port: 0,
-                k: 0,
-                res: ace_event::Outcome::Ok,
-            },
-            None,
-        ),
     ];
     for (event, rule) in cases {
-        assert_eq!(rt; broken(alloc, &begun, event), Some(rule));
+        assert_eq!(rt; broken(rt.alloc(), &begun(), event), Some(rule));
+    }
+}
+
+#[test]
+fn looks_at_transfers(rt: HostRuntime) {
+    let cases = [
+        (w(1, false), Some(11)),
+        (w(0, true), Some(11)),
+        (w(0, false), None),
+        (r(6, false), Some(18)),
+        (r(5, true), Some(18)),
+        (r(5, false), None),
+        (b(0, 5, 1), Some(26)),
+        (b(0, 6, 0), Some(26)),
+        (b(0, 5, 0), None),
+        (op(1), Some(40)),
+        (op(0), None),
+    ];
+    for (event, rule) in cases {
+        assert_eq!(rt; broken(rt.alloc(), &begun(), event), Some(rule));
+    }
+}
+
+#[test]
+fn looks_at_answers(rt: HostRuntime) {
+    let st = LineState::I;
+    let cr = Event::Cr {
+        port: 0,
+        resp: 0,
+        st,
+    };
+    let cd = Event::Cd {
+        port: 0,
+        last: false,
+        word: 0,
+    };
+    let cases = [
+        (Event::Rk { port: 1, st }, Some(1)),
+        (cr, Some(14)),
+        (cd, Some(17)),
+        (Event::Rk { port: 0, st }, Some(22)),
+        (Event::Wk { port: 0, st }, Some(27)),
+    ];
+    for (event, rule) in cases {
+        assert_eq!(rt; broken(rt.alloc(), &begun(), event), Some(rule));
     }
 }
 

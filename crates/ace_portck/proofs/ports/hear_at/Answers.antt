@@ -1,9 +1,8 @@
-use Rattle.std.proofs.Common.{rules, ◌≡◌, ◌≢◌, ◌<◌, ◌≤◌, ◌∙◌, ◌∷◌, List, length, Option, Some, None, slice_get, slice_set, slice_index_or, sym, ap, subst, refl, arith}
+use Rattle.std.proofs.Common.{◌≡◌, ◌<◌, ◌∙◌, ◌∷◌, length, Some, slice_get, slice_index_or, sym, ap, subst, arith}
 use Rattle.std.proofs.lemmas.Grind.{common_steps}
 use Rattle.std.proofs.lemmas.List.{get_or_read}
 use Rattle.std.proofs.lemmas.Option.{slice_get-get_or}
-use Rattle.ace_portck.specs.declared.port.PortRecord.{PortRecord}
-use Rattle.ace_portck.specs.Port.{PortStands, HasRoom}
+use Rattle.ace_portck.specs.Port.{PortStands}
 use Rattle.ace_portck.specs.Stands.{record_at}
 use Rattle.ace_portck.proofs.AllPorts.{ports_set, port_elsewhere}
 use Rattle.ace_model.proofs.General.Options.{Some-injective}

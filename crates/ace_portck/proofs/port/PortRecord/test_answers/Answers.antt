@@ -1,4 +1,4 @@
-use Rattle.std.proofs.Common.{◌≡◌, ◌∙◌, sym, refl}
+use Rattle.std.proofs.Common.{◌∙◌, sym, refl}
 use Rattle.ace_portck.proofs.port.PortRecord.test_answers.Goals as goal
 
 pub returns-then-not-may_answer : goal.returns-then-not-may_answer

@@ -1,9 +1,7 @@
-use Rattle.std.proofs.Common.{◌≡◌, ◌≢◌, ◌+◌, ◌<◌, ◌∙◌, ◌∷◌, None, Some, length, sym, ap, subst, arith}
-use Rattle.std.specs.List.{AllByRecursion}
+use Rattle.std.proofs.Common.{◌∙◌, ◌∷◌, sym, subst, arith}
 use Rattle.ace_event.specs.declared.header.Header.{Header}
 use Rattle.ace_model.specs.Accepted.{IsAccepted}
 use Rattle.ace_portck.specs.Heard.{IsHeard}
-use Rattle.ace_portck.specs.Pending.{HasByteId}
 use Rattle.ace_portck.specs.Stands.{PortsStand, record_at}
 use Rattle.ace_portck.proofs.AllPorts.{port_elsewhere, port_below}
 use Rattle.ace_portck.proofs.ports.PortCheck.apply.Goals as goal

@@ -1,4 +1,4 @@
-use Rattle.std.proofs.Common.{◌≡◌, ◌∙◌, Some, sym}
+use Rattle.std.proofs.Common.{◌∙◌, sym}
 use Rattle.ace_portck.proofs.AllPorts.{on_err}
 use Rattle.ace_portck.proofs.ports.PortCheck.ready.Goals as goal
 

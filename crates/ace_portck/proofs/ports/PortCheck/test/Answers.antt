@@ -1,4 +1,4 @@
-use Rattle.std.proofs.Common.{◌≡◌, ◌∙◌, sym, ap, refl}
+use Rattle.std.proofs.Common.{◌∙◌, sym, ap, refl}
 use Rattle.ace_model.specs.AddressRules.{k1, k2, k3}
 use Rattle.ace_portck.proofs.ports.PortCheck.test.Goals as goal
 
