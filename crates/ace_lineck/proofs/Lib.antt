@@ -1,18 +1,27 @@
+-- The line of an event, and what an event of another line leaves as it is.
 pub mod OnLine
-pub mod Own
 pub mod OffLine
+-- A port's own transaction on a line (K5), and what the rules ask of it.
+pub mod Own
+-- Holders and memory, at an event of their line.
 pub mod HolderSteps
+-- The bursts that answer snoops: whose they are, and the line that they send.
 pub mod Bursts
 pub mod Sent
-pub mod RuleLaws
+-- What is kept of a grant: at an event of another line, of its own line, and for the target of an event.
 pub mod GrantFrame
 pub mod GrantSteps
 pub mod GrantServes
 pub mod GrantHear
-pub mod GrantLaws
+-- The line that a read has received whole is its reply.
+pub mod Received
+-- Which lines are known, and what is kept of all lines.
 pub mod KnownLines
 pub mod AllLines
+-- What the rules say, in the words of what is kept.
+pub mod RuleLaws
+pub mod GrantLaws
 pub mod ReplyLaws
 pub mod WriteLaws
-pub mod Received
+-- The least rule that an event breaks.
 pub mod Judging

@@ -132,12 +132,12 @@ module _ (h : Header) (past : Trace) (a : IsAccepted h past) (p : ℕ) (c : Chan
             ap (λ v. Some (unwrap_or v zero_line)) copy ∙ sym copy
 
         by : (g : Option Grant) → GrantStands h past y.addr g → passed_kept g ≡ passed_data h past y.addr
-        by None f = sym (ap (λ v. if is_some_and v (has_passed_data h past) then option_and_then (copy_at_answer past y.addr) (passer h past y.addr) else None) f)
+        by None f = sym (ap (λ o. if is_some_and o (has_passed_data h past) then option_and_then (copy_at_answer past y.addr) (passer h past y.addr) else None) f)
         by (Some g) f =
             ap (λ b. if b then option_map (λ q. q.line) g.passed else None) (passed-law h past a y.addr g f)
             ∙ ap (λ v. if has_passed_data h past g.transaction then option_map (λ q. q.line) v else None) f.passed
             ∙ ap (λ v. if has_passed_data h past g.transaction then v else None) (lines (passer h past y.addr) refl)
-            ∙ sym (ap (λ v. if is_some_and v (has_passed_data h past) then option_and_then (copy_at_answer past y.addr) (passer h past y.addr) else None) f.granted)
+            ∙ sym (ap (λ o. if is_some_and o (has_passed_data h past) then option_and_then (copy_at_answer past y.addr) (passer h past y.addr) else None) f.granted)
 
 module _ (h : Header) (past : Trace) (t : Target) (x : LineRecord) (p : ℕ) (c : Channel) (i : ℕ) (line : Line) (s : IsNext h past (M p c i line) t x) where
   line-for : (y : Transaction) → outstanding h past p c i ≡ Some y → is_line y ≡ true → t.line ≡ Some y.addr

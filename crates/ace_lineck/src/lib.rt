@@ -20,7 +20,5 @@ mod step;
 mod tests;
 mod uses;
 
-pub use grant::{Grant, Passed};
 pub use lines::LineCheck;
-pub use record::{Holder, LineRecord, NoMemory, Use};
-pub use stages::Stage;
+pub use record::NoMemory;
