@@ -8,13 +8,11 @@ use Rattle.std.specs.Cmp.{nat_cmp_is}
 use Rattle.std.specs.Ordering.{nat_cmp, is_eq}
 use Rattle.std.specs.declared.cmp.Ordering.TheVariants.{Less, Equal, Greater}
 use Rattle.std.specs.BTreeMap.{BTreeMap, is_at, IsOrdered, get}
-use Rattle.std.proofs.lemmas.Cmp.{nat_cmp_total}
-use Rattle.std.proofs.lemmas.Map.Lookups.{btree_map_from_get, exact_unsigned}
-use Rattle.std_collections.specs.Layout.BTreeMap.{with_entries}
 use Rattle.ace_model.specs.declared.transactions.Transaction.{Transaction}
 use Rattle.ace_model.specs.Trace.{Trace, is_some_and}
 use Rattle.ace_model.specs.Transactions.{issued, is_line, is_on}
 use Rattle.ace_model.specs.Lines.{is_known, known_lines, names_new_line, add_line}
+use Rattle.ace_model.proofs.General.Options.{Some-injective}
 use Rattle.ace_report.specs.Report.{put_in_order, in_order}
 
 -- the order of numbers
@@ -143,16 +141,65 @@ module _ {A : Type 0} (f : ℕ → A) where
   lookup-listed q [] = refl
   lookup-listed q (l ∷ ls) =
       elim (cases_Bool (nat_eq q l)) [
-        | inr no ↦ rw (at_number q l, no) (lookup-listed q ls)
+        | inr g ↦ rw (at_number q l, g) (lookup-listed q ls)
         | inl t ↦ rw (at_number q l, t) (ap (λ n. Some (f n)) (sym (eqb-true q l t)))
       ]
+
+  look-head : (q k : ℕ) (v : A) (es : List (ℕ × A)) → nat_eq q k ≡ true → lookup (is_at (nat_cmp q)) ((k, v) ∷ es) ≡ Some v
+  look-head q k v es t = rw (at_number q k, t) refl
+
+  look-tail : (q k : ℕ) (v : A) (es : List (ℕ × A)) → nat_eq q k ≡ false → lookup (is_at (nat_cmp q)) ((k, v) ∷ es) ≡ lookup (is_at (nat_cmp q)) es
+  look-tail q k v es t = rw (at_number q k, t) refl
+
+  -- a number below all keys
+  look-below : (q : ℕ) (es : List (ℕ × A)) → AllByRecursion (λ y. nat_cmp q y ≡ Less) (keys_of es) → lookup (is_at (nat_cmp q)) es ≡ None
+  look-below q [] all = refl
+  look-below q ((k, v) ∷ es) all =
+      let lt = is_less q k all.0 in
+      look-tail q k v es (grind (arith, lt)) ∙ look-below q es all.1
+
+  -- entries in order with the same look-ups are the same
+  same_entries : (xs ys : List (ℕ × A)) → IsStrictlySortedBy nat_cmp (keys_of xs) → IsStrictlySortedBy nat_cmp (keys_of ys)
+      → ((q : ℕ) → lookup (is_at (nat_cmp q)) xs ≡ lookup (is_at (nat_cmp q)) ys) → xs ≡ ys
+  unfolding IsStrictlySortedBy
+  same_entries [] [] s t same = refl
+  same_entries [] ((j, w) ∷ ys) s t same = let bad : None ≡ Some w = same j ∙ look-head j j w ys (grind arith) in absurd (cc)
+  same_entries ((k, v) ∷ xs) [] s t same = let bad : None ≡ Some v = sym (same k) ∙ look-head k k v xs (grind arith) in absurd (cc)
+  same_entries ((k, v) ∷ xs) ((j, w) ∷ ys) s t same =
+      elim (cases_eq k j) [
+        | inl e ↦
+            let first : nat_eq k j ≡ true = grind (arith, e) in
+            let value : v ≡ w = Some-injective v w (sym (look-head k k v xs (grind arith)) ∙ same k ∙ look-head k j w ys first) in
+            let rest : xs ≡ ys = same_entries xs ys s.1 t.1 (λ q. later e q) in
+            ap (λ n. (n, v) ∷ xs) e ∙ ap (λ u. (j, u) ∷ xs) value ∙ ap (λ es. (j, w) ∷ es) rest
+        | inr apart ↦ absurd (elim (cases_Bool (nat_lt k j)) [
+          | inl lt ↦
+              let below = ltb-true k j lt in
+              let bad : Some v ≡ None = sym (look-head k k v xs (grind arith)) ∙ same k ∙ look-below k ((j, w) ∷ ys) (less k j below, below-all k j (keys_of ys) below t.0) in cc
+          | inr f ↦
+              let below : j < k = grind (arith, f, apart) in
+              let bad : None ≡ Some w = sym (look-below j ((k, v) ∷ xs) (less j k below, below-all j k (keys_of xs) below s.0)) ∙ same j ∙ look-head j j w ys (grind arith) in cc
+        ])
+      ]
+    where
+      later : k ≡ j → (q : ℕ) → lookup (is_at (nat_cmp q)) xs ≡ lookup (is_at (nat_cmp q)) ys
+      later e q =
+          elim (cases_eq q k) [
+            | inl here ↦
+                let none : lookup (is_at (nat_cmp k)) xs ≡ None = look-below k xs s.0 in
+                let none_either : lookup (is_at (nat_cmp j)) ys ≡ None = look-below j ys t.0 in
+                ap (λ n. lookup (is_at (nat_cmp n)) xs) here ∙ none ∙ sym none_either ∙ ap (λ n. lookup (is_at (nat_cmp n)) ys) (sym (here ∙ e))
+            | inr apart ↦
+                let one : nat_eq q k ≡ false = grind (arith, apart) in
+                let two : nat_eq q j ≡ false = grind (arith, apart, e) in
+                sym (look-tail q k v xs one) ∙ same q ∙ look-tail q j w ys two
+          ]
 
   -- the entries of a map that has a value for each known line, and no other
   pub entries-in_order : (past : Trace) (m : BTreeMap ℕ A) → IsOrdered nat_cmp m → ((l : ℕ) → get nat_cmp m l ≡ (if is_known past l then Some (f l) else None))
       → m.entries ≡ map (λ l. (l, f l)) (in_order (known_lines past))
   entries-in_order past m ordered has =
       let ls = in_order (known_lines past) in
-      let n : BTreeMap ℕ A = with_entries m (map entry_of ls) in
-      let sorted : IsOrdered nat_cmp n = subst (IsStrictlySortedBy nat_cmp) (sym (keys-listed ls)) (lines-sorted past) in
-      btree_map_from_get nat_cmp_total m n ordered sorted
-      (λ q. has q ∙ ap (λ b. if b then Some (f q) else None) (sym (known-listed past q) ∙ sym (order-has q (known_lines past))) ∙ sym (lookup-listed q ls)) exact_unsigned
+      let sorted : IsStrictlySortedBy nat_cmp (keys_of (map entry_of ls)) = subst (IsStrictlySortedBy nat_cmp) (sym (keys-listed ls)) (lines-sorted past) in
+      same_entries m.entries (map entry_of ls) ordered sorted
+      (λ q. has q ∙ ap (λ b. if b then Some (f q) else None) (sym (known-listed past q) ∙ sym (order-has q (known_lines past))) ∙ sym (lookup-listed q ls))
