@@ -1,5 +1,5 @@
 -- What each port did, with one more event.
-use Rattle.std.proofs.Common.{◌≡◌, ◌<◌, ◌≤◌, ◌+◌, ◌-◌, ◌^◌, ℕ, min, true, false, nat_eq, List, [], ◌∷◌, length, count_by, cond, Option, Some, None, slice_get, refl, sym, ap, ◌∙◌, arith, inl, inr}
+use Rattle.std.proofs.Common.{◌≡◌, ◌<◌, ◌≤◌, ◌+◌, ◌-◌, ◌^◌, ℕ, min, Bool, true, false, nat_eq, if◌then◌else◌, List, [], ◌∷◌, length, count_by, cond, Option, Some, None, slice_get, refl, sym, ap, ◌∙◌, arith, inl, inr}
 use Rattle.std.proofs.lemmas.Bool.{cases_eq}
 use Rattle.std.proofs.Math.ListN.{get_or, set}
 use Rattle.std.proofs.lemmas.Grind.{get_or-set_at}
@@ -24,13 +24,23 @@ other_port p q r is apart = let e = Some-injective p q is in grind (arith, e, ap
 bounded : (n m : ℕ) → n ≤ m → m < 2 ^ 64 - 2 → min (n + 1) (2 ^ 64 - 1) ≡ 1 + n
 bounded n m le few = omega (arith, le, few)
 
+-- the count with one more, where the test holds
+abbrev with_one : Bool → ℕ → ℕ
+with_one b n = if b then 1 + n else n
+
 -- the tally of a port with one more event, by what the event is to the port
 abbrev next_tally : Event → Trace → ℕ → PortTally
-next_tally e past q = record { loads = cond (is_load q e) 1 0 + count_by (is_load q) past; stores = cond (is_store q e) 1 0 + count_by (is_store q) past; reads = cond (is_read q e) 1 0 + count_by (is_read q) past; writes = cond (is_write q e) 1 0 + count_by (is_write q) past }
+next_tally e past q = record { loads = with_one (is_load q e) (count_by (is_load q) past); stores = with_one (is_store q e) (count_by (is_store q) past); reads = with_one (is_read q e) (count_by (is_read q) past); writes = with_one (is_write q e) (count_by (is_write q) past) }
+
+one-counted : (test : Event → Bool) (e : Event) (past : Trace) → count_by test (e ∷ past) ≡ with_one (test e) (count_by test past)
+one-counted test e past = count_by-cons test e past ∙ by (test e)
+  where
+    by : (b : Bool) → cond b 1 0 + count_by test past ≡ with_one b (count_by test past)
+    by true = refl
+    by false = omega arith
 
 tally-cons : (e : Event) (past : Trace) (q : ℕ) → next_tally e past q ≡ port_tally (e ∷ past) q
-tally-cons e past q =
-    rw (count_by-cons (is_load q) e past, count_by-cons (is_store q) e past, count_by-cons (is_read q) e past, count_by-cons (is_write q) e past) refl
+tally-cons e past q = rw (one-counted (is_load q) e past, one-counted (is_store q) e past, one-counted (is_read q) e past, one-counted (is_write q) e past) refl
 
 -- at the port of the event
 next-there : (e : Event) (past : Trace) (q : ℕ) → counted_port e ≡ Some q → length past < 2 ^ 64 - 2 → counted e (port_tally past q) ≡ next_tally e past q

@@ -1,6 +1,6 @@
 -- The known lines in order, and a map that has just these.
 use Rattle.std.proofs.Common.{◌≡◌, ◌⊎◌, ◌<◌, ℕ, Bool, true, false, ◌&&◌, ◌||◌, not, nat_eq, nat_lt, if◌then◌else◌, List, [], ◌∷◌, length, map, Option, Some, None, refl, sym, ap, subst, ◌∙◌, arith, inl, inr}
-use Rattle.std.proofs.lemmas.Bool.{cases_Bool, cases_eq, eqb-true, ltb-true, and_parts}
+use Rattle.std.proofs.lemmas.Bool.{cases_Bool, cases_eq, eqb-true, ltb-true, and_parts, not-true}
 use Rattle.std.specs.List.{AllByRecursion, list_any}
 use Rattle.std.specs.List.Sorted.{IsStrictlySortedBy}
 use Rattle.std.specs.Map.{lookup, keys_of}
@@ -88,16 +88,17 @@ put-sorted l (m ∷ ms) s new =
 -- the known lines are those of the list
 known-listed : (past : Trace) (q : ℕ) → is_one q (known_lines past) ≡ is_known past q
 known-listed [] q = refl
-known-listed (e ∷ past) q = by (issued (length past) e)
+known-listed (e ∷ past) q = by (known-listed past q) (issued (length past) e)
   where
-    by : (o : Option Transaction) → is_one q (add_line past o (known_lines past)) ≡ (is_some_and o (λ x. is_on x q) || is_known past q)
-    by None = known-listed past q
-    by (Some x) =
+    by : is_one q (known_lines past) ≡ is_known past q → (o : Option Transaction)
+        → is_one q (add_line past o (known_lines past)) ≡ (is_some_and o (λ x. is_on x q) || is_known past q)
+    by before None = before
+    by before (Some x) =
         elim (cases_Bool (is_line x)) [
-          | inr f ↦ rw f (known-listed past q)
+          | inr f ↦ rw f before
           | inl t ↦ elim (cases_Bool (is_known past x.addr)) [
-            | inr new ↦ rw (t, new) (ap (λ b. nat_eq q x.addr || b) (known-listed past q) ∙ ap (λ b. b || is_known past q) (turn q x.addr))
-            | inl old ↦ rw (t, old) (known-listed past q ∙ there q x.addr old)
+            | inr new ↦ rw (t, new) (ap (λ b. nat_eq q x.addr || b) before ∙ ap (λ b. b || is_known past q) (turn q x.addr))
+            | inl old ↦ rw (t, old) (before ∙ there q x.addr old)
           ]
         ]
       where
@@ -117,16 +118,16 @@ sorted_nil = tt
 -- in order they rise
 pub lines-sorted : (past : Trace) → IsStrictlySortedBy nat_cmp (in_order (known_lines past))
 lines-sorted [] = sorted_nil
-lines-sorted (e ∷ past) = by (issued (length past) e)
+lines-sorted (e ∷ past) = by (lines-sorted past) (issued (length past) e)
   where
-    by : (o : Option Transaction) → IsStrictlySortedBy nat_cmp (in_order (add_line past o (known_lines past)))
-    by None = lines-sorted past
-    by (Some x) =
+    by : IsStrictlySortedBy nat_cmp (in_order (known_lines past)) → (o : Option Transaction) → IsStrictlySortedBy nat_cmp (in_order (add_line past o (known_lines past)))
+    by before None = before
+    by before (Some x) =
         elim (cases_Bool (names_new_line past x)) [
-          | inr f ↦ rw f (lines-sorted past)
+          | inr f ↦ rw f before
           | inl t ↦
-              let new : is_known past x.addr ≡ false = grind (and_parts (is_line x) (not (is_known past x.addr)) t) in
-              rw t (put-sorted x.addr (in_order (known_lines past)) (lines-sorted past) (order-has x.addr (known_lines past) ∙ known-listed past x.addr ∙ new))
+              let new : is_known past x.addr ≡ false = not-true (is_known past x.addr) (and_parts (is_line x) (not (is_known past x.addr)) t).1 in
+              rw t (put-sorted x.addr (in_order (known_lines past)) before (order-has x.addr (known_lines past) ∙ known-listed past x.addr ∙ new))
         ]
 
 module _ {A : Type 0} (f : ℕ → A) where
