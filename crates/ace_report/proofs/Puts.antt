@@ -4,7 +4,7 @@ use Rattle.std.proofs.lemmas.List.{take_all, nil_from_length}
 use Rattle.std.specs.Io.KnownBytes.{Appends}
 use Rattle.std.proofs.KnownBytes.{Appends-nil, Appends-trans}
 use Rattle.ace_io.specs.Faults.{HasCause}
-use Rattle.ace_report.specs.Put.{AppendsPart, IsUnderWay, Puts, PutsPart}
+use Rattle.ace_report.specs.Put.{AppendsPart, Puts, PutsPart}
 
 -- nothing of the text is under way yet
 pub none_put : (held : Option (List ℕ)) (page text : List ℕ) → Puts held page text held page text

@@ -1,10 +1,9 @@
 -- The bytes that an M or an R stores, by the target of the event.
-use Rattle.std.proofs.Common.{◌≡◌, ℕ, Bool, true, false, ◌&&◌, ◌||◌, nat_eq, if◌then◌else◌, ◌∷◌, Option, Some, None, option_map, refl, sym, ap, subst, ◌∙◌, inl, inr}
+use Rattle.std.proofs.Common.{◌≡◌, ℕ, Bool, true, ◌||◌, nat_eq, if◌then◌else◌, Option, Some, None, option_map, refl, ap, ◌∙◌, inl, inr}
 use Rattle.std.proofs.lemmas.Bool.{cases_Bool, and_parts, eqb-true}
 use Rattle.ace_codes.specs.declared.kind.AwKind.{AwKind}
 use Rattle.ace_codes.specs.declared.kind.AwKind.TheVariants as write
 use Rattle.ace_event.specs.declared.event.Channel.{Channel}
-use Rattle.ace_event.specs.declared.event.Channel.TheVariants.{Read}
 use Rattle.ace_event.specs.declared.event.Event.TheVariants.{R, M}
 use Rattle.ace_event.specs.declared.header.Header.{Header}
 use Rattle.ace_event.specs.declared.line.Line.{Line}
@@ -23,7 +22,6 @@ use Rattle.ace_model.proofs.Grants.Begins.{may_of}
 use Rattle.ace_model.proofs.Grants.Granted.{data_may}
 use Rattle.ace_model.proofs.Values.Stores.{stores_write, stores_kind}
 use Rattle.ace_portck.specs.declared.target.Target.{Target}
-use Rattle.ace_portck.specs.declared.target.WriteData.{WriteData}
 use Rattle.ace_portck.specs.Targets.{data_of_write, line_of, progress_of}
 use Rattle.ace_report.specs.Heard.{bytes_of, bytes_to, written_bytes, discarded_bytes}
 use Rattle.ace_report.specs.Next.{IsNext}

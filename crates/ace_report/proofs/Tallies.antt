@@ -1,5 +1,5 @@
 -- The tallies of the lines, and the loads, with one more event.
-use Rattle.std.proofs.Common.{◌≡◌, ◌<◌, ◌≤◌, ◌+◌, ◌-◌, ◌^◌, ℕ, Bool, true, false, ◌&&◌, ◌||◌, nat_eq, if◌then◌else◌, List, [], ◌∷◌, ◌++◌, length, Option, Some, None, option_map, unwrap_or, refl, sym, ap, subst, ◌∙◌, arith, length-append, inl, inr, Result, Ok, Err, OnOk}
+use Rattle.std.proofs.Common.{◌≡◌, ◌<◌, ◌-◌, ◌^◌, ℕ, Bool, true, false, ◌||◌, nat_eq, if◌then◌else◌, List, [], ◌∷◌, length, Option, Some, None, option_map, unwrap_or, refl, sym, ap, ◌∙◌, arith, length-append, inl, inr, Result, Ok, Err, OnOk}
 use Rattle.std.proofs.lemmas.Bool.{cases_Bool, and_parts, eqb-true}
 use Rattle.std.specs.BTreeMap.{BTreeMap, get}
 use Rattle.std.specs.Ordering.{nat_cmp}
@@ -11,14 +11,12 @@ use Rattle.ace_event.specs.declared.line.Line.{Line}
 use Rattle.ace_model.specs.declared.transactions.Transaction.{Transaction}
 use Rattle.ace_model.specs.Trace.{Trace, is_some_and, more}
 use Rattle.ace_model.specs.Accepted.{IsAccepted}
-use Rattle.ace_model.specs.Copies.{opened}
 use Rattle.ace_model.specs.Lines.{is_known}
-use Rattle.ace_model.specs.Transactions.{issued, is_line, is_on}
+use Rattle.ace_model.specs.Transactions.{is_line, is_on}
 use Rattle.ace_model.specs.Values.{Store, store_at, stores_of, value_of, after_store}
 use Rattle.ace_model.proofs.Report.Untouched.{untouched, opened_unknown, stores_of-count}
 use Rattle.ace_portck.specs.declared.target.Target.{Target}
 use Rattle.ace_portck.specs.declared.target.WriteData.{WriteData}
-use Rattle.ace_portck.specs.Targets.{begun, line_of}
 use Rattle.ace_report.specs.declared.tally.LineTally.{LineTally}
 use Rattle.ace_report.specs.Heard.{LinesStand, line_tally, bytes_of, bytes_to, stored}
 use Rattle.ace_report.specs.Next.{IsNext}

@@ -1,6 +1,6 @@
 -- The report of a trace, as text: what each port did, the stores and the value of each line, and the place of each load among
 -- the stores of its line.
-use Rattle.std.specs.Prelude.{ℕ, ◌+◌, Bool, true, false, ◌==◌, nat_lt, if◌then◌else◌, List, [], ◌∷◌, ◌++◌, length, codes, decimal}
+use Rattle.std.specs.Prelude.{ℕ, ◌+◌, Bool, false, ◌==◌, nat_lt, if◌then◌else◌, List, [], ◌∷◌, ◌++◌, length, codes, decimal}
 use Rattle.std.specs.List.{count_by, flat_map, range_with_len}
 use Rattle.ace_event.specs.Text.{hex_text, line_digits}
 use Rattle.ace_event.specs.declared.event.Event.{Event}
