@@ -21,9 +21,9 @@ less a b lt = sym (nat_cmp_is a b Less lt)
 
 is_less : (a b : ℕ) → nat_cmp a b ≡ Less → a < b
 is_less a b is = elim (cases_Bool (nat_lt a b)) [
-    | inl t ↦ ltb-true a b t
-    | inr f ↦ grind (arith, f, is, nat_cmp_is a b Equal, nat_cmp_is a b Greater)
-  ]
+  | inl t ↦ ltb-true a b t
+  | inr f ↦ grind (arith, f, is, nat_cmp_is a b Equal, nat_cmp_is a b Greater)
+]
 
 at_number : (a b : ℕ) → is_eq (nat_cmp a b) ≡ nat_eq a b
 at_number a b =
@@ -104,6 +104,7 @@ known-listed (e ∷ past) q = by (known-listed past q) (issued (length past) e)
       where
         turn : (a b : ℕ) → nat_eq a b ≡ nat_eq b a
         turn a b = grind arith
+
         there : (q l : ℕ) → is_known past l ≡ true → is_known past q ≡ (nat_eq l q || is_known past q)
         there q l old =
             elim (cases_Bool (nat_eq l q)) [

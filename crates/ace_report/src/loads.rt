@@ -25,7 +25,12 @@ fn stores_to(lines: &BTreeMap<u32, LineTally>, line: u32) -> u64
 }
 
 /// Hears the next event of an accepted trace, which has this number from 1 on, with the lines before it.
-pub(crate) fn hear_load(loads: &mut Vec<Load>, lines: &BTreeMap<u32, LineTally>, number: u64, event: &Event) -> Result<(), NoMemory>
+pub(crate) fn hear_load(
+    loads: &mut Vec<Load>,
+    lines: &BTreeMap<u32, LineTally>,
+    number: u64,
+    event: &Event,
+) -> Result<(), NoMemory>
     ensures { (h : Header) (past : Trace) → LinesStand past lines.now → loads.old.items ≡ loads_of past → number ≡ length past + 1
         → IsAccepted h (event.now ∷ past) → OnOk result (loads.new.items ≡ loads_of (event.now ∷ past)) }
 {
