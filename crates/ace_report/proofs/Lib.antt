@@ -1,1 +1,6 @@
 pub mod Puts
+pub mod Counted
+pub mod Order
+pub mod Texts
+pub mod StoredBytes
+pub mod Tallies

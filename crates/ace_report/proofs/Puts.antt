@@ -4,7 +4,7 @@ use Rattle.std.proofs.lemmas.List.{take_all, nil_from_length}
 use Rattle.std.specs.Io.KnownBytes.{Appends}
 use Rattle.std.proofs.KnownBytes.{Appends-nil, Appends-trans}
 use Rattle.ace_io.specs.Faults.{HasCause}
-use Rattle.ace_report.specs.Put.{AppendsPart, IsUnderWay, Puts, PutsPart}
+use Rattle.ace_report.specs.Put.{AppendsPart, Puts, PutsPart}
 
 -- nothing of the text is under way yet
 pub none_put : (held : Option (List ℕ)) (page text : List ℕ) → Puts held page text held page text
@@ -12,25 +12,29 @@ none_put held page text before so_far u = (so_far, u, refl)
 
 -- a piece was added to the page
 pub piece_added : (held : Option (List ℕ)) (page piece : List ℕ) → Puts held page piece held (page ++ piece) []
-piece_added held page piece before so_far u =
-    (so_far ++ piece,
-    record { given = u.given; cut = ap (λ l. l ++ piece) u.cut ∙ append_assoc u.given page piece; bytes = u.bytes },
-    append-nil (so_far ++ piece))
+piece_added held page piece before so_far u = (
+  so_far ++ piece,
+  record { given = u.given; cut = ap (λ l. l ++ piece) u.cut ∙ append_assoc u.given page piece; bytes = u.bytes },
+  append-nil (so_far ++ piece),
+)
 
 -- the page was given
 pub page_given : (old new : Option (List ℕ)) (page : List ℕ) (n : ℕ) → length page ≤ n → Appends old new (take n page) → Puts old page [] new [] []
 page_given old new page n whole given before so_far u =
-    let all : Appends old new page = subst (Appends old new) (take_all n page whole) given in
-    (so_far,
-    record { given = so_far; cut = sym (append-nil so_far); bytes = subst (Appends before new) (sym u.cut) (Appends-trans _ _ _ _ _ u.bytes all) },
-    refl)
+    let all : Appends old new page = subst (Appends old new) (take_all n page whole) given in (
+      so_far,
+      record { given = so_far; cut = sym (append-nil so_far); bytes = subst (Appends before new) (sym u.cut) (Appends-trans _ _ _ _ _ u.bytes all) },
+      refl,
+    )
 
 -- a front of the page was given
 pub page_cut : (old new : Option (List ℕ)) (page : List ℕ) (n : ℕ) → Appends old new (take n page) → PutsPart old page [] new
-page_cut old new page n given before so_far u =
-    (u.given ++ take n page, drop n page,
-    append-nil so_far ∙ u.cut ∙ ap (λ l. u.given ++ l) (sym (take-append-drop n page)) ∙ sym (append_assoc u.given (take n page) (drop n page)),
-    Appends-trans _ _ _ _ _ u.bytes given)
+page_cut old new page n given before so_far u = (
+  u.given ++ take n page,
+  drop n page,
+  append-nil so_far ∙ u.cut ∙ ap (λ l. u.given ++ l) (sym (take-append-drop n page)) ∙ sym (append_assoc u.given (take n page) (drop n page)),
+  Appends-trans _ _ _ _ _ u.bytes given,
+)
 
 -- one piece after the other
 pub puts_next : (h0 h1 h2 : Option (List ℕ)) (p0 p1 p2 text next rest : List ℕ) → Puts h0 p0 text h1 p1 (next ++ rest) → Puts h1 p1 next h2 p2 [] → Puts h0 p0 text h2 p2 rest

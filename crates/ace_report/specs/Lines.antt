@@ -1,6 +1,5 @@
 -- The lines of a report, as text of what was counted.
 use Rattle.std.specs.Prelude.{ℕ, ◌+◌, List, [], ◌∷◌, ◌++◌, codes, decimal}
-use Rattle.std.specs.List.{flat_map}
 use Rattle.ace_event.specs.Text.{hex_text, line_digits}
 use Rattle.ace_report.specs.declared.tally.PortTally.{PortTally}
 use Rattle.ace_report.specs.declared.tally.LineTally.{LineTally}

@@ -1,6 +1,6 @@
 -- The report of a trace, as text: what each port did, the stores and the value of each line, and the place of each load among
 -- the stores of its line.
-use Rattle.std.specs.Prelude.{ℕ, ◌+◌, Bool, true, false, ◌==◌, nat_lt, if◌then◌else◌, List, [], ◌∷◌, ◌++◌, length, codes, decimal}
+use Rattle.std.specs.Prelude.{ℕ, ◌+◌, Bool, false, ◌==◌, nat_lt, if◌then◌else◌, List, [], ◌∷◌, ◌++◌, length, codes, decimal}
 use Rattle.std.specs.List.{count_by, flat_map, range_with_len}
 use Rattle.ace_event.specs.Text.{hex_text, line_digits}
 use Rattle.ace_event.specs.declared.event.Event.{Event}
@@ -52,13 +52,16 @@ line_report past l =
     codes "line " ++ hex_text 8 l ++ codes " stores " ++ decimal (length (stores_of past l))
     ++ codes " value " ++ line_digits (value_of past l) ++ codes "\n"
 
--- each load in order: the number of its event, from 1, its port and address, and how many stores to its line came before it
+-- a load after the trace: the number of its event, from 1, its port and address, and how many stores to its line came before it
+abbrev pub load_report : Trace → ℕ → ℕ → List ℕ
+load_report past p addr =
+    codes "load " ++ decimal (length past + 1) ++ codes " " ++ decimal p ++ codes " " ++ hex_text 8 addr
+    ++ codes " " ++ decimal (length (stores_of past addr)) ++ codes "\n"
+
+-- each load, in order
 abbrev pub load_reports : Trace → List ℕ
 load_reports [] = []
-load_reports (L p addr w x word ∷ past) =
-    load_reports past
-    ++ codes "load " ++ decimal (length past + 1) ++ codes " " ++ decimal p ++ codes " " ++ hex_text 8 addr
-    ++ codes " " ++ decimal (length (stores_of past addr)) ++ codes "\n"
+load_reports (L p addr w x word ∷ past) = load_reports past ++ load_report past p addr
 load_reports (_ ∷ past) = load_reports past
 
 -- The report of a trace under its header: its ports in order of number, the lines that line transactions name in order of

@@ -1,5 +1,5 @@
 -- What a report keeps of a trace.
-use Rattle.std.specs.Prelude.{ℕ, ◌≡◌, ◌<◌, ◌-◌, ◌^◌, length}
+use Rattle.std.specs.Prelude.{◌≡◌, ◌<◌, ◌-◌, ◌^◌, length}
 use Rattle.ace_event.specs.declared.header.Header.{Header}
 use Rattle.ace_event.specs.Ports.{IsHeader}
 use Rattle.ace_model.specs.Trace.{Trace}

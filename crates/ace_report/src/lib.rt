@@ -9,6 +9,8 @@ mod put;
 mod report;
 mod stores;
 mod tally;
+#[cfg(test)]
+mod tests;
 mod text;
 
 pub use no_memory::NoMemory;

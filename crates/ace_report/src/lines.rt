@@ -54,7 +54,11 @@ fn add_store(lines: &mut BTreeMap<u32, LineTally>, line: Option<u32>, bytes: Opt
 }
 
 /// Makes the tally of a line that is named for the first time, if a line is named.
-fn name_line(lines: &mut BTreeMap<u32, LineTally>, line: Option<u32>, memory: Line) -> Result<(), NoMemory>
+fn name_line(
+    lines: &mut BTreeMap<u32, LineTally>,
+    line: Option<u32>,
+    memory: Line,
+) -> Result<(), NoMemory>
     ensures { OnOk result ((l : ℕ) → get nat_cmp lines.new l ≡ (if is_some_and line (λ m. m == l)
         then Some (unwrap_or (get nat_cmp lines.old l) (record { stores = 0; value = memory })) else get nat_cmp lines.old l)) }
 {
@@ -65,7 +69,12 @@ fn name_line(lines: &mut BTreeMap<u32, LineTally>, line: Option<u32>, memory: Li
 }
 
 /// Hears the next event of an accepted trace.
-pub(crate) fn hear_line(lines: &mut BTreeMap<u32, LineTally>, event: &Event, target: &Target, memory: Line) -> Result<(), NoMemory>
+pub(crate) fn hear_line(
+    lines: &mut BTreeMap<u32, LineTally>,
+    event: &Event,
+    target: &Target,
+    memory: Line,
+) -> Result<(), NoMemory>
     ensures { (h : Header) (past : Trace) → LinesStand past lines.old → IsNext h past event.now target.now memory
         → OnOk result (LinesStand (event.now ∷ past) lines.new) }
 {

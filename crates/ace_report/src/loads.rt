@@ -1,9 +1,12 @@
 //! The place of each load among the stores of its line.
 
-ghost use Rattle.std.specs.Prelude.{◌≡◌, ◌+◌, ◌∷◌, length, OnOk};
+ghost use Rattle.std.specs.Prelude.{◌≡◌, ◌+◌, ◌∷◌, length, option_map, unwrap_or, OnOk};
+ghost use Rattle.std.specs.Ordering.{nat_cmp};
+ghost use Rattle.std.specs.BTreeMap.{get};
 ghost use Rattle.ace_event.specs.declared.header.Header.{Header};
 ghost use Rattle.ace_model.specs.Accepted.{IsAccepted};
 ghost use Rattle.ace_model.specs.Trace.{Trace};
+ghost use Rattle.ace_report.specs.declared.tally.LineTally.{LineTally};
 ghost use Rattle.ace_report.specs.Heard.{LinesStand, loads_of};
 
 use crate::no_memory::NoMemory;
@@ -11,8 +14,23 @@ use crate::tally::{LineTally, Load};
 use ace_event::Event;
 use std::collections::BTreeMap;
 
+/// How many stores were made to the line.
+fn stores_to(lines: &BTreeMap<u32, LineTally>, line: u32) -> u64
+    ensures { result ≡ unwrap_or (option_map (λ (t : LineTally). t.stores) (get nat_cmp lines.now line)) 0 }
+{
+    match lines.get(&line) {
+        Some(tally) => tally.stores,
+        None => 0,
+    }
+}
+
 /// Hears the next event of an accepted trace, which has this number from 1 on, with the lines before it.
-pub(crate) fn hear_load(loads: &mut Vec<Load>, lines: &BTreeMap<u32, LineTally>, number: u64, event: &Event) -> Result<(), NoMemory>
+pub(crate) fn hear_load(
+    loads: &mut Vec<Load>,
+    lines: &BTreeMap<u32, LineTally>,
+    number: u64,
+    event: &Event,
+) -> Result<(), NoMemory>
     ensures { (h : Header) (past : Trace) → LinesStand past lines.now → loads.old.items ≡ loads_of past → number ≡ length past + 1
         → IsAccepted h (event.now ∷ past) → OnOk result (loads.new.items ≡ loads_of (event.now ∷ past)) }
 {
@@ -22,9 +40,12 @@ pub(crate) fn hear_load(loads: &mut Vec<Load>, lines: &BTreeMap<u32, LineTally>,
                 event: number,
                 port,
                 addr,
-                stores: lines.get(&addr).map_or(0, |tally| tally.stores),
+                stores: stores_to(lines, addr),
             };
-            loads.push(load).map_err(|_| NoMemory)
+            match loads.push(load) {
+                Ok(()) => Ok(()),
+                Err(_) => Err(NoMemory),
+            }
         }
         _ => Ok(()),
     }

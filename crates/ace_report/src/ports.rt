@@ -67,8 +67,9 @@ pub(crate) fn count(ports: &mut [PortTally], event: &Event)
     ensures ports { (past : Trace) → length past < 2 ^ 64 - 2 → PortsStand past ports.old → PortsStand (event.now ∷ past) ports.new }
 {
     if let Some(port) = counted_port(event) {
-        if let Some(tally) = ports.get_mut(usize::from(port)) {
-            *tally = counted(*tally, event);
+        let place = usize::from(port);
+        if place < ports.len() {
+            ports[place] = counted(ports[place], event);
         }
     }
 }

@@ -56,9 +56,13 @@ fn put_ports<K: Sink>(sink: &mut K, page: &mut TextBuf, ports: &[PortTally]) -> 
 }
 
 /// Puts the line of each line of memory.
-fn put_lines<K: Sink>(sink: &mut K, page: &mut TextBuf, lines: Iter<'_, u32, LineTally>) -> Result<(), Failed>
-    ensures whole { OnOk result (Puts (K.held sink.old) page.old (flat_map line_line lines) (K.held sink.new) page.new []) }
-    ensures part { OnErr result (PutsPart (K.held sink.old) page.old (flat_map line_line lines) (K.held sink.new)) }
+fn put_lines<K: Sink>(
+    sink: &mut K,
+    page: &mut TextBuf,
+    lines: Iter<'_, u32, LineTally>,
+) -> Result<(), Failed>
+    ensures whole { OnOk result (Puts (K.held sink.old) page.old (flat_map line_line lines.entry) (K.held sink.new) page.new []) }
+    ensures part { OnErr result (PutsPart (K.held sink.old) page.old (flat_map line_line lines.entry) (K.held sink.new)) }
     ensures cause { HasCause (K.faults sink.old) (K.faults sink.new) result }
 {
     for (line, tally) in lines {
@@ -86,11 +90,16 @@ fn put_loads<K: Sink>(sink: &mut K, page: &mut TextBuf, loads: &[Load]) -> Resul
 }
 
 /// Puts the lines of the ports, of the lines of memory and of the loads, and gives all that stands on the page, which is empty at first.
-pub(crate) fn put_all<K: Sink>(sink: &mut K, ports: &[PortTally], lines: Iter<'_, u32, LineTally>, loads: &[Load]) -> Result<(), Failed>
+pub(crate) fn put_all<K: Sink>(
+    sink: &mut K,
+    ports: &[PortTally],
+    lines: Iter<'_, u32, LineTally>,
+    loads: &[Load],
+) -> Result<(), Failed>
     ensures whole { OnOk result (Appends (K.held sink.old) (K.held sink.new)
-        (ports_text 0 ports.now ++ flat_map line_line lines ++ flat_map load_line loads.now)) }
+        (ports_text 0 ports.now ++ (flat_map line_line lines.entry ++ flat_map load_line loads.now))) }
     ensures part { OnErr result (AppendsPart (K.held sink.old) (K.held sink.new)
-        (ports_text 0 ports.now ++ flat_map line_line lines ++ flat_map load_line loads.now)) }
+        (ports_text 0 ports.now ++ (flat_map line_line lines.entry ++ flat_map load_line loads.now))) }
     ensures cause { HasCause (K.faults sink.old) (K.faults sink.new) result }
 {
     let mut page = TextBuf::empty();

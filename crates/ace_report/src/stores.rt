@@ -33,10 +33,7 @@ fn discards_data(x: &Transaction) -> bool
     ensures { result ≡ discards_data x.now }
 {
     match x.chan {
-        Channel::Read => matches!(
-            read_ar(x.snoop, x.dom, x.bar),
-            Some(ArKind::MakeInvalid)
-        ),
+        Channel::Read => matches!(read_ar(x.snoop, x.dom, x.bar), Some(ArKind::MakeInvalid)),
         Channel::Write => false,
     }
 }

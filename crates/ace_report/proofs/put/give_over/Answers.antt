@@ -1,4 +1,4 @@
-use Rattle.std.proofs.Common.{rules, arith}
+use Rattle.std.proofs.Common.{rules}
 use Rattle.ace_report.proofs.Puts.{page_given, page_cut}
 use Rattle.ace_report.proofs.put.give_over.Goals as goal
 

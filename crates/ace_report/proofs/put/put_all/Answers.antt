@@ -1,6 +1,3 @@
-use Rattle.std.proofs.Common.{◌++◌}
-use Rattle.std.specs.List.{flat_map}
-use Rattle.ace_report.specs.Lines.{ports_text, line_line, load_line}
 use Rattle.ace_report.proofs.Puts.{puts_first, puts_next, puts_last, part_first, part_next, part_last, part_put, whole_given, part_given}
 use Rattle.ace_report.proofs.put.put_all.Goals as goal
 

@@ -1,10 +1,6 @@
-use Rattle.std.proofs.Common.{rules, arith, refl, ap, sym, subst, ◌∙◌}
+use Rattle.std.proofs.Common.{rules, refl, ap, ◌∙◌}
 use Rattle.std.proofs.lemmas.List.{drop_more, drop_all}
-use Rattle.std.proofs.lemmas.Map.Iter.{rest_more, rest_all}
-use Rattle.std.specs.Map.Iter.{deref_pair}
-use Rattle.std.specs.List.{flat_map}
 use Rattle.ace_report.specs.Lines.{ports_text}
-use Rattle.ace_report.specs.Put.{Puts}
 use Rattle.ace_report.proofs.Puts.{none_put, line_next, none_left, no_room, cause_kept, no_cause}
 use Rattle.ace_report.proofs.put.put_ports.Goals as goal
 

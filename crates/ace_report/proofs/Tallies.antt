@@ -1,0 +1,135 @@
+-- The tallies of the lines, and the loads, with one more event.
+use Rattle.std.proofs.Common.{◌≡◌, ◌<◌, ◌-◌, ◌^◌, ℕ, Bool, true, false, ◌||◌, nat_eq, if◌then◌else◌, List, [], ◌∷◌, length, Option, Some, None, option_map, unwrap_or, refl, sym, ap, ◌∙◌, arith, length-append, inl, inr, Result, Ok, Err, OnOk}
+use Rattle.std.proofs.lemmas.Bool.{cases_Bool, and_parts, eqb-true}
+use Rattle.std.specs.BTreeMap.{BTreeMap, get}
+use Rattle.std.specs.Ordering.{nat_cmp}
+use Rattle.ace_event.specs.declared.event.Event.{Event}
+use Rattle.ace_event.specs.declared.event.Event.TheVariants.{Ar, Aw}
+use Rattle.ace_event.specs.declared.event.Channel.TheVariants.{Read, Write}
+use Rattle.ace_event.specs.declared.header.Header.{Header}
+use Rattle.ace_event.specs.declared.line.Line.{Line}
+use Rattle.ace_model.specs.declared.transactions.Transaction.{Transaction}
+use Rattle.ace_model.specs.Trace.{Trace, is_some_and, more}
+use Rattle.ace_model.specs.Accepted.{IsAccepted}
+use Rattle.ace_model.specs.Lines.{is_known}
+use Rattle.ace_model.specs.Transactions.{is_line, is_on}
+use Rattle.ace_model.specs.Values.{Store, store_at, stores_of, value_of, after_store}
+use Rattle.ace_model.proofs.Report.Untouched.{untouched, opened_unknown, stores_of-count}
+use Rattle.ace_portck.specs.declared.target.Target.{Target}
+use Rattle.ace_portck.specs.declared.target.WriteData.{WriteData}
+use Rattle.ace_report.specs.declared.tally.LineTally.{LineTally}
+use Rattle.ace_report.specs.Heard.{LinesStand, line_tally, bytes_of, bytes_to, stored}
+use Rattle.ace_report.specs.Next.{IsNext}
+
+-- an AR or AW
+abbrev pub is_address : Event → Bool
+is_address (Ar p i addr snoop dom bar lock) = true
+is_address (Aw p i addr snoop dom bar) = true
+is_address _ = false
+
+-- the tally of a line after the naming of a line
+abbrev pub Named : Option ℕ → Line → BTreeMap ℕ LineTally → BTreeMap ℕ LineTally → Type 0
+Named line before old new =
+    (l : ℕ) → get nat_cmp new l ≡ (if is_some_and line (λ m. nat_eq m l) then Some (unwrap_or (get nat_cmp old l) (record { stores = 0; value = before })) else get nat_cmp old l)
+
+-- after a store, if there is one
+abbrev pub Added : Option ℕ → Option WriteData → BTreeMap ℕ LineTally → BTreeMap ℕ LineTally → Type 0
+Added line bytes old new = (l : ℕ) → get nat_cmp new l ≡ option_map (stored (bytes_to line bytes l)) (get nat_cmp old l)
+
+tested : (x : Transaction) (l : ℕ) → is_some_and (if is_line x then Some x.addr else None) (λ m. nat_eq m l) ≡ is_on x l
+tested x l =
+    elim (cases_Bool (is_line x)) [
+      | inl t ↦ rw t refl
+      | inr f ↦ rw f refl
+    ]
+
+on_line : (x : Transaction) (l : ℕ) → is_on x l ≡ true → (if is_line x then Some x.addr else None) ≡ Some l
+on_line x l on =
+    let parts = and_parts (is_line x) (nat_eq x.addr l) on in
+    rw parts.0 (ap (λ n. Some n) (eqb-true x.addr l parts.1))
+
+-- the tally of a line that is named
+first_tally : (h : Header) (past : Trace) → IsAccepted h past → (l : ℕ) (before : Line) (o : Option LineTally)
+    → o ≡ (if is_known past l then Some (line_tally past l) else None) → (value_before : is_known past l ≡ false → before ≡ value_of past l)
+    → unwrap_or o (record { stores = 0; value = before }) ≡ line_tally past l
+first_tally h past a l before o is value =
+    elim (cases_Bool (is_known past l)) [
+      | inl t ↦ rw (is, t) refl
+      | inr f ↦
+          let u = untouched h past a l f in
+          rw (is, f, u.stores, value f) refl
+    ]
+
+named_stand : (h : Header) (past : Trace) → IsAccepted h past → (x : Transaction) (t : Target) (before : Line) (old new : BTreeMap ℕ LineTally)
+    → t.line ≡ (if is_line x then Some x.addr else None) → ((l : ℕ) → t.line ≡ Some l → is_known past l ≡ false → before ≡ value_of past l)
+    → LinesStand past old → Named t.line before old new
+    → (l : ℕ) → get nat_cmp new l ≡ (if is_on x l || is_known past l then Some (line_tally past l) else None)
+named_stand h past a x t before old new line value stands named l =
+    let test : is_some_and t.line (λ m. nat_eq m l) ≡ is_on x l = ap (λ o. is_some_and o (λ m. nat_eq m l)) line ∙ tested x l in
+    elim (cases_Bool (is_on x l)) [
+      | inr f ↦ named l ∙ rw (test, f) (stands l)
+      | inl on ↦
+          named l ∙ rw (test, on) (ap (λ v. Some v) (first_tally h past a l before (get nat_cmp old l) (stands l) (value l (line ∙ on_line x l on))))
+    ]
+
+-- after an AR or AW
+pub heard_named : (h : Header) (past : Trace) (e : Event) (t : Target) (before : Line) (old new : BTreeMap ℕ LineTally) → is_address e ≡ true
+    → LinesStand past old → IsNext h past e t before → Named t.line before old new → LinesStand (e ∷ past) new
+heard_named h past (Ar p i addr snoop dom bar lock) t before old new is stands n named l =
+    named_stand h past n.accepted.0 (record { place = length past; port = p; chan = Read; id = i; addr = addr; snoop = snoop; dom = dom; bar = bar; lock = lock }) t before old new (ap (λ (v : Target). v.line) n.target)
+    (λ m line unknown. n.memory m line ∙ sym (untouched h past n.accepted.0 m unknown).value) stands named l
+heard_named h past (Aw p i addr snoop dom bar) t before old new is stands n named l =
+    named_stand h past n.accepted.0 (record { place = length past; port = p; chan = Write; id = i; addr = addr; snoop = snoop; dom = dom; bar = bar; lock = false }) t before old new (ap (λ (v : Target). v.line) n.target)
+    (λ m line unknown. n.memory m line ∙ sym (untouched h past n.accepted.0 m unknown).value) stands named l
+heard_named h past e t before old new is stands n named l = cc
+
+tally_step : (o : Option Store) (xs : List Store) (v : Line) → length xs < 2 ^ 64 - 1
+    → stored (option_map bytes_of o) (record { stores = length xs; value = v }) ≡ record { stores = length (more xs o); value = after_store v o }
+tally_step None xs v few = refl
+tally_step (Some s) xs v few =
+    let e = length-append xs (s ∷ []) in
+    ap (λ n. record { stores = n; value = after_store v (Some s) }) (omega (arith, e, few))
+
+stored_stand : (h : Header) (past : Trace) (e : Event) (t : Target) (bytes : Option WriteData) (old new : BTreeMap ℕ LineTally) → IsAccepted h (e ∷ past)
+    → length past < 2 ^ 64 - 1 → ((l : ℕ) → bytes_to t.line bytes l ≡ option_map bytes_of (store_at past e l)) → LinesStand past old → Added t.line bytes old new
+    → (l : ℕ) → get nat_cmp new l ≡ (if is_known past l then Some (line_tally (e ∷ past) l) else None)
+stored_stand h past e t bytes old new a few is stands added l =
+    elim (cases_Bool (is_known past l)) [
+      | inr f ↦ added l ∙ rw (stands l, f) refl
+      | inl k ↦
+          let count = stores_of-count past l in
+          let step = tally_step (store_at past e l) (stores_of past l) (value_of past l) (omega (arith, count, few)) in
+          let now : line_tally (e ∷ past) l ≡ record { stores = length (more (stores_of past l) (store_at past e l)); value = after_store (value_of past l) (store_at past e l) } =
+          ap (λ o. record { stores = length (more (stores_of past l) (store_at past e l)); value = after_store (unwrap_or o (value_of past l)) (store_at past e l) }) (opened_unknown h past e a l k) in
+          added l ∙ rw (stands l, k, is l) (ap (λ v. Some v) (step ∙ sym now))
+    ]
+
+-- after another event
+pub heard_stored : (h : Header) (past : Trace) (e : Event) (t : Target) (before : Line) (bytes : Option WriteData) (old new : BTreeMap ℕ LineTally) → is_address e ≡ false
+    → LinesStand past old → IsNext h past e t before → ((l : ℕ) → bytes_to t.line bytes l ≡ option_map bytes_of (store_at past e l)) → Added t.line bytes old new
+    → LinesStand (e ∷ past) new
+heard_stored h past (Ar p i addr snoop dom bar lock) t before bytes old new is stands n store added l = cc
+heard_stored h past (Aw p i addr snoop dom bar) t before bytes old new is stands n store added l = cc
+heard_stored h past e t before bytes old new is stands n store added l =
+    stored_stand h past e t bytes old new n.accepted (let few = n.few in omega (arith, few)) store stands added l
+
+-- the stores before a load, by the tally of its line
+pub stores_before : (h : Header) (past : Trace) → IsAccepted h past → (l : ℕ) (o : Option LineTally) → o ≡ (if is_known past l then Some (line_tally past l) else None)
+    → unwrap_or (option_map (λ (t : LineTally). t.stores) o) 0 ≡ length (stores_of past l)
+stores_before h past a l o is =
+    elim (cases_Bool (is_known past l)) [
+      | inl t ↦ rw (is, t) refl
+      | inr f ↦ rw (is, f, (untouched h past a l f).stores) refl
+    ]
+
+-- an event that is neither an AR nor an AW
+pub not_address : (e : Event) → ((p i addr snoop dom bar : ℕ) (lock : Bool) → e ≡ Ar p i addr snoop dom bar lock → ⊥)
+    → ((p i addr snoop dom bar : ℕ) → e ≡ Aw p i addr snoop dom bar → ⊥) → is_address e ≡ false
+not_address (Ar p i addr snoop dom bar lock) reads writes = absurd (reads p i addr snoop dom bar lock refl)
+not_address (Aw p i addr snoop dom bar) reads writes = absurd (writes p i addr snoop dom bar refl)
+not_address e reads writes = refl
+
+-- what follows where a call succeeds
+pub on_ok : {T E A B : Type 0} (r : Result T E) → (A → B) → OnOk r A → OnOk r B
+on_ok (Ok x) f a = f a
+on_ok (Err e) f a = tt
