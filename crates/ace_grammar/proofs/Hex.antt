@@ -170,7 +170,7 @@ one_digit : (digit : ℕ) → digit < 16 → list_all is_digit (digit_char digit
 one_digit digit h = and_from (is_digit (digit_char digit)) true (ap is_some (digit_again digit h)) refl
 
 -- the number that digits make behind another one is less than one more of that one makes with zeros
-onto_below : (bytes : List ℕ) (number total : ℕ) → digits_onto number bytes ≡ Some total → total < (number + 1) * 16 ^ length bytes
+pub onto_below : (bytes : List ℕ) (number total : ℕ) → digits_onto number bytes ≡ Some total → total < (number + 1) * 16 ^ length bytes
 unfolding digits_onto
 onto_below [] number total e =
     let same : number ≡ total = some_is number total e in
