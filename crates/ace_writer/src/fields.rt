@@ -7,6 +7,7 @@ ghost use Rattle.ace_event.specs.Range.{IsPort};
 use crate::text_buf::TextBuf;
 use ace_codes::LineState;
 use ace_event::{Channel, Line, Outcome};
+use std::simd::prelude::*;
 
 /// The lower-case hexadecimal digit of a number.
 pub(crate) fn digit(n: u8) -> u8
@@ -16,24 +17,49 @@ pub(crate) fn digit(n: u8) -> u8
     if n < 10 { b'0' + n } else { b'a' + (n - 10) }
 }
 
+/// The 16 digits of a number.
+#[inline(always)]
+fn hex_16(n: u64) -> [u8; 16]
+    ensures { result ≡ hex_text 16 n }
+{
+    let bytes = u8x8::from_array(n.to_be_bytes());
+    let high = bytes >> u8x8::splat(4);
+    let low = bytes & u8x8::splat(15);
+    let values: u8x16 = high.shuffle(low, [0, 8, 1, 9, 2, 10, 3, 11, 4, 12, 5, 13, 6, 14, 7, 15]);
+    let above_zero = values
+        .simd_lt(u8x16::splat(10))
+        .select(u8x16::splat(b'0'), u8x16::splat(b'a' - 10));
+    (values + above_zero).to_array()
+}
+
 impl TextBuf {
     /// So many digits of the number, the most significant first.
-    pub(crate) fn push_digits(&mut self, count: u32, n: u128)
-        requires count { count ≤ 32 }
+    #[inline(always)]
+    pub(crate) fn push_digits(&mut self, count: usize, n: u64)
+        requires count { count ≤ 16 }
         requires room { length self.old + count ≤ 4096 }
         ensures value { self.new ≡ self.old ++ hex_text count n }
         ensures len { length self.new ≡ length self.old + count }
     {
-        let mut left = count;
-        while left > 0 {
-            left -= 1;
-            self.push(digit((n >> (4 * left) & 0xf) as u8));
-        }
+        let digits = hex_16(n);
+        self.append(&digits[16 - count..]);
+    }
+
+    /// The 32 digits of a number.
+    #[inline(always)]
+    pub(crate) fn push_word_digits(&mut self, n: u128)
+        requires room { length self.old + 32 ≤ 4096 }
+        ensures value { self.new ≡ self.old ++ hex_text 32 n }
+        ensures len { length self.new ≡ length self.old + 32 }
+    {
+        self.append(&hex_16((n >> 64) as u64));
+        self.append(&hex_16((n & 0xffff_ffff_ffff_ffff) as u64));
     }
 
     /// A space and so many digits of a number.
-    pub(crate) fn push_number(&mut self, count: u32, n: u128)
-        requires count { count ≤ 32 }
+    #[inline(always)]
+    pub(crate) fn push_number(&mut self, count: usize, n: u64)
+        requires count { count ≤ 16 }
         requires room { length self.old + 1 + count ≤ 4096 }
         ensures value { self.new ≡ self.old ++ 32 ∷ hex_text count n }
         ensures len { length self.new ≡ length self.old + 1 + count }
@@ -42,8 +68,20 @@ impl TextBuf {
         self.push_digits(count, n);
     }
 
+    /// A space and the 32 digits of a number.
+    #[inline(always)]
+    pub(crate) fn push_word(&mut self, n: u128)
+        requires room { length self.old + 33 ≤ 4096 }
+        ensures value { self.new ≡ self.old ++ 32 ∷ hex_text 32 n }
+        ensures len { length self.new ≡ length self.old + 33 }
+    {
+        self.push(b' ');
+        self.push_word_digits(n);
+    }
+
     /// A space and a number of one digit.
     #[tactic(auto, using(crate::proofs::Digits::one_digit))]
+    #[inline(always)]
     pub(crate) fn push_digit(&mut self, n: u8)
         requires digit { n < 16 }
         requires room { length self.old + 2 ≤ 4096 }
@@ -55,6 +93,7 @@ impl TextBuf {
     }
 
     /// A space and a port, in a trace of the version.
+    #[inline(always)]
     pub(crate) fn push_port(&mut self, version: u8, port: u8)
         requires port { IsPort version port }
         requires room { length self.old + 3 ≤ 4096 }
@@ -64,11 +103,12 @@ impl TextBuf {
         if version == 1 {
             self.push_digit(port);
         } else {
-            self.push_number(2, u128::from(port));
+            self.push_number(2, u64::from(port));
         }
     }
 
     /// A space and `0` or `1`.
+    #[inline(always)]
     pub(crate) fn push_flag(&mut self, flag: bool)
         requires room { length self.old + 2 ≤ 4096 }
         ensures value { self.new ≡ self.old ++ 32 ∷ flag_text flag }
@@ -78,6 +118,7 @@ impl TextBuf {
     }
 
     /// A space and the name of a state.
+    #[inline(always)]
     pub(crate) fn push_state(&mut self, state: LineState)
         requires room { length self.old + 3 ≤ 4096 }
         ensures value { self.new ≡ self.old ++ 32 ∷ state_text state }
@@ -94,6 +135,7 @@ impl TextBuf {
     }
 
     /// A space and the letter of a channel.
+    #[inline(always)]
     pub(crate) fn push_channel(&mut self, channel: Channel)
         requires room { length self.old + 2 ≤ 4096 }
         ensures value { self.new ≡ self.old ++ 32 ∷ channel_text channel }
@@ -127,7 +169,7 @@ impl TextBuf {
     {
         self.push(b' ');
         for word in &line.words {
-            self.push_digits(32, *word);
+            self.push_word_digits(*word);
         }
     }
 }
