@@ -1,10 +1,12 @@
 // Fields, from the front of a line. Each comes with the space before it.
-ghost use Rattle.std.specs.Prelude.{◌≡◌, ◌≤◌, ◌^◌, ◌<◌, ◌-◌, nat_lt, if◌then◌else◌, Some, None, length, IfSome};
+ghost use Rattle.std.specs.Prelude.{◌≡◌, ◌≤◌, ◌^◌, ◌<◌, ◌-◌, length, IfSome, IsTrue};
 ghost use Rattle.std.specs.Option.{option_map};
+ghost use Rattle.ace_grammar.specs.Lanes.{HaveEntries, IsEntry, are_entries, entries_onto};
 ghost use Rattle.ace_grammar.specs.Fields.{digit_of, digits_onto, space_at, digits_at, number_at, port_at, flag_at, letter_at, channel_at, state_of, state_at, outcome_of, outcome_at, line_at, ended};
 
 use ace_codes::LineState;
 use ace_event::{Channel, Line, Outcome};
+use std::simd::prelude::*;
 
 /// The value of a lower-case hexadecimal digit.
 #[inline(always)]
@@ -40,7 +42,7 @@ static DIGITS: [u8; 256] = [
 /// The value of a digit, or 255.
 #[inline(always)]
 fn look_up(byte: u8) -> u8
-    ensures { digit_of byte ≡ if nat_lt result 16 then Some result else None }
+    ensures { IsEntry byte result }
 {
     DIGITS[byte as usize]
 }
@@ -59,6 +61,57 @@ pub fn number_of(digits: &[u8]) -> Option<u64>
         number = number.wrapping_mul(16).wrapping_add(u64::from(digit));
     }
     (seen < 16).then_some(number)
+}
+
+/// The value of each of 16 digits, and for each byte that is none a number that is not below 16.
+#[inline(always)]
+fn entries_of(digits: &[u8]) -> u8x16
+    requires { length digits.now ≡ 16 }
+    ensures { HaveEntries digits.now result }
+{
+    let bytes = u8x16::from_slice(digits);
+    let decimal = bytes - u8x16::splat(b'0');
+    let letter = bytes - u8x16::splat(b'a');
+    let other = letter
+        .simd_lt(u8x16::splat(6))
+        .select(letter + u8x16::splat(10), u8x16::splat(255));
+    decimal.simd_lt(u8x16::splat(10)).select(decimal, other)
+}
+
+/// Whether all of them are digits.
+#[inline(always)]
+fn are_entries(entries: u8x16) -> bool
+    requires { length entries ≡ 16 }
+    ensures { result ≡ are_entries entries }
+{
+    entries.simd_ge(u8x16::splat(16)).to_bitmask() == 0
+}
+
+/// The number of 16 digits.
+#[inline(always)]
+fn pack(entries: u8x16) -> u64
+    requires len { length entries ≡ 16 }
+    requires digits { IsTrue (are_entries entries) }
+    ensures { result ≡ entries_onto 0 entries }
+{
+    let high: u8x8 = entries.swizzle([0, 2, 4, 6, 8, 10, 12, 14]);
+    let low: u8x8 = entries.swizzle([1, 3, 5, 7, 9, 11, 13, 15]);
+    let pairs = high * u8x8::splat(16) + low;
+    u64::from_be_bytes(pairs.to_array())
+}
+
+/// The number that 16 digits write.
+#[inline(always)]
+fn number_of_16(digits: &[u8]) -> Option<u64>
+    requires { length digits.now ≡ 16 }
+    ensures { result ≡ digits_onto 0 digits.now }
+{
+    let entries = entries_of(digits);
+    if are_entries(entries) {
+        Some(pack(entries))
+    } else {
+        None
+    }
 }
 
 #[tactic(auto, unfolding(crate::specs::Fields::space_at))]
@@ -125,7 +178,7 @@ fn take_half(bytes: &[u8]) -> Option<(u64, &[u8])>
         return None;
     }
     let (digits, rest) = bytes.split_at(16);
-    let number = number_of(digits)?;
+    let number = number_of_16(digits)?;
     Some((number, rest))
 }
 
