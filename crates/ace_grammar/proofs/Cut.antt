@@ -39,7 +39,7 @@ pub not_empty : (line x : List ℕ) → (line ++ 10 ∷ []) ++ x ≢ []
 not_empty [] x e = absurd cc
 not_empty (c ∷ line) x e = absurd cc
 
-some_left : (line x : List ℕ) → 0 < length line → line ++ x ≢ []
+pub some_left : (line x : List ℕ) → 0 < length line → line ++ x ≢ []
 some_left [] x h e = omega arith
 some_left (c ∷ line) x h e = absurd cc
 

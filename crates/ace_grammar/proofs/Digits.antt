@@ -8,6 +8,12 @@ use Rattle.std.specs.Option.{option_and_then}
 use Rattle.std.proofs.Math.Nat.{pow-le-pow_right, pow-suc}
 use Rattle.ace_grammar.specs.Fields.{digit_of, digits_onto}
 
+-- a number of fewer than 32 digits has room for one more
+pub digit_fits : (number count : ℕ) → number < 16 ^ count → count < 32 → number < 16 ^ 31
+digit_fits number count below h =
+    let le : 16 ^ count ≤ 16 ^ 31 = pow-le-pow_right {n = 16} (omega arith) {i = count} {j = 31} (omega arith) in
+    omega arith
+
 pub one_more_digit : (number count digit : ℕ) → number < 16 ^ count → digit < 16 → number * 16 + digit < 16 ^ (count + 1)
 one_more_digit number count digit below h = rw (add-one, pow-suc) (omega arith)
 

@@ -55,7 +55,7 @@ first_of count is bytes =
       | inr none ↦ inr (λ line first. none line (clean_line line first.0, omega (arith, first.1, is), first.2))
     ]
 
-first_line : (bytes : List ℕ) → ((line : List ℕ) × IsFirstLine line bytes) ⊎ HasNoLine bytes
+pub first_line : (bytes : List ℕ) → ((line : List ℕ) × IsFirstLine line bytes) ⊎ HasNoLine bytes
 first_line bytes = first_of 256 refl bytes
 
 -- ---- events
@@ -152,7 +152,7 @@ letters_or_not most letters =
           ]
     ]
 
-ports_or_not : (version : ℕ) (line : List ℕ) → IsVersion version → IsPortsLine version line ⊎ (IsPortsLine version line → ⊥)
+pub ports_or_not : (version : ℕ) (line : List ℕ) → IsVersion version → IsPortsLine version line ⊎ (IsPortsLine version line → ⊥)
 ports_or_not version line is =
     let letters = drop 6 line in
     let whole = take-append-drop 6 line in

@@ -72,7 +72,7 @@ letters-clean ace (p ∷ places) = ((letter_of_bit (eqb (bit_at ace p) 1)).1, le
 pub letters-length : (header : Header) → length (port_letters header) ≡ header.ports
 letters-length header = length-map-range_with_len (port_letter header.ace) 0 header.ports
 
-readable_are_letters : (header : Header) → IsReadableHeader header → ArePortLetters (most_letters header.version) (port_letters header)
+pub readable_are_letters : (header : Header) → IsReadableHeader header → ArePortLetters (most_letters header.version) (port_letters header)
 readable_are_letters header h =
     (omega (arith, h.some_port, letters-length header), h.most_ace, h.most_lite, all_known header.ace (range_with_len 0 header.ports))
 

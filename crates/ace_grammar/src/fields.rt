@@ -21,6 +21,19 @@ pub fn digit_of(byte: u8) -> Option<u8>
     (digit < 16).then_some(digit)
 }
 
+/// The number that these digits write, of which there are at most 32.
+#[inline(always)]
+pub fn number_of(digits: &[u8]) -> Option<u128>
+    requires { length digits.now ≤ 32 }
+    ensures { result ≡ digits_onto 0 digits.now }
+{
+    let mut number = 0;
+    for byte in digits {
+        number = number * 16 + u128::from(digit_of(*byte)?);
+    }
+    Some(number)
+}
+
 /// The value of each digit, and 255 for each byte that is none.
 static DIGITS: [u8; 256] = [
     255, 255, 255, 255, 255, 255, 255, 255, 255, 255, 255, 255, 255, 255, 255, 255, 255, 255, 255,
@@ -49,7 +62,7 @@ fn look_up(byte: u8) -> u8
 
 /// The number that these digits write, of which there are at most 16.
 #[inline(always)]
-pub fn number_of(digits: &[u8]) -> Option<u64>
+fn short_number_of(digits: &[u8]) -> Option<u64>
     requires { length digits.now ≤ 16 }
     ensures { result ≡ digits_onto 0 digits.now }
 {
@@ -136,7 +149,7 @@ fn take_digits(bytes: &[u8], count: usize, most: u64) -> Option<(u64, &[u8])>
         return None;
     }
     let (digits, rest) = bytes.split_at(count);
-    let number = number_of(digits)?;
+    let number = short_number_of(digits)?;
     if number > most {
         return None;
     }

@@ -40,8 +40,8 @@ fn digits_reason(field: &[u8], count: usize) -> Option<Reason>
     }
 }
 
-fn limited_reason(field: &[u8], count: usize, most: u64) -> Option<Reason>
-    requires { count ≤ 16 }
+fn limited_reason(field: &[u8], count: usize, most: u128) -> Option<Reason>
+    requires { count ≤ 32 }
     ensures { result ≡ limited_reason count most field.now }
 {
     if field.len() != count {
@@ -73,7 +73,7 @@ fn field_reason(shape: Shape, field: &[u8], version: u8) -> Option<Reason>
     match shape {
         Shape::Port => digits_reason(field, port_digits(version)),
         Shape::Digits { count } => digits_reason(field, count),
-        Shape::AtMost { most } => limited_reason(field, 1, u64::from(most)),
+        Shape::AtMost { most } => limited_reason(field, 1, u128::from(most)),
         Shape::SnoopResponse => limited_reason(field, 2, 0x1f),
         Shape::ChannelWord => word_reason(field == b"R".as_slice() || field == b"W".as_slice()),
         Shape::StateWord => word_reason(state_of(field).is_some()),
@@ -89,8 +89,8 @@ fn find_space(bytes: &[u8]) -> Option<usize>
     bytes.iter().position(|byte| *byte == b' ')
 }
 
-/// The first field, and what is behind its space.
-fn cut_field(bytes: &[u8]) -> (&[u8], Option<&[u8]>)
+/// The first field of what is left of a line, and what is behind its space, if it has one.
+pub fn cut_field(bytes: &[u8]) -> (&[u8], Option<&[u8]>)
     ensures { slice_split (λ byte. byte == 32) bytes.now ≡ result.0.now ∷ parts (option_map (λ rest. rest.now) result.1) }
 {
     match find_space(bytes) {

@@ -21,7 +21,7 @@ const FIRST_EVENT_LINE: u64 = 3;
 
 /// Takes the next line with its line feed, and says whether there is one.
 #[tactic(auto, using(crate::proofs::Taken::cut_front))]
-fn take_line<S: Source>(lines: &mut LineReader<S>, line: &mut LineBuf) -> Result<bool, Failed>
+pub fn take_line<S: Source>(lines: &mut LineReader<S>, line: &mut LineBuf) -> Result<bool, Failed>
     ensures same_source { (source_of lines.new).ghost_name ≡ (source_of lines.old).ghost_name }
     ensures no_lf { HasNoLf line.new }
     ensures taken { IfOk result (λ whole. IsTrue whole →

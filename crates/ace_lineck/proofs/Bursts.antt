@@ -94,9 +94,9 @@ unfinished h (e ∷ past) a p n l s there on short =
               let one : Cr q resp st ≡ Cr p resp st = ap (λ v. Cr v resp st) (sym port) in
               subst (λ d. Unfinished h (d ∷ past) p n l) (sym one)
               (record {
-                  answer = record { place = length past; resp = resp; bursts = data_answers past p };
-                  owing = owing_new h past p resp st (subst (λ d. IsAccepted h (d ∷ past)) one a) l line parts.1;
-                  bursts = sym (data_count h past a.0 p) ∙ sym at;
+                answer = record { place = length past; resp = resp; bursts = data_answers past p };
+                owing = owing_new h past p resp st (subst (λ d. IsAccepted h (d ∷ past)) one a) l line parts.1;
+                bursts = sym (data_count h past a.0 p) ∙ sym at;
               })
         ]
     by d a is at = cc

@@ -58,10 +58,10 @@ module _ (h : Header) (past : Trace) (l : ℕ) (t : Target) (g : Grant) (xs : Li
   pub answer_heard : (q resp : ℕ) (st : LineState) → IsGrantStep h past l (Cr q resp st) t (Some g) xs memory → (stages : List Stage) (copy : Line)
       → IsMoved g.stages stages q (if transfers_data resp then Sending else Done) → copy ≡ (holder_at xs q).copy
       → GrantFits h (Cr q resp st ∷ past) l (record g {
-          stages = stages;
-          shared = is_shared resp || g.shared;
-          passed = if passes_dirty resp then Some (record { port = q; line = copy }) else g.passed;
-          reply = if transfers_data resp then newer g.reply (Some copy) else g.reply;
+        stages = stages;
+        shared = is_shared resp || g.shared;
+        passed = if passes_dirty resp then Some (record { port = q; line = copy }) else g.passed;
+        reply = if transfers_data resp then newer g.reply (Some copy) else g.reply;
       })
   answer_heard q resp st s stages copy moved is =
       answer_step h past l g s.grant q resp st s.step.accepted (line-of_step h past l (Cr q resp st) t s.step) s.step.header.most_ports stages copy moved (is ∙ s.holders.copy q)

@@ -203,7 +203,7 @@ module _ (h : Header) (past : Trace) (l : ℕ) where
           now = written-now h past (M q c j line) a g.transaction.port g.transaction.chan g.transaction.id g.transaction (out a.0).0
 
           served : is_memory_write (M q c j line) g.transaction.port g.transaction.chan g.transaction.id ≡ own
-          served = elim (cases_Bool own) [ | inl t ↦ write_own t ∙ sym t | inr n ↦ write_other n ∙ sym n ]
+          served = elim (cases_Bool own) [ inl t ↦ write_own t ∙ sym t | inr n ↦ write_other n ∙ sym n ]
 
           swap : (b d : Bool) → (b || d) ≡ (d || b)
           swap true true = refl

@@ -34,7 +34,7 @@ use Rattle.ace_lineck.proofs.OnLine.{on-transaction, on-snoop}
 use Rattle.ace_lineck.proofs.GrantFrame.{passed_at, stage-same, fits-stays, stages-stay, passed-stays, fetched-stays, reply-stays}
 use Rattle.ace_lineck.proofs.Bursts.{sent_few, short-apart, beat_of, short-before, whole-now, short-now}
 
-otherwise_of : {A : Type 0} → (b : Bool) (t u : A) → b ≡ false → (if b then t else u) ≡ u
+pub otherwise_of : {A : Type 0} → (b : Bool) (t u : A) → b ≡ false → (if b then t else u) ≡ u
 otherwise_of true t u e = cc
 otherwise_of false t u e = refl
 
@@ -159,7 +159,7 @@ module _ (h : Header) (past : Trace) (l : ℕ) (g : Grant) (f : GrantFits h past
           | inl same ↦
               subst (λ v. (if (v == q) && nat_lt v 32 then Unanswered else stage_at g.stages v) ≡ stage_of (Ac q addr code ∷ past) v l) (sym same)
               (let none = (snoops h past a.0).first q l ac_unsnooped in
-               rw (eq-eqb q q (refl {a = q}), ac_low, ac_line.0, eq-eqb l addr (sym ac_line.1), none) refl)
+              rw (eq-eqb q q (refl {a = q}), ac_low, ac_line.0, eq-eqb l addr (sym ac_line.1), none) refl)
           | inr apart ↦
               let other = ne_eqb p q apart in
               let stage : stage_of (Ac q addr code ∷ past) p l ≡ stage_of past p l = stage-same (Ac q addr code ∷ past) past p l (rw other refl) refl (λ w is. refl) in
@@ -215,9 +215,9 @@ module _ (h : Header) (past : Trace) (l : ℕ) (g : Grant) (f : GrantFits h past
               | inl same ↦
                   subst (λ v. (if (v == q) && nat_lt v 32 then Done else stage_at g.stages v) ≡ stage_of (Cd q last word ∷ past) v l) (sym same)
                   (let b = beat_of h past q last word a l on in
-                   let is : answer_of (Cd q last word ∷ past) q l ≡ Some b.answer = b.is in
-                   let whole = whole-now h past q last word a l b.answer b.sends b.bursts fourth in
-                   moved_here q Done (stage_at g.stages q) cd_low ∙ sym (ap (stage_by (Cd q last word ∷ past) q (was_snooped past q l)) is ∙ ap (λ v. if v then Sending else Done) whole))
+                  let is : answer_of (Cd q last word ∷ past) q l ≡ Some b.answer = b.is in
+                  let whole = whole-now h past q last word a l b.answer b.sends b.bursts fourth in
+                  moved_here q Done (stage_at g.stages q) cd_low ∙ sym (ap (stage_by (Cd q last word ∷ past) q (was_snooped past q l)) is ∙ ap (λ v. if v then Sending else Done) whole))
             ]
 
     -- an earlier one
@@ -232,9 +232,9 @@ module _ (h : Header) (past : Trace) (l : ℕ) (g : Grant) (f : GrantFits h past
                   let b = beat_of h past q last word a l on in
                   subst (λ v. stage_of (Cd q last word ∷ past) v l ≡ stage_of past v l) (sym same)
                   (stage-same (Cd q last word ∷ past) past q l refl refl (λ w is.
-                      let one : b.answer ≡ w = Some-injective b.answer w (sym b.is ∙ is) in
-                      subst (λ v. is_short (Cd q last word ∷ past) q v ≡ is_short past q v) one
-                      (short-now h past q last word a l b.answer b.sends b.bursts earlier ∙ sym (short-before h past q last word a l b.answer b.sends b.bursts))))
+                  let one : b.answer ≡ w = Some-injective b.answer w (sym b.is ∙ is) in
+                  subst (λ v. is_short (Cd q last word ∷ past) q v ≡ is_short past q v) one
+                  (short-now h past q last word a l b.answer b.sends b.bursts earlier ∙ sym (short-before h past q last word a l b.answer b.sends b.bursts))))
             ]
 
   -- CR: the port answers
@@ -335,10 +335,10 @@ module _ (h : Header) (past : Trace) (l : ℕ) (g : Grant) (f : GrantFits h past
 
     pub answer_step : (stages : List Stage) (mine : Line) → IsMoved g.stages stages q (if transfers_data resp then Sending else Done) → mine ≡ copy_of past q l
         → GrantFits h (Cr q resp st ∷ past) l (record g {
-            stages = stages;
-            shared = is_shared resp || g.shared;
-            passed = if passes_dirty resp then Some (record { port = q; line = mine }) else g.passed;
-            reply = if transfers_data resp then newer g.reply (Some mine) else g.reply;
+          stages = stages;
+          shared = is_shared resp || g.shared;
+          passed = if passes_dirty resp then Some (record { port = q; line = mine }) else g.passed;
+          reply = if transfers_data resp then newer g.reply (Some mine) else g.reply;
         })
     answer_step stages mine moved copy =
         let e = Cr q resp st in

@@ -63,7 +63,6 @@ pub at-event : (h : Header) (past : Trace) (p l : ℕ) (t : Target) (w : Option 
     → (IsHolderStep h past p l f t w x → HolderStands h (f ∷ past) p l y) → IsHolderStep h past p l e t w x → HolderStands h (e ∷ past) p l y
 at-event h past p l t w x y e f is = subst (λ v. IsHolderStep h past p l v t w x → HolderStands h (v ∷ past) p l y) (sym is)
 
-
 -- of the holders, the port's own changes with its event
 slice_get-set_same : {A : Type 0} → (xs : List A) (i : ℕ) (v : A) → i < length xs → slice_get (slice_set xs i v) i ≡ Some v
 slice_get-set_same [] i v low = absurd (omega arith)
@@ -91,7 +90,7 @@ holders-hear h past l e t w xs p y s port low new = record { state = λ q. (at q
               let one : holder_at (slice_set xs p y) q ≡ holder_at xs q = ap (λ o. unwrap_or o empty_holder) (slice_get-set_other xs p q y other) in
               subst (HolderStands h (e ∷ past) q l) (sym one)
               (holder-stays h past e s.step.accepted q l (holder_at xs q) (λ is. absurd (other (Some-injective q p (sym is ∙ port))))
-                  (record { state = s.stand.state q; copy = s.stand.copy q; sent = s.stand.sent q }))
+              (record { state = s.stand.state q; copy = s.stand.copy q; sent = s.stand.sent q }))
         ]
 
 -- and what is kept of the port before it

@@ -9,3 +9,10 @@ pub mod GrantFrame
 pub mod GrantSteps
 pub mod GrantServes
 pub mod GrantHear
+pub mod GrantLaws
+pub mod KnownLines
+pub mod AllLines
+pub mod ReplyLaws
+pub mod WriteLaws
+pub mod Received
+pub mod Judging

@@ -101,7 +101,7 @@ module _ (h : Header) (past : Trace) where
             let parts = and_parts (nat_eq p q && nat_eq (length (words_read past p i)) 3) _ t in
             let port = (and_parts (nat_eq p q) _ parts.0).0 in
             absurd (n (same_port p q port) (received-on q i resp last word a l
-                (subst (λ v. is_some_and (transaction_of past v Read i) (λ x. is_on x l && is_line_read_transaction x) ≡ true) (eqb-true p q port) parts.1)))
+            (subst (λ v. is_some_and (transaction_of past v Read i) (λ x. is_on x l && is_line_read_transaction x) ≡ true) (eqb-true p q port) parts.1)))
       ]
   off-copy (D q addr strobe x line) a p l n =
       elim (cases_Bool (nat_eq p q && nat_eq l addr)) [

@@ -92,6 +92,7 @@ module _ (h : Header) (past : Trace) (a : IsAccepted h past) (p l : ℕ) where
     where
       found : some_issued past test ≡ true → (x : Transaction) × (own_of h past p l ≡ Some x) × (test x ≡ true)
       found t = let x = some_issued-is past test t in (x.0, own-found x.0 (owns x.0 x.1 (implied x.0 x.2)), x.2)
+
       by : (o : Option Transaction) → own_of h past p l ≡ o → some_issued past test ≡ is_some_and o own_test
       by None is = false_from_ne_true (some_issued past test) (λ t. let x = found t in let bad : None ≡ Some x.0 = sym is ∙ x.1 in cc)
       by (Some y) is =
@@ -119,7 +120,7 @@ make_unique-line : (k : ArKind) → is_make_unique k ≡ true → is_line_read k
 make_unique-line read.MakeUnique e = refl
 make_unique-line _ e = cc
 
-make_unique-on : (x : Transaction) (l : ℕ) → is_make_unique_on x l ≡ true → is_on x l ≡ true
+pub make_unique-on : (x : Transaction) (l : ℕ) → is_make_unique_on x l ≡ true → is_on x l ≡ true
 make_unique-on x l t =
     let b = and_parts (is_some_and (read_kind x) is_make_unique) (nat_eq x.addr l) t in
     let k = is_some_and-is (read_kind x) is_make_unique b.0 in
@@ -145,9 +146,9 @@ module _ (h : Header) (past : Trace) (a : IsAccepted h past) (p l : ℕ) where
   has_update-own =
       some-own h past a p l (is_update_on h past p l) updates_memory
       (λ x t.
-          let o = and_parts ((nat_eq x.port p && updates_memory x) && is_on x l) (is_outstanding h past x) t in
-          let n = and_parts (nat_eq x.port p && updates_memory x) (is_on x l) o.0 in
-          and_from _ _ (and_from _ _ (and_parts (nat_eq x.port p) (updates_memory x) n.0).0 n.1) o.1)
+      let o = and_parts ((nat_eq x.port p && updates_memory x) && is_on x l) (is_outstanding h past x) t in
+      let n = and_parts (nat_eq x.port p && updates_memory x) (is_on x l) o.0 in
+      and_from _ _ (and_from _ _ (and_parts (nat_eq x.port p) (updates_memory x) n.0).0 n.1) o.1)
       (λ x s. stripped_two (nat_eq x.port p) (is_on x l) (is_outstanding h past x) (updates_memory x) (eq-eqb x.port p s.port) s.on (is_out x s))
     where
       is_out : (x : Transaction) → Owns h past a p l x → is_outstanding h past x ≡ true

@@ -39,7 +39,7 @@ abbrev pub may_start_of : Transaction → LineState → Bool
 may_start_of y held = implies (is_line y) (is_none_or (read_kind y) (λ k. starts_read k held) && is_none_or (write_kind y) (λ k. starts_write k held))
 
 -- the line of an event that issues a transaction
-issue-line : (h : Header) (past : Trace) (e : Event) (y : Transaction) → issued (length past) e ≡ Some y → line_in h past e ≡ (if is_line y then Some y.addr else None)
+pub issue-line : (h : Header) (past : Trace) (e : Event) (y : Transaction) → issued (length past) e ≡ Some y → line_in h past e ≡ (if is_line y then Some y.addr else None)
 issue-line h past (Ar p i addr snoop dom bar lock) y new = ap (λ (v : Transaction). if is_line v then Some v.addr else None) (Some-injective _ y new)
 issue-line h past (Aw p i addr snoop dom bar) y new = ap (λ (v : Transaction). if is_line v then Some v.addr else None) (Some-injective _ y new)
 issue-line h past e y new = cc
@@ -219,6 +219,7 @@ module _ (h : Header) (past : Trace) (t : Target) (x : LineRecord) where
                 let copy : (holder_at x.holders.items p).copy ≡ copy_of past z.port z.addr = (stands (W p strb last word) s z.addr on).holders.copy p ∙ ap (λ v. copy_of past v z.addr) (sym port) in
                 rw copy refl
           ]
+
       by : (o : Option Transaction) → next_write past p ≡ o
           → is_none_or (option_map (progress_of h past) o) (λ y. implies (updates_memory y.transaction) (word == word_of (holder_at x.holders.items p).copy (next_write_beat past p)))
           ≡ is_none_or o (fits_copy past (next_write_beat past p) word)

@@ -68,7 +68,13 @@ GrantStands h past l (Some g) = GrantFits h past l g
 -- a grant under which nothing has come
 abbrev pub fresh_grant : Transaction → Grant
 fresh_grant x = record {
-  transaction = x; begun = false; written = false; stages = replicate 32 Unsnooped; shared = false; passed = None; reply = None;
+  transaction = x;
+  begun = false;
+  written = false;
+  stages = replicate 32 Unsnooped;
+  shared = false;
+  passed = None;
+  reply = None;
 }
 
 -- what an event belongs to is this transaction

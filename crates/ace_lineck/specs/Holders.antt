@@ -77,3 +77,8 @@ pub record IsHoldersStep (h : Header) (past : Trace) (l : ℕ) (e : Event) (t : 
   pub room : length xs ≡ h.ports
   pub whole : (p : ℕ) → port_of e ≡ Some p → line ≡ received past e p l
   pub stand : HoldersStand h past l xs
+
+-- so many ports, none of which has had anything of the line
+pub record HasNothing (ports : ℕ) (xs : List Holder) : Type 0 where
+  pub count : length xs ≡ ports
+  pub nothing : (p : ℕ) → holder_at xs p ≡ empty_holder

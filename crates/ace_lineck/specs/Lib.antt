@@ -2,3 +2,5 @@ pub mod Holders
 pub mod Uses
 pub mod Grants
 pub mod Records
+pub mod Kept
+pub mod Stands

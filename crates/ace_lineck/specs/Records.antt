@@ -1,15 +1,20 @@
 -- What is kept of a line says what there is to say of it after a trace.
-use Rattle.std.specs.Prelude.{ℕ, ◌≡◌, Bool, true, Some}
+use Rattle.std.specs.Prelude.{ℕ, ◌≡◌, ◌==◌, ◌&&◌, Bool, true, false, length, Option, Some, None}
+use Rattle.ace_event.specs.declared.event.Channel.{Channel}
 use Rattle.ace_event.specs.declared.event.Event.{Event}
+use Rattle.ace_event.specs.declared.event.Event.TheVariants.{Ar, Aw}
 use Rattle.ace_event.specs.declared.header.Header.{Header}
-use Rattle.ace_model.specs.Trace.{Trace}
+use Rattle.ace_model.specs.Copies.{zero_line, is_line_read_transaction}
+use Rattle.ace_model.specs.declared.transactions.Transaction.{Transaction}
+use Rattle.ace_model.specs.Trace.{Trace, is_some_and}
 use Rattle.ace_model.specs.AddressRules.{k1}
-use Rattle.ace_model.specs.Lines.{has_failed_on}
 use Rattle.ace_model.specs.Accepted.{IsAccepted}
 use Rattle.ace_portck.specs.Targets.{target_of}
+use Rattle.ace_portck.specs.declared.target.Progress.{Progress}
 use Rattle.ace_portck.specs.declared.target.Target.{Target}
 use Rattle.ace_lineck.specs.declared.record.LineRecord.{LineRecord}
-use Rattle.ace_lineck.specs.Holders.{HoldersStand, MemoryStands}
+use Rattle.ace_lineck.specs.declared.record.Use.TheVariants.{Unknown}
+use Rattle.ace_lineck.specs.Holders.{HoldersStand, MemoryStands, IsLineStep, holder_at, empty_holder}
 use Rattle.ace_lineck.specs.Uses.{use_of}
 use Rattle.ace_lineck.specs.Grants.{GrantStands}
 
@@ -27,3 +32,31 @@ pub record IsNext (h : Header) (past : Trace) (e : Event) (t : Target) (x : Line
   pub port : k1 h past e ≡ true
   pub target : t ≡ target_of h past e
   pub line : (l : ℕ) → t.line ≡ Some l → LineStands h past l x
+
+-- the event is the next of the line, which this is kept of, with a holder for each port
+pub record IsRecordStep (h : Header) (past : Trace) (l : ℕ) (e : Event) (t : Target) (x : LineRecord) : Type 0 where
+  pub step : IsLineStep h past l e t
+  pub stands : LineStands h past l x
+  pub room : length x.holders.items ≡ h.ports
+
+-- nothing is kept in it yet, for so many ports
+pub record IsFresh (ports : ℕ) (x : LineRecord) : Type 0 where
+  pub used : x.used ≡ Unknown
+  pub memory : x.memory ≡ zero_line
+  pub grant : x.grant ≡ None
+  pub count : length x.holders.items ≡ ports
+  pub holders : (p : ℕ) → holder_at x.holders.items p ≡ empty_holder
+
+-- a read of a line that has had three of its four beats
+abbrev pub has_three : Option Progress → Bool
+has_three x = is_some_and x (λ y. (y.transfers == 3) && is_line_read_transaction y.transaction)
+
+-- the event issues a transaction
+abbrev pub issues : Event → Bool
+issues (Ar p i addr snoop dom bar lock) = true
+issues (Aw p i addr snoop dom bar) = true
+issues _ = false
+
+-- the name of a transaction: its port, channel and identifier
+abbrev pub name_of : Transaction → ℕ × Channel × ℕ
+name_of x = (x.port, x.chan, x.id)

@@ -26,3 +26,7 @@ abbrev pub goes_with : Use → Bool → Bool
 goes_with Unknown unshared = true
 goes_with Shareable unshared = not unshared
 goes_with NoSnoop unshared = unshared
+
+abbrev pub is_unknown : Use → Bool
+is_unknown Unknown = true
+is_unknown _ = false

@@ -110,14 +110,12 @@ impl Grant {
     /// A port answers a snoop of the line.
     fn hear_answer(&mut self, port: u8, resp: u8, copy: &Line)
         ensures stages { IsMoved self.old.stages self.new.stages port (if transfers_data resp then Sending else Done) }
-        ensures rest {
-            self.new ≡ record self.old {
-                stages = self.new.stages;
-                shared = is_shared resp || self.old.shared;
-                passed = (if passes_dirty resp then Some (record { port = port; line = copy.now }) else self.old.passed);
-                reply = (if transfers_data resp then newer self.old.reply (Some copy.now) else self.old.reply)
-            }
-        }
+        ensures rest { self.new ≡ record self.old {
+          stages = self.new.stages;
+          shared = is_shared resp || self.old.shared;
+          passed = (if passes_dirty resp then Some (record { port = port; line = copy.now }) else self.old.passed);
+          reply = (if transfers_data resp then newer self.old.reply (Some copy.now) else self.old.reply);
+        } }
     {
         set_stage(&mut self.stages, port, answered_stage(resp));
         self.shared = is_shared(resp) || self.shared;
@@ -135,12 +133,10 @@ impl Grant {
 
     /// A transaction of the line has its M.
     fn hear_write(&mut self, own: bool)
-        ensures {
-            self.new ≡ record self.old {
-                written = self.old.written || own;
-                begun = self.old.begun || (own && not (is_read self.old.transaction.chan))
-            }
-        }
+        ensures { self.new ≡ record self.old {
+          written = self.old.written || own;
+          begun = self.old.begun || (own && not (is_read self.old.transaction.chan));
+        } }
     {
         self.written = self.written || own;
         self.begun = self.begun || (own && matches!(self.transaction.chan, Channel::Write));

@@ -2,15 +2,25 @@
 #![tactic(auto)]
 
 mod grant;
+mod grant_rules;
+mod granting;
 mod heard;
 mod holders;
+mod judge;
 mod kinds;
+mod lines;
 mod memory;
+mod memory_writes;
 mod record;
+mod replies;
 mod rules;
 mod stages;
+mod step;
+#[cfg(test)]
+mod tests;
 mod uses;
 
 pub use grant::{Grant, Passed};
-pub use record::{Holder, LineRecord, Use};
+pub use lines::LineCheck;
+pub use record::{Holder, LineRecord, NoMemory, Use};
 pub use stages::Stage;

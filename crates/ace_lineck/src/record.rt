@@ -1,12 +1,21 @@
 //! What is kept of a line.
 
-ghost use Rattle.std.specs.Prelude.{◌≡◌};
+ghost use Rattle.std.specs.Prelude.{◌≡◌, IfOk, option_map};
 ghost use Rattle.ace_model.specs.Copies.{word_of};
-ghost use Rattle.ace_lineck.specs.Holders.{holder_at};
+ghost use Rattle.ace_lineck.specs.Holders.{holder_at, HasNothing};
+ghost use Rattle.ace_lineck.specs.Records.{IsFresh, name_of};
+ghost use Rattle.ace_lineck.specs.Uses.{is_unknown};
 
 use crate::grant::Grant;
 use ace_codes::LineState;
-use ace_event::Line;
+use ace_event::{Channel, Line};
+use std::alloc::Global;
+use thiserror::Error;
+
+/// There is no memory for what is kept of one more line.
+#[derive(Clone, Copy, Debug, PartialEq, Eq, Error)]
+#[error("out of memory")]
+pub struct NoMemory;
 
 /// How the transactions of a line use it.
 #[derive(Clone, Copy, Debug, PartialEq, Eq)]
@@ -40,6 +49,55 @@ pub struct LineRecord {
     pub holders: Vec<Holder>,
 }
 
+const ZERO_LINE: Line = Line { words: [0; 4] };
+
+/// Of so many ports, that they have had nothing of a line.
+fn no_holders(alloc: Global, ports: u8) -> Result<Vec<Holder>, NoMemory>
+    ensures { IfOk result (λ v. HasNothing ports v.items) }
+{
+    let Ok(mut holders) = Vec::with_capacity(alloc, usize::from(ports)) else {
+        return Err(NoMemory);
+    };
+    for port in 0..ports {
+        let nothing = Holder {
+            state: LineState::I,
+            copy: ZERO_LINE,
+            sent: ZERO_LINE,
+        };
+        if holders.push(nothing).is_err() {
+            return Err(NoMemory);
+        }
+    }
+    Ok(holders)
+}
+
+/// What is kept of a line at first, for so many ports.
+pub fn new_record(alloc: Global, ports: u8) -> Result<LineRecord, NoMemory>
+    ensures { IfOk result (IsFresh ports) }
+{
+    let Ok(holders) = no_holders(alloc, ports) else {
+        return Err(NoMemory);
+    };
+    Ok(LineRecord {
+        used: Use::Unknown,
+        memory: ZERO_LINE,
+        grant: None,
+        holders,
+    })
+}
+
+/// What is kept of a line for no port at all.
+pub fn empty_record(alloc: Global) -> LineRecord
+    ensures { IsFresh 0 result }
+{
+    LineRecord {
+        used: Use::Unknown,
+        memory: ZERO_LINE,
+        grant: None,
+        holders: Vec::new(alloc),
+    }
+}
+
 /// Word k of the line, from 0; 0 where k is above 3.
 fn word_of(line: &Line, k: u8) -> u128
     ensures { result ≡ word_of line.now k }
@@ -51,6 +109,26 @@ fn word_of(line: &Line, k: u8) -> u128
 }
 
 impl LineRecord {
+    /// No transaction has named the line.
+    pub fn is_unknown(&self) -> bool
+        ensures { result ≡ is_unknown self.now.used }
+    {
+        matches!(self.used, Use::Unknown)
+    }
+
+    /// The name of the granted transaction: its port, channel and identifier.
+    pub fn granted_name(&self) -> Option<(u8, Channel, u8)>
+        ensures { result ≡ option_map (λ g. name_of g.transaction) self.now.grant }
+    {
+        match &self.grant {
+            None => None,
+            Some(g) => {
+                let x = &g.transaction;
+                Some((x.port, x.chan, x.id))
+            }
+        }
+    }
+
     /// The state in which the port has the line.
     pub fn state(&self, port: u8) -> LineState
         ensures { result ≡ (holder_at self.now.holders.items port).state }

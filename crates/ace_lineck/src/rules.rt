@@ -28,8 +28,8 @@ ghost use Rattle.ace_lineck.specs.declared.record.LineRecord.{LineRecord};
 ghost use Rattle.ace_lineck.specs.Holders.{awaits_store};
 ghost use Rattle.ace_lineck.specs.Records.{IsNext};
 
-use crate::kinds::{has_write_data, is_line, is_no_snoop, read_kind, updates_memory, write_kind};
 use crate::holders::awaits_store;
+use crate::kinds::{has_write_data, is_line, is_no_snoop, read_kind, updates_memory, write_kind};
 use crate::record::{LineRecord, Use};
 use crate::uses::goes_with;
 use ace_codes::{LineState, read_ac};
@@ -168,11 +168,7 @@ pub fn keeps_written(target: &Target) -> bool
 fn held_of(x: &Transaction, held: LineState) -> LineState
     ensures { result ≡ (if is_line x.now then held else I) }
 {
-    if is_line(x) {
-        held
-    } else {
-        LineState::I
-    }
+    if is_line(x) { held } else { LineState::I }
 }
 
 /// The state is an end state of the write, by the state that its port holds of its line.

@@ -3,7 +3,6 @@
 ghost use Rattle.std.specs.Prelude.{◌≡◌};
 ghost use Rattle.ace_lineck.specs.Grants.{stage_at, IsMoved};
 
-
 /// How far the snoop of a port under the grant of a line has come.
 #[derive(Clone, Copy, Debug, PartialEq, Eq)]
 pub enum Stage {

@@ -14,3 +14,5 @@ pub mod Dvm
 pub mod Outstanding
 pub mod Coherence
 pub mod Lines
+pub mod GrowingPlans
+pub mod Report

@@ -6,8 +6,11 @@
 --   and the four beats aren't there yet. Then the snoops of the granted transaction aren't done: by K18 and K24 it can't begin,
 --   and what ends has begun (by K18, K22 and K26), so the grant lasts. By K12 the line isn't given to another one meanwhile. So a
 --   port that owes data of a line isn't snooped again for it.
+-- - **The words that a read of a line has had are those of its reply**, by K20; the reply stays the same from the first beat on.
 
 -- Lines that are known.
 pub mod Known
 -- A port that owes data.
 pub mod Owing
+-- The words of a read.
+pub mod ReplyWords

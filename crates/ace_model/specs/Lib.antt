@@ -29,3 +29,4 @@ pub mod Coherent
 pub mod ExclusiveHolds
 pub mod BarrierHolds
 pub mod DvmHolds
+pub mod Plans

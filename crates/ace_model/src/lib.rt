@@ -3,9 +3,11 @@
 
 mod breaks;
 pub mod laws;
+mod plans;
 mod snoops;
 mod transactions;
 
 pub use breaks::Break;
+pub use plans::{Op, PlanOp, PlanView, PolicyWord};
 pub use snoops::{Answer, Snoop};
 pub use transactions::Transaction;

@@ -1,9 +1,8 @@
 -- Which of the port's outstanding transactions on the channel an event of the port ends.
-use Rattle.std.proofs.Common.{◌≡◌, ℕ, ◌+◌, ◌≤◌, ◌<◌, Bool, true, false, not, ◌&&◌, nat_eq, nat_lt, if◌then◌else◌, cond, List, [], ◌∷◌, ◌++◌, length, drop, Option, Some, None, is_some, slice_get, refl, sym, ap, subst, ◌∙◌, inl, inr, arith}
+use Rattle.std.proofs.Common.{◌≡◌, ℕ, ◌+◌, ◌≤◌, ◌<◌, Bool, true, false, not, ◌&&◌, nat_eq, nat_lt, if◌then◌else◌, cond, List, [], ◌∷◌, ◌++◌, length, drop, Option, Some, None, slice_get, refl, sym, ap, ◌∙◌, inl, inr, arith}
 use Rattle.std.proofs.lemmas.Bool.{and_parts, cases_Bool, eq-eqb, eqb-true}
 use Rattle.std.proofs.lemmas.List.{drop-append-le, drop-drop, length-append}
 use Rattle.std.proofs.lemmas.Option.{slice_get_within}
-use Rattle.ace_codes.specs.declared.state.LineState.{LineState}
 use Rattle.ace_event.specs.declared.event.Channel.{Channel}
 use Rattle.ace_event.specs.declared.event.Channel.TheVariants.{Read, Write}
 use Rattle.ace_event.specs.declared.event.Event.{Event}
@@ -12,13 +11,13 @@ use Rattle.ace_event.specs.declared.header.Header.{Header}
 use Rattle.ace_model.specs.declared.transactions.Transaction.{Transaction}
 use Rattle.ace_model.specs.Trace.{Trace, port_of, is_some_and, more}
 use Rattle.ace_model.specs.Accepted.{IsAccepted}
-use Rattle.ace_model.specs.Transactions.{is_ace, is_read, same_channel, has_name, is_transaction, transaction_of, transaction_under, outstanding, ended, acknowledged, acknowledgements, completed, completes, next_complete}
+use Rattle.ace_model.specs.Transactions.{is_ace, is_read, same_channel, is_transaction, transaction_of, transaction_under, outstanding, ended, acknowledgements, completed, completes, next_complete}
 use Rattle.ace_model.proofs.General.Lists.{slice_get-drop}
 use Rattle.ace_model.proofs.General.Options.{some_is, Some-injective}
 use Rattle.ace_model.proofs.Rules.Keeps.{accepted_keeps}
 use Rattle.ace_model.proofs.Trace.Issued.{outstanding-named, outstanding-name}
 use Rattle.ace_model.proofs.Outstanding.Names.{named_is}
-use Rattle.ace_portck.specs.Pending.{completed_by, is_acknowledge, ending_of, waiting_after}
+use Rattle.ace_portck.specs.Pending.{completed_by, ending_of, waiting_after}
 
 -- the acknowledges of an accepted trace are no more than what is complete
 pub acknowledgements-within : (h : Header) (past : Trace) (p : ℕ) (c : Channel) → IsAccepted h past → acknowledgements past p c ≤ length (completed past p c)
@@ -59,6 +58,7 @@ acknowledgements-within h (e ∷ past) p c a =
     longer : (xs : List ℕ) (o : Option ℕ) → length xs ≤ length (more xs o)
     longer xs None = omega arith
     longer xs (Some y) = let n = length-append xs (y ∷ []) in omega (arith, n)
+
     others : (e : Event) → acknowledgements past p c ≤ length (completed past p c) → length (completed past p c) ≤ length (more (completed past p c) (completes e p c))
         → acknowledgements past p c ≤ length (more (completed past p c) (completes e p c))
     others e before grown = omega (arith, before, grown)
@@ -87,16 +87,18 @@ waiting-after h past e p c waiting a own is = by e (acknowledgements-within h pa
         → more waiting o ≡ drop (acknowledgements past p c) (more (completed past p c) o)
     grown None within = is
     grown (Some i) within = ap (λ l. l ++ i ∷ []) is ∙ sym (drop-append-le (acknowledgements past p c) (completed past p c) (i ∷ []) within)
+
     shorter : drop 1 waiting ≡ drop (acknowledgements past p c + 1) (completed past p c)
     shorter = ap (drop 1) is ∙ drop-drop 1 (acknowledgements past p c) (completed past p c)
+
     by : (e : Event) → acknowledgements past p c ≤ length (completed past p c) → completes e p c ≡ completed_by e c → port_of e ≡ Some p
         → waiting_after waiting true c e ≡ drop (acknowledgements (e ∷ past) p c) (completed (e ∷ past) p c)
     by (Rk q st) within same own =
         let t = eq-eqb p q (sym (Some-injective q p own)) in
-        elim (cases_Bool (is_read c)) [ | inl r ↦ rw (r, t) shorter | inr r ↦ rw r is ]
+        elim (cases_Bool (is_read c)) [ inl r ↦ rw (r, t) shorter | inr r ↦ rw r is ]
     by (Wk q st) within same own =
         let t = eq-eqb p q (sym (Some-injective q p own)) in
-        elim (cases_Bool (is_read c)) [ | inl r ↦ rw r is | inr r ↦ rw (r, t) shorter ]
+        elim (cases_Bool (is_read c)) [ inl r ↦ rw r is | inr r ↦ rw (r, t) shorter ]
     by (R q j resp last word) within same own = rw same (grown (completed_by (R q j resp last word) c) within)
     by (B q j resp) within same own = rw same (grown (completed_by (B q j resp) c) within)
     by _ within same own = is
@@ -111,22 +113,28 @@ ends_is h past e p c waiting x a own is out = by e a own
     name d j =
         let n = outstanding-name h past p c x.id x out in
         named_is past p p c d x.id j x (outstanding-named h past p c x.id x out) ∙ rw (n.port, n.chan, eq-eqb p p refl) refl
+
     front : (d : Channel) → c ≡ d → is_ace h p ≡ true → slice_get waiting 0 ≡ next_complete past p d
     front d same ace =
         ap (λ l. slice_get l 0) (is ace) ∙ slice_get-drop (completed past p c) (acknowledgements past p c) 0 (acknowledgements past p c) (omega arith)
         ∙ ap (next_complete past p) same
+
     under : (d : Channel) (o : Option ℕ) → same_channel c d ≡ true → is_some_and o (λ i. nat_eq x.id i) ≡ is_transaction (transaction_under past p d o) x
     under d None same = refl
     under d (Some j) same = let n = name d j in rw (n, same) refl
+
     apart : (d : Channel) (o : Option ℕ) → same_channel c d ≡ false → false ≡ is_transaction (transaction_under past p d o) x
     apart d None same = refl
     apart d (Some j) same = let n = name d j in rw (n, same) refl
+
     chan_is : (c : Channel) → (is_read c ≡ true) → c ≡ Read
     chan_is Read t = refl
     chan_is Write t = cc
+
     chan_write : (c : Channel) → (is_read c ≡ false) → c ≡ Write
     chan_write Read t = cc
     chan_write Write t = refl
+
     by : (e : Event) → IsAccepted h (e ∷ past) → port_of e ≡ Some p → is_some_and (ending_of waiting (is_ace h p) c e) (λ i. nat_eq x.id i) ≡ is_transaction (ended h past e) x
     by (Rk q st) a own =
         let same : q ≡ p = Some-injective q p own in
@@ -161,6 +169,7 @@ ends_is h past e p c waiting x a own is out = by e a own
         nothing : (l : Bool) → false ≡ is_transaction (if l && false then transaction_of past p Read j else None) x
         nothing true = refl
         nothing false = refl
+
         never : (r : Bool) → is_some_and (cond (r && false) (Some j) None) (λ i. nat_eq x.id i) ≡ false
         never true = refl
         never false = refl
@@ -175,4 +184,4 @@ ends_is h past e p c waiting x a own is out = by e a own
                 | inr r ↦ rw (same, lite, r, n) (rw (chan_write c r) refl)
               ]
         ]
-    by _ a own = elim (cases_Bool (is_ace h p)) [ | inl ace ↦ rw ace refl | inr lite ↦ rw lite refl ]
+    by _ a own = elim (cases_Bool (is_ace h p)) [ inl ace ↦ rw ace refl | inr lite ↦ rw lite refl ]

@@ -1,7 +1,7 @@
 -- A port has at most 256 outstanding transactions on a channel, since their identifiers are apart and each is a byte. So has it at
 -- most 256 complete ones that wait.
 use Rattle.std.specs.List.{All, AllPairs, AllByRecursion, filter}
-use Rattle.std.proofs.Common.{◌≡◌, ◌≢◌, ℕ, ◌+◌, ◌-◌, ◌≤◌, ◌<◌, Bool, true, false, not, ◌&&◌, nat_eq, cond, List, [], ◌∷◌, ◌++◌, length, drop, Option, Some, None, slice_get, get_or, refl, sym, ap, subst, ◌∙◌, inl, inr, arith, length-drop}
+use Rattle.std.proofs.Common.{◌≡◌, ◌≢◌, ℕ, ◌+◌, ◌-◌, ◌≤◌, ◌<◌, Bool, true, not, ◌&&◌, nat_eq, List, [], ◌∷◌, ◌++◌, length, drop, Option, Some, None, slice_get, get_or, refl, sym, ap, subst, ◌∙◌, inl, inr, arith, length-drop}
 use Rattle.std.proofs.lemmas.Bool.{cases_Bool}
 use Rattle.std.proofs.lemmas.List.{append-nil, get_or-drop}
 use Rattle.std.proofs.lemmas.List.Elements.{All-from_recursion, filter-append}
@@ -37,7 +37,7 @@ new-below n _ x r s = cc
 issued-below : (past : Trace) (x : Transaction) → AllByRecursion HasByteId past → IsIssued past x → x.id < 256
 issued-below [] x r s = let t = s.there in cc
 issued-below (e ∷ past) x r s =
-    elim (issued-cases e past x s) [ | inl new ↦ new-below (length past) e x r.0 new | inr old ↦ issued-below past x r.1 old ]
+    elim (issued-cases e past x s) [ inl new ↦ new-below (length past) e x r.0 new | inr old ↦ issued-below past x r.1 old ]
 
 -- what is known of the kept ones where they pass the test
 kept-all : {A : Type 0} → (P : A → Type 0) (test : A → Bool) (xs : List A) → AllByRecursion (λ x. test x ≡ true → P x) xs → AllByRecursion P (filter test xs)
@@ -130,16 +130,21 @@ few_waiting h past p c a bytes ace = few_apart (λ i. i) 256 waiting (λ i j d l
   where
     done : List ℕ
     done = completed past p c
+
     first : ℕ
     first = acknowledgements past p c
+
     waiting : List ℕ
     waiting = drop first done
+
     at : (k d : ℕ) → k < length waiting → slice_get done (first + k) ≡ Some (get_or waiting k d)
     at k d b =
         let count : length waiting ≡ length done - first = length-drop first done in
         slice_get-get_or done (first + k) d (omega (arith, b, count)) ∙ ap Some (sym (get_or-drop first done k d))
+
     below : (k d : ℕ) → k < length waiting → get_or waiting k d < 256
     below k d b = completed-below past p c (first + k) (get_or waiting k d) bytes (at k d b)
+
     twice : (i j d : ℕ) → i < j → j < length waiting → get_or waiting i d ≡ get_or waiting j d → ⊥
     twice i j d low within same =
         let one = waits_once h past p c (first + i) (first + j) (get_or waiting j d) a ace (omega arith) (omega arith)

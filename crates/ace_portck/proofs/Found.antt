@@ -1,26 +1,23 @@
 -- The looks at the lists of outstanding transactions say what the looks at the whole trace say.
 use Rattle.std.specs.Option.{option_or}
-use Rattle.std.specs.List.{AllByRecursion, find, list_any, filter}
-use Rattle.std.proofs.Common.{◌≡◌, ◌⊎◌, ℕ, Bool, true, false, not, ◌&&◌, ◌||◌, ◌==◌, cond, List, [], ◌∷◌, map, length, drop, Option, Some, None, is_some, option_map, slice_get, le_refl, refl, sym, ap, subst, ◌∙◌, inl, inr, arith}
-use Rattle.std.proofs.lemmas.Bool.{and_parts, and_from, or_cases, or_left, or_right, cases_Bool, not-true, not-false}
+use Rattle.std.specs.List.{find, list_any}
+use Rattle.std.proofs.Common.{◌≡◌, ◌⊎◌, ℕ, Bool, true, false, not, ◌&&◌, ◌||◌, ◌==◌, cond, List, [], ◌∷◌, map, length, Option, Some, None, is_some, option_map, le_refl, refl, sym, ap, subst, ◌∙◌, inl, inr, arith}
+use Rattle.std.proofs.lemmas.Bool.{and_parts, and_from, or_cases, or_left, or_right, cases_Bool, not-true}
 use Rattle.std.proofs.lemmas.List.Folds.{find-append}
 use Rattle.ace_event.specs.declared.event.Channel.{Channel}
 use Rattle.ace_event.specs.declared.event.Channel.TheVariants.{Read, Write}
-use Rattle.ace_event.specs.declared.event.Event.{Event}
 use Rattle.ace_event.specs.declared.header.Header.{Header}
 use Rattle.ace_codes.specs.declared.kind.AwKind.{AwKind}
 use Rattle.ace_model.specs.declared.transactions.Transaction.{Transaction}
 use Rattle.ace_model.specs.Trace.{Trace, more, is_some_and}
 use Rattle.ace_model.specs.Accepted.{IsAccepted}
 use Rattle.ace_model.specs.AddressRules.{has_write}
-use Rattle.ace_model.specs.Grants.{has_grant}
-use Rattle.ace_model.specs.Progress.{transactions, has_had, is_grant, is_write_of_memory, is_completed, is_ordered, updates_memory, evicts}
+use Rattle.ace_model.specs.Progress.{transactions, has_had, is_grant, is_completed, is_ordered, updates_memory, evicts}
 use Rattle.ace_model.specs.Shares.{lesser}
 use Rattle.ace_model.specs.Writes.{has_memory_write}
-use Rattle.ace_model.specs.Transactions.{is_ace, is_read, is_line, is_on, same_channel, write_kind, issued, outstanding, is_outstanding, is_outstanding_on, has_outstanding_on, some_issued, transaction_of, transaction_under, acknowledged, acknowledgements, completed, next_complete, is_complete}
-use Rattle.ace_model.proofs.General.Options.{Some-injective, is_some_and-is, is_some_and-at}
+use Rattle.ace_model.specs.Transactions.{is_ace, is_read, is_line, is_on, same_channel, write_kind, issued, outstanding, is_outstanding, is_outstanding_on, has_outstanding_on, transaction_of, transaction_under, acknowledged, acknowledgements, next_complete}
+use Rattle.ace_model.proofs.General.Options.{Some-injective, is_some_and-is}
 use Rattle.ace_model.proofs.Barriers.OrderPoints.{completed-ordered}
-use Rattle.ace_model.proofs.Trace.Looks.{same_channel-is, same_channel-self}
 use Rattle.ace_model.proofs.Trace.Issued.{issued-place, outstanding-named}
 use Rattle.ace_model.proofs.Trace.Growth.{IsIssued, issued-cases, issued-new, issued-old}
 use Rattle.ace_model.proofs.Trace.LineOnce.{outstanding_is}
@@ -32,7 +29,7 @@ use Rattle.ace_model.proofs.Outstanding.Waiting.{waits_is, ended_complete}
 use Rattle.ace_portck.specs.declared.target.Progress.{Progress}
 use Rattle.ace_portck.specs.Targets.{progress_of, last_issued, own_of, first_issued, is_ordered_by_barriers, first_unordered, first_incomplete}
 use Rattle.ace_portck.specs.Pending.{is_pending, pending_of}
-use Rattle.ace_portck.specs.Transactions.{is_ordered_by, has_order_point, is_unordered, is_incomplete}
+use Rattle.ace_portck.specs.Transactions.{is_ordered_by, is_unordered, is_incomplete}
 
 -- what the list has under an identifier
 pub named_is_found : (h : Header) (past : Trace) (p : ℕ) (c : Channel) (i : ℕ) (list : List Progress)
@@ -45,10 +42,6 @@ named_is_found h past p c i list is =
     ∙ ap (option_map (progress_of h past)) (outstanding-find h past p c i)
 
 -- the transaction that an acknowledge belongs to is outstanding
-pub acknowledged_out : (h : Header) (past : Trace) (p : ℕ) (c : Channel) → IsAccepted h past → is_ace h p ≡ true
-    → (o : Option ℕ) → next_complete past p c ≡ o → transaction_under past p c o ≡ acknowledged past p c
-acknowledged_out h past p c a ace o next = ap (transaction_under past p c) (sym next)
-
 pub acknowledged_named : (h : Header) (past : Trace) (p : ℕ) (c : Channel) (i : ℕ) → IsAccepted h past → is_ace h p ≡ true → next_complete past p c ≡ Some i
     → outstanding h past p c i ≡ acknowledged past p c
 acknowledged_named h past p c i a ace next =
@@ -64,16 +57,16 @@ last-found (e ∷ past) test =
       | inl t ↦
           let y = is_some_and-is (issued (length past) e) test t in
           rw (t, y.1) (record {
-              some = λ x is. let one = Some-injective y.0 x is in (issued-new e past x (y.1 ∙ is), subst (λ (v : Transaction). test v ≡ true) one y.2);
-              none = λ is x i tx. cc;
+            some = λ x is. let one = Some-injective y.0 x is in (issued-new e past x (y.1 ∙ is), subst (λ (v : Transaction). test v ≡ true) one y.2);
+            none = λ is x i tx. cc;
           })
       | inr f ↦
           rw f (record {
-              some = λ x is. let s = old.some x is in (issued-old e past x s.0, s.1);
-              none = λ is x i tx. elim (issued-cases e past x i) [
-                | inl new ↦ let yes : is_some_and (issued (length past) e) test ≡ true = rw new tx in let no : true ≡ false = sym yes ∙ f in cc
-                | inr there ↦ old.none is x there tx
-              ];
+            some = λ x is. let s = old.some x is in (issued-old e past x s.0, s.1);
+            none = λ is x i tx. elim (issued-cases e past x i) [
+              | inl new ↦ let yes : is_some_and (issued (length past) e) test ≡ true = rw new tx in let no : true ≡ false = sym yes ∙ f in cc
+              | inr there ↦ old.none is x there tx
+            ];
           })
     ]
 
@@ -171,12 +164,14 @@ module _ (h : Header) (past : Trace) (p : ℕ) (accepted : IsAccepted h past) (r
       none : (a o : Bool) → ((a && false) && o) ≡ (((a && false) && o) && false)
       none true o = refl
       none false o = refl
+
       some : (a k o : Bool) → ((a && k) && o) ≡ (((a && true) && o) && k)
       some true true true = refl
       some true true false = refl
       some true false true = refl
       some true false false = refl
       some false k o = refl
+
       same : (x : Transaction) → ((x.port == p) && is_some_and (write_kind x) test && is_outstanding h past x)
           ≡ (is_pending h past p Write x && is_some_and (write_kind x) test)
       same x =
@@ -217,11 +212,11 @@ module _ (h : Header) (past : Trace) (p : ℕ) (accepted : IsAccepted h past) (r
     splits : (x : Transaction) → IsIssued past x → IsSplit test (among Read) (among Write) x
     splits x i = record {
       either = both_ways (test x) (among Read x || among Write x)
-      (λ t. elim (channel_cases x.chan) [
-        | inl read ↦ or_left (among Read x) (among Write x) (test-among Read x i read t)
-        | inr write ↦ or_right (among Read x) (among Write x) (test-among Write x i write t)
-      ])
-      (λ t. elim (or_cases (among Read x) (among Write x) t) [ | inl r ↦ (among-test Read x i r).0 | inr w ↦ (among-test Write x i w).0 ]);
+          (λ t. elim (channel_cases x.chan) [
+            | inl read ↦ or_left (among Read x) (among Write x) (test-among Read x i read t)
+            | inr write ↦ or_right (among Read x) (among Write x) (test-among Write x i write t)
+          ])
+          (λ t. elim (or_cases (among Read x) (among Write x) t) [ inl r ↦ (among-test Read x i r).0 | inr w ↦ (among-test Write x i w).0 ]);
       not_both = λ r. elim (cases_Bool (among Write x)) [
         | inr f ↦ f
         | inl w ↦ absurd (one_channel x.chan (among-test Read x i r).1 (among-test Write x i w).1)
@@ -273,20 +268,22 @@ module _ (h : Header) (past : Trace) (p : ℕ) (accepted : IsAccepted h past) (r
   first_unordered_is =
       first_of_both (λ x. is_ordered_by_barriers p x && not (is_ordered past x)) is_unordered
       (λ x i t.
-          let parts = ordered_parts x (is_ordered past x) t in
-          (parts.0, elim (cases_Bool (is_completed past x)) [
-            | inr f ↦ still_out x i f
-            | inl complete ↦
-                let ordered = completed-ordered h x past complete accepted i.there parts.1 in
-                let no : true ≡ false = sym ordered ∙ parts.2 in cc
-          ]))
+      let parts = ordered_parts x (is_ordered past x) t in (
+        parts.0,
+        elim (cases_Bool (is_completed past x)) [
+          | inr f ↦ still_out x i f
+          | inl complete ↦
+              let ordered = completed-ordered h x past complete accepted i.there parts.1 in
+              let no : true ≡ false = sym ordered ∙ parts.2 in cc
+        ],
+      ))
       (λ x i port out.
-          let n = of_name x i out in
-          let g = grant_by_name past x.port x.chan x.id x n in
-          let m = memory_by_name past x.port x.chan x.id x n in
-          ap (λ b. b && not (is_ordered past x)) (ordered_at x port)
-          ∙ ap (λ b. is_ordered_by (progress_of h past x) && not (evicts x || (cond (updates_memory x) b (has_had is_grant past x)))) (sym m)
-          ∙ ap (λ b. is_ordered_by (progress_of h past x) && not (evicts x || (cond (updates_memory x) (has_memory_write past x.port x.chan x.id) b))) (sym g))
+      let n = of_name x i out in
+      let g = grant_by_name past x.port x.chan x.id x n in
+      let m = memory_by_name past x.port x.chan x.id x n in
+      ap (λ b. b && not (is_ordered past x)) (ordered_at x port)
+      ∙ ap (λ b. is_ordered_by (progress_of h past x) && not (evicts x || (cond (updates_memory x) b (has_had is_grant past x)))) (sym m)
+      ∙ ap (λ b. is_ordered_by (progress_of h past x) && not (evicts x || (cond (updates_memory x) (has_memory_write past x.port x.chan x.id) b))) (sym g))
 
   pub first_incomplete_is : lesser (option_map (λ v. v.transaction.place) (find is_incomplete reads)) (option_map (λ v. v.transaction.place) (find is_incomplete writes))
       ≡ first_incomplete past p
@@ -294,5 +291,17 @@ module _ (h : Header) (past : Trace) (p : ℕ) (accepted : IsAccepted h past) (r
       first_of_both (λ x. is_ordered_by_barriers p x && not (is_completed past x)) is_incomplete
       (λ x i t. let parts = ordered_parts x (is_completed past x) t in (parts.0, still_out x i parts.2))
       (λ x i port out.
-          let c = complete_by_name past x.port x.chan x.id x (of_name x i out) in
-          ap (λ b. b && not (is_completed past x)) (ordered_at x port) ∙ ap (λ b. is_ordered_by (progress_of h past x) && not b) (sym c))
+      let c = complete_by_name past x.port x.chan x.id x (of_name x i out) in
+      ap (λ b. b && not (is_completed past x)) (ordered_at x port) ∙ ap (λ b. is_ordered_by (progress_of h past x) && not b) (sym c))
+
+-- an acknowledge belongs to a transaction where one waits
+pub acknowledged_some : (h : Header) (past : Trace) (p : ℕ) (c : Channel) → IsAccepted h past → is_ace h p ≡ true
+    → is_some (acknowledged past p c) ≡ is_some (next_complete past p c)
+acknowledged_some h past p c a ace = by (next_complete past p c) refl
+  where
+    by : (o : Option ℕ) → next_complete past p c ≡ o → is_some (acknowledged past p c) ≡ is_some (next_complete past p c)
+    by None next = rw next refl
+    by (Some i) next =
+        let w = waits_is h past p c (acknowledgements past p c) i a ace (le_refl (acknowledgements past p c)) next in
+        let there = sym (acknowledged_named h past p c i a ace next) ∙ w.1 in
+        rw (there, next) refl

@@ -1,7 +1,7 @@
 -- The outstanding transactions of a port on a channel after an event.
 use Rattle.std.specs.List.{AllByRecursion, filter}
-use Rattle.std.proofs.Common.{◌≡◌, ℕ, ◌+◌, ◌≤◌, ◌<◌, Bool, true, false, not, ◌&&◌, nat_eq, List, [], ◌∷◌, ◌++◌, map, length, drop, Option, Some, None, option_map, refl, sym, ap, ◌∙◌, inl, inr, arith}
-use Rattle.std.proofs.lemmas.Bool.{and_parts, cases_Bool, eq-eqb, eqb-true}
+use Rattle.std.proofs.Common.{◌≡◌, ℕ, ◌≤◌, ◌<◌, Bool, true, false, not, ◌&&◌, nat_eq, List, [], ◌∷◌, ◌++◌, map, length, drop, Option, Some, None, option_map, refl, sym, ap, ◌∙◌, inl, inr, arith}
+use Rattle.std.proofs.lemmas.Bool.{and_parts, cases_Bool, eq-eqb}
 use Rattle.std.proofs.lemmas.List.{append-nil, map-append, length-map, length-append}
 use Rattle.std.proofs.lemmas.List.Elements.{filter-append}
 use Rattle.ace_event.specs.declared.event.Channel.{Channel}
@@ -12,9 +12,8 @@ use Rattle.ace_model.specs.declared.transactions.Transaction.{Transaction}
 use Rattle.ace_model.specs.Trace.{Trace, port_of, is_some_and, more}
 use Rattle.ace_model.specs.Accepted.{IsAccepted}
 use Rattle.ace_model.specs.Progress.{transactions}
-use Rattle.ace_model.specs.Transactions.{is_ace, is_read, same_channel, is_transaction, issued, ended, outstanding, is_outstanding, acknowledgements, completed}
+use Rattle.ace_model.specs.Transactions.{is_ace, same_channel, is_transaction, issued, ended, outstanding, is_outstanding, acknowledgements, completed}
 use Rattle.ace_model.proofs.General.Options.{Some-injective}
-use Rattle.ace_model.proofs.Trace.Looks.{same_channel-is}
 use Rattle.ace_model.proofs.Trace.Growth.{IsIssued}
 use Rattle.ace_model.proofs.Trace.LineOnce.{outstanding_is}
 use Rattle.ace_model.proofs.Outstanding.Issued.{transactions-issued}
@@ -144,6 +143,7 @@ pending_heard h past e p c place room s t kept heard bytes stands kept_is roomy 
         ap (λ l. more l (option_map begun (on_channel c (issued place e)))) kept_is
         ∙ ap (λ n. more (without_id (ending_of s.waiting.items (is_ace h p) c e) (map (renewed e) s.list.items)) (option_map begun (on_channel c (issued n e)))) heard.place_is
         ∙ lists_heard h past e p c s.waiting.items heard.accepted heard.port stands.lists.waiting_is s.list.items stands.lists.list_is
+
     list : (o : Option Transaction) → on_channel c (issued place e) ≡ o → t.list.items ≡ map (progress_of h (e ∷ past)) (pending_of h (e ∷ past) p c)
     list None is = same is ∙ sym (ap (λ o. more kept (option_map begun o)) is) ∙ whole
     list (Some y) is =
@@ -153,8 +153,10 @@ pending_heard h past e p c place room s t kept heard bytes stands kept_is roomy 
         ap length (sym long ∙ whole) ∙ length-map (pending_of h (e ∷ past) p c) (progress_of h (e ∷ past)) in
         let one = length-append kept (begun y ∷ []) in
         grows (omega (arith, few, count, one, roomy)) ∙ whole
+
     after : is_ace h p ≡ true → waiting_after s.waiting.items (is_ace h p) c e ≡ drop (acknowledgements (e ∷ past) p c) (completed (e ∷ past) p c)
     after ace = waiting_heard h past e p c s.waiting.items heard.accepted heard.port stands.lists.waiting_is ace
+
     waiting : is_ace h p ≡ true → (o : Option ℕ) → completed_by e c ≡ o → t.waiting.items ≡ drop (acknowledgements (e ∷ past) p c) (completed (e ∷ past) p c)
     waiting ace None is = idle is ∙ after ace
     waiting ace (Some i) is =

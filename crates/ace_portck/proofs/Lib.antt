@@ -5,3 +5,9 @@ pub mod Heard
 pub mod Stays
 pub mod Found
 pub mod SnoopSteps
+pub mod WriteLaws
+pub mod WriteSteps
+pub mod Parts
+pub mod Elsewhere
+pub mod Kept
+pub mod AllPorts

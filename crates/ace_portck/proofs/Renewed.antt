@@ -1,6 +1,6 @@
 -- How far an outstanding transaction has come after an event.
-use Rattle.std.proofs.Common.{◌≡◌, ℕ, ◌+◌, ◌≤◌, ◌<◌, ◌%◌, cond, Bool, true, false, not, ◌&&◌, ◌||◌, nat_eq, if◌then◌else◌, [], ◌∷◌, length, Option, Some, None, unwrap_or, refl, sym, ap, ◌∙◌, inl, inr, arith}
-use Rattle.std.proofs.lemmas.Bool.{and_parts, cases_Bool, eq-eqb, eqb-true, ltb-true}
+use Rattle.std.proofs.Common.{◌≡◌, ℕ, ◌+◌, ◌≤◌, ◌<◌, ◌%◌, cond, Bool, true, false, ◌&&◌, ◌||◌, nat_eq, if◌then◌else◌, ◌∷◌, length, Option, Some, None, unwrap_or, refl, sym, ap, ◌∙◌, inl, inr, arith}
+use Rattle.std.proofs.lemmas.Bool.{and_parts, cases_Bool, eq-eqb, ltb-true}
 use Rattle.ace_event.specs.declared.event.Channel.{Channel}
 use Rattle.ace_event.specs.declared.event.Channel.TheVariants.{Read, Write}
 use Rattle.ace_event.specs.declared.event.Event.{Event}
@@ -10,15 +10,15 @@ use Rattle.ace_event.specs.declared.line.Line.{Line}
 use Rattle.ace_model.specs.declared.transactions.Transaction.{Transaction}
 use Rattle.ace_model.specs.Trace.{Trace, is_some_and}
 use Rattle.ace_model.specs.Accepted.{IsAccepted}
-use Rattle.ace_model.specs.Transactions.{is_read, same_channel, has_name, is_named, read_kind, is_make_unique_on, issued, transaction_of, outstanding, is_outstanding, transfers, first_resp, is_completion, is_complete}
+use Rattle.ace_model.specs.Transactions.{is_read, has_name, is_named, read_kind, is_make_unique_on, issued, transaction_of, outstanding, is_outstanding, transfers, first_resp, is_completion, is_complete}
 use Rattle.ace_model.specs.Kinds.{beats_of, reads_a_line}
 use Rattle.ace_model.specs.Grants.{given, has_grant}
 use Rattle.ace_model.specs.Writes.{is_memory_write, has_memory_write}
-use Rattle.ace_model.specs.States.{awaits_store, is_store_of, has_store}
+use Rattle.ace_model.specs.States.{is_store_of, has_store}
 use Rattle.ace_model.specs.ReadRules.{is_due, is_next_transfer}
 use Rattle.ace_model.proofs.General.Options.{is_some_and-at, is_some_and-is}
 use Rattle.ace_model.proofs.Rules.Keeps.{accepted_keeps}
-use Rattle.ace_model.proofs.Trace.Looks.{has_name-is, is_read-is, is_write-is}
+use Rattle.ace_model.proofs.Trace.Looks.{has_name-is, is_read-is}
 use Rattle.ace_model.proofs.Trace.Issued.{outstanding-named}
 use Rattle.ace_model.proofs.Trace.Outstanding.{named_read, read_issued}
 use Rattle.ace_model.proofs.Outstanding.Names.{named_is, completion_agrees, grant_agrees, memory_agrees}
@@ -29,12 +29,12 @@ use Rattle.ace_portck.specs.Pending.{renewed}
 
 -- it is the same transaction
 pub renewed_keeps : (e : Event) (v : Progress) → (renewed e v).transaction ≡ v.transaction
-renewed_keeps (R p i resp last word) v = elim (cases_Bool (has_name v.transaction p Read i)) [ | inl t ↦ rw t refl | inr f ↦ rw f refl ]
-renewed_keeps (B p i resp) v = elim (cases_Bool (has_name v.transaction p Write i)) [ | inl t ↦ rw t refl | inr f ↦ rw f refl ]
-renewed_keeps (G p c i) v = elim (cases_Bool (has_name v.transaction p c i)) [ | inl t ↦ rw t refl | inr f ↦ rw f refl ]
-renewed_keeps (M p c i line) v = elim (cases_Bool (has_name v.transaction p c i)) [ | inl t ↦ rw t refl | inr f ↦ rw f refl ]
+renewed_keeps (R p i resp last word) v = elim (cases_Bool (has_name v.transaction p Read i)) [ inl t ↦ rw t refl | inr f ↦ rw f refl ]
+renewed_keeps (B p i resp) v = elim (cases_Bool (has_name v.transaction p Write i)) [ inl t ↦ rw t refl | inr f ↦ rw f refl ]
+renewed_keeps (G p c i) v = elim (cases_Bool (has_name v.transaction p c i)) [ inl t ↦ rw t refl | inr f ↦ rw f refl ]
+renewed_keeps (M p c i line) v = elim (cases_Bool (has_name v.transaction p c i)) [ inl t ↦ rw t refl | inr f ↦ rw f refl ]
 renewed_keeps (D p addr strobe x line) v =
-    elim (cases_Bool ((nat_eq v.transaction.port p) && is_make_unique_on v.transaction addr && v.complete)) [ | inl t ↦ rw t refl | inr f ↦ rw f refl ]
+    elim (cases_Bool ((nat_eq v.transaction.port p) && is_make_unique_on v.transaction addr && v.complete)) [ inl t ↦ rw t refl | inr f ↦ rw f refl ]
 renewed_keeps _ v = refl
 
 -- How far it has come, field by field.
@@ -138,37 +138,37 @@ module _ (h : Header) (past : Trace) (x : Transaction) (out : outstanding h past
             let port = eq-eqb x.port q n.port in
             let id = eq-eqb x.id j n.id in
             are_one _ _ (record {
-                transaction = rw t refl;
-                transfers = rw (t, read, port, id) (sym wrap);
-                response = rw (t, read, port, id) (first (nat_eq (transfers past x.port x.id) 0) (first_resp past x.port x.id));
-                complete = complete_after (R q j resp last word) refl ∙ rw (completes, t) (either last (is_complete past x.port x.chan x.id));
-                granted = rw t refl;
-                written = rw t refl;
-                stored = rw t refl;
+              transaction = rw t refl;
+              transfers = rw (t, read, port, id) (sym wrap);
+              response = rw (t, read, port, id) (first (nat_eq (transfers past x.port x.id) 0) (first_resp past x.port x.id));
+              complete = complete_after (R q j resp last word) refl ∙ rw (completes, t) (either last (is_complete past x.port x.chan x.id));
+              granted = rw t refl;
+              written = rw t refl;
+              stored = rw t refl;
             })
         | inr f ↦
             elim (cases_Bool (is_read x.chan)) [
               | inr write ↦
                   are_one _ _ (record {
-                      transaction = rw f refl;
-                      transfers = rw (f, write) refl;
-                      response = rw (f, write) refl;
-                      complete = complete_after (R q j resp last word) refl ∙ rw (completes, f) (neither last (is_complete past x.port x.chan x.id));
-                      granted = rw f refl;
-                      written = rw f refl;
-                      stored = rw (f, write) refl;
+                    transaction = rw f refl;
+                    transfers = rw (f, write) refl;
+                    response = rw (f, write) refl;
+                    complete = complete_after (R q j resp last word) refl ∙ rw (completes, f) (neither last (is_complete past x.port x.chan x.id));
+                    granted = rw f refl;
+                    written = rw f refl;
+                    stored = rw (f, write) refl;
                   })
               | inl read ↦
                   let chan = is_read-is x.chan read in
                   let apart = unnamed (nat_eq x.port q) (nat_eq x.id j) (rw chan at f) in
                   are_one _ _ (record {
-                      transaction = rw f refl;
-                      transfers = rw (f, read, apart) refl;
-                      response = rw (f, read, apart) refl;
-                      complete = complete_after (R q j resp last word) refl ∙ rw (completes, f) (neither last (is_complete past x.port x.chan x.id));
-                      granted = rw f refl;
-                      written = rw f refl;
-                      stored = rw f refl;
+                    transaction = rw f refl;
+                    transfers = rw (f, read, apart) refl;
+                    response = rw (f, read, apart) refl;
+                    complete = complete_after (R q j resp last word) refl ∙ rw (completes, f) (neither last (is_complete past x.port x.chan x.id));
+                    granted = rw f refl;
+                    written = rw f refl;
+                    stored = rw f refl;
                   })
             ]
       ]
@@ -176,14 +176,17 @@ module _ (h : Header) (past : Trace) (x : Transaction) (out : outstanding h past
       first : (none : Bool) (o : Option ℕ) → unwrap_or (if none then Some resp else o) 0 ≡ (if none then resp else unwrap_or o 0)
       first true o = refl
       first false o = refl
+
       either : (l b : Bool) → ((l && true) || b) ≡ (b || l)
       either true true = refl
       either true false = refl
       either false true = refl
       either false false = refl
+
       neither : (l b : Bool) → ((l && false) || b) ≡ b
       neither true b = refl
       neither false b = refl
+
       unnamed : (b n : Bool) → ((b && true) && n) ≡ false → (b && n) ≡ false
       unnamed true n e = e
       unnamed false n e = refl
@@ -194,13 +197,23 @@ module _ (h : Header) (past : Trace) (x : Transaction) (out : outstanding h past
       elim (cases_Bool (has_name x q Write j)) [
         | inl t ↦
             are_one _ _ (record {
-                transaction = rw t refl; transfers = rw t refl; response = rw t refl; complete = completes ∙ rw t refl;
-                granted = rw t refl; written = rw t refl; stored = rw t refl;
+              transaction = rw t refl;
+              transfers = rw t refl;
+              response = rw t refl;
+              complete = completes ∙ rw t refl;
+              granted = rw t refl;
+              written = rw t refl;
+              stored = rw t refl;
             })
         | inr f ↦
             are_one _ _ (record {
-                transaction = rw f refl; transfers = rw f refl; response = rw f refl; complete = completes ∙ rw f refl;
-                granted = rw f refl; written = rw f refl; stored = rw f refl;
+              transaction = rw f refl;
+              transfers = rw f refl;
+              response = rw f refl;
+              complete = completes ∙ rw f refl;
+              granted = rw f refl;
+              written = rw f refl;
+              stored = rw f refl;
             })
       ]
 
@@ -210,13 +223,23 @@ module _ (h : Header) (past : Trace) (x : Transaction) (out : outstanding h past
       elim (cases_Bool (has_name x q d j)) [
         | inl t ↦
             are_one _ _ (record {
-                transaction = rw t refl; transfers = rw t refl; response = rw t refl; complete = rw t refl;
-                granted = grants ∙ rw t refl; written = rw t refl; stored = rw t refl;
+              transaction = rw t refl;
+              transfers = rw t refl;
+              response = rw t refl;
+              complete = rw t refl;
+              granted = grants ∙ rw t refl;
+              written = rw t refl;
+              stored = rw t refl;
             })
         | inr f ↦
             are_one _ _ (record {
-                transaction = rw f refl; transfers = rw f refl; response = rw f refl; complete = rw f refl;
-                granted = grants ∙ rw f refl; written = rw f refl; stored = rw f refl;
+              transaction = rw f refl;
+              transfers = rw f refl;
+              response = rw f refl;
+              complete = rw f refl;
+              granted = grants ∙ rw f refl;
+              written = rw f refl;
+              stored = rw f refl;
             })
       ]
 
@@ -227,13 +250,23 @@ module _ (h : Header) (past : Trace) (x : Transaction) (out : outstanding h past
       elim (cases_Bool (has_name x q d j)) [
         | inl t ↦
             are_one _ _ (record {
-                transaction = rw t refl; transfers = rw t refl; response = rw t refl; complete = rw t refl;
-                granted = rw t refl; written = writes ∙ rw t refl; stored = rw t refl;
+              transaction = rw t refl;
+              transfers = rw t refl;
+              response = rw t refl;
+              complete = rw t refl;
+              granted = rw t refl;
+              written = writes ∙ rw t refl;
+              stored = rw t refl;
             })
         | inr f ↦
             are_one _ _ (record {
-                transaction = rw f refl; transfers = rw f refl; response = rw f refl; complete = rw f refl;
-                granted = rw f refl; written = writes ∙ rw f refl; stored = rw f refl;
+              transaction = rw f refl;
+              transfers = rw f refl;
+              response = rw f refl;
+              complete = rw f refl;
+              granted = rw f refl;
+              written = writes ∙ rw f refl;
+              stored = rw f refl;
             })
       ]
 
@@ -259,21 +292,36 @@ module _ (h : Header) (past : Trace) (x : Transaction) (out : outstanding h past
             let no_kind : read_kind x ≡ None = rw write refl in
             let none : ((nat_eq x.port q && is_make_unique_on x addr) && is_complete past x.port x.chan x.id) ≡ false = rw no_kind (nothing (nat_eq x.port q)) in
             are_one _ _ (record {
-                transaction = rw none refl; transfers = rw none refl; response = rw none refl; complete = rw none refl;
-                granted = rw none refl; written = rw none refl; stored = rw (none, write) refl;
+              transaction = rw none refl;
+              transfers = rw none refl;
+              response = rw none refl;
+              complete = rw none refl;
+              granted = rw none refl;
+              written = rw none refl;
+              stored = rw (none, write) refl;
             })
         | inl read ↦
             let is = stores_of_read q addr strobe b line (is_read-is x.chan read) in
             elim (cases_Bool ((nat_eq x.port q && is_make_unique_on x addr) && is_complete past x.port x.chan x.id)) [
               | inl t ↦
                   are_one _ _ (record {
-                      transaction = rw t refl; transfers = rw t refl; response = rw t refl; complete = rw t refl;
-                      granted = rw t refl; written = rw t refl; stored = stored_then true (is ∙ t) ∙ ap (λ r. r && true) read ∙ rw t refl;
+                    transaction = rw t refl;
+                    transfers = rw t refl;
+                    response = rw t refl;
+                    complete = rw t refl;
+                    granted = rw t refl;
+                    written = rw t refl;
+                    stored = stored_then true (is ∙ t) ∙ ap (λ r. r && true) read ∙ rw t refl;
                   })
               | inr f ↦
                   are_one _ _ (record {
-                      transaction = rw f refl; transfers = rw f refl; response = rw f refl; complete = rw f refl;
-                      granted = rw f refl; written = rw f refl; stored = stored_then false (is ∙ f) ∙ rw f refl;
+                    transaction = rw f refl;
+                    transfers = rw f refl;
+                    response = rw f refl;
+                    complete = rw f refl;
+                    granted = rw f refl;
+                    written = rw f refl;
+                    stored = stored_then false (is ∙ f) ∙ rw f refl;
                   })
             ]
       ]
@@ -281,6 +329,7 @@ module _ (h : Header) (past : Trace) (x : Transaction) (out : outstanding h past
       stored_then : (v : Bool) → is_store_of h past (D q addr strobe b line) x.port x.id ≡ v
           → (is_read x.chan && has_store h (D q addr strobe b line ∷ past) x.port x.id) ≡ (is_read x.chan && (v || has_store h past x.port x.id))
       stored_then v is = ap (λ s. is_read x.chan && (s || has_store h past x.port x.id)) is
+
       nothing : (m : Bool) → ((m && false) && is_complete past x.port x.chan x.id) ≡ false
       nothing true = refl
       nothing false = refl

@@ -123,7 +123,7 @@ module _ (past : Trace) (p : ℕ) (ws ss : List Snoop) (b wr sr : ℕ) (s : Queu
       let m = unfinished-most past p in
       let wf = s.waiting_fit in
       let sf = s.sending_fit in
-      let full' : most_unfinished past p < length ws + length ss + 1 = elim full [ | inl w ↦ omega (arith, wf, w) | inr t ↦ omega (arith, sf, t) ] in
+      let full' : most_unfinished past p < length ws + length ss + 1 = elim full [ inl w ↦ omega (arith, wf, w) | inr t ↦ omega (arith, sf, t) ] in
       rw own (omega (arith, n, full', long, within))
 
   -- a new snoop waits for its answer
@@ -186,15 +186,14 @@ module _ (past : Trace) (p : ℕ) (ws ss : List Snoop) (b wr sr : ℕ) (s : Queu
         let longer : length (ss ++ x ∷ []) ≡ length ss + 1 = length-append ss (x ∷ []) in
         let within = s.beats_within in
         let one = one-waits in
-        let f = fits in
-        (
+        let f = fits in (
           omega (arith, one, f),
           after_event past (Cr p resp st) p (drop 1 ws) (ss ++ x ∷ []) b wr sr rest-waits
-          (ap (λ v. v ++ x ∷ []) s.sending_is
-          ∙ sym (drop-append-le (data_beats past p / 4) (data_snoops past p) (x ∷ []) (omega (arith, within)))
-          ∙ ap (drop (data_beats past p / 4)) (sym d))
-          s.beats_are one.1 (subst (λ v. data_beats past p ≤ 4 * length v) (sym d) (omega (arith, long, within))) s.waiting_fit s.sending_fit
-          (omega (arith, one, f, longer)) (omega (arith, one, f, longer)),
+              (ap (λ v. v ++ x ∷ []) s.sending_is
+              ∙ sym (drop-append-le (data_beats past p / 4) (data_snoops past p) (x ∷ []) (omega (arith, within)))
+              ∙ ap (drop (data_beats past p / 4)) (sym d))
+              s.beats_are one.1 (subst (λ v. data_beats past p ≤ 4 * length v) (sym d) (omega (arith, long, within))) s.waiting_fit s.sending_fit
+              (omega (arith, one, f, longer)) (omega (arith, one, f, longer)),
         )
 
   module _ (last : Bool) (word : ℕ) (some : data_beats past p / 4 < length (data_snoops past p)) where

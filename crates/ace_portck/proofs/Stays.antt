@@ -1,6 +1,6 @@
 -- An event of another port, or of another kind, leaves the outstanding transactions of a port on a channel as they are.
-use Rattle.std.specs.List.{AllByRecursion, filter}
-use Rattle.std.proofs.Common.{◌≡◌, ℕ, Bool, true, false, not, ◌&&◌, nat_eq, cond, List, [], ◌∷◌, ◌++◌, map, length, drop, Option, Some, None, refl, sym, ap, ◌∙◌, inl, inr}
+use Rattle.std.specs.List.{filter}
+use Rattle.std.proofs.Common.{◌≡◌, ℕ, Bool, true, false, not, ◌&&◌, nat_eq, List, [], ◌∷◌, ◌++◌, map, length, drop, Option, Some, None, refl, sym, ap, ◌∙◌, inl, inr}
 use Rattle.std.proofs.lemmas.Bool.{and_parts, and_cases, cases_Bool, eq-eqb, eqb-true, ne_eqb}
 use Rattle.std.proofs.lemmas.List.{append-nil}
 use Rattle.std.proofs.lemmas.List.Elements.{filter-append}
@@ -13,7 +13,7 @@ use Rattle.ace_model.specs.declared.transactions.Transaction.{Transaction}
 use Rattle.ace_model.specs.Trace.{Trace, port_of, is_some_and, more}
 use Rattle.ace_model.specs.Accepted.{IsAccepted}
 use Rattle.ace_model.specs.Progress.{transactions}
-use Rattle.ace_model.specs.Transactions.{is_ace, is_read, same_channel, has_name, read_kind, is_make_unique_on, is_transaction, issued, ended, acknowledged, next_complete, transaction_of, transaction_under, outstanding, is_outstanding, acknowledgements, completed, completes}
+use Rattle.ace_model.specs.Transactions.{is_ace, is_read, same_channel, has_name, read_kind, is_make_unique_on, is_transaction, issued, ended, next_complete, transaction_of, transaction_under, outstanding, is_outstanding, acknowledgements, completed}
 use Rattle.ace_model.proofs.General.Options.{Some-injective}
 use Rattle.ace_model.proofs.Trace.Looks.{same_channel-is}
 use Rattle.ace_model.proofs.Trace.Issued.{outstanding-named}
@@ -26,7 +26,7 @@ use Rattle.ace_model.proofs.Outstanding.Steps.{outstanding_after}
 use Rattle.ace_portck.specs.declared.target.Progress.{Progress}
 use Rattle.ace_portck.specs.Targets.{progress_of}
 use Rattle.ace_portck.specs.declared.pending.Pending.{Pending}
-use Rattle.ace_portck.specs.Pending.{PendingStands, ListsStand, is_pending, pending_of, renewed, moves_channel, moves_pending}
+use Rattle.ace_portck.specs.Pending.{PendingStands, ListsStand, is_pending, renewed, moves_channel, moves_pending}
 use Rattle.ace_portck.proofs.Renewed.{renewed_is}
 
 -- It is on the channel of the port.
@@ -177,10 +177,12 @@ module _ (h : Header) (past : Trace) (e : Event) (p : ℕ) (c : Channel) (accept
           let a = and_parts (nat_eq x.port p && same_channel x.chan c) (is_outstanding h past x) t in
           let b = and_parts (nat_eq x.port p) (same_channel x.chan c) a.0 in
           record { port = eqb-true x.port p b.0; chan = same_channel-is x.chan c b.1 }
+
       stay : (a o : Bool) → (a && o) ≡ (a && (o && true))
       stay true true = refl
       stay true false = refl
       stay false o = refl
+
       tests : (a b o t : Bool) → ((a && b) && o) ≡ false → ((a && b) && (o && not t)) ≡ false
       tests true true o t f = rw f refl
       tests true false o t f = refl
@@ -192,7 +194,7 @@ module _ (h : Header) (past : Trace) (e : Event) (p : ℕ) (c : Channel) (accept
   new_out (Some y) new =
       let f = no_new (length past) e p c y still new in
       let none : filter (is_pending h (e ∷ past) p c) (transactions past) ++ filter (is_pending h (e ∷ past) p c) (y ∷ [])
-          ≡ filter (is_pending h (e ∷ past) p c) (transactions past) = rw f (append-nil (filter (is_pending h (e ∷ past) p c) (transactions past))) in
+      ≡ filter (is_pending h (e ∷ past) p c) (transactions past) = rw f (append-nil (filter (is_pending h (e ∷ past) p c) (transactions past))) in
       sym (filter-append (is_pending h (e ∷ past) p c) (transactions past) (y ∷ []) ∙ none)
 
   pub lists_stay : (list : List Progress) (waiting : List ℕ) → ListsStand h past p c list waiting → ListsStand h (e ∷ past) p c list waiting
@@ -209,16 +211,17 @@ module _ (h : Header) (past : Trace) (e : Event) (p : ℕ) (c : Channel) (accept
       }
 
 -- what is kept of them stands
-pub pending_stays : (h : Header) (past : Trace) (e : Event) (p : ℕ) (c : Channel) (s : Pending) → IsAccepted h (e ∷ past) → moves_channel e c ≡ false
+pub pending_elsewhere : (h : Header) (past : Trace) (e : Event) (p : ℕ) (c : Channel) (s : Pending) → IsAccepted h (e ∷ past) → moves_pending e p c ≡ false
     → PendingStands h past p c s → PendingStands h (e ∷ past) p c s
-pending_stays h past e p c s accepted still stands = record {
-  lists = lists_stay h past e p c accepted (idle (port_of e)) s.list.items s.waiting.items stands.lists;
+pending_elsewhere h past e p c s accepted still stands = record {
+  lists = lists_stay h past e p c accepted still s.list.items s.waiting.items stands.lists;
   roomy = stands.roomy;
 }
+
+pub pending_stays : (h : Header) (past : Trace) (e : Event) (p : ℕ) (c : Channel) (s : Pending) → IsAccepted h (e ∷ past) → moves_channel e c ≡ false
+    → PendingStands h past p c s → PendingStands h (e ∷ past) p c s
+pending_stays h past e p c s accepted still stands = pending_elsewhere h past e p c s accepted (idle (is_some_and (port_of e) (λ q. nat_eq p q))) stands
   where
-    idle : (o : Option ℕ) → (is_some_and o (λ q. nat_eq p q) && moves_channel e c) ≡ false
-    idle o = rw still (none (is_some_and o (λ q. nat_eq p q)))
-      where
-        none : (b : Bool) → (b && false) ≡ false
-        none true = refl
-        none false = refl
+    idle : (b : Bool) → (b && moves_channel e c) ≡ false
+    idle true = still
+    idle false = refl

@@ -6,3 +6,6 @@ pub mod Transactions
 pub mod Snoops
 pub mod Retired
 pub mod Opening
+pub mod WriteData
+pub mod Port
+pub mod Stands

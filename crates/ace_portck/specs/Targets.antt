@@ -34,7 +34,13 @@ after r e = record { header = r.header; past = e ∷ r.past }
 -- a transaction that has just been issued
 abbrev pub begun : Transaction → Progress
 begun x = record {
-  transaction = x; transfers = 0; response = 0; complete = false; granted = false; written = false; stored = false;
+  transaction = x;
+  transfers = 0;
+  response = 0;
+  complete = false;
+  granted = false;
+  written = false;
+  stored = false;
 }
 
 -- how far an outstanding transaction has come

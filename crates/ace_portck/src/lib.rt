@@ -5,10 +5,18 @@ mod kinds;
 mod no_memory;
 mod opening;
 mod pending;
+mod port;
+mod port_rules;
+mod ports;
 mod retired;
+mod rules;
 mod snoops;
 mod target;
+#[cfg(test)]
+mod tests;
 mod transactions;
+mod write_data;
 
 pub use no_memory::NoMemory;
+pub use ports::PortCheck;
 pub use target::{Progress, Target, WriteData};

@@ -131,9 +131,10 @@ fn renewed(x: Progress, event: &Event) -> Progress
         Event::M { port, chan, id, .. } if has_name(&x.transaction, port, chan, id) => {
             Progress { written: true, ..x }
         }
-        Event::D { port, addr, .. } if x.transaction.port == port
-            && is_make_unique_on(&x.transaction, addr)
-            && x.complete => Progress { stored: true, ..x },
+        Event::D { port, addr, .. }
+            if x.transaction.port == port
+                && is_make_unique_on(&x.transaction, addr)
+                && x.complete => Progress { stored: true, ..x },
         _ => x,
     }
 }

@@ -14,9 +14,7 @@ ghost use Rattle.ace_portck.specs.Pending.{HasByteId, PendingStands, moves_chann
 ghost use Rattle.ace_portck.specs.Transactions.{is_ordered_by, has_order_point, is_unordered, is_incomplete};
 
 use crate::NoMemory;
-use crate::kinds::{
-    beats_of, gives_up, is_evict, is_line, is_on, is_unique_write, is_update, read_kind, write_kind,
-};
+use crate::kinds::{gives_up, is_evict, is_line, is_on, is_unique_write, is_update, write_kind};
 use crate::pending::Pending;
 use crate::target::Progress;
 use ace_event::{Channel, Event, Header};
@@ -41,8 +39,7 @@ fn find_on(list: &[Progress], line: u32) -> Option<Progress>
 fn has_unique_write(list: &[Progress]) -> bool
     ensures { result ≡ list_any (λ x. is_some_and (write_kind x.transaction) is_unique_write) list.now }
 {
-    list.iter()
-        .any(|x| write_kind(&x.transaction).is_some_and(is_unique_write))
+    list.iter().any(|x| write_kind(&x.transaction).is_some_and(is_unique_write))
 }
 
 /// The list has a memory update or an Evict.
@@ -146,9 +143,7 @@ fn moves_channel(event: &Event, chan: Channel) -> bool
 impl Transactions {
     ghost use Rattle.std.specs.Prelude.{ℕ, true, not, [], IfOk};
     ghost use Rattle.ace_event.specs.declared.header.Header.{Header};
-    ghost use Rattle.ace_event.specs.declared.event.Event.TheVariants.{R, B};
     ghost use Rattle.ace_model.specs.AddressRules.{has_free_name, has_free_line, has_write, keeps_apart};
-    ghost use Rattle.ace_model.specs.Shares.{k18_transfer, k26_response};
     ghost use Rattle.ace_model.specs.Trace.{is_none_or};
     ghost use Rattle.ace_model.specs.Transactions.{is_ace, outstanding, has_outstanding_on, acknowledged, next_complete};
     ghost use Rattle.ace_portck.specs.Targets.{progress_of, own_of, first_unordered, first_incomplete};
@@ -277,34 +272,6 @@ impl Transactions {
         }
     }
 
-    /// K18 but grant, snoops and passed data: an R names an outstanding read with transfers left, and is the last exactly where it
-    /// says so.
-    pub fn may_transfer(&self, id: u8, last: bool) -> bool
-        ensures { (h : Header) (past : Trace) (p resp word : ℕ) → TransactionsStand h past p self.now
-            → result ≡ k18_transfer h past (R p id resp last word) }
-    {
-        match self.named(Channel::Read, id) {
-            None => false,
-            Some(x) => {
-                match read_kind(&x.transaction) {
-                    None => false,
-                    Some(kind) => {
-                        let beats = beats_of(kind);
-                        x.transfers < beats && last == (x.transfers.wrapping_add(1) == beats)
-                    }
-                }
-            }
-        }
-    }
-
-    /// K26 but M: a B names an outstanding write without B, and its response is 0.
-    pub fn may_respond(&self, id: u8, resp: u8) -> bool
-        ensures { (h : Header) (past : Trace) (p : ℕ) → TransactionsStand h past p self.now
-            → result ≡ k26_response h past (B p id resp) }
-    {
-        resp == 0 && self.named(Channel::Write, id).is_some_and(|x| !x.complete)
-    }
-
     /// Hears an event of the port that keeps the rules, with `place` events before it. It takes no memory.
     pub fn hear(&mut self, header: &Header, port: u8, place: usize, event: &Event)
         ensures { (past : Trace) → IsHeard header.now past place event.now port → AllByRecursion HasByteId (event.now ∷ past)
@@ -316,7 +283,14 @@ impl Transactions {
 }
 
 /// The same of one channel, which most events leave as it is.
-fn hear_on(pending: &mut Pending, header: &Header, port: u8, chan: Channel, place: usize, event: &Event)
+fn hear_on(
+    pending: &mut Pending,
+    header: &Header,
+    port: u8,
+    chan: Channel,
+    place: usize,
+    event: &Event,
+)
     ensures { (past : Trace) → IsHeard header.now past place event.now port → AllByRecursion HasByteId (event.now ∷ past)
         → PendingStands header.now past port chan pending.old → PendingStands header.now (event.now ∷ past) port chan pending.new }
 {

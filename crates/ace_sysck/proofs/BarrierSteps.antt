@@ -80,7 +80,7 @@ all-stay : (past : Trace) (e : Event) (p : ℕ) (done : List Pair) → All (IsDo
 all-stay past e p done all = All-weaker (IsDone past p) (IsDone (e ∷ past) p) (done-stays past e p) done all
 
 -- the event is the last R or the B of the transaction
-abbrev hits : Trace → Event → Transaction → Bool
+abbrev pub hits : Trace → Event → Transaction → Bool
 hits past e y = is_completion_event e && is_transaction (served_by past e) y
 
 under_way-stays : (past : Trace) (e : Event) (b : Barrier) → ((c : Channel) (y : Transaction) → halves_on c b ≡ y ∷ [] → hits past e y ≡ false)
@@ -106,7 +106,7 @@ barrier_stays past e p b issues completes s = record {
 }
 
 -- what a transaction has had it has had after its own event
-had-placed : (test : Event → Bool) (past : Trace) (x : Transaction) → has_had test past x ≡ true → x.place < length past
+pub had-placed : (test : Event → Bool) (past : Trace) (x : Transaction) → has_had test past x ≡ true → x.place < length past
 had-placed test [] x had = cc
 had-placed test (e ∷ past) x had =
     elim (or_cases (test e && is_transaction (served_by past e) x) (has_had test past x) had) [
@@ -124,7 +124,7 @@ had-placed test (e ∷ past) x had =
     served-placed past (M p c i line) x t = of_name past p c i (transaction_of past p c i) x refl t
     served-placed past e x t = cc
 
-new-incomplete : (past : Trace) (x : Transaction) → x.place ≡ length past → is_completed past x ≡ false
+pub new-incomplete : (past : Trace) (x : Transaction) → x.place ≡ length past → is_completed past x ≡ false
 new-incomplete past x at =
     elim (cases_Bool (is_completed past x)) [
       | inl t ↦ let low = had-placed is_completion_event past x t in absurd (omega (arith, low, at))
@@ -132,7 +132,7 @@ new-incomplete past x at =
     ]
 
 -- an event that issues a transaction completes none
-issue-hits : (past : Trace) (e : Event) (x y : Transaction) → issued (length past) e ≡ Some x → hits past e y ≡ false
+pub issue-hits : (past : Trace) (e : Event) (x y : Transaction) → issued (length past) e ≡ Some x → hits past e y ≡ false
 issue-hits past (R p i resp last word) x y new = cc
 issue-hits past (B p i resp) x y new = cc
 issue-hits past e x y new = refl
@@ -203,7 +203,7 @@ pub record Done (h : Header) (past : Trace) (e : Event) (t : Target) (x : Transa
   pub completes : Completes h past e x
 
 -- an event that answers something issues nothing
-answers-unissued : (h : Header) (past : Trace) (e : Event) (x : Transaction) → responding h past e ≡ Some x → issued (length past) e ≡ None
+pub answers-unissued : (h : Header) (past : Trace) (e : Event) (x : Transaction) → responding h past e ≡ Some x → issued (length past) e ≡ None
 answers-unissued h past (R p i resp last word) x a = refl
 answers-unissued h past (B p i resp) x a = refl
 answers-unissued h past e x a = cc
@@ -371,20 +371,22 @@ barriers_set r s n e q v stands within items new others = record {
 no_half : (x : Transaction) (p : ℕ) (c : Channel) → (is_barrier_half x && nat_eq x.port p) ≡ false → option_filter (λ y. is_barrier_of y p c) (Some x) ≡ None
 no_half x p c other = rw other refl
 
+-- an event that issues a transaction names its port
+pub issuing-port : (past : Trace) (e : Event) (x : Transaction) → issued (length past) e ≡ Some x → port_of e ≡ Some x.port
+issuing-port past (Ar p i addr snoop dom bar lock) x new = ap (λ (v : Transaction). Some v.port) (Some-injective _ x new)
+issuing-port past (Aw p i addr snoop dom bar) x new = ap (λ (v : Transaction). Some v.port) (Some-injective _ x new)
+issuing-port past e x new = cc
+
 -- an event that issues a barrier half
 pub barriers_begun : (r : Recording) (s n : Barriers) (e : Event) (t : Target) (x : Transaction) → IsAccepted r.header (e ∷ r.past) → t ≡ target_of r.header r.past e → begun_in e t ≡ Some x
     → is_barrier_half x ≡ true → BarriersStand r s → n.ports.items ≡ slice_set s.ports.items x.port (joined (get_or s.ports.items x.port Idle) x) → BarriersStand (after r e) n
 barriers_begun r s n e t x accepted own begun half stands items =
-    barriers_set r s n e x.port (joined b x) stands (port_within r.header r.past e x.port accepted (issuing-port e new)) items joins_own others
+    barriers_set r s n e x.port (joined b x) stands (port_within r.header r.past e x.port accepted (issuing-port r.past e x new)) items joins_own others
   where
     b : Barrier
     b = get_or s.ports.items x.port Idle
     new : issued (length r.past) e ≡ Some x
     new = sym (begun-is r.header r.past e t own) ∙ begun
-    issuing-port : (e : Event) → issued (length r.past) e ≡ Some x → port_of e ≡ Some x.port
-    issuing-port (Ar p i addr snoop dom bar lock) new = ap (λ (v : Transaction). Some v.port) (Some-injective _ x new)
-    issuing-port (Aw p i addr snoop dom bar) new = ap (λ (v : Transaction). Some v.port) (Some-injective _ x new)
-    issuing-port e new = cc
     begins : begins_after b x ≡ true
     begins =
         let well = is_none_or-at (issued (length r.past) e) (begins_well r.past) x (accepted_keeps r.header r.past e accepted).rule_9 new in

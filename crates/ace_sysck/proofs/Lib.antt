@@ -1,5 +1,6 @@
 -- Lists by their places.
 pub mod Tables
+pub mod WordLaws
 -- What an accepted event that names a transaction says of it.
 pub mod Steps
 pub mod ResultSteps
@@ -10,3 +11,10 @@ pub mod FirstIssued
 pub mod BarrierRules
 pub mod BarrierAnswers
 pub mod BarrierSteps
+pub mod MessageSteps
+pub mod Unanswered
+pub mod PartLaws
+pub mod InboxSteps
+pub mod InboxRules
+pub mod InboxMoves
+pub mod InboxHears

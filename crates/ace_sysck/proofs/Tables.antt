@@ -1,5 +1,5 @@
 -- A list with a value set at a place.
-use Rattle.std.proofs.Common.{◌≡◌, ◌≢◌, ℕ, zero, suc, ◌+◌, ◌*◌, ◌<◌, ◌≤◌, Bool, true, false, ◌&&◌, nat_eq, if◌then◌else◌, List, [], ◌∷◌, ◌++◌, length, get_or, slice_set, refl, sym, ap, ◌∙◌, arith, inl, inr, length-append}
+use Rattle.std.proofs.Common.{◌≡◌, ◌≢◌, ℕ, zero, suc, ◌+◌, ◌*◌, ◌<◌, ◌≤◌, Bool, true, false, ◌&&◌, nat_eq, if◌then◌else◌, List, [], ◌∷◌, ◌++◌, length, get_or, slice_get, slice_set, Some, refl, sym, ap, ◌∙◌, arith, inl, inr, length-append}
 use Rattle.std.proofs.lemmas.Bool.{cases_eq, eq-eqb, ne_eqb}
 use Rattle.std.proofs.lemmas.List.{get_or-set_same, get_or-set_other}
 use Rattle.ace_sysck.specs.Results.{slot_of}
@@ -34,3 +34,16 @@ all_more [] d all zero = refl
 all_more [] d all (suc n) = refl
 all_more (x ∷ xs) d all zero = all 0
 all_more (x ∷ xs) d all (suc n) = all_more xs d (λ m. all (suc m)) n
+
+-- the same by look-ups
+pub slice_get-set_same : {A : Type 0} → (xs : List A) (i : ℕ) (y : A) → i < length xs → slice_get (slice_set xs i y) i ≡ Some y
+slice_get-set_same [] i y b = absurd (omega arith)
+slice_get-set_same (x ∷ xs) zero y b = refl
+slice_get-set_same (x ∷ xs) (suc i) y b = slice_get-set_same xs i y (omega arith)
+
+pub slice_get-set_other : {A : Type 0} → (xs : List A) (i j : ℕ) (y : A) → (j ≡ i → ⊥) → slice_get (slice_set xs i y) j ≡ slice_get xs j
+slice_get-set_other [] i j y n = refl
+slice_get-set_other (x ∷ xs) zero zero y n = absurd (n refl)
+slice_get-set_other (x ∷ xs) zero (suc j) y n = refl
+slice_get-set_other (x ∷ xs) (suc i) zero y n = refl
+slice_get-set_other (x ∷ xs) (suc i) (suc j) y n = slice_get-set_other xs i j y (λ e. n (omega (arith, e)))

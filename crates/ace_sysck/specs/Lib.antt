@@ -4,3 +4,5 @@ pub mod Results
 pub mod Monitors
 pub mod Events
 pub mod Barriers
+pub mod Messages
+pub mod Inboxes

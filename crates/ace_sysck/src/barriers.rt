@@ -207,18 +207,14 @@ impl Barriers {
     /// Of K9, where the event issues the transaction: a barrier half has address 0, every earlier pair of the port is complete, and
     /// its own other half, if it was issued, is alike.
     pub fn keeps_k9(&self, x: &Transaction) -> bool
-        ghost r: { Recording }
-        requires { MayBegin r self.now x.now }
-        ensures { result ≡ implies (is_barrier_half x.now) (begins_barrier r.past x.now) }
+        ensures { (r : Recording) → MayBegin r self.now x.now → result ≡ implies (is_barrier_half x.now) (begins_barrier r.past x.now) }
     {
         !is_barrier_half(x) || (x.addr == 0 && begins_after(&self.barrier_of(x.port), x))
     }
 
     /// K34: a barrier is answered once both halves were issued and what is before it has come far enough.
     pub fn keeps_k34(&self, event: &Event, target: &Target) -> bool
-        ghost r: { Recording }
-        requires { MayAskBarriers r self.now event.now target.now }
-        ensures { result ≡ k34 r.header r.past event.now }
+        ensures { (r : Recording) → MayAskBarriers r self.now event.now target.now → result ≡ k34 r.header r.past event.now }
     {
         match responded_in(event, target) {
             None => true,
@@ -230,9 +226,7 @@ impl Barriers {
 
     /// K35: where a G grants a transaction with bar 0, every barrier pair of the port before it is complete.
     pub fn keeps_k35(&self, event: &Event, target: &Target) -> bool
-        ghost r: { Recording }
-        requires { MayAskBarriers r self.now event.now target.now }
-        ensures { result ≡ k35 r.header r.past event.now }
+        ensures { (r : Recording) → MayAskBarriers r self.now event.now target.now → result ≡ k35 r.header r.past event.now }
     {
         match granted_in(event, target) {
             None => true,
@@ -242,9 +236,7 @@ impl Barriers {
 
     /// The barriers after the event.
     pub fn hear(&mut self, event: &Event, target: &Target)
-        ghost r: { Recording }
-        requires { MayHearBarriers r self.old event.now target.now }
-        ensures { BarriersStand (after r event.now) self.new }
+        ensures { (r : Recording) → MayHearBarriers r self.old event.now target.now → BarriersStand (after r event.now) self.new }
     {
         if let Some(x) = begun_in(event, target) {
             if is_barrier_half(&x) {

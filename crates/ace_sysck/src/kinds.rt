@@ -4,12 +4,12 @@ ghost use Rattle.std.specs.Prelude.{◌≡◌};
 ghost use Rattle.ace_model.specs.Trace.{is_some_and};
 ghost use Rattle.ace_codes.specs.Snoops.{ac_kind_of};
 ghost use Rattle.ace_model.specs.Kinds.{is_line_read, is_line_write, is_clean_unique, is_message_snoop, is_complete_snoop};
-ghost use Rattle.ace_model.specs.Transactions.{is_line, read_kind, write_kind, is_exclusive_store};
+ghost use Rattle.ace_model.specs.Transactions.{is_ace, is_line, read_kind, write_kind, is_exclusive_store};
 ghost use Rattle.ace_model.specs.Barriers.{is_barrier_half};
 ghost use Rattle.ace_model.specs.Messages.{is_message_part, is_dvm_completion};
 
 use ace_codes::{ArKind, AwKind, SnoopKind, read_ac, read_ar, read_aw};
-use ace_event::Channel;
+use ace_event::{Channel, Header, PortKind, kind_of};
 use ace_model::Transaction;
 
 /// The kind of a transaction, if it is a read.
@@ -94,4 +94,11 @@ pub fn is_complete_snoop(snoop: u8) -> bool
     ensures { result ≡ is_some_and (ac_kind_of snoop) is_complete_snoop }
 {
     matches!(read_ac(snoop), Some(SnoopKind::DvmComplete))
+}
+
+/// It is an ACE port of the header.
+pub fn is_ace(header: &Header, port: u8) -> bool
+    ensures { result ≡ is_ace header.now port }
+{
+    matches!(kind_of(header, port), Some(PortKind::Ace))
 }

@@ -3,7 +3,10 @@
 
 mod barriers;
 mod events;
+mod inboxes;
 mod kinds;
+mod messages;
 mod monitors;
 mod registrations;
 mod results;
+mod words;

@@ -78,9 +78,7 @@ impl Monitors {
 
     /// K33: at a D with x 1 the monitor of the port is set for the line.
     pub fn keeps_k33(&self, event: &Event) -> bool
-        ghost r: { Recording }
-        requires { MonitorsStand r self.now }
-        ensures { result ≡ k33 r.header r.past event.now }
+        ensures { (r : Recording) → MonitorsStand r self.now → result ≡ k33 r.header r.past event.now }
     {
         match *event {
             Event::D { port, addr, x, .. } => !x || self.line_of(port) == Some(addr),
@@ -98,9 +96,7 @@ impl Monitors {
 
     /// The monitors after the event.
     pub fn hear(&mut self, event: &Event, target: &Target)
-        ghost r: { Recording }
-        requires { MayHearMonitors r self.old event.now target.now }
-        ensures { MonitorsStand (after r event.now) self.new }
+        ensures { (r : Recording) → MayHearMonitors r self.old event.now target.now → MonitorsStand (after r event.now) self.new }
     {
         match *event {
             Event::L { port, addr, x, .. } => {

@@ -81,9 +81,7 @@ impl Registrations {
 
     /// Whether the port is registered for the line.
     pub fn is_registered(&self, port: u8, line: u32) -> bool
-        ghost r: { Recording }
-        requires { RegistrationsStand r self.now }
-        ensures { result ≡ is_registered r.past port line }
+        ensures { (r : Recording) → RegistrationsStand r self.now → result ≡ is_registered r.past port line }
     {
         has_port(self.bits_of(line), port)
     }
@@ -91,11 +89,9 @@ impl Registrations {
     /// Makes room for the line that the event grants to a transaction with lock 1. There is no memory only where it is the first
     /// of its line.
     pub fn ready(&mut self, event: &Event, target: &Target) -> Result<(), AllocError>
-        ghost r: { Recording }
-        requires { MayMakeLineRoom r self.old event.now target.now }
-        ensures stands { RegistrationsStand r self.new }
-        ensures room { OnOk result (HasLineRoom self.new event.now target.now) }
-        ensures cause { OnErr result (IsNewLock r.past event.now) }
+        ensures stands { (r : Recording) → MayMakeLineRoom r self.old event.now target.now → RegistrationsStand r self.new }
+        ensures room { (r : Recording) → MayMakeLineRoom r self.old event.now target.now → OnOk result (HasLineRoom self.new event.now target.now) }
+        ensures cause { (r : Recording) → MayMakeLineRoom r self.old event.now target.now → OnErr result (IsNewLock r.past event.now) }
     {
         if let Some(x) = locked_in(event, target) {
             if !self.lines.contains_key(&x.addr) {
@@ -109,9 +105,7 @@ impl Registrations {
 
     /// The registrations after the event.
     pub fn hear(&mut self, event: &Event, target: &Target)
-        ghost r: { Recording }
-        requires { MayHearRegistrations r self.old event.now target.now }
-        ensures { RegistrationsStand (after r event.now) self.new }
+        ensures { (r : Recording) → MayHearRegistrations r self.old event.now target.now → RegistrationsStand (after r event.now) self.new }
     {
         if let Some(x) = locked_in(event, target) {
             let kept = kept_bits(&x, self.bits_of(x.addr));

@@ -33,9 +33,7 @@ impl Results {
 
     /// Whether the exclusive store that the port issued last under the identifier passed at its G.
     pub fn passed(&self, port: u8, id: u8) -> Option<bool>
-        ghost r: { Recording }
-        requires { ResultsStand r self.now }
-        ensures { result ≡ passed_at_grant r.past port id }
+        ensures { (r : Recording) → ResultsStand r self.now → result ≡ passed_at_grant r.past port id }
     {
         let slot = port as usize * 256 + id as usize;
         if slot < self.passed.len() {
@@ -56,9 +54,7 @@ impl Results {
 
     /// The results after the event. `passes` says whether an exclusive store that it grants passes.
     pub fn hear(&mut self, event: &Event, target: &Target, passes: bool)
-        ghost r: { Recording }
-        requires { MayHearResult r self.old event.now target.now passes }
-        ensures { ResultsStand (after r event.now) self.new }
+        ensures { (r : Recording) → MayHearResult r self.old event.now target.now passes → ResultsStand (after r event.now) self.new }
     {
         match *event {
             Event::Ar { port, id, .. } => self.set(port, id, None),

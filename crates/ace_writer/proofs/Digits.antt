@@ -1,5 +1,5 @@
 -- The digits of a number, from the most significant on.
-use Rattle.std.proofs.Common.{◌≡◌, ℕ, zero, suc, ◌+◌, ◌-◌, ◌*◌, ◌/◌, ◌%◌, ◌^◌, ◌<◌, List, [], ◌∷◌, ◌++◌, refl, sym, ap, ◌∙◌, arith, bit_and, append_assoc, append-nil, take, drop, length, length-append, ◌≤◌, cond, ltb, Bool, true, ◌&&◌, eqb, inl, inr}
+use Rattle.std.proofs.Common.{◌≡◌, ℕ, zero, suc, ◌+◌, ◌-◌, ◌*◌, ◌/◌, ◌%◌, ◌^◌, ◌<◌, List, [], ◌∷◌, ◌++◌, refl, sym, ap, subst, ◌∙◌, arith, bit_and, append_assoc, append-nil, take, drop, length, length-append, ◌≤◌, cond, ltb, Bool, true, ◌&&◌, eqb, inl, inr}
 use Rattle.std.specs.Char.{digit_char}
 use Rattle.std.specs.Int.{byte_at}
 use Rattle.std.proofs.Math.Nat.{div-div-eq-div-mul, pow-suc, mul_comm}
@@ -63,14 +63,10 @@ above (suc count) q r =
     ap (λ l. l ++ digit_char ((q * 16 ^ suc count + r) % 16) ∷ []) (ap (hex_text count) div ∙ above count q (r / 16))
     ∙ ap (λ d. hex_text count (r / 16) ++ digit_char d ∷ []) low
 
-pub low_half : (n : ℕ) → hex_text 16 (n % 2 ^ 64) ≡ hex_text 16 n
+low_half : (n : ℕ) → hex_text 16 (n % 2 ^ 64) ≡ hex_text 16 n
 low_half n =
     let split : n / 2 ^ 64 * 16 ^ 16 + n % 2 ^ 64 ≡ n = omega arith in
     sym (above 16 (n / 2 ^ 64) (n % 2 ^ 64)) ∙ ap (hex_text 16) split
-
-pub both_halves : (text : List ℕ) (n : ℕ) → (text ++ hex_text 16 (n / 2 ^ 64)) ++ hex_text 16 (n % 2 ^ 64) ≡ text ++ hex_text 32 n
-both_halves text n =
-    append_assoc text _ _ ∙ ap (λ l. text ++ l) (ap (λ l. hex_text 16 (n / 2 ^ 64) ++ l) (low_half n) ∙ sym (front_and_back 16 16 n))
 
 abbrev pub lane : ℕ → ℕ
 lane value = (value + cond (top 7 (cond (ltb value 10) 255 0)) 48 87) % 256
@@ -149,3 +145,27 @@ digits_slice count n digits is h =
     let back : drop (16 - count) digits ≡ hex_text count n =
     ap (drop (16 - count)) (is ∙ ap (λ c. hex_text c n) (sym whole)) ∙ last_digits (16 - count) count n in
     ap (take (16 - (16 - count))) back ∙ take_all (16 - (16 - count)) (hex_text count n) (omega (arith, digits_len count n))
+
+-- the same of a number whose upper bits are masked off
+masked_digits : (n : ℕ) (digits : List ℕ) → digits ≡ hex_text 16 (bit_and n (2 ^ 64 - 1)) → digits ≡ hex_text 16 n
+masked_digits n digits is = is ∙ ap (hex_text 16) (and_mask n 64) ∙ low_half n
+
+pub low_slice : (count n : ℕ) (digits : List ℕ) → digits ≡ hex_text 16 (bit_and n (2 ^ 64 - 1)) → count ≤ 16
+    → take (16 - (16 - count)) (drop (16 - count) digits) ≡ hex_text count n
+low_slice count n digits is h = digits_slice count n digits (masked_digits n digits is) h
+
+-- more than 16 digits, behind a text
+pub two_slices : (text : List ℕ) (count n : ℕ) (high low : List ℕ) → high ≡ hex_text 16 (n / 2 ^ 64) → low ≡ hex_text 16 (bit_and n (2 ^ 64 - 1))
+    → 16 < count → count ≤ 32 → (text ++ take (16 - (32 - count)) (drop (32 - count) high)) ++ low ≡ text ++ hex_text count n
+two_slices text count n high low is_high is_low more most =
+    let place : 16 - (count - 16) ≡ 32 - count = omega arith in
+    let whole : (count - 16) + 16 ≡ count = omega arith in
+    let few : count - 16 ≤ 16 = omega arith in
+    let front : take (16 - (32 - count)) (drop (32 - count) high) ≡ hex_text (count - 16) (n / 2 ^ 64) =
+    subst (λ k. take (16 - k) (drop k high) ≡ hex_text (count - 16) (n / 2 ^ 64)) place (digits_slice (count - 16) (n / 2 ^ 64) high is_high few) in
+    append_assoc text _ _
+    ∙ ap (λ l. text ++ l)
+    (ap (λ l. l ++ low) front
+    ∙ ap (λ l. hex_text (count - 16) (n / 2 ^ 64) ++ l) (masked_digits n low is_low)
+    ∙ sym (front_and_back (count - 16) 16 n)
+    ∙ ap (λ c. hex_text c n) whole)

@@ -35,31 +35,25 @@ fn hex_16(n: u64) -> [u8; 16]
 impl TextBuf {
     /// So many digits of the number, the most significant first.
     #[inline(always)]
-    pub(crate) fn push_digits(&mut self, count: usize, n: u64)
-        requires count { count ≤ 16 }
+    pub fn push_digits(&mut self, count: u32, n: u128)
+        requires count { count ≤ 32 }
         requires room { length self.old + count ≤ 4096 }
         ensures value { self.new ≡ self.old ++ hex_text count n }
         ensures len { length self.new ≡ length self.old + count }
     {
-        let digits = hex_16(n);
-        self.append(&digits[16 - count..]);
-    }
-
-    /// The 32 digits of a number.
-    #[inline(always)]
-    pub(crate) fn push_word_digits(&mut self, n: u128)
-        requires room { length self.old + 32 ≤ 4096 }
-        ensures value { self.new ≡ self.old ++ hex_text 32 n }
-        ensures len { length self.new ≡ length self.old + 32 }
-    {
-        self.append(&hex_16((n >> 64) as u64));
-        self.append(&hex_16((n & 0xffff_ffff_ffff_ffff) as u64));
+        let low = hex_16((n & 0xffff_ffff_ffff_ffff) as u64);
+        if count <= 16 {
+            self.append(&low[16 - count as usize..]);
+        } else {
+            self.append(&hex_16((n >> 64) as u64)[32 - count as usize..]);
+            self.append(&low);
+        }
     }
 
     /// A space and so many digits of a number.
     #[inline(always)]
-    pub(crate) fn push_number(&mut self, count: usize, n: u64)
-        requires count { count ≤ 16 }
+    pub fn push_number(&mut self, count: u32, n: u128)
+        requires count { count ≤ 32 }
         requires room { length self.old + 1 + count ≤ 4096 }
         ensures value { self.new ≡ self.old ++ 32 ∷ hex_text count n }
         ensures len { length self.new ≡ length self.old + 1 + count }
@@ -68,21 +62,10 @@ impl TextBuf {
         self.push_digits(count, n);
     }
 
-    /// A space and the 32 digits of a number.
-    #[inline(always)]
-    pub(crate) fn push_word(&mut self, n: u128)
-        requires room { length self.old + 33 ≤ 4096 }
-        ensures value { self.new ≡ self.old ++ 32 ∷ hex_text 32 n }
-        ensures len { length self.new ≡ length self.old + 33 }
-    {
-        self.push(b' ');
-        self.push_word_digits(n);
-    }
-
     /// A space and a number of one digit.
     #[tactic(auto, using(crate::proofs::Digits::one_digit))]
     #[inline(always)]
-    pub(crate) fn push_digit(&mut self, n: u8)
+    pub fn push_digit(&mut self, n: u8)
         requires digit { n < 16 }
         requires room { length self.old + 2 ≤ 4096 }
         ensures value { self.new ≡ self.old ++ 32 ∷ hex_text 1 n }
@@ -103,7 +86,7 @@ impl TextBuf {
         if version == 1 {
             self.push_digit(port);
         } else {
-            self.push_number(2, u64::from(port));
+            self.push_number(2, u128::from(port));
         }
     }
 
@@ -162,14 +145,14 @@ impl TextBuf {
     }
 
     /// A space and the digits of a line.
-    pub(crate) fn push_line(&mut self, line: &Line)
+    pub fn push_line(&mut self, line: &Line)
         requires room { length self.old + 129 ≤ 4096 }
         ensures value { self.new ≡ self.old ++ 32 ∷ line_digits line.now }
         ensures len { length self.new ≡ length self.old + 129 }
     {
         self.push(b' ');
         for word in &line.words {
-            self.push_word_digits(*word);
+            self.push_digits(32, *word);
         }
     }
 }

@@ -1,6 +1,6 @@
 // The lines of a header.
-ghost use Rattle.std.specs.Prelude.{◌≡◌, ◌<◌, ◌≤◌, ◌+◌, ◌++◌, length};
-ghost use Rattle.ace_event.specs.Ports.{IsHeader, port_letter};
+ghost use Rattle.std.specs.Prelude.{◌≡◌, ◌<◌, ◌≤◌, ◌+◌, ◌++◌, length, codes};
+ghost use Rattle.ace_event.specs.Ports.{IsHeader, port_letter, port_letters};
 ghost use Rattle.ace_event.specs.Text.{version_text, line_text, header_text};
 
 use crate::text_buf::TextBuf;
@@ -31,6 +31,20 @@ impl TextBuf {
         }
     }
 
+    /// The second header line.
+    pub fn push_ports(&mut self, header: &Header)
+        requires header { IsHeader header.now }
+        requires room { length self.old + 39 ≤ 4096 }
+        ensures value { self.new ≡ self.old ++ line_text (codes "PORTS " ++ port_letters header.now) }
+        ensures len { length self.new ≤ length self.old + 39 }
+    {
+        self.append(b"PORTS ");
+        for port in 0..header.ports {
+            self.push(letter_of(header, port));
+        }
+        self.push(b'\n');
+    }
+
     /// The two header lines.
     pub(crate) fn push_header(&mut self, header: &Header)
         requires header { IsHeader header.now }
@@ -38,10 +52,6 @@ impl TextBuf {
         ensures { self.new ≡ self.old ++ header_text header.now }
     {
         self.push_version(header.version);
-        self.append(b"PORTS ");
-        for port in 0..header.ports {
-            self.push(letter_of(header, port));
-        }
-        self.push(b'\n');
+        self.push_ports(header);
     }
 }

@@ -11,4 +11,5 @@ mod text_buf;
 mod writer;
 
 pub use error::WriteErr;
+pub use text_buf::{TEXT_ROOM, TextBuf};
 pub use writer::Writer;

@@ -100,7 +100,7 @@ impl TextBuf {
         self.append(b"AR");
         self.push_port(version, port);
         self.push_digit(id);
-        self.push_number(8, u64::from(addr));
+        self.push_number(8, u128::from(addr));
         self.push_digit(snoop);
         self.push_digit(dom);
         self.push_digit(bar);
@@ -119,7 +119,7 @@ impl TextBuf {
         self.push_digit(id);
         self.push_digit(resp);
         self.push_flag(last);
-        self.push_word(word);
+        self.push_number(32, word);
     }
 
     /// The line of a read acknowledge.
@@ -144,7 +144,7 @@ impl TextBuf {
         self.append(b"AW");
         self.push_port(version, port);
         self.push_digit(id);
-        self.push_number(8, u64::from(addr));
+        self.push_number(8, u128::from(addr));
         self.push_digit(snoop);
         self.push_digit(dom);
         self.push_digit(bar);
@@ -159,9 +159,9 @@ impl TextBuf {
     {
         self.append(b"W");
         self.push_port(version, port);
-        self.push_number(4, u64::from(strb));
+        self.push_number(4, u128::from(strb));
         self.push_flag(last);
-        self.push_word(word);
+        self.push_number(32, word);
     }
 
     /// The line of a write response.
@@ -198,7 +198,7 @@ impl TextBuf {
     {
         self.append(b"AC");
         self.push_port(version, port);
-        self.push_number(8, u64::from(addr));
+        self.push_number(8, u128::from(addr));
         self.push_digit(snoop);
     }
 
@@ -211,7 +211,7 @@ impl TextBuf {
     {
         self.append(b"CR");
         self.push_port(version, port);
-        self.push_number(2, u64::from(resp));
+        self.push_number(2, u128::from(resp));
         self.push_state(st);
     }
 
@@ -225,7 +225,7 @@ impl TextBuf {
         self.append(b"CD");
         self.push_port(version, port);
         self.push_flag(last);
-        self.push_word(word);
+        self.push_number(32, word);
     }
 
     /// The line of a grant.
@@ -264,7 +264,7 @@ impl TextBuf {
     {
         self.append(b"S");
         self.push_port(version, port);
-        self.push_number(8, u64::from(addr));
+        self.push_number(8, u128::from(addr));
         self.push_state(st);
     }
 
@@ -277,10 +277,10 @@ impl TextBuf {
     {
         self.append(b"L");
         self.push_port(version, port);
-        self.push_number(8, u64::from(addr));
+        self.push_number(8, u128::from(addr));
         self.push_digit(w);
         self.push_flag(x);
-        self.push_word(word);
+        self.push_number(32, word);
     }
 
     /// The line of a store.
@@ -292,8 +292,8 @@ impl TextBuf {
     {
         self.append(b"D");
         self.push_port(version, port);
-        self.push_number(8, u64::from(addr));
-        self.push_number(16, strobe);
+        self.push_number(8, u128::from(addr));
+        self.push_number(16, u128::from(strobe));
         self.push_flag(x);
         self.push_line(line);
     }
@@ -307,7 +307,7 @@ impl TextBuf {
     {
         self.append(b"OP");
         self.push_port(version, port);
-        self.push_number(4, u64::from(k));
+        self.push_number(4, u128::from(k));
         self.push_outcome(res);
     }
 
@@ -318,7 +318,7 @@ impl TextBuf {
         ensures len { length self.new ≤ length self.old + 161 }
     {
         self.append(b"MEM");
-        self.push_number(8, u64::from(addr));
+        self.push_number(8, u128::from(addr));
         self.push_line(line);
     }
 }

@@ -4,11 +4,11 @@ ghost use Rattle.std.specs.Prelude.{◌≡◌, ◌<◌, ◌≤◌, ◌+◌, ◌+
 use std::marker::Model;
 
 /// How many bytes of text wait at most.
-pub(crate) const TEXT_ROOM: usize = 4096;
+pub const TEXT_ROOM: usize = 4096;
 
 /// Up to 4096 bytes of text.
 #[derive(Drop)]
-pub(crate) struct TextBuf {
+pub struct TextBuf {
     bytes: [u8; TEXT_ROOM],
     len: usize,
 }
@@ -23,7 +23,7 @@ impl Model for TextBuf {
 
 impl TextBuf {
     /// No text.
-    pub(crate) fn empty() -> TextBuf
+    pub fn empty() -> TextBuf
         ensures { result ≡ [] }
     {
         TextBuf {
@@ -33,7 +33,7 @@ impl TextBuf {
     }
 
     /// The text.
-    pub(crate) fn bytes(&self) -> &[u8]
+    pub fn bytes(&self) -> &[u8]
         ensures { result.now ≡ self.now }
     {
         &self.bytes[..self.len]
@@ -41,7 +41,7 @@ impl TextBuf {
 
     /// How many bytes the text has.
     #[inline(always)]
-    pub(crate) fn len(&self) -> usize
+    pub fn len(&self) -> usize
         ensures value { result ≡ length self.now }
         ensures bound { result ≤ 4096 }
     {
@@ -49,7 +49,7 @@ impl TextBuf {
     }
 
     /// Lets the text go.
-    pub(crate) fn clear(&mut self)
+    pub fn clear(&mut self)
         ensures { self.new ≡ [] }
     {
         self.len = 0;
@@ -57,7 +57,7 @@ impl TextBuf {
 
     /// Adds a byte that there is room for at the end.
     #[inline(always)]
-    pub(crate) fn push(&mut self, byte: u8)
+    pub fn push(&mut self, byte: u8)
         requires { length self.old < 4096 }
         ensures value { self.new ≡ self.old ++ byte ∷ [] }
         ensures len { length self.new ≡ length self.old + 1 }
@@ -68,7 +68,7 @@ impl TextBuf {
 
     /// Adds a piece that there is room for at the end.
     #[inline(always)]
-    pub(crate) fn append(&mut self, piece: &[u8])
+    pub fn append(&mut self, piece: &[u8])
         requires { length self.old + length piece.now ≤ 4096 }
         ensures value { self.new ≡ self.old ++ piece.now }
         ensures len { length self.new ≡ length self.old + length piece.now }

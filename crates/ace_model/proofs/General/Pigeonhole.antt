@@ -19,11 +19,10 @@ AreBelow number n xs = All (λ x. number x < n) xs
 other_numbers : {A : Type 0} → (number : A → ℕ) (x : A) (xs : List A) → All (λ y. number x ≢ number y) xs
     → AllByRecursion (λ k. nat_eq (number x) k ≡ false) (map number xs)
 other_numbers number x [] all = tt
-other_numbers number x (y ∷ ys) all =
-    (
-      ne_eqb (number x) (number y) (All-head (λ z. number x ≢ number z) y ys all),
-      other_numbers number x ys (All-tail (λ z. number x ≢ number z) y ys all),
-    )
+other_numbers number x (y ∷ ys) all = (
+  ne_eqb (number x) (number y) (All-head (λ z. number x ≢ number z) y ys all),
+  other_numbers number x ys (All-tail (λ z. number x ≢ number z) y ys all),
+)
 
 apart-distinct : {A : Type 0} → (number : A → ℕ) (xs : List A) → AreApart number xs → IsDistinct nat_eq (map number xs)
 unfolding IsDistinct

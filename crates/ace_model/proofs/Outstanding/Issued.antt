@@ -3,7 +3,7 @@ use Rattle.std.specs.List.{AllByRecursion, find, list_any}
 use Rattle.std.proofs.Common.{◌≡◌, ℕ, ◌<◌, Bool, true, false, ◌||◌, List, [], ◌∷◌, length, Option, Some, None, slice_get, refl, sym, ap, subst, ◌∙◌, inl, inr, arith, zero, suc}
 use Rattle.std.proofs.lemmas.Bool.{cases_Bool}
 use Rattle.std.proofs.lemmas.List.Folds.{list_any-append}
-use Rattle.ace_model.proofs.Terms.{Event, Transaction, Trace, is_some_and, more, issued, some_issued, transactions}
+use Rattle.ace_model.proofs.Terms.{Transaction, Trace, is_some_and, more, issued, some_issued, transactions}
 use Rattle.ace_model.proofs.General.Lists.{slice_get-at_end, slice_get-grown}
 use Rattle.ace_model.proofs.Trace.Growth.{IsIssued, issued-cases, transaction-issued}
 use Rattle.ace_model.proofs.Trace.Issued.{issued-place}

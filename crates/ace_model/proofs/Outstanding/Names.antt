@@ -1,11 +1,9 @@
 -- What the last transaction of a name has had is what the looks by name say.
-use Rattle.std.proofs.Common.{◌≡◌, ◌≢◌, ℕ, ◌≤◌, Bool, true, false, not, cond, ◌&&◌, ◌||◌, nat_eq, [], ◌∷◌, length, Option, Some, None, refl, sym, ap, ◌∙◌, inl, inr, arith}
-use Rattle.std.proofs.lemmas.Bool.{cases_Bool, eqb-true, eq-eqb, ne_eqb, and_right}
-use Rattle.std.proofs.lemmas.Bool.Decides.{nat_tests}
+use Rattle.std.proofs.Common.{◌≡◌, ℕ, ◌≤◌, Bool, true, false, not, cond, ◌&&◌, ◌||◌, nat_eq, [], ◌∷◌, length, Option, Some, None, refl, sym, ◌∙◌, inl, inr, arith}
+use Rattle.std.proofs.lemmas.Bool.{cases_Bool, eq-eqb, ne_eqb, and_right}
 use Rattle.ace_model.proofs.Terms.{Event, Ar, R, Aw, B, G, M, Channel, Read, Write, Transaction, Trace, is_some_and, is_read, same_channel, has_name, is_named, issued, is_transaction, transaction_of}
 use Rattle.ace_model.proofs.Terms.{served_by, has_had, is_completion_event, is_completed, is_grant, is_write_of_memory, is_completion, is_complete, given, has_grant, is_memory_write, has_memory_write}
-use Rattle.ace_model.proofs.General.Options.{Some-injective}
-use Rattle.ace_model.proofs.Trace.Looks.{Named, at_name, has_name-is, same_channel-self, newest_named-cases}
+use Rattle.ace_model.proofs.Trace.Looks.{at_name, has_name-is, same_channel-self, newest_named-cases}
 use Rattle.ace_model.proofs.Trace.Issued.{issued-place, transaction_of-stands, transaction_of-name}
 use Rattle.ace_model.proofs.Trace.Outstanding.{one_name}
 
@@ -23,6 +21,7 @@ named_is past p q c d i j x of_name =
   where
     self : (q : ℕ) (d : Channel) (j : ℕ) → ((nat_eq q q && same_channel d d) && nat_eq j j) ≡ true
     self q d j = rw (eq-eqb q q refl, eq-eqb j j refl, same_channel-self d) refl
+
     other : (o : Option Transaction) → transaction_of past q d j ≡ o → has_name x q d j ≡ false → is_transaction o x ≡ false
     other None is f = refl
     other (Some y) is f =
@@ -41,6 +40,7 @@ not_yet test (e ∷ past) x low =
     earlier : (p : ℕ) (c : Channel) (i : ℕ) (o : Option Transaction) → transaction_of past p c i ≡ o → is_transaction o x ≡ false
     earlier p c i None is = refl
     earlier p c i (Some y) is = let b = (transaction_of-stands past p c i y is).before in ne_eqb y.place x.place (λ same. absurd (omega (arith, b, same, low)))
+
     served : (e : Event) → is_transaction (served_by past e) x ≡ false
     served (R p i resp last word) = earlier p Read i _ refl
     served (B p i resp) = earlier p Write i _ refl

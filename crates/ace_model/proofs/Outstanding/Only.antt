@@ -1,6 +1,6 @@
 -- A look that finds the only transaction that passes a test: two such looks find the same one.
 use Rattle.std.specs.List.{find}
-use Rattle.std.proofs.Common.{◌≡◌, ℕ, Bool, true, false, ◌&&◌, ◌==◌, Option, Some, None, is_some, refl, sym, ap, ◌∙◌, inl, inr}
+use Rattle.std.proofs.Common.{◌≡◌, ℕ, Bool, true, ◌&&◌, ◌==◌, Option, Some, None, is_some, refl, sym, ap, ◌∙◌, inl, inr}
 use Rattle.std.proofs.lemmas.Bool.{and_parts, and_from, cases_Bool, eqb-true, eq-eqb}
 use Rattle.ace_model.proofs.Terms.{Channel, Header, Transaction, Trace, same_channel, is_on, outstanding, is_outstanding, is_outstanding_on, some_issued, transactions, IsAccepted}
 use Rattle.ace_model.proofs.General.Options.{Some-injective}
@@ -64,14 +64,18 @@ outstanding-find h past p c i =
   where
     test : Transaction → Bool
     test x = is_outstanding_at h past p c x && (x.id == i)
+
     is : (x : Transaction) → IsIssued past x → test x ≡ true → outstanding h past p c i ≡ Some x
     is x issued t =
         let a = and_parts (is_outstanding_at h past p c x) (x.id == i) t in
         ap (outstanding h past p c) (sym (eqb-true x.id i a.1)) ∙ outstanding_at-is h past p c x issued a.0
+
     only : (x y : Transaction) → IsIssued past x → IsIssued past y → test x ≡ true → test y ≡ true → x ≡ y
     only x y ix iy tx ty = Some-injective x y (sym (is x ix tx) ∙ is y iy ty)
+
     some : (x : Transaction) → outstanding h past p c i ≡ Some x → IsIssued past x × (test x ≡ true)
     some x out = let f = outstanding_at-from h past p c i x out in (f.0, and_from _ _ f.1 (eq-eqb x.id i f.2))
+
     none : outstanding h past p c i ≡ None → (x : Transaction) → IsIssued past x → test x ≡ true → ⊥
     none out x issued t = let s = is x issued t in let no : None ≡ Some x = sym out ∙ s in cc
 

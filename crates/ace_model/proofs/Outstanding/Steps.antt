@@ -1,5 +1,5 @@
 -- What is outstanding after an event: what was so before and doesn't end by it, and what it issues.
-use Rattle.std.proofs.Common.{◌≡◌, ℕ, Bool, true, false, not, ◌&&◌, nat_eq, [], ◌∷◌, length, Option, Some, None, refl, sym, ap, ◌∙◌, inl, inr, arith}
+use Rattle.std.proofs.Common.{◌≡◌, ℕ, Bool, true, false, not, ◌&&◌, nat_eq, ◌∷◌, length, Option, Some, None, refl, sym, ap, ◌∙◌, inl, inr, arith}
 use Rattle.std.proofs.lemmas.Bool.{cases_Bool, eqb-true, eq-eqb, ne_eqb}
 use Rattle.ace_model.proofs.Terms.{Event, Channel, Header, Transaction, Trace, has_name, is_named, issued, ended, without, outstanding, is_outstanding, is_transaction, has_free_name, IsAccepted}
 use Rattle.ace_model.proofs.General.Options.{none_is, is_none_or-at, is_some_and-is}

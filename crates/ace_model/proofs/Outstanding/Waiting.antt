@@ -1,8 +1,8 @@
 -- A complete transaction of an ACE port that waits for its RK or WK is outstanding, and has had its last R or its B. So what is no
 -- longer outstanding is complete.
-use Rattle.std.proofs.Common.{◌≡◌, ℕ, ◌≤◌, Bool, true, false, not, ◌&&◌, ◌||◌, nat_eq, nat_lt, [], ◌∷◌, length, Option, Some, None, slice_get, le_refl, refl, sym, ap, subst, ◌∙◌, inl, inr, arith}
+use Rattle.std.proofs.Common.{◌≡◌, ℕ, ◌≤◌, true, false, not, ◌&&◌, nat_eq, nat_lt, [], ◌∷◌, Some, slice_get, le_refl, refl, sym, ap, subst, ◌∙◌, inl, inr, arith}
 use Rattle.std.proofs.lemmas.Bool.{and_parts, or_left, or_right, cases_Bool, eq-eqb, eqb-true, not-false}
-use Rattle.ace_model.proofs.Terms.{Event, R, Rk, B, Wk, LineState, Channel, Read, Write, Header, Transaction, Trace, is_some_and, is_ace, is_named, issued, ended, is_transaction, transaction_of, outstanding, is_outstanding}
+use Rattle.ace_model.proofs.Terms.{Event, R, Rk, B, Wk, Channel, Read, Write, Header, Transaction, Trace, is_ace, ended, is_transaction, transaction_of, outstanding, is_outstanding}
 use Rattle.ace_model.proofs.Terms.{acknowledgements, acknowledged, completed, completes, is_completion, is_complete, served_by, is_completion_event, is_completed, IsAccepted}
 use Rattle.ace_model.proofs.General.Booleans.{above_count}
 use Rattle.ace_model.proofs.General.Lists.{slice_get-more}

@@ -44,13 +44,13 @@ module _ (h : Header) (past : Trace) (p i : ℕ) (x : Transaction) (u : Unwritte
   other_write write q ends =
       without-other write (outstanding h past p Write i) x u.out
       (λ z is same.
-          let w = ends z is in
-          let one : z ≡ x = same_place past q p Write Write w.id i z x (outstanding-named h past q Write w.id z w.out) named same in
-          let name = outstanding-name h past p Write i x u.out in
-          let written : has_memory_write past x.port x.chan x.id ≡ true =
-          subst (λ (v : Transaction). has_memory_write past v.port v.chan v.id ≡ true) one (w.written (rw one u.sends)) in
-          let there : has_memory_write past p Write i ≡ true = sym (at_name (has_memory_write past) x p Write i name) ∙ written in
-          let none = u.unwritten in cc)
+      let w = ends z is in
+      let one : z ≡ x = same_place past q p Write Write w.id i z x (outstanding-named h past q Write w.id z w.out) named same in
+      let name = outstanding-name h past p Write i x u.out in
+      let written : has_memory_write past x.port x.chan x.id ≡ true =
+      subst (λ (v : Transaction). has_memory_write past v.port v.chan v.id ≡ true) one (w.written (rw one u.sends)) in
+      let there : has_memory_write past p Write i ≡ true = sym (at_name (has_memory_write past) x p Write i name) ∙ written in
+      let none = u.unwritten in cc)
 
   out_stays : (e : Event) → IsAccepted h (e ∷ past) → outstanding h (e ∷ past) p Write i ≡ Some x
   out_stays (Ar q j addr snoop dom bar lock) a =
@@ -114,8 +114,7 @@ data_write-is None p x e = cc
 data_write-is (Some y) p x e =
     let s = some_if-is (nat_eq y.port p && is_some_and (write_kind y) has_write_data) y x e in
     let parts = and_parts (nat_eq y.port p) _ s.0 in
-    let one = s.1 in
-    (
+    let one = s.1 in (
       ap Some one,
       subst (λ (v : Transaction). v.port ≡ p) one (eqb-true y.port p parts.0),
       subst (λ (v : Transaction). is_some_and (write_kind v) has_write_data ≡ true) one parts.1,

@@ -10,7 +10,7 @@ returns-then-not-awaits_store c h past p l =
     let x = c.args.holder.now in
     at-event h past p l c.args.target.now c.args.whole x (record { state = UD; copy = c.merge-holder.result; sent = x.sent }) c.args.event.now (D d.port d.addr d.strobe d.x d.line) d.is
     (λ s. subst (λ v. HolderStands h (D d.port d.addr d.strobe d.x d.line ∷ past) p l (record { state = UD; copy = v; sent = x.sent })) (sym c.merge-holder.ensures.value)
-        (d-dirties h past p l c.args.target.now c.args.whole x d.port d.addr d.strobe d.x d.line s (sym c.awaits_store.ensures ∙ c.if-not-awaits_store.true)))
+    (d-dirties h past p l c.args.target.now c.args.whole x d.port d.addr d.strobe d.x d.line s (sym c.awaits_store.ensures ∙ c.if-not-awaits_store.true)))
 
 pub returns-else-not-awaits_store : goal.returns-else-not-awaits_store
 returns-else-not-awaits_store c h past p l =
@@ -18,4 +18,4 @@ returns-else-not-awaits_store c h past p l =
     let x = c.args.holder.now in
     at-event h past p l c.args.target.now c.args.whole x (record { state = x.state; copy = c.merge-holder.result; sent = x.sent }) c.args.event.now (D d.port d.addr d.strobe d.x d.line) d.is
     (λ s. subst (λ v. HolderStands h (D d.port d.addr d.strobe d.x d.line ∷ past) p l (record { state = x.state; copy = v; sent = x.sent })) (sym c.merge-holder.ensures.value)
-        (d-keeps h past p l c.args.target.now c.args.whole x d.port d.addr d.strobe d.x d.line s (sym c.awaits_store.ensures ∙ c.if-not-awaits_store.false)))
+    (d-keeps h past p l c.args.target.now c.args.whole x d.port d.addr d.strobe d.x d.line s (sym c.awaits_store.ensures ∙ c.if-not-awaits_store.false)))

@@ -24,8 +24,8 @@ returns-in-Cr c h past l s other =
     let here = subst (λ v. IsGrantStep h past l v a.target.now (Some a.self.now) a.holders.now a.memory.now) is s in
     subst (λ v. GrantFits h (v ∷ past) l c.hear_answer.new.self) (sym is)
     (subst (GrantFits h (Cr c.in-Cr.port c.in-Cr.resp c.in-Cr.st ∷ past) l) (sym c.hear_answer.ensures.rest)
-        (answer_heard h past l a.target.now a.self.now a.holders.now a.memory.now c.in-Cr.port c.in-Cr.resp c.in-Cr.st here c.hear_answer.new.self.stages c.copy_at-copy.result
-            c.hear_answer.ensures.stages c.copy_at-copy.ensures))
+    (answer_heard h past l a.target.now a.self.now a.holders.now a.memory.now c.in-Cr.port c.in-Cr.resp c.in-Cr.st here c.hear_answer.new.self.stages c.copy_at-copy.result
+    c.hear_answer.ensures.stages c.copy_at-copy.ensures))
 
 pub returns-then-target-eq3 : goal.returns-then-target-eq3
 returns-then-target-eq3 c h past l s other =
@@ -34,7 +34,7 @@ returns-then-target-eq3 c h past l s other =
     let here = subst (λ v. IsGrantStep h past l v a.target.now (Some a.self.now) a.holders.now a.memory.now) is s in
     subst (λ v. GrantFits h (v ∷ past) l (record a.self.now { stages = c.set_stage-then-target-eq3.new.stages })) (sym is)
     (fourth_heard h past l a.target.now a.self.now a.holders.now a.memory.now c.in-Cd.port c.in-Cd.last c.in-Cd.word here c.if-target-eq3.true c.set_stage-then-target-eq3.new.stages
-        c.set_stage-then-target-eq3.ensures)
+    c.set_stage-then-target-eq3.ensures)
 
 pub returns-else-target-eq3 : goal.returns-else-target-eq3
 returns-else-target-eq3 c h past l s other =
@@ -53,7 +53,7 @@ returns-in-R c h past l s other =
     let last = subst (λ v. is_transaction (ended h past v) a.self.now.transaction ≡ false) is other in
     subst (λ v. GrantFits h (v ∷ past) l c.hear_beat.new.self) (sym is)
     (subst (GrantFits h (R r.port r.id r.resp r.last r.word ∷ past) l) (sym c.hear_beat.ensures)
-        (beat_heard h past l a.target.now a.self.now a.holders.now a.memory.now r.port r.id r.resp r.last r.word here last))
+    (beat_heard h past l a.target.now a.self.now a.holders.now a.memory.now r.port r.id r.resp r.last r.word here last))
 
 pub returns-in-M : goal.returns-in-M
 returns-in-M c h past l s other =
@@ -63,7 +63,7 @@ returns-in-M c h past l s other =
     let here = subst (λ v. IsGrantStep h past l v a.target.now (Some a.self.now) a.holders.now a.memory.now) is s in
     subst (λ v. GrantFits h (v ∷ past) l c.hear_write.new.self) (sym is)
     (subst (GrantFits h (M m.port m.chan m.id m.line ∷ past) l) (sym c.hear_write.ensures)
-        (write_heard h past l a.target.now a.self.now a.holders.now a.memory.now m.port m.chan m.id m.line here c.is_of-own.result c.is_of-own.ensures))
+    (write_heard h past l a.target.now a.self.now a.holders.now a.memory.now m.port m.chan m.id m.line here c.is_of-own.result c.is_of-own.ensures))
 
 pub returns-in_default : goal.returns-in_default
 returns-in_default c h past l s other =

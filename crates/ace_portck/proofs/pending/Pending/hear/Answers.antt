@@ -1,4 +1,4 @@
-use Rattle.std.proofs.Common.{rules, ◌≡◌, ◌≤◌, ◌∙◌, ap, map, length, arith, option_map, vec_capacity}
+use Rattle.std.proofs.Common.{◌≡◌, ◌∙◌, ap, map, arith, option_map, vec_capacity}
 use Rattle.ace_model.specs.Trace.{more}
 use Rattle.ace_model.specs.Transactions.{is_ace, issued}
 use Rattle.ace_portck.specs.Targets.{begun}

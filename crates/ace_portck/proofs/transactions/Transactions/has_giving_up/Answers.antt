@@ -1,16 +1,11 @@
-use Rattle.std.proofs.Common.{◌≡◌, ◌==◌, ◌∙◌, ap, sym, not, is_none, is_some, Option, Some, None, option_map, arith, refl}
+use Rattle.std.proofs.Common.{◌≡◌, ◌∙◌, sym, arith}
 use Rattle.std.proofs.lemmas.Grind.{common_steps}
-use Rattle.std.specs.Option.{option_or}
-use Rattle.std.specs.List.{find, list_any}
+use Rattle.std.specs.List.{list_any}
 use Rattle.ace_model.specs.AddressRules.{gives_up}
-use Rattle.ace_model.specs.Kinds.{is_unique_write}
-use Rattle.ace_model.specs.Shares.{lesser}
 use Rattle.ace_model.specs.Trace.{is_some_and}
-use Rattle.ace_model.specs.Transactions.{is_on, write_kind, outstanding, acknowledged, next_complete}
+use Rattle.ace_model.specs.Transactions.{write_kind}
 use Rattle.ace_portck.specs.declared.target.Progress.{Progress}
-use Rattle.ace_portck.specs.Targets.{progress_of, own_of}
-use Rattle.ace_portck.specs.Transactions.{is_unordered, is_incomplete}
-use Rattle.ace_portck.proofs.Found.{own_is_found, has_own, has_write_is, first_unordered_is, first_incomplete_is, acknowledged_named}
+use Rattle.ace_portck.proofs.Found.{has_write_is}
 use Rattle.ace_portck.proofs.transactions.Transactions.has_giving_up.Goals as goal
 
 pub returns : goal.returns

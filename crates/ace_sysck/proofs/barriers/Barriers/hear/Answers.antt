@@ -15,32 +15,32 @@ use Rattle.ace_sysck.proofs.BarrierSteps.{awaits-at, k34-is, k35-is, barriers_be
 use Rattle.ace_sysck.proofs.barriers.Barriers.hear.Goals as goal
 
 pub returns-then-is_barrier_half : goal.returns-then-is_barrier_half
-returns-then-is_barrier_half g c =
+returns-then-is_barrier_half c = λ r q.
     let s = c.args.self.now in
     let x = c.in-Some.x in
     let begun : begun_in c.args.event.now c.args.target.now ≡ Some x = sym c.begun_in.ensures ∙ c.in-Some.is in
     let items = c.set.ensures ∙ ap (slice_set s.ports.items x.port) (c.joined-barrier.ensures ∙ ap (λ v. joined v x) c.barrier_of.ensures) in
-    barriers_begun g.r s c.set.new.self c.args.event.now c.args.target.now x c.requires.step.accepted c.requires.step.target begun
-    (sym c.is_barrier_half.ensures ∙ c.if-is_barrier_half.true) c.requires.stands items
+    barriers_begun r s c.set.new.self c.args.event.now c.args.target.now x q.step.accepted q.step.target begun
+    (sym c.is_barrier_half.ensures ∙ c.if-is_barrier_half.true) q.stands items
 
 pub returns-else-is_barrier_half : goal.returns-else-is_barrier_half
-returns-else-is_barrier_half g c =
+returns-else-is_barrier_half c = λ r q.
     let x = c.in-Some.x in
     let begun : begun_in c.args.event.now c.args.target.now ≡ Some x = sym c.begun_in.ensures ∙ c.in-Some.is in
-    barriers_plain g.r c.args.self.now c.args.event.now c.args.target.now x c.requires.step.target begun
-    (sym c.is_barrier_half.ensures ∙ c.if-is_barrier_half.false) c.requires.stands
+    barriers_plain r c.args.self.now c.args.event.now c.args.target.now x q.step.target begun
+    (sym c.is_barrier_half.ensures ∙ c.if-is_barrier_half.false) q.stands
 
 pub returns-in-Some-completed_in : goal.returns-in-Some-completed_in
-returns-in-Some-completed_in g c =
+returns-in-Some-completed_in c = λ r q.
     let s = c.args.self.now in
     let x = c.in-Some-completed_in.x in
     let completed : completed_in c.args.event.now c.args.target.now ≡ Some x = sym c.completed_in.ensures ∙ c.in-Some-completed_in.is in
     let items = c.set-in-Some-completed_in.ensures
     ∙ ap (slice_set s.ports.items x.port) (c.answered-barrier.ensures ∙ ap (λ v. answered v x.place) c.barrier_of-in-Some-completed_in.ensures) in
-    barriers_completed g.r s c.set-in-Some-completed_in.new.self c.args.event.now c.args.target.now x c.requires.step.accepted c.requires.step.target completed c.requires.stands items
+    barriers_completed r s c.set-in-Some-completed_in.new.self c.args.event.now c.args.target.now x q.step.accepted q.step.target completed q.stands items
 
 pub returns-in_default-completed_in : goal.returns-in_default-completed_in
-returns-in_default-completed_in g c =
+returns-in_default-completed_in c = λ r q.
     let begun : begun_in c.args.event.now c.args.target.now ≡ None = grind (arith, common_steps) in
     let completed : completed_in c.args.event.now c.args.target.now ≡ None = grind (arith, common_steps) in
-    barriers_stay g.r c.args.self.now c.args.event.now c.args.target.now c.requires.step.accepted c.requires.step.target begun completed c.requires.stands
+    barriers_stay r c.args.self.now c.args.event.now c.args.target.now q.step.accepted q.step.target begun completed q.stands

@@ -15,10 +15,10 @@ use Rattle.ace_sysck.proofs.BarrierSteps.{awaits-at, k34-is, k35-is, barriers_be
 use Rattle.ace_sysck.proofs.barriers.Barriers.keeps_k9.Goals as goal
 
 pub returns-then-x-eq0 : goal.returns-then-x-eq0
-returns-then-x-eq0 g c =
+returns-then-x-eq0 c = λ r q.
     let x = c.args.x.now in
     let half : is_barrier_half x ≡ true = grind (arith, common_steps) in
     let b = get_or c.args.self.now.ports.items x.port Idle in
     let begins : c.begins_after.result ≡ begins_after b x = c.begins_after.ensures ∙ ap (λ v. begins_after v x) c.barrier_of.ensures in
-    let is = begins-is g.r.past x b (c.requires.stands.ports x.port) c.requires.place in
+    let is = begins-is r.past x b (q.stands.ports x.port) q.place in
     rw half (begins ∙ ap (λ v. v && begins_after b x) (sym (eq-eqb x.addr 0 c.if-x-eq0.true)) ∙ sym is)

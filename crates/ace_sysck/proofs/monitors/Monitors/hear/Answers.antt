@@ -9,47 +9,47 @@ use Rattle.ace_sysck.proofs.MonitorSteps.{monitors_load, monitors_store, monitor
 use Rattle.ace_sysck.proofs.monitors.Monitors.hear.Goals as goal
 
 pub returns-then-x : goal.returns-then-x
-returns-then-x g c =
+returns-then-x c = λ r q.
     let i = c.in-L in
     let e : Event = L i.port i.addr i.w true i.word in
     let is : c.args.event.now ≡ e = i.is ∙ ap (λ b. L i.port i.addr i.w b i.word) c.if-x.true in
-    let accepted : IsAccepted g.r.header (e ∷ g.r.past) = subst (λ (v : Event). IsAccepted g.r.header (v ∷ g.r.past)) is c.requires.step.accepted in
-    subst (λ (v : Event). MonitorsStand (after g.r v) c.set.new.self) (sym is)
-    (monitors_exclusive_load g.r c.args.self.now c.set.new.self i.port i.addr i.w i.word accepted c.requires.stands
-    (port_within g.r.header g.r.past e i.port accepted refl) c.set.ensures)
+    let accepted : IsAccepted r.header (e ∷ r.past) = subst (λ (v : Event). IsAccepted r.header (v ∷ r.past)) is q.step.accepted in
+    subst (λ (v : Event). MonitorsStand (after r v) c.set.new.self) (sym is)
+    (monitors_exclusive_load r c.args.self.now c.set.new.self i.port i.addr i.w i.word accepted q.stands
+    (port_within r.header r.past e i.port accepted refl) c.set.ensures)
 
 pub returns-else-x : goal.returns-else-x
-returns-else-x g c =
+returns-else-x c = λ r q.
     let i = c.in-L in
     let is : c.args.event.now ≡ L i.port i.addr i.w false i.word = i.is ∙ ap (λ b. L i.port i.addr i.w b i.word) c.if-x.false in
-    subst (λ (v : Event). MonitorsStand (after g.r v) c.args.self.now) (sym is) (monitors_load g.r c.args.self.now i.port i.addr i.w i.word c.requires.stands)
+    subst (λ (v : Event). MonitorsStand (after r v) c.args.self.now) (sym is) (monitors_load r c.args.self.now i.port i.addr i.w i.word q.stands)
 
 pub returns-then-x-2 : goal.returns-then-x-2
-returns-then-x-2 g c =
+returns-then-x-2 c = λ r q.
     let i = c.in-D in
     let e : Event = D i.port i.addr i.strobe true i.line in
     let is : c.args.event.now ≡ e = i.is ∙ ap (λ b. D i.port i.addr i.strobe b i.line) c.if-x-2.true in
-    let accepted : IsAccepted g.r.header (e ∷ g.r.past) = subst (λ (v : Event). IsAccepted g.r.header (v ∷ g.r.past)) is c.requires.step.accepted in
-    subst (λ (v : Event). MonitorsStand (after g.r v) c.set-then-x-2.new.self) (sym is)
-    (monitors_exclusive_store g.r c.args.self.now c.set-then-x-2.new.self i.port i.addr i.strobe i.line c.requires.stands
-    (port_within g.r.header g.r.past e i.port accepted refl) c.set-then-x-2.ensures)
+    let accepted : IsAccepted r.header (e ∷ r.past) = subst (λ (v : Event). IsAccepted r.header (v ∷ r.past)) is q.step.accepted in
+    subst (λ (v : Event). MonitorsStand (after r v) c.set-then-x-2.new.self) (sym is)
+    (monitors_exclusive_store r c.args.self.now c.set-then-x-2.new.self i.port i.addr i.strobe i.line q.stands
+    (port_within r.header r.past e i.port accepted refl) c.set-then-x-2.ensures)
 
 pub returns-else-x-2 : goal.returns-else-x-2
-returns-else-x-2 g c =
+returns-else-x-2 c = λ r q.
     let i = c.in-D in
     let is : c.args.event.now ≡ D i.port i.addr i.strobe false i.line = i.is ∙ ap (λ b. D i.port i.addr i.strobe b i.line) c.if-x-2.false in
-    subst (λ (v : Event). MonitorsStand (after g.r v) c.args.self.now) (sym is) (monitors_store g.r c.args.self.now i.port i.addr i.strobe i.line c.requires.stands)
+    subst (λ (v : Event). MonitorsStand (after r v) c.args.self.now) (sym is) (monitors_store r c.args.self.now i.port i.addr i.strobe i.line q.stands)
 
 pub returns-in-Some : goal.returns-in-Some
-returns-in-Some g c =
+returns-in-Some c = λ r q.
     let i = c.in-Some in
     let e = c.args.event.now in
-    let left = left_at g.r.header g.r.past e i.port i.state c.requires.step.accepted (sym i.ensures) in
-    let line = ap (λ (v : Target). v.line) c.requires.step.target in
-    monitors_leave g.r c.args.self.now c.leave.new.self e i.port c.args.target.now.line i.state c.requires.stands
-    (port_within g.r.header g.r.past e i.port c.requires.step.accepted left.1) (rw line left.0) c.leave.ensures
+    let left = left_at r.header r.past e i.port i.state q.step.accepted (sym i.ensures) in
+    let line = ap (λ (v : Target). v.line) q.step.target in
+    monitors_leave r c.args.self.now c.leave.new.self e i.port c.args.target.now.line i.state q.stands
+    (port_within r.header r.past e i.port q.step.accepted left.1) (rw line left.0) c.leave.ensures
 
 pub returns-in_default-left_state : goal.returns-in_default-left_state
-returns-in_default-left_state g c =
+returns-in_default-left_state c = λ r q.
     let none : left_state c.args.event.now ≡ None = grind (arith, common_steps) in
-    monitors_other g.r c.args.self.now c.args.event.now c.in_default.not-L c.in_default.not-D none c.requires.stands
+    monitors_other r c.args.self.now c.args.event.now c.in_default.not-L c.in_default.not-D none q.stands

@@ -8,17 +8,17 @@ use Rattle.ace_sysck.proofs.RegistrationSteps.{registrations_stay, registrations
 use Rattle.ace_sysck.proofs.registrations.Registrations.hear.Goals as goal
 
 pub returns-in-Some-get_mut : goal.returns-in-Some-get_mut
-returns-in-Some-get_mut g c =
+returns-in-Some-get_mut c = λ r q.
     let s = c.args.self.now in
     let x = c.in-Some.x in
     let m = c.get_mut.follows.lender c.with_port.result in
     let here : get nat_eq m x.addr ≡ Some c.with_port.result = grind (arith, common_steps) in
     let there : (l : ℕ) → (l ≡ x.addr → ⊥) → get nat_eq m l ≡ get nat_eq s.lines l = λ l n. grind (arith, common_steps) in
     let kept : c.kept_bits-kept.result ≡ kept_bits x (registered_bits s x.addr) = grind (arith, common_steps) in
-    registrations_lock g.r s (record { lines = m }) c.args.event.now c.args.target.now x c.kept_bits-kept.result c.with_port.result c.requires.step.accepted c.requires.step.header.most_ports
-    c.requires.step.target (sym c.in-Some.ensures) c.requires.stands kept c.with_port.ensures here there
+    registrations_lock r s (record { lines = m }) c.args.event.now c.args.target.now x c.kept_bits-kept.result c.with_port.result q.step.accepted q.step.header.most_ports
+    q.step.target (sym c.in-Some.ensures) q.stands kept c.with_port.ensures here there
 
 pub returns-in_default : goal.returns-in_default
-returns-in_default g c =
+returns-in_default c = λ r q.
     let none : locked_in c.args.event.now c.args.target.now ≡ None = grind (arith, common_steps) in
-    registrations_stay g.r c.args.self.now c.args.event.now c.args.target.now c.requires.step.accepted c.requires.step.target none c.requires.stands
+    registrations_stay r c.args.self.now c.args.event.now c.args.target.now q.step.accepted q.step.target none q.stands

@@ -1,0 +1,200 @@
+-- What is kept of all lines, after an event and after room was made.
+use Rattle.std.proofs.Common.{rules, ◌≡◌, ◌⊎◌, ◌<◌, ◌≤◌, ◌+◌, ◌-◌, ◌^◌, ◌%◌, ℕ, nat_eq, true, false, Bool, not, ◌&&◌, if◌then◌else◌, List, [], ◌∷◌, length, Option, Some, None, option_map, IsSome, refl, sym, ap, subst, ◌∙◌, inl, inr, unwrap_or, arith}
+use Rattle.std.proofs.lemmas.Bool.{cases_eq}
+use Rattle.std.specs.Bool.{OnTrue}
+use Rattle.indexmap.specs.IndexMap.{get}
+use Rattle.ace_model.specs.Lines.{known_lines}
+use Rattle.ace_model.proofs.Terms.{Event, Header, Trace, IsAccepted, granted}
+use Rattle.ace_model.specs.Accepted.{least_broken}
+use Rattle.ace_portck.specs.Targets.{Recording, after, line_in, target_of}
+use Rattle.ace_portck.specs.declared.target.Target.{Target}
+use Rattle.ace_lineck.specs.declared.lines.LineCheck.{LineCheck}
+use Rattle.ace_lineck.specs.declared.record.LineRecord.{LineRecord}
+use Rattle.ace_lineck.specs.declared.record.Holder.{Holder}
+use Rattle.ace_lineck.specs.declared.grant.Grant.{Grant}
+use Rattle.ace_lineck.specs.declared.record.Use.TheVariants.{Unknown}
+use Rattle.ace_lineck.specs.Holders.{HoldersStand, MemoryStands, IsLineStep, holder_at, empty_holder, HasNothing}
+use Rattle.ace_lineck.specs.Grants.{GrantStands}
+use Rattle.ace_lineck.specs.Uses.{use_of, is_unknown}
+use Rattle.ace_lineck.specs.Records.{LineStands, IsRecordStep, IsFresh, name_of}
+use Rattle.ace_lineck.specs.Stands.{Stands, IsEmpty, IsAbsent, IsNewLine, HasRecord, MayApply, begins_line, record_of}
+use Rattle.ace_lineck.proofs.OnLine.{IsOff}
+use Rattle.ace_lineck.proofs.OffLine.{holders-stay, memory-stays}
+use Rattle.ace_lineck.proofs.GrantFrame.{grant_stays}
+use Rattle.ace_lineck.proofs.KnownLines.{use-stays, known-used, known-counts, known-same, few-known, line-known}
+
+-- what is kept of a line stays at an event of another
+pub line-stays : (h : Header) (past : Trace) (e : Event) → IsAccepted h (e ∷ past) → (l : ℕ) (x : LineRecord) → IsOff h past e l → LineStands h past l x → LineStands h (e ∷ past) l x
+line-stays h past e a l x off s = record {
+  used = s.used ∙ sym (use-stays h past e l off);
+  memory = memory-stays h past e a l x.memory off s.memory;
+  grant = grant_stays h past e a l x.grant off s.grant;
+  holders = holders-stay h past e a l x.holders.items off s.holders;
+}
+
+-- the name of the granted transaction
+pub name-granted : (h : Header) (past : Trace) (l : ℕ) (g : Option Grant) → GrantStands h past l g → option_map (λ (v : Grant). name_of v.transaction) g ≡ option_map name_of (granted h past l)
+name-granted h past l None none = sym (ap (option_map name_of) none)
+name-granted h past l (Some g) f = sym (ap (option_map name_of) f.granted)
+
+-- The record of the event's line is a new one, and each other is as it was.
+pub record IsChanged (s t : LineCheck) (line : ℕ) (x : LineRecord) : Type 0 where
+  pub header : t.header ≡ s.header
+  pub empty : t.empty ≡ s.empty
+  pub here : get nat_eq t.lines line ≡ Some x
+  pub others : (q : ℕ) → (q ≡ line → ⊥) → get nat_eq t.lines q ≡ get nat_eq s.lines q
+
+pub changed : (s t : LineCheck) (r : Recording) (e : Event) (line : ℕ) (x : LineRecord) → IsChanged s t line x → Stands s r → least_broken r.header r.past e ≡ None
+    → line_in r.header r.past e ≡ Some line → LineStands r.header (e ∷ r.past) line x → length x.holders.items ≡ r.header.ports → t.known ≡ length (known_lines (e ∷ r.past))
+    → Stands t (after r e)
+changed s t r e line x c st fine on new room known = record {
+  header = c.header ∙ st.header;
+  ports = st.ports;
+  accepted = accepted;
+  empty = subst IsEmpty (sym c.empty) st.empty;
+  lines = λ l. by l (cases_eq l line);
+  holders = λ l y is. rooms l y is (cases_eq l line);
+  known = known;
+}
+  where
+    accepted : IsAccepted r.header (e ∷ r.past)
+    accepted = (st.accepted, fine)
+
+    by : (l : ℕ) → (l ≡ line) ⊎ (l ≡ line → ⊥) → LineStands r.header (e ∷ r.past) l (record_of t l)
+    by l (inl is) =
+        let one : record_of t l ≡ x = ap (record_of t) is ∙ ap (λ v. unwrap_or v t.empty) c.here in
+        subst (LineStands r.header (e ∷ r.past) l) (sym one) (subst (λ v. LineStands r.header (e ∷ r.past) v x) (sym is) new)
+    by l (inr off) =
+        let one : record_of t l ≡ record_of s l = ap (λ v. unwrap_or v t.empty) (c.others l off) ∙ ap (unwrap_or (get nat_eq s.lines l)) c.empty in
+        let apart : IsOff r.header r.past e l = λ q. let f : Some line ≡ Some l = sym on ∙ q in off cc in
+        subst (LineStands r.header (e ∷ r.past) l) (sym one) (line-stays r.header r.past e accepted l (record_of s l) apart (st.lines l))
+
+    rooms : (l : ℕ) (y : LineRecord) → get nat_eq t.lines l ≡ Some y → (l ≡ line) ⊎ (l ≡ line → ⊥) → length y.holders.items ≡ r.header.ports
+    rooms l y is (inl same) =
+        let one : Some x ≡ Some y = sym c.here ∙ ap (get nat_eq t.lines) (sym same) ∙ is in
+        let eq : x ≡ y = cc in
+        subst (λ (v : LineRecord). length v.holders.items ≡ r.header.ports) eq room
+    rooms l y is (inr off) = st.holders l y (sym (c.others l off) ∙ is)
+
+-- an event of no line leaves all records as they are
+pub unchanged : (s : LineCheck) (r : Recording) (e : Event) → Stands s r → least_broken r.header r.past e ≡ None → line_in r.header r.past e ≡ None → Stands s (after r e)
+unchanged s r e st fine off = record {
+  header = st.header;
+  ports = st.ports;
+  accepted = (st.accepted, fine);
+  empty = st.empty;
+  lines = λ l. line-stays r.header r.past e (st.accepted, fine) l (record_of s l) (λ q. let f : None ≡ Some l = sym off ∙ q in cc) (st.lines l);
+  holders = st.holders;
+  known = st.known ∙ sym (known-same r.header r.past e off);
+}
+
+-- a new record of a line of which nothing was kept stands where the empty one stood
+pub fresh-stands : (h : Header) (past : Trace) (l : ℕ) (x y : LineRecord) → IsEmpty x → IsFresh h.ports y → LineStands h past l x → LineStands h past l y
+fresh-stands h past l x y e f s = record {
+  used = f.used ∙ sym e.used ∙ s.used;
+  memory = subst (MemoryStands past l) (e.memory ∙ sym f.memory) s.memory;
+  grant = subst (GrantStands h past l) (e.grant ∙ sym f.grant) s.grant;
+  holders = record {
+    state = λ p. ap (λ (v : Holder). v.state) (same p) ∙ s.holders.state p;
+    copy = λ p. ap (λ (v : Holder). v.copy) (same p) ∙ s.holders.copy p;
+    sent = λ p. ap (λ (v : Holder). v.sent) (same p) ∙ s.holders.sent p;
+  };
+}
+  where
+    same : (p : ℕ) → holder_at y.holders.items p ≡ holder_at x.holders.items p
+    same p = f.holders p ∙ ap (λ v. holder_at v p) (sym e.holders)
+
+pub made : (s t : LineCheck) (r : Recording) (line : ℕ) (x : LineRecord) → IsChanged s t line x → get nat_eq s.lines line ≡ None → t.known ≡ s.known → IsFresh s.header.ports x
+    → Stands s r → Stands t r
+made s t r line x c none known f st = record {
+  header = c.header ∙ st.header;
+  ports = st.ports;
+  accepted = st.accepted;
+  empty = subst IsEmpty (sym c.empty) st.empty;
+  lines = λ l. by l (cases_eq l line);
+  holders = λ l y is. rooms l y is (cases_eq l line);
+  known = known ∙ st.known;
+}
+  where
+    fresh : IsFresh r.header.ports x
+    fresh = subst (λ (v : Header). IsFresh v.ports x) st.header f
+
+    by : (l : ℕ) → (l ≡ line) ⊎ (l ≡ line → ⊥) → LineStands r.header r.past l (record_of t l)
+    by l (inl is) =
+        let one : record_of t l ≡ x = ap (record_of t) is ∙ ap (λ v. unwrap_or v t.empty) c.here in
+        let was : record_of s l ≡ s.empty = ap (record_of s) is ∙ ap (λ v. unwrap_or v s.empty) none in
+        subst (LineStands r.header r.past l) (sym one) (fresh-stands r.header r.past l s.empty x st.empty fresh (subst (LineStands r.header r.past l) was (st.lines l)))
+    by l (inr off) =
+        let one : record_of t l ≡ record_of s l = ap (λ v. unwrap_or v t.empty) (c.others l off) ∙ ap (unwrap_or (get nat_eq s.lines l)) c.empty in
+        subst (LineStands r.header r.past l) (sym one) (st.lines l)
+
+    rooms : (l : ℕ) (y : LineRecord) → get nat_eq t.lines l ≡ Some y → (l ≡ line) ⊎ (l ≡ line → ⊥) → length y.holders.items ≡ r.header.ports
+    rooms l y is (inl same) =
+        let one : Some x ≡ Some y = sym c.here ∙ ap (get nat_eq t.lines) (sym same) ∙ is in
+        let eq : x ≡ y = cc in
+        subst (λ (v : LineRecord). length v.holders.items ≡ r.header.ports) eq fresh.count
+    rooms l y is (inr off) = st.holders l y (sym (c.others l off) ∙ is)
+
+-- a line without a record is one that no transaction has named
+pub absent-new : (s : LineCheck) (r : Recording) (line : Option ℕ) → Stands s r → IsAbsent s line → IsNewLine r.past line
+absent-new s r None st none = none
+absent-new s r (Some l) st none =
+    let was : record_of s l ≡ s.empty = ap (λ v. unwrap_or v s.empty) none in
+    let used : use_of r.past l ≡ Unknown = sym (st.lines l).used ∙ ap (λ (v : LineRecord). v.used) was ∙ st.empty.used in
+    known-used r.past l ∙ ap (λ v. not (is_unknown v)) used
+
+-- where the event may be next, its line has a record
+pub has-record : (s : LineCheck) (r : Recording) (e : Event) (t : Target) → MayApply s r e t → (l : ℕ) → t.line ≡ Some l → get nat_eq s.lines l ≡ None → ⊥
+has-record s r e t m l line none = by (begins_line e) refl
+  where
+    on : line_in r.header r.past e ≡ Some l
+    on = ap (λ (v : Target). v.line) (sym m.target) ∙ line
+
+    by : (b : Bool) → begins_line e ≡ b → ⊥
+    by false is =
+        let known = line-known r.header r.past l e (m.stands.accepted, m.kept) is on in
+        let new = absent-new s r (Some l) m.stands none in
+        let bad : false ≡ true = sym new ∙ known in cc
+    by true is =
+        let room : HasRecord s t.line = subst (λ b. OnTrue b (HasRecord s t.line)) is m.room in
+        let here : IsSome (get nat_eq s.lines l) = subst (HasRecord s) line room in
+        let bad = subst IsSome none here in absurd (search (rules, bad))
+
+-- what is kept of the line of the event
+pub line-step : (s : LineCheck) (r : Recording) (e : Event) (t : Target) → MayApply s r e t → (l : ℕ) → t.line ≡ Some l → (x : LineRecord) → get nat_eq s.lines l ≡ Some x
+    → IsRecordStep r.header r.past l e t x
+line-step s r e t m l line x at = record {
+  step = record { header = m.stands.ports; accepted = (m.stands.accepted, m.kept); target = m.target; line = line };
+  stands = subst (LineStands r.header r.past l) (ap (λ v. unwrap_or v s.empty) at) (m.stands.lines l);
+  room = m.stands.holders l x at;
+}
+
+-- how many lines are known after the event
+counts : (s : LineCheck) (r : Recording) (e : Event) (t : Target) → MayApply s r e t → (l : ℕ) → t.line ≡ Some l → (x y : LineRecord) → LineStands r.header r.past l x
+    → LineStands r.header (e ∷ r.past) l y
+    → length (known_lines (e ∷ r.past)) ≡ (if is_unknown x.used && not (is_unknown y.used) then s.known + 1 else s.known)
+counts s r e t m l line x y old new =
+    let on : line_in r.header r.past e ≡ Some l = ap (λ (v : Target). v.line) (sym m.target) ∙ line in
+    let known = m.stands.known in
+    let used = old.used in
+    let uses = new.used in
+    rw (known, used, uses) (known-counts r.header r.past e l on)
+
+pub applied-then : (s t : LineCheck) (r : Recording) (e : Event) (g : Target) → MayApply s r e g → (l : ℕ) → g.line ≡ Some l → (x y : LineRecord) → IsRecordStep r.header r.past l e g x
+    → LineStands r.header (e ∷ r.past) l y → length y.holders.items ≡ length x.holders.items → (is_unknown x.used && not (is_unknown y.used)) ≡ true → IsChanged s t l y
+    → t.known ≡ (s.known + 1) % 18446744073709551616 → Stands t (after r e)
+applied-then s t r e g m l line x y step new room grows c known =
+    changed s t r e l y c m.stands m.kept (ap (λ (v : Target). v.line) (sym m.target) ∙ line) new (room ∙ step.room)
+    (let n : length (known_lines (e ∷ r.past)) ≡ s.known + 1 = rw grows at (counts s r e g m l line x y step.stands new) in
+    let low = few-known r.past in
+    let count = m.stands.known in
+    let few = m.few in
+    let fits : (s.known + 1) % 18446744073709551616 ≡ s.known + 1 = omega arith in
+    known ∙ fits ∙ sym n)
+
+pub applied-else : (s t : LineCheck) (r : Recording) (e : Event) (g : Target) → MayApply s r e g → (l : ℕ) → g.line ≡ Some l → (x y : LineRecord) → IsRecordStep r.header r.past l e g x
+    → LineStands r.header (e ∷ r.past) l y → length y.holders.items ≡ length x.holders.items → (is_unknown x.used && not (is_unknown y.used)) ≡ false → IsChanged s t l y
+    → t.known ≡ s.known → Stands t (after r e)
+applied-else s t r e g m l line x y step new room same c known =
+    changed s t r e l y c m.stands m.kept (ap (λ (v : Target). v.line) (sym m.target) ∙ line) new (room ∙ step.room)
+    (let n : length (known_lines (e ∷ r.past)) ≡ s.known = rw same at (counts s r e g m l line x y step.stands new) in known ∙ sym n)

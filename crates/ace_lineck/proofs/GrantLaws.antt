@@ -1,0 +1,266 @@
+-- What the rules of a grant say, in the words of what is kept of the line.
+use Rattle.std.proofs.Common.{◌≡◌, ℕ, zero, suc, ◌<◌, arith, true, false, Bool, not, ◌&&◌, ◌||◌, ◌==◌, if◌then◌else◌, nat_eq, List, [], ◌∷◌, length, Option, Some, None, is_some, is_none, option_map, unwrap_or, refl, sym, ap, subst, ◌∙◌, inl, inr}
+use Rattle.std.proofs.lemmas.Bool.{and_parts, and_from, cases_Bool, eqb-true, eq-eqb, false_from_ne_true}
+use Rattle.ace_codes.specs.Responses.{passes_dirty}
+use Rattle.ace_model.specs.declared.snoops.Snoop.{Snoop}
+use Rattle.ace_model.specs.declared.snoops.Answer.{Answer}
+use Rattle.ace_model.specs.declared.transactions.Transaction.{Transaction}
+use Rattle.ace_model.specs.Grants.{is_short}
+use Rattle.ace_model.specs.Lines.{has_failed_on}
+use Rattle.ace_model.specs.Shares.{k18_line}
+use Rattle.ace_model.specs.States.{owes_wack}
+use Rattle.ace_model.proofs.Terms.{Header, Trace, Channel, Read, Event, G, Ac, R, IsAccepted, implies, is_some_and, is_none_or, is_ace, is_read, is_line, is_on, is_transaction, read_kind, snoop_of, takes_grant, takes_passed_data, outstanding, transfers, is_complete}
+use Rattle.ace_model.proofs.Terms.{granted, is_granted, was_snooped, answer_of, owes_answer, owes_data, passer, list_all, ports_below, has_passed_data, are_passed_data_whole, is_begun, has_failed, has_memory_write, state_of, is_invalid, is_port_done, are_snoops_done}
+use Rattle.ace_model.proofs.Terms.{snoops_a_line, k12, k13, has_snoop_code, may_snoop, may_snoop_for, may_transfer, takes_passed}
+use Rattle.ace_model.proofs.General.Options.{Some-injective, is_some_and-is}
+use Rattle.ace_model.proofs.Trace.Looks.{is_on-addr}
+use Rattle.ace_model.proofs.Trace.Issued.{outstanding-name}
+use Rattle.ace_model.proofs.Holders.Law.{accepted_holds}
+use Rattle.ace_model.proofs.Grants.Granted.{granted_at}
+use Rattle.ace_model.proofs.Grants.Pending.{snoops}
+use Rattle.ace_model.proofs.GrantLooks.Had.{may_grant, grants_by_line, takes-on}
+use Rattle.ace_portck.specs.Targets.{line_in, own_of, own_on, progress_of}
+use Rattle.ace_portck.specs.declared.target.Progress.{Progress}
+use Rattle.ace_portck.specs.declared.target.Target.{Target}
+use Rattle.ace_lineck.specs.declared.record.Holder.{Holder}
+use Rattle.ace_lineck.specs.declared.record.LineRecord.{LineRecord}
+use Rattle.ace_lineck.specs.declared.stages.Stage.{Stage}
+use Rattle.ace_lineck.specs.declared.stages.Stage.TheVariants.{Unsnooped, Unanswered, Sending, Done}
+use Rattle.ace_lineck.specs.declared.grant.Passed.{Passed}
+use Rattle.ace_lineck.specs.declared.grant.Grant.{Grant}
+use Rattle.ace_lineck.specs.Holders.{HoldersStand, holder_at}
+use Rattle.ace_lineck.specs.Grants.{GrantFits, GrantStands, stage_at, stage_by, stage_of, passed_by}
+use Rattle.ace_lineck.specs.Records.{LineStands, IsNext}
+use Rattle.ace_lineck.specs.Kept.{is_unsnooped, is_sending, is_settled, may_be_snooped, has_passed, is_passed_whole, is_done_at, are_done, is_its, takes_data, may_have_beat, IsFailure}
+use Rattle.ace_lineck.proofs.OnLine.{line-transaction, line-snoop}
+use Rattle.ace_lineck.proofs.Own.{owes_wack-own}
+use Rattle.ace_lineck.proofs.GrantFrame.{passed_at}
+
+-- nothing is kept exactly where nothing is granted
+pub none-is : (h : Header) (past : Trace) (l : ℕ) (g : Option Grant) → GrantStands h past l g → is_none g ≡ is_none (granted h past l)
+none-is h past l None f = sym (ap is_none f)
+none-is h past l (Some g) f = sym (ap is_none f.granted)
+
+each_port-agree : (n : ℕ) (test other : ℕ → Bool) → ((r : ℕ) → test r ≡ other r) → list_all test (ports_below n) ≡ list_all other (ports_below n)
+each_port-agree zero test other same = refl
+each_port-agree (suc n) test other same = let here = same n in let rest = each_port-agree n test other same in rw (here, rest) refl
+
+module _ (h : Header) (past : Trace) (a : IsAccepted h past) (p l : ℕ) where
+  -- a port that has answered was snooped
+  answered-snooped : (w : Answer) → answer_of past p l ≡ Some w → was_snooped past p l ≡ true
+  answered-snooped w is =
+      elim (cases_Bool (was_snooped past p l)) [
+        | inl t ↦ t
+        | inr f ↦ let bad : None ≡ Some w = sym ((snoops h past a).first p l f) ∙ is in cc
+      ]
+
+  -- what the stage of a port tells
+  pub unsnooped-is : is_unsnooped (stage_of past p l) ≡ not (was_snooped past p l)
+  unsnooped-is = by (answer_of past p l) refl (was_snooped past p l) refl
+    where
+      by : (o : Option Answer) → answer_of past p l ≡ o → (b : Bool) → was_snooped past p l ≡ b → is_unsnooped (stage_by past p b o) ≡ not b
+      by None is true s = refl
+      by None is false s = refl
+      by (Some w) is true s =
+          elim (cases_Bool (is_short past p w)) [ inl t ↦ rw t refl | inr f ↦ rw f refl ]
+      by (Some w) is false s = let yes = answered-snooped w is in cc
+
+  pub sending-is : is_sending (stage_of past p l) ≡ owes_data past p l
+  sending-is = by (answer_of past p l) (was_snooped past p l)
+    where
+      by : (o : Option Answer) (b : Bool) → is_sending (stage_by past p b o) ≡ is_some_and o (is_short past p)
+      by None true = refl
+      by None false = refl
+      by (Some w) b = elim (cases_Bool (is_short past p w)) [ inl t ↦ rw t refl | inr f ↦ rw f refl ]
+
+  pub settled-is : (spared : Bool) → is_settled (stage_of past p l) spared ≡ (not (owes_answer past p l) && not (owes_data past p l) && (spared || was_snooped past p l))
+  settled-is spared = by (answer_of past p l) refl (was_snooped past p l) refl
+    where
+      plain : (b : Bool) → b ≡ (b || false)
+      plain true = refl
+      plain false = refl
+
+      certain : (b : Bool) → true ≡ (b || true)
+      certain true = refl
+      certain false = refl
+
+      by : (o : Option Answer) → answer_of past p l ≡ o → (b : Bool) → was_snooped past p l ≡ b
+          → is_settled (stage_by past p b o) spared ≡ (not (b && is_none o) && not (is_some_and o (is_short past p)) && (spared || b))
+      by None is true s = refl
+      by None is false s = plain spared
+      by (Some w) is true s =
+          elim (cases_Bool (is_short past p w)) [ inl t ↦ rw t refl | inr f ↦ rw f (certain spared) ]
+      by (Some w) is false s = let yes = answered-snooped w is in cc
+
+module _ (h : Header) (past : Trace) (a : IsAccepted h past) (l : ℕ) (g : Grant) (f : GrantFits h past l g) where
+  -- the line of the granted transaction
+  pub addr-of : g.transaction.addr ≡ l
+  addr-of = is_on-addr g.transaction l ((accepted_holds h past a).grants l g.transaction f.granted).1
+
+  pub granted-is : is_granted h past g.transaction ≡ true
+  granted-is = ap (λ o. is_transaction o g.transaction) (ap (granted h past) addr-of ∙ f.granted) ∙ eq-eqb g.transaction.place g.transaction.place refl
+
+  -- an outstanding transaction of the same place is the granted one
+  pub its-is : (p : ℕ) (c : Channel) (i : ℕ) (y : Transaction) → outstanding h past p c i ≡ Some y → y.addr ≡ l → is_its g y ≡ true → g.transaction ≡ y
+  its-is p c i y o addr same =
+      let there : granted h past y.addr ≡ Some g.transaction = ap (granted h past) addr ∙ f.granted in
+      let is : is_granted h past y ≡ true = rw there same in
+      Some-injective g.transaction y (sym there ∙ granted_at h past a p c i y o is)
+
+  pub its-granted : (y : Transaction) → y.addr ≡ l → is_granted h past y ≡ is_its g y
+  its-granted y addr = ap (λ o. is_transaction o y) (ap (granted h past) addr ∙ f.granted)
+
+  -- its passed data
+  pub passed-law : has_passed g ≡ has_passed_data h past g.transaction
+  passed-law =
+      let some : is_some g.passed ≡ is_some (passer h past l) = ap is_some f.passed ∙ by (passer h past l) in
+      ap (λ b. b && not g.written) some ∙ ap (λ b. is_some (passer h past l) && not b) f.written
+      ∙ sym (ap (λ b. (b && is_some (passer h past g.transaction.addr)) && not (has_memory_write past g.transaction.port g.transaction.chan g.transaction.id)) granted-is
+      ∙ ap (λ v. is_some (passer h past v) && not (has_memory_write past g.transaction.port g.transaction.chan g.transaction.id)) addr-of)
+    where
+      by : (o : Option ℕ) → is_some (option_map (passed_at past l) o) ≡ is_some o
+      by None = refl
+      by (Some p) = refl
+
+  pub whole-law : is_passed_whole g ≡ are_passed_data_whole h past g.transaction
+  whole-law =
+      ap (λ o. is_some_and o (λ p. not (is_sending (stage_at g.stages p.port)))) f.passed ∙ by (passer h past l)
+      ∙ ap (λ v. is_some_and (passer h past v) (λ p. not (owes_data past p v))) (sym addr-of)
+    where
+      by : (o : Option ℕ) → is_some_and (option_map (passed_at past l) o) (λ p. not (is_sending (stage_at g.stages p.port))) ≡ is_some_and o (λ p. not (owes_data past p l))
+      by None = refl
+      by (Some p) = ap (λ s. not (is_sending s)) (f.stages p) ∙ ap not (sending-is h past a p l)
+
+  -- its snoops
+  pub done-law : (failed : Bool) (xs : List Holder) → failed ≡ has_failed past g.transaction → HoldersStand h past l xs → are_done h failed g xs ≡ are_snoops_done h past g.transaction
+  done-law failed xs is held =
+      ap (λ b. (is_none (snoop_of g.transaction) || b) || list_all (is_done_at h g xs) (ports_below h.ports)) is
+      ∙ ap (λ b. (is_none (snoop_of g.transaction) || has_failed past g.transaction) || b) (each_port-agree h.ports (is_done_at h g xs) (is_port_done h past g.transaction) port)
+    where
+      port : (q : ℕ) → is_done_at h g xs q ≡ is_port_done h past g.transaction q
+      port q =
+          ap (λ s. is_settled s (((q == g.transaction.port) || not (is_ace h q)) || is_invalid (holder_at xs q).state)) (f.stages q)
+          ∙ settled-is h past a q l (((q == g.transaction.port) || not (is_ace h q)) || is_invalid (holder_at xs q).state)
+          ∙ ap (λ st. not (owes_answer past q l) && not (owes_data past q l) && ((((q == g.transaction.port) || not (is_ace h q)) || is_invalid st) || was_snooped past q l)) (held.state q)
+          ∙ ap (λ v. not (owes_answer past q v) && not (owes_data past q v) && ((((q == g.transaction.port) || not (is_ace h q)) || is_invalid (state_of h past q v)) || was_snooped past q v)) (sym addr-of)
+
+module _ (h : Header) (past : Trace) (t : Target) (x : LineRecord) where
+  -- K12
+  pub k12-law : (p : ℕ) (c : Channel) (i : ℕ) → IsNext h past (G p c i) t x
+      → is_some_and t.transaction (λ y. takes_grant y.transaction && is_none x.grant) ≡ k12 h past (G p c i)
+  k12-law p c i s =
+      ap (λ (v : Target). is_some_and v.transaction (λ y. takes_grant y.transaction && is_none x.grant)) s.target ∙ by (outstanding h past p c i) refl
+      ∙ sym (grants_by_line h past p c i s.accepted)
+    where
+      by : (o : Option Transaction) → outstanding h past p c i ≡ o
+          → is_some_and (option_map (progress_of h past) o) (λ y. takes_grant y.transaction && is_none x.grant) ≡ is_some_and o (may_grant h past)
+      by None is = refl
+      by (Some y) is =
+          elim (cases_Bool (takes_grant y)) [
+            | inr n ↦ rw n refl
+            | inl k ↦
+                let line : t.line ≡ Some y.addr = ap (λ (v : Target). v.line) s.target ∙ line-transaction h past (outstanding h past p c i) y.addr (rw is (takes-on y k)) in
+                ap (λ b. takes_grant y && b) (none-is h past y.addr x.grant (s.line y.addr line).grant)
+          ]
+
+  -- K13
+  pub k13-law : (p addr snoop : ℕ) (failed : Bool) → IsNext h past (Ac p addr snoop) t x → IsFailure h past t failed
+      → implies (snoops_a_line snoop) (may_be_snooped failed x.grant p snoop && not (is_some_and t.own (λ y. not (is_read y.transaction.chan) && y.complete)))
+      ≡ k13 h past (Ac p addr snoop)
+  k13-law p addr snoop failed s fails =
+      elim (cases_Bool (snoops_a_line snoop)) [
+        | inr n ↦ rw n refl
+        | inl line ↦ ap (implies (snoops_a_line snoop)) (ap (λ b. b && not (is_some_and t.own (λ y. not (is_read y.transaction.chan) && y.complete))) (snooped x.grant (s.line addr (on line)).grant line)
+            ∙ ap (λ b. (is_some_and (granted h past addr) (λ y. may_snoop_for past y p snoop) && not (was_snooped past p addr)) && not b) (own line))
+      ]
+    where
+      here : snoops_a_line snoop ≡ true → line_in h past (Ac p addr snoop) ≡ Some addr
+      here line = rw (eq-eqb p p (refl {a = p})) (line-snoop (Some (record { place = length past; addr = addr; snoop = snoop })) addr (and_from _ _ line (eq-eqb addr addr refl)))
+
+      on : snoops_a_line snoop ≡ true → t.line ≡ Some addr
+      on line = ap (λ (v : Target). v.line) s.target ∙ here line
+
+      own : snoops_a_line snoop ≡ true → is_some_and t.own (λ y. not (is_read y.transaction.chan) && y.complete) ≡ owes_wack h past p addr
+      own line =
+          ap (λ (v : Target). is_some_and v.own (λ y. not (is_read y.transaction.chan) && y.complete)) s.target
+          ∙ ap (λ o. is_some_and (own_on h past p o) (λ y. not (is_read y.transaction.chan) && y.complete)) (here line)
+          ∙ by (own_of h past p addr) ∙ sym (owes_wack-own h past s.accepted p addr)
+        where
+          by : (o : Option Transaction) → is_some_and (option_map (progress_of h past) o) (λ y. not (is_read y.transaction.chan) && y.complete)
+              ≡ is_some_and o (λ y. not (is_read y.chan) && is_complete past y.port y.chan y.id)
+          by None = refl
+          by (Some y) = refl
+
+      snooped : (g : Option Grant) → GrantStands h past addr g → snoops_a_line snoop ≡ true
+          → may_be_snooped failed g p snoop ≡ (is_some_and (granted h past addr) (λ y. may_snoop_for past y p snoop) && not (was_snooped past p addr))
+      snooped None f line = sym (ap (λ o. is_some_and o (λ y. may_snoop_for past y p snoop) && not (was_snooped past p addr)) f)
+      snooped (Some g) f line =
+          let y = g.transaction in
+          let failed_is : failed ≡ has_failed past y = fails addr (on line) ∙ ap (λ o. is_some_and o (has_failed past)) f.granted in
+          ap (λ b. (((not (y.port == p) && has_snoop_code y snoop) && not b) && not g.begun) && is_unsnooped (stage_at g.stages p)) failed_is
+          ∙ ap (λ b. (((not (y.port == p) && has_snoop_code y snoop) && not (has_failed past y)) && not b) && is_unsnooped (stage_at g.stages p)) f.begun
+          ∙ ap (λ b. may_snoop_for past y p snoop && b) (ap is_unsnooped (f.stages p) ∙ unsnooped-is h past s.accepted p addr)
+          ∙ sym (ap (λ o. is_some_and o (λ v. may_snoop_for past v p snoop) && not (was_snooped past p addr)) f.granted)
+
+  -- K18 of a line
+  module _ (p i resp : ℕ) (last : Bool) (word : ℕ) (s : IsNext h past (R p i resp last word) t x) where
+    -- of a line read, the line is that of the event
+    pub read-line : (y : Transaction) → outstanding h past p Read i ≡ Some y → is_line y ≡ true → t.line ≡ Some y.addr
+    read-line y o line =
+        ap (λ (v : Target). v.line) s.target
+        ∙ line-transaction h past (outstanding h past p Read i) y.addr (let there = o in rw there (and_from _ _ line (eq-eqb y.addr y.addr refl)))
+
+    -- how many transfers it has had
+    pub read-count : (y : Transaction) → outstanding h past p Read i ≡ Some y → (progress_of h past y).transfers ≡ transfers past y.port y.id
+    read-count y o = let reads = ap is_read (outstanding-name h past p Read i y o).chan in rw reads refl
+
+    may-law : (failed : Bool) → IsFailure h past t failed → (y : Transaction) → outstanding h past p Read i ≡ Some y → is_line y ≡ true
+        → may_have_beat h failed x.grant x.holders.items (progress_of h past y) resp ≡ may_transfer h past y resp
+    may-law failed fails y o line = by x.grant (s.line y.addr (read-line y o line)).grant
+      where
+        held : HoldersStand h past y.addr x.holders.items
+        held = (s.line y.addr (read-line y o line)).holders
+
+        by : (g : Option Grant) → GrantStands h past y.addr g → may_have_beat h failed g x.holders.items (progress_of h past y) resp ≡ may_transfer h past y resp
+        by None f = let none : is_granted h past y ≡ false = ap (λ v. is_transaction v y) f in rw none refl
+        by (Some g) f =
+            elim (cases_Bool (is_its g y)) [
+              | inr n ↦ let none : is_granted h past y ≡ false = its-granted h past s.accepted y.addr g f y refl ∙ n in rw (n, none) refl
+              | inl own ↦
+                  let one = its-is h past s.accepted y.addr g f p Read i y o refl own in
+                  let yes : is_granted h past y ≡ true = its-granted h past s.accepted y.addr g f y refl ∙ own in
+                  let failed_is : failed ≡ has_failed past g.transaction = fails y.addr (read-line y o line) ∙ ap (λ v. is_some_and v (has_failed past)) f.granted in
+                  let done : are_done h failed g x.holders.items ≡ are_snoops_done h past y = done-law h past s.accepted y.addr g f failed x.holders.items failed_is held ∙ ap (are_snoops_done h past) one in
+                  let passed : has_passed g ≡ has_passed_data h past y = passed-law h past s.accepted y.addr g f ∙ ap (has_passed_data h past) one in
+                  let whole : is_passed_whole g ≡ are_passed_data_whole h past y = whole-law h past s.accepted y.addr g f ∙ ap (are_passed_data_whole h past) one in
+                  let first : implies ((progress_of h past y).transfers == 0) (are_done h failed g x.holders.items) ≡ implies (transfers past y.port y.id == 0) (are_snoops_done h past y) =
+                  ap (λ n. implies (n == 0) (are_done h failed g x.holders.items)) (read-count y o) ∙ ap (implies (transfers past y.port y.id == 0)) done in
+                  let takes : implies (has_passed g) (takes_data g y resp) ≡ implies (has_passed_data h past y) (takes_passed h past y resp) =
+                  ap (λ b. implies b (takes_data g y resp)) passed
+                  ∙ ap (λ b. implies (has_passed_data h past y) ((is_some_and (read_kind y) takes_passed_data && b) && passes_dirty resp)) whole in
+                  ap (λ b. (b && implies ((progress_of h past y).transfers == 0) (are_done h failed g x.holders.items)) && implies (has_passed g) (takes_data g y resp)) (own ∙ sym yes)
+                  ∙ ap (λ b. (is_granted h past y && b) && implies (has_passed g) (takes_data g y resp)) first
+                  ∙ ap (λ b. (is_granted h past y && implies (transfers past y.port y.id == 0) (are_snoops_done h past y)) && b) takes
+            ]
+
+    pub k18-law : (failed : Bool) → IsFailure h past t failed
+        → is_none_or t.transaction (λ y. implies (is_line y.transaction) (may_have_beat h failed x.grant x.holders.items y resp)) ≡ k18_line h past (R p i resp last word)
+    k18-law failed fails =
+        ap (λ (v : Target). is_none_or v.transaction (λ y. implies (is_line y.transaction) (may_have_beat h failed x.grant x.holders.items y resp))) s.target
+        ∙ by (outstanding h past p Read i) refl
+      where
+        by : (o : Option Transaction) → outstanding h past p Read i ≡ o
+            → is_none_or (option_map (progress_of h past) o) (λ y. implies (is_line y.transaction) (may_have_beat h failed x.grant x.holders.items y resp))
+            ≡ is_none_or o (λ y. implies (is_line y) (may_transfer h past y resp))
+        by None is = refl
+        by (Some y) is =
+            elim (cases_Bool (is_line y)) [
+              | inr n ↦ rw n refl
+              | inl line ↦ ap (implies (is_line y)) (may-law failed fails y is line)
+            ]
+
+pub flip-none : {A : Type 0} → (o : Option A) (b : Bool) → is_some o ≡ not b → b ≡ is_none o
+flip-none None true e = refl
+flip-none None false e = cc
+flip-none (Some x) true e = cc
+flip-none (Some x) false e = refl

@@ -1,0 +1,250 @@
+-- The rules of the writes to memory, in the words of what is kept of the line.
+use Rattle.std.proofs.Common.{◌≡◌, ℕ, true, false, Bool, not, ◌&&◌, ◌||◌, ◌==◌, if◌then◌else◌, nat_eq, List, [], ◌∷◌, length, Option, Some, None, is_some, option_map, option_and_then, unwrap_or, refl, sym, ap, subst, ◌∙◌, inl, inr}
+use Rattle.std.proofs.lemmas.Bool.{false_from_ne_true, and_parts, and_from, or_cases, or_left, or_right, not_from_false, cases_Bool, eqb-true, eq-eqb}
+use Rattle.ace_codes.specs.declared.kind.AwKind.{AwKind}
+use Rattle.ace_codes.specs.declared.kind.AwKind.TheVariants as write
+use Rattle.ace_event.specs.declared.line.Line.{Line}
+use Rattle.ace_model.specs.declared.snoops.Answer.{Answer}
+use Rattle.ace_model.specs.declared.transactions.Transaction.{Transaction}
+use Rattle.ace_model.specs.Copies.{zero_line}
+use Rattle.ace_model.proofs.Terms.{Header, Trace, Channel, Event, M, IsAccepted, is_some_and, is_none_or, is_read, is_line, is_line_read, is_line_write, is_update, is_on, is_transaction, read_kind, write_kind, has_write_data, updates_memory, outstanding, transfers, granted, is_granted, answer_of}
+use Rattle.ace_model.proofs.Terms.{has_passed_data, are_passed_data_whole, are_snoops_done, passer, passes, copy_of, at_point, copy_at_answer, passed_data, passes_dirty, has_failed, has_memory_write, is_burst_whole, may_write_memory, may_write_passed, may_write_data, is_write_due, is_update_due, data_of, has_data, same_line, memory_of, k24, k25}
+use Rattle.ace_model.proofs.General.Options.{Some-injective, is_some_and-is, is_some_and-at}
+use Rattle.ace_model.proofs.General.Booleans.{then_of}
+use Rattle.ace_model.proofs.General.Ports.{found_passes}
+use Rattle.ace_model.proofs.Tables.Kinds.{granted_data}
+use Rattle.ace_model.proofs.Holders.Law.{accepted_holds}
+use Rattle.ace_model.proofs.Grants.Granted.{granted_at, granted_given, granted_write, passed_may, data_may}
+use Rattle.ace_model.proofs.Grants.Granted as grants
+use Rattle.ace_model.specs.WriteRules as rules
+use Rattle.ace_model.specs.Values.{burst_strobe, burst_line}
+use Rattle.ace_model.specs.Writes.{burst_of}
+use Rattle.ace_portck.specs.Targets.{line_in, progress_of, data_of_write, data_in}
+use Rattle.ace_portck.specs.declared.target.Progress.{Progress}
+use Rattle.ace_portck.specs.declared.target.WriteData.{WriteData}
+use Rattle.ace_portck.specs.declared.target.Target.{Target}
+use Rattle.ace_lineck.specs.declared.record.Holder.{Holder}
+use Rattle.ace_lineck.specs.declared.record.LineRecord.{LineRecord}
+use Rattle.ace_lineck.specs.declared.grant.Grant.{Grant}
+use Rattle.ace_lineck.specs.Holders.{HoldersStand}
+use Rattle.ace_lineck.specs.Grants.{GrantFits, GrantStands}
+use Rattle.ace_lineck.specs.Records.{LineStands, IsNext}
+use Rattle.ace_lineck.specs.Kept.{has_passed, is_passed_whole, are_done, is_its, may_write_kept, passed_kept, written_kept, fits_data, IsFailure}
+use Rattle.ace_lineck.proofs.OnLine.{line-transaction}
+use Rattle.ace_lineck.proofs.GrantFrame.{passed_at}
+use Rattle.ace_lineck.proofs.GrantSteps.{otherwise_of}
+use Rattle.ace_lineck.proofs.GrantLaws.{its-is, its-granted, passed-law, whole-law, done-law}
+
+update-line : (k : AwKind) → is_update k ≡ true → (is_line_write k ≡ true) × (has_write_data k ≡ true)
+update-line write.WriteBack e = (refl, refl)
+update-line write.WriteClean e = (refl, refl)
+update-line write.WriteEvict e = (refl, refl)
+update-line k e = cc
+
+updates-line : (x : Transaction) → updates_memory x ≡ true → (is_line x ≡ true) × (is_some_and (write_kind x) has_write_data ≡ true)
+updates-line x u =
+    let k = is_some_and-is (write_kind x) is_update u in
+    let kind = k.1 in
+    let both = update-line k.0 k.2 in
+    (or_right (is_some_and (read_kind x) is_line_read) (is_some_and (write_kind x) is_line_write) (rw kind both.0), rw kind both.1)
+
+-- the burst of a write
+abbrev the_burst : Trace → Transaction → WriteData
+the_burst past y = record { strobe = burst_strobe (burst_of past y); line = burst_line (burst_of past y) }
+
+module _ (h : Header) (past : Trace) (a : IsAccepted h past) (p : ℕ) (c : Channel) (i : ℕ) (y : Transaction) (o : outstanding h past p c i ≡ Some y) where
+  granted-line : is_granted h past y ≡ true → is_line y ≡ true
+  granted-line g = (and_parts (is_line y) _ ((accepted_holds h past a).grants y.addr y (granted_at h past a p c i y o g)).1).0
+
+  -- what may write memory has a line
+  pub writes-line : may_write_memory h past y ≡ true → is_line y ≡ true
+  writes-line m =
+      elim (cases_Bool (is_read y.chan)) [
+        | inl reads ↦ granted-line (grants.has_passed h past y (passed_may h past y m reads)).stands
+        | inr writes ↦ elim (data_may h past y m writes).how [
+          | inl due ↦ granted-line (and_parts (is_granted h past y) _ due).0
+          | inr due ↦ (updates-line y (and_parts (updates_memory y) _ due).0).0
+        ]
+      ]
+
+  -- and what writes a burst has data
+  pub writes-data : (is_write_due h past y || is_update_due h past y) ≡ true → is_read y.chan ≡ false → is_some_and (write_kind y) has_write_data ≡ true
+  writes-data m writes =
+      elim (or_cases (is_write_due h past y) (is_update_due h past y) m) [
+        | inr due ↦ (updates-line y (and_parts (updates_memory y) _ due).0).1
+        | inl due ↦
+            let stands = granted_at h past a p c i y o (and_parts (is_granted h past y) _ due).0 in
+            let k = granted_write y (granted_given h past a y.addr y stands).kind writes in
+            ap (λ v. is_some_and v has_write_data) k.1 ∙ granted_data k.0 k.2
+      ]
+
+  module _ (g : Option Grant) (f : GrantStands h past y.addr g) where
+    -- the passed data of a granted read
+    whole-for : is_some_and g (λ v. is_its v y && has_passed v && is_passed_whole v) ≡ (has_passed_data h past y && are_passed_data_whole h past y)
+    whole-for = by g f
+      where
+        by : (g : Option Grant) → GrantStands h past y.addr g → is_some_and g (λ v. is_its v y && has_passed v && is_passed_whole v) ≡ (has_passed_data h past y && are_passed_data_whole h past y)
+        by None f = let none : is_granted h past y ≡ false = ap (λ v. is_transaction v y) f in rw none refl
+        by (Some g) f =
+            elim (cases_Bool (is_its g y)) [
+              | inr n ↦ let none : is_granted h past y ≡ false = its-granted h past a y.addr g f y refl ∙ n in rw (n, none) refl
+              | inl own ↦
+                  let one = its-is h past a y.addr g f p c i y o refl own in
+                  ap (λ b. (b && has_passed g) && is_passed_whole g) own
+                  ∙ ap (λ b. b && is_passed_whole g) (passed-law h past a y.addr g f ∙ ap (has_passed_data h past) one)
+                  ∙ ap (λ b. has_passed_data h past y && b) (whole-law h past a y.addr g f ∙ ap (are_passed_data_whole h past) one)
+            ]
+
+    -- a granted write with its snoops done
+    due-for : (failed : Bool) (xs : List Holder) → failed ≡ is_some_and (granted h past y.addr) (has_failed past) → HoldersStand h past y.addr xs
+        → is_some_and g (λ v. is_its v y && are_done h failed v xs) ≡ is_write_due h past y
+    due-for failed xs is held = by g f
+      where
+        by : (g : Option Grant) → GrantStands h past y.addr g → is_some_and g (λ v. is_its v y && are_done h failed v xs) ≡ is_write_due h past y
+        by None f = let none : is_granted h past y ≡ false = ap (λ v. is_transaction v y) f in rw none refl
+        by (Some g) f =
+            elim (cases_Bool (is_its g y)) [
+              | inr n ↦ let none : is_granted h past y ≡ false = its-granted h past a y.addr g f y refl ∙ n in rw (n, none) refl
+              | inl own ↦
+                  let one = its-is h past a y.addr g f p c i y o refl own in
+                  let stands : is_granted h past y ≡ true = its-granted h past a y.addr g f y refl ∙ own in
+                  ap (λ b. b && are_done h failed g xs) (own ∙ sym stands)
+                  ∙ ap (λ b. is_granted h past y && b) (done-law h past a y.addr g f failed xs (is ∙ ap (λ v. is_some_and v (has_failed past)) f.granted) held ∙ ap (are_snoops_done h past) one)
+            ]
+
+    -- a memory update while no passed data are on their way
+    update-for : (updates_memory y && is_none_or g (λ v. not (has_passed v))) ≡ is_update_due h past y
+    update-for = ap (λ b. updates_memory y && b) (by g f)
+      where
+        by : (g : Option Grant) → GrantStands h past y.addr g → is_none_or g (λ v. not (has_passed v)) ≡ is_none_or (granted h past y.addr) (λ z. not (has_passed_data h past z))
+        by None f = sym (ap (λ v. is_none_or v (λ z. not (has_passed_data h past z))) f)
+        by (Some g) f = ap not (passed-law h past a y.addr g f) ∙ sym (ap (λ v. is_none_or v (λ z. not (has_passed_data h past z))) f.granted)
+
+    -- the passed data
+    passed-for : passed_kept g ≡ passed_data h past y.addr
+    passed-for = by g f
+      where
+        lines : (o : Option ℕ) → passer h past y.addr ≡ o → option_map (λ q. q.line) (option_map (passed_at past y.addr) o) ≡ option_and_then (copy_at_answer past y.addr) o
+        lines None is = refl
+        lines (Some q) is =
+            let w = is_some_and-is (answer_of past q y.addr) (λ (v : Answer). passes_dirty v.resp) (found_passes h.ports (passes past y.addr) q is) in
+            let copy : copy_at_answer past y.addr q ≡ Some (copy_of (at_point w.0.place past) q y.addr) = ap (option_map (λ (v : Answer). copy_of (at_point v.place past) q y.addr)) w.1 in
+            ap (λ v. Some (unwrap_or v zero_line)) copy ∙ sym copy
+
+        by : (g : Option Grant) → GrantStands h past y.addr g → passed_kept g ≡ passed_data h past y.addr
+        by None f = sym (ap (λ v. if is_some_and v (has_passed_data h past) then option_and_then (copy_at_answer past y.addr) (passer h past y.addr) else None) f)
+        by (Some g) f =
+            ap (λ b. if b then option_map (λ q. q.line) g.passed else None) (passed-law h past a y.addr g f)
+            ∙ ap (λ v. if has_passed_data h past g.transaction then option_map (λ q. q.line) v else None) f.passed
+            ∙ ap (λ v. if has_passed_data h past g.transaction then v else None) (lines (passer h past y.addr) refl)
+            ∙ sym (ap (λ v. if is_some_and v (has_passed_data h past) then option_and_then (copy_at_answer past y.addr) (passer h past y.addr) else None) f.granted)
+
+module _ (h : Header) (past : Trace) (t : Target) (x : LineRecord) (p : ℕ) (c : Channel) (i : ℕ) (line : Line) (s : IsNext h past (M p c i line) t x) where
+  line-for : (y : Transaction) → outstanding h past p c i ≡ Some y → is_line y ≡ true → t.line ≡ Some y.addr
+  line-for y o l =
+      ap (λ (v : Target). v.line) s.target ∙ line-transaction h past (outstanding h past p c i) y.addr (let there = o in rw there (and_from _ _ l (eq-eqb y.addr y.addr refl)))
+
+  burst-for : (y : Transaction) → outstanding h past p c i ≡ Some y → t.«data» ≡ data_of_write past y
+  burst-for y o = ap (λ (v : Target). v.«data») s.target ∙ ap (option_and_then (data_of_write past)) o
+
+  -- whether there is a burst
+  some-if : {A : Type 0} → (b : Bool) (v : A) → is_some (if b then Some v else None) ≡ b
+  some-if true v = refl
+  some-if false v = refl
+
+  same-burst : (d w n m : Bool) → (m ≡ true → d ≡ true) → (((d && w) && n) && m) ≡ ((w && n) && m)
+  same-burst true w n m f = refl
+  same-burst false w n true f = let bad = f refl in cc
+  same-burst false w n false f = none (w && n)
+    where
+      none : (b : Bool) → false ≡ (b && false)
+      none true = refl
+      none false = refl
+
+  may-for : (failed : Bool) → IsFailure h past t failed → (y : Transaction) → outstanding h past p c i ≡ Some y
+      → may_write_kept h failed x.grant x.holders.items (data_of_write past y) (progress_of h past y) ≡ may_write_memory h past y
+  may-for failed fails y o =
+      elim (cases_Bool (is_line y)) [
+        | inr n ↦
+            let none = false_from_ne_true (may_write_memory h past y) (λ m. let l = writes-line h past s.accepted p c i y o m in cc) in
+            off (is_line y) _ n ∙ sym none
+        | inl l ↦ elim (cases_Bool (is_read y.chan)) [
+          | inl reads ↦
+              on (is_line y) _ l ∙ then_of (is_read y.chan) _ _ reads
+              ∙ ap (λ b. b && ((progress_of h past y).transfers == 0)) (whole-for h past s.accepted p c i y o x.grant (s.line y.addr (line-for y o l)).grant)
+              ∙ ap (λ n. (has_passed_data h past y && are_passed_data_whole h past y) && (n == 0)) (then_of (is_read y.chan) (transfers past y.port y.id) 0 reads)
+              ∙ sym (then_of (is_read y.chan) (may_write_passed h past y) (may_write_data h past y) reads)
+          | inr writes ↦
+              let stands = s.line y.addr (line-for y o l) in
+              on (is_line y) _ l ∙ otherwise_of (is_read y.chan) _ _ writes
+              ∙ ap (λ b. b && (is_some_and x.grant (λ g. is_its g y && are_done h failed g x.holders.items) || (updates_memory y && is_none_or x.grant (λ g. not (has_passed g)))))
+              (some-if ((is_some_and (write_kind y) has_write_data && is_burst_whole past y) && not (has_memory_write past y.port y.chan y.id)) (the_burst past y))
+              ∙ ap (λ b. ((is_some_and (write_kind y) has_write_data && is_burst_whole past y) && not (has_memory_write past y.port y.chan y.id)) && (b || (updates_memory y && is_none_or x.grant (λ g. not (has_passed g)))))
+              (due-for h past s.accepted p c i y o x.grant stands.grant failed x.holders.items (fails y.addr (line-for y o l)) stands.holders)
+              ∙ ap (λ b. ((is_some_and (write_kind y) has_write_data && is_burst_whole past y) && not (has_memory_write past y.port y.chan y.id)) && (is_write_due h past y || b))
+              (update-for h past s.accepted p c i y o x.grant stands.grant)
+              ∙ same-burst (is_some_and (write_kind y) has_write_data) (is_burst_whole past y) (not (has_memory_write past y.port y.chan y.id)) (is_write_due h past y || is_update_due h past y)
+              (λ m. writes-data h past s.accepted p c i y o m writes)
+              ∙ sym (otherwise_of (is_read y.chan) (may_write_passed h past y) (may_write_data h past y) writes)
+        ]
+      ]
+    where
+      off : (b d : Bool) → b ≡ false → (b && d) ≡ false
+      off true d e = cc
+      off false d e = refl
+
+      on : (b d : Bool) → b ≡ true → (b && d) ≡ d
+      on true d e = refl
+      on false d e = cc
+
+  -- K24
+  pub k24-law : (failed : Bool) → IsFailure h past t failed → is_some_and t.transaction (may_write_kept h failed x.grant x.holders.items t.«data») ≡ k24 h past (M p c i line)
+  k24-law failed fails =
+      ap (λ (v : Target). is_some_and v.transaction (may_write_kept h failed x.grant x.holders.items t.«data»)) s.target ∙ by (outstanding h past p c i) refl
+    where
+      by : (o : Option Transaction) → outstanding h past p c i ≡ o
+          → is_some_and (option_map (progress_of h past) o) (may_write_kept h failed x.grant x.holders.items t.«data») ≡ is_some_and o (may_write_memory h past)
+      by None is = refl
+      by (Some y) is = ap (λ d. may_write_kept h failed x.grant x.holders.items d (progress_of h past y)) (burst-for y is) ∙ may-for failed fails y is
+
+  -- K25
+  pub k25-law : k24 h past (M p c i line) ≡ true → is_none_or t.transaction (λ y. fits_data (passed_kept x.grant) x.memory t.«data» line y.transaction) ≡ k25 h past (M p c i line)
+  k25-law kept =
+      ap (λ (v : Target). is_none_or v.transaction (λ y. fits_data (passed_kept x.grant) x.memory t.«data» line y.transaction)) s.target ∙ by (outstanding h past p c i) refl
+    where
+      kinds : (y : Transaction) → passed_kept x.grant ≡ passed_data h past y.addr → x.memory ≡ memory_of past y.addr → (k : AwKind)
+          → written_kept (passed_kept x.grant) x.memory (the_burst past y) k ≡ rules.data_of_write h past y k
+      kinds y passed memory write.WriteUnique = rw (passed, memory) refl
+      kinds y passed memory write.WriteNoSnoop = rw memory refl
+      kinds y passed memory k = refl
+
+      each : (y : Transaction) → passed_kept x.grant ≡ passed_data h past y.addr → x.memory ≡ memory_of past y.addr → (o : Option AwKind)
+          → is_none_or o (λ k. same_line line (written_kept (passed_kept x.grant) x.memory (the_burst past y) k)) ≡ is_none_or (option_map (rules.data_of_write h past y) o) (same_line line)
+      each y passed memory None = refl
+      each y passed memory (Some k) = ap (same_line line) (kinds y passed memory k)
+
+      by : (o : Option Transaction) → outstanding h past p c i ≡ o
+          → is_none_or (option_map (progress_of h past) o) (λ y. fits_data (passed_kept x.grant) x.memory t.«data» line y.transaction) ≡ is_none_or o (has_data h past line)
+      by None is = refl
+      by (Some y) is =
+          let m = is_some_and-at (outstanding h past p c i) (may_write_memory h past) y kept is in
+          let l = writes-line h past s.accepted p c i y is m in
+          let stands = s.line y.addr (line-for y is l) in
+          let passed = passed-for h past s.accepted p c i y is x.grant stands.grant in
+          elim (cases_Bool (is_read y.chan)) [
+            | inl reads ↦
+                then_of (is_read y.chan) _ _ reads ∙ ap (λ v. is_none_or v (same_line line)) passed
+                ∙ sym (ap (λ v. is_none_or v (same_line line)) (then_of (is_read y.chan) (passed_data h past y.addr) (option_map (rules.data_of_write h past y) (write_kind y)) reads))
+            | inr writes ↦
+                let may = data_may h past y m writes in
+                let due : (is_write_due h past y || is_update_due h past y) ≡ true = elim may.how [
+                  | inl d ↦ or_left (is_write_due h past y) (is_update_due h past y) d
+                  | inr u ↦ or_right (is_write_due h past y) (is_update_due h past y) u
+                ] in
+                let has = writes-data h past s.accepted p c i y is due writes in
+                let some : data_of_write past y ≡ Some (the_burst past y) = then_of _ (Some (the_burst past y)) None (and_from _ _ (and_from _ _ has may.whole) (not_from_false _ may.first)) in
+                otherwise_of (is_read y.chan) _ _ writes
+                ∙ ap (λ v. is_none_or v (λ b. is_none_or (write_kind y) (λ k. same_line line (written_kept (passed_kept x.grant) x.memory b k)))) (burst-for y is ∙ some)
+                ∙ each y passed stands.memory.memory (write_kind y)
+                ∙ sym (ap (λ v. is_none_or v (same_line line)) (otherwise_of (is_read y.chan) (passed_data h past y.addr) (option_map (rules.data_of_write h past y) (write_kind y)) writes))
+          ]

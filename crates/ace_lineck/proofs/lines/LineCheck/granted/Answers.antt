@@ -1,0 +1,11 @@
+use Rattle.std.proofs.Common.{◌≡◌, ◌∙◌, option_map, ap}
+use Rattle.ace_lineck.specs.declared.grant.Grant.{Grant}
+use Rattle.ace_lineck.specs.declared.record.LineRecord.{LineRecord}
+use Rattle.ace_lineck.specs.Records.{name_of}
+use Rattle.ace_lineck.proofs.AllLines.{name-granted}
+use Rattle.ace_lineck.proofs.lines.LineCheck.granted.Goals as goal
+
+pub returns : goal.returns
+returns c r s =
+    c.granted_name.ensures ∙ ap (λ (v : LineRecord). option_map (λ (g : Grant). name_of g.transaction) v.grant) c.record.ensures
+    ∙ name-granted r.header r.past c.args.line _ (s.lines c.args.line).grant

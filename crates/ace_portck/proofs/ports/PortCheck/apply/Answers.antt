@@ -1,0 +1,59 @@
+use Rattle.std.proofs.Common.{◌∙◌, ◌∷◌, sym, subst, arith}
+use Rattle.ace_event.specs.declared.header.Header.{Header}
+use Rattle.ace_model.specs.Accepted.{IsAccepted}
+use Rattle.ace_portck.specs.Heard.{IsHeard}
+use Rattle.ace_portck.specs.Stands.{PortsStand, record_at}
+use Rattle.ace_portck.proofs.AllPorts.{port_elsewhere, port_below}
+use Rattle.ace_portck.proofs.ports.PortCheck.apply.Goals as goal
+
+pub returns-in-Some : goal.returns-in-Some
+returns-in-Some c = λ r m.
+    let s = m.stands in
+    let e = c.args.event.now in
+    let p = c.in-Some.port in
+    let items = c.args.self.now.ports.items in
+    let outside = c.args.self.now.outside in
+    let few = m.few in
+    let count = s.count in
+    let accepted : IsAccepted r.header (e ∷ r.past) = (s.accepted, m.keeps) in
+    let own = sym c.port_of.ensures ∙ c.in-Some.is in
+    let below = port_below r.header r.past e p accepted own in
+    let len = s.len in
+    let heard : IsHeard c.args.self.now.header r.past c.args.self.now.count e p = record {
+      accepted = subst (λ (v : Header). IsAccepted v (e ∷ r.past)) (sym s.header) accepted;
+      place_is = s.count;
+      port = own;
+    } in
+    let before = subst (λ (v : Header). PortsStand v r.past items outside) (sym s.header) s.ports in
+    let then = c.hear_at.ensures.stands r.past outside heard (c.has_byte_id.ensures, s.bytes) (omega (arith, below, len)) (λ k at. m.room p k own at) before in
+    record {
+      header = s.header;
+      is_header = s.is_header;
+      accepted = accepted;
+      bytes = (c.has_byte_id.ensures, s.bytes);
+      count = omega (arith, few, count);
+      len = c.hear_at.ensures.len ∙ s.len;
+      opening = c.hear.ensures r.header r.past accepted s.opening;
+      ports = subst (λ (v : Header). PortsStand v (e ∷ r.past) c.hear_at.new.ports.items outside) s.header then;
+    }
+
+pub returns-in_default : goal.returns-in_default
+returns-in_default c = λ r m.
+    let s = m.stands in
+    let e = c.args.event.now in
+    let items = c.args.self.now.ports.items in
+    let outside = c.args.self.now.outside in
+    let few = m.few in
+    let count = s.count in
+    let accepted : IsAccepted r.header (e ∷ r.past) = (s.accepted, m.keeps) in
+    record {
+      header = s.header;
+      is_header = s.is_header;
+      accepted = accepted;
+      bytes = (c.has_byte_id.ensures, s.bytes);
+      count = omega (arith, few, count);
+      len = s.len;
+      opening = c.hear.ensures r.header r.past accepted s.opening;
+      ports = λ p.
+          port_elsewhere r.header r.past p (record_at items outside p) e accepted (λ is. c.in_default.not-Some p (c.port_of.ensures ∙ is)) (s.ports p);
+    }

@@ -1,0 +1,236 @@
+//! The rules that look at one port, over all ports.
+
+ghost use Rattle.std.specs.Prelude.{◌≡◌, ◌<◌, ℕ, [], ◌∷◌, None, Some, length, slice_get, IfOk, OnOk, OnErr};
+ghost use Rattle.std.specs.List.{All, AllByRecursion};
+ghost use Rattle.ace_event.specs.declared.event.Event.TheVariants.{Mem};
+ghost use Rattle.ace_event.specs.declared.header.Header.{Header};
+ghost use Rattle.ace_event.specs.declared.line.Line.{Line};
+ghost use Rattle.ace_model.specs.Trace.{Trace, port_of};
+ghost use Rattle.ace_portck.specs.Heard.{IsHeard};
+ghost use Rattle.ace_portck.specs.Pending.{HasByteId};
+ghost use Rattle.ace_portck.specs.Port.{HasRoom};
+ghost use Rattle.ace_portck.specs.Stands.{IsFresh, PortsStand, record_at};
+ghost use Rattle.ace_portck.specs.Targets.{target_of};
+ghost use Rattle.ace_portck.specs.Unfinished.{RisesAt};
+ghost use Rattle.ace_portck.specs.declared.port.PortRecord.{PortRecord};
+
+use crate::NoMemory;
+use crate::opening::OpeningMemory;
+use crate::port::PortRecord;
+use crate::rules::{keeps_codes, keeps_port, port_of};
+use crate::target::Target;
+use ace_event::{Event, Header};
+use std::alloc::Global;
+
+/// What is kept of the ports of a trace, to tell what an event belongs to, and which rules about one port it breaks.
+#[derive(Drop)]
+pub struct PortCheck {
+    header: Header,
+    /// How many events came.
+    count: usize,
+    opening: OpeningMemory,
+    /// The ports of the header, in order.
+    ports: Vec<PortRecord>,
+    /// Any other port: no event of it is accepted.
+    outside: PortRecord,
+}
+
+/// The records of so many ports without events.
+fn fresh_ports(alloc: Global, count: u8) -> Result<Vec<PortRecord>, NoMemory>
+    ensures len { IfOk result (λ v. length v.items ≡ count) }
+    ensures fresh { IfOk result (λ v. All IsFresh v.items) }
+{
+    let mut ports = Vec::new(alloc);
+    for _port in 0..count {
+        let kept = PortRecord::new(alloc)?;
+        if ports.push(kept).is_err() {
+            return Err(NoMemory);
+        }
+    }
+    Ok(ports)
+}
+
+/// The target of a MEM.
+fn target_of_line(line: u32) -> Target
+    ensures { (h : Header) (past : Trace) (bytes : Line) → result ≡ target_of h past (Mem line bytes) }
+{
+    Target {
+        transaction: None,
+        snoop: None,
+        line: Some(line),
+        own: None,
+        beat: 0,
+        data: None,
+        unordered: None,
+        incomplete: None,
+    }
+}
+
+/// What a MEM belongs to, which names no port: its line.
+fn target_without_port(event: &Event) -> Target
+    ensures { (h : Header) (past : Trace) → port_of event.now ≡ None → result ≡ target_of h past event.now }
+{
+    match *event {
+        Event::Mem { addr, .. } => target_of_line(addr),
+        _ => target_of_line(0),
+    }
+}
+
+/// The identifiers of a program are bytes.
+fn id_fits(id: u8)
+    ensures { id < 256 }
+{}
+
+/// The identifier of the event is a byte.
+fn has_byte_id(event: &Event)
+    ensures { HasByteId event.now }
+{
+    match *event {
+        Event::Ar { id, .. } => id_fits(id),
+        Event::Aw { id, .. } => id_fits(id),
+        Event::R { id, .. } => id_fits(id),
+        Event::B { id, .. } => id_fits(id),
+        _ => {}
+    }
+}
+
+/// The record of the port.
+fn record_of<'a>(ports: &'a [PortRecord], outside: &'a PortRecord, port: u8) -> &'a PortRecord
+    ensures { result.now ≡ record_at ports.now outside.now port }
+{
+    match ports.get(usize::from(port)) {
+        Some(kept) => kept,
+        None => outside,
+    }
+}
+
+/// Makes room for the event in the record of its port, if there is such a port.
+fn make_room(ports: &mut Vec<PortRecord>, port: u8, event: &Event) -> Result<(), NoMemory>
+    ensures len { length ports.new.items ≡ length ports.old.items }
+    ensures stands { (h : Header) (past : Trace) (outside : PortRecord) → PortsStand h past ports.old.items outside
+        → PortsStand h past ports.new.items outside }
+    ensures room { OnOk result ((k : PortRecord) → slice_get ports.new.items port ≡ Some k → HasRoom k event.now) }
+    ensures cause { OnErr result ((h : Header) (past : Trace) (outside : PortRecord) → PortsStand h past ports.old.items outside
+        → port_of event.now ≡ Some port → RisesAt past event.now) }
+{
+    match ports.get_mut(usize::from(port)) {
+        Some(kept) => kept.ready(event),
+        None => Ok(()),
+    }
+}
+
+/// The record of the port hears the event, which is one of the port.
+fn hear_at(ports: &mut Vec<PortRecord>, header: &Header, port: u8, place: usize, event: &Event)
+    ensures len { length ports.new.items ≡ length ports.old.items }
+    ensures stands { (past : Trace) (outside : PortRecord) → IsHeard header.now past place event.now port
+        → AllByRecursion HasByteId (event.now ∷ past) → port < length ports.old.items
+        → ((k : PortRecord) → slice_get ports.old.items port ≡ Some k → HasRoom k event.now)
+        → PortsStand header.now past ports.old.items outside → PortsStand header.now (event.now ∷ past) ports.new.items outside }
+{
+    if let Some(kept) = ports.get_mut(usize::from(port)) {
+        kept.hear(header, port, place, event);
+    }
+}
+
+impl PortCheck {
+    ghost use Rattle.std.specs.Prelude.{true, drop};
+    ghost use Rattle.ace_model.specs.AddressRules.{k1};
+    ghost use Rattle.ace_event.specs.Ports.{IsHeader};
+    ghost use Rattle.ace_model.specs.Accepted.{least_of};
+    ghost use Rattle.ace_model.specs.Shares.{port_rules};
+    ghost use Rattle.ace_portck.specs.Stands.{Stands, HasRoom as HasRoomFor, MayTest, MayApply};
+    ghost use Rattle.ace_portck.specs.Targets.{Recording, after};
+
+    /// The checker of the empty trace under this header.
+    ///
+    /// # Errors
+    ///
+    /// `NoMemory` where there is none for the ports.
+    pub fn new(alloc: Global, header: Header) -> Result<PortCheck, NoMemory>
+        ensures { IfOk result (λ s. IsHeader header → Stands s (record { header = header; past = [] })) }
+    {
+        let ports = fresh_ports(alloc, header.ports)?;
+        let outside = PortRecord::new(alloc)?;
+        Ok(PortCheck {
+            header,
+            count: 0,
+            opening: OpeningMemory::new(),
+            ports,
+            outside,
+        })
+    }
+
+    /// What the event belongs to, as the next of the trace.
+    pub fn target(&self, event: &Event) -> Target
+        ensures { (r : Recording) → Stands self.now r → result ≡ target_of r.header r.past event.now }
+    {
+        match port_of(event) {
+            Some(port) => record_of(&self.ports, &self.outside, port).target(
+                &self.header,
+                self.count,
+                event,
+            ),
+            None => target_without_port(event),
+        }
+    }
+
+    /// The least rule of those that look at one port that the event breaks, as the next of the trace. `target` is its target.
+    pub fn test(&self, event: &Event, target: &Target) -> Option<u8>
+        ensures { (r : Recording) → MayTest self.now r event.now target.now → result ≡ least_of port_rules r.header r.past event.now }
+    {
+        if !keeps_port(&self.header, event) {
+            return Some(1);
+        }
+        if !keeps_codes(&self.header, event) {
+            return Some(2);
+        }
+        if !self.opening.may_open(&self.header, event, self.count) {
+            return Some(3);
+        }
+        self.test_port(event, target)
+    }
+
+    /// The least of those from K4 on.
+    fn test_port(&self, event: &Event, target: &Target) -> Option<u8>
+        ensures { (r : Recording) → MayTest self.now r event.now target.now → k1 r.header r.past event.now ≡ true
+            → result ≡ least_of (drop 3 port_rules) r.header r.past event.now }
+    {
+        match port_of(event) {
+            Some(port) => record_of(&self.ports, &self.outside, port).test(
+                &self.header,
+                event,
+                target,
+            ),
+            None => None,
+        }
+    }
+
+    /// Makes room for the event, so that `apply` takes no memory.
+    ///
+    /// # Errors
+    ///
+    /// `NoMemory` only at an AC with which its port has more snoops under way than at any point before.
+    pub fn ready(&mut self, event: &Event) -> Result<(), NoMemory>
+        ensures stands { (r : Recording) → Stands self.old r → Stands self.new r }
+        ensures room { OnOk result (HasRoomFor self.new event.now) }
+        ensures cause { OnErr result ((r : Recording) → Stands self.old r → RisesAt r.past event.now) }
+    {
+        match port_of(event) {
+            Some(port) => make_room(&mut self.ports, port, event),
+            None => Ok(()),
+        }
+    }
+
+    /// Hears the next event of the trace, which keeps the rules.
+    pub fn apply(&mut self, event: &Event)
+        ensures { (r : Recording) → MayApply self.old r event.now → Stands self.new (after r event.now) }
+    {
+        has_byte_id(event);
+        let place = self.count;
+        self.count = place.wrapping_add(1);
+        self.opening.hear(event);
+        if let Some(port) = port_of(event) {
+            hear_at(&mut self.ports, &self.header, port, place, event);
+        }
+    }
+}

@@ -1,0 +1,16 @@
+pub mod Results
+pub mod FieldsExact
+pub mod LineExact
+pub mod OpsExact
+pub mod CutLines
+pub mod LineReasons
+pub mod PolicyLines
+pub mod HeaderReads
+pub mod OperationReads
+pub mod GeneratedPlans
+pub mod ShortLines
+pub mod OneReading
+pub mod Waiting
+pub mod CopiedPlans
+pub mod SamePlans
+pub mod EveryReading

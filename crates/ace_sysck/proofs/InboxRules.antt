@@ -1,0 +1,169 @@
+-- What the rules on the parts of messages say where the inboxes stand.
+use Rattle.std.proofs.Common.{◌≡◌, ◌≢◌, ◌⊎◌, ℕ, zero, suc, ◌+◌, ◌<◌, ◌≤◌, Bool, true, false, not, ◌&&◌, ◌||◌, nat_eq, nat_lt, List, [], ◌∷◌, ◌++◌, length, map, take, drop, slice_get, get_or, Option, Some, None, is_some, refl, sym, ap, subst, ◌∙◌, arith, inl, inr, length-append}
+use Rattle.std.specs.List.{All, AllPairs, list_any}
+use Rattle.std.specs.Option.{option_map}
+use Rattle.std.proofs.lemmas.Bool.{cases_Bool, cases_eq, and_parts, eqb-true, eq-eqb, ne_eqb, lt-ltb, ltb-true, or_left, or_right}
+use Rattle.std.proofs.lemmas.List.{take-append-drop, get_or_append_left, get_or-append-add, get_or_default}
+use Rattle.std.proofs.lemmas.List.Folds.{list_any-append, list_any_none}
+use Rattle.std.proofs.lemmas.Option.{slice_get_within}
+use Rattle.ace_codes.specs.declared.kind.SnoopKind.{SnoopKind}
+use Rattle.ace_model.specs.declared.transactions.Transaction.{Transaction}
+use Rattle.ace_model.proofs.Terms.{Header, Event, Ac, Trace, implies, is_some_and, is_none_or, is_ace, is_message_part, is_message_snoop, ac_kind_of, first_waiting, parts_for, parts_among, forwarded, answered_parts, has_answered, has_part, each_port, is_other_ace, is_answered_by_all, k36, IsAccepted}
+use Rattle.ace_model.specs.Messages.{next_part, is_second_part}
+use Rattle.ace_model.specs.OrderRules.{forwards_next}
+use Rattle.ace_model.proofs.Dvm.Parts.{parts-cases}
+use Rattle.ace_model.proofs.Dvm.Forwarding.{answered-first}
+use Rattle.ace_model.proofs.Trace.Growth.{IsIssued}
+use Rattle.ace_model.proofs.General.Lists.{IsStart, start-is, slice_get-drop}
+use Rattle.ace_model.proofs.General.Options.{Some-injective}
+use Rattle.ace_portck.specs.declared.target.Target.{Target}
+use Rattle.ace_portck.specs.Targets.{Recording}
+use Rattle.ace_sysck.specs.declared.inboxes.Part.{Part}
+use Rattle.ace_sysck.specs.declared.inboxes.Inbox.{Inbox}
+use Rattle.ace_sysck.specs.declared.inboxes.Inboxes.{Inboxes}
+use Rattle.ace_sysck.specs.Messages.{is_at}
+use Rattle.ace_sysck.specs.Inboxes.{InboxesStand, InboxStands, MayAskInboxes, part_of, next_in, forwards_in, awaits, has_place}
+use Rattle.ace_sysck.proofs.PartLaws.{parts-apart, waiting-apart, AreOthers}
+
+-- an element of a list that is mapped
+slice_get-map : {A B : Type 0} → (f : A → B) (xs : List A) (k : ℕ) → slice_get (map f xs) k ≡ option_map f (slice_get xs k)
+slice_get-map f [] k = refl
+slice_get-map f (x ∷ xs) zero = refl
+slice_get-map f (x ∷ xs) (suc k) = slice_get-map f xs k
+
+-- a port of the header has an inbox
+pub inbox_at : (xs : List Inbox) (k : ℕ) → k < length xs → (b : Inbox) × (slice_get xs k ≡ Some b)
+inbox_at [] k low = absurd (omega arith)
+inbox_at (b ∷ xs) zero low = (b, refl)
+inbox_at (b ∷ xs) (suc k) low = inbox_at xs k (omega arith)
+
+-- the next part is the first that was not forwarded
+pub next-is : (r : Recording) (s : Inboxes) (p : ℕ) → InboxesStand r s → is_ace r.header p ≡ true → next_in (slice_get s.ports.items p) ≡ option_map (part_of r.past) (next_part r.past p)
+next-is r s p stands ace =
+    let within : p < length s.ports.items = let n = stands.size in let low = ltb-true p r.header.ports (and_parts (nat_lt p r.header.ports) _ ace).0 in omega arith in
+    let b = inbox_at s.ports.items p within in
+    let k = stands.ports p b.0 b.1 ace in
+    let count = k.count_is in
+    let a = length (answered_parts r.past p) in
+    ap next_in b.1 ∙ ap (λ l. slice_get l b.0.forwarded) k.parts_are ∙ slice_get-map (part_of r.past) (drop a (parts_for r.past p)) b.0.forwarded
+    ∙ ap (option_map (part_of r.past)) (slice_get-drop (parts_for r.past p) a b.0.forwarded (length (parts_among (forwarded r.past p))) (sym count))
+
+forwards-same : (past : Trace) (next : Option Transaction) (addr : ℕ) (k : SnoopKind)
+    → implies (is_message_snoop k || is_some_and next (is_second_part past)) (is_message_snoop k && is_some_and next (λ x. nat_eq x.addr addr)) ≡ forwards_in (option_map (part_of past) next) addr k
+forwards-same past None addr k = refl
+forwards-same past (Some x) addr k = refl
+
+-- K36
+pub k36-is : (r : Recording) (s : Inboxes) (p addr snoop : ℕ) (t : Target) (k : SnoopKind) → MayAskInboxes r s (Ac p addr snoop) t → ac_kind_of snoop ≡ Some k
+    → k36 r.header r.past (Ac p addr snoop) ≡ forwards_in (next_in (slice_get s.ports.items p)) addr k
+k36-is r s p addr snoop t k asked kind =
+    let ace = (and_parts (nat_lt p r.header.ports) (is_ace r.header p) asked.asked.first).1 in
+    ap (λ o. is_none_or o (forwards_next r.past p addr)) kind ∙ forwards-same r.past (next_part r.past p) addr k
+    ∙ ap (λ o. forwards_in o addr k) (sym (next-is r s p asked.stands ace))
+
+-- parts that are others than one don't have it
+without-part : (xs : List Transaction) (f x : Transaction) → AreOthers f xs → f.place ≡ x.place → has_part xs x ≡ false
+without-part xs f x others same =
+    list_any_none (λ y. nat_eq y.place x.place) xs (λ k d low. ne_eqb (get_or xs k d).place x.place (λ e. others k d low (e ∙ sym same)))
+
+-- a part that a list has stands at some place
+at_some : (xs : List Transaction) (x : Transaction) → has_part xs x ≡ true → (k : ℕ) × (k < length xs) × ((get_or xs k x).place ≡ x.place)
+at_some [] x has = cc
+at_some (y ∷ xs) x has =
+    elim (cases_Bool (nat_eq y.place x.place)) [
+      | inl t ↦ (0, omega arith, eqb-true y.place x.place t)
+      | inr f ↦ let r = at_some xs x (rw f at has) in let low = r.1 in (suc r.0, omega (arith, low), r.2)
+    ]
+
+-- a part in the first of two lists of others is not in the second
+pub apart_parts : (xs ys : List Transaction) (x : Transaction) → AllPairs (λ (y : Transaction) (z : Transaction). y.place ≢ z.place) (xs ++ ys) → has_part xs x ≡ true → has_part ys x ≡ false
+apart_parts xs ys x apart has =
+    let a = at_some xs x has in
+    let low_a = a.1 in
+    let long = length-append xs ys in
+    list_any_none (λ y. nat_eq y.place x.place) ys (λ k d low. ne_eqb (get_or ys k d).place x.place (λ e.
+      let first : get_or (xs ++ ys) a.0 d ≡ get_or xs a.0 x = get_or_append_left xs ys d a.0 low_a ∙ get_or_default xs a.0 d x low_a in
+      let second : get_or (xs ++ ys) (length xs + k) d ≡ get_or ys k d = get_or-append-add xs ys k d in
+      apart a.0 (length xs + k) d (omega (arith, low_a)) (omega (arith, low, long))
+      (ap (λ (z : Transaction). z.place) first ∙ a.2 ∙ sym e ∙ ap (λ (z : Transaction). z.place) (sym second))))
+
+-- the parts that a port has answered are the first of those for it
+pub answered-take : (past : Trace) (q : ℕ) → take (length (answered_parts past q)) (parts_for past q) ≡ answered_parts past q
+answered-take past q = start-is (answered_parts past q) (parts_for past q) (answered-first past q)
+
+abbrev pub unanswered : Trace → ℕ → List Transaction
+unanswered past q = drop (length (answered_parts past q)) (parts_for past q)
+
+pub both-parts : (past : Trace) (q : ℕ) → answered_parts past q ++ unanswered past q ≡ parts_for past q
+both-parts past q =
+    ap (λ l. l ++ unanswered past q) (sym (answered-take past q)) ∙ take-append-drop (length (answered_parts past q)) (parts_for past q)
+
+both-apart : (past : Trace) (q : ℕ) → AllPairs (λ (y : Transaction) (z : Transaction). y.place ≢ z.place) (answered_parts past q ++ unanswered past q)
+both-apart past q = subst (λ l. AllPairs (λ (y : Transaction) (z : Transaction). y.place ≢ z.place) l) (sym (both-parts past q)) (parts-apart past q)
+
+has-both : (past : Trace) (q : ℕ) (x : Transaction) → has_part (parts_for past q) x ≡ (has_answered past x q || has_part (unanswered past q) x)
+has-both past q x = ap (λ l. has_part l x) (sym (both-parts past q)) ∙ list_any-append (λ y. nat_eq y.place x.place) (answered_parts past q) (unanswered past q)
+
+-- a part that waits to be answered has not been
+pub not_answered : (past : Trace) (q : ℕ) (x : Transaction) → has_part (unanswered past q) x ≡ true → has_answered past x q ≡ false
+not_answered past q x waits =
+    elim (cases_Bool (has_answered past x q)) [
+      | inl t ↦ let bad : false ≡ true = sym (apart_parts (answered_parts past q) (unanswered past q) x (both-apart past q) t) ∙ waits in cc
+      | inr f ↦ f
+    ]
+
+-- a part of another port was answered, unless it waits for its second, or waits to be answered
+pub answered-is : (past : Trace) (x : Transaction) (q : ℕ) → IsIssued past x → is_message_part x ≡ true → x.port ≢ q
+    → has_answered past x q ≡ not (is_at (first_waiting past x.port) x.place || has_part (unanswered past q) x)
+answered-is past x q i part other =
+    elim (parts-cases x q part other past i) [
+      | inl has ↦ rw (unwaited has (first_waiting past x.port) refl) (one (has_answered past x q) (has_part (unanswered past q) x) (sym (has-both past q x) ∙ has)
+          (λ t. apart_parts (answered_parts past q) (unanswered past q) x (both-apart past q) t))
+      | inr waits ↦ rw (waits, eq-eqb x.place x.place refl) (none waits (cases_Bool (has_answered past x q)))
+    ]
+  where
+    unwaited : has_part (parts_for past q) x ≡ true → (o : Option Transaction) → first_waiting past x.port ≡ o → is_at o x.place ≡ false
+    unwaited has None is = refl
+    unwaited has (Some f) is =
+        ne_eqb x.place f.place (λ e.
+          let bad : false ≡ true = sym (without-part (parts_for past q) f x (waiting-apart past x.port q f is) (sym e)) ∙ has in cc)
+    one : (a d : Bool) → (a || d) ≡ true → (a ≡ true → d ≡ false) → a ≡ not (false || d)
+    one true d some apart = rw (apart refl) refl
+    one false d some apart = let t : d ≡ true = some in rw t refl
+    none : first_waiting past x.port ≡ Some x → (has_answered past x q ≡ true) ⊎ (has_answered past x q ≡ false) → has_answered past x q ≡ false
+    none waits (inl t) =
+        let bad : false ≡ true =
+        sym (without-part (parts_for past q) x x (waiting-apart past x.port q x waits) refl) ∙ has-both past q x ∙ or_left (has_answered past x q) _ t in cc
+    none waits (inr f) = f
+
+-- a part at the place is among those of the inbox
+place-in : (past : Trace) (ys : List Transaction) (x : Transaction) → has_place (map (part_of past) ys) x.place ≡ has_part ys x
+place-in past [] x = refl
+place-in past (y ∷ ys) x = ap (λ b. nat_eq y.place x.place || b) (place-in past ys x)
+
+pub awaits-is : (r : Recording) (s : Inboxes) (q : ℕ) (x : Transaction) → InboxesStand r s → is_ace r.header q ≡ true → awaits s q x.place ≡ has_part (unanswered r.past q) x
+awaits-is r s q x stands ace =
+    let within : q < length s.ports.items = let n = stands.size in let low = ltb-true q r.header.ports (and_parts (nat_lt q r.header.ports) _ ace).0 in omega arith in
+    let b = inbox_at s.ports.items q within in
+    let k = stands.ports q b.0 b.1 ace in
+    ap (λ o. is_some_and o (λ (v : Inbox). has_place v.parts.items x.place)) b.1 ∙ ap (λ l. has_place l x.place) k.parts_are ∙ place-in r.past (unanswered r.past q) x
+
+-- two tests that agree on each port below a number
+each_port-same : (n : ℕ) (test other : ℕ → Bool) → ((q : ℕ) → q < n → test q ≡ other q) → each_port n test ≡ each_port n other
+each_port-same zero test other same = refl
+each_port-same (suc n) test other same = rw (same n (omega arith), each_port-same n test other (λ q low. same q (omega arith))) refl
+
+-- every other ACE port has answered the part
+pub answered_by_all-is : (r : Recording) (s : Inboxes) (x : Transaction) → InboxesStand r s → IsIssued r.past x → is_message_part x ≡ true
+    → is_answered_by_all r.header r.past x
+    ≡ each_port r.header.ports (λ q. implies (is_other_ace r.header x.port q) (not (is_at (first_waiting r.past x.port) x.place || awaits s q x.place)))
+answered_by_all-is r s x stands i part =
+    each_port-same r.header.ports (λ q. implies (is_other_ace r.header x.port q) (has_answered r.past x q))
+    (λ q. implies (is_other_ace r.header x.port q) (not (is_at (first_waiting r.past x.port) x.place || awaits s q x.place)))
+    (λ q low. elim (cases_Bool (is_other_ace r.header x.port q)) [
+      | inl t ↦
+          let parts = and_parts (is_ace r.header q) (not (nat_eq q x.port)) t in
+          let other : x.port ≢ q = λ same. let bad : not true ≡ true = rw (eq-eqb q x.port (sym same)) at parts.1 in cc in
+          rw (t, awaits-is r s q x stands parts.0) (answered-is r.past x q i part other)
+      | inr f ↦ rw f refl
+    ])

@@ -1,0 +1,62 @@
+-- The inboxes, event by event.
+use Rattle.std.proofs.Common.{◌≡◌, ◌≢◌, ◌⊎◌, ℕ, zero, suc, ◌+◌, ◌-◌, ◌*◌, ◌<◌, ◌≤◌, Bool, true, false, not, ◌&&◌, ◌||◌, nat_eq, if◌then◌else◌, List, [], ◌∷◌, ◌++◌, length, map, take, drop, slice_get, slice_set, length-set, Option, Some, None, is_some, refl, sym, ap, subst, ◌∙◌, arith, inl, inr}
+use Rattle.std.proofs.lemmas.Bool.{cases_Bool, cases_eq, eq-eqb, ne_eqb}
+use Rattle.std.proofs.lemmas.List.{append-nil}
+use Rattle.std.proofs.lemmas.Option.{slice_get_within}
+use Rattle.std.specs.VecDeque.{deque_capacity}
+use Rattle.ace_model.specs.declared.transactions.Transaction.{Transaction}
+use Rattle.ace_model.proofs.Terms.{Header, Event, Trace}
+use Rattle.ace_model.proofs.General.Lists.{slice_get-more}
+use Rattle.ace_model.proofs.General.Options.{Some-injective}
+use Rattle.ace_portck.specs.Targets.{Recording, after}
+use Rattle.ace_sysck.specs.declared.inboxes.Part.{Part}
+use Rattle.ace_sysck.specs.declared.inboxes.Inbox.{Inbox}
+use Rattle.ace_sysck.specs.declared.inboxes.Inboxes.{Inboxes}
+use Rattle.ace_sysck.specs.Inboxes.{InboxesStand, InboxStands, IsEmptyInbox, Receives, SendsOne, sent_to, part_of}
+use Rattle.ace_sysck.proofs.Tables.{slice_get-set_same, slice_get-set_other}
+
+-- the inboxes of the empty trace
+pub inboxes_fresh : (h : Header) (s : Inboxes) (ports : ℕ) → h.ports ≡ ports → length s.ports.items ≡ h.ports
+    → ((q : ℕ) (b : Inbox) → slice_get s.ports.items q ≡ Some b → IsEmptyInbox ports b) → InboxesStand (record { header = h; past = [] }) s
+inboxes_fresh h s ports count size fresh = record {
+  size = size;
+  room = λ q b at. let f = (fresh q b at).room in omega (arith, f, count);
+  ports = λ q b at ace. let f = fresh q b at in record { parts_are = f.empty; count_is = let n = f.count in omega arith };
+  ids = λ x there. cc;
+}
+
+-- with one more
+pub fresh_more : (xs : List Inbox) (ports : ℕ) (n : Inbox) → ((q : ℕ) (b : Inbox) → slice_get xs q ≡ Some b → IsEmptyInbox ports b) → IsEmptyInbox ports n
+    → (q : ℕ) (b : Inbox) → slice_get (xs ++ n ∷ []) q ≡ Some b → IsEmptyInbox ports b
+fresh_more xs ports n all new q b at =
+    elim (slice_get-more xs (Some n) q b at) [
+      | inl old ↦ all q b old
+      | inr here ↦ subst (IsEmptyInbox ports) (Some-injective n b here.1) new
+    ]
+
+-- what is sent to the sender, to another port, and to a port that isn't there
+pub sends_own : (s : Inboxes) (q sender : ℕ) (sent : List Part) → q ≡ sender → SendsOne q sender sent s s
+sends_own s q sender sent own = record {
+  size = refl;
+  one = λ b at. (b, at, rw (eq-eqb q sender own) (record { items = λ fits. sym (append-nil b.parts.items); count = refl; room = omega arith }));
+  others = λ k off. refl;
+}
+
+pub sends_outside : (s : Inboxes) (q sender : ℕ) (sent : List Part) → length s.ports.items ≤ q → SendsOne q sender sent s s
+sends_outside s q sender sent high = record {
+  size = refl;
+  one = λ b at. let low = slice_get_within s.ports.items q b at in absurd (omega (arith, low, high));
+  others = λ k off. refl;
+}
+
+pub sends_one : (s n : Inboxes) (q sender : ℕ) (sent : List Part) (b c : Inbox) → (q ≡ sender → ⊥) → slice_get s.ports.items q ≡ Some b → Receives sent b c
+    → n.ports.items ≡ slice_set s.ports.items q c → SendsOne q sender sent s n
+sends_one s n q sender sent b c other at receives items = record {
+  size = ap length items ∙ length-set s.ports.items q c;
+  one = λ d there. (
+      c,
+      ap (λ l. slice_get l q) items ∙ slice_get-set_same s.ports.items q c (slice_get_within s.ports.items q b at),
+      rw (ne_eqb q sender other) (subst (λ v. Receives sent v c) (Some-injective b d (sym at ∙ there)) receives),
+    );
+  others = λ k off. ap (λ l. slice_get l k) items ∙ slice_get-set_other s.ports.items q k c off;
+}

@@ -1,0 +1,11 @@
+use Rattle.std.proofs.Common.{◌≡◌, ◌≤◌, ◌*◌, ℕ, length, slice_get, Some, []}
+use Rattle.std.specs.VecDeque.{deque_capacity}
+use Rattle.ace_sysck.specs.declared.inboxes.Inbox.{Inbox}
+use Rattle.ace_sysck.specs.Inboxes.{IsEmptyInbox}
+use Rattle.ace_sysck.proofs.inboxes.Inboxes.new.Given as goal
+
+abbrev pub invariant-loop-port : goal.invariant-loop-port
+invariant-loop-port l = record {
+  len : length l.all.items ≡ l._port;
+  fresh : (q : ℕ) (b : Inbox) → slice_get l.all.items q ≡ Some b → IsEmptyInbox l.ports b;
+}

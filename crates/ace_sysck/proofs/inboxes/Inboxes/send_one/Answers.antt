@@ -1,0 +1,31 @@
+use Rattle.std.proofs.Common.{◌≡◌, ◌≤◌, ◌<◌, ◌+◌, ◌++◌, ℕ, [], length, nat_eq, slice_get, slice_set, Some, true, false, arith, refl, sym, ap, subst, ◌∙◌, length-set}
+use Rattle.std.proofs.lemmas.Grind.{common_steps}
+use Rattle.std.proofs.lemmas.Bool.{eq-eqb, ne_eqb}
+use Rattle.std.proofs.lemmas.Option.{slice_get_within, slice_get-get_or}
+use Rattle.std.specs.Vec.{with_item}
+use Rattle.ace_sysck.specs.declared.inboxes.Inbox.{Inbox}
+use Rattle.ace_sysck.specs.declared.inboxes.Inboxes.{Inboxes}
+use Rattle.ace_sysck.specs.Inboxes.{Receives, SendsOne, sent_to, sent_list}
+use Rattle.ace_sysck.proofs.InboxSteps.{sends_own, sends_one, sends_outside}
+use Rattle.ace_sysck.proofs.inboxes.Inboxes.send_one.Goals as goal
+
+pub returns-then-q-sender : goal.returns-then-q-sender
+returns-then-q-sender c = sends_own c.args.self.now c.args.q c.args.sender (sent_list c.args.sent.now) c.if-q-sender.true
+
+pub returns-else-q-len : goal.returns-else-q-len
+returns-else-q-len c =
+    let n = c.len.ensures in
+    let f = c.if-q-len.false in
+    sends_outside c.args.self.now c.args.q c.args.sender (sent_list c.args.sent.now) (grind (arith, common_steps))
+
+pub returns-then-q-len : goal.returns-then-q-len
+returns-then-q-len c =
+    let s = c.args.self.now in
+    let q = c.args.q in
+    let b = c.index_mut.result.now in
+    let n : Inboxes = record { ports = with_item s.ports q c.receive.new.inbox } in
+    let len = c.len.ensures in
+    let low : q < length s.ports.items = grind (arith, common_steps) in
+    let at : slice_get s.ports.items q ≡ Some b = slice_get-get_or s.ports.items q b low ∙ ap Some (sym c.index_mut.ensures.value) in
+    let items : n.ports.items ≡ slice_set s.ports.items q c.receive.new.inbox = grind (arith, common_steps) in
+    sends_one s n q c.args.sender (sent_list c.args.sent.now) b c.receive.new.inbox c.if-q-sender.false at c.receive.ensures items

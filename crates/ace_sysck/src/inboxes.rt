@@ -1,0 +1,306 @@
+//! The parts of DVM messages that are forwarded to the ports.
+
+ghost use Rattle.std.specs.Prelude.{◌≡◌, ◌≤◌, ◌+◌, ◌++◌, ◌∷◌, [], length, slice_get, IfOk};
+ghost use Rattle.std.specs.Option.{option_to_list};
+ghost use Rattle.std.specs.VecDeque.{deque_capacity};
+ghost use Rattle.ace_sysck.specs.Inboxes.{parts_sent, sent_list, Receives, forwards_in, has_place, answers_message};
+
+use crate::events::begun_in;
+use crate::kinds::{is_ace, is_message_part, is_message_snoop};
+use crate::messages::PortMessages;
+use crate::words::{has_second, is_sync_word};
+use ace_codes::{SnoopKind, read_ac};
+use ace_event::{Event, Header};
+use ace_model::Transaction;
+use ace_portck::Target;
+use std::alloc::{AllocError, Global};
+use std::collections::VecDeque;
+
+/// A part of a message (Arm IHI 0022E, C12).
+#[derive(Clone, Copy, Debug, PartialEq, Eq)]
+pub struct Part {
+    pub transaction: Transaction,
+    /// It is a second part.
+    pub second: bool,
+    /// It is a Sync.
+    pub sync: bool,
+}
+
+/// The parts of the messages of other ports that a port has not answered, in the order in which they are forwarded to it.
+#[derive(Drop)]
+pub struct Inbox {
+    pub parts: VecDeque<Part>,
+    /// How many of them were forwarded.
+    pub forwarded: usize,
+}
+
+/// For each port of the header, its inbox. Those of ACE-Lite ports say nothing.
+#[derive(Drop)]
+pub struct Inboxes {
+    ports: Vec<Inbox>,
+}
+
+/// The one or two parts of a message that is issued, if one is.
+#[derive(Clone, Copy, Debug, PartialEq, Eq)]
+pub struct Sent {
+    pub first: Option<Part>,
+    pub last: Option<Part>,
+}
+
+/// The message that the port issues with this part.
+fn parts_sent(kept: &PortMessages, x: Transaction) -> Sent
+    ensures { sent_list result ≡ parts_sent kept.now x }
+{
+    match kept.first {
+        Some(first) => Sent {
+            first: Some(Part {
+                transaction: first,
+                second: false,
+                sync: is_sync_word(first.addr),
+            }),
+            last: Some(Part {
+                transaction: x,
+                second: true,
+                sync: false,
+            }),
+        },
+        None => {
+            if has_second(x.addr) {
+                Sent {
+                    first: None,
+                    last: None,
+                }
+            } else {
+                Sent {
+                    first: None,
+                    last: Some(Part {
+                        transaction: x,
+                        second: false,
+                        sync: is_sync_word(x.addr),
+                    }),
+                }
+            }
+        }
+    }
+}
+
+/// Puts the part at the end, where there is room.
+fn push(inbox: &mut Inbox, part: Option<Part>)
+    ensures { Receives (option_to_list part) inbox.old inbox.new }
+{
+    if let Some(x) = part {
+        let _full = inbox.parts.push_back(x);
+    }
+}
+
+/// Puts the parts of the message at the end, where there is room.
+fn receive(inbox: &mut Inbox, sent: &Sent)
+    ensures { Receives (sent_list sent.now) inbox.old inbox.new }
+{
+    push(inbox, sent.first);
+    push(inbox, sent.last);
+}
+
+/// One of the parts is at the place.
+fn has_place(parts: &VecDeque<Part>, place: usize) -> bool
+    ensures { result ≡ has_place parts.now.items place }
+{
+    for k in 0..parts.len() {
+        if let Some(part) = parts.get(k) {
+            if part.transaction.place == place {
+                return true;
+            }
+        }
+    }
+    false
+}
+
+/// An AC of the kind forwards the next part, and no other AC comes before a second part.
+fn forwards_in(next: Option<Part>, addr: u32, kind: SnoopKind) -> bool
+    ensures { result ≡ forwards_in next addr kind }
+{
+    let is_message = matches!(kind, SnoopKind::DvmMessage);
+    match next {
+        None => !is_message,
+        Some(part) => {
+            !(is_message || part.second) || (is_message && part.transaction.addr == addr)
+        }
+    }
+}
+
+impl Inboxes {
+    ghost use Rattle.std.specs.Prelude.{◌≡◌, ◌*◌, [], IfOk, slice_get, length, true};
+    ghost use Rattle.ace_portck.specs.declared.target.Target.{Target};
+    ghost use Rattle.std.specs.Option.{option_map};
+    ghost use Rattle.ace_event.specs.declared.header.Header.{Header};
+    ghost use Rattle.ace_model.specs.Transactions.{is_ace};
+    ghost use Rattle.ace_model.specs.OrderRules.{k36};
+    ghost use Rattle.std.specs.Prelude.{not, ◌||◌};
+    ghost use Rattle.ace_model.specs.Trace.{implies, is_some_and};
+    ghost use Rattle.ace_model.specs.Grants.{each_port};
+    ghost use Rattle.ace_model.specs.Messages.{is_other_ace};
+    ghost use Rattle.ace_portck.specs.Targets.{Recording, after};
+    ghost use Rattle.ace_sysck.specs.Inboxes.{InboxesStand, MayAskInboxes, MayHearInboxes, SendsAll, SendsOne, ForwardsTo, AnswersFirst, first_is_sync, sent_list, awaits, next_in, part_of};
+
+    /// The inboxes of the empty trace, of so many ports. Each has room for a part under each identifier of each port.
+    pub fn new(alloc: Global, ports: u8) -> Result<Inboxes, AllocError>
+        ensures { IfOk result (λ s. (h : Header) → h.ports ≡ ports → InboxesStand (record { header = h; past = [] }) s) }
+    {
+        let mut all = Vec::new(alloc);
+        for _port in 0..ports {
+            let parts = VecDeque::with_capacity(alloc, ports as usize * 256)?;
+            match all.push(Inbox {
+                parts,
+                forwarded: 0,
+            }) {
+                Ok(()) => {}
+                Err(_) => return Err(AllocError),
+            }
+        }
+        Ok(Inboxes { ports: all })
+    }
+
+    /// The part that is forwarded to the port next.
+    fn next_of(&self, port: u8) -> Option<Part>
+        ensures { result ≡ next_in (slice_get self.now.ports.items port) }
+    {
+        match self.ports.get(port as usize) {
+            None => None,
+            Some(inbox) => match inbox.parts.get(inbox.forwarded) {
+                None => None,
+                Some(part) => Some(*part),
+            },
+        }
+    }
+
+    /// The part at the place is one that the port has not answered.
+    pub fn awaits(&self, port: u8, place: usize) -> bool
+        ensures { result ≡ awaits self.now port place }
+    {
+        match self.ports.get(port as usize) {
+            None => false,
+            Some(inbox) => has_place(&inbox.parts, place),
+        }
+    }
+
+    /// K36: an AC DVM Message forwards the next part, and no other AC comes before a second part.
+    pub fn keeps_k36(&self, event: &Event) -> bool
+        ensures { (r : Recording) (t : Target) → MayAskInboxes r self.now event.now t → result ≡ k36 r.header r.past event.now }
+    {
+        match *event {
+            Event::Ac { port, addr, snoop } => match read_ac(snoop) {
+                None => true,
+                Some(kind) => forwards_in(self.next_of(port), addr, kind),
+            },
+            _ => true,
+        }
+    }
+
+    /// Every other ACE port has answered the part, which doesn't wait for its second.
+    pub fn is_answered_by_all(&self, header: &Header, x: &Transaction, waiting: bool) -> bool
+        ensures { result ≡ each_port header.now.ports (λ q. implies (is_other_ace header.now x.now.port q) (not (waiting || awaits self.now q x.now.place))) }
+    {
+        let mut all = true;
+        for q in 0..header.ports {
+            let other = is_ace(header, q) && q != x.port;
+            all = (!other || !(waiting || self.awaits(q, x.place))) && all;
+        }
+        all
+    }
+
+    /// Sends the parts to each port but the sender.
+    fn send(&mut self, sender: u8, sent: &Sent)
+        ensures size { length self.new.ports.items ≡ length self.old.ports.items }
+        ensures all { SendsAll sender (sent_list sent.now) self.old self.new }
+    {
+        for q in 0..self.ports.len() {
+            self.send_one(q, sender, sent);
+        }
+    }
+
+    /// Sends the parts to the port, unless it is the sender.
+    fn send_one(&mut self, q: usize, sender: u8, sent: &Sent)
+        ensures { SendsOne q sender (sent_list sent.now) self.old self.new }
+    {
+        if q == sender as usize {
+            return;
+        }
+        if q < self.ports.len() {
+            receive(&mut self.ports[q], sent);
+        }
+    }
+
+    /// An AC DVM Message forwards the next part to the port.
+    fn forward(&mut self, port: u8)
+        ensures { ForwardsTo port self.old self.new }
+    {
+        let p = port as usize;
+        if p < self.ports.len() {
+            let inbox = &mut self.ports[p];
+            if inbox.forwarded < inbox.parts.len() {
+                inbox.forwarded += 1;
+            }
+        }
+    }
+
+    /// The port answers the first of its parts.
+    fn answer(&mut self, port: u8)
+        ensures { AnswersFirst port self.old self.new }
+    {
+        let p = port as usize;
+        if p < self.ports.len() {
+            let inbox = &mut self.ports[p];
+            let _first = inbox.parts.pop_front();
+            inbox.forwarded = inbox.forwarded.saturating_sub(1);
+        }
+    }
+
+    /// The port's next CR answers a part that is a Sync: its first part is one.
+    pub fn answers_sync(&self, port: u8) -> bool
+        ensures { result ≡ is_some_and (slice_get self.now.ports.items port) first_is_sync }
+    {
+        match self.ports.get(port as usize) {
+            None => false,
+            Some(inbox) => match inbox.parts.front() {
+                None => false,
+                Some(part) => part.sync,
+            },
+        }
+    }
+
+    /// The inboxes after the event. `kept` is what was kept of the messages of a port that issues a part by it.
+    pub fn hear(&mut self, event: &Event, target: &Target, kept: &PortMessages)
+        ensures { (r : Recording) → MayHearInboxes r self.old event.now target.now kept.now → InboxesStand (after r event.now) self.new }
+    {
+        if let Some(x) = begun_in(event, target) {
+            if is_message_part(&x) {
+                let sent = parts_sent(kept, x);
+                self.send(x.port, &sent);
+            }
+        } else {
+            match *event {
+                Event::Ac { port, snoop, .. } => {
+                    if is_message_snoop(snoop) {
+                        self.forward(port);
+                    }
+                }
+                Event::Cr { port, .. } => {
+                    if answers_message(target) {
+                        self.answer(port);
+                    }
+                }
+                _ => {}
+            }
+        }
+    }
+}
+
+/// The snoop of the target is an AC DVM Message.
+fn answers_message(target: &Target) -> bool
+    ensures { result ≡ answers_message target.now }
+{
+    match target.snoop {
+        None => false,
+        Some(s) => is_message_snoop(s.snoop),
+    }
+}

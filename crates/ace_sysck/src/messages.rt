@@ -1,0 +1,201 @@
+//! The DVM messages that the ports issue.
+
+ghost use Rattle.std.specs.Prelude.{◌≡◌, Some};
+ghost use Rattle.ace_sysck.specs.Messages.{is_new_sync, part_issued, part_completed, told_complete, is_in_order, is_at};
+ghost use Rattle.ace_model.specs.Messages.{waits_after};
+
+use crate::events::{begun_in, completed_in};
+use crate::kinds::{is_complete_snoop, is_message_part};
+use crate::words::{has_second, is_message_word, is_sync_word};
+use ace_event::Event;
+use ace_model::Transaction;
+use ace_portck::Target;
+use std::alloc::{AllocError, Global};
+
+/// What is kept of the messages that one port issues (Arm IHI 0022E, C12).
+#[derive(Clone, Copy, Debug, PartialEq, Eq)]
+pub struct PortMessages {
+    /// Its last part, where it is a first part that a second follows.
+    pub first: Option<Transaction>,
+    /// Its last Sync.
+    pub sync: Option<Transaction>,
+    /// That Sync is complete. It says nothing where there is none.
+    pub sync_done: bool,
+    /// An AC DVM Complete has come since that Sync.
+    pub sync_completed: bool,
+}
+
+/// For each port of the header, what is kept of the messages that it issues.
+#[derive(Drop)]
+pub struct Messages {
+    ports: Vec<PortMessages>,
+}
+
+fn is_new_sync(kept: &PortMessages, x: &Transaction) -> bool
+    ensures { result ≡ is_new_sync kept.now x.now }
+{
+    is_sync_word(x.addr) && kept.first.is_none()
+}
+
+/// The first part that waits for its second once this part is issued.
+fn waits_after(first: Option<Transaction>, x: Transaction) -> Option<Transaction>
+    ensures { result ≡ waits_after first (Some x) }
+{
+    match first {
+        Some(_) => None,
+        None => {
+            if has_second(x.addr) {
+                Some(x)
+            } else {
+                None
+            }
+        }
+    }
+}
+
+/// What is kept once the port has issued the part.
+fn part_issued(kept: PortMessages, x: Transaction) -> PortMessages
+    ensures { result ≡ part_issued kept x }
+{
+    if is_new_sync(&kept, &x) {
+        PortMessages {
+            first: waits_after(kept.first, x),
+            sync: Some(x),
+            sync_done: false,
+            sync_completed: false,
+        }
+    } else {
+        PortMessages {
+            first: waits_after(kept.first, x),
+            sync: kept.sync,
+            sync_done: kept.sync_done,
+            sync_completed: kept.sync_completed,
+        }
+    }
+}
+
+fn is_at(x: Option<Transaction>, place: usize) -> bool
+    ensures { result ≡ is_at x place }
+{
+    match x {
+        None => false,
+        Some(y) => place == y.place,
+    }
+}
+
+/// What is kept once the transaction at the place is complete.
+fn part_completed(kept: PortMessages, place: usize) -> PortMessages
+    ensures { result ≡ part_completed kept place }
+{
+    PortMessages {
+        first: kept.first,
+        sync: kept.sync,
+        sync_done: is_at(kept.sync, place) || kept.sync_done,
+        sync_completed: kept.sync_completed,
+    }
+}
+
+/// What is kept once the Sync has had its AC DVM Complete.
+fn told_complete(kept: PortMessages) -> PortMessages
+    ensures { result ≡ told_complete kept }
+{
+    PortMessages {
+        first: kept.first,
+        sync: kept.sync,
+        sync_done: kept.sync_done,
+        sync_completed: true,
+    }
+}
+
+/// The port may issue the part.
+fn is_in_order(kept: &PortMessages, x: &Transaction) -> bool
+    ensures { result ≡ is_in_order kept.now x.now }
+{
+    match kept.first {
+        Some(first) => x.dom == first.dom && x.bar == first.bar,
+        None => {
+            is_message_word(x.addr)
+                && (!(is_sync_word(x.addr) && kept.sync.is_some()) || kept.sync_completed)
+        }
+    }
+}
+
+impl Messages {
+    ghost use Rattle.std.specs.Prelude.{◌≡◌, [], IfOk, slice_set, slice_index_or, length, Some};
+    ghost use Rattle.ace_event.specs.declared.header.Header.{Header};
+    ghost use Rattle.ace_model.specs.Trace.{implies};
+    ghost use Rattle.ace_model.specs.AddressRules.{is_part_in_order};
+    ghost use Rattle.ace_model.specs.Messages.{is_message_part, first_waiting};
+    ghost use Rattle.ace_portck.specs.Targets.{Recording, after};
+    ghost use Rattle.ace_sysck.specs.Messages.{MessagesStand, MayHearMessages, silent, PortMessagesStand};
+
+    /// What is kept after the empty trace, of so many ports.
+    pub fn new(alloc: Global, ports: u8) -> Result<Messages, AllocError>
+        ensures { IfOk result (λ s. (h : Header) → h.ports ≡ ports → MessagesStand (record { header = h; past = [] }) s) }
+    {
+        let mut all = Vec::new(alloc);
+        for _port in 0..ports {
+            all.push(PortMessages {
+                first: None,
+                sync: None,
+                sync_done: false,
+                sync_completed: false,
+            })?;
+        }
+        Ok(Messages { ports: all })
+    }
+
+    /// What is kept of the messages of the port.
+    pub fn of(&self, port: u8) -> PortMessages
+        ensures kept { result ≡ slice_index_or self.now.ports.items port silent }
+        ensures stands { (r : Recording) → MessagesStand r self.now → PortMessagesStand r.past port result }
+    {
+        let p = port as usize;
+        if p < self.ports.len() {
+            self.ports[p]
+        } else {
+            PortMessages {
+                first: None,
+                sync: None,
+                sync_done: false,
+                sync_completed: false,
+            }
+        }
+    }
+
+    fn set(&mut self, port: u8, kept: PortMessages)
+        ensures { self.new.ports.items ≡ slice_set self.old.ports.items port kept }
+    {
+        let p = port as usize;
+        if p < self.ports.len() {
+            self.ports[p] = kept;
+        }
+    }
+
+    /// Of K9, where the event issues the transaction: a part of a message follows the part that the port issued before it.
+    pub fn keeps_k9(&self, x: &Transaction) -> bool
+        ensures { (r : Recording) → MessagesStand r self.now → result ≡ implies (is_message_part x.now) (is_part_in_order r.past x.now (first_waiting r.past x.now.port)) }
+    {
+        !is_message_part(x) || is_in_order(&self.of(x.port), x)
+    }
+
+    /// What is kept after the event.
+    pub fn hear(&mut self, event: &Event, target: &Target)
+        ensures { (r : Recording) → MayHearMessages r self.old event.now target.now → MessagesStand (after r event.now) self.new }
+    {
+        if let Some(x) = begun_in(event, target) {
+            if is_message_part(&x) {
+                let kept = part_issued(self.of(x.port), x);
+                self.set(x.port, kept);
+            }
+        } else if let Some(x) = completed_in(event, target) {
+            let kept = part_completed(self.of(x.port), x.place);
+            self.set(x.port, kept);
+        } else if let Event::Ac { port, snoop, .. } = *event {
+            if is_complete_snoop(snoop) {
+                let kept = told_complete(self.of(port));
+                self.set(port, kept);
+            }
+        }
+    }
+}
