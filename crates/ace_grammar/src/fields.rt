@@ -1,10 +1,12 @@
 // Fields, from the front of a line. Each comes with the space before it.
-ghost use Rattle.std.specs.Prelude.{◌≡◌, ◌≤◌, ◌^◌, ◌<◌, length, IfSome};
+ghost use Rattle.std.specs.Prelude.{◌≡◌, ◌≤◌, ◌^◌, ◌<◌, ◌-◌, length, IfSome, IsTrue};
 ghost use Rattle.std.specs.Option.{option_map};
+ghost use Rattle.ace_grammar.specs.Lanes.{HaveEntries, IsEntry, are_entries, entries_onto};
 ghost use Rattle.ace_grammar.specs.Fields.{digit_of, digits_onto, space_at, digits_at, number_at, port_at, flag_at, letter_at, channel_at, state_of, state_at, outcome_of, outcome_at, line_at, ended};
 
 use ace_codes::LineState;
 use ace_event::{Channel, Line, Outcome};
+use std::simd::prelude::*;
 
 /// The value of a lower-case hexadecimal digit.
 #[inline(always)]
@@ -32,6 +34,99 @@ pub fn number_of(digits: &[u8]) -> Option<u128>
     Some(number)
 }
 
+/// The value of each digit, and 255 for each byte that is none.
+static DIGITS: [u8; 256] = [
+    255, 255, 255, 255, 255, 255, 255, 255, 255, 255, 255, 255, 255, 255, 255, 255, 255, 255, 255,
+    255, 255, 255, 255, 255, 255, 255, 255, 255, 255, 255, 255, 255, 255, 255, 255, 255, 255, 255,
+    255, 255, 255, 255, 255, 255, 255, 255, 255, 255, 0, 1, 2, 3, 4, 5, 6, 7, 8, 9, 255, 255, 255,
+    255, 255, 255, 255, 255, 255, 255, 255, 255, 255, 255, 255, 255, 255, 255, 255, 255, 255, 255,
+    255, 255, 255, 255, 255, 255, 255, 255, 255, 255, 255, 255, 255, 255, 255, 255, 255, 10, 11,
+    12, 13, 14, 15, 255, 255, 255, 255, 255, 255, 255, 255, 255, 255, 255, 255, 255, 255, 255, 255,
+    255, 255, 255, 255, 255, 255, 255, 255, 255, 255, 255, 255, 255, 255, 255, 255, 255, 255, 255,
+    255, 255, 255, 255, 255, 255, 255, 255, 255, 255, 255, 255, 255, 255, 255, 255, 255, 255, 255,
+    255, 255, 255, 255, 255, 255, 255, 255, 255, 255, 255, 255, 255, 255, 255, 255, 255, 255, 255,
+    255, 255, 255, 255, 255, 255, 255, 255, 255, 255, 255, 255, 255, 255, 255, 255, 255, 255, 255,
+    255, 255, 255, 255, 255, 255, 255, 255, 255, 255, 255, 255, 255, 255, 255, 255, 255, 255, 255,
+    255, 255, 255, 255, 255, 255, 255, 255, 255, 255, 255, 255, 255, 255, 255, 255, 255, 255, 255,
+    255, 255, 255, 255, 255, 255, 255, 255, 255, 255, 255, 255, 255, 255, 255, 255, 255, 255, 255,
+    255, 255, 255, 255,
+];
+
+/// The value of a digit, or 255.
+#[inline(always)]
+fn look_up(byte: u8) -> u8
+    ensures { IsEntry byte result }
+{
+    DIGITS[byte as usize]
+}
+
+/// The number that these digits write, of which there are at most 16.
+#[inline(always)]
+fn short_number_of(digits: &[u8]) -> Option<u64>
+    requires { length digits.now ≤ 16 }
+    ensures { result ≡ digits_onto 0 digits.now }
+{
+    let mut number: u64 = 0;
+    let mut seen = 0;
+    for byte in digits {
+        let digit = look_up(*byte);
+        seen |= digit;
+        number = number.wrapping_mul(16).wrapping_add(u64::from(digit));
+    }
+    (seen < 16).then_some(number)
+}
+
+/// The value of each of 16 digits, and for each byte that is none a number that is not below 16.
+#[inline(always)]
+fn entries_of(digits: &[u8]) -> u8x16
+    requires { length digits.now ≡ 16 }
+    ensures { HaveEntries digits.now result }
+{
+    let bytes = u8x16::from_slice(digits);
+    let decimal = bytes - u8x16::splat(b'0');
+    let letter = bytes - u8x16::splat(b'a');
+    let other = letter
+        .simd_lt(u8x16::splat(6))
+        .select(letter + u8x16::splat(10), u8x16::splat(255));
+    decimal.simd_lt(u8x16::splat(10)).select(decimal, other)
+}
+
+/// Whether all of them are digits.
+#[inline(always)]
+fn are_entries(entries: u8x16) -> bool
+    requires { length entries ≡ 16 }
+    ensures { result ≡ are_entries entries }
+{
+    entries.simd_ge(u8x16::splat(16)).to_bitmask() == 0
+}
+
+/// The number of 16 digits.
+#[inline(always)]
+fn pack(entries: u8x16) -> u64
+    requires len { length entries ≡ 16 }
+    requires digits { IsTrue (are_entries entries) }
+    ensures { result ≡ entries_onto 0 entries }
+{
+    let high: u8x8 = entries.swizzle([0, 2, 4, 6, 8, 10, 12, 14]);
+    let low: u8x8 = entries.swizzle([1, 3, 5, 7, 9, 11, 13, 15]);
+    let pairs = high * u8x8::splat(16) + low;
+    u64::from_be_bytes(pairs.to_array())
+}
+
+/// The number that 16 digits write.
+#[inline(always)]
+fn number_of_16(digits: &[u8]) -> Option<u64>
+    requires { length digits.now ≡ 16 }
+    ensures { result ≡ digits_onto 0 digits.now }
+{
+    let entries = entries_of(digits);
+    if are_entries(entries) {
+        Some(pack(entries))
+    } else {
+        None
+    }
+}
+
 #[tactic(auto, unfolding(crate::specs::Fields::space_at))]
 #[inline(always)]
 fn take_space(bytes: &[u8]) -> Option<&[u8]>
@@ -45,8 +140,8 @@ fn take_space(bytes: &[u8]) -> Option<&[u8]>
 
 #[tactic(auto, unfolding(crate::specs::Fields::digits_at))]
 #[inline(always)]
-fn take_digits(bytes: &[u8], count: usize, most: u128) -> Option<(u128, &[u8])>
-    requires { count ≤ 32 }
+fn take_digits(bytes: &[u8], count: usize, most: u64) -> Option<(u64, &[u8])>
+    requires { count ≤ 16 }
     ensures value { option_map (λ x. (x.0, x.1.now)) result ≡ digits_at count most bytes.now }
     ensures bound { IfSome result (λ x. x.0 ≤ most) }
 {
@@ -54,7 +149,7 @@ fn take_digits(bytes: &[u8], count: usize, most: u128) -> Option<(u128, &[u8])>
         return None;
     }
     let (digits, rest) = bytes.split_at(count);
-    let number = number_of(digits)?;
+    let number = short_number_of(digits)?;
     if number > most {
         return None;
     }
@@ -64,8 +159,8 @@ fn take_digits(bytes: &[u8], count: usize, most: u128) -> Option<(u128, &[u8])>
 /// A number of so many digits, which is at most `most`.
 #[tactic(auto, unfolding(crate::specs::Fields::number_at))]
 #[inline(always)]
-pub fn take_number(bytes: &[u8], count: usize, most: u128) -> Option<(u128, &[u8])>
-    requires { count ≤ 32 }
+pub fn take_number(bytes: &[u8], count: usize, most: u64) -> Option<(u64, &[u8])>
+    requires { count ≤ 16 }
     ensures value { option_map (λ x. (x.0, x.1.now)) result ≡ number_at count most bytes.now }
     ensures bound { IfSome result (λ x. x.0 ≤ most) }
 {
@@ -85,6 +180,38 @@ pub fn take_port(bytes: &[u8], version: u8) -> Option<(u8, &[u8])>
         let (port, rest) = take_number(bytes, 2, 0xff)?;
         Some((port as u8, rest))
     }
+}
+
+/// A number of 16 digits, which has no space before it.
+#[inline(always)]
+fn take_half(bytes: &[u8]) -> Option<(u64, &[u8])>
+    ensures { option_map (λ x. (x.0, x.1.now)) result ≡ digits_at 16 (2 ^ 64 - 1) bytes.now }
+{
+    if bytes.len() < 16 {
+        return None;
+    }
+    let (digits, rest) = bytes.split_at(16);
+    let number = number_of_16(digits)?;
+    Some((number, rest))
+}
+
+/// A number of 32 digits, which has no space before it.
+#[inline(always)]
+fn take_word_digits(bytes: &[u8]) -> Option<(u128, &[u8])>
+    ensures { option_map (λ x. (x.0, x.1.now)) result ≡ digits_at 32 (2 ^ 128 - 1) bytes.now }
+{
+    let (high, rest) = take_half(bytes)?;
+    let (low, rest) = take_half(rest)?;
+    Some((u128::from(high) * (1 << 64) + u128::from(low), rest))
+}
+
+/// A number of 32 digits.
+#[tactic(auto, unfolding(crate::specs::Fields::number_at))]
+#[inline(always)]
+pub fn take_word(bytes: &[u8]) -> Option<(u128, &[u8])>
+    ensures value { option_map (λ x. (x.0, x.1.now)) result ≡ number_at 32 (2 ^ 128 - 1) bytes.now }
+{
+    take_word_digits(take_space(bytes)?)
 }
 
 /// A flag: `0` or `1`.
@@ -179,10 +306,10 @@ pub fn at_end<A: Drop>(value: A, bytes: &[u8]) -> Option<A>
 pub fn take_line(bytes: &[u8]) -> Option<Line>
     ensures { result ≡ line_at bytes.now }
 {
-    let (a, rest) = take_number(bytes, 32, u128::MAX)?;
-    let (b, rest) = take_digits(rest, 32, u128::MAX)?;
-    let (c, rest) = take_digits(rest, 32, u128::MAX)?;
-    let (d, rest) = take_digits(rest, 32, u128::MAX)?;
+    let (a, rest) = take_word(bytes)?;
+    let (b, rest) = take_word_digits(rest)?;
+    let (c, rest) = take_word_digits(rest)?;
+    let (d, rest) = take_word_digits(rest)?;
     let line = Line {
         words: [a, b, c, d],
     };

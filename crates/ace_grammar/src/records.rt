@@ -5,6 +5,7 @@ ghost use Rattle.ace_grammar.specs.Records.{ar_event, ar_fields, r_event, r_fiel
 
 use crate::fields::{
     at_end, take_channel, take_flag, take_line, take_number, take_outcome, take_port, take_state,
+    take_word,
 };
 use ace_event::Event;
 
@@ -41,7 +42,7 @@ pub fn read_r(bytes: &[u8], version: u8) -> Option<Event>
     let (id, rest) = take_number(rest, 1, 15)?;
     let (resp, rest) = take_number(rest, 1, 15)?;
     let (last, rest) = take_flag(rest)?;
-    let (word, rest) = take_number(rest, 32, u128::MAX)?;
+    let (word, rest) = take_word(rest)?;
     let event = Event::R {
         port,
         id: id as u8,
@@ -92,7 +93,7 @@ pub fn read_w(bytes: &[u8], version: u8) -> Option<Event>
     let (port, rest) = take_port(bytes, version)?;
     let (strb, rest) = take_number(rest, 4, 0xffff)?;
     let (last, rest) = take_flag(rest)?;
-    let (word, rest) = take_number(rest, 32, u128::MAX)?;
+    let (word, rest) = take_word(rest)?;
     let event = Event::W {
         port,
         strb: strb as u16,
@@ -166,7 +167,7 @@ pub fn read_cd(bytes: &[u8], version: u8) -> Option<Event>
 {
     let (port, rest) = take_port(bytes, version)?;
     let (last, rest) = take_flag(rest)?;
-    let (word, rest) = take_number(rest, 32, u128::MAX)?;
+    let (word, rest) = take_word(rest)?;
     let event = Event::Cd { port, last, word };
     at_end(event, rest)
 }
@@ -228,7 +229,7 @@ pub fn read_l(bytes: &[u8], version: u8) -> Option<Event>
     let (addr, rest) = take_number(rest, 8, 0xffff_ffff)?;
     let (w, rest) = take_number(rest, 1, 3)?;
     let (x, rest) = take_flag(rest)?;
-    let (word, rest) = take_number(rest, 32, u128::MAX)?;
+    let (word, rest) = take_word(rest)?;
     let event = Event::L {
         port,
         addr: addr as u32,

@@ -1,4 +1,5 @@
 pub mod Faults
+pub mod Lanes
 pub mod Line
 pub mod MemSink
 pub mod MemSource

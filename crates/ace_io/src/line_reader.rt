@@ -1,11 +1,13 @@
 // A source of bytes is cut into lines: at each line feed, of at most 256 bytes with it.
-ghost use Rattle.std.specs.Prelude.{◌≡◌, ◌<◌, ◌≤◌, [], List, ℕ, length, take, slice_index, IfOk, OnOk, OnErr, IfNone, MatchOption, IsTrue, IsOk, false};
+ghost use Rattle.std.specs.Prelude.{◌≡◌, ◌<◌, ◌≤◌, [], List, ℕ, ◌+◌, length, take, drop, slice_index, IfOk, OnOk, OnErr, IfNone, MatchOption, IsTrue, IsOk, false};
 ghost use Rattle.std.specs.Io.KnownBytes.{Consumes, IsAtEnd};
 ghost use Rattle.ace_io.specs.Faults.{HasCause};
+ghost use Rattle.ace_io.specs.Lanes.{first_set};
 ghost use Rattle.ace_io.specs.Line.{HasNoLf, CutsHeld, CutsPiece, CutsLine, IsPending};
 
 use crate::{Failed, LineBuf, LineEnd, NoMemory, Source};
 use std::alloc::Global;
+use std::simd::prelude::*;
 
 /// The most bytes of a line, with its line feed.
 const LINE_LIMIT: usize = 256;
@@ -13,12 +15,74 @@ const LINE_LIMIT: usize = 256;
 /// How many bytes are asked of the source at once.
 const BUFFER_SIZE: usize = 4096;
 
-/// Where the first line feed of the piece is.
-fn find_lf(piece: &[u8]) -> Option<usize>
+/// How many bytes are looked at together.
+const LANES: usize = 16;
+
+/// The lowest bit that is set, or `lanes`.
+#[inline(always)]
+fn first_set(mask: u64, lanes: usize) -> usize
+    ensures { result ≡ first_set mask lanes }
+{
+    if mask == 0 {
+        lanes
+    } else {
+        mask.trailing_zeros() as usize
+    }
+}
+
+/// How many of the bytes that are looked at together stand before their first line feed.
+#[inline(always)]
+fn lf_among(piece: &[u8], at: usize) -> usize
+    requires { at + 16 ≤ length piece.now }
+    ensures within { result ≤ 16 }
+    ensures no_lf { HasNoLf (take result (drop at piece.now)) }
+    ensures lf { result < 16 → slice_index piece.now (at + result) ≡ 10 }
+{
+    let marks = u8x16::from_slice(&piece[at..])
+        .simd_eq(u8x16::splat(b'\n'))
+        .to_bitmask();
+    first_set(marks, LANES)
+}
+
+/// Where the first line feed of a short piece is.
+fn find_lf_short(piece: &[u8]) -> Option<usize>
     ensures { MatchOption result (HasNoLf piece.now)
         (λ at. (at < length piece.now) × HasNoLf (take at piece.now) × (slice_index piece.now at ≡ 10)) }
 {
     piece.iter().position(|b| *b == b'\n')
+}
+
+/// Where the first line feed of the piece is, where none stands before `start`.
+#[inline(always)]
+#[tactic(auto, using(crate::proofs::LineFeeds::lf_free))]
+fn find_lf_after(piece: &[u8], start: usize) -> Option<usize>
+    requires within { start ≤ length piece.now }
+    requires no_lf { HasNoLf (take start piece.now) }
+    ensures { MatchOption result (HasNoLf piece.now)
+        (λ at. (at < length piece.now) × HasNoLf (take at piece.now) × (slice_index piece.now at ≡ 10)) }
+{
+    match find_lf_short(&piece[start..]) {
+        Some(more) => Some(start + more),
+        None => None,
+    }
+}
+
+/// Where the first line feed of the piece is.
+#[inline(always)]
+#[tactic(auto, using(crate::proofs::LineFeeds::lf_free))]
+fn find_lf(piece: &[u8]) -> Option<usize>
+    ensures { MatchOption result (HasNoLf piece.now)
+        (λ at. (at < length piece.now) × HasNoLf (take at piece.now) × (slice_index piece.now at ≡ 10)) }
+{
+    let mut at = 0;
+    while piece.len() - at >= LANES {
+        let before = lf_among(piece, at);
+        if before < LANES {
+            return Some(at + before);
+        }
+        at += LANES;
+    }
+    find_lf_after(piece, at)
 }
 
 /// Cuts the bytes of a source into lines. It asks for up to 4096 bytes at once, and keeps what no line has yet.

@@ -40,6 +40,7 @@ impl TextBuf {
     }
 
     /// How many bytes the text has.
+    #[inline(always)]
     pub fn len(&self) -> usize
         ensures value { result ≡ length self.now }
         ensures bound { result ≤ 4096 }
@@ -55,6 +56,7 @@ impl TextBuf {
     }
 
     /// Adds a byte that there is room for at the end.
+    #[inline(always)]
     pub fn push(&mut self, byte: u8)
         requires { length self.old < 4096 }
         ensures value { self.new ≡ self.old ++ byte ∷ [] }
@@ -65,6 +67,7 @@ impl TextBuf {
     }
 
     /// Adds a piece that there is room for at the end.
+    #[inline(always)]
     pub fn append(&mut self, piece: &[u8])
         requires { length self.old + length piece.now ≤ 4096 }
         ensures value { self.new ≡ self.old ++ piece.now }

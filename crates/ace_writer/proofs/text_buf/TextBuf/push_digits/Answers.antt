@@ -1,13 +1,12 @@
-use Rattle.std.proofs.Common.{arith, refl, ◌∙◌}
-use Rattle.ace_writer.proofs.Digits.{next_digit, none_left}
+use Rattle.std.proofs.Common.{◌∙◌, ap, ◌++◌, arith}
+use Rattle.ace_writer.proofs.Digits.{low_slice, two_slices}
 use Rattle.ace_writer.proofs.text_buf.TextBuf.push_digits.Goals as goal
 
-pub loop-left-preserved : goal.loop-left-preserved
-loop-left-preserved c = record {
-  in_count = omega (arith, c.loop-left.invariant.in_count);
-  len = omega (arith, c.loop-left.invariant.len, c.push.ensures.len, c.loop-left-test.true);
-  text = next_digit c.loop-left.self _ _ c.loop-left.left _ c.args.n (omega (arith, c.loop-left-test.true)) refl c.loop-left.invariant.text (rw (← c.digit.ensures) c.push.ensures.value);
-}
+pub returns-then-count-le16-clause-value : goal.returns-then-count-le16-clause-value
+returns-then-count-le16-clause-value c =
+    c.append.ensures.value ∙ ap (λ l. c.args.self.now ++ l) (low_slice c.args.count c.args.n _ c.hex_16-low.ensures c.if-count-le16.true)
 
-pub returns-clause-value : goal.returns-clause-value
-returns-clause-value c = none_left c.loop-left.self c.loop-left.left c.args.n (omega (arith, c.loop-left-test.false)) ∙ c.loop-left.invariant.text
+pub returns-else-count-le16-clause-value : goal.returns-else-count-le16-clause-value
+returns-else-count-le16-clause-value c =
+    rw (c.append-else-count-le16-2.ensures.value, c.append-else-count-le16.ensures.value)
+    (two_slices c.args.self.now c.args.count c.args.n _ _ c.hex_16.ensures c.hex_16-low.ensures (omega (arith, c.if-count-le16.false)) c.requires.count)

@@ -1,0 +1,5 @@
+use Rattle.ace_grammar.proofs.EntryLanes.{all_entries}
+use Rattle.ace_grammar.proofs.fields.are_entries.Goals as goal
+
+pub returns : goal.returns
+returns c = all_entries c.args.entries c.requires
