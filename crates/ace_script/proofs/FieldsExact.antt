@@ -200,7 +200,7 @@ three_takes f g h (a ∷ b ∷ c ∷ []) x e =
     let third = h.takes c x.1.1 more.1 in (
       (first.0, (second.0, third.0)),
       ap (λ (l : List ℕ). l ∷ b ∷ c ∷ []) first.1 ∙ ap (λ (l : List ℕ). f.text x.0 ∷ l ∷ c ∷ []) second.1
-      ∙ ap (λ (l : List ℕ). f.text x.0 ∷ g.text x.1.0 ∷ l ∷ []) third.1,
+          ∙ ap (λ (l : List ℕ). f.text x.0 ∷ g.text x.1.0 ∷ l ∷ []) third.1,
     )
 three_takes f g h (a ∷ b ∷ c ∷ d ∷ l) x e = err_isn't P3 x _ e
 

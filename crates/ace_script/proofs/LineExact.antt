@@ -112,8 +112,8 @@ line_reads (a ∷ b ∷ c ∷ d ∷ []) h =
     let text = joined 32 a b c d in
     cond-true (eqb (length text) 128) _ _ (eq-eqb (length text) 128 (joined_long 32 a b c d))
     ∙ four_in (word_behind 0 text) (word_behind 32 text) (word_behind 64 text) (word_behind 96 text) a b c d
-        (word_at 32 0 a [] (hex_text 32 b ++ (hex_text 32 c ++ (hex_text 32 d ++ []))) refl (omega (arith, fit.0)))
-        (second_at 32 a b c d (omega (arith, fit.1.0))) (third_at 32 a b c d (omega (arith, fit.1.1.0))) (fourth_at 32 a b c d (omega (arith, fit.1.1.1.0)))
+    (word_at 32 0 a [] (hex_text 32 b ++ (hex_text 32 c ++ (hex_text 32 d ++ []))) refl (omega (arith, fit.0)))
+    (second_at 32 a b c d (omega (arith, fit.1.0))) (third_at 32 a b c d (omega (arith, fit.1.1.0))) (fourth_at 32 a b c d (omega (arith, fit.1.1.1.0)))
 line_reads (a ∷ b ∷ c ∷ d ∷ e ∷ l) h = absurd (omega (arith, h.0))
 
 abbrev pub line : Field Line
