@@ -1,8 +1,7 @@
 -- A cache line is read from exactly its digits.
-use Rattle.std.proofs.Common.{◌≡◌, ℕ, ◌+◌, ◌*◌, ◌^◌, ◌<◌, ◌≤◌, eqb, List, [], ◌∷◌, ◌++◌, length, take, drop, Result, Ok, Err, Option, Some, None, refl, sym, ap, subst, ◌∙◌, arith, inl, inr, append_assoc, take-add}
-use Rattle.std.specs.List.{flat_map}
+use Rattle.std.proofs.Common.{◌≡◌, ℕ, ◌+◌, ◌^◌, ◌<◌, ◌≤◌, eqb, List, [], ◌∷◌, ◌++◌, length, take, drop, Ok, Err, Option, Some, None, refl, sym, ap, subst, ◌∙◌, arith, inl, inr, append_assoc, take-add}
 use Rattle.std.proofs.lemmas.Bool.{eqb-true, eq-eqb, cond-true}
-use Rattle.std.proofs.lemmas.List.{append-nil, length-append, take_at, drop_at, take_all, drop-drop, length-take-le, length-drop}
+use Rattle.std.proofs.lemmas.List.{length-append, take_at, drop_at, take_all, drop-drop, length-take-le, length-drop}
 use Rattle.ace_event.specs.declared.line.Line.{Line}
 use Rattle.ace_event.specs.Range.{IsLine}
 use Rattle.ace_event.specs.Text.{hex_text, line_digits}
