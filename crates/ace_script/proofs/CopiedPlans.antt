@@ -1,9 +1,8 @@
 -- A plan is copied, operation by operation.
-use Rattle.std.proofs.Common.{◌≡◌, ◌≢◌, ℕ, ◌+◌, ◌-◌, ◌<◌, ◌≤◌, List, [], ◌∷◌, ◌++◌, length, take, get_or, slice_get, Option, Some, Bool, true, false, IsTrue, ◌↔◌, refl, sym, ap, subst, ◌∙◌, arith}
-use Rattle.std.proofs.lemmas.List.{take_all, take_more, get_or_default}
-use Rattle.std.proofs.lemmas.Option.{get_or_from_slice_get}
+use Rattle.std.proofs.Common.{◌≡◌, ◌≢◌, ℕ, ◌+◌, ◌-◌, ◌<◌, ◌≤◌, List, [], ◌∷◌, ◌++◌, length, take, get_or, false, IsTrue, ◌↔◌, sym, ap, subst, ◌∙◌, arith}
+use Rattle.std.proofs.lemmas.List.{take_all, take_more}
 use Rattle.ace_model.specs.declared.plans.PlanOp.{PlanOp}
-use Rattle.ace_model.specs.Plans.{Plan, PlanWithRoom, IsRightAfter, longer, most_operations}
+use Rattle.ace_model.specs.Plans.{PlanWithRoom, IsRightAfter, longer, most_operations}
 use Rattle.ace_script.specs.Grammar.{OperationFits, IsScript}
 use Rattle.ace_script.specs.Written.{SameSettings}
 use Rattle.ace_script.proofs.OperationReads.{script_longer}

@@ -8,18 +8,17 @@ use Rattle.std.proofs.lemmas.List.{take-append-drop, append_cancel_left}
 use Rattle.std.proofs.lemmas.Slice.Eq.{bytes_eq-Decides}
 use Rattle.ace_event.specs.declared.header.Header.{Header}
 use Rattle.ace_event.specs.Text.{line_text}
-use Rattle.ace_grammar.specs.Lines.{IsFirstLine, HasNoLine}
-use Rattle.ace_grammar.specs.Reading.{IsPortsLine, ports_text}
+use Rattle.ace_grammar.specs.Reading.{ports_text}
 use Rattle.ace_grammar.proofs.EveryReading.{first_line, ports_or_not}
 use Rattle.ace_model.specs.declared.plans.PlanOp.{PlanOp}
 use Rattle.ace_model.specs.declared.plans.PolicyWord.TheVariants.{Keep, Eager, Mixed}
 use Rattle.ace_model.specs.Plans.{Plan, AreRightAfter, most_operations}
 use Rattle.ace_script.specs.declared.reason.Reason.{Reason}
 use Rattle.ace_script.specs.declared.reason.Reason.TheVariants.{P1, P7}
-use Rattle.ace_script.specs.Text.{first_text, cache_text, policy_text, operation_text, operations_text, script_header, plan_text}
+use Rattle.ace_script.specs.Text.{first_text, cache_text, policy_text, operation_text, operations_text, plan_text}
 use Rattle.ace_script.specs.Fields.{number_of}
-use Rattle.ace_script.specs.Grammar.{PolicyFits, OperationFits, IsScript}
-use Rattle.ace_script.specs.Reading.{HeaderLine, VersionLine, PortsLine, CacheLine, PolicyLine, header_lines, IsHeaderLine, IsCacheLine, IsPolicyLine, IsBadAmong, HasBadHeader, HasBadLine, Ending, Whole, Full, Bad, Ends, Reads}
+use Rattle.ace_script.specs.Grammar.{OperationFits, IsScript}
+use Rattle.ace_script.specs.Reading.{HeaderLine, VersionLine, PortsLine, CacheLine, PolicyLine, header_lines, IsHeaderLine, IsCacheLine, IsPolicyLine, IsBadAmong, HasBadHeader, HasBadLine, Ending, Whole, Full, Bad, Reads}
 use Rattle.ace_script.proofs.Results.{err_isn't}
 use Rattle.ace_script.proofs.FieldsExact.{number_takes, number_reads}
 use Rattle.ace_script.proofs.LineReasons.{operation_or_reason}

@@ -1,16 +1,12 @@
 -- What reads a field is exact: it reads each text of a value, and nothing else.
-use Rattle.std.proofs.Common.{◌≡◌, ℕ, ◌+◌, ◌*◌, ◌^◌, ◌<◌, ◌≤◌, Bool, true, false, cond, eqb, List, [], ◌∷◌, ◌++◌, length, take, drop, Result, Ok, Err, Option, Some, None, refl, sym, ap, subst, ◌∙◌, arith, inl, inr}
-use Rattle.std.specs.Prelude.{codes}
-use Rattle.std.specs.List.{AllByRecursion, flat_map}
+use Rattle.std.proofs.Common.{◌≡◌, ℕ, ◌*◌, ◌^◌, ◌<◌, Bool, true, cond, eqb, List, [], ◌∷◌, length, Result, Ok, Err, Some, refl, sym, ap, subst, ◌∙◌, arith, inl, inr}
+use Rattle.std.specs.List.{AllByRecursion}
 use Rattle.std.specs.Str.{bytes_eq}
-use Rattle.std.proofs.lemmas.Bool.{eqb-true, eq-eqb, cond-true, cases_Bool}
-use Rattle.std.proofs.lemmas.List.{append-nil, take-append-drop}
+use Rattle.std.proofs.lemmas.Bool.{eqb-true, eq-eqb, cond-true}
 use Rattle.std.proofs.lemmas.Slice.Eq.{bytes_eq-Decides}
 use Rattle.ace_codes.specs.declared.kind.ArKind.{ArKind}
 use Rattle.ace_codes.specs.declared.kind.ArKind.TheVariants as read
-use Rattle.ace_event.specs.declared.line.Line.{Line}
-use Rattle.ace_event.specs.Range.{IsLine}
-use Rattle.ace_event.specs.Text.{hex_text, line_digits}
+use Rattle.ace_event.specs.Text.{hex_text}
 use Rattle.ace_tables.specs.EndStates.{is_fetch}
 use Rattle.ace_grammar.specs.Fields.{digits_onto}
 use Rattle.ace_grammar.proofs.Options.{chosen}
@@ -19,8 +15,8 @@ use Rattle.ace_grammar.proofs.Hex.{onto_below, digits_text, number_again, length
 use Rattle.ace_script.specs.declared.reason.Reason.{Reason}
 use Rattle.ace_script.specs.declared.reason.Reason.TheVariants.{P3, P4, P5}
 use Rattle.ace_script.specs.Text.{fetch_text}
-use Rattle.ace_script.specs.Fields.{number_in, number_of, if_in, fetch_of, both, alone, pair, triple, one_field, two_fields, three_fields, no_field}
-use Rattle.ace_script.proofs.Results.{ok_is, err_isn't, both_ok, both_again, in_ok, in_again, number_in_ok, of_fields_ok}
+use Rattle.ace_script.specs.Fields.{number_in, number_of, if_in, fetch_of, both, one_field, two_fields, three_fields}
+use Rattle.ace_script.proofs.Results.{ok_is, err_isn't, both_ok, both_again, in_ok, in_again, number_in_ok}
 
 -- a field: what reads it, its texts, and their values
 pub record Field (A : Type 0) : Type 1 where
@@ -200,7 +196,7 @@ three_takes f g h (a ∷ b ∷ c ∷ []) x e =
     let third = h.takes c x.1.1 more.1 in (
       (first.0, (second.0, third.0)),
       ap (λ (l : List ℕ). l ∷ b ∷ c ∷ []) first.1 ∙ ap (λ (l : List ℕ). f.text x.0 ∷ l ∷ c ∷ []) second.1
-      ∙ ap (λ (l : List ℕ). f.text x.0 ∷ g.text x.1.0 ∷ l ∷ []) third.1,
+          ∙ ap (λ (l : List ℕ). f.text x.0 ∷ g.text x.1.0 ∷ l ∷ []) third.1,
     )
 three_takes f g h (a ∷ b ∷ c ∷ d ∷ l) x e = err_isn't P3 x _ e
 

@@ -1,8 +1,7 @@
 -- A cache line is read from exactly its digits.
-use Rattle.std.proofs.Common.{◌≡◌, ℕ, ◌+◌, ◌*◌, ◌^◌, ◌<◌, ◌≤◌, eqb, List, [], ◌∷◌, ◌++◌, length, take, drop, Result, Ok, Err, Option, Some, None, refl, sym, ap, subst, ◌∙◌, arith, inl, inr, append_assoc, take-add}
-use Rattle.std.specs.List.{flat_map}
+use Rattle.std.proofs.Common.{◌≡◌, ℕ, ◌+◌, ◌^◌, ◌<◌, ◌≤◌, eqb, List, [], ◌∷◌, ◌++◌, length, take, drop, Ok, Err, Option, Some, None, refl, sym, ap, subst, ◌∙◌, arith, inl, inr, append_assoc, take-add}
 use Rattle.std.proofs.lemmas.Bool.{eqb-true, eq-eqb, cond-true}
-use Rattle.std.proofs.lemmas.List.{append-nil, length-append, take_at, drop_at, take_all, drop-drop, length-take-le, length-drop}
+use Rattle.std.proofs.lemmas.List.{length-append, take_at, drop_at, take_all, drop-drop, length-take-le, length-drop}
 use Rattle.ace_event.specs.declared.line.Line.{Line}
 use Rattle.ace_event.specs.Range.{IsLine}
 use Rattle.ace_event.specs.Text.{hex_text, line_digits}
@@ -112,8 +111,8 @@ line_reads (a ∷ b ∷ c ∷ d ∷ []) h =
     let text = joined 32 a b c d in
     cond-true (eqb (length text) 128) _ _ (eq-eqb (length text) 128 (joined_long 32 a b c d))
     ∙ four_in (word_behind 0 text) (word_behind 32 text) (word_behind 64 text) (word_behind 96 text) a b c d
-        (word_at 32 0 a [] (hex_text 32 b ++ (hex_text 32 c ++ (hex_text 32 d ++ []))) refl (omega (arith, fit.0)))
-        (second_at 32 a b c d (omega (arith, fit.1.0))) (third_at 32 a b c d (omega (arith, fit.1.1.0))) (fourth_at 32 a b c d (omega (arith, fit.1.1.1.0)))
+    (word_at 32 0 a [] (hex_text 32 b ++ (hex_text 32 c ++ (hex_text 32 d ++ []))) refl (omega (arith, fit.0)))
+    (second_at 32 a b c d (omega (arith, fit.1.0))) (third_at 32 a b c d (omega (arith, fit.1.1.0))) (fourth_at 32 a b c d (omega (arith, fit.1.1.1.0)))
 line_reads (a ∷ b ∷ c ∷ d ∷ e ∷ l) h = absurd (omega (arith, h.0))
 
 abbrev pub line : Field Line

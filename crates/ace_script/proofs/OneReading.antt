@@ -1,5 +1,5 @@
 -- The same bytes read in one way.
-use Rattle.std.proofs.Common.{◌≡◌, ◌≢◌, ℕ, suc, ◌+◌, ◌<◌, ◌≤◌, List, [], ◌∷◌, ◌++◌, length, get_or, Some, refl, sym, ap, subst, ◌∙◌, arith, append_assoc, append-nil, inl, inr}
+use Rattle.std.proofs.Common.{◌≡◌, ◌≢◌, ℕ, ◌+◌, ◌<◌, ◌≤◌, List, [], ◌∷◌, ◌++◌, length, get_or, refl, sym, ap, subst, ◌∙◌, arith, append_assoc, append-nil, inl, inr}
 use Rattle.std.specs.Prelude.{codes, decimal}
 use Rattle.std.specs.List.{AllByRecursion}
 use Rattle.std.proofs.lemmas.Fmt.{decimal_injective}
@@ -18,14 +18,13 @@ use Rattle.ace_io.proofs.Cutting.{first_lf}
 use Rattle.ace_model.specs.declared.plans.PlanOp.{PlanOp}
 use Rattle.ace_model.specs.declared.plans.PolicyWord.{PolicyWord}
 use Rattle.ace_model.specs.declared.plans.PolicyWord.TheVariants.{Keep, Eager, Mixed}
-use Rattle.ace_model.specs.Plans.{Plan, AreRightAfter, IsRight, most_operations}
+use Rattle.ace_model.specs.Plans.{Plan, AreRightAfter, most_operations}
 use Rattle.ace_script.specs.declared.reason.Reason.{Reason}
-use Rattle.ace_script.specs.declared.reason.Reason.TheVariants.{P1, P7}
-use Rattle.ace_script.specs.Text.{first_text, cache_text, policy_text, operation_text, operations_text, script_header, plan_text}
+use Rattle.ace_script.specs.Text.{first_text, cache_text, policy_text, operation_text, operations_text, plan_text}
 use Rattle.ace_script.specs.Grammar.{PolicyFits, OperationFits, IsScript}
 use Rattle.ace_script.specs.Reading.{HeaderLine, VersionLine, PortsLine, CacheLine, PolicyLine, header_lines, IsHeaderLine, IsBadHere, IsBadAmong, HasBadHeader, HasBadLine, HasReason, Ending, Whole, Full, Bad, Ends, Reads}
 use Rattle.ace_script.proofs.LineReasons.{CanStand, same_reason, same_operation, operation_has_none, operation_no_lf}
-use Rattle.ace_script.proofs.ShortLines.{IsLineBody, operation_short, header_body}
+use Rattle.ace_script.proofs.ShortLines.{operation_short, header_body}
 
 -- ---- operations
 

@@ -1,7 +1,6 @@
 -- The plan of the bytes that were read, operation by operation.
-use Rattle.std.proofs.Common.{◌≡◌, ◌≢◌, ℕ, ◌+◌, ◌<◌, ◌≤◌, List, [], ◌∷◌, ◌++◌, length, Option, Some, None, refl, sym, ap, subst, ◌∙◌, arith, append_assoc, append-nil, length-append, inl, inr}
+use Rattle.std.proofs.Common.{◌≡◌, ◌≢◌, ℕ, ◌+◌, ◌<◌, ◌≤◌, List, [], ◌∷◌, ◌++◌, length, Option, Some, None, sym, ap, subst, ◌∙◌, arith, append_assoc, append-nil, length-append, inl, inr}
 use Rattle.std.specs.Io.KnownBytes.{Consumes, IsAtEnd}
-use Rattle.std.specs.List.{AllByRecursion}
 use Rattle.std.proofs.KnownBytes.{Consumes-trans}
 use Rattle.std.proofs.lemmas.Grind.{flat_map-append}
 use Rattle.ace_event.specs.Ports.{IsHeader}
@@ -13,14 +12,14 @@ use Rattle.ace_grammar.proofs.Visible.{all-append}
 use Rattle.ace_io.specs.Line.{in_front}
 use Rattle.ace_model.specs.declared.plans.PlanOp.{PlanOp}
 use Rattle.ace_model.specs.declared.plans.PolicyWord.{PolicyWord}
-use Rattle.ace_model.specs.Plans.{Plan, PlanWithRoom, IsRight, IsRightAfter, longer, most_operations}
+use Rattle.ace_model.specs.Plans.{Plan, PlanWithRoom, IsRightAfter, longer, most_operations}
 use Rattle.ace_model.proofs.GrowingPlans.{right_longer}
 use Rattle.ace_script.specs.declared.error.PlanErr.{PlanErr}
 use Rattle.ace_script.specs.declared.error.PlanErr.TheVariants.{Malformed, TooManyOps, ReadFault, NoMemory}
 use Rattle.ace_script.specs.Text.{operation_text, operations_text, script_header, plan_text}
 use Rattle.ace_script.specs.Grammar.{OperationFits, PolicyFits, IsScript}
 use Rattle.ace_script.specs.Reading.{Reads, Ending, Ends, Whole, Full, Bad, HasBadLine, header_lines}
-use Rattle.ace_script.specs.Errors.{HasNoHeader, HasNoNext, HasNoPlan, IsOneMore, TakesOne}
+use Rattle.ace_script.specs.Errors.{HasNoHeader, HasNoNext, HasNoPlan, TakesOne}
 
 -- one operation more in a script
 pub script_longer : (plan : Plan) (o : PlanOp) → IsScript plan → length plan.operations < most_operations → IsRightAfter plan.header plan.operations o → OperationFits o

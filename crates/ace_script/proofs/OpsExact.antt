@@ -1,5 +1,5 @@
 -- An operation word and its fields are read exactly as the operation whose word and fields they are.
-use Rattle.std.proofs.Common.{◌≡◌, ℕ, ◌^◌, ◌<◌, ◌≤◌, ◌&&◌, Bool, true, false, cond, leb, List, [], ◌∷◌, Result, Ok, Err, Option, Some, None, refl, sym, ap, subst, ◌∙◌, arith, inl, inr}
+use Rattle.std.proofs.Common.{◌≡◌, ℕ, ◌^◌, ◌<◌, ◌&&◌, Bool, true, cond, List, [], ◌∷◌, Ok, Option, Some, refl, sym, ap, subst, ◌∙◌, arith, inl, inr}
 use Rattle.std.specs.Prelude.{codes}
 use Rattle.std.specs.List.{AllByRecursion}
 use Rattle.std.specs.Str.{bytes_eq}
@@ -11,7 +11,6 @@ use Rattle.ace_model.specs.AddressRules.{is_aligned}
 use Rattle.ace_model.specs.declared.plans.Op.{Op}
 use Rattle.ace_model.specs.declared.plans.Op.TheVariants.{Ld, Ldx, St, Stx, Fill, Pf, Wb, Wc, Ev, We, Ro, Cs, Ci, Mi, Rn, Wu, Wlu, Wn, Mb, Sb, Dvm, Sync, Dvm2}
 use Rattle.ace_model.specs.Plans.{is_word_number, is_lone_word, is_whole_sync_word, is_first_word, is_in_range}
-use Rattle.ace_script.specs.declared.reason.Reason.{Reason}
 use Rattle.ace_script.specs.declared.reason.Reason.TheVariants.{P2, P3}
 use Rattle.ace_script.specs.Text.{op_fields}
 use Rattle.ace_script.specs.Grammar.{OpFits}

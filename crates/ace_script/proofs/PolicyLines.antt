@@ -1,13 +1,11 @@
 -- The fourth header line of a script.
-use Rattle.std.proofs.Common.{◌≡◌, ◌≢◌, ℕ, ◌<◌, ◌^◌, List, Result, Ok, Err, MatchOption, Option, Some, None, sym, ap, ◌∙◌, arith}
+use Rattle.std.proofs.Common.{◌≡◌, ◌≢◌, ℕ, ◌<◌, ◌^◌, List, Ok, Err, sym, ap, ◌∙◌, arith}
 use Rattle.std.specs.Prelude.{codes}
 use Rattle.ace_event.specs.Text.{hex_text}
-use Rattle.ace_model.specs.declared.plans.PolicyWord.{PolicyWord}
 use Rattle.ace_model.specs.declared.plans.PolicyWord.TheVariants.{Keep, Eager, Mixed}
 use Rattle.ace_script.specs.declared.reason.Reason.{Reason}
 use Rattle.ace_script.specs.Text.{policy_text}
 use Rattle.ace_script.specs.Fields.{number_of}
-use Rattle.ace_script.specs.Grammar.{PolicyFits}
 use Rattle.ace_script.specs.Reading.{IsPolicyLine}
 use Rattle.ace_script.proofs.Results.{err_isn't}
 use Rattle.ace_script.proofs.FieldsExact.{number_takes, number_reads}

@@ -1,5 +1,5 @@
 -- What a reading that gave a value was made of.
-use Rattle.std.proofs.Common.{◌≡◌, ℕ, Bool, true, cond, Result, Ok, Err, Option, Some, None, refl, sym, ap, ◌∙◌, inl, inr}
+use Rattle.std.proofs.Common.{◌≡◌, ℕ, Bool, true, Result, Ok, Err, Option, Some, None, refl, sym, ap, ◌∙◌, inl, inr}
 use Rattle.std.proofs.lemmas.Bool.{cond-true}
 use Rattle.ace_grammar.proofs.Options.{chosen}
 use Rattle.ace_script.specs.declared.reason.Reason.{Reason}

@@ -1,5 +1,5 @@
 -- Which plans a script can have.
-use Rattle.std.specs.Prelude.{ℕ, ◌<◌, ◌^◌, ⊤}
+use Rattle.std.specs.Prelude.{◌<◌, ◌^◌, ⊤}
 use Rattle.std.specs.List.{AllByRecursion}
 use Rattle.ace_event.specs.Range.{IsAddress, IsWord, IsLine}
 use Rattle.ace_model.specs.declared.plans.Op.{Op}

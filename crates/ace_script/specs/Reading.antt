@@ -1,5 +1,5 @@
 -- How bytes read as a script. The text of a plan is written and compared here, and never cut.
-use Rattle.std.specs.Prelude.{◌≡◌, ◌≢◌, ℕ, ◌+◌, ◌<◌, ◌≤◌, ◌⊎◌, List, [], ◌∷◌, ◌++◌, length, Result, Err}
+use Rattle.std.specs.Prelude.{◌≡◌, ◌≢◌, ℕ, ◌+◌, ◌<◌, ◌≤◌, ◌⊎◌, List, [], ◌∷◌, ◌++◌, length, Err}
 use Rattle.ace_event.specs.Text.{line_text}
 use Rattle.ace_event.specs.declared.header.Header.{Header}
 use Rattle.ace_grammar.specs.Reading.{IsPortsLine}

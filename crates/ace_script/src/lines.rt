@@ -201,10 +201,7 @@ fn add_operation(line: &[u8], view: &mut PlanView) -> Result<(), PlanErr>
 }
 
 /// What stands behind as many operations as a script may have: the end of the input, or more.
-fn read_end<S: Source>(
-    lines: &mut LineReader<S>,
-    line: &mut LineBuf,
-) -> Result<bool, PlanErr>
+fn read_end<S: Source>(lines: &mut LineReader<S>, line: &mut LineBuf) -> Result<bool, PlanErr>
     ensures same_source { (source_of lines.new).ghost_name ≡ (source_of lines.old).ghost_name }
     ensures ended { IfOk result (λ more. more ≡ false) }
     ensures kept { OnOk result (Consumes (waiting S.left lines.old) (waiting S.left lines.new) []) }

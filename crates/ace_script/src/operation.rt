@@ -258,9 +258,7 @@ fn is_for_port(header: &Header, o: PlanOp) -> bool
 fn keeps_class(before: &[PlanOp], op: Op) -> bool
     ensures { result ≡ list_all (λ other. is_of_one_class op other.op) before.now }
 {
-    before
-        .iter()
-        .all(|other| is_of_one_class(op, other.op))
+    before.iter().all(|other| is_of_one_class(op, other.op))
 }
 
 /// Whether the kind of port can do the operation, and none of these named its line in the other class.
@@ -296,11 +294,7 @@ fn operation_of(line: &[u8], header: &Header, before: &[PlanOp]) -> Result<PlanO
 /// The operation whose line this is, without its line feed, behind these of a script with this header. Where it is the line of
 /// none that can stand there, the error is the least reason that applies.
 #[tactic(auto, using(crate::proofs::LineReasons::line_parsed, crate::proofs::LineReasons::line_reason))]
-pub fn parse_operation(
-    line: &[u8],
-    header: &Header,
-    before: &[PlanOp],
-) -> Result<PlanOp, Reason>
+pub fn parse_operation(line: &[u8], header: &Header, before: &[PlanOp]) -> Result<PlanOp, Reason>
     ensures operation { IfOk result (λ o. IsRightAfter header.now before.now o × OperationFits o × (operation_text o ≡ line.now)) }
     ensures reason { IfErr result (HasReason header.now before.now line.now) }
 {

@@ -201,8 +201,9 @@ fn are_same(one: &PlanView, other: &PlanView) -> bool
 /// A plan like this one, without its operations, with room for them and for those that it has room for.
 fn cleared(alloc: Global, view: &PlanView) -> Result<PlanView, NoMemory>
     ensures { IfOk result (λ copy. copy ≡ record {
-        plan = record { header = view.now.plan.header; ways = view.now.plan.ways; policy = view.now.plan.policy; operations = [] };
-        room = length view.now.plan.operations + view.now.room }) }
+      plan = record { header = view.now.plan.header; ways = view.now.plan.ways; policy = view.now.plan.policy; operations = [] };
+      room = length view.now.plan.operations + view.now.room;
+    }) }
 {
     let places = view.count() + view.room();
     if places == 0 {

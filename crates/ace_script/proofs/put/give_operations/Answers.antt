@@ -1,4 +1,4 @@
-use Rattle.std.proofs.Common.{rules, arith}
+use Rattle.std.proofs.Common.{rules}
 use Rattle.ace_script.proofs.Waiting.{part_of_all, one_more_waits, end_given, end_part}
 use Rattle.ace_script.proofs.put.give_operations.Goals as goal
 

@@ -1,4 +1,4 @@
-use Rattle.std.proofs.Common.{rules, arith, sym, ◌∙◌}
+use Rattle.std.proofs.Common.{rules, arith, ◌∙◌}
 use Rattle.std.proofs.lemmas.List.{length-append}
 use Rattle.ace_script.proofs.GeneratedPlans.{one_drawn, next_of_words, generated_whole}
 use Rattle.ace_script.proofs.plan.Plan.generate.Goals as goal
