@@ -8,15 +8,13 @@ use Rattle.ace_model.specs.declared.breaks.Break.{Break}
 use Rattle.ace_model.specs.Trace.{Trace, is_some_and}
 use Rattle.ace_model.specs.Transactions.{issued}
 use Rattle.ace_model.specs.Accepted.{least_broken}
+use Rattle.ace_model.specs.Copies.{memory_of}
+use Rattle.ace_portck.specs.Targets.{target_of}
 use Rattle.ace_model.specs.Lines.{known_lines, names_new_line}
 use Rattle.ace_model.specs.Coherent.{Coherent}
 use Rattle.ace_model.specs.ExclusiveHolds.{ExclusiveHolds}
 use Rattle.ace_model.specs.BarrierHolds.{BarrierHolds}
 use Rattle.ace_model.specs.DvmHolds.{DvmHolds}
-use Rattle.ace_portck.specs.Targets.{Recording}
-use Rattle.ace_portck.specs.Stands as ports
-use Rattle.ace_lineck.specs.Stands as lines
-use Rattle.ace_sysck.specs.Stands as system
 use Rattle.ace_check.specs.declared.checker.Checker.{Checker}
 use Rattle.ace_check.specs.declared.checker.Step.{Step}
 use Rattle.ace_check.specs.declared.checker.Step.TheVariants.{Fine, Broken}
@@ -32,9 +30,9 @@ goes_over past e = is_some_and (issued (length past) e) (names_new_line past) &&
 -- The checker stands for a trace under its header: for each share it keeps what there is to keep of the trace, which is accepted.
 -- The last number is the break that was answered after it, if any was.
 pub record Stands (c : Checker) (h : Header) (past : Trace) (b : Option Break) : Type 0 where
-  pub ports : ports.Stands c.ports (record { header = h; past = past })
-  pub lines : lines.Stands c.lines (record { header = h; past = past })
-  pub system : system.Stands c.system (record { header = h; past = past })
+  pub header : c.header ≡ h
+  pub target : (e : Event) → c.target ≡ target_of h past e
+  pub memory : (l : ℕ) → c.memory ≡ memory_of past l
   pub count : c.count ≡ length past
   pub few : length past < 2 ^ 64 - 1
   pub broken : c.broken ≡ b
@@ -62,3 +60,7 @@ pub record IsSound (h : Header) (past : Trace) : Type 0 where
   pub exclusive : ExclusiveHolds past
   pub barrier : BarrierHolds past
   pub dvm : DvmHolds h past
+
+-- (for now)
+abbrev pub MayLackMemory : Header → Trace → Event → Type 0
+MayLackMemory h past e = ⊤

