@@ -1,2 +1,4 @@
+pub mod Next
+pub mod Put
 pub mod Report
 pub mod Stands

@@ -1,8 +1,8 @@
 //! The report of an accepted trace: what each port did, the stores and the value of each line, the place of each load.
 #![tactic(auto)]
 
+mod no_memory;
 mod report;
-mod tally;
-mod text;
 
-pub use report::{NoMemory, Report};
+pub use no_memory::NoMemory;
+pub use report::Report;
