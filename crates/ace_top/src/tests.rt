@@ -193,7 +193,10 @@ fn reports_in_any_pieces(rt: HostRuntime) -> Result<(), Fail> {
         let (given, out, notes) = answer(&rt, alloc, &["report"], &mut input, (room, 99))?;
         assert_eq!(rt; given, 5, "room {room}");
         assert_eq!(rt; out.bytes().len(), room);
-        assert!(rt; STORED_REPORT.as_bytes().starts_with(out.bytes()), "room {room}");
+        assert!(rt;
+            STORED_REPORT.as_bytes().starts_with(out.bytes()),
+            "room {room}"
+        );
         assert_eq!(rt; notes.bytes(), b"write fault\n".as_slice());
     }
     let mut fails = MemSource::new(alloc, STORED.as_bytes(), &[8], &[5])?;
@@ -248,8 +251,16 @@ fn limit_of_lines(rt: HostRuntime) -> Result<(), Fail> {
         let mut input = HonestSource::new(text.as_slice());
         let (given, out, notes) = answer(&rt, alloc, &[command], &mut input, (99, 99))?;
         assert_eq!(rt; given, status, "{command} of {lines} lines");
-        assert_eq!(rt; out.bytes(), wanted_out.as_bytes(), "{command} of {lines} lines");
-        assert_eq!(rt; notes.bytes(), wanted_notes.as_bytes(), "{command} of {lines} lines");
+        assert_eq!(rt;
+            out.bytes(),
+            wanted_out.as_bytes(),
+            "{command} of {lines} lines"
+        );
+        assert_eq!(rt;
+            notes.bytes(),
+            wanted_notes.as_bytes(),
+            "{command} of {lines} lines"
+        );
     }
     Ok(())
 }
