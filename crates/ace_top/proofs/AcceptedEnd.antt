@@ -1,45 +1,72 @@
--- What status 0 says.
-use Rattle.std.proofs.Common.{◌≡◌, ℕ, List, Option, None, Some, IfSome, refl, codes, arith}
+-- What the verdict and its status say.
+use Rattle.std.proofs.Common.{◌≡◌, ◌≢◌, ℕ, List, Option, None, Some, IfSome, refl, codes, arith}
 use Rattle.std.specs.Io.KnownBytes.{Appends}
 use Rattle.ace_grammar.specs.Errors.{LeavesNothing}
-use Rattle.ace_model.specs.Today.{rules_today}
-use Rattle.ace_model.proofs.Rules.FirstBreak.{no_break_accepted}
-use Rattle.ace_model.proofs.Holders.Today.{accepted_unique}
 use Rattle.ace_top.specs.declared.answer.Answer.{Answer}
 use Rattle.ace_top.specs.declared.answer.Answer.TheVariants.{Accepted, Refused, Shown, Reported, Usage, Malformed, ReadFault, LimitEvents, LimitLines, NoMemory}
 use Rattle.ace_top.specs.declared.words.Command.TheVariants.{Check}
 use Rattle.ace_top.specs.Answer.{Answers, BreaksOff}
 use Rattle.ace_top.specs.Output.{AppendsPart, AppendsParts}
-use Rattle.ace_top.specs.Progress.{EndsInput}
+use Rattle.ace_top.specs.Progress.{EndsInput, IsRefusal, IsVerdictAnswer}
 use Rattle.ace_top.specs.Texts.{status_of, out_text_of, notes_text_of}
-use Rattle.ace_top.specs.Verdict.{IsVerdict, ReadsUnique}
+use Rattle.ace_top.specs.Verdict.{IsVerdict, ReadsSound}
+use Rattle.ace_top.proofs.Sound.{whole_sound}
+
+-- a trace that isn't accepted has another status, which isn't that of the usage
+pub refusal_status : (answer : Answer) → IsRefusal answer → (status_of answer ≢ 0) × (status_of answer ≢ 2)
+refusal_status (Refused index rule) r = (λ s. absurd (omega (arith, s)), λ s. absurd (omega (arith, s)))
+refusal_status (Malformed line reason) r = (λ s. absurd (omega (arith, s)), λ s. absurd (omega (arith, s)))
+refusal_status ReadFault r = (λ s. absurd (omega (arith, s)), λ s. absurd (omega (arith, s)))
+refusal_status LimitEvents r = (λ s. absurd (omega (arith, s)), λ s. absurd (omega (arith, s)))
+refusal_status LimitLines r = (λ s. absurd (omega (arith, s)), λ s. absurd (omega (arith, s)))
+refusal_status NoMemory r = (λ s. absurd (omega (arith, s)), λ s. absurd (omega (arith, s)))
+refusal_status (Accepted events) r = absurd r
+refusal_status Shown r = absurd r
+refusal_status Reported r = absurd r
+refusal_status Usage r = absurd r
 
 -- of the answers that `check` gives it is the status of an accepted trace alone, which was read to the end
-pub zero-end : (answer : Answer) (old left : Option (List ℕ)) → status_of answer ≡ 0 → EndsInput answer old left → LeavesNothing old left
-zero-end (Accepted events) old left s e = e
-zero-end Shown old left s e = e
-zero-end (Refused index rule) old left s e = absurd (omega arith)
-zero-end Usage old left s e = absurd (omega arith)
-zero-end (Malformed line reason) old left s e = absurd (omega arith)
-zero-end ReadFault old left s e = absurd (omega arith)
-zero-end LimitEvents old left s e = absurd (omega arith)
-zero-end NoMemory old left s e = absurd (omega arith)
+pub zero_end : (answer : Answer) (old left : Option (List ℕ)) → status_of answer ≡ 0 → EndsInput answer old left → LeavesNothing old left
+zero_end (Accepted events) old left s e = e
+zero_end Shown old left s e = e
+zero_end Reported old left s e = e
+zero_end (Refused index rule) old left s e = absurd (omega (arith, s))
+zero_end Usage old left s e = absurd (omega (arith, s))
+zero_end (Malformed line reason) old left s e = absurd (omega (arith, s))
+zero_end ReadFault old left s e = absurd (omega (arith, s))
+zero_end LimitEvents old left s e = absurd (omega (arith, s))
+zero_end LimitLines old left s e = absurd (omega (arith, s))
+zero_end NoMemory old left s e = absurd (omega (arith, s))
 
-verdict-unique : (bytes : List ℕ) (answer : Answer) → status_of answer ≡ 0 → IsVerdict bytes answer → ReadsUnique bytes
-verdict-unique bytes (Accepted events) s (header, trace, reads, unbroken, count) =
-    (header, trace, reads, accepted_unique header _ (no_break_accepted rules_today header trace unbroken))
-verdict-unique bytes (Refused index rule) s v = absurd (omega arith)
-verdict-unique bytes Shown s v = absurd v
-verdict-unique bytes Usage s v = absurd (omega arith)
-verdict-unique bytes (Malformed line reason) s v = absurd (omega arith)
-verdict-unique bytes ReadFault s v = absurd (omega arith)
-verdict-unique bytes LimitEvents s v = absurd (omega arith)
-verdict-unique bytes NoMemory s v = absurd (omega arith)
+verdict-sound : (bytes : List ℕ) (answer : Answer) → status_of answer ≡ 0 → IsVerdict bytes answer → ReadsSound bytes
+verdict-sound bytes (Accepted events) s (header, trace, reads, unbroken, count) = whole_sound bytes header trace reads unbroken
+verdict-sound bytes (Refused index rule) s v = absurd (omega (arith, s))
+verdict-sound bytes Shown s v = absurd v
+verdict-sound bytes Reported s v = absurd v
+verdict-sound bytes Usage s v = absurd v
+verdict-sound bytes (Malformed line reason) s v = absurd (omega (arith, s))
+verdict-sound bytes ReadFault s v = absurd (omega (arith, s))
+verdict-sound bytes LimitEvents s v = absurd (omega (arith, s))
+verdict-sound bytes LimitLines s v = absurd (omega (arith, s))
+verdict-sound bytes NoMemory s v = absurd (omega (arith, s))
 
--- in the trace that was read a unique line has one holder
-pub zero-unique : (told : Option (List ℕ)) (answer : Answer) → status_of answer ≡ 0 → IfSome told (λ bytes. IsVerdict bytes answer) → IfSome told ReadsUnique
-zero-unique None answer s v = tt
-zero-unique (Some bytes) answer s v = verdict-unique bytes answer s v
+-- the trace that was read has all that acceptance promises
+pub zero_sound : (told : Option (List ℕ)) (answer : Answer) → status_of answer ≡ 0 → IfSome told (λ bytes. IsVerdict bytes answer) → IfSome told ReadsSound
+zero_sound None answer s v = tt
+zero_sound (Some bytes) answer s v = verdict-sound bytes answer s v
+
+-- `check` doesn't tell the usage
+pub verdict_status : (answer : Answer) → IsVerdictAnswer answer → status_of answer ≢ 2
+verdict_status (Accepted events) a s = absurd (omega (arith, s))
+verdict_status (Refused index rule) a s = absurd (omega (arith, s))
+verdict_status (Malformed line reason) a s = absurd (omega (arith, s))
+verdict_status ReadFault a s = absurd (omega (arith, s))
+verdict_status LimitEvents a s = absurd (omega (arith, s))
+verdict_status LimitLines a s = absurd (omega (arith, s))
+verdict_status NoMemory a s = absurd (omega (arith, s))
+verdict_status Shown a s = absurd a
+verdict_status Reported a s = absurd a
+verdict_status Usage a s = absurd a
 
 -- a verdict that was told
 pub check_answers : (told left : Option (List ℕ)) (answer : Answer) (status : ℕ) (out out' notes notes' : Option (List ℕ))
@@ -55,4 +82,4 @@ pub check_breaks_off : (told : Option (List ℕ)) (answer : Answer) (out out' no
 check_breaks_off None answer out out' notes notes' v part parts = (answer, out_text_of answer, tt, part, parts)
 check_breaks_off (Some bytes) answer out out' notes notes' v part parts = (answer, out_text_of answer, (answer, v, refl), part, parts)
 
-pub ruleset accepted_end = (zero-end, zero-unique)
+pub ruleset accepted_end = (zero_end, zero_sound, verdict_status, refusal_status)

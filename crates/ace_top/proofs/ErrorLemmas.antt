@@ -1,14 +1,18 @@
 -- What an error of the reader says of the answer.
-use Rattle.std.proofs.Common.{◌≡◌, ◌≢◌, ℕ, List, Option, None, Some, IfSome, Err, length, refl, inl}
+use Rattle.std.proofs.Common.{◌≡◌, ◌<◌, ℕ, List, Option, None, Some, IfSome, Err, length, refl, subst, inl}
+use Rattle.std.specs.Io.KnownBytes.{Consumes}
 use Rattle.ace_event.specs.declared.event.Event.{Event}
+use Rattle.ace_event.specs.Text.{event_text, line_text}
 use Rattle.ace_event.specs.declared.header.Header.{Header}
 use Rattle.ace_grammar.specs.declared.error.ReadErr.{ReadErr}
 use Rattle.ace_grammar.specs.declared.error.ReadErr.TheVariants as error
+use Rattle.ace_grammar.specs.Reading.{IsReadable, most_events}
 use Rattle.ace_grammar.specs.Errors.{HasNoHeader, StandsNext, HasFaultCause}
-use Rattle.ace_top.specs.declared.answer.Answer.TheVariants.{Usage}
+use Rattle.ace_top.specs.declared.answer.Answer.{Answer}
+use Rattle.ace_top.specs.declared.answer.Answer.TheVariants.{Accepted, Refused, Shown, Reported, Usage, Malformed, ReadFault, LimitEvents, LimitLines, NoMemory}
 use Rattle.ace_top.specs.Copy.{EndsCopy}
 use Rattle.ace_top.specs.ErrorAnswer.{error_answer}
-use Rattle.ace_top.specs.Progress.{IsNextVerdict, EndsInput, HasReadCause}
+use Rattle.ace_top.specs.Progress.{IsNextVerdict, IsRefusal, IsStop, StopsAt, HasReadCause}
 use Rattle.ace_top.specs.Verdict.{IsVerdict}
 
 -- it is the next verdict
@@ -19,12 +23,42 @@ error_next h past version count old new left error.TooManyEvents same read s = (
 error_next h past version count old new left error.ReadFault same read s = tt
 error_next h past version count old new left error.NoMemory same read s = tt
 
--- nothing is claimed of the end of the input
-pub error_end : (e : ReadErr) (old left : Option (List ℕ)) → EndsInput (error_answer e) old left
-error_end (error.Malformed line reason) old left = tt
-error_end error.TooManyEvents old left = tt
-error_end error.ReadFault old left = tt
-error_end error.NoMemory old left = tt
+-- no trace is accepted at an error
+pub error_refusal : (e : ReadErr) → IsRefusal (error_answer e)
+error_refusal (error.Malformed line reason) = tt
+error_refusal error.TooManyEvents = tt
+error_refusal error.ReadFault = tt
+error_refusal error.NoMemory = tt
+
+-- nor where an event ends the check, and then the input didn't fail
+pub stop_refusal : (answer : Answer) → IsStop answer → IsRefusal answer
+stop_refusal (Refused index rule) s = tt
+stop_refusal LimitLines s = tt
+stop_refusal NoMemory s = tt
+stop_refusal (Malformed line reason) s = absurd s
+stop_refusal ReadFault s = absurd s
+stop_refusal LimitEvents s = absurd s
+stop_refusal (Accepted events) s = absurd s
+stop_refusal Shown s = absurd s
+stop_refusal Reported s = absurd s
+stop_refusal Usage s = absurd s
+
+pub stop_cause : (before now : ℕ) (answer : Answer) → IsStop answer → now ≡ before → HasReadCause before now answer
+stop_cause before now answer s same = record { failed = λ is. absurd (subst IsStop is s); steady = λ not. same }
+
+-- an event that ends the check is the next verdict
+pub stop_next : (h : Header) (past : List Event) (event : Event) (old new : Option (List ℕ)) (answer : Answer) → length past < most_events
+    → IsReadable h.version event → Consumes old new (line_text (event_text h.version event)) → StopsAt h past event answer → IsNextVerdict h past old new answer
+stop_next h past event old new (Refused index rule) room readable taken stops = (event, readable, taken, stops, room)
+stop_next h past event old new LimitLines room readable taken stops = (event, readable, taken, stops, room)
+stop_next h past event old new NoMemory room readable taken stops = tt
+stop_next h past event old new (Malformed line reason) room readable taken stops = absurd stops
+stop_next h past event old new LimitEvents room readable taken stops = absurd stops
+stop_next h past event old new ReadFault room readable taken stops = absurd stops
+stop_next h past event old new (Accepted events) room readable taken stops = absurd stops
+stop_next h past event old new Shown room readable taken stops = absurd stops
+stop_next h past event old new Reported room readable taken stops = absurd stops
+stop_next h past event old new Usage room readable taken stops = absurd stops
 
 -- it ends a copy
 pub error_ends : (version count : ℕ) (old new left : Option (List ℕ)) (e : ReadErr) → StandsNext version (Err e) count old new left → EndsCopy version (error_answer e) count old left
@@ -54,10 +88,4 @@ no_header_cause error.TooManyEvents old new before now n = absurd n
 no_header_cause error.ReadFault old new before now n = error_cause before now error.ReadFault n.1
 no_header_cause error.NoMemory old new before now n = error_cause before now error.NoMemory n.1
 
-pub error_tells : (e : ReadErr) → error_answer e ≢ Usage
-error_tells (error.Malformed line reason) is = absurd cc
-error_tells error.TooManyEvents is = absurd cc
-error_tells error.ReadFault is = absurd cc
-error_tells error.NoMemory is = absurd cc
-
-pub ruleset errors = (error_next, error_end, error_ends, error_cause, no_header_verdict, no_header_cause, error_tells)
+pub ruleset errors = (error_ends, error_refusal, stop_refusal, stop_cause, error_cause, no_header_verdict, no_header_cause)

@@ -1,10 +1,14 @@
 pub mod AcceptedEnd
 pub mod CopyLemmas
 pub mod ErrorLemmas
+pub mod Followed
+pub mod Following
 pub mod OneWord
 pub mod Parts
 pub mod ProgressLemmas
+pub mod ReportLemmas
 pub mod ShowLemmas
+pub mod Sound
+pub mod Stops
 pub mod WordsAnswered
 pub mod Written
-pub mod Stops

@@ -1,80 +1,142 @@
 -- One more event, and the verdict.
-use Rattle.std.proofs.Common.{◌≡◌, ◌≢◌, ◌≤◌, ◌++◌, ℕ, List, [], ◌∷◌, Option, Some, None, length, reverse, sym, ap, subst, ◌∙◌, append-nil, arith, inr, refl}
+use Rattle.std.proofs.Common.{◌≡◌, ◌≢◌, ◌≤◌, ◌+◌, ◌++◌, ℕ, List, [], ◌∷◌, Option, Some, None, IfSome, length, reverse, sym, ap, subst, ◌∙◌, append-nil, arith, inr, refl}
 use Rattle.std.specs.List.{AllByRecursion}
-use Rattle.std.specs.Io.KnownBytes.{Consumes}
+use Rattle.std.specs.Io.KnownBytes.{Consumes, IsAtEnd}
 use Rattle.std.proofs.KnownBytes.{Consumes-trans, Consumes-nil}
 use Rattle.std.proofs.lemmas.List.{length-reverse, length-append, reverse-append}
 use Rattle.ace_event.specs.declared.event.Event.{Event}
 use Rattle.ace_event.specs.declared.header.Header.{Header}
-use Rattle.ace_event.specs.Text.{trace_text, header_text, line_text, event_text}
+use Rattle.ace_event.specs.Text.{trace_text, header_text}
 use Rattle.ace_grammar.proofs.OneMore.{readable-more, trace_text-more}
 use Rattle.ace_grammar.proofs.Taken.{split, reads_to, at_end}
 use Rattle.ace_grammar.specs.Errors.{TakesFront, LeavesNothing}
 use Rattle.ace_grammar.specs.Reading.{Reads, Ending, Ends, Whole, Full, Bad, IsReadable, IsReadableHeader, HasBadLine, IfTold, most_events}
-use Rattle.ace_model.specs.Accepted.{IsAcceptedBy}
-use Rattle.ace_model.specs.Today.{rules_today}
-use Rattle.ace_model.proofs.Rules.FirstBreak.{accepted_no_break, next_breaks}
 use Rattle.ace_top.specs.declared.answer.Answer.{Answer}
 use Rattle.ace_top.specs.declared.answer.Answer.TheVariants.{Accepted, Refused, Shown, Reported, Usage, Malformed, ReadFault, LimitEvents, LimitLines, NoMemory}
-use Rattle.ace_top.specs.Progress.{StandsAt, TakesEvent, IsNextVerdict, EndsInput}
-use Rattle.ace_top.specs.Verdict.{IsVerdict}
+use Rattle.ace_top.specs.declared.follow.Follower.{Follower}
+use Rattle.ace_top.specs.Follow.{Follows, HasCome, HasFollowed}
+use Rattle.ace_top.specs.Progress.{IsFine, StandsAt, TakesEvent, TakesStop, StopsAt, IsNextVerdict}
+use Rattle.ace_top.specs.Verdict.{Stop, Breaks, GoesOver, IsVerdict, ReadsUnbroken, BeginsStopped, first_stop}
+use Rattle.ace_top.proofs.Stops.{no_stop, next_breaks, next_goes_over}
 
 -- nothing was read but the header
-pub stands_at_start : (bytes : List ℕ) (h : Header) (old left : Option (List ℕ)) → IsReadableHeader h → old ≡ Some bytes → Consumes old left (header_text h) → StandsAt bytes h [] left
-stands_at_start bytes h old left readable told consumed = record {
+pub stands_at_start : (told left : Option (List ℕ)) (h : Header) → IsReadableHeader h → Consumes told left (header_text h) → StandsAt told h [] left
+stands_at_start told left h readable consumed = record {
   header_is_readable = readable;
   events_are_readable = tt;
-  text = rw append-nil (subst (λ o. Consumes o left (header_text h)) told consumed);
-  accepted = tt;
+  text = rw append-nil consumed;
+  fine = tt;
 }
 
 -- one more event was read and found fine
-pub stands_further : (bytes : List ℕ) (h : Header) (past past' : List Event) (left left' : Option (List ℕ))
-    → TakesEvent h past past' left left' → StandsAt bytes h past left → StandsAt bytes h past' left'
-stands_further bytes h past past' left left' (event, is, readable, consumed, kept) s =
-    let e : reverse past' ≡ reverse past ++ event ∷ [] = ap reverse is ∙ reverse-append (event ∷ []) past in
+pub stands_further : (told : Option (List ℕ)) (h : Header) (past : List Event) (event : Event) (left left' : Option (List ℕ))
+    → TakesEvent h past event left left' → StandsAt told h past left → StandsAt told h (event ∷ past) left'
+stands_further told h past event left left' t s =
+    let e : reverse (event ∷ past) ≡ reverse past ++ event ∷ [] = reverse-append (event ∷ []) past in
     record {
       header_is_readable = s.header_is_readable;
-      events_are_readable = subst (AllByRecursion (IsReadable h.version)) (sym e) (readable-more h.version (reverse past) event s.events_are_readable readable);
-      text = subst (Consumes (Some bytes) left') (sym (ap (trace_text h) e ∙ trace_text-more h (reverse past) event)) (Consumes-trans (Some bytes) left left' _ _ s.text consumed);
-      accepted = subst (IsAcceptedBy rules_today h) (sym is) (s.accepted, kept);
+      events_are_readable = subst (AllByRecursion (IsReadable h.version)) (sym e) (readable-more h.version (reverse past) event s.events_are_readable t.readable);
+      text = subst (Consumes told left') (sym (ap (trace_text h) e ∙ trace_text-more h (reverse past) event)) (Consumes-trans told left left' _ _ s.text t.taken);
+      fine = (s.fine, t.kept, t.within);
     }
 
 -- the bytes end so
-ends : (bytes : List ℕ) (h : Header) (past : List Event) (left : Option (List ℕ)) (ending : Ending) (P : List ℕ → Type 0)
-    → StandsAt bytes h past left → IfTold left P → ((rest : List ℕ) → P rest → Ends h.version ending (reverse past) rest) → Reads bytes h (reverse past) ending
-ends bytes h past left ending P s p end = reads_to bytes h (reverse past) left ending P s.header_is_readable s.events_are_readable s.text p end
+ends : (told : Option (List ℕ)) (h : Header) (past : List Event) (left : Option (List ℕ)) (ending : Ending) (P : List ℕ → Type 0)
+    → StandsAt told h past left → IfTold left P → ((rest : List ℕ) → P rest → Ends h.version ending (reverse past) rest)
+    → IfSome told (λ bytes. Reads bytes h (reverse past) ending)
+ends None h past left ending P s p end = tt
+ends (Some bytes) h past left ending P s p end = reads_to bytes h (reverse past) left ending P s.header_is_readable s.events_are_readable s.text p end
 
--- the verdict that the next line, or the end of the bytes, gives is that of the bytes
-pub verdict_next : (bytes : List ℕ) (h : Header) (past : List Event) (left left' : Option (List ℕ)) (answer : Answer)
-    → length past ≤ most_events → IsNextVerdict h past left left' answer → StandsAt bytes h past left → IsVerdict bytes answer
-verdict_next bytes h past left left' (Accepted events) few next s =
-    let reads = ends bytes h past left Whole (λ rest. rest ≡ []) s (at_end left next.0) (λ rest none. ((rw length-reverse few), none)) in
-    (h, reverse past, reads, accepted_no_break rules_today h past s.accepted, length-reverse past ∙ sym next.1)
-verdict_next bytes h past left left' (Refused index rule) few (number, (event, readable, consumed, broken), room) s =
+-- the trace that was read is whole
+pub followed_at_end : (told : Option (List ℕ)) (h : Header) (past : List Event) (left : Option (List ℕ)) (f : Follower)
+    → length past ≤ most_events → IsAtEnd left → StandsAt told h past left → Follows f h past → HasFollowed told f
+followed_at_end told h past left f few end s follows = record {
+  header = h;
+  past = past;
+  follows = follows;
+  unbroken = no_stop h past s.fine;
+  reads = ends told h past left Whole (λ rest. rest ≡ []) s (at_end left end) (λ rest none. ((rw length-reverse few), none));
+}
+
+-- the next event ends the check so
+stopped : (told : Option (List ℕ)) (h : Header) (past : List Event) (left left' : Option (List ℕ)) (answer : Answer) (stop : Stop)
+    → TakesStop h past left left' answer → ((event : Event) → StopsAt h past event answer → first_stop h (reverse past ++ event ∷ []) ≡ Some stop)
+    → StandsAt told h past left → IfSome told (λ bytes. BeginsStopped bytes stop)
+stopped None h past left left' answer stop t is s = tt
+stopped (Some bytes) h past left left' answer stop (event, readable, consumed, stops, room) is s =
     let parts = split bytes _ left' (λ rest. Unit {0}) (Consumes-trans (Some bytes) left left' _ _ s.text consumed) (told left') in (
       h,
       reverse past ++ event ∷ [],
       s.header_is_readable,
       readable-more h.version (reverse past) event s.events_are_readable readable,
-      (rw (length-append, length-reverse) (omega arith)),
+      (rw (length-append, length-reverse) (omega (arith, room))),
       (parts.0, parts.1 ∙ ap (λ t. t ++ parts.0) (sym (trace_text-more h (reverse past) event))),
-      next_breaks rules_today h past event rule s.accepted broken ∙ ap (λ n. Some (record { index = n; rule = rule })) (sym number),
+      is event stops,
     )
   where
     told : (left : Option (List ℕ)) → IfTold left (λ rest. Unit {0})
     told None = tt
     told (Some rest) = tt
-verdict_next bytes h past left left' (Malformed line reason) few next s =
-    let reads = ends bytes h past left (Bad line reason) (λ rest. HasBadLine h.version rest reason) s next.0 (λ rest bad. ((rw length-reverse next.1), (rw length-reverse next.2), bad)) in
-    inr (length past, (h, reverse past, reads, accepted_no_break rules_today h past s.accepted, length-reverse past))
-verdict_next bytes h past left left' LimitEvents few next s =
-    let reads = ends bytes h past left Full (λ rest. rest ≢ []) s next.0 (λ rest some. ((rw length-reverse next.1), some)) in
-    (length past, (h, reverse past, reads, accepted_no_break rules_today h past s.accepted, length-reverse past))
-verdict_next bytes h past left left' ReadFault few next s = tt
-verdict_next bytes h past left left' NoMemory few next s = tt
-verdict_next bytes h past left left' Shown few next s = absurd next
-verdict_next bytes h past left left' Usage few next s = absurd next
+
+-- the same where nothing ends the check before the bytes end so
+unbroken : (told : Option (List ℕ)) (h : Header) (past : List Event) (ending : Ending) → IsFine h past → IfSome told (λ bytes. Reads bytes h (reverse past) ending)
+    → IfSome told (λ bytes. (count : ℕ) × ReadsUnbroken bytes count ending)
+unbroken None h past ending f reads = tt
+unbroken (Some bytes) h past ending f reads = (length past, (h, reverse past, reads, no_stop h past f, length-reverse past))
+
+-- the verdict that the next line gives is that of the bytes
+pub verdict_next : (told : Option (List ℕ)) (h : Header) (past : List Event) (left left' : Option (List ℕ)) (answer : Answer)
+    → IsNextVerdict h past left left' answer → StandsAt told h past left → IfSome told (λ bytes. IsVerdict bytes answer)
+verdict_next told h past left left' (Refused index rule) next s =
+    stopped told h past left left' (Refused index rule) (Breaks index rule) next
+    (λ event stops. next_breaks h past event rule s.fine stops.1 ∙ ap (λ n. Some (Breaks n rule)) (sym stops.0)) s
+verdict_next told h past left left' LimitLines next s =
+    stopped told h past left left' LimitLines GoesOver next (λ event stops. next_goes_over h past event s.fine stops.0 stops.1) s
+verdict_next None h past left left' (Malformed line reason) next s = tt
+verdict_next (Some bytes) h past left left' (Malformed line reason) next s =
+    inr (unbroken (Some bytes) h past (Bad line reason) s.fine
+    (ends (Some bytes) h past left (Bad line reason) (λ rest. HasBadLine h.version rest reason) s next.0
+    (λ rest bad. ((rw length-reverse next.1), (rw length-reverse next.2), bad))))
+verdict_next told h past left left' LimitEvents next s =
+    unbroken told h past Full s.fine (ends told h past left Full (λ rest. rest ≢ []) s next.0 (λ rest some. ((rw length-reverse next.1), some)))
+verdict_next None h past left left' ReadFault next s = tt
+verdict_next (Some bytes) h past left left' ReadFault next s = tt
+verdict_next None h past left left' NoMemory next s = tt
+verdict_next (Some bytes) h past left left' NoMemory next s = tt
+verdict_next told h past left left' (Accepted events) next s = absurd next
+verdict_next told h past left left' Shown next s = absurd next
+verdict_next told h past left left' Reported next s = absurd next
+verdict_next told h past left left' Usage next s = absurd next
+
+-- a follower stands at the start
+pub comes_at_start : (f : Follower) (count : ℕ) (h : Header) (start : Option (List ℕ)) → count ≡ 0 → Follows f h [] → HasCome f count h start start
+comes_at_start f count h start none follows = ([], follows, none, λ told s. s)
+
+-- and one event further
+pub comes_further : (f f' : Follower) (count count' : ℕ) (h h' : Header) (start left left' : Option (List ℕ)) → h' ≡ h → count' ≡ count + 1 → HasCome f count h start left
+    → ((past : List Event) → Follows f h' past → count ≡ length past → (event : Event) × Follows f' h' (event ∷ past) × TakesEvent h' past event left left')
+    → HasCome f' count' h start left'
+comes_further f f' count count' h h' start left left' is one (past, follows, same, stands) takes =
+    let next = takes past (subst (λ (k : Header). Follows f k past) (sym is) follows) same in (
+      next.0 ∷ past,
+      subst (λ (k : Header). Follows f' k (next.0 ∷ past)) is next.1,
+      omega (arith, one, same),
+      λ told s. stands_further told h past next.0 left left' (subst (λ (k : Header). TakesEvent k past next.0 left left') is next.2) (stands told s),
+    )
+
+-- to the end of the bytes
+pub comes_to_end : (told : Option (List ℕ)) (f f' : Follower) (count : ℕ) (h : Header) (start left : Option (List ℕ)) → f' ≡ f → count ≤ most_events → IsAtEnd left
+    → HasCome f count h start left → StandsAt told h [] start → HasFollowed told f'
+comes_to_end told f f' count h start left is few end (past, follows, same, stands) s =
+    followed_at_end told h past left f' (subst (λ n. n ≤ most_events) same few) end (stands told s) (subst (λ (k : Follower). Follows k h past) (sym is) follows)
+
+-- and to a verdict
+pub comes_to_verdict : (told : Option (List ℕ)) (f : Follower) (count : ℕ) (h h' : Header) (start left left' : Option (List ℕ)) (answer : Answer) → h' ≡ h
+    → HasCome f count h start left → ((past : List Event) → Follows f h' past → count ≡ length past → IsNextVerdict h' past left left' answer)
+    → StandsAt told h [] start → IfSome told (λ bytes. IsVerdict bytes answer)
+comes_to_verdict told f count h h' start left left' answer is (past, follows, same, stands) next s =
+    verdict_next told h past left left' answer
+    (subst (λ (k : Header). IsNextVerdict k past left left' answer) is (next past (subst (λ (k : Header). Follows f k past) (sym is) follows) same)) (stands told s)
 
 -- nothing is left, also of bytes from whose front some were taken
 pub leaves_nothing_before : (old mid left : Option (List ℕ)) (taken : List ℕ) → Consumes old mid taken → LeavesNothing mid left → LeavesNothing old left
@@ -83,26 +145,16 @@ leaves_nothing_before None (Some rest) left taken c e = rw e refl
 leaves_nothing_before (Some bytes) None left taken c e = absurd c
 leaves_nothing_before (Some bytes) (Some rest) left taken c e = e
 
--- the end of the input, also of bytes from whose front some were taken
-pub ends_before : (old mid left : Option (List ℕ)) (taken : List ℕ) (answer : Answer) → Consumes old mid taken → EndsInput answer mid left → EndsInput answer old left
-ends_before old mid left taken (Accepted events) c e = leaves_nothing_before old mid left taken c e
-ends_before old mid left taken (Refused index rule) c e = tt
-ends_before old mid left taken Shown c e = leaves_nothing_before old mid left taken c e
-ends_before old mid left taken Usage c e = tt
-ends_before old mid left taken (Malformed line reason) c e = tt
-ends_before old mid left taken ReadFault c e = tt
-ends_before old mid left taken LimitEvents c e = tt
-ends_before old mid left taken NoMemory c e = tt
+-- the same after a front of them
+pub leaves_nothing_further : (old mid left : Option (List ℕ)) → TakesFront old mid → LeavesNothing mid left → LeavesNothing old left
+leaves_nothing_further old mid left front e = leaves_nothing_before old mid left front.taken front.consumed e
 
-pub ends_further : (old mid left : Option (List ℕ)) (answer : Answer) → TakesFront old mid → EndsInput answer mid left → EndsInput answer old left
-ends_further old mid left answer front e = ends_before old mid left front.taken answer front.consumed e
-
--- one more event was taken from the front
-pub front_further : (h : Header) (past past' : List Event) (old mid new : Option (List ℕ)) → TakesFront old mid → TakesEvent h past past' mid new → TakesFront old new
-front_further h past past' old mid new front (event, is, readable, consumed, kept) =
-    record { taken = front.taken ++ line_text (event_text h.version event); consumed = Consumes-trans old mid new _ _ front.consumed consumed }
+-- more was taken from the front
+pub front_further : (old mid new : Option (List ℕ)) → TakesFront old mid → TakesFront mid new → TakesFront old new
+front_further old mid new front more =
+    record { taken = front.taken ++ more.taken; consumed = Consumes-trans old mid new _ _ front.consumed more.consumed }
 
 pub no_front : (old : Option (List ℕ)) → TakesFront old old
 no_front old = record { taken = []; consumed = Consumes-nil old }
 
-pub ruleset progress = (stands_at_start, stands_further, verdict_next, ends_before, ends_further, no_front)
+pub ruleset progress = (stands_at_start, comes_at_start, leaves_nothing_before, leaves_nothing_further, no_front)

@@ -38,7 +38,7 @@ quiet from (Accepted events) count next left e = absurd e
 quiet from (Refused index rule) count next left e = absurd e
 quiet from Reported count next left e = absurd e
 quiet from LimitLines count next left e = absurd e
-quiet from Usage count next left e = refl
+quiet from Usage count next left e = absurd e
 
 -- the bytes of a trace that was copied, and what stands next
 record Copied (bytes : List ℕ) (header : Header) (events : List Event) (next : Option (List ℕ)) : Type 0 where
@@ -65,6 +65,8 @@ copied_shown version bytes header events next left ReadFault c (pending, none, s
 copied_shown version bytes header events next left NoMemory c e = absurd e
 copied_shown version bytes header events next left (Accepted count) c e = absurd e
 copied_shown version bytes header events next left (Refused index rule) c e = absurd e
+copied_shown version bytes header events next left Reported c e = absurd e
+copied_shown version bytes header events next left LimitLines c e = absurd e
 copied_shown version bytes header events next left Usage c e = absurd e
 
 copied_from : (bytes : List ℕ) (header : Header) (events : List Event) (mid next : Option (List ℕ)) → IsReadableHeader header → Consumes (Some bytes) mid (header_text header) → HasWritten header.version mid next events → Copied bytes header events next

@@ -9,7 +9,7 @@ use Rattle.ace_top.proofs.Parts.{both_nothing}
 use Rattle.ace_top.specs.declared.answer.Answer.TheVariants.{Usage}
 use Rattle.ace_top.specs.Output.{AppendsPart, AppendsParts}
 use Rattle.ace_top.specs.Texts.{notes_text_of}
-use Rattle.ace_top.specs.Words.{IsCheck, IsShow, IsMigrate, IsCommand}
+use Rattle.ace_top.specs.Words.{IsCheck, IsReport, IsShow, IsMigrate, IsCommand}
 
 pub words_carried : (words : List (String Global)) (command : Command) (input left : Option (List ℕ)) (status : ℕ) (out out' notes notes' : Option (List ℕ)) (faults faults' : ℕ)
     → CarriesOut command input left status out out' notes notes' faults faults' → Names words command → status ≢ 5 → AnswersWords words input left status out out' notes notes'
@@ -28,10 +28,13 @@ usage_broken words input out out' notes notes' n (part, rest, cut, given) parts 
 pub is_check : (words : List (String Global)) → IsCheck words → IsCommand words
 is_check words n = inl n
 
+pub is_report : (words : List (String Global)) → IsReport words → IsCommand words
+is_report words n = inr (inl n)
+
 pub is_show : (words : List (String Global)) → IsShow words → IsCommand words
-is_show words n = inr (inl n)
+is_show words n = inr (inr (inl n))
 
 pub is_migrate : (words : List (String Global)) → IsMigrate words → IsCommand words
-is_migrate words n = inr (inr n)
+is_migrate words n = inr (inr (inr n))
 
-pub ruleset words_answered = (words_carried, words_broken, usage_broken, is_check, is_show, is_migrate)
+pub ruleset words_answered = (words_carried, words_broken, usage_broken, is_check, is_report, is_show, is_migrate)

@@ -4,27 +4,32 @@ use Rattle.std.specs.Io.KnownBytes.{Appends}
 use Rattle.std.specs.declared.alloc.Global.{Global}
 use Rattle.ace_io.specs.Faults.{Rose}
 use Rattle.ace_top.specs.declared.answer.Answer.{Answer}
-use Rattle.ace_top.specs.declared.answer.Answer.TheVariants.{NoMemory, Usage}
+use Rattle.ace_top.specs.declared.answer.Answer.TheVariants.{Accepted, NoMemory, Reported, Usage}
 use Rattle.ace_top.specs.declared.show.Version.TheVariants.{AsRead, Two}
 use Rattle.ace_top.specs.declared.words.Command.{Command}
-use Rattle.ace_top.specs.declared.words.Command.TheVariants.{Check, Show, Migrate}
+use Rattle.ace_top.specs.declared.words.Command.TheVariants.{Check, Report, Show, Migrate}
 use Rattle.ace_top.specs.Command.{Names}
 use Rattle.ace_top.specs.Output.{AppendsPart, AppendsParts}
 use Rattle.ace_top.specs.Show.{IsShown, ShowsFront}
 use Rattle.ace_top.specs.Texts.{status_of, out_text_of, notes_text_of}
+use Rattle.ace_top.specs.Report.{IsReported}
 use Rattle.ace_top.specs.Verdict.{IsVerdict}
 use Rattle.ace_top.specs.Words.{IsCommand}
 
 -- what a command answers to these bytes, of which these are left, with this text on the standard output
 abbrev pub IsAnswer : Command → List ℕ → Option (List ℕ) → Answer → List ℕ → Type 0
 IsAnswer Check bytes left answer text = IsVerdict bytes answer
+IsAnswer Report bytes left answer text = IsReported bytes answer text
 IsAnswer Show bytes left answer text = IsShown AsRead bytes left answer text
 IsAnswer Migrate bytes left answer text = IsShown Two bytes left answer text
 
--- what the answer alone says of that text: `check` writes no more than its answer, and `show` and `migrate` nothing
--- where there was no memory
+-- what the answer alone says of that text: `check` writes no more than its answer, and so does `report` where it reports no
+-- trace; and `show` and `migrate` write nothing where there was no memory
 abbrev pub FitsAnswer : Command → Answer → List ℕ → Type 0
 FitsAnswer Check answer text = text ≡ out_text_of answer
+FitsAnswer Report Reported text = ⊤
+FitsAnswer Report (Accepted events) text = ⊥
+FitsAnswer Report answer text = text ≡ out_text_of answer
 FitsAnswer Show NoMemory text = text ≡ []
 FitsAnswer Show answer text = ⊤
 FitsAnswer Migrate NoMemory text = text ≡ []
@@ -48,6 +53,7 @@ AnswersWords words input left status out out' notes notes' =
 -- a text that the command would write to the standard output, if no output failed
 abbrev pub IsBegun : Command → List ℕ → List ℕ → Type 0
 IsBegun Check bytes text = (answer : Answer) × IsVerdict bytes answer × (text ≡ out_text_of answer)
+IsBegun Report bytes text = (answer : Answer) × IsReported bytes answer text
 IsBegun Show bytes text = (text ≡ []) ⊎ ShowsFront AsRead bytes text
 IsBegun Migrate bytes text = (text ≡ []) ⊎ ShowsFront Two bytes text
 

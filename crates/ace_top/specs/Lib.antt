@@ -2,8 +2,10 @@ pub mod Answer
 pub mod Command
 pub mod Copy
 pub mod ErrorAnswer
+pub mod Follow
 pub mod Output
 pub mod Progress
+pub mod Report
 pub mod Show
 pub mod Texts
 pub mod Verdict

@@ -1,7 +1,7 @@
 -- How far a check of the bytes of a trace has come.
 use Rattle.std.specs.Prelude.{◌≡◌, ◌≢◌, ◌<◌, ◌+◌, ⊤, ℕ, true, false, List, [], ◌∷◌, Option, None, Some, length, reverse}
 use Rattle.std.specs.List.{AllByRecursion}
-use Rattle.std.specs.Io.KnownBytes.{Consumes, IsAtEnd}
+use Rattle.std.specs.Io.KnownBytes.{Consumes}
 use Rattle.ace_io.specs.Faults.{Rose}
 use Rattle.ace_event.specs.declared.header.Header.{Header}
 use Rattle.ace_event.specs.declared.event.Event.{Event}
@@ -20,39 +20,80 @@ IsFine header (e ∷ past) = IsFine header past × (least_broken header past e �
 
 -- Of these bytes the header and the events of the past, which is kept newest first, were read and found fine, and these
 -- are left.
-pub record StandsAt (bytes : List ℕ) (header : Header) (past : List Event) (left : Option (List ℕ)) : Type 0 where
+pub record StandsAt (told : Option (List ℕ)) (header : Header) (past : List Event) (left : Option (List ℕ)) : Type 0 where
   pub header_is_readable : IsReadableHeader header
   pub events_are_readable : AllByRecursion (IsReadable header.version) (reverse past)
-  pub text : Consumes (Some bytes) left (trace_text header (reverse past))
+  pub text : Consumes told left (trace_text header (reverse past))
   pub fine : IsFine header past
 
--- one more event was read and found fine
-abbrev pub TakesEvent : Header → List Event → List Event → Option (List ℕ) → Option (List ℕ) → Type 0
-TakesEvent header past past' left left' = (event : Event) × (past' ≡ event ∷ past) × IsReadable header.version event
-    × Consumes left left' (line_text (event_text header.version event)) × (least_broken header past event ≡ None) × (goes_over past event ≡ false)
+-- this event was read, and is fine
+pub record TakesEvent (header : Header) (past : List Event) (event : Event) (left left' : Option (List ℕ)) : Type 0 where
+  pub readable : IsReadable header.version event
+  pub taken : Consumes left left' (line_text (event_text header.version event))
+  pub kept : least_broken header past event ≡ None
+  pub within : goes_over past event ≡ false
 
--- The next line breaks a rule.
-abbrev pub TakesBroken : Header → List Event → Option (List ℕ) → Option (List ℕ) → ℕ → Type 0
-TakesBroken header past left left' rule = (event : Event) × IsReadable header.version event
-    × Consumes left left' (line_text (event_text header.version event)) × (least_broken header past event ≡ Some rule)
+-- The answer where an event ends the check: it breaks a rule, or breaks none and names a line too many. Want of memory may end it as well.
+abbrev pub StopsAt : Header → List Event → Event → Answer → Type 0
+StopsAt header past event (Refused index rule) = (index ≡ length past + 1) × (least_broken header past event ≡ Some rule)
+StopsAt header past event LimitLines = (least_broken header past event ≡ None) × (goes_over past event ≡ true)
+StopsAt header past event NoMemory = ⊤
+StopsAt header past event (Accepted events) = ⊥
+StopsAt header past event Shown = ⊥
+StopsAt header past event Reported = ⊥
+StopsAt header past event Usage = ⊥
+StopsAt header past event (Malformed line reason) = ⊥
+StopsAt header past event ReadFault = ⊥
+StopsAt header past event LimitEvents = ⊥
 
--- The next line breaks no rule, and names a line too many.
-abbrev pub TakesOver : Header → List Event → Option (List ℕ) → Option (List ℕ) → Type 0
-TakesOver header past left left' = (event : Event) × IsReadable header.version event
-    × Consumes left left' (line_text (event_text header.version event)) × (least_broken header past event ≡ None) × (goes_over past event ≡ true)
+-- the next line is an event that ends the check so
+abbrev pub TakesStop : Header → List Event → Option (List ℕ) → Option (List ℕ) → Answer → Type 0
+TakesStop header past left left' answer = (event : Event) × IsReadable header.version event
+    × Consumes left left' (line_text (event_text header.version event)) × StopsAt header past event answer × (length past < most_events)
 
--- the answer that the next line, or the end of the bytes, gives
+-- the answer that the next line gives, where the trace isn't read on
 abbrev pub IsNextVerdict : Header → List Event → Option (List ℕ) → Option (List ℕ) → Answer → Type 0
-IsNextVerdict header past left left' (Accepted events) = IsAtEnd left × (events ≡ length past)
-IsNextVerdict header past left left' (Refused index rule) = (index ≡ length past + 1) × TakesBroken header past left left' rule × (length past < most_events)
+IsNextVerdict header past left left' (Refused index rule) = TakesStop header past left left' (Refused index rule)
+IsNextVerdict header past left left' LimitLines = TakesStop header past left left' LimitLines
 IsNextVerdict header past left left' (Malformed line reason) = IfTold left (λ bytes. HasBadLine header.version bytes reason) × (length past < most_events) × (line ≡ length past + 3)
 IsNextVerdict header past left left' LimitEvents = IfTold left (λ bytes. bytes ≢ []) × (length past ≡ most_events)
-IsNextVerdict header past left left' LimitLines = TakesOver header past left left' × (length past < most_events)
 IsNextVerdict header past left left' ReadFault = ⊤
 IsNextVerdict header past left left' NoMemory = ⊤
+IsNextVerdict header past left left' (Accepted events) = ⊥
 IsNextVerdict header past left left' Shown = ⊥
 IsNextVerdict header past left left' Reported = ⊥
 IsNextVerdict header past left left' Usage = ⊥
+
+-- an answer that an event may have where it isn't followed
+abbrev pub IsStop : Answer → Type 0
+IsStop (Refused index rule) = ⊤
+IsStop LimitLines = ⊤
+IsStop NoMemory = ⊤
+IsStop (Malformed line reason) = ⊥
+IsStop ReadFault = ⊥
+IsStop LimitEvents = ⊥
+IsStop (Accepted events) = ⊥
+IsStop Shown = ⊥
+IsStop Reported = ⊥
+IsStop Usage = ⊥
+
+-- an answer where a trace isn't accepted
+abbrev pub IsRefusal : Answer → Type 0
+IsRefusal (Refused index rule) = ⊤
+IsRefusal (Malformed line reason) = ⊤
+IsRefusal ReadFault = ⊤
+IsRefusal LimitEvents = ⊤
+IsRefusal LimitLines = ⊤
+IsRefusal NoMemory = ⊤
+IsRefusal (Accepted events) = ⊥
+IsRefusal Shown = ⊥
+IsRefusal Reported = ⊥
+IsRefusal Usage = ⊥
+
+-- an answer of `check`
+abbrev pub IsVerdictAnswer : Answer → Type 0
+IsVerdictAnswer (Accepted events) = ⊤
+IsVerdictAnswer answer = IsRefusal answer
 
 -- Of the input before and after: a trace that is accepted or shown was read to its end.
 abbrev pub EndsInput : Answer → Option (List ℕ) → Option (List ℕ) → Type 0

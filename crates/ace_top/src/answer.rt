@@ -103,10 +103,7 @@ pub fn notes_text(answer: Answer) -> ArrayString<64>
         Answer::LimitEvents => text.push_str("limit events\n"),
         Answer::LimitLines => text.push_str("limit lines\n"),
         Answer::NoMemory => text.push_str("out of memory\n"),
-        Answer::Accepted { .. }
-        | Answer::Refused { .. }
-        | Answer::Shown
-        | Answer::Reported => {}
+        Answer::Accepted { .. } | Answer::Refused { .. } | Answer::Shown | Answer::Reported => {}
     }
     text
 }

@@ -1,18 +1,20 @@
-// Checks a trace, event by event, as it is read.
-ghost use Rattle.std.specs.Prelude.{◌≡◌, ◌≢◌, ◌<◌, ℕ, List, None, Some, length, IfSome, IfNone};
-ghost use Rattle.ace_grammar.specs.Errors.{LeavesNothing};
-ghost use Rattle.ace_grammar.specs.Reader.{source_of, unread, count_of, last_answer};
+// Checks a trace, event by event, as it is read, and reports it where that is asked for.
+ghost use Rattle.std.specs.Prelude.{◌≡◌, ◌<◌, ◌+◌, ℕ, List, [], ◌∷◌, Option, None, Ok, true, false, is_some, length, IfSome, IfOk, IfErr, OnOk};
+ghost use Rattle.std.specs.Io.KnownBytes.{IsAtEnd};
+ghost use Rattle.ace_event.specs.declared.event.Event.{Event};
+ghost use Rattle.ace_grammar.specs.Errors.{LeavesNothing, TakesFront};
+ghost use Rattle.ace_grammar.specs.Reader.{source_of, unread, header_of, count_of, last_answer};
 ghost use Rattle.ace_grammar.specs.Reading.{most_events};
-ghost use Rattle.ace_check.specs.Run.{header_of, past_of, break_of};
-ghost use Rattle.ace_top.specs.Progress.{EndsInput, HasReadCause, IsNextVerdict, TakesEvent, StandsAt};
+ghost use Rattle.ace_model.specs.Trace.{Trace};
 ghost use Rattle.ace_top.specs.Answer.{CarriesOut, HasStatusCause};
-ghost use Rattle.ace_top.specs.Versions.{version_read};
-ghost use Rattle.ace_top.specs.Verdict.{IsVerdict, ReadsUnique};
-ghost use Rattle.ace_top.specs.declared.words.Command.TheVariants.{Check};
+ghost use Rattle.ace_top.specs.Follow.{Follows, HasFollowed};
+ghost use Rattle.ace_top.specs.Progress.{EndsInput, HasReadCause, IsNextVerdict, IsRefusal, IsVerdictAnswer, TakesEvent, StandsAt};
+ghost use Rattle.ace_top.specs.Verdict.{IsVerdict, ReadsSound};
+ghost use Rattle.ace_top.specs.declared.words.Command.TheVariants as command;
 
 use crate::answer::{Answer, error_answer};
-use crate::output::conclude;
-use ace_check::{CheckErr, Checker, Step};
+use crate::follow::Follower;
+use crate::output::{break_off, conclude};
 use ace_grammar::Reader;
 use ace_io::{Sink, Source};
 use std::alloc::Global;
@@ -25,86 +27,136 @@ pub fn tell_verdict<S: Source, K: Sink, E: Sink>(
     out: &mut K,
     notes: &mut E,
 ) -> u8
-    ensures carried_out { CarriesOut Check (S.left input.old) (S.left input.new) result (K.held out.old) (K.held out.new)
+    ensures carried_out { CarriesOut command.Check (S.left input.old) (S.left input.new) result (K.held out.old) (K.held out.new)
         (E.held notes.old) (E.held notes.new) (E.faults notes.old) (E.faults notes.new) }
     ensures cause { HasStatusCause result (S.faults input.old) (S.faults input.new)
         (K.faults out.old) (K.faults out.new) (E.faults notes.old) (E.faults notes.new) }
-    ensures unique { result ≡ 0 → IfSome (S.left input.old) ReadsUnique }
+    ensures sound { result ≡ 0 → IfSome (S.left input.old) ReadsSound }
     ensures whole { result ≡ 0 → LeavesNothing (S.left input.old) (S.left input.new) }
 {
-    let verdict = check(alloc, input);
+    let verdict = verdict(alloc, input);
     conclude(out, notes, verdict)
 }
 
-/// The verdict on the trace that the input gives.
-#[tactic(auto, using(crate::proofs::ProgressLemmas::progress, crate::proofs::ErrorLemmas::errors))]
-fn check<S: Source>(alloc: Global, input: &mut S) -> Answer
-    ensures verdict { IfSome (S.left input.old) (λ bytes. IsVerdict bytes result) }
-    ensures end { EndsInput result (S.left input.old) (S.left input.new) }
-    ensures cause { HasReadCause (S.faults input.old) (S.faults input.new) result }
-    ensures command { result ≢ Answer.Usage }
+/// Reports the trace that the input gives, where it is accepted, and else tells the verdict; returns the status.
+#[tactic(auto, using(crate::proofs::AcceptedEnd::accepted_end))]
+pub fn tell_report<S: Source, K: Sink, E: Sink>(
+    alloc: Global,
+    input: &mut S,
+    out: &mut K,
+    notes: &mut E,
+) -> u8
+    ensures carried_out { CarriesOut command.Report (S.left input.old) (S.left input.new) result (K.held out.old) (K.held out.new)
+        (E.held notes.old) (E.held notes.new) (E.faults notes.old) (E.faults notes.new) }
+    ensures cause { HasStatusCause result (S.faults input.old) (S.faults input.new)
+        (K.faults out.old) (K.faults out.new) (E.faults notes.old) (E.faults notes.new) }
+    ensures sound { result ≡ 0 → IfSome (S.left input.old) ReadsSound }
+    ensures whole { result ≡ 0 → LeavesNothing (S.left input.old) (S.left input.new) }
 {
-    match Reader::start(alloc, input) {
-        Ok(mut reader) => match Checker::new(alloc, reader.header()) {
-            Ok(mut checker) => check_events(&mut checker, &mut reader),
-            Err(CheckErr::NoMemory) => Answer::NoMemory,
+    match check(alloc, input, true) {
+        Ok(follower) => match follower.put(out) {
+            Ok(()) => conclude(out, notes, Answer::Reported),
+            Err(_) => break_off(notes),
         },
-        Err(failed) => error_answer(failed.error),
+        Err(answer) => conclude(out, notes, answer),
     }
 }
 
-/// The verdict on the events from here on, after those that the checker has found fine.
+/// The verdict on the trace that the input gives.
+#[tactic(auto, using(crate::proofs::Followed::followed))]
+fn verdict<S: Source>(alloc: Global, input: &mut S) -> Answer
+    ensures verdict { IfSome (S.left input.old) (λ bytes. IsVerdict bytes result) }
+    ensures end { EndsInput result (S.left input.old) (S.left input.new) }
+    ensures cause { HasReadCause (S.faults input.old) (S.faults input.new) result }
+    ensures answer { IsVerdictAnswer result }
+{
+    match check(alloc, input, false) {
+        Ok(follower) => Answer::Accepted {
+            events: follower.count(),
+        },
+        Err(answer) => answer,
+    }
+}
+
+/// Follows the trace that the input gives, and reports it if that is asked for: what followed it to its end, where it is accepted,
+/// or else the answer.
+#[tactic(auto, using(crate::proofs::ProgressLemmas::progress, crate::proofs::ErrorLemmas::errors))]
+fn check<S: Source>(alloc: Global, input: &mut S, reports: bool) -> Result<Follower, Answer>
+    ensures accepted { IfOk result (HasFollowed (S.left input.old)) }
+    ensures verdict { IfErr result (λ answer. IfSome (S.left input.old) (λ bytes. IsVerdict bytes answer)) }
+    ensures refusal { IfErr result IsRefusal }
+    ensures reports { IfOk result (λ f. is_some f.report ≡ reports) }
+    ensures end { OnOk result (LeavesNothing (S.left input.old) (S.left input.new)) }
+    ensures steady { OnOk result (S.faults input.new ≡ S.faults input.old) }
+    ensures cause { IfErr result (HasReadCause (S.faults input.old) (S.faults input.new)) }
+{
+    match Reader::start(alloc, input) {
+        Ok(mut reader) => match Follower::new(alloc, reader.header(), reports) {
+            Some(mut follower) => match check_events(&mut follower, &mut reader) {
+                Ok(()) => Ok(follower),
+                Err(answer) => Err(answer),
+            },
+            None => Err(Answer::NoMemory),
+        },
+        Err(failed) => Err(error_answer(failed.error)),
+    }
+}
+
+/// Follows the events of a trace to its end, unless an answer comes before.
 #[tactic(auto, using(crate::proofs::ProgressLemmas::progress))]
-fn check_events<S: Source>(checker: &mut Checker, reader: &mut Reader<S>) -> Answer
-    requires unbroken { break_of checker.old ≡ None }
+fn check_events<S: Source>(follower: &mut Follower, reader: &mut Reader<S>) -> Result<(), Answer>
     requires reads_on { last_answer reader.old ≡ None }
-    requires count { count_of reader.old ≡ length (past_of checker.old) }
-    requires same_version { version_read reader.old ≡ (header_of checker.old).version }
+    requires fresh { count_of reader.old ≡ 0 }
     ensures same_source { (source_of reader.new).ghost_name ≡ (source_of reader.old).ghost_name }
-    ensures verdict { (bytes : List ℕ) → StandsAt bytes (header_of checker.old) (past_of checker.old) (unread S.left reader.old)
-        → IsVerdict bytes result }
-    ensures end { EndsInput result (unread S.left reader.old) (S.left (source_of reader.new).now) }
-    ensures cause { HasReadCause (S.faults (source_of reader.old).now) (S.faults (source_of reader.new).now) result }
-    ensures command { result ≢ Answer.Usage }
+    ensures same_reports { is_some follower.new.report ≡ is_some follower.old.report }
+    ensures accepted { (told : Option (List ℕ)) → Follows follower.old (header_of reader.old) []
+        → StandsAt told (header_of reader.old) [] (unread S.left reader.old) → OnOk result (HasFollowed told follower.new) }
+    ensures verdict { (told : Option (List ℕ)) → Follows follower.old (header_of reader.old) []
+        → StandsAt told (header_of reader.old) [] (unread S.left reader.old)
+        → IfErr result (λ answer. IfSome told (λ bytes. IsVerdict bytes answer)) }
+    ensures refusal { IfErr result IsRefusal }
+    ensures end { OnOk result (LeavesNothing (unread S.left reader.old) (S.left (source_of reader.new).now)) }
+    ensures steady { OnOk result (S.faults (source_of reader.new).now ≡ S.faults (source_of reader.old).now) }
+    ensures cause { IfErr result (HasReadCause (S.faults (source_of reader.old).now) (S.faults (source_of reader.new).now)) }
 {
     'events: loop {
-        if let Some(answer) = check_next(checker, reader) {
-            return answer;
+        match check_next(follower, reader) {
+            Ok(true) => {}
+            Ok(false) => return Ok(()),
+            Err(answer) => return Err(answer),
         }
     }
 }
 
-/// Reads one event and checks it. An answer ends the reading.
+/// Reads one event and follows it; false at the end of the trace. An answer ends the reading.
 #[tactic(auto, using(crate::proofs::ErrorLemmas::errors))]
-fn check_next<S: Source>(checker: &mut Checker, reader: &mut Reader<S>) -> Option<Answer>
-    requires unbroken { break_of checker.old ≡ None }
+fn check_next<S: Source>(follower: &mut Follower, reader: &mut Reader<S>) -> Result<bool, Answer>
     requires reads_on { last_answer reader.old ≡ None }
-    requires count { count_of reader.old ≡ length (past_of checker.old) }
-    requires same_version { version_read reader.old ≡ (header_of checker.old).version }
     ensures same_source { (source_of reader.new).ghost_name ≡ (source_of reader.old).ghost_name }
-    ensures header { header_of checker.new ≡ header_of checker.old }
-    ensures read_version { version_read reader.new ≡ version_read reader.old }
-    ensures unbroken { IfNone result (break_of checker.new ≡ None) }
-    ensures reads_on { IfNone result (last_answer reader.new ≡ None) }
-    ensures room { IfNone result (length (past_of checker.old) < most_events) }
-    ensures count { IfNone result (count_of reader.new ≡ length (past_of checker.new)) }
-    ensures fine { IfNone result (TakesEvent (header_of checker.old) (past_of checker.old) (past_of checker.new)
-        (unread S.left reader.old) (unread S.left reader.new)) }
-    ensures verdict { IfSome result (IsNextVerdict (header_of checker.old) (past_of checker.old)
-        (unread S.left reader.old) (unread S.left reader.new)) }
-    ensures end { IfSome result (λ answer. EndsInput answer (unread S.left reader.old) (S.left (source_of reader.new).now)) }
-    ensures fine_steady { IfNone result (S.faults (source_of reader.new).now ≡ S.faults (source_of reader.old).now) }
-    ensures cause { IfSome result (HasReadCause (S.faults (source_of reader.old).now) (S.faults (source_of reader.new).now)) }
+    ensures same_header { header_of reader.new ≡ header_of reader.old }
+    ensures same_reports { is_some follower.new.report ≡ is_some follower.old.report }
+    ensures reads_on { result ≡ Ok true → last_answer reader.new ≡ None }
+    ensures room { result ≡ Ok true → count_of reader.old < most_events }
+    ensures count { result ≡ Ok true → count_of reader.new ≡ count_of reader.old + 1 }
+    ensures front { result ≡ Ok true → TakesFront (unread S.left reader.old) (unread S.left reader.new) }
+    ensures takes { (past : Trace) → Follows follower.old (header_of reader.old) past → count_of reader.old ≡ length past → result ≡ Ok true
+        → (event : Event) × Follows follower.new (header_of reader.old) (event ∷ past)
+        × TakesEvent (header_of reader.old) past event (unread S.left reader.old) (unread S.left reader.new) }
+    ensures ended { result ≡ Ok false → IsAtEnd (unread S.left reader.old) }
+    ensures stays { result ≡ Ok false → follower.new ≡ follower.old }
+    ensures end { result ≡ Ok false → LeavesNothing (unread S.left reader.old) (S.left (source_of reader.new).now) }
+    ensures verdict { (past : Trace) → Follows follower.old (header_of reader.old) past → count_of reader.old ≡ length past
+        → IfErr result (IsNextVerdict (header_of reader.old) past (unread S.left reader.old) (unread S.left reader.new)) }
+    ensures refusal { IfErr result IsRefusal }
+    ensures steady { OnOk result (S.faults (source_of reader.new).now ≡ S.faults (source_of reader.old).now) }
+    ensures cause { IfErr result (HasReadCause (S.faults (source_of reader.old).now) (S.faults (source_of reader.new).now)) }
 {
     match reader.next() {
-        Ok(Some(event)) => match checker.feed(&event) {
-            Ok(Step::Fine) => None,
-            Ok(Step::Broken { index, rule }) => Some(Answer::Refused { index, rule }),
-            Err(CheckErr::NoMemory) => Some(Answer::NoMemory),
+        Ok(Some(event)) => match follower.take(&event) {
+            None => Ok(true),
+            Some(answer) => Err(answer),
         },
-        Ok(None) => Some(Answer::Accepted {
-            events: checker.count(),
-        }),
-        Err(error) => Some(error_answer(error)),
+        Ok(None) => Ok(false),
+        Err(error) => Err(error_answer(error)),
     }
 }

@@ -4,6 +4,7 @@
 mod answer;
 mod check;
 mod copy;
+mod follow;
 mod output;
 mod show;
 #[cfg(test)]

@@ -17,6 +17,34 @@ const SNOOPED_OUT: &str = "ACE 1\nPORTS AA\n\
     R 1 0 0 0 00000000000000000000000000000000\nR 1 0 0 0 00000000000000000000000000000000\n\
     R 1 0 0 0 00000000000000000000000000000000\nR 1 0 0 1 00000000000000000000000000000000\nRK 1 UC\n";
 
+/// Port 0 and then port 1 are granted the same line.
+const TWO_GRANTS: &str = "ACE 1\nPORTS AA\n\
+    AR 0 0 00000040 7 1 0 0\nG 0 R 0\nAR 1 0 00000040 7 1 0 0\nG 1 R 0\n";
+
+/// Port 1 reads a line uniquely, loads a word, stores the line and loads another word.
+const STORED: &str = "ACE 1\nPORTS AA\n\
+    AR 1 0 00000040 7 1 0 0\nG 1 R 0\n\
+    R 1 0 0 0 00000000000000000000000000000000\nR 1 0 0 0 00000000000000000000000000000000\n\
+    R 1 0 0 0 00000000000000000000000000000000\nR 1 0 0 1 00000000000000000000000000000000\nRK 1 UC\n\
+    L 1 00000040 0 0 00000000000000000000000000000000\n\
+    D 1 00000040 ffffffffffffffff 0 11111111111111111111111111111111111111111111111111111111111111111111111111111111111111111111111111111111111111111111111111111111\n\
+    L 1 00000040 2 0 11111111111111111111111111111111\n";
+
+const STORED_REPORT: &str = "port 0 loads 0 stores 0 reads 0 writes 0\n\
+    port 1 loads 2 stores 1 reads 1 writes 0\n\
+    line 00000040 stores 1 value 11111111111111111111111111111111111111111111111111111111111111111111111111111111111111111111111111111111111111111111111111111111\n\
+    load 8 1 00000040 0\nload 10 1 00000040 1\n";
+
+/// An opening memory, and an ACE-Lite port reads its line.
+const OPENED: &str = "ACE 2\nPORTS L\n\
+    MEM 00000040 aaaaaaaaaaaaaaaaaaaaaaaaaaaaaaaaaaaaaaaaaaaaaaaaaaaaaaaaaaaaaaaaaaaaaaaaaaaaaaaaaaaaaaaaaaaaaaaaaaaaaaaaaaaaaaaaaaaaaaaaaaaaaaaa\n\
+    AR 00 0 00000040 0 1 0 0\nG 00 R 0\n\
+    R 00 0 0 0 aaaaaaaaaaaaaaaaaaaaaaaaaaaaaaaa\nR 00 0 0 0 aaaaaaaaaaaaaaaaaaaaaaaaaaaaaaaa\n\
+    R 00 0 0 0 aaaaaaaaaaaaaaaaaaaaaaaaaaaaaaaa\nR 00 0 0 1 aaaaaaaaaaaaaaaaaaaaaaaaaaaaaaaa\n";
+
+const OPENED_REPORT: &str = "port 0 loads 0 stores 0 reads 1 writes 0\n\
+    line 00000040 stores 0 value aaaaaaaaaaaaaaaaaaaaaaaaaaaaaaaaaaaaaaaaaaaaaaaaaaaaaaaaaaaaaaaaaaaaaaaaaaaaaaaaaaaaaaaaaaaaaaaaaaaaaaaaaaaaaaaaaaaaaaaaaaaaaaaa\n";
+
 /// A line of each record that version 1 has.
 const SIXTEEN: &str = "ACE 1\nPORTS AL\n\
     AR 0 1 00000040 7 1 0 0\n\
@@ -96,15 +124,19 @@ fn verdicts_in_any_pieces(rt: HostRuntime) -> Result<(), Fail> {
         (SNOOPED_OUT, 0, "accepted 16\n", ""),
         ("", 3, "", "malformed line 1: F1\n"),
         ("ACE 1\nPORTS AA\nXX 0\n", 3, "", "malformed line 3: F2\n"),
+        ("ACE 1\nPORTS AA\nOP 0 0000 ok\n", 0, "accepted 1\n", ""),
+        (TWO_GRANTS, 1, "refused event 4: K12\n", ""),
+        (STORED, 0, "accepted 10\n", ""),
+        (OPENED, 0, "accepted 7\n", ""),
         (
-            "ACE 1\nPORTS AA\nOP 0 0000 ok\n",
+            "ACE 1\nPORTS A\nL 0 00000040 0 0 00000000000000000000000000000000\nXX 0\n",
             1,
-            "refused event 1: K2\n",
+            "refused event 1: K30\n",
             "",
         ),
         ("ACE 1\nPORTS AA", 3, "", "malformed line 2: F1\n"),
         ("ACE 2\nPORTS AA\n", 0, "accepted 0\n", ""),
-        (OPENING, 1, "refused event 1: K2\n", ""),
+        (OPENING, 1, "refused event 2: K1\n", ""),
         (
             "ACE 2\nPORTS AA\nOP 0 0000 ok\n",
             3,
@@ -132,6 +164,108 @@ fn verdicts_in_any_pieces(rt: HostRuntime) -> Result<(), Fail> {
 }
 
 #[test]
+fn reports_in_any_pieces(rt: HostRuntime) -> Result<(), Fail> {
+    let alloc = rt.alloc();
+    for (trace, status, wanted_out, wanted_notes) in [
+        (
+            EMPTY,
+            0,
+            "port 0 loads 0 stores 0 reads 0 writes 0\nport 1 loads 0 stores 0 reads 0 writes 0\n",
+            "",
+        ),
+        (STORED, 0, STORED_REPORT, ""),
+        (OPENED, 0, OPENED_REPORT, ""),
+        (TWO_GRANTS, 1, "refused event 4: K12\n", ""),
+        (OPENING, 1, "refused event 2: K1\n", ""),
+        ("", 3, "", "malformed line 1: F1\n"),
+        ("ACE 1\nPORTS AA\nXX 0\n", 3, "", "malformed line 3: F2\n"),
+    ] {
+        for piece in [1, 7, 64] {
+            let mut input = MemSource::new(alloc, trace.as_bytes(), &[piece], &[])?;
+            let (given, out, notes) = answer(&rt, alloc, &["report"], &mut input, (999, 99))?;
+            assert_eq!(rt; given, status, "{trace} in pieces of {piece}");
+            assert_eq!(rt; out.bytes(), wanted_out.as_bytes(), "{trace}");
+            assert_eq!(rt; notes.bytes(), wanted_notes.as_bytes(), "{trace}");
+        }
+    }
+    for room in 0..STORED_REPORT.len() {
+        let mut input = HonestSource::new(STORED.as_bytes());
+        let (given, out, notes) = answer(&rt, alloc, &["report"], &mut input, (room, 99))?;
+        assert_eq!(rt; given, 5, "room {room}");
+        assert_eq!(rt; out.bytes().len(), room);
+        assert!(rt;
+            STORED_REPORT.as_bytes().starts_with(out.bytes()),
+            "room {room}"
+        );
+        assert_eq!(rt; notes.bytes(), b"write fault\n".as_slice());
+    }
+    let mut fails = MemSource::new(alloc, STORED.as_bytes(), &[8], &[5])?;
+    let (given, out, notes) = answer(&rt, alloc, &["report"], &mut fails, (999, 99))?;
+    assert_eq!(rt; given, 4);
+    assert_eq!(rt; out.bytes(), b"".as_slice());
+    assert_eq!(rt; notes.bytes(), b"read fault\n".as_slice());
+    Ok(())
+}
+
+/// Adds these bytes.
+fn add(text: &mut Vec<u8>, bytes: &[u8]) -> Result<(), Fail> {
+    for byte in bytes {
+        text.push(*byte)?;
+    }
+    Ok(())
+}
+
+/// A trace in which an ACE-Lite port reads so many lines, one after the other.
+fn reads_of(alloc: Global, lines: u32) -> Result<Vec<u8>, Fail> {
+    let mut text = Vec::new(alloc);
+    add(&mut text, b"ACE 1\nPORTS L\n")?;
+    for line in 0..lines {
+        add(&mut text, b"AR 0 0 ")?;
+        for place in 0..8u32 {
+            let digit = line.wrapping_mul(64) >> (28 - 4 * place) & 15;
+            for (value, letter) in b"0123456789abcdef".iter().enumerate() {
+                if value == digit as usize {
+                    text.push(*letter)?;
+                }
+            }
+        }
+        add(&mut text, b" 0 1 0 0\nG 0 R 0\n")?;
+        for last in [b"0", b"0", b"0", b"1"] {
+            add(&mut text, b"R 0 0 0 ")?;
+            add(&mut text, last)?;
+            add(&mut text, b" 00000000000000000000000000000000\n")?;
+        }
+    }
+    Ok(text)
+}
+
+#[test]
+fn limit_of_lines(rt: HostRuntime) -> Result<(), Fail> {
+    let alloc = rt.alloc();
+    for (lines, command, status, wanted_out, wanted_notes) in [
+        (4096, "check", 0, "accepted 24576\n", ""),
+        (4097, "check", 6, "", "limit lines\n"),
+        (4097, "report", 6, "", "limit lines\n"),
+    ] {
+        let text = reads_of(alloc, lines)?;
+        let mut input = HonestSource::new(text.as_slice());
+        let (given, out, notes) = answer(&rt, alloc, &[command], &mut input, (99, 99))?;
+        assert_eq!(rt; given, status, "{command} of {lines} lines");
+        assert_eq!(rt;
+            out.bytes(),
+            wanted_out.as_bytes(),
+            "{command} of {lines} lines"
+        );
+        assert_eq!(rt;
+            notes.bytes(),
+            wanted_notes.as_bytes(),
+            "{command} of {lines} lines"
+        );
+    }
+    Ok(())
+}
+
+#[test]
 fn words_outputs_and_faults(rt: HostRuntime) -> Result<(), Fail> {
     let alloc = rt.alloc();
     for (words, rooms, status, wanted_out, wanted_notes) in [
@@ -141,6 +275,8 @@ fn words_outputs_and_faults(rt: HostRuntime) -> Result<(), Fail> {
         (["check"].as_slice(), (0, 99), 5, "", "write fault\n"),
         (["check"].as_slice(), (4, 99), 5, "acce", "write fault\n"),
         (["check"].as_slice(), (99, 0), 0, "accepted 0\n", ""),
+        (["report"].as_slice(), (4, 99), 5, "port", "write fault\n"),
+        (["report", "report"].as_slice(), (99, 99), 2, "", USAGE),
         ([].as_slice(), (99, 0), 5, "", ""),
         ([].as_slice(), (99, 5), 5, "", "usage"),
     ] {

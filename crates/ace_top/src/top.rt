@@ -3,12 +3,12 @@ ghost use Rattle.std.specs.Prelude.{◌≡◌, ◌≢◌, ◌<◌, ◌≤◌, �
 ghost use Rattle.std.specs.Io.KnownBytes.{Appends};
 ghost use Rattle.ace_io.specs.Faults.{Rose};
 ghost use Rattle.ace_grammar.specs.Errors.{LeavesNothing};
-ghost use Rattle.ace_top.specs.Verdict.{ReadsUnique};
-ghost use Rattle.ace_top.specs.Words.{IsCheck, IsCommand};
+ghost use Rattle.ace_top.specs.Verdict.{ReadsSound};
+ghost use Rattle.ace_top.specs.Words.{IsCheck, IsReport, IsCommand};
 ghost use Rattle.ace_top.specs.Answer.{AnswersWords, BreaksOffWords};
 
 use crate::answer::Answer;
-use crate::check::tell_verdict;
+use crate::check::{tell_report, tell_verdict};
 use crate::output::conclude;
 use crate::show::{Version, write_out};
 use crate::words::{Command, command_of};
@@ -33,9 +33,10 @@ pub fn ace<R: Threads + Wait + Sync, S: Source, K: Sink, E: Sink, G: Gate + Sync
         (K.held out.old) (K.held out.new) (E.held notes.old) (E.held notes.new) }
 
     // Where the status is 0, the input was read to its end: where its bytes were told, they still are, and none is left.
-    // Where it is that of `check`, a unique line has one holder at each point of the trace.
+    // Where it is that of `check` or `report`, the trace has all that acceptance promises: it is coherent, its exclusive stores are
+    // exclusive, its barriers order, and its Syncs wait for all.
     ensures whole { result ≡ 0 → LeavesNothing (S.left input.old) (S.left input.new) }
-    ensures unique { IsCheck words.now → result ≡ 0 → IfSome (S.left input.old) ReadsUnique }
+    ensures sound { IsCheck words.now ⊎ IsReport words.now → result ≡ 0 → IfSome (S.left input.old) ReadsSound }
 
     // Where an output failed, each has a front of what such an answer gives it, and then the notes tell so if they can.
     ensures broken_off { result ≡ 5 → BreaksOffWords words.now (S.left input.old)
@@ -61,6 +62,7 @@ pub fn ace<R: Threads + Wait + Sync, S: Source, K: Sink, E: Sink, G: Gate + Sync
 {
     match command_of(words) {
         Some(Command::Check) => tell_verdict(alloc, input, out, notes),
+        Some(Command::Report) => tell_report(alloc, input, out, notes),
         Some(Command::Show) => write_out(alloc, input, out, notes, Version::AsRead),
         Some(Command::Migrate) => write_out(alloc, input, out, notes, Version::Two),
         None => conclude(out, notes, Answer::Usage),

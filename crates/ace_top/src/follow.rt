@@ -1,0 +1,146 @@
+// Follows a trace event by event: checks it, and reports it where that is asked for.
+ghost use Rattle.std.specs.Prelude.{◌≡◌, ◌<◌, ◌-◌, ◌^◌, ◌∷◌, ℕ, Option, None, Some, [], true, false, is_some, length, IfNone, IfSome, OnOk, OnErr};
+ghost use Rattle.std.specs.Io.KnownBytes.{Appends};
+ghost use Rattle.ace_event.specs.Ports.{IsHeader};
+ghost use Rattle.ace_event.specs.declared.header.Header.{Header};
+ghost use Rattle.ace_io.specs.Faults.{HasCause};
+ghost use Rattle.ace_model.specs.declared.breaks.Break.{Break};
+ghost use Rattle.ace_model.specs.Trace.{Trace};
+ghost use Rattle.ace_model.specs.Accepted.{IsAccepted, least_broken};
+ghost use Rattle.ace_model.specs.Copies.{memory_of};
+ghost use Rattle.ace_check.specs.Run.{goes_over};
+ghost use Rattle.ace_check.specs.Run as check;
+ghost use Rattle.ace_report.specs.Stands as reporting;
+ghost use Rattle.ace_report.specs.Report.{report_text};
+ghost use Rattle.ace_top.specs.Follow.{Follows};
+ghost use Rattle.ace_top.specs.Output.{AppendsPart};
+ghost use Rattle.ace_top.specs.Progress.{IsStop, StopsAt};
+
+use crate::answer::Answer;
+use ace_check::{CheckErr, Checker, Step};
+use ace_event::{Event, Header, Line};
+use ace_io::{Failed, Sink};
+use ace_report::Report;
+use std::alloc::Global;
+
+/// Checks the next event. An answer ends the check.
+fn feed(checker: &mut Checker, event: &Event) -> Option<Answer>
+    ensures fine { (h : Header) (past : Trace) → check.Stands checker.old h past None
+        → IfNone result ((least_broken h past event.now ≡ None) × (goes_over past event.now ≡ false)) }
+    ensures stands { (h : Header) (past : Trace) → check.Stands checker.old h past None → length past < 2 ^ 64 - 2
+        → IfNone result (check.Stands checker.new h (event.now ∷ past) None) }
+    ensures stops { (h : Header) (past : Trace) → check.Stands checker.old h past None → IfSome result (StopsAt h past event.now) }
+    ensures stop { IfSome result IsStop }
+{
+    match checker.feed(event) {
+        Ok(Step::Fine) => None,
+        Ok(Step::Broken { index, rule }) => Some(Answer::Refused { index, rule }),
+        Err(CheckErr::NoMemory) => Some(Answer::NoMemory),
+        Err(CheckErr::TooManyLines) => Some(Answer::LimitLines),
+    }
+}
+
+/// Memory of the line, if there is one.
+fn memory_at(checker: &Checker, line: Option<u32>) -> Line
+    ensures { (h : Header) (past : Trace) (b : Option Break) (l : ℕ) → check.Stands checker.now h past b → line ≡ Some l
+        → result ≡ memory_of past l }
+{
+    match line {
+        Some(line) => checker.memory(line),
+        None => Line { words: [0; 4] },
+    }
+}
+
+/// Checks the next event and reports it. An answer ends both.
+fn hear(checker: &mut Checker, report: &mut Report, event: &Event) -> Option<Answer>
+    ensures fine { (h : Header) (past : Trace) → check.Stands checker.old h past None
+        → IfNone result ((least_broken h past event.now ≡ None) × (goes_over past event.now ≡ false)) }
+    ensures stands { (h : Header) (past : Trace) → check.Stands checker.old h past None → length past < 2 ^ 64 - 2
+        → IfNone result (check.Stands checker.new h (event.now ∷ past) None) }
+    ensures reports { (h : Header) (past : Trace) → check.Stands checker.old h past None → reporting.Stands report.old h past
+        → IsAccepted h past → length past < 2 ^ 64 - 2 → IfNone result (reporting.Stands report.new h (event.now ∷ past)) }
+    ensures stops { (h : Header) (past : Trace) → check.Stands checker.old h past None → IfSome result (StopsAt h past event.now) }
+    ensures stop { IfSome result IsStop }
+{
+    let target = checker.target(event);
+    let memory = memory_at(checker, target.line);
+    match feed(checker, event) {
+        None => match report.hear(event, &target, memory) {
+            Ok(()) => None,
+            Err(_) => Some(Answer::NoMemory),
+        },
+        Some(answer) => Some(answer),
+    }
+}
+
+/// What follows a trace: its checker, and its report where that is asked for.
+#[derive(Drop)]
+pub struct Follower {
+    checker: Checker,
+    report: Option<Report>,
+}
+
+impl Follower {
+    /// The follower of the empty trace under this header, or None where there is no memory.
+    pub fn new(alloc: Global, header: Header, reports: bool) -> Option<Follower>
+        requires { IsHeader header }
+        ensures follows { IfSome result (λ f. Follows f header []) }
+        ensures reports { IfSome result (λ f. is_some f.report ≡ reports) }
+    {
+        let checker = match Checker::new(alloc, header) {
+            Ok(checker) => checker,
+            Err(_) => return None,
+        };
+        if !reports {
+            return Some(Follower {
+                checker,
+                report: None,
+            });
+        }
+        match Report::new(alloc, header) {
+            Ok(report) => Some(Follower {
+                checker,
+                report: Some(report),
+            }),
+            Err(_) => None,
+        }
+    }
+
+    /// Follows one more event of the trace, of fewer than 2^64 - 1. An answer ends that: the event breaks a rule, or names a line
+    /// too many, or there is no memory.
+    pub fn take(&mut self, event: &Event) -> Option<Answer>
+        ensures fine { (h : Header) (past : Trace) → Follows self.old h past
+            → IfNone result ((least_broken h past event.now ≡ None) × (goes_over past event.now ≡ false)) }
+        ensures follows { (h : Header) (past : Trace) → Follows self.old h past → length past < 2 ^ 64 - 2
+            → IfNone result (Follows self.new h (event.now ∷ past)) }
+        ensures stops { (h : Header) (past : Trace) → Follows self.old h past → IfSome result (StopsAt h past event.now) }
+        ensures stop { IfSome result IsStop }
+        ensures reports { is_some self.new.report ≡ is_some self.old.report }
+    {
+        match &mut self.report {
+            Some(report) => hear(&mut self.checker, report, event),
+            None => feed(&mut self.checker, event),
+        }
+    }
+
+    /// How many events were followed.
+    pub fn count(&self) -> u64
+        ensures { (h : Header) (past : Trace) → Follows self.now h past → result ≡ length past }
+    {
+        self.checker.count()
+    }
+
+    /// Puts the text of the report, where there is one.
+    pub fn put<K: Sink>(&self, sink: &mut K) -> Result<(), Failed>
+        ensures whole { (h : Header) (past : Trace) → Follows self.now h past → is_some self.now.report ≡ true
+            → OnOk result (Appends (K.held sink.old) (K.held sink.new) (report_text h past)) }
+        ensures part { (h : Header) (past : Trace) → Follows self.now h past → is_some self.now.report ≡ true
+            → OnErr result (AppendsPart (K.held sink.old) (K.held sink.new) (report_text h past)) }
+        ensures cause { HasCause (K.faults sink.old) (K.faults sink.new) result }
+    {
+        match &self.report {
+            Some(report) => report.put(sink),
+            None => Ok(()),
+        }
+    }
+}
