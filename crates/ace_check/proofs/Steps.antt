@@ -82,39 +82,41 @@ named : (o : Option Transaction) (n : ℕ × Channel × ℕ) → option_map name
 named None n is = cc
 named (Some x) n is = (x, refl, cc)
 
--- the granted transaction of a line failed exactly where the outstanding read of its name did
-pub failed_read : (h : Header) (past : Trace) (l p i : ℕ) → IsAccepted h past → option_map name_of (granted h past l) ≡ Some (p, Read, i)
-    → has_failed_on h past l ≡ is_some_and (outstanding h past p Read i) (has_failed past)
-failed_read h past l p i a is =
-    let n = named (granted h past l) (p, Read, i) is in
+-- the granted transaction of a line is the outstanding one of its name
+pub granted_named : (h : Header) (past : Trace) (l p : ℕ) (c : Channel) (i : ℕ) → IsAccepted h past → option_map name_of (granted h past l) ≡ Some (p, c, i)
+    → (x : Transaction) × (granted h past l ≡ Some x) × (outstanding h past p c i ≡ Some x) × (x.chan ≡ c)
+granted_named h past l p c i a is =
+    let n = named (granted h past l) (p, c, i) is in
     let x = n.0 in
     let out : outstanding h past x.port x.chan x.id ≡ Some x = ((accepted_holds h past a).grants l x n.1).0 in
     let port : x.port ≡ p = ap (λ (m : ℕ × Channel × ℕ). m.0) n.2 in
-    let chan : x.chan ≡ Read = ap (λ (m : ℕ × Channel × ℕ). m.1) n.2 in
+    let chan : x.chan ≡ c = ap (λ (m : ℕ × Channel × ℕ). m.1) n.2 in
     let id : x.id ≡ i = ap (λ (m : ℕ × Channel × ℕ). m.2) n.2 in
-    let found : outstanding h past p Read i ≡ Some x =
-        subst (λ q. outstanding h past q Read i ≡ Some x) port (subst (λ c. outstanding h past x.port c i ≡ Some x) chan (subst (λ j. outstanding h past x.port x.chan j ≡ Some x) id out)) in
-    rw (n.1, found) refl
+    let found : outstanding h past p c i ≡ Some x =
+        subst (λ q. outstanding h past q c i ≡ Some x) port (subst (λ d. outstanding h past x.port d i ≡ Some x) chan (subst (λ j. outstanding h past x.port x.chan j ≡ Some x) id out)) in
+    (x, n.1, found, chan)
 
-no_write_fails : (past : Trace) (x : Transaction) → x.chan ≡ Write → has_failed past x ≡ false
+pub no_write_fails : (past : Trace) (x : Transaction) → x.chan ≡ Write → false ≡ has_failed past x
 no_write_fails past x chan = by x.lock refl
   where
-    by : (b : Bool) → x.lock ≡ b → has_failed past x ≡ false
+    by : (b : Bool) → x.lock ≡ b → false ≡ has_failed past x
     by true t = rw (t, chan) refl
     by false f = rw f refl
 
-pub failed_write : (h : Header) (past : Trace) (l p i : ℕ) → option_map name_of (granted h past l) ≡ Some (p, Write, i) → has_failed_on h past l ≡ false
-failed_write h past l p i is =
-    let n = named (granted h past l) (p, Write, i) is in
-    let chan : n.0.chan ≡ Write = ap (λ (m : ℕ × Channel × ℕ). m.1) n.2 in
-    rw n.1 (no_write_fails past n.0 chan)
-
-pub failed_none : (h : Header) (past : Trace) (l : ℕ) → option_map name_of (granted h past l) ≡ None → has_failed_on h past l ≡ false
+pub failed_none : (h : Header) (past : Trace) (l : ℕ) → option_map name_of (granted h past l) ≡ None → false ≡ has_failed_on h past l
 failed_none h past l is = by (granted h past l) refl
   where
-    by : (o : Option Transaction) → granted h past l ≡ o → has_failed_on h past l ≡ false
+    by : (o : Option Transaction) → granted h past l ≡ o → false ≡ has_failed_on h past l
     by None n = rw n refl
     by (Some x) s = let bad : Some (name_of x) ≡ None = rw s at is in cc
+
+pub over_is : (h : Header) (past : Trace) (e : Event) (l : ℕ) → line_in h past e ≡ Some l
+    → (begins e && (not (is_known past l) && nat_le 4096 (length (known_lines past)))) ≡ goes_over past e
+over_is h past e l is =
+    elim (cases_Bool (begins e)) [
+      | inl t ↦ rw t (sym (over_of_line h past e l t is))
+      | inr f ↦ rw f (sym (over_of_other past e f))
+    ]
 
 -- where K1 is broken, the ports say so
 pub ports_say_1 : (h : Header) (past : Trace) (e : Event) → k1 h past e ≡ false → least_of port_rules h past e ≡ Some 1

@@ -1,6 +1,6 @@
-ghost use Rattle.std.specs.Prelude.{◌≡◌, Option};
+ghost use Rattle.std.specs.Prelude.{◌≡◌, ◌&&◌, not, nat_le, Option};
 ghost use Rattle.ace_model.specs.Shares.{lesser};
-ghost use Rattle.ace_check.specs.Run.{begins, is_first};
+ghost use Rattle.ace_check.specs.Run.{begins, is_first, most_lines};
 
 use ace_event::laws::every_event_fits;
 use ace_event::{Channel, Event, Header, Line};
@@ -141,6 +141,9 @@ impl Checker {
     ghost use Rattle.ace_model.specs.Trace.{Trace};
     ghost use Rattle.ace_model.specs.Accepted.{least_broken};
     ghost use Rattle.ace_model.specs.Lines.{has_failed_on};
+    ghost use Rattle.ace_model.specs.Exclusives.{has_failed};
+    ghost use Rattle.ace_model.specs.Transactions.{outstanding};
+    ghost use Rattle.ace_model.specs.declared.transactions.Transaction.{Transaction};
     ghost use Rattle.ace_portck.specs.Targets.{target_of};
     ghost use Rattle.ace_lineck.specs.Kept.{IsFailure};
     ghost use Rattle.ace_check.specs.Run.{Stands, MayTake, goes_over, MayLackMemory};
@@ -149,9 +152,17 @@ impl Checker {
     fn has_failed_on(&self, line: u32) -> bool
         ensures { (h : Header) (past : Trace) (b : Option Break) → Stands self.now h past b → result ≡ has_failed_on h past line }
     {
-        let Some((port, chan, id)) = self.lines.granted(line) else {
-            return false;
-        };
+        match self.lines.granted(line) {
+            None => false,
+            Some((port, chan, id)) => self.has_failed_as(port, chan, id),
+        }
+    }
+
+    /// The outstanding transaction of this name is an exclusive store that failed.
+    fn has_failed_as(&self, port: u8, chan: Channel, id: u8) -> bool
+        ensures { (h : Header) (past : Trace) (b : Option Break) (x : Transaction) → Stands self.now h past b
+            → outstanding h past port chan id ≡ Some x → x.chan ≡ chan → result ≡ has_failed past x }
+    {
         match chan {
             Channel::Read => self.system.failed(port, id),
             Channel::Write => false,
@@ -191,10 +202,14 @@ impl Checker {
         ensures { (h : Header) (past : Trace) (b : Option Break) → Stands self.now h past b → target.now ≡ target_of h past event.now
             → result ≡ goes_over past event.now }
     {
-        let Some(line) = target.line else {
-            return false;
-        };
-        begins(event) && !self.lines.knows(line) && self.lines.lines() >= MOST_LINES
+        match target.line {
+            None => false,
+            Some(line) => is_too_many(
+                begins(event),
+                self.lines.knows(line),
+                self.lines.lines(),
+            ),
+        }
     }
 
     /// Takes an event that breaks no rule, once there is room for it in each share.
@@ -232,6 +247,13 @@ fn is_first(rule: Option<u8>) -> bool
         None => false,
         Some(number) => number == 1,
     }
+}
+
+/// Of so many known lines and one that may be known: an event that issues a transaction on it names one too many.
+fn is_too_many(begins: bool, known: bool, lines: usize) -> bool
+    ensures { result ≡ (begins && (not known && nat_le most_lines lines)) }
+{
+    begins && !known && lines >= MOST_LINES
 }
 
 /// The event issues a transaction.

@@ -1,14 +1,30 @@
-use Rattle.std.proofs.Common.{◌≡◌, ℕ, ◌<◌, ◌-◌, ◌^◌, true, false, None, Some, Option, [], ◌∷◌, length, refl, sym, ap, subst, ◌∙◌, inl, inr, arith}
+use Rattle.std.proofs.Common.{◌≡◌, ℕ, ◌<◌, ◌-◌, ◌^◌, true, false, None, Some, Option, Ok, Err, [], ◌∷◌, length, refl, sym, ap, subst, ◌∙◌, inl, inr, arith}
+use Rattle.ace_event.specs.declared.header.Header.{Header}
+use Rattle.ace_model.specs.Trace.{Trace}
+use Rattle.ace_model.specs.Accepted.{least_broken}
+use Rattle.ace_check.specs.Run.{Stands, MayTake, goes_over}
+use Rattle.ace_check.proofs.Steps.{accepted_sound, after_take, ok_fine}
 use Rattle.ace_check.proofs.checker.Checker.feed.Goals as goal
 
 pub returns-in-Some-least_broken-clause-answer : goal.returns-in-Some-least_broken-clause-answer
-returns-in-Some-least_broken-clause-answer c = ?
+returns-in-Some-least_broken-clause-answer c = λ h past s.
+    let t = c.target-target.ensures h past None s in
+    let least = c.least_broken.ensures h past None s t (c.has_failed-failed.ensures h past None s) in
+    let count = s.count in
+    let few = s.few in
+    (omega (arith, count, few), sym least ∙ c.in-Some-least_broken.is)
 
 pub returns-then-goes_over-clause-too_many : goal.returns-then-goes_over-clause-too_many
-returns-then-goes_over-clause-too_many c = ?
+returns-then-goes_over-clause-too_many c = λ h past s too_many.
+    let t = c.target-target.ensures h past None s in
+    let least = c.least_broken.ensures h past None s t (c.has_failed-failed.ensures h past None s) in
+    (sym least ∙ c.in_default-least_broken.is, sym (c.goes_over.ensures h past None s t) ∙ c.if-goes_over.true)
 
 pub returns-clause-answer : goal.returns-clause-answer
-returns-clause-answer c = ?
+returns-clause-answer c = λ h past s.
+    let t = c.target-target.ensures h past None s in
+    let least = c.least_broken.ensures h past None s t (c.has_failed-failed.ensures h past None s) in
+    ok_fine c.take.result c.take.ensures.fine (sym least ∙ c.in_default-least_broken.is, sym (c.goes_over.ensures h past None s t) ∙ c.if-goes_over.false)
 
 pub returns-clause-stands : goal.returns-clause-stands
 returns-clause-stands c = ?

@@ -1,5 +1,6 @@
-use Rattle.std.proofs.Common.{◌≡◌, sym, ◌∙◌}
+use Rattle.std.proofs.Common.{◌≡◌, sym, ap, ◌∙◌}
 use Rattle.ace_portck.specs.Targets.{Recording}
+use Rattle.ace_model.specs.Shares.{lesser}
 use Rattle.ace_model.proofs.Rules.Shares.{least_is_one}
 use Rattle.ace_check.proofs.Steps.{first_is, k1_kept, least_with}
 use Rattle.ace_check.proofs.checker.Checker.least_broken.Goals as goal
@@ -18,4 +19,4 @@ returns c = λ h past b s t f.
     let kept = k1_kept h past e c.test-rule.result ports (sym c.is_first.ensures ∙ c.if-is_first.false) in
     let lines = c.test.ensures r (record { stands = s.lines; target = t; has_failed = f }) kept in
     let system = c.test-2.ensures r (record { stands = s.system; target = t }) kept in
-    c.lesser-2.ensures ∙ ?
+    c.lesser-2.ensures ∙ ap (lesser c.test-rule.result) c.lesser.ensures ∙ least_with h past e _ _ _ ports lines system

@@ -3,9 +3,9 @@ use Rattle.ace_check.proofs.checker.Checker.new.Goals as goal
 
 pub returns : goal.returns
 returns c = record {
-  ports = ?;
+  ports = c.in-Ok.ensures c.requires;
   lines = c.new-lines.ensures c.requires;
-  system = ?;
+  system = c.in-Ok-new.ensures c.requires;
   count = refl;
   few = omega arith;
   broken = refl;
