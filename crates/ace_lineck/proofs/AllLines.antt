@@ -1,19 +1,19 @@
 -- What is kept of all lines, after an event and after room was made.
-use Rattle.std.proofs.Common.{rules, ◌≡◌, ◌⊎◌, ◌<◌, ◌≤◌, ◌+◌, ◌-◌, ◌^◌, ◌%◌, ℕ, nat_eq, true, false, Bool, not, ◌&&◌, if◌then◌else◌, List, [], ◌∷◌, length, Option, Some, None, option_map, IsSome, refl, sym, ap, subst, ◌∙◌, inl, inr, unwrap_or, arith}
+use Rattle.std.proofs.Common.{rules, ◌≡◌, ◌⊎◌, ◌+◌, ◌%◌, ℕ, nat_eq, true, false, Bool, not, ◌&&◌, if◌then◌else◌, ◌∷◌, length, Option, Some, None, option_map, IsSome, refl, sym, ap, subst, ◌∙◌, inl, inr, unwrap_or, arith}
 use Rattle.std.proofs.lemmas.Bool.{cases_eq}
 use Rattle.std.specs.Bool.{OnTrue}
 use Rattle.indexmap.specs.IndexMap.{get}
 use Rattle.ace_model.specs.Lines.{known_lines}
 use Rattle.ace_model.proofs.Terms.{Event, Header, Trace, IsAccepted, granted}
 use Rattle.ace_model.specs.Accepted.{least_broken}
-use Rattle.ace_portck.specs.Targets.{Recording, after, line_in, target_of}
+use Rattle.ace_portck.specs.Targets.{Recording, after, line_in}
 use Rattle.ace_portck.specs.declared.target.Target.{Target}
 use Rattle.ace_lineck.specs.declared.lines.LineCheck.{LineCheck}
 use Rattle.ace_lineck.specs.declared.record.LineRecord.{LineRecord}
 use Rattle.ace_lineck.specs.declared.record.Holder.{Holder}
 use Rattle.ace_lineck.specs.declared.grant.Grant.{Grant}
 use Rattle.ace_lineck.specs.declared.record.Use.TheVariants.{Unknown}
-use Rattle.ace_lineck.specs.Holders.{HoldersStand, MemoryStands, IsLineStep, holder_at, empty_holder, HasNothing}
+use Rattle.ace_lineck.specs.Holders.{MemoryStands, holder_at}
 use Rattle.ace_lineck.specs.Grants.{GrantStands}
 use Rattle.ace_lineck.specs.Uses.{use_of, is_unknown}
 use Rattle.ace_lineck.specs.Records.{LineStands, IsRecordStep, IsFresh, name_of}

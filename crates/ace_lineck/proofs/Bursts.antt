@@ -1,6 +1,6 @@
 -- The burst that a port sends for a snoop of a line is that of its answer under the present grant of the line.
-use Rattle.std.proofs.Common.{◌≡◌, ◌≢◌, ℕ, ◌+◌, ◌*◌, ◌/◌, ◌%◌, ◌<◌, ◌≤◌, arith, true, false, Bool, not, ◌&&◌, if◌then◌else◌, nat_eq, nat_le, [], ◌∷◌, ◌++◌, length, length-append, slice_get, Option, Some, None, refl, sym, ap, subst, ◌∙◌, inl, inr}
-use Rattle.std.proofs.lemmas.Bool.{and_parts, and_from, cases_Bool, cases_eq, eqb-true, eq-eqb, ne_eqb, le-leb, lt-leb, leb-true, leb-false}
+use Rattle.std.proofs.Common.{◌≡◌, ◌≢◌, ℕ, ◌+◌, ◌*◌, ◌/◌, ◌%◌, ◌<◌, ◌≤◌, arith, true, false, Bool, not, ◌&&◌, nat_eq, nat_le, [], ◌∷◌, length, length-append, slice_get, Some, None, refl, sym, ap, subst, ◌∙◌, inl, inr}
+use Rattle.std.proofs.lemmas.Bool.{and_parts, cases_Bool, eqb-true, eq-eqb, ne_eqb, le-leb, lt-leb, leb-true, leb-false}
 use Rattle.std.proofs.lemmas.Option.{slice_get_within}
 use Rattle.ace_model.specs.declared.snoops.Snoop.{Snoop}
 use Rattle.ace_model.specs.declared.snoops.Answer.{Answer}
@@ -8,11 +8,11 @@ use Rattle.ace_model.specs.Snoops.{data_beats}
 use Rattle.ace_model.specs.Replies.{sent, next_sent}
 use Rattle.ace_model.specs.Grants.{is_short}
 use Rattle.ace_model.specs.Trace.{more}
-use Rattle.ace_model.proofs.Terms.{Header, Trace, Event, Cr, Cd, LineState, IsAccepted, is_some_and, answered, answers_line, answers_grant, answer_of, data_answers, is_snoop_on, transfers_data, gives_line, copy_of}
-use Rattle.ace_model.proofs.General.Options.{Some-injective, some_is, is_some_and-is}
+use Rattle.ace_model.proofs.Terms.{Header, Trace, Event, Cr, Cd, IsAccepted, answered, answers_line, answer_of, data_answers, is_snoop_on, transfers_data, gives_line, copy_of}
+use Rattle.ace_model.proofs.General.Options.{some_is, is_some_and-is}
 use Rattle.ace_model.proofs.General.Lists.{slice_get-more, slice_get-at_end, slice_get-grown}
 use Rattle.ace_model.proofs.Rules.Keeps.{accepted_keeps}
-use Rattle.ace_model.proofs.Grants.SnoopAnswers.{answer_cases, NewAnswer}
+use Rattle.ace_model.proofs.Grants.SnoopAnswers.{answer_cases}
 use Rattle.ace_model.proofs.Lines.Owing.{Owing, data_beats-grow, owing_stays, owing_new}
 use Rattle.ace_portck.specs.Targets.{data_snoop_at, data_snoops, sending, line_in}
 use Rattle.ace_lineck.proofs.OnLine.{IsOff, on-snoop, line-snoop}

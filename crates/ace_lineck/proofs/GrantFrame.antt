@@ -1,19 +1,16 @@
 -- What is kept of a grant stays at an event that doesn't care about it, and at every event of another line.
-use Rattle.std.proofs.Common.{◌≡◌, ◌≢◌, ℕ, true, false, Bool, not, ◌&&◌, ◌||◌, if◌then◌else◌, nat_eq, [], ◌∷◌, length, Option, Some, None, option_map, unwrap_or, refl, sym, ap, subst, ◌∙◌, inl, inr}
+use Rattle.std.proofs.Common.{◌≡◌, ◌≢◌, ℕ, true, false, ◌&&◌, nat_eq, ◌∷◌, length, Option, Some, None, option_map, unwrap_or, refl, sym, ap, subst, ◌∙◌, inl, inr}
 use Rattle.std.proofs.Math.Bool.{and-false}
 use Rattle.std.proofs.lemmas.Bool.{false_from_ne_true, and_parts, and_from, cases_Bool, cases_eq, eqb-true, eq-eqb, ne_eqb}
-use Rattle.ace_event.specs.declared.line.Line.{Line}
-use Rattle.ace_model.specs.declared.snoops.Snoop.{Snoop}
 use Rattle.ace_model.specs.declared.snoops.Answer.{Answer}
 use Rattle.ace_model.specs.declared.transactions.Transaction.{Transaction}
-use Rattle.ace_model.specs.Snoops.{data_beats}
 use Rattle.ace_model.specs.Grants.{is_short}
 use Rattle.ace_model.specs.Copies.{zero_line}
-use Rattle.ace_model.proofs.Terms.{Header, Trace, Channel, Read, Write, Event, R, Rk, B, Wk, Ac, Cr, Cd, G, M, LineState, IsAccepted, is_ace, is_some_and, newer, is_read, is_on, is_some_on, ended, outstanding, transaction_of, acknowledged}
+use Rattle.ace_model.proofs.Terms.{Header, Trace, Channel, Read, Write, Event, R, Rk, B, Wk, Ac, Cr, Cd, G, M, LineState, IsAccepted, newer, is_read, is_on, ended, outstanding, acknowledged}
 use Rattle.ace_model.proofs.Terms.{without, given, gives_line, granted, is_snoop_to, was_snooped, answered, answers_grant, answer_at, answer_of, is_snoop_on, snoops_a_line, transfers_data, sender_at, passer, transfers, is_memory_write}
 use Rattle.ace_model.proofs.Terms.{copy_at_answer, memory_at_first_beat, may_be_granted}
 use Rattle.ace_model.proofs.Rules.Keeps.{accepted_keeps}
-use Rattle.ace_model.proofs.General.Options.{Some-injective, is_some_and-is}
+use Rattle.ace_model.proofs.General.Options.{is_some_and-is}
 use Rattle.ace_model.proofs.Trace.Looks.{is_read-is, newest_on-older}
 use Rattle.ace_model.proofs.Trace.Issued.{same_place, outstanding-named}
 use Rattle.ace_model.proofs.Trace.Outstanding.{acknowledged_is, ends_lite, ends_lite_write}

@@ -1,17 +1,15 @@
 -- The steps of what is kept of a grant, for the event and the target of a step.
-use Rattle.std.proofs.Common.{arith, ◌≡◌, ◌≢◌, ◌≤◌, ℕ, ◌%◌, true, false, Bool, not, ◌&&◌, ◌||◌, ◌==◌, if◌then◌else◌, List, [], ◌∷◌, length, Option, Some, None, option_map, is_none, refl, sym, ap, subst, ◌∙◌, inl, inr}
-use Rattle.std.proofs.lemmas.Bool.{false_from_ne_true, and_parts, cases_Bool, eq-eqb, eqb-true}
+use Rattle.std.proofs.Common.{◌≡◌, ◌≢◌, ℕ, true, false, Bool, not, ◌&&◌, ◌||◌, ◌==◌, if◌then◌else◌, List, ◌∷◌, Option, Some, None, option_map, is_none, refl, sym, ap, subst, ◌∙◌}
+use Rattle.std.proofs.lemmas.Bool.{and_parts}
 use Rattle.ace_event.specs.declared.line.Line.{Line}
 use Rattle.ace_codes.specs.Responses.{is_shared, passes_dirty, transfers_data}
 use Rattle.ace_model.specs.declared.transactions.Transaction.{Transaction}
-use Rattle.ace_model.specs.Snoops.{data_beats}
-use Rattle.ace_model.proofs.Terms.{Header, Trace, Channel, Event, Ar, R, Rk, Aw, W, B, Wk, Ac, Cr, Cd, G, M, S, L, D, Op, Mem, LineState, IsAccepted, newer, is_some_and, is_read, is_on, is_transaction, ended, outstanding, granted, gives_line, may_be_granted, is_ace, acknowledged, Read, Write, transaction_of}
+use Rattle.ace_model.proofs.Terms.{Header, Trace, Channel, Event, R, Rk, B, Wk, Ac, Cr, Cd, G, M, LineState, IsAccepted, newer, is_read, is_on, is_transaction, ended, outstanding, granted, gives_line, may_be_granted, is_ace, acknowledged, Read, Write, transaction_of}
 use Rattle.ace_model.proofs.General.Options.{Some-injective, is_some_and-is}
 use Rattle.ace_model.proofs.Trace.Looks.{is_on-addr}
 use Rattle.ace_model.proofs.General.Options.{none_is}
 use Rattle.ace_model.proofs.Rules.Keeps.{accepted_keeps}
-use Rattle.ace_model.proofs.Grants.Stays.{Stays}
-use Rattle.ace_portck.specs.Targets.{line_in, transaction_in, served_in, progress_of, target_of}
+use Rattle.ace_portck.specs.Targets.{line_in, transaction_in, progress_of}
 use Rattle.ace_portck.specs.declared.target.Progress.{Progress}
 use Rattle.ace_portck.specs.declared.target.Target.{Target}
 use Rattle.ace_lineck.specs.declared.record.Holder.{Holder}
@@ -19,12 +17,12 @@ use Rattle.ace_lineck.specs.declared.stages.Stage.{Stage}
 use Rattle.ace_lineck.specs.declared.stages.Stage.TheVariants.{Unanswered, Sending, Done}
 use Rattle.ace_lineck.specs.declared.grant.Grant.{Grant}
 use Rattle.ace_lineck.specs.Holders.{IsLineStep, holder_at}
-use Rattle.ace_lineck.specs.Grants.{GrantFits, GrantStands, IsGrantStep, IsMoved, fresh_grant, is_of, is_over}
+use Rattle.ace_lineck.specs.Grants.{GrantFits, IsGrantStep, IsMoved, fresh_grant, is_of, is_over}
 use Rattle.ace_lineck.proofs.OnLine.{on-transaction, outstanding-of}
 use Rattle.ace_lineck.proofs.OffLine.{ace-of_rk, ace-of_wk, read-of}
 use Rattle.ace_lineck.proofs.GrantFrame.{none-stays}
 use Rattle.ace_lineck.proofs.GrantSteps.{snoop_step, fourth_step, earlier_step, answer_step, calm-stays}
-use Rattle.ace_lineck.proofs.GrantServes.{given_step, stays-other, ends-grant, beat_of_granted, beat_step, write_step}
+use Rattle.ace_lineck.proofs.GrantServes.{given_step, stays-other, ends-grant, beat_step, write_step}
 
 -- the line of the event
 line-of_step : (h : Header) (past : Trace) (l : ℕ) (e : Event) (t : Target) → IsLineStep h past l e t → line_in h past e ≡ Some l

@@ -1,18 +1,16 @@
 -- What the rules of a grant say, in the words of what is kept of the line.
-use Rattle.std.proofs.Common.{◌≡◌, ℕ, zero, suc, ◌<◌, arith, true, false, Bool, not, ◌&&◌, ◌||◌, ◌==◌, if◌then◌else◌, nat_eq, List, [], ◌∷◌, length, Option, Some, None, is_some, is_none, option_map, unwrap_or, refl, sym, ap, subst, ◌∙◌, inl, inr}
-use Rattle.std.proofs.lemmas.Bool.{and_parts, and_from, cases_Bool, eqb-true, eq-eqb, false_from_ne_true}
+use Rattle.std.proofs.Common.{◌≡◌, ℕ, zero, suc, true, false, Bool, not, ◌&&◌, ◌||◌, ◌==◌, List, length, Option, Some, None, is_some, is_none, option_map, refl, sym, ap, ◌∙◌, inl, inr}
+use Rattle.std.proofs.lemmas.Bool.{and_from, cases_Bool, eq-eqb}
 use Rattle.ace_codes.specs.Responses.{passes_dirty}
-use Rattle.ace_model.specs.declared.snoops.Snoop.{Snoop}
 use Rattle.ace_model.specs.declared.snoops.Answer.{Answer}
 use Rattle.ace_model.specs.declared.transactions.Transaction.{Transaction}
 use Rattle.ace_model.specs.Grants.{is_short}
-use Rattle.ace_model.specs.Lines.{has_failed_on}
 use Rattle.ace_model.specs.Shares.{k18_line}
 use Rattle.ace_model.specs.States.{owes_wack}
-use Rattle.ace_model.proofs.Terms.{Header, Trace, Channel, Read, Event, G, Ac, R, IsAccepted, implies, is_some_and, is_none_or, is_ace, is_read, is_line, is_on, is_transaction, read_kind, snoop_of, takes_grant, takes_passed_data, outstanding, transfers, is_complete}
-use Rattle.ace_model.proofs.Terms.{granted, is_granted, was_snooped, answer_of, owes_answer, owes_data, passer, list_all, ports_below, has_passed_data, are_passed_data_whole, is_begun, has_failed, has_memory_write, state_of, is_invalid, is_port_done, are_snoops_done}
-use Rattle.ace_model.proofs.Terms.{snoops_a_line, k12, k13, has_snoop_code, may_snoop, may_snoop_for, may_transfer, takes_passed}
-use Rattle.ace_model.proofs.General.Options.{Some-injective, is_some_and-is}
+use Rattle.ace_model.proofs.Terms.{Header, Trace, Channel, Read, G, Ac, R, IsAccepted, implies, is_some_and, is_none_or, is_ace, is_read, is_line, is_transaction, read_kind, snoop_of, takes_grant, takes_passed_data, outstanding, transfers, is_complete}
+use Rattle.ace_model.proofs.Terms.{granted, is_granted, was_snooped, answer_of, owes_answer, owes_data, passer, list_all, ports_below, has_passed_data, are_passed_data_whole, has_failed, has_memory_write, state_of, is_invalid, is_port_done, are_snoops_done}
+use Rattle.ace_model.proofs.Terms.{snoops_a_line, k12, k13, has_snoop_code, may_snoop_for, may_transfer, takes_passed}
+use Rattle.ace_model.proofs.General.Options.{Some-injective}
 use Rattle.ace_model.proofs.Trace.Looks.{is_on-addr}
 use Rattle.ace_model.proofs.Trace.Issued.{outstanding-name}
 use Rattle.ace_model.proofs.Holders.Law.{accepted_holds}
@@ -20,17 +18,13 @@ use Rattle.ace_model.proofs.Grants.Granted.{granted_at}
 use Rattle.ace_model.proofs.Grants.Pending.{snoops}
 use Rattle.ace_model.proofs.GrantLooks.Had.{may_grant, grants_by_line, takes-on}
 use Rattle.ace_portck.specs.Targets.{line_in, own_of, own_on, progress_of}
-use Rattle.ace_portck.specs.declared.target.Progress.{Progress}
 use Rattle.ace_portck.specs.declared.target.Target.{Target}
 use Rattle.ace_lineck.specs.declared.record.Holder.{Holder}
 use Rattle.ace_lineck.specs.declared.record.LineRecord.{LineRecord}
-use Rattle.ace_lineck.specs.declared.stages.Stage.{Stage}
-use Rattle.ace_lineck.specs.declared.stages.Stage.TheVariants.{Unsnooped, Unanswered, Sending, Done}
-use Rattle.ace_lineck.specs.declared.grant.Passed.{Passed}
 use Rattle.ace_lineck.specs.declared.grant.Grant.{Grant}
 use Rattle.ace_lineck.specs.Holders.{HoldersStand, holder_at}
-use Rattle.ace_lineck.specs.Grants.{GrantFits, GrantStands, stage_at, stage_by, stage_of, passed_by}
-use Rattle.ace_lineck.specs.Records.{LineStands, IsNext}
+use Rattle.ace_lineck.specs.Grants.{GrantFits, GrantStands, stage_at, stage_by, stage_of}
+use Rattle.ace_lineck.specs.Records.{IsNext}
 use Rattle.ace_lineck.specs.Kept.{is_unsnooped, is_sending, is_settled, may_be_snooped, has_passed, is_passed_whole, is_done_at, are_done, is_its, takes_data, may_have_beat, IsFailure}
 use Rattle.ace_lineck.proofs.OnLine.{line-transaction, line-snoop}
 use Rattle.ace_lineck.proofs.Own.{owes_wack-own}

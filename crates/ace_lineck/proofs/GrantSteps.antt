@@ -1,37 +1,33 @@
 -- What is kept of a grant after an event of its line.
-use Rattle.std.proofs.Common.{arith, ◌+◌, ◌*◌, ◌<◌, ◌≤◌, nat_le, ◌≡◌, ◌≢◌, ℕ, ◌/◌, ◌%◌, true, false, Bool, not, ◌&&◌, ◌||◌, ◌==◌, if◌then◌else◌, nat_eq, nat_lt, List, [], ◌∷◌, length, Option, Some, None, option_map, option_and_then, unwrap_or, refl, sym, ap, subst, ◌∙◌, inl, inr}
-use Rattle.std.proofs.lemmas.Bool.{false_from_ne_true, and_parts, and_from, cases_Bool, cases_eq, eqb-true, eq-eqb, ne_eqb, not-true, ltb-true, lt-ltb, lt-leb}
+use Rattle.std.proofs.Common.{arith, ◌+◌, ◌*◌, ◌≤◌, nat_le, ◌≡◌, ◌≢◌, ℕ, ◌%◌, true, false, Bool, not, ◌&&◌, ◌||◌, ◌==◌, if◌then◌else◌, nat_eq, nat_lt, List, ◌∷◌, length, Option, Some, None, option_map, option_and_then, unwrap_or, refl, sym, ap, subst, ◌∙◌, inl, inr}
+use Rattle.std.proofs.lemmas.Bool.{and_parts, cases_Bool, cases_eq, eqb-true, eq-eqb, ne_eqb, not-true, ltb-true, lt-ltb, lt-leb}
 use Rattle.ace_event.specs.declared.line.Line.{Line}
-use Rattle.ace_model.specs.declared.snoops.Snoop.{Snoop}
 use Rattle.ace_model.specs.declared.snoops.Answer.{Answer}
 use Rattle.ace_model.specs.declared.transactions.Transaction.{Transaction}
 use Rattle.ace_model.specs.Snoops.{data_beats}
 use Rattle.ace_model.specs.Grants.{is_short}
 use Rattle.ace_model.specs.Copies.{zero_line}
-use Rattle.ace_model.proofs.Terms.{Header, Trace, Channel, Read, Write, Event, Ar, Aw, W, R, Rk, B, Wk, Ac, Cr, Cd, G, M, S, L, D, Op, Mem, LineState, IsAccepted, is_some_and, newer, is_read, is_on, is_some_on, ended, outstanding}
-use Rattle.ace_model.proofs.Terms.{gives_line, granted, is_snoop_to, was_snooped, answered, answer_at, answer_of, is_snoop_on, snoops_a_line, is_shared, passes_dirty, transfers_data, first_sender, sender_at, data_answers, passer, passes, at_point, transfers, is_memory_write, has_memory_write, is_begun}
-use Rattle.ace_model.proofs.Terms.{copy_of, memory_of, copy_at_answer, memory_at_first_beat, given, has_sharer, answers_line}
+use Rattle.ace_model.proofs.Terms.{Header, Trace, Event, R, Ac, Cr, Cd, G, M, LineState, IsAccepted, is_some_and, newer, is_read, ended}
+use Rattle.ace_model.proofs.Terms.{gives_line, is_snoop_to, was_snooped, answered, answer_at, answer_of, snoops_a_line, is_shared, passes_dirty, transfers_data, first_sender, sender_at, data_answers, passer, passes, at_point, transfers, is_memory_write, is_begun}
+use Rattle.ace_model.proofs.Terms.{copy_of, copy_at_answer, answers_line}
 use Rattle.ace_model.proofs.Rules.Keeps.{accepted_keeps}
-use Rattle.ace_model.proofs.General.Options.{Some-injective, is_some_and-is, newer-none}
+use Rattle.ace_model.proofs.General.Options.{Some-injective, newer-none}
 use Rattle.ace_model.proofs.General.Booleans.{implies-at, then_of}
 use Rattle.ace_model.proofs.Grants.Pending.{snoops}
 use Rattle.ace_model.proofs.General.Ports.{found_passes}
-use Rattle.ace_model.proofs.Trace.Looks.{is_read-is, is_write-is, newest_on-cases, is_on-addr}
-use Rattle.ace_model.proofs.Holders.Law.{accepted_holds}
 use Rattle.ace_model.proofs.Grants.Stays.{Stays, granted_after}
 use Rattle.ace_model.proofs.Values.FullReads.{Transfer}
-use Rattle.ace_model.proofs.Values.Replies.{sender_sent, memory-before}
+use Rattle.ace_model.proofs.Values.Replies.{sender_sent}
 use Rattle.ace_model.proofs.GrantLooks.Quiet.{Quiet, copy_at_answer-old}
 use Rattle.ace_model.proofs.GrantLooks.Answered.{the_answer, answering, answer-now, answer-other, copy-now, copy-other, sharer-now, passer-same, passer-now, sender-silent, sender-now}
-use Rattle.ace_model.proofs.GrantLooks.Progress.{Untouched, begun-stays, first_beat-stays, untouched, written-now, given_fresh}
-use Rattle.ace_portck.specs.Targets.{line_in, progress_of}
+use Rattle.ace_model.proofs.GrantLooks.Progress.{Untouched, begun-stays, untouched}
+use Rattle.ace_portck.specs.Targets.{line_in}
 use Rattle.ace_lineck.specs.declared.stages.Stage.{Stage}
-use Rattle.ace_lineck.specs.declared.stages.Stage.TheVariants.{Unsnooped, Unanswered, Sending, Done}
-use Rattle.ace_lineck.specs.declared.grant.Passed.{Passed}
+use Rattle.ace_lineck.specs.declared.stages.Stage.TheVariants.{Unanswered, Sending, Done}
 use Rattle.ace_lineck.specs.declared.grant.Grant.{Grant}
-use Rattle.ace_lineck.specs.Grants.{GrantFits, GrantStands, IsMoved, stage_at, stage_by, stage_of, passed_by, fetched, settled_reply}
-use Rattle.ace_lineck.proofs.OnLine.{on-transaction, on-snoop}
-use Rattle.ace_lineck.proofs.GrantFrame.{passed_at, stage-same, fits-stays, stages-stay, passed-stays, fetched-stays, reply-stays}
+use Rattle.ace_lineck.specs.Grants.{GrantFits, IsMoved, stage_at, stage_by, stage_of, passed_by, fetched, settled_reply}
+use Rattle.ace_lineck.proofs.OnLine.{on-snoop}
+use Rattle.ace_lineck.proofs.GrantFrame.{passed_at, stage-same, fits-stays, stages-stay, fetched-stays}
 use Rattle.ace_lineck.proofs.Bursts.{sent_few, short-apart, beat_of, short-before, whole-now, short-now}
 
 pub otherwise_of : {A : Type 0} → (b : Bool) (t u : A) → b ≡ false → (if b then t else u) ≡ u

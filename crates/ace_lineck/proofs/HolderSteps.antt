@@ -1,13 +1,11 @@
 -- What is kept of the port of an event, after the event.
-use Rattle.std.proofs.Common.{◌≡◌, ℕ, true, false, Bool, not, ◌&&◌, nat_eq, zero, suc, ◌<◌, length, List, [], ◌∷◌, Option, Some, None, is_some, option_map, unwrap_or, slice_get, slice_set, arith, refl, sym, ap, subst, ◌∙◌, inl, inr}
-use Rattle.std.proofs.lemmas.Bool.{and_parts, and_from, cases_Bool, cases_eq, eqb-true, eq-eqb, not_from_true, not_from_false}
+use Rattle.std.proofs.Common.{◌≡◌, ℕ, true, false, Bool, nat_eq, zero, suc, ◌<◌, length, List, [], ◌∷◌, Option, Some, None, option_map, unwrap_or, slice_get, slice_set, arith, refl, sym, ap, subst, ◌∙◌, inl, inr}
+use Rattle.std.proofs.lemmas.Bool.{cases_eq, eq-eqb}
 use Rattle.ace_model.specs.declared.transactions.Transaction.{Transaction}
 use Rattle.ace_model.specs.Trace.{port_of}
-use Rattle.ace_model.specs.Copies.{received}
-use Rattle.ace_model.proofs.Terms.{Header, Trace, Channel, Event, D, M, Line, UD, outstanding, transaction_of, IsAccepted, merged, is_some_and, is_some_on, read_kind, is_make_unique, transfers_data, acknowledged, answered, answers_line, is_in_make_unique, copy_of, state_of}
+use Rattle.ace_model.proofs.Terms.{Header, Trace, Channel, Event, D, M, Line, UD, outstanding, transaction_of, IsAccepted, merged, is_some_and, is_some_on, is_in_make_unique, copy_of}
 use Rattle.ace_model.proofs.General.Options.{Some-injective}
-use Rattle.ace_portck.specs.Targets.{line_in, own_in, own_of, progress_of, target_of}
-use Rattle.ace_portck.specs.declared.target.Progress.{Progress}
+use Rattle.ace_portck.specs.Targets.{line_in, own_of, progress_of}
 use Rattle.ace_portck.specs.declared.target.Target.{Target}
 use Rattle.ace_lineck.specs.declared.record.Holder.{Holder}
 use Rattle.ace_lineck.specs.Holders.{HolderStands, HoldersStand, MemoryStands, IsHolderStep, IsHoldersStep, awaits_store, holder_at, empty_holder}

@@ -1,11 +1,10 @@
 -- The least rule of the share that an event breaks, by the rules of its kind.
-use Rattle.std.proofs.Common.{◌≡◌, ℕ, Bool, true, false, if◌then◌else◌, [], ◌∷◌, length, Option, Some, None, option_map, refl, sym, ap, subst, ◌∙◌}
-use Rattle.ace_model.specs.declared.transactions.Transaction.{Transaction}
+use Rattle.std.proofs.Common.{◌≡◌, ℕ, Bool, true, false, if◌then◌else◌, length, Option, Some, None, refl, sym, ap, ◌∙◌}
 use Rattle.ace_model.specs.Accepted.{least_of}
 use Rattle.ace_model.specs.Shares.{line_rules}
 use Rattle.ace_model.proofs.Terms.{Header, Trace, Event, Ar, Aw, issued, k6, k8}
 use Rattle.ace_model.proofs.General.Options.{Some-injective}
-use Rattle.ace_portck.specs.Targets.{begun, target_of}
+use Rattle.ace_portck.specs.Targets.{target_of}
 use Rattle.ace_portck.specs.declared.target.Progress.{Progress}
 use Rattle.ace_portck.specs.declared.target.Target.{Target}
 use Rattle.ace_lineck.specs.Records.{issues}

@@ -1,25 +1,23 @@
 -- Which lines are known: those that are used; and every line of an event that begins none.
-use Rattle.std.proofs.Common.{◌≡◌, ℕ, ◌+◌, ◌≤◌, ◌<◌, arith, true, false, Bool, not, ◌&&◌, ◌||◌, if◌then◌else◌, nat_eq, List, [], ◌∷◌, length, Option, Some, None, slice_get, option_map, refl, sym, ap, subst, ◌∙◌, inl, inr}
-use Rattle.std.proofs.lemmas.Bool.{and_parts, cases_Bool, eqb-true, eq-eqb, or_cases, not-true, false_from_ne_true, and_from}
+use Rattle.std.proofs.Common.{◌≡◌, ℕ, ◌+◌, ◌≤◌, arith, true, false, Bool, not, ◌&&◌, ◌||◌, if◌then◌else◌, nat_eq, [], ◌∷◌, length, Option, Some, None, slice_get, option_map, refl, sym, ap, subst, ◌∙◌, inl, inr}
+use Rattle.std.proofs.lemmas.Bool.{and_parts, cases_Bool, eqb-true, eq-eqb, or_cases, not-true, and_from}
 use Rattle.ace_codes.specs.declared.state.LineState.{LineState}
-use Rattle.ace_codes.specs.declared.state.LineState.TheVariants.{I, UC, UD, SC, SD}
+use Rattle.ace_codes.specs.declared.state.LineState.TheVariants.{I, UC, UD}
 use Rattle.ace_codes.specs.Responses.{transfers_data}
 use Rattle.ace_model.specs.declared.transactions.Transaction.{Transaction}
 use Rattle.ace_model.specs.declared.snoops.Snoop.{Snoop}
 use Rattle.ace_model.specs.Lines.{is_known, known_lines, names_new_line, add_line}
-use Rattle.ace_model.proofs.Terms.{Header, Trace, Event, Ar, R, Rk, Aw, W, B, Wk, Ac, Cr, Cd, G, M, S, L, D, Op, Mem, Read, Write, IsAccepted, is_ace, is_some_and, is_line, is_on, is_some_on, is_no_snoop, issued, granted, outstanding, acknowledged, next_write, answered, snoops_of, snoop_at, snoops_a_line, is_snoop_on, state_of}
-use Rattle.ace_model.proofs.Terms.{is_silent_move, is_invalid, is_unique, has_update, may_store, wants_store, awaits_store, has_store, is_make_unique_on, is_outstanding, some_issued}
+use Rattle.ace_model.proofs.Terms.{Header, Trace, Event, Ar, R, Rk, Aw, W, B, Wk, Ac, Cr, Cd, G, M, S, L, D, Op, Mem, Read, Write, IsAccepted, is_ace, is_some_and, is_line, is_on, is_no_snoop, issued, granted, outstanding, acknowledged, next_write, answered, snoop_at, snoops_a_line, is_snoop_on, state_of}
+use Rattle.ace_model.proofs.Terms.{is_silent_move, is_invalid, is_unique, may_store, wants_store, awaits_store, has_store, is_make_unique_on, is_outstanding}
 use Rattle.ace_model.proofs.General.Options.{Some-injective, is_some_and-is, some_if-is}
 use Rattle.ace_model.proofs.General.Lists.{slice_get-more}
 use Rattle.ace_model.proofs.Trace.Growth.{some_issued-is}
 use Rattle.ace_model.proofs.Rules.Keeps.{accepted_keeps}
 use Rattle.ace_model.proofs.Lines.Known.{known-issued, known-grown, known-outstanding, known-acknowledged, known-granted, known-held, known-snooped, known-write, snooped-granted}
 use Rattle.ace_portck.specs.Targets.{line_in, line_of, line_of_snoop, progress_of, data_snoop_at, data_snoops, sending}
-use Rattle.ace_lineck.specs.declared.record.Use.{Use}
-use Rattle.ace_lineck.specs.declared.record.Use.TheVariants.{Unknown, Shareable, NoSnoop}
 use Rattle.ace_lineck.specs.Uses.{use_by, newest_use, use_of, is_unknown}
 use Rattle.ace_lineck.specs.Stands.{begins_line}
-use Rattle.ace_lineck.proofs.OnLine.{IsOff, on-transaction, on-snoop, line-transaction}
+use Rattle.ace_lineck.proofs.OnLine.{IsOff, on-transaction, on-snoop}
 use Rattle.ace_lineck.proofs.Own.{make_unique-on}
 use Rattle.ace_lineck.proofs.RuleLaws.{issue-line}
 

@@ -1,20 +1,15 @@
 -- An event of another line, or of another port, leaves what a port has of a line; and an event of another line leaves its memory and
 -- how it is used.
-use Rattle.std.proofs.Common.{◌≡◌, ℕ, true, false, Bool, not, ◌&&◌, nat_eq, [], ◌∷◌, length, Option, Some, None, option_map, unwrap_or, refl, sym, ap, subst, ◌∙◌, inl, inr}
-use Rattle.std.proofs.lemmas.Bool.{and_parts, and_from, cases_Bool, eqb-true, eq-eqb}
-use Rattle.ace_model.specs.declared.transactions.Transaction.{Transaction}
-use Rattle.ace_model.specs.States.{left_by}
+use Rattle.std.proofs.Common.{◌≡◌, ℕ, true, Bool, ◌&&◌, nat_eq, ◌∷◌, length, Some, refl, sym, ap, subst, ◌∙◌, inl, inr}
+use Rattle.std.proofs.lemmas.Bool.{and_parts, cases_Bool, eqb-true}
 use Rattle.ace_model.specs.Trace.{port_of}
-use Rattle.ace_model.specs.Copies.{received, stored_into}
-use Rattle.ace_model.proofs.Terms.{Header, Trace, Channel, Read, Write, Event, Ar, R, Rk, Aw, W, B, Wk, Ac, Cr, Cd, G, M, S, L, D, Op, Mem, LineState, IsAccepted, is_ace, is_some_and, is_line, is_on, is_some_on, issued, outstanding, transaction_of, acknowledged}
-use Rattle.ace_model.proofs.Terms.{answers_line, answered, transfers_data, state_of, copy_of, memory_of, written, words_read, is_line_read_transaction, is_due, may_write_memory, is_in_make_unique}
+use Rattle.ace_model.proofs.Terms.{Header, Trace, Channel, Read, Write, Event, R, Rk, Wk, Cr, M, S, D, Mem, LineState, IsAccepted, is_ace, is_some_and, is_on, is_some_on, outstanding, transaction_of, acknowledged}
+use Rattle.ace_model.proofs.Terms.{answers_line, answered, transfers_data, state_of, copy_of, words_read, is_line_read_transaction, is_due, may_write_memory}
 use Rattle.ace_model.proofs.Rules.Keeps.{accepted_keeps}
-use Rattle.ace_model.proofs.General.Options.{Some-injective, is_some_and-is}
-use Rattle.ace_portck.specs.Targets.{line_in, line_of, progress_of}
+use Rattle.ace_model.proofs.General.Options.{is_some_and-is}
+use Rattle.ace_portck.specs.Targets.{line_in}
 use Rattle.ace_lineck.specs.declared.record.Holder.{Holder}
-use Rattle.ace_lineck.specs.declared.record.Use.{Use}
-use Rattle.ace_lineck.specs.Holders.{HolderStands, HoldersStand, MemoryStands, sends_line, sent_on}
-use Rattle.ace_lineck.specs.Uses.{newest_use, use_of}
+use Rattle.ace_lineck.specs.Holders.{HolderStands, HoldersStand, MemoryStands, sent_on}
 use Rattle.ace_lineck.proofs.OnLine.{IsOff, line-transaction, line-snoop, outstanding-of}
 
 module _ (h : Header) (past : Trace) where

@@ -1,13 +1,13 @@
 -- A port has at most one outstanding transaction on a line (K5), so what the rules ask of all its transactions is asked of that one.
-use Rattle.std.proofs.Common.{◌≡◌, ◌⊎◌, ℕ, true, false, Bool, not, ◌&&◌, ◌||◌, if◌then◌else◌, nat_eq, [], ◌∷◌, length, Option, Some, None, is_none, is_some, refl, sym, ap, subst, ◌∙◌, inl, inr}
+use Rattle.std.proofs.Common.{◌≡◌, ◌⊎◌, ℕ, true, false, Bool, not, ◌&&◌, ◌||◌, if◌then◌else◌, nat_eq, [], ◌∷◌, length, Option, Some, None, is_some, refl, sym, ap, subst, ◌∙◌, inl, inr}
 use Rattle.std.proofs.lemmas.Bool.{and_parts, and_from, cases_Bool, eqb-true, eq-eqb, false_from_ne_true, or_left}
 use Rattle.ace_codes.specs.declared.kind.ArKind.TheVariants as read
 use Rattle.ace_model.specs.declared.transactions.Transaction.{Transaction}
 use Rattle.ace_model.specs.States.{owes_wack, awaits_wack}
-use Rattle.ace_model.proofs.Terms.{ArKind, Header, Trace, Channel, Event, IsAccepted, is_some_and, is_read, is_line, is_on, is_make_unique, is_make_unique_on, is_line_read, is_line_write, read_kind, write_kind, issued, outstanding, is_outstanding, is_outstanding_on, has_outstanding_on, is_complete, some_issued}
+use Rattle.ace_model.proofs.Terms.{ArKind, Header, Trace, Channel, IsAccepted, is_some_and, is_read, is_line, is_on, is_make_unique, is_make_unique_on, is_line_read, is_line_write, read_kind, write_kind, issued, outstanding, is_outstanding, is_outstanding_on, has_outstanding_on, is_complete, some_issued}
 use Rattle.ace_model.proofs.Terms.{updates_memory, is_update_on, has_update, has_store, awaits_store, is_in_make_unique, wants_store}
 use Rattle.ace_model.proofs.General.Options.{Some-injective, some_or-cases, is_some_and-is}
-use Rattle.ace_model.proofs.Trace.Growth.{IsIssued, issued-new, issued-old, issued-cases, named-issued, some_issued-is, some_issued-found}
+use Rattle.ace_model.proofs.Trace.Growth.{IsIssued, issued-new, issued-old, named-issued, some_issued-is, some_issued-found}
 use Rattle.ace_model.proofs.Trace.Issued.{outstanding-named, outstanding-name}
 use Rattle.ace_model.proofs.Trace.LineOnce.{one_on_line, outstanding_is}
 use Rattle.ace_model.proofs.Trace.Outstanding.{outstanding_own}

@@ -1,6 +1,6 @@
 -- The rules of the answers to reads, in the words of what is kept of the line.
-use Rattle.std.proofs.Common.{arith, ◌≡◌, ◌≢◌, ℕ, ◌+◌, true, false, Bool, not, ◌&&◌, ◌||◌, ◌==◌, if◌then◌else◌, nat_eq, nat_lt, List, [], ◌∷◌, length, Option, Some, None, is_some, is_none, option_map, option_and_then, unwrap_or, refl, sym, ap, subst, ◌∙◌, inl, inr}
-use Rattle.std.proofs.lemmas.Bool.{false_from_ne_true, and_parts, and_from, cases_Bool, cases_eq, eqb-true, eq-eqb, ne_eqb, or_left}
+use Rattle.std.proofs.Common.{arith, ◌≡◌, ℕ, ◌+◌, true, false, Bool, not, ◌&&◌, ◌||◌, ◌==◌, if◌then◌else◌, nat_eq, [], ◌∷◌, Option, Some, None, is_some, is_none, option_map, option_and_then, unwrap_or, refl, sym, ap, ◌∙◌, inl, inr}
+use Rattle.std.proofs.lemmas.Bool.{false_from_ne_true, and_parts, and_from, cases_Bool, cases_eq, eq-eqb, ne_eqb, or_left}
 use Rattle.ace_codes.specs.Responses.{passes_dirty, is_shared}
 use Rattle.ace_codes.specs.declared.kind.ArKind.{ArKind}
 use Rattle.ace_codes.specs.declared.kind.ArKind.TheVariants as read
@@ -10,8 +10,8 @@ use Rattle.ace_event.specs.declared.line.Line.{Line}
 use Rattle.ace_model.specs.declared.transactions.Transaction.{Transaction}
 use Rattle.ace_model.specs.Shares.{k18_line}
 use Rattle.ace_model.specs.ReadRules.{same_upper_bits}
-use Rattle.ace_model.proofs.Terms.{Header, Trace, Read, Event, Ar, R, Rk, IsAccepted, newer, implies, is_some_and, is_none_or, is_ace, is_read, is_line, is_line_read, is_line_write, is_on, read_kind, write_kind, outstanding, transaction_of, acknowledged, next_complete, transfers, first_resp, granted, is_granted, has_passed_data}
-use Rattle.ace_model.proofs.Terms.{has_sharer, memory_of, word_of, first_sender, copy_at_answer, memory_at_first_beat, reply_of, is_line_read_transaction, reads_a_line, has_word, has_upper_bits, fits_kind, must_be_shared, may_be_shared, is_read_not_shared_dirty, is_make_unique, is_clean_unique, k1, k19, k20, k22, k23, ends_well, is_end, held_of, ends_read, has_failed, has_store, state_of, is_exclusive_store, may_transfer}
+use Rattle.ace_model.proofs.Terms.{Header, Trace, Read, Ar, R, Rk, IsAccepted, newer, implies, is_some_and, is_none_or, is_ace, is_read, is_line, is_line_read, is_line_write, read_kind, write_kind, outstanding, acknowledged, transfers, first_resp, granted, is_granted, has_passed_data}
+use Rattle.ace_model.proofs.Terms.{has_sharer, memory_of, word_of, first_sender, copy_at_answer, memory_at_first_beat, reply_of, is_line_read_transaction, reads_a_line, has_word, has_upper_bits, fits_kind, may_be_shared, is_read_not_shared_dirty, is_make_unique, is_clean_unique, k19, k20, k23, ends_well, is_end, held_of, ends_read, has_failed, has_store, state_of, is_exclusive_store, may_transfer}
 use Rattle.ace_model.proofs.General.Options.{Some-injective, is_some_and-is, is_none_or-at}
 use Rattle.ace_model.proofs.General.Booleans.{implies-at}
 use Rattle.ace_model.proofs.Trace.Looks.{is_on-addr, read_writes_none}
@@ -24,16 +24,15 @@ use Rattle.ace_model.proofs.Grants.Granted.{granted_at}
 use Rattle.ace_model.proofs.Values.FullReads.{under_way}
 use Rattle.ace_model.proofs.Values.Replies.{memory-before}
 use Rattle.ace_portck.specs.Targets.{line_in, progress_of}
-use Rattle.ace_portck.specs.declared.target.Progress.{Progress}
 use Rattle.ace_portck.specs.declared.target.Target.{Target}
 use Rattle.ace_lineck.specs.declared.record.LineRecord.{LineRecord}
 use Rattle.ace_lineck.specs.declared.grant.Grant.{Grant}
 use Rattle.ace_lineck.specs.Holders.{holder_at}
-use Rattle.ace_lineck.specs.Grants.{GrantFits, GrantStands, fetched, settled_reply}
-use Rattle.ace_lineck.specs.Records.{LineStands, IsNext}
+use Rattle.ace_lineck.specs.Grants.{GrantFits, GrantStands, fetched}
+use Rattle.ace_lineck.specs.Records.{IsNext}
 use Rattle.ace_lineck.specs.Kept.{reply_kept, fits_reply, fits_shared, fits_bits, has_passed, has_passed_for, is_shared_under, is_its, ends_kept, IsFailure}
 use Rattle.ace_lineck.proofs.OnLine.{line-transaction}
-use Rattle.ace_lineck.proofs.GrantLaws.{its-is, its-granted, passed-law, read-line, read-count}
+use Rattle.ace_lineck.proofs.GrantLaws.{passed-law, read-line, read-count}
 
 -- the reply of the granted read
 pub reply-law : (h : Header) (past : Trace) → IsAccepted h past → (l : ℕ) (g : Grant) → GrantFits h past l g → is_read g.transaction.chan ≡ true → (memory : Line) → memory ≡ memory_of past l

@@ -1,7 +1,6 @@
 -- What the rules say, in the words of what is kept of the line.
-use Rattle.std.proofs.Common.{◌≡◌, ℕ, true, false, Bool, not, ◌&&◌, ◌||◌, ◌==◌, if◌then◌else◌, nat_eq, [], ◌∷◌, length, Option, Some, None, is_some, option_map, refl, sym, ap, subst, ◌∙◌, inl, inr}
-use Rattle.std.proofs.lemmas.Bool.{and_parts, and_from, cases_Bool, eqb-true, eq-eqb, false_from_ne_true, or_right, or_left}
-use Rattle.ace_codes.specs.declared.kind.ArKind.TheVariants as read
+use Rattle.std.proofs.Common.{◌≡◌, ℕ, true, false, Bool, not, ◌&&◌, ◌||◌, ◌==◌, if◌then◌else◌, [], ◌∷◌, length, Option, Some, None, is_some, option_map, refl, sym, ap, subst, ◌∙◌, inl, inr}
+use Rattle.std.proofs.lemmas.Bool.{and_parts, and_from, cases_Bool, eq-eqb, false_from_ne_true, or_right}
 use Rattle.ace_codes.specs.declared.kind.AwKind.TheVariants as write
 use Rattle.ace_codes.specs.declared.kind.SnoopKind.TheVariants as snoop
 use Rattle.ace_codes.specs.Snoops.{ac_kind_of}
@@ -12,17 +11,17 @@ use Rattle.ace_model.specs.declared.transactions.Transaction.{Transaction}
 use Rattle.ace_model.specs.declared.snoops.Snoop.{Snoop}
 use Rattle.ace_model.specs.Shares.{k11_data, k17_data, fits_copy}
 use Rattle.ace_model.specs.Replies.{next_sent, next_sent_beat}
-use Rattle.ace_model.proofs.Terms.{Header, Trace, Event, Ar, Aw, W, Wk, Cr, Cd, S, L, D, Read, Write, ArKind, AwKind, SnoopKind, LineState, I, IsAccepted, implies, is_some_and, is_none_or, is_ace, is_read, is_line, is_on, is_line_write, is_line_read, is_line_snoop, is_update, is_make_unique, read_kind, write_kind}
-use Rattle.ace_model.proofs.Terms.{issued, acknowledged, starts_read, starts_write, state_of, copy_of, word_of, next_write, next_write_beat, snoops_a_line, is_snoop_on, answered, updates_memory, has_update, has_outstanding_on, has_store, each_issued, is_no_snoop, is_used_alike, fits_line}
+use Rattle.ace_model.proofs.Terms.{Header, Trace, Event, Ar, Aw, W, Wk, Cr, Cd, S, L, D, Write, AwKind, SnoopKind, LineState, I, IsAccepted, implies, is_some_and, is_none_or, is_ace, is_read, is_line, is_on, is_line_write, is_line_read, is_line_snoop, is_update, is_make_unique, read_kind, write_kind}
+use Rattle.ace_model.proofs.Terms.{issued, acknowledged, starts_read, starts_write, state_of, copy_of, word_of, next_write, next_write_beat, snoops_a_line, is_snoop_on, answered, updates_memory, has_update, has_outstanding_on, has_store, each_issued, is_no_snoop, is_used_alike}
 use Rattle.ace_model.proofs.Terms.{answers_by_row, answers_beside_update, k6, k8, k15, k16, k28, k29, k30, k31, k32, held_of, full_line, is_silent_move, is_invalid, is_unique, some_issued, wants_store}
 use Rattle.ace_model.proofs.General.Options.{Some-injective, is_none_or-at}
-use Rattle.ace_model.proofs.General.Booleans.{same_test-at, implies-at}
+use Rattle.ace_model.proofs.General.Booleans.{implies-at}
 use Rattle.ace_model.proofs.Trace.Growth.{IsIssued, issued-new, issued-old, issued-cases, each_issued-at, some_issued-is}
 use Rattle.ace_model.proofs.Trace.Issued.{transaction_of-name}
 use Rattle.ace_model.proofs.Trace.Outstanding.{acknowledged_is}
 use Rattle.ace_model.proofs.Holders.ShareableLines.{used_alike}
 use Rattle.ace_model.proofs.Lines.Known.{data_write-issued}
-use Rattle.ace_portck.specs.Targets.{line_in, own_of, own_in, progress_of, sending, begun}
+use Rattle.ace_portck.specs.Targets.{line_in, own_of, progress_of, sending}
 use Rattle.ace_portck.specs.declared.target.Progress.{Progress}
 use Rattle.ace_portck.specs.declared.target.Target.{Target}
 use Rattle.ace_lineck.specs.declared.record.Use.{Use}

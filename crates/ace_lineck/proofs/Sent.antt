@@ -1,6 +1,6 @@
 -- The line that a port's next CD belongs to, where that is a snoop of a line: the port's copy at its last answer with data for it.
-use Rattle.std.proofs.Common.{◌≡◌, ℕ, zero, suc, ◌+◌, ◌*◌, ◌/◌, ◌<◌, arith, true, false, Bool, ◌&&◌, if◌then◌else◌, nat_eq, List, [], ◌∷◌, ◌++◌, length, length-append, slice_get, Option, Some, None, is_some, option_map, refl, sym, ap, subst, ◌∙◌, inl, inr}
-use Rattle.std.proofs.lemmas.Bool.{and_parts, and_from, cases_Bool, eqb-true, eq-eqb, or_left}
+use Rattle.std.proofs.Common.{◌≡◌, ℕ, zero, suc, ◌+◌, ◌*◌, ◌/◌, ◌<◌, arith, true, false, ◌&&◌, nat_eq, List, [], ◌∷◌, length, length-append, slice_get, Some, None, is_some, refl, sym, ap, subst, ◌∙◌, inl, inr}
+use Rattle.std.proofs.lemmas.Bool.{and_parts, cases_Bool, eqb-true, eq-eqb}
 use Rattle.ace_codes.specs.declared.kind.SnoopKind.{SnoopKind}
 use Rattle.ace_codes.specs.declared.kind.SnoopKind.TheVariants as snoop
 use Rattle.ace_codes.specs.declared.state.LineState.{LineState}
@@ -8,13 +8,12 @@ use Rattle.ace_codes.specs.Responses.{transfers_data}
 use Rattle.ace_codes.specs.Snoops.{ac_kind_of}
 use Rattle.ace_tables.specs.Answers.{is_snoop_row, is_plain_row}
 use Rattle.ace_tables.specs.States.{is_invalid}
-use Rattle.ace_event.specs.declared.line.Line.{Line}
 use Rattle.ace_model.specs.declared.snoops.Snoop.{Snoop}
 use Rattle.ace_model.specs.Kinds.{is_line_snoop}
 use Rattle.ace_model.specs.Snoops.{data_beats}
 use Rattle.ace_model.specs.SnoopRules.{answers_by_row}
 use Rattle.ace_model.specs.Replies.{sent_at, sent, next_sent}
-use Rattle.ace_model.proofs.Terms.{Header, Trace, Event, Ac, Cr, IsAccepted, is_some_and, is_none_or, snoop_at, snoops_of, snoops_a_line, answered, answers_line, data_answers, is_snoop_on, copy_of, state_of}
+use Rattle.ace_model.proofs.Terms.{Header, Trace, Event, Ac, Cr, IsAccepted, is_some_and, snoop_at, snoops_of, snoops_a_line, answered, answers_line, data_answers, is_snoop_on, copy_of, state_of}
 use Rattle.ace_model.proofs.General.Options.{some_is, some_if-is, is_none_or-at}
 use Rattle.ace_model.proofs.General.Lists.{slice_get-more, slice_get-at_end, slice_get-grown}
 use Rattle.ace_model.proofs.Rules.Keeps.{accepted_keeps}

@@ -1,15 +1,15 @@
 -- The rules of the writes to memory, in the words of what is kept of the line.
-use Rattle.std.proofs.Common.{◌≡◌, ℕ, true, false, Bool, not, ◌&&◌, ◌||◌, ◌==◌, if◌then◌else◌, nat_eq, List, [], ◌∷◌, length, Option, Some, None, is_some, option_map, option_and_then, unwrap_or, refl, sym, ap, subst, ◌∙◌, inl, inr}
-use Rattle.std.proofs.lemmas.Bool.{false_from_ne_true, and_parts, and_from, or_cases, or_left, or_right, not_from_false, cases_Bool, eqb-true, eq-eqb}
+use Rattle.std.proofs.Common.{◌≡◌, ℕ, true, false, Bool, not, ◌&&◌, ◌||◌, ◌==◌, if◌then◌else◌, List, Option, Some, None, is_some, option_map, option_and_then, unwrap_or, refl, sym, ap, ◌∙◌, inl, inr}
+use Rattle.std.proofs.lemmas.Bool.{false_from_ne_true, and_parts, and_from, or_cases, or_left, or_right, not_from_false, cases_Bool, eq-eqb}
 use Rattle.ace_codes.specs.declared.kind.AwKind.{AwKind}
 use Rattle.ace_codes.specs.declared.kind.AwKind.TheVariants as write
 use Rattle.ace_event.specs.declared.line.Line.{Line}
 use Rattle.ace_model.specs.declared.snoops.Answer.{Answer}
 use Rattle.ace_model.specs.declared.transactions.Transaction.{Transaction}
 use Rattle.ace_model.specs.Copies.{zero_line}
-use Rattle.ace_model.proofs.Terms.{Header, Trace, Channel, Event, M, IsAccepted, is_some_and, is_none_or, is_read, is_line, is_line_read, is_line_write, is_update, is_on, is_transaction, read_kind, write_kind, has_write_data, updates_memory, outstanding, transfers, granted, is_granted, answer_of}
-use Rattle.ace_model.proofs.Terms.{has_passed_data, are_passed_data_whole, are_snoops_done, passer, passes, copy_of, at_point, copy_at_answer, passed_data, passes_dirty, has_failed, has_memory_write, is_burst_whole, may_write_memory, may_write_passed, may_write_data, is_write_due, is_update_due, data_of, has_data, same_line, memory_of, k24, k25}
-use Rattle.ace_model.proofs.General.Options.{Some-injective, is_some_and-is, is_some_and-at}
+use Rattle.ace_model.proofs.Terms.{Header, Trace, Channel, M, IsAccepted, is_some_and, is_none_or, is_read, is_line, is_line_read, is_line_write, is_update, is_transaction, read_kind, write_kind, has_write_data, updates_memory, outstanding, transfers, granted, is_granted, answer_of}
+use Rattle.ace_model.proofs.Terms.{has_passed_data, are_passed_data_whole, are_snoops_done, passer, passes, copy_of, at_point, copy_at_answer, passed_data, passes_dirty, has_failed, has_memory_write, is_burst_whole, may_write_memory, may_write_passed, may_write_data, is_write_due, is_update_due, has_data, same_line, memory_of, k24, k25}
+use Rattle.ace_model.proofs.General.Options.{is_some_and-is, is_some_and-at}
 use Rattle.ace_model.proofs.General.Booleans.{then_of}
 use Rattle.ace_model.proofs.General.Ports.{found_passes}
 use Rattle.ace_model.proofs.Tables.Kinds.{granted_data}
@@ -19,16 +19,15 @@ use Rattle.ace_model.proofs.Grants.Granted as grants
 use Rattle.ace_model.specs.WriteRules as rules
 use Rattle.ace_model.specs.Values.{burst_strobe, burst_line}
 use Rattle.ace_model.specs.Writes.{burst_of}
-use Rattle.ace_portck.specs.Targets.{line_in, progress_of, data_of_write, data_in}
-use Rattle.ace_portck.specs.declared.target.Progress.{Progress}
+use Rattle.ace_portck.specs.Targets.{progress_of, data_of_write}
 use Rattle.ace_portck.specs.declared.target.WriteData.{WriteData}
 use Rattle.ace_portck.specs.declared.target.Target.{Target}
 use Rattle.ace_lineck.specs.declared.record.Holder.{Holder}
 use Rattle.ace_lineck.specs.declared.record.LineRecord.{LineRecord}
 use Rattle.ace_lineck.specs.declared.grant.Grant.{Grant}
 use Rattle.ace_lineck.specs.Holders.{HoldersStand}
-use Rattle.ace_lineck.specs.Grants.{GrantFits, GrantStands}
-use Rattle.ace_lineck.specs.Records.{LineStands, IsNext}
+use Rattle.ace_lineck.specs.Grants.{GrantStands}
+use Rattle.ace_lineck.specs.Records.{IsNext}
 use Rattle.ace_lineck.specs.Kept.{has_passed, is_passed_whole, are_done, is_its, may_write_kept, passed_kept, written_kept, fits_data, IsFailure}
 use Rattle.ace_lineck.proofs.OnLine.{line-transaction}
 use Rattle.ace_lineck.proofs.GrantFrame.{passed_at}

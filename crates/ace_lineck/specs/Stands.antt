@@ -1,5 +1,5 @@
 -- What is kept of all lines says what there is to say of them after a recording.
-use Rattle.std.specs.Prelude.{ℕ, ◌≡◌, ◌<◌, ◌-◌, ◌^◌, Bool, true, false, List, [], ◌∷◌, length, Option, Some, None, nat_eq, unwrap_or, IsSome, ⊤}
+use Rattle.std.specs.Prelude.{ℕ, ◌≡◌, ◌<◌, ◌-◌, ◌^◌, Bool, true, false, [], length, Option, Some, None, nat_eq, unwrap_or, IsSome, ⊤}
 use Rattle.std.specs.Bool.{OnTrue}
 use Rattle.indexmap.specs.IndexMap.{get}
 use Rattle.ace_event.specs.declared.event.Event.{Event}

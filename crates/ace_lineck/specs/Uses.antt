@@ -1,5 +1,5 @@
 -- How the transactions of a line use it: they are all NoSnoop, or none is.
-use Rattle.std.specs.Prelude.{ℕ, ◌≡◌, Bool, true, false, not, if◌then◌else◌, [], ◌∷◌, length, Option, Some, None}
+use Rattle.std.specs.Prelude.{ℕ, Bool, true, false, not, if◌then◌else◌, [], ◌∷◌, length, Option, Some, None}
 use Rattle.ace_model.specs.declared.transactions.Transaction.{Transaction}
 use Rattle.ace_model.specs.Trace.{Trace}
 use Rattle.ace_model.specs.Transactions.{is_on, issued}

@@ -1,4 +1,4 @@
-use Rattle.std.proofs.Common.{◌≡◌, ◌∷◌, ◌∙◌, sym, ap, subst, true, false}
+use Rattle.std.proofs.Common.{◌∷◌, ◌∙◌, sym, subst}
 use Rattle.ace_model.proofs.Terms.{D, UD}
 use Rattle.ace_lineck.specs.Holders.{HolderStands}
 use Rattle.ace_lineck.proofs.HolderSteps.{at-event, d-dirties, d-keeps}

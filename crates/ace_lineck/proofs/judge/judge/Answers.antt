@@ -1,7 +1,7 @@
-use Rattle.std.proofs.Common.{◌≡◌, ◌∷◌, true, Bool, Some, None, Option, ℕ, sym, ap, subst, ◌∙◌, refl, if◌then◌else◌}
+use Rattle.std.proofs.Common.{Some, None, sym, ap, subst, ◌∙◌, refl, if◌then◌else◌}
 use Rattle.ace_model.specs.Accepted.{least_of}
 use Rattle.ace_model.specs.Shares.{line_rules, k11_data, k17_data, k18_line, k26_memory}
-use Rattle.ace_model.proofs.Terms.{k19, k20, k24, k25, k30, k31, k32, B, Cd, D, L, M, Op, Mem, R, W}
+use Rattle.ace_model.proofs.Terms.{k19, k20, k24, k25, k30, k31, k32, B, Cd, D, L, M, R, W}
 use Rattle.ace_lineck.specs.Records.{IsNext}
 use Rattle.ace_lineck.proofs.Judging.{ruled}
 use Rattle.ace_lineck.proofs.judge.judge.Goals as goal

@@ -1,4 +1,4 @@
-use Rattle.std.proofs.Common.{◌≡◌, Some, None, sym, ap, ◌∙◌, if◌then◌else◌}
+use Rattle.std.proofs.Common.{Some, None, sym, ap, ◌∙◌, if◌then◌else◌}
 use Rattle.ace_model.proofs.Terms.{k6, k8}
 use Rattle.ace_lineck.proofs.Judging.{ruled, issue-target, issue-some, least-address}
 use Rattle.ace_lineck.proofs.judge.judge_address.Goals as goal

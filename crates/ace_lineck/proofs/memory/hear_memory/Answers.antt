@@ -1,5 +1,5 @@
 use Rattle.std.proofs.Common.{◌≡◌, ◌∷◌, ◌∙◌, sym, ap, subst, Some}
-use Rattle.ace_model.proofs.Terms.{Event, M}
+use Rattle.ace_model.proofs.Terms.{M}
 use Rattle.ace_portck.specs.Targets.{line_in}
 use Rattle.ace_portck.specs.declared.target.Target.{Target}
 use Rattle.ace_lineck.specs.Holders.{MemoryStands, IsLineStep}

@@ -1,4 +1,4 @@
-use Rattle.std.proofs.Common.{◌≡◌, ◌∙◌, ap}
+use Rattle.std.proofs.Common.{◌∙◌, ap}
 use Rattle.std.proofs.Common.{false}
 use Rattle.ace_codes.specs.Snoops.{ac_kind_of}
 use Rattle.ace_model.proofs.Terms.{is_none_or, is_snoop_row}

@@ -1,4 +1,4 @@
-use Rattle.std.proofs.Common.{◌≡◌, ◌∙◌, ap}
+use Rattle.std.proofs.Common.{◌∙◌, ap}
 use Rattle.std.proofs.Common.{not}
 use Rattle.ace_model.proofs.Terms.{is_invalid}
 use Rattle.ace_lineck.proofs.RuleLaws.{k30-law}

@@ -1,4 +1,4 @@
-use Rattle.std.proofs.Common.{◌≡◌, ◌∙◌, ap}
+use Rattle.std.proofs.Common.{◌∙◌, ap}
 use Rattle.std.proofs.Common.{◌==◌}
 use Rattle.ace_model.proofs.Terms.{is_none_or}
 use Rattle.ace_lineck.proofs.RuleLaws.{k17-law}

@@ -1,4 +1,4 @@
-use Rattle.std.proofs.Common.{◌≡◌, ◌∙◌, ap}
+use Rattle.std.proofs.Common.{◌∙◌, ap}
 use Rattle.std.proofs.Common.{not, ◌&&◌}
 use Rattle.ace_model.proofs.Terms.{is_silent_move, is_invalid, is_some_and, updates_memory}
 use Rattle.ace_lineck.proofs.RuleLaws.{k29-law}

@@ -1,4 +1,4 @@
-use Rattle.std.proofs.Common.{◌≡◌, ◌∙◌, ap}
+use Rattle.std.proofs.Common.{◌∙◌, ap}
 use Rattle.ace_lineck.proofs.RuleLaws.{k6-law, may_start_of}
 use Rattle.ace_lineck.proofs.rules.keeps_start.Goals as goal
 

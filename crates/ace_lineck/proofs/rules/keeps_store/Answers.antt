@@ -1,4 +1,4 @@
-use Rattle.std.proofs.Common.{◌≡◌, ◌∙◌, ap}
+use Rattle.std.proofs.Common.{◌∙◌, ap}
 use Rattle.std.proofs.Common.{not, ◌&&◌, ◌||◌, ◌==◌, is_some}
 use Rattle.ace_model.proofs.Terms.{is_unique, is_some_and, full_line}
 use Rattle.ace_lineck.specs.Holders.{awaits_store}

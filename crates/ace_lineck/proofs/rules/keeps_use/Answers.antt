@@ -1,4 +1,4 @@
-use Rattle.std.proofs.Common.{◌≡◌, ◌∙◌, ap}
+use Rattle.std.proofs.Common.{◌∙◌}
 use Rattle.ace_lineck.proofs.RuleLaws.{k8-law}
 use Rattle.ace_lineck.proofs.rules.keeps_use.Goals as goal
 

@@ -1,4 +1,4 @@
-use Rattle.std.proofs.Common.{◌≡◌, ◌==◌, ◌∙◌, ap}
+use Rattle.std.proofs.Common.{◌==◌, ◌∙◌, ap}
 use Rattle.ace_model.proofs.Terms.{is_none_or, implies, updates_memory}
 use Rattle.ace_lineck.proofs.RuleLaws.{k11-law}
 use Rattle.ace_lineck.proofs.rules.keeps_word.Goals as goal

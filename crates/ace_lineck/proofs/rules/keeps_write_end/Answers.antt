@@ -1,4 +1,4 @@
-use Rattle.std.proofs.Common.{◌≡◌, ◌∙◌, ap}
+use Rattle.std.proofs.Common.{◌∙◌, ap}
 use Rattle.std.proofs.Common.{if◌then◌else◌}
 use Rattle.ace_model.proofs.Terms.{I, is_none_or, is_line, write_kind, ends_write}
 use Rattle.ace_lineck.proofs.RuleLaws.{k28-law}

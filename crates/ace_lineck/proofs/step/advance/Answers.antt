@@ -1,6 +1,5 @@
-use Rattle.std.proofs.Common.{◌≡◌, ℕ, Some, sym, ap, subst, ◌∙◌}
-use Rattle.ace_lineck.specs.Holders.{IsHoldersStep, HoldersStand}
-use Rattle.ace_lineck.specs.Grants.{IsGrantStep}
+use Rattle.std.proofs.Common.{sym, subst}
+use Rattle.ace_lineck.specs.Holders.{HoldersStand}
 use Rattle.ace_lineck.proofs.step.advance.Goals as goal
 
 pub returns-then-was_unknown-clause-stands : goal.returns-then-was_unknown-clause-stands

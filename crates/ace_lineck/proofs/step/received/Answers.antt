@@ -1,8 +1,8 @@
-use Rattle.std.proofs.Common.{◌≡◌, ◌∷◌, ℕ, length, true, false, Option, Some, None, sym, subst, ◌∙◌, option_and_then, refl}
+use Rattle.std.proofs.Common.{◌≡◌, length, true, false, Some, None, sym, subst, ◌∙◌}
 use Rattle.ace_event.specs.declared.line.Line.{Line}
 use Rattle.ace_model.specs.Copies.{received}
 use Rattle.ace_model.specs.Trace.{port_of}
-use Rattle.ace_model.proofs.Terms.{Event, R}
+use Rattle.ace_model.proofs.Terms.{R}
 use Rattle.ace_model.proofs.General.Options.{Some-injective}
 use Rattle.ace_lineck.specs.Records.{IsRecordStep, has_three}
 use Rattle.ace_lineck.proofs.Received.{received-some, received-none}

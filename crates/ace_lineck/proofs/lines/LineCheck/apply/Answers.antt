@@ -1,13 +1,8 @@
-use Rattle.std.proofs.Common.{rules, ◌≡◌, ◌<◌, ◌≤◌, ◌+◌, ◌%◌, [], ◌∷◌, length, None, Some, ℕ, nat_eq, true, false, not, ◌&&◌, if◌then◌else◌, refl, sym, ap, subst, ◌∙◌, arith, unwrap_or}
+use Rattle.std.proofs.Common.{◌≡◌, ◌+◌, ◌%◌, ◌∷◌, None, Some, ℕ, nat_eq, refl, sym, ap, subst, ◌∙◌, arith}
 use Rattle.std.proofs.lemmas.Grind.{common_steps}
 use Rattle.indexmap.specs.IndexMap.{get}
-use Rattle.ace_model.specs.Lines.{known_lines}
-use Rattle.ace_model.proofs.Terms.{Header}
-use Rattle.ace_portck.specs.Targets.{line_in, after}
 use Rattle.ace_portck.specs.declared.target.Target.{Target}
-use Rattle.ace_lineck.specs.declared.record.LineRecord.{LineRecord}
 use Rattle.ace_lineck.specs.Records.{LineStands, IsRecordStep}
-use Rattle.ace_lineck.specs.Stands.{Stands, record_of}
 use Rattle.ace_lineck.proofs.AllLines.{unchanged, has-record, line-step, applied-then, applied-else}
 use Rattle.ace_lineck.proofs.lines.LineCheck.apply.Goals as goal
 

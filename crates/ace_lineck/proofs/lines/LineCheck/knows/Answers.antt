@@ -1,4 +1,4 @@
-use Rattle.std.proofs.Common.{◌≡◌, ◌∙◌, not, ap, sym}
+use Rattle.std.proofs.Common.{◌∙◌, not, ap, sym}
 use Rattle.ace_lineck.specs.declared.record.LineRecord.{LineRecord}
 use Rattle.ace_lineck.specs.Uses.{is_unknown}
 use Rattle.ace_lineck.proofs.KnownLines.{known-used}

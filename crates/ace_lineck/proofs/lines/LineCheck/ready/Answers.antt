@@ -1,6 +1,5 @@
-use Rattle.std.proofs.Common.{◌≡◌, sym, subst}
+use Rattle.std.proofs.Common.{sym, subst}
 use Rattle.std.proofs.lemmas.Result.{on_err_weaker}
-use Rattle.ace_model.proofs.Terms.{Ar, Aw}
 use Rattle.ace_lineck.specs.Stands.{BeginsLine}
 use Rattle.ace_lineck.proofs.AllLines.{absent-new}
 use Rattle.ace_lineck.proofs.lines.LineCheck.ready.Goals as goal
