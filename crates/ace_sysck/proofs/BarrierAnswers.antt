@@ -65,13 +65,13 @@ module _ (past : Trace) (p : ℕ) (b : Barrier) (s : BarrierStands past p b) whe
       → nat_eq x.place y.place ≡ false
   apart x i port low c y is =
       ne_eqb x.place y.place (λ same.
-        let h = current c y is in
-        let one : x ≡ y = Some-injective x y (sym i.there ∙ ap (issued_at past) same ∙ h.stands.there) in
-        let own = is_barrier_of-is y p c h.barrier in
-        let count : number_of past x ≡ length s.done =
-        ap (λ (z : Transaction). number_of past z) one ∙ ap (λ q. length (barriers (at_point y.place past) q y.chan)) own.port
-        ∙ ap (λ d. length (barriers (at_point y.place past) p d)) own.chan ∙ h.number in
-        absurd (omega (arith, low, count)))
+      let h = current c y is in
+      let one : x ≡ y = Some-injective x y (sym i.there ∙ ap (issued_at past) same ∙ h.stands.there) in
+      let own = is_barrier_of-is y p c h.barrier in
+      let count : number_of past x ≡ length s.done =
+      ap (λ (z : Transaction). number_of past z) one ∙ ap (λ q. length (barriers (at_point y.place past) q y.chan)) own.port
+      ∙ ap (λ d. length (barriers (at_point y.place past) p d)) own.chan ∙ h.number in
+      absurd (omega (arith, low, count)))
 
 -- an element of two lists joined is in the first, or in the second
 split : {A : Type 0} → (xs ys : List A) (k : ℕ) (z : A) → slice_get (xs ++ ys) k ≡ Some z → (k < length xs) ⊎ (slice_get ys (k - length xs) ≡ Some z)
@@ -132,23 +132,26 @@ module _ (past : Trace) (x : Transaction) (t : Target) (i : IsIssued past x) (ha
 
   pub answer-is : (b : Barrier) → BarrierStands past x.port b → is_some_and (pair_of past x) (may_answer past x.port) ≡ may_answer_after b t x
   answer-is b s = elim (where-is b s) [
-      | inl low ↦ done-may b s low ∙ sym (off b s low)
-      | inr at ↦ on x.chan refl b s at
-    ]
+    | inl low ↦ done-may b s low ∙ sym (off b s low)
+    | inr at ↦ on x.chan refl b s at
+  ]
     where
       off : (b : Barrier) (s : BarrierStands past x.port b) → number_of past x < length s.done → may_answer_after b t x ≡ true
       off Idle s low = refl
       off (ReadHalf y) s low = rw (apart past x.port (ReadHalf y) s x i refl low Read y refl) refl
       off (WriteHalf y) s low = rw (apart past x.port (WriteHalf y) s x i refl low Write y refl) refl
       off (Open o) s low = rw (apart past x.port (Open o) s x i refl low Read o.read refl, apart past x.port (Open o) s x i refl low Write o.write refl) refl
+
       number : (b : Barrier) (s : BarrierStands past x.port b) (c : Channel) (y : Transaction) → halves_on c b ≡ y ∷ [] → y ≡ x → number_of past x ≡ length s.done
       number b s c y is one =
           let h = current past x.port b s c y is in
           let own = is_barrier_of-is y x.port c h.barrier in
           ap (λ (z : Transaction). number_of past z) (sym one) ∙ ap (λ q. length (barriers (at_point y.place past) q y.chan)) own.port
           ∙ ap (λ d. length (barriers (at_point y.place past) x.port d)) own.chan ∙ h.number
+
       same : (y : Transaction) → y ≡ x → nat_eq x.place y.place ≡ true
       same y one = eq-eqb x.place y.place (ap (λ (z : Transaction). z.place) (sym one))
+
       on : (c : Channel) → x.chan ≡ c → (b : Barrier) (s : BarrierStands past x.port b) → slice_get (halves_on x.chan b) (number_of past x - length s.done) ≡ Some x
           → is_some_and (pair_of past x) (may_answer past x.port) ≡ may_answer_after b t x
       on Read chan Idle s at = let bad : None ≡ Some x = ap (λ c. slice_get (halves_on c Idle) (number_of past x - length s.done)) (sym chan) ∙ at in cc

@@ -155,9 +155,11 @@ past-is past x b s = rw (pairs-of past x.port b s, list_all-append test s.done (
   where
     test : Pair → Bool
     test d = implies (nat_lt (place_of d) x.place) (is_pair_complete past d)
+
     ordered : (a : Bool) → implies a true ≡ true
     ordered true = refl
     ordered false = refl
+
     by : (b : Barrier) → BarrierStands past x.port b → implies (nat_eq x.bar 0) (list_all test (paired (reads_of b) (writes_of b))) ≡ is_past b x
     by Idle s = ordered (nat_eq x.bar 0)
     by (ReadHalf y) s = ordered (nat_eq x.bar 0)

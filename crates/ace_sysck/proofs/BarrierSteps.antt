@@ -116,6 +116,7 @@ had-placed test (e ∷ past) x had =
     of_name : (past : Trace) (p : ℕ) (c : Channel) (i : ℕ) (o : Option Transaction) (x : Transaction) → transaction_of past p c i ≡ o → is_transaction o x ≡ true → x.place < length past
     of_name past p c i None x is t = cc
     of_name past p c i (Some y) x is t = let low = (transaction_of-stands past p c i y is).before in let same = eqb-true y.place x.place t in omega arith
+
     served-placed : (past : Trace) (e : Event) (x : Transaction) → is_transaction (served_by past e) x ≡ true → x.place < length past
     served-placed past (R p i resp last word) x t = of_name past p Read i (transaction_of past p Read i) x refl t
     served-placed past (B p i resp) x t = of_name past p Write i (transaction_of past p Write i) x refl t
@@ -306,10 +307,12 @@ module _ (h : Header) (past : Trace) (e : Event) (t : Target) (x : Transaction) 
               | inr was_write ↦ let bad : true ≡ false = sym (and_from _ _ was_read was_write) ∙ s.under_way.open_still in cc
             ]
           ]
+
       come : is_barrier_half x ≡ true → ((not (nat_eq x.place o.read.place) && not (nat_eq x.place o.write.place)) ≡ false) → may_answer past x.port (pair_in o) ≡ true
       come half near =
           let a = awaits-at h past e t x d.own d.completes.answers half in
           come-is past x.port o t a.unordered a.incomplete ∙ (rw near at (may-be (Open o) s half))
+
       may : (nat_eq x.place o.read.place ≡ true) ⊎ (nat_eq x.place o.write.place ≡ true) → may_answer past x.port (pair_in o) ≡ true
       may (inl at) = come (same-half past x.port (Open o) s Read o.read x refl there (eqb-true x.place o.read.place at)).1 (rw at refl)
       may (inr at) = come (same-half past x.port (Open o) s Write o.write x refl there (eqb-true x.place o.write.place at)).1 (rw at (and_right (not (nat_eq x.place o.read.place)) false refl))
@@ -332,25 +335,25 @@ module _ (h : Header) (past : Trace) (e : Event) (t : Target) (x : Transaction) 
       by Read z is = cc
       by Write z is = alone (WriteHalf y) s Write z is (ap (λ n. not (nat_eq x.place n)) (ap (λ (v : Transaction). v.place) (cons-injective y z is)))
   barrier_answered (Open o) s = elim (cases_Bool ((nat_eq x.place o.read.place || o.read_answered) && (nat_eq x.place o.write.place || o.write_answered))) [
-      | inl both ↦ rw both (record {
-          done = s.done ++ pair_in o ∷ [];
-          reads = ap (more (barriers past x.port Read)) (unissued x.port Read) ∙ s.reads ∙ sym (append-nil (map read_half (s.done ++ pair_in o ∷ [])) ∙ map-append read_half s.done (pair_in o ∷ []));
-          writes = ap (more (barriers past x.port Write)) (unissued x.port Write) ∙ s.writes ∙ sym (append-nil (map write_half (s.done ++ pair_in o ∷ [])) ∙ map-append write_half s.done (pair_in o ∷ []));
-          are_done = All-push (IsDone (e ∷ past) x.port) s.done (pair_in o) (all-stay past e x.port s.done s.are_done) (finishes o s both);
-          under_way = tt;
-        })
-      | inr still ↦ rw still (record {
-          done = s.done;
-          reads = ap (more (barriers past x.port Read)) (unissued x.port Read) ∙ s.reads;
-          writes = ap (more (barriers past x.port Write)) (unissued x.port Write) ∙ s.writes;
-          are_done = all-stay past e x.port s.done s.are_done;
-          under_way = record {
-            read = rw (hit-is o.read, s.under_way.read) refl;
-            write = rw (hit-is o.write, s.under_way.write) refl;
-            open_still = still;
-          };
-        })
-    ]
+    | inl both ↦ rw both (record {
+      done = s.done ++ pair_in o ∷ [];
+      reads = ap (more (barriers past x.port Read)) (unissued x.port Read) ∙ s.reads ∙ sym (append-nil (map read_half (s.done ++ pair_in o ∷ [])) ∙ map-append read_half s.done (pair_in o ∷ []));
+      writes = ap (more (barriers past x.port Write)) (unissued x.port Write) ∙ s.writes ∙ sym (append-nil (map write_half (s.done ++ pair_in o ∷ [])) ∙ map-append write_half s.done (pair_in o ∷ []));
+      are_done = All-push (IsDone (e ∷ past) x.port) s.done (pair_in o) (all-stay past e x.port s.done s.are_done) (finishes o s both);
+      under_way = tt;
+    })
+    | inr still ↦ rw still (record {
+      done = s.done;
+      reads = ap (more (barriers past x.port Read)) (unissued x.port Read) ∙ s.reads;
+      writes = ap (more (barriers past x.port Write)) (unissued x.port Write) ∙ s.writes;
+      are_done = all-stay past e x.port s.done s.are_done;
+      under_way = record {
+        read = rw (hit-is o.read, s.under_way.read) refl;
+        write = rw (hit-is o.write, s.under_way.write) refl;
+        open_still = still;
+      };
+    })
+  ]
 
 -- a list in which the barrier of one port is set stands, where that barrier stands, and those of the other ports still do
 barriers_set : (r : Recording) (s n : Barriers) (e : Event) (q : ℕ) (v : Barrier) → BarriersStand r s → q < r.header.ports → n.ports.items ≡ slice_set s.ports.items q v
@@ -384,15 +387,19 @@ barriers_begun r s n e t x accepted own begun half stands items =
   where
     b : Barrier
     b = get_or s.ports.items x.port Idle
+
     new : issued (length r.past) e ≡ Some x
     new = sym (begun-is r.header r.past e t own) ∙ begun
+
     begins : begins_after b x ≡ true
     begins =
         let well = is_none_or-at (issued (length r.past) e) (begins_well r.past) x (accepted_keeps r.header r.past e accepted).rule_9 new in
         let barrier = implies-at (is_barrier_half x) (begins_barrier r.past x) (and_parts (implies (is_barrier_half x) (begins_barrier r.past x)) _ (and_parts (implies (is_barrier_half x) (begins_barrier r.past x) && _) _ well).0).0 half in
         (and_parts (nat_eq x.addr 0) (begins_after b x) (sym (begins-is r.past x b (stands.ports x.port) (issued-place (length r.past) e x new)) ∙ barrier)).1
+
     joins_own : BarrierStands (e ∷ r.past) x.port (joined b x)
     joins_own = barrier_joins r.past e x new half b x.chan refl begins (stands.ports x.port)
+
     others : (p : ℕ) (b : Barrier) → (x.port ≡ p → ⊥) → BarrierStands r.past p b → BarrierStands (e ∷ r.past) p b
     others p b off = barrier_stays r.past e p b (λ c. ap (λ o. option_filter (λ y. is_barrier_of y p c) o) new ∙ no_half x p c (rw half (ne_eqb x.port p off))) (λ c y is. issue-hits r.past e x y new)
 

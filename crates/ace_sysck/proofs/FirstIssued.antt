@@ -42,11 +42,11 @@ first-more past e test n f = record {
   passes = f.passes;
   place = f.place;
   least = λ y i t. elim (issued-cases e past y i) [
-      | inl new ↦
-          let at = issued-place (length past) e y new in
-          let low = f.there.before in let is = f.place in omega (arith, at, low, is)
-      | inr old ↦ f.least y old t
-    ];
+    | inl new ↦
+        let at = issued-place (length past) e y new in
+        let low = f.there.before in let is = f.place in omega (arith, at, low, is)
+    | inr old ↦ f.least y old t
+  ];
 }
 
 first-new : (past : Trace) (e : Event) (test : Transaction → Bool) → FirstIs past test None → (b : Bool) → is_some_and (issued (length past) e) test ≡ b
@@ -59,9 +59,9 @@ first-new past e test none true t =
       passes = s.2;
       place = issued-place (length past) e s.0 s.1;
       least = λ y i passes. elim (issued-cases e past y i) [
-          | inl new ↦ let at = issued-place (length past) e y new in omega (arith, at)
-          | inr old ↦ absurd (none y old passes)
-        ];
+        | inl new ↦ let at = issued-place (length past) e y new in omega (arith, at)
+        | inr old ↦ absurd (none y old passes)
+      ];
     }
 first-new past e test none false f = λ y i passes.
     elim (issued-cases e past y i) [
@@ -89,8 +89,10 @@ each-before past test awaited n = go (first_issued past late) (first-is past lat
   where
     late : Transaction → Bool
     late x = test x && not (awaited x)
+
     whole : Transaction → Bool
     whole x = implies (test x && nat_lt x.place n) (awaited x)
+
     kept : (x : Transaction) → (test x ≡ true → nat_lt x.place n ≡ true → late x ≡ true → ⊥) → whole x ≡ true
     kept x none = implied_by (test x && nat_lt x.place n) (awaited x) (λ t.
         let parts = and_parts (test x) (nat_lt x.place n) t in
@@ -98,6 +100,7 @@ each-before past test awaited n = go (first_issued past late) (first-is past lat
           | inl a ↦ a
           | inr f ↦ absurd (none parts.0 parts.1 (and_from (test x) (not (awaited x)) parts.0 (rw f refl)))
         ])
+
     go : (o : Option ℕ) → FirstIs past late o → each_issued past whole ≡ is_awaited_by n o
     go None none = each-from past whole (λ x i. kept x (λ t l late. none x i late))
     go (Some m) f =

@@ -194,7 +194,7 @@ module _ (h : Header) (past : Trace) (q resp : ℕ) (st : LineState) (accepted :
   inbox_answers t parts count own message s =
       let k = forwards-at h past q (answers past q) snoop_there.0 accepted.0 snoop_there.1 in
       let some : is_some k.part ≡ true = k.kind ∙ sym (ap (λ o. is_some_and o (λ (v : Snoop). is_some_and (ac_kind_of v.snoop) is_message_snoop)) snoop_there.1)
-          ∙ sym (ap answers_message own) ∙ message in
+      ∙ sym (ap answers_message own) ∙ message in
       let more_by : length (answered_parts (cr ∷ past) q) ≡ length (answered_parts past q) + 1 = ap length (answered-more k.part k.there) ∙ one_more (answered_parts past q) k.part some in
       let was = s.count_is in
       let inside : length (answered_parts (cr ∷ past) q) ≤ length (parts_among (forwarded past q)) = among-take (forwarded past q) (answers (cr ∷ past) q) in
@@ -216,7 +216,7 @@ module _ (h : Header) (past : Trace) (q resp : ℕ) (st : LineState) (accepted :
   inbox_other_cr t parts count own message s =
       let k = forwards-at h past q (answers past q) snoop_there.0 accepted.0 snoop_there.1 in
       let none : is_some k.part ≡ false = k.kind ∙ sym (ap (λ o. is_some_and o (λ (v : Snoop). is_some_and (ac_kind_of v.snoop) is_message_snoop)) snoop_there.1)
-          ∙ sym (ap answers_message own) ∙ message in
+      ∙ sym (ap answers_message own) ∙ message in
       let same : answered_parts (cr ∷ past) q ≡ answered_parts past q = answered-more k.part k.there ∙ no_more (answered_parts past q) k.part none in
       record {
         parts_are = s.parts_are ∙ sym (unanswered-old cr past q) ∙ ap (λ l. map (part_of (cr ∷ past)) (drop (length l) (parts_for past q))) (sym same) ∙ sym parts-same;
@@ -226,7 +226,7 @@ module _ (h : Header) (past : Trace) (q resp : ℕ) (st : LineState) (accepted :
 -- each list of inboxes that has what one port's is known to be, and the others', stands
 inboxes_from : (r : Recording) (s n : Inboxes) (e : Event) → InboxesStand r s → length n.ports.items ≡ length s.ports.items
     → ((q : ℕ) (c : Inbox) → slice_get n.ports.items q ≡ Some c → (b : Inbox) × (slice_get s.ports.items q ≡ Some b) × (deque_capacity b.parts ≤ deque_capacity c.parts)
-      × (is_ace r.header q ≡ true → InboxStands r.past q b.parts.items b.forwarded → InboxStands (e ∷ r.past) q c.parts.items c.forwarded))
+    × (is_ace r.header q ≡ true → InboxStands r.past q b.parts.items b.forwarded → InboxStands (e ∷ r.past) q c.parts.items c.forwarded))
     → ((x : Transaction) → IsTransaction (e ∷ r.past) x → x.id < 256) → InboxesStand (after r e) n
 inboxes_from r s n e stands size each ids = record {
   size = size ∙ stands.size;
@@ -272,14 +272,19 @@ inboxes_sent r s n e t x m accepted own begun low part kept stands size sends =
   where
     new : issued (length r.past) e ≡ Some x
     new = sym (begun-is r.header r.past e t own) ∙ begun
+
     ids : (y : Transaction) → IsTransaction (e ∷ r.past) y → y.id < 256
     ids = ids-new r e stands.ids (λ y is. let same : x.id ≡ y.id = ap (λ (z : Transaction). z.id) (Some-injective x y (sym new ∙ is)) in omega (arith, same, low))
+
     issued-ids : (y : Transaction) → IsIssued (e ∷ r.past) y → y.id < 256
     issued-ids y i = let k = issued-place_in (e ∷ r.past) y i in ids y k
+
     added : (q : ℕ) → (q ≡ x.port → ⊥) → map (part_of (e ∷ r.past)) (parts_in r.past (issued (length r.past) e) q) ≡ parts_sent m x
     added q off = rw (new, part, ne_eqb x.port q (λ i. off (sym i))) (sent-is e r.past x m new part kept)
+
     own-none : parts_in r.past (issued (length r.past) e) x.port ≡ []
     own-none = rw (new, part, eq-eqb x.port x.port refl) refl
+
     step : (q : ℕ) (b c : Inbox) → deque_capacity b.parts ≤ deque_capacity c.parts → r.header.ports * 256 ≤ deque_capacity b.parts → Receives (sent_to q x.port (parts_sent m x)) b c
         → is_ace r.header q ≡ true → InboxStands r.past q b.parts.items b.forwarded → InboxStands (e ∷ r.past) q c.parts.items c.forwarded
     step q b c more_by room k ace s = elim (cases_eq q x.port) [
@@ -298,8 +303,9 @@ inboxes_sent r s n e t x m accepted own begun low part kept stands size sends =
       where
         grown : (b : Inbox) → length b.parts.items + 0 ≤ deque_capacity b.parts
         grown b = let len = b.parts.ok.0 in let cap = b.parts.small.1 in omega (arith, len, cap)
+
     each : (q : ℕ) (c : Inbox) → slice_get n.ports.items q ≡ Some c → (b : Inbox) × (slice_get s.ports.items q ≡ Some b) × (deque_capacity b.parts ≤ deque_capacity c.parts)
-      × (is_ace r.header q ≡ true → InboxStands r.past q b.parts.items b.forwarded → InboxStands (e ∷ r.past) q c.parts.items c.forwarded)
+        × (is_ace r.header q ≡ true → InboxStands r.past q b.parts.items b.forwarded → InboxStands (e ∷ r.past) q c.parts.items c.forwarded)
     each q c at =
         let b = before-there s.ports.items n.ports.items q c size at in
         let k = sends q b.0 b.1 in
@@ -327,13 +333,15 @@ inboxes_forward r s n p addr snoop accepted message stands f =
   where
     other : (q : ℕ) → (q ≡ p → ⊥) → Idle r.past (Ac p addr snoop) q
     other q off = record { same_answers = refl; no_snoop = rw (ne_eqb q p off) refl }
+
     at_port : (b c : Inbox) → c.parts ≡ b.parts → (b.forwarded < length b.parts.items → c.forwarded ≡ b.forwarded + 1) → InboxStands r.past p b.parts.items b.forwarded
         → InboxStands (Ac p addr snoop ∷ r.past) p c.parts.items c.forwarded
     at_port b c parts count s =
         let low = part_left r.header r.past p addr snoop accepted b.parts.items b.forwarded message s in
         rw (ap (λ v. v.items) parts, count low) (inbox_forwards r.header r.past p addr snoop accepted b.parts.items b.forwarded message s)
+
     each : (q : ℕ) (c : Inbox) → slice_get n.ports.items q ≡ Some c → (b : Inbox) × (slice_get s.ports.items q ≡ Some b) × (deque_capacity b.parts ≤ deque_capacity c.parts)
-      × (is_ace r.header q ≡ true → InboxStands r.past q b.parts.items b.forwarded → InboxStands (Ac p addr snoop ∷ r.past) q c.parts.items c.forwarded)
+        × (is_ace r.header q ≡ true → InboxStands r.past q b.parts.items b.forwarded → InboxStands (Ac p addr snoop ∷ r.past) q c.parts.items c.forwarded)
     each q c at =
         let b = before-there s.ports.items n.ports.items q c f.size at in
         elim (cases_eq q p) [
@@ -341,13 +349,21 @@ inboxes_forward r s n p addr snoop accepted message stands f =
               let k = f.one b.0 (ap (slice_get s.ports.items) (sym same) ∙ b.1) in
               let one : k.0 ≡ c = Some-injective k.0 c (sym k.1 ∙ ap (slice_get n.ports.items) (sym same) ∙ at) in
               let parts : c.parts ≡ b.0.parts = ap (λ (v : Inbox). v.parts) (sym one) ∙ k.2 in
-              let count : b.0.forwarded < length b.0.parts.items → c.forwarded ≡ b.0.forwarded + 1 = λ l. ap (λ (v : Inbox). v.forwarded) (sym one) ∙ k.3 l in
-              (b.0, b.1, same_room b.0 c parts, λ ace st. subst (λ m. InboxStands (Ac p addr snoop ∷ r.past) m c.parts.items c.forwarded) (sym same)
-                (at_port b.0 c parts count (subst (λ m. InboxStands r.past m b.0.parts.items b.0.forwarded) same st)))
+              let count : b.0.forwarded < length b.0.parts.items → c.forwarded ≡ b.0.forwarded + 1 = λ l. ap (λ (v : Inbox). v.forwarded) (sym one) ∙ k.3 l in (
+                b.0,
+                b.1,
+                same_room b.0 c parts,
+                λ ace st. subst (λ m. InboxStands (Ac p addr snoop ∷ r.past) m c.parts.items c.forwarded) (sym same)
+                    (at_port b.0 c parts count (subst (λ m. InboxStands r.past m b.0.parts.items b.0.forwarded) same st)),
+              )
           | inr off ↦
-              let one : b.0 ≡ c = Some-injective b.0 c (sym b.1 ∙ sym (f.others q off) ∙ at) in
-              (b.0, b.1, same_room b.0 c (ap (λ (v : Inbox). v.parts) (sym one)), λ ace st. subst (λ (v : Inbox). InboxStands (Ac p addr snoop ∷ r.past) q v.parts.items v.forwarded) one
-                (inbox_stays r.past (Ac p addr snoop) q b.0.parts.items b.0.forwarded (other q off) refl st))
+              let one : b.0 ≡ c = Some-injective b.0 c (sym b.1 ∙ sym (f.others q off) ∙ at) in (
+                b.0,
+                b.1,
+                same_room b.0 c (ap (λ (v : Inbox). v.parts) (sym one)),
+                λ ace st. subst (λ (v : Inbox). InboxStands (Ac p addr snoop ∷ r.past) q v.parts.items v.forwarded) one
+                    (inbox_stays r.past (Ac p addr snoop) q b.0.parts.items b.0.forwarded (other q off) refl st),
+              )
         ]
 
 pub inboxes_other_ac : (r : Recording) (s : Inboxes) (p addr snoop : ℕ) → IsAccepted r.header (Ac p addr snoop ∷ r.past) → is_some_and (ac_kind_of snoop) is_message_snoop ≡ false
@@ -368,8 +384,9 @@ inboxes_answer r s n p resp st t accepted own message stands f =
     at_port : (b c : Inbox) → c.parts.items ≡ drop 1 b.parts.items → c.forwarded ≡ b.forwarded - 1 → InboxStands r.past p b.parts.items b.forwarded
         → InboxStands (Cr p resp st ∷ r.past) p c.parts.items c.forwarded
     at_port b c items count z = rw (items, count) (inbox_answers r.header r.past p resp st accepted t b.parts.items b.forwarded own message z)
+
     each : (q : ℕ) (c : Inbox) → slice_get n.ports.items q ≡ Some c → (b : Inbox) × (slice_get s.ports.items q ≡ Some b) × (deque_capacity b.parts ≤ deque_capacity c.parts)
-      × (is_ace r.header q ≡ true → InboxStands r.past q b.parts.items b.forwarded → InboxStands (Cr p resp st ∷ r.past) q c.parts.items c.forwarded)
+        × (is_ace r.header q ≡ true → InboxStands r.past q b.parts.items b.forwarded → InboxStands (Cr p resp st ∷ r.past) q c.parts.items c.forwarded)
     each q c at =
         let b = before-there s.ports.items n.ports.items q c f.size at in
         elim (cases_eq q p) [
@@ -378,13 +395,21 @@ inboxes_answer r s n p resp st t accepted own message stands f =
               let one : k.0 ≡ c = Some-injective k.0 c (sym k.1 ∙ ap (slice_get n.ports.items) (sym same) ∙ at) in
               let items : c.parts.items ≡ drop 1 b.0.parts.items = ap (λ (v : Inbox). v.parts.items) (sym one) ∙ k.2 in
               let count : c.forwarded ≡ b.0.forwarded - 1 = ap (λ (v : Inbox). v.forwarded) (sym one) ∙ k.3 in
-              let room : deque_capacity c.parts ≡ deque_capacity b.0.parts = ap (λ (v : Inbox). deque_capacity v.parts) (sym one) ∙ k.4 in
-              (b.0, b.1, omega (arith, room), λ ace z. subst (λ m. InboxStands (Cr p resp st ∷ r.past) m c.parts.items c.forwarded) (sym same)
-                (at_port b.0 c items count (subst (λ m. InboxStands r.past m b.0.parts.items b.0.forwarded) same z)))
+              let room : deque_capacity c.parts ≡ deque_capacity b.0.parts = ap (λ (v : Inbox). deque_capacity v.parts) (sym one) ∙ k.4 in (
+                b.0,
+                b.1,
+                omega (arith, room),
+                λ ace z. subst (λ m. InboxStands (Cr p resp st ∷ r.past) m c.parts.items c.forwarded) (sym same)
+                    (at_port b.0 c items count (subst (λ m. InboxStands r.past m b.0.parts.items b.0.forwarded) same z)),
+              )
           | inr off ↦
-              let one : b.0 ≡ c = Some-injective b.0 c (sym b.1 ∙ sym (f.others q off) ∙ at) in
-              (b.0, b.1, same_room b.0 c (ap (λ (v : Inbox). v.parts) (sym one)), λ ace z. subst (λ (v : Inbox). InboxStands (Cr p resp st ∷ r.past) q v.parts.items v.forwarded) one
-                (inbox_stays r.past (Cr p resp st) q b.0.parts.items b.0.forwarded (record { same_answers = rw (ne_eqb q p off) refl; no_snoop = refl }) refl z))
+              let one : b.0 ≡ c = Some-injective b.0 c (sym b.1 ∙ sym (f.others q off) ∙ at) in (
+                b.0,
+                b.1,
+                same_room b.0 c (ap (λ (v : Inbox). v.parts) (sym one)),
+                λ ace z. subst (λ (v : Inbox). InboxStands (Cr p resp st ∷ r.past) q v.parts.items v.forwarded) one
+                    (inbox_stays r.past (Cr p resp st) q b.0.parts.items b.0.forwarded (record { same_answers = rw (ne_eqb q p off) refl; no_snoop = refl }) refl z),
+              )
         ]
 
 pub inboxes_other_cr : (r : Recording) (s : Inboxes) (p resp : ℕ) (st : LineState) (t : Target) → IsAccepted r.header (Cr p resp st ∷ r.past) → t ≡ target_of r.header r.past (Cr p resp st)

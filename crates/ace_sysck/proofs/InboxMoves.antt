@@ -45,23 +45,25 @@ parts-are (e ∷ past) q = All-append (IsPartFor (e ∷ past) q) (parts_for past
     new : (n : Option Transaction) → issued (length past) e ≡ n → All (IsPartFor (e ∷ past) q) (parts_in past n q)
     new None is = All-nil (IsPartFor (e ∷ past) q)
     new (Some x) is = elim (cases_Bool (is_message_part x && not (nat_eq x.port q))) [
-        | inl t ↦ rw t (message t (first_waiting past x.port) refl)
-        | inr f ↦ rw f (All-nil (IsPartFor (e ∷ past) q))
-      ]
+      | inl t ↦ rw t (message t (first_waiting past x.port) refl)
+      | inr f ↦ rw f (All-nil (IsPartFor (e ∷ past) q))
+    ]
       where
         apart : (is_message_part x && not (nat_eq x.port q)) ≡ true → x.port ≢ q
         apart t same = let bad : not true ≡ true = rw (eq-eqb x.port q same) at (and_parts (is_message_part x) (not (nat_eq x.port q)) t).1 in cc
+
         own : (is_message_part x && not (nat_eq x.port q)) ≡ true → IsPartFor (e ∷ past) q x
         own t = record { there = issued-new e past x is; part = (and_parts (is_message_part x) (not (nat_eq x.port q)) t).0; other = apart t }
+
         message : (is_message_part x && not (nat_eq x.port q)) ≡ true → (o : Option Transaction) → first_waiting past x.port ≡ o → All (IsPartFor (e ∷ past) q) (parts_with o x)
         message t (Some f) was =
             let w = waits-is past x.port f was in
             All-cons (IsPartFor (e ∷ past) q) f (x ∷ []) (record { there = issued-old e past f w.there; part = w.part; other = λ same. apart t (sym w.port ∙ same) })
             (All-cons (IsPartFor (e ∷ past) q) x [] (own t) (All-nil (IsPartFor (e ∷ past) q)))
         message t None was = elim (cases_Bool (has_second x.addr)) [
-            | inl y ↦ rw y (All-nil (IsPartFor (e ∷ past) q))
-            | inr n ↦ rw n (All-cons (IsPartFor (e ∷ past) q) x [] (own t) (All-nil (IsPartFor (e ∷ past) q)))
-          ]
+          | inl y ↦ rw y (All-nil (IsPartFor (e ∷ past) q))
+          | inr n ↦ rw n (All-cons (IsPartFor (e ∷ past) q) x [] (own t) (All-nil (IsPartFor (e ∷ past) q)))
+        ]
 
 -- a part is a read
 part-reads : (x : Transaction) → is_message_part x ≡ true → x.chan ≡ Read
@@ -105,9 +107,6 @@ unanswered-out h past q k d accepted ace low =
     let read = part-reads z i.part in
     ap (λ c. outstanding h past z.port c z.id) (sym read) ∙ outstanding_is h past z i.there (still-outstanding h past z accepted i.there read incomplete)
 
-
-
-
 -- so there are no more of them than names
 pub few-unanswered : (h : Header) (past : Trace) (q : ℕ) → IsAccepted h past → is_ace h q ≡ true → ((x : Transaction) → IsIssued past x → x.id < 256)
     → length (unanswered past q) ≤ h.ports * 256
@@ -115,16 +114,20 @@ few-unanswered h past q accepted ace ids = few_apart (λ (x : Transaction). slot
   where
     xs : List Transaction
     xs = unanswered past q
+
     a : ℕ
     a = length (answered_parts past q)
+
     is : (k : ℕ) (d : Transaction) → k < length xs → IsPartFor past q (get_or xs k d)
     is k d low = All-get_or (IsPartFor past q) xs k d low (All-drop (IsPartFor past q) a (parts_for past q) (parts-are past q))
+
     below : All (λ (x : Transaction). slot_of x.port x.id < h.ports * 256) xs
     below k d low =
         let i = is k d low in
         let port = issued-within h past (get_or xs k d) accepted i.there in
         let id = ids (get_or xs k d) i.there in
         omega arith
+
     apart : AllPairs (λ (x : Transaction) (y : Transaction). slot_of x.port x.id ≢ slot_of y.port y.id) xs
     apart i j d low within same =
         let x = get_or xs i d in
@@ -160,27 +163,32 @@ sent-is e past x m new part s = go (first_waiting past x.port) refl (m.first) s.
   where
     now : at_point x.place (e ∷ past) ≡ past
     now = at_point-last e past x.place (issued-place (length past) e x new)
+
     whole : Trace → Part
     whole t = record { transaction = x; second = is_some (first_waiting t x.port); sync = is_message_part x && is_sync_word x.addr && not (is_some (first_waiting t x.port)) }
+
     last-second : (f : Transaction) → first_waiting past x.port ≡ Some f → part_of (e ∷ past) x ≡ record { transaction = x; second = true; sync = false }
     last-second f was = ap whole now ∙ rw was (ap (λ b. record { transaction = x; second = true; sync = b }) (and_right (is_message_part x && is_sync_word x.addr) false refl))
+
     last-only : first_waiting past x.port ≡ None → part_of (e ∷ past) x ≡ record { transaction = x; second = false; sync = is_sync_word x.addr }
     last-only was = ap whole now ∙ rw (was, part) (ap (λ b. record { transaction = x; second = false; sync = b }) (true-right (is_sync_word x.addr)))
       where
         true-right : (b : Bool) → (b && true) ≡ b
         true-right true = refl
         true-right false = refl
+
     first-is : (f : Transaction) → Waits (e ∷ past) x.port f → part_of (e ∷ past) f ≡ record { transaction = f; second = false; sync = is_sync_word f.addr }
     first-is f w = rw (w.part, w.first) (ap (λ b. record { transaction = f; second = false; sync = b }) (true-right (is_sync_word f.addr)))
       where
         true-right : (b : Bool) → (b && true) ≡ b
         true-right true = refl
         true-right false = refl
+
     go : (o : Option Transaction) → first_waiting past x.port ≡ o → (n : Option Transaction) → n ≡ first_waiting past x.port → map (part_of (e ∷ past)) (parts_with o x) ≡ parts_sent m x
     go (Some f) was n is =
         rw (s.first, was) (ap (λ v. v ∷ part_of (e ∷ past) x ∷ []) (first-is f (waits-old e past x.port f (waits-is past x.port f was)))
         ∙ ap (λ v. record { transaction = f; second = false; sync = is_sync_word f.addr } ∷ v ∷ []) (last-second f was))
     go None was n is = elim (cases_Bool (has_second x.addr)) [
-        | inl t ↦ rw (s.first, was, t) refl
-        | inr f ↦ rw (s.first, was, f) (ap (λ v. v ∷ []) (last-only was))
-      ]
+      | inl t ↦ rw (s.first, was, t) refl
+      | inr f ↦ rw (s.first, was, f) (ap (λ v. v ∷ []) (last-only was))
+    ]

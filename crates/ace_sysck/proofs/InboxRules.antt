@@ -82,10 +82,10 @@ apart_parts xs ys x apart has =
     let low_a = a.1 in
     let long = length-append xs ys in
     list_any_none (λ y. nat_eq y.place x.place) ys (λ k d low. ne_eqb (get_or ys k d).place x.place (λ e.
-      let first : get_or (xs ++ ys) a.0 d ≡ get_or xs a.0 x = get_or_append_left xs ys d a.0 low_a ∙ get_or_default xs a.0 d x low_a in
-      let second : get_or (xs ++ ys) (length xs + k) d ≡ get_or ys k d = get_or-append-add xs ys k d in
-      apart a.0 (length xs + k) d (omega (arith, low_a)) (omega (arith, low, long))
-      (ap (λ (z : Transaction). z.place) first ∙ a.2 ∙ sym e ∙ ap (λ (z : Transaction). z.place) (sym second))))
+    let first : get_or (xs ++ ys) a.0 d ≡ get_or xs a.0 x = get_or_append_left xs ys d a.0 low_a ∙ get_or_default xs a.0 d x low_a in
+    let second : get_or (xs ++ ys) (length xs + k) d ≡ get_or ys k d = get_or-append-add xs ys k d in
+    apart a.0 (length xs + k) d (omega (arith, low_a)) (omega (arith, low, long))
+    (ap (λ (z : Transaction). z.place) first ∙ a.2 ∙ sym e ∙ ap (λ (z : Transaction). z.place) (sym second))))
 
 -- the parts that a port has answered are the first of those for it
 pub answered-take : (past : Trace) (q : ℕ) → take (length (answered_parts past q)) (parts_for past q) ≡ answered_parts past q
@@ -126,10 +126,12 @@ answered-is past x q i part other =
     unwaited has None is = refl
     unwaited has (Some f) is =
         ne_eqb x.place f.place (λ e.
-          let bad : false ≡ true = sym (without-part (parts_for past q) f x (waiting-apart past x.port q f is) (sym e)) ∙ has in cc)
+        let bad : false ≡ true = sym (without-part (parts_for past q) f x (waiting-apart past x.port q f is) (sym e)) ∙ has in cc)
+
     one : (a d : Bool) → (a || d) ≡ true → (a ≡ true → d ≡ false) → a ≡ not (false || d)
     one true d some apart = rw (apart refl) refl
     one false d some apart = let t : d ≡ true = some in rw t refl
+
     none : first_waiting past x.port ≡ Some x → (has_answered past x q ≡ true) ⊎ (has_answered past x q ≡ false) → has_answered past x q ≡ false
     none waits (inl t) =
         let bad : false ≡ true =

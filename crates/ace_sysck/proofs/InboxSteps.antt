@@ -52,10 +52,10 @@ pub sends_one : (s n : Inboxes) (q sender : ℕ) (sent : List Part) (b c : Inbox
 sends_one s n q sender sent b c other at receives items = record {
   size = ap length items ∙ length-set s.ports.items q c;
   one = λ d there. (
-      c,
-      ap (λ l. slice_get l q) items ∙ slice_get-set_same s.ports.items q c (slice_get_within s.ports.items q b at),
-      rw (ne_eqb q sender other) (subst (λ v. Receives sent v c) (Some-injective b d (sym at ∙ there)) receives),
-    );
+    c,
+    ap (λ l. slice_get l q) items ∙ slice_get-set_same s.ports.items q c (slice_get_within s.ports.items q b at),
+    rw (ne_eqb q sender other) (subst (λ v. Receives sent v c) (Some-injective b d (sym at ∙ there)) receives),
+  );
   others = λ k off. ap (λ l. slice_get l k) items ∙ slice_get-set_other s.ports.items q k c off;
 }
 

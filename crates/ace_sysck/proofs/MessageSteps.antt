@@ -68,11 +68,14 @@ issued_part past e x m new part no_ac s = record {
   where
     p : ℕ
     p = x.port
+
     now : sync_in past (issued (length past) e) p ≡ (if is_new_sync m x then Some x else None)
     now = ap (λ o. sync_in past o p) new ∙ sync-now past x m s (issued-place (length past) e x new) part
+
     by : (is_new_sync m x ≡ true) ⊎ (is_new_sync m x ≡ false) → (if is_new_sync m x then Some x else m.sync) ≡ newer (sync_in past (issued (length past) e) p) (last_sync past p)
     by (inl t) = rw (now, t) refl
     by (inr f) = rw (now, f) s.sync
+
     done : (y : Transaction) → newer (sync_in past (issued (length past) e) p) (last_sync past p) ≡ Some y → (is_new_sync m x ≡ true) ⊎ (is_new_sync m x ≡ false)
         → (not (is_new_sync m x) && m.sync_done) ≡ is_completed (e ∷ past) y
     done y is (inl t) =
@@ -81,6 +84,7 @@ issued_part past e x m new part no_ac s = record {
     done y is (inr f) =
         let was : last_sync past p ≡ Some y = sym (ap (λ o. newer o (last_sync past p)) (now ∙ ap (λ b. if b then Some x else None) f)) ∙ is in
         rw (f, issue-hits past e x y new) (s.sync_done y was)
+
     completed : (is_new_sync m x ≡ true) ⊎ (is_new_sync m x ≡ false) → (not (is_new_sync m x) && m.sync_completed) ≡ is_sync_completed (e ∷ past) p
     completed (inl t) = rw (t, no_ac, now, t) refl
     completed (inr f) = rw (f, no_ac, now, f) s.sync_completed
@@ -133,10 +137,13 @@ answers-no_ac h past e x p a = refl
 
 -- a transaction that is no part of the port
 unpart : (past : Trace) (x : Transaction) (p : ℕ) → (is_message_part x && nat_eq x.port p) ≡ false → (part_in (Some x) p ≡ None) × (sync_in past (Some x) p ≡ None)
-unpart past x p other = (rw other refl, elim (cases_Bool (is_message_part x)) [
+unpart past x p other = (
+  rw other refl,
+  elim (cases_Bool (is_message_part x)) [
     | inl t ↦ let f : nat_eq x.port p ≡ false = rw t at other in rw f (none (is_sync past x))
     | inr f ↦ rw f refl
-  ])
+  ],
+)
   where
     none : (b : Bool) → (if b && false then Some x else None) ≡ None
     none true = refl
@@ -150,8 +157,8 @@ messages_part r s n e t x accepted own begun part stands items =
     messages_set r s n e x.port (part_issued m x) stands (port_within r.header r.past e x.port accepted (issuing-port r.past e x new)) items
     (issued_part r.past e x m new part (issues-no_ac r.past e x x.port new) (stands.ports x.port))
     (λ p k off.
-      let u = unpart r.past x p (rw part (ne_eqb x.port p off)) in
-      stays r.past e p k (ap (λ o. part_in o p) new ∙ u.0) (ap (λ o. sync_in r.past o p) new ∙ u.1) (issues-no_ac r.past e x p new) (λ y is. issue-hits r.past e x y new))
+    let u = unpart r.past x p (rw part (ne_eqb x.port p off)) in
+    stays r.past e p k (ap (λ o. part_in o p) new ∙ u.0) (ap (λ o. sync_in r.past o p) new ∙ u.1) (issues-no_ac r.past e x p new) (λ y is. issue-hits r.past e x y new))
 
 pub messages_plain : (r : Recording) (s : Messages) (e : Event) (t : Target) (x : Transaction) → t ≡ target_of r.header r.past e → begun_in e t ≡ Some x
     → is_message_part x ≡ false → MessagesStand r s → MessagesStand (after r e) s
@@ -174,11 +181,11 @@ messages_completed r s n e t x accepted own completed stands items =
     messages_set r s n e x.port (part_completed m x.place) stands (port_within r.header r.past e x.port accepted k.port) items
     (completed_part r.past e x x.port m none (answers-no_ac r.header r.past e x x.port d.answers) hit (stands.ports x.port))
     (λ p b off. stays r.past e p b (ap (λ o. part_in o p) none) (ap (λ o. sync_in r.past o p) none) (answers-no_ac r.header r.past e x p d.answers)
-      (λ y is.
-        let sync = last_sync-is r.past p y is in
-        hit y ∙ ne_eqb x.place y.place (λ at.
-          let one : x ≡ y = Some-injective x y (sym k.there.there ∙ ap (issued_at r.past) at ∙ sync.0.issued.there) in
-          off (ap (λ (z : Transaction). z.port) one ∙ sync.1))))
+    (λ y is.
+    let sync = last_sync-is r.past p y is in
+    hit y ∙ ne_eqb x.place y.place (λ at.
+    let one : x ≡ y = Some-injective x y (sym k.there.there ∙ ap (issued_at r.past) at ∙ sync.0.issued.there) in
+    off (ap (λ (z : Transaction). z.port) one ∙ sync.1))))
 
 pub messages_told : (r : Recording) (s n : Messages) (q addr snoop : ℕ) → IsAccepted r.header (Ac q addr snoop ∷ r.past) → is_some_and (ac_kind_of snoop) is_complete_snoop ≡ true
     → MessagesStand r s → n.ports.items ≡ slice_set s.ports.items q (told_complete (get_or s.ports.items q silent)) → MessagesStand (after r (Ac q addr snoop)) n

@@ -120,10 +120,12 @@ monitors_leave r s t e q line st stands within leaves items =
   where
     h : Header
     h = r.header
+
     after-is : (p l : ℕ) → is_monitored h (e ∷ r.past) p l ≡ (is_monitored h r.past p l && not (is_some_and (left_by h r.past e p l) is_invalid))
     after-is p l =
         monitored-after h r.past e p l (λ t. sym (leaves.sets_none p l (is_monitored h r.past p l)) ∙ t)
         ∙ ap (λ b. b && not (is_some_and (left_by h r.past e p l) is_invalid)) (leaves.sets_none p l (is_monitored h r.past p l))
+
     says : (p l : ℕ) → is_monitored h (e ∷ r.past) p l
         ≡ (if nat_eq q p then is_line_of (kept_after (get_or s.lines.items q None) line st) l else is_monitored h r.past p l)
     says p l =
@@ -198,14 +200,17 @@ monitors_exclusive_load r s t q addr w word accepted stands within items = monit
   where
     h : Header
     h = r.header
+
     held : is_invalid (state_of h r.past q addr) ≡ false
     held = not-true (is_invalid (state_of h r.past q addr)) (accepted_keeps h r.past (L q addr w true word) accepted).rule_30
+
     at : (p l : ℕ) → q ≡ p → (nat_eq l addr && not (is_invalid (state_of h r.past p l))) ≡ nat_eq addr l
     at p l same =
         elim (cases_eq addr l) [
           | inl here ↦ rw (← same, ← here, eq-eqb addr addr refl, held) refl
           | inr off ↦ rw (ne_eqb addr l off, ne_eqb l addr (λ e. off (sym e))) refl
         ]
+
     says : (p l : ℕ) → is_monitored h (L q addr w true word ∷ r.past) p l ≡ (if nat_eq q p then is_line_of (Some addr) l else is_monitored h r.past p l)
     says p l =
         elim (cases_eq q p) [
@@ -226,10 +231,13 @@ monitors_exclusive_store r s t q addr strobe line stands within items = monitors
   where
     e : Event
     e = D q addr strobe true line
+
     h : Header
     h = r.header
+
     was-of : (p : ℕ) (was : Bool) → (was && not (nat_eq p q && true)) ≡ true → was ≡ true
     was-of p was t = (and_parts was _ t).0
+
     says : (p l : ℕ) → is_monitored h (e ∷ r.past) p l ≡ (if nat_eq q p then is_line_of None l else is_monitored h r.past p l)
     says p l =
         monitored-after h r.past e p l (was-of p (is_monitored h r.past p l))
@@ -245,6 +253,7 @@ monitors_exclusive_store r s t q addr strobe line stands within items = monitors
             off : (b : Bool) → (b && false && true) ≡ false
             off true = refl
             off false = refl
+
             on : (b : Bool) → (b && true && true) ≡ b
             on true = refl
             on false = refl
@@ -256,9 +265,9 @@ leaves_one : {h : Header} {past : Trace} (e : Event) (q : ℕ) (line : Option �
 leaves_one e q line st test sets_none left one = record {
   sets_none = sets_none;
   leaves = λ p l. left p l ∙ (elim (cases_eq p q) [
-      | inl same ↦ rw (eq-eqb p q same) (ap (λ b. if b then Some st else None) (ap (λ m. test m l) same ∙ one l))
-      | inr off ↦ rw (ne_eqb p q off) refl
-    ]);
+    | inl same ↦ rw (eq-eqb p q same) (ap (λ b. if b then Some st else None) (ap (λ m. test m l) same ∙ one l))
+    | inr off ↦ rw (ne_eqb p q off) refl
+  ]);
 }
 
 -- an accepted event that leaves its port in a state of a line leaves it so of the line of its target

@@ -45,6 +45,7 @@ waits-is (e ∷ past) p f w = go (λ g is. waits-is past p g is) (first_waiting 
         let s = some_where-is (λ z. is_message_part z && nat_eq z.port p) y x e in
         let parts = and_parts (is_message_part x) (nat_eq x.port p) s.1 in
         (ap Some s.0, parts.0, eqb-true x.port p parts.1)
+
     go : ((g : Transaction) → first_waiting past p ≡ Some g → Waits past p g) → (o : Option Transaction) → first_waiting past p ≡ o
         → (n : Option Transaction) → part_in (issued (length past) e) p ≡ n → waits_after o n ≡ Some f → Waits (e ∷ past) p f
     go before o was None new w = waits-old e past p f (before f (was ∙ w))
@@ -102,6 +103,7 @@ waiting-apart (e ∷ past) p q f w = go (waiting-apart past p q f) (first_waitin
               (λ same. let low = wf.there.before in absurd (omega (arith, same, at, low))))
           | inr n ↦ rw n (All-nil (λ z. z.place ≢ f.place))
         ])
+
     mine : (o : Option Transaction) → first_waiting past p ≡ o → (x : Transaction) → issued (length past) e ≡ Some x → (is_message_part x && nat_eq x.port p) ≡ true
         → waits_after o (Some x) ≡ Some f → AreOthers f (parts_for past q ++ parts_in past (Some x) q)
     mine (Some g) was x new t w = cc
@@ -117,6 +119,7 @@ waiting-apart (e ∷ past) p q f w = go (waiting-apart past p q f) (first_waitin
           | inl y ↦ rw (y, port, was, second) (All-nil (λ z. z.place ≢ f.place))
           | inr n ↦ rw n (All-nil (λ z. z.place ≢ f.place))
         ])
+
     go : (first_waiting past p ≡ Some f → AreOthers f (parts_for past q)) → (o : Option Transaction) → first_waiting past p ≡ o
         → (n : Option Transaction) → issued (length past) e ≡ n → waits_after o (part_in n p) ≡ Some f → AreOthers f (parts_for past q ++ parts_in past n q)
     go before o was None new w = old before None new refl (was ∙ w)
@@ -132,20 +135,22 @@ parts-apart (e ∷ past) q = go (parts-apart past q) (issued (length past) e) re
   where
     xs : List Transaction
     xs = parts_for past q
+
     go : AreApart (λ (x : Transaction). x.place) xs → (n : Option Transaction) → issued (length past) e ≡ n → AreApart (λ x. x.place) (parts_for past q ++ parts_in past n q)
     go before None new = subst (AreApart (λ (x : Transaction). x.place)) (sym (append-nil xs)) before
     go before (Some x) new = elim (cases_Bool (is_message_part x && not (nat_eq x.port q))) [
-        | inl t ↦ rw t (message (first_waiting past x.port) refl)
-        | inr n ↦ rw n (subst (AreApart (λ (x : Transaction). x.place)) (sym (append-nil xs)) before)
-      ]
+      | inl t ↦ rw t (message (first_waiting past x.port) refl)
+      | inr n ↦ rw n (subst (AreApart (λ (x : Transaction). x.place)) (sym (append-nil xs)) before)
+    ]
       where
         at : x.place ≡ length past
         at = issued-place (length past) e x new
+
         message : (o : Option Transaction) → first_waiting past x.port ≡ o → AreApart (λ (x : Transaction). x.place) (parts_for past q ++ parts_with o x)
         message None was = elim (cases_Bool (has_second x.addr)) [
-            | inl t ↦ rw t (subst (AreApart (λ (x : Transaction). x.place)) (sym (append-nil xs)) before)
-            | inr n ↦ rw n (all_pairs_push (λ x z. x.place ≢ z.place) xs x before (others-below xs x (length past) (parts-placed past q) (omega (arith, at))))
-          ]
+          | inl t ↦ rw t (subst (AreApart (λ (x : Transaction). x.place)) (sym (append-nil xs)) before)
+          | inr n ↦ rw n (all_pairs_push (λ x z. x.place ≢ z.place) xs x before (others-below xs x (length past) (parts-placed past q) (omega (arith, at))))
+        ]
         message (Some g) was =
             let w = waits-is past x.port g was in
             let low = w.there.before in
@@ -177,20 +182,25 @@ forwards-kind h past (Ac p addr snoop) q s accepted is = by (cases_Bool (is_some
   where
     here : (nat_eq q p ≡ true) × (record { place = length past; addr = addr; snoop = snoop } ≡ s)
     here = some_if-is (nat_eq q p) _ s is
+
     rule : is_none_or (ac_kind_of s.snoop) (forwards_next past q s.addr) ≡ true
     rule = subst (λ (z : Snoop). is_none_or (ac_kind_of z.snoop) (forwards_next past q z.addr) ≡ true) here.1
         (subst (λ n. is_none_or (ac_kind_of snoop) (forwards_next past n addr) ≡ true) (sym (eqb-true q p here.0)) (accepted_keeps h past (Ac p addr snoop) accepted).rule_36)
+
     found : (o : Option SnoopKind) (next : Option Transaction) → is_some_and o is_message_snoop ≡ true
         → is_none_or o (λ k. implies (is_message_snoop k || is_some_and next (is_second_part past)) (is_message_snoop k && is_some_and next (λ x. nat_eq x.addr s.addr))) ≡ true
         → is_some_and next (λ x. nat_eq x.addr s.addr) ≡ true
     found None next m r = cc
     found (Some k) next m r = (and_parts true _ (rw m at r)).1
+
     forwards-some : (next : Option Transaction) → is_some_and (ac_kind_of s.snoop) is_message_snoop ≡ true → is_some_and next (λ x. nat_eq x.addr s.addr) ≡ true → is_some (forwards next s) ≡ true
     forwards-some None m a = cc
     forwards-some (Some x) m a = rw (m, a) refl
+
     forwards-none : (next : Option Transaction) → is_some_and (ac_kind_of s.snoop) is_message_snoop ≡ false → is_some (forwards next s) ≡ false
     forwards-none None m = refl
     forwards-none (Some x) m = rw m refl
+
     by : (is_some_and (ac_kind_of s.snoop) is_message_snoop ≡ true) ⊎ (is_some_and (ac_kind_of s.snoop) is_message_snoop ≡ false)
         → is_some (forwards (next_after past q (forwarded past q)) s) ≡ is_some_and (ac_kind_of s.snoop) is_message_snoop
     by (inl t) = forwards-some (next_after past q (forwarded past q)) t (found (ac_kind_of s.snoop) (next_after past q (forwarded past q)) t rule) ∙ sym t

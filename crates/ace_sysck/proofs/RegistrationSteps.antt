@@ -132,12 +132,15 @@ registrations_lock r s n e t x kept new accepted few own is stands keeps sets he
   where
     k : Locks r.header r.past e x
     k = locked-at r.header r.past e t x own is
+
     low : x.port < 32
     low = let within = port_within r.header r.past e x.port accepted k.named in omega arith
+
     at_line : (p : ℕ) → nat_eq (bit_at (registered_bits n x.addr) p) 1 ≡ is_registered (e ∷ r.past) p x.addr
     at_line p =
         ap (λ o. nat_eq (bit_at (unwrap_or o 0) p) 1) here ∙ sets low p ∙ bits_after x p (registered_bits s x.addr) kept keeps
         ∙ rw (stands.lines p x.addr, stands.lines x.port x.addr) (sym (k.registered p x.addr ∙ rw (k.lock, k.line, eq-eqb x.addr x.addr refl) refl))
+
     lines : (p l : ℕ) → nat_eq (bit_at (registered_bits n l) p) 1 ≡ is_registered (e ∷ r.past) p l
     lines p l =
         elim (cases_eq l x.addr) [
@@ -146,6 +149,7 @@ registrations_lock r s n e t x kept new accepted few own is stands keeps sets he
               ap (λ o. nat_eq (bit_at (unwrap_or o 0) p) 1) (there l off) ∙ stands.lines p l
               ∙ sym (k.registered p l ∙ rw (k.lock, k.line, ne_eqb x.addr l (λ q. off (sym q))) refl)
         ]
+
     known : (l : ℕ) → was_locked (e ∷ r.past) l ≡ true → IsSome (get nat_eq n.lines l)
     known l was =
         elim (cases_eq l x.addr) [

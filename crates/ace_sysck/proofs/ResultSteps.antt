@@ -105,6 +105,7 @@ results_stay_at r s e not_ar not_g stands = results_stay r s e (λ p i. unnamed 
     unnamed (Ar q j addr snoop dom bar lock) other p i = absurd (other q j addr snoop dom bar lock refl)
     unnamed (Aw q j addr snoop dom bar) other p i = write_unnamed (write_issued r.past q j addr snoop dom bar) p i refl
     unnamed d other p i = refl
+
     ungiven : (d : Event) → ((q : ℕ) (c : Channel) (j : ℕ) → d ≡ G q c j → ⊥) → is_some_and (given r.past d) is_exclusive_store ≡ false
     ungiven (G q c j) other = absurd (other q c j refl)
     ungiven d other = refl

@@ -76,6 +76,7 @@ first-plain h (e ∷ past) p f accepted w = go (λ g. first-plain h past p g acc
               let bad : false ≡ true = sym none ∙ ap (λ (z : Transaction). has_second z.addr) s.0 ∙ s.1 in cc
           | inr n ↦ n
         ]
+
     go : ((g : Transaction) → first_waiting past p ≡ Some g → is_sync_word g.addr ≡ false) → (o : Option Transaction) → first_waiting past p ≡ o
         → (n : Option Transaction) → issued (length past) e ≡ n → waits_after o (part_in n p) ≡ Some f → is_sync_word f.addr ≡ false
     go before o was None new w = before f (was ∙ w)
@@ -165,6 +166,7 @@ syncs-few h (e ∷ past) q accepted =
     at_most : (b : Bool) (n : ℕ) → n ≡ (if b then 1 else 0) → n ≤ 1
     at_most true n is = omega arith
     at_most false n is = omega arith
+
     new-few : (n : Option Transaction) → issued (length past) e ≡ n → (is_some_and (issued (length past) e) is_message_part ≡ true) ⊎ (is_some_and (issued (length past) e) is_message_part ≡ false)
         → count_by (is_sync (e ∷ past)) (parts_in past (issued (length past) e) q) ≤ 1
     new-few n is (inr plain) = let zero_is = plain-syncs past e (issued (length past) e) q plain in omega arith
@@ -280,10 +282,13 @@ port_reached h past e x q s accepted few_ports few new part sync within k = reco
   where
     not_cr : (resp : ℕ) (st : LineState) → e ≡ Cr q resp st → ⊥
     not_cr resp st is = let bad : None ≡ Some x = sym (ap (issued (length past)) is) ∙ new in cc
+
     small_count : syncs_for past q < 2 ^ 64 - 1
     small_count = let n = syncs-few h past q accepted.0 in omega arith
+
     next : next_count s.reached ≡ syncs_for past q + 1
     next = next-is s.reached (syncs_for past q) k.reached small_count
+
     reached : (q ≡ x.port) ⊎ (q ≡ x.port → ⊥) → (if nat_eq q x.port then s.reached else next_count s.reached) ≡ syncs_for (e ∷ past) q
     reached (inl same) =
         let none : count_by (is_sync (e ∷ past)) (parts_in past (issued (length past) e) q) ≡ 0 = ap (λ m. count_by (is_sync (e ∷ past)) (parts_in past (issued (length past) e) m)) same ∙ own-syncs h past e x accepted new part in
@@ -291,6 +296,7 @@ port_reached h past e x q s accepted few_ports few new part sync within k = reco
     reached (inr off) =
         let one : count_by (is_sync (e ∷ past)) (parts_in past (issued (length past) e) q) ≡ 1 = sent-syncs h past e x accepted new part q (λ i. off (sym i)) ∙ rw sync refl in
         rw (ne_eqb q x.port off) (next ∙ (let sum = grown e past q in omega arith))
+
     numbers : (p : ℕ) (y : Transaction) → p < 32 → last_sync (e ∷ past) p ≡ Some y → (p ≡ x.port) ⊎ (p ≡ x.port → ⊥) → get_or (slice_set s.numbers x.port (next_count s.reached)) p 0 ≡ sync_number (e ∷ past) y q
     numbers p y small is (inl same) =
         let issues : sync_in past (issued (length past) e) p ≡ Some x = sync-in past e x p new part ∙ rw (sync, eq-eqb x.port p (sym same)) refl in
@@ -312,7 +318,7 @@ port_completed : (h : Header) (past : Trace) (e : Event) (x : Transaction) (s : 
     → is_message_part x ≡ false → is_dvm_completion x ≡ true → PortSyncsStand past x.port s → PortSyncsStand (e ∷ past) x.port (one_completed s)
 port_completed h past e x s accepted few new plain completion k =
     let z = port_stays-but h past e x.port s accepted (λ resp st is. let bad : None ≡ Some x = sym (ap (issued (length past)) is) ∙ new in cc)
-        (plain-syncs past e (issued (length past) e) x.port (rw new plain)) (λ p. no_sync-in past e (issued (length past) e) p (rw new plain)) k in
+    (plain-syncs past e (issued (length past) e) x.port (rw new plain)) (λ p. no_sync-in past e (issued (length past) e) p (rw new plain)) k in
     record {
       reached = z.0;
       answered = z.1;
@@ -328,15 +334,15 @@ port_completed h past e x s accepted few new plain completion k =
         → count_by (is_sync (e ∷ past)) (parts_in past (issued (length past) e) q) ≡ 0 → ((p : ℕ) → sync_in past (issued (length past) e) p ≡ None)
         → PortSyncsStand past q s
         → (s.reached ≡ syncs_for (e ∷ past) q) × (s.answered ≡ answered_syncs (e ∷ past) q)
-          × ((p : ℕ) (y : Transaction) → p < 32 → last_sync (e ∷ past) p ≡ Some y → get_or s.numbers p 0 ≡ sync_number (e ∷ past) y q)
+        × ((p : ℕ) (y : Transaction) → p < 32 → last_sync (e ∷ past) p ≡ Some y → get_or s.numbers p 0 ≡ sync_number (e ∷ past) y q)
     port_stays-but h past e q s accepted not_cr none plain k = (
-        (let was = k.reached in let sum = grown e past q in omega arith),
-        k.answered ∙ sym (answered-count e past q (answered-same h past e q accepted not_cr)),
-        λ p y small is.
+      (let was = k.reached in let sum = grown e past q in omega arith),
+      k.answered ∙ sym (answered-count e past q (answered-same h past e q accepted not_cr)),
+      λ p y small is.
           let was : last_sync past p ≡ Some y = sym (no_sync past e plain p) ∙ is in
           let low = (last_sync-is past p y was).0.issued.before in
           k.numbers p y small was ∙ sym (number-old e past y q low),
-      )
+    )
 
 -- a CR of the port: what it answers, and whether that is a Sync
 module _ (h : Header) (past : Trace) (q resp : ℕ) (st : LineState) (accepted : IsAccepted h (Cr q resp st ∷ past)) (t : Target) (own : t ≡ target_of h past (Cr q resp st)) where
@@ -378,8 +384,10 @@ module _ (h : Header) (past : Trace) (q resp : ℕ) (st : LineState) (accepted :
     where
       k : Forwards past q (answers past q) (snoop_there h past q resp st accepted).0
       k = forwards-part
+
       below : (y : Transaction) → slice_get (unanswered past q) 0 ≡ Some y → y.place < length past
       below y there = slice_get-all (IsBelow (length past)) (unanswered past q) 0 y (All-drop (IsBelow (length past)) (length (answered_parts past q)) (parts_for past q) (parts-placed past q)) there
+
       go : (o : Option Transaction) → forwards-part.part ≡ o → answered_syncs (cr_event ∷ past) q ≡ answered_syncs past q + (if sync then 1 else 0)
       go None is = let bad : false ≡ true = sym (ap is_some is) ∙ is-message forwards-part.part forwards-part.kind ∙ message in cc
       go (Some y) is =
@@ -388,7 +396,7 @@ module _ (h : Header) (past : Trace) (q resp : ℕ) (st : LineState) (accepted :
           let same : is_sync (cr_event ∷ past) y ≡ sync = sync-old cr_event past y (below y there) ∙ sym (first-sync s r hs ps stands ace y there) ∙ sym told in
           ap (count_by (is_sync (cr_event ∷ past))) new ∙ sum_by_push (λ z. cond {A = ℕ} (is_sync (cr_event ∷ past) z) 1 0) (answered_parts past q) y
           ∙ ap (λ n. n + cond {A = ℕ} (is_sync (cr_event ∷ past) y) 1 0)
-            (count-old cr_event past (answered_parts past q) (start-all (IsBelow (length past)) (answered_parts past q) (parts_for past q) (answered-first past q) (parts-placed past q)))
+          (count-old cr_event past (answered_parts past q) (start-all (IsBelow (length past)) (answered_parts past q) (parts_for past q) (answered-first past q) (parts-placed past q)))
           ∙ ap (λ b. answered_syncs past q + cond {A = ℕ} b 1 0) same
 
   -- so what is kept of the port
@@ -453,8 +461,10 @@ syncs_part r s e t x m step begun part other kept stands = syncs_all r s e stand
   where
     new : issued (length r.past) e ≡ Some x
     new = sym (begun-is r.header r.past e t step.target) ∙ begun
+
     plain : (is_sync_word x.addr && not (is_some (first_waiting r.past x.port))) ≡ false
     plain = ap (λ o. is_sync_word x.addr && not (is_some o)) (sym kept.first) ∙ other
+
     none : (q : ℕ) → (x.port ≡ q) ⊎ (x.port ≡ q → ⊥) → count_by (is_sync (e ∷ r.past)) (parts_in r.past (issued (length r.past) e) q) ≡ 0
     none q (inl same) = ap (λ k. count_by (is_sync (e ∷ r.past)) (parts_in r.past (issued (length r.past) e) k)) (sym same) ∙ own-syncs r.header r.past e x step.accepted new part
     none q (inr off) = sent-syncs r.header r.past e x step.accepted new part q off ∙ ap (λ b. if b then 1 else 0) plain
@@ -466,10 +476,11 @@ syncs_completion r s n e t x step begun plain completion stands items =
     syncs_set r s n e x.port (one_completed (get_or s.ports.items x.port untold)) stands within items
     (port_completed r.header r.past e x (get_or s.ports.items x.port untold) step.accepted step.few new plain completion (stands.ports x.port within))
     (λ p k off st. port_stays r.header r.past e p k step.accepted (issues-no_cr r.past e x p new) (plain-syncs r.past e (issued (length r.past) e) p (rw new plain))
-      (λ m. no_sync-in r.past e (issued (length r.past) e) m (rw new plain)) (completes-same r.past e p (rw (new, completion, ne_eqb x.port p off) refl)) st)
+    (λ m. no_sync-in r.past e (issued (length r.past) e) m (rw new plain)) (completes-same r.past e p (rw (new, completion, ne_eqb x.port p off) refl)) st)
   where
     new : issued (length r.past) e ≡ Some x
     new = sym (begun-is r.header r.past e t step.target) ∙ begun
+
     within : x.port < r.header.ports
     within = port_within r.header r.past e x.port step.accepted (issuing-port r.past e x new)
 
@@ -479,7 +490,7 @@ pub syncs_plain : (r : Recording) (s : Syncs) (e : Event) (t : Target) (x : Tran
 syncs_plain r s e t x step begun plain other stands =
     let new : issued (length r.past) e ≡ Some x = sym (begun-is r.header r.past e t step.target) ∙ begun in
     syncs_all r s e stands (λ p k st. port_stays r.header r.past e p k step.accepted (issues-no_cr r.past e x p new) (plain-syncs r.past e (issued (length r.past) e) p (rw new plain))
-      (λ m. no_sync-in r.past e (issued (length r.past) e) m (rw new plain)) (completes-same r.past e p (rw (new, other) refl)) st)
+    (λ m. no_sync-in r.past e (issued (length r.past) e) m (rw new plain)) (completes-same r.past e p (rw (new, other) refl)) st)
 
 -- an event that issues nothing, for a port of which it is no CR
 quiet_port : (h : Header) (past : Trace) (e : Event) (q : ℕ) (s : PortSyncs) → IsAccepted h (e ∷ past) → issued (length past) e ≡ None → ((resp : ℕ) (st : LineState) → e ≡ Cr q resp st → ⊥)
@@ -502,18 +513,23 @@ syncs_answer r s n t q resp st boxes sync step message is_one boxes_stand told s
   where
     e : Event
     e = Cr q resp st
+
     k : PortSyncs
     k = get_or s.ports.items q untold
+
     within : q < r.header.ports
     within = port_within r.header r.past (Cr q resp st) q step.accepted refl
+
     ace : is_ace r.header q ≡ true
     ace = (and_parts (nat_lt q r.header.ports) (is_ace r.header q) (accepted_keeps r.header r.past (Cr q resp st) step.accepted).rule_1).1
+
     answered : next_count k.answered ≡ answered_syncs (Cr q resp st ∷ r.past) q
     answered =
         let few = answered-few r.header r.past q step.accepted.0 in
         let low = step.few in
         next-is k.answered (answered_syncs r.past q) (stands.ports q within).answered (omega (arith, few, low))
         ∙ sym (answers-one r.header r.past q resp st step.accepted t step.target boxes r sync refl refl boxes_stand ace message told ∙ ap (λ b. answered_syncs r.past q + (if b then 1 else 0)) is_one)
+
     cr-port : {p a : ℕ} {b : LineState} → Cr q resp st ≡ Cr p a b → q ≡ p
     cr-port is = cc
 
@@ -521,12 +537,13 @@ syncs_answer r s n t q resp st boxes sync step message is_one boxes_stand told s
 pub syncs_other_cr : (r : Recording) (s : Syncs) (t : Target) (q resp : ℕ) (st : LineState) → IsStep r (Cr q resp st) t
     → answered_syncs (Cr q resp st ∷ r.past) q ≡ answered_syncs r.past q → SyncsStand r s → SyncsStand (after r (Cr q resp st)) s
 syncs_other_cr r s t q resp st step same stands = syncs_all r s (Cr q resp st) stands (λ p k z. elim (cases_eq q p) [
-    | inl own ↦ subst (λ m. PortSyncsStand (Cr q resp st ∷ r.past) m k) own (mine k (subst (λ m. PortSyncsStand r.past m k) (sym own) z))
-    | inr off ↦ quiet_port r.header r.past (Cr q resp st) p k step.accepted refl (λ a b is. off (cr-port is)) z
-  ])
+  | inl own ↦ subst (λ m. PortSyncsStand (Cr q resp st ∷ r.past) m k) own (mine k (subst (λ m. PortSyncsStand r.past m k) (sym own) z))
+  | inr off ↦ quiet_port r.header r.past (Cr q resp st) p k step.accepted refl (λ a b is. off (cr-port is)) z
+])
   where
     cr-port : {p a : ℕ} {b : LineState} → Cr q resp st ≡ Cr p a b → q ≡ p
     cr-port is = cc
+
     mine : (k : PortSyncs) → PortSyncsStand r.past q k → PortSyncsStand (Cr q resp st ∷ r.past) q k
     mine k z = port_answers r.header r.past q resp st step.accepted t step.target k k z refl refl refl (z.answered ∙ sym same)
 
@@ -548,7 +565,7 @@ completes_all-is r s x p stands small is port =
     all_ports-same r.header.ports (λ q. implies (is_other_ace r.header x.port q) (nat_le (sync_number r.past x q) (dvm_completes r.past q)))
     (λ q. implies (is_other_ace r.header p q) (nat_le (get_or (get_or s.ports.items q untold).numbers p 0) (get_or s.ports.items q untold).completes))
     (λ q low.
-      let k = stands.ports q low in
-      ap (λ m. implies (is_other_ace r.header m q) (nat_le (sync_number r.past x q) (dvm_completes r.past q))) port
-      ∙ ap (λ n. implies (is_other_ace r.header p q) (nat_le n (dvm_completes r.past q))) (sym (k.numbers p x small is))
-      ∙ ap (λ n. implies (is_other_ace r.header p q) (nat_le (get_or (get_or s.ports.items q untold).numbers p 0) n)) (sym k.completes))
+    let k = stands.ports q low in
+    ap (λ m. implies (is_other_ace r.header m q) (nat_le (sync_number r.past x q) (dvm_completes r.past q))) port
+    ∙ ap (λ n. implies (is_other_ace r.header p q) (nat_le n (dvm_completes r.past q))) (sym (k.numbers p x small is))
+    ∙ ap (λ n. implies (is_other_ace r.header p q) (nat_le (get_or (get_or s.ports.items q untold).numbers p 0) n)) (sym k.completes))

@@ -43,13 +43,7 @@ pub fn completed_in(event: &Event, target: &Target) -> Option<Transaction>
     ensures { result ≡ completed_in event.now target.now }
 {
     match *event {
-        Event::R { last, .. } => {
-            if last {
-                carried(target)
-            } else {
-                None
-            }
-        }
+        Event::R { last, .. } => { if last { carried(target) } else { None } }
         Event::B { .. } => carried(target),
         _ => None,
     }

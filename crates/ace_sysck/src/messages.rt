@@ -44,13 +44,7 @@ fn waits_after(first: Option<Transaction>, x: Transaction) -> Option<Transaction
 {
     match first {
         Some(_) => None,
-        None => {
-            if has_second(x.addr) {
-                Some(x)
-            } else {
-                None
-            }
-        }
+        None => { if has_second(x.addr) { Some(x) } else { None } }
     }
 }
 

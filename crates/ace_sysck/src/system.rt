@@ -32,11 +32,7 @@ pub struct SysCheck {
 fn unless(kept: bool, number: u8, rest: Option<u8>) -> Option<u8>
     ensures { result ≡ (if kept then rest else Some number) }
 {
-    if kept {
-        rest
-    } else {
-        Some(number)
-    }
+    if kept { rest } else { Some(number) }
 }
 
 impl SysCheck {
@@ -101,7 +97,11 @@ impl SysCheck {
             → result ≡ least_of system_rules r.header r.past event.now }
     {
         let header = &self.header;
-        let from_39 = unless(keeps_k39(header, &self.messages, &self.syncs, event), 39, None);
+        let from_39 = unless(
+            keeps_k39(header, &self.messages, &self.syncs, event),
+            39,
+            None,
+        );
         let from_38 = unless(keeps_k38(&self.syncs, event, target), 38, from_39);
         let answered = keeps_k37(header, &self.messages, &self.inboxes, event, target);
         let from_37 = unless(answered, 37, from_38);
@@ -110,7 +110,11 @@ impl SysCheck {
         let from_34 = unless(self.barriers.keeps_k34(event, target), 34, from_35);
         let from_33 = unless(self.monitors.keeps_k33(event), 33, from_34);
         let from_21 = unless(keeps_k21(&self.results, event, target), 21, from_33);
-        unless(keeps_k9(&self.barriers, &self.messages, event, target), 9, from_21)
+        unless(
+            keeps_k9(&self.barriers, &self.messages, event, target),
+            9,
+            from_21,
+        )
     }
 
     /// Makes room for what the event leaves. There is no memory for it only where the event grants a line to a transaction with

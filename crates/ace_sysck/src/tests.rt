@@ -122,7 +122,12 @@ fn after(alloc: Global, events: &[(Event, Target)]) -> Option<SysCheck> {
 }
 
 /// The rule that the event breaks after these.
-fn broken(alloc: Global, events: &[(Event, Target)], event: Event, target: Target) -> Option<Option<u8>> {
+fn broken(
+    alloc: Global,
+    events: &[(Event, Target)],
+    event: Event,
+    target: Target,
+) -> Option<Option<u8>> {
     let check = after(alloc, events)?;
     Some(check.test(&event, &target))
 }
@@ -148,7 +153,10 @@ fn forwards_messages(rt: HostRuntime) {
     let x = part(0x6000);
     let events = [(ar(x), of(x))];
     assert_eq!(rt; broken(alloc, &events, ac(0x6000, 15), NOTHING), Some(None));
-    assert_eq!(rt; broken(alloc, &events, ac(0x2000, 15), NOTHING), Some(Some(36)));
+    assert_eq!(rt;
+        broken(alloc, &events, ac(0x2000, 15), NOTHING),
+        Some(Some(36))
+    );
     assert_eq!(rt; broken(alloc, &events, r(x, 0), of(x)), Some(Some(37)));
     assert_eq!(rt; broken(alloc, &events, ac(0, 14), NOTHING), Some(Some(39)));
 }
@@ -160,7 +168,21 @@ fn begins_in_order(rt: HostRuntime) {
     let elsewhere = read(0, 0, 0x40, 0, 1, 1, false);
     let completion = read(0, 1, 0, 14, 1, 0, false);
     assert_eq!(rt; broken(alloc, &[], ar(barrier), of(barrier)), Some(None));
-    assert_eq!(rt; broken(alloc, &[], ar(elsewhere), of(elsewhere)), Some(Some(9)));
-    assert_eq!(rt; broken(alloc, &[], ar(completion), of(completion)), Some(Some(38)));
-    assert_eq!(rt; broken(alloc, &[(ar(barrier), of(barrier))], r(barrier, 0), of(barrier)), Some(Some(34)));
+    assert_eq!(rt;
+        broken(alloc, &[], ar(elsewhere), of(elsewhere)),
+        Some(Some(9))
+    );
+    assert_eq!(rt;
+        broken(alloc, &[], ar(completion), of(completion)),
+        Some(Some(38))
+    );
+    assert_eq!(rt;
+        broken(
+            alloc,
+            &[(ar(barrier), of(barrier))],
+            r(barrier, 0),
+            of(barrier)
+        ),
+        Some(Some(34))
+    );
 }

@@ -21,13 +21,13 @@ loop-q-preserved c =
     record {
       size = one.size ∙ i.size;
       done = λ k b low at. elim (cases_eq k c.loop-q.q) [
-          | inl same ↦
-              let here : slice_get c.loop-q.self.ports.items c.loop-q.q ≡ Some b = i.rest c.loop-q.q (omega arith) ∙ ap (slice_get c.args.self.now.ports.items) (sym same) ∙ at in
-              let d = one.one b here in
-              (d.0, ap (slice_get c.send_one.new.self.ports.items) same ∙ d.1, subst (λ n. Receives (sent_to n c.args.sender (sent_list c.args.sent.now)) b d.0) (sym same) d.2)
-          | inr off ↦
-              let d = i.done k b (omega (arith, low, off)) at in
-              (d.0, one.others k off ∙ d.1, d.2)
-        ];
+        | inl same ↦
+            let here : slice_get c.loop-q.self.ports.items c.loop-q.q ≡ Some b = i.rest c.loop-q.q (omega arith) ∙ ap (slice_get c.args.self.now.ports.items) (sym same) ∙ at in
+            let d = one.one b here in
+            (d.0, ap (slice_get c.send_one.new.self.ports.items) same ∙ d.1, subst (λ n. Receives (sent_to n c.args.sender (sent_list c.args.sent.now)) b d.0) (sym same) d.2)
+        | inr off ↦
+            let d = i.done k b (omega (arith, low, off)) at in
+            (d.0, one.others k off ∙ d.1, d.2)
+      ];
       rest = λ k high. one.others k (λ same. absurd (omega (arith, high, same))) ∙ i.rest k (omega (arith, high));
     }
