@@ -98,7 +98,8 @@ impl Checker {
         if let Some(Break { index, rule }) = self.broken {
             return Ok(Step::Broken { index, rule });
         }
-        let target = self.ports.target(event);
+        every_event_fits(*event);
+        let target = self.target(event);
         let failed = self.has_failed(&target);
         if let Some(rule) = self.least_broken(event, &target, failed) {
             let index = self.count.wrapping_add(1);
@@ -230,7 +231,6 @@ impl Checker {
         if self.system.ready(event, target).is_err() {
             return Err(CheckErr::NoMemory);
         }
-        every_event_fits(*event);
         self.ports.apply(event);
         self.lines.apply(event, target);
         self.system.apply(event, target);

@@ -3,7 +3,7 @@ use Rattle.ace_event.specs.declared.header.Header.{Header}
 use Rattle.ace_model.specs.Trace.{Trace}
 use Rattle.ace_model.specs.Accepted.{least_broken}
 use Rattle.ace_check.specs.Run.{Stands, MayTake, goes_over}
-use Rattle.ace_check.proofs.Steps.{accepted_sound, after_take, ok_fine}
+use Rattle.ace_check.proofs.Steps.{accepted_sound, ok_then, to_ok, err_then}
 use Rattle.ace_check.proofs.checker.Checker.feed.Goals as goal
 
 pub returns-in-Some-least_broken-clause-answer : goal.returns-in-Some-least_broken-clause-answer
@@ -24,16 +24,31 @@ pub returns-clause-answer : goal.returns-clause-answer
 returns-clause-answer c = λ h past s.
     let t = c.target-target.ensures h past None s in
     let least = c.least_broken.ensures h past None s t (c.has_failed-failed.ensures h past None s) in
-    ok_fine c.take.result c.take.ensures.fine (sym least ∙ c.in_default-least_broken.is, sym (c.goes_over.ensures h past None s t) ∙ c.if-goes_over.false)
+    ok_then _ c.take.result c.take.ensures.fine
+    (to_ok c.take.result (sym least ∙ c.in_default-least_broken.is, sym (c.goes_over.ensures h past None s t) ∙ c.if-goes_over.false))
 
 pub returns-clause-stands : goal.returns-clause-stands
-returns-clause-stands c = ?
+returns-clause-stands c = λ h past s few.
+    let t = c.target-target.ensures h past None s in
+    let least = c.least_broken.ensures h past None s t (c.has_failed-failed.ensures h past None s) in
+    let m : MayTake c.args.self.now h past c.args.event.now c.target-target.result = record { stands = s; target = t; fine = sym least ∙ c.in_default-least_broken.is; fits = c.every_event_fits.ensures } in
+    ok_then _ c.take.result c.take.ensures.fine (c.take.ensures.stands h past m few)
 
 pub returns-clause-stays : goal.returns-clause-stays
-returns-clause-stays c = ?
+returns-clause-stays c = λ h past s.
+    let t = c.target-target.ensures h past None s in
+    let least = c.least_broken.ensures h past None s t (c.has_failed-failed.ensures h past None s) in
+    c.take.ensures.stays h past (record { stands = s; target = t; fine = sym least ∙ c.in_default-least_broken.is; fits = c.every_event_fits.ensures })
 
 pub returns-clause-no_memory : goal.returns-clause-no_memory
-returns-clause-no_memory c = ?
+returns-clause-no_memory c = λ h past s is.
+    let t = c.target-target.ensures h past None s in
+    let least = c.least_broken.ensures h past None s t (c.has_failed-failed.ensures h past None s) in
+    err_then c.take.result _ is
+    (c.take.ensures.cause h past (record { stands = s; target = t; fine = sym least ∙ c.in_default-least_broken.is; fits = c.every_event_fits.ensures }))
 
 pub returns-clause-sound : goal.returns-clause-sound
-returns-clause-sound c = ?
+returns-clause-sound c = λ h past s fine.
+    let t = c.target-target.ensures h past None s in
+    let least = c.least_broken.ensures h past None s t (c.has_failed-failed.ensures h past None s) in
+    accepted_sound h (c.args.event.now ∷ past) (s.ports.accepted, sym least ∙ c.in_default-least_broken.is) (c.every_event_fits.ensures, s.fits)

@@ -1,6 +1,6 @@
 use Rattle.std.proofs.Common.{◌≡◌, Some, None, ◌&&◌, not, nat_le, sym, ap, ◌∙◌}
 use Rattle.ace_portck.specs.declared.target.Target.{Target}
-use Rattle.ace_portck.specs.Targets.{line_in}
+use Rattle.ace_portck.specs.Targets.{Recording, line_in}
 use Rattle.ace_check.proofs.Steps.{over_is, over_of_none}
 use Rattle.ace_check.proofs.checker.Checker.goes_over.Goals as goal
 
@@ -11,7 +11,7 @@ returns-in-None c = λ h past b s t.
 
 pub returns-in-Some : goal.returns-in-Some
 returns-in-Some c = λ h past b s t.
-    let r = record { header = h; past = past } in
+    let r : Recording = record { header = h; past = past } in
     let line : line_in h past c.args.event.now ≡ Some c.in-Some.line = sym (ap (λ (v : Target). v.line) t) ∙ c.in-Some.is in
     let known = c.knows.ensures r s.lines in
     let lines = c.lines.ensures r s.lines in

@@ -8,4 +8,4 @@ returns-in-None c = λ h past b s. failed_none h past c.args.line (sym (c.grante
 pub returns-in-Some : goal.returns-in-Some
 returns-in-Some c = λ h past b s.
     let n = granted_named h past c.args.line _ _ _ s.ports.accepted (sym (c.granted.ensures (record { header = h; past = past }) s.lines) ∙ c.in-Some.is) in
-    rw n.1 (c.has_failed_as.ensures h past b n.0 s n.2.0 n.2.1)
+    rw n.1 (c.has_failed_as.ensures h past b n.0 s n.2 n.3)

@@ -51,5 +51,5 @@ returns-clause-stands c = λ h past m few.
       count = omega (arith, count, few);
       few = omega (arith, few);
       broken = s.broken;
-      fits = (c.every_event_fits.ensures, s.fits);
+      fits = (m.fits, s.fits);
     }
