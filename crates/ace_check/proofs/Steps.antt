@@ -96,7 +96,7 @@ granted_named h past l p c i a is =
     let chan : x.chan ≡ c = ap (λ (m : ℕ × Channel × ℕ). m.1) n.2 in
     let id : x.id ≡ i = ap (λ (m : ℕ × Channel × ℕ). m.2) n.2 in
     let found : outstanding h past p c i ≡ Some x =
-        subst (λ q. outstanding h past q c i ≡ Some x) port (subst (λ d. outstanding h past x.port d i ≡ Some x) chan (subst (λ j. outstanding h past x.port x.chan j ≡ Some x) id out)) in
+    subst (λ q. outstanding h past q c i ≡ Some x) port (subst (λ d. outstanding h past x.port d i ≡ Some x) chan (subst (λ j. outstanding h past x.port x.chan j ≡ Some x) id out)) in
     (x, n.1, found, chan)
 
 pub no_write_fails : (past : Trace) (x : Transaction) → x.chan ≡ Write → false ≡ has_failed past x

@@ -205,11 +205,7 @@ impl Checker {
     {
         match target.line {
             None => false,
-            Some(line) => is_too_many(
-                begins(event),
-                self.lines.knows(line),
-                self.lines.lines(),
-            ),
+            Some(line) => is_too_many(begins(event), self.lines.knows(line), self.lines.lines()),
         }
     }
 

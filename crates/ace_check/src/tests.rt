@@ -105,11 +105,7 @@ fn alone(alloc: Global, header: Header, events: &[Event]) -> Result<Option<(u64,
 }
 
 /// The first break of the events after port 0 got the line.
-fn after_get(
-    alloc: Global,
-    header: Header,
-    events: &[Event],
-) -> Result<Option<(u64, u8)>, CheckErr>
+fn after_get(alloc: Global, header: Header, events: &[Event]) -> Result<Option<(u64, u8)>, CheckErr>
     requires { IsHeader header }
 {
     let mut checker = Checker::new(alloc, header)?;

@@ -87,10 +87,10 @@ grants_by_line h past p c i a = by (outstanding h past p c i) refl
   where
     had : (x : Transaction) → outstanding h past x.port x.chan x.id ≡ Some x → (b : Bool) → has_grant past x.port x.chan x.id ≡ b
         → (takes_grant x && not b && is_none (granted h past x.addr)) ≡ may_grant h past x
-    had x own false t = elim (cases_Bool (takes_grant x)) [ | inl k ↦ rw k refl | inr k ↦ rw k refl ]
+    had x own false t = elim (cases_Bool (takes_grant x)) [ inl k ↦ rw k refl | inr k ↦ rw k refl ]
     had x own true t =
         let g = granted_had h past a x.port x.chan x.id x own t in
-        elim (cases_Bool (takes_grant x)) [ | inl k ↦ rw k (rw g refl) | inr k ↦ rw k refl ]
+        elim (cases_Bool (takes_grant x)) [ inl k ↦ rw k (rw g refl) | inr k ↦ rw k refl ]
 
     by : (o : Option Transaction) → outstanding h past p c i ≡ o → is_some_and o (may_be_granted h past) ≡ is_some_and o (may_grant h past)
     by None e = refl

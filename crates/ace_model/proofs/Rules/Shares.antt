@@ -61,8 +61,10 @@ module _ (h : Header) (past : Trace) (e : Event) where
     where
       rest : rise_from (x.number + 1) xs ≡ true
       rest = (and_parts (nat_le a x.number) (rise_from (x.number + 1) xs) up).1
+
       again : rise_from x.number (x ∷ xs) ≡ true
       again = and_from (nat_le x.number x.number) _ (le-leb x.number x.number (omega arith)) rest
+
       into : ((b : ℕ) (ys : List Rule) → rise_from b ys ≡ true → least_of (merge xs ys) h past e ≡ lesser (least_of xs h past e) (least_of ys h past e))
           → (b : ℕ) (ys : List Rule) → rise_from b ys ≡ true
           → least_of (merge (x ∷ xs) ys) h past e ≡ lesser (least_of (x ∷ xs) h past e) (least_of ys h past e)
@@ -72,16 +74,16 @@ module _ (h : Header) (past : Trace) (e : Event) where
           let again' = and_from (nat_le y.number y.number) _ (le-leb y.number y.number (omega arith)) rest' in
           elim (cases_Bool (nat_lt y.number x.number)) [
             | inl t ↦ elim (cases_Bool (y.keeps h past e)) [
-                | inl kept ↦ rw t (rw kept (into later (y.number + 1) ys rest'))
-                | inr broke ↦ rw t (rw broke (sym (second_is_least y.number x.number _ (above x.number (x ∷ xs) again) (ltb-true y.number x.number t))))
-              ]
+              | inl kept ↦ rw t (rw kept (into later (y.number + 1) ys rest'))
+              | inr broke ↦ rw t (rw broke (sym (second_is_least y.number x.number _ (above x.number (x ∷ xs) again) (ltb-true y.number x.number t))))
+            ]
             | inr f ↦ elim (cases_Bool (x.keeps h past e)) [
-                | inl kept ↦ rw f (rw kept (later b (y ∷ ys) up'))
-                | inr broke ↦
-                    let least : lesser (Some x.number) (least_of (y ∷ ys) h past e) ≡ Some x.number =
-                        first_is_least x.number _ (λ k l. let low = above y.number (y ∷ ys) again' k l in let no = ltb-false y.number x.number f in omega (arith, low, no)) in
-                    rw f (rw broke (sym least))
-              ]
+              | inl kept ↦ rw f (rw kept (later b (y ∷ ys) up'))
+              | inr broke ↦
+                  let least : lesser (Some x.number) (least_of (y ∷ ys) h past e) ≡ Some x.number =
+                  first_is_least x.number _ (λ k l. let low = above y.number (y ∷ ys) again' k l in let no = ltb-false y.number x.number f in omega (arith, low, no)) in
+                  rw f (rw broke (sym least))
+            ]
           ]
 
   -- the least of both lists is the same
@@ -99,10 +101,12 @@ module _ (h : Header) (past : Trace) (e : Event) where
   -- a rule of two parts is kept where both are
   split : (n : ℕ) (whole part other : Header → Trace → Event → Bool) {rs ss : List Rule} → whole h past e ≡ (part h past e && other h past e)
       → Alike rs ss → Alike (rule n whole ∷ rs) (rule n part ∷ rule n other ∷ ss)
-  split n whole part other {rs} {ss} same rest = record { least =
-      ap (λ b. if b then least_of rs h past e else Some n) same
-      ∙ two_parts (part h past e) (other h past e) _ _
-      ∙ ap (λ k. if part h past e then (if other h past e then k else Some n) else Some n) rest.least }
+  split n whole part other {rs} {ss} same rest = record {
+    least =
+        ap (λ b. if b then least_of rs h past e else Some n) same
+        ∙ two_parts (part h past e) (other h past e) _ _
+        ∙ ap (λ k. if part h past e then (if other h past e then k else Some n) else Some n) rest.least;
+  }
 
 split_some : {A : Type 0} → (o : Option A) (whole part other : A → Bool) → ((x : A) → whole x ≡ (part x && other x))
     → is_some_and o whole ≡ (is_some_and o part && is_none_or o other)
@@ -121,8 +125,8 @@ k11_of_parts : (h : Header) (past : Trace) (e : Event) → k11 h past e ≡ (k11
 k11_of_parts h past (W p strb last word) =
     split_some (next_write past p) _ _ _
     (λ x.
-        ap (λ b. same_test last (next_write_beat past p == 3) && b) (split_none (write_kind x) _ _)
-        ∙ assoc (same_test last (next_write_beat past p == 3)) _ _)
+    ap (λ b. same_test last (next_write_beat past p == 3) && b) (split_none (write_kind x) _ _)
+    ∙ assoc (same_test last (next_write_beat past p == 3)) _ _)
 k11_of_parts h past _ = refl
 
 k17_of_parts : (h : Header) (past : Trace) (e : Event) → k17 h past e ≡ (k17_burst h past e && k17_data h past e)
@@ -143,9 +147,9 @@ rules_of_shares : (h : Header) (past : Trace) (e : Event) → least_broken h pas
 rules_of_shares h past e =
     let last : Alike h past e (drop 26 rules) (drop 26 rules) = record { least = refl } in
     let from_18 = split h past e 18 k18 k18_transfer k18_line (k18_of_parts h past e)
-        (keep_all h past e (take 7 (drop 18 rules)) (split h past e 26 k26 k26_response k26_memory (k26_of_parts h past e) last)) in
+    (keep_all h past e (take 7 (drop 18 rules)) (split h past e 26 k26 k26_response k26_memory (k26_of_parts h past e) last)) in
     let from_11 = split h past e 11 k11 k11_burst k11_data (k11_of_parts h past e)
-        (keep_all h past e (take 5 (drop 11 rules)) (split h past e 17 k17 k17_burst k17_data (k17_of_parts h past e) from_18)) in
+    (keep_all h past e (take 5 (drop 11 rules)) (split h past e 17 k17 k17_burst k17_data (k17_of_parts h past e) from_18)) in
     (keep_all h past e (take 10 rules) from_11).least
 
 pub least_of_shares : (h : Header) (past : Trace) (e : Event)
@@ -170,4 +174,4 @@ least_is_one h past e one =
     least_of_shares h past e
     ∙ ap (λ k. lesser k (lesser (least_of line_rules h past e) (least_of system_rules h past e))) one
     ∙ first_is_least h past e 1 _
-        (lesser_at_least h past e 1 (least_of line_rules h past e) (least_of system_rules h past e) (above h past e 1 line_rules refl) (above h past e 1 system_rules refl))
+    (lesser_at_least h past e 1 (least_of line_rules h past e) (least_of system_rules h past e) (above h past e 1 line_rules refl) (above h past e 1 system_rules refl))
