@@ -13,7 +13,7 @@ ghost use Rattle.ace_top.specs.Verdict.{IsVerdict, ReadsSound};
 ghost use Rattle.ace_top.specs.declared.words.Command.TheVariants as command;
 
 use crate::answer::{Answer, error_answer};
-use crate::follow::Follower;
+use crate::follow::{Follower, events_of, put_report};
 use crate::output::{break_off, conclude};
 use ace_grammar::Reader;
 use ace_io::{Sink, Source};
@@ -54,7 +54,7 @@ pub fn tell_report<S: Source, K: Sink, E: Sink>(
     ensures whole { result ≡ 0 → LeavesNothing (S.left input.old) (S.left input.new) }
 {
     match check(alloc, input, true) {
-        Ok(follower) => match follower.put(out) {
+        Ok(follower) => match put_report(follower, out) {
             Ok(()) => conclude(out, notes, Answer::Reported),
             Err(_) => break_off(notes),
         },
@@ -72,7 +72,7 @@ fn verdict<S: Source>(alloc: Global, input: &mut S) -> Answer
 {
     match check(alloc, input, false) {
         Ok(follower) => Answer::Accepted {
-            events: follower.count(),
+            events: events_of(follower),
         },
         Err(answer) => answer,
     }
@@ -92,13 +92,32 @@ fn check<S: Source>(alloc: Global, input: &mut S, reports: bool) -> Result<Follo
 {
     match Reader::start(alloc, input) {
         Ok(mut reader) => match Follower::new(alloc, reader.header(), reports) {
-            Some(mut follower) => match check_events(&mut follower, &mut reader) {
-                Ok(()) => Ok(follower),
-                Err(answer) => Err(answer),
-            },
+            Some(follower) => follow(follower, &mut reader),
             None => Err(Answer::NoMemory),
         },
         Err(failed) => Err(error_answer(failed.error)),
+    }
+}
+
+/// Follows the events of a trace to its end, unless an answer comes before; what followed it to its end.
+fn follow<S: Source>(mut follower: Follower, reader: &mut Reader<S>) -> Result<Follower, Answer>
+    requires reads_on { last_answer reader.old ≡ None }
+    requires fresh { count_of reader.old ≡ 0 }
+    ensures same_source { (source_of reader.new).ghost_name ≡ (source_of reader.old).ghost_name }
+    ensures same_reports { IfOk result (λ f. is_some f.report ≡ is_some follower.report) }
+    ensures accepted { (told : Option (List ℕ)) → Follows follower (header_of reader.old) []
+        → StandsAt told (header_of reader.old) [] (unread S.left reader.old) → IfOk result (HasFollowed told) }
+    ensures verdict { (told : Option (List ℕ)) → Follows follower (header_of reader.old) []
+        → StandsAt told (header_of reader.old) [] (unread S.left reader.old)
+        → IfErr result (λ answer. IfSome told (λ bytes. IsVerdict bytes answer)) }
+    ensures refusal { IfErr result IsRefusal }
+    ensures end { OnOk result (LeavesNothing (unread S.left reader.old) (S.left (source_of reader.new).now)) }
+    ensures steady { OnOk result (S.faults (source_of reader.new).now ≡ S.faults (source_of reader.old).now) }
+    ensures cause { IfErr result (HasReadCause (S.faults (source_of reader.old).now) (S.faults (source_of reader.new).now)) }
+{
+    match check_events(&mut follower, reader) {
+        Ok(()) => Ok(follower),
+        Err(answer) => Err(answer),
     }
 }
 

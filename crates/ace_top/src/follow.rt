@@ -144,3 +144,21 @@ impl Follower {
         }
     }
 }
+
+/// How many events the follower has followed, of which there is no more use.
+pub fn events_of(follower: Follower) -> u64
+    ensures { (h : Header) (past : Trace) → Follows follower h past → result ≡ length past }
+{
+    follower.count()
+}
+
+/// Puts the text of the report, where there is one, of a follower of which there is no more use.
+pub fn put_report<K: Sink>(follower: Follower, sink: &mut K) -> Result<(), Failed>
+    ensures whole { (h : Header) (past : Trace) → Follows follower h past → is_some follower.report ≡ true
+        → OnOk result (Appends (K.held sink.old) (K.held sink.new) (report_text h past)) }
+    ensures part { (h : Header) (past : Trace) → Follows follower h past → is_some follower.report ≡ true
+        → OnErr result (AppendsPart (K.held sink.old) (K.held sink.new) (report_text h past)) }
+    ensures cause { HasCause (K.faults sink.old) (K.faults sink.new) result }
+{
+    follower.put(sink)
+}

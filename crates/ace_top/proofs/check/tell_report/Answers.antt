@@ -1,10 +1,10 @@
 use Rattle.ace_top.proofs.ReportLemmas.{report_answers, report_breaks_after, report_breaks_off, refusal_answers, refusal_breaks_off, reported_sound}
 use Rattle.ace_top.proofs.check.tell_report.Goals as goal
 
-pub returns-in-Ok-put-clause-carried_out : goal.returns-in-Ok-put-clause-carried_out
-returns-in-Ok-put-clause-carried_out g c =
+pub returns-in-Ok-put_report-clause-carried_out : goal.returns-in-Ok-put_report-clause-carried_out
+returns-in-Ok-put_report-clause-carried_out g c =
     let w = c.in-Ok.ensures.accepted in
-    let given = c.in-Ok-put.ensures.whole w.header w.past w.follows c.in-Ok.ensures.reports in
+    let given = c.in-Ok-put_report.ensures.whole w.header w.past w.follows c.in-Ok.ensures.reports in
     record {
       answer = λ ne.
           report_answers _ (g.S.Source.left c.check.new.input) _ w _ _ _ _ _ _ (c.conclude.ensures.status ne) given (c.conclude.ensures.out_given ne) (c.conclude.ensures.notes_given ne);
@@ -12,13 +12,13 @@ returns-in-Ok-put-clause-carried_out g c =
       told = c.conclude.ensures.notes_told;
     }
 
-pub returns-in-Ok-put-clause-sound : goal.returns-in-Ok-put-clause-sound
-returns-in-Ok-put-clause-sound g c zero = reported_sound _ _ c.in-Ok.ensures.accepted
+pub returns-in-Ok-put_report-clause-sound : goal.returns-in-Ok-put_report-clause-sound
+returns-in-Ok-put_report-clause-sound g c zero = reported_sound _ _ c.in-Ok.ensures.accepted
 
-pub returns-in-Err-put-clause-carried_out : goal.returns-in-Err-put-clause-carried_out
-returns-in-Err-put-clause-carried_out g c =
+pub returns-in-Err-put_report-clause-carried_out : goal.returns-in-Err-put_report-clause-carried_out
+returns-in-Err-put_report-clause-carried_out g c =
     let w = c.in-Ok.ensures.accepted in
-    let part = c.in-Err-put.ensures.part w.header w.past w.follows c.in-Ok.ensures.reports in
+    let part = c.in-Err-put_report.ensures.part w.header w.past w.follows c.in-Ok.ensures.reports in
     record {
       answer = λ ne. absurd (ne c.break_off.ensures.status);
       broken_off = λ five. report_breaks_off _ _ w _ _ _ _ part c.break_off.ensures.part;
