@@ -9,12 +9,12 @@ pub returns-in-Some-clause-accepted : goal.returns-in-Some-clause-accepted
 returns-in-Some-clause-accepted g c =
     let e = c.in-Ok.ensures in
     let follows : Follows c.in-Some.follower (header_of c.in-Ok.reader) [] =
-        subst (λ (h : Header). Follows c.in-Some.follower h []) c.header.ensures c.in-Some.ensures.follows in
+    subst (λ (h : Header). Follows c.in-Some.follower h []) c.header.ensures c.in-Some.ensures.follows in
     c.follow.ensures.accepted (g.S.Source.left c.args.input.now) follows (stands_at_start _ _ (header_of c.in-Ok.reader) e.readable e.header)
 
 pub returns-in-Some-clause-verdict : goal.returns-in-Some-clause-verdict
 returns-in-Some-clause-verdict g c =
     let e = c.in-Ok.ensures in
     let follows : Follows c.in-Some.follower (header_of c.in-Ok.reader) [] =
-        subst (λ (h : Header). Follows c.in-Some.follower h []) c.header.ensures c.in-Some.ensures.follows in
+    subst (λ (h : Header). Follows c.in-Some.follower h []) c.header.ensures c.in-Some.ensures.follows in
     c.follow.ensures.verdict (g.S.Source.left c.args.input.now) follows (stands_at_start _ _ (header_of c.in-Ok.reader) e.readable e.header)
