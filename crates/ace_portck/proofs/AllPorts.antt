@@ -8,13 +8,14 @@ use Rattle.std.proofs.lemmas.Option.{slice_get-get_or}
 use Rattle.ace_event.specs.declared.header.Header.{Header}
 use Rattle.ace_event.specs.declared.event.Channel.TheVariants.{Read, Write}
 use Rattle.ace_event.specs.declared.event.Event.{Event}
+use Rattle.ace_event.specs.declared.event.Event.TheVariants.{Ac}
 use Rattle.ace_model.specs.Accepted.{IsAccepted}
 use Rattle.ace_model.specs.AddressRules.{may_have}
 use Rattle.ace_model.specs.Trace.{Trace, port_of, is_some_and}
 use Rattle.ace_model.proofs.General.Options.{Some-injective, is_none_or-at}
 use Rattle.ace_model.proofs.Rules.Keeps.{accepted_keeps}
 use Rattle.ace_portck.specs.declared.port.PortRecord.{PortRecord}
-use Rattle.ace_portck.specs.Port.{PortStands}
+use Rattle.ace_portck.specs.Port.{PortStands, HasRoom}
 use Rattle.ace_portck.specs.Pending.{moves_channel}
 use Rattle.ace_portck.specs.Stands.{IsFresh, PortsStand, record_at}
 use Rattle.ace_portck.proofs.Elsewhere.{snoops_elsewhere, writes_elsewhere, retired_elsewhere}
@@ -27,6 +28,11 @@ on_ok (Err e) p f = p
 pub on_err : {A E P Q : Type 0} → (r : Result A E) → OnErr r P → (P → Q) → OnErr r Q
 on_err (Ok x) p f = p
 on_err (Err e) p f = f p
+
+-- an event that isn't an AC needs no room
+pub has_room : (e : Event) (k : PortRecord) → ((p addr snoop : ℕ) → e ≡ Ac p addr snoop → ⊥) → HasRoom k e
+has_room (Ac p addr snoop) k other = absurd (other p addr snoop refl)
+has_room _ k other = tt
 
 -- the record at a place after it was replaced
 pub set_there : (ports : List PortRecord) (i : ℕ) (new k : PortRecord) → i < length ports → slice_get (slice_set ports i new) i ≡ Some k → new ≡ k

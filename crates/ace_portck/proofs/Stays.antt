@@ -27,6 +27,7 @@ use Rattle.ace_portck.specs.declared.target.Progress.{Progress}
 use Rattle.ace_portck.specs.Targets.{progress_of}
 use Rattle.ace_portck.specs.declared.pending.Pending.{Pending}
 use Rattle.ace_portck.specs.Pending.{PendingStands, ListsStand, is_pending, renewed, moves_channel, moves_pending}
+use Rattle.ace_portck.specs.Transactions.{moved_channel}
 use Rattle.ace_portck.proofs.Renewed.{renewed_is}
 
 -- It is on the channel of the port.
@@ -225,3 +226,26 @@ pending_stays h past e p c s accepted still stands = pending_elsewhere h past e 
     idle : (b : Bool) → (b && moves_channel e c) ≡ false
     idle true = still
     idle false = refl
+
+-- an event moves no channel but that which it names
+pub unmoved : (e : Event) (c : Channel) (o : Option Channel) → moved_channel e ≡ o → is_some_and o (same_channel c) ≡ false → moves_channel e c ≡ false
+unmoved e c o is other = moves_moved e c ∙ ap (λ v. is_some_and v (same_channel c)) is ∙ other
+  where
+    moves_moved : (e : Event) (c : Channel) → moves_channel e c ≡ is_some_and (moved_channel e) (same_channel c)
+    moves_moved (Ar q i addr snoop dom bar lock) Read = refl
+    moves_moved (Ar q i addr snoop dom bar lock) Write = refl
+    moves_moved (R q i resp last word) Read = refl
+    moves_moved (R q i resp last word) Write = refl
+    moves_moved (Rk q st) Read = refl
+    moves_moved (Rk q st) Write = refl
+    moves_moved (D q addr strobe x line) Read = refl
+    moves_moved (D q addr strobe x line) Write = refl
+    moves_moved (Aw q i addr snoop dom bar) Read = refl
+    moves_moved (Aw q i addr snoop dom bar) Write = refl
+    moves_moved (B q i resp) Read = refl
+    moves_moved (B q i resp) Write = refl
+    moves_moved (Wk q st) Read = refl
+    moves_moved (Wk q st) Write = refl
+    moves_moved (G q d i) c = refl
+    moves_moved (M q d i line) c = refl
+    moves_moved _ c = refl

@@ -1,4 +1,5 @@
 pub mod Targets
+pub mod TargetsByKind
 pub mod Unfinished
 pub mod Heard
 pub mod Pending

@@ -56,7 +56,7 @@ pub fn is_line(transaction: &Transaction) -> bool
 pub fn is_on(transaction: &Transaction, line: u32) -> bool
     ensures { result ≡ is_on transaction.now line }
 {
-    is_line(transaction) && transaction.addr == line
+    transaction.addr == line && is_line(transaction)
 }
 
 /// Half of a barrier.

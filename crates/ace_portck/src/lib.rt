@@ -12,6 +12,7 @@ mod retired;
 mod rules;
 mod snoops;
 mod target;
+mod targets;
 #[cfg(test)]
 mod tests;
 mod transactions;

@@ -1,6 +1,7 @@
 //! The outstanding transactions of a port on one channel.
 
 ghost use Rattle.std.specs.Prelude.{◌≡◌, ◌==◌, ◌<◌, ◌≤◌, None, find, length, map, vec_capacity, option_map};
+ghost use Rattle.std.specs.Option.{option_copied};
 ghost use Rattle.std.specs.VecDeque.{deque_capacity};
 ghost use Rattle.ace_model.specs.Trace.{more};
 ghost use Rattle.ace_model.specs.Transactions.{issued, is_make_unique_on};
@@ -95,21 +96,20 @@ fn is_make_unique_on(transaction: &Transaction, line: u32) -> bool
     read_kind(transaction).is_some_and(is_make_unique) && transaction.addr == line
 }
 
-/// The read after one more transfer.
-fn transferred(x: Progress, resp: u8, last: bool) -> Progress
-    ensures { result ≡ transferred resp last x }
+/// The read has had one more transfer.
+fn transfer(x: &mut Progress, resp: u8, last: bool)
+    ensures { x.new ≡ transferred resp last x.old }
 {
-    Progress {
-        transfers: x.transfers.wrapping_add(1),
-        response: if x.transfers == 0 { resp } else { x.response },
-        complete: x.complete || last,
-        ..x
+    if x.transfers == 0 {
+        x.response = resp;
     }
+    x.transfers = x.transfers.wrapping_add(1);
+    x.complete = x.complete || last;
 }
 
-/// How far the transaction has come after the event, by how far it had come.
-fn renewed(x: Progress, event: &Event) -> Progress
-    ensures { result ≡ renewed event.now x }
+/// The transaction has come as far as it has after the event.
+fn bring_on(x: &mut Progress, event: &Event)
+    ensures { x.new ≡ renewed event.now x.old }
 {
     match *event {
         Event::R {
@@ -118,24 +118,23 @@ fn renewed(x: Progress, event: &Event) -> Progress
             resp,
             last,
             ..
-        } if has_name(&x.transaction, port, Channel::Read, id) => transferred(x, resp, last),
+        } if has_name(&x.transaction, port, Channel::Read, id) => transfer(x, resp, last),
         Event::B { port, id, .. } if has_name(&x.transaction, port, Channel::Write, id) => {
-            Progress {
-                complete: true,
-                ..x
-            }
+            x.complete = true;
         }
         Event::G { port, chan, id } if has_name(&x.transaction, port, chan, id) => {
-            Progress { granted: true, ..x }
+            x.granted = true;
         }
         Event::M { port, chan, id, .. } if has_name(&x.transaction, port, chan, id) => {
-            Progress { written: true, ..x }
+            x.written = true;
         }
         Event::D { port, addr, .. }
-            if x.transaction.port == port
-                && is_make_unique_on(&x.transaction, addr)
-                && x.complete => Progress { stored: true, ..x },
-        _ => x,
+            if x.complete
+                && x.transaction.port == port
+                && is_make_unique_on(&x.transaction, addr) => {
+            x.stored = true;
+        }
+        _ => {}
     }
 }
 
@@ -144,7 +143,7 @@ fn renew(list: &mut [Progress], event: &Event)
     ensures { list.new ≡ map (renewed event.now) list.old }
 {
     for x in list.iter_mut() {
-        *x = renewed(*x, event);
+        bring_on(x, event);
     }
 }
 
@@ -157,10 +156,10 @@ fn renew_all(list: &mut Vec<Progress>, event: &Event)
 }
 
 /// The first transaction of the list under the identifier.
-fn find_id(list: &[Progress], id: u8) -> Option<Progress>
-    ensures { result ≡ find (λ x. x.transaction.id == id) list.now }
+fn find_id(list: &[Progress], id: u8) -> Option<&Progress>
+    ensures { option_copied result ≡ find (λ x. x.transaction.id == id) list.now }
 {
-    list.iter().copied().find(|x| x.transaction.id == id)
+    list.iter().find(|x| x.transaction.id == id)
 }
 
 /// Takes the transaction under the identifier out of the list, if there is one.
@@ -262,7 +261,7 @@ impl Pending {
         ensures { (h : Header) (past : Trace) (p : ℕ) (c : Channel) → PendingStands h past p c self.now
             → result ≡ option_map (progress_of h past) (outstanding h past p c id) }
     {
-        find_id(&self.list, id)
+        find_id(&self.list, id).copied()
     }
 
     /// The identifier of the complete transaction that the port's next RK or WK belongs to, at an ACE port.

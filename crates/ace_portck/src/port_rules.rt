@@ -1,6 +1,6 @@
 //! The rules that look at what is kept of a port.
 
-ghost use Rattle.std.specs.Prelude.{◌≡◌, ℕ, true, Some, length, option_map};
+ghost use Rattle.std.specs.Prelude.{◌≡◌, ℕ, true, None, Some, length, option_map, if◌then◌else◌};
 ghost use Rattle.ace_event.specs.declared.event.Channel.TheVariants.{Read, Write};
 ghost use Rattle.ace_event.specs.declared.event.Event.{Event};
 ghost use Rattle.ace_event.specs.declared.event.Event.TheVariants.{R, B};
@@ -110,8 +110,15 @@ fn keeps_write_acknowledge(event: &Event, target: &Target) -> bool
     }
 }
 
+/// The number of a rule that isn't kept.
+fn broken(kept: bool, number: u8) -> Option<u8>
+    ensures { result ≡ (if kept then None else Some number) }
+{
+    if kept { None } else { Some(number) }
+}
+
 impl PortRecord {
-    ghost use Rattle.std.specs.Prelude.{drop};
+    ghost use Rattle.std.specs.Prelude.{drop, take};
     ghost use Rattle.ace_model.specs.Accepted.{least_of};
     ghost use Rattle.ace_model.specs.AddressRules.{k4, k5, k10};
     ghost use Rattle.ace_model.specs.Shares.{port_rules};
@@ -151,11 +158,11 @@ impl PortRecord {
         }
     }
 
-    /// The least of the rules from K4 on that an event of the port breaks. It keeps K1.
-    pub fn test(&self, header: &Header, event: &Event, target: &Target) -> Option<u8>
+    /// The least of K4, K5, K7 and K10 that an event of the port breaks.
+    fn test_address(&self, header: &Header, event: &Event, target: &Target) -> Option<u8>
         ensures { (past : Trace) (p : ℕ) → PortStands header.now past p self.now → port_of event.now ≡ Some p
-            → k1 header.now past event.now ≡ true → target.now ≡ target_of header.now past event.now
-            → result ≡ least_of (drop 3 port_rules) header.now past event.now }
+            → target.now ≡ target_of header.now past event.now
+            → result ≡ least_of (take 4 (drop 3 port_rules)) header.now past event.now }
     {
         let new = begun_by(event, target);
         if !self.keeps_free_name(new) {
@@ -170,39 +177,28 @@ impl PortRecord {
         if !self.keeps_apart(new) {
             return Some(10);
         }
-        self.test_answers(event, target)
+        None
     }
 
-    /// The least of those from K11 on.
-    fn test_answers(&self, event: &Event, target: &Target) -> Option<u8>
-        ensures { (h : Header) (past : Trace) (p : ℕ) → PortStands h past p self.now → port_of event.now ≡ Some p
-            → k1 h past event.now ≡ true → target.now ≡ target_of h past event.now
-            → result ≡ least_of (drop 7 port_rules) h past event.now }
+    /// The least of the rules from K4 on that an event of the port breaks: it is looked at by the rules of its kind alone. It keeps
+    /// K1.
+    pub fn test(&self, header: &Header, event: &Event, target: &Target) -> Option<u8>
+        ensures { (past : Trace) (p : ℕ) → PortStands header.now past p self.now → port_of event.now ≡ Some p
+            → k1 header.now past event.now ≡ true → target.now ≡ target_of header.now past event.now
+            → result ≡ least_of (drop 3 port_rules) header.now past event.now }
     {
-        if !self.bursts.may_write(event) {
-            return Some(11);
+        match *event {
+            Event::Ar { .. } => self.test_address(header, event, target),
+            Event::Aw { .. } => self.test_address(header, event, target),
+            Event::W { .. } => broken(self.bursts.may_write(event), 11),
+            Event::Cr { .. } => broken(self.snoops.may_answer(event), 14),
+            Event::Cd { .. } => broken(self.snoops.may_send(event), 17),
+            Event::R { .. } => broken(keeps_transfer(event, target), 18),
+            Event::Rk { .. } => broken(keeps_read_acknowledge(event, target), 22),
+            Event::B { .. } => broken(keeps_response(event, target), 26),
+            Event::Wk { .. } => broken(keeps_write_acknowledge(event, target), 27),
+            Event::Op { .. } => broken(self.retired.may_retire(event), 40),
+            _ => None,
         }
-        if !self.snoops.may_answer(event) {
-            return Some(14);
-        }
-        if !self.snoops.may_send(event) {
-            return Some(17);
-        }
-        if !keeps_transfer(event, target) {
-            return Some(18);
-        }
-        if !keeps_read_acknowledge(event, target) {
-            return Some(22);
-        }
-        if !keeps_response(event, target) {
-            return Some(26);
-        }
-        if !keeps_write_acknowledge(event, target) {
-            return Some(27);
-        }
-        if !self.retired.may_retire(event) {
-            return Some(40);
-        }
-        None
     }
 }

@@ -19,6 +19,7 @@ use crate::opening::OpeningMemory;
 use crate::port::PortRecord;
 use crate::rules::{keeps_codes, keeps_port, port_of};
 use crate::target::Target;
+use crate::targets::of_line;
 use ace_event::{Event, Header};
 use std::alloc::Global;
 
@@ -50,29 +51,13 @@ fn fresh_ports(alloc: Global, count: u8) -> Result<Vec<PortRecord>, NoMemory>
     Ok(ports)
 }
 
-/// The target of a MEM.
-fn target_of_line(line: u32) -> Target
-    ensures { (h : Header) (past : Trace) (bytes : Line) → result ≡ target_of h past (Mem line bytes) }
-{
-    Target {
-        transaction: None,
-        snoop: None,
-        line: Some(line),
-        own: None,
-        beat: 0,
-        data: None,
-        unordered: None,
-        incomplete: None,
-    }
-}
-
 /// What a MEM belongs to, which names no port: its line.
 fn target_without_port(event: &Event) -> Target
     ensures { (h : Header) (past : Trace) → port_of event.now ≡ None → result ≡ target_of h past event.now }
 {
     match *event {
-        Event::Mem { addr, .. } => target_of_line(addr),
-        _ => target_of_line(0),
+        Event::Mem { addr, .. } => of_line(addr),
+        _ => of_line(0),
     }
 }
 
@@ -215,9 +200,9 @@ impl PortCheck {
         ensures room { OnOk result (HasRoomFor self.new event.now) }
         ensures cause { OnErr result ((r : Recording) → Stands self.old r → RisesAt r.past event.now) }
     {
-        match port_of(event) {
-            Some(port) => make_room(&mut self.ports, port, event),
-            None => Ok(()),
+        match *event {
+            Event::Ac { port, .. } => make_room(&mut self.ports, port, event),
+            _ => Ok(()),
         }
     }
 

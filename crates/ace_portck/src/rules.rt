@@ -1,7 +1,7 @@
 //! The rules that look at the header and at the event alone.
 
 ghost use Rattle.std.specs.Prelude.{◌≡◌};
-ghost use Rattle.ace_model.specs.AddressRules.{wants_ace, k1, has_known_codes, k2, may_lock};
+ghost use Rattle.ace_model.specs.AddressRules.{k1, has_known_codes, k2, may_lock};
 ghost use Rattle.ace_model.specs.Trace.{Trace, port_of};
 
 use crate::kinds::{is_ace, is_lite_read, is_lite_write, may_be_exclusive, read_kind};
@@ -34,29 +34,29 @@ pub fn port_of(event: &Event) -> Option<u8>
     }
 }
 
-/// An event that only a master with a cache has.
-fn wants_ace(event: &Event) -> bool
-    ensures { result ≡ wants_ace event.now }
-{
-    matches!(
-        event,
-        Event::Rk { .. }
-            | Event::Wk { .. }
-            | Event::Ac { .. }
-            | Event::Cr { .. }
-            | Event::Cd { .. }
-            | Event::S { .. }
-            | Event::L { .. }
-            | Event::D { .. }
-    )
-}
-
 /// K1: the port is in the header, and it is an ACE port for what only a master with a cache has (Arm IHI 0022E, C11).
 pub fn keeps_port(header: &Header, event: &Event) -> bool
     ensures { (past : Trace) → result ≡ k1 header.now past event.now }
 {
-    port_of(event).is_none_or(|port| port < header.ports
-        && (!wants_ace(event) || is_ace(header, port)))
+    match *event {
+        Event::Ar { port, .. }
+        | Event::R { port, .. }
+        | Event::Aw { port, .. }
+        | Event::W { port, .. }
+        | Event::B { port, .. }
+        | Event::G { port, .. }
+        | Event::M { port, .. }
+        | Event::Op { port, .. } => port < header.ports,
+        Event::Rk { port, .. }
+        | Event::Wk { port, .. }
+        | Event::Ac { port, .. }
+        | Event::Cr { port, .. }
+        | Event::Cd { port, .. }
+        | Event::S { port, .. }
+        | Event::L { port, .. }
+        | Event::D { port, .. } => port < header.ports && is_ace(header, port),
+        Event::Mem { .. } => true,
+    }
 }
 
 /// The codes have a kind that the port may issue, and no response is an error.

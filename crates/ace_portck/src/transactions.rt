@@ -2,6 +2,7 @@
 
 ghost use Rattle.std.specs.Prelude.{◌≡◌, ◌∷◌, find, option_map};
 ghost use Rattle.std.specs.List.{list_any};
+ghost use Rattle.std.specs.Option.{option_copied};
 ghost use Rattle.ace_model.specs.AddressRules.{gives_up};
 ghost use Rattle.ace_model.specs.Kinds.{is_unique_write};
 ghost use Rattle.ace_model.specs.Progress.{updates_memory, evicts};
@@ -10,8 +11,8 @@ ghost use Rattle.ace_model.specs.Transactions.{is_on, write_kind};
 ghost use Rattle.std.specs.List.{AllByRecursion};
 ghost use Rattle.ace_model.specs.Trace.{Trace, is_some_and};
 ghost use Rattle.ace_portck.specs.Heard.{IsHeard};
-ghost use Rattle.ace_portck.specs.Pending.{HasByteId, PendingStands, moves_channel};
-ghost use Rattle.ace_portck.specs.Transactions.{is_ordered_by, has_order_point, is_unordered, is_incomplete};
+ghost use Rattle.ace_portck.specs.Pending.{HasByteId, PendingStands};
+ghost use Rattle.ace_portck.specs.Transactions.{is_ordered_by, has_order_point, is_unordered, is_incomplete, moved_channel};
 
 use crate::NoMemory;
 use crate::kinds::{gives_up, is_evict, is_line, is_on, is_unique_write, is_update, write_kind};
@@ -29,10 +30,10 @@ pub struct Transactions {
 }
 
 /// The first transaction of the list that is on the line.
-fn find_on(list: &[Progress], line: u32) -> Option<Progress>
-    ensures { result ≡ find (λ x. is_on x.transaction line) list.now }
+fn find_on(list: &[Progress], line: u32) -> Option<&Progress>
+    ensures { option_copied result ≡ find (λ x. is_on x.transaction line) list.now }
 {
-    list.iter().copied().find(|x| is_on(&x.transaction, line))
+    list.iter().find(|x| is_on(&x.transaction, line))
 }
 
 /// The list has a WriteUnique or WriteLineUnique.
@@ -126,17 +127,17 @@ fn lesser(a: Option<usize>, b: Option<usize>) -> Option<usize>
     }
 }
 
-/// The event may change something of the outstanding transactions of its port on the channel.
-fn moves_channel(event: &Event, chan: Channel) -> bool
-    ensures { result ≡ moves_channel event.now chan }
+/// The channel on which the event may change something of the outstanding transactions of its port.
+fn moved_channel(event: &Event) -> Option<Channel>
+    ensures { result ≡ moved_channel event.now }
 {
     match *event {
         Event::Ar { .. } | Event::R { .. } | Event::Rk { .. } | Event::D { .. } => {
-            chan == Channel::Read
+            Some(Channel::Read)
         }
-        Event::Aw { .. } | Event::B { .. } | Event::Wk { .. } => chan == Channel::Write,
-        Event::G { chan: named, .. } | Event::M { chan: named, .. } => named == chan,
-        _ => false,
+        Event::Aw { .. } | Event::B { .. } | Event::Wk { .. } => Some(Channel::Write),
+        Event::G { chan, .. } | Event::M { chan, .. } => Some(chan),
+        _ => None,
     }
 }
 
@@ -200,7 +201,10 @@ impl Transactions {
         ensures { (h : Header) (past : Trace) (p : ℕ) → TransactionsStand h past p self.now
             → result ≡ option_map (progress_of h past) (own_of h past p line) }
     {
-        find_on(self.reads.list(), line).or(find_on(self.writes.list(), line))
+        match find_on(self.reads.list(), line) {
+            Some(x) => Some(*x),
+            None => find_on(self.writes.list(), line).copied(),
+        }
     }
 
     /// The place of the oldest line transaction with bar 0 without its order point.
@@ -277,24 +281,12 @@ impl Transactions {
         ensures { (past : Trace) → IsHeard header.now past place event.now port → AllByRecursion HasByteId (event.now ∷ past)
             → TransactionsStand header.now past port self.old → TransactionsStand header.now (event.now ∷ past) port self.new }
     {
-        hear_on(&mut self.reads, header, port, Channel::Read, place, event);
-        hear_on(&mut self.writes, header, port, Channel::Write, place, event);
-    }
-}
-
-/// The same of one channel, which most events leave as it is.
-fn hear_on(
-    pending: &mut Pending,
-    header: &Header,
-    port: u8,
-    chan: Channel,
-    place: usize,
-    event: &Event,
-)
-    ensures { (past : Trace) → IsHeard header.now past place event.now port → AllByRecursion HasByteId (event.now ∷ past)
-        → PendingStands header.now past port chan pending.old → PendingStands header.now (event.now ∷ past) port chan pending.new }
-{
-    if moves_channel(event, chan) {
-        pending.hear(header, port, chan, place, event);
+        match moved_channel(event) {
+            None => {}
+            Some(chan) => match chan {
+                Channel::Read => self.reads.hear(header, port, Channel::Read, place, event),
+                Channel::Write => self.writes.hear(header, port, Channel::Write, place, event),
+            },
+        }
     }
 }

@@ -1,6 +1,7 @@
 //! The write data of one port.
 
 ghost use Rattle.std.specs.Prelude.{◌≡◌, ◌<◌, ◌++◌, ◌∷◌, List, [], length, option_map, find, ◌==◌};
+ghost use Rattle.std.specs.Option.{option_copied};
 ghost use Rattle.ace_model.specs.Kinds.{has_write_data, is_write_line_unique};
 ghost use Rattle.ace_model.specs.Shares.{fits_burst, fits_strobe};
 ghost use Rattle.ace_model.specs.Writes.{Beat};
@@ -83,10 +84,10 @@ fn fits_burst(beat: u8, strobe: u16, last: bool, write: &Transaction) -> bool
 }
 
 /// The burst under the identifier.
-fn find_burst(bursts: &[Burst], id: u8) -> Option<Burst>
-    ensures { result ≡ find (λ b. b.id == id) bursts.now }
+fn find_burst(bursts: &[Burst], id: u8) -> Option<&Burst>
+    ensures { option_copied result ≡ find (λ b. b.id == id) bursts.now }
 {
-    bursts.iter().copied().find(|burst| burst.id == id)
+    bursts.iter().find(|burst| burst.id == id)
 }
 
 /// What it sent.
@@ -182,17 +183,15 @@ impl WriteBursts {
         self.part.beats
     }
 
-    /// Of the M of a write with data: its burst, where it is whole and the write has had no M.
-    pub fn data_of(&self, event: &Event) -> Option<WriteData>
-        ensures { (h : Header) (past : Trace) (p : ℕ) → WritesStand h past p self.now → port_of event.now ≡ Some p
-            → result ≡ data_in h past event.now }
+    /// Of an M of the transaction under the identifier: the burst of a write with data, where it is whole and the write has had no
+    /// M.
+    pub fn data_of(&self, chan: Channel, id: u8) -> Option<WriteData>
+        ensures { (h : Header) (past : Trace) (p : ℕ) (line : Line) → WritesStand h past p self.now
+            → result ≡ data_in h past (M p chan id line) }
     {
-        match *event {
-            Event::M { chan, id, .. } => match chan {
-                Channel::Read => None,
-                Channel::Write => sent(&self.whole, id),
-            },
-            _ => None,
+        match chan {
+            Channel::Read => None,
+            Channel::Write => sent(&self.whole, id),
         }
     }
 

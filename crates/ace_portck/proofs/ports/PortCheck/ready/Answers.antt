@@ -1,8 +1,11 @@
-use Rattle.std.proofs.Common.{◌∙◌, sym}
-use Rattle.ace_portck.proofs.AllPorts.{on_err}
+use Rattle.std.proofs.Common.{ap}
+use Rattle.ace_model.specs.Trace.{port_of}
+use Rattle.ace_portck.proofs.AllPorts.{has_room, on_err}
 use Rattle.ace_portck.proofs.ports.PortCheck.ready.Goals as goal
 
-pub returns-in-Some-clause-cause : goal.returns-in-Some-clause-cause
-returns-in-Some-clause-cause c =
-    on_err c.make_room.result c.make_room.ensures.cause
-    (λ rises r s. rises r.header r.past c.args.self.now.outside s.ports (sym c.port_of.ensures ∙ c.in-Some.is))
+pub returns-in-Ac-clause-cause : goal.returns-in-Ac-clause-cause
+returns-in-Ac-clause-cause c =
+    on_err c.make_room.result c.make_room.ensures.cause (λ rises r s. rises r.header r.past c.args.self.now.outside s.ports (ap port_of c.in-Ac.is))
+
+pub returns-in_default-clause-room : goal.returns-in_default-clause-room
+returns-in_default-clause-room c = λ p k own at. has_room c.args.event.now k c.in_default.not-Ac
