@@ -107,8 +107,8 @@ fn transfer(x: &mut Progress, resp: u8, last: bool)
     x.complete = x.complete || last;
 }
 
-/// The transaction has come as far as it has after the event.
-fn bring_on(x: &mut Progress, event: &Event)
+/// Advances a transaction by the event. Only what changes is written.
+fn advance(x: &mut Progress, event: &Event)
     ensures { x.new ≡ renewed event.now x.old }
 {
     match *event {
@@ -143,7 +143,7 @@ fn renew(list: &mut [Progress], event: &Event)
     ensures { list.new ≡ map (renewed event.now) list.old }
 {
     for x in list.iter_mut() {
-        bring_on(x, event);
+        advance(x, event);
     }
 }
 

@@ -2,9 +2,7 @@
 
 ghost use Rattle.std.specs.Prelude.{◌≡◌, ◌<◌, ℕ, [], ◌∷◌, None, Some, length, slice_get, IfOk, OnOk, OnErr};
 ghost use Rattle.std.specs.List.{All, AllByRecursion};
-ghost use Rattle.ace_event.specs.declared.event.Event.TheVariants.{Mem};
 ghost use Rattle.ace_event.specs.declared.header.Header.{Header};
-ghost use Rattle.ace_event.specs.declared.line.Line.{Line};
 ghost use Rattle.ace_model.specs.Trace.{Trace, port_of};
 ghost use Rattle.ace_portck.specs.Heard.{IsHeard};
 ghost use Rattle.ace_portck.specs.Pending.{HasByteId};

@@ -8,6 +8,6 @@ pub loop-x-preserved : goal.loop-x-preserved
 loop-x-preserved c =
     let lt : c.loop-x.x-index < length c.args.list.now = omega arith in
     let within : c.loop-x.x-index < length c.loop-x.list = omega arith in
-    rw c.bring_on.ensures
+    rw c.advance.ensures
     (map_over_more (renewed c.args.event.now) c.args.list.now c.loop-x.list c.loop-x.x-index
     _ lt c.loop-x.invariant (get_or_default c.loop-x.list c.loop-x.x-index _ _ within))
