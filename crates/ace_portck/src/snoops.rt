@@ -49,7 +49,7 @@ impl SnoopQueues {
     ghost use Rattle.ace_model.specs.Trace.{Trace, port_of};
     ghost use Rattle.ace_portck.specs.Heard.{IsHeard};
     ghost use Rattle.ace_portck.specs.Snoops.{SnoopsStand, HasRoom, HasRoomForOne};
-    ghost use Rattle.ace_portck.specs.Targets.{sending, snoop_in};
+    ghost use Rattle.ace_portck.specs.Targets.{sending};
     ghost use Rattle.ace_portck.specs.Unfinished.{RisesAt};
 
     /// The queues of a port without events.
@@ -82,19 +82,6 @@ impl SnoopQueues {
         ensures { (past : Trace) (p : ℕ) → SnoopsStand past p self.now → result ≡ next_sent_beat past p }
     {
         self.beats
-    }
-
-    /// The snoop that the event begins, answers, or sends data for, where `place` events came before it.
-    pub fn snoop_of(&self, event: &Event, place: usize) -> Option<Snoop>
-        ensures { (past : Trace) (p : ℕ) → SnoopsStand past p self.now → port_of event.now ≡ Some p → place ≡ length past
-            → result ≡ snoop_in past event.now }
-    {
-        match *event {
-            Event::Ac { addr, snoop, .. } => Some(Snoop { place, addr, snoop }),
-            Event::Cr { .. } => self.answered(),
-            Event::Cd { .. } => self.sending(),
-            _ => None,
-        }
     }
 
     /// K14: a CR answers a snoop of the port.

@@ -230,7 +230,7 @@ impl PortRecord {
                 Channel::Write,
             )),
             Event::W { .. } => self.of_write_beat(),
-            Event::Ac { .. } => self.of_snoop(self.snoops.snoop_of(event, place)),
+            Event::Ac { addr, snoop, .. } => self.of_snoop(Some(Snoop { place, addr, snoop })),
             Event::Cr { .. } => self.of_snoop(self.snoops.answered()),
             Event::Cd { .. } => self.of_snoop_beat(),
             Event::S { addr, .. } => self.on_line(addr),
