@@ -1,8 +1,8 @@
 -- Numbers and the bytes that make them.
-use Rattle.std.proofs.Common.{◌≡◌, ℕ, zero, suc, ◌+◌, ◌-◌, ◌*◌, ◌/◌, ◌%◌, ◌^◌, ◌<◌, ◌≤◌, ◌==◌, Bool, true, false, cond, refl, sym, ap, ◌∙◌, arith, bit_and, add-one}
+use Rattle.std.proofs.Common.{◌≡◌, ℕ, zero, suc, ◌+◌, ◌-◌, ◌*◌, ◌/◌, ◌%◌, ◌^◌, ◌<◌, ◌≤◌, ◌==◌, Bool, true, false, cond, refl, sym, ap, ◌∙◌, arith, bit_and, add-one, subst, slice_index}
 use Rattle.std.proofs.Math.Nat.{pow-le-pow_right, pow-suc, pow-succ', div-div-eq-div-mul}
-use Rattle.std.proofs.lemmas.Nat.{pow-add, mod-mul-add, div-mul-add, and_mask}
-use Rattle.std.proofs.lemmas.Nat.Bits.{bit_at_above}
+use Rattle.std.proofs.lemmas.Nat.{pow-add, mod-mul-add, div-mul-add, and_mask, div-add-mod', shr-shr, shr_split}
+use Rattle.std.proofs.lemmas.Nat.Bits.{bit_at_above, bit_at_cat_low, bit_at_ones, bit_at-zero}
 use Rattle.std.proofs.lemmas.List.FromFn.{get_or-map-range_with_len}
 use Rattle.std.specs.Int.{byte_at, bit_at}
 use Rattle.ace_event.specs.declared.line.Line.{Line}
@@ -85,3 +85,58 @@ merged_byte line strobe bytes n h =
 
 pub merged_bytes : (line : Line) (strobe : ℕ) (bytes result : Line) → result ≡ merged line strobe bytes → (n : ℕ) → n < 64 → byte_of result n ≡ stored_byte line strobe bytes n
 merged_bytes line strobe bytes result e n h = ap (λ (l : Line). byte_of l n) e ∙ merged_byte line strobe bytes n h
+
+-- bytes that are the same, one by one, make the same number
+number_of_bytes-same : (f g : ℕ → ℕ) (count : ℕ) → ((j : ℕ) → j < count → f j ≡ g j) → number_of_bytes f count ≡ number_of_bytes g count
+unfolding number_of_bytes
+number_of_bytes-same f g zero same = refl
+number_of_bytes-same f g (suc count) same =
+    rw (number_of_bytes-same f g count (λ j h. same j (omega (arith, h))), same count (omega arith)) refl
+
+-- the first bytes of a word make what is above its other bytes
+leading_bytes : (w count i : ℕ) → w < 2 ^ 128 → count + i ≡ 16 → number_of_bytes (λ j. byte_at (15 - j) w) count ≡ w / 256 ^ i
+unfolding number_of_bytes
+leading_bytes w zero i h e =
+    let sixteen : 16 ≡ i = omega (arith, e) in
+    subst (λ n. 0 ≡ w / 256 ^ n) sixteen (omega (arith, h))
+leading_bytes w (suc count) i h e =
+    let place : 15 - count ≡ i = omega (arith, e) in
+    let above : number_of_bytes (λ j. byte_at (15 - j) w) count ≡ w / 256 ^ i / 256 =
+    leading_bytes w count (suc i) h (omega (arith, e)) ∙ ap (λ d. w / d) (pow-suc 256 i) ∙ sym (div-div-eq-div-mul w (256 ^ i) 256) in
+    let byte : byte_at (15 - count) w ≡ w / 256 ^ i % 256 = ap (λ n. byte_at n w) place ∙ sym (low_byte i w) in
+    rw (above, byte) (div-add-mod' (w / 256 ^ i) 256)
+
+-- a word is what its sixteen bytes make
+word_of_bytes : (w : ℕ) → w < 2 ^ 128 → number_of_bytes (λ j. byte_at (15 - j) w) 16 ≡ w
+word_of_bytes w h = leading_bytes w 16 0 h refl ∙ omega arith
+
+byte_of-word : (line : Line) (k j : ℕ) → j < 16 → byte_of line (16 * k + j) ≡ byte_at (15 - j) (slice_index line.words k)
+byte_of-word line k j h =
+    let place : (16 * k + j) % 16 ≡ j = omega (arith, h) in
+    let word : (16 * k + j) / 16 ≡ k = omega (arith, h) in
+    rw (place, word) refl
+
+-- the bits of the strobe for the bytes of word k
+strobe_bit : (strobe k v j : ℕ) → bit_and (strobe / 2 ^ (16 * k)) 65535 ≡ v → j < 16 → bit_at strobe (16 * k + j) ≡ bit_at v j
+strobe_bit strobe k v j e h =
+    let q : ℕ = strobe / 2 ^ (16 * k) in
+    ap (λ n. n % 2) (sym (shr-shr strobe (16 * k) j))
+    ∙ ap (λ n. bit_at n j) (sym (shr_split q 16))
+    ∙ bit_at_cat_low (q / 2 ^ 16) 16 (q % 2 ^ 16) j h
+    ∙ ap (λ n. bit_at n j) (sym (and_mask q 16) ∙ e)
+
+-- where the strobe takes all bytes of word k, the word is the one that is stored
+pub merged_word-all : (line : Line) (strobe : ℕ) (bytes : Line) (k : ℕ) → bit_and (strobe / 2 ^ (16 * k)) 65535 ≡ 65535 → slice_index bytes.words k < 2 ^ 128
+    → slice_index bytes.words k ≡ merged_word line strobe bytes k
+merged_word-all line strobe bytes k e h =
+    sym (number_of_bytes-same (λ j. stored_byte line strobe bytes (16 * k + j)) (λ j. byte_at (15 - j) (slice_index bytes.words k)) 16
+    (λ j low. rw (strobe_bit strobe k 65535 j e low, bit_at_ones 16 j low) (byte_of-word bytes k j low))
+    ∙ word_of_bytes (slice_index bytes.words k) h)
+
+-- where it takes none of them, the word stays
+pub merged_word-none : (line : Line) (strobe : ℕ) (bytes : Line) (k : ℕ) → bit_and (strobe / 2 ^ (16 * k)) 65535 ≡ 0 → slice_index line.words k < 2 ^ 128
+    → slice_index line.words k ≡ merged_word line strobe bytes k
+merged_word-none line strobe bytes k e h =
+    sym (number_of_bytes-same (λ j. stored_byte line strobe bytes (16 * k + j)) (λ j. byte_at (15 - j) (slice_index line.words k)) 16
+    (λ j low. rw (strobe_bit strobe k 0 j e low, bit_at-zero j) (byte_of-word line k j low))
+    ∙ word_of_bytes (slice_index line.words k) h)

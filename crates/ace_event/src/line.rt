@@ -30,8 +30,8 @@ fn byte_after(line: &Line, strobe: u64, bytes: &Line, n: usize) -> u8
     }
 }
 
-/// Word k after the store.
-fn merge_word(line: &Line, strobe: u64, bytes: &Line, k: usize) -> u128
+/// Word k after the store, byte by byte.
+fn merge_bytes(line: &Line, strobe: u64, bytes: &Line, k: usize) -> u128
     requires { k < 4 }
     ensures { result ≡ merged_word line.now strobe bytes.now k }
 {
@@ -40,6 +40,18 @@ fn merge_word(line: &Line, strobe: u64, bytes: &Line, k: usize) -> u128
         word = word * 256 + u128::from(byte_after(line, strobe, bytes, 16 * k + j));
     }
     word
+}
+
+/// Word k after the store. Most stores take all bytes of a word or none, so the word is told without looking at each.
+fn merge_word(line: &Line, strobe: u64, bytes: &Line, k: usize) -> u128
+    requires { k < 4 }
+    ensures { result ≡ merged_word line.now strobe bytes.now k }
+{
+    match strobe >> (16 * k) & 0xffff {
+        0 => line.words[k],
+        0xffff => bytes.words[k],
+        _ => merge_bytes(line, strobe, bytes, k),
+    }
 }
 
 /// The line after a store: byte n, from 0 to 63, is that of `bytes` where bit n of the strobe is 1, and else it stays

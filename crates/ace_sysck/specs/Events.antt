@@ -1,5 +1,5 @@
--- The transaction of a target, by what its event does.
-use Rattle.std.specs.Prelude.{if◌then◌else◌, Option, None}
+-- What an event does with the transaction of its target.
+use Rattle.std.specs.Prelude.{Bool, true, false, if◌then◌else◌, Option, None}
 use Rattle.std.specs.Option.{option_map}
 use Rattle.ace_event.specs.declared.event.Event.{Event}
 use Rattle.ace_event.specs.declared.event.Event.TheVariants.{Ar, Aw, R, B, G}
@@ -35,3 +35,15 @@ completed_in _ t = None
 abbrev pub granted_in : Event → Target → Option Transaction
 granted_in (G p c i) t = carried t
 granted_in _ t = None
+
+-- it issues a transaction
+abbrev pub is_issue : Event → Bool
+is_issue (Ar p i addr snoop dom bar lock) = true
+is_issue (Aw p i addr snoop dom bar) = true
+is_issue _ = false
+
+-- it answers a transaction
+abbrev pub is_response : Event → Bool
+is_response (R p i resp last word) = true
+is_response (B p i resp) = true
+is_response _ = false

@@ -1,10 +1,14 @@
--- When the rules over several groups may be asked.
-use Rattle.std.specs.Prelude.{ℕ, ◌≡◌, Bool, not, ◌&&◌, ◌==◌, Option, is_some, length, slice_index_or}
+-- When the rules over several groups may be asked, and which rules look at an event of a kind.
+use Rattle.std.specs.Prelude.{ℕ, ◌≡◌, Bool, not, ◌&&◌, ◌==◌, List, [], ◌∷◌, Option, is_some, length, slice_index_or}
 use Rattle.ace_event.specs.declared.event.Event.{Event}
 use Rattle.ace_event.specs.declared.header.Header.{Header}
 use Rattle.ace_model.specs.declared.transactions.Transaction.{Transaction}
 use Rattle.ace_model.specs.Trace.{implies, is_some_and}
 use Rattle.ace_model.specs.Kinds.{is_clean_unique}
+use Rattle.ace_model.specs.Accepted.{Rule, rule}
+use Rattle.ace_model.specs.AddressRules.{k9}
+use Rattle.ace_model.specs.ReadRules.{k21}
+use Rattle.ace_model.specs.OrderRules.{k34, k36, k37, k38, k39}
 use Rattle.ace_model.specs.Transactions.{read_kind, is_exclusive_store}
 use Rattle.ace_portck.specs.declared.target.Target.{Target}
 use Rattle.ace_portck.specs.Targets.{Recording}
@@ -67,3 +71,13 @@ completes_with m h s p addr = (addr == 0) && is_some m.sync && m.sync_done && no
 
 abbrev pub completes_now : Header → Messages → Syncs → ℕ → ℕ → Bool
 completes_now h m s p addr = completes_with (slice_index_or m.ports.items p silent) h s p addr
+
+-- the rules that look at an AR or AW, at an R, and at an AC
+abbrev pub begun_rules : List Rule
+begun_rules = rule 9 k9 ∷ rule 38 k38 ∷ []
+
+abbrev pub read_rules : List Rule
+read_rules = rule 21 k21 ∷ rule 34 k34 ∷ rule 37 k37 ∷ []
+
+abbrev pub snoop_rules : List Rule
+snoop_rules = rule 36 k36 ∷ rule 39 k39 ∷ []

@@ -49,11 +49,13 @@ impl SysCheck {
     ghost use Rattle.ace_model.specs.Grants.{given};
     ghost use Rattle.ace_model.specs.Trace.{is_some_and};
     ghost use Rattle.ace_model.specs.Transactions.{outstanding};
+    ghost use Rattle.ace_portck.specs.declared.target.Target.{Target};
     ghost use Rattle.ace_portck.specs.Targets.{Recording, after};
     ghost use Rattle.ace_sysck.specs.Events.{begun_in};
     ghost use Rattle.ace_sysck.specs.Inboxes.{first_is_sync};
     ghost use Rattle.ace_sysck.specs.Messages.{MessagesStand, PortMessagesStand};
     ghost use Rattle.ace_sysck.specs.Registrations.{RegistrationsStand, IsNewLock};
+    ghost use Rattle.ace_sysck.specs.Rules.{begun_rules, read_rules, snoop_rules};
     ghost use Rattle.ace_sysck.specs.Stands.{Stands, MayTest, HasRoom, MayApply};
     ghost use Rattle.ace_sysck.specs.Steps.{IsStep};
 
@@ -91,10 +93,35 @@ impl SysCheck {
         })
     }
 
-    /// The least rule of the share that the event breaks, if it breaks one and keeps K1.
-    pub fn test(&self, event: &Event, target: &Target) -> Option<u8>
+    /// Of an AR or AW, the least rule of the share that it breaks.
+    fn test_begun(&self, event: &Event, target: &Target) -> Option<u8>
         ensures { (r : Recording) → MayTest self.now r event.now target.now → k1 r.header r.past event.now ≡ true
-            → result ≡ least_of system_rules r.header r.past event.now }
+            → result ≡ least_of begun_rules r.header r.past event.now }
+    {
+        let from_38 = unless(keeps_k38(&self.syncs, event, target), 38, None);
+        unless(
+            keeps_k9(&self.barriers, &self.messages, event, target),
+            9,
+            from_38,
+        )
+    }
+
+    /// Of an R.
+    fn test_read(&self, event: &Event, target: &Target) -> Option<u8>
+        ensures { (r : Recording) → MayTest self.now r event.now target.now → k1 r.header r.past event.now ≡ true
+            → result ≡ least_of read_rules r.header r.past event.now }
+    {
+        let header = &self.header;
+        let answered = keeps_k37(header, &self.messages, &self.inboxes, event, target);
+        let from_37 = unless(answered, 37, None);
+        let from_34 = unless(self.barriers.keeps_k34(event, target), 34, from_37);
+        unless(keeps_k21(&self.results, event, target), 21, from_34)
+    }
+
+    /// Of an AC.
+    fn test_snoop(&self, event: &Event) -> Option<u8>
+        ensures { (r : Recording) (t : Target) → MayTest self.now r event.now t → k1 r.header r.past event.now ≡ true
+            → result ≡ least_of snoop_rules r.header r.past event.now }
     {
         let header = &self.header;
         let from_39 = unless(
@@ -102,19 +129,25 @@ impl SysCheck {
             39,
             None,
         );
-        let from_38 = unless(keeps_k38(&self.syncs, event, target), 38, from_39);
-        let answered = keeps_k37(header, &self.messages, &self.inboxes, event, target);
-        let from_37 = unless(answered, 37, from_38);
-        let from_36 = unless(self.inboxes.keeps_k36(event), 36, from_37);
-        let from_35 = unless(self.barriers.keeps_k35(event, target), 35, from_36);
-        let from_34 = unless(self.barriers.keeps_k34(event, target), 34, from_35);
-        let from_33 = unless(self.monitors.keeps_k33(event), 33, from_34);
-        let from_21 = unless(keeps_k21(&self.results, event, target), 21, from_33);
-        unless(
-            keeps_k9(&self.barriers, &self.messages, event, target),
-            9,
-            from_21,
-        )
+        unless(self.inboxes.keeps_k36(event), 36, from_39)
+    }
+
+    /// The least rule of the share that the event breaks, if it breaks one and keeps K1. An event is looked at by the rules of its
+    /// kind alone.
+    pub fn test(&self, event: &Event, target: &Target) -> Option<u8>
+        ensures { (r : Recording) → MayTest self.now r event.now target.now → k1 r.header r.past event.now ≡ true
+            → result ≡ least_of system_rules r.header r.past event.now }
+    {
+        match *event {
+            Event::Ar { .. } => self.test_begun(event, target),
+            Event::Aw { .. } => self.test_begun(event, target),
+            Event::R { .. } => self.test_read(event, target),
+            Event::B { .. } => unless(self.barriers.keeps_k34(event, target), 34, None),
+            Event::Ac { .. } => self.test_snoop(event),
+            Event::G { .. } => unless(self.barriers.keeps_k35(event, target), 35, None),
+            Event::D { .. } => unless(self.monitors.keeps_k33(event), 33, None),
+            _ => None,
+        }
     }
 
     /// Makes room for what the event leaves. There is no memory for it only where the event grants a line to a transaction with

@@ -1,19 +1,8 @@
-use Rattle.std.proofs.Common.{rules, arith, refl}
-use Rattle.ace_event.specs.Bytes.{number_of_bytes}
-use Rattle.ace_event.proofs.Bytes.{number_of_bytes-more, stored_word-fits}
+use Rattle.ace_event.proofs.Bytes.{merged_word-all, merged_word-none}
 use Rattle.ace_event.proofs.line.merge_word.Goals as goal
 
-pub loop-j-init : goal.loop-j-init
-unfolding number_of_bytes
-loop-j-init c = refl
+pub returns-in-0 : goal.returns-in-0
+returns-in-0 c = merged_word-none c.args.line.now c.args.strobe c.args.bytes.now c.args.k c.in-0.is (let words = c.type_inv.line in assumption words)
 
-pub overflow_mul-word : goal.overflow_mul-word
-overflow_mul-word c =
-    omega (arith, c.loop-j.invariant, stored_word-fits c.args.line.now c.args.strobe c.args.bytes.now c.args.k c.loop-j.j (omega arith))
-
-pub overflow_add-word : goal.overflow_add-word
-overflow_add-word c =
-    omega (arith, c.loop-j.invariant, stored_word-fits c.args.line.now c.args.strobe c.args.bytes.now c.args.k c.loop-j.j (omega arith))
-
-pub loop-j-preserved : goal.loop-j-preserved
-loop-j-preserved c = number_of_bytes-more _ _ _ _ c.loop-j.invariant (search rules)
+pub returns-in-65535 : goal.returns-in-65535
+returns-in-65535 c = merged_word-all c.args.line.now c.args.strobe c.args.bytes.now c.args.k c.in-65535.is (let words = c.type_inv.bytes in assumption words)
