@@ -17,7 +17,7 @@ use Rattle.ace_model.specs.DvmHolds.{DvmHolds}
 use Rattle.ace_portck.specs.declared.target.Target.{Target}
 use Rattle.ace_portck.specs.Targets.{Recording, target_of}
 use Rattle.ace_portck.specs.Unfinished.{RisesAt}
-use Rattle.ace_lineck.specs.Stands.{BeginsLine}
+use Rattle.ace_lineck.specs.Stands.{BeginsLine, place_on}
 use Rattle.ace_sysck.specs.Registrations.{IsNewLock}
 use Rattle.ace_portck.specs.Stands as ports
 use Rattle.ace_lineck.specs.Stands as lines
@@ -55,10 +55,11 @@ pub record Stands (c : Checker) (h : Header) (past : Trace) (b : Option Break) :
   pub broken : c.broken ≡ b
   pub fits : AllByRecursion FitsFields past
 
--- The event may be taken: it breaks no rule, names no line too many, and the target is its own.
-pub record MayTake (c : Checker) (h : Header) (past : Trace) (e : Event) (t : Target) : Type 0 where
+-- The event may be taken: it breaks no rule, names no line too many, the target is its own, and the place is that of its line.
+pub record MayTake (c : Checker) (h : Header) (past : Trace) (e : Event) (t : Target) (place : Option ℕ) : Type 0 where
   pub stands : Stands c h past None
   pub target : t ≡ target_of h past e
+  pub at : place ≡ place_on c.lines t.line
   pub fine : least_broken h past e ≡ None
   pub fits : FitsFields e
 

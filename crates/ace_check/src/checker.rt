@@ -100,16 +100,17 @@ impl Checker {
         }
         every_event_fits(*event);
         let target = self.target(event);
-        let failed = self.has_failed(&target);
-        if let Some(rule) = self.least_broken(event, &target, failed) {
+        let place = self.lines.place(target.line);
+        let failed = self.has_failed(&target, place);
+        if let Some(rule) = self.least_broken(event, &target, place, failed) {
             let index = self.count.wrapping_add(1);
             self.broken = Some(Break { index, rule });
             return Ok(Step::Broken { index, rule });
         }
-        if self.goes_over(event, &target) {
+        if self.goes_over(event, &target, place) {
             return Err(CheckErr::TooManyLines);
         }
-        self.take(event, &target)
+        self.take(event, &target, place)
     }
 
     /// What the next event belongs to: its transaction with how far that has come, its snoop, its line.
@@ -147,13 +148,15 @@ impl Checker {
     ghost use Rattle.ace_model.specs.declared.transactions.Transaction.{Transaction};
     ghost use Rattle.ace_portck.specs.Targets.{target_of};
     ghost use Rattle.ace_lineck.specs.Kept.{IsFailure};
+    ghost use Rattle.ace_lineck.specs.Stands.{place_on};
     ghost use Rattle.ace_check.specs.Run.{Stands, MayTake, goes_over, MayLackMemory};
 
-    /// The granted transaction of the line is an exclusive store that failed.
-    fn has_failed_on(&self, line: u32) -> bool
-        ensures { (h : Header) (past : Trace) (b : Option Break) → Stands self.now h past b → result ≡ has_failed_on h past line }
+    /// The granted transaction of the line, whose record stands at the place, is an exclusive store that failed.
+    fn has_failed_at(&self, place: Option<usize>) -> bool
+        ensures { (h : Header) (past : Trace) (b : Option Break) (line : ℕ) → Stands self.now h past b → place ≡ place_on self.now.lines (Some line)
+            → result ≡ has_failed_on h past line }
     {
-        match self.lines.granted(line) {
+        match self.lines.granted(place) {
             None => false,
             Some((port, chan, id)) => self.has_failed_as(port, chan, id),
         }
@@ -171,19 +174,26 @@ impl Checker {
     }
 
     /// The granted transaction of the event's line is an exclusive store that failed.
-    fn has_failed(&self, target: &Target) -> bool
-        ensures { (h : Header) (past : Trace) (b : Option Break) → Stands self.now h past b → IsFailure h past target.now result }
+    fn has_failed(&self, target: &Target, place: Option<usize>) -> bool
+        ensures { (h : Header) (past : Trace) (b : Option Break) → Stands self.now h past b → place ≡ place_on self.now.lines target.now.line
+            → IsFailure h past target.now result }
     {
         match target.line {
             None => false,
-            Some(line) => self.has_failed_on(line),
+            Some(_) => self.has_failed_at(place),
         }
     }
 
     /// The least rule that the event breaks.
-    fn least_broken(&self, event: &Event, target: &Target, failed: bool) -> Option<u8>
+    fn least_broken(
+        &self,
+        event: &Event,
+        target: &Target,
+        place: Option<usize>,
+        failed: bool,
+    ) -> Option<u8>
         ensures { (h : Header) (past : Trace) (b : Option Break) → Stands self.now h past b → target.now ≡ target_of h past event.now
-            → IsFailure h past target.now failed → result ≡ least_broken h past event.now }
+            → place ≡ place_on self.now.lines target.now.line → IsFailure h past target.now failed → result ≡ least_broken h past event.now }
     {
         let rule = self.ports.test(event, target);
         if is_first(rule) {
@@ -192,43 +202,48 @@ impl Checker {
         lesser(
             rule,
             lesser(
-                self.lines.test(event, target, failed),
+                self.lines.test(event, target, place, failed),
                 self.system.test(event, target),
             ),
         )
     }
 
     /// The event names one line more than a trace may have.
-    fn goes_over(&self, event: &Event, target: &Target) -> bool
+    fn goes_over(&self, event: &Event, target: &Target, place: Option<usize>) -> bool
         ensures { (h : Header) (past : Trace) (b : Option Break) → Stands self.now h past b → target.now ≡ target_of h past event.now
-            → result ≡ goes_over past event.now }
+            → place ≡ place_on self.now.lines target.now.line → result ≡ goes_over past event.now }
     {
         match target.line {
             None => false,
-            Some(line) => is_too_many(begins(event), self.lines.knows(line), self.lines.lines()),
+            Some(_) => is_too_many(begins(event), self.lines.knows(place), self.lines.lines()),
         }
     }
 
     /// Takes an event that breaks no rule, once there is room for it in each share.
-    fn take(&mut self, event: &Event, target: &Target) -> Result<Step, CheckErr>
+    fn take(
+        &mut self,
+        event: &Event,
+        target: &Target,
+        place: Option<usize>,
+    ) -> Result<Step, CheckErr>
         ensures fine { OnOk result (result ≡ Ok Step.Fine) }
         ensures err { OnErr result (result ≡ Err CheckErr.NoMemory) }
-        ensures stands { (h : Header) (past : Trace) → MayTake self.old h past event.now target.now → length past < 2 ^ 64 - 2
+        ensures stands { (h : Header) (past : Trace) → MayTake self.old h past event.now target.now place → length past < 2 ^ 64 - 2
             → OnOk result (Stands self.new h (event.now ∷ past) None) }
-        ensures stays { (h : Header) (past : Trace) → MayTake self.old h past event.now target.now → OnErr result (Stands self.new h past None) }
-        ensures cause { (h : Header) (past : Trace) → MayTake self.old h past event.now target.now → OnErr result (MayLackMemory h past event.now) }
+        ensures stays { (h : Header) (past : Trace) → MayTake self.old h past event.now target.now place → OnErr result (Stands self.new h past None) }
+        ensures cause { (h : Header) (past : Trace) → MayTake self.old h past event.now target.now place → OnErr result (MayLackMemory h past event.now) }
     {
         if self.ports.ready(event).is_err() {
             return Err(CheckErr::NoMemory);
         }
-        if self.lines.ready(event, target).is_err() {
+        let Ok(place) = self.lines.ready(event, target, place) else {
             return Err(CheckErr::NoMemory);
-        }
+        };
         if self.system.ready(event, target).is_err() {
             return Err(CheckErr::NoMemory);
         }
         self.ports.apply(event);
-        self.lines.apply(event, target);
+        self.lines.apply(event, target, place);
         self.system.apply(event, target);
         self.count = self.count.wrapping_add(1);
         Ok(Step::Fine)

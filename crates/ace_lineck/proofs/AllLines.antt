@@ -17,7 +17,8 @@ use Rattle.ace_lineck.specs.Holders.{MemoryStands, holder_at}
 use Rattle.ace_lineck.specs.Grants.{GrantStands}
 use Rattle.ace_lineck.specs.Uses.{use_of, is_unknown}
 use Rattle.ace_lineck.specs.Records.{LineStands, IsRecordStep, IsFresh, name_of}
-use Rattle.ace_lineck.specs.Stands.{Stands, IsEmpty, IsAbsent, IsNewLine, HasRecord, MayApply, begins_line, record_of}
+use Rattle.ace_lineck.specs.Stands.{Stands, IsEmpty, IsAbsent, IsNewLine, HasRecord, MayApply, begins_line, place_on, record_of}
+use Rattle.ace_lineck.proofs.Places.{get-none}
 use Rattle.ace_lineck.proofs.OnLine.{IsOff}
 use Rattle.ace_lineck.proofs.OffLine.{holders-stay, memory-stays}
 use Rattle.ace_lineck.proofs.GrantFrame.{grant_stays}
@@ -144,8 +145,8 @@ absent-new s r (Some l) st none =
     known-used r.past l ∙ ap (λ v. not (is_unknown v)) used
 
 -- where the event may be next, its line has a record
-pub has-record : (s : LineCheck) (r : Recording) (e : Event) (t : Target) → MayApply s r e t → (l : ℕ) → t.line ≡ Some l → get nat_eq s.lines l ≡ None → ⊥
-has-record s r e t m l line none = by (begins_line e) refl
+pub has-record : (s : LineCheck) (r : Recording) (e : Event) (t : Target) (place : Option ℕ) → MayApply s r e t place → (l : ℕ) → t.line ≡ Some l → get nat_eq s.lines l ≡ None → ⊥
+has-record s r e t place m l line none = by (begins_line e) refl
   where
     on : line_in r.header r.past e ≡ Some l
     on = ap (λ (v : Target). v.line) (sym m.target) ∙ line
@@ -156,45 +157,64 @@ has-record s r e t m l line none = by (begins_line e) refl
         let new = absent-new s r (Some l) m.stands none in
         let bad : false ≡ true = sym new ∙ known in cc
     by true is =
-        let room : HasRecord s t.line = subst (λ b. OnTrue b (HasRecord s t.line)) is m.room in
+        let room : HasRecord s t.line = subst (λ b. OnTrue b (HasRecord s t.line)) is m.room.made in
         let here : IsSome (get nat_eq s.lines l) = subst (HasRecord s) line room in
         let bad = subst IsSome none here in absurd (search (rules, bad))
 
+-- an event whose line has no place is one of no line
+pub unplaced : (s : LineCheck) (r : Recording) (e : Event) (t : Target) (place : Option ℕ) → MayApply s r e t place → place ≡ None → Stands s (after r e)
+unplaced s r e t place m none = by t.line refl
+  where
+    by : (o : Option ℕ) → t.line ≡ o → Stands s (after r e)
+    by None is = unchanged s r e m.stands m.kept (ap (λ (v : Target). v.line) (sym m.target) ∙ is)
+    by (Some l) is =
+        let off : place_on s (Some l) ≡ None = ap (place_on s) (sym is) ∙ sym m.room.at ∙ none in
+        absurd (has-record s r e t place m l is (get-none s l off))
+
+-- a place is that of the line of the event
+pub placed : (s : LineCheck) (r : Recording) (e : Event) (t : Target) (place : Option ℕ) → MayApply s r e t place → (i : ℕ) → place ≡ Some i
+    → (l : ℕ) × (t.line ≡ Some l) × (place_on s (Some l) ≡ Some i)
+placed s r e t place m i is = by t.line refl
+  where
+    by : (o : Option ℕ) → t.line ≡ o → (l : ℕ) × (t.line ≡ Some l) × (place_on s (Some l) ≡ Some i)
+    by None line = let bad : None ≡ Some i = ap (place_on s) (sym line) ∙ sym m.room.at ∙ is in cc
+    by (Some l) line = (l, line, ap (place_on s) (sym line) ∙ sym m.room.at ∙ is)
+
 -- what is kept of the line of the event
-pub line-step : (s : LineCheck) (r : Recording) (e : Event) (t : Target) → MayApply s r e t → (l : ℕ) → t.line ≡ Some l → (x : LineRecord) → get nat_eq s.lines l ≡ Some x
+pub line-step : (s : LineCheck) (r : Recording) (e : Event) (t : Target) (place : Option ℕ) → MayApply s r e t place → (l : ℕ) → t.line ≡ Some l → (x : LineRecord) → get nat_eq s.lines l ≡ Some x
     → IsRecordStep r.header r.past l e t x
-line-step s r e t m l line x at = record {
+line-step s r e t place m l line x at = record {
   step = record { header = m.stands.ports; accepted = (m.stands.accepted, m.kept); target = m.target; line = line };
   stands = subst (LineStands r.header r.past l) (ap (λ v. unwrap_or v s.empty) at) (m.stands.lines l);
   room = m.stands.holders l x at;
 }
 
 -- how many lines are known after the event
-counts : (s : LineCheck) (r : Recording) (e : Event) (t : Target) → MayApply s r e t → (l : ℕ) → t.line ≡ Some l → (x y : LineRecord) → LineStands r.header r.past l x
+counts : (s : LineCheck) (r : Recording) (e : Event) (t : Target) (place : Option ℕ) → MayApply s r e t place → (l : ℕ) → t.line ≡ Some l → (x y : LineRecord) → LineStands r.header r.past l x
     → LineStands r.header (e ∷ r.past) l y
     → length (known_lines (e ∷ r.past)) ≡ (if is_unknown x.used && not (is_unknown y.used) then s.known + 1 else s.known)
-counts s r e t m l line x y old new =
+counts s r e t place m l line x y old new =
     let on : line_in r.header r.past e ≡ Some l = ap (λ (v : Target). v.line) (sym m.target) ∙ line in
     let known = m.stands.known in
     let used = old.used in
     let uses = new.used in
     rw (known, used, uses) (known-counts r.header r.past e l on)
 
-pub applied-then : (s t : LineCheck) (r : Recording) (e : Event) (g : Target) → MayApply s r e g → (l : ℕ) → g.line ≡ Some l → (x y : LineRecord) → IsRecordStep r.header r.past l e g x
+pub applied-then : (s t : LineCheck) (r : Recording) (e : Event) (g : Target) (place : Option ℕ) → MayApply s r e g place → (l : ℕ) → g.line ≡ Some l → (x y : LineRecord) → IsRecordStep r.header r.past l e g x
     → LineStands r.header (e ∷ r.past) l y → length y.holders.items ≡ length x.holders.items → (is_unknown x.used && not (is_unknown y.used)) ≡ true → IsChanged s t l y
     → t.known ≡ (s.known + 1) % 18446744073709551616 → Stands t (after r e)
-applied-then s t r e g m l line x y step new room grows c known =
+applied-then s t r e g place m l line x y step new room grows c known =
     changed s t r e l y c m.stands m.kept (ap (λ (v : Target). v.line) (sym m.target) ∙ line) new (room ∙ step.room)
-    (let n : length (known_lines (e ∷ r.past)) ≡ s.known + 1 = rw grows at (counts s r e g m l line x y step.stands new) in
+    (let n : length (known_lines (e ∷ r.past)) ≡ s.known + 1 = rw grows at (counts s r e g place m l line x y step.stands new) in
     let low = few-known r.past in
     let count = m.stands.known in
     let few = m.few in
     let fits : (s.known + 1) % 18446744073709551616 ≡ s.known + 1 = omega arith in
     known ∙ fits ∙ sym n)
 
-pub applied-else : (s t : LineCheck) (r : Recording) (e : Event) (g : Target) → MayApply s r e g → (l : ℕ) → g.line ≡ Some l → (x y : LineRecord) → IsRecordStep r.header r.past l e g x
+pub applied-else : (s t : LineCheck) (r : Recording) (e : Event) (g : Target) (place : Option ℕ) → MayApply s r e g place → (l : ℕ) → g.line ≡ Some l → (x y : LineRecord) → IsRecordStep r.header r.past l e g x
     → LineStands r.header (e ∷ r.past) l y → length y.holders.items ≡ length x.holders.items → (is_unknown x.used && not (is_unknown y.used)) ≡ false → IsChanged s t l y
     → t.known ≡ s.known → Stands t (after r e)
-applied-else s t r e g m l line x y step new room same c known =
+applied-else s t r e g place m l line x y step new room same c known =
     changed s t r e l y c m.stands m.kept (ap (λ (v : Target). v.line) (sym m.target) ∙ line) new (room ∙ step.room)
-    (let n : length (known_lines (e ∷ r.past)) ≡ s.known = rw same at (counts s r e g m l line x y step.stands new) in known ∙ sym n)
+    (let n : length (known_lines (e ∷ r.past)) ≡ s.known = rw same at (counts s r e g place m l line x y step.stands new) in known ∙ sym n)

@@ -15,8 +15,9 @@ pub mod GrantServes
 pub mod GrantHear
 -- The line that a read has received whole is its reply.
 pub mod Received
--- Which lines are known, and what is kept of all lines.
+-- Which lines are known, where their records stand, and what is kept of all lines.
 pub mod KnownLines
+pub mod Places
 pub mod AllLines
 -- What the rules say, in the words of what is kept.
 pub mod RuleLaws

@@ -1,7 +1,7 @@
 -- What is kept of all lines says what there is to say of them after a recording.
 use Rattle.std.specs.Prelude.{ℕ, ◌≡◌, ◌<◌, ◌-◌, ◌^◌, Bool, true, false, [], length, Option, Some, None, nat_eq, unwrap_or, IsSome, ⊤}
 use Rattle.std.specs.Bool.{OnTrue}
-use Rattle.indexmap.specs.IndexMap.{get}
+use Rattle.indexmap.specs.IndexMap.{get, index_of}
 use Rattle.ace_event.specs.declared.event.Event.{Event}
 use Rattle.ace_event.specs.declared.event.Event.TheVariants.{Ar, Aw, Mem}
 use Rattle.ace_event.specs.Ports.{IsHeader}
@@ -26,6 +26,11 @@ abbrev pub record_on : LineCheck → Option ℕ → LineRecord
 record_on s None = s.empty
 record_on s (Some l) = record_of s l
 
+-- where the record of the line stands in the map, if it has one
+abbrev pub place_on : LineCheck → Option ℕ → Option ℕ
+place_on s None = None
+place_on s (Some l) = index_of nat_eq s.lines l
+
 -- nothing is kept in it
 pub record IsEmpty (x : LineRecord) : Type 0 where
   pub used : x.used ≡ Unknown
@@ -43,11 +48,12 @@ pub record Stands (s : LineCheck) (r : Recording) : Type 0 where
   pub holders : (l : ℕ) (x : LineRecord) → get nat_eq s.lines l ≡ Some x → length x.holders.items ≡ r.header.ports
   pub known : s.known ≡ length (known_lines r.past)
 
--- The event comes next after the recording, and the target is its own. `failed` says whether the granted transaction of its line is an
--- exclusive store that failed.
-pub record MayTest (s : LineCheck) (r : Recording) (e : Event) (t : Target) (failed : Bool) : Type 0 where
+-- The event comes next after the recording, the target is its own, and the place is that of its line. `failed` says whether the granted
+-- transaction of its line is an exclusive store that failed.
+pub record MayTest (s : LineCheck) (r : Recording) (e : Event) (t : Target) (place : Option ℕ) (failed : Bool) : Type 0 where
   pub stands : Stands s r
   pub target : t ≡ target_of r.header r.past e
+  pub at : place ≡ place_on s t.line
   pub has_failed : IsFailure r.header r.past t failed
 
 -- there is a record of the line, if there is a line
@@ -67,9 +73,10 @@ begins_line (Aw p i addr snoop dom bar) = true
 begins_line (Mem addr line) = true
 begins_line _ = false
 
--- there is room for what the event leaves: a record of its line
-abbrev pub HasRoom : LineCheck → Event → Target → Type 0
-HasRoom s e t = OnTrue (begins_line e) (HasRecord s t.line)
+-- there is room for what the event leaves, a record of its line, and the place is that of its line
+pub record HasRoom (s : LineCheck) (e : Event) (t : Target) (place : Option ℕ) : Type 0 where
+  pub made : OnTrue (begins_line e) (HasRecord s t.line)
+  pub at : place ≡ place_on s t.line
 
 -- no line transaction has named the line
 abbrev pub IsNewLine : Trace → Option ℕ → Type 0
@@ -83,10 +90,10 @@ BeginsLine past (Aw p i addr snoop dom bar) t = IsNewLine past t.line
 BeginsLine past (Mem addr line) t = ⊤
 BeginsLine past _ t = ⊥
 
--- the event may be next: it breaks no rule, the target is its own, and there is room for what it leaves
-pub record MayApply (s : LineCheck) (r : Recording) (e : Event) (t : Target) : Type 0 where
+-- the event may be next: it breaks no rule, the target is its own, the place is that of its line, and there is room for what it leaves
+pub record MayApply (s : LineCheck) (r : Recording) (e : Event) (t : Target) (place : Option ℕ) : Type 0 where
   pub stands : Stands s r
   pub target : t ≡ target_of r.header r.past e
-  pub room : HasRoom s e t
+  pub room : HasRoom s e t place
   pub kept : least_broken r.header r.past e ≡ None
   pub few : length r.past < 2 ^ 64 - 1

@@ -21,7 +21,7 @@ pub struct LineCheck {
 }
 
 impl LineCheck {
-    ghost use Rattle.std.specs.Prelude.{◌≡◌, true, [], length, option_map, OnOk, OnErr};
+    ghost use Rattle.std.specs.Prelude.{◌≡◌, ℕ, true, [], length, Option, Some, option_map, IfOk, OnOk, OnErr};
     ghost use Rattle.ace_event.specs.Ports.{IsHeader};
     ghost use Rattle.ace_model.specs.Accepted.{least_of};
     ghost use Rattle.ace_model.specs.AddressRules.{k1};
@@ -30,7 +30,7 @@ impl LineCheck {
     ghost use Rattle.ace_model.specs.Shares.{line_rules};
     ghost use Rattle.ace_model.specs.Lines.{is_known, known_lines};
     ghost use Rattle.ace_portck.specs.Targets.{Recording, after};
-    ghost use Rattle.ace_lineck.specs.Stands.{Stands, MayTest, MayApply, HasRecord, HasRoom, IsAbsent, BeginsLine, record_on};
+    ghost use Rattle.ace_lineck.specs.Stands.{Stands, MayTest, MayApply, HasRecord, HasRoom, IsAbsent, BeginsLine, place_on, record_on};
     ghost use Rattle.ace_lineck.specs.Records.{name_of};
 
     /// The checker of the empty trace under the header.
@@ -46,78 +46,98 @@ impl LineCheck {
         }
     }
 
-    /// What is kept of the line of an event.
-    fn record(&self, line: Option<u32>) -> &LineRecord
-        ensures { result.now ≡ record_on self.now line }
+    /// Where the record of a line stands, if it has one. The place is good until room is made for another line.
+    pub fn place(&self, line: Option<u32>) -> Option<usize>
+        ensures { result ≡ place_on self.now line }
     {
         match line {
+            None => None,
+            Some(line) => self.lines.get_index_of(&line),
+        }
+    }
+
+    /// What is kept of the line whose record stands at the place.
+    fn record(&self, place: Option<usize>) -> &LineRecord
+        ensures { (line : Option ℕ) → place ≡ place_on self.now line → result.now ≡ record_on self.now line }
+    {
+        match place {
             None => &self.empty,
-            Some(line) => match self.lines.get(&line) {
+            Some(place) => match self.lines.get_index(place) {
                 None => &self.empty,
-                Some(kept) => kept,
+                Some((_line, kept)) => kept,
             },
         }
     }
 
-    /// The least rule of the share that the event breaks, if it breaks one and keeps K1. `failed` says whether the granted
-    /// transaction of its line is an exclusive store that failed.
-    pub fn test(&self, event: &Event, target: &Target, failed: bool) -> Option<u8>
-        ensures { (r : Recording) → MayTest self.now r event.now target.now failed → k1 r.header r.past event.now ≡ true
+    /// The least rule of the share that the event breaks, if it breaks one and keeps K1. `place` is that of its line, and `failed`
+    /// says whether the granted transaction of its line is an exclusive store that failed.
+    pub fn test(
+        &self,
+        event: &Event,
+        target: &Target,
+        place: Option<usize>,
+        failed: bool,
+    ) -> Option<u8>
+        ensures { (r : Recording) → MayTest self.now r event.now target.now place failed → k1 r.header r.past event.now ≡ true
             → result ≡ least_of line_rules r.header r.past event.now }
     {
-        judge(
-            self.record(target.line),
-            event,
-            target,
-            &self.header,
-            failed,
-        )
+        judge(self.record(place), event, target, &self.header, failed)
     }
 
-    /// Makes a record of the line, if there is a line without one.
-    fn make_room(&mut self, line: Option<u32>) -> Result<(), NoMemory>
-        ensures stands { (r : Recording) → Stands self.old r → Stands self.new r }
-        ensures room { OnOk result (HasRecord self.new line) }
-        ensures cause { OnErr result (IsAbsent self.old line) }
+    /// Makes a record of the line, if there is a line without one. The place of its record from then on.
+    fn make_room(
+        &mut self,
+        line: Option<u32>,
+        place: Option<usize>,
+    ) -> Result<Option<usize>, NoMemory>
+        ensures stands { (r : Recording) → Stands self.old r → place ≡ place_on self.old line → Stands self.new r }
+        ensures room { place ≡ place_on self.old line → IfOk result (λ q. q ≡ place_on self.new line) }
+        ensures made { place ≡ place_on self.old line → OnOk result (HasRecord self.new line) }
+        ensures cause { place ≡ place_on self.old line → OnErr result (IsAbsent self.old line) }
     {
         let Some(line) = line else {
-            return Ok(());
+            return Ok(place);
         };
-        if self.lines.contains_key(&line) {
-            return Ok(());
+        if place.is_some() {
+            return Ok(place);
         }
         let Ok(kept) = new_record(self.alloc, self.header.ports) else {
             return Err(NoMemory);
         };
         match self.lines.insert(line, kept) {
-            Ok(_) => Ok(()),
+            Ok(_) => Ok(self.place(Some(line))),
             Err(_) => Err(NoMemory),
         }
     }
 
-    /// Makes room for what the event leaves: a record of its line, if a line begins with it. There is no memory for it only
-    /// where the event is a MEM, or an AR or AW of a line that no transaction has named.
-    pub fn ready(&mut self, event: &Event, target: &Target) -> Result<(), NoMemory>
-        ensures stands { (r : Recording) → Stands self.old r → Stands self.new r }
-        ensures room { OnOk result (HasRoom self.new event.now target.now) }
-        ensures cause { OnErr result ((r : Recording) → Stands self.old r → BeginsLine r.past event.now target.now) }
+    /// Makes room for what the event leaves: a record of its line, if a line begins with it. The place of its line from then on.
+    /// There is no memory for it only where the event is a MEM, or an AR or AW of a line that no transaction has named.
+    pub fn ready(
+        &mut self,
+        event: &Event,
+        target: &Target,
+        place: Option<usize>,
+    ) -> Result<Option<usize>, NoMemory>
+        ensures stands { (r : Recording) → Stands self.old r → place ≡ place_on self.old target.now.line → Stands self.new r }
+        ensures room { place ≡ place_on self.old target.now.line → IfOk result (λ q. HasRoom self.new event.now target.now q) }
+        ensures cause { place ≡ place_on self.old target.now.line → OnErr result ((r : Recording) → Stands self.old r → BeginsLine r.past event.now target.now) }
     {
         match *event {
-            Event::Ar { .. } => self.make_room(target.line),
-            Event::Aw { .. } => self.make_room(target.line),
-            Event::Mem { .. } => self.make_room(target.line),
-            _ => Ok(()),
+            Event::Ar { .. } => self.make_room(target.line, place),
+            Event::Aw { .. } => self.make_room(target.line, place),
+            Event::Mem { .. } => self.make_room(target.line, place),
+            _ => Ok(place),
         }
     }
 
-    /// Takes an event that breaks no rule. The room for it was made.
-    pub fn apply(&mut self, event: &Event, target: &Target)
-        ensures { (r : Recording) → MayApply self.old r event.now target.now → Stands self.new (after r event.now) }
+    /// Takes an event that breaks no rule. The room for it was made, and `place` is that of its line.
+    pub fn apply(&mut self, event: &Event, target: &Target, place: Option<usize>)
+        ensures { (r : Recording) → MayApply self.old r event.now target.now place → Stands self.new (after r event.now) }
     {
-        let Some(line) = target.line else {
+        let Some(place) = place else {
             return;
         };
-        let Some(kept) = self.lines.get_mut(&line) else {
+        let Some(kept) = self.lines.get_index_mut(place) else {
             return;
         };
         if advance(kept, event, target, &self.header) {
@@ -125,25 +145,26 @@ impl LineCheck {
         }
     }
 
-    /// Whether a line transaction has named the line.
-    pub fn knows(&self, line: u32) -> bool
-        ensures { (r : Recording) → Stands self.now r → result ≡ is_known r.past line }
+    /// Whether a line transaction has named the line whose record stands at the place.
+    pub fn knows(&self, place: Option<usize>) -> bool
+        ensures { (r : Recording) (line : ℕ) → Stands self.now r → place ≡ place_on self.now (Some line) → result ≡ is_known r.past line }
     {
-        !self.record(Some(line)).is_unknown()
+        !self.record(place).is_unknown()
     }
 
-    /// The port, channel and identifier of the transaction that is granted on the line.
-    pub fn granted(&self, line: u32) -> Option<(u8, Channel, u8)>
-        ensures { (r : Recording) → Stands self.now r → result ≡ option_map name_of (granted r.header r.past line) }
+    /// The port, channel and identifier of the transaction that is granted on the line whose record stands at the place.
+    pub fn granted(&self, place: Option<usize>) -> Option<(u8, Channel, u8)>
+        ensures { (r : Recording) (line : ℕ) → Stands self.now r → place ≡ place_on self.now (Some line)
+            → result ≡ option_map name_of (granted r.header r.past line) }
     {
-        self.record(Some(line)).granted_name()
+        self.record(place).granted_name()
     }
 
     /// What memory has of the line.
     pub fn memory(&self, line: u32) -> Line
         ensures { (r : Recording) → Stands self.now r → result ≡ memory_of r.past line }
     {
-        self.record(Some(line)).memory
+        self.record(self.place(Some(line))).memory
     }
 
     /// How many lines the line transactions have named.

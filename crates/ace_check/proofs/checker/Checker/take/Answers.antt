@@ -19,24 +19,22 @@ pub returns-then-is_err-clause-cause : goal.returns-then-is_err-clause-cause
 returns-then-is_err-clause-cause c = λ h past m.
     inl (from_err c.ready.result (sym c.is_err.ensures.value ∙ c.if-is_err.true) c.ready.ensures.cause (recording h past) m.stands.ports)
 
+pub returns-in_default-clause-stays : goal.returns-in_default-clause-stays
+returns-in_default-clause-stays c = λ h past m.
+    let s = m.stands in
+    record { ports = c.ready.ensures.stands (recording h past) s.ports; lines = c.ready-2.ensures.stands (recording h past) s.lines m.at; system = s.system; count = s.count; few = s.few; broken = s.broken; fits = s.fits }
+
+pub returns-in_default-clause-cause : goal.returns-in_default-clause-cause
+returns-in_default-clause-cause c = λ h past m. inr (inl (subst (BeginsLine past c.args.event.now) m.target (c.in_default.ensures.cause m.at (recording h past) m.stands.lines)))
+
 pub returns-then-is_err-2-clause-stays : goal.returns-then-is_err-2-clause-stays
 returns-then-is_err-2-clause-stays c = λ h past m.
     let s = m.stands in
-    record { ports = c.ready.ensures.stands (recording h past) s.ports; lines = c.ready-2.ensures.stands (recording h past) s.lines; system = s.system; count = s.count; few = s.few; broken = s.broken; fits = s.fits }
+    record { ports = c.ready.ensures.stands (recording h past) s.ports; lines = c.ready-2.ensures.stands (recording h past) s.lines m.at; system = c.ready-3.ensures.stands (recording h past) s.system; count = s.count; few = s.few; broken = s.broken; fits = s.fits }
 
 pub returns-then-is_err-2-clause-cause : goal.returns-then-is_err-2-clause-cause
 returns-then-is_err-2-clause-cause c = λ h past m.
-    let begins = from_err c.ready-2.result (sym c.is_err-2.ensures.value ∙ c.if-is_err-2.true) c.ready-2.ensures.cause (recording h past) m.stands.lines in
-    inr (inl (subst (BeginsLine past c.args.event.now) m.target begins))
-
-pub returns-then-is_err-3-clause-stays : goal.returns-then-is_err-3-clause-stays
-returns-then-is_err-3-clause-stays c = λ h past m.
-    let s = m.stands in
-    record { ports = c.ready.ensures.stands (recording h past) s.ports; lines = c.ready-2.ensures.stands (recording h past) s.lines; system = c.ready-3.ensures.stands (recording h past) s.system; count = s.count; few = s.few; broken = s.broken; fits = s.fits }
-
-pub returns-then-is_err-3-clause-cause : goal.returns-then-is_err-3-clause-cause
-returns-then-is_err-3-clause-cause c = λ h past m.
-    inr (inr (from_err c.ready-3.result (sym c.is_err-3.ensures.value ∙ c.if-is_err-3.true) c.ready-3.ensures.cause (recording h past) (record { stands = m.stands.system; target = m.target })))
+    inr (inr (from_err c.ready-3.result (sym c.is_err-2.ensures.value ∙ c.if-is_err-2.true) c.ready-3.ensures.cause (recording h past) (record { stands = m.stands.system; target = m.target })))
 
 pub returns-clause-stands : goal.returns-clause-stands
 returns-clause-stands c = λ h past m few.
@@ -46,8 +44,8 @@ returns-clause-stands c = λ h past m few.
     let room = s.few in
     record {
       ports = c.apply.ensures r (record { stands = c.ready.ensures.stands r s.ports; room = from_ok c.ready.result (sym c.is_err.ensures.value ∙ c.if-is_err.false) c.ready.ensures.room; keeps = m.fine; few = room });
-      lines = c.apply-2.ensures r (record { stands = c.ready-2.ensures.stands r s.lines; target = m.target; room = from_ok c.ready-2.result (sym c.is_err-2.ensures.value ∙ c.if-is_err-2.false) c.ready-2.ensures.room; kept = m.fine; few = room });
-      system = c.apply-3.ensures r (record { stands = c.ready-3.ensures.stands r s.system; target = m.target; room = from_ok c.ready-3.result (sym c.is_err-3.ensures.value ∙ c.if-is_err-3.false) c.ready-3.ensures.room; kept = m.fine; few = room });
+      lines = c.apply-2.ensures r (record { stands = c.ready-2.ensures.stands r s.lines m.at; target = m.target; room = c.in-Ok.ensures.room m.at; kept = m.fine; few = room });
+      system = c.apply-3.ensures r (record { stands = c.ready-3.ensures.stands r s.system; target = m.target; room = from_ok c.ready-3.result (sym c.is_err-2.ensures.value ∙ c.if-is_err-2.false) c.ready-3.ensures.room; kept = m.fine; few = room });
       count = omega (arith, count, few);
       few = omega (arith, few);
       broken = s.broken;

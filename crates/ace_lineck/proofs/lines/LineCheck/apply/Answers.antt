@@ -1,47 +1,52 @@
-use Rattle.std.proofs.Common.{◌≡◌, ◌+◌, ◌%◌, ◌∷◌, None, Some, ℕ, nat_eq, refl, sym, ap, subst, ◌∙◌, arith}
-use Rattle.std.proofs.lemmas.Grind.{common_steps}
-use Rattle.indexmap.specs.IndexMap.{get}
-use Rattle.ace_portck.specs.declared.target.Target.{Target}
+use Rattle.std.proofs.Common.{◌≡◌, ◌<◌, ◌∷◌, None, Some, ℕ, Bool, true, false, nat_eq, slice_get, length, refl, sym, subst, ◌∙◌}
+use Rattle.indexmap.specs.IndexMap.{get, values}
 use Rattle.ace_lineck.specs.Records.{LineStands, IsRecordStep}
-use Rattle.ace_lineck.proofs.AllLines.{unchanged, has-record, line-step, applied-then, applied-else}
+use Rattle.ace_lineck.proofs.AllLines.{unplaced, placed, line-step, applied-then, applied-else}
+use Rattle.ace_lineck.proofs.Places.{get-at, place-taken, written-here, written-there}
 use Rattle.ace_lineck.proofs.lines.LineCheck.apply.Goals as goal
 
 pub returns-in_default : goal.returns-in_default
-returns-in_default c r s =
-    let none : c.args.target.now.line ≡ None = grind (arith, common_steps) in
-    unchanged c.args.self.now r c.args.event.now s.stands s.kept (ap (λ (t : Target). t.line) (sym s.target) ∙ none)
+returns-in_default c r s = unplaced c.args.self.now r c.args.event.now c.args.target.now c.args.place s c.in_default.is
 
-pub returns-in_default-get_mut : goal.returns-in_default-get_mut
-returns-in_default-get_mut c r s =
-    let none : get nat_eq c.args.self.now.lines c.in-Some.line ≡ None = grind (arith, common_steps) in
-    absurd (has-record c.args.self.now r c.args.event.now c.args.target.now s c.in-Some.line c.in-Some.is none)
+pub returns-in_default-get_index_mut : goal.returns-in_default-get_index_mut
+returns-in_default-get_index_mut c r s =
+    let i = c.in-Some.place in
+    let on = placed c.args.self.now r c.args.event.now c.args.target.now c.args.place s i c.in-Some.is in
+    let within = place-taken c.args.self.now (Some on.0) i on.2 in
+    let bad : false ≡ true = c.in_default-get_index_mut.ensures.found.1 within in cc
 
 pub returns-then-advance : goal.returns-then-advance
 returns-then-advance c r s =
-    let m = c.get_mut.follows.lender c.advance.new.kept in
-    let was = c.in-Some-get_mut.kept.now in
-    let at : get nat_eq c.args.self.now.lines c.in-Some.line ≡ Some was = grind (arith, common_steps) in
-    let here : get nat_eq m c.in-Some.line ≡ Some c.advance.new.kept = grind (arith, common_steps) in
-    let there : (q : ℕ) → (q ≡ c.in-Some.line → ⊥) → get nat_eq m q ≡ get nat_eq c.args.self.now.lines q = λ q n. grind (arith, common_steps) in
-    let step = line-step c.args.self.now r c.args.event.now c.args.target.now s c.in-Some.line c.in-Some.is was at in
-    let new : LineStands r.header (c.args.event.now ∷ r.past) c.in-Some.line c.advance.new.kept =
-    subst (λ v. LineStands v (c.args.event.now ∷ r.past) c.in-Some.line c.advance.new.kept) s.stands.header
-    (c.advance.ensures.stands r.past c.in-Some.line (subst (λ v. IsRecordStep v r.past c.in-Some.line c.args.event.now c.args.target.now was) (sym s.stands.header) step)) in
-    applied-then c.args.self.now (record { header = c.args.self.now.header; alloc = c.args.self.now.alloc; lines = m; known = (c.args.self.now.known + 1) % 18446744073709551616; empty = c.args.self.now.empty })
-    r c.args.event.now c.args.target.now s c.in-Some.line c.in-Some.is was c.advance.new.kept step new c.advance.ensures.room (sym c.advance.ensures.known ∙ c.if-advance.true)
-    (record { header = refl; empty = refl; here = here; others = there }) refl
+    let self = c.args.self.now in
+    let e = c.args.event.now in
+    let i = c.in-Some.place in
+    let was = c.in-Some-get_index_mut.kept.now in
+    let kept = c.advance.new.kept in
+    let on = placed self r e c.args.target.now c.args.place s i c.in-Some.is in
+    let value : slice_get (values self.lines) i ≡ Some was = sym c.in-Some-get_index_mut.ensures.value in
+    let unique = c.get_index_mut.ensures.unique in
+    let at : get nat_eq self.lines on.0 ≡ Some was = get-at self on.0 i on.2 ∙ value in
+    let step = line-step self r e c.args.target.now c.args.place s on.0 on.1 was at in
+    let new : LineStands r.header (e ∷ r.past) on.0 kept =
+    subst (λ v. LineStands v (e ∷ r.past) on.0 kept) s.stands.header
+    (c.advance.ensures.stands r.past on.0 (subst (λ v. IsRecordStep v r.past on.0 e c.args.target.now was) (sym s.stands.header) step)) in
+    applied-then self _ r e c.args.target.now c.args.place s on.0 on.1 was kept step new c.advance.ensures.room (sym c.advance.ensures.known ∙ c.if-advance.true)
+    (record { header = refl; empty = refl; here = written-here self on.0 i on.2 unique was kept value; others = written-there self on.0 i on.2 unique was kept value }) refl
 
 pub returns-else-advance : goal.returns-else-advance
 returns-else-advance c r s =
-    let m = c.get_mut.follows.lender c.advance.new.kept in
-    let was = c.in-Some-get_mut.kept.now in
-    let at : get nat_eq c.args.self.now.lines c.in-Some.line ≡ Some was = grind (arith, common_steps) in
-    let here : get nat_eq m c.in-Some.line ≡ Some c.advance.new.kept = grind (arith, common_steps) in
-    let there : (q : ℕ) → (q ≡ c.in-Some.line → ⊥) → get nat_eq m q ≡ get nat_eq c.args.self.now.lines q = λ q n. grind (arith, common_steps) in
-    let step = line-step c.args.self.now r c.args.event.now c.args.target.now s c.in-Some.line c.in-Some.is was at in
-    let new : LineStands r.header (c.args.event.now ∷ r.past) c.in-Some.line c.advance.new.kept =
-    subst (λ v. LineStands v (c.args.event.now ∷ r.past) c.in-Some.line c.advance.new.kept) s.stands.header
-    (c.advance.ensures.stands r.past c.in-Some.line (subst (λ v. IsRecordStep v r.past c.in-Some.line c.args.event.now c.args.target.now was) (sym s.stands.header) step)) in
-    applied-else c.args.self.now (record { header = c.args.self.now.header; alloc = c.args.self.now.alloc; lines = m; known = c.args.self.now.known; empty = c.args.self.now.empty })
-    r c.args.event.now c.args.target.now s c.in-Some.line c.in-Some.is was c.advance.new.kept step new c.advance.ensures.room (sym c.advance.ensures.known ∙ c.if-advance.false)
-    (record { header = refl; empty = refl; here = here; others = there }) refl
+    let self = c.args.self.now in
+    let e = c.args.event.now in
+    let i = c.in-Some.place in
+    let was = c.in-Some-get_index_mut.kept.now in
+    let kept = c.advance.new.kept in
+    let on = placed self r e c.args.target.now c.args.place s i c.in-Some.is in
+    let value : slice_get (values self.lines) i ≡ Some was = sym c.in-Some-get_index_mut.ensures.value in
+    let unique = c.get_index_mut.ensures.unique in
+    let at : get nat_eq self.lines on.0 ≡ Some was = get-at self on.0 i on.2 ∙ value in
+    let step = line-step self r e c.args.target.now c.args.place s on.0 on.1 was at in
+    let new : LineStands r.header (e ∷ r.past) on.0 kept =
+    subst (λ v. LineStands v (e ∷ r.past) on.0 kept) s.stands.header
+    (c.advance.ensures.stands r.past on.0 (subst (λ v. IsRecordStep v r.past on.0 e c.args.target.now was) (sym s.stands.header) step)) in
+    applied-else self _ r e c.args.target.now c.args.place s on.0 on.1 was kept step new c.advance.ensures.room (sym c.advance.ensures.known ∙ c.if-advance.false)
+    (record { header = refl; empty = refl; here = written-here self on.0 i on.2 unique was kept value; others = written-there self on.0 i on.2 unique was kept value }) refl

@@ -1,4 +1,4 @@
-use Rattle.std.proofs.Common.{◌∙◌, option_map, ap}
+use Rattle.std.proofs.Common.{Some, ◌∙◌, option_map, ap}
 use Rattle.ace_lineck.specs.declared.grant.Grant.{Grant}
 use Rattle.ace_lineck.specs.declared.record.LineRecord.{LineRecord}
 use Rattle.ace_lineck.specs.Records.{name_of}
@@ -6,6 +6,6 @@ use Rattle.ace_lineck.proofs.AllLines.{name-granted}
 use Rattle.ace_lineck.proofs.lines.LineCheck.granted.Goals as goal
 
 pub returns : goal.returns
-returns c r s =
-    c.granted_name.ensures ∙ ap (λ (v : LineRecord). option_map (λ (g : Grant). name_of g.transaction) v.grant) c.record.ensures
-    ∙ name-granted r.header r.past c.args.line _ (s.lines c.args.line).grant
+returns c r l s q =
+    c.granted_name.ensures ∙ ap (λ (v : LineRecord). option_map (λ (g : Grant). name_of g.transaction) v.grant) (c.record.ensures (Some l) q)
+    ∙ name-granted r.header r.past l _ (s.lines l).grant

@@ -18,7 +18,7 @@ returns c r s port =
       target = s.target;
       line = λ l is. subst (λ v. LineStands r.header r.past l (record_on c.args.self.now v)) (sym is) (st.lines l);
     } in
-    let here : IsNext r.header r.past e t c.record.result.now = subst (IsNext r.header r.past e t) (sym c.record.ensures) next in
+    let here : IsNext r.header r.past e t c.record.result.now = subst (IsNext r.header r.past e t) (sym (c.record.ensures t.line s.at)) next in
     let own : IsNext c.args.self.now.header r.past e t c.record.result.now = subst (λ v. IsNext v r.past e t c.record.result.now) (sym st.header) here in
     let fails : IsFailure c.args.self.now.header r.past t c.args.failed = subst (λ v. IsFailure v r.past t c.args.failed) (sym st.header) s.has_failed in
     c.judge.ensures r.past own fails ∙ ap (λ v. least_of line_rules v r.past e) st.header
