@@ -20,7 +20,7 @@ const MOST_EVENTS: u64 = 1_048_576;
 const FIRST_EVENT_LINE: u64 = 3;
 
 /// Takes the next line with its line feed, and says whether there is one.
-#[tactic(auto, using(crate::proofs::Taken::cut_front))]
+#[tactic(auto, using(crate::proofs::Readings::Taken::cut_front))]
 pub fn take_line<S: Source>(lines: &mut LineReader<S>, line: &mut LineBuf) -> Result<bool, Failed>
     ensures same_source { (source_of lines.new).ghost_name ≡ (source_of lines.old).ghost_name }
     ensures no_lf { HasNoLf line.new }
@@ -40,7 +40,7 @@ pub fn take_line<S: Source>(lines: &mut LineReader<S>, line: &mut LineBuf) -> Re
 }
 
 /// Reads the two header lines. After an error read no more. `line` is room for a line.
-#[tactic(auto, using(crate::proofs::NoHeader::no_header))]
+#[tactic(auto, using(crate::proofs::FirstLines::NoHeader::no_header))]
 pub fn read_header<S: Source>(
     lines: &mut LineReader<S>,
     line: &mut LineBuf,
@@ -85,7 +85,7 @@ pub fn read_header<S: Source>(
 }
 
 /// What stands after as many events as a trace may have: the end of the input, or more.
-#[tactic(auto, using(crate::proofs::Taken::cut_end))]
+#[tactic(auto, using(crate::proofs::Readings::Taken::cut_end))]
 fn read_end<S: Source>(
     lines: &mut LineReader<S>,
     line: &mut LineBuf,
@@ -103,7 +103,7 @@ fn read_end<S: Source>(
 
 /// Reads the next event of a trace of a version, after so many, or None at the end of the input after a whole line. After an error read no more.
 /// `line` is room for a line.
-#[tactic(auto, using(crate::proofs::Taken::cut_end))]
+#[tactic(auto, using(crate::proofs::Readings::Taken::cut_end))]
 pub fn read_event<S: Source>(
     lines: &mut LineReader<S>,
     line: &mut LineBuf,

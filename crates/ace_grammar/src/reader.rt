@@ -53,7 +53,7 @@ impl<'a, S: Source> Reader<'a, S> {
     /// only where the source's count of faults rose in this call, and then what was taken from it holds no header;
     /// `NoMemory` where there is none for a reader, which never comes while its buffer is a part of it. The error hands
     /// the source back.
-    #[tactic(auto, using(crate::proofs::Progress::read_header_alone))]
+    #[tactic(auto, using(crate::proofs::Readings::Progress::read_header_alone))]
     pub fn start(alloc: Global, source: &'a mut S) -> Result<Reader<'a, S>, StartErr<'a, S>>
         ensures same_source { IfOk result (λ r. (source_of r).ghost_name ≡ source.entry.ghost_name) }
         ensures readable { IfOk result (λ r. IsReadableHeader (header_of r)) }
@@ -102,7 +102,7 @@ impl<'a, S: Source> Reader<'a, S> {
     /// the line of event n, from 1, is line n + 2. `TooManyEvents` exactly where 1,048,576 events were given and a byte
     /// stands next. `ReadFault` only where the source's count of faults rose in the first call that answers so, and what
     /// was taken by then and not given is less than a line.
-    #[tactic(auto, using(crate::proofs::Progress::reading_next))]
+    #[tactic(auto, using(crate::proofs::Readings::Progress::reading_next))]
     pub fn next(&mut self) -> Result<Option<Event>, ReadErr>
         ensures same_source { (source_of self.new).ghost_name ≡ (source_of self.old).ghost_name }
         ensures same_header { header_of self.new ≡ header_of self.old }

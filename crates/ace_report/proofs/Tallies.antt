@@ -19,7 +19,7 @@ use Rattle.ace_portck.specs.declared.target.Target.{Target}
 use Rattle.ace_portck.specs.declared.target.WriteData.{WriteData}
 use Rattle.ace_report.specs.declared.tally.LineTally.{LineTally}
 use Rattle.ace_report.specs.Heard.{LinesStand, line_tally, bytes_of, bytes_to, stored}
-use Rattle.ace_report.specs.Next.{IsNext}
+use Rattle.ace_report.specs.Next.{IsNext, IsAbsent, IsNewLine}
 
 -- an AR or AW
 abbrev pub is_address : Event → Bool
@@ -133,3 +133,12 @@ not_address e reads writes = refl
 pub on_ok : {T E A B : Type 0} (r : Result T E) → (A → B) → OnOk r A → OnOk r B
 on_ok (Ok x) f a = f a
 on_ok (Err e) f a = tt
+
+-- a line without a tally is one that no transaction has named
+pub absent-new : (past : Trace) (lines : BTreeMap ℕ LineTally) (line : Option ℕ) → LinesStand past lines → IsAbsent lines line → IsNewLine past line
+absent-new past lines None stands none = none
+absent-new past lines (Some l) stands none =
+    elim (cases_Bool (is_known past l)) [
+      | inl t ↦ let e : Some (line_tally past l) ≡ None = sym (stands l ∙ rw t refl) ∙ none in absurd cc
+      | inr f ↦ f
+    ]

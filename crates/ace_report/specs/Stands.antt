@@ -6,7 +6,7 @@ use Rattle.ace_model.specs.Trace.{Trace}
 use Rattle.ace_model.specs.Accepted.{IsAccepted}
 use Rattle.ace_report.specs.Heard.{PortsStand, LinesStand, loads_of}
 use Rattle.ace_report.specs.declared.report.Report.{Report}
-pub use Rattle.ace_report.specs.Next.{IsNext}
+pub use Rattle.ace_report.specs.Next.{IsNext, AddsEntry}
 
 -- The report has counted this trace, which is accepted.
 pub record Stands (r : Report) (h : Header) (past : Trace) : Type 0 where

@@ -1,13 +1,15 @@
 //! The place of each load among the stores of its line.
 
-ghost use Rattle.std.specs.Prelude.{◌≡◌, ◌+◌, ◌∷◌, length, option_map, unwrap_or, OnOk};
+ghost use Rattle.std.specs.Prelude.{◌≡◌, ◌+◌, ◌∷◌, length, option_map, unwrap_or, OnOk, OnErr};
 ghost use Rattle.std.specs.Ordering.{nat_cmp};
 ghost use Rattle.std.specs.BTreeMap.{get};
 ghost use Rattle.ace_event.specs.declared.header.Header.{Header};
 ghost use Rattle.ace_model.specs.Accepted.{IsAccepted};
 ghost use Rattle.ace_model.specs.Trace.{Trace};
+ghost use Rattle.ace_portck.specs.declared.target.Target.{Target};
 ghost use Rattle.ace_report.specs.declared.tally.LineTally.{LineTally};
 ghost use Rattle.ace_report.specs.Heard.{LinesStand, loads_of};
+ghost use Rattle.ace_report.specs.Next.{AddsEntry};
 
 use crate::no_memory::NoMemory;
 use crate::tally::{LineTally, Load};
@@ -24,15 +26,17 @@ fn stores_to(lines: &BTreeMap<u32, LineTally>, line: u32) -> u64
     }
 }
 
-/// Hears the next event of an accepted trace, which has this number from 1 on, with the lines before it.
+/// Hears the next event of an accepted trace, which has this number from 1 on, with the lines before it. There is no
+/// memory for it only where it is a load.
 pub(crate) fn hear_load(
     loads: &mut Vec<Load>,
     lines: &BTreeMap<u32, LineTally>,
     number: u64,
     event: &Event,
 ) -> Result<(), NoMemory>
-    ensures { (h : Header) (past : Trace) → LinesStand past lines.now → loads.old.items ≡ loads_of past → number ≡ length past + 1
+    ensures stands { (h : Header) (past : Trace) → LinesStand past lines.now → loads.old.items ≡ loads_of past → number ≡ length past + 1
         → IsAccepted h (event.now ∷ past) → OnOk result (loads.new.items ≡ loads_of (event.now ∷ past)) }
+    ensures cause { OnErr result ((past : Trace) (t : Target) → AddsEntry past event.now t) }
 {
     match *event {
         Event::L { port, addr, .. } => {

@@ -32,7 +32,7 @@ impl Report {
     ghost use Rattle.ace_model.specs.Trace.{Trace};
     ghost use Rattle.ace_report.specs.Put.{AppendsPart};
     ghost use Rattle.ace_report.specs.Report.{report_text};
-    ghost use Rattle.ace_report.specs.Stands.{Stands, IsNext};
+    ghost use Rattle.ace_report.specs.Stands.{Stands, IsNext, AddsEntry};
 
     /// The report of the empty trace.
     ///
@@ -59,10 +59,11 @@ impl Report {
     ///
     /// # Errors
     ///
-    /// `NoMemory` where there is none for a new line or for a load. The report is of no use then.
+    /// `NoMemory` where there is none for a load, or for a line that no transaction has named before. The report is of no use then.
     pub fn hear(&mut self, event: &Event, target: &Target, memory: Line) -> Result<(), NoMemory>
-        ensures { (h : Header) (past : Trace) → Stands self.old h past → IsNext h past event.now target.now memory
+        ensures stands { (h : Header) (past : Trace) → Stands self.old h past → IsNext h past event.now target.now memory
             → OnOk result (Stands self.new h (event.now ∷ past)) }
+        ensures cause { OnErr result ((h : Header) (past : Trace) → Stands self.old h past → AddsEntry past event.now target.now) }
     {
         self.events = self.events.saturating_add(1);
         count(&mut self.ports, event);

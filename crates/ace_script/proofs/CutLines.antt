@@ -1,6 +1,6 @@
 -- What is cut from a line, against the fields of an operation.
 use Rattle.std.proofs.Common.{◌≡◌, ◌≢◌, ℕ, List, [], ◌∷◌, Err, None, refl, sym, ap}
-use Rattle.ace_grammar.proofs.CutFields.{cut, cut_are_fields}
+use Rattle.ace_grammar.proofs.Reasons.CutFields.{cut, cut_are_fields}
 use Rattle.ace_script.specs.declared.reason.Reason.TheVariants.{P3}
 use Rattle.ace_script.specs.Fields.{alone, no_field}
 

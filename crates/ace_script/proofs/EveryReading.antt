@@ -9,7 +9,7 @@ use Rattle.std.proofs.lemmas.Slice.Eq.{bytes_eq-Decides}
 use Rattle.ace_event.specs.declared.header.Header.{Header}
 use Rattle.ace_event.specs.Text.{line_text}
 use Rattle.ace_grammar.specs.Reading.{ports_text}
-use Rattle.ace_grammar.proofs.EveryReading.{first_line, ports_or_not}
+use Rattle.ace_grammar.proofs.Readings.EveryReading.{first_line, ports_or_not}
 use Rattle.ace_model.specs.declared.plans.PlanOp.{PlanOp}
 use Rattle.ace_model.specs.declared.plans.PolicyWord.TheVariants.{Keep, Eager, Mixed}
 use Rattle.ace_model.specs.Plans.{Plan, AreRightAfter, most_operations}

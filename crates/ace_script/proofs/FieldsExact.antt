@@ -9,9 +9,9 @@ use Rattle.ace_codes.specs.declared.kind.ArKind.TheVariants as read
 use Rattle.ace_event.specs.Text.{hex_text}
 use Rattle.ace_tables.specs.EndStates.{is_fetch}
 use Rattle.ace_grammar.specs.Fields.{digits_onto}
-use Rattle.ace_grammar.proofs.Options.{chosen}
-use Rattle.ace_grammar.proofs.Visible.{IsVisible}
-use Rattle.ace_grammar.proofs.Hex.{onto_below, digits_text, number_again, length-hex_text, hex_text-visible}
+use Rattle.ace_grammar.proofs.General.Options.{chosen}
+use Rattle.ace_grammar.proofs.General.Visible.{IsVisible}
+use Rattle.ace_grammar.proofs.Digits.Hex.{onto_below, digits_text, number_again, length-hex_text, hex_text-visible}
 use Rattle.ace_script.specs.declared.reason.Reason.{Reason}
 use Rattle.ace_script.specs.declared.reason.Reason.TheVariants.{P3, P4, P5}
 use Rattle.ace_script.specs.Text.{fetch_text}

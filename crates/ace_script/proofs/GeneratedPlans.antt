@@ -8,7 +8,7 @@ use Rattle.rand_pcg.specs.Pcg.{pcg32, multiplier_64}
 use Rattle.ace_codes.specs.declared.kind.ArKind.TheVariants as read
 use Rattle.ace_event.specs.Range.{IsLine}
 use Rattle.ace_tables.specs.Answers.{same_test}
-use Rattle.ace_grammar.proofs.Visible.{all-append}
+use Rattle.ace_grammar.proofs.General.Visible.{all-append}
 use Rattle.ace_model.specs.Trace.{implies, is_none_or, is_some_and}
 use Rattle.ace_model.specs.AddressRules.{is_aligned}
 use Rattle.ace_model.specs.Transactions.{is_ace}

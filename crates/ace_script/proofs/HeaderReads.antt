@@ -6,7 +6,7 @@ use Rattle.ace_event.specs.declared.header.Header.{Header}
 use Rattle.ace_io.specs.Line.{HasNoLf}
 use Rattle.ace_grammar.specs.Lines.{HasNoLine}
 use Rattle.ace_grammar.specs.Reading.{IfTold}
-use Rattle.ace_grammar.proofs.Cut as cut
+use Rattle.ace_grammar.proofs.FirstLines.Cut as cut
 use Rattle.ace_model.specs.declared.plans.PlanOp.{PlanOp}
 use Rattle.ace_script.specs.declared.error.PlanErr.{PlanErr}
 use Rattle.ace_script.specs.declared.error.PlanErr.TheVariants.{Malformed, TooManyOps, ReadFault, NoMemory}

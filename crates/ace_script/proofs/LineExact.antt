@@ -6,9 +6,9 @@ use Rattle.ace_event.specs.declared.line.Line.{Line}
 use Rattle.ace_event.specs.Range.{IsLine}
 use Rattle.ace_event.specs.Text.{hex_text, line_digits}
 use Rattle.ace_grammar.specs.Fields.{LineWords, line_of, digits_onto}
-use Rattle.ace_grammar.proofs.Options.{chosen}
-use Rattle.ace_grammar.proofs.Hex.{digits-visible, length-hex_text, number_again}
-use Rattle.ace_grammar.proofs.CacheLines.{four_texts}
+use Rattle.ace_grammar.proofs.General.Options.{chosen}
+use Rattle.ace_grammar.proofs.Digits.Hex.{digits-visible, length-hex_text, number_again}
+use Rattle.ace_grammar.proofs.Texts.CacheLines.{four_texts}
 use Rattle.ace_script.specs.declared.reason.Reason.TheVariants.{P4, P5}
 use Rattle.ace_script.specs.Fields as fields
 use Rattle.ace_script.specs.Fields.{line_in, word_behind}

@@ -8,10 +8,10 @@ use Rattle.ace_event.specs.declared.header.Header.{Header}
 use Rattle.ace_event.specs.Text.{hex_text}
 use Rattle.ace_io.specs.Line.{HasNoLf}
 use Rattle.ace_grammar.specs.Reasons.{AreFields}
-use Rattle.ace_grammar.proofs.Options.{chosen}
-use Rattle.ace_grammar.proofs.Hex.{hex_text-visible}
-use Rattle.ace_grammar.proofs.CutFields.{cut, cut_are_fields, are_cut}
-use Rattle.ace_grammar.proofs.Visible.{IsPlain, IsVisible, all-weaker, visible-plain, joined-clean}
+use Rattle.ace_grammar.proofs.General.Options.{chosen}
+use Rattle.ace_grammar.proofs.Digits.Hex.{hex_text-visible}
+use Rattle.ace_grammar.proofs.Reasons.CutFields.{cut, cut_are_fields, are_cut}
+use Rattle.ace_grammar.proofs.General.Visible.{IsPlain, IsVisible, all-weaker, visible-plain, joined-clean}
 use Rattle.ace_model.specs.declared.plans.Op.{Op}
 use Rattle.ace_model.specs.declared.plans.PlanOp.{PlanOp}
 use Rattle.ace_model.specs.Plans.{is_allowed, IsRightAfter}

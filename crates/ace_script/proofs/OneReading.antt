@@ -9,10 +9,10 @@ use Rattle.ace_event.specs.Ports.{IsHeader, port_letters, most_letters}
 use Rattle.ace_event.specs.Text.{hex_text, line_text}
 use Rattle.ace_grammar.specs.Lines.{IsFirstLine}
 use Rattle.ace_grammar.specs.Reading.{ports_text}
-use Rattle.ace_grammar.proofs.Cut.{same_first, not_empty}
-use Rattle.ace_grammar.proofs.Hex.{number_again}
-use Rattle.ace_grammar.proofs.Options.{some_is}
-use Rattle.ace_grammar.proofs.Letters.{same_header, readable_are_letters, letters-length}
+use Rattle.ace_grammar.proofs.FirstLines.Cut.{same_first, not_empty}
+use Rattle.ace_grammar.proofs.Digits.Hex.{number_again}
+use Rattle.ace_grammar.proofs.General.Options.{some_is}
+use Rattle.ace_grammar.proofs.FirstLines.Letters.{same_header, readable_are_letters, letters-length}
 use Rattle.ace_grammar.specs.Fields.{digits_onto}
 use Rattle.ace_io.proofs.Cutting.{first_lf}
 use Rattle.ace_model.specs.declared.plans.PlanOp.{PlanOp}

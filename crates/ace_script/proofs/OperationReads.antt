@@ -7,8 +7,8 @@ use Rattle.ace_event.specs.Ports.{IsHeader}
 use Rattle.ace_event.specs.declared.header.Header.{Header}
 use Rattle.ace_event.specs.Text.{line_text}
 use Rattle.ace_grammar.specs.Reading.{IfTold}
-use Rattle.ace_grammar.proofs.Taken.{split, at_end}
-use Rattle.ace_grammar.proofs.Visible.{all-append}
+use Rattle.ace_grammar.proofs.Readings.Taken.{split, at_end}
+use Rattle.ace_grammar.proofs.General.Visible.{all-append}
 use Rattle.ace_io.specs.Line.{in_front}
 use Rattle.ace_model.specs.declared.plans.PlanOp.{PlanOp}
 use Rattle.ace_model.specs.declared.plans.PolicyWord.{PolicyWord}

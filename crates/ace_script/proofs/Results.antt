@@ -1,7 +1,7 @@
 -- What a reading that gave a value was made of.
 use Rattle.std.proofs.Common.{◌≡◌, ℕ, Bool, true, Result, Ok, Err, Option, Some, None, refl, sym, ap, ◌∙◌, inl, inr}
 use Rattle.std.proofs.lemmas.Bool.{cond-true}
-use Rattle.ace_grammar.proofs.Options.{chosen}
+use Rattle.ace_grammar.proofs.General.Options.{chosen}
 use Rattle.ace_script.specs.declared.reason.Reason.{Reason}
 use Rattle.ace_script.specs.declared.reason.Reason.TheVariants.{P3, P5, P6}
 use Rattle.ace_script.specs.Fields.{both, made, if_in, number_in, of_fields}

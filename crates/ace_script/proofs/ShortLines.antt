@@ -11,9 +11,9 @@ use Rattle.ace_event.specs.Text.{hex_text, line_digits}
 use Rattle.ace_event.specs.declared.line.Line.{Line}
 use Rattle.ace_event.specs.Range.{IsLine}
 use Rattle.ace_io.specs.Line.{HasNoLf}
-use Rattle.ace_grammar.proofs.Cut.{ports_line, ports_short}
-use Rattle.ace_grammar.proofs.Hex.{hex_text-visible, length-hex_text}
-use Rattle.ace_grammar.proofs.Visible.{IsClean, IsVisible, all-append, all-weaker}
+use Rattle.ace_grammar.proofs.FirstLines.Cut.{ports_line, ports_short}
+use Rattle.ace_grammar.proofs.Digits.Hex.{hex_text-visible, length-hex_text}
+use Rattle.ace_grammar.proofs.General.Visible.{IsClean, IsVisible, all-append, all-weaker}
 use Rattle.ace_model.specs.declared.plans.Op.{Op}
 use Rattle.ace_model.specs.declared.plans.Op.TheVariants.{Ld, Ldx, St, Stx, Fill, Pf, Wb, Wc, Ev, We, Ro, Cs, Ci, Mi, Rn, Wu, Wlu, Wn, Mb, Sb, Dvm, Sync, Dvm2}
 use Rattle.ace_model.specs.declared.plans.PlanOp.{PlanOp}

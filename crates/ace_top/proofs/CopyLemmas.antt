@@ -11,7 +11,7 @@ use Rattle.ace_top.specs.Output.{AppendsPart}
 use Rattle.ace_top.specs.Copy.{HasCopied, HasWritten, CopiesNext}
 use Rattle.ace_grammar.specs.Reading.{IsReadable}
 use Rattle.ace_top.specs.Versions.{Allows}
-use Rattle.ace_grammar.proofs.OneMore.{readable-more, events_text-more}
+use Rattle.ace_grammar.proofs.Readings.OneMore.{readable-more, events_text-more}
 
 -- nothing was copied
 pub copied_nothing : {K : Type 0} (held : K → Option (List ℕ)) (from to : ℕ) (old : Option (List ℕ)) (writer : Writer K) → HasCopied held from to old old writer writer []

@@ -7,8 +7,8 @@ use Rattle.std.proofs.lemmas.List.{length-reverse, length-append, reverse-append
 use Rattle.ace_event.specs.declared.event.Event.{Event}
 use Rattle.ace_event.specs.declared.header.Header.{Header}
 use Rattle.ace_event.specs.Text.{trace_text, header_text}
-use Rattle.ace_grammar.proofs.OneMore.{readable-more, trace_text-more}
-use Rattle.ace_grammar.proofs.Taken.{split, reads_to, at_end}
+use Rattle.ace_grammar.proofs.Readings.OneMore.{readable-more, trace_text-more}
+use Rattle.ace_grammar.proofs.Readings.Taken.{split, reads_to, at_end}
 use Rattle.ace_grammar.specs.Errors.{TakesFront, LeavesNothing}
 use Rattle.ace_grammar.specs.Reading.{Reads, Ending, Ends, Whole, Full, Bad, IsReadable, IsReadableHeader, HasBadLine, IfTold, most_events}
 use Rattle.ace_top.specs.declared.answer.Answer.{Answer}

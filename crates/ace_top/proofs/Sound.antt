@@ -6,7 +6,7 @@ use Rattle.ace_event.specs.declared.event.Event.{Event}
 use Rattle.ace_event.specs.declared.event.Event.TheVariants.{Ar, R, Rk, Aw, W, B, Wk, Ac, Cr, Cd, G, M, S, L, D, Op, Mem}
 use Rattle.ace_event.specs.declared.header.Header.{Header}
 use Rattle.ace_event.specs.Range.{InRange, FitsFields}
-use Rattle.ace_grammar.proofs.Visible.{all-append}
+use Rattle.ace_grammar.proofs.General.Visible.{all-append}
 use Rattle.ace_grammar.specs.Reading.{Reads, Whole, IsReadable}
 use Rattle.ace_model.proofs.Barriers.Law.{accepted_barriers_order}
 use Rattle.ace_model.proofs.Coherence.{accepted_coherent}

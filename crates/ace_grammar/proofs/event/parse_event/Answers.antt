@@ -1,5 +1,5 @@
 use Rattle.std.proofs.Common.{sym}
-use Rattle.ace_grammar.proofs.LineTexts.{event_takes}
+use Rattle.ace_grammar.proofs.Texts.LineTexts.{event_takes}
 use Rattle.ace_grammar.proofs.event.parse_event.Goals as goal
 
 pub returns-in-Some-clause-event : goal.returns-in-Some-clause-event

@@ -1,5 +1,5 @@
 use Rattle.std.proofs.Common.{sym, ◌∙◌}
-use Rattle.ace_grammar.proofs.LineReasons.{has_reason, unread_has_reason}
+use Rattle.ace_grammar.proofs.Reasons.LineReasons.{has_reason, unread_has_reason}
 use Rattle.ace_grammar.proofs.event.reason_of.Goals as goal
 
 pub unreachable-requires : goal.unreachable-requires

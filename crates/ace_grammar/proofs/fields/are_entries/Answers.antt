@@ -1,4 +1,4 @@
-use Rattle.ace_grammar.proofs.EntryLanes.{all_entries}
+use Rattle.ace_grammar.proofs.Digits.EntryLanes.{all_entries}
 use Rattle.ace_grammar.proofs.fields.are_entries.Goals as goal
 
 pub returns : goal.returns

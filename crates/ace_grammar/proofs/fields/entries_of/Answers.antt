@@ -2,8 +2,8 @@ use Rattle.std.proofs.Common.{refl, arith, take, length, ◌∙◌, ap, map}
 use Rattle.std.proofs.lemmas.List.{take_all}
 use Rattle.std.proofs.lemmas.Simd.{map-map, zip2_splat, zip2_of_maps, splat_is_map}
 use lib.Lanes.{top}
-use Rattle.ace_grammar.proofs.EntryLanes.{sel_of_maps, have_entries}
-use Rattle.ace_grammar.proofs.Entries.{agrees_below}
+use Rattle.ace_grammar.proofs.Digits.EntryLanes.{sel_of_maps, have_entries}
+use Rattle.ace_grammar.proofs.Digits.Entries.{agrees_below}
 use Rattle.ace_grammar.proofs.fields.entries_of.Goals as goal
 
 pub returns : goal.returns

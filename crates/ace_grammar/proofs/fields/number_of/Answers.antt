@@ -1,5 +1,5 @@
 use Rattle.std.proofs.Common.{arith}
-use Rattle.ace_grammar.proofs.Digits.{digit_fits, one_more_digit, goes_on, breaks_off, is_done}
+use Rattle.ace_grammar.proofs.Digits.OneByOne.{digit_fits, one_more_digit, goes_on, breaks_off, is_done}
 use Rattle.ace_grammar.proofs.fields.number_of.Goals as goal
 
 pub overflow_mul-number : goal.overflow_mul-number

@@ -1,5 +1,5 @@
 use Rattle.std.proofs.Common.{refl}
-use Rattle.ace_grammar.proofs.EntryLanes.{onto_entries}
+use Rattle.ace_grammar.proofs.Digits.EntryLanes.{onto_entries}
 use Rattle.ace_grammar.proofs.fields.number_of_16.Goals as goal
 
 pub returns-then-are_entries : goal.returns-then-are_entries

@@ -1,7 +1,7 @@
 use Rattle.std.proofs.Common.{◌≡◌, ◌∙◌, ℕ, ◌+◌, ◌*◌, ◌%◌, ◌^◌, ◌<◌, List, [], ◌∷◌, ◌++◌, get_or, length, arith}
 use Rattle.std.specs.Bool.{IsTrue}
 use Rattle.ace_grammar.specs.Lanes.{are_entries, entries_onto}
-use Rattle.ace_grammar.proofs.EntryLanes.{sixteen, first_entry}
+use Rattle.ace_grammar.proofs.Digits.EntryLanes.{sixteen, first_entry}
 use Rattle.ace_grammar.proofs.fields.pack.Goals as goal
 
 abbrev pair : List ℕ → ℕ → ℕ → ℕ

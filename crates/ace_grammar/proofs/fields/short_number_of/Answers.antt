@@ -1,4 +1,4 @@
-use Rattle.ace_grammar.proofs.Digits.{read_more, read_all}
+use Rattle.ace_grammar.proofs.Digits.OneByOne.{read_more, read_all}
 use Rattle.ace_grammar.proofs.fields.short_number_of.Goals as goal
 
 pub loop-byte-preserved : goal.loop-byte-preserved

@@ -1,4 +1,4 @@
-use Rattle.ace_grammar.proofs.Digits.{Read}
+use Rattle.ace_grammar.proofs.Digits.OneByOne.{Read}
 use Rattle.ace_grammar.proofs.fields.short_number_of.Given as goal
 
 abbrev pub invariant-loop-byte : goal.invariant-loop-byte

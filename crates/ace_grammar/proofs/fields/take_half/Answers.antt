@@ -1,5 +1,5 @@
 use Rattle.std.proofs.Common.{◌-◌, ◌^◌, arith, refl, sym, ◌∙◌, ap, Some, None}
-use Rattle.ace_grammar.proofs.WordHalves.{in_range, too_short}
+use Rattle.ace_grammar.proofs.Digits.WordHalves.{in_range, too_short}
 use Rattle.ace_grammar.specs.Fields.{digits_onto}
 use Rattle.ace_grammar.proofs.fields.take_half.Goals as goal
 

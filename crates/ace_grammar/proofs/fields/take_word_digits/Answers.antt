@@ -1,5 +1,5 @@
 use Rattle.std.proofs.Common.{refl}
-use Rattle.ace_grammar.proofs.WordHalves.{word_at}
+use Rattle.ace_grammar.proofs.Digits.WordHalves.{word_at}
 use Rattle.ace_grammar.proofs.fields.take_word_digits.Goals as goal
 
 pub returns-in_err-high : goal.returns-in_err-high

@@ -1,7 +1,7 @@
 use Rattle.std.proofs.Common.{subst, ℕ, refl}
 use Rattle.std.proofs.lemmas.Bool.{iff_false}
 use Rattle.ace_grammar.specs.Letters.{ArePortLetters}
-use Rattle.ace_grammar.proofs.Letters.{no_letters, made_letters}
+use Rattle.ace_grammar.proofs.FirstLines.Letters.{no_letters, made_letters}
 use Rattle.ace_grammar.proofs.header.parse_letters.Goals as goal
 
 pub returns-then-not-are_letters : goal.returns-then-not-are_letters

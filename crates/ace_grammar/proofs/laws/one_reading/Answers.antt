@@ -1,4 +1,4 @@
-use Rattle.ace_grammar.proofs.OneReading.{one_reading, no_bad_header, one_bad_header}
+use Rattle.ace_grammar.proofs.Readings.OneReading.{one_reading, no_bad_header, one_bad_header}
 use Rattle.ace_grammar.proofs.laws.one_reading.Goals as goal
 
 pub returns-clause-one : goal.returns-clause-one

@@ -1,4 +1,4 @@
-use Rattle.ace_grammar.proofs.LineReasons.{event_or_reason, same_reason, event_has_none}
+use Rattle.ace_grammar.proofs.Reasons.LineReasons.{event_or_reason, same_reason, event_has_none}
 use Rattle.ace_grammar.proofs.laws.one_reason.Goals as goal
 
 pub returns-clause-some : goal.returns-clause-some

@@ -1,4 +1,4 @@
-use Rattle.ace_grammar.proofs.EveryReading.{some_reading}
+use Rattle.ace_grammar.proofs.Readings.EveryReading.{some_reading}
 use Rattle.ace_grammar.proofs.laws.some_reading.Goals as goal
 
 pub returns : goal.returns

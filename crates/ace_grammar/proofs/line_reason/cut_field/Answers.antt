@@ -1,5 +1,5 @@
 use Rattle.std.proofs.Common.{◌-◌, ◌+◌, length, refl}
-use Rattle.ace_grammar.proofs.CutFields.{cut_none, cut_first}
+use Rattle.ace_grammar.proofs.Reasons.CutFields.{cut_none, cut_first}
 use Rattle.ace_grammar.proofs.line_reason.cut_field.Goals as goal
 
 pub returns-in-Some : goal.returns-in-Some

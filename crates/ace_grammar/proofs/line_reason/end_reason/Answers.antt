@@ -1,5 +1,5 @@
 use Rattle.std.proofs.Common.{sym}
-use Rattle.ace_grammar.proofs.CutFields.{too_many}
+use Rattle.ace_grammar.proofs.Reasons.CutFields.{too_many}
 use Rattle.ace_grammar.proofs.line_reason.end_reason.Goals as goal
 
 pub returns-in-Some : goal.returns-in-Some

@@ -1,5 +1,5 @@
 use Rattle.std.proofs.Common.{arith, refl}
-use Rattle.ace_grammar.proofs.Cut.{cut_line_is_bad}
+use Rattle.ace_grammar.proofs.FirstLines.Cut.{cut_line_is_bad}
 use Rattle.ace_grammar.proofs.lines.read_event.Goals as goal
 
 pub returns-in-Ok-NoLf-clause-next : goal.returns-in-Ok-NoLf-clause-next

@@ -1,4 +1,4 @@
-use Rattle.ace_grammar.proofs.Taken.{cut_front}
+use Rattle.ace_grammar.proofs.Readings.Taken.{cut_front}
 use Rattle.ace_grammar.proofs.lines.take_line.Goals as goal
 
 pub returns-in-Ok-NoLf-clause-front : goal.returns-in-Ok-NoLf-clause-front

@@ -1,5 +1,5 @@
 use Rattle.ace_grammar.specs.Records.{ar_fields}
-use Rattle.ace_grammar.proofs.Ended.{map_ended}
+use Rattle.ace_grammar.proofs.Texts.Ended.{map_ended}
 use Rattle.ace_grammar.proofs.records.read_ar.Goals as goal
 
 pub returns : goal.returns

@@ -1,5 +1,5 @@
 use Rattle.ace_grammar.specs.Records.{l_fields}
-use Rattle.ace_grammar.proofs.Ended.{map_ended}
+use Rattle.ace_grammar.proofs.Texts.Ended.{map_ended}
 use Rattle.ace_grammar.proofs.records.read_l.Goals as goal
 
 pub returns : goal.returns

@@ -6,7 +6,7 @@ use Rattle.std.proofs.lemmas.List.{drop-drop}
 use Rattle.std.proofs.Math.Nat.{pow-suc}
 use Rattle.std.proofs.Math.Seq.{take-add}
 use Rattle.ace_grammar.specs.Fields.{digit_of, digits_onto, digits_at}
-use Rattle.ace_grammar.proofs.Hex.{onto_below}
+use Rattle.ace_grammar.proofs.Digits.Hex.{onto_below}
 
 then_same : {A B : Type 0} (o : Option A) (f g : A → Option B) → ((x : A) → f x ≡ g x) → option_and_then f o ≡ option_and_then g o
 then_same None f g h = refl

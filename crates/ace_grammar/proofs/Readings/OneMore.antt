@@ -6,7 +6,7 @@ use Rattle.ace_event.specs.declared.event.Event.{Event}
 use Rattle.ace_event.specs.declared.header.Header.{Header}
 use Rattle.ace_event.specs.Text.{trace_text, events_text, header_text, event_text, line_text}
 use Rattle.ace_grammar.specs.Reading.{IsReadable}
-use Rattle.ace_grammar.proofs.Visible.{all-append}
+use Rattle.ace_grammar.proofs.General.Visible.{all-append}
 
 pub readable-more : (version : ℕ) (events : List Event) (e : Event) → AllByRecursion (IsReadable version) events → IsReadable version e
     → AllByRecursion (IsReadable version) (events ++ e ∷ [])

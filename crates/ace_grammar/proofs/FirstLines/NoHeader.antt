@@ -6,7 +6,7 @@ use Rattle.ace_event.specs.Text.{line_text, version_text}
 use Rattle.ace_io.specs.Line.{HasNoLf, IsPending}
 use Rattle.ace_grammar.specs.Errors.{TakesFront}
 use Rattle.ace_grammar.specs.Reading.{TakesNoHeader, ports_text}
-use Rattle.ace_grammar.proofs.Cut.{no_line, header_lines, behind_version, version_taken}
+use Rattle.ace_grammar.proofs.FirstLines.Cut.{no_line, header_lines, behind_version, version_taken}
 
 -- bytes without a line feed are no line and what comes after it
 no_lf : (taken line rest : List ℕ) → HasNoLf taken → taken ≡ line_text line ++ rest → ⊥

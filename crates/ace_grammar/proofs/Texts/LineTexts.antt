@@ -7,9 +7,9 @@ use Rattle.ace_event.specs.declared.event.Event.TheVariants.{Ar, R, Rk, Aw, W, B
 use Rattle.ace_event.specs.Text.{event_text}
 use Rattle.ace_grammar.specs.Reading.{IsReadable}
 use Rattle.ace_grammar.specs.Records.{ar_fields, r_fields, rk_fields, aw_fields, w_fields, b_fields, wk_fields, ac_fields, cr_fields, cd_fields, g_fields, m_fields, s_fields, l_fields, d_fields, op_fields, mem_fields, ar_event, r_event, rk_event, aw_event, w_event, b_event, wk_event, ac_event, cr_event, cd_event, g_event, m_event, s_event, l_event, d_event, op_event, mem_event, a_at, c_at, e_at, m_at, o_at, r_at, w_at, event_at}
-use Rattle.ace_grammar.proofs.Options.{map_some, none_isn't, chosen}
-use Rattle.ace_grammar.proofs.Exact.{Rest}
-use Rattle.ace_grammar.proofs.RecordTexts.{ar, r, rk, aw, w, b, wk, ac, cr, cd, g, m, s, l, d, op, mem}
+use Rattle.ace_grammar.proofs.General.Options.{map_some, none_isn't, chosen}
+use Rattle.ace_grammar.proofs.Texts.Exact.{Rest}
+use Rattle.ace_grammar.proofs.Texts.RecordTexts.{ar, r, rk, aw, w, b, wk, ac, cr, cd, g, m, s, l, d, op, mem}
 
 -- the bytes behind these are the rest of the event's line
 abbrev pub Reads : ℕ → (List ℕ → List ℕ) → List ℕ → Event → Type 0

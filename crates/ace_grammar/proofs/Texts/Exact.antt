@@ -4,7 +4,7 @@ use Rattle.std.proofs.lemmas.Bool.{eqb-true}
 use Rattle.std.specs.Option.{option_and_then, option_map}
 use Rattle.std.proofs.lemmas.List.{append-nil, length-append}
 use Rattle.ace_grammar.specs.Fields.{Taker, space_at, whole, ended, ◌▹◌}
-use Rattle.ace_grammar.proofs.Options.{bind_some, map_some, some_is, none_isn't, chosen}
+use Rattle.ace_grammar.proofs.General.Options.{bind_some, map_some, some_is, none_isn't, chosen}
 
 -- A field has a text for each value that it may have. None is longer than size.
 pub record Takes {A : Type 0} (take_first : Taker A) (text : A → List ℕ) (IsIn : A → Type 0) (size : ℕ) : Type 0 where

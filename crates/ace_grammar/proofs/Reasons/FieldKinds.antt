@@ -19,10 +19,10 @@ use Rattle.ace_grammar.specs.declared.shapes.Shape.{Shape}
 use Rattle.ace_grammar.specs.declared.shapes.Shape.TheVariants.{Port, Digits, AtMost, SnoopResponse, ChannelWord, StateWord, OutcomeWord}
 use Rattle.ace_grammar.specs.Fields.{digits_onto, state_of, outcome_of}
 use Rattle.ace_grammar.specs.Reasons.{is_digit, digits_reason, number_reason, limited_reason, word_reason, field_reason}
-use Rattle.ace_grammar.proofs.Options.{is_there, chosen}
-use Rattle.ace_grammar.proofs.Hex.{hex_text-visible, length-hex_text, hex_digits, number_of_digits, number_again, digits_text}
-use Rattle.ace_grammar.proofs.FieldTexts.{Any, room_of_response, bit_text, flag_bit, state_takes, state_again, outcome_takes, outcome_again}
-use Rattle.ace_grammar.proofs.Visible.{IsVisible}
+use Rattle.ace_grammar.proofs.General.Options.{is_there, chosen}
+use Rattle.ace_grammar.proofs.Digits.Hex.{hex_text-visible, length-hex_text, hex_digits, number_of_digits, number_again, digits_text}
+use Rattle.ace_grammar.proofs.Texts.FieldTexts.{Any, room_of_response, bit_text, flag_bit, state_takes, state_again, outcome_takes, outcome_again}
+use Rattle.ace_grammar.proofs.General.Visible.{IsVisible}
 
 pub some_isn't_none : {A : Type 0} (x : A) (P : Type 0) → Some x ≡ None → P
 some_isn't_none x P e = absurd cc

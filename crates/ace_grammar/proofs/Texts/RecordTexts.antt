@@ -1,9 +1,9 @@
 -- The records: their fields behind the record word, in order.
 use Rattle.std.proofs.Common.{ℕ}
 use Rattle.ace_grammar.specs.Records.{ArFields, RFields, RkFields, AwFields, WFields, BFields, WkFields, AcFields, CrFields, CdFields, GFields, MFields, SFields, LFields, DFields, OpFields, MemFields}
-use Rattle.ace_grammar.proofs.Exact.{Rest, last, ◌then◌}
-use Rattle.ace_grammar.proofs.FieldTexts.{digit, port, two_bits, write_snoop, response, place, address, strobe_of_word, strobe_of_line, word, flag, channel, state, outcome}
-use Rattle.ace_grammar.proofs.CacheLines.{line}
+use Rattle.ace_grammar.proofs.Texts.Exact.{Rest, last, ◌then◌}
+use Rattle.ace_grammar.proofs.Texts.FieldTexts.{digit, port, two_bits, write_snoop, response, place, address, strobe_of_word, strobe_of_line, word, flag, channel, state, outcome}
+use Rattle.ace_grammar.proofs.Texts.CacheLines.{line}
 
 abbrev pub ar : ℕ → Rest ArFields
 ar version = port version then digit then address then digit then two_bits then two_bits then last flag

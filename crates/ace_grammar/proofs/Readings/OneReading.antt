@@ -13,11 +13,11 @@ use Rattle.ace_grammar.specs.declared.reason.Reason.{Reason}
 use Rattle.ace_grammar.specs.Lines.{IsFirstLine}
 use Rattle.ace_grammar.specs.Reasons.{HasReason}
 use Rattle.ace_grammar.specs.Records.{event_at}
-use Rattle.ace_grammar.proofs.Options.{some_is}
-use Rattle.ace_grammar.proofs.Cut.{same_first, not_empty, header_lines, behind_version, version_line, version_short, same_version, ports_line, ports_short}
-use Rattle.ace_grammar.proofs.Letters.{same_header}
-use Rattle.ace_grammar.proofs.LineTexts.{event_again, event_short}
-use Rattle.ace_grammar.proofs.LineReasons.{same_reason, event_has_none, event_no_lf}
+use Rattle.ace_grammar.proofs.General.Options.{some_is}
+use Rattle.ace_grammar.proofs.FirstLines.Cut.{same_first, not_empty, header_lines, behind_version, version_line, version_short, same_version, ports_line, ports_short}
+use Rattle.ace_grammar.proofs.FirstLines.Letters.{same_header}
+use Rattle.ace_grammar.proofs.Texts.LineTexts.{event_again, event_short}
+use Rattle.ace_grammar.proofs.Reasons.LineReasons.{same_reason, event_has_none, event_no_lf}
 
 -- what stands after so many events, by the ending
 abbrev EndsAt : ℕ → Ending → ℕ → List ℕ → Type 0

@@ -6,11 +6,11 @@ use Rattle.ace_grammar.specs.declared.reason.Reason.TheVariants.{F3}
 use Rattle.ace_grammar.specs.declared.shapes.Shape.{Shape}
 use Rattle.ace_grammar.specs.Records.{ArFields, RFields, RkFields, AwFields, WFields, BFields, WkFields, AcFields, CrFields, CdFields, GFields, MFields, SFields, LFields, DFields, OpFields, MemFields}
 use Rattle.ace_grammar.specs.Reasons.{field_reason, least, fields_reason}
-use Rattle.ace_grammar.proofs.Visible.{IsVisible}
-use Rattle.ace_grammar.proofs.FieldTexts.{room_of_domain, room_of_write_snoop}
-use Rattle.ace_grammar.proofs.Options.{chosen}
-use Rattle.ace_grammar.proofs.FieldKinds.{Kind, some_isn't_none, port, digits, at_most, response, flag, channel, state, outcome}
-use Rattle.ace_grammar.proofs.LineKind.{line}
+use Rattle.ace_grammar.proofs.General.Visible.{IsVisible}
+use Rattle.ace_grammar.proofs.Texts.FieldTexts.{room_of_domain, room_of_write_snoop}
+use Rattle.ace_grammar.proofs.General.Options.{chosen}
+use Rattle.ace_grammar.proofs.Reasons.FieldKinds.{Kind, some_isn't_none, port, digits, at_most, response, flag, channel, state, outcome}
+use Rattle.ace_grammar.proofs.Reasons.LineKind.{line}
 
 -- the fields behind a record word
 pub record Row (version : ℕ) (F : Type 0) : Type 1 where

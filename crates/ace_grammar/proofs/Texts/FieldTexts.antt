@@ -13,9 +13,9 @@ use Rattle.ace_event.specs.declared.event.Outcome.TheVariants.{Ok, Skip, Fail}
 use Rattle.ace_event.specs.Range.{IsPort}
 use Rattle.ace_event.specs.Text.{hex_text, port_text, flag_text, channel_text, state_text, outcome_text}
 use Rattle.ace_grammar.specs.Fields.{digits_at, number_at, port_at, flag_at, channel_of, letter_at, channel_at, state_of, state_at, outcome_of, outcome_at}
-use Rattle.ace_grammar.proofs.Options.{map_some, some_is, none_isn't, chosen}
-use Rattle.ace_grammar.proofs.Hex.{length-hex_text, digits_takes, digits_again}
-use Rattle.ace_grammar.proofs.Exact.{Takes, ReadsAll, takes_spaced, reads_spaced, Field, Rest}
+use Rattle.ace_grammar.proofs.General.Options.{map_some, some_is, none_isn't, chosen}
+use Rattle.ace_grammar.proofs.Digits.Hex.{length-hex_text, digits_takes, digits_again}
+use Rattle.ace_grammar.proofs.Texts.Exact.{Takes, ReadsAll, takes_spaced, reads_spaced, Field, Rest}
 
 pub digits_exact : (count most : ℕ) → most < 16 ^ count → Takes (digits_at count most) (hex_text count) (λ number. number ≤ most) count
 digits_exact count most room = record {

@@ -7,7 +7,7 @@ use Rattle.std.specs.Bool.{IsTrue}
 use Rattle.std.specs.Option.{option_and_then}
 use lib.Lanes.{zip2, mask_l, top, sel_l}
 use Rattle.ace_grammar.specs.Fields.{digits_onto}
-use Rattle.ace_grammar.proofs.Entries.{agrees_below, entry_of}
+use Rattle.ace_grammar.proofs.Digits.Entries.{agrees_below, entry_of}
 use Rattle.ace_grammar.specs.Lanes.{HaveEntries, are_entries, entries_onto}
 
 of_maps : {V X : Type 0} (p : V → Bool) (g h : V → X) (vs : List V) → sel_l (map p vs) (map g vs) (map h vs) ≡ map (λ v. cond (p v) (g v) (h v)) vs

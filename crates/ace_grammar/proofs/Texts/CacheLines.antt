@@ -6,8 +6,8 @@ use Rattle.ace_event.specs.declared.line.Line.{Line}
 use Rattle.ace_event.specs.Range.{IsLine}
 use Rattle.ace_event.specs.Text.{hex_text, line_digits}
 use Rattle.ace_grammar.specs.Fields.{LineWords, line_of, line_at}
-use Rattle.ace_grammar.proofs.Exact.{ReadsAll, reads_made, Rest, last, ◌then◌}
-use Rattle.ace_grammar.proofs.FieldTexts.{word, next_word}
+use Rattle.ace_grammar.proofs.Texts.Exact.{ReadsAll, reads_made, Rest, last, ◌then◌}
+use Rattle.ace_grammar.proofs.Texts.FieldTexts.{word, next_word}
 
 abbrev pub words : Rest LineWords
 words = word then next_word then next_word then last next_word

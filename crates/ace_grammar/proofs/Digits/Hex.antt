@@ -10,8 +10,8 @@ use Rattle.std.proofs.lemmas.List.{append-nil, length-append, take_at, drop_at, 
 use Rattle.ace_event.specs.Text.{hex_text}
 use Rattle.ace_grammar.specs.Fields.{digit_of, digits_onto, digits_at}
 use Rattle.ace_grammar.specs.Reasons.{is_digit}
-use Rattle.ace_grammar.proofs.Options.{bind_some, some_is, none_isn't, is_there, chosen}
-use Rattle.ace_grammar.proofs.Visible.{IsVisible, all-append}
+use Rattle.ace_grammar.proofs.General.Options.{bind_some, some_is, none_isn't, is_there, chosen}
+use Rattle.ace_grammar.proofs.General.Visible.{IsVisible, all-append}
 
 decimal_char : (digit : ℕ) → digit < 10 → digit_char digit ≡ 48 + digit
 decimal_char digit h = cond-true (ltb digit 10) (48 + digit) (87 + digit) (lt-ltb digit 10 h)

@@ -11,7 +11,7 @@ use Rattle.ace_event.specs.declared.header.Header.{Header}
 use Rattle.ace_event.specs.Ports.{IsHeader, port_letter, port_letters, most_letters}
 use Rattle.ace_grammar.specs.Reading.{IsReadableHeader, IsVersion}
 use Rattle.ace_grammar.specs.Letters.{ArePortLetters, ace_bits}
-use Rattle.ace_grammar.proofs.Visible.{IsClean}
+use Rattle.ace_grammar.proofs.General.Visible.{IsClean}
 
 -- 1 for the letter, and 0 for another one
 abbrev is_ace : ℕ → ℕ

@@ -13,8 +13,8 @@ use Rattle.ace_grammar.specs.declared.error.ReadErr.TheVariants.{Malformed, TooM
 use Rattle.ace_grammar.specs.declared.reader.Reader.{Reader}
 use Rattle.ace_grammar.specs.Errors.{StandsNext}
 use Rattle.ace_grammar.specs.Reader.{HasRead, IsReading, source_of, unread, header_of, count_of, count_after}
-use Rattle.ace_grammar.proofs.OneMore.{readable-more, trace_text-more}
-use Rattle.ace_grammar.proofs.Taken.{reads_to, at_end}
+use Rattle.ace_grammar.proofs.Readings.OneMore.{readable-more, trace_text-more}
+use Rattle.ace_grammar.proofs.Readings.Taken.{reads_to, at_end}
 use Rattle.ace_grammar.specs.Reading.{Reads, Ending, Ends, Whole, Full, Bad, IsReadable, IsReadableHeader, HasBadLine, IfTold}
 
 -- the bytes end so

@@ -17,10 +17,10 @@ use Rattle.ace_grammar.specs.declared.reason.Reason.TheVariants.{F1, F7}
 use Rattle.ace_grammar.specs.Letters.{ArePortLetters}
 use Rattle.ace_grammar.specs.Lines.{BeginsWith, IsFirstLine, HasNoLine}
 use Rattle.ace_grammar.specs.Reading.{IsReadable, IsReadableHeader, HasBadLine, HasBadHeader, IsVersion, IsVersionLine, IsPortsLine, ports_text, most_events, Ending, Whole, Full, Bad, Reads}
-use Rattle.ace_grammar.proofs.Visible.{IsClean}
-use Rattle.ace_grammar.proofs.Letters.{header_of, made_letters, no_letters}
-use Rattle.ace_grammar.proofs.Cut.{not_empty, clean_line}
-use Rattle.ace_grammar.proofs.LineReasons.{event_or_reason}
+use Rattle.ace_grammar.proofs.General.Visible.{IsClean}
+use Rattle.ace_grammar.proofs.FirstLines.Letters.{header_of, made_letters, no_letters}
+use Rattle.ace_grammar.proofs.FirstLines.Cut.{not_empty, clean_line}
+use Rattle.ace_grammar.proofs.Reasons.LineReasons.{event_or_reason}
 
 -- ---- first lines
 

@@ -7,7 +7,7 @@ use Rattle.std.proofs.lemmas.List.{drop_more, take-append-drop, take_all, length
 use Rattle.std.proofs.lemmas.List.Splits.{slice_split_at, slice_split_none, slice_split-cons_yes, slice_split-cons_no, join_with_byte-slice_split}
 use Rattle.ace_grammar.specs.declared.reason.Reason.TheVariants.{F3}
 use Rattle.ace_grammar.specs.Reasons.{AreFields, fields_reason}
-use Rattle.ace_grammar.proofs.Visible.{IsPlain, all-weaker}
+use Rattle.ace_grammar.proofs.General.Visible.{IsPlain, all-weaker}
 
 abbrev is_space : ℕ → Bool
 is_space byte = eqb byte 32

@@ -10,9 +10,9 @@ use Rattle.ace_event.specs.Text.{hex_text, line_digits}
 use Rattle.ace_grammar.specs.declared.shapes.Shape.TheVariants.{Digits}
 use Rattle.ace_grammar.specs.Fields.{LineWords, line_of}
 use Rattle.ace_grammar.specs.Reasons.{is_digit, digits_reason}
-use Rattle.ace_grammar.proofs.Hex.{length-hex_text, hex_digits, digits-visible, number_of_digits}
-use Rattle.ace_grammar.proofs.CacheLines.{four_texts}
-use Rattle.ace_grammar.proofs.FieldKinds.{Kind, digits_none, digits_fine}
+use Rattle.ace_grammar.proofs.Digits.Hex.{length-hex_text, hex_digits, digits-visible, number_of_digits}
+use Rattle.ace_grammar.proofs.Texts.CacheLines.{four_texts}
+use Rattle.ace_grammar.proofs.Reasons.FieldKinds.{Kind, digits_none, digits_fine}
 
 -- so many digits at the front, and the rest
 digits_front : (count : ℕ) (field : List ℕ) → count ≤ length field → list_all is_digit field ≡ true

@@ -11,11 +11,11 @@ use Rattle.ace_event.specs.Text.{event_text, fields}
 use Rattle.ace_grammar.specs.declared.reason.Reason.{Reason}
 use Rattle.ace_grammar.specs.Records.{event_at}
 use Rattle.ace_grammar.specs.Reasons.{AreFields, HasReason, line_reason}
-use Rattle.ace_grammar.proofs.LineTexts.{event_again}
-use Rattle.ace_grammar.proofs.Options.{some_is, none_isn't}
-use Rattle.ace_grammar.proofs.CutFields.{cut, cut_are_fields, are_cut}
-use Rattle.ace_grammar.proofs.EventReasons.{without_reason, event_without_reason, event_visible}
-use Rattle.ace_grammar.proofs.Visible.{IsPlain, IsVisible, all-weaker, visible-plain, joined-clean}
+use Rattle.ace_grammar.proofs.Texts.LineTexts.{event_again}
+use Rattle.ace_grammar.proofs.General.Options.{some_is, none_isn't}
+use Rattle.ace_grammar.proofs.Reasons.CutFields.{cut, cut_are_fields, are_cut}
+use Rattle.ace_grammar.proofs.Reasons.EventReasons.{without_reason, event_without_reason, event_visible}
+use Rattle.ace_grammar.proofs.General.Visible.{IsPlain, IsVisible, all-weaker, visible-plain, joined-clean}
 
 some_fields : (version : ℕ) (event : Event) → fields version event ≢ []
 some_fields version (Ar port id addr snoop dom bar lock) e = absurd cc

@@ -17,8 +17,8 @@ use Rattle.ace_grammar.specs.Reasons.{HasReason}
 use Rattle.ace_grammar.specs.declared.reason.Reason.{Reason}
 use Rattle.ace_grammar.specs.declared.reason.Reason.TheVariants.{F1, F7}
 use Rattle.ace_io.proofs.Cutting.{first_lf, no_lf-before}
-use Rattle.ace_grammar.proofs.Visible.{IsClean, all-append}
-use Rattle.ace_grammar.proofs.Letters.{letters-clean, letters-length}
+use Rattle.ace_grammar.proofs.General.Visible.{IsClean, all-append}
+use Rattle.ace_grammar.proofs.FirstLines.Letters.{letters-clean, letters-length}
 
 pub clean_line : (line : List ℕ) → HasNoLf line → IsClean line
 clean_line line h = recursion_from_All (λ b. b ≢ 10) line h

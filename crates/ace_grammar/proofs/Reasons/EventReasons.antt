@@ -15,9 +15,9 @@ use Rattle.ace_grammar.specs.declared.shapes.Shape.{Shape}
 use Rattle.ace_grammar.specs.Reasons.{fields_reason, record_reason, line_reason}
 use Rattle.ace_grammar.specs.Shapes.{records, mem_record}
 use Rattle.ace_grammar.specs.Records.{ar_event, r_event, rk_event, aw_event, w_event, b_event, wk_event, ac_event, cr_event, cd_event, g_event, m_event, s_event, l_event, d_event, op_event, mem_event}
-use Rattle.ace_grammar.proofs.Rows.{Row, ar, r, rk, aw, w, b, wk, ac, cr, cd, g, m, s, l, d, op, mem}
-use Rattle.ace_grammar.proofs.Visible.{IsVisible}
-use Rattle.ace_grammar.proofs.FieldKinds.{some_isn't_none}
+use Rattle.ace_grammar.proofs.Reasons.Rows.{Row, ar, r, rk, aw, w, b, wk, ac, cr, cd, g, m, s, l, d, op, mem}
+use Rattle.ace_grammar.proofs.General.Visible.{IsVisible}
+use Rattle.ace_grammar.proofs.Reasons.FieldKinds.{some_isn't_none}
 
 -- the fields of an event in range
 abbrev pub AreOfEvent : ℕ → List (List ℕ) → Type 0
