@@ -89,7 +89,22 @@ DIRTY = make(0, LINE_ONES)
 TAKES_DIRTY = DIRTY + [ar(1, UNIQUE), grant(1), f'AC 0 {A} 7']
 SYNC = ['AR 0 0 0000c000 f 1 0 0', 'AC 1 0000c000 f']
 WRITE_BACK = DIRTY + [aw(0, 3)]
+# Port 1 lets its line go, and the interconnect knows it and doesn't snoop there.
+HELD_BY_1 = acquire(1, UNIQUE, 'UC')
+LEAVES_1 = make(1, LINE_ONES) + [aw(1, 3)] + w(1, ONES) + [memory(1, 'W', LINE_ONES)]
+LEFT_1 = LEAVES_1 + ['B 1 0 0']
 CASES = [
+    Case((1, 1), 'A', DIRTY, [load(0, ONES), store(0)], [load(0)], 0, 1, 'K31'),
+    Case((1, 1), 'A', acquire(0, UNIQUE, 'UC'), [store(0), f'S 0 {A} SD'], [], 0, 1, 'K29'),
+    Case((1, 9), 'AAL', HELD_BY_1 + [aw(2, 1)] + w(2) + [grant(2, 'W')], [f'S 1 {A} I', memory(2)], ['B 2 0 0'], 0, 1, 'K24'),
+    Case((1, 10), 'AA', HELD_BY_1 + [ar(0, UNIQUE), grant(0)], [f'S 1 {A} I', data(0)[0]], data(0)[1:], 0, 1, 'K18'),
+    Case((1, 14), 'AAL', HELD_BY_1 + [aw(2, 1)] + w(2), [f'S 1 {A} I', grant(2, 'W'), memory(2)], ['B 2 0 0'], 0, 2, 'K24'),
+    Case((2, 9), 'AAL', LEFT_1 + [aw(2, 1)] + w(2) + [grant(2, 'W')], ['WK 1 I', memory(2)], ['B 2 0 0'], 0, 1, 'K24'),
+    Case((2, 10), 'AA', LEFT_1 + [ar(0, UNIQUE), grant(0)], ['WK 1 I', data(0, word=ONES)[0]], data(0, word=ONES)[1:], 0, 1, 'K18'),
+    Case((2, 14), 'AAL', LEFT_1 + [aw(2, 1)] + w(2), ['WK 1 I', grant(2, 'W'), memory(2)], ['B 2 0 0'], 0, 2, 'K24'),
+    Case((3, 3), 'A', UPGRADE + [r(0)], ['RK 0 UC', load(0), store(0, LINE_ONES)], [load(0, ONES)], 1, 2, 'K31'),
+    Case((5, 14), 'L', [aw(0, 0)] + w(0)[:3], [w(0)[3], grant(0, 'W'), memory(0)], ['B 0 0 0'], 0, 2, 'K24'),
+    Case((12, 14), 'AAL', LEAVES_1 + [aw(2, 1)] + w(2), ['B 1 0 0', 'WK 1 I', grant(2, 'W'), memory(2)], ['B 2 0 0'], 1, 3, 'K24'),
     Case((1, 2), 'AA', DIRTY + [aw(0, 3)] + w(0, ONES) + [memory(0, 'W', LINE_ONES), 'B 0 0 0'],
          [load(0, ONES), 'WK 0 I'], [], 0, 1, 'K30'),
     Case((1, 4), 'A', acquire(0, UNIQUE, 'UC'), [f'S 0 {A} I', ar(0, UNIQUE)], [], 0, 1, 'K6'),
@@ -148,6 +163,16 @@ CASES = [
          ['B 0 0 0', 'WK 0 I', f'AC 0 {A} 7'], [], 1, 2, 'K13'),
     Case((13, 14), 'L', [aw(0, 0)] + w(0), [grant(0, 'W'), memory(0)], ['B 0 0 0'], 0, 1, 'K24'),
     Case((13, 15), 'AA', acquire(0, UNIQUE, 'UC') + [ar(1, UNIQUE)], [grant(1), f'AC 0 {A} 7'], ['CR 0 10 I'], 0, 1, 'K13'),
+]
+
+
+# What RTL may do at an edge and the order doesn't fit: the ports, the events before the edge, those of the edge, and the rule
+# that refuses them. The document names them.
+MISFITS = [
+    ('A', [ar(0, UNIQUE), grant(0)] + data(0)[:3], [data(0)[3], 'RK 0 UC', ar(0, UNIQUE, B)], 'K4'),
+    ('AAA', [], ['AR 0 0 00000000 f 1 0 0', 'AR 1 0 00001000 f 1 0 0', 'AC 2 00001000 f'], 'K36'),
+    ('A', [ar(0, UNIQUE), barrier('R', 0), barrier('W', 0)], [grant(0), 'R 0 f 0 1 ' + ZERO], 'K34'),
+    ('AAL', LEAVES_1 + [aw(2, 1)] + w(2) + [grant(2, 'W')], ['B 1 0 0', 'WK 1 I', memory(2)], 'K24'),
 ]
 
 
