@@ -1,0 +1,5 @@
+ace_recorder_pkg.sv
+ace_recorder.sv
+ace_port_recorder.sv
+ace_lite_port_recorder.sv
+ace_interconnect_recorder.sv
