@@ -1,0 +1,4 @@
+pub mod SoFar
+pub mod Accepting
+pub mod LongerPlans
+pub mod Turns
