@@ -2,3 +2,4 @@ pub mod SoFar
 pub mod Accepting
 pub mod LongerPlans
 pub mod Turns
+pub mod Few

@@ -5,6 +5,7 @@ pub mod Retiring
 pub mod HeldLines
 pub mod Follows
 pub mod Lean
+pub mod Counts
 pub mod SameEvents
 pub mod Bursts
 pub mod Closing

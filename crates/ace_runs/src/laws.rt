@@ -1,6 +1,6 @@
 //! Laws of runs. These functions do no work: what they promise is the law.
 
-ghost use Rattle.std.specs.Prelude.{◌≡◌, ◌↔◌, ℕ, true, List};
+ghost use Rattle.std.specs.Prelude.{◌≡◌, ◌↔◌, ◌≤◌, ◌*◌, ℕ, true, List, length};
 ghost use Rattle.ace_event.specs.declared.event.Event.{Event};
 ghost use Rattle.ace_event.specs.declared.header.Header.{Header};
 ghost use Rattle.ace_model.specs.declared.plans.PlanOp.{PlanOp};
@@ -10,6 +10,8 @@ ghost use Rattle.ace_model.specs.Plans.{Plan};
 ghost use Rattle.ace_runs.specs.Operations.{with_more};
 ghost use Rattle.ace_runs.specs.Follows.{FollowsSoFar, follows_so_far};
 ghost use Rattle.ace_runs.specs.Lean.{IsLean, is_lean};
+ghost use Rattle.ace_runs.specs.Acts.{is_act};
+ghost use Rattle.ace_runs.specs.Counts.{counted, issues_for_operation, is_silent, is_retirement};
 ghost use Rattle.ace_runs.specs.Bursts.{onto};
 ghost use Rattle.ace_runs.specs.Steps.{Enabled, IsStep, AreSteps};
 
@@ -47,4 +49,19 @@ pub fn steps_go_on()
 /// A trace that is a list of steps is accepted.
 pub fn steps_are_accepted()
     ensures { (plan : Plan) (past : Trace) → AreSteps plan past → IsAccepted plan.header past }
+{}
+
+/// A lean trace that follows its plan so far issues, beside DVM Completes, at most three transactions for each operation of the
+/// plan, and makes at most two silent transitions.
+pub fn few_events_for_each_operation()
+    ensures transactions { (plan : Plan) (past : Trace) → FollowsSoFar plan past → IsLean plan past
+        → counted issues_for_operation past ≤ length plan.operations * 3 }
+    ensures silent { (plan : Plan) (past : Trace) → FollowsSoFar plan past → IsLean plan past
+        → counted is_silent past ≤ length plan.operations * 2 }
+{}
+
+/// A trace that follows its plan so far has at most two acts for each operation of the plan, and at most one OP.
+pub fn few_acts_for_each_operation()
+    ensures acts { (plan : Plan) (past : Trace) → FollowsSoFar plan past → counted is_act past ≤ length plan.operations * 2 }
+    ensures retirements { (plan : Plan) (past : Trace) → FollowsSoFar plan past → counted is_retirement past ≤ length plan.operations }
 {}
