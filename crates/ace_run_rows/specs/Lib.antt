@@ -1,0 +1,5 @@
+pub mod Rows
+pub mod Short
+pub mod Shared
+pub mod Mixed
+pub mod Lacking

@@ -1,0 +1,5 @@
+pub mod Sums
+pub mod Paces
+pub mod Ports
+pub mod Operations
+pub mod Acts

@@ -1,0 +1,65 @@
+-- What all ports do, for all operations.
+use Rattle.std.proofs.Common.{◌≡◌, ℕ, ◌+◌, ◌*◌, ◌≤◌, Bool, ◌==◌, if◌then◌else◌, List, [], ◌∷◌, length, map, filter, refl, ap, inl, inr, arith}
+use Rattle.std.proofs.lemmas.Bool.{cases_Bool}
+use Rattle.std.proofs.lemmas.List.{length-map}
+use Rattle.ace_event.specs.declared.event.Event.{Event}
+use Rattle.ace_model.specs.declared.plans.PlanOp.{PlanOp}
+use Rattle.ace_model.specs.Trace.{Trace}
+use Rattle.ace_model.specs.OrderRules.{retired}
+use Rattle.ace_model.specs.Plans.{Plan}
+use Rattle.ace_runs.specs.Operations.{operations_of}
+use Rattle.ace_runs.specs.Segments.{segment, silent_moves}
+use Rattle.ace_runs.specs.Follows.{FollowsSoFar}
+use Rattle.ace_runs.specs.Lean.{IsLean}
+use Rattle.ace_runs.specs.Counts.{counted, issues_for_operation, is_silent}
+use Rattle.ace_runs.proofs.Few.Sums.{times, each_bounds}
+use Rattle.ace_runs.proofs.Few.Paces.{paced_whole}
+use Rattle.ace_runs.proofs.Few.Ports.{port_or_zero, at_port, three-each, two-each}
+
+-- the ports of the events that pass the test
+abbrev pub ports_of : (Event → Bool) → Trace → List ℕ
+ports_of test [] = []
+ports_of test (e ∷ past) = if test e then port_or_zero e ∷ ports_of test past else ports_of test past
+
+all-ports : (test : Event → Bool) (past : Trace) → length (ports_of test past) ≡ counted test past
+all-ports test [] = refl
+all-ports test (e ∷ past) =
+    let rest = all-ports test past in
+    elim (cases_Bool (test e)) [ inl t ↦ rw t (omega (arith, rest)) | inr f ↦ rw f rest ]
+
+one-port : (test : Event → Bool) (p : ℕ) (past : Trace) → times p (ports_of test past) ≡ counted (at_port test p) past
+one-port test p [] = refl
+one-port test p (e ∷ past) =
+    let rest = one-port test p past in
+    elim (cases_Bool (test e)) [
+      | inr f ↦ rw f rest
+      | inl t ↦ rw t (elim (cases_Bool (port_or_zero e == p)) [ inl same ↦ rw same (ap (λ n. n + 1) rest) | inr other ↦ rw other rest ])
+    ]
+
+-- the ports of the operations
+operations-port : (p : ℕ) (os : List PlanOp) → times p (map (λ o. o.port) os) ≡ length (filter (λ o. o.port == p) os)
+operations-port p [] = refl
+operations-port p (o ∷ os) =
+    let rest = operations-port p os in
+    elim (cases_Bool (o.port == p)) [ inl t ↦ rw t (omega (arith, rest)) | inr f ↦ rw f rest ]
+
+port-operations : (plan : Plan) (p : ℕ) → times p (map (λ o. o.port) plan.operations) ≡ length (operations_of plan p)
+port-operations plan p = rw (length-map (filter (λ (o : PlanOp). o.port == p) plan.operations) (λ (o : PlanOp). o.op)) (operations-port p plan.operations)
+
+-- where it is so for each port, it is so for all
+pub for-all : (k : ℕ) (test : Event → Bool) (plan : Plan) (past : Trace) → ((p : ℕ) → counted (at_port test p) past ≤ length (operations_of plan p) * k)
+    → counted test past ≤ length plan.operations * k
+for-all k test plan past each =
+    let all = each_bounds k (ports_of test past) (map (λ o. o.port) plan.operations)
+    (λ p. rw (one-port test p past, port-operations plan p) (each p)) in
+    rw (all-ports test past, length-map plan.operations (λ (o : PlanOp). o.port)) at all
+
+pub three-for-each : (plan : Plan) (past : Trace) → FollowsSoFar plan past → IsLean plan past → counted issues_for_operation past ≤ length plan.operations * 3
+three-for-each plan past f l =
+    for-all 3 issues_for_operation plan past
+    (λ p. paced_whole 3 (counted (at_port issues_for_operation p) past) (length (segment past p)) (retired past p) (length (operations_of plan p)) (three-each plan past p f l))
+
+pub two-for-each : (plan : Plan) (past : Trace) → FollowsSoFar plan past → IsLean plan past → counted is_silent past ≤ length plan.operations * 2
+two-for-each plan past f l =
+    for-all 2 is_silent plan past
+    (λ p. paced_whole 2 (counted (at_port is_silent p) past) (silent_moves past p) (retired past p) (length (operations_of plan p)) (two-each plan past p f l))

@@ -1,0 +1,5 @@
+pub mod SoFar
+pub mod Accepting
+pub mod LongerPlans
+pub mod Turns
+pub mod Few

@@ -1,0 +1,16 @@
+pub mod Operations
+pub mod Acts
+pub mod Segments
+pub mod Retiring
+pub mod HeldLines
+pub mod Follows
+pub mod Lean
+pub mod Counts
+pub mod SameEvents
+pub mod Bursts
+pub mod Closing
+pub mod Requests
+pub mod MasterSteps
+pub mod LineSteps
+pub mod OrderSteps
+pub mod Steps
