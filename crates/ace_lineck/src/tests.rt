@@ -37,13 +37,14 @@ fn start(alloc: Global) -> Result<Shares, Fail> {
 /// The rule that the event breaks; else it is taken.
 fn feed(shares: &mut Shares, event: &Event) -> Result<Option<u8>, Fail> {
     let target = shares.ports.target(event);
-    if let Some(rule) = shares.lines.test(event, &target, false) {
+    let place = shares.lines.place(target.line);
+    if let Some(rule) = shares.lines.test(event, &target, place, false) {
         return Ok(Some(rule));
     }
     shares.ports.ready(event)?;
-    shares.lines.ready(event, &target)?;
+    let place = shares.lines.ready(event, &target, place)?;
     shares.ports.apply(event);
-    shares.lines.apply(event, &target);
+    shares.lines.apply(event, &target, place);
     Ok(None)
 }
 
@@ -195,15 +196,15 @@ fn write_back(shares: &mut Shares) -> Result<(), Fail> {
 #[test]
 fn takes_a_line(rt: HostRuntime) -> Result<(), Fail> {
     let mut shares = start(rt.alloc())?;
-    assert!(rt; !shares.lines.knows(64) && shares.lines.lines() == 0);
+    assert!(rt; !shares.lines.knows(shares.lines.place(Some(64))) && shares.lines.lines() == 0);
     begin(&mut shares)?;
-    assert!(rt; shares.lines.knows(64) && shares.lines.lines() == 1);
-    assert!(rt; shares.lines.granted(64) == Some((0, Channel::Read, 0)));
+    assert!(rt; shares.lines.knows(shares.lines.place(Some(64))) && shares.lines.lines() == 1);
+    assert!(rt; shares.lines.granted(shares.lines.place(Some(64))) == Some((0, Channel::Read, 0)));
     assert!(rt; shares.lines.memory(64) == OPENED);
 
     let mut whole = start(rt.alloc())?;
     write_back(&mut whole)?;
-    assert!(rt; whole.lines.granted(64).is_none());
+    assert!(rt; whole.lines.granted(whole.lines.place(Some(64))).is_none());
     let response = Event::B {
         port: 1,
         id: 0,
