@@ -53,38 +53,6 @@ fn fresh(x: Transaction) -> Grant
     }
 }
 
-/// The first one, where there is one, else the other.
-fn first(older: Option<Line>, line: &Line) -> Option<Line>
-    ensures { result ≡ newer older (Some line.now) }
-{
-    match older {
-        Some(_) => older,
-        None => Some(*line),
-    }
-}
-
-/// What a port passes on by its answer, else what was passed on before.
-fn passed_with(older: Option<Passed>, port: u8, resp: u8, copy: &Line) -> Option<Passed>
-    ensures { result ≡ (if passes_dirty resp then Some (record { port = port; line = copy.now }) else older) }
-{
-    if passes_dirty(resp) {
-        Some(Passed { port, line: *copy })
-    } else {
-        older
-    }
-}
-
-/// The reply with an answer: the copy of the first port that sends data.
-fn reply_with(older: Option<Line>, resp: u8, copy: &Line) -> Option<Line>
-    ensures { result ≡ (if transfers_data resp then newer older (Some copy.now) else older) }
-{
-    if transfers_data(resp) {
-        first(older, copy)
-    } else {
-        older
-    }
-}
-
 /// How far a port has come with its answer.
 fn answered_stage(resp: u8) -> Stage
     ensures { result ≡ (if transfers_data resp then Sending else Done) }
@@ -107,6 +75,15 @@ fn copy_at(holders: &[Holder], port: u8) -> Line
 }
 
 impl Grant {
+    /// The reply is this line, if it wasn't settled before.
+    fn settle(&mut self, line: &Line)
+        ensures { self.new ≡ record self.old { reply = newer self.old.reply (Some line.now) } }
+    {
+        if self.reply.is_none() {
+            self.reply = Some(*line);
+        }
+    }
+
     /// A port answers a snoop of the line.
     fn hear_answer(&mut self, port: u8, resp: u8, copy: &Line)
         ensures stages { IsMoved self.old.stages self.new.stages port (if transfers_data resp then Sending else Done) }
@@ -119,8 +96,12 @@ impl Grant {
     {
         set_stage(&mut self.stages, port, answered_stage(resp));
         self.shared = is_shared(resp) || self.shared;
-        self.passed = passed_with(self.passed, port, resp, copy);
-        self.reply = reply_with(self.reply, resp, copy);
+        if passes_dirty(resp) {
+            self.passed = Some(Passed { port, line: *copy });
+        }
+        if transfers_data(resp) {
+            self.settle(copy);
+        }
     }
 
     /// The granted read has a transfer.
@@ -128,7 +109,7 @@ impl Grant {
         ensures { self.new ≡ record self.old { begun = true; reply = newer self.old.reply (Some memory.now) } }
     {
         self.begun = true;
-        self.reply = first(self.reply, memory);
+        self.settle(memory);
     }
 
     /// A transaction of the line has its M.
