@@ -3,9 +3,9 @@
 
 use ace_io::{Free, StdSink, StdSource};
 use ace_top::{ace, tell_no_memory};
+use std::env;
 use std::io::ErrorKind;
 use std::process::ExitCode;
-use std::{env, io};
 
 /// The words of the command line, or None where there was no memory for them. Where they can't be had as text there are none, which
 /// names no command.

@@ -1,5 +1,5 @@
 -- The word of a number, and the words that ask for its script.
-use Rattle.std.proofs.Common.{◌≡◌, ◌<◌, ◌^◌, ℕ, List, [], ◌∷◌, Option, None, Some, Result, Ok, Err, MatchOption, IsTrue, String, Bool, false, true, length, get_or, arith, ap, map, sym, codes, decimal, ◌∙◌}
+use Rattle.std.proofs.Common.{◌≡◌, ℕ, List, [], ◌∷◌, Option, None, Some, Result, Ok, Err, MatchOption, IsTrue, String, Bool, false, true, length, get_or, arith, ap, map, sym, codes, decimal, ◌∙◌}
 use Rattle.std.proofs.lemmas.Fmt.{parse-decimal}
 use Rattle.std.specs.declared.alloc.Global.{Global}
 use Rattle.std.specs.Str.Parse.{ParsesUnsigned}

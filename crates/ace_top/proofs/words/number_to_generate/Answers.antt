@@ -1,4 +1,4 @@
-use Rattle.std.proofs.Common.{ℕ, MatchOption, subst, ◌∙◌, sym, rules}
+use Rattle.std.proofs.Common.{ℕ, MatchOption, subst, rules}
 use Rattle.std.specs.String.{string_bytes}
 use Rattle.ace_top.proofs.Numbers.{two_words, gen_of_number}
 use Rattle.ace_top.specs.Words.{IsNumber}
