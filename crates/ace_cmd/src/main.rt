@@ -2,38 +2,48 @@
 #![tactic(auto)]
 
 use ace_io::{Free, StdSink, StdSource};
-use ace_top::ace;
+use ace_top::{ace, tell_no_memory};
+use std::env;
+use std::io::ErrorKind;
 use std::process::ExitCode;
-use std::{env, io};
 
-/// The words of the command line. Where they can't be had as text there are none, which names no command.
-fn read_words(rt: &HostRuntime) -> Vec<String> {
+/// The words of the command line, or None where there was no memory for them. Where they can't be had as text there are none, which
+/// names no command.
+fn read_words(rt: &HostRuntime) -> Option<Vec<String>> {
     let mut words = Vec::new(rt.alloc());
-    let Ok(given) = env::args(rt) else {
-        return words;
+    let given = match env::args(rt) {
+        Ok(given) => given,
+        Err(error) => {
+            if error.kind() == ErrorKind::OutOfMemory {
+                return None;
+            }
+            return Some(words);
+        }
     };
     for word in given.skip(1) {
         if words.push(word).is_err() {
-            return Vec::new(rt.alloc());
+            return None;
         }
     }
-    words
+    Some(words)
 }
 
 fn main(rt: HostRuntime) -> ExitCode {
     let alloc = rt.alloc();
-    let words = read_words(&rt);
     let mut input = StdSource::new(rt.stdin());
     let mut out = StdSink::new(rt.stdout());
     let mut notes = StdSink::new(rt.stderr());
-    let status = ace(
-        &rt,
-        alloc,
-        words.as_slice(),
-        &mut input,
-        &mut out,
-        &mut notes,
-        &Free,
-    );
+    let status = match read_words(&rt) {
+        Some(words) => ace(
+            &rt,
+            alloc,
+            words.as_slice(),
+            &mut input,
+            &mut out,
+            &mut notes,
+            &Free,
+        ),
+        None => tell_no_memory(&mut out, &mut notes),
+    };
     ExitCode::from(status)
 }

@@ -3,7 +3,7 @@ use Rattle.std.proofs.Common.{◌≡◌, ◌≢◌, ℕ, List, Option, None, Som
 use Rattle.std.specs.Io.KnownBytes.{Appends}
 use Rattle.ace_grammar.specs.Errors.{LeavesNothing}
 use Rattle.ace_top.specs.declared.answer.Answer.{Answer}
-use Rattle.ace_top.specs.declared.answer.Answer.TheVariants.{Accepted, Refused, Shown, Reported, Usage, Malformed, ReadFault, LimitEvents, LimitLines, NoMemory}
+use Rattle.ace_top.specs.declared.answer.Answer.TheVariants.{Accepted, Refused, Shown, Reported, Generated, Usage, Malformed, ReadFault, LimitEvents, LimitLines, NoMemory}
 use Rattle.ace_top.specs.declared.words.Command.TheVariants.{Check}
 use Rattle.ace_top.specs.Answer.{Answers, BreaksOff}
 use Rattle.ace_top.specs.Output.{AppendsPart, AppendsParts}
@@ -23,6 +23,7 @@ refusal_status NoMemory r = (λ s. absurd (omega (arith, s)), λ s. absurd (omeg
 refusal_status (Accepted events) r = absurd r
 refusal_status Shown r = absurd r
 refusal_status Reported r = absurd r
+refusal_status Generated r = absurd r
 refusal_status Usage r = absurd r
 
 -- of the answers that `check` gives it is the status of an accepted trace alone, which was read to the end
@@ -31,6 +32,7 @@ zero_end (Accepted events) old left s e = e
 zero_end Shown old left s e = e
 zero_end Reported old left s e = e
 zero_end (Refused index rule) old left s e = absurd (omega (arith, s))
+zero_end Generated old left s e = absurd e
 zero_end Usage old left s e = absurd (omega (arith, s))
 zero_end (Malformed line reason) old left s e = absurd (omega (arith, s))
 zero_end ReadFault old left s e = absurd (omega (arith, s))
@@ -43,6 +45,7 @@ verdict-sound bytes (Accepted events) s (header, trace, reads, unbroken, count) 
 verdict-sound bytes (Refused index rule) s v = absurd (omega (arith, s))
 verdict-sound bytes Shown s v = absurd v
 verdict-sound bytes Reported s v = absurd v
+verdict-sound bytes Generated s v = absurd v
 verdict-sound bytes Usage s v = absurd v
 verdict-sound bytes (Malformed line reason) s v = absurd (omega (arith, s))
 verdict-sound bytes ReadFault s v = absurd (omega (arith, s))
@@ -66,6 +69,7 @@ verdict_status LimitLines a s = absurd (omega (arith, s))
 verdict_status NoMemory a s = absurd (omega (arith, s))
 verdict_status Shown a s = absurd a
 verdict_status Reported a s = absurd a
+verdict_status Generated a s = absurd a
 verdict_status Usage a s = absurd a
 
 -- a verdict that was told

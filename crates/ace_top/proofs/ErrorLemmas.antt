@@ -9,7 +9,7 @@ use Rattle.ace_grammar.specs.declared.error.ReadErr.TheVariants as error
 use Rattle.ace_grammar.specs.Reading.{IsReadable, most_events}
 use Rattle.ace_grammar.specs.Errors.{HasNoHeader, StandsNext, HasFaultCause}
 use Rattle.ace_top.specs.declared.answer.Answer.{Answer}
-use Rattle.ace_top.specs.declared.answer.Answer.TheVariants.{Accepted, Refused, Shown, Reported, Usage, Malformed, ReadFault, LimitEvents, LimitLines, NoMemory}
+use Rattle.ace_top.specs.declared.answer.Answer.TheVariants.{Accepted, Refused, Shown, Reported, Generated, Usage, Malformed, ReadFault, LimitEvents, LimitLines, NoMemory}
 use Rattle.ace_top.specs.Copy.{EndsCopy}
 use Rattle.ace_top.specs.ErrorAnswer.{error_answer}
 use Rattle.ace_top.specs.Progress.{IsNextVerdict, IsRefusal, IsStop, StopsAt, HasReadCause}
@@ -41,6 +41,7 @@ stop_refusal LimitEvents s = absurd s
 stop_refusal (Accepted events) s = absurd s
 stop_refusal Shown s = absurd s
 stop_refusal Reported s = absurd s
+stop_refusal Generated s = absurd s
 stop_refusal Usage s = absurd s
 
 pub stop_cause : (before now : ℕ) (answer : Answer) → IsStop answer → now ≡ before → HasReadCause before now answer
@@ -58,6 +59,7 @@ stop_next h past event old new ReadFault room readable taken stops = absurd stop
 stop_next h past event old new (Accepted events) room readable taken stops = absurd stops
 stop_next h past event old new Shown room readable taken stops = absurd stops
 stop_next h past event old new Reported room readable taken stops = absurd stops
+stop_next h past event old new Generated room readable taken stops = absurd stops
 stop_next h past event old new Usage room readable taken stops = absurd stops
 
 -- it ends a copy

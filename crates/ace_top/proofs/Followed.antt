@@ -4,7 +4,7 @@ use Rattle.std.proofs.lemmas.List.{length-reverse}
 use Rattle.ace_event.specs.declared.header.Header.{Header}
 use Rattle.ace_model.specs.Trace.{Trace}
 use Rattle.ace_top.specs.declared.answer.Answer.{Answer}
-use Rattle.ace_top.specs.declared.answer.Answer.TheVariants.{Accepted, Refused, Shown, Reported, Usage, Malformed, ReadFault, LimitEvents, LimitLines, NoMemory}
+use Rattle.ace_top.specs.declared.answer.Answer.TheVariants.{Accepted, Refused, Shown, Reported, Generated, Usage, Malformed, ReadFault, LimitEvents, LimitLines, NoMemory}
 use Rattle.ace_top.specs.declared.follow.Follower.{Follower}
 use Rattle.ace_top.specs.Follow.{Follows, HasFollowed}
 use Rattle.ace_top.specs.Progress.{EndsInput, HasReadCause, IsRefusal, IsVerdictAnswer}
@@ -28,6 +28,7 @@ refusal_end NoMemory old left r = tt
 refusal_end (Accepted events) old left r = absurd r
 refusal_end Shown old left r = absurd r
 refusal_end Reported old left r = absurd r
+refusal_end Generated old left r = absurd r
 refusal_end Usage old left r = absurd r
 
 pub refusal_answer : (answer : Answer) → IsRefusal answer → IsVerdictAnswer answer
@@ -40,6 +41,7 @@ refusal_answer NoMemory r = tt
 refusal_answer (Accepted events) r = absurd r
 refusal_answer Shown r = absurd r
 refusal_answer Reported r = absurd r
+refusal_answer Generated r = absurd r
 refusal_answer Usage r = absurd r
 
 pub accepted_cause : (before now events : ℕ) → now ≡ before → HasReadCause before now (Accepted events)

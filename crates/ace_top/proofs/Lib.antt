@@ -3,6 +3,8 @@ pub mod CopyLemmas
 pub mod ErrorLemmas
 pub mod Followed
 pub mod Following
+pub mod GenerateLemmas
+pub mod Numbers
 pub mod OneWord
 pub mod Parts
 pub mod ProgressLemmas

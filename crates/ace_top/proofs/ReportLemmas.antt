@@ -5,7 +5,7 @@ use Rattle.std.specs.Io.KnownBytes.{Appends}
 use Rattle.std.proofs.KnownBytes.{Appends-trans, Appends-nil}
 use Rattle.ace_report.specs.Report.{report_text}
 use Rattle.ace_top.specs.declared.answer.Answer.{Answer}
-use Rattle.ace_top.specs.declared.answer.Answer.TheVariants.{Accepted, Refused, Shown, Reported, Usage, Malformed, ReadFault, LimitEvents, LimitLines, NoMemory}
+use Rattle.ace_top.specs.declared.answer.Answer.TheVariants.{Accepted, Refused, Shown, Reported, Generated, Usage, Malformed, ReadFault, LimitEvents, LimitLines, NoMemory}
 use Rattle.ace_top.specs.declared.follow.Follower.{Follower}
 use Rattle.ace_top.specs.declared.words.Command.TheVariants.{Report}
 use Rattle.ace_top.specs.Answer.{Answers, BreaksOff, FitsAnswer}
@@ -69,6 +69,7 @@ refused_text NoMemory r = refl
 refused_text (Accepted events) r = absurd r
 refused_text Shown r = absurd r
 refused_text Reported r = absurd r
+refused_text Generated r = absurd r
 refused_text Usage r = absurd r
 
 refused : (bytes : List ℕ) (answer : Answer) → IsRefusal answer → IsVerdict bytes answer → IsReported bytes answer (out_text_of answer)
@@ -81,6 +82,7 @@ refused bytes NoMemory r v = (v, refl)
 refused bytes (Accepted events) r v = absurd r
 refused bytes Shown r v = absurd r
 refused bytes Reported r v = absurd r
+refused bytes Generated r v = absurd r
 refused bytes Usage r v = absurd r
 
 pub refusal_answers : (told left : Option (List ℕ)) (answer : Answer) (status : ℕ) (out out' notes notes' : Option (List ℕ))

@@ -13,7 +13,7 @@ use Rattle.ace_grammar.specs.Lines.{BeginsWith}
 use Rattle.ace_grammar.proofs.Readings.Taken.{reads_to, at_end}
 use Rattle.ace_grammar.specs.Reading.{Reads, Ending, Ends, Whole, Full, Bad, IsReadable, IsReadableHeader, HasBadLine, IfTold, most_events}
 use Rattle.ace_top.specs.declared.answer.Answer.{Answer}
-use Rattle.ace_top.specs.declared.answer.Answer.TheVariants.{Accepted, Refused, Shown, Reported, Usage, Malformed, ReadFault, LimitEvents, LimitLines, NoMemory}
+use Rattle.ace_top.specs.declared.answer.Answer.TheVariants.{Accepted, Refused, Shown, Reported, Generated, Usage, Malformed, ReadFault, LimitEvents, LimitLines, NoMemory}
 use Rattle.ace_top.specs.declared.show.Version.{Version}
 use Rattle.ace_top.specs.declared.show.Version.TheVariants.{AsRead, Two}
 use Rattle.ace_top.specs.declared.words.Command.{Command}
@@ -38,6 +38,7 @@ quiet from (Accepted events) count next left e = absurd e
 quiet from (Refused index rule) count next left e = absurd e
 quiet from Reported count next left e = absurd e
 quiet from LimitLines count next left e = absurd e
+quiet from Generated count next left e = absurd e
 quiet from Usage count next left e = absurd e
 
 -- the bytes of a trace that was copied, and what stands next
@@ -67,6 +68,7 @@ copied_shown version bytes header events next left (Accepted count) c e = absurd
 copied_shown version bytes header events next left (Refused index rule) c e = absurd e
 copied_shown version bytes header events next left Reported c e = absurd e
 copied_shown version bytes header events next left LimitLines c e = absurd e
+copied_shown version bytes header events next left Generated c e = absurd e
 copied_shown version bytes header events next left Usage c e = absurd e
 
 copied_from : (bytes : List ℕ) (header : Header) (events : List Event) (mid next : Option (List ℕ)) → IsReadableHeader header → Consumes (Some bytes) mid (header_text header) → HasWritten header.version mid next events → Copied bytes header events next
@@ -78,13 +80,13 @@ copied_from bytes header events mid next readable head w = record {
 }
 
 -- what the command answers, by the header that it writes
-answered : (version : Version) (bytes : List ℕ) (left : Option (List ℕ)) (answer : Answer) (text : List ℕ) → IsShown version bytes left answer text → IsAnswer (writing version) bytes left answer text
-answered AsRead bytes left answer text s = s
-answered Two bytes left answer text s = s
+answered : (version : Version) (old left : Option (List ℕ)) (answer : Answer) (text : List ℕ) → IfSome old (λ bytes. IsShown version bytes left answer text) → IsAnswer (writing version) old left answer text
+answered AsRead old left answer text s = s
+answered Two old left answer text s = s
 
-begins : (version : Version) (bytes text : List ℕ) → (text ≡ []) ⊎ ShowsFront version bytes text → IsBegun (writing version) bytes text
-begins AsRead bytes text b = b
-begins Two bytes text b = b
+begins : (version : Version) (old : Option (List ℕ)) (text : List ℕ) → IfSome old (λ bytes. (text ≡ []) ⊎ ShowsFront version bytes text) → IsBegun (writing version) old text
+begins AsRead old text b = b
+begins Two old text b = b
 
 -- no output failed: the trace stands on the standard output
 pub shows_copy : (version : Version) (old mid next left out out' out'' notes notes' : Option (List ℕ)) (header header' : Header) (events : List Event) (answer : Answer) (status : ℕ)
@@ -95,7 +97,7 @@ shows_copy version old mid next left out out' out'' notes notes' header header' 
   answer,
   trace_text header' events,
   fits version answer e,
-  subst (λ (h : Header). IfSome old (λ bytes. IsAnswer (writing version) bytes left answer (trace_text h events))) (sym by) (shown old head),
+  subst (λ (h : Header). IsAnswer (writing version) old left answer (trace_text h events)) (sym by) (answered version old left answer _ (shown old head)),
   is,
   subst (Appends out out'') (ap (λ t. trace_text header' events ++ t) (quiet header.version answer (length events) next left e) ∙ append-nil (trace_text header' events)) (Appends-trans out out' out'' _ _ given more),
   told,
@@ -107,9 +109,9 @@ shows_copy version old mid next left out out' out'' notes notes' header header' 
     fits AsRead answer e = tt
     fits Two answer e = tt
 
-    shown : (old : Option (List ℕ)) → Consumes old mid (header_text header) → IfSome old (λ bytes. IsAnswer (writing version) bytes left answer (trace_text (header_written version header) events))
+    shown : (old : Option (List ℕ)) → Consumes old mid (header_text header) → IfSome old (λ bytes. IsShown version bytes left answer (trace_text (header_written version header) events))
     shown None head = tt
-    shown (Some bytes) head = answered version bytes left answer _ (copied_shown version bytes header events next left answer (copied_from bytes header events mid next readable head w) e)
+    shown (Some bytes) head = copied_shown version bytes header events next left answer (copied_from bytes header events mid next readable head w) e
 
 -- the answer, where what is left is that of a source
 pub shows_left : {S : Type 0} (left : S → Option (List ℕ)) (command : Command) (source source' : S) (old out out' notes notes' : Option (List ℕ)) (status : ℕ)
@@ -127,6 +129,7 @@ shown_ends from (Accepted events) count next left zero e = absurd e
 shown_ends from (Refused index rule) count next left zero e = absurd e
 shown_ends from Reported count next left zero e = absurd e
 shown_ends from LimitLines count next left zero e = absurd e
+shown_ends from Generated count next left zero e = absurd e
 shown_ends from Usage count next left zero e = absurd (omega arith)
 
 pub shows_whole : {S : Type 0} (left : S → Option (List ℕ)) (source source' : S) (old mid next : Option (List ℕ)) (header : Header) (events : List Event) (answer : Answer) (status : ℕ)
@@ -158,7 +161,7 @@ shows_no_header version old left out out' notes notes' status before now e answe
   answer,
   [],
   fits version answer,
-  subst (λ (a : Answer). IfSome old (λ bytes. IsAnswer (writing version) bytes left a [])) (sym is) (shown e old none),
+  subst (λ (a : Answer). IsAnswer (writing version) old left a []) (sym is) (answered version old left (error_answer e) [] (shown e old none)),
   same,
   subst (Appends out out') (ap out_text_of is ∙ silent e) given,
   told,
@@ -170,27 +173,27 @@ shows_no_header version old left out out' notes notes' status before now e answe
     fits AsRead answer = tt
     fits Two answer = tt
 
-    shown : (e : ReadErr) (old : Option (List ℕ)) → HasNoHeader e old before left now → IfSome old (λ bytes. IsAnswer (writing version) bytes left (error_answer e) [])
+    shown : (e : ReadErr) (old : Option (List ℕ)) → HasNoHeader e old before left now → IfSome old (λ bytes. IsShown version bytes left (error_answer e) [])
     shown e None none = tt
-    shown (error.Malformed line reason) (Some bytes) none = answered version bytes left (Malformed line reason) [] (inl (none.0, refl))
+    shown (error.Malformed line reason) (Some bytes) none = inl (none.0, refl)
     shown error.TooManyEvents (Some bytes) none = absurd none
-    shown error.ReadFault (Some bytes) none = answered version bytes left ReadFault [] (inl (refl, none.0))
-    shown error.NoMemory (Some bytes) none = answered version bytes left NoMemory [] refl
+    shown error.ReadFault (Some bytes) none = inl (refl, none.0)
+    shown error.NoMemory (Some bytes) none = refl
 
 begun : (version : Version) (old mid next : Option (List ℕ)) (header header' : Header) (events : List Event) → header' ≡ header_written version header → IsReadableHeader header
-    → Consumes old mid (header_text header) → HasWritten header.version mid next events → IfSome old (λ bytes. IsBegun (writing version) bytes (trace_text header' events))
-begun version None mid next header header' events by readable head w = tt
+    → Consumes old mid (header_text header) → HasWritten header.version mid next events → IsBegun (writing version) old (trace_text header' events)
+begun version None mid next header header' events by readable head w = begins version None (trace_text header' events) tt
 begun version (Some bytes) mid next header header' events by readable head w =
     let c = copied_from bytes header events mid next readable head w in
-    begins version bytes (trace_text header' events) (inr (header, events, readable, w.readable, w.few, front next c.text, ap (λ (h : Header). trace_text h events) by))
+    begins version (Some bytes) (trace_text header' events) (inr (header, events, readable, w.readable, w.few, front next c.text, ap (λ (h : Header). trace_text h events) by))
   where
     front : (next : Option (List ℕ)) → Consumes (Some bytes) next (trace_text header events) → BeginsWith bytes (trace_text header events)
     front None c = absurd c
     front (Some rest) c = (rest, c)
 
-begun_nothing : (version : Version) (old : Option (List ℕ)) → IfSome old (λ bytes. IsBegun (writing version) bytes [])
-begun_nothing version None = tt
-begun_nothing version (Some bytes) = begins version bytes [] (inl refl)
+begun_nothing : (version : Version) (old : Option (List ℕ)) → IsBegun (writing version) old []
+begun_nothing version None = begins version None [] tt
+begun_nothing version (Some bytes) = begins version (Some bytes) [] (inl refl)
 
 -- the standard output failed in the trace
 pub breaks_in_copy : (version : Version) (old mid out out' notes notes' : Option (List ℕ)) (header header' : Header) → header' ≡ header_written version header → IsReadableHeader header

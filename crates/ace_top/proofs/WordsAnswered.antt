@@ -9,7 +9,7 @@ use Rattle.ace_top.proofs.Parts.{both_nothing}
 use Rattle.ace_top.specs.declared.answer.Answer.TheVariants.{Usage}
 use Rattle.ace_top.specs.Output.{AppendsPart, AppendsParts}
 use Rattle.ace_top.specs.Texts.{notes_text_of}
-use Rattle.ace_top.specs.Words.{IsCheck, IsReport, IsShow, IsMigrate, IsCommand}
+use Rattle.ace_top.specs.Words.{IsCheck, IsReport, IsShow, IsMigrate, IsGen, IsTraceCommand, IsCommand}
 
 pub words_carried : (words : List (String Global)) (command : Command) (input left : Option (List ℕ)) (status : ℕ) (out out' notes notes' : Option (List ℕ)) (faults faults' : ℕ)
     → CarriesOut command input left status out out' notes notes' faults faults' → Names words command → status ≢ 5 → AnswersWords words input left status out out' notes notes'
@@ -25,16 +25,37 @@ pub usage_broken : (words : List (String Global)) (input out out' notes notes' :
 usage_broken words input out out' notes notes' n (part, rest, cut, given) parts =
     inr (n, subst (Appends out out') (both_nothing part rest (sym cut)).0 given, parts)
 
-pub is_check : (words : List (String Global)) → IsCheck words → IsCommand words
+pub is_check : (words : List (String Global)) → IsCheck words → IsTraceCommand words
 is_check words n = inl n
 
-pub is_report : (words : List (String Global)) → IsReport words → IsCommand words
+pub is_report : (words : List (String Global)) → IsReport words → IsTraceCommand words
 is_report words n = inr (inl n)
 
-pub is_show : (words : List (String Global)) → IsShow words → IsCommand words
+pub is_show : (words : List (String Global)) → IsShow words → IsTraceCommand words
 is_show words n = inr (inr (inl n))
 
-pub is_migrate : (words : List (String Global)) → IsMigrate words → IsCommand words
+pub is_migrate : (words : List (String Global)) → IsMigrate words → IsTraceCommand words
 is_migrate words n = inr (inr (inr n))
 
-pub ruleset words_answered = (words_carried, words_broken, usage_broken, is_check, is_report, is_show, is_migrate)
+pub is_trace_command : (words : List (String Global)) → IsTraceCommand words → IsCommand words
+is_trace_command words n = inl n
+
+pub is_gen : (words : List (String Global)) (number : ℕ) → IsGen words number → IsCommand words
+is_gen words number n = inr (number, n)
+
+-- words that are none of these name no command
+pub no_command : (words : List (String Global)) → ¬ IsCheck words → ¬ IsReport words → ¬ IsShow words → ¬ IsMigrate words → ((number : ℕ) → ¬ IsGen words number) → ¬ IsCommand words
+no_command words check report show migrate gen (inl (inl n)) = check n
+no_command words check report show migrate gen (inl (inr (inl n))) = report n
+no_command words check report show migrate gen (inl (inr (inr (inl n)))) = show n
+no_command words check report show migrate gen (inl (inr (inr (inr n)))) = migrate n
+no_command words check report show migrate gen (inr (number, n)) = gen number n
+
+-- the words that ask for a script name no trace command
+pub reads_no_trace : (words : List (String Global)) (number : ℕ) → IsGen words number → ¬ IsTraceCommand words
+reads_no_trace words number (word, are, is) (inl one) = absurd cc
+reads_no_trace words number (word, are, is) (inr (inl one)) = absurd cc
+reads_no_trace words number (word, are, is) (inr (inr (inl one))) = absurd cc
+reads_no_trace words number (word, are, is) (inr (inr (inr one))) = absurd cc
+
+pub ruleset words_answered = (words_carried, words_broken, usage_broken, is_check, is_report, is_show, is_migrate, is_trace_command, is_gen, reads_no_trace)

@@ -1,4 +1,4 @@
--- What a call of the program answers, by its words and by the bytes of its input, where these are told.
+-- What a call of the program answers, by its words and, where it reads a trace, by the bytes of its input, where these are told.
 use Rattle.std.specs.Prelude.{◌≡◌, ◌≢◌, ◌<◌, ◌≤◌, ◌-◌, ◌^◌, ◌⊎◌, ℕ, List, [], Option, String, IfSome, codes, ⊤}
 use Rattle.std.specs.Io.KnownBytes.{Appends}
 use Rattle.std.specs.declared.alloc.Global.{Global}
@@ -7,8 +7,9 @@ use Rattle.ace_top.specs.declared.answer.Answer.{Answer}
 use Rattle.ace_top.specs.declared.answer.Answer.TheVariants.{Accepted, NoMemory, Reported, Usage}
 use Rattle.ace_top.specs.declared.show.Version.TheVariants.{AsRead, Two}
 use Rattle.ace_top.specs.declared.words.Command.{Command}
-use Rattle.ace_top.specs.declared.words.Command.TheVariants.{Check, Report, Show, Migrate}
+use Rattle.ace_top.specs.declared.words.Command.TheVariants.{Check, Report, Show, Migrate, Gen}
 use Rattle.ace_top.specs.Command.{Names}
+use Rattle.ace_top.specs.Generate.{IsGenerated, script_of}
 use Rattle.ace_top.specs.Output.{AppendsPart, AppendsParts}
 use Rattle.ace_top.specs.Show.{IsShown, ShowsFront}
 use Rattle.ace_top.specs.Texts.{status_of, out_text_of, notes_text_of}
@@ -16,15 +17,16 @@ use Rattle.ace_top.specs.Report.{IsReported}
 use Rattle.ace_top.specs.Verdict.{IsVerdict}
 use Rattle.ace_top.specs.Words.{IsCommand}
 
--- what a command answers to these bytes, of which these are left, with this text on the standard output
-abbrev pub IsAnswer : Command → List ℕ → Option (List ℕ) → Answer → List ℕ → Type 0
-IsAnswer Check bytes left answer text = IsVerdict bytes answer
-IsAnswer Report bytes left answer text = IsReported bytes answer text
-IsAnswer Show bytes left answer text = IsShown AsRead bytes left answer text
-IsAnswer Migrate bytes left answer text = IsShown Two bytes left answer text
+-- what a command answers to this input, of which this is left, with this text on the standard output
+abbrev pub IsAnswer : Command → Option (List ℕ) → Option (List ℕ) → Answer → List ℕ → Type 0
+IsAnswer Check input left answer text = IfSome input (λ bytes. IsVerdict bytes answer)
+IsAnswer Report input left answer text = IfSome input (λ bytes. IsReported bytes answer text)
+IsAnswer Show input left answer text = IfSome input (λ bytes. IsShown AsRead bytes left answer text)
+IsAnswer Migrate input left answer text = IfSome input (λ bytes. IsShown Two bytes left answer text)
+IsAnswer (Gen number) input left answer text = IsGenerated number answer text
 
 -- what the answer alone says of that text: `check` writes no more than its answer, and so does `report` where it reports no
--- trace; and `show` and `migrate` write nothing where there was no memory
+-- trace; `show` and `migrate` write nothing where there was no memory; and of `gen` it is said above
 abbrev pub FitsAnswer : Command → Answer → List ℕ → Type 0
 FitsAnswer Check answer text = text ≡ out_text_of answer
 FitsAnswer Report Reported text = ⊤
@@ -34,6 +36,7 @@ FitsAnswer Show NoMemory text = text ≡ []
 FitsAnswer Show answer text = ⊤
 FitsAnswer Migrate NoMemory text = text ≡ []
 FitsAnswer Migrate answer text = ⊤
+FitsAnswer (Gen number) answer text = ⊤
 
 -- The status is that of an answer of the command, and its texts were appended to the two outputs, whether or not the input
 -- tells its bytes.
@@ -41,7 +44,7 @@ abbrev pub Answers : Command → Option (List ℕ) → Option (List ℕ) → ℕ
     → Option (List ℕ) → Option (List ℕ) → Option (List ℕ) → Option (List ℕ) → Type 0
 Answers command input left status out out' notes notes' =
     (answer : Answer) × (text : List ℕ) × FitsAnswer command answer text
-    × IfSome input (λ bytes. IsAnswer command bytes left answer text) × (status ≡ status_of answer) × Appends out out' text × Appends notes notes' (notes_text_of answer)
+    × IsAnswer command input left answer text × (status ≡ status_of answer) × Appends out out' text × Appends notes notes' (notes_text_of answer)
 
 -- the same for a list of words: where they name no command, the usage is told
 abbrev pub AnswersWords : List (String Global) → Option (List ℕ) → Option (List ℕ) → ℕ
@@ -51,18 +54,19 @@ AnswersWords words input left status out out' notes notes' =
     ⊎ (¬ IsCommand words × (status ≡ status_of Usage) × Appends out out' [] × Appends notes notes' (notes_text_of Usage))
 
 -- a text that the command would write to the standard output, if no output failed
-abbrev pub IsBegun : Command → List ℕ → List ℕ → Type 0
-IsBegun Check bytes text = (answer : Answer) × IsVerdict bytes answer × (text ≡ out_text_of answer)
-IsBegun Report bytes text = (answer : Answer) × IsReported bytes answer text
-IsBegun Show bytes text = (text ≡ []) ⊎ ShowsFront AsRead bytes text
-IsBegun Migrate bytes text = (text ≡ []) ⊎ ShowsFront Two bytes text
+abbrev pub IsBegun : Command → Option (List ℕ) → List ℕ → Type 0
+IsBegun Check input text = IfSome input (λ bytes. (answer : Answer) × IsVerdict bytes answer × (text ≡ out_text_of answer))
+IsBegun Report input text = IfSome input (λ bytes. (answer : Answer) × IsReported bytes answer text)
+IsBegun Show input text = IfSome input (λ bytes. (text ≡ []) ⊎ ShowsFront AsRead bytes text)
+IsBegun Migrate input text = IfSome input (λ bytes. (text ≡ []) ⊎ ShowsFront Two bytes text)
+IsBegun (Gen number) input text = text ≡ script_of number
 
 -- A front of such a text was appended to the one output, and to the other a front of the text of an answer, and then a
 -- front of the word that an output failed.
 abbrev pub BreaksOff : Command → Option (List ℕ)
     → Option (List ℕ) → Option (List ℕ) → Option (List ℕ) → Option (List ℕ) → Type 0
 BreaksOff command input out out' notes notes' =
-    (answer : Answer) × (text : List ℕ) × IfSome input (λ bytes. IsBegun command bytes text)
+    (answer : Answer) × (text : List ℕ) × IsBegun command input text
     × AppendsPart out out' text × AppendsParts notes notes' (notes_text_of answer) (codes "write fault\n")
 
 -- the same for a list of words

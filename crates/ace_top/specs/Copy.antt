@@ -11,7 +11,7 @@ use Rattle.ace_writer.specs.declared.writer.Writer.{Writer}
 use Rattle.ace_writer.specs.Given.{GivesFront}
 use Rattle.ace_top.specs.Output.{AppendsPart}
 use Rattle.ace_top.specs.declared.answer.Answer.{Answer}
-use Rattle.ace_top.specs.declared.answer.Answer.TheVariants.{Accepted, Refused, Shown, Reported, Usage, Malformed, ReadFault, LimitEvents, LimitLines, NoMemory}
+use Rattle.ace_top.specs.declared.answer.Answer.TheVariants.{Accepted, Refused, Shown, Reported, Generated, Usage, Malformed, ReadFault, LimitEvents, LimitLines, NoMemory}
 
 -- These events were read in a trace of the one version, and their lines in the other were added to the text of the writer.
 pub record HasCopied {K : Type 0} (held : K → Option (List ℕ)) (from to : ℕ) (old new : Option (List ℕ)) (writer writer' : Writer K)
@@ -61,4 +61,5 @@ EndsCopy from (Accepted events) count next left = ⊥
 EndsCopy from (Refused index rule) count next left = ⊥
 EndsCopy from Reported count next left = ⊥
 EndsCopy from LimitLines count next left = ⊥
+EndsCopy from Generated count next left = ⊥
 EndsCopy from Usage count next left = ⊥

@@ -3,6 +3,7 @@ pub mod Command
 pub mod Copy
 pub mod ErrorAnswer
 pub mod Follow
+pub mod Generate
 pub mod Output
 pub mod Progress
 pub mod Report

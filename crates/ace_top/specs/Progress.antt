@@ -11,7 +11,7 @@ use Rattle.ace_grammar.specs.Reading.{IsReadable, IsReadableHeader, HasBadLine, 
 use Rattle.ace_model.specs.Accepted.{least_broken}
 use Rattle.ace_check.specs.Run.{goes_over}
 use Rattle.ace_top.specs.declared.answer.Answer.{Answer}
-use Rattle.ace_top.specs.declared.answer.Answer.TheVariants.{Accepted, Refused, Shown, Reported, Usage, Malformed, ReadFault, LimitEvents, LimitLines, NoMemory}
+use Rattle.ace_top.specs.declared.answer.Answer.TheVariants.{Accepted, Refused, Shown, Reported, Generated, Usage, Malformed, ReadFault, LimitEvents, LimitLines, NoMemory}
 
 -- no event breaks a rule, or names a line too many
 abbrev pub IsFine : Header → List Event → Type 0
@@ -41,6 +41,7 @@ StopsAt header past event NoMemory = ⊤
 StopsAt header past event (Accepted events) = ⊥
 StopsAt header past event Shown = ⊥
 StopsAt header past event Reported = ⊥
+StopsAt header past event Generated = ⊥
 StopsAt header past event Usage = ⊥
 StopsAt header past event (Malformed line reason) = ⊥
 StopsAt header past event ReadFault = ⊥
@@ -62,6 +63,7 @@ IsNextVerdict header past left left' NoMemory = ⊤
 IsNextVerdict header past left left' (Accepted events) = ⊥
 IsNextVerdict header past left left' Shown = ⊥
 IsNextVerdict header past left left' Reported = ⊥
+IsNextVerdict header past left left' Generated = ⊥
 IsNextVerdict header past left left' Usage = ⊥
 
 -- an answer that an event may have where it isn't followed
@@ -75,6 +77,7 @@ IsStop LimitEvents = ⊥
 IsStop (Accepted events) = ⊥
 IsStop Shown = ⊥
 IsStop Reported = ⊥
+IsStop Generated = ⊥
 IsStop Usage = ⊥
 
 -- an answer where a trace isn't accepted
@@ -88,6 +91,7 @@ IsRefusal NoMemory = ⊤
 IsRefusal (Accepted events) = ⊥
 IsRefusal Shown = ⊥
 IsRefusal Reported = ⊥
+IsRefusal Generated = ⊥
 IsRefusal Usage = ⊥
 
 -- an answer of `check`
@@ -95,12 +99,13 @@ abbrev pub IsVerdictAnswer : Answer → Type 0
 IsVerdictAnswer (Accepted events) = ⊤
 IsVerdictAnswer answer = IsRefusal answer
 
--- Of the input before and after: a trace that is accepted or shown was read to its end.
+-- Of the input before and after: a trace that is accepted or shown was read to its end. Where a script was written, no trace was read.
 abbrev pub EndsInput : Answer → Option (List ℕ) → Option (List ℕ) → Type 0
 EndsInput (Accepted events) old left = LeavesNothing old left
 EndsInput (Refused index rule) old left = ⊤
 EndsInput Shown old left = LeavesNothing old left
 EndsInput Reported old left = LeavesNothing old left
+EndsInput Generated old left = ⊥
 EndsInput Usage old left = ⊤
 EndsInput (Malformed line reason) old left = ⊤
 EndsInput ReadFault old left = ⊤

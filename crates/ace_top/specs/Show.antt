@@ -9,7 +9,7 @@ use Rattle.ace_event.specs.Text.{trace_text}
 use Rattle.ace_grammar.specs.Lines.{BeginsWith}
 use Rattle.ace_grammar.specs.Reading.{Ending, Whole, Full, Bad, Reads, IsReadable, IsReadableHeader, HasBadHeader, TakesNoHeader, most_events}
 use Rattle.ace_top.specs.declared.answer.Answer.{Answer}
-use Rattle.ace_top.specs.declared.answer.Answer.TheVariants.{Accepted, Refused, Shown, Reported, Usage, Malformed, ReadFault, LimitEvents, LimitLines, NoMemory}
+use Rattle.ace_top.specs.declared.answer.Answer.TheVariants.{Accepted, Refused, Shown, Reported, Generated, Usage, Malformed, ReadFault, LimitEvents, LimitLines, NoMemory}
 use Rattle.ace_top.specs.declared.show.Version.{Version}
 use Rattle.ace_top.specs.declared.show.Version.TheVariants.{AsRead, Two}
 
@@ -53,4 +53,5 @@ IsShown version bytes left (Accepted events) text = ⊥
 IsShown version bytes left (Refused index rule) text = ⊥
 IsShown version bytes left Reported text = ⊥
 IsShown version bytes left LimitLines text = ⊥
+IsShown version bytes left Generated text = ⊥
 IsShown version bytes left Usage text = ⊥

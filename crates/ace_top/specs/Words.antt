@@ -1,5 +1,5 @@
 -- The words of the command line.
-use Rattle.std.specs.Prelude.{◌≡◌, ◌⊎◌, ℕ, List, [], ◌∷◌, map, codes, String}
+use Rattle.std.specs.Prelude.{◌≡◌, ◌<◌, ◌^◌, ◌⊎◌, ℕ, List, [], ◌∷◌, map, codes, decimal, String}
 use Rattle.std.specs.String.{string_bytes}
 use Rattle.std.specs.declared.alloc.Global.{Global}
 
@@ -19,6 +19,18 @@ IsShow words = IsWord words (codes "show")
 abbrev pub IsMigrate : List (String Global) → Type 0
 IsMigrate words = IsWord words (codes "migrate")
 
+-- the word is this number, from 0 to 2^64 - 1, in decimal: it has no sign, and no zero in front
+abbrev pub IsNumber : List ℕ → ℕ → Type 0
+IsNumber word number = (number < 2 ^ 64) × (word ≡ decimal number)
+
+-- there are two words, `gen` and this number
+abbrev pub IsGen : List (String Global) → ℕ → Type 0
+IsGen words number = (word : List ℕ) × (map string_bytes words ≡ codes "gen" ∷ word ∷ []) × IsNumber word number
+
+-- The words name a command that reads a trace.
+abbrev pub IsTraceCommand : List (String Global) → Type 0
+IsTraceCommand words = IsCheck words ⊎ IsReport words ⊎ IsShow words ⊎ IsMigrate words
+
 -- The words name a command that is built.
 abbrev pub IsCommand : List (String Global) → Type 0
-IsCommand words = IsCheck words ⊎ IsReport words ⊎ IsShow words ⊎ IsMigrate words
+IsCommand words = IsTraceCommand words ⊎ ((number : ℕ) × IsGen words number)

@@ -18,6 +18,8 @@ pub enum Answer {
     Shown,
     /// The report of an accepted trace was written.
     Reported,
+    /// The script that is made from a number was written.
+    Generated,
     /// The words of the command line name no command.
     Usage,
     /// This line, counted from 1, is the first that is outside the grammar, for this reason.
@@ -50,7 +52,7 @@ pub fn status_of(answer: Answer) -> u8
     ensures no_write_fault { result ≢ 5 }
 {
     match answer {
-        Answer::Accepted { .. } | Answer::Shown | Answer::Reported => 0,
+        Answer::Accepted { .. } | Answer::Shown | Answer::Reported | Answer::Generated => 0,
         Answer::Refused { .. } => 1,
         Answer::Usage => 2,
         Answer::Malformed { .. } => 3,
@@ -103,7 +105,11 @@ pub fn notes_text(answer: Answer) -> ArrayString<64>
         Answer::LimitEvents => text.push_str("limit events\n"),
         Answer::LimitLines => text.push_str("limit lines\n"),
         Answer::NoMemory => text.push_str("out of memory\n"),
-        Answer::Accepted { .. } | Answer::Refused { .. } | Answer::Shown | Answer::Reported => {}
+        Answer::Accepted { .. }
+        | Answer::Refused { .. }
+        | Answer::Shown
+        | Answer::Reported
+        | Answer::Generated => {}
     }
     text
 }

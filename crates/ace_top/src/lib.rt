@@ -5,6 +5,7 @@ mod answer;
 mod check;
 mod copy;
 mod follow;
+mod generate;
 mod output;
 mod show;
 #[cfg(test)]
@@ -12,4 +13,4 @@ mod tests;
 mod top;
 mod words;
 
-pub use top::ace;
+pub use top::{ace, tell_no_memory};

@@ -1,5 +1,5 @@
 // What a call answers, over inputs and outputs in memory.
-use crate::top::ace;
+use crate::top::{ace, tell_no_memory};
 use ace_io::{Free, HonestSource, MemSink, MemSource, Source};
 use std::alloc::Global;
 use std::sync::Wait;
@@ -396,5 +396,124 @@ fn migrated_traces(rt: HostRuntime) -> Result<(), Fail> {
         b"ACE 2\nPORTS AA\nAR 00 0 00000040 7 1 0 0\n".as_slice()
     );
     assert_eq!(rt; notes.bytes(), b"read fault\n".as_slice());
+    Ok(())
+}
+
+/// Calls `ace` over an input that fails at once, so that the status is 4 where anything is taken.
+fn answer_untouched<R: Threads + Wait + Sync>(
+    rt: &R,
+    alloc: Global,
+    words: &[&str],
+    rooms: (usize, usize),
+) -> Result<(u8, MemSink, MemSink), Fail> {
+    let mut input = MemSource::new(alloc, EMPTY.as_bytes(), &[8], &[0])?;
+    answer(rt, alloc, words, &mut input, rooms)
+}
+
+#[test]
+fn scripts_of_numbers(rt: HostRuntime) -> Result<(), Fail> {
+    let alloc = rt.alloc();
+    for (number, length, front, end) in [
+        (
+            "0",
+            23054,
+            "ACE SCRIPT 1\nPORTS AAAL\nCACHE 4\nPOLICY mixed 0000000000000000\n1 wc 00001080\n0 ld 00001140 3\n",
+            "\n0 ld 000011c0 2\n0 st 00001080 1 7e3dc55c7e3dc55c7e3dc55c7e3dc55c\n",
+        ),
+        (
+            "1",
+            20547,
+            "ACE SCRIPT 1\nPORTS AAAL\nCACHE 4\nPOLICY mixed 0000000000000001\n1 dvm 00001000\n3 wu 00001140 0000ffff00000000 a5c2b6d3",
+            "\n3 ro 000010c0\n2 st 00001000 2 844c5819844c5819844c5819844c5819\n",
+        ),
+        (
+            "42",
+            21789,
+            "ACE SCRIPT 1\nPORTS AAAL\nCACHE 4\nPOLICY mixed 000000000000002a\n1 cs 00001180\n0 mb\n",
+            "\n2 st 00001180 2 bcf4de36bcf4de36bcf4de36bcf4de36\n0 stx 00001040 2 8cd373828cd373828cd373828cd37382\n",
+        ),
+        (
+            "18446744073709551615",
+            19798,
+            "ACE SCRIPT 1\nPORTS AAAL\nCACHE 4\nPOLICY mixed ffffffffffffffff\n1 ld 00001100 2\n1 st 000011c0 1 dbc6f13b",
+            "\n0 wc 00001100\n3 sb\n",
+        ),
+    ] {
+        let (given, out, notes) = answer_untouched(&rt, alloc, &["gen", number], (30000, 99))?;
+        assert_eq!(rt; given, 0, "{number}");
+        assert_eq!(rt; out.bytes().len(), length, "{number}");
+        let lines = out.bytes().iter().filter(|byte| **byte == b'\n').count();
+        assert_eq!(rt; lines, 516, "{number}");
+        assert!(rt; out.bytes().starts_with(front.as_bytes()), "{number}");
+        assert!(rt; out.bytes().ends_with(end.as_bytes()), "{number}");
+        assert_eq!(rt; notes.bytes(), b"".as_slice(), "{number}");
+    }
+    Ok(())
+}
+
+#[test]
+fn scripts_broken_off(rt: HostRuntime) -> Result<(), Fail> {
+    let alloc = rt.alloc();
+    let (given, whole, notes) = answer_untouched(&rt, alloc, &["gen", "42"], (21789, 0))?;
+    assert_eq!(rt;
+        (given, whole.bytes().len(), notes.bytes().len()),
+        (0, 21789, 0)
+    );
+    for room in [0, 1, 12, 13, 14, 4095, 4096, 4097, 12000, 21788] {
+        let (given, out, notes) = answer_untouched(&rt, alloc, &["gen", "42"], (room, 99))?;
+        assert_eq!(rt; (given, out.bytes().len()), (5, room));
+        assert!(rt; whole.bytes().starts_with(out.bytes()), "room {room}");
+        assert_eq!(rt; notes.bytes(), b"write fault\n".as_slice());
+    }
+    let (given, out, notes) = answer_untouched(&rt, alloc, &["gen", "42"], (5, 5))?;
+    assert_eq!(rt; given, 5);
+    assert_eq!(rt; out.bytes(), b"ACE S".as_slice());
+    assert_eq!(rt; notes.bytes(), b"write".as_slice());
+    Ok(())
+}
+
+#[test]
+fn words_of_no_number(rt: HostRuntime) -> Result<(), Fail> {
+    let alloc = rt.alloc();
+    for words in [
+        ["gen"].as_slice(),
+        ["gen", ""].as_slice(),
+        ["gen", "x"].as_slice(),
+        ["gen", "01"].as_slice(),
+        ["gen", "00"].as_slice(),
+        ["gen", "+1"].as_slice(),
+        ["gen", "-1"].as_slice(),
+        ["gen", "-0"].as_slice(),
+        ["gen", " 1"].as_slice(),
+        ["gen", "1 "].as_slice(),
+        ["gen", "0x1"].as_slice(),
+        ["gen", "1_000"].as_slice(),
+        ["gen", "18446744073709551616"].as_slice(),
+        ["gen", "100000000000000000000000000"].as_slice(),
+        ["gen", "1", "2"].as_slice(),
+        ["Gen", "1"].as_slice(),
+        ["1", "gen"].as_slice(),
+        ["check", "1"].as_slice(),
+        ["trial", "1"].as_slice(),
+        ["--help"].as_slice(),
+    ] {
+        let (given, out, notes) = answer_untouched(&rt, alloc, words, (30000, 99))?;
+        assert_eq!(rt; given, 2, "{words:?}");
+        assert_eq!(rt; out.bytes(), b"".as_slice(), "{words:?}");
+        assert_eq!(rt; notes.bytes(), USAGE.as_bytes(), "{words:?}");
+    }
+    Ok(())
+}
+
+#[test]
+fn no_memory_for_words(rt: HostRuntime) -> Result<(), Fail> {
+    let alloc = rt.alloc();
+    for (room, status, told) in [(99, 7, "out of memory\n"), (3, 5, "out")] {
+        let mut out = MemSink::new(alloc, 99, &[])?;
+        let mut notes = MemSink::new(alloc, room, &[])?;
+        assert_eq!(rt; tell_no_memory(&mut out, &mut notes), status);
+        assert_eq!(rt; out.bytes(), b"".as_slice());
+        assert_eq!(rt; notes.bytes(), told.as_bytes());
+    }
     Ok(())
 }

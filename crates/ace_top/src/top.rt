@@ -1,14 +1,15 @@
 // The top call: all that the program does.
-ghost use Rattle.std.specs.Prelude.{◌≡◌, ◌≢◌, ◌<◌, ◌≤◌, ◌-◌, ◌^◌, ◌⊎◌, IfSome, codes};
+ghost use Rattle.std.specs.Prelude.{◌≡◌, ◌≢◌, ◌<◌, ◌≤◌, ◌-◌, ◌^◌, ◌⊎◌, [], IfSome, codes};
 ghost use Rattle.std.specs.Io.KnownBytes.{Appends};
 ghost use Rattle.ace_io.specs.Faults.{Rose};
 ghost use Rattle.ace_grammar.specs.Errors.{LeavesNothing};
 ghost use Rattle.ace_top.specs.Verdict.{ReadsSound};
-ghost use Rattle.ace_top.specs.Words.{IsCheck, IsReport, IsCommand};
+ghost use Rattle.ace_top.specs.Words.{IsCheck, IsReport, IsTraceCommand, IsCommand};
 ghost use Rattle.ace_top.specs.Answer.{AnswersWords, BreaksOffWords};
 
 use crate::answer::Answer;
 use crate::check::{tell_report, tell_verdict};
+use crate::generate::write_script;
 use crate::output::conclude;
 use crate::show::{Version, write_out};
 use crate::words::{Command, command_of};
@@ -32,10 +33,10 @@ pub fn ace<R: Threads + Wait + Sync, S: Source, K: Sink, E: Sink, G: Gate + Sync
     ensures answer { result ≢ 5 → AnswersWords words.now (S.left input.old) (S.left input.new) result
         (K.held out.old) (K.held out.new) (E.held notes.old) (E.held notes.new) }
 
-    // Where the status is 0, the input was read to its end: where its bytes were told, they still are, and none is left.
-    // Where it is that of `check` or `report`, the trace has all that acceptance promises: it is coherent, its exclusive stores are
-    // exclusive, its barriers order, and its Syncs wait for all.
-    ensures whole { result ≡ 0 → LeavesNothing (S.left input.old) (S.left input.new) }
+    // Where the status of a command that reads a trace is 0, the input was read to its end: where its bytes were told, they still
+    // are, and none is left. Where it is that of `check` or `report`, the trace has all that acceptance promises: it is coherent, its
+    // exclusive stores are exclusive, its barriers order, and its Syncs wait for all.
+    ensures whole { IsTraceCommand words.now → result ≡ 0 → LeavesNothing (S.left input.old) (S.left input.new) }
     ensures sound { IsCheck words.now ⊎ IsReport words.now → result ≡ 0 → IfSome (S.left input.old) ReadsSound }
 
     // Where an output failed, each has a front of what such an answer gives it, and then the notes tell so if they can.
@@ -54,10 +55,10 @@ pub fn ace<R: Threads + Wait + Sync, S: Source, K: Sink, E: Sink, G: Gate + Sync
     ensures output_failed { (K.faults out.old < K.faults out.new) ⊎ (E.faults notes.old < E.faults notes.new)
         → result ≡ 5 }
 
-    // The usage is told exactly where the words name no command, and then the input isn't touched.
+    // The usage is told exactly where the words name no command. Where they name none that reads a trace, the input isn't touched.
     ensures usage { result ≡ 2 → ¬ IsCommand words.now }
     ensures no_command { ¬ IsCommand words.now → (result ≡ 2) ⊎ (result ≡ 5) ⊎ (result ≡ 7) }
-    ensures untouched { ¬ IsCommand words.now → input.new ≡ input.old }
+    ensures untouched { ¬ IsTraceCommand words.now → input.new ≡ input.old }
     ensures status { result ≤ 7 }
 {
     match command_of(words) {
@@ -65,6 +66,18 @@ pub fn ace<R: Threads + Wait + Sync, S: Source, K: Sink, E: Sink, G: Gate + Sync
         Some(Command::Report) => tell_report(alloc, input, out, notes),
         Some(Command::Show) => write_out(alloc, input, out, notes, Version::AsRead),
         Some(Command::Migrate) => write_out(alloc, input, out, notes, Version::Two),
+        Some(Command::Gen { number }) => write_script(alloc, number, out, notes),
         None => conclude(out, notes, Answer::Usage),
     }
+}
+
+/// Tells that there was no memory for the words, where `ace` can't be called for want of them, and returns the status.
+pub fn tell_no_memory<K: Sink, E: Sink>(out: &mut K, notes: &mut E) -> u8
+    ensures status { (result ≡ 7) ⊎ (result ≡ 5) }
+    ensures nothing { result ≡ 7 → Appends (K.held out.old) (K.held out.new) [] }
+    ensures told { result ≡ 7 → Appends (E.held notes.old) (E.held notes.new) (codes "out of memory\n") }
+    ensures write_fault { result ≡ 5
+        → Rose (K.faults out.old) (K.faults out.new) ⊎ Rose (E.faults notes.old) (E.faults notes.new) }
+{
+    conclude(out, notes, Answer::NoMemory)
 }

@@ -1,7 +1,9 @@
 // The words of the command line.
-ghost use Rattle.std.specs.Prelude.{◌≡◌, ◌↔◌, IsTrue, MatchOption};
+ghost use Rattle.std.specs.Prelude.{◌≡◌, ◌↔◌, ℕ, decimal, IsTrue, MatchOption};
 ghost use Rattle.ace_top.specs.Command.{Names};
-ghost use Rattle.ace_top.specs.Words.{IsCommand, IsWord};
+ghost use Rattle.ace_top.specs.Words.{IsCommand, IsGen, IsNumber, IsWord};
+
+use itoa::Buffer;
 
 /// What the program is asked to do.
 #[derive(Clone, Copy, Debug, PartialEq, Eq)]
@@ -14,6 +16,8 @@ pub enum Command {
     Show,
     /// To write a trace in version 2.
     Migrate,
+    /// To write the script that is made from this number.
+    Gen { number: u64 },
 }
 
 /// Whether there is one word, and it is this one.
@@ -23,7 +27,44 @@ fn is_word(words: &[String], text: &str) -> bool
     words.len() == 1 && words[0].as_str() == text
 }
 
+/// Whether the word is this number, in decimal.
+fn is_decimal(word: &str, number: u64) -> bool
+    ensures { IsTrue result ↔ (word.now ≡ decimal number) }
+{
+    let mut digits = Buffer::new();
+    word == digits.format(number)
+}
+
+/// The number that the word is, if it is one.
+#[tactic(auto, using(crate::proofs::Numbers::numbers))]
+fn number_of(word: &str) -> Option<u64>
+    ensures { MatchOption result ((n : ℕ) → ¬ IsNumber word.now n) (IsNumber word.now) }
+{
+    match word.parse::<u64>() {
+        Ok(number) => {
+            if is_decimal(word, number) {
+                Some(number)
+            } else {
+                None
+            }
+        }
+        Err(_) => None,
+    }
+}
+
+/// The number whose script the words ask for, if they do.
+fn number_to_generate(words: &[String]) -> Option<u64>
+    ensures { MatchOption result ((n : ℕ) → ¬ IsGen words.now n) (IsGen words.now) }
+{
+    if words.len() == 2 && words[0].as_str() == "gen" {
+        number_of(words[1].as_str())
+    } else {
+        None
+    }
+}
+
 /// The command that the words name.
+#[tactic(auto, using(crate::proofs::WordsAnswered::no_command))]
 pub fn command_of(words: &[String]) -> Option<Command>
     ensures { MatchOption result (¬ IsCommand words.now) (Names words.now) }
 {
@@ -36,6 +77,9 @@ pub fn command_of(words: &[String]) -> Option<Command>
     } else if is_word(words, "migrate") {
         Some(Command::Migrate)
     } else {
-        None
+        match number_to_generate(words) {
+            Some(number) => Some(Command::Gen { number }),
+            None => None,
+        }
     }
 }

@@ -1,5 +1,21 @@
-use Rattle.ace_top.proofs.WordsAnswered.{usage_broken}
+use Rattle.std.proofs.Common.{subst}
+use Rattle.ace_top.specs.Command.{Names}
+use Rattle.ace_top.specs.declared.words.Command.TheVariants.{Gen}
+use Rattle.ace_top.proofs.WordsAnswered.{usage_broken, words_carried, words_broken}
 use Rattle.ace_top.proofs.top.ace.Goals as goal
+
+pub returns-in-Some-Gen-clause-answer : goal.returns-in-Some-Gen-clause-answer
+returns-in-Some-Gen-clause-answer g c ne =
+    let names = subst (Names c.args.words.now) c.in-Some-Gen.field-0-is c.in-Some-Gen.ensures in
+    words_carried _ (Gen c.in-Some-Gen.number) _ _ _ _ _ _ _ _ _ (c.write_script.ensures.carried_out _) names ne
+
+pub returns-in-Some-Gen-clause-broken_off : goal.returns-in-Some-Gen-clause-broken_off
+returns-in-Some-Gen-clause-broken_off g c five =
+    let names = subst (Names c.args.words.now) c.in-Some-Gen.field-0-is c.in-Some-Gen.ensures in
+    words_broken _ (Gen c.in-Some-Gen.number) _ _ _ _ _ _ _ _ _ (c.write_script.ensures.carried_out _) names five
+
+pub returns-in-Some-Gen-clause-told : goal.returns-in-Some-Gen-clause-told
+returns-in-Some-Gen-clause-told g c = (c.write_script.ensures.carried_out (g.S.Source.left c.args.input.now)).told
 
 pub returns-in-None-clause-broken_off : goal.returns-in-None-clause-broken_off
 returns-in-None-clause-broken_off g c five =
