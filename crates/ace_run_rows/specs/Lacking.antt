@@ -72,3 +72,8 @@ holds_two_lines =
 -- a cache that should give lines up keeps one
 abbrev pub eager_plan : Plan
 eager_plan = record cleaning_plan { policy = Eager }
+
+-- The first transfer says that the line is shared, though no port shares it. The rules allow that, and want the later ones to say
+-- the same; but no step gives them.
+abbrev pub says_shared : List Event
+says_shared = take 2 (events_of loads) ++ R 0 0 8 false 0 ∷ []

@@ -10,3 +10,4 @@ pub mod mixed;
 pub mod order_steps;
 pub mod shared;
 pub mod short;
+pub mod stuck;
