@@ -21,4 +21,6 @@ pub mod InboxHears
 pub mod SyncSteps
 pub mod ExclusiveLaws
 pub mod RuleLaws
+-- What each kind of event leaves as it is.
+pub mod Unmoved
 pub mod Judging

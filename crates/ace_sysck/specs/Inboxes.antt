@@ -15,13 +15,13 @@ use Rattle.ace_model.specs.Messages.{has_second, is_sync_word, is_second_part, i
 use Rattle.ace_portck.specs.declared.target.Target.{Target}
 use Rattle.ace_portck.specs.Targets.{Recording}
 use Rattle.ace_sysck.specs.declared.messages.PortMessages.{PortMessages}
+use Rattle.ace_sysck.specs.declared.messages.Messages.{Messages}
 use Rattle.ace_sysck.specs.declared.inboxes.Part.{Part}
 use Rattle.ace_sysck.specs.declared.inboxes.Sent.{Sent}
 use Rattle.ace_sysck.specs.declared.inboxes.Inbox.{Inbox}
 use Rattle.ace_sysck.specs.declared.inboxes.Inboxes.{Inboxes}
 use Rattle.ace_sysck.specs.Steps.{IsStep, IsAsked}
-use Rattle.ace_sysck.specs.Events.{begun_in}
-use Rattle.ace_sysck.specs.Messages.{PortMessagesStand}
+use Rattle.ace_sysck.specs.Messages.{MessagesStand}
 
 -- an empty inbox, with room for a part under each identifier of so many ports
 pub record IsEmptyInbox (ports : ℕ) (b : Inbox) : Type 0 where
@@ -126,7 +126,8 @@ pub record MayAskInboxes (r : Recording) (s : Inboxes) (e : Event) (t : Target) 
   pub asked : IsAsked r e t
   pub stands : InboxesStand r s
 
-pub record MayHearInboxes (r : Recording) (s : Inboxes) (e : Event) (t : Target) (kept : PortMessages) : Type 0 where
+-- the messages are those before the event
+pub record MayHearInboxes (r : Recording) (s : Inboxes) (e : Event) (t : Target) (m : Messages) : Type 0 where
   pub step : IsStep r e t
   pub stands : InboxesStand r s
-  pub kept_stands : (x : Transaction) → begun_in e t ≡ Some x → PortMessagesStand r.past x.port kept
+  pub messages : MessagesStand r m

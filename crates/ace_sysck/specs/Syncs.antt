@@ -1,24 +1,21 @@
 -- What is kept of the Syncs that reach each port, and of its DVM Completes.
-use Rattle.std.specs.Prelude.{ℕ, ◌≡◌, ◌<◌, ◌+◌, ◌-◌, ◌^◌, Bool, min, ◌==◌, nat_le, if◌then◌else◌, length, replicate, slice_set, slice_index_or, slice_get, count_by, Some}
-use Rattle.ace_codes.specs.declared.state.LineState.{LineState}
+use Rattle.std.specs.Prelude.{ℕ, ◌≡◌, ◌<◌, ◌+◌, ◌-◌, ◌^◌, Bool, min, ◌==◌, nat_le, if◌then◌else◌, length, replicate, slice_set, slice_index_or, count_by, Some}
 use Rattle.ace_event.specs.declared.event.Event.{Event}
-use Rattle.ace_event.specs.declared.event.Event.TheVariants.{Cr}
 use Rattle.ace_event.specs.declared.header.Header.{Header}
 use Rattle.ace_model.specs.declared.transactions.Transaction.{Transaction}
-use Rattle.ace_model.specs.Trace.{Trace, implies, is_some_and}
+use Rattle.ace_model.specs.Trace.{Trace, implies}
 use Rattle.std.specs.List.{list_all}
 use Rattle.ace_model.specs.Grants.{ports_below}
 use Rattle.ace_model.specs.Messages.{is_sync, parts_for, answered_syncs, dvm_completes, last_sync, sync_number, is_other_ace}
 use Rattle.ace_portck.specs.declared.target.Target.{Target}
 use Rattle.ace_portck.specs.Targets.{Recording}
-use Rattle.ace_sysck.specs.declared.messages.PortMessages.{PortMessages}
+use Rattle.ace_sysck.specs.declared.messages.Messages.{Messages}
 use Rattle.ace_sysck.specs.declared.syncs.PortSyncs.{PortSyncs}
 use Rattle.ace_sysck.specs.declared.syncs.Syncs.{Syncs}
 use Rattle.ace_sysck.specs.declared.inboxes.Inboxes.{Inboxes}
 use Rattle.ace_sysck.specs.Steps.{IsStep}
-use Rattle.ace_sysck.specs.Events.{begun_in}
-use Rattle.ace_sysck.specs.Messages.{PortMessagesStand}
-use Rattle.ace_sysck.specs.Inboxes.{InboxesStand, first_is_sync}
+use Rattle.ace_sysck.specs.Messages.{MessagesStand}
+use Rattle.ace_sysck.specs.Inboxes.{InboxesStand}
 
 -- of a port that none has reached
 abbrev pub untold : PortSyncs
@@ -78,11 +75,9 @@ pub record MayIssueCompletion (r : Recording) (s : Syncs) (x : Transaction) : Ty
   pub stands : SyncsStand r s
   pub within : x.port < r.header.ports
 
--- `kept` is what was kept of the messages of a port that issues a transaction, and `sync` says whether a CR answers a Sync
-pub record MayHearSyncs (r : Recording) (s : Syncs) (e : Event) (t : Target) (kept : PortMessages) (sync : Bool) : Type 0 where
+-- the messages and the inboxes are those before the event
+pub record MayHearSyncs (r : Recording) (s : Syncs) (e : Event) (t : Target) (m : Messages) (boxes : Inboxes) : Type 0 where
   pub step : IsStep r e t
   pub stands : SyncsStand r s
-  pub kept_stands : (x : Transaction) → begun_in e t ≡ Some x → PortMessagesStand r.past x.port kept
-  pub inboxes : Inboxes
-  pub inboxes_stand : InboxesStand r inboxes
-  pub sync_is : (p resp : ℕ) (st : LineState) → e ≡ Cr p resp st → sync ≡ is_some_and (slice_get inboxes.ports.items p) first_is_sync
+  pub messages : MessagesStand r m
+  pub inboxes : InboxesStand r boxes

@@ -7,7 +7,7 @@ ghost use Rattle.ace_sysck.specs.Inboxes.{parts_sent, sent_list, Receives, forwa
 
 use crate::events::begun_in;
 use crate::kinds::{is_ace, is_message_part, is_message_snoop};
-use crate::messages::PortMessages;
+use crate::messages::{Messages, PortMessages};
 use crate::words::{has_second, is_sync_word};
 use ace_codes::{SnoopKind, read_ac};
 use ace_event::{Event, Header};
@@ -269,13 +269,14 @@ impl Inboxes {
         }
     }
 
-    /// The inboxes after the event. `kept` is what was kept of the messages of a port that issues a part by it.
-    pub fn hear(&mut self, event: &Event, target: &Target, kept: &PortMessages)
-        ensures { (r : Recording) → MayHearInboxes r self.old event.now target.now kept.now → InboxesStand (after r event.now) self.new }
+    /// The inboxes after the event. The messages are those before it.
+    pub fn hear(&mut self, event: &Event, target: &Target, messages: &Messages)
+        ensures { (r : Recording) → MayHearInboxes r self.old event.now target.now messages.now → InboxesStand (after r event.now) self.new }
     {
         if let Some(x) = begun_in(event, target) {
             if is_message_part(&x) {
-                let sent = parts_sent(kept, x);
+                let kept = messages.of(x.port);
+                let sent = parts_sent(&kept, x);
                 self.send(x.port, &sent);
             }
         } else {

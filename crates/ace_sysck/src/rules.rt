@@ -82,8 +82,12 @@ pub fn keeps_k37(
         Event::R { .. } => match responded_in(event, target) {
             None => true,
             Some(x) => {
-                let waiting = is_at(messages.of(x.port).first, x.place);
-                !is_message_part(&x) || inboxes.is_answered_by_all(header, &x, waiting)
+                !is_message_part(&x)
+                    || inboxes.is_answered_by_all(
+                        header,
+                        &x,
+                        is_at(messages.of(x.port).first, x.place),
+                    )
             }
         },
         _ => true,

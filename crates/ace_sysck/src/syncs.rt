@@ -4,9 +4,9 @@ ghost use Rattle.std.specs.Prelude.{◌≡◌};
 ghost use Rattle.ace_sysck.specs.Syncs.{next_count, reached_by, one_answered, one_completed};
 
 use crate::events::begun_in;
-use crate::inboxes::answers_message;
+use crate::inboxes::{Inboxes, answers_message};
 use crate::kinds::{is_ace, is_dvm_completion, is_message_part};
-use crate::messages::{PortMessages, is_new_sync};
+use crate::messages::{Messages, is_new_sync};
 use ace_event::{Event, Header};
 use ace_model::Transaction;
 use ace_portck::Target;
@@ -169,14 +169,14 @@ impl Syncs {
         }
     }
 
-    /// What is kept after the event. `kept` is what was kept of the messages of a port that issues a transaction by it, and `sync`
-    /// says whether the part that a CR answers is a Sync.
-    pub fn hear(&mut self, event: &Event, target: &Target, kept: &PortMessages, sync: bool)
-        ensures { (r : Recording) → MayHearSyncs r self.old event.now target.now kept.now sync → SyncsStand (after r event.now) self.new }
+    /// What is kept after the event. The messages and the inboxes are those before it.
+    pub fn hear(&mut self, event: &Event, target: &Target, messages: &Messages, inboxes: &Inboxes)
+        ensures { (r : Recording) → MayHearSyncs r self.old event.now target.now messages.now inboxes.now → SyncsStand (after r event.now) self.new }
     {
         if let Some(x) = begun_in(event, target) {
             if is_message_part(&x) {
-                if is_new_sync(kept, &x) {
+                let kept = messages.of(x.port);
+                if is_new_sync(&kept, &x) {
                     self.reach_all(x.port);
                 }
             } else if is_dvm_completion(&x) {
@@ -185,7 +185,7 @@ impl Syncs {
             }
         } else if let Event::Cr { port, .. } = *event {
             if answers_message(target) {
-                if sync {
+                if inboxes.answers_sync(port) {
                     let more = one_answered(self.of(port));
                     self.set(port, more);
                 }

@@ -3,9 +3,9 @@
 ghost use Rattle.std.specs.Prelude.{◌≡◌, Some, if◌then◌else◌};
 
 use crate::barriers::Barriers;
-use crate::events::{begun_in, granted_in};
+use crate::events::granted_in;
 use crate::inboxes::Inboxes;
-use crate::messages::{Messages, PortMessages};
+use crate::messages::Messages;
 use crate::monitors::Monitors;
 use crate::registrations::Registrations;
 use crate::results::Results;
@@ -36,24 +36,19 @@ fn unless(kept: bool, number: u8, rest: Option<u8>) -> Option<u8>
 }
 
 impl SysCheck {
-    ghost use Rattle.std.specs.Prelude.{◌≡◌, ℕ, [], true, Some, OnOk, OnErr, IfOk, slice_get};
-    ghost use Rattle.ace_codes.specs.declared.state.LineState.{LineState};
+    ghost use Rattle.std.specs.Prelude.{◌≡◌, ℕ, [], true, Some, OnOk, OnErr, IfOk};
     ghost use Rattle.ace_event.specs.Ports.{IsHeader};
     ghost use Rattle.ace_event.specs.declared.event.Channel.TheVariants.{Read};
-    ghost use Rattle.ace_event.specs.declared.event.Event.TheVariants.{Cr};
     ghost use Rattle.ace_model.specs.declared.transactions.Transaction.{Transaction};
     ghost use Rattle.ace_model.specs.Accepted.{least_of};
     ghost use Rattle.ace_model.specs.AddressRules.{k1};
     ghost use Rattle.ace_model.specs.Shares.{system_rules};
     ghost use Rattle.ace_model.specs.Exclusives.{has_failed, store_passes};
     ghost use Rattle.ace_model.specs.Grants.{given};
-    ghost use Rattle.ace_model.specs.Trace.{is_some_and};
     ghost use Rattle.ace_model.specs.Transactions.{outstanding};
     ghost use Rattle.ace_portck.specs.declared.target.Target.{Target};
     ghost use Rattle.ace_portck.specs.Targets.{Recording, after};
-    ghost use Rattle.ace_sysck.specs.Events.{begun_in};
-    ghost use Rattle.ace_sysck.specs.Inboxes.{first_is_sync};
-    ghost use Rattle.ace_sysck.specs.Messages.{MessagesStand, PortMessagesStand};
+    ghost use Rattle.ace_sysck.specs.Events.{is_issue, is_response};
     ghost use Rattle.ace_sysck.specs.Registrations.{RegistrationsStand, IsNewLock};
     ghost use Rattle.ace_sysck.specs.Rules.{begun_rules, read_rules, snoop_rules};
     ghost use Rattle.ace_sysck.specs.Stands.{Stands, MayTest, HasRoom, MayApply};
@@ -163,27 +158,6 @@ impl SysCheck {
         }
     }
 
-    /// What is kept of the messages of the port that issues a transaction by the event.
-    fn messages_of_issuer(&self, event: &Event, target: &Target) -> PortMessages
-        ensures { (r : Recording) → MessagesStand r self.now.messages → (x : Transaction) → begun_in event.now target.now ≡ Some x
-            → PortMessagesStand r.past x.port result }
-    {
-        match begun_in(event, target) {
-            Some(x) => self.messages.of(x.port),
-            None => self.messages.of(0),
-        }
-    }
-
-    /// Whether the part that a CR answers, if it answers one, is a Sync.
-    fn answers_sync(&self, event: &Event) -> bool
-        ensures { (p resp : ℕ) (st : LineState) → event.now ≡ Cr p resp st → result ≡ is_some_and (slice_get self.now.inboxes.ports.items p) first_is_sync }
-    {
-        match *event {
-            Event::Cr { port, .. } => self.inboxes.answers_sync(port),
-            _ => false,
-        }
-    }
-
     /// Whether an exclusive store that the event grants passes.
     fn passes(&self, event: &Event, target: &Target) -> bool
         ensures { (r : Recording) → IsStep r event.now target.now → RegistrationsStand r self.now.registrations → (x : Transaction)
@@ -195,20 +169,52 @@ impl SysCheck {
         }
     }
 
-    /// Takes an event that breaks no rule. The room for it was made.
+    /// Takes an AR or AW.
+    fn begin(&mut self, event: &Event, target: &Target)
+        ensures { (r : Recording) → MayApply self.old r event.now target.now → is_issue event.now ≡ true → Stands self.new (after r event.now) }
+    {
+        self.barriers.hear(event, target);
+        self.results.hear(event, target, false);
+        self.syncs
+            .hear(event, target, &self.messages, &self.inboxes);
+        self.inboxes.hear(event, target, &self.messages);
+        self.messages.hear(event, target);
+    }
+
+    /// Takes an R or B.
+    fn complete(&mut self, event: &Event, target: &Target)
+        ensures { (r : Recording) → MayApply self.old r event.now target.now → is_response event.now ≡ true → Stands self.new (after r event.now) }
+    {
+        self.barriers.hear(event, target);
+        self.messages.hear(event, target);
+    }
+
+    /// Takes an event that breaks no rule. The room for it was made. An event moves the groups of its kind alone.
     pub fn apply(&mut self, event: &Event, target: &Target)
         ensures { (r : Recording) → MayApply self.old r event.now target.now → Stands self.new (after r event.now) }
     {
-        let kept = self.messages_of_issuer(event, target);
-        let sync = self.answers_sync(event);
-        let passes = self.passes(event, target);
-        self.barriers.hear(event, target);
-        self.monitors.hear(event, target);
-        self.results.hear(event, target, passes);
-        self.registrations.hear(event, target);
-        self.syncs.hear(event, target, &kept, sync);
-        self.messages.hear(event, target);
-        self.inboxes.hear(event, target, &kept);
+        match *event {
+            Event::Ar { .. } => self.begin(event, target),
+            Event::Aw { .. } => self.begin(event, target),
+            Event::R { .. } => self.complete(event, target),
+            Event::B { .. } => self.complete(event, target),
+            Event::Ac { .. } => {
+                self.inboxes.hear(event, target, &self.messages);
+                self.messages.hear(event, target);
+            }
+            Event::Cr { .. } => {
+                self.monitors.hear(event, target);
+                self.syncs
+                    .hear(event, target, &self.messages, &self.inboxes);
+                self.inboxes.hear(event, target, &self.messages);
+            }
+            Event::G { .. } => {
+                let passes = self.passes(event, target);
+                self.results.hear(event, target, passes);
+                self.registrations.hear(event, target);
+            }
+            _ => self.monitors.hear(event, target),
+        }
     }
 
     /// Whether the port's outstanding read under the identifier is an exclusive store that failed.

@@ -18,11 +18,11 @@ returns-else-not-is_message_part c = λ r q.
     let out : outstanding h past i.port Read i.id ≡ Some x = sym (ap (responding h past) i.is) ∙ responds in
     let part : is_message_part x ≡ true = sym c.is_message_part.ensures ∙ c.if-not-is_message_part.false in
     let first = (c.of.ensures.stands r q.messages).first in
-    let waiting = c.is_at-waiting.ensures ∙ ap (λ o. is_at o x.place) first in
+    let waiting = c.is_at.ensures ∙ ap (λ o. is_at o x.place) first in
     let all = answered_by_all-is r c.args.inboxes.now x q.inboxes (responds-at h past e x responds).there part in
     let value : c.is_answered_by_all.result ≡ is_answered_by_all h past x =
     c.is_answered_by_all.ensures
-    ∙ ap (λ (v : Header). list_all (λ n. implies (is_other_ace v x.port n) (not (c.is_at-waiting.result || awaits c.args.inboxes.now n x.place))) (ports_below v.ports)) q.header
+    ∙ ap (λ (v : Header). list_all (λ n. implies (is_other_ace v x.port n) (not (c.is_at.result || awaits c.args.inboxes.now n x.place))) (ports_below v.ports)) q.header
     ∙ ap (λ b. list_all (λ n. implies (is_other_ace h x.port n) (not (b || awaits c.args.inboxes.now n x.place))) (ports_below h.ports)) waiting ∙ sym all in
     value ∙ sym (ap (λ b. implies b (is_answered_by_all h past x)) part)
     ∙ sym (ap (λ o. is_none_or o (λ y. implies (is_message_part y) (is_answered_by_all h past y))) out) ∙ sym (ap (k37 h past) i.is)

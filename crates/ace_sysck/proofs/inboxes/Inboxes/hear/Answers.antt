@@ -13,8 +13,8 @@ returns-then-is_message_part c = λ r q.
     let x = c.in-Some.x in
     let begun : begun_in c.args.event.now c.args.target.now ≡ Some x = sym c.begun_in.ensures ∙ c.in-Some.is in
     let low : x.id < 256 = omega arith in
-    inboxes_sent r s c.send.new.self c.args.event.now c.args.target.now x c.args.kept.now q.step.accepted q.step.target begun low
-    (sym c.is_message_part.ensures ∙ c.if-is_message_part.true) (q.kept_stands x begun) q.stands c.send.ensures.size
+    inboxes_sent r s c.send.new.self c.args.event.now c.args.target.now x c.of-kept.result q.step.accepted q.step.target begun low
+    (sym c.is_message_part.ensures ∙ c.if-is_message_part.true) (c.of-kept.ensures.stands r q.messages) q.stands c.send.ensures.size
     (subst (λ l. SendsAll x.port l s c.send.new.self) c.parts_sent-sent.ensures c.send.ensures.all)
 
 pub returns-else-is_message_part : goal.returns-else-is_message_part

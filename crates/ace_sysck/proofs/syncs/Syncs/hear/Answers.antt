@@ -12,15 +12,15 @@ pub returns-then-is_new_sync : goal.returns-then-is_new_sync
 returns-then-is_new_sync c = λ r q.
     let x = c.in-Some.x in
     let begun : begun_in c.args.event.now c.args.target.now ≡ Some x = sym c.begun_in.ensures ∙ c.in-Some.is in
-    syncs_sync r c.args.self.now c.reach_all.new.self c.args.event.now c.args.target.now x c.args.kept.now q.step begun (sym c.is_message_part.ensures ∙ c.if-is_message_part.true)
-    (sym c.is_new_sync.ensures ∙ c.if-is_new_sync.true) (q.kept_stands x begun) q.stands c.reach_all.ensures
+    syncs_sync r c.args.self.now c.reach_all.new.self c.args.event.now c.args.target.now x c.of-kept.result q.step begun (sym c.is_message_part.ensures ∙ c.if-is_message_part.true)
+    (sym c.is_new_sync.ensures ∙ c.if-is_new_sync.true) (c.of-kept.ensures.stands r q.messages) q.stands c.reach_all.ensures
 
 pub returns-else-is_new_sync : goal.returns-else-is_new_sync
 returns-else-is_new_sync c = λ r q.
     let x = c.in-Some.x in
     let begun : begun_in c.args.event.now c.args.target.now ≡ Some x = sym c.begun_in.ensures ∙ c.in-Some.is in
-    syncs_part r c.args.self.now c.args.event.now c.args.target.now x c.args.kept.now q.step begun (sym c.is_message_part.ensures ∙ c.if-is_message_part.true)
-    (sym c.is_new_sync.ensures ∙ c.if-is_new_sync.false) (q.kept_stands x begun) q.stands
+    syncs_part r c.args.self.now c.args.event.now c.args.target.now x c.of-kept.result q.step begun (sym c.is_message_part.ensures ∙ c.if-is_message_part.true)
+    (sym c.is_new_sync.ensures ∙ c.if-is_new_sync.false) (c.of-kept.ensures.stands r q.messages) q.stands
 
 pub returns-then-is_dvm_completion : goal.returns-then-is_dvm_completion
 returns-then-is_dvm_completion c = λ r q.
@@ -38,23 +38,23 @@ returns-else-is_dvm_completion c = λ r q.
     syncs_plain r c.args.self.now c.args.event.now c.args.target.now x q.step begun (sym c.is_message_part.ensures ∙ c.if-is_message_part.false)
     (sym c.is_dvm_completion.ensures ∙ c.if-is_dvm_completion.false) q.stands
 
-pub returns-then-sync : goal.returns-then-sync
-returns-then-sync c = λ r q.
+pub returns-then-answers_sync : goal.returns-then-answers_sync
+returns-then-answers_sync c = λ r q.
     let s = c.args.self.now in
     let i = c.in-Cr in
     let step : IsStep r (Cr i.port i.resp i.st) c.args.target.now = subst (λ (v : Event). IsStep r v c.args.target.now) i.is q.step in
-    subst (λ (v : Event). SyncsStand (after r v) c.set-then-sync.new.self) (sym i.is)
-    (syncs_answer r s c.set-then-sync.new.self c.args.target.now i.port i.resp i.st q.inboxes c.args.sync step (sym c.answers_message.ensures ∙ c.if-answers_message.true) c.if-sync.true
-    q.inboxes_stand (q.sync_is i.port i.resp i.st i.is) q.stands
-    (c.set-then-sync.ensures ∙ ap (slice_set s.ports.items i.port) (c.one_answered-more.ensures ∙ ap one_answered c.of-then-sync.ensures)))
+    subst (λ (v : Event). SyncsStand (after r v) c.set-then-answers_sync.new.self) (sym i.is)
+    (syncs_answer r s c.set-then-answers_sync.new.self c.args.target.now i.port i.resp i.st c.args.inboxes.now c.answers_sync.result step (sym c.answers_message.ensures ∙ c.if-answers_message.true) c.if-answers_sync.true
+    q.inboxes c.answers_sync.ensures q.stands
+    (c.set-then-answers_sync.ensures ∙ ap (slice_set s.ports.items i.port) (c.one_answered-more.ensures ∙ ap one_answered c.of-then-answers_sync.ensures)))
 
-pub returns-else-sync : goal.returns-else-sync
-returns-else-sync c = λ r q.
+pub returns-else-answers_sync : goal.returns-else-answers_sync
+returns-else-answers_sync c = λ r q.
     let i = c.in-Cr in
     let step : IsStep r (Cr i.port i.resp i.st) c.args.target.now = subst (λ (v : Event). IsStep r v c.args.target.now) i.is q.step in
     subst (λ (v : Event). SyncsStand (after r v) c.args.self.now) (sym i.is)
-    (syncs_no_sync r c.args.self.now c.args.target.now i.port i.resp i.st q.inboxes c.args.sync step (sym c.answers_message.ensures ∙ c.if-answers_message.true) c.if-sync.false
-    q.inboxes_stand (q.sync_is i.port i.resp i.st i.is) q.stands)
+    (syncs_no_sync r c.args.self.now c.args.target.now i.port i.resp i.st c.args.inboxes.now c.answers_sync.result step (sym c.answers_message.ensures ∙ c.if-answers_message.true) c.if-answers_sync.false
+    q.inboxes c.answers_sync.ensures q.stands)
 
 pub returns-else-answers_message : goal.returns-else-answers_message
 returns-else-answers_message c = λ r q.
