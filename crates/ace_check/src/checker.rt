@@ -46,7 +46,7 @@ pub struct Checker {
 }
 
 impl Checker {
-    ghost use Rattle.std.specs.Prelude.{◌≡◌, ◌⊎◌, ◌<◌, ◌-◌, ◌^◌, ◌∷◌, ℕ, [], true, false, None, Some, Ok, Err, IfOk, OnErr, length};
+    ghost use Rattle.std.specs.Prelude.{◌≡◌, ◌⊎◌, ◌<◌, ◌-◌, ◌^◌, ◌∷◌, ℕ, [], true, false, None, Some, Ok, Err, IfOk, IfErr, OnErr, length};
     ghost use Rattle.ace_event.specs.Ports.{IsHeader};
     ghost use Rattle.ace_event.specs.declared.header.Header.{Header};
     ghost use Rattle.ace_model.specs.declared.breaks.Break.{Break};
@@ -60,7 +60,8 @@ impl Checker {
     /// The checker of the empty trace under this header. Its only refusal is `NoMemory`.
     pub fn new(alloc: Global, header: Header) -> Result<Checker, CheckErr>
         requires { IsHeader header }
-        ensures { IfOk result (λ c. Stands c header [] None) }
+        ensures stands { IfOk result (λ c. Stands c header [] None) }
+        ensures refusal { IfErr result (λ e. e ≡ CheckErr.NoMemory) }
     {
         let Ok(ports) = PortCheck::new(alloc, header) else {
             return Err(CheckErr::NoMemory);

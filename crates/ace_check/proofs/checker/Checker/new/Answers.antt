@@ -1,8 +1,8 @@
 use Rattle.std.proofs.Common.{refl, arith}
 use Rattle.ace_check.proofs.checker.Checker.new.Goals as goal
 
-pub returns : goal.returns
-returns c = record {
+pub returns-clause-stands : goal.returns-clause-stands
+returns-clause-stands c = record {
   ports = c.in-Ok.ensures c.requires;
   lines = c.new-lines.ensures c.requires;
   system = c.in-Ok-new.ensures c.requires;
