@@ -3,3 +3,9 @@ pub mod Paces
 pub mod Ports
 pub mod Operations
 pub mod Acts
+pub mod Keys
+pub mod Charges
+pub mod Once
+pub mod Transactions
+pub mod Queues
+pub mod Transfers

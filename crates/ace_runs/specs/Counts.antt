@@ -1,9 +1,10 @@
 -- How many events of a kind a trace has.
 use Rattle.std.specs.Prelude.{ℕ, ◌+◌, Bool, true, false, not, if◌then◌else◌, [], ◌∷◌}
 use Rattle.ace_event.specs.declared.event.Event.{Event}
-use Rattle.ace_event.specs.declared.event.Event.TheVariants.{S, Op}
+use Rattle.ace_event.specs.declared.event.Channel.{Channel}
+use Rattle.ace_event.specs.declared.event.Event.TheVariants.{Ar, R, Rk, Aw, W, B, Wk, Ac, Cr, Cd, G, M, S, Op}
 use Rattle.ace_model.specs.Trace.{Trace, is_some_and}
-use Rattle.ace_model.specs.Transactions.{issued}
+use Rattle.ace_model.specs.Transactions.{same_channel, issued}
 use Rattle.ace_model.specs.Messages.{is_dvm_completion}
 
 -- how many events pass the test
@@ -24,3 +25,69 @@ is_silent _ = false
 abbrev pub is_retirement : Event → Bool
 is_retirement (Op p k res) = true
 is_retirement _ = false
+
+-- it issues a transaction; one of the channel
+abbrev pub issues : Event → Bool
+issues e = is_some_and (issued 0 e) (λ x. true)
+
+abbrev pub issues_on : Channel → Event → Bool
+issues_on c e = is_some_and (issued 0 e) (λ x. same_channel x.chan c)
+
+-- it grants a line; to a transaction of the channel
+abbrev pub is_grant : Event → Bool
+is_grant (G p c i) = true
+is_grant _ = false
+
+abbrev pub grants_on : Channel → Event → Bool
+grants_on c (G p d i) = same_channel d c
+grants_on c _ = false
+
+-- it writes memory; for a transaction of the channel
+abbrev pub writes_memory : Event → Bool
+writes_memory (M p c i line) = true
+writes_memory _ = false
+
+abbrev pub writes_memory_on : Channel → Event → Bool
+writes_memory_on c (M p d i line) = same_channel d c
+writes_memory_on c _ = false
+
+-- it is a response to a write
+abbrev pub is_response : Event → Bool
+is_response (B p i resp) = true
+is_response _ = false
+
+-- it is a transfer of a read; the last one of its read
+abbrev pub is_transfer : Event → Bool
+is_transfer (R p i resp last word) = true
+is_transfer _ = false
+
+abbrev pub is_last_transfer : Event → Bool
+is_last_transfer (R p i resp last word) = last
+is_last_transfer _ = false
+
+-- it is an acknowledge of a read, of a write
+abbrev pub acknowledges_read : Event → Bool
+acknowledges_read (Rk p st) = true
+acknowledges_read _ = false
+
+abbrev pub acknowledges_write : Event → Bool
+acknowledges_write (Wk p st) = true
+acknowledges_write _ = false
+
+-- it is a beat of write data
+abbrev pub is_write_beat : Event → Bool
+is_write_beat (W p strb last word) = true
+is_write_beat _ = false
+
+-- it is a snoop, an answer to one, a beat of the data of an answer
+abbrev pub is_snoop : Event → Bool
+is_snoop (Ac p addr snoop) = true
+is_snoop _ = false
+
+abbrev pub is_answer : Event → Bool
+is_answer (Cr p resp st) = true
+is_answer _ = false
+
+abbrev pub is_snoop_beat : Event → Bool
+is_snoop_beat (Cd p last word) = true
+is_snoop_beat _ = false
