@@ -9,3 +9,4 @@ pub mod Once
 pub mod Transactions
 pub mod Queues
 pub mod Transfers
+pub mod Beats

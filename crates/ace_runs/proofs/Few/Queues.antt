@@ -18,14 +18,14 @@ use Rattle.ace_runs.proofs.Few.Ports.{port_or_zero, at_port}
 use Rattle.ace_runs.proofs.Few.Keys.{for-each-key}
 
 -- the other way round
-eqb-swap : (p q : ℕ) → (p == q) ≡ (q == p)
+pub eqb-swap : (p q : ℕ) → (p == q) ≡ (q == p)
 eqb-swap p q =
     elim (cases_Bool (p == q)) [
       | inl t ↦ rw (t, eq-eqb q p (sym (eqb-true p q t))) refl
       | inr n ↦ rw (n, ne_eqb q p (λ same. let back = eq-eqb p q (sym same) in cc)) refl
     ]
 
-counted-next : (b : Bool) (count n : ℕ) → count ≡ n → (if b then count + 1 else count) ≡ (if b then n + 1 else n)
+pub counted-next : (b : Bool) (count n : ℕ) → count ≡ n → (if b then count + 1 else count) ≡ (if b then n + 1 else n)
 counted-next true count n same = ap (λ n. n + 1) same
 counted-next false count n same = same
 
@@ -49,7 +49,7 @@ snoops-counted [] p = refl
 snoops-counted (Ac q addr snoop ∷ past) p = rw (eqb-swap q p) (length-if (p == q) (counted (at_port is_snoop p) past) (snoops_of past p) _ (snoops-counted past p))
 snoops-counted (_ ∷ past) p = snoops-counted past p
 
-answers-counted : (past : Trace) (p : ℕ) → counted (at_port is_answer p) past ≡ answers past p
+pub answers-counted : (past : Trace) (p : ℕ) → counted (at_port is_answer p) past ≡ answers past p
 answers-counted [] p = refl
 answers-counted (Cr q resp st ∷ past) p = rw (eqb-swap q p) (counted-next (p == q) (counted (at_port is_answer p) past) (answers past p) (answers-counted past p))
 answers-counted (_ ∷ past) p = answers-counted past p
