@@ -10,3 +10,4 @@ pub mod Transactions
 pub mod Queues
 pub mod Transfers
 pub mod Beats
+pub mod AcePorts

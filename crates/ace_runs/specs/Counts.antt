@@ -1,11 +1,14 @@
 -- How many events of a kind a trace has.
-use Rattle.std.specs.Prelude.{ℕ, ◌+◌, Bool, true, false, not, if◌then◌else◌, [], ◌∷◌}
+use Rattle.std.specs.Prelude.{ℕ, ◌+◌, Bool, true, false, not, ◌&&◌, if◌then◌else◌, [], ◌∷◌}
+use Rattle.ace_codes.specs.Snoops.{ac_kind_of}
 use Rattle.ace_event.specs.declared.event.Event.{Event}
 use Rattle.ace_event.specs.declared.event.Channel.{Channel}
 use Rattle.ace_event.specs.declared.event.Event.TheVariants.{Ar, R, Rk, Aw, W, B, Wk, Ac, Cr, Cd, G, M, S, Op}
 use Rattle.ace_model.specs.Trace.{Trace, is_some_and}
-use Rattle.ace_model.specs.Transactions.{same_channel, issued}
-use Rattle.ace_model.specs.Messages.{is_dvm_completion}
+use Rattle.ace_model.specs.Transactions.{same_channel, takes_grant, issued}
+use Rattle.ace_model.specs.Kinds.{is_message_snoop, is_complete_snoop}
+use Rattle.ace_model.specs.Snoops.{snoops_a_line}
+use Rattle.ace_model.specs.Messages.{is_message_part, is_dvm_completion}
 
 -- how many events pass the test
 abbrev pub counted : (Event → Bool) → Trace → ℕ
@@ -32,6 +35,20 @@ issues e = is_some_and (issued 0 e) (λ x. true)
 
 abbrev pub issues_on : Channel → Event → Bool
 issues_on c e = is_some_and (issued 0 e) (λ x. same_channel x.chan c)
+
+-- it issues a transaction of a kind that is granted its line; one of the channel
+abbrev pub issues_granted : Event → Bool
+issues_granted e = is_some_and (issued 0 e) takes_grant
+
+abbrev pub issues_granted_on : Channel → Event → Bool
+issues_granted_on c e = is_some_and (issued 0 e) (λ x. same_channel x.chan c && takes_grant x)
+
+-- it issues a part of a DVM message; a DVM Complete
+abbrev pub issues_part : Event → Bool
+issues_part e = is_some_and (issued 0 e) is_message_part
+
+abbrev pub issues_completion : Event → Bool
+issues_completion e = is_some_and (issued 0 e) is_dvm_completion
 
 -- it grants a line; to a transaction of the channel
 abbrev pub is_grant : Event → Bool
@@ -79,11 +96,25 @@ abbrev pub is_write_beat : Event → Bool
 is_write_beat (W p strb last word) = true
 is_write_beat _ = false
 
--- it is a snoop, an answer to one, a beat of the data of an answer
+-- it is a snoop
 abbrev pub is_snoop : Event → Bool
 is_snoop (Ac p addr snoop) = true
 is_snoop _ = false
 
+-- it is a snoop of a line, one that forwards a part of a DVM message, one that completes a Sync
+abbrev pub snoops_line : Event → Bool
+snoops_line (Ac p addr snoop) = snoops_a_line snoop
+snoops_line _ = false
+
+abbrev pub forwards_part : Event → Bool
+forwards_part (Ac p addr snoop) = is_some_and (ac_kind_of snoop) is_message_snoop
+forwards_part _ = false
+
+abbrev pub says_complete : Event → Bool
+says_complete (Ac p addr snoop) = is_some_and (ac_kind_of snoop) is_complete_snoop
+says_complete _ = false
+
+-- it is an answer to a snoop, a beat of the data of an answer
 abbrev pub is_answer : Event → Bool
 is_answer (Cr p resp st) = true
 is_answer _ = false

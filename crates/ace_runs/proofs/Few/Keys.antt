@@ -9,17 +9,17 @@ use Rattle.ace_runs.proofs.Few.Sums.{times, each_bounds}
 use Rattle.ace_runs.proofs.Few.Ports.{port_or_zero}
 
 -- the keys of the events that pass the test
-abbrev keys_of : (Event → ℕ) → (Event → Bool) → Trace → List ℕ
+abbrev pub keys_of : (Event → ℕ) → (Event → Bool) → Trace → List ℕ
 keys_of key test [] = []
 keys_of key test (e ∷ past) = if test e then key e ∷ keys_of key test past else keys_of key test past
 
-all-keys : (key : Event → ℕ) (test : Event → Bool) (past : Trace) → length (keys_of key test past) ≡ counted test past
+pub all-keys : (key : Event → ℕ) (test : Event → Bool) (past : Trace) → length (keys_of key test past) ≡ counted test past
 all-keys key test [] = refl
 all-keys key test (e ∷ past) =
     let rest = all-keys key test past in
     elim (cases_Bool (test e)) [ inl t ↦ rw t (omega (arith, rest)) | inr f ↦ rw f rest ]
 
-one-key : (key : Event → ℕ) (test : Event → Bool) (n : ℕ) (past : Trace) → times n (keys_of key test past) ≡ counted (λ e. test e && (key e == n)) past
+pub one-key : (key : Event → ℕ) (test : Event → Bool) (n : ℕ) (past : Trace) → times n (keys_of key test past) ≡ counted (λ e. test e && (key e == n)) past
 one-key key test n [] = refl
 one-key key test n (e ∷ past) =
     let rest = one-key key test n past in
