@@ -11,3 +11,4 @@ pub mod Queues
 pub mod Transfers
 pub mod Beats
 pub mod AcePorts
+pub mod LineSnoops
