@@ -12,3 +12,5 @@ pub mod Transfers
 pub mod Beats
 pub mod AcePorts
 pub mod LineSnoops
+pub mod Parts
+pub mod Completions
