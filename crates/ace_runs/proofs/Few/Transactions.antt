@@ -20,10 +20,10 @@ use Rattle.ace_model.proofs.General.Options.{is_some_and-is}
 use Rattle.ace_model.proofs.Rules.Keeps.{accepted_keeps}
 use Rattle.ace_model.proofs.Trace.Issued.{outstanding-named, outstanding-name}
 use Rattle.ace_model.proofs.Trace.Looks.{Named, at_name, has_name-self, same_channel-is, same_channel-self}
-use Rattle.ace_runs.specs.Counts.{counted, issues, issues_on, is_grant, grants_on, writes_memory, writes_memory_on, is_response}
+use Rattle.ace_runs.specs.Counts.{counted, issues, issues_on, issues_granted, issues_granted_on, is_grant, grants_on, writes_memory, writes_memory_on, is_response}
 use Rattle.ace_runs.proofs.Few.Keys.{of_name}
 use Rattle.ace_runs.proofs.Few.Charges.{one, counted-split}
-use Rattle.ace_runs.proofs.Few.Once.{Since, IsFirst, once-each}
+use Rattle.ace_runs.proofs.Few.Once.{Since, IsFirst, AreIssues, once-each}
 
 -- the name that the event has
 record IsName (q p : ℕ) (d c : Channel) (j i : ℕ) : Type 0 where
@@ -38,15 +38,42 @@ name-is q p d c j i name =
     record { port = eqb-true q p b.1; chan = same_channel-is d c b.0; id = eqb-true j i a.1 }
 
 -- what is first under its own name is so under the name that is the same
-first-at : (test : Since) (past : Trace) (e : Event) (q p : ℕ) (d c : Channel) (j i : ℕ) → IsName q p d c j i → IsFirst test d q j past e → IsFirst test c p i past e
-first-at test past e q p d c j i n f = rw (← n.port, ← n.chan, ← n.id) f
+first-at : (sort : Transaction → Bool) (test : Since) (past : Trace) (e : Event) (q p : ℕ) (d c : Channel) (j i : ℕ) → IsName q p d c j i → IsFirst sort test d q j past e → IsFirst sort test c p i past e
+first-at sort test past e q p d c j i n f = rw (← n.port, ← n.chan, ← n.id) f
+
+-- an event that issues a transaction of the name
+abbrev any : Transaction → Bool
+any x = true
+
+issues-any : (c : Channel) → AreIssues any (issues_on c) c
+issues-any c n p i (Ar q j addr snoop dom bar lock) name sort =
+    let a = and_parts ((q == p) && same_channel Read c) (j == i) name in
+    let b = and_parts (q == p) (same_channel Read c) a.0 in
+    and_from _ _ (and_from _ _ b.1 b.0) a.1
+issues-any c n p i (Aw q j addr snoop dom bar) name sort =
+    let a = and_parts ((q == p) && same_channel Write c) (j == i) name in
+    let b = and_parts (q == p) (same_channel Write c) a.0 in
+    and_from _ _ (and_from _ _ b.1 b.0) a.1
+issues-any c n p i e name sort = cc
+
+-- and one of a transaction that is granted its line
+issues-grantable : (c : Channel) → AreIssues takes_grant (issues_granted_on c) c
+issues-grantable c n p i (Ar q j addr snoop dom bar lock) name sort =
+    let a = and_parts ((q == p) && same_channel Read c) (j == i) name in
+    let b = and_parts (q == p) (same_channel Read c) a.0 in
+    and_from _ _ (and_from _ _ (and_from _ _ b.1 sort) b.0) a.1
+issues-grantable c n p i (Aw q j addr snoop dom bar) name sort =
+    let a = and_parts ((q == p) && same_channel Write c) (j == i) name in
+    let b = and_parts (q == p) (same_channel Write c) a.0 in
+    and_from _ _ (and_from _ _ (and_from _ _ b.1 sort) b.0) a.1
+issues-grantable c n p i e name sort = cc
 
 -- ---- grants ------------------------------------------------------------------------------------------
 
 abbrev grant_test : Since
 grant_test before e = is_named (given before e)
 
-granted-first : (h : Header) (past : Trace) (q j : ℕ) (d : Channel) → IsAccepted h (G q d j ∷ past) → IsFirst grant_test d q j past (G q d j)
+granted-first : (h : Header) (past : Trace) (q j : ℕ) (d : Channel) → IsAccepted h (G q d j ∷ past) → IsFirst takes_grant grant_test d q j past (G q d j)
 granted-first h past q j d a =
     let o = is_some_and-is (outstanding h past q d j) (may_be_granted h past) (accepted_keeps h past (G q d j) a).rule_12 in
     let x = o.0 in
@@ -55,14 +82,14 @@ granted-first h past q j d a =
     let of = outstanding-named h past q d j x o.1 in
     let name = outstanding-name h past q d j x o.1 in
     record {
-      there = rw of refl;
+      there = rw of grant.0;
       none = sym (at_name (has_grant past) x q d j name) ∙ not-true _ grant.1;
       now = rw of (sym (at_name (has_name x) x q d j name) ∙ has_name-self x);
     }
 
-grant-is-first : (c : Channel) (h : Header) (p i : ℕ) (e : Event) (past : Trace) → IsAccepted h (e ∷ past) → of_name (grants_on c) p i e ≡ true → IsFirst grant_test c p i past e
+grant-is-first : (c : Channel) (h : Header) (p i : ℕ) (e : Event) (past : Trace) → IsAccepted h (e ∷ past) → of_name (grants_on c) p i e ≡ true → IsFirst takes_grant grant_test c p i past e
 grant-is-first c h p i (G q d j) past a name =
-    first-at grant_test past (G q d j) q p d c j i (name-is q p d c j i name) (granted-first h past q j d a)
+    first-at takes_grant grant_test past (G q d j) q p d c j i (name-is q p d c j i name) (granted-first h past q j d a)
 grant-is-first c h p i e past a name = cc
 
 two-grants : (e : Event) → one (is_grant e) ≡ one (grants_on Read e) + one (grants_on Write e)
@@ -92,7 +119,7 @@ unwritten h past x may =
     let b = and_parts (is_burst_whole past x) (not (has_memory_write past x.port x.chan x.id)) a.0 in
     not-true _ b.1)
 
-written-first : (h : Header) (past : Trace) (q j : ℕ) (d : Channel) (line : Line) → IsAccepted h (M q d j line ∷ past) → IsFirst memory_test d q j past (M q d j line)
+written-first : (h : Header) (past : Trace) (q j : ℕ) (d : Channel) (line : Line) → IsAccepted h (M q d j line ∷ past) → IsFirst any memory_test d q j past (M q d j line)
 written-first h past q j d line a =
     let o = is_some_and-is (outstanding h past q d j) (may_write_memory h past) (accepted_keeps h past (M q d j line) a).rule_24 in
     let x = o.0 in
@@ -104,9 +131,9 @@ written-first h past q j d line a =
       now = and_from _ _ (and_from _ _ (eq-eqb q q refl) (same_channel-self d)) (eq-eqb j j refl);
     }
 
-write-is-first : (c : Channel) (h : Header) (p i : ℕ) (e : Event) (past : Trace) → IsAccepted h (e ∷ past) → of_name (writes_memory_on c) p i e ≡ true → IsFirst memory_test c p i past e
+write-is-first : (c : Channel) (h : Header) (p i : ℕ) (e : Event) (past : Trace) → IsAccepted h (e ∷ past) → of_name (writes_memory_on c) p i e ≡ true → IsFirst any memory_test c p i past e
 write-is-first c h p i (M q d j line) past a name =
-    first-at memory_test past (M q d j line) q p d c j i (name-is q p d c j i name) (written-first h past q j d line a)
+    first-at any memory_test past (M q d j line) q p d c j i (name-is q p d c j i name) (written-first h past q j d line a)
 write-is-first c h p i e past a name = cc
 
 two-writes : (e : Event) → one (writes_memory e) ≡ one (writes_memory_on Read e) + one (writes_memory_on Write e)
@@ -119,7 +146,7 @@ two-writes _ = refl
 abbrev response_test : Since
 response_test before = is_completion
 
-responded-first : (h : Header) (past : Trace) (q j resp : ℕ) → IsAccepted h (B q j resp ∷ past) → IsFirst response_test Write q j past (B q j resp)
+responded-first : (h : Header) (past : Trace) (q j resp : ℕ) → IsAccepted h (B q j resp ∷ past) → IsFirst any response_test Write q j past (B q j resp)
 responded-first h past q j resp a =
     let k = and_parts (resp == 0) (is_some_and (outstanding h past q Write j) (may_respond past)) (accepted_keeps h past (B q j resp) a).rule_26 in
     let o = is_some_and-is (outstanding h past q Write j) (may_respond past) k.1 in
@@ -133,9 +160,9 @@ responded-first h past q j resp a =
       now = rw (eq-eqb q q (refl {a = q})) (eq-eqb j j refl);
     }
 
-response-is-first : (h : Header) (p i : ℕ) (e : Event) (past : Trace) → IsAccepted h (e ∷ past) → of_name is_response p i e ≡ true → IsFirst response_test Write p i past e
+response-is-first : (h : Header) (p i : ℕ) (e : Event) (past : Trace) → IsAccepted h (e ∷ past) → of_name is_response p i e ≡ true → IsFirst any response_test Write p i past e
 response-is-first h p i (B q j resp) past a name =
-    first-at response_test past (B q j resp) q p Write Write j i (name-is q p Write Write j i name) (responded-first h past q j resp a)
+    first-at any response_test past (B q j resp) q p Write Write j i (name-is q p Write Write j i name) (responded-first h past q j resp a)
 response-is-first h p i e past a name = cc
 
 -- ---- all ---------------------------------------------------------------------------------------------
@@ -148,21 +175,26 @@ two-issues _ = refl
 pub both-channels : (past : Trace) → counted issues past ≡ counted (issues_on Read) past + counted (issues_on Write) past
 both-channels past = counted-split issues (issues_on Read) (issues_on Write) past two-issues
 
-pub grants-few : (h : Header) (past : Trace) → IsAccepted h past → counted is_grant past ≤ counted issues past
+two-granted : (e : Event) → one (issues_granted e) ≡ one (issues_granted_on Read e) + one (issues_granted_on Write e)
+two-granted (Ar p i addr snoop dom bar lock) = omega arith
+two-granted (Aw p i addr snoop dom bar) = omega arith
+two-granted _ = refl
+
+pub grants-few : (h : Header) (past : Trace) → IsAccepted h past → counted is_grant past ≤ counted issues_granted past
 grants-few h past a =
-    let reads = once-each grant_test (grants_on Read) Read h past (grant-is-first Read h) a in
-    let writes = once-each grant_test (grants_on Write) Write h past (grant-is-first Write h) a in
+    let reads = once-each takes_grant grant_test (grants_on Read) (issues_granted_on Read) Read h past (issues-grantable Read) (grant-is-first Read h) a in
+    let writes = once-each takes_grant grant_test (grants_on Write) (issues_granted_on Write) Write h past (issues-grantable Write) (grant-is-first Write h) a in
     let both = counted-split is_grant (grants_on Read) (grants_on Write) past two-grants in
-    let all = both-channels past in
+    let all = counted-split issues_granted (issues_granted_on Read) (issues_granted_on Write) past two-granted in
     omega (arith, reads, writes, both, all)
 
 pub memory-writes-few : (h : Header) (past : Trace) → IsAccepted h past → counted writes_memory past ≤ counted issues past
 memory-writes-few h past a =
-    let reads = once-each memory_test (writes_memory_on Read) Read h past (write-is-first Read h) a in
-    let writes = once-each memory_test (writes_memory_on Write) Write h past (write-is-first Write h) a in
+    let reads = once-each any memory_test (writes_memory_on Read) (issues_on Read) Read h past (issues-any Read) (write-is-first Read h) a in
+    let writes = once-each any memory_test (writes_memory_on Write) (issues_on Write) Write h past (issues-any Write) (write-is-first Write h) a in
     let both = counted-split writes_memory (writes_memory_on Read) (writes_memory_on Write) past two-writes in
     let all = both-channels past in
     omega (arith, reads, writes, both, all)
 
 pub responses-few : (h : Header) (past : Trace) → IsAccepted h past → counted is_response past ≤ counted (issues_on Write) past
-responses-few h past a = let writes = once-each response_test is_response Write h past (response-is-first h) a in omega (arith, writes)
+responses-few h past a = let writes = once-each any response_test is_response (issues_on Write) Write h past (issues-any Write) (response-is-first h) a in omega (arith, writes)
