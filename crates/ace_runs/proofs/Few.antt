@@ -14,3 +14,6 @@ pub mod AcePorts
 pub mod LineSnoops
 pub mod Parts
 pub mod Completions
+pub mod EarlierTransfers
+pub mod Sorts
+pub mod Whole

@@ -3,9 +3,9 @@ use Rattle.std.specs.Prelude.{ℕ, ◌+◌, Bool, true, false, not, ◌&&◌, if
 use Rattle.ace_codes.specs.Snoops.{ac_kind_of}
 use Rattle.ace_event.specs.declared.event.Event.{Event}
 use Rattle.ace_event.specs.declared.event.Channel.{Channel}
-use Rattle.ace_event.specs.declared.event.Event.TheVariants.{Ar, R, Rk, Aw, W, B, Wk, Ac, Cr, Cd, G, M, S, Op}
+use Rattle.ace_event.specs.declared.event.Event.TheVariants.{Ar, R, Rk, Aw, W, B, Wk, Ac, Cr, Cd, G, M, S, Op, Mem}
 use Rattle.ace_model.specs.Trace.{Trace, is_some_and}
-use Rattle.ace_model.specs.Transactions.{same_channel, takes_grant, issued}
+use Rattle.ace_model.specs.Transactions.{is_read, same_channel, takes_grant, issued}
 use Rattle.ace_model.specs.Kinds.{is_message_snoop, is_complete_snoop}
 use Rattle.ace_model.specs.Snoops.{snoops_a_line}
 use Rattle.ace_model.specs.Messages.{is_message_part, is_dvm_completion}
@@ -81,6 +81,20 @@ is_transfer _ = false
 abbrev pub is_last_transfer : Event → Bool
 is_last_transfer (R p i resp last word) = last
 is_last_transfer _ = false
+
+-- it is a transfer of a read before its last one
+abbrev pub is_earlier_transfer : Event → Bool
+is_earlier_transfer (R p i resp last word) = not last
+is_earlier_transfer _ = false
+
+-- it issues a read other than a DVM Complete
+abbrev pub reads_for_operation : Event → Bool
+reads_for_operation e = is_some_and (issued 0 e) (λ x. is_read x.chan && not (is_dvm_completion x))
+
+-- it sets a line of memory
+abbrev pub sets_memory : Event → Bool
+sets_memory (Mem addr line) = true
+sets_memory _ = false
 
 -- it is an acknowledge of a read, of a write
 abbrev pub acknowledges_read : Event → Bool

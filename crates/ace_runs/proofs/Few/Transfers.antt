@@ -22,16 +22,16 @@ use Rattle.ace_runs.proofs.Few.Keys.{of_name, for-each-name}
 use Rattle.ace_runs.proofs.Few.Charges.{one, Leaves, charged}
 
 -- how many transfers a read of the kind has left after so many
-abbrev kind_left : Option ArKind → ℕ → ℕ
+abbrev pub kind_left : Option ArKind → ℕ → ℕ
 kind_left None n = 0
 kind_left (Some k) n = beats_of k - n
 
-abbrev beats_left : Option Transaction → ℕ → ℕ
+abbrev pub beats_left : Option Transaction → ℕ → ℕ
 beats_left None n = 0
 beats_left (Some x) n = kind_left (read_kind x) n
 
 -- how many transfers the read of the name has left
-abbrev left_of : ℕ → ℕ → Trace → ℕ
+abbrev pub left_of : ℕ → ℕ → Trace → ℕ
 left_of p i past = beats_left (transaction_of past p Read i) (transfers past p i)
 
 -- whether it has one left
@@ -46,20 +46,20 @@ kind-most : (k : Option ArKind) (n : ℕ) → kind_left k n ≤ 4
 kind-most None n = omega arith
 kind-most (Some k) n = let most = most-beats k in omega (arith, most)
 
-most-left : (x : Option Transaction) (n : ℕ) → beats_left x n ≤ 4
+pub most-left : (x : Option Transaction) (n : ℕ) → beats_left x n ≤ 4
 most-left None n = omega arith
 most-left (Some x) n = kind-most (read_kind x) n
 
 -- a transfer of the read of the name
-record IsNext (past : Trace) (p i : ℕ) (last : Bool) : Type 0 where
-  read : Transaction
-  kind : ArKind
-  named : transaction_of past p Read i ≡ Some read
-  of_kind : read_kind read ≡ Some kind
-  room : transfers past p i < beats_of kind
-  ends : same_test last (transfers past p i + 1 == beats_of kind) ≡ true
+pub record IsNext (past : Trace) (p i : ℕ) (last : Bool) : Type 0 where
+  pub read : Transaction
+  pub kind : ArKind
+  pub named : transaction_of past p Read i ≡ Some read
+  pub of_kind : read_kind read ≡ Some kind
+  pub room : transfers past p i < beats_of kind
+  pub ends : same_test last (transfers past p i + 1 == beats_of kind) ≡ true
 
-next-transfer : (h : Header) (past : Trace) (p i resp : ℕ) (last : Bool) (word : ℕ) → IsAccepted h (R p i resp last word ∷ past) → IsNext past p i last
+pub next-transfer : (h : Header) (past : Trace) (p i resp : ℕ) (last : Bool) (word : ℕ) → IsAccepted h (R p i resp last word ∷ past) → IsNext past p i last
 next-transfer h past p i resp last word a =
     let o = is_some_and-is (outstanding h past p Read i) (is_due h past resp last) (accepted_keeps h past (R p i resp last word) a).rule_18 in
     let x = o.0 in
@@ -88,12 +88,12 @@ apart q p j i n =
           cc
     ]
 
-record AreSame (q p j i : ℕ) : Type 0 where
-  port : q ≡ p
-  id : j ≡ i
-  back : ((p == q) && (i == j)) ≡ true
+pub record AreSame (q p j i : ℕ) : Type 0 where
+  pub port : q ≡ p
+  pub id : j ≡ i
+  pub back : ((p == q) && (i == j)) ≡ true
 
-alike : (q p j i : ℕ) → ((q == p) && (j == i)) ≡ true → AreSame q p j i
+pub alike : (q p j i : ℕ) → ((q == p) && (j == i)) ≡ true → AreSame q p j i
 alike q p j i t =
     let parts = and_parts (q == p) (j == i) t in
     record {
@@ -117,7 +117,7 @@ not-read true = refl
 not-read false = refl
 
 -- an AR of another name leaves the read of this one
-other-read : (past : Trace) (p i q j addr snoop dom bar : ℕ) (lock : Bool) → ((q == p) && (j == i)) ≡ false
+pub other-read : (past : Trace) (p i q j addr snoop dom bar : ℕ) (lock : Bool) → ((q == p) && (j == i)) ≡ false
     → left_of p i (Ar q j addr snoop dom bar lock ∷ past) ≡ left_of p i past
 other-read past p i q j addr snoop dom bar lock n =
     let new : is_named (issued (length past) (Ar q j addr snoop dom bar lock)) p Read i ≡ false = both (q == p) (j == i) n in
@@ -129,13 +129,13 @@ other-read past p i q j addr snoop dom bar lock n =
       both false b f = refl
 
 -- and so does an AW
-other-write : (past : Trace) (p i q j addr snoop dom bar : ℕ) → left_of p i (Aw q j addr snoop dom bar ∷ past) ≡ left_of p i past
+pub other-write : (past : Trace) (p i q j addr snoop dom bar : ℕ) → left_of p i (Aw q j addr snoop dom bar ∷ past) ≡ left_of p i past
 other-write past p i q j addr snoop dom bar =
     let new : is_named (issued (length past) (Aw q j addr snoop dom bar)) p Read i ≡ false = rw (not-read (q == p)) refl in
     rw (newest_named-older (issued (length past) (Aw q j addr snoop dom bar)) p Read i (transaction_of past p Read i) new) refl
 
 -- a transfer of the name leaves one less
-fewer-left : (h : Header) (past : Trace) (p i q j resp : ℕ) (last : Bool) (word : ℕ) → IsAccepted h (R q j resp last word ∷ past)
+pub fewer-left : (h : Header) (past : Trace) (p i q j resp : ℕ) (last : Bool) (word : ℕ) → IsAccepted h (R q j resp last word ∷ past)
     → ((q == p) && (j == i)) ≡ true → left_of p i (R q j resp last word ∷ past) + 1 ≡ left_of p i past
 fewer-left h past p i q j resp last word a t =
     let s = alike q p j i t in
@@ -143,7 +143,7 @@ fewer-left h past p i q j resp last word a t =
     let next : IsNext past p i last = rw (← s.port, ← s.id) n in
     rw s.back (one-fewer (transaction_of past p Read i) next.read next.kind (transfers past p i) next.named next.of_kind next.room)
 
-same-left : (past : Trace) (p i q j resp : ℕ) (last : Bool) (word : ℕ) → ((q == p) && (j == i)) ≡ false → left_of p i (R q j resp last word ∷ past) ≡ left_of p i past
+pub same-left : (past : Trace) (p i q j resp : ℕ) (last : Bool) (word : ℕ) → ((q == p) && (j == i)) ≡ false → left_of p i (R q j resp last word ∷ past) ≡ left_of p i past
 same-left past p i q j resp last word n = rw (apart q p j i n) refl
 
 leaves-transfers : (h : Header) (p i : ℕ) → Leaves 4 (of_name is_transfer p i) (of_name (issues_on Read) p i) (left_of p i) h
