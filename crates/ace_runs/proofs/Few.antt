@@ -17,3 +17,4 @@ pub mod Completions
 pub mod EarlierTransfers
 pub mod Sorts
 pub mod Whole
+pub mod Bound

@@ -1,9 +1,12 @@
 -- How many events of a kind a trace has.
-use Rattle.std.specs.Prelude.{ℕ, ◌+◌, Bool, true, false, not, ◌&&◌, if◌then◌else◌, [], ◌∷◌}
+use Rattle.std.specs.Prelude.{ℕ, ◌+◌, ◌==◌, List, filter, Bool, true, false, not, ◌&&◌, if◌then◌else◌, [], ◌∷◌}
+use Rattle.std.specs.List.{range_with_len}
 use Rattle.ace_codes.specs.Snoops.{ac_kind_of}
 use Rattle.ace_event.specs.declared.event.Event.{Event}
 use Rattle.ace_event.specs.declared.event.Channel.{Channel}
 use Rattle.ace_event.specs.declared.event.Event.TheVariants.{Ar, R, Rk, Aw, W, B, Wk, Ac, Cr, Cd, G, M, S, Op, Mem}
+use Rattle.ace_event.specs.declared.header.Header.{Header}
+use Rattle.ace_event.specs.Ports.{port_letter}
 use Rattle.ace_model.specs.Trace.{Trace, is_some_and}
 use Rattle.ace_model.specs.Transactions.{is_read, same_channel, takes_grant, issued}
 use Rattle.ace_model.specs.Kinds.{is_message_snoop, is_complete_snoop}
@@ -136,3 +139,7 @@ is_answer _ = false
 abbrev pub is_snoop_beat : Event → Bool
 is_snoop_beat (Cd p last word) = true
 is_snoop_beat _ = false
+
+-- the ACE ports of the header
+abbrev pub ace_ports : Header → List ℕ
+ace_ports h = filter (λ p. port_letter h.ace p == 65) (range_with_len 0 h.ports)

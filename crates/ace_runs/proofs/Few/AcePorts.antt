@@ -9,7 +9,7 @@ use Rattle.ace_event.specs.Ports.{IsHeader, port_letter, port_letters, most_lett
 use Rattle.ace_model.specs.Trace.{Trace}
 use Rattle.ace_model.specs.Transactions.{is_ace}
 use Rattle.ace_model.proofs.General.Lists.{count_by-cons}
-use Rattle.ace_runs.specs.Counts.{counted}
+use Rattle.ace_runs.specs.Counts.{counted, ace_ports}
 use Rattle.ace_runs.proofs.Few.Sums.{times, each_bounds}
 use Rattle.ace_runs.proofs.Few.Ports.{port_or_zero, at_port}
 use Rattle.ace_runs.proofs.Few.Keys.{keys_of, all-keys, one-key}
@@ -17,9 +17,6 @@ use Rattle.ace_runs.proofs.Few.Keys.{keys_of, all-keys, one-key}
 -- those of the ports that are ACE ports
 abbrev aces_among : ℕ → List ℕ → List ℕ
 aces_among ace ps = filter (λ p. port_letter ace p == 65) ps
-
-abbrev pub ace_ports : Header → List ℕ
-ace_ports h = aces_among h.ace (range_with_len 0 h.ports)
 
 letters-counted : (ace : ℕ) (ps : List ℕ) → count_by (λ letter. letter == 65) (map (port_letter ace) ps) ≡ length (aces_among ace ps)
 letters-counted ace [] = refl

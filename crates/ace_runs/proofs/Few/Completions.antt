@@ -26,12 +26,12 @@ use Rattle.ace_model.proofs.General.Lists.{start-length}
 use Rattle.ace_model.proofs.General.Options.{is_some_and-is, is_none_or-at}
 use Rattle.ace_model.proofs.Dvm.Forwarding.{answered-first}
 use Rattle.ace_model.proofs.Rules.Keeps.{accepted_keeps}
-use Rattle.ace_runs.specs.Counts.{counted, issues_part, issues_completion, says_complete}
+use Rattle.ace_runs.specs.Counts.{ace_ports, counted, issues_part, issues_completion, says_complete}
 use Rattle.ace_runs.proofs.Few.Ports.{port_or_zero, at_port}
 use Rattle.ace_runs.proofs.Few.Keys.{for-each-key}
 use Rattle.ace_runs.proofs.Few.Queues.{eqb-swap}
 use Rattle.ace_runs.proofs.Few.Charges.{one, Leaves, charged, counted-one}
-use Rattle.ace_runs.proofs.Few.AcePorts.{ace_ports, for-ace-ports}
+use Rattle.ace_runs.proofs.Few.AcePorts.{for-ace-ports}
 use Rattle.ace_runs.proofs.Few.Parts.{parts-few}
 
 -- ---- Syncs that are completed ------------------------------------------------------------------------

@@ -15,12 +15,12 @@ use Rattle.ace_model.specs.States.{owes_wack}
 use Rattle.ace_model.proofs.General.Options.{is_some_and-is, Some-injective}
 use Rattle.ace_model.proofs.Rules.Keeps.{accepted_keeps}
 use Rattle.ace_model.proofs.Trace.Looks.{newest_on-cases, was_there}
-use Rattle.ace_runs.specs.Counts.{counted, is_snoop, snoops_line, is_grant}
+use Rattle.ace_runs.specs.Counts.{ace_ports, counted, is_snoop, snoops_line, is_grant}
 use Rattle.ace_runs.proofs.Few.Sums.{times, each_bounds}
 use Rattle.ace_runs.proofs.Few.Ports.{port_or_zero, at_port}
 use Rattle.ace_runs.proofs.Few.Keys.{keys_of, all-keys, one-key}
 use Rattle.ace_runs.proofs.Few.Charges.{one, counted-one}
-use Rattle.ace_runs.proofs.Few.AcePorts.{ace_ports, for-ace-ports}
+use Rattle.ace_runs.proofs.Few.AcePorts.{for-ace-ports}
 
 -- events of one sort that are all of another
 pub counted-less : (these those : Event → Bool) (past : Trace) → ((e : Event) → these e ≡ true → those e ≡ true) → counted these past ≤ counted those past

@@ -20,13 +20,13 @@ use Rattle.ace_model.specs.Messages.{has_second, is_message_part, part_in, waits
 use Rattle.ace_model.specs.OrderRules.{forwards_next}
 use Rattle.ace_model.proofs.General.Options.{Some-injective, some_is, is_some_and-is, is_none_or-at}
 use Rattle.ace_model.proofs.Rules.Keeps.{accepted_keeps}
-use Rattle.ace_runs.specs.Counts.{counted, is_snoop, forwards_part, issues_part}
+use Rattle.ace_runs.specs.Counts.{ace_ports, counted, is_snoop, forwards_part, issues_part}
 use Rattle.ace_runs.proofs.Few.Sums.{times, each_bounds}
 use Rattle.ace_runs.proofs.Few.Ports.{port_or_zero, at_port}
 use Rattle.ace_runs.proofs.Few.Keys.{keys_of, all-keys, one-key}
 use Rattle.ace_runs.proofs.Few.Queues.{eqb-swap}
 use Rattle.ace_runs.proofs.Few.Charges.{one, counted-one}
-use Rattle.ace_runs.proofs.Few.AcePorts.{ace_ports, for-ace-ports}
+use Rattle.ace_runs.proofs.Few.AcePorts.{for-ace-ports}
 use Rattle.ace_runs.proofs.Few.LineSnoops.{none-elsewhere}
 
 -- the ports of the parts

@@ -8,6 +8,7 @@ use Rattle.ace_codes.specs.declared.kind.ArKind.{ArKind}
 use Rattle.ace_codes.specs.declared.kind.ArKind.TheVariants as read
 use Rattle.ace_codes.specs.declared.kind.SnoopKind.{SnoopKind}
 use Rattle.ace_codes.specs.declared.kind.SnoopKind.TheVariants as snoop_kind
+use Rattle.ace_event.specs.declared.event.Channel.TheVariants.{Write}
 use Rattle.ace_event.specs.declared.event.Event.{Event}
 use Rattle.ace_event.specs.declared.event.Event.TheVariants.{Ar, R, Rk, Aw, W, B, Wk, Ac, Cr, Cd, G, M, S, L, D, Op, Mem}
 use Rattle.ace_event.specs.declared.header.Header.{Header}
@@ -75,6 +76,14 @@ part-or-access _ = omega arith
 
 pub parts-and-accesses : (past : Trace) → counted issues_part past + counted is_load_or_store past ≤ counted is_act past
 parts-and-accesses past = counted-apart is_act issues_part is_load_or_store past part-or-access
+
+read-or-write : (e : Event) → one (reads_for_operation e) + one (issues_on Write e) ≤ one (issues_for_operation e)
+read-or-write (Ar p i addr snoop dom bar lock) = omega arith
+read-or-write (Aw p i addr snoop dom bar) = omega arith
+read-or-write _ = omega arith
+
+pub reads-and-writes : (past : Trace) → counted reads_for_operation past + counted (issues_on Write) past ≤ counted issues_for_operation past
+reads-and-writes past = counted-apart issues_for_operation reads_for_operation (issues_on Write) past read-or-write
 
 -- ---- snoops ------------------------------------------------------------------------------------------
 
