@@ -1,17 +1,22 @@
 //! Laws of runs. These functions do no work: what they promise is the law.
 
 ghost use Rattle.std.specs.Prelude.{◌≡◌, ◌↔◌, ◌≤◌, ◌*◌, ℕ, true, List, length};
+ghost use Rattle.ace_event.specs.declared.event.Channel.TheVariants.{Read, Write};
 ghost use Rattle.ace_event.specs.declared.event.Event.{Event};
 ghost use Rattle.ace_event.specs.declared.header.Header.{Header};
 ghost use Rattle.ace_model.specs.declared.plans.PlanOp.{PlanOp};
 ghost use Rattle.ace_model.specs.Accepted.{IsAccepted};
 ghost use Rattle.ace_model.specs.Trace.{Trace};
-ghost use Rattle.ace_model.specs.Plans.{Plan};
+ghost use Rattle.ace_model.specs.Plans.{Plan, IsRight};
 ghost use Rattle.ace_runs.specs.Operations.{with_more};
 ghost use Rattle.ace_runs.specs.Follows.{FollowsSoFar, follows_so_far};
 ghost use Rattle.ace_runs.specs.Lean.{IsLean, is_lean};
 ghost use Rattle.ace_runs.specs.Acts.{is_act};
-ghost use Rattle.ace_runs.specs.Counts.{counted, issues_for_operation, is_silent, is_retirement};
+ghost use Rattle.ace_runs.specs.Counts.{
+    ace_ports, acknowledges_read, acknowledges_write, counted, forwards_part, is_answer, is_grant, is_response, is_retirement, is_silent, is_snoop,
+    is_snoop_beat, is_transfer, is_write_beat, issues, issues_completion, issues_for_operation, issues_granted, issues_on, issues_part, says_complete,
+    snoops_line, writes_memory,
+};
 ghost use Rattle.ace_runs.specs.Bursts.{onto};
 ghost use Rattle.ace_runs.specs.Steps.{Enabled, IsStep, AreSteps};
 
@@ -64,4 +69,40 @@ pub fn few_events_for_each_operation()
 pub fn few_acts_for_each_operation()
     ensures acts { (plan : Plan) (past : Trace) → FollowsSoFar plan past → counted is_act past ≤ length plan.operations * 2 }
     ensures retirements { (plan : Plan) (past : Trace) → FollowsSoFar plan past → counted is_retirement past ≤ length plan.operations }
+{}
+
+/// What an accepted trace has for its transactions: at most one grant for each that is granted its line and one write of memory
+/// for each; four transfers and one acknowledge for each read; four beats of data, one response and one acknowledge for each write.
+pub fn few_events_for_each_transaction()
+    ensures grants { (h : Header) (past : Trace) → IsAccepted h past → counted is_grant past ≤ counted issues_granted past }
+    ensures memory_writes { (h : Header) (past : Trace) → IsAccepted h past → counted writes_memory past ≤ counted issues past }
+    ensures transfers { (h : Header) (past : Trace) → IsAccepted h past → counted is_transfer past ≤ counted (issues_on Read) past * 4 }
+    ensures read_acknowledges { (h : Header) (past : Trace) → IsAccepted h past
+        → counted acknowledges_read past ≤ counted (issues_on Read) past }
+    ensures write_beats { (h : Header) (past : Trace) → IsAccepted h past
+        → counted is_write_beat past ≤ counted (issues_on Write) past * 4 }
+    ensures responses { (h : Header) (past : Trace) → IsAccepted h past → counted is_response past ≤ counted (issues_on Write) past }
+    ensures write_acknowledges { (h : Header) (past : Trace) → IsAccepted h past
+        → counted acknowledges_write past ≤ counted (issues_on Write) past }
+{}
+
+/// What the interconnect asks of ACE ports in an accepted trace. Each is snooped at most once for each grant, is sent each part of a DVM
+/// message at most once, and issues at most one DVM Complete for each part. A Sync is completed at most once. A snoop has at most one
+/// answer, and an answer at most four beats of data.
+pub fn few_snoops_for_each_transaction()
+    ensures lines { (h : Header) (past : Trace) → IsAccepted h past
+        → counted snoops_line past ≤ length (ace_ports h) * counted is_grant past }
+    ensures parts { (h : Header) (past : Trace) → IsAccepted h past
+        → counted forwards_part past ≤ length (ace_ports h) * counted issues_part past }
+    ensures completions { (h : Header) (past : Trace) → IsAccepted h past
+        → counted issues_completion past ≤ length (ace_ports h) * counted issues_part past }
+    ensures syncs { (h : Header) (past : Trace) → IsAccepted h past → counted says_complete past ≤ counted issues_part past }
+    ensures answers { (h : Header) (past : Trace) → IsAccepted h past → counted is_answer past ≤ counted is_snoop past }
+    ensures snoop_beats { (h : Header) (past : Trace) → IsAccepted h past → counted is_snoop_beat past ≤ counted is_answer past * 4 }
+{}
+
+/// A trace that is accepted, follows a right plan so far and is lean has at most 256 events for each operation of the plan.
+pub fn length_is_bounded()
+    ensures { (plan : Plan) (past : Trace) → IsRight plan → IsAccepted plan.header past → FollowsSoFar plan past → IsLean plan past
+        → length past ≤ length plan.operations * 256 }
 {}
