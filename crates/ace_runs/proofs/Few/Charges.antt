@@ -6,17 +6,12 @@ use Rattle.ace_event.specs.declared.header.Header.{Header}
 use Rattle.ace_model.specs.Accepted.{IsAccepted}
 use Rattle.ace_model.specs.Trace.{Trace}
 use Rattle.ace_runs.specs.Counts.{counted}
-
-abbrev pub one : Bool → ℕ
-one b = if b then 1 else 0
+use Rattle.ace_runs.proofs.Few.Counting.{one, counted-one}
 
 -- for how many more of the events there is room, where an event comes
 abbrev pub Leaves : ℕ → (Event → Bool) → (Event → Bool) → (Trace → ℕ) → Header → Type 0
 Leaves k these those left h =
     (e : Event) (past : Trace) → IsAccepted h (e ∷ past) → left (e ∷ past) + one (these e) ≤ left past + one (those e) * k
-
-pub counted-one : (test : Event → Bool) (e : Event) (past : Trace) → counted test (e ∷ past) ≡ counted test past + one (test e)
-counted-one test e past = elim (cases_Bool (test e)) [ inl t ↦ rw t refl | inr f ↦ rw f (omega arith) ]
 
 pub charged : (k : ℕ) (these those : Event → Bool) (left : Trace → ℕ) (h : Header) (past : Trace) → left [] ≡ 0 → Leaves k these those left h
     → IsAccepted h past → counted these past + left past ≤ counted those past * k
@@ -26,12 +21,3 @@ charged k these those left h (e ∷ past) start leaves a =
     let here = leaves e past a in
     rw (counted-one these e past, counted-one those e past)
     (omega (arith, rest, here, add-mul (counted those past) (one (those e)) k))
-
--- where each event is one of the one sort or one of the other
-pub counted-split : (all first second : Event → Bool) (past : Trace) → ((e : Event) → one (all e) ≡ one (first e) + one (second e))
-    → counted all past ≡ counted first past + counted second past
-counted-split all first second [] split = refl
-counted-split all first second (e ∷ past) split =
-    let rest = counted-split all first second past split in
-    let here = split e in
-    rw (counted-one all e past, counted-one first e past, counted-one second e past) (omega (arith, rest, here))

@@ -30,19 +30,16 @@ use Rattle.ace_runs.specs.Counts.{ace_ports, counted, issues_part, issues_comple
 use Rattle.ace_runs.proofs.Few.Ports.{port_or_zero, at_port}
 use Rattle.ace_runs.proofs.Few.Keys.{for-each-key}
 use Rattle.ace_runs.proofs.Few.Queues.{eqb-swap}
-use Rattle.ace_runs.proofs.Few.Charges.{one, Leaves, charged, counted-one}
+use Rattle.ace_runs.proofs.Few.Counting.{one, one-most, counted-one}
+use Rattle.ace_runs.proofs.Few.Charges.{Leaves, charged}
 use Rattle.ace_runs.proofs.Few.AcePorts.{for-ace-ports}
-use Rattle.ace_runs.proofs.Few.Parts.{parts-few}
+use Rattle.ace_runs.proofs.Few.Parts.{longer-list, parts-few}
 
 -- ---- Syncs that are completed ------------------------------------------------------------------------
 
 -- the port's last Sync isn't completed
 abbrev left_sync : ℕ → Trace → ℕ
 left_sync p past = one (is_some (last_sync past p) && not (is_sync_completed past p))
-
-one-most : (b : Bool) → one b ≤ 1
-one-most true = omega arith
-one-most false = omega arith
 
 sync-step : (a b c k : Bool) → (b ≡ true → (a ≡ true) × (k ≡ false)) → c ≡ b → one (a && not (c || k)) + one b ≤ one (a && not k)
 sync-step a true c k first same = let f = first refl in rw (same, f.0, f.1) (omega arith)
@@ -140,9 +137,6 @@ owed h past q j addr snoop dom bar lock a complete =
     let few = count_by-le-length (is_sync past) (answered_parts past q) in
     let start = start-length (answered_parts past q) (parts_for past q) (answered-first past q) in
     omega (arith, k, few, start)
-
-longer-list : (xs ys : List Transaction) → length xs ≤ length (xs ++ ys)
-longer-list xs ys = rw (length-append xs ys) (omega arith)
 
 completions-within : (h : Header) (past : Trace) (p : ℕ) → IsAccepted h past → dvm_completes past p ≤ length (parts_for past p)
 completions-within h [] p a = omega arith

@@ -16,7 +16,8 @@ use Rattle.ace_model.specs.Transactions.{read_kind, issued, is_named, newest_nam
 use Rattle.ace_model.specs.Messages.{is_dvm_completion}
 use Rattle.ace_runs.specs.Counts.{counted, is_transfer, is_last_transfer, is_earlier_transfer, reads_for_operation}
 use Rattle.ace_runs.proofs.Few.Keys.{of_name, for-each-name}
-use Rattle.ace_runs.proofs.Few.Charges.{one, Leaves, charged, counted-split}
+use Rattle.ace_runs.proofs.Few.Counting.{one, counted-split}
+use Rattle.ace_runs.proofs.Few.Charges.{Leaves, charged}
 use Rattle.ace_runs.proofs.Few.Transfers.{kind_left, beats_left, left_of, most-left, IsNext, next-transfer, AreSame, alike, other-read, other-write, fewer-left, same-left}
 
 -- how many transfers before its last the read of the name has left

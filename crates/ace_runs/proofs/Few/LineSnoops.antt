@@ -19,18 +19,8 @@ use Rattle.ace_runs.specs.Counts.{ace_ports, counted, is_snoop, snoops_line, is_
 use Rattle.ace_runs.proofs.Few.Sums.{times, each_bounds}
 use Rattle.ace_runs.proofs.Few.Ports.{port_or_zero, at_port}
 use Rattle.ace_runs.proofs.Few.Keys.{keys_of, all-keys, one-key}
-use Rattle.ace_runs.proofs.Few.Charges.{one, counted-one}
+use Rattle.ace_runs.proofs.Few.Counting.{one, counted-one, counted-less}
 use Rattle.ace_runs.proofs.Few.AcePorts.{for-ace-ports}
-
--- events of one sort that are all of another
-pub counted-less : (these those : Event → Bool) (past : Trace) → ((e : Event) → these e ≡ true → those e ≡ true) → counted these past ≤ counted those past
-counted-less these those [] all = omega arith
-counted-less these those (e ∷ past) all =
-    let rest = counted-less these those past all in
-    elim (cases_Bool (these e)) [
-      | inl t ↦ let there = all e t in rw (t, there) (omega (arith, rest))
-      | inr f ↦ rw f (elim (cases_Bool (those e)) [ inl u ↦ rw u (omega (arith, rest)) | inr v ↦ rw v rest ])
-    ]
 
 -- a port that is no ACE port is never snooped
 never-snooped : (h : Header) (past : Trace) (p : ℕ) → IsAccepted h past → is_ace h p ≡ false → counted (at_port is_snoop p) past ≡ 0

@@ -14,7 +14,8 @@ use Rattle.ace_model.specs.Transactions.{issued, has_name, is_named, newest_name
 use Rattle.ace_model.proofs.Trace.Looks.{newest_named-older}
 use Rattle.ace_runs.specs.Counts.{counted, issues_on}
 use Rattle.ace_runs.proofs.Few.Keys.{of_name, for-each-name}
-use Rattle.ace_runs.proofs.Few.Charges.{one, Leaves, charged}
+use Rattle.ace_runs.proofs.Few.Counting.{one, one-most}
+use Rattle.ace_runs.proofs.Few.Charges.{Leaves, charged}
 
 -- a test of an event that came since the transaction was issued
 abbrev pub Since : Type 0
@@ -42,10 +43,6 @@ AreIssues sort those c =
 named-now : (new : Option Transaction) (p : ℕ) (c : Channel) (i : ℕ) (older : Option Transaction) → is_named new p c i ≡ true → newest_named new p c i older ≡ new
 named-now None p c i older name = cc
 named-now (Some x) p c i older name = rw name refl
-
-one-most : (b : Bool) → one b ≤ 1
-one-most true = omega arith
-one-most false = omega arith
 
 one-less : (a b k : Bool) → one (a && not (b || k)) ≤ one (a && not k)
 one-less true true true = omega arith

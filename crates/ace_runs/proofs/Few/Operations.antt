@@ -13,28 +13,9 @@ use Rattle.ace_runs.specs.Follows.{FollowsSoFar}
 use Rattle.ace_runs.specs.Lean.{IsLean}
 use Rattle.ace_runs.specs.Counts.{counted, issues_for_operation, is_silent}
 use Rattle.ace_runs.proofs.Few.Sums.{times, each_bounds}
+use Rattle.ace_runs.proofs.Few.Keys.{keys_of, all-keys, one-key}
 use Rattle.ace_runs.proofs.Few.Paces.{paced_whole}
 use Rattle.ace_runs.proofs.Few.Ports.{port_or_zero, at_port, three-each, two-each}
-
--- the ports of the events that pass the test
-abbrev pub ports_of : (Event → Bool) → Trace → List ℕ
-ports_of test [] = []
-ports_of test (e ∷ past) = if test e then port_or_zero e ∷ ports_of test past else ports_of test past
-
-all-ports : (test : Event → Bool) (past : Trace) → length (ports_of test past) ≡ counted test past
-all-ports test [] = refl
-all-ports test (e ∷ past) =
-    let rest = all-ports test past in
-    elim (cases_Bool (test e)) [ inl t ↦ rw t (omega (arith, rest)) | inr f ↦ rw f rest ]
-
-one-port : (test : Event → Bool) (p : ℕ) (past : Trace) → times p (ports_of test past) ≡ counted (at_port test p) past
-one-port test p [] = refl
-one-port test p (e ∷ past) =
-    let rest = one-port test p past in
-    elim (cases_Bool (test e)) [
-      | inr f ↦ rw f rest
-      | inl t ↦ rw t (elim (cases_Bool (port_or_zero e == p)) [ inl same ↦ rw same (ap (λ n. n + 1) rest) | inr other ↦ rw other rest ])
-    ]
 
 -- the ports of the operations
 operations-port : (p : ℕ) (os : List PlanOp) → times p (map (λ o. o.port) os) ≡ length (filter (λ o. o.port == p) os)
@@ -50,9 +31,9 @@ port-operations plan p = rw (length-map (filter (λ (o : PlanOp). o.port == p) p
 pub for-all : (k : ℕ) (test : Event → Bool) (plan : Plan) (past : Trace) → ((p : ℕ) → counted (at_port test p) past ≤ length (operations_of plan p) * k)
     → counted test past ≤ length plan.operations * k
 for-all k test plan past each =
-    let all = each_bounds k (ports_of test past) (map (λ o. o.port) plan.operations)
-    (λ p. rw (one-port test p past, port-operations plan p) (each p)) in
-    rw (all-ports test past, length-map plan.operations (λ (o : PlanOp). o.port)) at all
+    let all = each_bounds k (keys_of port_or_zero test past) (map (λ o. o.port) plan.operations)
+    (λ p. rw (one-key port_or_zero test p past, port-operations plan p) (each p)) in
+    rw (all-keys port_or_zero test past, length-map plan.operations (λ (o : PlanOp). o.port)) at all
 
 pub three-for-each : (plan : Plan) (past : Trace) → FollowsSoFar plan past → IsLean plan past → counted issues_for_operation past ≤ length plan.operations * 3
 three-for-each plan past f l =

@@ -25,7 +25,7 @@ use Rattle.ace_runs.proofs.Few.Sums.{times, each_bounds}
 use Rattle.ace_runs.proofs.Few.Ports.{port_or_zero, at_port}
 use Rattle.ace_runs.proofs.Few.Keys.{keys_of, all-keys, one-key}
 use Rattle.ace_runs.proofs.Few.Queues.{eqb-swap}
-use Rattle.ace_runs.proofs.Few.Charges.{one, counted-one}
+use Rattle.ace_runs.proofs.Few.Counting.{one, counted-one}
 use Rattle.ace_runs.proofs.Few.AcePorts.{for-ace-ports}
 use Rattle.ace_runs.proofs.Few.LineSnoops.{none-elsewhere}
 
@@ -156,7 +156,7 @@ record Forwards (past : Trace) (p : ℕ) : Type 0 where
   some : counted (at_port forwards_part p) past ≤ length (parts_among (forwarded past p))
   within : length (parts_among (forwarded past p)) ≤ length (parts_for past p)
 
-longer-list : (xs ys : List Transaction) → length xs ≤ length (xs ++ ys)
+pub longer-list : (xs ys : List Transaction) → length xs ≤ length (xs ++ ys)
 longer-list xs ys = rw (length-append xs ys) (omega arith)
 
 snoop-step : (past : Trace) (p : ℕ) (s : Snoop) (b : Bool) → Forwards past p → (b ≡ true → is_some (forwards (next_after past p (forwarded past p)) s) ≡ true)

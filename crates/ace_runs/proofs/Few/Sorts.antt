@@ -19,20 +19,7 @@ use Rattle.ace_model.specs.AddressRules.{is_aligned, is_opened_below, opens_memo
 use Rattle.ace_model.proofs.Rules.Keeps.{accepted_keeps}
 use Rattle.ace_runs.specs.Acts.{is_act_read, is_load_or_store, is_act}
 use Rattle.ace_runs.specs.Counts.{counted, issues, issues_for_operation, issues_completion, issues_granted, issues_part, issues_on, reads_for_operation, is_snoop, snoops_line, forwards_part, says_complete, sets_memory}
-use Rattle.ace_runs.proofs.Few.Charges.{one, counted-one, counted-split}
-
--- two sorts that exclude each other within a third
-pub counted-apart : (all first second : Event → Bool) (past : Trace) → ((e : Event) → one (first e) + one (second e) ≤ one (all e))
-    → counted first past + counted second past ≤ counted all past
-counted-apart all first second [] split = omega arith
-counted-apart all first second (e ∷ past) split =
-    let rest = counted-apart all first second past split in
-    let here = split e in
-    rw (counted-one all e past, counted-one first e past, counted-one second e past) (omega (arith, rest, here))
-
-one-most : (b : Bool) → one b ≤ 1
-one-most true = omega arith
-one-most false = omega arith
+use Rattle.ace_runs.proofs.Few.Counting.{one, one-most, counted-one, counted-split, counted-apart}
 
 one-or-not : (b : Bool) → 1 ≡ one (not b) + one b
 one-or-not true = refl

@@ -22,7 +22,7 @@ use Rattle.ace_model.proofs.Trace.Issued.{outstanding-named, outstanding-name}
 use Rattle.ace_model.proofs.Trace.Looks.{Named, at_name, has_name-self, same_channel-is, same_channel-self}
 use Rattle.ace_runs.specs.Counts.{counted, issues, issues_on, issues_granted, issues_granted_on, is_grant, grants_on, writes_memory, writes_memory_on, is_response}
 use Rattle.ace_runs.proofs.Few.Keys.{of_name}
-use Rattle.ace_runs.proofs.Few.Charges.{one, counted-split}
+use Rattle.ace_runs.proofs.Few.Counting.{one, counted-split}
 use Rattle.ace_runs.proofs.Few.Once.{Since, IsFirst, AreIssues, once-each}
 
 -- the name that the event has

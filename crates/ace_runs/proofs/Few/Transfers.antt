@@ -19,7 +19,8 @@ use Rattle.ace_model.proofs.Trace.Issued.{outstanding-named, outstanding-name}
 use Rattle.ace_model.proofs.Trace.Looks.{newest_named-older}
 use Rattle.ace_runs.specs.Counts.{counted, issues_on, is_transfer, is_last_transfer}
 use Rattle.ace_runs.proofs.Few.Keys.{of_name, for-each-name}
-use Rattle.ace_runs.proofs.Few.Charges.{one, Leaves, charged}
+use Rattle.ace_runs.proofs.Few.Counting.{one, one-most}
+use Rattle.ace_runs.proofs.Few.Charges.{Leaves, charged}
 
 -- how many transfers a read of the kind has left after so many
 abbrev pub kind_left : Option ArKind → ℕ → ℕ
@@ -165,10 +166,6 @@ transfers-few h past a =
     (λ p i. let all = charged 4 (of_name is_transfer p i) (of_name (issues_on Read) p i) (left_of p i) h past refl (leaves-transfers h p i) a in omega (arith, all))
 
 -- ---- the last one ------------------------------------------------------------------------------------
-
-one-most : (b : Bool) → one b ≤ 1
-one-most true = omega arith
-one-most false = omega arith
 
 some-left : (n : ℕ) → 1 ≤ n → one (nat_lt 0 n) ≡ 1
 some-left n some = rw (lt-ltb 0 n some) refl

@@ -6,7 +6,6 @@ use Rattle.ace_event.specs.declared.event.Event.TheVariants.{Ar, R, Rk, Aw, W, B
 use Rattle.ace_model.specs.Trace.{Trace}
 use Rattle.ace_runs.specs.Acts.{is_load_or_store}
 use Rattle.ace_runs.specs.Counts.{counted, issues, is_transfer, acknowledges_read, is_write_beat, is_response, acknowledges_write, is_snoop, is_answer, is_snoop_beat, is_grant, writes_memory, is_silent, is_retirement, sets_memory}
-use Rattle.ace_runs.proofs.Few.Charges.{one, counted-one}
 
 -- what a port does with its transactions, what the interconnect does, and what a port does with lines
 abbrev pub of_ports : Trace → ℕ
