@@ -4,7 +4,7 @@ use Rattle.std.specs.List.{range_with_len}
 use Rattle.ace_codes.specs.Snoops.{ac_kind_of}
 use Rattle.ace_event.specs.declared.event.Event.{Event}
 use Rattle.ace_event.specs.declared.event.Channel.{Channel}
-use Rattle.ace_event.specs.declared.event.Event.TheVariants.{Ar, R, Rk, Aw, W, B, Wk, Ac, Cr, Cd, G, M, S, Op, Mem}
+use Rattle.ace_event.specs.declared.event.Event.TheVariants.{R, Rk, W, B, Wk, Ac, Cr, Cd, G, M, S, Op, Mem}
 use Rattle.ace_event.specs.declared.header.Header.{Header}
 use Rattle.ace_event.specs.Ports.{port_letter}
 use Rattle.ace_model.specs.Trace.{Trace, is_some_and}
@@ -38,6 +38,10 @@ issues e = is_some_and (issued 0 e) (λ x. true)
 
 abbrev pub issues_on : Channel → Event → Bool
 issues_on c e = is_some_and (issued 0 e) (λ x. same_channel x.chan c)
+
+-- it issues a read other than a DVM Complete
+abbrev pub reads_for_operation : Event → Bool
+reads_for_operation e = is_some_and (issued 0 e) (λ x. is_read x.chan && not (is_dvm_completion x))
 
 -- it issues a transaction of a kind that is granted its line; one of the channel
 abbrev pub issues_granted : Event → Bool
@@ -76,7 +80,7 @@ abbrev pub is_response : Event → Bool
 is_response (B p i resp) = true
 is_response _ = false
 
--- it is a transfer of a read; the last one of its read
+-- it is a transfer of a read; the last one of its read; one before that
 abbrev pub is_transfer : Event → Bool
 is_transfer (R p i resp last word) = true
 is_transfer _ = false
@@ -85,16 +89,11 @@ abbrev pub is_last_transfer : Event → Bool
 is_last_transfer (R p i resp last word) = last
 is_last_transfer _ = false
 
--- it is a transfer of a read before its last one
 abbrev pub is_earlier_transfer : Event → Bool
 is_earlier_transfer (R p i resp last word) = not last
 is_earlier_transfer _ = false
 
--- it issues a read other than a DVM Complete
-abbrev pub reads_for_operation : Event → Bool
-reads_for_operation e = is_some_and (issued 0 e) (λ x. is_read x.chan && not (is_dvm_completion x))
-
--- it sets a line of memory
+-- it gives memory a line before the run
 abbrev pub sets_memory : Event → Bool
 sets_memory (Mem addr line) = true
 sets_memory _ = false

@@ -13,9 +13,29 @@ ghost use Rattle.ace_runs.specs.Follows.{FollowsSoFar, follows_so_far};
 ghost use Rattle.ace_runs.specs.Lean.{IsLean, is_lean};
 ghost use Rattle.ace_runs.specs.Acts.{is_act};
 ghost use Rattle.ace_runs.specs.Counts.{
-    ace_ports, acknowledges_read, acknowledges_write, counted, forwards_part, is_answer, is_grant, is_response, is_retirement, is_silent, is_snoop,
-    is_snoop_beat, is_transfer, is_write_beat, issues, issues_completion, issues_for_operation, issues_granted, issues_on, issues_part, says_complete,
-    snoops_line, writes_memory,
+  ace_ports,
+  acknowledges_read,
+  acknowledges_write,
+  counted,
+  forwards_part,
+  is_answer,
+  is_grant,
+  is_response,
+  is_retirement,
+  is_silent,
+  is_snoop,
+  is_snoop_beat,
+  is_transfer,
+  is_write_beat,
+  issues,
+  issues_completion,
+  issues_for_operation,
+  issues_granted,
+  issues_on,
+  issues_part,
+  says_complete,
+  snoops_line,
+  writes_memory,
 };
 ghost use Rattle.ace_runs.specs.Bursts.{onto};
 ghost use Rattle.ace_runs.specs.Steps.{Enabled, IsStep, AreSteps};

@@ -1,16 +1,15 @@
 -- Beats of write data are at most four for each write, and those of snoop data four for each answer.
-use Rattle.std.proofs.Common.{◌≡◌, ℕ, ◌+◌, ◌*◌, ◌/◌, ◌≤◌, ◌<◌, Bool, true, false, ◌&&◌, ◌==◌, nat_lt, if◌then◌else◌, List, [], ◌∷◌, length, Option, Some, None, option_map, slice_get, refl, sym, ap, subst, ◌∙◌, inl, inr, arith, length-append}
-use Rattle.std.proofs.lemmas.Bool.{cases_Bool, and_parts, eqb-true, lt-ltb, ltb-true}
+use Rattle.std.proofs.Common.{◌≡◌, ℕ, ◌+◌, ◌*◌, ◌/◌, ◌≤◌, ◌<◌, Bool, true, false, ◌&&◌, ◌==◌, nat_lt, if◌then◌else◌, List, [], ◌∷◌, length, Option, Some, None, option_map, slice_get, refl, sym, subst, inl, inr, arith, length-append}
+use Rattle.std.proofs.lemmas.Bool.{cases_Bool, eqb-true, lt-ltb, ltb-true}
 use Rattle.std.proofs.lemmas.Option.{slice_get_within}
 use Rattle.ace_event.specs.declared.event.Channel.TheVariants.{Write}
-use Rattle.ace_event.specs.declared.event.Event.{Event}
 use Rattle.ace_event.specs.declared.event.Event.TheVariants.{Ar, Aw, W, Cr, Cd}
 use Rattle.ace_event.specs.declared.header.Header.{Header}
 use Rattle.ace_codes.specs.Responses.{transfers_data}
 use Rattle.ace_model.specs.declared.transactions.Transaction.{Transaction}
 use Rattle.ace_model.specs.Accepted.{IsAccepted}
 use Rattle.ace_model.specs.Trace.{Trace, more, option_filter}
-use Rattle.ace_model.specs.Transactions.{issued, issued_where}
+use Rattle.ace_model.specs.Transactions.{issued}
 use Rattle.ace_model.specs.Writes.{Beat, is_data_write_of, data_writes, beats, next_write, next_write_beat}
 use Rattle.ace_model.specs.SnoopRules.{is_next_beat}
 use Rattle.ace_model.specs.Snoops.{answers, answered, data_beats}

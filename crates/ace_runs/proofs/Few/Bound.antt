@@ -1,14 +1,13 @@
 -- At most 256 events for each operation of the plan.
-use Rattle.std.proofs.Common.{◌≡◌, ℕ, ◌+◌, ◌*◌, ◌≤◌, length, refl, arith, mul-le-mul_right}
-use Rattle.ace_event.specs.declared.event.Channel.TheVariants.{Read, Write}
+use Rattle.std.proofs.Common.{◌≡◌, ◌+◌, ◌*◌, ◌≤◌, length, arith, mul-le-mul_right}
 use Rattle.ace_event.specs.declared.header.Header.{Header}
 use Rattle.ace_model.specs.Accepted.{IsAccepted}
 use Rattle.ace_model.specs.Trace.{Trace}
 use Rattle.ace_model.specs.Plans.{Plan, IsRight}
-use Rattle.ace_runs.specs.Acts.{is_load_or_store, is_act}
+use Rattle.ace_runs.specs.Acts.{is_load_or_store}
 use Rattle.ace_runs.specs.Follows.{FollowsSoFar}
 use Rattle.ace_runs.specs.Lean.{IsLean}
-use Rattle.ace_runs.specs.Counts.{ace_ports, counted, issues, issues_on, issues_for_operation, issues_completion, issues_granted, issues_part, is_grant}
+use Rattle.ace_runs.specs.Counts.{ace_ports, counted, issues, issues_for_operation, issues_completion, issues_granted, issues_part, is_grant}
 use Rattle.ace_runs.proofs.Few.Operations.{three-for-each, two-for-each}
 use Rattle.ace_runs.proofs.Few.Acts.{two-acts-for-each, one-for-each}
 use Rattle.ace_runs.proofs.Few.Transactions.{both-channels, grants-few, memory-writes-few, responses-few}

@@ -1,25 +1,23 @@
 -- A Sync is completed once, and each ACE port issues at most one DVM Complete for each part of a message.
-use Rattle.std.proofs.Common.{◌≡◌, ℕ, ◌+◌, ◌*◌, ◌≤◌, ◌<◌, Bool, true, false, not, ◌&&◌, ◌||◌, ◌==◌, if◌then◌else◌, List, [], ◌∷◌, ◌++◌, length, Option, Some, None, is_some, refl, sym, ap, subst, ◌∙◌, inl, inr, arith, length-append, le_trans}
+use Rattle.std.proofs.Common.{◌≡◌, ℕ, ◌+◌, ◌*◌, ◌≤◌, ◌<◌, Bool, true, false, not, ◌&&◌, ◌||◌, ◌==◌, if◌then◌else◌, List, [], ◌∷◌, ◌++◌, length, Option, Some, None, is_some, refl, subst, ◌∙◌, inl, inr, arith}
 use Rattle.std.specs.List.{count_by}
-use Rattle.std.proofs.lemmas.Bool.{cases_Bool, and_parts, and_from, not-true, eqb-true, eq-eqb, ltb-true}
+use Rattle.std.proofs.lemmas.Bool.{cases_Bool, and_parts, not-true, eqb-true, ltb-true}
 use Rattle.std.proofs.lemmas.List.Sums.{sum_by-append, count_by-le-length}
 use Rattle.ace_codes.specs.Reads.{ar_kind_of}
 use Rattle.ace_codes.specs.Snoops.{ac_kind_of}
 use Rattle.ace_codes.specs.declared.kind.ArKind.{ArKind}
 use Rattle.ace_codes.specs.declared.kind.ArKind.TheVariants as read
-use Rattle.ace_codes.specs.declared.kind.SnoopKind.{SnoopKind}
 use Rattle.ace_event.specs.declared.event.Channel.TheVariants.{Read, Write}
-use Rattle.ace_event.specs.declared.event.Event.{Event}
 use Rattle.ace_event.specs.declared.event.Event.TheVariants.{Ar, Aw, Ac}
 use Rattle.ace_event.specs.declared.header.Header.{Header}
 use Rattle.ace_model.specs.declared.transactions.Transaction.{Transaction}
 use Rattle.ace_model.specs.Accepted.{IsAccepted}
-use Rattle.ace_model.specs.Trace.{Trace, implies, is_some_and, newer, more, option_filter}
-use Rattle.ace_model.specs.Kinds.{is_complete_snoop, is_dvm_complete, is_lite_read}
+use Rattle.ace_model.specs.Trace.{Trace, is_some_and}
+use Rattle.ace_model.specs.Kinds.{is_complete_snoop, is_dvm_complete}
 use Rattle.ace_model.specs.Transactions.{is_ace, issued}
 use Rattle.ace_model.specs.Progress.{transactions}
 use Rattle.ace_model.specs.AddressRules.{may_issue_read}
-use Rattle.ace_model.specs.Messages.{is_message_part, is_dvm_completion, is_sync, is_sync_word, is_second_part, sync_in, last_sync, completes_sync, is_sync_completed, parts_in, parts_for, answered_parts, answered_syncs, dvm_completes}
+use Rattle.ace_model.specs.Messages.{is_message_part, is_dvm_completion, is_sync, is_sync_word, is_second_part, sync_in, last_sync, is_sync_completed, parts_in, parts_for, answered_parts, answered_syncs, dvm_completes}
 use Rattle.ace_model.specs.OrderRules.{completes_next, may_complete, has_every_completion}
 use Rattle.ace_model.specs.Progress.{is_completed}
 use Rattle.ace_model.proofs.General.Lists.{start-length}

@@ -1,6 +1,6 @@
 -- Before its last transfer a read has at most three, and a DVM Complete none.
-use Rattle.std.proofs.Common.{◌≡◌, ℕ, ◌+◌, ◌-◌, ◌*◌, ◌≤◌, ◌<◌, Bool, true, false, not, ◌&&◌, ◌==◌, nat_lt, if◌then◌else◌, [], ◌∷◌, length, Option, Some, None, refl, sym, ap, subst, ◌∙◌, inl, inr, arith}
-use Rattle.std.proofs.lemmas.Bool.{cases_Bool, and_parts, and_from, eqb-true, eqb-false, eq-eqb}
+use Rattle.std.proofs.Common.{◌≡◌, ℕ, ◌+◌, ◌-◌, ◌*◌, ◌≤◌, Bool, true, false, not, ◌&&◌, ◌==◌, ◌∷◌, length, Option, Some, None, refl, inl, inr, arith}
+use Rattle.std.proofs.lemmas.Bool.{cases_Bool, and_parts, eqb-false}
 use Rattle.ace_codes.specs.declared.kind.ArKind.{ArKind}
 use Rattle.ace_codes.specs.declared.kind.ArKind.TheVariants as read
 use Rattle.ace_event.specs.declared.event.Channel.TheVariants.{Read}
@@ -12,13 +12,13 @@ use Rattle.ace_model.specs.declared.transactions.Transaction.{Transaction}
 use Rattle.ace_model.specs.Accepted.{IsAccepted}
 use Rattle.ace_model.specs.Trace.{Trace, is_some_and}
 use Rattle.ace_model.specs.Kinds.{beats_of, is_dvm_complete}
-use Rattle.ace_model.specs.Transactions.{read_kind, issued, is_named, newest_named, transaction_of, transfers}
+use Rattle.ace_model.specs.Transactions.{read_kind, transaction_of, transfers}
 use Rattle.ace_model.specs.Messages.{is_dvm_completion}
 use Rattle.ace_runs.specs.Counts.{counted, is_transfer, is_last_transfer, is_earlier_transfer, reads_for_operation}
 use Rattle.ace_runs.proofs.Few.Keys.{of_name, for-each-name}
 use Rattle.ace_runs.proofs.Few.Counting.{one, counted-split}
 use Rattle.ace_runs.proofs.Few.Charges.{Leaves, charged}
-use Rattle.ace_runs.proofs.Few.Transfers.{kind_left, beats_left, left_of, most-left, IsNext, next-transfer, AreSame, alike, other-read, other-write, fewer-left, same-left}
+use Rattle.ace_runs.proofs.Few.Transfers.{kind_left, left_of, most-left, IsNext, next-transfer, alike, other-read, other-write, fewer-left, same-left}
 
 -- how many transfers before its last the read of the name has left
 abbrev earlier_left : ℕ → ℕ → Trace → ℕ
@@ -54,10 +54,10 @@ more-come h past p i q j resp word a t =
     let other : (transfers past p i + 1 == beats_of next.kind) ≡ false = is-not (transfers past p i + 1 == beats_of next.kind) next.ends in
     let apart = eqb-false (transfers past p i + 1) (beats_of next.kind) other in
     rw (s.back, next.named, next.of_kind) (omega (arith, room, apart))
-    where
-      is-not : (b : Bool) → same_test false b ≡ true → b ≡ false
-      is-not true t = cc
-      is-not false t = refl
+  where
+    is-not : (b : Bool) → same_test false b ≡ true → b ≡ false
+    is-not true t = cc
+    is-not false t = refl
 
 leaves-earlier : (h : Header) (p i : ℕ) → Leaves 3 (of_name is_earlier_transfer p i) (of_name reads_for_operation p i) (earlier_left p i) h
 leaves-earlier h p i (Ar q j addr snoop dom bar lock) past a =
@@ -68,10 +68,10 @@ leaves-earlier h p i (Ar q j addr snoop dom bar lock) past a =
     (new-read past p i q j addr snoop dom bar lock) (other-read past p i q j addr snoop dom bar lock)
     (completion-most (read_kind x) (transfers (e ∷ past) p i)) in
     grouped (not (is_dvm_completion x)) (q == p) (j == i) (earlier_left p i (e ∷ past)) (earlier_left p i past) step
-    where
-      grouped : (c a b : Bool) (n m : ℕ) → n + 0 ≤ m + one (c && (a && b)) * 3 → n + 0 ≤ m + one ((c && a) && b) * 3
-      grouped true a b n m le = le
-      grouped false a b n m le = le
+  where
+    grouped : (c a b : Bool) (n m : ℕ) → n + 0 ≤ m + one (c && (a && b)) * 3 → n + 0 ≤ m + one ((c && a) && b) * 3
+    grouped true a b n m le = le
+    grouped false a b n m le = le
 leaves-earlier h p i (Aw q j addr snoop dom bar) past a = let same = other-write past p i q j addr snoop dom bar in omega (arith, same)
 leaves-earlier h p i (R q j resp true word) past a =
     elim (cases_Bool ((q == p) && (j == i))) [

@@ -1,18 +1,18 @@
 -- Under a grant each ACE port is snooped at most once.
-use Rattle.std.proofs.Common.{◌≡◌, ℕ, ◌+◌, ◌*◌, ◌≤◌, Bool, true, false, not, ◌&&◌, ◌||◌, ◌==◌, if◌then◌else◌, List, [], ◌∷◌, length, Option, Some, None, is_none, refl, sym, ap, subst, ◌∙◌, inl, inr, arith}
-use Rattle.std.proofs.lemmas.Bool.{cases_Bool, and_parts, and_from, or_cases, not-true, eqb-true, eq-eqb}
+use Rattle.std.proofs.Common.{◌≡◌, ℕ, ◌+◌, ◌*◌, ◌≤◌, Bool, true, false, not, ◌&&◌, ◌||◌, ◌==◌, if◌then◌else◌, List, [], ◌∷◌, length, Option, Some, None, refl, sym, subst, inl, inr, arith}
+use Rattle.std.proofs.lemmas.Bool.{cases_Bool, and_parts, and_from, not-true, eqb-true, eq-eqb}
 use Rattle.ace_event.specs.declared.event.Event.{Event}
 use Rattle.ace_event.specs.declared.event.Event.TheVariants.{Ac, G}
 use Rattle.ace_event.specs.declared.header.Header.{Header}
 use Rattle.ace_model.specs.declared.transactions.Transaction.{Transaction}
 use Rattle.ace_model.specs.Accepted.{IsAccepted}
-use Rattle.ace_model.specs.Trace.{Trace, is_some_and, implies}
-use Rattle.ace_model.specs.Transactions.{is_ace, is_line, is_on, is_some_on, ended, without, transaction_of}
+use Rattle.ace_model.specs.Trace.{Trace, is_some_and}
+use Rattle.ace_model.specs.Transactions.{is_ace, is_line, is_some_on, ended, without, transaction_of}
 use Rattle.ace_model.specs.Snoops.{snoops_a_line}
-use Rattle.ace_model.specs.Grants.{given, gives_line, newest_on, granted, is_snoop_to, was_snooped}
+use Rattle.ace_model.specs.Grants.{given, gives_line, granted, is_snoop_to, was_snooped}
 use Rattle.ace_model.specs.SnoopRules.{may_snoop, may_snoop_for}
 use Rattle.ace_model.specs.States.{owes_wack}
-use Rattle.ace_model.proofs.General.Options.{is_some_and-is, Some-injective}
+use Rattle.ace_model.proofs.General.Options.{is_some_and-is}
 use Rattle.ace_model.proofs.Rules.Keeps.{accepted_keeps}
 use Rattle.ace_model.proofs.Trace.Looks.{newest_on-cases, was_there}
 use Rattle.ace_runs.specs.Counts.{ace_ports, counted, is_snoop, snoops_line, is_grant}

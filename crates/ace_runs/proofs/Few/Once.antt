@@ -1,18 +1,15 @@
 -- What a transaction has at most once: its grant, its write of memory, its response.
-use Rattle.std.proofs.Common.{◌≡◌, ℕ, ◌+◌, ◌*◌, ◌≤◌, Bool, true, false, not, ◌&&◌, ◌||◌, ◌==◌, if◌then◌else◌, [], ◌∷◌, length, Option, Some, None, is_some, refl, sym, ap, subst, ◌∙◌, inl, inr, arith}
-use Rattle.std.proofs.lemmas.Bool.{cases_Bool, and_parts, and_from, not-true, eqb-true, eq-eqb}
+use Rattle.std.proofs.Common.{◌≡◌, ℕ, ◌≤◌, Bool, true, false, not, ◌&&◌, ◌||◌, ◌∷◌, length, Option, Some, None, refl, inl, inr, arith}
+use Rattle.std.proofs.lemmas.Bool.{cases_Bool, and_from}
 use Rattle.ace_event.specs.declared.event.Channel.{Channel}
-use Rattle.ace_event.specs.declared.event.Channel.TheVariants.{Read, Write}
 use Rattle.ace_event.specs.declared.event.Event.{Event}
-use Rattle.ace_event.specs.declared.event.Event.TheVariants.{Ar, Aw, B, G, M}
 use Rattle.ace_event.specs.declared.header.Header.{Header}
-use Rattle.ace_event.specs.declared.line.Line.{Line}
 use Rattle.ace_model.specs.declared.transactions.Transaction.{Transaction}
 use Rattle.ace_model.specs.Accepted.{IsAccepted}
 use Rattle.ace_model.specs.Trace.{Trace, is_some_and}
-use Rattle.ace_model.specs.Transactions.{issued, has_name, is_named, newest_named, same_channel, outstanding, transaction_of, has_since}
+use Rattle.ace_model.specs.Transactions.{issued, is_named, newest_named, transaction_of, has_since}
 use Rattle.ace_model.proofs.Trace.Looks.{newest_named-older}
-use Rattle.ace_runs.specs.Counts.{counted, issues_on}
+use Rattle.ace_runs.specs.Counts.{counted}
 use Rattle.ace_runs.proofs.Few.Keys.{of_name, for-each-name}
 use Rattle.ace_runs.proofs.Few.Counting.{one, one-most}
 use Rattle.ace_runs.proofs.Few.Charges.{Leaves, charged}

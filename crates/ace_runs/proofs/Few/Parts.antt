@@ -1,10 +1,9 @@
 -- The parts of DVM messages are forwarded to each ACE port at most once.
-use Rattle.std.proofs.Common.{◌≡◌, ℕ, ◌+◌, ◌*◌, ◌≤◌, ◌<◌, Bool, true, false, not, ◌&&◌, ◌||◌, ◌==◌, if◌then◌else◌, List, [], ◌∷◌, ◌++◌, length, map, Option, Some, None, is_some, slice_get, refl, sym, ap, subst, ◌∙◌, inl, inr, arith, length-append, le_trans}
-use Rattle.std.proofs.lemmas.Bool.{cases_Bool, and_parts, and_from, eqb-true, eq-eqb}
+use Rattle.std.proofs.Common.{◌≡◌, ℕ, ◌+◌, ◌*◌, ◌≤◌, Bool, true, false, ◌&&◌, ◌||◌, ◌==◌, if◌then◌else◌, List, [], ◌∷◌, ◌++◌, length, map, Option, Some, None, is_some, refl, sym, ap, subst, ◌∙◌, inl, inr, arith, length-append, le_trans}
+use Rattle.std.proofs.lemmas.Bool.{cases_Bool, and_parts, eqb-true}
 use Rattle.std.proofs.lemmas.List.{map-append, length-map, append-nil}
 use Rattle.std.proofs.lemmas.Option.{slice_get_within}
 use Rattle.ace_codes.specs.Snoops.{ac_kind_of}
-use Rattle.ace_codes.specs.declared.kind.SnoopKind.{SnoopKind}
 use Rattle.ace_event.specs.declared.event.Channel.TheVariants.{Read}
 use Rattle.ace_event.specs.declared.event.Event.{Event}
 use Rattle.ace_event.specs.declared.event.Event.TheVariants.{Ar, Ac}
@@ -15,7 +14,6 @@ use Rattle.ace_model.specs.Accepted.{IsAccepted}
 use Rattle.ace_model.specs.Trace.{Trace, implies, is_some_and}
 use Rattle.ace_model.specs.Kinds.{is_message_snoop}
 use Rattle.ace_model.specs.Transactions.{issued}
-use Rattle.ace_model.specs.Snoops.{snoop_at}
 use Rattle.ace_model.specs.Messages.{has_second, is_message_part, part_in, waits_after, first_waiting, parts_with, parts_in, parts_for, parts_among, next_after, forwards, forwarded, next_part, is_second_part}
 use Rattle.ace_model.specs.OrderRules.{forwards_next}
 use Rattle.ace_model.proofs.General.Options.{Some-injective, some_is, is_some_and-is, is_none_or-at}
@@ -147,10 +145,10 @@ forwards-now h past q addr snoop a message =
     let k = is_some_and-is (ac_kind_of snoop) is_message_snoop message in
     let well = is_none_or-at (ac_kind_of snoop) (forwards_next past q addr) k.0 (accepted_keeps h past (Ac q addr snoop) a).rule_36 k.1 in
     both (is_message_snoop k.0) (is_some_and (next_part past q) (is_second_part past)) (is_some_and (next_part past q) (λ (x : Transaction). x.addr == addr)) k.2 well
-    where
-      both : (m s f : Bool) → m ≡ true → implies (m || s) (m && f) ≡ true → f ≡ true
-      both true s f t well = well
-      both false s f t well = cc
+  where
+    both : (m s f : Bool) → m ≡ true → implies (m || s) (m && f) ≡ true → f ≡ true
+    both true s f t well = well
+    both false s f t well = cc
 
 record Forwards (past : Trace) (p : ℕ) : Type 0 where
   some : counted (at_port forwards_part p) past ≤ length (parts_among (forwarded past p))
@@ -166,20 +164,22 @@ snoop-step past p s b i there =
     let f = forwards (next_after past p (forwarded past p)) s in
     let more = among-more (forwarded past p) f in
     let some = i.some in
-    let within = i.within in
-    (counts b (is_some f) there more some, elim (cases_Bool (is_some f)) [
-      | inr n ↦ let none : one (is_some f) ≡ 0 = rw n refl in omega (arith, more, none, within)
-      | inl t ↦
-          let is : one (is_some f) ≡ 1 = rw t refl in
-          let x = some_is (next_after past p (forwarded past p)) (was-next (next_after past p (forwarded past p)) s t) in
-          let room = slice_get_within (parts_for past p) (length (parts_among (forwarded past p))) x.0 x.1 in
-          omega (arith, more, is, room)
-    ])
-    where
-      counts : (b c : Bool) {n m k : ℕ} → (b ≡ true → c ≡ true) → k ≡ m + one c → n ≤ m → n + one b ≤ k
-      counts false c there more le = omega (arith, more, le)
-      counts true true there more le = omega (arith, more, le)
-      counts true false there more le = let t = there refl in cc
+    let within = i.within in (
+      counts b (is_some f) there more some,
+      elim (cases_Bool (is_some f)) [
+        | inr n ↦ let none : one (is_some f) ≡ 0 = rw n refl in omega (arith, more, none, within)
+        | inl t ↦
+            let is : one (is_some f) ≡ 1 = rw t refl in
+            let x = some_is (next_after past p (forwarded past p)) (was-next (next_after past p (forwarded past p)) s t) in
+            let room = slice_get_within (parts_for past p) (length (parts_among (forwarded past p))) x.0 x.1 in
+            omega (arith, more, is, room)
+      ],
+    )
+  where
+    counts : (b c : Bool) {n m k : ℕ} → (b ≡ true → c ≡ true) → k ≡ m + one c → n ≤ m → n + one b ≤ k
+    counts false c there more le = omega (arith, more, le)
+    counts true true there more le = omega (arith, more, le)
+    counts true false there more le = let t = there refl in cc
 
 forwards-each : (h : Header) (past : Trace) (p : ℕ) → IsAccepted h past → Forwards past p
 forwards-each h [] p a = record { some = omega arith; within = omega arith }
@@ -208,10 +208,10 @@ forwards-each h (Ac q addr snoop ∷ past) p a =
           let within = step.1 in
           record { some = rw t (omega (arith, up, some)); within = rw t (omega (arith, within, nil)) }
     ]
-    where
-      and-false : (b : Bool) → (b && false) ≡ false
-      and-false true = refl
-      and-false false = refl
+  where
+    and-false : (b : Bool) → (b && false) ≡ false
+    and-false true = refl
+    and-false false = refl
 forwards-each h (e ∷ past) p a =
     let i = forwards-each h past p a.0 in
     record { some = i.some; within = le_trans i.within (longer-list (parts_for past p) (parts_in past (issued (length past) e) p)) }

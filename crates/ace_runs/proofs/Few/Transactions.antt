@@ -1,6 +1,6 @@
 -- A transaction has at most one grant, one write of memory and one response.
-use Rattle.std.proofs.Common.{◌≡◌, ℕ, ◌+◌, ◌*◌, ◌≤◌, Bool, true, false, not, ◌&&◌, ◌||◌, ◌==◌, if◌then◌else◌, [], ◌∷◌, length, Option, Some, None, is_some, is_none, refl, sym, ap, subst, ◌∙◌, inl, inr, arith}
-use Rattle.std.proofs.lemmas.Bool.{cases_Bool, and_parts, and_from, not-true, eqb-true, eq-eqb}
+use Rattle.std.proofs.Common.{◌≡◌, ℕ, ◌+◌, ◌≤◌, Bool, true, false, not, ◌&&◌, ◌||◌, ◌==◌, if◌then◌else◌, ◌∷◌, is_some, is_none, refl, sym, ◌∙◌, arith}
+use Rattle.std.proofs.lemmas.Bool.{and_parts, and_from, not-true, eqb-true, eq-eqb}
 use Rattle.ace_event.specs.declared.event.Channel.{Channel}
 use Rattle.ace_event.specs.declared.event.Channel.TheVariants.{Read, Write}
 use Rattle.ace_event.specs.declared.event.Event.{Event}
@@ -11,7 +11,7 @@ use Rattle.ace_model.specs.declared.transactions.Transaction.{Transaction}
 use Rattle.ace_model.specs.Accepted.{IsAccepted}
 use Rattle.ace_model.specs.Trace.{Trace, is_some_and, implies}
 use Rattle.ace_model.specs.Kinds.{has_write_data}
-use Rattle.ace_model.specs.Transactions.{is_read, has_name, is_named, same_channel, outstanding, transaction_of, transfers, has_since, is_completion, is_complete, takes_grant, write_kind}
+use Rattle.ace_model.specs.Transactions.{is_read, has_name, is_named, same_channel, outstanding, transfers, is_completion, is_complete, takes_grant, write_kind}
 use Rattle.ace_model.specs.Writes.{is_memory_write, has_memory_write, is_burst_whole}
 use Rattle.ace_model.specs.Grants.{given, has_grant, granted, is_granted, passer, has_passed_data, are_passed_data_whole}
 use Rattle.ace_model.specs.SnoopRules.{may_be_granted}
@@ -19,7 +19,7 @@ use Rattle.ace_model.specs.WriteRules.{may_write_memory, may_write_passed, may_w
 use Rattle.ace_model.proofs.General.Options.{is_some_and-is}
 use Rattle.ace_model.proofs.Rules.Keeps.{accepted_keeps}
 use Rattle.ace_model.proofs.Trace.Issued.{outstanding-named, outstanding-name}
-use Rattle.ace_model.proofs.Trace.Looks.{Named, at_name, has_name-self, same_channel-is, same_channel-self}
+use Rattle.ace_model.proofs.Trace.Looks.{at_name, has_name-self, same_channel-is, same_channel-self}
 use Rattle.ace_runs.specs.Counts.{counted, issues, issues_on, issues_granted, issues_granted_on, is_grant, grants_on, writes_memory, writes_memory_on, is_response}
 use Rattle.ace_runs.proofs.Few.Keys.{of_name}
 use Rattle.ace_runs.proofs.Few.Counting.{one, counted-split}

@@ -1,9 +1,8 @@
 -- A read has at most four transfers, of which one is the last.
-use Rattle.std.proofs.Common.{◌≡◌, ℕ, ◌+◌, ◌-◌, ◌*◌, ◌≤◌, ◌<◌, Bool, true, false, not, ◌&&◌, ◌==◌, nat_lt, if◌then◌else◌, [], ◌∷◌, length, Option, Some, None, refl, sym, ap, subst, ◌∙◌, inl, inr, arith}
+use Rattle.std.proofs.Common.{◌≡◌, ℕ, ◌+◌, ◌-◌, ◌*◌, ◌≤◌, ◌<◌, Bool, true, false, ◌&&◌, ◌==◌, nat_lt, ◌∷◌, length, Option, Some, None, refl, sym, ap, subst, ◌∙◌, inl, inr, arith}
 use Rattle.std.proofs.lemmas.Bool.{cases_Bool, and_parts, and_from, eqb-true, eq-eqb, ltb-true, lt-ltb}
 use Rattle.ace_codes.specs.declared.kind.ArKind.{ArKind}
-use Rattle.ace_event.specs.declared.event.Channel.TheVariants.{Read, Write}
-use Rattle.ace_event.specs.declared.event.Event.{Event}
+use Rattle.ace_event.specs.declared.event.Channel.TheVariants.{Read}
 use Rattle.ace_event.specs.declared.event.Event.TheVariants.{Ar, R, Aw}
 use Rattle.ace_event.specs.declared.header.Header.{Header}
 use Rattle.ace_tables.specs.Answers.{same_test}
@@ -124,10 +123,10 @@ other-read past p i q j addr snoop dom bar lock n =
     let new : is_named (issued (length past) (Ar q j addr snoop dom bar lock)) p Read i ≡ false = both (q == p) (j == i) n in
     let same = newest_named-older (issued (length past) (Ar q j addr snoop dom bar lock)) p Read i (transaction_of past p Read i) new in
     rw (same, apart q p j i n) refl
-    where
-      both : (a b : Bool) → (a && b) ≡ false → ((a && true) && b) ≡ false
-      both true b f = f
-      both false b f = refl
+  where
+    both : (a b : Bool) → (a && b) ≡ false → ((a && true) && b) ≡ false
+    both true b f = f
+    both false b f = refl
 
 -- and so does an AW
 pub other-write : (past : Trace) (p i q j addr snoop dom bar : ℕ) → left_of p i (Aw q j addr snoop dom bar ∷ past) ≡ left_of p i past
@@ -200,13 +199,14 @@ leaves-last h p i (R q j resp last word) past a =
           (one-most (nat_lt 0 (left_of p i (R q j resp last word ∷ past))))
           (λ is. ap (λ m. one (nat_lt 0 m)) (subst (λ l. IsAccepted h (R q j resp l word ∷ past) → left_of p i (R q j resp l word ∷ past) ≡ 0) (sym is) (λ b. none-left h past p i q j resp word b t) a))
     ]
-    where
-      last-other : (last b c : Bool) (now before : ℕ) → (b && c) ≡ false → now ≡ before → now + one ((last && b) && c) ≤ before + 0 * 1
-      last-other true b c now before n same = rw n (omega (arith, same))
-      last-other false b c now before n same = omega (arith, same)
-      last-here : (last b c : Bool) (now before : ℕ) → before ≡ 1 → now ≤ 1 → (last ≡ true → now ≡ 0) → now + one ((last && b) && c) ≤ before + 0 * 1
-      last-here true b c now before had most none = let n = none refl in let o = one-most (b && c) in omega (arith, had, n, o)
-      last-here false b c now before had most none = omega (arith, had, most)
+  where
+    last-other : (last b c : Bool) (now before : ℕ) → (b && c) ≡ false → now ≡ before → now + one ((last && b) && c) ≤ before + 0 * 1
+    last-other true b c now before n same = rw n (omega (arith, same))
+    last-other false b c now before n same = omega (arith, same)
+
+    last-here : (last b c : Bool) (now before : ℕ) → before ≡ 1 → now ≤ 1 → (last ≡ true → now ≡ 0) → now + one ((last && b) && c) ≤ before + 0 * 1
+    last-here true b c now before had most none = let n = none refl in let o = one-most (b && c) in omega (arith, had, n, o)
+    last-here false b c now before had most none = omega (arith, had, most)
 leaves-last h p i e past a = omega arith
 
 pub last-transfers-few : (h : Header) (past : Trace) → IsAccepted h past → counted is_last_transfer past ≤ counted (issues_on Read) past

@@ -1,7 +1,5 @@
 -- All events of a trace, sort by sort, and their bound.
-use Rattle.std.proofs.Common.{◌≡◌, ℕ, ◌+◌, ◌*◌, ◌≤◌, Bool, true, false, not, ◌||◌, if◌then◌else◌, [], ◌∷◌, length, refl, sym, ap, ◌∙◌, inl, inr, arith, mul-le-mul_right}
-use Rattle.ace_event.specs.declared.event.Channel.TheVariants.{Read, Write}
-use Rattle.ace_event.specs.declared.event.Event.{Event}
+use Rattle.std.proofs.Common.{◌≡◌, ℕ, ◌+◌, [], ◌∷◌, length, refl, arith}
 use Rattle.ace_event.specs.declared.event.Event.TheVariants.{Ar, R, Rk, Aw, W, B, Wk, Ac, Cr, Cd, G, M, S, L, D, Op, Mem}
 use Rattle.ace_model.specs.Trace.{Trace}
 use Rattle.ace_runs.specs.Acts.{is_load_or_store}
