@@ -4,3 +4,7 @@
 pub mod Rows
 -- Which events each step gives.
 pub mod StepEvents
+-- What a step puts of write data and of writes of memory.
+pub mod StepShapes
+-- A run has the beats of whole bursts.
+pub mod WholeBursts

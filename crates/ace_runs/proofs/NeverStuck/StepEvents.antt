@@ -95,7 +95,7 @@ all-append test [] ys x y = y
 all-append test (a ∷ xs) ys x y =
     let parts = and_parts (test a) (list_all test xs) x in and_from _ _ parts.0 (all-append test xs ys parts.1 y)
 
-all-map : {A B : Type 0} → (test : B → Bool) (f : A → B) (xs : List A) → ((a : A) → test (f a) ≡ true) → list_all test (map f xs) ≡ true
+pub all-map : {A B : Type 0} → (test : B → Bool) (f : A → B) (xs : List A) → ((a : A) → test (f a) ≡ true) → list_all test (map f xs) ≡ true
 all-map test f [] each = refl
 all-map test f (a ∷ xs) each = and_from _ _ (each a) (all-map test f xs each)
 
@@ -117,7 +117,7 @@ all-flat_mapped test later f (a ∷ xs) each all =
     let parts = and_parts (test a) (list_all test xs) all in
     all-append later (f a) (flat_map f xs) (each a parts.0) (all-flat_mapped test later f xs each parts.1)
 
-all-if : {A : Type 0} → (test : A → Bool) (b : Bool) (xs ys : List A) → list_all test xs ≡ true → list_all test ys ≡ true → list_all test (if b then xs else ys) ≡ true
+pub all-if : {A : Type 0} → (test : A → Bool) (b : Bool) (xs ys : List A) → list_all test xs ≡ true → list_all test ys ≡ true → list_all test (if b then xs else ys) ≡ true
 all-if test true xs ys x y = x
 all-if test false xs ys x y = y
 
