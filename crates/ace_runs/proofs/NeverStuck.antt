@@ -8,3 +8,7 @@ pub mod StepEvents
 pub mod StepShapes
 -- A run has the beats of whole bursts.
 pub mod WholeBursts
+-- A run has the response to each write that has written memory.
+pub mod WritesAnswered
+-- A complete write is to be acknowledged.
+pub mod Acknowledges
