@@ -12,3 +12,5 @@ pub mod WholeBursts
 pub mod WritesAnswered
 -- A complete write is to be acknowledged.
 pub mod Acknowledges
+-- Beside a memory update no other port has passed the line on.
+pub mod BesideUpdates

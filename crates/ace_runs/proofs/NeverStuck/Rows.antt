@@ -1,7 +1,7 @@
 -- A snoop of a port has a row, or is of a line on which a memory update of the port is outstanding: every line snoop has a row in
 -- every state where there is none.
-use Rattle.std.proofs.Common.{◌≡◌, ◌⊎◌, ℕ, Bool, true, false, not, ◌||◌, ◌==◌, [], ◌∷◌, length, Some, is_some, slice_get, refl, subst, inl, inr}
-use Rattle.std.proofs.lemmas.Bool.{cases_Bool, or_left}
+use Rattle.std.proofs.Common.{◌≡◌, ◌⊎◌, ℕ, Bool, true, false, not, ◌||◌, ◌==◌, [], ◌∷◌, length, Some, is_some, nat_lt, slice_get, refl, sym, subst, inl, inr}
+use Rattle.std.proofs.lemmas.Bool.{and_parts, cases_Bool, eqb-true, or_left}
 use Rattle.ace_codes.specs.declared.kind.SnoopKind.{SnoopKind}
 use Rattle.ace_codes.specs.declared.kind.SnoopKind.TheVariants as snoop
 use Rattle.ace_codes.specs.declared.state.LineState.{LineState}
@@ -19,6 +19,7 @@ use Rattle.ace_model.specs.Progress.{has_update}
 use Rattle.ace_model.specs.Snoops.{snoop_at, snoops_of, snoops_a_line, answered, answers}
 use Rattle.ace_model.specs.States.{state_of}
 use Rattle.ace_model.specs.Trace.{Trace}
+use Rattle.ace_model.specs.Transactions.{is_ace}
 use Rattle.ace_model.proofs.General.Lists.{slice_get-more}
 use Rattle.ace_model.proofs.General.Options.{some_is, some_if-is}
 use Rattle.ace_model.proofs.Rules.Keeps.{accepted_keeps}
@@ -38,6 +39,21 @@ has-kind h (e ∷ past) p n s a is =
     elim (slice_get-more (snoops_of past p) (snoop_at (length past) e p) n s is) [
       | inl old ↦ has-kind h past p n s a.0 old
       | inr new ↦ new-kind h past e p s a new.1
+    ]
+
+-- the port of a snoop is an ACE port
+new-ace : (h : Header) (past : Trace) (e : Event) (p : ℕ) (s : Snoop) → IsAccepted h (e ∷ past) → snoop_at (length past) e p ≡ Some s → is_ace h p ≡ true
+new-ace h past (Ac q addr code) p s a is =
+    let same = eqb-true p q (some_if-is (p == q) _ s is).0 in
+    subst (λ r. is_ace h r ≡ true) (sym same) (and_parts (nat_lt q h.ports) (is_ace h q) (accepted_keeps h past (Ac q addr code) a).rule_1).1
+new-ace h past e p s a is = cc
+
+pub snooped-ace : (h : Header) (past : Trace) (p n : ℕ) (s : Snoop) → IsAccepted h past → slice_get (snoops_of past p) n ≡ Some s → is_ace h p ≡ true
+snooped-ace h [] p n s a is = cc
+snooped-ace h (e ∷ past) p n s a is =
+    elim (slice_get-more (snoops_of past p) (snoop_at (length past) e p) n s is) [
+      | inl old ↦ snooped-ace h past p n s a.0 old
+      | inr new ↦ new-ace h past e p s a new.1
     ]
 
 -- ---- its rows ----------------------------------------------------------------------------------------

@@ -111,7 +111,7 @@ pair-plain : (o : Option Pair) → are_plain (pair_burst o) ≡ true
 pair-plain None = refl
 pair-plain (Some b) = refl
 
-updates_write : (x : Transaction) → updates_memory x ≡ true → is_read x.chan ≡ false
+pub updates_write : (x : Transaction) → updates_memory x ≡ true → is_read x.chan ≡ false
 updates_write x u = false_from_ne_true (is_read x.chan) (λ t. let bad : false ≡ true = rw t at u in cc)
 
 update-shape : (h : Header) (past : Trace) (p : ℕ) (burst : List Event) (x : Transaction) → same_burst (update_burst h past x) burst ≡ true → StepShape h past p burst
