@@ -14,3 +14,7 @@ pub mod WritesAnswered
 pub mod Acknowledges
 -- Beside a memory update no other port has passed the line on.
 pub mod BesideUpdates
+-- A memory update with no passed data before it moves on.
+pub mod UpdatesMove
+-- So an unanswered snoop has a step.
+pub mod Snoops
