@@ -1,18 +1,18 @@
 -- While a memory update of a port on a line is outstanding, every other port holds the line in I or SC, and none has passed it on under
 -- the present grant. So where a snoop of the port waits for its update, the granted transaction has no passed data.
-use Rattle.std.proofs.Common.{◌≡◌, ◌≢◌, ◌⊎◌, ℕ, Bool, true, false, not, ◌&&◌, ◌||◌, ◌==◌, nat_lt, [], ◌∷◌, length, Some, None, refl, sym, ap, subst, ◌∙◌, inl, inr}
+use Rattle.std.proofs.Common.{◌≡◌, ◌≢◌, ◌⊎◌, ℕ, Bool, true, false, ◌&&◌, ◌||◌, ◌==◌, nat_lt, [], ◌∷◌, length, Some, None, refl, sym, ap, subst, ◌∙◌, inl, inr}
 use Rattle.std.proofs.Math.Bool.{and-false}
 use Rattle.std.proofs.lemmas.Bool.{and_parts, cases_Bool, cases_eq, eq-eqb, ne_eqb, false_from_ne_true}
-use Rattle.ace_model.proofs.Terms.{AwKind, LineState, I, UC, UD, SC, SD, Channel, Read, Write, Event, R, Rk, Header, Trace, is_shared, ended, has_failed, passes_dirty, takes_passed_data, starts_read, starts_write, is_update, is_dirty, is_unique, is_invalid}
-use Rattle.ace_model.proofs.Terms.{is_some_and, is_none_or, is_line, is_on, is_ace, issued, has_name, outstanding, read_kind, write_kind, transfers, first_resp, updates_memory, has_update, granted, gives_line, answer_of, has_passed_data, state_of, starts_well, IsAccepted}
+use Rattle.ace_model.proofs.Terms.{AwKind, LineState, I, UC, UD, SC, Read, Write, Event, R, Rk, Header, Trace, is_shared, ended, has_failed, passes_dirty, takes_passed_data, starts_read, starts_write, is_update, is_dirty, is_unique, is_invalid}
+use Rattle.ace_model.proofs.Terms.{is_some_and, is_none_or, is_line, is_on, is_ace, issued, has_name, outstanding, read_kind, write_kind, transfers, first_resp, updates_memory, has_update, granted, answer_of, has_passed_data, state_of, starts_well, IsAccepted}
 use Rattle.ace_codes.specs.declared.kind.AwKind.TheVariants as write
 use Rattle.ace_model.specs.declared.snoops.Answer.{Answer}
 use Rattle.ace_model.specs.declared.transactions.Transaction.{Transaction}
 use Rattle.ace_model.specs.Trace.{implies}
 use Rattle.ace_model.specs.Grants.{are_passed_data_whole}
-use Rattle.ace_model.specs.ReadRules.{has_upper_bits, fits_kind, same_upper_bits}
+use Rattle.ace_model.specs.ReadRules.{has_upper_bits, fits_kind}
 use Rattle.ace_model.proofs.General.Booleans.{implies-at}
-use Rattle.ace_model.proofs.General.Options.{is_some_and-is, is_none_or-at, Some-injective}
+use Rattle.ace_model.proofs.General.Options.{is_some_and-is, is_none_or-at}
 use Rattle.ace_model.proofs.Grants.Answers.{new_answer, others_settled}
 use Rattle.ace_model.proofs.Grants.Begins.{line_due}
 use Rattle.ace_model.proofs.Grants.Granted.{granted_at}
@@ -26,7 +26,7 @@ use Rattle.ace_model.proofs.Tables.ReadEnds.{takes_alone}
 use Rattle.ace_model.proofs.Trace.Transfers.{full_some}
 use Rattle.ace_model.proofs.Tables.SnoopRows.{beside_update}
 use Rattle.ace_model.proofs.Tables.States.{is_settled, dirty_unsettled, unique_unsettled, row_is}
-use Rattle.ace_model.proofs.Trace.Issued.{outstanding-name, outstanding-origin}
+use Rattle.ace_model.proofs.Trace.Issued.{outstanding-origin}
 use Rattle.ace_model.proofs.Trace.Looks.{has_name-is, is_on-addr}
 use Rattle.ace_model.proofs.Values.FullReads.{issue_transfers, transfer_moves}
 use Rattle.ace_model.proofs.Values.PassedData.{PassedBy, answer_kept, passes_line}
@@ -149,8 +149,8 @@ beside-new h past e a p i l u new name on updates = record {
     alone q apart =
         elim (cases_Bool (is_dirty (state_of h past p l))) [
           | inl d ↦ settled (state_of h past q l)
-            (false_from_ne_true (is_unique (state_of h past q l)) (λ u. let gone : is_dirty I ≡ true = subst (λ v. is_dirty v ≡ true) ((accepted_holds h past a.0).unique l q p u apart) d in cc))
-            (false_from_ne_true (is_dirty (state_of h past q l)) (λ c. absurd (apart ((accepted_holds h past a.0).one_dirty l q p c d))))
+              (false_from_ne_true (is_unique (state_of h past q l)) (λ u. let gone : is_dirty I ≡ true = subst (λ v. is_dirty v ≡ true) ((accepted_holds h past a.0).unique l q p u apart) d in cc))
+              (false_from_ne_true (is_dirty (state_of h past q l)) (λ c. absurd (apart ((accepted_holds h past a.0).one_dirty l q p c d))))
           | inr clean ↦ elim (cases_Bool (is_unique (state_of h past p l))) [
             | inl only ↦ let gone = (accepted_holds h past a.0).unique l p q only (λ same. apart (sym same)) in rw gone refl
             | inr shared ↦ let bad : true ≡ false = sym (settled (state_of h past p l) shared clean) ∙ high in cc
@@ -195,9 +195,9 @@ beside-old h past e a p i l u o on updates f = record {
         let line = up.line in
         let now : state_of h (Rk up.port up.st ∷ past) q l ≡ up.st = (let named = up.named in rw named refl) in
         let alone = λ (t : takes_alone line.kind (is_some_and (first_resp past q line.id) is_shared) (has_failed past line.one) ≡ true).
-            let gone = line.arrives.alone line.kind line.is_kind t p apart in
-            let here : state_of h past p l ≡ I = ap (state_of h past p) (sym line.line) ∙ gone in
-            let bad : true ≡ false = sym (ap is_invalid here) ∙ held in bad in
+        let gone = line.arrives.alone line.kind line.is_kind t p apart in
+        let here : state_of h past p l ≡ I = ap (state_of h past p) (sym line.line) ∙ gone in
+        let bad : true ≡ false = sym (ap is_invalid here) ∙ held in bad in
         let clean : is_dirty up.st ≡ false = false_from_ne_true (is_dirty up.st) (λ d. elim (line.state.dirty d) [
           | inl was ↦ dirty_unsettled (state_of h past q l) was (f.low q apart)
           | inr (inl pass) ↦ passed q apart up pass

@@ -1,5 +1,5 @@
 -- An unanswered snoop is answered by its port, or waits for a memory update that moves on.
-use Rattle.std.proofs.Common.{◌≡◌, ◌⊎◌, ℕ, true, false, not, [], ◌∷◌, Option, Some, None, le_refl, refl, sym, ap, subst, ◌∙◌, inl, inr}
+use Rattle.std.proofs.Common.{◌≡◌, ◌⊎◌, ℕ, true, not, [], ◌∷◌, Option, Some, None, le_refl, refl, sym, ap, ◌∙◌, inl, inr}
 use Rattle.std.proofs.lemmas.Bool.{and_from, eq-eqb}
 use Rattle.ace_event.specs.declared.header.Header.{Header}
 use Rattle.ace_model.specs.declared.snoops.Snoop.{Snoop}

@@ -1,17 +1,16 @@
 -- A memory update whose line's granted transaction has no passed data moves on: its port is enabled by step 2, 3 or 4.
-use Rattle.std.proofs.Common.{◌≡◌, ℕ, zero, suc, ◌+◌, ◌*◌, ◌/◌, ◌%◌, ◌<◌, ◌≤◌, Bool, true, false, not, ◌&&◌, ◌||◌, ◌==◌, nat_lt, if◌then◌else◌, List, [], ◌∷◌, ◌++◌, length, map, take, drop, Option, Some, None, is_some, is_none, slice_get, refl, sym, ap, subst, ◌∙◌, inl, inr, arith}
+use Rattle.std.proofs.Common.{◌≡◌, ℕ, zero, suc, ◌+◌, ◌*◌, ◌/◌, ◌%◌, ◌<◌, ◌≤◌, Bool, true, false, not, ◌&&◌, ◌||◌, ◌==◌, nat_lt, if◌then◌else◌, List, [], ◌∷◌, ◌++◌, length, map, take, drop, Some, None, is_some, is_none, slice_get, refl, sym, ap, subst, ◌∙◌, inl, inr, arith}
 use Rattle.std.specs.Option.{option_map, option_to_list}
 use Rattle.std.proofs.lemmas.Bool.{and_parts, and_from, or_left, or_right, cases_Bool, eqb-true, eq-eqb, false_from_ne_true, ltb-true, ltb-false}
 use Rattle.std.proofs.lemmas.Option.{slice_get_within}
 use Rattle.ace_codes.specs.declared.kind.AwKind.{AwKind}
 use Rattle.ace_codes.specs.declared.kind.AwKind.TheVariants as write
 use Rattle.ace_event.specs.declared.event.Channel.{Channel}
-use Rattle.ace_event.specs.declared.event.Channel.TheVariants.{Read, Write}
+use Rattle.ace_event.specs.declared.event.Channel.TheVariants.{Write}
 use Rattle.ace_event.specs.declared.event.Event.TheVariants.{M}
 use Rattle.ace_event.specs.declared.header.Header.{Header}
 use Rattle.ace_event.specs.declared.line.Line.{Line}
 use Rattle.ace_model.specs.declared.transactions.Transaction.{Transaction}
-use Rattle.ace_model.specs.Accepted.{IsAccepted}
 use Rattle.ace_model.specs.AddressRules.{k1}
 use Rattle.ace_model.specs.Copies.{same_line, word_of}
 use Rattle.ace_model.specs.Grants.{granted, has_passed_data}
@@ -22,7 +21,7 @@ use Rattle.ace_model.specs.Replies.{passed_data}
 use Rattle.ace_model.specs.Trace.{Trace, is_none_or, is_some_and}
 use Rattle.ace_model.specs.Transactions.{is_ace, is_complete, is_on, is_outstanding, is_read, outstanding, write_kind}
 use Rattle.ace_model.specs.WriteRules.{data_of, data_of_write, is_update_due, is_write_due, k24, k25, may_write_data, may_write_passed}
-use Rattle.ace_model.specs.Writes.{Beat, beats, burst_of, data_writes, has_memory_write, is_burst_whole, next_write, next_write_beat}
+use Rattle.ace_model.specs.Writes.{Beat, beats, burst_of, data_writes, has_memory_write, is_burst_whole, next_write_beat}
 use Rattle.ace_model.proofs.General.Options.{is_some_and-is}
 use Rattle.ace_model.proofs.Trace.Growth.{IsIssued, some_issued-found, some_issued-is}
 use Rattle.ace_model.proofs.Trace.LineOnce.{outstanding_is}
@@ -58,16 +57,18 @@ update-there h past p l has =
     let one = and_parts (x.0.port == p) (updates_memory x.0) two.0 in
     let port = eqb-true x.0.port p one.0 in
     let chan = is_write-is x.0.chan (updates_write x.0 one.1) in
-    let out = outstanding_is h past x.0 x.1 three.1 in
-    (x.0, record {
-      issued = x.1;
-      port = port;
-      chan = chan;
-      updates = one.1;
-      on = two.1;
-      is_out = three.1;
-      out = subst (λ c. outstanding h past p c x.0.id ≡ Some x.0) chan (subst (λ q. outstanding h past q x.0.chan x.0.id ≡ Some x.0) port out);
-    })
+    let out = outstanding_is h past x.0 x.1 three.1 in (
+      x.0,
+      record {
+        issued = x.1;
+        port = port;
+        chan = chan;
+        updates = one.1;
+        on = two.1;
+        is_out = three.1;
+        out = subst (λ c. outstanding h past p c x.0.id ≡ Some x.0) chan (subst (λ q. outstanding h past q x.0.chan x.0.id ≡ Some x.0) port out);
+      },
+    )
 
 -- ---- step 2 ------------------------------------------------------------------------------------------
 
@@ -104,8 +105,8 @@ may-send plan past p l x s u part =
     let within = slice_get_within (data_writes past x.port) (start_of past x) x stands in
     let here : start_of past x < length (data_writes past p) = subst (λ q. start_of past x < length (data_writes past q)) u.port within in
     let few : (4 * start_of past x + 4 ≤ length (beats past p)) → ⊥ = λ many.
-        let four = four-from (beats past x.port) (4 * start_of past x) (subst (λ q. 4 * start_of past x + 4 ≤ length (beats past q)) (sym u.port) many) in
-        let bad : true ≡ false = sym (eq-eqb (length (burst_of past x)) 4 four) ∙ part in cc in
+    let four = four-from (beats past x.port) (4 * start_of past x) (subst (λ q. 4 * start_of past x + 4 ≤ length (beats past q)) (sym u.port) many) in
+    let bad : true ≡ false = sym (eq-eqb (length (burst_of past x)) 4 four) ∙ part in cc in
     let next : length (beats past p) / 4 ≡ w.0 = omega (arith, count) in
     let beat : length (beats past p) % 4 ≡ 0 = omega (arith, count) in
     let low : w.0 < length (data_writes past p) = elim (cases_Bool (nat_lt w.0 (length (data_writes past p)))) [
