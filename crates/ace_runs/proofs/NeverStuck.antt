@@ -10,7 +10,7 @@ pub mod StepShapes
 pub mod WholeBursts
 -- A run has the response to each write that has written memory.
 pub mod WritesAnswered
--- A complete write is to be acknowledged.
+-- A complete transaction is to be acknowledged.
 pub mod Acknowledges
 -- Beside a memory update no other port has passed the line on.
 pub mod BesideUpdates

@@ -102,7 +102,7 @@ write-acknowledges-counted (Wk q st ∷ past) p =
     rw (eqb-swap q p) (counted-next (p == q) (counted (at_port acknowledges_write p) past) (acknowledgements past p Write) (write-acknowledges-counted past p))
 write-acknowledges-counted (_ ∷ past) p = write-acknowledges-counted past p
 
-read-acknowledges-within : (h : Header) (past : Trace) (p : ℕ) → IsAccepted h past → acknowledgements past p Read ≤ length (completed past p Read)
+pub read-acknowledges-within : (h : Header) (past : Trace) (p : ℕ) → IsAccepted h past → acknowledgements past p Read ≤ length (completed past p Read)
 read-acknowledges-within h [] p a = omega arith
 read-acknowledges-within h (Rk q st ∷ past) p a =
     next-within (p == q) (acknowledgements past p Read) (completed past p Read) (read-acknowledges-within h past p a.0)

@@ -34,7 +34,7 @@ use Rattle.ace_runs.specs.Operations.{next_operation}
 use Rattle.ace_runs.specs.Steps.{AreSteps, is_enabled_by}
 use Rattle.ace_runs.proofs.Few.Beats.{beats-counted}
 use Rattle.ace_runs.proofs.Turns.{steps-accepted}
-use Rattle.ace_runs.proofs.NeverStuck.Acknowledges.{write-due}
+use Rattle.ace_runs.proofs.NeverStuck.Acknowledges.{complete-due}
 use Rattle.ace_runs.proofs.NeverStuck.StepShapes.{updates_write}
 use Rattle.ace_runs.proofs.NeverStuck.WholeBursts.{bursts-whole}
 use Rattle.ace_runs.proofs.NeverStuck.WritesAnswered.{writes-answered}
@@ -168,7 +168,7 @@ update-moves plan past p l x s u ace clear =
     let a = steps-accepted plan past s in
     elim (cases_Bool (is_complete past p Write x.id)) [
       | inl done ↦
-          let due = write-due h past p x.id x a ace u.out done in
+          let due = complete-due h past p Write x.id x a ace u.out done in
           let may : may_acknowledge (next_operation plan past p) h past p ≡ true = or_left (has_due h past p) (is_finished (next_operation plan past p) h past p) due in
           or_right (may_send h past p) _ (or_right (may_serve update_burst h past p) _ (or_left (may_acknowledge (next_operation plan past p) h past p) _ may))
       | inr undone ↦ elim (cases_Bool (is_burst_whole past x)) [
