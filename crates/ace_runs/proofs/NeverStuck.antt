@@ -18,3 +18,5 @@ pub mod BesideUpdates
 pub mod UpdatesMove
 -- So an unanswered snoop has a step.
 pub mod Snoops
+-- A port with a complete transaction that is outstanding is enabled.
+pub mod Complete
