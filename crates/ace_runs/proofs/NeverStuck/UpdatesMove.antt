@@ -95,17 +95,18 @@ there-is [] n low = absurd (omega (arith, low))
 there-is (x ∷ xs) zero low = refl
 there-is (x ∷ xs) (suc n) low = there-is xs n (omega (arith, low))
 
-may-send : (plan : Plan) (past : Trace) (p l : ℕ) (x : Transaction) → AreSteps plan past → IsUpdate plan.header past p l x → is_burst_whole past x ≡ false
-    → may_send plan.header past p ≡ true
-may-send plan past p l x s u part =
+-- Where the burst of a write with data isn't whole, its port has one to send.
+pub may-send : (plan : Plan) (past : Trace) (p : ℕ) (x : Transaction) → AreSteps plan past → IsIssued past x → x.port ≡ p
+    → is_some_and (write_kind x) has_write_data ≡ true → is_burst_whole past x ≡ false → may_send plan.header past p ≡ true
+may-send plan past p x s i port sends part =
     let a = steps-accepted plan past s in
     let w = bursts-whole plan past s p in
     let count : length (beats past p) ≡ w.0 * 4 = sym (beats-counted plan.header past p a) ∙ w.1 in
-    let stands = stands_at past x u.issued (sends-data x u.updates) in
+    let stands = stands_at past x i sends in
     let within = slice_get_within (data_writes past x.port) (start_of past x) x stands in
-    let here : start_of past x < length (data_writes past p) = subst (λ q. start_of past x < length (data_writes past q)) u.port within in
+    let here : start_of past x < length (data_writes past p) = subst (λ q. start_of past x < length (data_writes past q)) port within in
     let few : (4 * start_of past x + 4 ≤ length (beats past p)) → ⊥ = λ many.
-    let four = four-from (beats past x.port) (4 * start_of past x) (subst (λ q. 4 * start_of past x + 4 ≤ length (beats past q)) (sym u.port) many) in
+    let four = four-from (beats past x.port) (4 * start_of past x) (subst (λ q. 4 * start_of past x + 4 ≤ length (beats past q)) (sym port) many) in
     let bad : true ≡ false = sym (eq-eqb (length (burst_of past x)) 4 four) ∙ part in cc in
     let next : length (beats past p) / 4 ≡ w.0 = omega (arith, count) in
     let beat : length (beats past p) % 4 ≡ 0 = omega (arith, count) in
@@ -172,7 +173,7 @@ update-moves plan past p l x s u ace clear =
           let may : may_acknowledge (next_operation plan past p) h past p ≡ true = or_left (has_due h past p) (is_finished (next_operation plan past p) h past p) due in
           or_right (may_send h past p) _ (or_right (may_serve update_burst h past p) _ (or_left (may_acknowledge (next_operation plan past p) h past p) _ may))
       | inr undone ↦ elim (cases_Bool (is_burst_whole past x)) [
-        | inr part ↦ or_left (may_send h past p) _ (may-send plan past p l x s u part)
+        | inr part ↦ or_left (may_send h past p) _ (may-send plan past p x s u.issued u.port (sends-data x u.updates) part)
         | inl whole ↦
             let unwritten_here : has_memory_write past p Write x.id ≡ false = false_from_ne_true (has_memory_write past p Write x.id) (λ m. let done = writes-answered plan past s p x.id m in cc) in
             let unwritten : has_memory_write past x.port x.chan x.id ≡ false =
