@@ -3,3 +3,4 @@ pub mod Accepting
 pub mod LongerPlans
 pub mod Turns
 pub mod Few
+pub mod NeverStuck

@@ -1,11 +1,14 @@
 //! Laws of runs. These functions do no work: what they promise is the law.
 
-ghost use Rattle.std.specs.Prelude.{◌≡◌, ◌↔◌, ◌≤◌, ◌*◌, ℕ, true, List, length};
+ghost use Rattle.std.specs.Prelude.{◌≡◌, ◌↔◌, ◌≤◌, ◌*◌, ◌⊎◌, ℕ, true, List, [], ◌∷◌, Some, length};
 ghost use Rattle.ace_event.specs.declared.event.Channel.TheVariants.{Read, Write};
 ghost use Rattle.ace_event.specs.declared.event.Event.{Event};
 ghost use Rattle.ace_event.specs.declared.header.Header.{Header};
 ghost use Rattle.ace_model.specs.declared.plans.PlanOp.{PlanOp};
+ghost use Rattle.ace_model.specs.declared.snoops.Snoop.{Snoop};
 ghost use Rattle.ace_model.specs.Accepted.{IsAccepted};
+ghost use Rattle.ace_model.specs.Progress.{has_update};
+ghost use Rattle.ace_model.specs.Snoops.{answered, snoops_a_line};
 ghost use Rattle.ace_model.specs.Trace.{Trace};
 ghost use Rattle.ace_model.specs.Plans.{Plan, IsRight};
 ghost use Rattle.ace_runs.specs.Operations.{with_more};
@@ -38,7 +41,7 @@ ghost use Rattle.ace_runs.specs.Counts.{
   writes_memory,
 };
 ghost use Rattle.ace_runs.specs.Bursts.{onto};
-ghost use Rattle.ace_runs.specs.Steps.{Enabled, IsStep, AreSteps};
+ghost use Rattle.ace_runs.specs.Steps.{Enabled, IsStep, AreSteps, is_enabled_by};
 
 /// The tests of following and of leanness say what they are named for.
 pub fn tests_are_exact()
@@ -125,4 +128,13 @@ pub fn few_snoops_for_each_transaction()
 pub fn length_is_bounded()
     ensures { (plan : Plan) (past : Trace) → IsRight plan → IsAccepted plan.header past → FollowsSoFar plan past → IsLean plan past
         → length past ≤ length plan.operations * 256 }
+{}
+
+/// In a run where an AC is unanswered, its port is enabled by step 1; or the oldest unanswered snoop of the port is of a line on which
+/// a memory update of the port is outstanding, and the port is enabled by step 2, 3, 4 or 7.
+pub fn unanswered_snoop_has_a_step()
+    ensures { (plan : Plan) (past : Trace) (p : ℕ) (s : Snoop) → AreSteps plan past → answered past p ≡ Some s
+        → (is_enabled_by (1 ∷ []) plan past p ≡ true)
+        ⊎ ((snoops_a_line s.snoop ≡ true) × (has_update plan.header past p s.addr ≡ true)
+        × (is_enabled_by (2 ∷ 3 ∷ 4 ∷ 7 ∷ []) plan past p ≡ true)) }
 {}

@@ -40,7 +40,7 @@ beat-counted : (b : Bool) (count : ℕ) (xs : List Beat) (x : Beat) (room : Bool
 beat-counted true count xs x room same there = rw (there refl) (rw (length-append xs (x ∷ []), same) refl)
 beat-counted false count xs x room same there = same
 
-beats-counted : (h : Header) (past : Trace) (p : ℕ) → IsAccepted h past → counted (at_port is_write_beat p) past ≡ length (beats past p)
+pub beats-counted : (h : Header) (past : Trace) (p : ℕ) → IsAccepted h past → counted (at_port is_write_beat p) past ≡ length (beats past p)
 beats-counted h [] p a = refl
 beats-counted h (W q strb last word ∷ past) p a =
     rw (eqb-swap q p)

@@ -102,14 +102,14 @@ write-acknowledges-counted (Wk q st ∷ past) p =
     rw (eqb-swap q p) (counted-next (p == q) (counted (at_port acknowledges_write p) past) (acknowledgements past p Write) (write-acknowledges-counted past p))
 write-acknowledges-counted (_ ∷ past) p = write-acknowledges-counted past p
 
-read-acknowledges-within : (h : Header) (past : Trace) (p : ℕ) → IsAccepted h past → acknowledgements past p Read ≤ length (completed past p Read)
+pub read-acknowledges-within : (h : Header) (past : Trace) (p : ℕ) → IsAccepted h past → acknowledgements past p Read ≤ length (completed past p Read)
 read-acknowledges-within h [] p a = omega arith
 read-acknowledges-within h (Rk q st ∷ past) p a =
     next-within (p == q) (acknowledgements past p Read) (completed past p Read) (read-acknowledges-within h past p a.0)
     (λ same. subst (λ r. is_some (next_complete past r Read) ≡ true) (sym (eqb-true p q same)) (accepted_keeps h past (Rk q st) a).rule_22)
 read-acknowledges-within h (e ∷ past) p a = more-within (acknowledgements past p Read) (completed past p Read) (completes e p Read) (read-acknowledges-within h past p a.0)
 
-write-acknowledges-within : (h : Header) (past : Trace) (p : ℕ) → IsAccepted h past → acknowledgements past p Write ≤ length (completed past p Write)
+pub write-acknowledges-within : (h : Header) (past : Trace) (p : ℕ) → IsAccepted h past → acknowledgements past p Write ≤ length (completed past p Write)
 write-acknowledges-within h [] p a = omega arith
 write-acknowledges-within h (Wk q st ∷ past) p a =
     next-within (p == q) (acknowledgements past p Write) (completed past p Write) (write-acknowledges-within h past p a.0)

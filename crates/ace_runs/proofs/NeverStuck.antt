@@ -1,0 +1,22 @@
+-- What the steps of a run keep, from which it will follow that a run never gets stuck.
+
+-- A snoop that can't be answered yet waits for a memory update.
+pub mod Rows
+-- Which events each step gives.
+pub mod StepEvents
+-- What a step puts of write data and of writes of memory.
+pub mod StepShapes
+-- A run has the beats of whole bursts.
+pub mod WholeBursts
+-- A run has the response to each write that has written memory.
+pub mod WritesAnswered
+-- A complete transaction is to be acknowledged.
+pub mod Acknowledges
+-- Beside a memory update no other port has passed the line on.
+pub mod BesideUpdates
+-- A memory update with no passed data before it moves on.
+pub mod UpdatesMove
+-- So an unanswered snoop has a step.
+pub mod Snoops
+-- A port with a complete transaction that is outstanding is enabled.
+pub mod Complete

@@ -1,0 +1,264 @@
+-- Which events each step gives: steps 1, 4 and 14 give events of masters other than write data; what the other steps of one kind give
+-- is in their definitions.
+use Rattle.std.proofs.Common.{◌≡◌, ℕ, Bool, true, false, not, ◌&&◌, ◌||◌, ◌==◌, if◌then◌else◌, List, [], ◌∷◌, ◌++◌, map, filter, Option, Some, None, is_none, unwrap_or, inl, inr, refl}
+use Rattle.std.specs.List.{list_all, list_any, flat_map}
+use Rattle.std.specs.Option.{option_to_list, option_map}
+use Rattle.std.proofs.lemmas.Bool.{and_parts, and_from, or_cases}
+use Rattle.ace_codes.specs.declared.state.LineState.{LineState}
+use Rattle.ace_event.specs.declared.event.Channel.TheVariants.{Read, Write}
+use Rattle.ace_event.specs.declared.event.Event.{Event}
+use Rattle.ace_event.specs.declared.event.Event.TheVariants.{Ar, Rk, Aw, Wk, Cr, Cd, S, L, D, Op as Retires}
+use Rattle.ace_event.specs.declared.event.Outcome.TheVariants.{Ok, Skip, Fail}
+use Rattle.ace_event.specs.declared.header.Header.{Header}
+use Rattle.ace_tables.specs.States.{is_dirty}
+use Rattle.ace_model.specs.declared.plans.Op.{Op}
+use Rattle.ace_model.specs.declared.plans.Op.TheVariants as op
+use Rattle.ace_model.specs.declared.snoops.Snoop.{Snoop}
+use Rattle.ace_model.specs.declared.transactions.Transaction.{Transaction}
+use Rattle.ace_model.specs.Trace.{Trace, is_some_and}
+use Rattle.ace_model.specs.Kinds.{is_make_unique, is_unique_write}
+use Rattle.ace_model.specs.Transactions.{is_ace, is_read, read_kind, has_outstanding_on}
+use Rattle.ace_model.specs.AddressRules.{has_write, keeps_apart}
+use Rattle.ace_model.specs.Snoops.{answered, snoops_a_line}
+use Rattle.ace_codes.specs.Reads.{ar_code}
+use Rattle.ace_codes.specs.Responses.{transfers_data}
+use Rattle.ace_codes.specs.declared.kind.ArKind.{ArKind}
+use Rattle.ace_codes.specs.declared.kind.ArKind.TheVariants as read
+use Rattle.ace_codes.specs.declared.kind.AwKind.{AwKind}
+use Rattle.ace_codes.specs.declared.kind.AwKind.TheVariants as write
+use Rattle.ace_model.specs.States.{state_of, has_store}
+use Rattle.ace_runs.specs.Bursts.{onto}
+use Rattle.ace_runs.specs.Closing.{access_of, gives_access, state_named, access_and_retirement, closing_of, and_closing, retirement}
+use Rattle.ace_runs.specs.Follows.{owes_completion}
+use Rattle.ace_runs.specs.HeldLines.{held_lines}
+use Rattle.ace_runs.specs.MasterSteps.{after_answer, answers_snoop, store_lacked, acknowledge, acknowledge_for, acknowledge_in, acknowledge_of, acknowledges, acknowledges_on, due, end_of, is_finished, completion_bursts, moves, goes_on}
+use Rattle.ace_runs.specs.Requests.{Request, Reads, Misses, Writes, Drops, Barriers, Messages, with_identifier, read_bursts, write_bursts, and_part, drop_bursts, victim_bursts, room_bursts, has_room, bursts_of, free_on, free_on_both, is_waiting, request_of, ends_or_asks, moves_of}
+use Rattle.ace_runs.specs.Retiring.{may_retire, tells_completion}
+use Rattle.ace_runs.specs.SameEvents.{same_event, same_burst}
+use Rattle.ace_runs.specs.Segments.{is_in_segment}
+
+-- an event of a master, but write data
+abbrev pub is_masters : Event → Bool
+is_masters (Ar p i addr snoop dom bar lock) = true
+is_masters (Aw p i addr snoop dom bar) = true
+is_masters (Rk p st) = true
+is_masters (Wk p st) = true
+is_masters (Cr p resp st) = true
+is_masters (Cd p last word) = true
+is_masters (S p addr st) = true
+is_masters (L p addr w x word) = true
+is_masters (D p addr strobe x line) = true
+is_masters (Retires p k res) = true
+is_masters _ = false
+
+abbrev pub are_masters : List Event → Bool
+are_masters burst = list_all is_masters burst
+
+-- ---- the same events ---------------------------------------------------------------------------------
+
+same-masters : (d e : Event) → same_event d e ≡ true → is_masters d ≡ true → is_masters e ≡ true
+same-masters d (Ar p i addr snoop dom bar lock) s m = refl
+same-masters d (Aw p i addr snoop dom bar) s m = refl
+same-masters d (Rk p st) s m = refl
+same-masters d (Wk p st) s m = refl
+same-masters d (Cr p resp st) s m = refl
+same-masters d (Cd p last word) s m = refl
+same-masters d (S p addr st) s m = refl
+same-masters d (L p addr w x word) s m = refl
+same-masters d (D p addr strobe x line) s m = refl
+same-masters d (Retires p k res) s m = refl
+same-masters (Ar p i addr snoop dom bar lock) e s m = cc
+same-masters (Aw p i addr snoop dom bar) e s m = cc
+same-masters (Rk p st) e s m = cc
+same-masters (Wk p st) e s m = cc
+same-masters (Cr p resp st) e s m = cc
+same-masters (Cd p last word) e s m = cc
+same-masters (S p addr st) e s m = cc
+same-masters (L p addr w x word) e s m = cc
+same-masters (D p addr strobe x line) e s m = cc
+same-masters (Retires p k res) e s m = cc
+same-masters d e s m = cc
+
+pub same-burst-masters : (ds es : List Event) → same_burst ds es ≡ true → are_masters ds ≡ true → are_masters es ≡ true
+same-burst-masters [] [] s m = refl
+same-burst-masters [] (e ∷ es) s m = cc
+same-burst-masters (d ∷ ds) [] s m = cc
+same-burst-masters (d ∷ ds) (e ∷ es) s m =
+    let same = and_parts (same_event d e) (same_burst ds es) s in
+    let of = and_parts (is_masters d) (are_masters ds) m in
+    and_from _ _ (same-masters d e same.0 of.0) (same-burst-masters ds es same.1 of.1)
+
+-- ---- lists -------------------------------------------------------------------------------------------
+
+all-append : {A : Type 0} → (test : A → Bool) (xs ys : List A) → list_all test xs ≡ true → list_all test ys ≡ true → list_all test (xs ++ ys) ≡ true
+all-append test [] ys x y = y
+all-append test (a ∷ xs) ys x y =
+    let parts = and_parts (test a) (list_all test xs) x in and_from _ _ parts.0 (all-append test xs ys parts.1 y)
+
+pub all-map : {A B : Type 0} → (test : B → Bool) (f : A → B) (xs : List A) → ((a : A) → test (f a) ≡ true) → list_all test (map f xs) ≡ true
+all-map test f [] each = refl
+all-map test f (a ∷ xs) each = and_from _ _ (each a) (all-map test f xs each)
+
+-- the function takes what passes the one test to what passes the other
+all-mapped : {A B : Type 0} → (test : A → Bool) (later : B → Bool) (f : A → B) (xs : List A) → ((a : A) → test a ≡ true → later (f a) ≡ true)
+    → list_all test xs ≡ true → list_all later (map f xs) ≡ true
+all-mapped test later f [] each all = refl
+all-mapped test later f (a ∷ xs) each all =
+    let parts = and_parts (test a) (list_all test xs) all in and_from _ _ (each a parts.0) (all-mapped test later f xs each parts.1)
+
+all-flat_map : {A B : Type 0} → (test : B → Bool) (f : A → List B) (xs : List A) → ((a : A) → list_all test (f a) ≡ true) → list_all test (flat_map f xs) ≡ true
+all-flat_map test f [] each = refl
+all-flat_map test f (a ∷ xs) each = all-append test (f a) (flat_map f xs) (each a) (all-flat_map test f xs each)
+
+all-flat_mapped : {A B : Type 0} → (test : A → Bool) (later : B → Bool) (f : A → List B) (xs : List A) → ((a : A) → test a ≡ true → list_all later (f a) ≡ true)
+    → list_all test xs ≡ true → list_all later (flat_map f xs) ≡ true
+all-flat_mapped test later f [] each all = refl
+all-flat_mapped test later f (a ∷ xs) each all =
+    let parts = and_parts (test a) (list_all test xs) all in
+    all-append later (f a) (flat_map f xs) (each a parts.0) (all-flat_mapped test later f xs each parts.1)
+
+pub all-if : {A : Type 0} → (test : A → Bool) (b : Bool) (xs ys : List A) → list_all test xs ≡ true → list_all test ys ≡ true → list_all test (if b then xs else ys) ≡ true
+all-if test true xs ys x y = x
+all-if test false xs ys x y = y
+
+-- ---- what ends an operation --------------------------------------------------------------------------
+
+access-masters : (past : Trace) (p : ℕ) (o : Op) → are_masters (option_to_list (access_of past p o)) ≡ true
+access-masters past p (op.Ld a w) = refl
+access-masters past p (op.Ldx a w) = refl
+access-masters past p (op.St a w word) = refl
+access-masters past p (op.Stx a w word) = refl
+access-masters past p (op.Fill a line) = refl
+access-masters past p o = refl
+
+and-retirement : (past : Trace) (p : ℕ) (o : Option Event) → are_masters (option_to_list o) ≡ true → are_masters (access_and_retirement past p o) ≡ true
+and-retirement past p None m = refl
+and-retirement past p (Some e) m = and_from _ _ (and_parts (is_masters e) true m).0 refl
+
+closing-masters : (h : Header) (past : Trace) (p : ℕ) (o : Op) → are_masters (closing_of h past p o) ≡ true
+unfolding closing_of
+closing-masters h past p o =
+    all-if is_masters (may_retire h past p o Ok) _ _ refl
+    (all-if is_masters (may_retire h past p o Skip) _ _ refl
+    (all-if is_masters (may_retire h past p o Fail) _ _ refl
+    (all-if is_masters (gives_access o (state_named h past p o)) _ [] (and-retirement past p (access_of past p o) (access-masters past p o)) refl)))
+
+and-closing-masters : (h : Header) (past : Trace) (p : ℕ) (o : Op) (burst : List Event) → are_masters burst ≡ true → are_masters (and_closing h past p o burst) ≡ true
+and-closing-masters h past p o burst m = all-append is_masters burst _ m (closing-masters h (onto burst past) p o)
+
+-- ---- step 1 ------------------------------------------------------------------------------------------
+
+after-masters : (past : Trace) (p : ℕ) (s : Snoop) (resp : ℕ) → are_masters (after_answer past p s resp) ≡ true
+after-masters past p s resp =
+    all-if is_masters (tells_completion s) _ _ refl (all-if is_masters (snoops_a_line s.snoop && transfers_data resp) _ [] refl refl)
+
+answer-masters : (past : Trace) (p resp : ℕ) (o : Option Snoop) (rest : List Event)
+    → is_some_and o (λ s. same_burst (after_answer past p s resp) rest) ≡ true → are_masters rest ≡ true
+answer-masters past p resp None rest s = cc
+answer-masters past p resp (Some a) rest s = same-burst-masters (after_answer past p a resp) rest s (after-masters past p a resp)
+
+pub answers-masters : (h : Header) (past : Trace) (p : ℕ) (burst : List Event) → answers_snoop h past p burst ≡ true → are_masters burst ≡ true
+answers-masters h past p (Cr q resp st ∷ rest) s =
+    answer-masters past p resp (answered past p) rest (and_parts (p == q) _ s).1
+answers-masters h past p _ s = cc
+
+-- ---- step 4 ------------------------------------------------------------------------------------------
+
+acknowledge-masters : (x : Transaction) (st : LineState) → are_masters (acknowledge x st) ≡ true
+acknowledge-masters x st = by (is_read x.chan)
+  where
+    by : (b : Bool) → are_masters ((if b then Rk x.port st else Wk x.port st) ∷ []) ≡ true
+    by true = refl
+    by false = refl
+
+acknowledge-for-masters : (h : Header) (past : Trace) (x : Transaction) (next : Option Op) (st : LineState) → are_masters (acknowledge_for h past x next st) ≡ true
+acknowledge-for-masters h past x None st = refl
+acknowledge-for-masters h past x (Some o) st =
+    and-closing-masters h past x.port o (store_lacked h past x o ++ acknowledge x st)
+    (all-append is_masters (store_lacked h past x o) (acknowledge x st)
+    (all-if is_masters (is_some_and (read_kind x) is_make_unique && not (has_store h past x.port x.id)) _ [] (access-masters past x.port o) refl)
+    (acknowledge-masters x st))
+
+acknowledge-of-masters : (next : Option Op) (h : Header) (past : Trace) (x : Transaction) → are_masters (acknowledge_of next h past x) ≡ true
+acknowledge-of-masters next h past x = by (end_of h past x)
+  where
+    by : (o : Option LineState) → are_masters (unwrap_or (option_map (acknowledge_in next h past x) o) []) ≡ true
+    by None = refl
+    by (Some st) = all-if is_masters (is_in_segment past x) _ _ (acknowledge-for-masters h past x next st) (acknowledge-masters x st)
+
+acknowledges-on-masters : (next : Option Op) (h : Header) (past : Trace) (burst : List Event) (o : Option Transaction)
+    → is_some_and o (λ x. same_burst (acknowledge_of next h past x) burst) ≡ true → are_masters burst ≡ true
+acknowledges-on-masters next h past burst None s = cc
+acknowledges-on-masters next h past burst (Some x) s = same-burst-masters (acknowledge_of next h past x) burst s (acknowledge-of-masters next h past x)
+
+pub acknowledges-masters : (next : Option Op) (h : Header) (past : Trace) (p : ℕ) (burst : List Event) → acknowledges next h past p burst ≡ true → are_masters burst ≡ true
+acknowledges-masters next h past p burst s =
+    elim (or_cases (acknowledges_on next h past p burst Read || acknowledges_on next h past p burst Write) _ s) [
+      | inr finished ↦ same-burst-masters (retirement past p Ok) burst (and_parts (is_finished next h past p) _ finished).1 refl
+      | inl on ↦ elim (or_cases (acknowledges_on next h past p burst Read) (acknowledges_on next h past p burst Write) on) [
+        | inl reads ↦ acknowledges-on-masters next h past burst (due h past p Read) reads
+        | inr writes ↦ acknowledges-on-masters next h past burst (due h past p Write) writes
+      ]
+    ]
+
+-- ---- step 14 -----------------------------------------------------------------------------------------
+
+abbrev are_all_masters : List (List Event) → Bool
+are_all_masters bursts = list_all are_masters bursts
+
+with-masters : (o : Option ℕ) (burst : ℕ → List Event) → ((i : ℕ) → are_masters (burst i) ≡ true) → are_all_masters (with_identifier o burst) ≡ true
+with-masters o burst each = all-map are_masters burst (option_to_list o) each
+
+reads-masters : (h : Header) (past : Trace) (p : ℕ) (k : ArKind) (a : ℕ) (lock : Bool) → are_all_masters (read_bursts h past p k a lock) ≡ true
+reads-masters h past p k a lock = with-masters (free_on h past p Read) _ (λ i. refl)
+
+writes-masters : (h : Header) (past : Trace) (p : ℕ) (k : AwKind) (a : ℕ) → are_all_masters (write_bursts h past p k a) ≡ true
+writes-masters h past p k a = all-if are_masters (keeps_apart h past p k) _ [] (with-masters (free_on h past p Write) _ (λ i. refl)) refl
+
+requests-masters : (h : Header) (past : Trace) (p : ℕ) (r : Request) (ways : ℕ) → are_all_masters (bursts_of ways h past p r) ≡ true
+requests-masters h past p (Reads k a lock) ways = reads-masters h past p k a lock
+requests-masters h past p (Misses k a lock) ways =
+    all-if are_masters (has_room ways h past p) _ _ (reads-masters h past p k a lock) rooms
+  where
+    victim : (a : ℕ) → are_all_masters (victim_bursts h past p a) ≡ true
+    victim a =
+        all-if are_masters (is_dirty (state_of h past p a)) (write_bursts h past p write.WriteBack a) (drop_bursts p a) (writes-masters h past p write.WriteBack a) refl
+
+    rooms : are_all_masters (room_bursts h past p) ≡ true
+    rooms =
+        all-if are_masters (is_none (free_on h past p Write) || has_write h past p is_unique_write) [] (flat_map (victim_bursts h past p) (filter (λ a. not (has_outstanding_on h past p a)) (held_lines h past p))) refl
+        (all-flat_map are_masters (victim_bursts h past p) (filter (λ a. not (has_outstanding_on h past p a)) (held_lines h past p)) victim)
+requests-masters h past p (Writes k a) ways = writes-masters h past p k a
+requests-masters h past p (Drops a) ways = refl
+requests-masters h past p (Barriers bar) ways = with-masters (free_on_both h past p) _ (λ i. refl)
+requests-masters h past p (Messages word second) ways =
+    all-flat_mapped are_masters are_masters (and_part h past p second) (and_part h past p word [])
+    (λ burst m. part second burst m) (part word [] refl)
+  where
+    part : (word : ℕ) (burst : List Event) → are_masters burst ≡ true → are_all_masters (and_part h past p word burst) ≡ true
+    part word burst m =
+        all-mapped are_masters are_masters (λ later. burst ++ later) (read_bursts h (onto burst past) p read.DvmMessage word false)
+        (λ later l. all-append is_masters burst later m l) (reads-masters h (onto burst past) p read.DvmMessage word false)
+
+ends-or-asks-masters : (ways : ℕ) (h : Header) (past : Trace) (p : ℕ) (o : Op) (end : List Event) → are_masters end ≡ true → are_all_masters (ends_or_asks ways h past p o end) ≡ true
+ends-or-asks-masters ways h past p o [] m =
+    all-mapped are_masters are_masters (and_closing h past p o) (bursts_of ways h past p (request_of o (state_named h past p o)))
+    (and-closing-masters h past p o) (requests-masters h past p (request_of o (state_named h past p o)) ways)
+ends-or-asks-masters ways h past p o (e ∷ end) m = and_from _ _ m refl
+
+moves-masters : (ways : ℕ) (next : Option Op) (h : Header) (past : Trace) (p : ℕ) → are_all_masters (moves ways next h past p) ≡ true
+moves-masters ways next h past p =
+    all-append are_masters (completion_bursts h past p) (flat_map (moves_of ways h past p) (option_to_list next))
+    (all-if are_masters (is_ace h p && owes_completion past p) (with_identifier (free_on h past p Read) (λ i. Ar p i 0 (ar_code read.DvmComplete) 1 0 false ∷ [])) []
+    (with-masters (free_on h past p Read) (λ i. Ar p i 0 (ar_code read.DvmComplete) 1 0 false ∷ []) (λ i. refl)) refl)
+    (all-flat_map are_masters (moves_of ways h past p) (option_to_list next)
+    (λ o. all-if are_masters (is_waiting h past p o) [] _ refl (ends-or-asks-masters ways h past p o (closing_of h past p o) (closing-masters h past p o))))
+
+any-masters : (burst : List Event) (bursts : List (List Event)) → list_any (λ move. same_burst move burst) bursts ≡ true → are_all_masters bursts ≡ true → are_masters burst ≡ true
+any-masters burst [] s m = cc
+any-masters burst (move ∷ bursts) s m =
+    let of = and_parts (are_masters move) (are_all_masters bursts) m in
+    elim (or_cases (same_burst move burst) _ s) [ inl same ↦ same-burst-masters move burst same of.0 | inr later ↦ any-masters burst bursts later of.1 ]
+
+pub goes-on-masters : (ways : ℕ) (next : Option Op) (h : Header) (past : Trace) (p : ℕ) (burst : List Event) → goes_on ways next h past p burst ≡ true → are_masters burst ≡ true
+goes-on-masters ways next h past p burst s = any-masters burst (moves ways next h past p) s (moves-masters ways next h past p)

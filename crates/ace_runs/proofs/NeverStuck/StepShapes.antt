@@ -1,0 +1,261 @@
+-- What a step puts of write data and of writes of memory: none, the four beats of a burst, or one write of memory, which for a write
+-- comes with the response.
+use Rattle.std.proofs.Common.{◌≡◌, ◌⊎◌, ℕ, Bool, true, false, not, ◌&&◌, ◌||◌, ◌==◌, nat_lt, if◌then◌else◌, List, [], ◌∷◌, ◌++◌, length, filter, Option, Some, None, inl, inr, refl, sym, ap, ◌∙◌}
+use Rattle.std.specs.Bool.{⊤}
+use Rattle.std.specs.List.{list_all, list_any}
+use Rattle.std.proofs.lemmas.Bool.{and_parts, and_from, or_cases, cases_Bool, eq-eqb, ltb-true, not-true, false_from_ne_true}
+use Rattle.ace_codes.specs.declared.kind.SnoopKind.{SnoopKind}
+use Rattle.ace_event.specs.declared.event.Event.{Event}
+use Rattle.ace_event.specs.declared.event.Event.TheVariants.{Ac, W, M}
+use Rattle.ace_event.specs.declared.header.Header.{Header}
+use Rattle.ace_codes.specs.Snoops.{ac_code}
+use Rattle.ace_codes.specs.declared.kind.SnoopKind.TheVariants as snoop
+use Rattle.ace_model.specs.declared.transactions.Transaction.{Transaction}
+use Rattle.ace_model.specs.Trace.{Trace, implies, is_some_and}
+use Rattle.ace_model.specs.Accepted.{rules}
+use Rattle.ace_model.specs.AddressRules.{k1}
+use Rattle.ace_model.specs.Barriers.{Pair, pair_of}
+use Rattle.ace_model.specs.Grants.{has_passed_data, is_granted, ports_below}
+use Rattle.ace_model.specs.Kinds.{is_read_barrier}
+use Rattle.ace_model.specs.Messages.{is_dvm_completion, is_message_part, is_other_ace, next_part, has_part}
+use Rattle.ace_model.specs.Plans.{Plan}
+use Rattle.ace_model.specs.Progress.{evicts, updates_memory}
+use Rattle.ace_model.specs.Transactions.{is_line, is_outstanding, is_read, issued, read_kind, snoop_of, some_issued, takes_grant}
+use Rattle.ace_model.proofs.General.Options.{is_some_and-is}
+use Rattle.ace_model.proofs.General.Ports.{each_at}
+use Rattle.ace_model.proofs.Rules.Keeps.{kept}
+use Rattle.ace_runs.specs.Bursts.{are_kept, is_kept, serves}
+use Rattle.ace_runs.specs.LineSteps.{gives_snoops, grant_burst, is_first_to_wait, is_snoop_for, memory_write, passed_burst, response, takes_dirt, transfer_burst, update_burst, write_burst}
+use Rattle.ace_runs.specs.MasterSteps.{sends}
+use Rattle.ace_runs.specs.Operations.{next_operation}
+use Rattle.ace_runs.specs.OrderSteps.{barrier_burst, dvm_burst, forwarded_to, forwards, gets_message, is_by_port, is_part_of, message_of, pair_burst, parts_missing, sync_completion}
+use Rattle.ace_runs.specs.SameEvents.{same_burst, same_event}
+use Rattle.ace_runs.specs.Segments.{is_at_port}
+use Rattle.ace_runs.specs.Steps.{StepKind, is_sound, is_step, may_give, steps, steps_of}
+use Rattle.ace_runs.proofs.Accepting.{kept-breaks-none}
+use Rattle.ace_runs.proofs.Turns.{step-kept}
+use Rattle.ace_runs.proofs.NeverStuck.StepEvents.{are_masters, is_masters, all-if, all-map, answers-masters, acknowledges-masters, goes-on-masters}
+
+-- neither write data nor a write of memory
+abbrev pub is_plain : Event → Bool
+is_plain (W p strb last word) = false
+is_plain (M p c i line) = false
+is_plain _ = true
+
+abbrev pub are_plain : List Event → Bool
+are_plain burst = list_all is_plain burst
+
+-- The one write of memory of the step, for the transaction: with the response to a write, alone for a read's passed data.
+abbrev pub WritesFor : Header → Trace → List Event → Transaction → Type 0
+WritesFor h past burst x =
+    ((is_read x.chan ≡ false) × (same_burst (memory_write h past x ++ response x) burst ≡ true))
+    ⊎ ((is_read x.chan ≡ true) × (same_burst (memory_write h past x) burst ≡ true))
+
+abbrev pub StepShape : Header → Trace → ℕ → List Event → Type 0
+StepShape h past p burst = (are_plain burst ≡ true) ⊎ (sends h past p burst ≡ true) ⊎ ((x : Transaction) × WritesFor h past burst x)
+
+-- ---- plain events ------------------------------------------------------------------------------------
+
+masters-plain : (e : Event) → is_masters e ≡ true → is_plain e ≡ true
+masters-plain (W p strb last word) m = cc
+masters-plain (M p c i line) m = cc
+masters-plain e m = refl
+
+all-plain : (burst : List Event) → are_masters burst ≡ true → are_plain burst ≡ true
+all-plain [] m = refl
+all-plain (e ∷ burst) m = let of = and_parts (is_masters e) (are_masters burst) m in and_from _ _ (masters-plain e of.0) (all-plain burst of.1)
+
+same-plain : (d e : Event) → same_event d e ≡ true → is_plain d ≡ is_plain e
+same-plain (W q strb last word) (W p strobe first half) s = refl
+same-plain (W q strb last word) e s = cc
+same-plain d (W p strb last word) s = cc
+same-plain (M q c i line) (M p d j other) s = refl
+same-plain (M q c i line) e s = cc
+same-plain d (M p c i line) s = cc
+same-plain d e s = refl
+
+same-burst-plain : (ds es : List Event) → same_burst ds es ≡ true → are_plain ds ≡ are_plain es
+same-burst-plain [] [] s = refl
+same-burst-plain [] (e ∷ es) s = cc
+same-burst-plain (d ∷ ds) [] s = cc
+same-burst-plain (d ∷ ds) (e ∷ es) s =
+    let same = and_parts (same_event d e) (same_burst ds es) s in
+    ap (λ b. b && are_plain ds) (same-plain d e same.0) ∙ ap (λ b. is_plain e && b) (same-burst-plain ds es same.1)
+
+-- a burst that is the same as plain events
+pub plain-as : (ds es : List Event) → same_burst ds es ≡ true → are_plain ds ≡ true → are_plain es ≡ true
+plain-as ds es s m = sym (same-burst-plain ds es s) ∙ m
+
+-- ---- steps that serve a transaction ------------------------------------------------------------------
+
+issued-passes : (past : Trace) (test : Transaction → Bool) → some_issued past test ≡ true → (x : Transaction) × (test x ≡ true)
+issued-passes [] test s = cc
+issued-passes (e ∷ past) test s =
+    elim (or_cases (is_some_and (issued (length past) e) test) (some_issued past test) s) [
+      | inl new ↦ let x = is_some_and-is (issued (length past) e) test new in (x.0, x.2)
+      | inr old ↦ issued-passes past test old
+    ]
+
+served : (burst_for : Header → Trace → Transaction → List Event) (h : Header) (past : Trace) (p : ℕ) (burst : List Event)
+    → serves burst_for h past p burst ≡ true → (x : Transaction) × (same_burst (burst_for h past x) burst ≡ true)
+served burst_for h past p burst s =
+    let x = issued-passes past (λ x. (x.port == p) && is_outstanding h past x && same_burst (burst_for h past x) burst) s in
+    (x.0, (and_parts _ (same_burst (burst_for h past x.0) burst) x.1).1)
+
+served-plain : (burst_for : Header → Trace → Transaction → List Event) (h : Header) (past : Trace) (p : ℕ) (burst : List Event)
+    → ((x : Transaction) → are_plain (burst_for h past x) ≡ true) → serves burst_for h past p burst ≡ true → are_plain burst ≡ true
+served-plain burst_for h past p burst plain s =
+    let x = served burst_for h past p burst s in plain-as (burst_for h past x.0) burst x.1 (plain x.0)
+
+pair-plain : (o : Option Pair) → are_plain (pair_burst o) ≡ true
+pair-plain None = refl
+pair-plain (Some b) = refl
+
+pub updates_write : (x : Transaction) → updates_memory x ≡ true → is_read x.chan ≡ false
+updates_write x u = false_from_ne_true (is_read x.chan) (λ t. let bad : false ≡ true = rw t at u in cc)
+
+update-shape : (h : Header) (past : Trace) (p : ℕ) (burst : List Event) (x : Transaction) → same_burst (update_burst h past x) burst ≡ true → StepShape h past p burst
+update-shape h past p burst x s =
+    elim (cases_Bool (updates_memory x)) [
+      | inl u ↦ inr (inr (x, inl (updates_write x u, rw u at s)))
+      | inr f ↦ let plain : same_burst (if evicts x then response x else []) burst ≡ true = rw f at s in
+          inl (plain-as (if evicts x then response x else []) burst plain (all-if is_plain (evicts x) (response x) [] refl refl))
+    ]
+
+passed-shape : (h : Header) (past : Trace) (p : ℕ) (burst : List Event) (x : Transaction) → same_burst (passed_burst h past x) burst ≡ true → StepShape h past p burst
+passed-shape h past p burst x s =
+    elim (cases_Bool (is_read x.chan && has_passed_data h past x && not (takes_dirt h past x))) [
+      | inl t ↦
+          let reads = (and_parts (is_read x.chan) (has_passed_data h past x) (and_parts _ (not (takes_dirt h past x)) t).0).0 in
+          inr (inr (x, inr (reads, rw t at s)))
+      | inr f ↦ let none : same_burst [] burst ≡ true = rw f at s in inl (plain-as [] burst none refl)
+    ]
+
+write-shape : (h : Header) (past : Trace) (p : ℕ) (burst : List Event) (x : Transaction) → same_burst (write_burst h past x) burst ≡ true → StepShape h past p burst
+write-shape h past p burst x s =
+    elim (cases_Bool (not (is_read x.chan) && takes_grant x)) [
+      | inl t ↦ inr (inr (x, inl (not-true (is_read x.chan) (and_parts (not (is_read x.chan)) (takes_grant x) t).0, rw t at s)))
+      | inr f ↦ let none : same_burst [] burst ≡ true = rw f at s in inl (plain-as [] burst none refl)
+    ]
+
+-- ---- steps that send to other ports ------------------------------------------------------------------
+
+snoop-plain : (x : Transaction) (k : SnoopKind) (e : Event) → is_snoop_for x k e ≡ true → is_plain e ≡ true
+snoop-plain x k (W p strb last word) s = cc
+snoop-plain x k (M p c i line) s = cc
+snoop-plain x k e s = refl
+
+all-snoops-plain : (x : Transaction) (k : SnoopKind) (burst : List Event) → list_all (is_snoop_for x k) burst ≡ true → are_plain burst ≡ true
+all-snoops-plain x k [] s = refl
+all-snoops-plain x k (e ∷ burst) s =
+    let parts = and_parts (is_snoop_for x k e) (list_all (is_snoop_for x k) burst) s in
+    and_from _ _ (snoop-plain x k e parts.0) (all-snoops-plain x k burst parts.1)
+
+snoops-plain : (h : Header) (past : Trace) (p : ℕ) (burst : List Event) → gives_snoops h past p burst ≡ true → are_plain burst ≡ true
+snoops-plain h past p burst s =
+    let test = λ (x : Transaction). is_granted h past x && is_some_and (snoop_of x) (λ k. list_all (is_snoop_for x k) burst) in
+    let x = issued-passes past (λ x. (x.port == p) && is_outstanding h past x && test x) s in
+    let of = (and_parts (is_granted h past x.0) _ (and_parts ((x.0.port == p) && is_outstanding h past x.0) (test x.0) x.1).1).1 in
+    let k = is_some_and-is (snoop_of x.0) (λ k. list_all (is_snoop_for x.0 k) burst) of in
+    all-snoops-plain x.0 k.0 burst k.2
+
+filtered-plain : (q : ℕ) (burst : List Event) → are_plain (filter (is_at_port q) burst) ≡ true → list_all (λ e. implies (is_at_port q e) (is_plain e)) burst ≡ true
+filtered-plain q [] m = refl
+filtered-plain q (e ∷ burst) m =
+    elim (cases_Bool (is_at_port q e)) [
+      | inl t ↦
+          let here : are_plain (e ∷ filter (is_at_port q) burst) ≡ true = rw t at m in
+          let parts = and_parts (is_plain e) (are_plain (filter (is_at_port q) burst)) here in
+          and_from _ _ (rw t parts.0) (filtered-plain q burst parts.1)
+      | inr f ↦ and_from _ _ (rw f refl) (filtered-plain q burst (rw f at m))
+    ]
+
+-- an event of a port of the header that is plain at each port is plain
+plain-at : (h : Header) (e : Event) → k1 h [] e ≡ true → ((q : ℕ) → nat_lt q h.ports ≡ true → implies (is_at_port q e) (is_plain e) ≡ true) → is_plain e ≡ true
+plain-at h (W q strb last word) k each =
+    let low = (and_parts (nat_lt q h.ports) _ k).0 in let here : implies (q == q) false ≡ true = each q low in let bad : false ≡ true = rw (eq-eqb q q refl) at here in cc
+plain-at h (M q c i line) k each =
+    let low = (and_parts (nat_lt q h.ports) _ k).0 in let here : implies (q == q) false ≡ true = each q low in let bad : false ≡ true = rw (eq-eqb q q refl) at here in cc
+plain-at h e k each = refl
+
+plain-by-ports : (h : Header) (past : Trace) (burst : List Event) → are_kept h past burst ≡ true
+    → ((q : ℕ) → nat_lt q h.ports ≡ true → list_all (λ e. implies (is_at_port q e) (is_plain e)) burst ≡ true) → are_plain burst ≡ true
+plain-by-ports h past [] k each = refl
+plain-by-ports h past (e ∷ burst) k each =
+    let parts = and_parts (is_kept h past e) (are_kept h (e ∷ past) burst) k in
+    let one : k1 h past e ≡ true = kept rules 1 h past e (kept-breaks-none h past e parts.0) in
+    and_from _ _
+    (plain-at h e one (λ q low. (and_parts (implies (is_at_port q e) (is_plain e)) _ (each q low)).0))
+    (plain-by-ports h (e ∷ past) burst parts.1 (λ q low. (and_parts (implies (is_at_port q e) (is_plain e)) _ (each q low)).1))
+
+forwards-plain : (h : Header) (past : Trace) (p : ℕ) (burst : List Event) → are_kept h past burst ≡ true → forwards h past p burst ≡ true → are_plain burst ≡ true
+forwards-plain h past p burst k s =
+    let x = issued-passes past (λ x. is_part_of p x && list_all (gets_message h past x burst) (ports_below h.ports)) (and_parts (is_by_port burst) _ s).1 in
+    let all = (and_parts (is_part_of p x.0) (list_all (gets_message h past x.0 burst) (ports_below h.ports)) x.1).1 in
+    plain-by-ports h past burst k (λ q low.
+    let gets = each_at h.ports (gets_message h past x.0 burst) q all (ltb-true q h.ports low) in
+    filtered-plain q burst (same-burst-plain (filter (is_at_port q) burst) (forwarded_to h past x.0 q) gets ∙ (all-if is_plain (is_other_ace h x.0.port q && is_some_and (next_part past q) (has_part (message_of past x.0))) _ [] (all-map is_plain (λ (y : Transaction). Ac q y.addr (ac_code snoop.DvmMessage)) (parts_missing past x.0 q) (λ y. refl)) refl)))
+
+-- ---- all steps ---------------------------------------------------------------------------------------
+
+-- from what each of the steps gives
+abbrev Each : Header → Trace → ℕ → List Event → Type 0 → List StepKind → Type 0
+Each h past p burst P [] = ⊤
+Each h past p burst P (s ∷ rest) = (s.gives h past p burst ≡ true → P) × Each h past p burst P rest
+
+of-any : (h : Header) (past : Trace) (p : ℕ) (burst : List Event) (P : Type 0) (kinds : List StepKind) → Each h past p burst P kinds
+    → list_any (may_give h past p burst) kinds ≡ true → P
+of-any h past p burst P [] each s = cc
+of-any h past p burst P (kind ∷ kinds) each s =
+    elim (or_cases (may_give h past p burst kind) _ s) [
+      | inl now ↦ each.0 (and_parts (kind.is_enabled h past p) (kind.gives h past p burst) now).1
+      | inr later ↦ of-any h past p burst P kinds each.1 later
+    ]
+
+pub step-shape : (plan : Plan) (past : Trace) (p : ℕ) (burst : List Event) → is_step plan past p burst ≡ true → StepShape plan.header past p burst
+step-shape plan past p burst s =
+    let h = plan.header in
+    let next = next_operation plan past p in
+    let sound = and_parts (is_sound h past burst) (list_any (may_give h past p burst) (steps_of plan past p)) s in
+    let kept_all = step-kept plan past p burst s in
+    of-any h past p burst (StepShape h past p burst) (steps plan.ways next) (
+      (λ g. inl (all-plain burst (answers-masters h past p burst g))),
+      (
+        (λ g. inr (inl g)),
+        (
+          (λ g. let x = served update_burst h past p burst g in update-shape h past p burst x.0 x.1),
+          (
+            (λ g. inl (all-plain burst (acknowledges-masters next h past p burst g))),
+            (
+              (λ g. inl (served-plain grant_burst h past p burst (λ x. all-if is_plain (takes_grant x && is_first_to_wait h past x) _ [] refl refl) g)),
+              (
+                (λ g. inl (snoops-plain h past p burst g)),
+                (
+                  (λ g. let x = served passed_burst h past p burst g in passed-shape h past p burst x.0 x.1),
+                  (
+                    (λ g. inl (served-plain transfer_burst h past p burst (λ x. all-if is_plain (is_read x.chan && is_line x && implies (has_passed_data h past x) (takes_dirt h past x)) _ [] refl refl) g)),
+                    (
+                      (λ g. let x = served write_burst h past p burst g in write-shape h past p burst x.0 x.1),
+                      (
+                        (λ g. inl (served-plain barrier_burst h past p burst (λ x. all-if is_plain (is_some_and (read_kind x) is_read_barrier) _ [] (pair-plain (pair_of past x)) refl) g)),
+                        (
+                          (λ g. inl (forwards-plain h past p burst kept_all g)),
+                          (
+                            (λ g. inl (served-plain dvm_burst h past p burst (λ x. all-if is_plain (is_message_part x || is_dvm_completion x) _ [] refl refl) g)),
+                            (
+                              (λ g. inl (plain-as (sync_completion p) burst g refl)),
+                              ((λ g. inl (all-plain burst (goes-on-masters plan.ways next h past p burst g))), tt),
+                            ),
+                          ),
+                        ),
+                      ),
+                    ),
+                  ),
+                ),
+              ),
+            ),
+          ),
+        ),
+      ),
+    )
+    sound.1
