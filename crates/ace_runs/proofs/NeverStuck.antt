@@ -20,3 +20,7 @@ pub mod UpdatesMove
 pub mod Snoops
 -- A port with a complete transaction that is outstanding is enabled.
 pub mod Complete
+-- The port of a write may issue its kind.
+pub mod WriterPorts
+-- An Evict that isn't complete has its response.
+pub mod EvictsMove
