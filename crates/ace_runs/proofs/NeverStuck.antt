@@ -24,3 +24,5 @@ pub mod Complete
 pub mod WriterPorts
 -- An Evict that isn't complete has its response.
 pub mod EvictsMove
+-- A memory update moves on, or waits for passed data.
+pub mod UpdatesOrGranted
