@@ -26,3 +26,5 @@ pub mod WriterPorts
 pub mod EvictsMove
 -- A memory update moves on, or waits for passed data.
 pub mod UpdatesOrGranted
+-- A run has the data of each answer to a snoop.
+pub mod WholeAnswers
