@@ -28,3 +28,5 @@ pub mod EvictsMove
 pub mod UpdatesOrGranted
 -- A run has the data of each answer to a snoop.
 pub mod WholeAnswers
+-- So no port owes the data of an answer.
+pub mod NoDataOwed
