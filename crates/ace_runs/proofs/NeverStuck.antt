@@ -30,3 +30,7 @@ pub mod UpdatesOrGranted
 pub mod WholeAnswers
 -- So no port owes the data of an answer.
 pub mod NoDataOwed
+-- A granted write moves on once its snoops are done.
+pub mod GrantedWritesMove
+-- Passed data that a read can't take move on.
+pub mod PassedDataMove
