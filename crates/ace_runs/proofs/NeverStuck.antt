@@ -34,3 +34,5 @@ pub mod NoDataOwed
 pub mod GrantedWritesMove
 -- Passed data that a read can't take move on.
 pub mod PassedDataMove
+-- A write whose burst isn't whole has its port enabled.
+pub mod UnsentBursts
