@@ -20,3 +20,19 @@ pub mod UpdatesMove
 pub mod Snoops
 -- A port with a complete transaction that is outstanding is enabled.
 pub mod Complete
+-- The port of a write may issue its kind.
+pub mod WriterPorts
+-- An Evict that isn't complete has its response.
+pub mod EvictsMove
+-- A memory update moves on, or waits for passed data.
+pub mod UpdatesOrGranted
+-- A run has the data of each answer to a snoop.
+pub mod WholeAnswers
+-- So no port owes the data of an answer.
+pub mod NoDataOwed
+-- A granted write moves on once its snoops are done.
+pub mod GrantedWritesMove
+-- Passed data that a read can't take move on.
+pub mod PassedDataMove
+-- A write whose burst isn't whole has its port enabled.
+pub mod UnsentBursts

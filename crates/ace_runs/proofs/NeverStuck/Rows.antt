@@ -33,7 +33,7 @@ new-kind h past (Ac q addr code) p s a is =
     subst (λ (v : Snoop). is_some (ac_kind_of v.snoop) ≡ true) (some_if-is _ _ s is).1 (accepted_keeps h past (Ac q addr code) a).rule_2
 new-kind h past e p s a is = cc
 
-has-kind : (h : Header) (past : Trace) (p n : ℕ) (s : Snoop) → IsAccepted h past → slice_get (snoops_of past p) n ≡ Some s → is_some (ac_kind_of s.snoop) ≡ true
+pub has-kind : (h : Header) (past : Trace) (p n : ℕ) (s : Snoop) → IsAccepted h past → slice_get (snoops_of past p) n ≡ Some s → is_some (ac_kind_of s.snoop) ≡ true
 has-kind h [] p n s a is = cc
 has-kind h (e ∷ past) p n s a is =
     elim (slice_get-more (snoops_of past p) (snoop_at (length past) e p) n s is) [

@@ -1,4 +1,5 @@
--- Which events each step gives: steps 1, 4 and 14 give events of masters other than write data; what the other steps of one kind give
+-- Which events each step gives: steps 4 and 14 give events of masters other than write data and answers to snoops, step 1 those with which
+-- a snoop is answered; what the other steps of one kind give
 -- is in their definitions.
 use Rattle.std.proofs.Common.{◌≡◌, ℕ, Bool, true, false, not, ◌&&◌, ◌||◌, ◌==◌, if◌then◌else◌, List, [], ◌∷◌, ◌++◌, map, filter, Option, Some, None, is_none, unwrap_or, inl, inr, refl}
 use Rattle.std.specs.List.{list_all, list_any, flat_map}
@@ -37,14 +38,12 @@ use Rattle.ace_runs.specs.Retiring.{may_retire, tells_completion}
 use Rattle.ace_runs.specs.SameEvents.{same_event, same_burst}
 use Rattle.ace_runs.specs.Segments.{is_in_segment}
 
--- an event of a master, but write data
+-- an event of a master, but write data and answers to snoops
 abbrev pub is_masters : Event → Bool
 is_masters (Ar p i addr snoop dom bar lock) = true
 is_masters (Aw p i addr snoop dom bar) = true
 is_masters (Rk p st) = true
 is_masters (Wk p st) = true
-is_masters (Cr p resp st) = true
-is_masters (Cd p last word) = true
 is_masters (S p addr st) = true
 is_masters (L p addr w x word) = true
 is_masters (D p addr strobe x line) = true
@@ -61,8 +60,6 @@ same-masters d (Ar p i addr snoop dom bar lock) s m = refl
 same-masters d (Aw p i addr snoop dom bar) s m = refl
 same-masters d (Rk p st) s m = refl
 same-masters d (Wk p st) s m = refl
-same-masters d (Cr p resp st) s m = refl
-same-masters d (Cd p last word) s m = refl
 same-masters d (S p addr st) s m = refl
 same-masters d (L p addr w x word) s m = refl
 same-masters d (D p addr strobe x line) s m = refl
@@ -71,8 +68,6 @@ same-masters (Ar p i addr snoop dom bar lock) e s m = cc
 same-masters (Aw p i addr snoop dom bar) e s m = cc
 same-masters (Rk p st) e s m = cc
 same-masters (Wk p st) e s m = cc
-same-masters (Cr p resp st) e s m = cc
-same-masters (Cd p last word) e s m = cc
 same-masters (S p addr st) e s m = cc
 same-masters (L p addr w x word) e s m = cc
 same-masters (D p addr strobe x line) e s m = cc
@@ -148,19 +143,43 @@ and-closing-masters h past p o burst m = all-append is_masters burst _ m (closin
 
 -- ---- step 1 ------------------------------------------------------------------------------------------
 
-after-masters : (past : Trace) (p : ℕ) (s : Snoop) (resp : ℕ) → are_masters (after_answer past p s resp) ≡ true
-after-masters past p s resp =
-    all-if is_masters (tells_completion s) _ _ refl (all-if is_masters (snoops_a_line s.snoop && transfers_data resp) _ [] refl refl)
+-- an event with which a snoop is answered: the CR, data, or the OP of a Sync
+abbrev pub is_answering : Event → Bool
+is_answering (Cr p resp st) = true
+is_answering (Cd p last word) = true
+is_answering (Retires p k res) = true
+is_answering _ = false
 
-answer-masters : (past : Trace) (p resp : ℕ) (o : Option Snoop) (rest : List Event)
-    → is_some_and o (λ s. same_burst (after_answer past p s resp) rest) ≡ true → are_masters rest ≡ true
-answer-masters past p resp None rest s = cc
-answer-masters past p resp (Some a) rest s = same-burst-masters (after_answer past p a resp) rest s (after-masters past p a resp)
+same-answering : (d e : Event) → same_event d e ≡ true → is_answering d ≡ true → is_answering e ≡ true
+same-answering d (Cr p resp st) s m = refl
+same-answering d (Cd p last word) s m = refl
+same-answering d (Retires p k res) s m = refl
+same-answering (Cr p resp st) e s m = cc
+same-answering (Cd p last word) e s m = cc
+same-answering (Retires p k res) e s m = cc
+same-answering d e s m = cc
 
-pub answers-masters : (h : Header) (past : Trace) (p : ℕ) (burst : List Event) → answers_snoop h past p burst ≡ true → are_masters burst ≡ true
-answers-masters h past p (Cr q resp st ∷ rest) s =
-    answer-masters past p resp (answered past p) rest (and_parts (p == q) _ s).1
-answers-masters h past p _ s = cc
+same-burst-answering : (ds es : List Event) → same_burst ds es ≡ true → list_all is_answering ds ≡ true → list_all is_answering es ≡ true
+same-burst-answering [] [] s m = refl
+same-burst-answering [] (e ∷ es) s m = cc
+same-burst-answering (d ∷ ds) [] s m = cc
+same-burst-answering (d ∷ ds) (e ∷ es) s m =
+    let same = and_parts (same_event d e) (same_burst ds es) s in
+    let of = and_parts (is_answering d) (list_all is_answering ds) m in
+    and_from _ _ (same-answering d e same.0 of.0) (same-burst-answering ds es same.1 of.1)
+
+after-answering : (past : Trace) (p : ℕ) (s : Snoop) (resp : ℕ) → list_all is_answering (after_answer past p s resp) ≡ true
+after-answering past p s resp =
+    all-if is_answering (tells_completion s) _ _ refl (all-if is_answering (snoops_a_line s.snoop && transfers_data resp) _ [] refl refl)
+
+answer-answering : (past : Trace) (p resp : ℕ) (o : Option Snoop) (rest : List Event)
+    → is_some_and o (λ s. same_burst (after_answer past p s resp) rest) ≡ true → list_all is_answering rest ≡ true
+answer-answering past p resp None rest s = cc
+answer-answering past p resp (Some a) rest s = same-burst-answering (after_answer past p a resp) rest s (after-answering past p a resp)
+
+pub answers-answering : (h : Header) (past : Trace) (p : ℕ) (burst : List Event) → answers_snoop h past p burst ≡ true → list_all is_answering burst ≡ true
+answers-answering h past p (Cr q resp st ∷ rest) s = answer-answering past p resp (answered past p) rest (and_parts (p == q) _ s).1
+answers-answering h past p _ s = cc
 
 -- ---- step 4 ------------------------------------------------------------------------------------------
 

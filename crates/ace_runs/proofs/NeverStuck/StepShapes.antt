@@ -1,12 +1,12 @@
--- What a step puts of write data and of writes of memory: none, the four beats of a burst, or one write of memory, which for a write
--- comes with the response.
+-- What a step puts of write data, of answers to snoops and of writes of memory: none, the four beats of a burst, one answer with its data,
+-- or one write of memory, which for a write comes with the response.
 use Rattle.std.proofs.Common.{◌≡◌, ◌⊎◌, ℕ, Bool, true, false, not, ◌&&◌, ◌||◌, ◌==◌, nat_lt, if◌then◌else◌, List, [], ◌∷◌, ◌++◌, length, filter, Option, Some, None, inl, inr, refl, sym, ap, ◌∙◌}
 use Rattle.std.specs.Bool.{⊤}
 use Rattle.std.specs.List.{list_all, list_any}
 use Rattle.std.proofs.lemmas.Bool.{and_parts, and_from, or_cases, cases_Bool, eq-eqb, ltb-true, not-true, false_from_ne_true}
 use Rattle.ace_codes.specs.declared.kind.SnoopKind.{SnoopKind}
 use Rattle.ace_event.specs.declared.event.Event.{Event}
-use Rattle.ace_event.specs.declared.event.Event.TheVariants.{Ac, W, M}
+use Rattle.ace_event.specs.declared.event.Event.TheVariants.{Ac, Cr, Cd, W, M}
 use Rattle.ace_event.specs.declared.header.Header.{Header}
 use Rattle.ace_codes.specs.Snoops.{ac_code}
 use Rattle.ace_codes.specs.declared.kind.SnoopKind.TheVariants as snoop
@@ -26,7 +26,7 @@ use Rattle.ace_model.proofs.General.Ports.{each_at}
 use Rattle.ace_model.proofs.Rules.Keeps.{kept}
 use Rattle.ace_runs.specs.Bursts.{are_kept, is_kept, serves}
 use Rattle.ace_runs.specs.LineSteps.{gives_snoops, grant_burst, is_first_to_wait, is_snoop_for, memory_write, passed_burst, response, takes_dirt, transfer_burst, update_burst, write_burst}
-use Rattle.ace_runs.specs.MasterSteps.{sends}
+use Rattle.ace_runs.specs.MasterSteps.{answers_snoop, sends}
 use Rattle.ace_runs.specs.Operations.{next_operation}
 use Rattle.ace_runs.specs.OrderSteps.{barrier_burst, dvm_burst, forwarded_to, forwards, gets_message, is_by_port, is_part_of, message_of, pair_burst, parts_missing, sync_completion}
 use Rattle.ace_runs.specs.SameEvents.{same_burst, same_event}
@@ -34,12 +34,14 @@ use Rattle.ace_runs.specs.Segments.{is_at_port}
 use Rattle.ace_runs.specs.Steps.{StepKind, is_sound, is_step, may_give, steps, steps_of}
 use Rattle.ace_runs.proofs.Accepting.{kept-breaks-none}
 use Rattle.ace_runs.proofs.Turns.{step-kept}
-use Rattle.ace_runs.proofs.NeverStuck.StepEvents.{are_masters, is_masters, all-if, all-map, answers-masters, acknowledges-masters, goes-on-masters}
+use Rattle.ace_runs.proofs.NeverStuck.StepEvents.{are_masters, is_masters, all-if, all-map, acknowledges-masters, goes-on-masters}
 
--- neither write data nor a write of memory
+-- neither write data nor an answer to a snoop nor its data nor a write of memory
 abbrev pub is_plain : Event → Bool
 is_plain (W p strb last word) = false
 is_plain (M p c i line) = false
+is_plain (Cr p resp st) = false
+is_plain (Cd p last word) = false
 is_plain _ = true
 
 abbrev pub are_plain : List Event → Bool
@@ -52,13 +54,15 @@ WritesFor h past burst x =
     ⊎ ((is_read x.chan ≡ true) × (same_burst (memory_write h past x) burst ≡ true))
 
 abbrev pub StepShape : Header → Trace → ℕ → List Event → Type 0
-StepShape h past p burst = (are_plain burst ≡ true) ⊎ (sends h past p burst ≡ true) ⊎ ((x : Transaction) × WritesFor h past burst x)
+StepShape h past p burst = (are_plain burst ≡ true) ⊎ (sends h past p burst ≡ true) ⊎ (answers_snoop h past p burst ≡ true) ⊎ ((x : Transaction) × WritesFor h past burst x)
 
 -- ---- plain events ------------------------------------------------------------------------------------
 
 masters-plain : (e : Event) → is_masters e ≡ true → is_plain e ≡ true
 masters-plain (W p strb last word) m = cc
 masters-plain (M p c i line) m = cc
+masters-plain (Cr p resp st) m = cc
+masters-plain (Cd p last word) m = cc
 masters-plain e m = refl
 
 all-plain : (burst : List Event) → are_masters burst ≡ true → are_plain burst ≡ true
@@ -72,6 +76,12 @@ same-plain d (W p strb last word) s = cc
 same-plain (M q c i line) (M p d j other) s = refl
 same-plain (M q c i line) e s = cc
 same-plain d (M p c i line) s = cc
+same-plain (Cr q resp st) (Cr p r t) s = refl
+same-plain (Cr q resp st) e s = cc
+same-plain d (Cr p r t) s = cc
+same-plain (Cd q last word) (Cd p first half) s = refl
+same-plain (Cd q last word) e s = cc
+same-plain d (Cd p first half) s = cc
 same-plain d e s = refl
 
 same-burst-plain : (ds es : List Event) → same_burst ds es ≡ true → are_plain ds ≡ are_plain es
@@ -117,7 +127,7 @@ updates_write x u = false_from_ne_true (is_read x.chan) (λ t. let bad : false �
 update-shape : (h : Header) (past : Trace) (p : ℕ) (burst : List Event) (x : Transaction) → same_burst (update_burst h past x) burst ≡ true → StepShape h past p burst
 update-shape h past p burst x s =
     elim (cases_Bool (updates_memory x)) [
-      | inl u ↦ inr (inr (x, inl (updates_write x u, rw u at s)))
+      | inl u ↦ inr (inr (inr (x, inl (updates_write x u, rw u at s))))
       | inr f ↦ let plain : same_burst (if evicts x then response x else []) burst ≡ true = rw f at s in
           inl (plain-as (if evicts x then response x else []) burst plain (all-if is_plain (evicts x) (response x) [] refl refl))
     ]
@@ -127,14 +137,14 @@ passed-shape h past p burst x s =
     elim (cases_Bool (is_read x.chan && has_passed_data h past x && not (takes_dirt h past x))) [
       | inl t ↦
           let reads = (and_parts (is_read x.chan) (has_passed_data h past x) (and_parts _ (not (takes_dirt h past x)) t).0).0 in
-          inr (inr (x, inr (reads, rw t at s)))
+          inr (inr (inr (x, inr (reads, rw t at s))))
       | inr f ↦ let none : same_burst [] burst ≡ true = rw f at s in inl (plain-as [] burst none refl)
     ]
 
 write-shape : (h : Header) (past : Trace) (p : ℕ) (burst : List Event) (x : Transaction) → same_burst (write_burst h past x) burst ≡ true → StepShape h past p burst
 write-shape h past p burst x s =
     elim (cases_Bool (not (is_read x.chan) && takes_grant x)) [
-      | inl t ↦ inr (inr (x, inl (not-true (is_read x.chan) (and_parts (not (is_read x.chan)) (takes_grant x) t).0, rw t at s)))
+      | inl t ↦ inr (inr (inr (x, inl (not-true (is_read x.chan) (and_parts (not (is_read x.chan)) (takes_grant x) t).0, rw t at s))))
       | inr f ↦ let none : same_burst [] burst ≡ true = rw f at s in inl (plain-as [] burst none refl)
     ]
 
@@ -143,6 +153,8 @@ write-shape h past p burst x s =
 snoop-plain : (x : Transaction) (k : SnoopKind) (e : Event) → is_snoop_for x k e ≡ true → is_plain e ≡ true
 snoop-plain x k (W p strb last word) s = cc
 snoop-plain x k (M p c i line) s = cc
+snoop-plain x k (Cr p resp st) s = cc
+snoop-plain x k (Cd p last word) s = cc
 snoop-plain x k e s = refl
 
 all-snoops-plain : (x : Transaction) (k : SnoopKind) (burst : List Event) → list_all (is_snoop_for x k) burst ≡ true → are_plain burst ≡ true
@@ -175,6 +187,10 @@ plain-at : (h : Header) (e : Event) → k1 h [] e ≡ true → ((q : ℕ) → na
 plain-at h (W q strb last word) k each =
     let low = (and_parts (nat_lt q h.ports) _ k).0 in let here : implies (q == q) false ≡ true = each q low in let bad : false ≡ true = rw (eq-eqb q q refl) at here in cc
 plain-at h (M q c i line) k each =
+    let low = (and_parts (nat_lt q h.ports) _ k).0 in let here : implies (q == q) false ≡ true = each q low in let bad : false ≡ true = rw (eq-eqb q q refl) at here in cc
+plain-at h (Cr q resp st) k each =
+    let low = (and_parts (nat_lt q h.ports) _ k).0 in let here : implies (q == q) false ≡ true = each q low in let bad : false ≡ true = rw (eq-eqb q q refl) at here in cc
+plain-at h (Cd q last word) k each =
     let low = (and_parts (nat_lt q h.ports) _ k).0 in let here : implies (q == q) false ≡ true = each q low in let bad : false ≡ true = rw (eq-eqb q q refl) at here in cc
 plain-at h e k each = refl
 
@@ -219,7 +235,7 @@ step-shape plan past p burst s =
     let sound = and_parts (is_sound h past burst) (list_any (may_give h past p burst) (steps_of plan past p)) s in
     let kept_all = step-kept plan past p burst s in
     of-any h past p burst (StepShape h past p burst) (steps plan.ways next) (
-      (λ g. inl (all-plain burst (answers-masters h past p burst g))),
+      (λ g. inr (inr (inl g))),
       (
         (λ g. inr (inl g)),
         (

@@ -118,7 +118,7 @@ may-send plan past p x s i port sends part =
 
 -- ---- step 3 ------------------------------------------------------------------------------------------
 
-same-line-self : (line : Line) → same_line line line ≡ true
+pub same-line-self : (line : Line) → same_line line line ≡ true
 same-line-self line =
     and_from _ _ (and_from _ _ (and_from _ _ (eq-eqb (word_of line 0) (word_of line 0) refl) (eq-eqb (word_of line 1) (word_of line 1) refl)) (eq-eqb (word_of line 2) (word_of line 2) refl)) (eq-eqb (word_of line 3) (word_of line 3) refl)
 
@@ -129,12 +129,12 @@ three-kept true false c x y z = cc
 three-kept true true false x y z = cc
 
 -- of the rules only three look at a write of memory
-write-kept : (h : Header) (past : Trace) (p : ℕ) (c : Channel) (i : ℕ) (line : Line) → k1 h past (M p c i line) ≡ true → k24 h past (M p c i line) ≡ true
+pub write-kept : (h : Header) (past : Trace) (p : ℕ) (c : Channel) (i : ℕ) (line : Line) → k1 h past (M p c i line) ≡ true → k24 h past (M p c i line) ≡ true
     → k25 h past (M p c i line) ≡ true → is_kept h past (M p c i line) ≡ true
 unfolding is_kept
 write-kept h past p c i line one may line_is = three-kept (k1 h past (M p c i line)) (k24 h past (M p c i line)) (k25 h past (M p c i line)) one may line_is
 
-data-there : (h : Header) (past : Trace) (x : Transaction) (k : AwKind) → is_read x.chan ≡ false → write_kind x ≡ Some k → data_of h past x ≡ Some (data_of_write h past x k)
+pub data-there : (h : Header) (past : Trace) (x : Transaction) (k : AwKind) → is_read x.chan ≡ false → write_kind x ≡ Some k → data_of h past x ≡ Some (data_of_write h past x k)
 data-there h past x k writes kind =
     ap (λ b. if b then passed_data h past x.addr else option_map (data_of_write h past x) (write_kind x)) writes ∙ ap (option_map (data_of_write h past x)) kind
 

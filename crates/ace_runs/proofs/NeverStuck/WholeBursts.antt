@@ -19,6 +19,7 @@ use Rattle.ace_runs.specs.SameEvents.{same_burst, same_event}
 use Rattle.ace_runs.specs.Steps.{AreSteps, is_step}
 use Rattle.ace_runs.proofs.Few.Ports.{at_port}
 use Rattle.ace_runs.proofs.Turns.{of-each-run}
+use Rattle.ace_runs.proofs.NeverStuck.StepEvents.{answers-answering, is_answering}
 use Rattle.ace_runs.proofs.NeverStuck.StepShapes.{WritesFor, are_plain, is_plain, step-shape}
 
 -- how many beats of write data the port has
@@ -48,6 +49,15 @@ plain-no-beat e m = refl
 plain-no-beats : (burst : List Event) → are_plain burst ≡ true → list_all (λ e. not (is_write_beat e)) burst ≡ true
 plain-no-beats [] m = refl
 plain-no-beats (e ∷ burst) m = let parts = and_parts (is_plain e) (are_plain burst) m in and_from _ _ (plain-no-beat e parts.0) (plain-no-beats burst parts.1)
+
+answering-no-beat : (e : Event) → is_answering e ≡ true → not (is_write_beat e) ≡ true
+answering-no-beat (W q strb last word) m = cc
+answering-no-beat e m = refl
+
+answering-no-beats : (burst : List Event) → list_all is_answering burst ≡ true → list_all (λ e. not (is_write_beat e)) burst ≡ true
+answering-no-beats [] m = refl
+answering-no-beats (e ∷ burst) m =
+    let parts = and_parts (is_answering e) (list_all is_answering burst) m in and_from _ _ (answering-no-beat e parts.0) (answering-no-beats burst parts.1)
 
 same-beat : (d e : Event) → same_event d e ≡ true → not (is_write_beat d) ≡ true → not (is_write_beat e) ≡ true
 same-beat (W q strb last word) e s m = cc
@@ -119,7 +129,8 @@ whole-kept plan past p burst whole s =
     elim (step-shape plan past p burst s) [
       | inl plain ↦ kept-by-none burst past whole (plain-no-beats burst plain)
       | inr (inl sent) ↦ kept-by-burst plan.header burst past p whole sent
-      | inr (inr w) ↦ kept-by-none burst past whole (writes-no-beats plan.header past burst w.0 w.1)
+      | inr (inr (inl g)) ↦ kept-by-none burst past whole (answering-no-beats burst (answers-answering plan.header past p burst g))
+      | inr (inr (inr w)) ↦ kept-by-none burst past whole (writes-no-beats plan.header past burst w.0 w.1)
     ]
 
 -- Each run has whole bursts.

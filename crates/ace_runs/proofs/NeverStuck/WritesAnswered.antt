@@ -21,6 +21,7 @@ use Rattle.ace_runs.specs.MasterSteps.{is_beat}
 use Rattle.ace_runs.specs.SameEvents.{same_burst, same_event}
 use Rattle.ace_runs.specs.Steps.{AreSteps, is_step}
 use Rattle.ace_runs.proofs.Turns.{of-each-run}
+use Rattle.ace_runs.proofs.NeverStuck.StepEvents.{answers-answering, is_answering}
 use Rattle.ace_runs.proofs.NeverStuck.StepShapes.{WritesFor, are_plain, is_plain, plain-as, step-shape}
 
 -- a write that has written memory has its response
@@ -62,6 +63,15 @@ plain-none e m = refl
 all-plain-none : (burst : List Event) → are_plain burst ≡ true → list_all writes_none burst ≡ true
 all-plain-none [] m = refl
 all-plain-none (e ∷ burst) m = let parts = and_parts (is_plain e) (are_plain burst) m in and_from _ _ (plain-none e parts.0) (all-plain-none burst parts.1)
+
+answering-none : (e : Event) → is_answering e ≡ true → writes_none e ≡ true
+answering-none (M p c i line) m = cc
+answering-none e m = refl
+
+all-answering-none : (burst : List Event) → list_all is_answering burst ≡ true → list_all writes_none burst ≡ true
+all-answering-none [] m = refl
+all-answering-none (e ∷ burst) m =
+    let parts = and_parts (is_answering e) (list_all is_answering burst) m in and_from _ _ (answering-none e parts.0) (all-answering-none burst parts.1)
 
 beat-none : (q : ℕ) (e : Event) → is_beat q e ≡ true → writes_none e ≡ true
 beat-none q (M p c i line) b = cc
@@ -139,7 +149,8 @@ answered-kept plan past p burst answered s =
     elim (step-shape plan past p burst s) [
       | inl plain ↦ kept-by-events burst past answered (all-plain-none burst plain)
       | inr (inl sent) ↦ kept-by-events burst past answered (beats-none p burst (and_parts (list_all (is_beat p) burst) (length burst == 4) sent).0)
-      | inr (inr w) ↦ for-one plan.header past burst w.0 answered w.1
+      | inr (inr (inl g)) ↦ kept-by-events burst past answered (all-answering-none burst (answers-answering plan.header past p burst g))
+      | inr (inr (inr w)) ↦ for-one plan.header past burst w.0 answered w.1
     ]
 
 -- In each run, what has written memory has its response.
