@@ -1,0 +1,12 @@
+-- Barriers of a run: to which operation one belongs, that none holds back a grant, that its halves go together, and that it is answered.
+
+-- Which acts are barriers.
+pub mod Acts
+-- An outstanding barrier belongs to its port's next operation.
+pub mod OfNext
+-- What ends an operation and what acknowledges issues nothing.
+pub mod Quiet
+-- What step 14 issues.
+pub mod Asks
+-- The bursts of step 14.
+pub mod GoesOn
