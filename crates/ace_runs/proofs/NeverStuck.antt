@@ -4,6 +4,10 @@
 pub mod Rows
 -- Which events each step gives.
 pub mod StepEvents
+-- Tests of bursts that are the same.
+pub mod SameBursts
+-- The events with which a message is forwarded.
+pub mod Forwards
 -- What a step puts of write data and of writes of memory.
 pub mod StepShapes
 -- A run has the beats of whole bursts.

@@ -10,3 +10,7 @@ pub mod Quiet
 pub mod Asks
 -- The bursts of step 14.
 pub mod GoesOn
+-- Responses, and what is no barrier.
+pub mod Responses
+-- What a step issues and answers.
+pub mod StepShape

@@ -1,40 +1,34 @@
 -- What a step puts of write data, of answers to snoops and of writes of memory: none, the four beats of a burst, one answer with its data,
 -- or one write of memory, which for a write comes with the response.
-use Rattle.std.proofs.Common.{◌≡◌, ◌⊎◌, ℕ, Bool, true, false, not, ◌&&◌, ◌||◌, ◌==◌, nat_lt, if◌then◌else◌, List, [], ◌∷◌, ◌++◌, length, filter, Option, Some, None, inl, inr, refl, sym, ap, ◌∙◌}
+use Rattle.std.proofs.Common.{◌≡◌, ◌⊎◌, ℕ, Bool, true, false, not, ◌&&◌, ◌||◌, ◌==◌, if◌then◌else◌, List, [], ◌∷◌, ◌++◌, Option, Some, None, inl, inr, refl, sym, ap, ◌∙◌}
 use Rattle.std.specs.Bool.{⊤}
 use Rattle.std.specs.List.{list_all, list_any}
-use Rattle.std.proofs.lemmas.Bool.{and_parts, and_from, or_cases, cases_Bool, eq-eqb, ltb-true, not-true, false_from_ne_true}
+use Rattle.std.proofs.lemmas.Bool.{and_parts, and_from, or_cases, cases_Bool, not-true, false_from_ne_true}
 use Rattle.ace_codes.specs.declared.kind.SnoopKind.{SnoopKind}
 use Rattle.ace_event.specs.declared.event.Event.{Event}
-use Rattle.ace_event.specs.declared.event.Event.TheVariants.{Ac, Cr, Cd, W, M}
+use Rattle.ace_event.specs.declared.event.Event.TheVariants.{Cr, Cd, W, M}
 use Rattle.ace_event.specs.declared.header.Header.{Header}
-use Rattle.ace_codes.specs.Snoops.{ac_code}
-use Rattle.ace_codes.specs.declared.kind.SnoopKind.TheVariants as snoop
 use Rattle.ace_model.specs.declared.transactions.Transaction.{Transaction}
-use Rattle.ace_model.specs.Trace.{Trace, implies, is_some_and}
-use Rattle.ace_model.specs.Accepted.{rules}
-use Rattle.ace_model.specs.AddressRules.{k1}
+use Rattle.ace_model.specs.Trace.{Trace, implies, is_some_and, port_of}
 use Rattle.ace_model.specs.Barriers.{Pair, pair_of}
-use Rattle.ace_model.specs.Grants.{has_passed_data, is_granted, ports_below}
+use Rattle.ace_model.specs.Grants.{has_passed_data, is_granted}
 use Rattle.ace_model.specs.Kinds.{is_read_barrier}
-use Rattle.ace_model.specs.Messages.{is_dvm_completion, is_message_part, is_other_ace, next_part, has_part}
+use Rattle.ace_model.specs.Messages.{is_dvm_completion, is_message_part}
 use Rattle.ace_model.specs.Plans.{Plan}
 use Rattle.ace_model.specs.Progress.{evicts, updates_memory}
-use Rattle.ace_model.specs.Transactions.{is_line, is_outstanding, is_read, issued, read_kind, snoop_of, some_issued, takes_grant}
+use Rattle.ace_model.specs.Transactions.{is_line, is_outstanding, is_read, read_kind, snoop_of, takes_grant}
 use Rattle.ace_model.proofs.General.Options.{is_some_and-is}
-use Rattle.ace_model.proofs.General.Ports.{each_at}
-use Rattle.ace_model.proofs.Rules.Keeps.{kept}
-use Rattle.ace_runs.specs.Bursts.{are_kept, is_kept, serves}
+use Rattle.ace_model.proofs.Trace.Growth.{some_issued-is}
+use Rattle.ace_runs.specs.Bursts.{are_kept, serves}
 use Rattle.ace_runs.specs.LineSteps.{gives_snoops, grant_burst, is_first_to_wait, is_snoop_for, memory_write, passed_burst, response, takes_dirt, transfer_burst, update_burst, write_burst}
 use Rattle.ace_runs.specs.MasterSteps.{answers_snoop, sends}
 use Rattle.ace_runs.specs.Operations.{next_operation}
-use Rattle.ace_runs.specs.OrderSteps.{barrier_burst, dvm_burst, forwarded_to, forwards, gets_message, is_by_port, is_part_of, message_of, pair_burst, parts_missing, sync_completion}
+use Rattle.ace_runs.specs.OrderSteps.{barrier_burst, dvm_burst, forwards, pair_burst, sync_completion}
 use Rattle.ace_runs.specs.SameEvents.{same_burst, same_event}
-use Rattle.ace_runs.specs.Segments.{is_at_port}
 use Rattle.ace_runs.specs.Steps.{StepKind, is_sound, is_step, may_give, steps, steps_of}
-use Rattle.ace_runs.proofs.Accepting.{kept-breaks-none}
 use Rattle.ace_runs.proofs.Turns.{step-kept}
-use Rattle.ace_runs.proofs.NeverStuck.StepEvents.{are_masters, is_masters, all-if, all-map, acknowledges-masters, goes-on-masters}
+use Rattle.ace_runs.proofs.NeverStuck.Forwards.{forwards-pass}
+use Rattle.ace_runs.proofs.NeverStuck.StepEvents.{are_masters, is_masters, all-if, acknowledges-masters, goes-on-masters}
 
 -- neither write data nor an answer to a snoop nor its data nor a write of memory
 abbrev pub is_plain : Event → Bool
@@ -98,19 +92,11 @@ plain-as ds es s m = sym (same-burst-plain ds es s) ∙ m
 
 -- ---- steps that serve a transaction ------------------------------------------------------------------
 
-issued-passes : (past : Trace) (test : Transaction → Bool) → some_issued past test ≡ true → (x : Transaction) × (test x ≡ true)
-issued-passes [] test s = cc
-issued-passes (e ∷ past) test s =
-    elim (or_cases (is_some_and (issued (length past) e) test) (some_issued past test) s) [
-      | inl new ↦ let x = is_some_and-is (issued (length past) e) test new in (x.0, x.2)
-      | inr old ↦ issued-passes past test old
-    ]
-
 served : (burst_for : Header → Trace → Transaction → List Event) (h : Header) (past : Trace) (p : ℕ) (burst : List Event)
     → serves burst_for h past p burst ≡ true → (x : Transaction) × (same_burst (burst_for h past x) burst ≡ true)
 served burst_for h past p burst s =
-    let x = issued-passes past (λ x. (x.port == p) && is_outstanding h past x && same_burst (burst_for h past x) burst) s in
-    (x.0, (and_parts _ (same_burst (burst_for h past x.0) burst) x.1).1)
+    let x = some_issued-is past (λ x. (x.port == p) && is_outstanding h past x && same_burst (burst_for h past x) burst) s in
+    (x.0, (and_parts _ (same_burst (burst_for h past x.0) burst) x.2).1)
 
 served-plain : (burst_for : Header → Trace → Transaction → List Event) (h : Header) (past : Trace) (p : ℕ) (burst : List Event)
     → ((x : Transaction) → are_plain (burst_for h past x) ≡ true) → serves burst_for h past p burst ≡ true → are_plain burst ≡ true
@@ -166,60 +152,30 @@ all-snoops-plain x k (e ∷ burst) s =
 snoops-plain : (h : Header) (past : Trace) (p : ℕ) (burst : List Event) → gives_snoops h past p burst ≡ true → are_plain burst ≡ true
 snoops-plain h past p burst s =
     let test = λ (x : Transaction). is_granted h past x && is_some_and (snoop_of x) (λ k. list_all (is_snoop_for x k) burst) in
-    let x = issued-passes past (λ x. (x.port == p) && is_outstanding h past x && test x) s in
-    let of = (and_parts (is_granted h past x.0) _ (and_parts ((x.0.port == p) && is_outstanding h past x.0) (test x.0) x.1).1).1 in
+    let x = some_issued-is past (λ x. (x.port == p) && is_outstanding h past x && test x) s in
+    let of = (and_parts (is_granted h past x.0) _ (and_parts ((x.0.port == p) && is_outstanding h past x.0) (test x.0) x.2).1).1 in
     let k = is_some_and-is (snoop_of x.0) (λ k. list_all (is_snoop_for x.0 k) burst) of in
     all-snoops-plain x.0 k.0 burst k.2
 
-filtered-plain : (q : ℕ) (burst : List Event) → are_plain (filter (is_at_port q) burst) ≡ true → list_all (λ e. implies (is_at_port q e) (is_plain e)) burst ≡ true
-filtered-plain q [] m = refl
-filtered-plain q (e ∷ burst) m =
-    elim (cases_Bool (is_at_port q e)) [
-      | inl t ↦
-          let here : are_plain (e ∷ filter (is_at_port q) burst) ≡ true = rw t at m in
-          let parts = and_parts (is_plain e) (are_plain (filter (is_at_port q) burst)) here in
-          and_from _ _ (rw t parts.0) (filtered-plain q burst parts.1)
-      | inr f ↦ and_from _ _ (rw f refl) (filtered-plain q burst (rw f at m))
-    ]
-
--- an event of a port of the header that is plain at each port is plain
-plain-at : (h : Header) (e : Event) → k1 h [] e ≡ true → ((q : ℕ) → nat_lt q h.ports ≡ true → implies (is_at_port q e) (is_plain e) ≡ true) → is_plain e ≡ true
-plain-at h (W q strb last word) k each =
-    let low = (and_parts (nat_lt q h.ports) _ k).0 in let here : implies (q == q) false ≡ true = each q low in let bad : false ≡ true = rw (eq-eqb q q refl) at here in cc
-plain-at h (M q c i line) k each =
-    let low = (and_parts (nat_lt q h.ports) _ k).0 in let here : implies (q == q) false ≡ true = each q low in let bad : false ≡ true = rw (eq-eqb q q refl) at here in cc
-plain-at h (Cr q resp st) k each =
-    let low = (and_parts (nat_lt q h.ports) _ k).0 in let here : implies (q == q) false ≡ true = each q low in let bad : false ≡ true = rw (eq-eqb q q refl) at here in cc
-plain-at h (Cd q last word) k each =
-    let low = (and_parts (nat_lt q h.ports) _ k).0 in let here : implies (q == q) false ≡ true = each q low in let bad : false ≡ true = rw (eq-eqb q q refl) at here in cc
-plain-at h e k each = refl
-
-plain-by-ports : (h : Header) (past : Trace) (burst : List Event) → are_kept h past burst ≡ true
-    → ((q : ℕ) → nat_lt q h.ports ≡ true → list_all (λ e. implies (is_at_port q e) (is_plain e)) burst ≡ true) → are_plain burst ≡ true
-plain-by-ports h past [] k each = refl
-plain-by-ports h past (e ∷ burst) k each =
-    let parts = and_parts (is_kept h past e) (are_kept h (e ∷ past) burst) k in
-    let one : k1 h past e ≡ true = kept rules 1 h past e (kept-breaks-none h past e parts.0) in
-    and_from _ _
-    (plain-at h e one (λ q low. (and_parts (implies (is_at_port q e) (is_plain e)) _ (each q low)).0))
-    (plain-by-ports h (e ∷ past) burst parts.1 (λ q low. (and_parts (implies (is_at_port q e) (is_plain e)) _ (each q low)).1))
+no-port-plain : (e : Event) → port_of e ≡ None → is_plain e ≡ true
+no-port-plain (W p strb last word) none = cc
+no-port-plain (M p c i line) none = cc
+no-port-plain (Cr p resp st) none = cc
+no-port-plain (Cd p last word) none = cc
+no-port-plain e none = refl
 
 forwards-plain : (h : Header) (past : Trace) (p : ℕ) (burst : List Event) → are_kept h past burst ≡ true → forwards h past p burst ≡ true → are_plain burst ≡ true
 forwards-plain h past p burst k s =
-    let x = issued-passes past (λ x. is_part_of p x && list_all (gets_message h past x burst) (ports_below h.ports)) (and_parts (is_by_port burst) _ s).1 in
-    let all = (and_parts (is_part_of p x.0) (list_all (gets_message h past x.0 burst) (ports_below h.ports)) x.1).1 in
-    plain-by-ports h past burst k (λ q low.
-    let gets = each_at h.ports (gets_message h past x.0 burst) q all (ltb-true q h.ports low) in
-    filtered-plain q burst (same-burst-plain (filter (is_at_port q) burst) (forwarded_to h past x.0 q) gets ∙ (all-if is_plain (is_other_ace h x.0.port q && is_some_and (next_part past q) (has_part (message_of past x.0))) _ [] (all-map is_plain (λ (y : Transaction). Ac q y.addr (ac_code snoop.DvmMessage)) (parts_missing past x.0 q) (λ y. refl)) refl)))
+    forwards-pass is_plain (λ d e same m. same-plain d e same ∙ m) (λ q addr code. refl) no-port-plain h past p burst k s
 
 -- ---- all steps ---------------------------------------------------------------------------------------
 
 -- from what each of the steps gives
-abbrev Each : Header → Trace → ℕ → List Event → Type 0 → List StepKind → Type 0
+abbrev pub Each : Header → Trace → ℕ → List Event → Type 0 → List StepKind → Type 0
 Each h past p burst P [] = ⊤
 Each h past p burst P (s ∷ rest) = (s.gives h past p burst ≡ true → P) × Each h past p burst P rest
 
-of-any : (h : Header) (past : Trace) (p : ℕ) (burst : List Event) (P : Type 0) (kinds : List StepKind) → Each h past p burst P kinds
+pub of-any : (h : Header) (past : Trace) (p : ℕ) (burst : List Event) (P : Type 0) (kinds : List StepKind) → Each h past p burst P kinds
     → list_any (may_give h past p burst) kinds ≡ true → P
 of-any h past p burst P [] each s = cc
 of-any h past p burst P (kind ∷ kinds) each s =

@@ -31,7 +31,7 @@ use Rattle.ace_runs.proofs.NeverStuck.StepEvents.{all-append, all-flat_map, all-
 use Rattle.ace_runs.proofs.NeverStuck.Barriers.Acts.{is_barrier_operation}
 use Rattle.ace_runs.proofs.NeverStuck.Barriers.Quiet.{closing-quiet, is_ordinary, is_quiet, issues_no_line, quiet-ordinary, quiet-no-line}
 
-all-weaker : (test later : Event → Bool) → ((e : Event) → test e ≡ true → later e ≡ true) → (burst : List Event) → list_all test burst ≡ true → list_all later burst ≡ true
+pub all-weaker : (test later : Event → Bool) → ((e : Event) → test e ≡ true → later e ≡ true) → (burst : List Event) → list_all test burst ≡ true → list_all later burst ≡ true
 all-weaker test later each [] m = refl
 all-weaker test later each (e ∷ burst) m =
     let parts = and_parts (test e) (list_all test burst) m in and_from _ _ (each e parts.0) (all-weaker test later each burst parts.1)

@@ -2,7 +2,7 @@
 use Rattle.std.proofs.Common.{◌≡◌, ◌⊎◌, ℕ, Bool, true, false, not, ◌&&◌, ◌==◌, if◌then◌else◌, List, [], ◌∷◌, ◌++◌, map, Option, Some, None, inl, inr, refl, sym, ap, ◌∙◌}
 use Rattle.std.specs.List.{list_all, list_any, flat_map}
 use Rattle.std.specs.Option.{option_to_list}
-use Rattle.std.proofs.lemmas.Bool.{and_parts, and_from, or_cases, or_left, or_right, eqb-true, eq-eqb}
+use Rattle.std.proofs.lemmas.Bool.{and_parts, and_from, or_cases, eqb-true, eq-eqb}
 use Rattle.ace_codes.specs.declared.kind.ArKind.TheVariants as read
 use Rattle.ace_codes.specs.Places.{is_barrier}
 use Rattle.ace_codes.specs.Reads.{ar_code, ar_kind_of}
@@ -22,10 +22,11 @@ use Rattle.ace_runs.specs.Follows.{owes_completion}
 use Rattle.ace_runs.specs.MasterSteps.{completion_bursts, goes_on}
 use Rattle.ace_runs.specs.Requests.{barrier_bursts, barrier_halves, bursts_of, ends_or_asks, free_on, free_on_both, is_waiting, moves_of, request_of, with_identifier}
 use Rattle.ace_runs.specs.SameEvents.{same_burst, same_event}
+use Rattle.ace_runs.proofs.NeverStuck.SameBursts.{GoesWithSame, any-all, any-append, same-all}
 use Rattle.ace_runs.proofs.NeverStuck.StepEvents.{all-if, all-map}
 use Rattle.ace_runs.proofs.NeverStuck.Barriers.Acts.{is_barrier_operation}
 use Rattle.ace_runs.proofs.NeverStuck.Barriers.Asks.{all-no-line, all-ordinary, moves-ordinary}
-use Rattle.ace_runs.proofs.NeverStuck.Barriers.Quiet.{GoesWithSame, closing-quiet, is_ordinary, is_quiet, issues_no_line, same-all, same-quiet}
+use Rattle.ace_runs.proofs.NeverStuck.Barriers.Quiet.{closing-quiet, is_ordinary, is_quiet, issues_no_line, same-quiet}
 
 -- the two halves of a barrier of the port, and events that issue nothing
 pub record AsksBarrier (p : ℕ) (burst : List Event) : Type 0 where
@@ -86,24 +87,6 @@ same-no-line (Aw q i a s d b) (Aw r j c t e f) same m = let is = same-aw q i a s
 same-no-line z (Ar r j c t e f n) same m = cc
 same-no-line z (Aw r j c t e f) same m = cc
 same-no-line z y same m = refl
-
--- ---- lists of bursts ---------------------------------------------------------------------------------
-
-any-append : {A : Type 0} → (test : A → Bool) (xs ys : List A) → list_any test (xs ++ ys) ≡ true → (list_any test xs ≡ true) ⊎ (list_any test ys ≡ true)
-any-append test [] ys s = inr s
-any-append test (x ∷ xs) ys s =
-    elim (or_cases (test x) (list_any test (xs ++ ys)) s) [
-      | inl now ↦ inl (or_left (test x) _ now)
-      | inr later ↦ elim (any-append test xs ys later) [ inl first ↦ inl (or_right (test x) _ first) | inr second ↦ inr second ]
-    ]
-
--- a burst that is the same as one of those that pass the test
-any-all : (test : Event → Bool) → GoesWithSame test → (burst : List Event) (bursts : List (List Event)) → list_any (λ move. same_burst move burst) bursts ≡ true
-    → list_all (list_all test) bursts ≡ true → list_all test burst ≡ true
-any-all test goes burst [] s m = cc
-any-all test goes burst (move ∷ bursts) s m =
-    let of = and_parts (list_all test move) (list_all (list_all test) bursts) m in
-    elim (or_cases (same_burst move burst) _ s) [ inl same ↦ same-all test goes move burst same of.0 | inr later ↦ any-all test goes burst bursts later of.1 ]
 
 -- ---- a DVM Complete ----------------------------------------------------------------------------------
 

@@ -20,8 +20,9 @@ use Rattle.ace_runs.specs.Bursts.{onto}
 use Rattle.ace_runs.specs.Closing.{access_and_retirement, access_of, closing_of, gives_access, retirement, state_named}
 use Rattle.ace_runs.specs.MasterSteps.{acknowledge, acknowledge_for, acknowledge_in, acknowledge_of, acknowledges, acknowledges_on, due, end_of, is_finished, store_lacked}
 use Rattle.ace_runs.specs.Retiring.{may_retire}
-use Rattle.ace_runs.specs.SameEvents.{same_burst, same_event}
+use Rattle.ace_runs.specs.SameEvents.{same_burst}
 use Rattle.ace_runs.specs.Segments.{is_in_segment}
+use Rattle.ace_runs.proofs.NeverStuck.SameBursts.{GoesWithSame, same-all}
 use Rattle.ace_runs.proofs.NeverStuck.StepEvents.{all-append, all-if}
 
 -- the event issues no transaction, and no response
@@ -55,19 +56,6 @@ pub quiet-no-line : (e : Event) → is_quiet e ≡ true → issues_no_line e ≡
 quiet-no-line (Ar q i addr snoop dom bar lock) m = cc
 quiet-no-line (Aw q i addr snoop dom bar) m = cc
 quiet-no-line e m = refl
-
--- a test that passes with an event passes with the same event
-abbrev pub GoesWithSame : (Event → Bool) → Type 0
-GoesWithSame test = (d e : Event) → same_event d e ≡ true → test d ≡ true → test e ≡ true
-
-pub same-all : (test : Event → Bool) → GoesWithSame test → (ds es : List Event) → same_burst ds es ≡ true → list_all test ds ≡ true → list_all test es ≡ true
-same-all test goes [] [] s m = refl
-same-all test goes [] (e ∷ es) s m = cc
-same-all test goes (d ∷ ds) [] s m = cc
-same-all test goes (d ∷ ds) (e ∷ es) s m =
-    let same = and_parts (same_event d e) (same_burst ds es) s in
-    let of = and_parts (test d) (list_all test ds) m in
-    and_from _ _ (goes d e same.0 of.0) (same-all test goes ds es same.1 of.1)
 
 pub same-quiet : GoesWithSame is_quiet
 same-quiet (Ar p i a s d b l) e same m = cc
