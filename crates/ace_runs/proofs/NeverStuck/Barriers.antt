@@ -14,3 +14,7 @@ pub mod GoesOn
 pub mod Responses
 -- What a step issues and answers.
 pub mod StepShape
+-- Barriers before a line transaction are complete.
+pub mod DoneBefore
+-- So none holds back a grant.
+pub mod HoldNone

@@ -70,7 +70,7 @@ same-aw q i a s d b r j c t e f same =
     let p5 = and_parts ((q == r) && (i == j)) (a == c) p4.0 in
     record { port = eqb-true q r (and_parts (q == r) (i == j) p5.0).0; snoop = eqb-true s t p4.1; dom = eqb-true d e p3.1; bar = eqb-true b f p2.1 }
 
-same-ordinary : (p : ℕ) → GoesWithSame (is_ordinary p)
+pub same-ordinary : (p : ℕ) → GoesWithSame (is_ordinary p)
 same-ordinary p (Ar q i a s d b l) (Ar r j c t e f n) same m = let is = same-ar q i a s d b r j c t e f l n same in rw (← is.port, ← is.bar) m
 same-ordinary p (Aw q i a s d b) (Aw r j c t e f) same m = let is = same-aw q i a s d b r j c t e f same in rw (← is.port, ← is.bar) m
 same-ordinary p (R q i resp last word) z same m = cc
@@ -81,7 +81,7 @@ same-ordinary p z (R q i resp last word) same m = cc
 same-ordinary p z (B q i resp) same m = cc
 same-ordinary p z y same m = refl
 
-same-no-line : GoesWithSame issues_no_line
+pub same-no-line : GoesWithSame issues_no_line
 same-no-line (Ar q i a s d b l) (Ar r j c t e f n) same m = let is = same-ar q i a s d b r j c t e f l n same in rw (← is.snoop, ← is.dom, ← is.bar) m
 same-no-line (Aw q i a s d b) (Aw r j c t e f) same m = let is = same-aw q i a s d b r j c t e f same in rw (← is.snoop, ← is.dom, ← is.bar) m
 same-no-line z (Ar r j c t e f n) same m = cc
