@@ -42,3 +42,5 @@ pub mod PassedDataMove
 pub mod UnsentBursts
 -- Barriers: none holds back a grant, and one is answered.
 pub mod Barriers
+-- Where no transaction is granted, one that waits moves.
+pub mod WaitingMove

@@ -1,18 +1,21 @@
 //! Laws of runs. These functions do no work: what they promise is the law.
 
-ghost use Rattle.std.specs.Prelude.{◌≡◌, ◌↔◌, ◌≤◌, ◌*◌, ◌⊎◌, ℕ, true, List, [], ◌∷◌, Some, length};
+ghost use Rattle.std.specs.Prelude.{◌≡◌, ◌↔◌, ◌≤◌, ◌<◌, ◌*◌, ◌⊎◌, ℕ, true, false, List, [], ◌∷◌, Some, length};
 ghost use Rattle.ace_event.specs.declared.event.Channel.TheVariants.{Read, Write};
 ghost use Rattle.ace_event.specs.declared.event.Event.{Event};
 ghost use Rattle.ace_event.specs.declared.header.Header.{Header};
 ghost use Rattle.ace_model.specs.declared.plans.PlanOp.{PlanOp};
 ghost use Rattle.ace_model.specs.declared.snoops.Snoop.{Snoop};
 ghost use Rattle.ace_model.specs.Accepted.{IsAccepted};
+ghost use Rattle.ace_model.specs.Grants.{is_granted};
 ghost use Rattle.ace_model.specs.Progress.{has_update};
 ghost use Rattle.ace_model.specs.Snoops.{answered, snoops_a_line};
 ghost use Rattle.ace_model.specs.Trace.{Trace};
+ghost use Rattle.ace_model.specs.Transactions.{some_issued};
 ghost use Rattle.ace_model.specs.Plans.{Plan, IsRight};
 ghost use Rattle.ace_runs.specs.Operations.{with_more};
 ghost use Rattle.ace_runs.specs.Follows.{FollowsSoFar, follows_so_far};
+ghost use Rattle.ace_runs.specs.LineSteps.{waits};
 ghost use Rattle.ace_runs.specs.Lean.{IsLean, is_lean};
 ghost use Rattle.ace_runs.specs.Acts.{is_act};
 ghost use Rattle.ace_runs.specs.Counts.{
@@ -137,4 +140,12 @@ pub fn unanswered_snoop_has_a_step()
         → (is_enabled_by (1 ∷ []) plan past p ≡ true)
         ⊎ ((snoops_a_line s.snoop ≡ true) × (has_update plan.header past p s.addr ≡ true)
         × (is_enabled_by (2 ∷ 3 ∷ 4 ∷ 7 ∷ []) plan past p ≡ true)) }
+{}
+
+/// In a run that follows its plan so far, where no transaction is granted its line and some transaction waits for its grant, a port is
+/// enabled by step 5. No barrier holds such a transaction back.
+pub fn waiting_transaction_has_a_step()
+    ensures { (plan : Plan) (past : Trace) → AreSteps plan past → FollowsSoFar plan past
+        → some_issued past (is_granted plan.header past) ≡ false → some_issued past (waits plan.header past) ≡ true
+        → (p : ℕ) × (p < plan.header.ports) × (is_enabled_by (5 ∷ []) plan past p ≡ true) }
 {}
