@@ -36,9 +36,5 @@ pub mod GrantedWritesMove
 pub mod PassedDataMove
 -- A write whose burst isn't whole has its port enabled.
 pub mod UnsentBursts
--- A transfer of a granted read that is in order breaks no rule.
-pub mod TransfersKept
--- A read that isn't complete has transfers left.
-pub mod TransfersLeft
--- What a transfer tells doesn't change after the first.
-pub mod UnderTransfers
+-- A granted read moves on once its snoops are done.
+pub mod Reads

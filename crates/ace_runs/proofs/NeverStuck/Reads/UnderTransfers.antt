@@ -1,6 +1,6 @@
 -- From the first transfer of a granted read on no answer comes under its grant, and passed data neither come nor go.
-use Rattle.std.proofs.Common.{◌≡◌, ◌≢◌, ℕ, Bool, true, false, not, ◌&&◌, ◌||◌, ◌==◌, ◌∷◌, Some, None, refl, sym, ap, ◌∙◌, inl, inr}
-use Rattle.std.proofs.lemmas.Bool.{and_parts, cases_Bool, eqb-true, false_from_ne_true, ne_eqb}
+use Rattle.std.proofs.Common.{◌≡◌, ◌≢◌, ℕ, Bool, true, false, ◌&&◌, ◌||◌, ◌==◌, ◌∷◌, Some, None, refl, sym, ap, subst, ◌∙◌, inl, inr}
+use Rattle.std.proofs.lemmas.Bool.{and_parts, cases_Bool, eqb-true, false_from_ne_true}
 use Rattle.ace_codes.specs.Responses.{is_shared, passes_dirty}
 use Rattle.ace_event.specs.declared.event.Event.{Event}
 use Rattle.ace_event.specs.declared.event.Event.TheVariants.{Cr, R}
@@ -21,6 +21,8 @@ use Rattle.ace_model.proofs.Grants.Granted.{granted_is, writes_now}
 use Rattle.ace_model.proofs.Grants.Pending.{answering, snoops}
 use Rattle.ace_model.proofs.Grants.Stays.{Stays}
 use Rattle.ace_model.proofs.Holders.Law.{accepted_holds}
+use Rattle.ace_model.proofs.Trace.Looks.{is_read-is}
+use Rattle.ace_model.proofs.Values.FullReads.{begun_read}
 
 -- The event leaves what a transfer of the granted read tells.
 pub record Leaves (h : Header) (past : Trace) (e : Event) (x : Transaction) : Type 0 where
@@ -52,11 +54,6 @@ pub transfer-leaves : (h : Header) (past : Trace) (e : Event) (p i resp : ℕ) (
 transfer-leaves h past e p i resp last word x is stays =
     without-answer h past e x stays (λ r. ap (λ d. answer_at past d r x.addr) is) (ap (λ d. has_memory_write (d ∷ past) x.port x.chan x.id) is)
 
-begun-read : (past : Trace) (x : Transaction) → is_read x.chan ≡ true → transfers past x.port x.id ≢ 0 → is_begun past x ≡ true
-begun-read past x reads some =
-    then_of (is_read x.chan) (not (transfers past x.port x.id == 0)) (has_memory_write past x.port x.chan x.id) reads
-    ∙ ap not (ne_eqb (transfers past x.port x.id) 0 some)
-
 -- no port answers under the grant of a read that has had a transfer
 no-answer : (h : Header) (past : Trace) (e : Event) (r : ℕ) (x : Transaction) → IsAccepted h past → granted h past x.addr ≡ Some x → is_begun past x ≡ true
     → answer_at past e r x.addr ≡ None
@@ -86,7 +83,7 @@ pub begun-leaves : (h : Header) (past : Trace) (e : Event) (x : Transaction) →
     → transfers past x.port x.id ≢ 0 → Leaves h past e x
 begun-leaves h past e x a reads stays some =
     let o = ((accepted_holds h past a.0).grants x.addr x stays.was).0 in
-    let begun = begun-read past x reads some in
+    let begun = begun_read h past x.port x.id x (subst (λ c. outstanding h past x.port c x.id ≡ Some x) (is_read-is x.chan reads) o) some in
     let none = no-write h past e x a reads o some in
     without-answer h past e x stays (λ r. no-answer h past e r x a.0 stays.was begun)
     (written-now h past e a x.port x.chan x.id x o ∙ ap (λ b. b || has_memory_write past x.port x.chan x.id) none)
