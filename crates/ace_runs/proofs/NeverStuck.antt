@@ -38,3 +38,7 @@ pub mod PassedDataMove
 pub mod UnsentBursts
 -- A granted read moves on once its snoops are done.
 pub mod Reads
+-- A port enabled by some steps is enabled by more.
+pub mod EnabledBy
+-- So what is granted moves on once its snoops are done.
+pub mod GrantedMove
