@@ -42,3 +42,5 @@ pub mod Reads
 pub mod EnabledBy
 -- So what is granted moves on once its snoops are done.
 pub mod GrantedMove
+-- And so does all that steps serve, but for snoops.
+pub mod ServedMove
