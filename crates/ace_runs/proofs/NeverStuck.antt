@@ -4,10 +4,6 @@
 pub mod Rows
 -- Which events each step gives.
 pub mod StepEvents
--- Tests of bursts that are the same.
-pub mod SameBursts
--- The events with which a message is forwarded.
-pub mod Forwards
 -- What a step puts of write data and of writes of memory.
 pub mod StepShapes
 -- A run has the beats of whole bursts.
@@ -40,6 +36,14 @@ pub mod GrantedWritesMove
 pub mod PassedDataMove
 -- A write whose burst isn't whole has its port enabled.
 pub mod UnsentBursts
+-- A granted read moves on once its snoops are done.
+pub mod Reads
+-- A port enabled by some steps is enabled by more.
+pub mod EnabledBy
+-- So what is granted moves on once its snoops are done.
+pub mod GrantedMove
+-- And so does all that steps serve, but for snoops.
+pub mod ServedMove
 -- Barriers: none holds back a grant, and one is answered.
 pub mod Barriers
 -- Where no transaction is granted, one that waits moves.

@@ -1,34 +1,41 @@
 -- What a step puts of write data, of answers to snoops and of writes of memory: none, the four beats of a burst, one answer with its data,
 -- or one write of memory, which for a write comes with the response.
-use Rattle.std.proofs.Common.{◌≡◌, ◌⊎◌, ℕ, Bool, true, false, not, ◌&&◌, ◌||◌, ◌==◌, if◌then◌else◌, List, [], ◌∷◌, ◌++◌, Option, Some, None, inl, inr, refl, sym, ap, ◌∙◌}
+use Rattle.std.proofs.Common.{◌≡◌, ◌⊎◌, ℕ, Bool, true, false, not, ◌&&◌, ◌||◌, ◌==◌, nat_lt, if◌then◌else◌, List, [], ◌∷◌, ◌++◌, length, filter, Option, Some, None, inl, inr, refl, sym, ap, ◌∙◌}
 use Rattle.std.specs.Bool.{⊤}
 use Rattle.std.specs.List.{list_all, list_any}
-use Rattle.std.proofs.lemmas.Bool.{and_parts, and_from, or_cases, cases_Bool, not-true, false_from_ne_true}
+use Rattle.std.proofs.lemmas.Bool.{and_parts, and_from, or_cases, cases_Bool, eq-eqb, ltb-true, not-true, false_from_ne_true}
 use Rattle.ace_codes.specs.declared.kind.SnoopKind.{SnoopKind}
 use Rattle.ace_event.specs.declared.event.Event.{Event}
-use Rattle.ace_event.specs.declared.event.Event.TheVariants.{Cr, Cd, W, M}
+use Rattle.ace_event.specs.declared.event.Event.TheVariants.{Ac, Cr, Cd, W, M, Mem}
 use Rattle.ace_event.specs.declared.header.Header.{Header}
+use Rattle.ace_codes.specs.Snoops.{ac_code}
+use Rattle.ace_codes.specs.declared.kind.SnoopKind.TheVariants as snoop
 use Rattle.ace_model.specs.declared.transactions.Transaction.{Transaction}
 use Rattle.ace_model.specs.Trace.{Trace, implies, is_some_and, port_of}
+use Rattle.ace_model.specs.Accepted.{rules}
+use Rattle.ace_model.specs.AddressRules.{k1, may_have}
 use Rattle.ace_model.specs.Barriers.{Pair, pair_of}
-use Rattle.ace_model.specs.Grants.{has_passed_data, is_granted}
+use Rattle.ace_model.specs.Grants.{has_passed_data, is_granted, ports_below}
 use Rattle.ace_model.specs.Kinds.{is_read_barrier}
-use Rattle.ace_model.specs.Messages.{is_dvm_completion, is_message_part}
+use Rattle.ace_model.specs.Messages.{is_dvm_completion, is_message_part, is_other_ace, next_part, has_part}
 use Rattle.ace_model.specs.Plans.{Plan}
 use Rattle.ace_model.specs.Progress.{evicts, updates_memory}
-use Rattle.ace_model.specs.Transactions.{is_line, is_outstanding, is_read, read_kind, snoop_of, takes_grant}
-use Rattle.ace_model.proofs.General.Options.{is_some_and-is}
-use Rattle.ace_model.proofs.Trace.Growth.{some_issued-is}
-use Rattle.ace_runs.specs.Bursts.{are_kept, serves}
+use Rattle.ace_model.specs.Transactions.{is_line, is_outstanding, is_read, issued, read_kind, snoop_of, some_issued, takes_grant}
+use Rattle.ace_model.proofs.General.Booleans.{implies-at}
+use Rattle.ace_model.proofs.General.Options.{is_none_or-at, is_some_and-is}
+use Rattle.ace_model.proofs.General.Ports.{each_at}
+use Rattle.ace_model.proofs.Rules.Keeps.{kept}
+use Rattle.ace_runs.specs.Bursts.{are_kept, is_kept, serves}
 use Rattle.ace_runs.specs.LineSteps.{gives_snoops, grant_burst, is_first_to_wait, is_snoop_for, memory_write, passed_burst, response, takes_dirt, transfer_burst, update_burst, write_burst}
 use Rattle.ace_runs.specs.MasterSteps.{answers_snoop, sends}
 use Rattle.ace_runs.specs.Operations.{next_operation}
-use Rattle.ace_runs.specs.OrderSteps.{barrier_burst, dvm_burst, forwards, pair_burst, sync_completion}
+use Rattle.ace_runs.specs.OrderSteps.{barrier_burst, dvm_burst, forwarded_to, forwards, gets_message, is_by_port, is_part_of, message_of, pair_burst, parts_missing, sync_completion}
 use Rattle.ace_runs.specs.SameEvents.{same_burst, same_event}
+use Rattle.ace_runs.specs.Segments.{is_at_port}
 use Rattle.ace_runs.specs.Steps.{StepKind, is_sound, is_step, may_give, steps, steps_of}
+use Rattle.ace_runs.proofs.Accepting.{kept-breaks-none}
 use Rattle.ace_runs.proofs.Turns.{step-kept}
-use Rattle.ace_runs.proofs.NeverStuck.Forwards.{forwards-pass}
-use Rattle.ace_runs.proofs.NeverStuck.StepEvents.{are_masters, is_masters, all-if, acknowledges-masters, goes-on-masters}
+use Rattle.ace_runs.proofs.NeverStuck.StepEvents.{are_masters, is_masters, all-if, all-map, acknowledges-masters, goes-on-masters}
 
 -- neither write data nor an answer to a snoop nor its data nor a write of memory
 abbrev pub is_plain : Event → Bool
@@ -78,30 +85,46 @@ same-plain (Cd q last word) e s = cc
 same-plain d (Cd p first half) s = cc
 same-plain d e s = refl
 
-same-burst-plain : (ds es : List Event) → same_burst ds es ≡ true → are_plain ds ≡ are_plain es
-same-burst-plain [] [] s = refl
-same-burst-plain [] (e ∷ es) s = cc
-same-burst-plain (d ∷ ds) [] s = cc
-same-burst-plain (d ∷ ds) (e ∷ es) s =
-    let same = and_parts (same_event d e) (same_burst ds es) s in
-    ap (λ b. b && are_plain ds) (same-plain d e same.0) ∙ ap (λ b. is_plain e && b) (same-burst-plain ds es same.1)
+-- the test tells the same of the same events
+abbrev pub TellsSame : (Event → Bool) → Type 0
+TellsSame test = (d e : Event) → same_event d e ≡ true → test d ≡ test e
+
+same-burst-all : (test : Event → Bool) → TellsSame test → (ds es : List Event) → same_burst ds es ≡ true → list_all test ds ≡ list_all test es
+same-burst-all test same [] [] s = refl
+same-burst-all test same [] (e ∷ es) s = cc
+same-burst-all test same (d ∷ ds) [] s = cc
+same-burst-all test same (d ∷ ds) (e ∷ es) s =
+    let parts = and_parts (same_event d e) (same_burst ds es) s in
+    ap (λ b. b && list_all test ds) (same d e parts.0) ∙ ap (λ b. test e && b) (same-burst-all test same ds es parts.1)
+
+-- a burst that is the same as events that pass the test
+pub all-as : (test : Event → Bool) → TellsSame test → (ds es : List Event) → same_burst ds es ≡ true → list_all test ds ≡ true → list_all test es ≡ true
+all-as test same ds es s m = sym (same-burst-all test same ds es s) ∙ m
 
 -- a burst that is the same as plain events
 pub plain-as : (ds es : List Event) → same_burst ds es ≡ true → are_plain ds ≡ true → are_plain es ≡ true
-plain-as ds es s m = sym (same-burst-plain ds es s) ∙ m
+plain-as ds es s m = all-as is_plain same-plain ds es s m
 
 -- ---- steps that serve a transaction ------------------------------------------------------------------
+
+issued-passes : (past : Trace) (test : Transaction → Bool) → some_issued past test ≡ true → (x : Transaction) × (test x ≡ true)
+issued-passes [] test s = cc
+issued-passes (e ∷ past) test s =
+    elim (or_cases (is_some_and (issued (length past) e) test) (some_issued past test) s) [
+      | inl new ↦ let x = is_some_and-is (issued (length past) e) test new in (x.0, x.2)
+      | inr old ↦ issued-passes past test old
+    ]
 
 served : (burst_for : Header → Trace → Transaction → List Event) (h : Header) (past : Trace) (p : ℕ) (burst : List Event)
     → serves burst_for h past p burst ≡ true → (x : Transaction) × (same_burst (burst_for h past x) burst ≡ true)
 served burst_for h past p burst s =
-    let x = some_issued-is past (λ x. (x.port == p) && is_outstanding h past x && same_burst (burst_for h past x) burst) s in
-    (x.0, (and_parts _ (same_burst (burst_for h past x.0) burst) x.2).1)
+    let x = issued-passes past (λ x. (x.port == p) && is_outstanding h past x && same_burst (burst_for h past x) burst) s in
+    (x.0, (and_parts _ (same_burst (burst_for h past x.0) burst) x.1).1)
 
-served-plain : (burst_for : Header → Trace → Transaction → List Event) (h : Header) (past : Trace) (p : ℕ) (burst : List Event)
-    → ((x : Transaction) → are_plain (burst_for h past x) ≡ true) → serves burst_for h past p burst ≡ true → are_plain burst ≡ true
-served-plain burst_for h past p burst plain s =
-    let x = served burst_for h past p burst s in plain-as (burst_for h past x.0) burst x.1 (plain x.0)
+pub served-all : (test : Event → Bool) → TellsSame test → (burst_for : Header → Trace → Transaction → List Event) (h : Header) (past : Trace) (p : ℕ) (burst : List Event)
+    → ((x : Transaction) → list_all test (burst_for h past x) ≡ true) → serves burst_for h past p burst ≡ true → list_all test burst ≡ true
+served-all test same burst_for h past p burst each s =
+    let x = served burst_for h past p burst s in all-as test same (burst_for h past x.0) burst x.1 (each x.0)
 
 pair-plain : (o : Option Pair) → are_plain (pair_burst o) ≡ true
 pair-plain None = refl
@@ -143,30 +166,73 @@ snoop-plain x k (Cr p resp st) s = cc
 snoop-plain x k (Cd p last word) s = cc
 snoop-plain x k e s = refl
 
-all-snoops-plain : (x : Transaction) (k : SnoopKind) (burst : List Event) → list_all (is_snoop_for x k) burst ≡ true → are_plain burst ≡ true
-all-snoops-plain x k [] s = refl
-all-snoops-plain x k (e ∷ burst) s =
+all-snoops : (test : Event → Bool) (x : Transaction) (k : SnoopKind) → ((e : Event) → is_snoop_for x k e ≡ true → test e ≡ true)
+    → (burst : List Event) → list_all (is_snoop_for x k) burst ≡ true → list_all test burst ≡ true
+all-snoops test x k each [] s = refl
+all-snoops test x k each (e ∷ burst) s =
     let parts = and_parts (is_snoop_for x k e) (list_all (is_snoop_for x k) burst) s in
-    and_from _ _ (snoop-plain x k e parts.0) (all-snoops-plain x k burst parts.1)
+    and_from _ _ (each e parts.0) (all-snoops test x k each burst parts.1)
 
-snoops-plain : (h : Header) (past : Trace) (p : ℕ) (burst : List Event) → gives_snoops h past p burst ≡ true → are_plain burst ≡ true
-snoops-plain h past p burst s =
-    let test = λ (x : Transaction). is_granted h past x && is_some_and (snoop_of x) (λ k. list_all (is_snoop_for x k) burst) in
-    let x = some_issued-is past (λ x. (x.port == p) && is_outstanding h past x && test x) s in
-    let of = (and_parts (is_granted h past x.0) _ (and_parts ((x.0.port == p) && is_outstanding h past x.0) (test x.0) x.2).1).1 in
+pub snoops-all : (test : Event → Bool) → ((x : Transaction) (k : SnoopKind) (e : Event) → is_snoop_for x k e ≡ true → test e ≡ true)
+    → (h : Header) (past : Trace) (p : ℕ) (burst : List Event) → gives_snoops h past p burst ≡ true → list_all test burst ≡ true
+snoops-all test each h past p burst s =
+    let of_it = λ (x : Transaction). is_granted h past x && is_some_and (snoop_of x) (λ k. list_all (is_snoop_for x k) burst) in
+    let x = issued-passes past (λ x. (x.port == p) && is_outstanding h past x && of_it x) s in
+    let of = (and_parts (is_granted h past x.0) _ (and_parts ((x.0.port == p) && is_outstanding h past x.0) (of_it x.0) x.1).1).1 in
     let k = is_some_and-is (snoop_of x.0) (λ k. list_all (is_snoop_for x.0 k) burst) of in
-    all-snoops-plain x.0 k.0 burst k.2
+    all-snoops test x.0 k.0 (each x.0 k.0) burst k.2
 
-no-port-plain : (e : Event) → port_of e ≡ None → is_plain e ≡ true
-no-port-plain (W p strb last word) none = cc
-no-port-plain (M p c i line) none = cc
-no-port-plain (Cr p resp st) none = cc
-no-port-plain (Cd p last word) none = cc
-no-port-plain e none = refl
+filtered-all : (test : Event → Bool) (q : ℕ) (burst : List Event) → list_all test (filter (is_at_port q) burst) ≡ true
+    → list_all (λ e. implies (is_at_port q e) (test e)) burst ≡ true
+filtered-all test q [] m = refl
+filtered-all test q (e ∷ burst) m =
+    elim (cases_Bool (is_at_port q e)) [
+      | inl t ↦
+          let here : list_all test (e ∷ filter (is_at_port q) burst) ≡ true = rw t at m in
+          let parts = and_parts (test e) (list_all test (filter (is_at_port q) burst)) here in
+          and_from _ _ (rw t parts.0) (filtered-all test q burst parts.1)
+      | inr f ↦ and_from _ _ (rw f refl) (filtered-all test q burst (rw f at m))
+    ]
 
-forwards-plain : (h : Header) (past : Trace) (p : ℕ) (burst : List Event) → are_kept h past burst ≡ true → forwards h past p burst ≡ true → are_plain burst ≡ true
-forwards-plain h past p burst k s =
-    forwards-pass is_plain (λ d e same m. same-plain d e same ∙ m) (λ q addr code. refl) no-port-plain h past p burst k s
+-- an event of a port of the header that passes the test at each port passes it
+at-its-port : (test : Event → Bool) → ((e : Event) → port_of e ≡ None → test e ≡ true) → (h : Header) (e : Event) → k1 h [] e ≡ true
+    → ((q : ℕ) → nat_lt q h.ports ≡ true → implies (is_at_port q e) (test e) ≡ true) → test e ≡ true
+at-its-port test portless h e k each = by (port_of e) refl
+  where
+    by : (o : Option ℕ) → port_of e ≡ o → test e ≡ true
+    by None none = portless e none
+    by (Some q) port =
+        let low = (and_parts (nat_lt q h.ports) _ (is_none_or-at (port_of e) (may_have h e) q k port)).0 in
+        let at : is_at_port q e ≡ true = ap (λ o. is_some_and o (λ r. r == q)) port ∙ eq-eqb q q refl in
+        implies-at (is_at_port q e) (test e) (each q low) at
+
+all-by-ports : (test : Event → Bool) → ((e : Event) → port_of e ≡ None → test e ≡ true) → (h : Header) (past : Trace) (burst : List Event) → are_kept h past burst ≡ true
+    → ((q : ℕ) → nat_lt q h.ports ≡ true → list_all (λ e. implies (is_at_port q e) (test e)) burst ≡ true) → list_all test burst ≡ true
+all-by-ports test portless h past [] k each = refl
+all-by-ports test portless h past (e ∷ burst) k each =
+    let parts = and_parts (is_kept h past e) (are_kept h (e ∷ past) burst) k in
+    let one : k1 h past e ≡ true = kept rules 1 h past e (kept-breaks-none h past e parts.0) in
+    and_from _ _
+    (at-its-port test portless h e one (λ q low. (and_parts (implies (is_at_port q e) (test e)) _ (each q low)).0))
+    (all-by-ports test portless h (e ∷ past) burst parts.1 (λ q low. (and_parts (implies (is_at_port q e) (test e)) _ (each q low)).1))
+
+-- the events of step 11 pass a test that ACs pass, and events of no port
+pub forwards-all : (test : Event → Bool) → TellsSame test → ((e : Event) → port_of e ≡ None → test e ≡ true) → ((q addr snoop : ℕ) → test (Ac q addr snoop) ≡ true)
+    → (h : Header) (past : Trace) (p : ℕ) (burst : List Event) → are_kept h past burst ≡ true → forwards h past p burst ≡ true → list_all test burst ≡ true
+forwards-all test same portless acs h past p burst k s =
+    let x = issued-passes past (λ x. is_part_of p x && list_all (gets_message h past x burst) (ports_below h.ports)) (and_parts (is_by_port burst) _ s).1 in
+    let all = (and_parts (is_part_of p x.0) (list_all (gets_message h past x.0 burst) (ports_below h.ports)) x.1).1 in
+    all-by-ports test portless h past burst k (λ q low.
+    let gets = each_at h.ports (gets_message h past x.0 burst) q all (ltb-true q h.ports low) in
+    filtered-all test q burst (same-burst-all test same (filter (is_at_port q) burst) (forwarded_to h past x.0 q) gets ∙ (all-if test (is_other_ace h x.0.port q && is_some_and (next_part past q) (has_part (message_of past x.0))) _ [] (all-map test (λ (y : Transaction). Ac q y.addr (ac_code snoop.DvmMessage)) (parts_missing past x.0 q) (λ y. acs q y.addr (ac_code snoop.DvmMessage))) refl)))
+
+portless-plain : (e : Event) → port_of e ≡ None → is_plain e ≡ true
+portless-plain (Mem addr line) none = refl
+portless-plain (W p strb last word) none = cc
+portless-plain (M p c i line) none = cc
+portless-plain (Cr p resp st) none = cc
+portless-plain (Cd p last word) none = cc
+portless-plain e none = refl
 
 -- ---- all steps ---------------------------------------------------------------------------------------
 
@@ -199,21 +265,21 @@ step-shape plan past p burst s =
           (
             (λ g. inl (all-plain burst (acknowledges-masters next h past p burst g))),
             (
-              (λ g. inl (served-plain grant_burst h past p burst (λ x. all-if is_plain (takes_grant x && is_first_to_wait h past x) _ [] refl refl) g)),
+              (λ g. inl (served-all is_plain same-plain grant_burst h past p burst (λ x. all-if is_plain (takes_grant x && is_first_to_wait h past x) _ [] refl refl) g)),
               (
-                (λ g. inl (snoops-plain h past p burst g)),
+                (λ g. inl (snoops-all is_plain snoop-plain h past p burst g)),
                 (
                   (λ g. let x = served passed_burst h past p burst g in passed-shape h past p burst x.0 x.1),
                   (
-                    (λ g. inl (served-plain transfer_burst h past p burst (λ x. all-if is_plain (is_read x.chan && is_line x && implies (has_passed_data h past x) (takes_dirt h past x)) _ [] refl refl) g)),
+                    (λ g. inl (served-all is_plain same-plain transfer_burst h past p burst (λ x. all-if is_plain (is_read x.chan && is_line x && implies (has_passed_data h past x) (takes_dirt h past x)) _ [] refl refl) g)),
                     (
                       (λ g. let x = served write_burst h past p burst g in write-shape h past p burst x.0 x.1),
                       (
-                        (λ g. inl (served-plain barrier_burst h past p burst (λ x. all-if is_plain (is_some_and (read_kind x) is_read_barrier) _ [] (pair-plain (pair_of past x)) refl) g)),
+                        (λ g. inl (served-all is_plain same-plain barrier_burst h past p burst (λ x. all-if is_plain (is_some_and (read_kind x) is_read_barrier) _ [] (pair-plain (pair_of past x)) refl) g)),
                         (
-                          (λ g. inl (forwards-plain h past p burst kept_all g)),
+                          (λ g. inl (forwards-all is_plain same-plain portless-plain (λ q addr snoop. refl) h past p burst kept_all g)),
                           (
-                            (λ g. inl (served-plain dvm_burst h past p burst (λ x. all-if is_plain (is_message_part x || is_dvm_completion x) _ [] refl refl) g)),
+                            (λ g. inl (served-all is_plain same-plain dvm_burst h past p burst (λ x. all-if is_plain (is_message_part x || is_dvm_completion x) _ [] refl refl) g)),
                             (
                               (λ g. inl (plain-as (sync_completion p) burst g refl)),
                               ((λ g. inl (all-plain burst (goes-on-masters plan.ways next h past p burst g))), tt),

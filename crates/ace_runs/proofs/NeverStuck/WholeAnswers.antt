@@ -64,7 +64,7 @@ all-quiet-kept (e ∷ burst) past whole quiet =
     let parts = and_parts (is_quiet e) (list_all is_quiet burst) quiet in
     all-quiet-kept burst (e ∷ past) (quiet-kept e past whole parts.0) parts.1
 
-all-implied : (test later : Event → Bool) → ((e : Event) → test e ≡ true → later e ≡ true) → (burst : List Event) → list_all test burst ≡ true → list_all later burst ≡ true
+pub all-implied : (test later : Event → Bool) → ((e : Event) → test e ≡ true → later e ≡ true) → (burst : List Event) → list_all test burst ≡ true → list_all later burst ≡ true
 all-implied test later each [] m = refl
 all-implied test later each (e ∷ burst) m =
     let parts = and_parts (test e) (list_all test burst) m in and_from _ _ (each e parts.0) (all-implied test later each burst parts.1)

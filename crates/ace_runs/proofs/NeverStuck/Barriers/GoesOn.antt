@@ -2,7 +2,7 @@
 use Rattle.std.proofs.Common.{◌≡◌, ◌⊎◌, ℕ, Bool, true, false, not, ◌&&◌, ◌==◌, if◌then◌else◌, List, [], ◌∷◌, ◌++◌, map, Option, Some, None, inl, inr, refl, sym, ap, ◌∙◌}
 use Rattle.std.specs.List.{list_all, list_any, flat_map}
 use Rattle.std.specs.Option.{option_to_list}
-use Rattle.std.proofs.lemmas.Bool.{and_parts, and_from, or_cases, eqb-true, eq-eqb}
+use Rattle.std.proofs.lemmas.Bool.{and_parts, and_from, or_cases, or_left, or_right, eqb-true, eq-eqb}
 use Rattle.ace_codes.specs.declared.kind.ArKind.TheVariants as read
 use Rattle.ace_codes.specs.Places.{is_barrier}
 use Rattle.ace_codes.specs.Reads.{ar_code, ar_kind_of}
@@ -22,8 +22,8 @@ use Rattle.ace_runs.specs.Follows.{owes_completion}
 use Rattle.ace_runs.specs.MasterSteps.{completion_bursts, goes_on}
 use Rattle.ace_runs.specs.Requests.{barrier_bursts, barrier_halves, bursts_of, ends_or_asks, free_on, free_on_both, is_waiting, moves_of, request_of, with_identifier}
 use Rattle.ace_runs.specs.SameEvents.{same_burst, same_event}
-use Rattle.ace_runs.proofs.NeverStuck.SameBursts.{GoesWithSame, any-all, any-append, same-all}
 use Rattle.ace_runs.proofs.NeverStuck.StepEvents.{all-if, all-map}
+use Rattle.ace_runs.proofs.NeverStuck.StepShapes.{TellsSame, all-as}
 use Rattle.ace_runs.proofs.NeverStuck.Barriers.Acts.{is_barrier_operation}
 use Rattle.ace_runs.proofs.NeverStuck.Barriers.Asks.{all-no-line, all-ordinary, moves-ordinary}
 use Rattle.ace_runs.proofs.NeverStuck.Barriers.Quiet.{closing-quiet, is_ordinary, is_quiet, issues_no_line, same-quiet}
@@ -70,23 +70,47 @@ same-aw q i a s d b r j c t e f same =
     let p5 = and_parts ((q == r) && (i == j)) (a == c) p4.0 in
     record { port = eqb-true q r (and_parts (q == r) (i == j) p5.0).0; snoop = eqb-true s t p4.1; dom = eqb-true d e p3.1; bar = eqb-true b f p2.1 }
 
-pub same-ordinary : (p : ℕ) → GoesWithSame (is_ordinary p)
-same-ordinary p (Ar q i a s d b l) (Ar r j c t e f n) same m = let is = same-ar q i a s d b r j c t e f l n same in rw (← is.port, ← is.bar) m
-same-ordinary p (Aw q i a s d b) (Aw r j c t e f) same m = let is = same-aw q i a s d b r j c t e f same in rw (← is.port, ← is.bar) m
-same-ordinary p (R q i resp last word) z same m = cc
-same-ordinary p (B q i resp) z same m = cc
-same-ordinary p z (Ar r j c t e f n) same m = cc
-same-ordinary p z (Aw r j c t e f) same m = cc
-same-ordinary p z (R q i resp last word) same m = cc
-same-ordinary p z (B q i resp) same m = cc
-same-ordinary p z y same m = refl
+same-ordinary : (p : ℕ) → TellsSame (is_ordinary p)
+same-ordinary p (Ar q i a s d b l) (Ar r j c t e f n) same = let is = same-ar q i a s d b r j c t e f l n same in rw (is.port, is.bar) refl
+same-ordinary p (Ar q i a s d b l) e same = cc
+same-ordinary p (Aw q i a s d b) (Aw r j c t e f) same = let is = same-aw q i a s d b r j c t e f same in rw (is.port, is.bar) refl
+same-ordinary p (Aw q i a s d b) e same = cc
+same-ordinary p (R q i resp last word) (R r j x l w) same = refl
+same-ordinary p (R q i resp last word) e same = cc
+same-ordinary p (B q i resp) (B r j x) same = refl
+same-ordinary p (B q i resp) e same = cc
+same-ordinary p e (Ar r j c t d f n) same = cc
+same-ordinary p e (Aw r j c t d f) same = cc
+same-ordinary p e (R q i resp last word) same = cc
+same-ordinary p e (B q i resp) same = cc
+same-ordinary p d e same = refl
 
-pub same-no-line : GoesWithSame issues_no_line
-same-no-line (Ar q i a s d b l) (Ar r j c t e f n) same m = let is = same-ar q i a s d b r j c t e f l n same in rw (← is.snoop, ← is.dom, ← is.bar) m
-same-no-line (Aw q i a s d b) (Aw r j c t e f) same m = let is = same-aw q i a s d b r j c t e f same in rw (← is.snoop, ← is.dom, ← is.bar) m
-same-no-line z (Ar r j c t e f n) same m = cc
-same-no-line z (Aw r j c t e f) same m = cc
-same-no-line z y same m = refl
+pub same-no-line : TellsSame issues_no_line
+same-no-line (Ar q i a s d b l) (Ar r j c t e f n) same = let is = same-ar q i a s d b r j c t e f l n same in rw (is.snoop, is.dom, is.bar) refl
+same-no-line (Ar q i a s d b l) e same = cc
+same-no-line (Aw q i a s d b) (Aw r j c t e f) same = let is = same-aw q i a s d b r j c t e f same in rw (is.snoop, is.dom, is.bar) refl
+same-no-line (Aw q i a s d b) e same = cc
+same-no-line e (Ar r j c t d f n) same = cc
+same-no-line e (Aw r j c t d f) same = cc
+same-no-line d e same = refl
+
+-- ---- lists of bursts ---------------------------------------------------------------------------------
+
+any-append : {A : Type 0} → (test : A → Bool) (xs ys : List A) → list_any test (xs ++ ys) ≡ true → (list_any test xs ≡ true) ⊎ (list_any test ys ≡ true)
+any-append test [] ys s = inr s
+any-append test (x ∷ xs) ys s =
+    elim (or_cases (test x) (list_any test (xs ++ ys)) s) [
+      | inl now ↦ inl (or_left (test x) _ now)
+      | inr later ↦ elim (any-append test xs ys later) [ inl first ↦ inl (or_right (test x) _ first) | inr second ↦ inr second ]
+    ]
+
+-- a burst that is the same as one of those that pass the test
+any-all : (test : Event → Bool) → TellsSame test → (burst : List Event) (bursts : List (List Event)) → list_any (λ move. same_burst move burst) bursts ≡ true
+    → list_all (list_all test) bursts ≡ true → list_all test burst ≡ true
+any-all test goes burst [] s m = cc
+any-all test goes burst (move ∷ bursts) s m =
+    let of = and_parts (list_all test move) (list_all (list_all test) bursts) m in
+    elim (or_cases (same_burst move burst) _ s) [ inl same ↦ all-as test goes move burst same of.0 | inr later ↦ any-all test goes burst bursts later of.1 ]
 
 -- ---- a DVM Complete ----------------------------------------------------------------------------------
 
@@ -136,7 +160,7 @@ ends-or-asks-barrier ways h past p bar o [] burst is asks m s =
     inr (halves-asked h past p bar o burst is (sym (ap (λ bs. list_any (λ move. same_burst move burst) (map (and_closing h past p o) bs)) asks) ∙ s))
 ends-or-asks-barrier ways h past p bar o (e ∷ end) burst is asks m s =
     elim (or_cases (same_burst (e ∷ end) burst) false s) [
-      | inl same ↦ inl (quiet-beside p burst (same-all is_quiet same-quiet (e ∷ end) burst same m))
+      | inl same ↦ inl (quiet-beside p burst (all-as is_quiet same-quiet (e ∷ end) burst same m))
       | inr none ↦ cc
     ]
 

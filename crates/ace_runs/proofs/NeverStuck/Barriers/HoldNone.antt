@@ -29,7 +29,7 @@ use Rattle.ace_runs.specs.Steps.{AreSteps, is_step}
 use Rattle.ace_runs.proofs.Accepting.{accepted-after}
 use Rattle.ace_runs.proofs.SoFar.{before-burst}
 use Rattle.ace_runs.proofs.Turns.{of-each-run, step-kept}
-use Rattle.ace_runs.proofs.NeverStuck.SameBursts.{same-all}
+use Rattle.ace_runs.proofs.NeverStuck.StepShapes.{all-as}
 use Rattle.ace_runs.proofs.NeverStuck.StepEvents.{all-append}
 use Rattle.ace_runs.proofs.NeverStuck.Barriers.Acts.{is_barrier_operation}
 use Rattle.ace_runs.proofs.NeverStuck.Barriers.Asks.{all-no-line, all-weaker}
@@ -64,7 +64,7 @@ halves-no-line p bar i b =
 
 barrier-no-line : (p : ℕ) (burst : List Event) → AsksBarrier p burst → list_all issues_no_line burst ≡ true
 barrier-no-line p burst a =
-    same-all issues_no_line same-no-line (barrier_halves p a.bar a.id ++ a.rest) burst a.same
+    all-as issues_no_line same-no-line (barrier_halves p a.bar a.id ++ a.rest) burst a.same
     (all-append issues_no_line (barrier_halves p a.bar a.id) a.rest (halves-no-line p a.bar a.id a.is) (all-no-line a.rest a.quiet))
 
 -- ---- each step ---------------------------------------------------------------------------------------
@@ -87,7 +87,7 @@ done-kept plan past p burst a f done step =
       | inl quiet ↦ no-line-keeps burst past done (all-no-line burst quiet)
       | inr (inl r) ↦ no-line-keeps burst past done (all-weaker (is_response_for r.of) issues_no_line (response-no-line r.of) burst r.all)
       | inr (inr (inl b)) ↦
-          no-line-keeps burst past done (same-all issues_no_line same-no-line (plain_transfer b.pair.read ∷ B b.pair.write.port b.pair.write.id 0 ∷ []) burst b.same refl)
+          no-line-keeps burst past done (all-as issues_no_line same-no-line (plain_transfer b.pair.read ∷ B b.pair.write.port b.pair.write.id 0 ∷ []) burst b.same refl)
       | inr (inr (inr (inl beside))) ↦ no-line-keeps burst past done beside.1
       | inr (inr (inr (inr (inl other)))) ↦ ordinary-keeps burst past p done (all-done plan past p a f other.0) other.1
       | inr (inr (inr (inr (inr asks)))) ↦ no-line-keeps burst past done (barrier-no-line p burst asks)

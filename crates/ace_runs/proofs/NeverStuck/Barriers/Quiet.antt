@@ -22,7 +22,7 @@ use Rattle.ace_runs.specs.MasterSteps.{acknowledge, acknowledge_for, acknowledge
 use Rattle.ace_runs.specs.Retiring.{may_retire}
 use Rattle.ace_runs.specs.SameEvents.{same_burst}
 use Rattle.ace_runs.specs.Segments.{is_in_segment}
-use Rattle.ace_runs.proofs.NeverStuck.SameBursts.{GoesWithSame, same-all}
+use Rattle.ace_runs.proofs.NeverStuck.StepShapes.{TellsSame, all-as}
 use Rattle.ace_runs.proofs.NeverStuck.StepEvents.{all-append, all-if}
 
 -- the event issues no transaction, and no response
@@ -57,16 +57,20 @@ quiet-no-line (Ar q i addr snoop dom bar lock) m = cc
 quiet-no-line (Aw q i addr snoop dom bar) m = cc
 quiet-no-line e m = refl
 
-pub same-quiet : GoesWithSame is_quiet
-same-quiet (Ar p i a s d b l) e same m = cc
-same-quiet (Aw p i a s d b) e same m = cc
-same-quiet (R p i resp last word) e same m = cc
-same-quiet (B p i resp) e same m = cc
-same-quiet e (Ar p i a s d b l) same m = cc
-same-quiet e (Aw p i a s d b) same m = cc
-same-quiet e (R p i resp last word) same m = cc
-same-quiet e (B p i resp) same m = cc
-same-quiet d e same m = refl
+pub same-quiet : TellsSame is_quiet
+same-quiet (Ar p i a s d b l) (Ar q j c t e f n) same = refl
+same-quiet (Ar p i a s d b l) e same = cc
+same-quiet (Aw p i a s d b) (Aw q j c t e f) same = refl
+same-quiet (Aw p i a s d b) e same = cc
+same-quiet (R p i resp last word) (R q j r l w) same = refl
+same-quiet (R p i resp last word) e same = cc
+same-quiet (B p i resp) (B q j r) same = refl
+same-quiet (B p i resp) e same = cc
+same-quiet e (Ar p i a s d b l) same = cc
+same-quiet e (Aw p i a s d b) same = cc
+same-quiet e (R p i resp last word) same = cc
+same-quiet e (B p i resp) same = cc
+same-quiet d e same = refl
 
 -- ---- what ends an operation --------------------------------------------------------------------------
 
@@ -119,12 +123,12 @@ acknowledge-of-quiet next h past x = by (end_of h past x)
 acknowledges-on-quiet : (next : Option Op) (h : Header) (past : Trace) (burst : List Event) (o : Option Transaction)
     → is_some_and o (λ x. same_burst (acknowledge_of next h past x) burst) ≡ true → list_all is_quiet burst ≡ true
 acknowledges-on-quiet next h past burst None s = cc
-acknowledges-on-quiet next h past burst (Some x) s = same-all is_quiet same-quiet (acknowledge_of next h past x) burst s (acknowledge-of-quiet next h past x)
+acknowledges-on-quiet next h past burst (Some x) s = all-as is_quiet same-quiet (acknowledge_of next h past x) burst s (acknowledge-of-quiet next h past x)
 
 pub acknowledges-quiet : (next : Option Op) (h : Header) (past : Trace) (p : ℕ) (burst : List Event) → acknowledges next h past p burst ≡ true → list_all is_quiet burst ≡ true
 acknowledges-quiet next h past p burst s =
     elim (or_cases (acknowledges_on next h past p burst Read || acknowledges_on next h past p burst Write) _ s) [
-      | inr finished ↦ same-all is_quiet same-quiet (retirement past p Ok) burst (and_parts (is_finished next h past p) _ finished).1 refl
+      | inr finished ↦ all-as is_quiet same-quiet (retirement past p Ok) burst (and_parts (is_finished next h past p) _ finished).1 refl
       | inl on ↦ elim (or_cases (acknowledges_on next h past p burst Read) (acknowledges_on next h past p burst Write) on) [
         | inl reads ↦ acknowledges-on-quiet next h past burst (due h past p Read) reads
         | inr writes ↦ acknowledges-on-quiet next h past burst (due h past p Write) writes

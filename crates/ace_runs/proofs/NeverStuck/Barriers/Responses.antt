@@ -21,8 +21,8 @@ use Rattle.ace_model.specs.Trace.{Trace, is_some_and}
 use Rattle.ace_model.specs.Transactions.{is_line, is_read, read_kind, write_kind}
 use Rattle.ace_model.specs.WriteRules.{data_of}
 use Rattle.ace_runs.specs.LineSteps.{memory_write, response}
-use Rattle.ace_runs.proofs.NeverStuck.SameBursts.{GoesWithSame}
 use Rattle.ace_runs.proofs.NeverStuck.StepEvents.{all-append}
+use Rattle.ace_runs.proofs.NeverStuck.StepShapes.{TellsSame}
 use Rattle.ace_runs.proofs.NeverStuck.Barriers.Asks.{all-weaker}
 use Rattle.ace_runs.proofs.NeverStuck.Barriers.OfNext.{half-no-completion}
 use Rattle.ace_runs.proofs.NeverStuck.Barriers.Quiet.{is_quiet}
@@ -37,24 +37,28 @@ is_response_for x _ = true
 
 -- ---- responses ---------------------------------------------------------------------------------------
 
-pub same-response : (x : Transaction) → GoesWithSame (is_response_for x)
-same-response x (R p i resp last word) (R q j r l w) same m =
+pub same-response : (x : Transaction) → TellsSame (is_response_for x)
+same-response x (R p i resp last word) (R q j r l w) same =
     let p1 = and_parts ((p == q) && (i == j) && (resp == r) && same_test last l) (word == w) same in
     let p2 = and_parts ((p == q) && (i == j) && (resp == r)) (same_test last l) p1.0 in
     let p3 = and_parts ((p == q) && (i == j)) (resp == r) p2.0 in
     let p4 = and_parts (p == q) (i == j) p3.0 in
-    rw (← eqb-true p q p4.0, ← eqb-true i j p4.1) m
-same-response x (B p i resp) (B q j r) same m =
+    rw (eqb-true p q p4.0, eqb-true i j p4.1) refl
+same-response x (R p i resp last word) e same = cc
+same-response x (B p i resp) (B q j r) same =
     let p3 = and_parts ((p == q) && (i == j)) (resp == r) same in
     let p4 = and_parts (p == q) (i == j) p3.0 in
-    rw (← eqb-true p q p4.0, ← eqb-true i j p4.1) m
-same-response x (Ar q i addr snoop dom bar lock) e same m = cc
-same-response x (Aw q i addr snoop dom bar) e same m = cc
-same-response x d (Ar q i addr snoop dom bar lock) same m = cc
-same-response x d (Aw q i addr snoop dom bar) same m = cc
-same-response x d (R q i resp last word) same m = cc
-same-response x d (B q i resp) same m = cc
-same-response x d e same m = refl
+    rw (eqb-true p q p4.0, eqb-true i j p4.1) refl
+same-response x (B p i resp) e same = cc
+same-response x (Ar p i a s d b l) (Ar q j c t e f n) same = refl
+same-response x (Ar p i a s d b l) e same = cc
+same-response x (Aw p i a s d b) (Aw q j c t e f) same = refl
+same-response x (Aw p i a s d b) e same = cc
+same-response x d (Ar q i addr snoop dom bar lock) same = cc
+same-response x d (Aw q i addr snoop dom bar) same = cc
+same-response x d (R q i resp last word) same = cc
+same-response x d (B q i resp) same = cc
+same-response x d e same = refl
 
 pub quiet-response : (x : Transaction) (e : Event) → is_quiet e ≡ true → is_response_for x e ≡ true
 quiet-response x (Ar q i addr snoop dom bar lock) m = cc

@@ -8,19 +8,18 @@ use Rattle.ace_event.specs.declared.event.Event.TheVariants.{Ar, R, Aw, B}
 use Rattle.ace_event.specs.declared.header.Header.{Header}
 use Rattle.ace_model.specs.declared.transactions.Transaction.{Transaction}
 use Rattle.ace_model.specs.Barriers.{Pair, is_barrier_half, pair_of}
-use Rattle.ace_model.specs.Grants.{has_passed_data, is_granted}
+use Rattle.ace_model.specs.Grants.{has_passed_data}
 use Rattle.ace_model.specs.Kinds.{is_read_barrier}
 use Rattle.ace_model.specs.Messages.{is_dvm_completion, is_message_part}
 use Rattle.ace_model.specs.Plans.{Plan}
 use Rattle.ace_model.specs.Progress.{evicts, updates_memory}
 use Rattle.ace_model.specs.Trace.{Trace, implies, is_some_and, port_of}
-use Rattle.ace_model.specs.Transactions.{is_line, is_outstanding, is_read, read_kind, snoop_of, takes_grant}
+use Rattle.ace_model.specs.Transactions.{is_line, is_outstanding, is_read, read_kind, takes_grant}
 use Rattle.ace_model.specs.WriteRules.{data_of}
-use Rattle.ace_model.proofs.General.Options.{is_some_and-is}
 use Rattle.ace_model.proofs.GrantLooks.Had.{takes-line}
 use Rattle.ace_model.proofs.Trace.Growth.{IsIssued, some_issued-is}
 use Rattle.ace_runs.specs.Bursts.{serves}
-use Rattle.ace_runs.specs.LineSteps.{gives_snoops, grant_burst, is_first_to_wait, is_last_beat, is_snoop_for, memory_write, next_word, passed_burst, response, response_bits, takes_dirt, transfer_burst, update_burst, write_burst}
+use Rattle.ace_runs.specs.LineSteps.{grant_burst, is_first_to_wait, is_last_beat, is_snoop_for, memory_write, next_word, passed_burst, response, response_bits, takes_dirt, transfer_burst, update_burst, write_burst}
 use Rattle.ace_runs.specs.MasterSteps.{is_beat}
 use Rattle.ace_runs.specs.Operations.{next_operation}
 use Rattle.ace_runs.specs.OrderSteps.{barrier_burst, dvm_burst, pair_burst, plain_transfer, sync_completion}
@@ -28,10 +27,8 @@ use Rattle.ace_runs.specs.SameEvents.{same_burst}
 use Rattle.ace_runs.specs.Steps.{is_sound, is_step, may_give, steps, steps_of}
 use Rattle.ace_runs.proofs.Turns.{step-kept}
 use Rattle.ace_runs.proofs.NeverStuck.EvictsMove.{evicts-write}
-use Rattle.ace_runs.proofs.NeverStuck.Forwards.{forwards-pass}
-use Rattle.ace_runs.proofs.NeverStuck.SameBursts.{GoesBack, same-all}
 use Rattle.ace_runs.proofs.NeverStuck.StepEvents.{all-if, answers-answering, is_answering}
-use Rattle.ace_runs.proofs.NeverStuck.StepShapes.{of-any, updates_write}
+use Rattle.ace_runs.proofs.NeverStuck.StepShapes.{all-as, forwards-all, of-any, snoops-all, updates_write}
 use Rattle.ace_runs.proofs.NeverStuck.UpdatesOrGranted.{updates-line}
 use Rattle.ace_runs.proofs.NeverStuck.Barriers.Asks.{all-weaker}
 use Rattle.ace_runs.proofs.NeverStuck.Barriers.GoesOn.{GoesOn, goes-on-shape}
@@ -69,17 +66,6 @@ no-port-quiet (R q i resp last word) none = cc
 no-port-quiet (B q i resp) none = cc
 no-port-quiet e none = refl
 
-back-quiet : GoesBack is_quiet
-back-quiet (Ar p i a s d b l) (Ar q j c t e f n) same m = cc
-back-quiet (Ar p i a s d b l) e same m = cc
-back-quiet (Aw p i a s d b) (Aw q j c t e f) same m = cc
-back-quiet (Aw p i a s d b) e same m = cc
-back-quiet (R p i resp last word) (R q j r l w) same m = cc
-back-quiet (R p i resp last word) e same m = cc
-back-quiet (B p i resp) (B q j r) same m = cc
-back-quiet (B p i resp) e same m = cc
-back-quiet d e same m = refl
-
 answering-quiet : (e : Event) → is_answering e ≡ true → is_quiet e ≡ true
 answering-quiet (Ar q i addr snoop dom bar lock) m = cc
 answering-quiet (Aw q i addr snoop dom bar) m = cc
@@ -101,14 +87,6 @@ snoop-quiet x k (R q i resp last word) m = cc
 snoop-quiet x k (B q i resp) m = cc
 snoop-quiet x k e m = refl
 
-snoops-quiet : (h : Header) (past : Trace) (p : ℕ) (burst : List Event) → gives_snoops h past p burst ≡ true → list_all is_quiet burst ≡ true
-snoops-quiet h past p burst s =
-    let test = λ (x : Transaction). is_granted h past x && is_some_and (snoop_of x) (λ k. list_all (is_snoop_for x k) burst) in
-    let x = some_issued-is past (λ x. (x.port == p) && is_outstanding h past x && test x) s in
-    let of = (and_parts (is_granted h past x.0) _ (and_parts ((x.0.port == p) && is_outstanding h past x.0) (test x.0) x.2).1).1 in
-    let k = is_some_and-is (snoop_of x.0) (λ k. list_all (is_snoop_for x.0 k) burst) of in
-    all-weaker (is_snoop_for x.0 k.0) is_quiet (snoop-quiet x.0 k.0) burst k.2
-
 -- what a step serves that serves a transaction
 record IsServed (burst_for : Header → Trace → Transaction → List Event) (h : Header) (past : Trace) (burst : List Event) : Type 0 where
   of : Transaction
@@ -129,7 +107,7 @@ module _ (plan : Plan) (past : Trace) (p : ℕ) (burst : List Event) where
   Shape = OrderShape plan past p burst
 
   quiet-as : (ds : List Event) → same_burst ds burst ≡ true → list_all is_quiet ds ≡ true → Shape
-  quiet-as ds same m = inl (same-all is_quiet same-quiet ds burst same m)
+  quiet-as ds same m = inl (all-as is_quiet same-quiet ds burst same m)
 
   quiet-served : (burst_for : Header → Trace → Transaction → List Event) → IsServed burst_for plan.header past burst
       → ((x : Transaction) → list_all is_quiet (burst_for plan.header past x) ≡ true) → Shape
@@ -138,7 +116,7 @@ module _ (plan : Plan) (past : Trace) (p : ℕ) (burst : List Event) where
   responds-as : (x : Transaction) (ds : List Event) → IsIssued past x → is_outstanding plan.header past x ≡ true → is_barrier_half x ≡ false
       → same_burst ds burst ≡ true → list_all (is_response_for x) ds ≡ true → Shape
   responds-as x ds i out none same m =
-      inr (inl (record { of = x; issued = i; out = out; no_barrier = none; all = same-all (is_response_for x) (same-response x) ds burst same m }))
+      inr (inl (record { of = x; issued = i; out = out; no_barrier = none; all = all-as (is_response_for x) (same-response x) ds burst same m }))
 
   updates-shape : IsServed update_burst plan.header past burst → Shape
   updates-shape s =
@@ -203,5 +181,5 @@ order-shape plan past p burst s =
     let next = next_operation plan past p in
     let sound = and_parts (is_sound h past burst) (list_any (may_give h past p burst) (steps_of plan past p)) s in
     of-any h past p burst (OrderShape plan past p burst) (steps plan.ways next)
-    ((λ g. inl (all-weaker is_answering is_quiet answering-quiet burst (answers-answering h past p burst g))), ((λ g. inl (all-weaker (is_beat p) is_quiet (beat-quiet p) burst (and_parts (list_all (is_beat p) burst) (length burst == 4) g).0)), ((λ g. updates-shape plan past p burst (served update_burst h past p burst g)), ((λ g. inl (acknowledges-quiet next h past p burst g)), ((λ g. quiet-served plan past p burst grant_burst (served grant_burst h past p burst g) (λ x. all-if is_quiet (takes_grant x && is_first_to_wait h past x) _ [] refl refl)), ((λ g. inl (snoops-quiet h past p burst g)), ((λ g. quiet-served plan past p burst passed_burst (served passed_burst h past p burst g) (λ x. all-if is_quiet (is_read x.chan && has_passed_data h past x && not (takes_dirt h past x)) _ [] (written-quiet x (data_of h past x)) refl)), ((λ g. transfer-shape plan past p burst (served transfer_burst h past p burst g)), ((λ g. write-shape plan past p burst (served write_burst h past p burst g)), ((λ g. barrier-shape plan past p burst (served barrier_burst h past p burst g)), ((λ g. inl (forwards-pass is_quiet back-quiet (λ q addr code. refl) no-port-quiet h past p burst (step-kept plan past p burst s) g)), ((λ g. dvm-shape plan past p burst (served dvm_burst h past p burst g)), ((λ g. inl (same-all is_quiet same-quiet (sync_completion p) burst g refl)), ((λ g. inr (inr (inr (goes-on-shape plan.ways next h past p burst g)))), tt))))))))))))))
+    ((λ g. inl (all-weaker is_answering is_quiet answering-quiet burst (answers-answering h past p burst g))), ((λ g. inl (all-weaker (is_beat p) is_quiet (beat-quiet p) burst (and_parts (list_all (is_beat p) burst) (length burst == 4) g).0)), ((λ g. updates-shape plan past p burst (served update_burst h past p burst g)), ((λ g. inl (acknowledges-quiet next h past p burst g)), ((λ g. quiet-served plan past p burst grant_burst (served grant_burst h past p burst g) (λ x. all-if is_quiet (takes_grant x && is_first_to_wait h past x) _ [] refl refl)), ((λ g. inl (snoops-all is_quiet snoop-quiet h past p burst g)), ((λ g. quiet-served plan past p burst passed_burst (served passed_burst h past p burst g) (λ x. all-if is_quiet (is_read x.chan && has_passed_data h past x && not (takes_dirt h past x)) _ [] (written-quiet x (data_of h past x)) refl)), ((λ g. transfer-shape plan past p burst (served transfer_burst h past p burst g)), ((λ g. write-shape plan past p burst (served write_burst h past p burst g)), ((λ g. barrier-shape plan past p burst (served barrier_burst h past p burst g)), ((λ g. inl (forwards-all is_quiet same-quiet no-port-quiet (λ q addr code. refl) h past p burst (step-kept plan past p burst s) g)), ((λ g. dvm-shape plan past p burst (served dvm_burst h past p burst g)), ((λ g. inl (all-as is_quiet same-quiet (sync_completion p) burst g refl)), ((λ g. inr (inr (inr (goes-on-shape plan.ways next h past p burst g)))), tt))))))))))))))
     sound.1
