@@ -18,3 +18,9 @@ pub mod StepShape
 pub mod DoneBefore
 -- So none holds back a grant.
 pub mod HoldNone
+-- What leaves the halves of barriers together.
+pub mod Together
+-- Both halves are issued at once.
+pub mod BothIssued
+-- And both are answered at once, so they are together in each run.
+pub mod BothAnswered

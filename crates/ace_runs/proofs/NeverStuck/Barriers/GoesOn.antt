@@ -47,13 +47,13 @@ IsForOperation next p burst = (is_some_and next (λ o. not (is_barrier_operation
 
 -- ---- the same events ---------------------------------------------------------------------------------
 
-record IsSameAr (q r s t d e b f : ℕ) : Type 0 where
-  port : q ≡ r
-  snoop : s ≡ t
-  dom : d ≡ e
-  bar : b ≡ f
+pub record IsSameAr (q r s t d e b f : ℕ) : Type 0 where
+  pub port : q ≡ r
+  pub snoop : s ≡ t
+  pub dom : d ≡ e
+  pub bar : b ≡ f
 
-same-ar : (q i a s d b r j c t e f : ℕ) (l m : Bool) → same_event (Ar q i a s d b l) (Ar r j c t e f m) ≡ true → IsSameAr q r s t d e b f
+pub same-ar : (q i a s d b r j c t e f : ℕ) (l m : Bool) → same_event (Ar q i a s d b l) (Ar r j c t e f m) ≡ true → IsSameAr q r s t d e b f
 same-ar q i a s d b r j c t e f l m same =
     let p1 = and_parts ((q == r) && (i == j) && (a == c) && (s == t) && (d == e) && (b == f)) (same_test l m) same in
     let p2 = and_parts ((q == r) && (i == j) && (a == c) && (s == t) && (d == e)) (b == f) p1.0 in
@@ -62,7 +62,7 @@ same-ar q i a s d b r j c t e f l m same =
     let p5 = and_parts ((q == r) && (i == j)) (a == c) p4.0 in
     record { port = eqb-true q r (and_parts (q == r) (i == j) p5.0).0; snoop = eqb-true s t p4.1; dom = eqb-true d e p3.1; bar = eqb-true b f p2.1 }
 
-same-aw : (q i a s d b r j c t e f : ℕ) → same_event (Aw q i a s d b) (Aw r j c t e f) ≡ true → IsSameAr q r s t d e b f
+pub same-aw : (q i a s d b r j c t e f : ℕ) → same_event (Aw q i a s d b) (Aw r j c t e f) ≡ true → IsSameAr q r s t d e b f
 same-aw q i a s d b r j c t e f same =
     let p2 = and_parts ((q == r) && (i == j) && (a == c) && (s == t) && (d == e)) (b == f) same in
     let p3 = and_parts ((q == r) && (i == j) && (a == c) && (s == t)) (d == e) p2.0 in
