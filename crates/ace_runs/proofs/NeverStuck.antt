@@ -48,3 +48,5 @@ pub mod ServedMove
 pub mod Barriers
 -- Where no transaction is granted, one that waits moves.
 pub mod WaitingMove
+-- The transfer of a read without a line breaks no rule but those on order.
+pub mod PlainReads
