@@ -44,6 +44,8 @@ pub mod EnabledBy
 pub mod GrantedMove
 -- And so does all that steps serve, but for snoops.
 pub mod ServedMove
+-- What holds of each transaction of a trace.
+pub mod EachIssued
 -- Barriers: none holds back a grant, and one is answered.
 pub mod Barriers
 -- Where no transaction is granted, one that waits moves.
