@@ -6,3 +6,11 @@ pub mod PlainResponses
 pub mod DvmResponses
 -- First parts that wait for their seconds.
 pub mod WaitingParts
+-- What acknowledges, and what ends an operation.
+pub mod Concluding
+-- Which steps issue or forward parts of messages.
+pub mod MessageSteps
+-- Bursts that issue whole messages.
+pub mod WholeIssues
+-- Steps issue whole messages.
+pub mod IssuedMessages
