@@ -14,3 +14,7 @@ pub mod MessageSteps
 pub mod WholeIssues
 -- Steps issue whole messages.
 pub mod IssuedMessages
+-- What the step that forwards gives.
+pub mod ForwardingSteps
+-- No first part waits for its second.
+pub mod WholeMessages
