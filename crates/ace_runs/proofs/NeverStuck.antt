@@ -36,3 +36,5 @@ pub mod GrantedWritesMove
 pub mod PassedDataMove
 -- A write whose burst isn't whole has its port enabled.
 pub mod UnsentBursts
+-- A run forwards DVM messages whole.
+pub mod Forwarding
