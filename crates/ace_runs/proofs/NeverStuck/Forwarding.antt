@@ -5,3 +5,5 @@
 pub mod Waiting
 -- What comes next for a port begins a message.
 pub mod NextMessage
+-- Only step 11 forwards parts.
+pub mod Steps

@@ -215,11 +215,11 @@ forwards-plain h past p burst k s =
 -- ---- all steps ---------------------------------------------------------------------------------------
 
 -- from what each of the steps gives
-abbrev Each : Header → Trace → ℕ → List Event → Type 0 → List StepKind → Type 0
+abbrev pub Each : Header → Trace → ℕ → List Event → Type 0 → List StepKind → Type 0
 Each h past p burst P [] = ⊤
 Each h past p burst P (s ∷ rest) = (s.gives h past p burst ≡ true → P) × Each h past p burst P rest
 
-of-any : (h : Header) (past : Trace) (p : ℕ) (burst : List Event) (P : Type 0) (kinds : List StepKind) → Each h past p burst P kinds
+pub of-any : (h : Header) (past : Trace) (p : ℕ) (burst : List Event) (P : Type 0) (kinds : List StepKind) → Each h past p burst P kinds
     → list_any (may_give h past p burst) kinds ≡ true → P
 of-any h past p burst P [] each s = cc
 of-any h past p burst P (kind ∷ kinds) each s =
