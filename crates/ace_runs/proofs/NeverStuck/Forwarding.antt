@@ -7,3 +7,7 @@ pub mod Waiting
 pub mod NextMessage
 -- Only step 11 forwards parts.
 pub mod Steps
+-- The parts that a burst forwards.
+pub mod Bursts
+-- Step 11 forwards whole messages, and so each run does.
+pub mod Whole

@@ -1,8 +1,8 @@
 -- Step 11 alone forwards parts of messages: the events of any other step are no AC DVM Message.
-use Rattle.std.proofs.Common.{◌≡◌, ◌⊎◌, ℕ, Bool, true, false, not, ◌&&◌, ◌||◌, ◌==◌, List, [], ◌∷◌, ◌++◌, length, map, Option, Some, None, inl, inr, refl, ap, subst, ◌∙◌}
+use Rattle.std.proofs.Common.{◌≡◌, ◌⊎◌, ℕ, Bool, true, false, not, ◌&&◌, ◌||◌, ◌==◌, List, [], ◌++◌, length, map, Option, Some, None, inl, inr, refl, ap, subst, ◌∙◌}
 use Rattle.std.specs.List.{list_all}
 use Rattle.std.specs.Option.{option_to_list}
-use Rattle.std.proofs.lemmas.Bool.{and_parts, and_from, eqb-true}
+use Rattle.std.proofs.lemmas.Bool.{and_parts, eqb-true}
 use Rattle.ace_codes.specs.declared.kind.ArKind.{ArKind}
 use Rattle.ace_codes.specs.declared.kind.ArKind.TheVariants as read
 use Rattle.ace_codes.specs.declared.kind.AwKind.{AwKind}
@@ -35,7 +35,7 @@ use Rattle.ace_runs.specs.MasterSteps.{is_beat}
 use Rattle.ace_runs.specs.Operations.{next_operation}
 use Rattle.ace_runs.specs.OrderSteps.{barrier_burst, dvm_burst, forwards, pair_burst, sync_completion}
 use Rattle.ace_runs.specs.SameEvents.{same_burst, same_event}
-use Rattle.ace_runs.specs.Steps.{is_sound, is_step, may_give, steps, steps_of}
+use Rattle.ace_runs.specs.Steps.{is_sound, is_step, steps}
 use Rattle.ace_runs.proofs.NeverStuck.StepEvents.{acknowledges-masters, all-if, answers-answering, goes-on-masters, is_answering, is_masters}
 use Rattle.ace_runs.proofs.NeverStuck.StepShapes.{of-any}
 use Rattle.ace_runs.proofs.NeverStuck.WholeAnswers.{all-implied, all-same}
