@@ -38,3 +38,5 @@ pub mod PassedDataMove
 pub mod UnsentBursts
 -- The transactions of DVM move on.
 pub mod Messages
+-- A run forwards DVM messages whole.
+pub mod Forwarding

@@ -64,7 +64,7 @@ all-quiet-kept (e ∷ burst) past whole quiet =
     let parts = and_parts (is_quiet e) (list_all is_quiet burst) quiet in
     all-quiet-kept burst (e ∷ past) (quiet-kept e past whole parts.0) parts.1
 
-all-implied : (test later : Event → Bool) → ((e : Event) → test e ≡ true → later e ≡ true) → (burst : List Event) → list_all test burst ≡ true → list_all later burst ≡ true
+pub all-implied : (test later : Event → Bool) → ((e : Event) → test e ≡ true → later e ≡ true) → (burst : List Event) → list_all test burst ≡ true → list_all later burst ≡ true
 all-implied test later each [] m = refl
 all-implied test later each (e ∷ burst) m =
     let parts = and_parts (test e) (list_all test burst) m in and_from _ _ (each e parts.0) (all-implied test later each burst parts.1)
@@ -82,7 +82,7 @@ beat-quiet q e m = refl
 -- ---- the same bursts ---------------------------------------------------------------------------------
 
 -- what passes the test passes it as the same burst
-all-same : (test : Event → Bool) → ((d e : Event) → same_event d e ≡ true → test d ≡ true → test e ≡ true)
+pub all-same : (test : Event → Bool) → ((d e : Event) → same_event d e ≡ true → test d ≡ true → test e ≡ true)
     → (ds es : List Event) → same_burst ds es ≡ true → list_all test ds ≡ true → list_all test es ≡ true
 all-same test each [] [] s m = refl
 all-same test each [] (e ∷ es) s m = cc
@@ -92,7 +92,7 @@ all-same test each (d ∷ ds) (e ∷ es) s m =
     let of = and_parts (test d) (list_all test ds) m in
     and_from _ _ (each d e same.0 of.0) (all-same test each ds es same.1 of.1)
 
-same-length : (ds es : List Event) → same_burst ds es ≡ true → length es ≡ length ds
+pub same-length : (ds es : List Event) → same_burst ds es ≡ true → length es ≡ length ds
 same-length [] [] s = refl
 same-length [] (e ∷ es) s = cc
 same-length (d ∷ ds) [] s = cc
