@@ -4,8 +4,6 @@
 pub mod PlainResponses
 -- DVM Completes, and parts that every other ACE port has answered, have their responses.
 pub mod DvmResponses
--- First parts that wait for their seconds.
-pub mod WaitingParts
 -- What acknowledges, and what ends an operation.
 pub mod Concluding
 -- Which steps issue or forward parts of messages.
