@@ -6,13 +6,13 @@ pub mod PlainResponses
 pub mod DvmResponses
 -- What acknowledges, and what ends an operation.
 pub mod Concluding
--- Which steps issue or forward parts of messages.
-pub mod MessageSteps
 -- Bursts that issue whole messages.
 pub mod WholeIssues
--- Steps issue whole messages.
-pub mod IssuedMessages
 -- What the step that forwards gives.
 pub mod ForwardingSteps
--- No first part waits for its second.
+-- Step 14 alone issues parts of messages.
+pub mod MessageSteps
+-- It issues whole messages.
+pub mod IssuedMessages
+-- So no first part waits for its second.
 pub mod WholeMessages

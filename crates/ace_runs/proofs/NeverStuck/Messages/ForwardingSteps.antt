@@ -17,12 +17,12 @@ use Rattle.ace_model.proofs.General.Ports.{each_at}
 use Rattle.ace_model.proofs.Rules.Keeps.{kept}
 use Rattle.ace_model.proofs.Trace.Growth.{IsIssued, some_issued-is}
 use Rattle.ace_runs.specs.Bursts.{are_kept, is_kept}
+use Rattle.ace_runs.specs.Counts.{forwards_part}
 use Rattle.ace_runs.specs.OrderSteps.{forwarded_to, forwards, gets_message, is_by_port, is_part_of, message_of, parts_missing}
 use Rattle.ace_runs.specs.SameEvents.{same_burst, same_event}
 use Rattle.ace_runs.specs.Segments.{is_at_port}
 use Rattle.ace_runs.proofs.Accepting.{kept-breaks-none}
 use Rattle.ace_runs.proofs.NeverStuck.StepEvents.{all-if, all-map}
-use Rattle.ace_runs.proofs.NeverStuck.Messages.MessageSteps.{forwards_part}
 use Rattle.ace_runs.proofs.NeverStuck.Messages.WholeIssues.{issues_none}
 
 -- an event of the port forwards a part

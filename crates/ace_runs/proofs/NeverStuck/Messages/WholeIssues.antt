@@ -11,11 +11,11 @@ use Rattle.ace_model.specs.Messages.{has_second}
 use Rattle.ace_model.specs.Trace.{Trace}
 use Rattle.ace_model.proofs.General.Booleans.{same_test-at}
 use Rattle.ace_runs.specs.Bursts.{onto}
+use Rattle.ace_runs.specs.Counts.{issues_part}
 use Rattle.ace_runs.specs.Closing.{and_closing, closing_of}
 use Rattle.ace_runs.specs.SameEvents.{same_burst, same_event}
 use Rattle.ace_runs.specs.Segments.{is_at_port}
 use Rattle.ace_runs.proofs.NeverStuck.Messages.Concluding.{closing-concluding, is_concluding}
-use Rattle.ace_runs.proofs.NeverStuck.Messages.MessageSteps.{issues_part}
 
 -- the word of the part that the event issues
 abbrev pub word_issued : Event → ℕ

@@ -1,7 +1,7 @@
 -- Between the steps of a run no first part of a DVM message waits for its second: for a right plan step 14 issues whole messages.
 use Rattle.std.proofs.Common.{◌≡◌, ◌≢◌, ℕ, Bool, true, false, not, ◌&&◌, List, [], ◌∷◌, Option, Some, None, is_some, inl, inr, refl, sym, ap, subst, ◌∙◌}
 use Rattle.std.specs.List.{list_all}
-use Rattle.std.proofs.lemmas.Bool.{and_parts, and_from, cases_Bool, cases_eq, eqb-true, ne_eqb, not-true}
+use Rattle.std.proofs.lemmas.Bool.{and_parts, cases_Bool, cases_eq, eqb-true, ne_eqb, not-true}
 use Rattle.ace_event.specs.declared.event.Event.{Event}
 use Rattle.ace_event.specs.declared.event.Event.TheVariants.{Ar}
 use Rattle.ace_model.specs.declared.transactions.Transaction.{Transaction}
@@ -10,12 +10,12 @@ use Rattle.ace_model.specs.Plans.{IsRight, Plan}
 use Rattle.ace_model.specs.Trace.{Trace}
 use Rattle.ace_model.proofs.General.Booleans.{same_test-at}
 use Rattle.ace_runs.specs.Bursts.{onto}
+use Rattle.ace_runs.specs.Counts.{issues_part}
 use Rattle.ace_runs.specs.Segments.{is_at_port}
 use Rattle.ace_runs.specs.Steps.{AreSteps, is_step}
-use Rattle.ace_runs.proofs.Turns.{of-each-run, step-kept}
-use Rattle.ace_runs.proofs.NeverStuck.Messages.ForwardingSteps.{forwarding-issues-none, forwards-is}
+use Rattle.ace_runs.proofs.Turns.{of-each-run}
 use Rattle.ace_runs.proofs.NeverStuck.Messages.IssuedMessages.{goes-on-whole}
-use Rattle.ace_runs.proofs.NeverStuck.Messages.MessageSteps.{forwards_part, is_quiet, issues_part, message-shape}
+use Rattle.ace_runs.proofs.NeverStuck.Messages.MessageSteps.{issues-by-one}
 use Rattle.ace_runs.proofs.NeverStuck.Messages.WholeIssues.{is_whole, issues_none, leads, word_issued}
 
 -- no port's last part is a first part that a second is to follow
@@ -95,19 +95,12 @@ whole-kept burst past p whole w q =
       | inr apart ↦ led-others burst past p q false false apart w ∙ whole q
     ]
 
-quiet-none : (burst : List Event) → list_all is_quiet burst ≡ true → list_all issues_none burst ≡ true
-quiet-none [] m = refl
-quiet-none (e ∷ burst) m =
-    let parts = and_parts (is_quiet e) (list_all is_quiet burst) m in
-    and_from _ _ (and_parts (issues_none e) (not (forwards_part e)) parts.0).0 (quiet-none burst parts.1)
-
 pub messages-kept : (plan : Plan) (past : Trace) (p : ℕ) (burst : List Event) → IsRight plan → AreMessagesWhole past → is_step plan past p burst ≡ true
     → AreMessagesWhole (onto burst past)
 messages-kept plan past p burst right whole s =
-    elim (message-shape plan past p burst s) [
-      | inl quiet ↦ λ q. unissued-all burst past q (quiet-none burst quiet) ∙ whole q
-      | inr (inl f) ↦ λ q. unissued-all burst past q (forwarding-issues-none burst (forwards-is plan.header past p burst (step-kept plan past p burst s) f).each) ∙ whole q
-      | inr (inr g) ↦ whole-kept burst past p whole (goes-on-whole plan past p burst right g)
+    elim (issues-by-one plan past p burst s) [
+      | inl none ↦ λ q. unissued-all burst past q none ∙ whole q
+      | inr g ↦ whole-kept burst past p whole (goes-on-whole plan past p burst right g)
     ]
 
 -- In each run of a right plan the DVM messages are whole.
