@@ -14,5 +14,11 @@ pub mod ForwardingSteps
 pub mod MessageSteps
 -- It issues whole messages.
 pub mod IssuedMessages
+-- A part that comes next is forwarded.
+pub mod PartsGoOn
 -- So no first part waits for its second.
 pub mod WholeMessages
+-- An outstanding message moves on.
+pub mod MessagesMove
+-- A DVM Complete that is owed is issued.
+pub mod OwedCompletions

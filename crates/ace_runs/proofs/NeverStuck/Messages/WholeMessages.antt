@@ -104,6 +104,6 @@ messages-kept plan past p burst right whole s =
     ]
 
 -- In each run of a right plan the DVM messages are whole.
-pub messages-whole : (plan : Plan) (past : Trace) → IsRight plan → AreSteps plan past → AreMessagesWhole past
-messages-whole plan past right s =
+pub issues-whole : (plan : Plan) (past : Trace) → IsRight plan → AreSteps plan past → AreMessagesWhole past
+issues-whole plan past right s =
     of-each-run plan AreMessagesWhole (λ p. refl) (λ before p burst whole step. messages-kept plan before p burst right whole step) past s
