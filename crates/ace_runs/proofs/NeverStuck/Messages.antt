@@ -22,3 +22,7 @@ pub mod WholeMessages
 pub mod MessagesMove
 -- A DVM Complete that is owed is issued.
 pub mod OwedCompletions
+-- Complete messages were answered by all.
+pub mod AnsweredMessages
+-- A message was forwarded in all its parts or in none.
+pub mod WholeOrNone
