@@ -38,3 +38,5 @@ pub mod PassedDataMove
 pub mod UnsentBursts
 -- A run forwards DVM messages whole.
 pub mod Forwarding
+-- Where no AC is unanswered, an outstanding transaction that doesn't wait for its grant moves on, or one that it waits for.
+pub mod Transactions
