@@ -1,6 +1,6 @@
 -- A granted transaction that hasn't begun and whose snoops aren't done: where no AC is unanswered, another ACE port holds the line and wasn't
 -- snooped. It has a WK to give, by step 4, or the transaction's port may snoop it, by step 6.
-use Rattle.std.proofs.Common.{◌≡◌, ◌⊎◌, ℕ, zero, suc, ◌<◌, Bool, true, false, not, ◌&&◌, ◌||◌, ◌==◌, nat_lt, [], ◌∷◌, Option, Some, None, is_none, refl, ap, subst, ◌∙◌, inl, inr, arith}
+use Rattle.std.proofs.Common.{◌≡◌, ℕ, zero, suc, ◌<◌, Bool, true, false, not, ◌&&◌, ◌||◌, ◌==◌, nat_lt, [], ◌∷◌, Option, Some, None, is_none, refl, ap, subst, ◌∙◌, inl, inr, arith}
 use Rattle.std.specs.List.{list_all, list_any}
 use Rattle.std.proofs.lemmas.Bool.{and_parts, and_from, cases_Bool, eqb-true, eq-eqb, lt-ltb, not-false, or_left, or_parts}
 use Rattle.ace_codes.specs.declared.kind.SnoopKind.{SnoopKind}
@@ -23,8 +23,10 @@ use Rattle.ace_runs.specs.Steps.{AreSteps, is_enabled_by}
 use Rattle.ace_runs.proofs.Few.Queues.{eqb-swap}
 use Rattle.ace_runs.proofs.Turns.{steps-accepted}
 use Rattle.ace_runs.proofs.NeverStuck.Complete.{complete-enabled}
+use Rattle.ace_runs.proofs.NeverStuck.EnabledBy.{enabled-by-more}
 use Rattle.ace_runs.proofs.NeverStuck.NoDataOwed.{no-data-owed}
 use Rattle.ace_runs.proofs.NeverStuck.UpdatesOrGranted.{HasLine}
+use Rattle.ace_runs.proofs.NeverStuck.WriterPorts.{issuer-low}
 use Rattle.ace_runs.proofs.NeverStuck.Forwarding.Whole.{next-not-second}
 use Rattle.ace_runs.proofs.NeverStuck.Transactions.SnoopsKept.{MaySnoop, snoop-kept}
 use Rattle.ace_runs.proofs.NeverStuck.Transactions.Unanswered.{answered-all}
@@ -116,21 +118,21 @@ by-snoop plan past x k q line caused low is =
     or_left (may_snoop h past x.port) _ may
 
 -- Some port is enabled by step 4, or the transaction's port by step 6.
-pub snoops-move : (plan : Plan) (past : Trace) (x : Transaction) → AreSteps plan past → ((q : ℕ) → answered past q ≡ None) → HasLine plan.header past x.addr x
-    → is_begun past x ≡ false → are_snoops_done plan.header past x ≡ false
-    → ((q : ℕ) × (nat_lt q plan.header.ports ≡ true) × (is_enabled_by (4 ∷ []) plan past q ≡ true)) ⊎ (is_enabled_by (6 ∷ []) plan past x.port ≡ true)
+pub snoops-move : (plan : Plan) (past : Trace) (x : Transaction) → AreSteps plan past → ((q : ℕ) → nat_lt q plan.header.ports ≡ true → answered past q ≡ None)
+    → HasLine plan.header past x.addr x → is_begun past x ≡ false → are_snoops_done plan.header past x ≡ false
+    → (q : ℕ) × (nat_lt q plan.header.ports ≡ true) × (is_enabled_by (4 ∷ 6 ∷ []) plan past q ≡ true)
 snoops-move plan past x s none line unbegun undone =
     let h = plan.header in
     let a = steps-accepted plan past s in
     let lacks = lacks-port h past x undone in
     let q = lacks.port in
     let low = lt-ltb lacks.port h.ports lacks.low in
-    let u = unsnooped-port h past x q (answered-all h past q x.addr a (none q)) (no-data-owed plan past q x.addr s) lacks.undone in
+    let u = unsnooped-port h past x q (answered-all h past q x.addr a (none q low)) (no-data-owed plan past q x.addr s) lacks.undone in
     elim (cases_Bool (owes_wack h past q x.addr)) [
-      | inl owes ↦ inl (q, low, wack-enabled plan past q x.addr s owes)
+      | inl owes ↦ (q, low, enabled-by-more (4 ∷ []) (4 ∷ 6 ∷ []) plan past q refl (wack-enabled plan past q x.addr s owes))
       | inr owes_none ↦
           let m : MaySnoop h past x lacks.port = record { other = u.other; ace = u.ace; unsnooped = u.unsnooped; acknowledged = owes_none; whole = next-not-second plan past q s low } in
           let is_line_one = (and_parts (is_line x) (x.addr == x.addr) line.on).0 in
           let is = snoop-kept h past x lacks.kind q a line.issued is_line_one line.holds lacks.caused lacks.unfailed unbegun m in
-          inr (by-snoop plan past x lacks.kind q line lacks.caused lacks.low is)
+          (x.port, issuer-low h past x a line.issued, enabled-by-more (6 ∷ []) (4 ∷ 6 ∷ []) plan past x.port refl (by-snoop plan past x lacks.kind q line lacks.caused lacks.low is))
     ]
