@@ -44,3 +44,7 @@ pub mod EnabledBy
 pub mod GrantedMove
 -- And so does all that steps serve, but for snoops.
 pub mod ServedMove
+-- A run forwards DVM messages whole.
+pub mod Forwarding
+-- Where no AC is unanswered, an outstanding transaction that doesn't wait for its grant moves on, or one that it waits for.
+pub mod Transactions
