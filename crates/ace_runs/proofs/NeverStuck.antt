@@ -40,10 +40,6 @@ pub mod UnsentBursts
 pub mod Reads
 -- A port enabled by some steps is enabled by more.
 pub mod EnabledBy
--- So what is granted moves on once its snoops are done.
-pub mod GrantedMove
--- And so does all that steps serve, but for snoops.
-pub mod ServedMove
 -- A run forwards DVM messages whole.
 pub mod Forwarding
 -- Where no AC is unanswered, an outstanding transaction that doesn't wait for its grant moves on, or one that it waits for.

@@ -1,10 +1,8 @@
 -- Where no AC is unanswered and a transaction is outstanding that is complete, a memory update, an Evict or granted, some port is enabled by
 -- one of the steps 2 to 4 and 6 to 9.
-use Rattle.std.proofs.Common.{◌≡◌, ℕ, Bool, true, false, not, ◌&&◌, ◌||◌, ◌==◌, nat_lt, List, [], ◌∷◌, Some, None, refl, sym, ap, subst, ◌∙◌, inl, inr}
-use Rattle.std.specs.List.{list_all, list_any}
-use Rattle.std.proofs.lemmas.Bool.{and_parts, and_from, cases_Bool, eqb-true, eq-eqb, false_from_ne_true, or_cases, or_left, or_right}
+use Rattle.std.proofs.Common.{◌≡◌, ℕ, Bool, true, false, not, ◌||◌, ◌==◌, nat_lt, List, [], ◌∷◌, Some, None, refl, sym, ap, subst, ◌∙◌, inl, inr}
+use Rattle.std.proofs.lemmas.Bool.{cases_Bool, eq-eqb, or_cases}
 use Rattle.ace_event.specs.declared.event.Channel.{Channel}
-use Rattle.ace_event.specs.declared.event.Channel.TheVariants.{Write}
 use Rattle.ace_model.specs.declared.transactions.Transaction.{Transaction}
 use Rattle.ace_model.specs.Grants.{has_passed_data, is_begun, is_granted}
 use Rattle.ace_model.specs.Kinds.{has_write_data}
@@ -14,53 +12,26 @@ use Rattle.ace_model.specs.Snoops.{answered}
 use Rattle.ace_model.specs.States.{are_snoops_done}
 use Rattle.ace_model.specs.Trace.{Trace, implies, is_some_and}
 use Rattle.ace_model.specs.Transactions.{is_complete, is_outstanding, is_read, outstanding, transfers, write_kind}
-use Rattle.ace_model.specs.Writes.{has_memory_write, is_burst_whole}
+use Rattle.ace_model.specs.Writes.{is_burst_whole}
 use Rattle.ace_model.proofs.Grants.Granted.{granted_at, granted_given, granted_write}
 use Rattle.ace_model.proofs.Tables.Kinds.{granted_data}
 use Rattle.ace_model.proofs.Trace.Growth.{IsIssued, named-issued}
 use Rattle.ace_model.proofs.Trace.Issued.{outstanding-name, outstanding-named}
-use Rattle.ace_model.proofs.Trace.Looks.{at_name, is_on-addr, is_write-is}
+use Rattle.ace_model.proofs.Trace.Looks.{at_name, is_on-addr}
 use Rattle.ace_model.proofs.Trace.Outstanding.{outstanding_own}
 use Rattle.ace_runs.specs.LineSteps.{takes_dirt}
-use Rattle.ace_runs.specs.Steps.{AreSteps, StepKind, has_number, is_enabled_by, steps_of}
+use Rattle.ace_runs.specs.Steps.{AreSteps, is_enabled_by}
 use Rattle.ace_runs.proofs.Turns.{steps-accepted}
 use Rattle.ace_runs.proofs.NeverStuck.Complete.{complete-enabled}
+use Rattle.ace_runs.proofs.NeverStuck.EnabledBy.{are_among, enabled-by-more}
 use Rattle.ace_runs.proofs.NeverStuck.EvictsMove.{evict-moves}
-use Rattle.ace_runs.proofs.NeverStuck.GrantedWritesMove.{granted-write-moves}
+use Rattle.ace_runs.proofs.NeverStuck.GrantedWritesMove.{granted-write-moves, undone-unwritten}
 use Rattle.ace_runs.proofs.NeverStuck.PassedDataMove.{passed-data-move}
+use Rattle.ace_runs.proofs.NeverStuck.Reads.ReadsMove.{begun-read-moves, unbegun-read-moves}
 use Rattle.ace_runs.proofs.NeverStuck.UnsentBursts.{unsent-burst-enabled}
 use Rattle.ace_runs.proofs.NeverStuck.UpdatesOrGranted.{HasLine, granted-there, update-or-granted}
 use Rattle.ace_runs.proofs.NeverStuck.WriterPorts.{issuer-low}
-use Rattle.ace_runs.proofs.NeverStuck.WritesAnswered.{writes-answered}
 use Rattle.ace_runs.proofs.NeverStuck.Transactions.SnoopsMove.{snoops-move}
-
--- ---- more steps --------------------------------------------------------------------------------------
-
--- the numbers are among these
-abbrev are_among : List ℕ → List ℕ → Bool
-are_among numbers more = list_all (λ n. list_any (λ m. m == n) more) numbers
-
-has-among : (numbers more : List ℕ) (n : ℕ) → are_among numbers more ≡ true → list_any (λ m. m == n) numbers ≡ true → list_any (λ m. m == n) more ≡ true
-has-among [] more n among has = cc
-has-among (m ∷ numbers) more n among has =
-    let parts = and_parts (list_any (λ k. k == m) more) (are_among numbers more) among in
-    elim (or_cases (m == n) (list_any (λ k. k == n) numbers) has) [
-      | inl here ↦ subst (λ k. list_any (λ j. j == k) more ≡ true) (eqb-true m n here) parts.0
-      | inr later ↦ has-among numbers more n parts.1 later
-    ]
-
-any-weaker : (kinds : List StepKind) (f g e : StepKind → Bool) → ((s : StepKind) → f s ≡ true → g s ≡ true) → list_any (λ s. f s && e s) kinds ≡ true → list_any (λ s. g s && e s) kinds ≡ true
-any-weaker [] f g e each any = cc
-any-weaker (s ∷ kinds) f g e each any =
-    elim (or_cases (f s && e s) (list_any (λ s. f s && e s) kinds) any) [
-      | inl here ↦ let parts = and_parts (f s) (e s) here in or_left (g s && e s) (list_any (λ s. g s && e s) kinds) (and_from _ _ (each s parts.0) parts.1)
-      | inr later ↦ or_right (g s && e s) (list_any (λ s. g s && e s) kinds) (any-weaker kinds f g e each later)
-    ]
-
--- a port that is enabled by a step is enabled by one of more steps
-pub enabled-by-more : (numbers more : List ℕ) (plan : Plan) (past : Trace) (p : ℕ) → are_among numbers more ≡ true → is_enabled_by numbers plan past p ≡ true → is_enabled_by more plan past p ≡ true
-enabled-by-more numbers more plan past p among on =
-    any-weaker (steps_of plan past p) (has_number numbers) (has_number more) (λ s. s.is_enabled plan.header past p) (λ s has. has-among numbers more s.number among has) on
 
 -- ---- the cases ---------------------------------------------------------------------------------------
 
@@ -71,14 +42,6 @@ SomeEnabledBy numbers plan past = (q : ℕ) × (nat_lt q plan.header.ports ≡ t
 -- the steps for a transaction that doesn't wait for its grant
 abbrev pub moving_steps : List ℕ
 moving_steps = 2 ∷ 3 ∷ 4 ∷ 6 ∷ 7 ∷ 8 ∷ 9 ∷ []
-
--- A granted read with its snoops done that can take its passed data, if there are any, has its next transfer: its port is enabled by step 8.
-abbrev pub ReadsMove : Plan → Trace → Type 0
-ReadsMove plan past =
-    ((x : Transaction) → HasLine plan.header past x.addr x → is_read x.chan ≡ true → (transfers past x.port x.id == 0) ≡ true → are_snoops_done plan.header past x ≡ true
-    → implies (has_passed_data plan.header past x) (takes_dirt plan.header past x) ≡ true → is_enabled_by (8 ∷ []) plan past x.port ≡ true)
-    × ((x : Transaction) → HasLine plan.header past x.addr x → is_read x.chan ≡ true → (transfers past x.port x.id == 0) ≡ false → is_complete past x.port x.chan x.id ≡ false
-    → is_enabled_by (8 ∷ []) plan past x.port ≡ true)
 
 module _ (plan : Plan) (past : Trace) (s : AreSteps plan past) where
   -- the port of the transaction is enabled
@@ -107,77 +70,72 @@ module _ (plan : Plan) (past : Trace) (s : AreSteps plan past) where
           | inl whole ↦ elim (cases_Bool (are_snoops_done h past x)) [
             | inl done ↦ here (9 ∷ []) x line.issued refl (granted-write-moves plan past x.addr x s line writes undone whole done)
             | inr unsnooped ↦
-                let chan = is_write-is x.chan writes in
-                let unwritten : has_memory_write past x.port x.chan x.id ≡ false =
-                false_from_ne_true (has_memory_write past x.port x.chan x.id) (λ m.
-                let answered_write = writes-answered plan past s x.port x.id (subst (λ c. has_memory_write past x.port c x.id ≡ true) chan m) in
-                let undone_here : is_complete past x.port Write x.id ≡ false = subst (λ c. is_complete past x.port c x.id ≡ false) chan undone in cc) in
+                let unwritten = undone-unwritten plan past x s writes undone in
                 snooping-moves x line (rw writes unwritten) unsnooped
           ]
         ]
 
-    module _ (reads : ReadsMove plan past) where
-      granted-read-case : (x : Transaction) → HasLine plan.header past x.addr x → is_read x.chan ≡ true → is_complete past x.port x.chan x.id ≡ false → SomeEnabledBy moving_steps plan past
-      granted-read-case x line is undone =
-          let h = plan.header in
-          elim (cases_Bool (transfers past x.port x.id == 0)) [
-            | inr some ↦ here (8 ∷ []) x line.issued refl (reads.1 x line is some undone)
-            | inl first ↦ elim (cases_Bool (are_snoops_done h past x)) [
-              | inr unsnooped ↦ snooping-moves x line (rw is (ap not first)) unsnooped
-              | inl done ↦ elim (cases_Bool (implies (has_passed_data h past x) (takes_dirt h past x))) [
-                | inl takes ↦ here (8 ∷ []) x line.issued refl (reads.0 x line is first done takes)
-                | inr lacks ↦
-                    let parts = unless (has_passed_data h past x) (takes_dirt h past x) lacks in
-                    here (7 ∷ []) x line.issued refl (passed-data-move plan past x s line is parts.0 parts.1 first)
+    granted-read-case : (x : Transaction) → HasLine plan.header past x.addr x → is_read x.chan ≡ true → is_complete past x.port x.chan x.id ≡ false → SomeEnabledBy moving_steps plan past
+    granted-read-case x line is undone =
+        let h = plan.header in
+        elim (cases_Bool (transfers past x.port x.id == 0)) [
+          | inr some ↦ here (8 ∷ []) x line.issued refl (begun-read-moves plan past x s line is some undone)
+          | inl first ↦ elim (cases_Bool (are_snoops_done h past x)) [
+            | inr unsnooped ↦ snooping-moves x line (rw is (ap not first)) unsnooped
+            | inl done ↦ elim (cases_Bool (implies (has_passed_data h past x) (takes_dirt h past x))) [
+              | inl takes ↦ here (8 ∷ []) x line.issued refl (unbegun-read-moves plan past x s line is first done takes)
+              | inr lacks ↦
+                  let parts = unless (has_passed_data h past x) (takes_dirt h past x) lacks in
+                  here (7 ∷ []) x line.issued refl (passed-data-move plan past x s line is parts.0 parts.1 first)
+            ]
+          ]
+        ]
+      where
+        unless : (a b : Bool) → implies a b ≡ false → (a ≡ true) × (b ≡ false)
+        unless true b f = (refl, f)
+        unless false b f = cc
+
+    granted-case : (x : Transaction) → HasLine plan.header past x.addr x → SomeEnabledBy moving_steps plan past
+    granted-case x line =
+        elim (cases_Bool (is_complete past x.port x.chan x.id)) [
+          | inl done ↦ complete-moves x line.issued line.out done
+          | inr undone ↦ elim (cases_Bool (is_read x.chan)) [
+            | inl is ↦ granted-read-case x line is undone
+            | inr writes ↦ granted-write-case x line writes undone
+          ]
+        ]
+
+    update-case : (x : Transaction) → IsIssued past x → updates_memory x ≡ true → is_outstanding plan.header past x ≡ true → SomeEnabledBy moving_steps plan past
+    update-case x i u is_out =
+        elim (update-or-granted plan past x s i u is_out) [
+          | inl moves ↦ here (2 ∷ 3 ∷ 4 ∷ 7 ∷ []) x i refl moves
+          | inr other ↦
+              let line = other.1 in
+              let addr = is_on-addr other.0 x.addr line.on in
+              granted-case other.0 (subst (λ l. HasLine plan.header past l other.0) (sym addr) line)
+        ]
+
+    -- Some port is enabled by one of the steps 2 to 4 and 6 to 9.
+    pub transaction-moves : (p : ℕ) (c : Channel) (i : ℕ) (x : Transaction) → outstanding plan.header past p c i ≡ Some x
+        → (is_complete past p c i || updates_memory x || evicts x || is_granted plan.header past x) ≡ true → SomeEnabledBy moving_steps plan past
+    transaction-moves p c i x o one =
+        let h = plan.header in
+        let a = steps-accepted plan past s in
+        let issued = named-issued past p c i x (outstanding-named h past p c i x o) in
+        let out = outstanding_own h past p c i x o in
+        let is_out : is_outstanding h past x ≡ true = rw out (eq-eqb x.place x.place refl) in
+        elim (cases_Bool (is_complete past x.port x.chan x.id)) [
+          | inl done ↦ complete-moves x issued out done
+          | inr undone ↦ elim (or_cases (is_complete past p c i || updates_memory x || evicts x) (is_granted h past x) one) [
+            | inr has ↦ granted-case x (granted-there h past x.addr x a (granted_at h past a p c i x o has))
+            | inl rest ↦ elim (or_cases (is_complete past p c i || updates_memory x) (evicts x) rest) [
+              | inr e ↦ here (3 ∷ []) x issued refl (evict-moves plan past x s issued e is_out undone)
+              | inl other ↦ elim (or_cases (is_complete past p c i) (updates_memory x) other) [
+                | inr u ↦ update-case x issued u is_out
+                | inl done ↦
+                    let name = outstanding-name h past p c i x o in
+                    let done_own : is_complete past x.port x.chan x.id ≡ true = at_name (is_complete past) x p c i name ∙ done in cc
               ]
             ]
           ]
-        where
-          unless : (a b : Bool) → implies a b ≡ false → (a ≡ true) × (b ≡ false)
-          unless true b f = (refl, f)
-          unless false b f = cc
-
-      granted-case : (x : Transaction) → HasLine plan.header past x.addr x → SomeEnabledBy moving_steps plan past
-      granted-case x line =
-          elim (cases_Bool (is_complete past x.port x.chan x.id)) [
-            | inl done ↦ complete-moves x line.issued line.out done
-            | inr undone ↦ elim (cases_Bool (is_read x.chan)) [
-              | inl is ↦ granted-read-case x line is undone
-              | inr writes ↦ granted-write-case x line writes undone
-            ]
-          ]
-
-      update-case : (x : Transaction) → IsIssued past x → updates_memory x ≡ true → is_outstanding plan.header past x ≡ true → SomeEnabledBy moving_steps plan past
-      update-case x i u is_out =
-          elim (update-or-granted plan past x s i u is_out) [
-            | inl moves ↦ here (2 ∷ 3 ∷ 4 ∷ 7 ∷ []) x i refl moves
-            | inr other ↦
-                let line = other.1 in
-                let addr = is_on-addr other.0 x.addr line.on in
-                granted-case other.0 (subst (λ l. HasLine plan.header past l other.0) (sym addr) line)
-          ]
-
-      -- Some port is enabled by one of the steps 2 to 4 and 6 to 9.
-      pub transaction-moves : (p : ℕ) (c : Channel) (i : ℕ) (x : Transaction) → outstanding plan.header past p c i ≡ Some x
-          → (is_complete past p c i || updates_memory x || evicts x || is_granted plan.header past x) ≡ true → SomeEnabledBy moving_steps plan past
-      transaction-moves p c i x o one =
-          let h = plan.header in
-          let a = steps-accepted plan past s in
-          let issued = named-issued past p c i x (outstanding-named h past p c i x o) in
-          let out = outstanding_own h past p c i x o in
-          let is_out : is_outstanding h past x ≡ true = rw out (eq-eqb x.place x.place refl) in
-          elim (cases_Bool (is_complete past x.port x.chan x.id)) [
-            | inl done ↦ complete-moves x issued out done
-            | inr undone ↦ elim (or_cases (is_complete past p c i || updates_memory x || evicts x) (is_granted h past x) one) [
-              | inr has ↦ granted-case x (granted-there h past x.addr x a (granted_at h past a p c i x o has))
-              | inl rest ↦ elim (or_cases (is_complete past p c i || updates_memory x) (evicts x) rest) [
-                | inr e ↦ here (3 ∷ []) x issued refl (evict-moves plan past x s issued e is_out undone)
-                | inl other ↦ elim (or_cases (is_complete past p c i) (updates_memory x) other) [
-                  | inr u ↦ update-case x issued u is_out
-                  | inl done ↦
-                      let name = outstanding-name h past p c i x o in
-                      let done_own : is_complete past x.port x.chan x.id ≡ true = at_name (is_complete past) x p c i name ∙ done in cc
-                ]
-              ]
-            ]
-          ]
+        ]
