@@ -13,10 +13,6 @@ pub mod UnsentBursts
 pub mod GrantedWritesMove
 -- Passed data that a read can't take move on.
 pub mod PassedDataMove
--- So what is granted moves on once its snoops are done.
-pub mod GrantedMove
--- And so does all that steps serve, but for snoops.
-pub mod ServedMove
 -- A snoop without an answer is an unanswered AC.
 pub mod Unanswered
 -- A snoop of a port that holds the line of a granted transaction breaks no rule.
