@@ -6,14 +6,14 @@ use Rattle.std.specs.List.{list_all, list_any}
 use Rattle.std.proofs.lemmas.Bool.{and_parts, and_from, or_cases, cases_Bool, eq-eqb, ltb-true, not-true, false_from_ne_true}
 use Rattle.ace_codes.specs.declared.kind.SnoopKind.{SnoopKind}
 use Rattle.ace_event.specs.declared.event.Event.{Event}
-use Rattle.ace_event.specs.declared.event.Event.TheVariants.{Ac, Cr, Cd, W, M}
+use Rattle.ace_event.specs.declared.event.Event.TheVariants.{Ac, Cr, Cd, W, M, Mem}
 use Rattle.ace_event.specs.declared.header.Header.{Header}
 use Rattle.ace_codes.specs.Snoops.{ac_code}
 use Rattle.ace_codes.specs.declared.kind.SnoopKind.TheVariants as snoop
 use Rattle.ace_model.specs.declared.transactions.Transaction.{Transaction}
-use Rattle.ace_model.specs.Trace.{Trace, implies, is_some_and}
+use Rattle.ace_model.specs.Trace.{Trace, implies, is_some_and, port_of}
 use Rattle.ace_model.specs.Accepted.{rules}
-use Rattle.ace_model.specs.AddressRules.{k1}
+use Rattle.ace_model.specs.AddressRules.{k1, may_have}
 use Rattle.ace_model.specs.Barriers.{Pair, pair_of}
 use Rattle.ace_model.specs.Grants.{has_passed_data, is_granted, ports_below}
 use Rattle.ace_model.specs.Kinds.{is_read_barrier}
@@ -21,7 +21,8 @@ use Rattle.ace_model.specs.Messages.{is_dvm_completion, is_message_part, is_othe
 use Rattle.ace_model.specs.Plans.{Plan}
 use Rattle.ace_model.specs.Progress.{evicts, updates_memory}
 use Rattle.ace_model.specs.Transactions.{is_line, is_outstanding, is_read, issued, read_kind, snoop_of, some_issued, takes_grant}
-use Rattle.ace_model.proofs.General.Options.{is_some_and-is}
+use Rattle.ace_model.proofs.General.Booleans.{implies-at}
+use Rattle.ace_model.proofs.General.Options.{is_none_or-at, is_some_and-is}
 use Rattle.ace_model.proofs.General.Ports.{each_at}
 use Rattle.ace_model.proofs.Rules.Keeps.{kept}
 use Rattle.ace_runs.specs.Bursts.{are_kept, is_kept, serves}
@@ -84,17 +85,25 @@ same-plain (Cd q last word) e s = cc
 same-plain d (Cd p first half) s = cc
 same-plain d e s = refl
 
-same-burst-plain : (ds es : List Event) → same_burst ds es ≡ true → are_plain ds ≡ are_plain es
-same-burst-plain [] [] s = refl
-same-burst-plain [] (e ∷ es) s = cc
-same-burst-plain (d ∷ ds) [] s = cc
-same-burst-plain (d ∷ ds) (e ∷ es) s =
-    let same = and_parts (same_event d e) (same_burst ds es) s in
-    ap (λ b. b && are_plain ds) (same-plain d e same.0) ∙ ap (λ b. is_plain e && b) (same-burst-plain ds es same.1)
+-- the test tells the same of the same events
+abbrev pub TellsSame : (Event → Bool) → Type 0
+TellsSame test = (d e : Event) → same_event d e ≡ true → test d ≡ test e
+
+same-burst-all : (test : Event → Bool) → TellsSame test → (ds es : List Event) → same_burst ds es ≡ true → list_all test ds ≡ list_all test es
+same-burst-all test same [] [] s = refl
+same-burst-all test same [] (e ∷ es) s = cc
+same-burst-all test same (d ∷ ds) [] s = cc
+same-burst-all test same (d ∷ ds) (e ∷ es) s =
+    let parts = and_parts (same_event d e) (same_burst ds es) s in
+    ap (λ b. b && list_all test ds) (same d e parts.0) ∙ ap (λ b. test e && b) (same-burst-all test same ds es parts.1)
+
+-- a burst that is the same as events that pass the test
+pub all-as : (test : Event → Bool) → TellsSame test → (ds es : List Event) → same_burst ds es ≡ true → list_all test ds ≡ true → list_all test es ≡ true
+all-as test same ds es s m = sym (same-burst-all test same ds es s) ∙ m
 
 -- a burst that is the same as plain events
 pub plain-as : (ds es : List Event) → same_burst ds es ≡ true → are_plain ds ≡ true → are_plain es ≡ true
-plain-as ds es s m = sym (same-burst-plain ds es s) ∙ m
+plain-as ds es s m = all-as is_plain same-plain ds es s m
 
 -- ---- steps that serve a transaction ------------------------------------------------------------------
 
@@ -112,10 +121,10 @@ served burst_for h past p burst s =
     let x = issued-passes past (λ x. (x.port == p) && is_outstanding h past x && same_burst (burst_for h past x) burst) s in
     (x.0, (and_parts _ (same_burst (burst_for h past x.0) burst) x.1).1)
 
-served-plain : (burst_for : Header → Trace → Transaction → List Event) (h : Header) (past : Trace) (p : ℕ) (burst : List Event)
-    → ((x : Transaction) → are_plain (burst_for h past x) ≡ true) → serves burst_for h past p burst ≡ true → are_plain burst ≡ true
-served-plain burst_for h past p burst plain s =
-    let x = served burst_for h past p burst s in plain-as (burst_for h past x.0) burst x.1 (plain x.0)
+pub served-all : (test : Event → Bool) → TellsSame test → (burst_for : Header → Trace → Transaction → List Event) (h : Header) (past : Trace) (p : ℕ) (burst : List Event)
+    → ((x : Transaction) → list_all test (burst_for h past x) ≡ true) → serves burst_for h past p burst ≡ true → list_all test burst ≡ true
+served-all test same burst_for h past p burst each s =
+    let x = served burst_for h past p burst s in all-as test same (burst_for h past x.0) burst x.1 (each x.0)
 
 pair-plain : (o : Option Pair) → are_plain (pair_burst o) ≡ true
 pair-plain None = refl
@@ -157,60 +166,73 @@ snoop-plain x k (Cr p resp st) s = cc
 snoop-plain x k (Cd p last word) s = cc
 snoop-plain x k e s = refl
 
-all-snoops-plain : (x : Transaction) (k : SnoopKind) (burst : List Event) → list_all (is_snoop_for x k) burst ≡ true → are_plain burst ≡ true
-all-snoops-plain x k [] s = refl
-all-snoops-plain x k (e ∷ burst) s =
+all-snoops : (test : Event → Bool) (x : Transaction) (k : SnoopKind) → ((e : Event) → is_snoop_for x k e ≡ true → test e ≡ true)
+    → (burst : List Event) → list_all (is_snoop_for x k) burst ≡ true → list_all test burst ≡ true
+all-snoops test x k each [] s = refl
+all-snoops test x k each (e ∷ burst) s =
     let parts = and_parts (is_snoop_for x k e) (list_all (is_snoop_for x k) burst) s in
-    and_from _ _ (snoop-plain x k e parts.0) (all-snoops-plain x k burst parts.1)
+    and_from _ _ (each e parts.0) (all-snoops test x k each burst parts.1)
 
-snoops-plain : (h : Header) (past : Trace) (p : ℕ) (burst : List Event) → gives_snoops h past p burst ≡ true → are_plain burst ≡ true
-snoops-plain h past p burst s =
-    let test = λ (x : Transaction). is_granted h past x && is_some_and (snoop_of x) (λ k. list_all (is_snoop_for x k) burst) in
-    let x = issued-passes past (λ x. (x.port == p) && is_outstanding h past x && test x) s in
-    let of = (and_parts (is_granted h past x.0) _ (and_parts ((x.0.port == p) && is_outstanding h past x.0) (test x.0) x.1).1).1 in
+pub snoops-all : (test : Event → Bool) → ((x : Transaction) (k : SnoopKind) (e : Event) → is_snoop_for x k e ≡ true → test e ≡ true)
+    → (h : Header) (past : Trace) (p : ℕ) (burst : List Event) → gives_snoops h past p burst ≡ true → list_all test burst ≡ true
+snoops-all test each h past p burst s =
+    let of_it = λ (x : Transaction). is_granted h past x && is_some_and (snoop_of x) (λ k. list_all (is_snoop_for x k) burst) in
+    let x = issued-passes past (λ x. (x.port == p) && is_outstanding h past x && of_it x) s in
+    let of = (and_parts (is_granted h past x.0) _ (and_parts ((x.0.port == p) && is_outstanding h past x.0) (of_it x.0) x.1).1).1 in
     let k = is_some_and-is (snoop_of x.0) (λ k. list_all (is_snoop_for x.0 k) burst) of in
-    all-snoops-plain x.0 k.0 burst k.2
+    all-snoops test x.0 k.0 (each x.0 k.0) burst k.2
 
-filtered-plain : (q : ℕ) (burst : List Event) → are_plain (filter (is_at_port q) burst) ≡ true → list_all (λ e. implies (is_at_port q e) (is_plain e)) burst ≡ true
-filtered-plain q [] m = refl
-filtered-plain q (e ∷ burst) m =
+filtered-all : (test : Event → Bool) (q : ℕ) (burst : List Event) → list_all test (filter (is_at_port q) burst) ≡ true
+    → list_all (λ e. implies (is_at_port q e) (test e)) burst ≡ true
+filtered-all test q [] m = refl
+filtered-all test q (e ∷ burst) m =
     elim (cases_Bool (is_at_port q e)) [
       | inl t ↦
-          let here : are_plain (e ∷ filter (is_at_port q) burst) ≡ true = rw t at m in
-          let parts = and_parts (is_plain e) (are_plain (filter (is_at_port q) burst)) here in
-          and_from _ _ (rw t parts.0) (filtered-plain q burst parts.1)
-      | inr f ↦ and_from _ _ (rw f refl) (filtered-plain q burst (rw f at m))
+          let here : list_all test (e ∷ filter (is_at_port q) burst) ≡ true = rw t at m in
+          let parts = and_parts (test e) (list_all test (filter (is_at_port q) burst)) here in
+          and_from _ _ (rw t parts.0) (filtered-all test q burst parts.1)
+      | inr f ↦ and_from _ _ (rw f refl) (filtered-all test q burst (rw f at m))
     ]
 
--- an event of a port of the header that is plain at each port is plain
-plain-at : (h : Header) (e : Event) → k1 h [] e ≡ true → ((q : ℕ) → nat_lt q h.ports ≡ true → implies (is_at_port q e) (is_plain e) ≡ true) → is_plain e ≡ true
-plain-at h (W q strb last word) k each =
-    let low = (and_parts (nat_lt q h.ports) _ k).0 in let here : implies (q == q) false ≡ true = each q low in let bad : false ≡ true = rw (eq-eqb q q refl) at here in cc
-plain-at h (M q c i line) k each =
-    let low = (and_parts (nat_lt q h.ports) _ k).0 in let here : implies (q == q) false ≡ true = each q low in let bad : false ≡ true = rw (eq-eqb q q refl) at here in cc
-plain-at h (Cr q resp st) k each =
-    let low = (and_parts (nat_lt q h.ports) _ k).0 in let here : implies (q == q) false ≡ true = each q low in let bad : false ≡ true = rw (eq-eqb q q refl) at here in cc
-plain-at h (Cd q last word) k each =
-    let low = (and_parts (nat_lt q h.ports) _ k).0 in let here : implies (q == q) false ≡ true = each q low in let bad : false ≡ true = rw (eq-eqb q q refl) at here in cc
-plain-at h e k each = refl
+-- an event of a port of the header that passes the test at each port passes it
+at-its-port : (test : Event → Bool) → ((e : Event) → port_of e ≡ None → test e ≡ true) → (h : Header) (e : Event) → k1 h [] e ≡ true
+    → ((q : ℕ) → nat_lt q h.ports ≡ true → implies (is_at_port q e) (test e) ≡ true) → test e ≡ true
+at-its-port test portless h e k each = by (port_of e) refl
+  where
+    by : (o : Option ℕ) → port_of e ≡ o → test e ≡ true
+    by None none = portless e none
+    by (Some q) port =
+        let low = (and_parts (nat_lt q h.ports) _ (is_none_or-at (port_of e) (may_have h e) q k port)).0 in
+        let at : is_at_port q e ≡ true = ap (λ o. is_some_and o (λ r. r == q)) port ∙ eq-eqb q q refl in
+        implies-at (is_at_port q e) (test e) (each q low) at
 
-plain-by-ports : (h : Header) (past : Trace) (burst : List Event) → are_kept h past burst ≡ true
-    → ((q : ℕ) → nat_lt q h.ports ≡ true → list_all (λ e. implies (is_at_port q e) (is_plain e)) burst ≡ true) → are_plain burst ≡ true
-plain-by-ports h past [] k each = refl
-plain-by-ports h past (e ∷ burst) k each =
+all-by-ports : (test : Event → Bool) → ((e : Event) → port_of e ≡ None → test e ≡ true) → (h : Header) (past : Trace) (burst : List Event) → are_kept h past burst ≡ true
+    → ((q : ℕ) → nat_lt q h.ports ≡ true → list_all (λ e. implies (is_at_port q e) (test e)) burst ≡ true) → list_all test burst ≡ true
+all-by-ports test portless h past [] k each = refl
+all-by-ports test portless h past (e ∷ burst) k each =
     let parts = and_parts (is_kept h past e) (are_kept h (e ∷ past) burst) k in
     let one : k1 h past e ≡ true = kept rules 1 h past e (kept-breaks-none h past e parts.0) in
     and_from _ _
-    (plain-at h e one (λ q low. (and_parts (implies (is_at_port q e) (is_plain e)) _ (each q low)).0))
-    (plain-by-ports h (e ∷ past) burst parts.1 (λ q low. (and_parts (implies (is_at_port q e) (is_plain e)) _ (each q low)).1))
+    (at-its-port test portless h e one (λ q low. (and_parts (implies (is_at_port q e) (test e)) _ (each q low)).0))
+    (all-by-ports test portless h (e ∷ past) burst parts.1 (λ q low. (and_parts (implies (is_at_port q e) (test e)) _ (each q low)).1))
 
-forwards-plain : (h : Header) (past : Trace) (p : ℕ) (burst : List Event) → are_kept h past burst ≡ true → forwards h past p burst ≡ true → are_plain burst ≡ true
-forwards-plain h past p burst k s =
+-- the events of step 11 pass a test that ACs pass, and events of no port
+pub forwards-all : (test : Event → Bool) → TellsSame test → ((e : Event) → port_of e ≡ None → test e ≡ true) → ((q addr snoop : ℕ) → test (Ac q addr snoop) ≡ true)
+    → (h : Header) (past : Trace) (p : ℕ) (burst : List Event) → are_kept h past burst ≡ true → forwards h past p burst ≡ true → list_all test burst ≡ true
+forwards-all test same portless acs h past p burst k s =
     let x = issued-passes past (λ x. is_part_of p x && list_all (gets_message h past x burst) (ports_below h.ports)) (and_parts (is_by_port burst) _ s).1 in
     let all = (and_parts (is_part_of p x.0) (list_all (gets_message h past x.0 burst) (ports_below h.ports)) x.1).1 in
-    plain-by-ports h past burst k (λ q low.
+    all-by-ports test portless h past burst k (λ q low.
     let gets = each_at h.ports (gets_message h past x.0 burst) q all (ltb-true q h.ports low) in
-    filtered-plain q burst (same-burst-plain (filter (is_at_port q) burst) (forwarded_to h past x.0 q) gets ∙ (all-if is_plain (is_other_ace h x.0.port q && is_some_and (next_part past q) (has_part (message_of past x.0))) _ [] (all-map is_plain (λ (y : Transaction). Ac q y.addr (ac_code snoop.DvmMessage)) (parts_missing past x.0 q) (λ y. refl)) refl)))
+    filtered-all test q burst (same-burst-all test same (filter (is_at_port q) burst) (forwarded_to h past x.0 q) gets ∙ (all-if test (is_other_ace h x.0.port q && is_some_and (next_part past q) (has_part (message_of past x.0))) _ [] (all-map test (λ (y : Transaction). Ac q y.addr (ac_code snoop.DvmMessage)) (parts_missing past x.0 q) (λ y. acs q y.addr (ac_code snoop.DvmMessage))) refl)))
+
+portless-plain : (e : Event) → port_of e ≡ None → is_plain e ≡ true
+portless-plain (Mem addr line) none = refl
+portless-plain (W p strb last word) none = cc
+portless-plain (M p c i line) none = cc
+portless-plain (Cr p resp st) none = cc
+portless-plain (Cd p last word) none = cc
+portless-plain e none = refl
 
 -- ---- all steps ---------------------------------------------------------------------------------------
 
@@ -243,21 +265,21 @@ step-shape plan past p burst s =
           (
             (λ g. inl (all-plain burst (acknowledges-masters next h past p burst g))),
             (
-              (λ g. inl (served-plain grant_burst h past p burst (λ x. all-if is_plain (takes_grant x && is_first_to_wait h past x) _ [] refl refl) g)),
+              (λ g. inl (served-all is_plain same-plain grant_burst h past p burst (λ x. all-if is_plain (takes_grant x && is_first_to_wait h past x) _ [] refl refl) g)),
               (
-                (λ g. inl (snoops-plain h past p burst g)),
+                (λ g. inl (snoops-all is_plain snoop-plain h past p burst g)),
                 (
                   (λ g. let x = served passed_burst h past p burst g in passed-shape h past p burst x.0 x.1),
                   (
-                    (λ g. inl (served-plain transfer_burst h past p burst (λ x. all-if is_plain (is_read x.chan && is_line x && implies (has_passed_data h past x) (takes_dirt h past x)) _ [] refl refl) g)),
+                    (λ g. inl (served-all is_plain same-plain transfer_burst h past p burst (λ x. all-if is_plain (is_read x.chan && is_line x && implies (has_passed_data h past x) (takes_dirt h past x)) _ [] refl refl) g)),
                     (
                       (λ g. let x = served write_burst h past p burst g in write-shape h past p burst x.0 x.1),
                       (
-                        (λ g. inl (served-plain barrier_burst h past p burst (λ x. all-if is_plain (is_some_and (read_kind x) is_read_barrier) _ [] (pair-plain (pair_of past x)) refl) g)),
+                        (λ g. inl (served-all is_plain same-plain barrier_burst h past p burst (λ x. all-if is_plain (is_some_and (read_kind x) is_read_barrier) _ [] (pair-plain (pair_of past x)) refl) g)),
                         (
-                          (λ g. inl (forwards-plain h past p burst kept_all g)),
+                          (λ g. inl (forwards-all is_plain same-plain portless-plain (λ q addr snoop. refl) h past p burst kept_all g)),
                           (
-                            (λ g. inl (served-plain dvm_burst h past p burst (λ x. all-if is_plain (is_message_part x || is_dvm_completion x) _ [] refl refl) g)),
+                            (λ g. inl (served-all is_plain same-plain dvm_burst h past p burst (λ x. all-if is_plain (is_message_part x || is_dvm_completion x) _ [] refl refl) g)),
                             (
                               (λ g. inl (plain-as (sync_completion p) burst g refl)),
                               ((λ g. inl (all-plain burst (goes-on-masters plan.ways next h past p burst g))), tt),

@@ -199,7 +199,7 @@ sends-line snoop.DvmComplete held resp next row sends = absurd (plain-sends-none
 sends-line snoop.DvmMessage held resp next row sends = absurd (plain-sends-none resp next row sends)
 sends-line k held resp next row sends = refl
 
-line-not-complete : (k : SnoopKind) → is_line_snoop k ≡ true → is_complete_snoop k ≡ false
+pub line-not-complete : (k : SnoopKind) → is_line_snoop k ≡ true → is_complete_snoop k ≡ false
 line-not-complete snoop.DvmComplete line = cc
 line-not-complete k line = refl
 

@@ -23,6 +23,15 @@ use Rattle.ace_runs.proofs.NeverStuck.UpdatesOrGranted.{HasLine}
 use Rattle.ace_runs.proofs.NeverStuck.WriterPorts.{issuer-low}
 use Rattle.ace_runs.proofs.NeverStuck.WritesAnswered.{writes-answered}
 
+-- a write that isn't complete has written no memory
+pub undone-unwritten : (plan : Plan) (past : Trace) (x : Transaction) → AreSteps plan past → is_read x.chan ≡ false → is_complete past x.port x.chan x.id ≡ false
+    → has_memory_write past x.port x.chan x.id ≡ false
+undone-unwritten plan past x s writes undone =
+    let chan = is_write-is x.chan writes in
+    false_from_ne_true (has_memory_write past x.port x.chan x.id) (λ m.
+    let done = writes-answered plan past s x.port x.id (subst (λ c. has_memory_write past x.port c x.id ≡ true) chan m) in
+    let undone_here : is_complete past x.port Write x.id ≡ false = subst (λ c. is_complete past x.port c x.id ≡ false) chan undone in cc)
+
 -- A granted write with a whole burst that isn't complete, with its snoops done: its port is enabled by step 9.
 pub granted-write-moves : (plan : Plan) (past : Trace) (l : ℕ) (x : Transaction) → AreSteps plan past → HasLine plan.header past l x → is_read x.chan ≡ false
     → is_complete past x.port x.chan x.id ≡ false → is_burst_whole past x ≡ true → are_snoops_done plan.header past x ≡ true
@@ -34,11 +43,7 @@ granted-write-moves plan past l x s has writes undone whole snooped =
     let k = granted_write x kind writes in
     let line = data_of_write h past x k.0 in
     let data_is : data_of h past x ≡ Some line = data-there h past x k.0 writes k.1 in
-    let chan = is_write-is x.chan writes in
-    let unwritten : has_memory_write past x.port x.chan x.id ≡ false =
-    false_from_ne_true (has_memory_write past x.port x.chan x.id) (λ m.
-    let done = writes-answered plan past s x.port x.id (subst (λ c. has_memory_write past x.port c x.id ≡ true) chan m) in
-    let undone_here : is_complete past x.port Write x.id ≡ false = subst (λ c. is_complete past x.port c x.id ≡ false) chan undone in cc) in
+    let unwritten = undone-unwritten plan past x s writes undone in
     let due : (is_write_due h past x || is_update_due h past x) ≡ true = or_left (is_write_due h past x) (is_update_due h past x) (and_from _ _ has.is snooped) in
     let may : may_write_data h past x ≡ true = and_from _ _ (and_from _ _ whole (ap not unwritten)) due in
     let may_m : k24 h past (M x.port x.chan x.id line) ≡ true = rw has.out (ap (λ b. if b then may_write_passed h past x else may_write_data h past x) writes ∙ may) in

@@ -41,7 +41,7 @@ passed-there h past x g has =
           ∙ ap (λ o. option_map (λ (a : Answer). copy_of (at_point a.place past) q.0 x.addr) o) a.1,
     )
 
-passed-whole : (plan : Plan) (past : Trace) (x : Transaction) → AreSteps plan past → has_passed_data plan.header past x ≡ true → are_passed_data_whole plan.header past x ≡ true
+pub passed-whole : (plan : Plan) (past : Trace) (x : Transaction) → AreSteps plan past → has_passed_data plan.header past x ≡ true → are_passed_data_whole plan.header past x ≡ true
 passed-whole plan past x s has =
     let h = plan.header in
     let some = (and_parts (is_granted h past x) (is_some (passer h past x.addr)) (and_parts (is_granted h past x && is_some (passer h past x.addr)) _ has).0).1 in
