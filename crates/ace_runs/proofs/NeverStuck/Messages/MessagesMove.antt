@@ -1,7 +1,7 @@
 -- A DVM message that is outstanding moves on: where all snoops are answered, its port is enabled by step 12, or some port by step 11.
 use Rattle.std.proofs.Common.{◌≡◌, ◌≢◌, ◌⊎◌, ℕ, zero, suc, ◌<◌, Bool, true, false, not, ◌==◌, nat_lt, [], ◌∷◌, Some, None, inl, inr, refl, sym, ◌∙◌, arith}
 use Rattle.std.specs.List.{list_all}
-use Rattle.std.proofs.lemmas.Bool.{and_parts, cases_Bool, eq-eqb}
+use Rattle.std.proofs.lemmas.Bool.{and_parts, cases_Bool, eq-eqb, ltb-true}
 use Rattle.ace_event.specs.declared.header.Header.{Header}
 use Rattle.ace_model.specs.declared.transactions.Transaction.{Transaction}
 use Rattle.ace_model.specs.Grants.{ports_below}
@@ -65,10 +65,10 @@ part-for plan past x q right s i part other =
     ]
 
 -- The port of an outstanding part of a DVM message that isn't complete is enabled by step 12, or some port is enabled by step 11.
-pub message-moves : (plan : Plan) (past : Trace) (x : Transaction) → IsRight plan → AreSteps plan past → ((q : ℕ) → answered past q ≡ None)
+pub message-moves : (plan : Plan) (past : Trace) (x : Transaction) → IsRight plan → AreSteps plan past → ((q : ℕ) → q < plan.header.ports → answered past q ≡ None)
     → IsIssued past x → is_message_part x ≡ true → is_outstanding plan.header past x ≡ true → is_complete past x.port x.chan x.id ≡ false
     → (is_enabled_by (12 ∷ []) plan past x.port ≡ true)
-    ⊎ ((p : ℕ) × (nat_lt p plan.header.ports ≡ true) × (is_enabled_by (11 ∷ []) plan past p ≡ true))
+    ⊎ ((p : ℕ) × (p < plan.header.ports) × (is_enabled_by (11 ∷ []) plan past p ≡ true))
 message-moves plan past x right s none i part is_out undone =
     let h = plan.header in
     elim (cases_Bool (is_answered_by_all h past x)) [
@@ -76,8 +76,9 @@ message-moves plan past x right s none i part is_out undone =
       | inr f ↦
           let l = lacks h past x f in
           let q = l.port in
-          let w = messages-whole plan past s q (and_parts (nat_lt q h.ports) _ l.ace).0 in
-          let y = next-there past x q w (none q) l.unanswered (part-for plan past x q right s i part l.other) in
+          let low = (and_parts (nat_lt q h.ports) _ l.ace).0 in
+          let w = messages-whole plan past s q low in
+          let y = next-there past x q w (none q (ltb-true q h.ports low)) l.unanswered (part-for plan past x q right s i part l.other) in
           let m = next-begins past q y.0 w y.1 in
-          inr (m.last.port, issuer-low h past m.last (steps-accepted plan past s) (message-there past q y.0 m), next-enabled plan past q y.0 m l.ace y.1)
+          inr (m.last.port, ltb-true m.last.port h.ports (issuer-low h past m.last (steps-accepted plan past s) (message-there past q y.0 m)), next-enabled plan past q y.0 m l.ace y.1)
     ]
