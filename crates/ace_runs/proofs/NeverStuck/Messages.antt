@@ -26,3 +26,5 @@ pub mod OwedCompletions
 pub mod AnsweredMessages
 -- A message was forwarded in all its parts or in none.
 pub mod WholeOrNone
+-- A Sync that is complete has its AC DVM Complete.
+pub mod SyncsComplete
