@@ -28,3 +28,7 @@ pub mod AnsweredMessages
 pub mod WholeOrNone
 -- A Sync that is complete has its AC DVM Complete.
 pub mod SyncsComplete
+-- What a transaction is.
+pub mod Sorts
+-- So a DVM transaction that is outstanding, and a DVM Complete that is owed, have a step.
+pub mod DvmSteps

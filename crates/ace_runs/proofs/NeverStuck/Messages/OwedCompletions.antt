@@ -72,6 +72,13 @@ owes-answered past p owes = by (answers past p) refl (ltb-true (dvm_completes pa
         absurd (omega (arith, more, none))
     by (suc n) is more = omega (arith, is)
 
+-- so it is an ACE port of the header
+ower-ace : (plan : Plan) (past : Trace) (p : ℕ) → AreSteps plan past → owes_completion past p ≡ true → is_ace plan.header p ≡ true
+ower-ace plan past p s owes = answers-ace plan.header past p (steps-accepted plan past s) (owes-answered past p owes)
+
+pub ower-low : (plan : Plan) (past : Trace) (p : ℕ) → AreSteps plan past → owes_completion past p ≡ true → p < plan.header.ports
+ower-low plan past p s owes = ltb-true p plan.header.ports (and_parts (nat_lt p plan.header.ports) _ (ower-ace plan past p s owes)).0
+
 -- ---- step 14 -----------------------------------------------------------------------------------------
 
 -- Where nothing is outstanding, a port that owes a DVM Complete is enabled by step 14.
@@ -80,7 +87,7 @@ pub owed-enabled : (plan : Plan) (past : Trace) (p : ℕ) → AreSteps plan past
 owed-enabled plan past p s none owes =
     let h = plan.header in
     let next = next_operation plan past p in
-    let ace = answers-ace h past p (steps-accepted plan past s) (owes-answered past p owes) in
+    let ace = ower-ace plan past p s owes in
     let burst = λ (i : ℕ). Ar p i 0 (ar_code read.DvmComplete) 1 0 false ∷ [] in
     let free : is_free h past p Read 0 ≡ true = ap is_none (none-outstanding h past p Read 0 none) in
     let i = first-found 15 (is_free h past p Read) free in
