@@ -32,3 +32,5 @@ pub mod SyncsComplete
 pub mod Sorts
 -- So a DVM transaction that is outstanding, and a DVM Complete that is owed, have a step.
 pub mod DvmSteps
+-- The DVM Complete that is owed may be issued.
+pub mod CompletionsIssued

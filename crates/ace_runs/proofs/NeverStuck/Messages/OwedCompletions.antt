@@ -38,7 +38,7 @@ first-found (suc n) test t =
     (rest.0, ap (λ o. newer o (if test (suc n) then Some (suc n) else None)) rest.1)
 
 -- where nothing is outstanding each identifier is free
-none-outstanding : (h : Header) (past : Trace) (p : ℕ) (c : Channel) (i : ℕ) → some_issued past (is_outstanding h past) ≡ false → outstanding h past p c i ≡ None
+pub none-outstanding : (h : Header) (past : Trace) (p : ℕ) (c : Channel) (i : ℕ) → some_issued past (is_outstanding h past) ≡ false → outstanding h past p c i ≡ None
 none-outstanding h past p c i none = by (outstanding h past p c i) refl
   where
     by : (o : Option Transaction) → outstanding h past p c i ≡ o → outstanding h past p c i ≡ None
@@ -73,7 +73,7 @@ owes-answered past p owes = by (answers past p) refl (ltb-true (dvm_completes pa
     by (suc n) is more = omega (arith, is)
 
 -- so it is an ACE port of the header
-ower-ace : (plan : Plan) (past : Trace) (p : ℕ) → AreSteps plan past → owes_completion past p ≡ true → is_ace plan.header p ≡ true
+pub ower-ace : (plan : Plan) (past : Trace) (p : ℕ) → AreSteps plan past → owes_completion past p ≡ true → is_ace plan.header p ≡ true
 ower-ace plan past p s owes = answers-ace plan.header past p (steps-accepted plan past s) (owes-answered past p owes)
 
 pub ower-low : (plan : Plan) (past : Trace) (p : ℕ) → AreSteps plan past → owes_completion past p ≡ true → p < plan.header.ports
@@ -81,21 +81,27 @@ ower-low plan past p s owes = ltb-true p plan.header.ports (and_parts (nat_lt p 
 
 -- ---- step 14 -----------------------------------------------------------------------------------------
 
+pub not-empty : (burst : List Event) (bursts : List (List Event)) → not (length (burst ∷ bursts) == 0) ≡ true
+not-empty burst bursts = ap not (ne_eqb (length (burst ∷ bursts)) 0 (λ none. absurd (omega (arith, none))))
+
+-- the AR with the identifier that is found
+pub found-completion : (plan : Plan) (past : Trace) (p : ℕ) → AreSteps plan past → some_issued past (is_outstanding plan.header past) ≡ false → owes_completion past p ≡ true
+    → (i : ℕ) × (completion_bursts plan.header past p ≡ (Ar p i 0 (ar_code read.DvmComplete) 1 0 false ∷ []) ∷ [])
+found-completion plan past p s none owes =
+    let h = plan.header in
+    let burst = λ (i : ℕ). Ar p i 0 (ar_code read.DvmComplete) 1 0 false ∷ [] in
+    let free : is_free h past p Read 0 ≡ true = ap is_none (none-outstanding h past p Read 0 none) in
+    let i = first-found 15 (is_free h past p Read) free in
+    (i.0, ap (λ b. if b then with_identifier (free_on h past p Read) burst else []) (and_from _ _ (ower-ace plan past p s owes) owes) ∙ ap (λ o. with_identifier o burst) i.1)
+
 -- Where nothing is outstanding, a port that owes a DVM Complete is enabled by step 14.
 pub owed-enabled : (plan : Plan) (past : Trace) (p : ℕ) → AreSteps plan past → some_issued past (is_outstanding plan.header past) ≡ false → owes_completion past p ≡ true
     → is_enabled_by (14 ∷ []) plan past p ≡ true
 owed-enabled plan past p s none owes =
     let h = plan.header in
     let next = next_operation plan past p in
-    let ace = ower-ace plan past p s owes in
-    let burst = λ (i : ℕ). Ar p i 0 (ar_code read.DvmComplete) 1 0 false ∷ [] in
-    let free : is_free h past p Read 0 ≡ true = ap is_none (none-outstanding h past p Read 0 none) in
-    let i = first-found 15 (is_free h past p Read) free in
-    let found : completion_bursts h past p ≡ (Ar p i.0 0 (ar_code read.DvmComplete) 1 0 false ∷ []) ∷ [] =
-    ap (λ b. if b then with_identifier (free_on h past p Read) burst else []) (and_from _ _ ace owes) ∙ ap (λ o. with_identifier o burst) i.1 in
+    let f = found-completion plan past p s none owes in
     let may : may_go_on plan.ways next h past p ≡ true =
-    ap (λ bursts. not (length (bursts ++ flat_map (moves_of plan.ways h past p) (option_to_list next)) == 0)) found ∙ not-empty (burst i.0) (flat_map (moves_of plan.ways h past p) (option_to_list next)) in
+    ap (λ bursts. not (length (bursts ++ flat_map (moves_of plan.ways h past p) (option_to_list next)) == 0)) f.1
+    ∙ not-empty (Ar p f.0 0 (ar_code read.DvmComplete) 1 0 false ∷ []) (flat_map (moves_of plan.ways h past p) (option_to_list next)) in
     or_left (may_go_on plan.ways next h past p) _ may
-  where
-    not-empty : (burst : List Event) (bursts : List (List Event)) → not (length (burst ∷ bursts) == 0) ≡ true
-    not-empty burst bursts = ap not (ne_eqb (length (burst ∷ bursts)) 0 (λ none. absurd (omega (arith, none))))
