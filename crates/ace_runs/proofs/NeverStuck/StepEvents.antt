@@ -85,7 +85,7 @@ same-burst-masters (d ∷ ds) (e ∷ es) s m =
 
 -- ---- lists -------------------------------------------------------------------------------------------
 
-all-append : {A : Type 0} → (test : A → Bool) (xs ys : List A) → list_all test xs ≡ true → list_all test ys ≡ true → list_all test (xs ++ ys) ≡ true
+pub all-append : {A : Type 0} → (test : A → Bool) (xs ys : List A) → list_all test xs ≡ true → list_all test ys ≡ true → list_all test (xs ++ ys) ≡ true
 all-append test [] ys x y = y
 all-append test (a ∷ xs) ys x y =
     let parts = and_parts (test a) (list_all test xs) x in and_from _ _ parts.0 (all-append test xs ys parts.1 y)
@@ -95,17 +95,17 @@ all-map test f [] each = refl
 all-map test f (a ∷ xs) each = and_from _ _ (each a) (all-map test f xs each)
 
 -- the function takes what passes the one test to what passes the other
-all-mapped : {A B : Type 0} → (test : A → Bool) (later : B → Bool) (f : A → B) (xs : List A) → ((a : A) → test a ≡ true → later (f a) ≡ true)
+pub all-mapped : {A B : Type 0} → (test : A → Bool) (later : B → Bool) (f : A → B) (xs : List A) → ((a : A) → test a ≡ true → later (f a) ≡ true)
     → list_all test xs ≡ true → list_all later (map f xs) ≡ true
 all-mapped test later f [] each all = refl
 all-mapped test later f (a ∷ xs) each all =
     let parts = and_parts (test a) (list_all test xs) all in and_from _ _ (each a parts.0) (all-mapped test later f xs each parts.1)
 
-all-flat_map : {A B : Type 0} → (test : B → Bool) (f : A → List B) (xs : List A) → ((a : A) → list_all test (f a) ≡ true) → list_all test (flat_map f xs) ≡ true
+pub all-flat_map : {A B : Type 0} → (test : B → Bool) (f : A → List B) (xs : List A) → ((a : A) → list_all test (f a) ≡ true) → list_all test (flat_map f xs) ≡ true
 all-flat_map test f [] each = refl
 all-flat_map test f (a ∷ xs) each = all-append test (f a) (flat_map f xs) (each a) (all-flat_map test f xs each)
 
-all-flat_mapped : {A B : Type 0} → (test : A → Bool) (later : B → Bool) (f : A → List B) (xs : List A) → ((a : A) → test a ≡ true → list_all later (f a) ≡ true)
+pub all-flat_mapped : {A B : Type 0} → (test : A → Bool) (later : B → Bool) (f : A → List B) (xs : List A) → ((a : A) → test a ≡ true → list_all later (f a) ≡ true)
     → list_all test xs ≡ true → list_all later (flat_map f xs) ≡ true
 all-flat_mapped test later f [] each all = refl
 all-flat_mapped test later f (a ∷ xs) each all =

@@ -40,7 +40,7 @@ eight-kept a b c d e f g i one two eighteen nineteen twenty twenty_one thirty_fo
     rw (one, two, eighteen, nineteen, twenty, twenty_one, thirty_four, thirty_seven) refl
 
 -- of the rules eight look at a transfer
-transfer-kept : (h : Header) (past : Trace) (p i resp : ℕ) (last : Bool) (word : ℕ) → k1 h past (R p i resp last word) ≡ true → k2 h past (R p i resp last word) ≡ true
+pub transfer-kept : (h : Header) (past : Trace) (p i resp : ℕ) (last : Bool) (word : ℕ) → k1 h past (R p i resp last word) ≡ true → k2 h past (R p i resp last word) ≡ true
     → k18 h past (R p i resp last word) ≡ true → k19 h past (R p i resp last word) ≡ true → k20 h past (R p i resp last word) ≡ true → k21 h past (R p i resp last word) ≡ true
     → k34 h past (R p i resp last word) ≡ true → k37 h past (R p i resp last word) ≡ true → is_kept h past (R p i resp last word) ≡ true
 unfolding is_kept
