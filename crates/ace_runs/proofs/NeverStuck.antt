@@ -30,6 +30,8 @@ pub mod UpdatesOrGranted
 pub mod WholeAnswers
 -- So no port owes the data of an answer.
 pub mod NoDataOwed
+-- The transactions of DVM move on.
+pub mod Messages
 -- A run forwards DVM messages whole.
 pub mod Forwarding
 -- A granted read moves on once its snoops are done.

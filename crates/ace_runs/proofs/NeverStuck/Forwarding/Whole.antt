@@ -64,12 +64,12 @@ none-had done None z first last =
     ]
 
 module _ (past : Trace) (q : ℕ) (x y : Transaction) (m : NextMessage past q (parts_among (forwarded past q)) y) (same : x ≡ m.last) where
-  whole-message : message_of past x ≡ parts_with (first_waiting m.point m.last.port) m.last
+  pub whole-message : message_of past x ≡ parts_with (first_waiting m.point m.last.port) m.last
   whole-message =
       ap (message_of past) same ∙ ap (λ t. message_of t m.last) (sym m.is)
       ∙ ap (λ t. parts_with (first_waiting t m.last.port) m.last) (point-of-last m.later m.event m.point q m.last y m.issues m.begins)
 
-  all-missing : parts_missing past x q ≡ parts_with (first_waiting m.point m.last.port) m.last
+  pub all-missing : parts_missing past x q ≡ parts_with (first_waiting m.point m.last.port) m.last
   all-missing =
       ap (filter (λ z. not (has_part (parts_among (forwarded past q)) z))) whole-message
       ∙ none-had (parts_among (forwarded past q)) (first_waiting m.point m.last.port) m.last

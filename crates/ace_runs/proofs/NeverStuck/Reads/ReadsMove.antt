@@ -58,7 +58,7 @@ some-beats k = by (reads_a_line k)
     by false = refl
 
 -- before its first transfer a read has no first response
-no-first : (past : Trace) (p i : ℕ) → transfers past p i ≡ 0 → first_resp past p i ≡ None
+pub no-first : (past : Trace) (p i : ℕ) → transfers past p i ≡ 0 → first_resp past p i ≡ None
 no-first [] p i none = refl
 no-first (Ar q j addr snoop dom bar lock ∷ past) p i none =
     elim (cases_Bool ((p == q) && (i == j))) [
