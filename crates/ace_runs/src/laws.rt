@@ -1,6 +1,6 @@
 //! Laws of runs. These functions do no work: what they promise is the law.
 
-ghost use Rattle.std.specs.Prelude.{◌≡◌, ◌↔◌, ◌≤◌, ◌<◌, ◌*◌, ◌⊎◌, ◌||◌, ℕ, true, List, [], ◌∷◌, Some, None, length};
+ghost use Rattle.std.specs.Prelude.{◌≡◌, ◌↔◌, ◌≤◌, ◌<◌, ◌*◌, ◌⊎◌, ◌||◌, ℕ, true, false, List, [], ◌∷◌, Some, None, length};
 ghost use Rattle.ace_event.specs.declared.event.Channel.{Channel};
 ghost use Rattle.ace_event.specs.declared.event.Channel.TheVariants.{Read, Write};
 ghost use Rattle.ace_event.specs.declared.event.Event.{Event};
@@ -13,10 +13,11 @@ ghost use Rattle.ace_model.specs.Grants.{is_granted};
 ghost use Rattle.ace_model.specs.Progress.{evicts, has_update, updates_memory};
 ghost use Rattle.ace_model.specs.Snoops.{answered, snoops_a_line};
 ghost use Rattle.ace_model.specs.Trace.{Trace};
-ghost use Rattle.ace_model.specs.Transactions.{is_complete, outstanding};
+ghost use Rattle.ace_model.specs.Transactions.{is_complete, outstanding, some_issued};
 ghost use Rattle.ace_model.specs.Plans.{Plan, IsRight};
 ghost use Rattle.ace_runs.specs.Operations.{with_more};
 ghost use Rattle.ace_runs.specs.Follows.{FollowsSoFar, follows_so_far};
+ghost use Rattle.ace_runs.specs.LineSteps.{waits};
 ghost use Rattle.ace_runs.specs.Lean.{IsLean, is_lean};
 ghost use Rattle.ace_runs.specs.Acts.{is_act};
 ghost use Rattle.ace_runs.specs.Counts.{
@@ -150,4 +151,12 @@ pub fn transaction_has_a_step()
         → ((q : ℕ) → q < plan.header.ports → answered past q ≡ None) → outstanding plan.header past p c i ≡ Some x
         → (is_complete past p c i || updates_memory x || evicts x || is_granted plan.header past x) ≡ true
         → (q : ℕ) × (q < plan.header.ports) × (is_enabled_by (2 ∷ 3 ∷ 4 ∷ 6 ∷ 7 ∷ 8 ∷ 9 ∷ []) plan past q ≡ true) }
+{}
+
+/// In a run that follows its plan so far, where no transaction is granted its line and some transaction waits for its grant, a port is
+/// enabled by step 5. No barrier holds such a transaction back.
+pub fn waiting_transaction_has_a_step()
+    ensures { (plan : Plan) (past : Trace) → AreSteps plan past → FollowsSoFar plan past
+        → some_issued past (is_granted plan.header past) ≡ false → some_issued past (waits plan.header past) ≡ true
+        → (p : ℕ) × (p < plan.header.ports) × (is_enabled_by (5 ∷ []) plan past p ≡ true) }
 {}

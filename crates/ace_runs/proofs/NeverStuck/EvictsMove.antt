@@ -51,7 +51,7 @@ evict-no-update : (k : AwKind) → is_evict k ≡ true → is_update k ≡ false
 evict-no-update write.Evict e = refl
 evict-no-update k e = cc
 
-evicts-write : (x : Transaction) → evicts x ≡ true → is_read x.chan ≡ false
+pub evicts-write : (x : Transaction) → evicts x ≡ true → is_read x.chan ≡ false
 evicts-write x e = false_from_ne_true (is_read x.chan) (λ t. let bad : false ≡ true = rw t at e in cc)
 
 evicts-no-half : (x : Transaction) (k : AwKind) → is_read x.chan ≡ false → write_kind x ≡ Some k → is_evict k ≡ true → is_barrier_half x ≡ false

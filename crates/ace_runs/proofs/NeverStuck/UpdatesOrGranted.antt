@@ -52,7 +52,7 @@ update-line write.WriteClean u = refl
 update-line write.WriteEvict u = refl
 update-line k u = cc
 
-updates-line : (x : Transaction) → updates_memory x ≡ true → is_line x ≡ true
+pub updates-line : (x : Transaction) → updates_memory x ≡ true → is_line x ≡ true
 updates-line x u =
     let k = is_some_and-is (write_kind x) is_update u in
     or_right (is_some_and (read_kind x) is_line_read) (is_some_and (write_kind x) is_line_write)

@@ -82,7 +82,7 @@ beat-quiet q e m = refl
 -- ---- the same bursts ---------------------------------------------------------------------------------
 
 -- what passes the test passes it as the same burst
-pub all-same : (test : Event → Bool) → ((d e : Event) → same_event d e ≡ true → test d ≡ true → test e ≡ true)
+all-same : (test : Event → Bool) → ((d e : Event) → same_event d e ≡ true → test d ≡ true → test e ≡ true)
     → (ds es : List Event) → same_burst ds es ≡ true → list_all test ds ≡ true → list_all test es ≡ true
 all-same test each [] [] s m = refl
 all-same test each [] (e ∷ es) s m = cc

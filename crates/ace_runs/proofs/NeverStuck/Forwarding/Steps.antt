@@ -1,5 +1,5 @@
 -- Step 11 alone forwards parts of messages: the events of any other step are no AC DVM Message.
-use Rattle.std.proofs.Common.{◌≡◌, ◌⊎◌, ℕ, Bool, true, false, not, ◌&&◌, ◌||◌, ◌==◌, List, [], ◌++◌, length, map, Option, Some, None, inl, inr, refl, ap, subst, ◌∙◌}
+use Rattle.std.proofs.Common.{◌≡◌, ◌⊎◌, ℕ, Bool, true, false, not, ◌&&◌, ◌||◌, ◌==◌, List, [], ◌++◌, length, map, Option, Some, None, inl, inr, refl, ap, ◌∙◌}
 use Rattle.std.specs.List.{list_all}
 use Rattle.std.specs.Option.{option_to_list}
 use Rattle.std.proofs.lemmas.Bool.{and_parts, eqb-true}
@@ -28,17 +28,15 @@ use Rattle.ace_model.specs.WriteRules.{data_of}
 use Rattle.ace_model.proofs.General.Options.{is_none_or-at, is_some_and-is}
 use Rattle.ace_model.proofs.Tables.ReadSnoops.{kind_of_code}
 use Rattle.ace_model.proofs.Trace.Growth.{some_issued-is}
-use Rattle.ace_runs.specs.Bursts.{serves}
 use Rattle.ace_runs.specs.Counts.{forwards_part}
 use Rattle.ace_runs.specs.LineSteps.{gives_snoops, grant_burst, is_first_to_wait, is_snoop_for, memory_write, passed_burst, response, takes_dirt, transfer_burst, update_burst, write_burst}
 use Rattle.ace_runs.specs.MasterSteps.{is_beat}
 use Rattle.ace_runs.specs.Operations.{next_operation}
 use Rattle.ace_runs.specs.OrderSteps.{barrier_burst, dvm_burst, forwards, pair_burst, sync_completion}
-use Rattle.ace_runs.specs.SameEvents.{same_burst, same_event}
 use Rattle.ace_runs.specs.Steps.{is_sound, is_step, steps}
 use Rattle.ace_runs.proofs.NeverStuck.StepEvents.{acknowledges-masters, all-if, answers-answering, goes-on-masters, is_answering, is_masters}
-use Rattle.ace_runs.proofs.NeverStuck.StepShapes.{of-any}
-use Rattle.ace_runs.proofs.NeverStuck.WholeAnswers.{all-implied, all-same}
+use Rattle.ace_runs.proofs.NeverStuck.StepShapes.{TellsSame, all-as, of-any, served-all}
+use Rattle.ace_runs.proofs.NeverStuck.WholeAnswers.{all-implied}
 
 -- the event forwards no part of a message
 abbrev pub forwards_none : Event → Bool
@@ -58,12 +56,12 @@ beat-none : (p : ℕ) (e : Event) → is_beat p e ≡ true → forwards_none e �
 beat-none p (Ac q addr code) m = cc
 beat-none p e m = refl
 
-same-none : (d e : Event) → same_event d e ≡ true → forwards_none d ≡ true → forwards_none e ≡ true
-same-none (Ac p a s) (Ac q c t) same none =
-    let code = eqb-true s t (and_parts ((p == q) && (a == c)) (s == t) same).1 in
-    subst (λ n. not (is_some_and (ac_kind_of n) is_message_snoop) ≡ true) code none
-same-none d (Ac q c t) same none = cc
-same-none d e same none = refl
+same-none : TellsSame forwards_none
+same-none (Ac p a s) (Ac q c t) same =
+    ap (λ n. not (is_some_and (ac_kind_of n) is_message_snoop)) (eqb-true s t (and_parts ((p == q) && (a == c)) (s == t) same).1)
+same-none (Ac p a s) e same = cc
+same-none d (Ac q c t) same = cc
+same-none d e same = refl
 
 -- ---- the snoops of a line ----------------------------------------------------------------------------
 
@@ -116,12 +114,6 @@ pair-none : (o : Option Pair) → list_all forwards_none (pair_burst o) ≡ true
 pair-none None = refl
 pair-none (Some b) = refl
 
-served-none : (burst_for : Header → Trace → Transaction → List Event) (h : Header) (past : Trace) (p : ℕ) (burst : List Event)
-    → ((x : Transaction) → list_all forwards_none (burst_for h past x) ≡ true) → serves burst_for h past p burst ≡ true → list_all forwards_none burst ≡ true
-served-none burst_for h past p burst none s =
-    let x = some_issued-is past (λ x. (x.port == p) && is_outstanding h past x && same_burst (burst_for h past x) burst) s in
-    all-same forwards_none same-none (burst_for h past x.0) burst (and_parts _ (same_burst (burst_for h past x.0) burst) x.2).1 (none x.0)
-
 update-none : (h : Header) (past : Trace) (x : Transaction) → list_all forwards_none (update_burst h past x) ≡ true
 update-none h past x =
     all-if forwards_none (updates_memory x) (memory_write h past x ++ response x) _ (responded-none x (data_of h past x)) (all-if forwards_none (evicts x) (response x) [] refl refl)
@@ -149,27 +141,27 @@ forwards-by-one plan past p burst s =
       (
         (λ g. inl (all-implied (is_beat p) forwards_none (beat-none p) burst (and_parts (list_all (is_beat p) burst) (length burst == 4) g).0)),
         (
-          (λ g. inl (served-none update_burst h past p burst (update-none h past) g)),
+          (λ g. inl (served-all forwards_none same-none update_burst h past p burst (update-none h past) g)),
           (
             (λ g. inl (all-implied is_masters forwards_none masters-none burst (acknowledges-masters next h past p burst g))),
             (
-              (λ g. inl (served-none grant_burst h past p burst (λ x. all-if forwards_none (takes_grant x && is_first_to_wait h past x) _ [] refl refl) g)),
+              (λ g. inl (served-all forwards_none same-none grant_burst h past p burst (λ x. all-if forwards_none (takes_grant x && is_first_to_wait h past x) _ [] refl refl) g)),
               (
                 (λ g. inl (snoops-none h past p burst g)),
                 (
-                  (λ g. inl (served-none passed_burst h past p burst (passed-none h past) g)),
+                  (λ g. inl (served-all forwards_none same-none passed_burst h past p burst (passed-none h past) g)),
                   (
-                    (λ g. inl (served-none transfer_burst h past p burst (λ x. all-if forwards_none (is_read x.chan && is_line x && implies (has_passed_data h past x) (takes_dirt h past x)) _ [] refl refl) g)),
+                    (λ g. inl (served-all forwards_none same-none transfer_burst h past p burst (λ x. all-if forwards_none (is_read x.chan && is_line x && implies (has_passed_data h past x) (takes_dirt h past x)) _ [] refl refl) g)),
                     (
-                      (λ g. inl (served-none write_burst h past p burst (write-none h past) g)),
+                      (λ g. inl (served-all forwards_none same-none write_burst h past p burst (write-none h past) g)),
                       (
-                        (λ g. inl (served-none barrier_burst h past p burst (λ x. all-if forwards_none (is_some_and (read_kind x) is_read_barrier) _ [] (pair-none (pair_of past x)) refl) g)),
+                        (λ g. inl (served-all forwards_none same-none barrier_burst h past p burst (λ x. all-if forwards_none (is_some_and (read_kind x) is_read_barrier) _ [] (pair-none (pair_of past x)) refl) g)),
                         (
                           (λ g. inr g),
                           (
-                            (λ g. inl (served-none dvm_burst h past p burst (λ x. all-if forwards_none (is_message_part x || is_dvm_completion x) _ [] refl refl) g)),
+                            (λ g. inl (served-all forwards_none same-none dvm_burst h past p burst (λ x. all-if forwards_none (is_message_part x || is_dvm_completion x) _ [] refl refl) g)),
                             (
-                              (λ g. inl (all-same forwards_none same-none (sync_completion p) burst g (completion-none p))),
+                              (λ g. inl (all-as forwards_none same-none (sync_completion p) burst g (completion-none p))),
                               ((λ g. inl (all-implied is_masters forwards_none masters-none burst (goes-on-masters plan.ways next h past p burst g))), tt),
                             ),
                           ),

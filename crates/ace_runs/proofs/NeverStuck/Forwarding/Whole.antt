@@ -1,7 +1,7 @@
 -- Each run forwards whole messages: step 11 puts the parts of a message that a port lacks, and these are all its parts.
-use Rattle.std.proofs.Common.{◌≡◌, ℕ, Bool, true, false, not, ◌&&◌, ◌==◌, nat_lt, if◌then◌else◌, List, [], ◌∷◌, ◌++◌, length, map, filter, Option, Some, None, refl, sym, ap, subst, ◌∙◌, inl, inr, arith}
+use Rattle.std.proofs.Common.{◌≡◌, ℕ, true, false, not, ◌&&◌, ◌==◌, nat_lt, if◌then◌else◌, List, [], ◌∷◌, ◌++◌, length, map, filter, Option, Some, None, refl, sym, ap, subst, ◌∙◌, inl, inr, arith}
 use Rattle.std.specs.List.{list_all}
-use Rattle.std.proofs.lemmas.Bool.{and_parts, and_from, cases_Bool, eqb-true, eq-eqb, false_from_ne_true, ltb-true}
+use Rattle.std.proofs.lemmas.Bool.{and_parts, and_from, cases_Bool, eqb-true, false_from_ne_true, ltb-true}
 use Rattle.std.proofs.lemmas.List.{append-nil, length-map}
 use Rattle.ace_codes.specs.declared.kind.SnoopKind.TheVariants as snoop
 use Rattle.ace_codes.specs.Snoops.{ac_code, ac_kind_of}
@@ -9,29 +9,26 @@ use Rattle.ace_event.specs.declared.event.Event.{Event}
 use Rattle.ace_event.specs.declared.event.Event.TheVariants.{Ac, Mem}
 use Rattle.ace_event.specs.declared.header.Header.{Header}
 use Rattle.ace_model.specs.declared.transactions.Transaction.{Transaction}
-use Rattle.ace_model.specs.Accepted.{IsAccepted, rules}
-use Rattle.ace_model.specs.AddressRules.{k1, may_have}
+use Rattle.ace_model.specs.Accepted.{IsAccepted}
 use Rattle.ace_model.specs.Grants.{ports_below}
 use Rattle.ace_model.specs.Kinds.{is_message_snoop}
 use Rattle.ace_model.specs.Messages.{first_waiting, forwarded, has_part, has_second, is_message_part, is_other_ace, is_second_part, next_part, parts_among, parts_for, parts_in, parts_with}
 use Rattle.ace_model.specs.Plans.{Plan}
-use Rattle.ace_model.specs.Trace.{Trace, implies, is_some_and, port_of}
+use Rattle.ace_model.specs.Trace.{Trace, is_some_and, port_of}
 use Rattle.ace_model.proofs.Dvm.Parts.{part-placed, parts-placed}
-use Rattle.ace_model.proofs.General.Booleans.{implies-at}
-use Rattle.ace_model.proofs.General.Options.{is_none_or-at, is_some_and-is}
+use Rattle.ace_model.proofs.General.Options.{is_some_and-is}
 use Rattle.ace_model.proofs.General.Ports.{each_at}
-use Rattle.ace_model.proofs.Rules.Keeps.{kept}
 use Rattle.ace_model.proofs.Tables.ReadSnoops.{kind_of_code}
 use Rattle.ace_model.proofs.Trace.Growth.{IsIssued, some_issued-is}
 use Rattle.ace_model.proofs.Trace.Issued.{issued-place}
-use Rattle.ace_runs.specs.Bursts.{are_kept, is_kept, onto}
+use Rattle.ace_runs.specs.Bursts.{are_kept, onto}
 use Rattle.ace_runs.specs.OrderSteps.{forwarded_to, forwards, gets_message, is_by_port, is_part_of, message_of, parts_missing}
-use Rattle.ace_runs.specs.SameEvents.{same_burst, same_event}
 use Rattle.ace_runs.specs.Segments.{is_at_port}
 use Rattle.ace_runs.specs.Steps.{AreSteps, is_step}
-use Rattle.ace_runs.proofs.Accepting.{accepted-after, kept-breaks-none}
+use Rattle.ace_runs.proofs.Accepting.{accepted-after}
 use Rattle.ace_runs.proofs.Turns.{of-each-run, step-kept}
 use Rattle.ace_runs.proofs.NeverStuck.StepEvents.{all-if, all-map}
+use Rattle.ace_runs.proofs.NeverStuck.StepShapes.{TellsSame, all-by-ports, filtered-all, same-burst-all}
 use Rattle.ace_runs.proofs.NeverStuck.WholeAnswers.{same-length}
 use Rattle.ace_runs.proofs.NeverStuck.Forwarding.Bursts.{grows, is_forwarding, still-between}
 use Rattle.ace_runs.proofs.NeverStuck.Forwarding.NextMessage.{IsBetweenMessages, NextMessage, next-begins, no-second-next, parts-start, point-of-last, same-message}
@@ -40,55 +37,15 @@ use Rattle.ace_runs.proofs.NeverStuck.Forwarding.Waiting.{waiting-apart}
 
 -- ---- the events of the burst -------------------------------------------------------------------------
 
-same-forwarding : (d e : Event) → same_event d e ≡ true → is_forwarding e ≡ true → is_forwarding d ≡ true
-same-forwarding (Ac p a s) (Ac q c t) same f =
-    let code = eqb-true s t (and_parts ((p == q) && (a == c)) (s == t) same).1 in
-    subst (λ n. is_some_and (ac_kind_of n) is_message_snoop ≡ true) (sym code) f
-same-forwarding (Mem a line) e same f = refl
-same-forwarding d (Ac q c t) same f = cc
-same-forwarding d (Mem c line) same f = cc
-same-forwarding d e same f = cc
-
-all-forwarding : (ds es : List Event) → same_burst ds es ≡ true → list_all is_forwarding es ≡ true → list_all is_forwarding ds ≡ true
-all-forwarding [] [] same f = refl
-all-forwarding [] (e ∷ es) same f = cc
-all-forwarding (d ∷ ds) [] same f = cc
-all-forwarding (d ∷ ds) (e ∷ es) same f =
-    let parts = and_parts (same_event d e) (same_burst ds es) same in
-    let of = and_parts (is_forwarding e) (list_all is_forwarding es) f in
-    and_from _ _ (same-forwarding d e parts.0 of.0) (all-forwarding ds es parts.1 of.1)
-
-filtered : (test : Event → Bool) (q : ℕ) (burst : List Event) → list_all test (filter (is_at_port q) burst) ≡ true → list_all (λ e. implies (is_at_port q e) (test e)) burst ≡ true
-filtered test q [] m = refl
-filtered test q (e ∷ burst) m =
-    elim (cases_Bool (is_at_port q e)) [
-      | inr f ↦ and_from _ _ (rw f refl) (filtered test q burst (rw f at m))
-      | inl t ↦
-          let here : list_all test (e ∷ filter (is_at_port q) burst) ≡ true = rw t at m in
-          let parts = and_parts (test e) (list_all test (filter (is_at_port q) burst)) here in
-          and_from _ _ (rw t parts.0) (filtered test q burst parts.1)
-    ]
-
--- what holds at each port of the header holds
-at-ports : (h : Header) (test : Event → Bool) (e : Event) → (port_of e ≡ None → test e ≡ true) → k1 h [] e ≡ true
-    → ((q : ℕ) → nat_lt q h.ports ≡ true → implies (is_at_port q e) (test e) ≡ true) → test e ≡ true
-at-ports h test e alone one each = by (port_of e) refl
-  where
-    by : (o : Option ℕ) → port_of e ≡ o → test e ≡ true
-    by None none = alone none
-    by (Some q) port =
-        let low = (and_parts (nat_lt q h.ports) _ (is_none_or-at (port_of e) (may_have h e) q one port)).0 in
-        implies-at (is_at_port q e) (test e) (each q low) (ap (λ o. is_some_and o (λ r. r == q)) port ∙ eq-eqb q q refl)
-
-by-ports : (h : Header) (test : Event → Bool) → ((e : Event) → port_of e ≡ None → test e ≡ true) → (past : Trace) (burst : List Event) → are_kept h past burst ≡ true
-    → ((q : ℕ) → nat_lt q h.ports ≡ true → list_all (λ e. implies (is_at_port q e) (test e)) burst ≡ true) → list_all test burst ≡ true
-by-ports h test alone past [] k each = refl
-by-ports h test alone past (e ∷ burst) k each =
-    let parts = and_parts (is_kept h past e) (are_kept h (e ∷ past) burst) k in
-    let one : k1 h past e ≡ true = kept rules 1 h past e (kept-breaks-none h past e parts.0) in
-    and_from _ _
-    (at-ports h test e (alone e) one (λ q low. (and_parts (implies (is_at_port q e) (test e)) _ (each q low)).0))
-    (by-ports h test alone (e ∷ past) burst parts.1 (λ q low. (and_parts (implies (is_at_port q e) (test e)) _ (each q low)).1))
+same-forwarding : TellsSame is_forwarding
+same-forwarding (Ac p a s) (Ac q c t) same =
+    ap (λ n. is_some_and (ac_kind_of n) is_message_snoop) (eqb-true s t (and_parts ((p == q) && (a == c)) (s == t) same).1)
+same-forwarding (Ac p a s) e same = cc
+same-forwarding d (Ac q c t) same = cc
+same-forwarding (Mem a line) (Mem c other) same = refl
+same-forwarding (Mem a line) e same = cc
+same-forwarding d (Mem c line) same = cc
+same-forwarding d e same = refl
 
 no-port : (e : Event) → port_of e ≡ None → is_forwarding e ≡ true
 no-port (Mem addr line) none = refl
@@ -198,8 +155,9 @@ kept-by-message h past p burst a k w s q low =
     let of = and_parts (is_part_of p x.0) (list_all (gets_message h past x.0 burst) (ports_below h.ports)) x.2 in
     let part = (and_parts (is_message_part x.0) (x.0.port == p) of.0).0 in
     let gets : (r : ℕ) → nat_lt r h.ports ≡ true → gets_message h past x.0 burst r ≡ true = λ r under. each_at h.ports (gets_message h past x.0 burst) r of.1 (ltb-true r h.ports under) in
-    let forwarding = by-ports h is_forwarding no-port past burst k (λ r under.
-    filtered is_forwarding r burst (all-forwarding (filter (is_at_port r) burst) (forwarded_to h past x.0 r) (gets r under) (given-forwarding h past x.0 r))) in
+    let forwarding = all-by-ports is_forwarding no-port h past burst k (λ r under.
+    filtered-all is_forwarding r burst
+    (same-burst-all is_forwarding same-forwarding (filter (is_at_port r) burst) (forwarded_to h past x.0 r) (gets r under) ∙ given-forwarding h past x.0 r)) in
     after-step h past burst q a k forwarding x.0 x.1 part (gets q low) (w q low)
 
 messages-kept : (plan : Plan) (past : Trace) (p : ℕ) (burst : List Event) → IsAccepted plan.header past → AreBetweenMessages plan.header past → is_step plan past p burst ≡ true

@@ -80,7 +80,7 @@ dvm-in-order h past burst s =
     ]
 
 -- a barrier half stands among those of its port at its number
-half-there : (past : Trace) (p : ℕ) (c : Channel) (k : ℕ) (x : Transaction) → IsHalf past p c k x → slice_get (barriers past p c) k ≡ Some x
+pub half-there : (past : Trace) (p : ℕ) (c : Channel) (k : ℕ) (x : Transaction) → IsHalf past p c k x → slice_get (barriers past p c) k ≡ Some x
 half-there [] p c k x i = let there = i.stands.there in cc
 half-there (e ∷ past) p c k x i =
     elim (issued-cases e past x i.stands) [
@@ -99,7 +99,7 @@ half-there (e ∷ past) p c k x i =
     ]
 
 -- the pair of a barrier that is read has it
-reads-half : (past : Trace) (y : Transaction) (b : Pair) → IsIssued past y → is_some_and (read_kind y) is_read_barrier ≡ true → is_read y.chan ≡ true → pair_of past y ≡ Some b → b.read ≡ y
+pub reads-half : (past : Trace) (y : Transaction) (b : Pair) → IsIssued past y → is_some_and (read_kind y) is_read_barrier ≡ true → is_read y.chan ≡ true → pair_of past y ≡ Some b → b.read ≡ y
 reads-half past y b i barrier reads is =
     let half : is_barrier_half y ≡ true = or_left (is_some_and (read_kind y) is_read_barrier) (is_some_and (write_kind y) is_write_barrier) barrier in
     let same : same_channel y.chan Read ≡ true = ap (λ c. if c then true else false) reads in

@@ -1,0 +1,153 @@
+-- Responses, and the transactions that are no barriers.
+use Rattle.std.proofs.Common.{◌≡◌, ℕ, Bool, true, false, not, ◌&&◌, ◌||◌, ◌==◌, [], ◌∷◌, ◌++◌, map, Option, Some, None, inl, inr, refl, sym, ap, ◌∙◌}
+use Rattle.std.specs.List.{list_all}
+use Rattle.std.specs.Option.{option_to_list}
+use Rattle.std.proofs.lemmas.Bool.{and_parts, and_from, or_cases, or_right, cases_Bool, eqb-true, eq-eqb, false_from_ne_true}
+use Rattle.ace_codes.specs.declared.kind.ArKind.{ArKind}
+use Rattle.ace_codes.specs.declared.kind.ArKind.TheVariants as read
+use Rattle.ace_codes.specs.declared.kind.AwKind.{AwKind}
+use Rattle.ace_codes.specs.declared.kind.AwKind.TheVariants as write
+use Rattle.ace_event.specs.declared.event.Event.{Event}
+use Rattle.ace_event.specs.declared.event.Event.TheVariants.{Ar, R, Aw, B, M}
+use Rattle.ace_event.specs.declared.header.Header.{Header}
+use Rattle.ace_event.specs.declared.line.Line.{Line}
+use Rattle.ace_tables.specs.Answers.{same_test}
+use Rattle.ace_model.specs.declared.transactions.Transaction.{Transaction}
+use Rattle.ace_model.specs.Barriers.{is_barrier_half}
+use Rattle.ace_model.specs.Kinds.{is_dvm_message, is_evict, is_line_read, is_line_write, is_read_barrier, is_write_barrier}
+use Rattle.ace_model.specs.Messages.{is_dvm_completion, is_message_part}
+use Rattle.ace_model.specs.Progress.{evicts}
+use Rattle.ace_model.specs.Trace.{Trace, is_some_and}
+use Rattle.ace_model.specs.Transactions.{is_line, is_read, read_kind, write_kind}
+use Rattle.ace_model.specs.WriteRules.{data_of}
+use Rattle.ace_runs.specs.LineSteps.{memory_write, response}
+use Rattle.ace_runs.proofs.NeverStuck.StepEvents.{all-append}
+use Rattle.ace_runs.proofs.NeverStuck.StepShapes.{TellsSame}
+use Rattle.ace_runs.proofs.NeverStuck.Barriers.Asks.{all-weaker}
+use Rattle.ace_runs.proofs.NeverStuck.Barriers.OfNext.{half-no-completion}
+use Rattle.ace_runs.proofs.NeverStuck.Barriers.Quiet.{is_quiet}
+
+-- it issues no transaction, and a response is one for this transaction
+abbrev pub is_response_for : Transaction → Event → Bool
+is_response_for x (Ar q i addr snoop dom bar lock) = false
+is_response_for x (Aw q i addr snoop dom bar) = false
+is_response_for x (R q i resp last word) = is_read x.chan && (x.port == q) && (x.id == i)
+is_response_for x (B q i resp) = not (is_read x.chan) && (x.port == q) && (x.id == i)
+is_response_for x _ = true
+
+-- ---- responses ---------------------------------------------------------------------------------------
+
+pub same-response : (x : Transaction) → TellsSame (is_response_for x)
+same-response x (R p i resp last word) (R q j r l w) same =
+    let p1 = and_parts ((p == q) && (i == j) && (resp == r) && same_test last l) (word == w) same in
+    let p2 = and_parts ((p == q) && (i == j) && (resp == r)) (same_test last l) p1.0 in
+    let p3 = and_parts ((p == q) && (i == j)) (resp == r) p2.0 in
+    let p4 = and_parts (p == q) (i == j) p3.0 in
+    rw (eqb-true p q p4.0, eqb-true i j p4.1) refl
+same-response x (R p i resp last word) e same = cc
+same-response x (B p i resp) (B q j r) same =
+    let p3 = and_parts ((p == q) && (i == j)) (resp == r) same in
+    let p4 = and_parts (p == q) (i == j) p3.0 in
+    rw (eqb-true p q p4.0, eqb-true i j p4.1) refl
+same-response x (B p i resp) e same = cc
+same-response x (Ar p i a s d b l) (Ar q j c t e f n) same = refl
+same-response x (Ar p i a s d b l) e same = cc
+same-response x (Aw p i a s d b) (Aw q j c t e f) same = refl
+same-response x (Aw p i a s d b) e same = cc
+same-response x d (Ar q i addr snoop dom bar lock) same = cc
+same-response x d (Aw q i addr snoop dom bar) same = cc
+same-response x d (R q i resp last word) same = cc
+same-response x d (B q i resp) same = cc
+same-response x d e same = refl
+
+pub quiet-response : (x : Transaction) (e : Event) → is_quiet e ≡ true → is_response_for x e ≡ true
+quiet-response x (Ar q i addr snoop dom bar lock) m = cc
+quiet-response x (Aw q i addr snoop dom bar) m = cc
+quiet-response x (R q i resp last word) m = cc
+quiet-response x (B q i resp) m = cc
+quiet-response x e m = refl
+
+pub written-quiet : (x : Transaction) (o : Option Line) → list_all is_quiet (map (λ line. M x.port x.chan x.id line) (option_to_list o)) ≡ true
+written-quiet x None = refl
+written-quiet x (Some line) = refl
+
+pub response-for : (x : Transaction) → is_read x.chan ≡ false → list_all (is_response_for x) (response x) ≡ true
+response-for x writes = and_from _ _ (and_from _ _ (and_from _ _ (ap not writes) (eq-eqb x.port x.port refl)) (eq-eqb x.id x.id refl)) refl
+
+pub transfer-for : (x : Transaction) (resp : ℕ) (last : Bool) (word : ℕ) → is_read x.chan ≡ true → list_all (is_response_for x) (R x.port x.id resp last word ∷ []) ≡ true
+transfer-for x resp last word reads = and_from _ _ (and_from _ _ (and_from _ _ reads (eq-eqb x.port x.port refl)) (eq-eqb x.id x.id refl)) refl
+
+pub written-responses : (h : Header) (past : Trace) (x : Transaction) → is_read x.chan ≡ false → list_all (is_response_for x) (memory_write h past x ++ response x) ≡ true
+written-responses h past x writes =
+    all-append (is_response_for x) (memory_write h past x) (response x)
+    (all-weaker is_quiet (is_response_for x) (quiet-response x) (memory_write h past x) (written-quiet x (data_of h past x)))
+    (response-for x writes)
+
+-- ---- what is no barrier ------------------------------------------------------------------------------
+
+line-read-no-barrier : (o : Option ArKind) → is_some_and o is_read_barrier ≡ true → is_some_and o is_line_read ≡ false
+line-read-no-barrier None b = cc
+line-read-no-barrier (Some read.Barrier) b = refl
+line-read-no-barrier (Some k) b = cc
+
+line-write-no-barrier : (o : Option AwKind) → is_some_and o is_write_barrier ≡ true → is_some_and o is_line_write ≡ false
+line-write-no-barrier None b = cc
+line-write-no-barrier (Some write.Barrier) b = refl
+line-write-no-barrier (Some k) b = cc
+
+-- a barrier is no line transaction
+pub half-no-line : (x : Transaction) → is_barrier_half x ≡ true → is_line x ≡ false
+half-no-line x b =
+    elim (cases_Bool (is_read x.chan)) [
+      | inl t ↦
+          let none : write_kind x ≡ None = rw t refl in
+          let half : (is_some_and (read_kind x) is_read_barrier || false) ≡ true = rw none at b in
+          let line = line-read-no-barrier (read_kind x) (elim (or_cases (is_some_and (read_kind x) is_read_barrier) false half) [ inl r ↦ r | inr f ↦ cc ]) in
+          rw (line, none) refl
+      | inr f ↦
+          let none : read_kind x ≡ None = rw f refl in
+          let half : (false || is_some_and (write_kind x) is_write_barrier) ≡ true = rw none at b in
+          let line = line-write-no-barrier (write_kind x) half in
+          rw (none, line) refl
+    ]
+
+-- so a line transaction is no barrier
+pub line-no-half : (x : Transaction) → is_line x ≡ true → is_barrier_half x ≡ false
+line-no-half x line = false_from_ne_true (is_barrier_half x) (λ b. let none = half-no-line x b in let bad : false ≡ true = sym none ∙ line in cc)
+
+message-no-barrier : (o : Option ArKind) → is_some_and o is_read_barrier ≡ true → is_some_and o is_dvm_message ≡ false
+message-no-barrier None b = cc
+message-no-barrier (Some read.Barrier) b = refl
+message-no-barrier (Some k) b = cc
+
+pub half-no-message : (x : Transaction) → is_barrier_half x ≡ true → is_message_part x ≡ false
+half-no-message x b =
+    elim (cases_Bool (is_read x.chan)) [
+      | inl t ↦
+          let none : write_kind x ≡ None = rw t refl in
+          let half : (is_some_and (read_kind x) is_read_barrier || false) ≡ true = rw none at b in
+          message-no-barrier (read_kind x) (elim (or_cases (is_some_and (read_kind x) is_read_barrier) false half) [ inl r ↦ r | inr f ↦ cc ])
+      | inr f ↦ let none : read_kind x ≡ None = rw f refl in rw none refl
+    ]
+
+pub evicts-line : (x : Transaction) → evicts x ≡ true → is_line x ≡ true
+evicts-line x v = or_right (is_some_and (read_kind x) is_line_read) _ (of (write_kind x) v)
+  where
+    of : (o : Option AwKind) → is_some_and o is_evict ≡ true → is_some_and o is_line_write ≡ true
+    of None v = cc
+    of (Some write.Evict) v = refl
+    of (Some k) v = cc
+
+pub dvm-no-half : (x : Transaction) → (is_message_part x || is_dvm_completion x) ≡ true → is_barrier_half x ≡ false
+dvm-no-half x d =
+    false_from_ne_true (is_barrier_half x) (λ b.
+    let message = half-no-message x b in
+    let completion = half-no-completion x b in
+    let bad : (false || false) ≡ true = rw (message, completion) at d in cc)
+
+pub dvm-reads : (x : Transaction) → (is_message_part x || is_dvm_completion x) ≡ true → is_read x.chan ≡ true
+dvm-reads x d =
+    elim (cases_Bool (is_read x.chan)) [
+      | inl t ↦ t
+      | inr f ↦ let none : read_kind x ≡ None = rw f refl in let bad : (false || false) ≡ true = rw none at d in cc
+    ]
