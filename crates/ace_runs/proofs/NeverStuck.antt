@@ -30,25 +30,19 @@ pub mod UpdatesOrGranted
 pub mod WholeAnswers
 -- So no port owes the data of an answer.
 pub mod NoDataOwed
--- A granted write moves on once its snoops are done.
-pub mod GrantedWritesMove
--- Passed data that a read can't take move on.
-pub mod PassedDataMove
--- A write whose burst isn't whole has its port enabled.
-pub mod UnsentBursts
+-- The transactions of DVM move on.
+pub mod Messages
+-- A run forwards DVM messages whole.
+pub mod Forwarding
 -- A granted read moves on once its snoops are done.
 pub mod Reads
 -- A port enabled by some steps is enabled by more.
 pub mod EnabledBy
--- So what is granted moves on once its snoops are done.
-pub mod GrantedMove
--- And so does all that steps serve, but for snoops.
-pub mod ServedMove
 -- What holds of each transaction of a trace.
 pub mod EachIssued
 -- Barriers: none holds back a grant, and one is answered.
 pub mod Barriers
 -- Where no transaction is granted, one that waits moves.
 pub mod WaitingMove
--- The transfer of a read without a line breaks no rule but those on order.
-pub mod PlainReads
+-- Where no AC is unanswered, an outstanding transaction that is complete, a memory update, an Evict or granted moves on, or one that it waits for.
+pub mod Transactions

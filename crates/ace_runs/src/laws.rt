@@ -1,17 +1,19 @@
 //! Laws of runs. These functions do no work: what they promise is the law.
 
-ghost use Rattle.std.specs.Prelude.{◌≡◌, ◌↔◌, ◌≤◌, ◌<◌, ◌*◌, ◌⊎◌, ℕ, true, false, List, [], ◌∷◌, Some, length};
+ghost use Rattle.std.specs.Prelude.{◌≡◌, ◌↔◌, ◌≤◌, ◌<◌, ◌*◌, ◌⊎◌, ◌||◌, ℕ, true, false, List, [], ◌∷◌, Some, None, length};
+ghost use Rattle.ace_event.specs.declared.event.Channel.{Channel};
 ghost use Rattle.ace_event.specs.declared.event.Channel.TheVariants.{Read, Write};
 ghost use Rattle.ace_event.specs.declared.event.Event.{Event};
 ghost use Rattle.ace_event.specs.declared.header.Header.{Header};
 ghost use Rattle.ace_model.specs.declared.plans.PlanOp.{PlanOp};
 ghost use Rattle.ace_model.specs.declared.snoops.Snoop.{Snoop};
+ghost use Rattle.ace_model.specs.declared.transactions.Transaction.{Transaction};
 ghost use Rattle.ace_model.specs.Accepted.{IsAccepted};
 ghost use Rattle.ace_model.specs.Grants.{is_granted};
-ghost use Rattle.ace_model.specs.Progress.{has_update};
+ghost use Rattle.ace_model.specs.Progress.{evicts, has_update, updates_memory};
 ghost use Rattle.ace_model.specs.Snoops.{answered, snoops_a_line};
 ghost use Rattle.ace_model.specs.Trace.{Trace};
-ghost use Rattle.ace_model.specs.Transactions.{some_issued};
+ghost use Rattle.ace_model.specs.Transactions.{is_complete, outstanding, some_issued};
 ghost use Rattle.ace_model.specs.Plans.{Plan, IsRight};
 ghost use Rattle.ace_runs.specs.Operations.{with_more};
 ghost use Rattle.ace_runs.specs.Follows.{FollowsSoFar, follows_so_far};
@@ -140,6 +142,15 @@ pub fn unanswered_snoop_has_a_step()
         → (is_enabled_by (1 ∷ []) plan past p ≡ true)
         ⊎ ((snoops_a_line s.snoop ≡ true) × (has_update plan.header past p s.addr ≡ true)
         × (is_enabled_by (2 ∷ 3 ∷ 4 ∷ 7 ∷ []) plan past p ≡ true)) }
+{}
+
+/// In a run where no AC is unanswered and a transaction is outstanding that is complete, a memory update, an Evict or granted, a port of the
+/// header is enabled by one of the steps 2 to 4 and 6 to 9.
+pub fn transaction_has_a_step()
+    ensures { (plan : Plan) (past : Trace) (p : ℕ) (c : Channel) (i : ℕ) (x : Transaction) → AreSteps plan past
+        → ((q : ℕ) → q < plan.header.ports → answered past q ≡ None) → outstanding plan.header past p c i ≡ Some x
+        → (is_complete past p c i || updates_memory x || evicts x || is_granted plan.header past x) ≡ true
+        → (q : ℕ) × (q < plan.header.ports) × (is_enabled_by (2 ∷ 3 ∷ 4 ∷ 6 ∷ 7 ∷ 8 ∷ 9 ∷ []) plan past q ≡ true) }
 {}
 
 /// In a run that follows its plan so far, where no transaction is granted its line and some transaction waits for its grant, a port is

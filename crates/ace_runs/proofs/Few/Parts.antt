@@ -139,7 +139,7 @@ forwards-one None s message fits = cc
 forwards-one (Some x) s message fits = rw (message, fits) refl
 
 -- a snoop that forwards a part forwards the next
-forwards-now : (h : Header) (past : Trace) (q addr snoop : ℕ) → IsAccepted h (Ac q addr snoop ∷ past) → is_some_and (ac_kind_of snoop) is_message_snoop ≡ true
+pub forwards-now : (h : Header) (past : Trace) (q addr snoop : ℕ) → IsAccepted h (Ac q addr snoop ∷ past) → is_some_and (ac_kind_of snoop) is_message_snoop ≡ true
     → is_some_and (next_part past q) (λ (x : Transaction). x.addr == addr) ≡ true
 forwards-now h past q addr snoop a message =
     let k = is_some_and-is (ac_kind_of snoop) is_message_snoop message in

@@ -58,7 +58,7 @@ more-within n xs None within = within
 more-within n xs (Some x) within = rw (length-append xs (x ∷ [])) (omega (arith, within))
 
 -- an answer has its snoop
-answers-within : (h : Header) (past : Trace) (p : ℕ) → IsAccepted h past → answers past p ≤ length (snoops_of past p)
+pub answers-within : (h : Header) (past : Trace) (p : ℕ) → IsAccepted h past → answers past p ≤ length (snoops_of past p)
 answers-within h [] p a = omega arith
 answers-within h (Cr q resp st ∷ past) p a =
     next-within (p == q) (answers past p) (snoops_of past p) (answers-within h past p a.0)

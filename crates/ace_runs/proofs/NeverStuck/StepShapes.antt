@@ -89,7 +89,7 @@ same-plain d e s = refl
 abbrev pub TellsSame : (Event → Bool) → Type 0
 TellsSame test = (d e : Event) → same_event d e ≡ true → test d ≡ test e
 
-same-burst-all : (test : Event → Bool) → TellsSame test → (ds es : List Event) → same_burst ds es ≡ true → list_all test ds ≡ list_all test es
+pub same-burst-all : (test : Event → Bool) → TellsSame test → (ds es : List Event) → same_burst ds es ≡ true → list_all test ds ≡ list_all test es
 same-burst-all test same [] [] s = refl
 same-burst-all test same [] (e ∷ es) s = cc
 same-burst-all test same (d ∷ ds) [] s = cc
@@ -182,7 +182,7 @@ snoops-all test each h past p burst s =
     let k = is_some_and-is (snoop_of x.0) (λ k. list_all (is_snoop_for x.0 k) burst) of in
     all-snoops test x.0 k.0 (each x.0 k.0) burst k.2
 
-filtered-all : (test : Event → Bool) (q : ℕ) (burst : List Event) → list_all test (filter (is_at_port q) burst) ≡ true
+pub filtered-all : (test : Event → Bool) (q : ℕ) (burst : List Event) → list_all test (filter (is_at_port q) burst) ≡ true
     → list_all (λ e. implies (is_at_port q e) (test e)) burst ≡ true
 filtered-all test q [] m = refl
 filtered-all test q (e ∷ burst) m =
@@ -206,7 +206,7 @@ at-its-port test portless h e k each = by (port_of e) refl
         let at : is_at_port q e ≡ true = ap (λ o. is_some_and o (λ r. r == q)) port ∙ eq-eqb q q refl in
         implies-at (is_at_port q e) (test e) (each q low) at
 
-all-by-ports : (test : Event → Bool) → ((e : Event) → port_of e ≡ None → test e ≡ true) → (h : Header) (past : Trace) (burst : List Event) → are_kept h past burst ≡ true
+pub all-by-ports : (test : Event → Bool) → ((e : Event) → port_of e ≡ None → test e ≡ true) → (h : Header) (past : Trace) (burst : List Event) → are_kept h past burst ≡ true
     → ((q : ℕ) → nat_lt q h.ports ≡ true → list_all (λ e. implies (is_at_port q e) (test e)) burst ≡ true) → list_all test burst ≡ true
 all-by-ports test portless h past [] k each = refl
 all-by-ports test portless h past (e ∷ burst) k each =

@@ -92,7 +92,7 @@ all-same test each (d ∷ ds) (e ∷ es) s m =
     let of = and_parts (test d) (list_all test ds) m in
     and_from _ _ (each d e same.0 of.0) (all-same test each ds es same.1 of.1)
 
-same-length : (ds es : List Event) → same_burst ds es ≡ true → length es ≡ length ds
+pub same-length : (ds es : List Event) → same_burst ds es ≡ true → length es ≡ length ds
 same-length [] [] s = refl
 same-length [] (e ∷ es) s = cc
 same-length (d ∷ ds) [] s = cc
@@ -199,7 +199,7 @@ sends-line snoop.DvmComplete held resp next row sends = absurd (plain-sends-none
 sends-line snoop.DvmMessage held resp next row sends = absurd (plain-sends-none resp next row sends)
 sends-line k held resp next row sends = refl
 
-line-not-complete : (k : SnoopKind) → is_line_snoop k ≡ true → is_complete_snoop k ≡ false
+pub line-not-complete : (k : SnoopKind) → is_line_snoop k ≡ true → is_complete_snoop k ≡ false
 line-not-complete snoop.DvmComplete line = cc
 line-not-complete k line = refl
 

@@ -26,7 +26,7 @@ use Rattle.ace_runs.specs.Bursts.{may_begin, may_serve}
 use Rattle.ace_runs.specs.LineSteps.{can_take, is_last_beat, next_word, response_bits, takes_dirt, transfer_burst}
 use Rattle.ace_runs.specs.Steps.{AreSteps, is_enabled_by}
 use Rattle.ace_runs.proofs.Turns.{steps-accepted}
-use Rattle.ace_runs.proofs.NeverStuck.PassedDataMove.{passed-whole}
+use Rattle.ace_runs.proofs.NeverStuck.Transactions.PassedDataMove.{passed-whole}
 use Rattle.ace_runs.proofs.NeverStuck.UpdatesOrGranted.{HasLine}
 use Rattle.ace_runs.proofs.NeverStuck.WriterPorts.{issuer-low}
 use Rattle.ace_runs.proofs.NeverStuck.Reads.FirstTransfers.{firsts-say}
