@@ -24,3 +24,5 @@ pub mod Together
 pub mod BothIssued
 -- And both are answered at once, so they are together in each run.
 pub mod BothAnswered
+-- So one is answered.
+pub mod Answered

@@ -1,9 +1,8 @@
 -- Where a transaction waits for its line, and no transaction is granted the line, the oldest that waits for it may be granted it: its port is
 -- enabled by step 5. No barrier holds it back.
-use Rattle.std.proofs.Common.{◌≡◌, ℕ, ◌<◌, ◌≤◌, Bool, true, false, not, ◌&&◌, ◌==◌, nat_lt, if◌then◌else◌, [], ◌∷◌, length, Option, Some, None, is_none, inl, inr, refl, sym, ap, subst, ◌∙◌, arith}
-use Rattle.std.proofs.lemmas.Bool.{and_parts, and_from, or_cases, or_left, cases_Bool, eq-eqb, ltb-true, false_from_ne_true}
+use Rattle.std.proofs.Common.{◌≡◌, ℕ, ◌<◌, Bool, true, false, not, ◌&&◌, ◌==◌, nat_lt, if◌then◌else◌, [], ◌∷◌, Option, Some, None, is_none, refl, sym, ap, subst, ◌∙◌, arith}
+use Rattle.std.proofs.lemmas.Bool.{and_parts, and_from, or_left, eq-eqb, ltb-true, false_from_ne_true}
 use Rattle.ace_event.specs.declared.event.Channel.{Channel}
-use Rattle.ace_event.specs.declared.event.Event.{Event}
 use Rattle.ace_event.specs.declared.event.Event.TheVariants.{G}
 use Rattle.ace_event.specs.declared.header.Header.{Header}
 use Rattle.ace_model.specs.declared.transactions.Transaction.{Transaction}
@@ -12,14 +11,11 @@ use Rattle.ace_model.specs.AddressRules.{k1}
 use Rattle.ace_model.specs.Grants.{granted, has_grant, is_granted}
 use Rattle.ace_model.specs.OrderRules.{is_past_barriers, k35}
 use Rattle.ace_model.specs.Plans.{Plan}
-use Rattle.ace_model.specs.Progress.{each_issued}
 use Rattle.ace_model.specs.SnoopRules.{k12, may_be_granted}
-use Rattle.ace_model.specs.Trace.{Trace, is_some_and}
-use Rattle.ace_model.specs.Transactions.{is_on, is_outstanding, issued, some_issued, takes_grant}
-use Rattle.ace_model.proofs.General.Options.{is_some_and-is}
+use Rattle.ace_model.specs.Trace.{Trace}
+use Rattle.ace_model.specs.Transactions.{is_on, is_outstanding, some_issued, takes_grant}
 use Rattle.ace_model.proofs.GrantLooks.Had.{takes-line}
-use Rattle.ace_model.proofs.Trace.Growth.{IsIssued, issued-cases, issued-new, issued-old, some_issued-found, some_issued-is}
-use Rattle.ace_model.proofs.Trace.Issued.{issued-place}
+use Rattle.ace_model.proofs.Trace.Growth.{IsIssued, some_issued-found, some_issued-is}
 use Rattle.ace_model.proofs.Trace.LineOnce.{outstanding_is}
 use Rattle.ace_model.proofs.Trace.Looks.{is_on-addr}
 use Rattle.ace_runs.specs.Bursts.{is_kept, may_begin, may_serve}
@@ -27,6 +23,7 @@ use Rattle.ace_runs.specs.Follows.{FollowsSoFar}
 use Rattle.ace_runs.specs.LineSteps.{grant_burst, is_first_to_wait, waits}
 use Rattle.ace_runs.specs.Steps.{AreSteps, is_enabled_by}
 use Rattle.ace_runs.proofs.Turns.{steps-accepted}
+use Rattle.ace_runs.proofs.NeverStuck.EachIssued.{IsOldest, each-from, oldest}
 use Rattle.ace_runs.proofs.NeverStuck.UpdatesOrGranted.{granted-there}
 use Rattle.ace_runs.proofs.NeverStuck.WriterPorts.{issuer-low}
 use Rattle.ace_runs.proofs.NeverStuck.Barriers.HoldNone.{past-barriers}
@@ -43,64 +40,7 @@ grant-kept : (h : Header) (past : Trace) (p : ℕ) (c : Channel) (i : ℕ) → k
 unfolding is_kept
 grant-kept h past p c i one may order = three-kept (k1 h past (G p c i)) (k12 h past (G p c i)) (k35 h past (G p c i)) one may order
 
--- ---- the oldest --------------------------------------------------------------------------------------
-
--- the oldest transaction of the trace that passes the test
-pub record IsOldest (past : Trace) (test : Transaction → Bool) : Type 0 where
-  pub of : Transaction
-  pub issued : IsIssued past of
-  pub passes : test of ≡ true
-  pub none_before : (y : Transaction) → IsIssued past y → test y ≡ true → of.place ≤ y.place
-
-older : (e : Event) (past : Trace) (test : Transaction → Bool) → IsOldest past test → IsOldest (e ∷ past) test
-older e past test o =
-    record {
-      of = o.of;
-      issued = issued-old e past o.of o.issued;
-      passes = o.passes;
-      none_before = λ y i t.
-          elim (issued-cases e past y i) [
-            | inl new ↦ let place = issued-place (length past) e y new in let low = o.issued.before in omega (arith, place, low)
-            | inr old ↦ o.none_before y old t
-          ];
-    }
-
-newest : (e : Event) (past : Trace) (test : Transaction → Bool) (x : Transaction) → issued (length past) e ≡ Some x → test x ≡ true → some_issued past test ≡ false
-    → IsOldest (e ∷ past) test
-newest e past test x new t none =
-    record {
-      of = x;
-      issued = issued-new e past x new;
-      passes = t;
-      none_before = λ y i u.
-          elim (issued-cases e past y i) [
-            | inl also ↦ let px = issued-place (length past) e x new in let py = issued-place (length past) e y also in omega (arith, px, py)
-            | inr old ↦ let some = some_issued-found past test y.place y old.there u in cc
-          ];
-    }
-
-pub oldest : (past : Trace) (test : Transaction → Bool) → some_issued past test ≡ true → IsOldest past test
-oldest [] test s = cc
-oldest (e ∷ past) test s =
-    elim (cases_Bool (some_issued past test)) [
-      | inl earlier ↦ older e past test (oldest past test earlier)
-      | inr none ↦ elim (or_cases (is_some_and (issued (length past) e) test) (some_issued past test) s) [
-        | inl now ↦ let x = is_some_and-is (issued (length past) e) test now in newest e past test x.0 x.1 x.2 none
-        | inr earlier ↦ cc
-      ]
-    ]
-
 -- ---- the grant ---------------------------------------------------------------------------------------
-
--- what each transaction fails, none passes
-each-not : (past : Trace) (test : Transaction → Bool) → ((y : Transaction) → IsIssued past y → test y ≡ true → ⊥) → each_issued past (λ y. not (test y)) ≡ true
-each-not past test none =
-    ap not (false_from_ne_true (some_issued past (λ y. not (not (test y)))) (λ some.
-    let y = some_issued-is past (λ y. not (not (test y))) some in
-    elim (cases_Bool (test y.0)) [
-      | inl t ↦ none y.0 y.1 t
-      | inr f ↦ let bad : false ≡ true = rw f at y.2 in cc
-    ]))
 
 module _ (plan : Plan) (past : Trace) (steps : AreSteps plan past) where
   abbrev h : Header
@@ -108,13 +48,14 @@ module _ (plan : Plan) (past : Trace) (steps : AreSteps plan past) where
 
   first-to-wait : (l : ℕ) → (o : IsOldest past (λ y. is_on y l && waits h past y)) → o.of.addr ≡ l → is_first_to_wait h past o.of ≡ true
   first-to-wait l o at =
-      each-not past (λ y. is_on y o.of.addr && nat_lt y.place o.of.place && waits h past y && is_past_barriers past y) (λ y i t.
+      each-from past (λ y. not (is_on y o.of.addr && nat_lt y.place o.of.place && waits h past y && is_past_barriers past y)) (λ y i.
+      ap not (false_from_ne_true (is_on y o.of.addr && nat_lt y.place o.of.place && waits h past y && is_past_barriers past y) (λ t.
       let p1 = and_parts (is_on y o.of.addr && nat_lt y.place o.of.place && waits h past y) (is_past_barriers past y) t in
       let p2 = and_parts (is_on y o.of.addr && nat_lt y.place o.of.place) (waits h past y) p1.0 in
       let p3 = and_parts (is_on y o.of.addr) (nat_lt y.place o.of.place) p2.0 in
       let low = ltb-true y.place o.of.place p3.1 in
       let high = o.none_before y i (and_from _ _ (subst (λ a. is_on y a ≡ true) at p3.0) p2.1) in
-      omega (arith, low, high))
+      omega (arith, low, high))))
 
   -- the first that waits may be granted its line
   first-granted : (x : Transaction) → FollowsSoFar plan past → IsIssued past x → waits h past x ≡ true → is_first_to_wait h past x ≡ true → granted h past x.addr ≡ None

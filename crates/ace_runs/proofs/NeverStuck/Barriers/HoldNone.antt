@@ -1,5 +1,5 @@
 -- In a run no barrier holds back a grant: a barrier before a line transaction of its port is complete.
-use Rattle.std.proofs.Common.{◌≡◌, ℕ, suc, ◌<◌, Bool, true, false, not, ◌==◌, nat_lt, List, [], ◌∷◌, ◌++◌, Some, slice_get, inl, inr, refl, sym, subst, arith}
+use Rattle.std.proofs.Common.{◌≡◌, ℕ, suc, ◌<◌, Bool, true, not, ◌==◌, nat_lt, List, [], ◌∷◌, ◌++◌, Some, slice_get, inl, inr, refl, sym, subst, arith}
 use Rattle.std.specs.List.{list_all}
 use Rattle.std.proofs.Math.Nat.{le-max_left, le-max_right}
 use Rattle.std.proofs.lemmas.Bool.{and_from, or_cases, eqb-true, ltb-true, not-true, false_from_ne_true}
@@ -30,6 +30,7 @@ use Rattle.ace_runs.proofs.Accepting.{accepted-after}
 use Rattle.ace_runs.proofs.SoFar.{before-burst}
 use Rattle.ace_runs.proofs.Turns.{of-each-run, step-kept}
 use Rattle.ace_runs.proofs.NeverStuck.StepShapes.{all-as}
+use Rattle.ace_runs.proofs.NeverStuck.Reads.TransfersKept.{implied_by}
 use Rattle.ace_runs.proofs.NeverStuck.StepEvents.{all-append}
 use Rattle.ace_runs.proofs.NeverStuck.Barriers.Acts.{is_barrier_operation}
 use Rattle.ace_runs.proofs.NeverStuck.Barriers.Asks.{all-no-line, all-weaker}
@@ -109,10 +110,6 @@ all-from : {A : Type 0} → (test : A → Bool) (xs : List A) → ((k : ℕ) (x 
 all-from test [] each = refl
 all-from test (x ∷ xs) each = and_from _ _ (each 0 x refl) (all-from test xs (λ k y there. each (suc k) y there))
 
-implies-from : (a b : Bool) → (a ≡ true → b ≡ true) → implies a b ≡ true
-implies-from true b f = f refl
-implies-from false b f = refl
-
 pair-done : (past : Trace) (x : Transaction) (k : ℕ) (b : Pair) → AreDoneBefore past → IsIssued past x → is_line x ≡ true → slice_get (pairs past x.port) k ≡ Some b
     → place_of b < x.place → is_pair_complete past b ≡ true
 pair-done past x k b done i line there low =
@@ -130,7 +127,7 @@ pub past-barriers : (plan : Plan) (past : Trace) (x : Transaction) → AreSteps 
     → is_past_barriers past x ≡ true
 past-barriers plan past x s f i line =
     let done = done-before plan past s f in
-    implies-from (x.bar == 0) _ (λ ordered.
+    implied_by (x.bar == 0) _ (λ ordered.
     all-from (λ b. implies (nat_lt (place_of b) x.place) (is_pair_complete past b)) (pairs past x.port) (λ k b there.
-    implies-from (nat_lt (place_of b) x.place) (is_pair_complete past b) (λ low.
+    implied_by (nat_lt (place_of b) x.place) (is_pair_complete past b) (λ low.
     pair-done past x k b done i line there (ltb-true (place_of b) x.place low))))

@@ -33,7 +33,7 @@ plain-in-order h past y e own none s p i resp last word x is o line =
     let one = same-name h past x y p i own o same.port same.id in
     let bad : false ≡ true = sym none ∙ ap is_line one ∙ line in cc
 
-no-line : (x : Transaction) (k : ArKind) → read_kind x ≡ Some k → is_line_read k ≡ false → is_line x ≡ false
+pub no-line : (x : Transaction) (k : ArKind) → read_kind x ≡ Some k → is_line_read k ≡ false → is_line x ≡ false
 no-line x k kind none =
     ap (λ o. is_some_and o is_line_read || is_some_and (write_kind x) is_line_write) kind
     ∙ ap (λ o. is_line_read k || is_some_and o is_line_write) (read_writes_none x k kind).0
