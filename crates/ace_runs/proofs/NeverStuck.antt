@@ -46,3 +46,5 @@ pub mod Barriers
 pub mod WaitingMove
 -- Where no AC is unanswered, an outstanding transaction that is complete, a memory update, an Evict or granted moves on, or one that it waits for.
 pub mod Transactions
+-- The transfer of a read without a line breaks no rule but those on order.
+pub mod PlainReads

@@ -1,6 +1,6 @@
 -- An outstanding barrier that isn't complete is answered, where no line transaction of its port is outstanding: its port is enabled by step 10.
 -- Its other half is there and isn't complete either, and each earlier line transaction of the port is complete and has had its order point.
-use Rattle.std.proofs.Common.{◌≡◌, ℕ, zero, suc, Bool, true, false, ◌&&◌, ◌||◌, ◌==◌, nat_lt, if◌then◌else◌, List, [], ◌∷◌, length, Some, None, slice_get, get_or, inl, inr, refl, sym, ap, subst, ◌∙◌, arith}
+use Rattle.std.proofs.Common.{◌≡◌, ℕ, zero, suc, Bool, true, false, ◌&&◌, ◌||◌, ◌==◌, nat_lt, if◌then◌else◌, List, [], ◌∷◌, length, Some, None, slice_get, get_or, inl, inr, refl, sym, ap, ◌∙◌, arith}
 use Rattle.std.proofs.lemmas.Bool.{and_parts, and_from, or_cases, or_left, eqb-true, eq-eqb}
 use Rattle.std.proofs.lemmas.Option.{slice_get-get_or, slice_get_within}
 use Rattle.ace_codes.specs.declared.kind.ArKind.{ArKind}
@@ -12,27 +12,23 @@ use Rattle.ace_model.specs.declared.transactions.Transaction.{Transaction}
 use Rattle.ace_model.specs.Accepted.{IsAccepted}
 use Rattle.ace_model.specs.Barriers.{Pair, barriers, is_awaited, is_barrier_half, is_before, is_synchronisation, may_answer, number_of, pair_of, paired, pairs, place_of}
 use Rattle.ace_model.specs.Kinds.{is_line_read, is_read_barrier, is_write_barrier}
-use Rattle.ace_model.specs.Messages.{is_message_part}
-use Rattle.ace_model.specs.OrderRules.{is_answered_by_all, k34, k37, may_answer_half}
+use Rattle.ace_model.specs.OrderRules.{is_answered_by_all, may_answer_half}
 use Rattle.ace_model.specs.Plans.{Plan}
 use Rattle.ace_model.specs.Progress.{is_completed, is_ordered}
-use Rattle.ace_model.specs.Trace.{Trace, at_point, implies, is_none_or, is_some_and}
-use Rattle.ace_model.specs.Transactions.{is_complete, is_line, is_outstanding, outstanding, read_kind, write_kind}
+use Rattle.ace_model.specs.Trace.{Trace, at_point, implies, is_some_and}
+use Rattle.ace_model.specs.Transactions.{is_line, is_outstanding, read_kind, write_kind}
 use Rattle.ace_model.proofs.Barriers.OrderPoints.{completed-ordered}
 use Rattle.ace_model.proofs.Barriers.Pairs.{barriers-half, is_barrier_of-is}
 use Rattle.ace_model.proofs.General.Options.{Some-injective, is_some_and-is}
-use Rattle.ace_model.proofs.Outstanding.Names.{complete_by_name}
 use Rattle.ace_model.proofs.Outstanding.Waiting.{ended_complete}
 use Rattle.ace_model.proofs.Trace.Growth.{IsIssued, some_issued-found}
-use Rattle.ace_model.proofs.Trace.Issued.{outstanding-named}
-use Rattle.ace_model.proofs.Trace.LineOnce.{outstanding_is}
 use Rattle.ace_model.proofs.Trace.Looks.{same_channel-self}
 use Rattle.ace_runs.specs.Bursts.{may_begin, may_serve}
-use Rattle.ace_runs.specs.OrderSteps.{barrier_burst, pair_burst, plain_transfer}
+use Rattle.ace_runs.specs.OrderSteps.{barrier_burst, pair_burst}
 use Rattle.ace_runs.specs.Steps.{AreSteps, is_enabled_by}
 use Rattle.ace_runs.proofs.Turns.{steps-accepted}
 use Rattle.ace_runs.proofs.NeverStuck.EachIssued.{each-from}
-use Rattle.ace_runs.proofs.NeverStuck.Messages.PlainResponses.{plain-kept}
+use Rattle.ace_runs.proofs.NeverStuck.PlainReads.{plain-kept}
 use Rattle.ace_runs.proofs.NeverStuck.Reads.PlainTransfers.{half-there}
 use Rattle.ace_runs.proofs.NeverStuck.Reads.TransfersKept.{implied_by}
 use Rattle.ace_runs.proofs.NeverStuck.Barriers.BothAnswered.{halves-together, undone-outstanding}
@@ -149,12 +145,7 @@ open-answered plan past p x y a none o =
     ap (λ q. is_some_and (pair_of past x) (may_answer past q)) half.port ∙ ap (λ v. is_some_and v (may_answer past p)) pair ∙ may in
     let order : may_answer_half past x ≡ true = implied_by (is_barrier_half x) (is_some_and (pair_of past x) (may_answer past x.port)) (λ t. answer) in
     let message = ap (λ v. implies v (is_answered_by_all h past x)) (half-no-message x i.1) in
-    let own = outstanding_is h past x i.0 out in
-    let undone : is_complete past x.port x.chan x.id ≡ false = complete_by_name past x.port x.chan x.id x (outstanding-named h past x.port x.chan x.id x own) ∙ o.undone in
-    let reads_own : outstanding h past x.port Read x.id ≡ Some x = subst (λ c. outstanding h past x.port c x.id ≡ Some x) half.chan own in
-    let barriers : k34 h past (plain_transfer x) ≡ true = ap (λ v. is_none_or v (may_answer_half past)) reads_own ∙ order in
-    let messages : k37 h past (plain_transfer x) ≡ true = ap (λ v. is_none_or v (λ z. implies (is_message_part z) (is_answered_by_all h past z))) reads_own ∙ message in
-    let is = plain-kept h past x k.0 a i.0 out k.1 (barrier-plain k.0 k.2) undone barriers messages in
+    let is = plain-kept h past x k.0 a i.0 out o.undone k.1 (barrier-plain k.0 k.2) order message in
     let begins : may_begin h past (barrier_burst h past x) ≡ true =
     ap (λ v. may_begin h past (if v then pair_burst (pair_of past x) else [])) reads ∙ ap (λ v. may_begin h past (pair_burst v)) pair ∙ is in
     let serves : may_serve barrier_burst h past p ≡ true =
@@ -162,11 +153,9 @@ open-answered plan past p x y a none o =
     (and_from _ _ (and_from _ _ (eq-eqb x.port p half.port) out) begins) in
     or_left (may_serve barrier_burst h past p) _ serves
 
--- Where no line transaction of its port is outstanding, the port of an outstanding barrier that isn't complete is enabled by step 10.
-pub barrier-moves : (plan : Plan) (past : Trace) (x : Transaction) → AreSteps plan past → IsIssued past x → is_barrier_half x ≡ true → is_outstanding plan.header past x ≡ true
-    → is_complete past x.port x.chan x.id ≡ false → HasNoLine plan.header past x.port → is_enabled_by (10 ∷ []) plan past x.port ≡ true
-barrier-moves plan past x s i half out incomplete none =
-    let named = outstanding-named plan.header past x.port x.chan x.id x (outstanding_is plan.header past x i out) in
-    let undone : is_completed past x ≡ false = sym (complete_by_name past x.port x.chan x.id x named) ∙ incomplete in
+-- Where no line transaction of its port is outstanding, the port of a barrier that isn't complete is enabled by step 10.
+pub barrier-moves : (plan : Plan) (past : Trace) (x : Transaction) → AreSteps plan past → IsIssued past x → is_barrier_half x ≡ true → is_completed past x ≡ false
+    → HasNoLine plan.header past x.port → is_enabled_by (10 ∷ []) plan past x.port ≡ true
+barrier-moves plan past x s i half undone none =
     let o = open-pair past x (halves-together plan past s) i half undone in
     open-answered plan past x.port o.0 o.1 (steps-accepted plan past s) none o.2
