@@ -28,3 +28,5 @@ pub mod BothAnswered
 pub mod OpenPairs
 -- So a barrier is answered.
 pub mod Answered
+-- By both its responses.
+pub mod AnswerKept
