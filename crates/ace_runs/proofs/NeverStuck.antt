@@ -48,3 +48,5 @@ pub mod WaitingMove
 pub mod Transactions
 -- The transfer of a read without a line breaks no rule but those on order.
 pub mod PlainReads
+-- So a barrier or a DVM transaction that is outstanding moves on, or what it waits for, and a DVM Complete that is owed is issued.
+pub mod OrderMoves

@@ -1,15 +1,9 @@
 -- The transactions of DVM: each that is outstanding moves on, and a DVM Complete that is owed is issued.
 
--- A read without a line may have its response.
-pub mod PlainResponses
 -- DVM Completes, and parts that every other ACE port has answered, have their responses.
 pub mod DvmResponses
--- What acknowledges, and what ends an operation.
-pub mod Concluding
 -- Bursts that issue whole messages.
 pub mod WholeIssues
--- What the step that forwards gives.
-pub mod ForwardingSteps
 -- Step 14 alone issues parts of messages.
 pub mod MessageSteps
 -- It issues whole messages.

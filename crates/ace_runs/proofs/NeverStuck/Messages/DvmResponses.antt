@@ -1,28 +1,29 @@
 -- A DVM Complete that is outstanding has its response, and so has a part of a DVM message that every other ACE port has answered: the port is
 -- enabled by step 12.
-use Rattle.std.proofs.Common.{◌≡◌, true, false, ◌&&◌, ◌||◌, ◌==◌, if◌then◌else◌, [], ◌∷◌, Some, refl, ap, subst, ◌∙◌}
+use Rattle.std.proofs.Common.{◌≡◌, sym, true, false, ◌&&◌, ◌||◌, ◌==◌, if◌then◌else◌, [], ◌∷◌, Some, refl, ap, ◌∙◌}
 use Rattle.std.proofs.lemmas.Bool.{and_from, eq-eqb, or_left, or_right}
 use Rattle.ace_codes.specs.declared.kind.ArKind.{ArKind}
 use Rattle.ace_codes.specs.declared.kind.ArKind.TheVariants as read
-use Rattle.ace_event.specs.declared.event.Channel.TheVariants.{Read}
-use Rattle.ace_event.specs.declared.event.Event.TheVariants.{R}
 use Rattle.ace_model.specs.declared.transactions.Transaction.{Transaction}
 use Rattle.ace_model.specs.Barriers.{is_barrier_half, may_answer, pair_of}
 use Rattle.ace_model.specs.Kinds.{is_dvm_complete, is_dvm_message, is_line_read, is_read_barrier, is_write_barrier}
 use Rattle.ace_model.specs.Messages.{is_dvm_completion, is_message_part}
-use Rattle.ace_model.specs.OrderRules.{is_answered_by_all, k34, k37, may_answer_half}
+use Rattle.ace_model.specs.OrderRules.{is_answered_by_all, may_answer_half}
 use Rattle.ace_model.specs.Plans.{Plan}
 use Rattle.ace_model.specs.Trace.{Trace, implies, is_some_and}
-use Rattle.ace_model.specs.Transactions.{is_complete, is_outstanding, outstanding, read_kind, write_kind}
+use Rattle.ace_model.specs.Transactions.{is_complete, is_outstanding, read_kind, write_kind}
 use Rattle.ace_model.proofs.General.Options.{is_some_and-is}
 use Rattle.ace_model.proofs.Trace.Growth.{IsIssued, some_issued-found}
+use Rattle.ace_model.specs.Progress.{is_completed}
+use Rattle.ace_model.proofs.Outstanding.Names.{complete_by_name}
+use Rattle.ace_model.proofs.Trace.Issued.{outstanding-named}
 use Rattle.ace_model.proofs.Trace.LineOnce.{outstanding_is}
-use Rattle.ace_model.proofs.Trace.Looks.{is_read-is, read_writes_none}
+use Rattle.ace_model.proofs.Trace.Looks.{read_writes_none}
 use Rattle.ace_runs.specs.Bursts.{may_begin, may_serve}
 use Rattle.ace_runs.specs.OrderSteps.{dvm_burst, plain_transfer}
 use Rattle.ace_runs.specs.Steps.{AreSteps, is_enabled_by}
 use Rattle.ace_runs.proofs.Turns.{steps-accepted}
-use Rattle.ace_runs.proofs.NeverStuck.Messages.PlainResponses.{plain-kept}
+use Rattle.ace_runs.proofs.NeverStuck.PlainReads.{plain-kept}
 
 complete-kind : (k : ArKind) → is_dvm_complete k ≡ true → (is_line_read k ≡ false) × (is_read_barrier k ≡ false) × (is_dvm_message k ≡ false)
 complete-kind read.DvmComplete e = (refl, refl, refl)
@@ -42,13 +43,12 @@ dvm-moves : (plan : Plan) (past : Trace) (x : Transaction) (k : ArKind) → AreS
 dvm-moves plan past x k s i is_out undone kind none no_barrier dvm messages =
     let h = plan.header in
     let writes = read_writes_none x k kind in
-    let out : outstanding h past x.port Read x.id ≡ Some x = subst (λ c. outstanding h past x.port c x.id ≡ Some x) (is_read-is x.chan writes.1) (outstanding_is h past x i is_out) in
+    let out = outstanding_is h past x i is_out in
     let no_half : is_barrier_half x ≡ false =
     ap (λ o. is_some_and o is_read_barrier || is_some_and (write_kind x) is_write_barrier) kind ∙ rw (no_barrier, writes.0) refl in
     let half : may_answer_half past x ≡ true = ap (λ b. implies b (is_some_and (pair_of past x) (may_answer past x.port))) no_half in
-    let barriers : k34 h past (R x.port x.id 0 true 0) ≡ true = rw out half in
-    let answered : k37 h past (R x.port x.id 0 true 0) ≡ true = rw out messages in
-    let kept = plain-kept h past x k (steps-accepted plan past s) i is_out kind none undone barriers answered in
+    let incomplete : is_completed past x ≡ false = sym (complete_by_name past x.port x.chan x.id x (outstanding-named h past x.port x.chan x.id x out)) ∙ undone in
+    let kept = plain-kept h past x k (steps-accepted plan past s) i is_out incomplete kind none half messages in
     let begins : may_begin h past (dvm_burst h past x) ≡ true = ap (λ b. may_begin h past (if b then plain_transfer x ∷ [] else [])) dvm ∙ kept in
     let serves : may_serve dvm_burst h past x.port ≡ true =
     some_issued-found past (λ y. (y.port == x.port) && is_outstanding h past y && may_begin h past (dvm_burst h past y)) x.place x i.there

@@ -10,29 +10,25 @@ use Rattle.ace_event.specs.declared.header.Header.{Header}
 use Rattle.ace_event.specs.declared.line.Line.{Line}
 use Rattle.ace_model.specs.declared.transactions.Transaction.{Transaction}
 use Rattle.ace_model.specs.Barriers.{Pair, pair_of}
-use Rattle.ace_model.specs.Grants.{has_passed_data, is_granted}
+use Rattle.ace_model.specs.Grants.{has_passed_data}
 use Rattle.ace_model.specs.Kinds.{is_read_barrier}
 use Rattle.ace_model.specs.Messages.{is_dvm_completion, is_message_part}
 use Rattle.ace_model.specs.Plans.{Plan}
 use Rattle.ace_model.specs.Progress.{evicts, updates_memory}
-use Rattle.ace_model.specs.Trace.{Trace, implies, is_some_and}
-use Rattle.ace_model.specs.Transactions.{is_line, is_outstanding, is_read, read_kind, snoop_of, takes_grant}
+use Rattle.ace_model.specs.Trace.{Trace, implies, is_some_and, port_of}
+use Rattle.ace_model.specs.Transactions.{is_line, is_read, read_kind, takes_grant}
 use Rattle.ace_model.specs.WriteRules.{data_of}
-use Rattle.ace_model.proofs.General.Options.{is_some_and-is}
-use Rattle.ace_model.proofs.Trace.Growth.{some_issued-is}
-use Rattle.ace_runs.specs.Bursts.{serves}
-use Rattle.ace_runs.specs.LineSteps.{gives_snoops, grant_burst, is_first_to_wait, is_snoop_for, memory_write, passed_burst, response, takes_dirt, transfer_burst, update_burst, write_burst}
+use Rattle.ace_runs.specs.LineSteps.{grant_burst, is_first_to_wait, is_snoop_for, memory_write, passed_burst, response, takes_dirt, transfer_burst, update_burst, write_burst}
 use Rattle.ace_runs.specs.MasterSteps.{goes_on, is_beat}
 use Rattle.ace_runs.specs.Operations.{next_operation}
 use Rattle.ace_runs.specs.OrderSteps.{barrier_burst, dvm_burst, pair_burst, sync_completion}
-use Rattle.ace_runs.specs.SameEvents.{same_burst, same_event}
 use Rattle.ace_runs.specs.Steps.{is_sound, is_step, may_give, steps, steps_of}
-use Rattle.ace_runs.proofs.NeverStuck.StepEvents.{all-append, all-if, answers-answering, is_answering}
-use Rattle.ace_runs.proofs.NeverStuck.StepShapes.{of-any}
 use Rattle.ace_runs.proofs.Turns.{step-kept}
-use Rattle.ace_runs.proofs.NeverStuck.Messages.ForwardingSteps.{forwarding-issues-none, forwards-is}
+use Rattle.ace_runs.proofs.NeverStuck.Barriers.Quiet.{acknowledges-quiet, is_quiet}
+use Rattle.ace_runs.proofs.NeverStuck.StepEvents.{all-append, all-if, answers-answering, is_answering}
+use Rattle.ace_runs.proofs.NeverStuck.StepShapes.{TellsSame, all-as, forwards-all, of-any, served-all, snoops-all}
+use Rattle.ace_runs.proofs.NeverStuck.WholeAnswers.{all-implied}
 use Rattle.ace_runs.proofs.NeverStuck.Messages.WholeIssues.{issues_none}
-use Rattle.ace_runs.proofs.NeverStuck.Messages.Concluding.{acknowledges-concluding, each-same, each-weaker, is_concluding}
 
 -- ---- events ------------------------------------------------------------------------------------------
 
@@ -41,20 +37,18 @@ abbrev is_silent : Event → Bool
 is_silent (Ar p i addr code dom bar lock) = false
 is_silent _ = true
 
+same-silent : TellsSame is_silent
+same-silent (Ar p i a s d b l) (Ar q j c t e f m) same = refl
+same-silent (Ar p i a s d b l) e same = cc
+same-silent d (Ar q j c t e f m) same = cc
+same-silent d e same = refl
+
 silent-none : (e : Event) → is_silent e ≡ true → issues_none e ≡ true
 silent-none (Ar p i addr code dom bar lock) m = cc
 silent-none e m = refl
 
-same-silent : (d e : Event) → same_event d e ≡ true → is_silent d ≡ true → is_silent e ≡ true
-same-silent (Ar p i addr code dom bar lock) e s m = cc
-same-silent d (Ar p i addr code dom bar lock) s m = cc
-same-silent d e s m = refl
-
 all-none : (burst : List Event) → list_all is_silent burst ≡ true → list_all issues_none burst ≡ true
-all-none burst m = each-weaker is_silent issues_none silent-none burst m
-
-same-all-none : (ds es : List Event) → same_burst ds es ≡ true → list_all is_silent ds ≡ true → list_all issues_none es ≡ true
-same-all-none ds es s m = all-none es (each-same is_silent same-silent ds es s m)
+all-none burst m = all-implied is_silent issues_none silent-none burst m
 
 answering-silent : (e : Event) → is_answering e ≡ true → is_silent e ≡ true
 answering-silent (Ar p i addr code dom bar lock) m = cc
@@ -64,17 +58,19 @@ beat-silent : (p : ℕ) (e : Event) → is_beat p e ≡ true → is_silent e ≡
 beat-silent p (Ar q i addr code dom bar lock) m = cc
 beat-silent p e m = refl
 
-concluding-silent : (e : Event) → is_concluding e ≡ true → is_silent e ≡ true
-concluding-silent (Ar q i addr code dom bar lock) m = cc
-concluding-silent e m = refl
+quiet-silent : (e : Event) → is_quiet e ≡ true → is_silent e ≡ true
+quiet-silent (Ar q i addr code dom bar lock) m = cc
+quiet-silent e m = refl
+
+snoop-silent : (x : Transaction) (k : SnoopKind) (e : Event) → is_snoop_for x k e ≡ true → is_silent e ≡ true
+snoop-silent x k (Ar q i addr code dom bar lock) s = cc
+snoop-silent x k e s = refl
+
+portless-silent : (e : Event) → port_of e ≡ None → is_silent e ≡ true
+portless-silent (Ar q i addr code dom bar lock) none = cc
+portless-silent e none = refl
 
 -- ---- steps that serve a transaction ------------------------------------------------------------------
-
-served-none : (burst_for : Header → Trace → Transaction → List Event) (h : Header) (past : Trace) (p : ℕ) (burst : List Event)
-    → ((x : Transaction) → list_all is_silent (burst_for h past x) ≡ true) → serves burst_for h past p burst ≡ true → list_all issues_none burst ≡ true
-served-none burst_for h past p burst silent s =
-    let x = some_issued-is past (λ x. (x.port == p) && is_outstanding h past x && same_burst (burst_for h past x) burst) s in
-    same-all-none (burst_for h past x.0) burst (and_parts _ (same_burst (burst_for h past x.0) burst) x.2).1 (silent x.0)
 
 written-silent : (x : Transaction) (o : Option Line) → list_all is_silent (map (λ line. M x.port x.chan x.id line) (option_to_list o)) ≡ true
 written-silent x None = refl
@@ -108,17 +104,6 @@ barrier-silent h past x = all-if is_silent (is_some_and (read_kind x) is_read_ba
 dvm-silent : (h : Header) (past : Trace) (x : Transaction) → list_all is_silent (dvm_burst h past x) ≡ true
 dvm-silent h past x = all-if is_silent (is_message_part x || is_dvm_completion x) _ [] refl refl
 
-snoop-silent : (x : Transaction) (k : SnoopKind) (e : Event) → is_snoop_for x k e ≡ true → is_silent e ≡ true
-snoop-silent x k (Ar q i addr code dom bar lock) s = cc
-snoop-silent x k e s = refl
-
-snoops-none : (h : Header) (past : Trace) (p : ℕ) (burst : List Event) → gives_snoops h past p burst ≡ true → list_all issues_none burst ≡ true
-snoops-none h past p burst s =
-    let x = some_issued-is past (λ x. (x.port == p) && is_outstanding h past x && (is_granted h past x && is_some_and (snoop_of x) (λ k. list_all (is_snoop_for x k) burst))) s in
-    let of = (and_parts (is_granted h past x.0) _ (and_parts ((x.0.port == p) && is_outstanding h past x.0) _ x.2).1).1 in
-    let k = is_some_and-is (snoop_of x.0) (λ k. list_all (is_snoop_for x.0 k) burst) of in
-    all-none burst (each-weaker (is_snoop_for x.0 k.0) is_silent (snoop-silent x.0 k.0) burst k.2)
-
 -- ---- all steps ---------------------------------------------------------------------------------------
 
 -- A step issues no part, or is step 14.
@@ -129,30 +114,30 @@ issues-by-one plan past p burst s =
     let next = next_operation plan past p in
     let sound = and_parts (is_sound h past burst) (list_any (may_give h past p burst) (steps_of plan past p)) s in
     of-any h past p burst ((list_all issues_none burst ≡ true) ⊎ (goes_on plan.ways next h past p burst ≡ true)) (steps plan.ways next) (
-      (λ g. inl (all-none burst (each-weaker is_answering is_silent answering-silent burst (answers-answering h past p burst g)))),
+      (λ g. inl (all-none burst (all-implied is_answering is_silent answering-silent burst (answers-answering h past p burst g)))),
       (
-        (λ g. inl (all-none burst (each-weaker (is_beat p) is_silent (beat-silent p) burst (and_parts (list_all (is_beat p) burst) (length burst == 4) g).0))),
+        (λ g. inl (all-none burst (all-implied (is_beat p) is_silent (beat-silent p) burst (and_parts (list_all (is_beat p) burst) (length burst == 4) g).0))),
         (
-          (λ g. inl (served-none update_burst h past p burst (update-silent h past) g)),
+          (λ g. inl (all-none burst (served-all is_silent same-silent update_burst h past p burst (update-silent h past) g))),
           (
-            (λ g. inl (all-none burst (each-weaker is_concluding is_silent concluding-silent burst (acknowledges-concluding next h past p burst g)))),
+            (λ g. inl (all-none burst (all-implied is_quiet is_silent quiet-silent burst (acknowledges-quiet next h past p burst g)))),
             (
-              (λ g. inl (served-none grant_burst h past p burst (grant-silent h past) g)),
+              (λ g. inl (all-none burst (served-all is_silent same-silent grant_burst h past p burst (grant-silent h past) g))),
               (
-                (λ g. inl (snoops-none h past p burst g)),
+                (λ g. inl (all-none burst (snoops-all is_silent snoop-silent h past p burst g))),
                 (
-                  (λ g. inl (served-none passed_burst h past p burst (passed-silent h past) g)),
+                  (λ g. inl (all-none burst (served-all is_silent same-silent passed_burst h past p burst (passed-silent h past) g))),
                   (
-                    (λ g. inl (served-none transfer_burst h past p burst (transfer-silent h past) g)),
+                    (λ g. inl (all-none burst (served-all is_silent same-silent transfer_burst h past p burst (transfer-silent h past) g))),
                     (
-                      (λ g. inl (served-none write_burst h past p burst (write-silent h past) g)),
+                      (λ g. inl (all-none burst (served-all is_silent same-silent write_burst h past p burst (write-silent h past) g))),
                       (
-                        (λ g. inl (served-none barrier_burst h past p burst (barrier-silent h past) g)),
+                        (λ g. inl (all-none burst (served-all is_silent same-silent barrier_burst h past p burst (barrier-silent h past) g))),
                         (
-                          (λ g. inl (forwarding-issues-none burst (forwards-is h past p burst (step-kept plan past p burst s) g).each)),
+                          (λ g. inl (all-none burst (forwards-all is_silent same-silent portless-silent (λ q addr code. refl) h past p burst (step-kept plan past p burst s) g))),
                           (
-                            (λ g. inl (served-none dvm_burst h past p burst (dvm-silent h past) g)),
-                            ((λ g. inl (same-all-none (sync_completion p) burst g refl)), ((λ g. inr g), tt)),
+                            (λ g. inl (all-none burst (served-all is_silent same-silent dvm_burst h past p burst (dvm-silent h past) g))),
+                            ((λ g. inl (all-none burst (all-as is_silent same-silent (sync_completion p) burst g refl))), ((λ g. inr g), tt)),
                           ),
                         ),
                       ),

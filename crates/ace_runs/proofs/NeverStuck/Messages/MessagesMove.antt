@@ -1,10 +1,8 @@
 -- A DVM message that is outstanding moves on: where all snoops are answered, its port is enabled by step 12, or some port by step 11.
-use Rattle.std.proofs.Common.{◌≡◌, ◌≢◌, ◌⊎◌, ℕ, zero, suc, ◌<◌, Bool, true, false, not, ◌==◌, nat_lt, [], ◌∷◌, Some, None, inl, inr, refl, sym, ◌∙◌, arith}
-use Rattle.std.specs.List.{list_all}
+use Rattle.std.proofs.Common.{◌≡◌, ◌≢◌, ◌⊎◌, ℕ, ◌<◌, Bool, true, false, not, ◌==◌, nat_lt, [], ◌∷◌, Some, None, inl, inr, refl, sym, ◌∙◌}
 use Rattle.std.proofs.lemmas.Bool.{and_parts, cases_Bool, eq-eqb, ltb-true}
 use Rattle.ace_event.specs.declared.header.Header.{Header}
 use Rattle.ace_model.specs.declared.transactions.Transaction.{Transaction}
-use Rattle.ace_model.specs.Grants.{ports_below}
 use Rattle.ace_model.specs.Messages.{has_answered, has_part, is_message_part, is_other_ace, parts_for}
 use Rattle.ace_model.specs.OrderRules.{is_answered_by_all}
 use Rattle.ace_model.specs.Plans.{IsRight, Plan}
@@ -17,19 +15,11 @@ use Rattle.ace_runs.specs.Steps.{AreSteps, is_enabled_by}
 use Rattle.ace_runs.proofs.Turns.{steps-accepted}
 use Rattle.ace_runs.proofs.NeverStuck.Forwarding.NextMessage.{next-begins}
 use Rattle.ace_runs.proofs.NeverStuck.Forwarding.Whole.{messages-whole}
+use Rattle.ace_runs.proofs.NeverStuck.Transactions.SnoopsMove.{failing-port}
 use Rattle.ace_runs.proofs.NeverStuck.WriterPorts.{issuer-low}
 use Rattle.ace_runs.proofs.NeverStuck.Messages.DvmResponses.{answered-part-moves}
 use Rattle.ace_runs.proofs.NeverStuck.Messages.PartsGoOn.{message-there, next-enabled, next-there}
 use Rattle.ace_runs.proofs.NeverStuck.Messages.WholeMessages.{issues-whole}
-
--- some port below the number fails the test
-failing-port : (n : ℕ) (test : ℕ → Bool) → list_all test (ports_below n) ≡ false → (q : ℕ) × (q < n) × (test q ≡ false)
-failing-port zero test f = cc
-failing-port (suc n) test f =
-    elim (cases_Bool (test n)) [
-      | inr here ↦ (n, omega arith, here)
-      | inl t ↦ let rest = failing-port n test (rw t at f) in let low = rest.1 in (rest.0, omega (arith, low), rest.2)
-    ]
 
 -- An ACE port that hasn't answered the part.
 pub record Lacks (h : Header) (past : Trace) (x : Transaction) : Type 0 where

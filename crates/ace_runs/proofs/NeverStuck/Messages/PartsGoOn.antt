@@ -1,8 +1,8 @@
 -- Where all snoops are answered, a port that hasn't answered a part has a next part, which may be forwarded to it: the port of the message is
 -- enabled by step 11.
-use Rattle.std.proofs.Common.{◌≡◌, ℕ, ◌+◌, ◌≤◌, ◌<◌, Bool, true, false, not, ◌&&◌, ◌==◌, nat_lt, if◌then◌else◌, List, [], ◌∷◌, ◌++◌, length, length-append, map, take, Option, Some, None, is_none, slice_get, refl, sym, ap, subst, ◌∙◌, inl, inr, arith}
+use Rattle.std.proofs.Common.{◌≡◌, ℕ, ◌+◌, ◌≤◌, true, false, not, ◌&&◌, ◌==◌, nat_lt, if◌then◌else◌, List, [], ◌∷◌, ◌++◌, length, length-append, map, take, Option, Some, None, slice_get, refl, sym, ap, subst, ◌∙◌, inl, inr, arith}
 use Rattle.std.specs.List.{list_any}
-use Rattle.std.proofs.lemmas.Bool.{and_parts, and_from, cases_Bool, eq-eqb, ltb-true, ne_eqb, or_left}
+use Rattle.std.proofs.lemmas.Bool.{and_parts, and_from, eq-eqb, ltb-true, ne_eqb, or_left}
 use Rattle.std.proofs.lemmas.List.{take_all}
 use Rattle.std.proofs.lemmas.Option.{slice_get_cases}
 use Rattle.ace_codes.specs.declared.kind.SnoopKind.TheVariants as snoop
@@ -11,22 +11,22 @@ use Rattle.ace_event.specs.declared.event.Event.TheVariants.{Ac}
 use Rattle.ace_event.specs.declared.header.Header.{Header}
 use Rattle.ace_model.specs.declared.snoops.Snoop.{Snoop}
 use Rattle.ace_model.specs.declared.transactions.Transaction.{Transaction}
-use Rattle.ace_model.specs.AddressRules.{k1, k2, k3}
+use Rattle.ace_model.specs.AddressRules.{k1}
 use Rattle.ace_model.specs.Grants.{ports_below}
 use Rattle.ace_model.specs.Messages.{add_forwarded, answered_parts, first_waiting, forwarded, forwards, has_answered, has_part, is_other_ace, next_after, next_part, parts_among, parts_for, parts_with}
-use Rattle.ace_model.specs.OrderRules.{k36, k39}
+use Rattle.ace_model.specs.OrderRules.{k36}
 use Rattle.ace_model.specs.Plans.{Plan}
-use Rattle.ace_model.specs.SnoopRules.{k13}
 use Rattle.ace_model.specs.Snoops.{answered, answers, snoop_at, snoops_of}
 use Rattle.ace_model.specs.Trace.{Trace, is_some_and, more}
 use Rattle.ace_model.specs.Transactions.{is_ace}
 use Rattle.ace_model.proofs.General.Lists.{start-is}
-use Rattle.ace_model.proofs.General.Ports.{none_at}
 use Rattle.ace_model.proofs.Trace.Growth.{IsIssued, some_issued-found}
 use Rattle.ace_runs.specs.Bursts.{is_kept, may_begin}
 use Rattle.ace_runs.specs.OrderSteps.{forwarded_to, is_part_of, may_forward, message_of, parts_missing}
 use Rattle.ace_runs.specs.Steps.{is_enabled_by}
 use Rattle.ace_runs.proofs.NeverStuck.Forwarding.NextMessage.{Begins, IsBetweenMessages, NextMessage, last-issued, parts-start}
+use Rattle.ace_runs.proofs.NeverStuck.Transactions.SnoopsKept.{ac-kept}
+use Rattle.ace_runs.proofs.NeverStuck.Transactions.SnoopsMove.{any-port}
 use Rattle.ace_runs.proofs.NeverStuck.Forwarding.Whole.{all-missing, whole-message}
 
 -- ---- where all snoops are answered -------------------------------------------------------------------
@@ -73,23 +73,6 @@ next-there past x q w none unanswered for_it = by (next_part past q) refl
 
 -- ---- the AC ------------------------------------------------------------------------------------------
 
-six-kept : (a b c d e f : Bool) → a ≡ true → b ≡ true → c ≡ true → d ≡ true → e ≡ true → f ≡ true
-    → is_none {T = ℕ} (if a then (if b then (if c then (if d then (if e then (if f then None else Some 39) else Some 36) else Some 13) else Some 3) else Some 2) else Some 1) ≡ true
-six-kept true true true true true true q r s t u v = refl
-six-kept false b c d e f q r s t u v = cc
-six-kept true false c d e f q r s t u v = cc
-six-kept true true false d e f q r s t u v = cc
-six-kept true true true false e f q r s t u v = cc
-six-kept true true true true false f q r s t u v = cc
-six-kept true true true true true false q r s t u v = cc
-
--- of the rules that look at an AC six can be broken
-pub snoop-kept : (h : Header) (past : Trace) (q a c : ℕ) → k1 h past (Ac q a c) ≡ true → k2 h past (Ac q a c) ≡ true → k3 h past (Ac q a c) ≡ true
-    → k13 h past (Ac q a c) ≡ true → k36 h past (Ac q a c) ≡ true → k39 h past (Ac q a c) ≡ true → is_kept h past (Ac q a c) ≡ true
-unfolding is_kept
-snoop-kept h past q a c one two three may next complete =
-    six-kept (k1 h past (Ac q a c)) (k2 h past (Ac q a c)) (k3 h past (Ac q a c)) (k13 h past (Ac q a c)) (k36 h past (Ac q a c)) (k39 h past (Ac q a c)) one two three may next complete
-
 -- the AC that forwards the next part breaks no rule
 next-kept : (h : Header) (past : Trace) (q : ℕ) (y : Transaction) → is_ace h q ≡ true → next_part past q ≡ Some y → is_kept h past (Ac q y.addr (ac_code snoop.DvmMessage)) ≡ true
 unfolding ac_kind_of
@@ -97,7 +80,7 @@ next-kept h past q y ace next =
     let one : k1 h past (Ac q y.addr (ac_code snoop.DvmMessage)) ≡ true = and_from _ _ (and_parts (nat_lt q h.ports) _ ace).0 ace in
     let fits : is_some_and (next_part past q) (λ x. x.addr == y.addr) ≡ true = rw next (eq-eqb y.addr y.addr refl) in
     let order : k36 h past (Ac q y.addr (ac_code snoop.DvmMessage)) ≡ true = fits in
-    snoop-kept h past q y.addr (ac_code snoop.DvmMessage) one refl refl refl order refl
+    ac-kept h past q y.addr (ac_code snoop.DvmMessage) one refl refl refl order refl
 
 -- ---- step 11 -----------------------------------------------------------------------------------------
 
@@ -107,13 +90,6 @@ first-of point q z y b =
     elim b.first [
       | inl waits ↦ (z ∷ [], rw waits refl)
       | inr alone ↦ ([], rw (alone.0, alone.2) (ap (λ v. v ∷ []) alone.1))
-    ]
-
-some-port : (n : ℕ) (test : ℕ → Bool) (r : ℕ) → test r ≡ true → r < n → list_any test (ports_below n) ≡ true
-some-port n test r t low =
-    elim (cases_Bool (list_any test (ports_below n))) [
-      | inl some ↦ some
-      | inr f ↦ let none = none_at n test r f low in cc
     ]
 
 -- the port gets the message whose part is next
@@ -140,7 +116,7 @@ next-enabled plan past q y m ace next =
     let h = plan.header in
     let begins : may_begin h past (forwarded_to h past m.last q) ≡ true = ap (may_begin h past) (message-gets h past q y m ace next).1 ∙ next-kept h past q y ace next in
     let low = ltb-true q h.ports (and_parts (nat_lt q h.ports) _ ace).0 in
-    let some = some-port h.ports (λ r. may_begin h past (forwarded_to h past m.last r)) q begins low in
+    let some = any-port h.ports (λ r. may_begin h past (forwarded_to h past m.last r)) q low begins in
     let part : is_part_of m.last.port m.last ≡ true = and_from _ _ m.begins.part (eq-eqb m.last.port m.last.port refl) in
     let may : may_forward h past m.last.port ≡ true =
     some_issued-found past (λ x. is_part_of m.last.port x && list_any (λ r. may_begin h past (forwarded_to h past x r)) (ports_below h.ports)) m.last.place m.last (message-there past q y m).there

@@ -37,7 +37,7 @@ use Rattle.ace_runs.specs.Steps.{AreSteps, is_enabled_by}
 use Rattle.ace_runs.proofs.Turns.{steps-accepted}
 use Rattle.ace_runs.proofs.NeverStuck.Forwarding.Whole.{next-not-second}
 use Rattle.ace_runs.proofs.NeverStuck.Messages.AnsweredMessages.{completed-answered}
-use Rattle.ace_runs.proofs.NeverStuck.Messages.PartsGoOn.{snoop-kept}
+use Rattle.ace_runs.proofs.NeverStuck.Transactions.SnoopsKept.{ac-kept}
 
 -- ---- the port of a message ---------------------------------------------------------------------------
 
@@ -144,5 +144,5 @@ sync-completes plan past p x steps none last complete untold =
     let order : k36 h past (Ac p 0 (ac_code snoop.DvmComplete)) ≡ true = rw no_second refl in
     let may : may_complete h past p x ≡ true = and_from _ _ (and_from _ _ complete (ap not untold)) (every-completion h past x a s.0 part complete none) in
     let due : k39 h past (Ac p 0 (ac_code snoop.DvmComplete)) ≡ true = ap (λ o. is_some_and o (may_complete h past p)) last ∙ may in
-    let kept : may_give_completion h past p ≡ true = snoop-kept h past p 0 (ac_code snoop.DvmComplete) one refl refl refl order due in
+    let kept : may_give_completion h past p ≡ true = ac-kept h past p 0 (ac_code snoop.DvmComplete) one refl refl refl order due in
     or_left (may_give_completion h past p) _ kept

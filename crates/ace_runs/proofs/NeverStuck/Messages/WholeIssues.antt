@@ -15,7 +15,8 @@ use Rattle.ace_runs.specs.Counts.{issues_part}
 use Rattle.ace_runs.specs.Closing.{and_closing, closing_of}
 use Rattle.ace_runs.specs.SameEvents.{same_burst, same_event}
 use Rattle.ace_runs.specs.Segments.{is_at_port}
-use Rattle.ace_runs.proofs.NeverStuck.Messages.Concluding.{closing-concluding, is_concluding}
+use Rattle.ace_runs.proofs.NeverStuck.Barriers.Quiet.{closing-quiet, is_quiet}
+use Rattle.ace_runs.proofs.NeverStuck.WholeAnswers.{all-implied}
 
 -- the word of the part that the event issues
 abbrev pub word_issued : Event → ℕ
@@ -57,17 +58,12 @@ leads-append p was mid later (e ∷ xs) ys x y =
       | inr f ↦ rw f (leads-append p was mid later xs ys (rw f at x) y)
     ]
 
-concluding-none : (e : Event) → is_concluding e ≡ true → issues_none e ≡ true
-concluding-none (Ar p i addr code dom bar lock) m = cc
-concluding-none e m = refl
-
-all-none : (burst : List Event) → list_all is_concluding burst ≡ true → list_all issues_none burst ≡ true
-all-none [] m = refl
-all-none (e ∷ burst) m =
-    let parts = and_parts (is_concluding e) (list_all is_concluding burst) m in and_from _ _ (concluding-none e parts.0) (all-none burst parts.1)
+quiet-none : (e : Event) → is_quiet e ≡ true → issues_none e ≡ true
+quiet-none (Ar p i addr code dom bar lock) m = cc
+quiet-none e m = refl
 
 pub closing-none : (h : Header) (past : Trace) (p : ℕ) (o : Op) → list_all issues_none (closing_of h past p o) ≡ true
-closing-none h past p o = all-none (closing_of h past p o) (closing-concluding h past p o)
+closing-none h past p o = all-implied is_quiet issues_none quiet-none (closing_of h past p o) (closing-quiet h past p o)
 
 pub closed-whole : (h : Header) (past : Trace) (p : ℕ) (o : Op) (burst : List Event) → is_whole p burst ≡ true → is_whole p (and_closing h past p o burst) ≡ true
 closed-whole h past p o burst w =

@@ -70,7 +70,7 @@ six-kept : (a b c d e f : Bool) → a ≡ true → b ≡ true → c ≡ true →
 six-kept a b c d e f u v w x y z = keeps a 1 _ u (keeps b 2 _ v (keeps c 3 _ w (keeps d 13 _ x (keeps e 36 _ y (keeps f 39 None z refl)))))
 
 -- six of the rules look at a snoop
-ac-kept : (h : Header) (past : Trace) (q addr code : ℕ) → k1 h past (Ac q addr code) ≡ true → k2 h past (Ac q addr code) ≡ true → k3 h past (Ac q addr code) ≡ true
+pub ac-kept : (h : Header) (past : Trace) (q addr code : ℕ) → k1 h past (Ac q addr code) ≡ true → k2 h past (Ac q addr code) ≡ true → k3 h past (Ac q addr code) ≡ true
     → k13 h past (Ac q addr code) ≡ true → k36 h past (Ac q addr code) ≡ true → k39 h past (Ac q addr code) ≡ true → is_kept h past (Ac q addr code) ≡ true
 unfolding is_kept
 ac-kept h past q addr code one two three snoops forwards completes =

@@ -33,7 +33,7 @@ use Rattle.ace_runs.proofs.NeverStuck.Transactions.Unanswered.{answered-all}
 
 -- ---- the port that isn't done ------------------------------------------------------------------------
 
-failing-port : (n : ℕ) (test : ℕ → Bool) → list_all test (ports_below n) ≡ false → (q : ℕ) × (q < n) × (test q ≡ false)
+pub failing-port : (n : ℕ) (test : ℕ → Bool) → list_all test (ports_below n) ≡ false → (q : ℕ) × (q < n) × (test q ≡ false)
 failing-port zero test f = cc
 failing-port (suc n) test f =
     elim (cases_Bool (test n)) [
@@ -95,7 +95,7 @@ wack-enabled plan past q l s owes =
     subst (λ r. is_enabled_by (4 ∷ []) plan past r ≡ true) port
     (complete-enabled plan past y.0.port y.0.chan y.0.id y.0 s (outstanding_is h past y.0 y.1 out.1) two.1)
 
-any-port : (n : ℕ) (test : ℕ → Bool) (q : ℕ) → q < n → test q ≡ true → list_any test (ports_below n) ≡ true
+pub any-port : (n : ℕ) (test : ℕ → Bool) (q : ℕ) → q < n → test q ≡ true → list_any test (ports_below n) ≡ true
 any-port n test q low t =
     elim (cases_Bool (list_any test (ports_below n))) [
       | inl some ↦ some
