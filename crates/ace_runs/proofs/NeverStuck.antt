@@ -2,6 +2,8 @@
 
 -- A snoop that can't be answered yet waits for a memory update.
 pub mod Rows
+-- What ends an operation, and what acknowledges.
+pub mod Concluding
 -- Which events each step gives.
 pub mod StepEvents
 -- What a step puts of write data and of writes of memory.

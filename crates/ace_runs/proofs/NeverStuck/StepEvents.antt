@@ -1,24 +1,20 @@
 -- Which events each step gives: steps 4 and 14 give events of masters other than write data and answers to snoops, step 1 those with which
 -- a snoop is answered; what the other steps of one kind give
 -- is in their definitions.
-use Rattle.std.proofs.Common.{◌≡◌, ℕ, Bool, true, false, not, ◌&&◌, ◌||◌, ◌==◌, if◌then◌else◌, List, [], ◌∷◌, ◌++◌, map, filter, Option, Some, None, is_none, unwrap_or, inl, inr, refl}
+use Rattle.std.proofs.Common.{◌≡◌, ℕ, Bool, true, false, not, ◌&&◌, ◌||◌, ◌==◌, List, [], ◌∷◌, ◌++◌, filter, Option, Some, None, is_none, inl, inr, refl}
 use Rattle.std.specs.List.{list_all, list_any, flat_map}
-use Rattle.std.specs.Option.{option_to_list, option_map}
+use Rattle.std.specs.Option.{option_to_list}
 use Rattle.std.proofs.lemmas.Bool.{and_parts, and_from, or_cases}
-use Rattle.ace_codes.specs.declared.state.LineState.{LineState}
 use Rattle.ace_event.specs.declared.event.Channel.TheVariants.{Read, Write}
 use Rattle.ace_event.specs.declared.event.Event.{Event}
 use Rattle.ace_event.specs.declared.event.Event.TheVariants.{Ar, Rk, Aw, Wk, Cr, Cd, S, L, D, Op as Retires}
-use Rattle.ace_event.specs.declared.event.Outcome.TheVariants.{Ok, Skip, Fail}
 use Rattle.ace_event.specs.declared.header.Header.{Header}
 use Rattle.ace_tables.specs.States.{is_dirty}
 use Rattle.ace_model.specs.declared.plans.Op.{Op}
-use Rattle.ace_model.specs.declared.plans.Op.TheVariants as op
 use Rattle.ace_model.specs.declared.snoops.Snoop.{Snoop}
-use Rattle.ace_model.specs.declared.transactions.Transaction.{Transaction}
 use Rattle.ace_model.specs.Trace.{Trace, is_some_and}
-use Rattle.ace_model.specs.Kinds.{is_make_unique, is_unique_write}
-use Rattle.ace_model.specs.Transactions.{is_ace, is_read, read_kind, has_outstanding_on}
+use Rattle.ace_model.specs.Kinds.{is_unique_write}
+use Rattle.ace_model.specs.Transactions.{is_ace, has_outstanding_on}
 use Rattle.ace_model.specs.AddressRules.{has_write, keeps_apart}
 use Rattle.ace_model.specs.Snoops.{answered, snoops_a_line}
 use Rattle.ace_codes.specs.Reads.{ar_code}
@@ -27,16 +23,17 @@ use Rattle.ace_codes.specs.declared.kind.ArKind.{ArKind}
 use Rattle.ace_codes.specs.declared.kind.ArKind.TheVariants as read
 use Rattle.ace_codes.specs.declared.kind.AwKind.{AwKind}
 use Rattle.ace_codes.specs.declared.kind.AwKind.TheVariants as write
-use Rattle.ace_model.specs.States.{state_of, has_store}
+use Rattle.ace_model.specs.States.{state_of}
 use Rattle.ace_runs.specs.Bursts.{onto}
-use Rattle.ace_runs.specs.Closing.{access_of, gives_access, state_named, access_and_retirement, closing_of, and_closing, retirement}
+use Rattle.ace_runs.specs.Closing.{state_named, closing_of, and_closing}
 use Rattle.ace_runs.specs.Follows.{owes_completion}
 use Rattle.ace_runs.specs.HeldLines.{held_lines}
-use Rattle.ace_runs.specs.MasterSteps.{after_answer, answers_snoop, store_lacked, acknowledge, acknowledge_for, acknowledge_in, acknowledge_of, acknowledges, acknowledges_on, due, end_of, is_finished, completion_bursts, moves, goes_on}
+use Rattle.ace_runs.specs.MasterSteps.{after_answer, answers_snoop, acknowledges, completion_bursts, moves, goes_on}
 use Rattle.ace_runs.specs.Requests.{Request, Reads, Misses, Writes, Drops, Barriers, Messages, with_identifier, read_bursts, write_bursts, and_part, drop_bursts, victim_bursts, room_bursts, has_room, bursts_of, free_on, free_on_both, is_waiting, request_of, ends_or_asks, moves_of}
-use Rattle.ace_runs.specs.Retiring.{may_retire, tells_completion}
+use Rattle.ace_runs.specs.Retiring.{tells_completion}
 use Rattle.ace_runs.specs.SameEvents.{same_event, same_burst}
-use Rattle.ace_runs.specs.Segments.{is_in_segment}
+use Rattle.ace_runs.proofs.NeverStuck.Concluding.{Concludes, acknowledges-all, and-closing-all, closing-all}
+pub use Rattle.ace_runs.proofs.NeverStuck.Concluding.{all-append, all-flat_map, all-flat_mapped, all-if, all-map, all-mapped}
 
 -- an event of a master, but write data and answers to snoops
 abbrev pub is_masters : Event → Bool
@@ -83,63 +80,16 @@ same-burst-masters (d ∷ ds) (e ∷ es) s m =
     let of = and_parts (is_masters d) (are_masters ds) m in
     and_from _ _ (same-masters d e same.0 of.0) (same-burst-masters ds es same.1 of.1)
 
--- ---- lists -------------------------------------------------------------------------------------------
-
-pub all-append : {A : Type 0} → (test : A → Bool) (xs ys : List A) → list_all test xs ≡ true → list_all test ys ≡ true → list_all test (xs ++ ys) ≡ true
-all-append test [] ys x y = y
-all-append test (a ∷ xs) ys x y =
-    let parts = and_parts (test a) (list_all test xs) x in and_from _ _ parts.0 (all-append test xs ys parts.1 y)
-
-pub all-map : {A B : Type 0} → (test : B → Bool) (f : A → B) (xs : List A) → ((a : A) → test (f a) ≡ true) → list_all test (map f xs) ≡ true
-all-map test f [] each = refl
-all-map test f (a ∷ xs) each = and_from _ _ (each a) (all-map test f xs each)
-
--- the function takes what passes the one test to what passes the other
-pub all-mapped : {A B : Type 0} → (test : A → Bool) (later : B → Bool) (f : A → B) (xs : List A) → ((a : A) → test a ≡ true → later (f a) ≡ true)
-    → list_all test xs ≡ true → list_all later (map f xs) ≡ true
-all-mapped test later f [] each all = refl
-all-mapped test later f (a ∷ xs) each all =
-    let parts = and_parts (test a) (list_all test xs) all in and_from _ _ (each a parts.0) (all-mapped test later f xs each parts.1)
-
-pub all-flat_map : {A B : Type 0} → (test : B → Bool) (f : A → List B) (xs : List A) → ((a : A) → list_all test (f a) ≡ true) → list_all test (flat_map f xs) ≡ true
-all-flat_map test f [] each = refl
-all-flat_map test f (a ∷ xs) each = all-append test (f a) (flat_map f xs) (each a) (all-flat_map test f xs each)
-
-pub all-flat_mapped : {A B : Type 0} → (test : A → Bool) (later : B → Bool) (f : A → List B) (xs : List A) → ((a : A) → test a ≡ true → list_all later (f a) ≡ true)
-    → list_all test xs ≡ true → list_all later (flat_map f xs) ≡ true
-all-flat_mapped test later f [] each all = refl
-all-flat_mapped test later f (a ∷ xs) each all =
-    let parts = and_parts (test a) (list_all test xs) all in
-    all-append later (f a) (flat_map f xs) (each a parts.0) (all-flat_mapped test later f xs each parts.1)
-
-pub all-if : {A : Type 0} → (test : A → Bool) (b : Bool) (xs ys : List A) → list_all test xs ≡ true → list_all test ys ≡ true → list_all test (if b then xs else ys) ≡ true
-all-if test true xs ys x y = x
-all-if test false xs ys x y = y
-
 -- ---- what ends an operation --------------------------------------------------------------------------
 
-access-masters : (past : Trace) (p : ℕ) (o : Op) → are_masters (option_to_list (access_of past p o)) ≡ true
-access-masters past p (op.Ld a w) = refl
-access-masters past p (op.Ldx a w) = refl
-access-masters past p (op.St a w word) = refl
-access-masters past p (op.Stx a w word) = refl
-access-masters past p (op.Fill a line) = refl
-access-masters past p o = refl
-
-and-retirement : (past : Trace) (p : ℕ) (o : Option Event) → are_masters (option_to_list o) ≡ true → are_masters (access_and_retirement past p o) ≡ true
-and-retirement past p None m = refl
-and-retirement past p (Some e) m = and_from _ _ (and_parts (is_masters e) true m).0 refl
+masters-conclude : Concludes is_masters
+masters-conclude = record { reads = λ p st. refl; writes = λ p st. refl; loads = λ p a w x word. refl; stores = λ p a s x line. refl; retires = λ p k res. refl }
 
 closing-masters : (h : Header) (past : Trace) (p : ℕ) (o : Op) → are_masters (closing_of h past p o) ≡ true
-unfolding closing_of
-closing-masters h past p o =
-    all-if is_masters (may_retire h past p o Ok) _ _ refl
-    (all-if is_masters (may_retire h past p o Skip) _ _ refl
-    (all-if is_masters (may_retire h past p o Fail) _ _ refl
-    (all-if is_masters (gives_access o (state_named h past p o)) _ [] (and-retirement past p (access_of past p o) (access-masters past p o)) refl)))
+closing-masters h past p o = closing-all is_masters masters-conclude h past p o
 
 and-closing-masters : (h : Header) (past : Trace) (p : ℕ) (o : Op) (burst : List Event) → are_masters burst ≡ true → are_masters (and_closing h past p o burst) ≡ true
-and-closing-masters h past p o burst m = all-append is_masters burst _ m (closing-masters h (onto burst past) p o)
+and-closing-masters h past p o burst m = and-closing-all is_masters masters-conclude h past p o burst m
 
 -- ---- step 1 ------------------------------------------------------------------------------------------
 
@@ -183,42 +133,8 @@ answers-answering h past p _ s = cc
 
 -- ---- step 4 ------------------------------------------------------------------------------------------
 
-acknowledge-masters : (x : Transaction) (st : LineState) → are_masters (acknowledge x st) ≡ true
-acknowledge-masters x st = by (is_read x.chan)
-  where
-    by : (b : Bool) → are_masters ((if b then Rk x.port st else Wk x.port st) ∷ []) ≡ true
-    by true = refl
-    by false = refl
-
-acknowledge-for-masters : (h : Header) (past : Trace) (x : Transaction) (next : Option Op) (st : LineState) → are_masters (acknowledge_for h past x next st) ≡ true
-acknowledge-for-masters h past x None st = refl
-acknowledge-for-masters h past x (Some o) st =
-    and-closing-masters h past x.port o (store_lacked h past x o ++ acknowledge x st)
-    (all-append is_masters (store_lacked h past x o) (acknowledge x st)
-    (all-if is_masters (is_some_and (read_kind x) is_make_unique && not (has_store h past x.port x.id)) _ [] (access-masters past x.port o) refl)
-    (acknowledge-masters x st))
-
-acknowledge-of-masters : (next : Option Op) (h : Header) (past : Trace) (x : Transaction) → are_masters (acknowledge_of next h past x) ≡ true
-acknowledge-of-masters next h past x = by (end_of h past x)
-  where
-    by : (o : Option LineState) → are_masters (unwrap_or (option_map (acknowledge_in next h past x) o) []) ≡ true
-    by None = refl
-    by (Some st) = all-if is_masters (is_in_segment past x) _ _ (acknowledge-for-masters h past x next st) (acknowledge-masters x st)
-
-acknowledges-on-masters : (next : Option Op) (h : Header) (past : Trace) (burst : List Event) (o : Option Transaction)
-    → is_some_and o (λ x. same_burst (acknowledge_of next h past x) burst) ≡ true → are_masters burst ≡ true
-acknowledges-on-masters next h past burst None s = cc
-acknowledges-on-masters next h past burst (Some x) s = same-burst-masters (acknowledge_of next h past x) burst s (acknowledge-of-masters next h past x)
-
 pub acknowledges-masters : (next : Option Op) (h : Header) (past : Trace) (p : ℕ) (burst : List Event) → acknowledges next h past p burst ≡ true → are_masters burst ≡ true
-acknowledges-masters next h past p burst s =
-    elim (or_cases (acknowledges_on next h past p burst Read || acknowledges_on next h past p burst Write) _ s) [
-      | inr finished ↦ same-burst-masters (retirement past p Ok) burst (and_parts (is_finished next h past p) _ finished).1 refl
-      | inl on ↦ elim (or_cases (acknowledges_on next h past p burst Read) (acknowledges_on next h past p burst Write) on) [
-        | inl reads ↦ acknowledges-on-masters next h past burst (due h past p Read) reads
-        | inr writes ↦ acknowledges-on-masters next h past burst (due h past p Write) writes
-      ]
-    ]
+acknowledges-masters next h past p burst s = acknowledges-all is_masters masters-conclude same-burst-masters next h past p burst s
 
 -- ---- step 14 -----------------------------------------------------------------------------------------
 
