@@ -1,5 +1,7 @@
 -- Barriers of a run: to which operation one belongs, that none holds back a grant, that its halves go together, and that it is answered.
 
+-- What a half of a barrier is and isn't.
+pub mod Halves
 -- Which acts are barriers.
 pub mod Acts
 -- An outstanding barrier belongs to its port's next operation.
@@ -10,7 +12,7 @@ pub mod Quiet
 pub mod Asks
 -- The bursts of step 14.
 pub mod GoesOn
--- Responses, and what is no barrier.
+-- Responses.
 pub mod Responses
 -- What a step issues and answers.
 pub mod StepShape

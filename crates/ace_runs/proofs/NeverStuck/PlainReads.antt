@@ -38,29 +38,18 @@ use Rattle.ace_runs.proofs.NeverStuck.WriterPorts.{issuer-low}
 
 -- ---- kinds without a line ----------------------------------------------------------------------------
 
-plain-beats : (k : ArKind) → is_line_read k ≡ false → beats_of k ≡ 1
-plain-beats read.Barrier none = refl
-plain-beats read.DvmComplete none = refl
-plain-beats read.DvmMessage none = refl
-plain-beats k none = cc
+-- A read of such a kind has one transfer, no line, and may be neither shared nor exclusive.
+record IsWithoutLine (k : ArKind) : Type 0 where
+  beats : beats_of k ≡ 1
+  dataless : reads_a_line k ≡ false
+  unshared : may_be_shared k ≡ false
+  inclusive : may_be_exclusive k ≡ false
 
-plain-dataless : (k : ArKind) → is_line_read k ≡ false → reads_a_line k ≡ false
-plain-dataless read.Barrier none = refl
-plain-dataless read.DvmComplete none = refl
-plain-dataless read.DvmMessage none = refl
-plain-dataless k none = cc
-
-plain-shareless : (k : ArKind) → is_line_read k ≡ false → may_be_shared k ≡ false
-plain-shareless read.Barrier none = refl
-plain-shareless read.DvmComplete none = refl
-plain-shareless read.DvmMessage none = refl
-plain-shareless k none = cc
-
-plain-inclusive : (k : ArKind) → is_line_read k ≡ false → may_be_exclusive k ≡ false
-plain-inclusive read.Barrier none = refl
-plain-inclusive read.DvmComplete none = refl
-plain-inclusive read.DvmMessage none = refl
-plain-inclusive k none = cc
+without-line : (k : ArKind) → is_line_read k ≡ false → IsWithoutLine k
+without-line read.Barrier none = record { beats = refl; dataless = refl; unshared = refl; inclusive = refl }
+without-line read.DvmComplete none = record { beats = refl; dataless = refl; unshared = refl; inclusive = refl }
+without-line read.DvmMessage none = record { beats = refl; dataless = refl; unshared = refl; inclusive = refl }
+without-line k none = cc
 
 -- ---- locks -------------------------------------------------------------------------------------------
 
@@ -78,7 +67,7 @@ unlocked h past x k a i kind none =
     false_from_ne_true x.lock (λ locked.
     let may = implies-at x.lock (is_ace h x.port && is_some_and (read_kind x) may_be_exclusive) (lock-allowed h past x a i) locked in
     let exclusive = (and_parts (is_ace h x.port) (is_some_and (read_kind x) may_be_exclusive) may).1 in
-    let not_so : is_some_and (read_kind x) may_be_exclusive ≡ false = ap (λ o. is_some_and o may_be_exclusive) kind ∙ plain-inclusive k none in
+    let not_so : is_some_and (read_kind x) may_be_exclusive ≡ false = ap (λ o. is_some_and o may_be_exclusive) kind ∙ (without-line k none).inclusive in
     let bad : false ≡ true = sym not_so ∙ exclusive in cc)
 
 -- ---- the rules ---------------------------------------------------------------------------------------
@@ -97,7 +86,7 @@ module _ (h : Header) (past : Trace) (x : Transaction) (k : ArKind) (p : IsPlain
   due : is_due h past 0 true x ≡ true
   due =
       let none = p.none_yet in
-      let one = plain-beats k p.plain in
+      let one = (without-line k p.plain).beats in
       let next : is_next_transfer past x true k ≡ true = rw (none, one) refl in
       let line = no-line x k p.kind p.plain in
       and_from _ _ (ap (λ o. is_some_and o (is_next_transfer past x true)) p.kind ∙ next) (ap (λ b. implies b (may_transfer h past x 0)) line)
@@ -110,7 +99,7 @@ module _ (h : Header) (past : Trace) (x : Transaction) (k : ArKind) (p : IsPlain
   -- K19
   upper : has_upper_bits h past 0 x ≡ true
   upper =
-      let fits : fits_kind h past x 0 k ≡ true = and_from _ _ (no-bits k) (unshared (is_ace h x.port) (may_be_shared k) (has_sharer h past x.addr) (plain-shareless k p.plain)) in
+      let fits : fits_kind h past x 0 k ≡ true = and_from _ _ (no-bits k) (unshared (is_ace h x.port) (may_be_shared k) (has_sharer h past x.addr) (without-line k p.plain).unshared) in
       let none : is_none_or (first_resp past x.port x.id) (same_upper_bits 0) ≡ true = ap (λ o. is_none_or o (same_upper_bits 0)) (no-first past x.port x.id p.none_yet) in
       and_from _ _ (and_from _ _ (ap (λ o. is_none_or o (fits_kind h past x 0)) p.kind ∙ fits) refl) none
     where
@@ -121,7 +110,7 @@ module _ (h : Header) (past : Trace) (x : Transaction) (k : ArKind) (p : IsPlain
   -- K20
   word : has_word past 0 x ≡ true
   word =
-      let dataless : is_line_read_transaction x ≡ false = ap (λ o. is_some_and o reads_a_line) p.kind ∙ plain-dataless k p.plain in
+      let dataless : is_line_read_transaction x ≡ false = ap (λ o. is_some_and o reads_a_line) p.kind ∙ (without-line k p.plain).dataless in
       ap (λ b. 0 == (if b then word_of (reply_of past x) (transfers past x.port x.id) else 0)) dataless
 
   -- K21
@@ -152,6 +141,6 @@ plain-kept h past x k a i is_out undone kind plain half message =
     let out : outstanding h past x.port Read x.id ≡ Some x = subst (λ c. outstanding h past x.port c x.id ≡ Some x) chan (outstanding_is h past x i is_out) in
     let incomplete : is_complete past x.port Read x.id ≡ false = complete_by_name past x.port Read x.id x (outstanding-named h past x.port Read x.id x out) ∙ undone in
     let left = transfers-left h past x.port x.id x k a out kind incomplete in
-    let one = plain-beats k plain in
+    let one = (without-line k plain).beats in
     let p : IsPlain h past x k = record { accepted = a; there = i; out = out; kind = kind; plain = plain; none_yet = omega (arith, left, one) } in
     kept-in-order h past x k p half message

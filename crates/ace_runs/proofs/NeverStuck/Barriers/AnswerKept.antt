@@ -1,8 +1,6 @@
 -- The R and the B of a barrier that isn't complete break no rule, where no line transaction of its port is outstanding: they are a step of the port.
-use Rattle.std.proofs.Common.{◌≡◌, ℕ, true, false, not, ◌&&◌, ◌||◌, ◌==◌, if◌then◌else◌, List, [], ◌∷◌, length, Option, Some, None, slice_get, inl, inr, refl, sym, ap, subst, ◌∙◌, arith}
+use Rattle.std.proofs.Common.{◌≡◌, ℕ, true, false, not, ◌&&◌, ◌==◌, if◌then◌else◌, List, [], ◌∷◌, length, Some, slice_get, inl, inr, refl, sym, ap, subst, ◌∙◌, arith}
 use Rattle.std.proofs.lemmas.Bool.{and_from, or_left, eq-eqb, false_from_ne_true}
-use Rattle.ace_codes.specs.declared.kind.AwKind.{AwKind}
-use Rattle.ace_codes.specs.declared.kind.AwKind.TheVariants as write
 use Rattle.ace_event.specs.declared.event.Channel.TheVariants.{Read, Write}
 use Rattle.ace_event.specs.declared.event.Event.{Event}
 use Rattle.ace_event.specs.declared.event.Event.TheVariants.{B}
@@ -11,12 +9,11 @@ use Rattle.ace_model.specs.declared.transactions.Transaction.{Transaction}
 use Rattle.ace_model.specs.Accepted.{IsAccepted}
 use Rattle.ace_model.specs.AddressRules.{k1}
 use Rattle.ace_model.specs.Barriers.{Pair, barriers, is_barrier_half, may_answer, number_of, pair_of, pairs}
-use Rattle.ace_model.specs.Kinds.{has_write_data, is_read_barrier, is_write_barrier}
 use Rattle.ace_model.specs.OrderRules.{k34, may_answer_half}
 use Rattle.ace_model.specs.Plans.{Plan}
 use Rattle.ace_model.specs.Progress.{is_completed}
 use Rattle.ace_model.specs.Trace.{Trace, at_point, implies, is_none_or, is_some_and}
-use Rattle.ace_model.specs.Transactions.{ended, is_complete, is_outstanding, outstanding, read_kind, write_kind}
+use Rattle.ace_model.specs.Transactions.{ended, is_complete, is_outstanding, outstanding}
 use Rattle.ace_model.specs.WriteRules.{k26, may_respond}
 use Rattle.ace_model.specs.Writes.{has_memory_write}
 use Rattle.ace_model.proofs.Barriers.Pairs.{barriers-half, is_barrier_of-is}
@@ -37,20 +34,10 @@ use Rattle.ace_runs.proofs.NeverStuck.Reads.TransfersKept.{implied_by}
 use Rattle.ace_runs.proofs.NeverStuck.WriterPorts.{issuer-low}
 use Rattle.ace_runs.proofs.NeverStuck.Barriers.Answered.{ReadAnswered, read-answered}
 use Rattle.ace_runs.proofs.NeverStuck.Barriers.BothAnswered.{halves-together, undone-outstanding}
+use Rattle.ace_runs.proofs.NeverStuck.Barriers.Halves.{half-dataless}
 use Rattle.ace_runs.proofs.NeverStuck.Barriers.OfNext.{was-outstanding}
 use Rattle.ace_runs.proofs.NeverStuck.Barriers.OpenPairs.{HasNoLine, IsOpen, may-be-answered, open-pair, pair-is, paired-at}
 use Rattle.ace_runs.proofs.NeverStuck.Barriers.Together.{AreTogether, half-in}
-
-barrier-write-kind : (x : Transaction) → x.chan ≡ Write → is_barrier_half x ≡ true → is_some_and (write_kind x) has_write_data ≡ false
-barrier-write-kind x chan half =
-    let none : read_kind x ≡ None = rw chan refl in
-    let this : is_some_and (write_kind x) is_write_barrier ≡ true = ap (λ o. is_some_and o is_read_barrier || is_some_and (write_kind x) is_write_barrier) (sym none) ∙ half in
-    of (write_kind x) this
-  where
-    of : (o : Option AwKind) → is_some_and o is_write_barrier ≡ true → is_some_and o has_write_data ≡ false
-    of None b = cc
-    of (Some write.Barrier) b = refl
-    of (Some k) b = cc
 
 module _ (h : Header) (past : Trace) (p : ℕ) (x y : Transaction) (a : IsAccepted h past) (t : AreTogether past) (none : HasNoLine h past p) (o : IsOpen past p x y) where
   abbrev first : Event
@@ -102,7 +89,7 @@ module _ (h : Header) (past : Trace) (p : ℕ) (x y : Transaction) (a : IsAccept
 
   may-respond : may_respond after y ≡ true
   may-respond =
-      and_from _ _ (ap not incomplete) (ap (λ b. implies b (has_memory_write after y.port y.chan y.id)) (barrier-write-kind y chan half))
+      and_from _ _ (ap not incomplete) (ap (λ b. implies b (has_memory_write after y.port y.chan y.id)) (half-dataless y half))
 
   -- no line transaction is outstanding after the R
   none-after : HasNoLine h after p

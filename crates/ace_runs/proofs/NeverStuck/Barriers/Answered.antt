@@ -1,6 +1,6 @@
 -- An outstanding barrier that isn't complete is answered, where no line transaction of its port is outstanding: its port is enabled by step 10.
-use Rattle.std.proofs.Common.{◌≡◌, ℕ, true, false, ◌&&◌, ◌||◌, ◌==◌, if◌then◌else◌, [], ◌∷◌, None, inl, inr, refl, sym, ap, ◌∙◌}
-use Rattle.std.proofs.lemmas.Bool.{and_from, or_cases, or_left, eq-eqb}
+use Rattle.std.proofs.Common.{◌≡◌, ℕ, true, false, ◌&&◌, ◌==◌, if◌then◌else◌, [], ◌∷◌, refl, ap, ◌∙◌}
+use Rattle.std.proofs.lemmas.Bool.{and_from, or_left, eq-eqb}
 use Rattle.ace_codes.specs.declared.kind.ArKind.{ArKind}
 use Rattle.ace_codes.specs.declared.kind.ArKind.TheVariants as read
 use Rattle.ace_event.specs.declared.event.Channel.TheVariants.{Read}
@@ -8,12 +8,12 @@ use Rattle.ace_event.specs.declared.header.Header.{Header}
 use Rattle.ace_model.specs.declared.transactions.Transaction.{Transaction}
 use Rattle.ace_model.specs.Accepted.{IsAccepted}
 use Rattle.ace_model.specs.Barriers.{Pair, is_barrier_half, may_answer, pair_of}
-use Rattle.ace_model.specs.Kinds.{is_line_read, is_read_barrier, is_write_barrier}
+use Rattle.ace_model.specs.Kinds.{is_line_read, is_read_barrier}
 use Rattle.ace_model.specs.OrderRules.{is_answered_by_all, may_answer_half}
 use Rattle.ace_model.specs.Plans.{Plan}
 use Rattle.ace_model.specs.Progress.{is_completed}
 use Rattle.ace_model.specs.Trace.{Trace, implies, is_some_and}
-use Rattle.ace_model.specs.Transactions.{is_outstanding, read_kind, write_kind}
+use Rattle.ace_model.specs.Transactions.{is_outstanding, read_kind}
 use Rattle.ace_model.proofs.Barriers.Pairs.{barriers-half, is_barrier_of-is}
 use Rattle.ace_model.proofs.General.Options.{is_some_and-is}
 use Rattle.ace_model.proofs.Trace.Growth.{IsIssued, some_issued-found}
@@ -24,15 +24,9 @@ use Rattle.ace_runs.proofs.Turns.{steps-accepted}
 use Rattle.ace_runs.proofs.NeverStuck.PlainReads.{plain-kept}
 use Rattle.ace_runs.proofs.NeverStuck.Reads.TransfersKept.{implied_by}
 use Rattle.ace_runs.proofs.NeverStuck.Barriers.BothAnswered.{halves-together, undone-outstanding}
-use Rattle.ace_runs.proofs.NeverStuck.Barriers.Responses.{half-no-message}
+use Rattle.ace_runs.proofs.NeverStuck.Barriers.Halves.{half-no-message, half-reads}
 use Rattle.ace_runs.proofs.NeverStuck.Barriers.Together.{half-in}
 use Rattle.ace_runs.proofs.NeverStuck.Barriers.OpenPairs.{HasNoLine, IsOpen, may-be-answered, open-pair, pair-is}
-
-barrier-kind : (x : Transaction) → x.chan ≡ Read → is_barrier_half x ≡ true → is_some_and (read_kind x) is_read_barrier ≡ true
-barrier-kind x chan half =
-    let none : write_kind x ≡ None = rw chan refl in
-    let this : (is_some_and (read_kind x) is_read_barrier || false) ≡ true = ap (λ o. is_some_and (read_kind x) is_read_barrier || is_some_and o is_write_barrier) (sym none) ∙ half in
-    elim (or_cases (is_some_and (read_kind x) is_read_barrier) false this) [ inl r ↦ r | inr f ↦ cc ]
 
 barrier-plain : (k : ArKind) → is_read_barrier k ≡ true → is_line_read k ≡ false
 barrier-plain read.Barrier b = refl
@@ -51,7 +45,7 @@ read-answered h past p x y a none o =
     let b : Pair = record { read = x; write = y } in
     let i = half-in past p Read o.number x o.first in
     let half = is_barrier_of-is x p Read (barriers-half past p Read o.number x o.first).barrier in
-    let reads = barrier-kind x half.chan i.1 in
+    let reads = half-reads x half.chan i.1 in
     let k = is_some_and-is (read_kind x) is_read_barrier reads in
     let out = undone-outstanding h past x a i.0 o.undone in
     let pair = pair-is past p x y o in

@@ -29,7 +29,7 @@ use Rattle.ace_runs.specs.SameEvents.{same_burst, same_event}
 use Rattle.ace_runs.proofs.NeverStuck.StepShapes.{all-as}
 use Rattle.ace_runs.proofs.NeverStuck.Barriers.GoesOn.{AsksBarrier, same-ar, same-aw}
 use Rattle.ace_runs.proofs.NeverStuck.Barriers.Quiet.{is_quiet, same-quiet}
-use Rattle.ace_runs.proofs.NeverStuck.Barriers.Together.{AreTogether, quiet-together, same-completed}
+use Rattle.ace_runs.proofs.NeverStuck.Barriers.Together.{AreTogether, none-second, quiet-together, same-completed}
 
 -- ---- the events --------------------------------------------------------------------------------------
 
@@ -85,10 +85,6 @@ not-added : (past : Trace) (e : Event) (p q : ℕ) (c d : Channel) (i : IssuesHa
     → barriers (e ∷ past) q d ≡ barriers past q d
 not-added past e p q c d i f =
     let of : is_barrier_of i.half q d ≡ false = half-of i.half p q c d i.barrier i.port i.chan ∙ f in rw (i.is, of) refl
-
-none-second : (b : Bool) → (b && false) ≡ false
-none-second true = refl
-none-second false = refl
 
 longer : (xs : List Transaction) (x : Transaction) → length (xs ++ x ∷ []) ≡ length xs + 1
 longer xs x = length-append xs (x ∷ [])
@@ -178,11 +174,11 @@ module _ (past : Trace) (p : ℕ) (e f : Event) (t : AreTogether past) (r : Issu
 
 -- ---- the burst ---------------------------------------------------------------------------------------
 
-halves-together : (past : Trace) (p i bar : ℕ) (rest burst : List Event) → AreTogether past → is_barrier bar ≡ true → list_all is_quiet rest ≡ true
+halves-issued : (past : Trace) (p i bar : ℕ) (rest burst : List Event) → AreTogether past → is_barrier bar ≡ true → list_all is_quiet rest ≡ true
     → same_burst (barrier_halves p bar i ++ rest) burst ≡ true → AreTogether (onto burst past)
-halves-together past p i bar rest [] t is quiet same = cc
-halves-together past p i bar rest (e ∷ []) t is quiet same = let bad = (and_parts _ false same).1 in cc
-halves-together past p i bar rest (e ∷ f ∷ burst) t is quiet same =
+halves-issued past p i bar rest [] t is quiet same = cc
+halves-issued past p i bar rest (e ∷ []) t is quiet same = let bad = (and_parts _ false same).1 in cc
+halves-issued past p i bar rest (e ∷ f ∷ burst) t is quiet same =
     let first = and_parts (same_event (Ar p i 0 (ar_code read.Barrier) 1 bar false) e) _ same in
     let second = and_parts (same_event (Aw p i 0 (aw_code write.Barrier) 1 bar) f) (same_burst rest burst) first.1 in
     quiet-together burst (f ∷ e ∷ past)
@@ -190,4 +186,4 @@ halves-together past p i bar rest (e ∷ f ∷ burst) t is quiet same =
     (all-as is_quiet same-quiet rest burst second.1 quiet)
 
 pub barrier-together : (past : Trace) (p : ℕ) (burst : List Event) → AreTogether past → AsksBarrier p burst → AreTogether (onto burst past)
-barrier-together past p burst t a = halves-together past p a.id a.bar a.rest burst t a.is a.quiet a.same
+barrier-together past p burst t a = halves-issued past p a.id a.bar a.rest burst t a.is a.quiet a.same

@@ -1,12 +1,8 @@
 -- An outstanding half of a barrier belongs to its port's next operation, which is mb or sb: it is an act, so it was issued for such an
 -- operation; and that can only retire with `ok`, once no act of it is outstanding.
-use Rattle.std.proofs.Common.{◌≡◌, ℕ, zero, suc, Bool, true, false, not, ◌&&◌, ◌||◌, ◌==◌, List, [], ◌∷◌, length, Option, Some, None, slice_get, inl, inr, refl, sym, ap, subst, ◌∙◌, arith}
+use Rattle.std.proofs.Common.{◌≡◌, ℕ, zero, suc, Bool, true, false, not, ◌&&◌, ◌||◌, ◌==◌, List, [], ◌∷◌, length, Option, Some, slice_get, inl, inr, refl, sym, ap, subst, ◌∙◌, arith}
 use Rattle.std.specs.List.{list_any}
-use Rattle.std.proofs.lemmas.Bool.{and_parts, and_from, or_cases, or_left, or_right, cases_Bool, eqb-true, eq-eqb}
-use Rattle.ace_codes.specs.declared.kind.ArKind.{ArKind}
-use Rattle.ace_codes.specs.declared.kind.ArKind.TheVariants as read
-use Rattle.ace_codes.specs.declared.kind.AwKind.{AwKind}
-use Rattle.ace_codes.specs.declared.kind.AwKind.TheVariants as write
+use Rattle.std.proofs.lemmas.Bool.{and_parts, and_from, or_left, or_right, cases_Bool, eqb-true, eq-eqb}
 use Rattle.ace_event.specs.declared.event.Event.{Event}
 use Rattle.ace_event.specs.declared.event.Event.TheVariants.{Ar, Aw, Op as Retires}
 use Rattle.ace_event.specs.declared.event.Outcome.{Outcome}
@@ -16,11 +12,9 @@ use Rattle.ace_model.specs.declared.plans.Op.{Op}
 use Rattle.ace_model.specs.declared.plans.Op.TheVariants.{Mb, Sb}
 use Rattle.ace_model.specs.declared.transactions.Transaction.{Transaction}
 use Rattle.ace_model.specs.Barriers.{is_barrier_half}
-use Rattle.ace_model.specs.Kinds.{is_dvm_complete, is_read_barrier, is_write_barrier}
-use Rattle.ace_model.specs.Messages.{is_dvm_completion}
 use Rattle.ace_model.specs.Plans.{Plan}
 use Rattle.ace_model.specs.Trace.{Trace, implies, is_some_and, more, option_filter, port_of}
-use Rattle.ace_model.specs.Transactions.{is_outstanding, is_read, issued, read_kind, write_kind}
+use Rattle.ace_model.specs.Transactions.{is_outstanding, issued}
 use Rattle.ace_model.proofs.General.Booleans.{implies-at}
 use Rattle.ace_model.proofs.General.Lists.{list_all-at, slice_get-at_end, slice_get-grown}
 use Rattle.ace_model.proofs.General.Options.{Some-injective, is_some_and-at, is_some_and-is}
@@ -28,11 +22,12 @@ use Rattle.ace_model.proofs.Trace.Growth.{IsIssued, issued-cases, issued-old}
 use Rattle.ace_model.proofs.Trace.Issued.{issued-place, outstanding-origin}
 use Rattle.ace_model.proofs.Trace.LineOnce.{outstanding_is}
 use Rattle.ace_model.proofs.Trace.Outstanding.{read_issued, write_issued}
-use Rattle.ace_runs.specs.Acts.{acts_of, is_act, is_act_read, is_act_transaction, is_act_write}
+use Rattle.ace_runs.specs.Acts.{acts_of, is_act, is_act_transaction}
 use Rattle.ace_runs.specs.Follows.{FollowsSoFar, acts_well, answers_well, carries_data, has_room_after, is_next_act, obeys, retires_well}
 use Rattle.ace_runs.specs.Operations.{next_operation}
 use Rattle.ace_runs.specs.Retiring.{are_acts_done, may_retire}
 use Rattle.ace_runs.specs.Segments.{acts_made, is_for_operation, segment}
+use Rattle.ace_runs.proofs.NeverStuck.Barriers.Halves.{half-acts, half-no-completion}
 use Rattle.ace_runs.proofs.NeverStuck.Barriers.Acts.{is_barrier_operation, not-both, read-act, read-barrier-bar, write-act, write-barrier-bar}
 
 -- The port has issued the transaction for its next operation, which is a barrier.
@@ -69,24 +64,6 @@ or-no-second : (a b : Bool) → (a || b) ≡ true → b ≡ false → a ≡ true
 or-no-second true b e f = refl
 or-no-second false b e f = cc
 
-read-act-transaction : (k : Option ArKind) → is_some_and k is_read_barrier ≡ true → is_some_and k is_act_read ≡ true
-read-act-transaction None b = cc
-read-act-transaction (Some read.Barrier) b = refl
-read-act-transaction (Some k) b = cc
-
-write-act-transaction : (k : Option AwKind) → is_some_and k is_write_barrier ≡ true → is_some_and k is_act_write ≡ true
-write-act-transaction None b = cc
-write-act-transaction (Some write.Barrier) b = refl
-write-act-transaction (Some k) b = cc
-
--- a half of a barrier is an act
-half-acts : (x : Transaction) → is_barrier_half x ≡ true → is_act_transaction x ≡ true
-half-acts x b =
-    elim (or_cases (is_some_and (read_kind x) is_read_barrier) (is_some_and (write_kind x) is_write_barrier) b) [
-      | inl r ↦ or_left _ _ (read-act-transaction (read_kind x) r)
-      | inr w ↦ or_right (is_some_and (read_kind x) is_act_read) _ (write-act-transaction (write_kind x) w)
-    ]
-
 read-of-next : (plan : Plan) (past : Trace) (p i addr snoop dom bar : ℕ) (lock : Bool) → obeys plan past (Ar p i addr snoop dom bar lock) ≡ true
     → is_barrier_half (read_issued past p i addr snoop dom bar lock) ≡ true → is_some_and (next_operation plan past p) is_barrier_operation ≡ true
 read-of-next plan past p i addr snoop dom bar lock o b =
@@ -105,22 +82,6 @@ write-of-next plan past p i addr snoop dom bar o b =
     elim (write-act op.0 p i addr snoop dom bar op.2) [
       | inl is ↦ is_of plan past p op.0 op.1 is
       | inr normal ↦ absurd (not-both bar (write-barrier-bar snoop dom bar b) normal)
-    ]
-
-barrier-no-completion : (k : Option ArKind) → is_some_and k is_read_barrier ≡ true → is_some_and k is_dvm_complete ≡ false
-barrier-no-completion None b = cc
-barrier-no-completion (Some read.Barrier) b = refl
-barrier-no-completion (Some k) b = cc
-
--- and no DVM Complete
-pub half-no-completion : (x : Transaction) → is_barrier_half x ≡ true → is_dvm_completion x ≡ false
-half-no-completion x b =
-    elim (cases_Bool (is_read x.chan)) [
-      | inl t ↦
-          let none : write_kind x ≡ None = rw t refl in
-          let half : (is_some_and (read_kind x) is_read_barrier || false) ≡ true = rw none at b in
-          barrier-no-completion (read_kind x) (or-no-second (is_some_and (read_kind x) is_read_barrier) false half refl)
-      | inr f ↦ let none : read_kind x ≡ None = rw f refl in rw none refl
     ]
 
 half-for-operation : (x : Transaction) → is_barrier_half x ≡ true → is_for_operation x.port x ≡ true

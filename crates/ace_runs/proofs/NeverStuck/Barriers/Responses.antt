@@ -1,10 +1,8 @@
--- Responses, and the transactions that are no barriers.
-use Rattle.std.proofs.Common.{◌≡◌, ℕ, Bool, true, false, not, ◌&&◌, ◌||◌, ◌==◌, [], ◌∷◌, ◌++◌, map, Option, Some, None, inl, inr, refl, sym, ap, ◌∙◌}
+-- Responses, and the channel of what has them.
+use Rattle.std.proofs.Common.{◌≡◌, ℕ, Bool, true, false, not, ◌&&◌, ◌||◌, ◌==◌, [], ◌∷◌, ◌++◌, map, Option, Some, None, inl, inr, refl, ap}
 use Rattle.std.specs.List.{list_all}
 use Rattle.std.specs.Option.{option_to_list}
-use Rattle.std.proofs.lemmas.Bool.{and_parts, and_from, or_cases, or_right, cases_Bool, eqb-true, eq-eqb, false_from_ne_true}
-use Rattle.ace_codes.specs.declared.kind.ArKind.{ArKind}
-use Rattle.ace_codes.specs.declared.kind.ArKind.TheVariants as read
+use Rattle.std.proofs.lemmas.Bool.{and_parts, and_from, or_right, cases_Bool, eqb-true, eq-eqb}
 use Rattle.ace_codes.specs.declared.kind.AwKind.{AwKind}
 use Rattle.ace_codes.specs.declared.kind.AwKind.TheVariants as write
 use Rattle.ace_event.specs.declared.event.Event.{Event}
@@ -13,8 +11,7 @@ use Rattle.ace_event.specs.declared.header.Header.{Header}
 use Rattle.ace_event.specs.declared.line.Line.{Line}
 use Rattle.ace_tables.specs.Answers.{same_test}
 use Rattle.ace_model.specs.declared.transactions.Transaction.{Transaction}
-use Rattle.ace_model.specs.Barriers.{is_barrier_half}
-use Rattle.ace_model.specs.Kinds.{is_dvm_message, is_evict, is_line_read, is_line_write, is_read_barrier, is_write_barrier}
+use Rattle.ace_model.specs.Kinds.{is_evict, is_line_read, is_line_write}
 use Rattle.ace_model.specs.Messages.{is_dvm_completion, is_message_part}
 use Rattle.ace_model.specs.Progress.{evicts}
 use Rattle.ace_model.specs.Trace.{Trace, is_some_and}
@@ -24,7 +21,6 @@ use Rattle.ace_runs.specs.LineSteps.{memory_write, response}
 use Rattle.ace_runs.proofs.NeverStuck.StepEvents.{all-append}
 use Rattle.ace_runs.proofs.NeverStuck.StepShapes.{TellsSame}
 use Rattle.ace_runs.proofs.NeverStuck.Barriers.Asks.{all-weaker}
-use Rattle.ace_runs.proofs.NeverStuck.Barriers.OfNext.{half-no-completion}
 use Rattle.ace_runs.proofs.NeverStuck.Barriers.Quiet.{is_quiet}
 
 -- it issues no transaction, and a response is one for this transaction
@@ -83,52 +79,7 @@ written-responses h past x writes =
     (all-weaker is_quiet (is_response_for x) (quiet-response x) (memory_write h past x) (written-quiet x (data_of h past x)))
     (response-for x writes)
 
--- ---- what is no barrier ------------------------------------------------------------------------------
-
-line-read-no-barrier : (o : Option ArKind) → is_some_and o is_read_barrier ≡ true → is_some_and o is_line_read ≡ false
-line-read-no-barrier None b = cc
-line-read-no-barrier (Some read.Barrier) b = refl
-line-read-no-barrier (Some k) b = cc
-
-line-write-no-barrier : (o : Option AwKind) → is_some_and o is_write_barrier ≡ true → is_some_and o is_line_write ≡ false
-line-write-no-barrier None b = cc
-line-write-no-barrier (Some write.Barrier) b = refl
-line-write-no-barrier (Some k) b = cc
-
--- a barrier is no line transaction
-pub half-no-line : (x : Transaction) → is_barrier_half x ≡ true → is_line x ≡ false
-half-no-line x b =
-    elim (cases_Bool (is_read x.chan)) [
-      | inl t ↦
-          let none : write_kind x ≡ None = rw t refl in
-          let half : (is_some_and (read_kind x) is_read_barrier || false) ≡ true = rw none at b in
-          let line = line-read-no-barrier (read_kind x) (elim (or_cases (is_some_and (read_kind x) is_read_barrier) false half) [ inl r ↦ r | inr f ↦ cc ]) in
-          rw (line, none) refl
-      | inr f ↦
-          let none : read_kind x ≡ None = rw f refl in
-          let half : (false || is_some_and (write_kind x) is_write_barrier) ≡ true = rw none at b in
-          let line = line-write-no-barrier (write_kind x) half in
-          rw (none, line) refl
-    ]
-
--- so a line transaction is no barrier
-pub line-no-half : (x : Transaction) → is_line x ≡ true → is_barrier_half x ≡ false
-line-no-half x line = false_from_ne_true (is_barrier_half x) (λ b. let none = half-no-line x b in let bad : false ≡ true = sym none ∙ line in cc)
-
-message-no-barrier : (o : Option ArKind) → is_some_and o is_read_barrier ≡ true → is_some_and o is_dvm_message ≡ false
-message-no-barrier None b = cc
-message-no-barrier (Some read.Barrier) b = refl
-message-no-barrier (Some k) b = cc
-
-pub half-no-message : (x : Transaction) → is_barrier_half x ≡ true → is_message_part x ≡ false
-half-no-message x b =
-    elim (cases_Bool (is_read x.chan)) [
-      | inl t ↦
-          let none : write_kind x ≡ None = rw t refl in
-          let half : (is_some_and (read_kind x) is_read_barrier || false) ≡ true = rw none at b in
-          message-no-barrier (read_kind x) (elim (or_cases (is_some_and (read_kind x) is_read_barrier) false half) [ inl r ↦ r | inr f ↦ cc ])
-      | inr f ↦ let none : read_kind x ≡ None = rw f refl in rw none refl
-    ]
+-- ---- lines and reads ---------------------------------------------------------------------------------
 
 pub evicts-line : (x : Transaction) → evicts x ≡ true → is_line x ≡ true
 evicts-line x v = or_right (is_some_and (read_kind x) is_line_read) _ (of (write_kind x) v)
@@ -137,13 +88,6 @@ evicts-line x v = or_right (is_some_and (read_kind x) is_line_read) _ (of (write
     of None v = cc
     of (Some write.Evict) v = refl
     of (Some k) v = cc
-
-pub dvm-no-half : (x : Transaction) → (is_message_part x || is_dvm_completion x) ≡ true → is_barrier_half x ≡ false
-dvm-no-half x d =
-    false_from_ne_true (is_barrier_half x) (λ b.
-    let message = half-no-message x b in
-    let completion = half-no-completion x b in
-    let bad : (false || false) ≡ true = rw (message, completion) at d in cc)
 
 pub dvm-reads : (x : Transaction) → (is_message_part x || is_dvm_completion x) ≡ true → is_read x.chan ≡ true
 dvm-reads x d =

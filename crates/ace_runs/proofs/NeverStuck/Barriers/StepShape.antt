@@ -32,8 +32,9 @@ use Rattle.ace_runs.proofs.NeverStuck.StepShapes.{all-as, forwards-all, of-any, 
 use Rattle.ace_runs.proofs.NeverStuck.UpdatesOrGranted.{updates-line}
 use Rattle.ace_runs.proofs.NeverStuck.Barriers.Asks.{all-weaker}
 use Rattle.ace_runs.proofs.NeverStuck.Barriers.GoesOn.{GoesOn, goes-on-shape}
+use Rattle.ace_runs.proofs.NeverStuck.Barriers.Halves.{dvm-no-half, line-no-half}
 use Rattle.ace_runs.proofs.NeverStuck.Barriers.Quiet.{acknowledges-quiet, is_quiet, same-quiet}
-use Rattle.ace_runs.proofs.NeverStuck.Barriers.Responses.{dvm-no-half, dvm-reads, evicts-line, is_response_for, line-no-half, response-for, same-response, transfer-for, written-quiet, written-responses}
+use Rattle.ace_runs.proofs.NeverStuck.Barriers.Responses.{dvm-reads, evicts-line, is_response_for, response-for, same-response, transfer-for, written-quiet, written-responses}
 
 -- The responses are for one outstanding transaction, which is no barrier.
 pub record Responds (h : Header) (past : Trace) (burst : List Event) : Type 0 where

@@ -82,7 +82,7 @@ ordinary-apart past p e m = record { issues_none = λ x new. (new-ordinary past 
     completes (B q i resp) x m = cc
     completes e x m = refl
 
-none-second : (b : Bool) → (b && false) ≡ false
+pub none-second : (b : Bool) → (b && false) ≡ false
 none-second true = refl
 none-second false = refl
 
