@@ -24,5 +24,9 @@ pub mod Together
 pub mod BothIssued
 -- And both are answered at once, so they are together in each run.
 pub mod BothAnswered
--- So one is answered.
+-- The pair of a half that isn't complete.
+pub mod OpenPairs
+-- So a barrier is answered.
 pub mod Answered
+-- By both its responses.
+pub mod AnswerKept

@@ -1,123 +1,32 @@
 -- An outstanding barrier that isn't complete is answered, where no line transaction of its port is outstanding: its port is enabled by step 10.
--- Its other half is there and isn't complete either, and each earlier line transaction of the port is complete and has had its order point.
-use Rattle.std.proofs.Common.{◌≡◌, ℕ, zero, suc, Bool, true, false, ◌&&◌, ◌||◌, ◌==◌, nat_lt, if◌then◌else◌, List, [], ◌∷◌, length, Some, None, slice_get, get_or, inl, inr, refl, sym, ap, ◌∙◌, arith}
-use Rattle.std.proofs.lemmas.Bool.{and_parts, and_from, or_cases, or_left, eqb-true, eq-eqb}
-use Rattle.std.proofs.lemmas.Option.{slice_get-get_or, slice_get_within}
+use Rattle.std.proofs.Common.{◌≡◌, ℕ, true, false, ◌&&◌, ◌||◌, ◌==◌, if◌then◌else◌, [], ◌∷◌, None, inl, inr, refl, sym, ap, ◌∙◌}
+use Rattle.std.proofs.lemmas.Bool.{and_from, or_cases, or_left, eq-eqb}
 use Rattle.ace_codes.specs.declared.kind.ArKind.{ArKind}
 use Rattle.ace_codes.specs.declared.kind.ArKind.TheVariants as read
-use Rattle.ace_event.specs.declared.event.Channel.{Channel}
-use Rattle.ace_event.specs.declared.event.Channel.TheVariants.{Read, Write}
+use Rattle.ace_event.specs.declared.event.Channel.TheVariants.{Read}
 use Rattle.ace_event.specs.declared.header.Header.{Header}
 use Rattle.ace_model.specs.declared.transactions.Transaction.{Transaction}
 use Rattle.ace_model.specs.Accepted.{IsAccepted}
-use Rattle.ace_model.specs.Barriers.{Pair, barriers, is_awaited, is_barrier_half, is_before, is_synchronisation, may_answer, number_of, pair_of, paired, pairs, place_of}
+use Rattle.ace_model.specs.Barriers.{Pair, is_barrier_half, may_answer, pair_of}
 use Rattle.ace_model.specs.Kinds.{is_line_read, is_read_barrier, is_write_barrier}
 use Rattle.ace_model.specs.OrderRules.{is_answered_by_all, may_answer_half}
 use Rattle.ace_model.specs.Plans.{Plan}
-use Rattle.ace_model.specs.Progress.{is_completed, is_ordered}
-use Rattle.ace_model.specs.Trace.{Trace, at_point, implies, is_some_and}
-use Rattle.ace_model.specs.Transactions.{is_line, is_outstanding, read_kind, write_kind}
-use Rattle.ace_model.proofs.Barriers.OrderPoints.{completed-ordered}
+use Rattle.ace_model.specs.Progress.{is_completed}
+use Rattle.ace_model.specs.Trace.{Trace, implies, is_some_and}
+use Rattle.ace_model.specs.Transactions.{is_outstanding, read_kind, write_kind}
 use Rattle.ace_model.proofs.Barriers.Pairs.{barriers-half, is_barrier_of-is}
-use Rattle.ace_model.proofs.General.Options.{Some-injective, is_some_and-is}
-use Rattle.ace_model.proofs.Outstanding.Waiting.{ended_complete}
+use Rattle.ace_model.proofs.General.Options.{is_some_and-is}
 use Rattle.ace_model.proofs.Trace.Growth.{IsIssued, some_issued-found}
-use Rattle.ace_model.proofs.Trace.Looks.{same_channel-self}
-use Rattle.ace_runs.specs.Bursts.{may_begin, may_serve}
-use Rattle.ace_runs.specs.OrderSteps.{barrier_burst, pair_burst}
+use Rattle.ace_runs.specs.Bursts.{is_kept, may_begin, may_serve}
+use Rattle.ace_runs.specs.OrderSteps.{barrier_burst, pair_burst, plain_transfer}
 use Rattle.ace_runs.specs.Steps.{AreSteps, is_enabled_by}
 use Rattle.ace_runs.proofs.Turns.{steps-accepted}
-use Rattle.ace_runs.proofs.NeverStuck.EachIssued.{each-from}
 use Rattle.ace_runs.proofs.NeverStuck.PlainReads.{plain-kept}
-use Rattle.ace_runs.proofs.NeverStuck.Reads.PlainTransfers.{half-there}
 use Rattle.ace_runs.proofs.NeverStuck.Reads.TransfersKept.{implied_by}
 use Rattle.ace_runs.proofs.NeverStuck.Barriers.BothAnswered.{halves-together, undone-outstanding}
 use Rattle.ace_runs.proofs.NeverStuck.Barriers.Responses.{half-no-message}
-use Rattle.ace_runs.proofs.NeverStuck.Barriers.Together.{AreTogether, half-in}
-
--- ---- the pair of a half ------------------------------------------------------------------------------
-
--- The two halves of a barrier of the port, of which none is complete.
-record IsOpen (past : Trace) (p : ℕ) (x y : Transaction) : Type 0 where
-  number : ℕ
-  first : slice_get (barriers past p Read) number ≡ Some x
-  second : slice_get (barriers past p Write) number ≡ Some y
-  undone : is_completed past x ≡ false
-
-half-at : (past : Trace) (x : Transaction) → IsIssued past x → is_barrier_half x ≡ true → slice_get (barriers past x.port x.chan) (number_of past x) ≡ Some x
-half-at past x i half =
-    half-there past x.port x.chan (number_of past x) x
-    (record { stands = i; barrier = and_from _ _ (and_from _ _ half (eq-eqb x.port x.port refl)) (same_channel-self x.chan); number = refl })
-
-with-write : (past : Trace) (p k : ℕ) (x : Transaction) → AreTogether past → slice_get (barriers past p Read) k ≡ Some x → is_completed past x ≡ false
-    → (y : Transaction) × IsOpen past p x y
-with-write past p k x t there undone =
-    let low = slice_get_within (barriers past p Read) k x there in
-    let many = t.as_many p in
-    let y = get_or (barriers past p Write) k x in
-    (y, record { number = k; first = there; second = slice_get-get_or (barriers past p Write) k x (omega (arith, low, many)); undone = undone })
-
-with-read : (past : Trace) (p k : ℕ) (y : Transaction) → AreTogether past → slice_get (barriers past p Write) k ≡ Some y → is_completed past y ≡ false
-    → (x : Transaction) × IsOpen past p x y
-with-read past p k y t there undone =
-    let low = slice_get_within (barriers past p Write) k y there in
-    let many = t.as_many p in
-    let x = get_or (barriers past p Read) k y in
-    let first = slice_get-get_or (barriers past p Read) k y (omega (arith, low, many)) in
-    (x, record { number = k; first = first; second = there; undone = t.both p k x y first there ∙ undone })
-
-open-pair : (past : Trace) (z : Transaction) → AreTogether past → IsIssued past z → is_barrier_half z ≡ true → is_completed past z ≡ false
-    → (x : Transaction) × (y : Transaction) × IsOpen past z.port x y
-open-pair past z t i half undone = by z.chan (half-at past z i half)
-  where
-    by : (c : Channel) → slice_get (barriers past z.port c) (number_of past z) ≡ Some z → (x : Transaction) × (y : Transaction) × IsOpen past z.port x y
-    by Read there = let o = with-write past z.port (number_of past z) z t there undone in (z, o.0, o.1)
-    by Write there = let o = with-read past z.port (number_of past z) z t there undone in (o.0, z, o.1)
-
-paired-at : (rs ws : List Transaction) (k : ℕ) (x y : Transaction) → slice_get rs k ≡ Some x → slice_get ws k ≡ Some y
-    → slice_get (paired rs ws) k ≡ Some (record { read = x; write = y })
-paired-at [] ws k x y r w = cc
-paired-at (a ∷ rs) [] k x y r w = cc
-paired-at (a ∷ rs) (b ∷ ws) zero x y r w =
-    let first = Some-injective a x r in let second = Some-injective b y w in
-    ap (λ v. Some (record { read = v; write = b })) first ∙ ap (λ v. Some (record { read = x; write = v })) second
-paired-at (a ∷ rs) (b ∷ ws) (suc k) x y r w = paired-at rs ws k x y r w
-
-pair-is : (past : Trace) (p : ℕ) (x y : Transaction) → IsOpen past p x y → pair_of past x ≡ Some (record { read = x; write = y })
-pair-is past p x y o =
-    let i = barriers-half past p Read o.number x o.first in
-    let half = is_barrier_of-is x p Read i.barrier in
-    let number : number_of past x ≡ o.number = ap (λ q. length (barriers (at_point x.place past) q x.chan)) half.port ∙ ap (λ c. length (barriers (at_point x.place past) p c)) half.chan ∙ i.number in
-    ap (λ q. slice_get (pairs past q) (number_of past x)) half.port ∙ ap (slice_get (pairs past p)) number
-    ∙ paired-at (barriers past p Read) (barriers past p Write) o.number x y o.first o.second
-
--- ---- what comes before it ----------------------------------------------------------------------------
-
-either : (b c d : Bool) → c ≡ true → d ≡ true → (if b then c else d) ≡ true
-either true c d x y = x
-either false c d x y = y
-
--- what is complete has come far enough
-is-awaited : (h : Header) (past : Trace) (b : Pair) (y : Transaction) → IsAccepted h past → IsIssued past y → is_line y ≡ true → is_outstanding h past y ≡ false
-    → is_awaited past b y ≡ true
-is-awaited h past b y a i line ended =
-    let done = ended_complete h past y a i ended in
-    either (is_synchronisation b) (is_completed past y) (is_ordered past y) done (completed-ordered h y past done a i.there line)
-
--- no line transaction of the port is outstanding
-abbrev pub HasNoLine : Header → Trace → ℕ → Type 0
-HasNoLine h past p = (y : Transaction) → IsIssued past y → is_line y ≡ true → y.port ≡ p → is_outstanding h past y ≡ false
-
-may-be-answered : (h : Header) (past : Trace) (p : ℕ) (b : Pair) → IsAccepted h past → HasNoLine h past p → may_answer past p b ≡ true
-may-be-answered h past p b a none =
-    each-from past (λ y. implies (is_before y p b) (is_awaited past b y)) (λ y i.
-    implied_by (is_before y p b) (is_awaited past b y) (λ before.
-    let p1 = and_parts ((y.port == p) && is_line y && (y.bar == 0)) (nat_lt y.place (place_of b)) before in
-    let p2 = and_parts ((y.port == p) && is_line y) (y.bar == 0) p1.0 in
-    let p3 = and_parts (y.port == p) (is_line y) p2.0 in
-    is-awaited h past b y a i p3.1 (none y i p3.1 (eqb-true y.port p p3.0))))
-
--- ---- the answer --------------------------------------------------------------------------------------
+use Rattle.ace_runs.proofs.NeverStuck.Barriers.Together.{half-in}
+use Rattle.ace_runs.proofs.NeverStuck.Barriers.OpenPairs.{HasNoLine, IsOpen, may-be-answered, open-pair, pair-is}
 
 barrier-kind : (x : Transaction) → x.chan ≡ Read → is_barrier_half x ≡ true → is_some_and (read_kind x) is_read_barrier ≡ true
 barrier-kind x chan half =
@@ -129,10 +38,16 @@ barrier-plain : (k : ArKind) → is_read_barrier k ≡ true → is_line_read k �
 barrier-plain read.Barrier b = refl
 barrier-plain k b = cc
 
-open-answered : (plan : Plan) (past : Trace) (p : ℕ) (x y : Transaction) → IsAccepted plan.header past → HasNoLine plan.header past p → IsOpen past p x y
-    → is_enabled_by (10 ∷ []) plan past p ≡ true
-open-answered plan past p x y a none o =
-    let h = plan.header in
+-- the half on the read channel, and that the R of the pair breaks no rule
+pub record ReadAnswered (h : Header) (past : Trace) (p : ℕ) (x : Transaction) : Type 0 where
+  pub there : IsIssued past x
+  pub port : x.port ≡ p
+  pub reads : is_some_and (read_kind x) is_read_barrier ≡ true
+  pub out : is_outstanding h past x ≡ true
+  pub kept : is_kept h past (plain_transfer x) ≡ true
+
+pub read-answered : (h : Header) (past : Trace) (p : ℕ) (x y : Transaction) → IsAccepted h past → HasNoLine h past p → IsOpen past p x y → ReadAnswered h past p x
+read-answered h past p x y a none o =
     let b : Pair = record { read = x; write = y } in
     let i = half-in past p Read o.number x o.first in
     let half = is_barrier_of-is x p Read (barriers-half past p Read o.number x o.first).barrier in
@@ -146,11 +61,18 @@ open-answered plan past p x y a none o =
     let order : may_answer_half past x ≡ true = implied_by (is_barrier_half x) (is_some_and (pair_of past x) (may_answer past x.port)) (λ t. answer) in
     let message = ap (λ v. implies v (is_answered_by_all h past x)) (half-no-message x i.1) in
     let is = plain-kept h past x k.0 a i.0 out o.undone k.1 (barrier-plain k.0 k.2) order message in
+    record { there = i.0; port = half.port; reads = reads; out = out; kept = is }
+
+open-answered : (plan : Plan) (past : Trace) (p : ℕ) (x y : Transaction) → IsAccepted plan.header past → HasNoLine plan.header past p → IsOpen past p x y
+    → is_enabled_by (10 ∷ []) plan past p ≡ true
+open-answered plan past p x y a none o =
+    let h = plan.header in
+    let r = read-answered h past p x y a none o in
     let begins : may_begin h past (barrier_burst h past x) ≡ true =
-    ap (λ v. may_begin h past (if v then pair_burst (pair_of past x) else [])) reads ∙ ap (λ v. may_begin h past (pair_burst v)) pair ∙ is in
+    ap (λ v. may_begin h past (if v then pair_burst (pair_of past x) else [])) r.reads ∙ ap (λ v. may_begin h past (pair_burst v)) (pair-is past p x y o) ∙ r.kept in
     let serves : may_serve barrier_burst h past p ≡ true =
-    some_issued-found past (λ y. (y.port == p) && is_outstanding h past y && may_begin h past (barrier_burst h past y)) x.place x i.0.there
-    (and_from _ _ (and_from _ _ (eq-eqb x.port p half.port) out) begins) in
+    some_issued-found past (λ y. (y.port == p) && is_outstanding h past y && may_begin h past (barrier_burst h past y)) x.place x r.there.there
+    (and_from _ _ (and_from _ _ (eq-eqb x.port p r.port) r.out) begins) in
     or_left (may_serve barrier_burst h past p) _ serves
 
 -- Where no line transaction of its port is outstanding, the port of a barrier that isn't complete is enabled by step 10.
