@@ -1,6 +1,7 @@
 //! Laws of runs. These functions do no work: what they promise is the law.
 
-ghost use Rattle.std.specs.Prelude.{◌≡◌, ◌↔◌, ◌≤◌, ◌<◌, ◌*◌, ◌⊎◌, ◌||◌, ℕ, true, false, List, [], ◌∷◌, Some, None, length};
+ghost use Rattle.std.specs.Prelude.{◌≡◌, ◌↔◌, ◌≤◌, ◌<◌, ◌*◌, ◌⊎◌, ◌&&◌, ◌||◌, ℕ, true, false, List, [], ◌∷◌, Some, None, length};
+ghost use Rattle.std.specs.List.{list_any};
 ghost use Rattle.ace_event.specs.declared.event.Channel.{Channel};
 ghost use Rattle.ace_event.specs.declared.event.Channel.TheVariants.{Read, Write};
 ghost use Rattle.ace_event.specs.declared.event.Event.{Event};
@@ -9,14 +10,14 @@ ghost use Rattle.ace_model.specs.declared.plans.PlanOp.{PlanOp};
 ghost use Rattle.ace_model.specs.declared.snoops.Snoop.{Snoop};
 ghost use Rattle.ace_model.specs.declared.transactions.Transaction.{Transaction};
 ghost use Rattle.ace_model.specs.Accepted.{IsAccepted};
-ghost use Rattle.ace_model.specs.Grants.{is_granted};
+ghost use Rattle.ace_model.specs.Grants.{is_granted, ports_below};
 ghost use Rattle.ace_model.specs.Progress.{evicts, has_update, updates_memory};
 ghost use Rattle.ace_model.specs.Snoops.{answered, snoops_a_line};
 ghost use Rattle.ace_model.specs.Trace.{Trace};
-ghost use Rattle.ace_model.specs.Transactions.{is_complete, outstanding, some_issued};
+ghost use Rattle.ace_model.specs.Transactions.{is_complete, is_outstanding, outstanding, some_issued};
 ghost use Rattle.ace_model.specs.Plans.{Plan, IsRight};
 ghost use Rattle.ace_runs.specs.Operations.{with_more};
-ghost use Rattle.ace_runs.specs.Follows.{FollowsSoFar, follows_so_far};
+ghost use Rattle.ace_runs.specs.Follows.{FollowsSoFar, follows_so_far, owes_completion};
 ghost use Rattle.ace_runs.specs.LineSteps.{waits};
 ghost use Rattle.ace_runs.specs.Lean.{IsLean, is_lean};
 ghost use Rattle.ace_runs.specs.Acts.{is_act};
@@ -159,4 +160,17 @@ pub fn waiting_transaction_has_a_step()
     ensures { (plan : Plan) (past : Trace) → AreSteps plan past → FollowsSoFar plan past
         → some_issued past (is_granted plan.header past) ≡ false → some_issued past (waits plan.header past) ≡ true
         → (p : ℕ) × (p < plan.header.ports) × (is_enabled_by (5 ∷ []) plan past p ≡ true) }
+{}
+
+/// In a run of a right plan where no AC is unanswered, no outstanding transaction is complete, a memory update, an Evict or granted, and none
+/// waits for its grant: where a transaction is outstanding all the same, which is then a barrier or one of DVM, or a port owes a DVM Complete, a
+/// port is enabled by one of the steps 10 to 14.
+pub fn barrier_or_message_has_a_step()
+    ensures { (plan : Plan) (past : Trace) → IsRight plan → AreSteps plan past
+        → ((q : ℕ) → q < plan.header.ports → answered past q ≡ None)
+        → some_issued past (λ x. is_outstanding plan.header past x
+        && (is_complete past x.port x.chan x.id || updates_memory x || evicts x || is_granted plan.header past x)) ≡ false
+        → some_issued past (waits plan.header past) ≡ false
+        → (some_issued past (is_outstanding plan.header past) || list_any (owes_completion past) (ports_below plan.header.ports)) ≡ true
+        → (p : ℕ) × (p < plan.header.ports) × (is_enabled_by (10 ∷ 11 ∷ 12 ∷ 13 ∷ 14 ∷ []) plan past p ≡ true) }
 {}
