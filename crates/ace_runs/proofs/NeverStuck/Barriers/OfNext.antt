@@ -80,7 +80,7 @@ write-act-transaction (Some write.Barrier) b = refl
 write-act-transaction (Some k) b = cc
 
 -- a half of a barrier is an act
-half-acts : (x : Transaction) → is_barrier_half x ≡ true → is_act_transaction x ≡ true
+pub half-acts : (x : Transaction) → is_barrier_half x ≡ true → is_act_transaction x ≡ true
 half-acts x b =
     elim (or_cases (is_some_and (read_kind x) is_read_barrier) (is_some_and (write_kind x) is_write_barrier) b) [
       | inl r ↦ or_left _ _ (read-act-transaction (read_kind x) r)
