@@ -52,3 +52,5 @@ pub mod Transactions
 pub mod PlainReads
 -- So a barrier or a DVM transaction that is outstanding moves on, or what it waits for, and a DVM Complete that is owed is issued.
 pub mod OrderMoves
+-- An operation whose acts are made, with nothing outstanding, retires or has its Sync completed.
+pub mod Phases

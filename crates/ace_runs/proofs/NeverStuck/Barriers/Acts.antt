@@ -24,11 +24,11 @@ is_barrier_operation Mb = true
 is_barrier_operation Sb = true
 is_barrier_operation _ = false
 
-place-of-read : (code domain bar : ℕ) (k : ArKind) → ar_kind_of code domain bar ≡ Some k → is_at (read_place k) code domain bar ≡ true
+pub place-of-read : (code domain bar : ℕ) (k : ArKind) → ar_kind_of code domain bar ≡ Some k → is_at (read_place k) code domain bar ≡ true
 unfolding ar_kind_of
 place-of-read code domain bar k is = (find-some (λ kind. is_at (read_place kind) code domain bar) reads k is).1
 
-place-of-write : (code domain bar : ℕ) (k : AwKind) → aw_kind_of code domain bar ≡ Some k → is_at (write_place k) code domain bar ≡ true
+pub place-of-write : (code domain bar : ℕ) (k : AwKind) → aw_kind_of code domain bar ≡ Some k → is_at (write_place k) code domain bar ≡ true
 unfolding aw_kind_of
 place-of-write code domain bar k is = (find-some (λ kind. is_at (write_place kind) code domain bar) writes k is).1
 

@@ -1,0 +1,10 @@
+-- How far the next operation of a port has come, and that it goes on once its acts are made and nothing is outstanding.
+
+-- Each act is the one whose turn it is.
+pub mod NextActs
+-- A port that has made one act of two.
+pub mod OneOfTwo
+-- Which act of a barrier a half is.
+pub mod Halves
+-- In a run a port has made both acts of a barrier or none.
+pub mod BothHalves
