@@ -44,3 +44,5 @@ pub mod Barriers
 pub mod WaitingMove
 -- Where no AC is unanswered, an outstanding transaction that is complete, a memory update, an Evict or granted moves on, or one that it waits for.
 pub mod Transactions
+-- Operations: where nothing is outstanding, the next operation of a port goes on.
+pub mod Operations
