@@ -1,4 +1,10 @@
--- Where nothing is outstanding, a port with a next operation goes on with it.
+-- Where nothing of a port is outstanding, its next operation goes on.
 
+-- Nothing of the port is outstanding.
+pub mod Idle
+-- An identifier is free.
+pub mod Identifiers
+-- There is a burst for what the operation asks.
+pub mod Asks
 -- An operation that has made no act goes on by step 14.
 pub mod OperationsGoOn
