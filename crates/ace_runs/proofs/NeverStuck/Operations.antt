@@ -8,3 +8,9 @@ pub mod Identifiers
 pub mod Asks
 -- An operation that has made no act goes on by step 14.
 pub mod OperationsGoOn
+-- What it asks breaks no rule.
+pub mod AsksKept
+-- What a right plan says of an operation.
+pub mod OfPlan
+-- The transactions of a line are of one class.
+pub mod Classes
