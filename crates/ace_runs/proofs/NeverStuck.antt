@@ -54,3 +54,5 @@ pub mod PlainReads
 pub mod OrderMoves
 -- An operation whose acts are made, with nothing outstanding, retires or has its Sync completed.
 pub mod Phases
+-- Operations: where nothing is outstanding, the next operation of a port goes on.
+pub mod Operations
