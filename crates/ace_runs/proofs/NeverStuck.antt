@@ -40,16 +40,10 @@ pub mod Forwarding
 pub mod Reads
 -- A port enabled by some steps is enabled by more.
 pub mod EnabledBy
--- What holds of each transaction of a trace.
-pub mod EachIssued
 -- Barriers: none holds back a grant, and one is answered.
 pub mod Barriers
--- Where no transaction is granted, one that waits moves.
-pub mod WaitingMove
 -- Where no AC is unanswered, an outstanding transaction that is complete, a memory update, an Evict or granted moves on, or one that it waits for.
 pub mod Transactions
--- The transfer of a read without a line breaks no rule but those on order.
-pub mod PlainReads
 -- So a barrier or a DVM transaction that is outstanding moves on, or what it waits for, and a DVM Complete that is owed is issued.
 pub mod OrderMoves
 -- An operation whose acts are made, with nothing outstanding, retires or has its Sync completed.

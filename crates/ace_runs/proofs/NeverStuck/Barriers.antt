@@ -1,4 +1,5 @@
--- Barriers of a run: to which operation one belongs, that none holds back a grant, that its halves go together, and that it is answered.
+-- Barriers of a run: to which operation one belongs, that none holds back a grant, so that what waits for one moves, that the halves of one go
+-- together, and that it is answered.
 
 -- What a half of a barrier is and isn't.
 pub mod Halves
@@ -20,6 +21,10 @@ pub mod StepShape
 pub mod DoneBefore
 -- So none holds back a grant.
 pub mod HoldNone
+-- What holds of each transaction of a trace.
+pub mod EachIssued
+-- So where no transaction is granted, one that waits moves.
+pub mod WaitingMove
 -- What leaves the halves of barriers together.
 pub mod Together
 -- Both halves are issued at once.

@@ -16,3 +16,5 @@ pub mod TransferSteps
 pub mod FirstTransfers
 -- So a granted read moves on.
 pub mod ReadsMove
+-- The transfer of a read without a line breaks no rule but those on order.
+pub mod PlainReads

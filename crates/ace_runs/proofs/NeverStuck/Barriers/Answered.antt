@@ -21,7 +21,7 @@ use Rattle.ace_runs.specs.Bursts.{is_kept, may_begin, may_serve}
 use Rattle.ace_runs.specs.OrderSteps.{barrier_burst, pair_burst, plain_transfer}
 use Rattle.ace_runs.specs.Steps.{AreSteps, is_enabled_by}
 use Rattle.ace_runs.proofs.Turns.{steps-accepted}
-use Rattle.ace_runs.proofs.NeverStuck.PlainReads.{plain-kept}
+use Rattle.ace_runs.proofs.NeverStuck.Reads.PlainReads.{plain-kept}
 use Rattle.ace_runs.proofs.NeverStuck.Reads.TransfersKept.{implied_by}
 use Rattle.ace_runs.proofs.NeverStuck.Barriers.BothAnswered.{halves-together, undone-outstanding}
 use Rattle.ace_runs.proofs.NeverStuck.Barriers.Halves.{half-no-message, half-reads}

@@ -18,7 +18,7 @@ use Rattle.ace_model.proofs.General.Options.{Some-injective}
 use Rattle.ace_model.proofs.Outstanding.Waiting.{ended_complete}
 use Rattle.ace_model.proofs.Trace.Growth.{IsIssued}
 use Rattle.ace_model.proofs.Trace.Looks.{same_channel-self}
-use Rattle.ace_runs.proofs.NeverStuck.EachIssued.{each-from}
+use Rattle.ace_runs.proofs.NeverStuck.Barriers.EachIssued.{each-from}
 use Rattle.ace_runs.proofs.NeverStuck.Reads.PlainTransfers.{half-there}
 use Rattle.ace_runs.proofs.NeverStuck.Reads.TransfersKept.{implied_by}
 use Rattle.ace_runs.proofs.NeverStuck.Barriers.Together.{AreTogether}

@@ -23,7 +23,7 @@ use Rattle.ace_runs.specs.Bursts.{may_begin, may_serve}
 use Rattle.ace_runs.specs.OrderSteps.{dvm_burst, plain_transfer}
 use Rattle.ace_runs.specs.Steps.{AreSteps, is_enabled_by}
 use Rattle.ace_runs.proofs.Turns.{steps-accepted}
-use Rattle.ace_runs.proofs.NeverStuck.PlainReads.{plain-kept}
+use Rattle.ace_runs.proofs.NeverStuck.Reads.PlainReads.{plain-kept}
 
 complete-kind : (k : ArKind) → is_dvm_complete k ≡ true → (is_line_read k ≡ false) × (is_read_barrier k ≡ false) × (is_dvm_message k ≡ false)
 complete-kind read.DvmComplete e = (refl, refl, refl)

@@ -1,4 +1,4 @@
-use Rattle.ace_runs.proofs.NeverStuck.WaitingMove.{some-waiting-moves}
+use Rattle.ace_runs.proofs.NeverStuck.Barriers.WaitingMove.{some-waiting-moves}
 use Rattle.ace_runs.proofs.laws.waiting_transaction_has_a_step.Goals as goal
 
 pub returns : goal.returns

@@ -23,7 +23,7 @@ use Rattle.ace_runs.specs.Follows.{FollowsSoFar}
 use Rattle.ace_runs.specs.LineSteps.{grant_burst, is_first_to_wait, waits}
 use Rattle.ace_runs.specs.Steps.{AreSteps, is_enabled_by}
 use Rattle.ace_runs.proofs.Turns.{steps-accepted}
-use Rattle.ace_runs.proofs.NeverStuck.EachIssued.{IsOldest, each-from, oldest}
+use Rattle.ace_runs.proofs.NeverStuck.Barriers.EachIssued.{IsOldest, each-from, oldest}
 use Rattle.ace_runs.proofs.NeverStuck.UpdatesOrGranted.{granted-there}
 use Rattle.ace_runs.proofs.NeverStuck.WriterPorts.{issuer-low}
 use Rattle.ace_runs.proofs.NeverStuck.Barriers.HoldNone.{past-barriers}
