@@ -6,7 +6,7 @@ use ace_event::laws::every_event_fits;
 use ace_event::{Channel, Event, Header, Line};
 use ace_lineck::LineCheck;
 use ace_model::Break;
-use ace_portck::{PortCheck, Target};
+use ace_portck::{EventKind, PortCheck, Target, event_kinds};
 use ace_sysck::SysCheck;
 use std::alloc::Global;
 use thiserror::Error;
@@ -96,22 +96,113 @@ impl Checker {
             → (result ≡ Ok (Step.Broken b.index b.rule)) × Stands self.new h past (Some b) }
         ensures sound { (h : Header) (past : Trace) → Stands self.old h past None → result ≡ Ok Step.Fine → IsSound h (event.now ∷ past) }
     {
-        if let Some(Break { index, rule }) = self.broken {
-            return Ok(Step::Broken { index, rule });
+        match *event {
+            Event::Ar {
+                port,
+                id,
+                addr,
+                snoop,
+                dom,
+                bar,
+                lock,
+            } => self.feed_kind(&event_kinds::Ar {
+                port,
+                id,
+                addr,
+                snoop,
+                dom,
+                bar,
+                lock,
+            }),
+            Event::R {
+                port,
+                id,
+                resp,
+                last,
+                word,
+            } => self.feed_kind(&event_kinds::R {
+                port,
+                id,
+                resp,
+                last,
+                word,
+            }),
+            Event::Rk { port, st } => self.feed_kind(&event_kinds::Rk { port, st }),
+            Event::Aw {
+                port,
+                id,
+                addr,
+                snoop,
+                dom,
+                bar,
+            } => self.feed_kind(&event_kinds::Aw {
+                port,
+                id,
+                addr,
+                snoop,
+                dom,
+                bar,
+            }),
+            Event::W {
+                port,
+                strb,
+                last,
+                word,
+            } => self.feed_kind(&event_kinds::W {
+                port,
+                strb,
+                last,
+                word,
+            }),
+            Event::B { port, id, resp } => self.feed_kind(&event_kinds::B { port, id, resp }),
+            Event::Wk { port, st } => self.feed_kind(&event_kinds::Wk { port, st }),
+            Event::Ac { port, addr, snoop } => self.feed_kind(&event_kinds::Ac {
+                port,
+                addr,
+                snoop,
+            }),
+            Event::Cr { port, resp, st } => self.feed_kind(&event_kinds::Cr { port, resp, st }),
+            Event::Cd { port, last, word } => self.feed_kind(&event_kinds::Cd { port, last, word }),
+            Event::G { port, chan, id } => self.feed_kind(&event_kinds::G { port, chan, id }),
+            Event::M {
+                port,
+                chan,
+                id,
+                line,
+            } => self.feed_kind(&event_kinds::M {
+                port,
+                chan,
+                id,
+                line,
+            }),
+            Event::L {
+                port,
+                addr,
+                w,
+                x,
+                word,
+            } => self.feed_kind(&event_kinds::L {
+                port,
+                addr,
+                w,
+                x,
+                word,
+            }),
+            Event::D {
+                port,
+                addr,
+                strobe,
+                x,
+                line,
+            } => self.feed_kind(&event_kinds::D {
+                port,
+                addr,
+                strobe,
+                x,
+                line,
+            }),
+            _ => self.feed_kind(event),
         }
-        every_event_fits(*event);
-        let target = self.target(event);
-        let place = self.lines.place(target.line);
-        let failed = self.has_failed(&target, place);
-        if let Some(rule) = self.least_broken(event, &target, place, failed) {
-            let index = self.count.wrapping_add(1);
-            self.broken = Some(Break { index, rule });
-            return Ok(Step::Broken { index, rule });
-        }
-        if self.goes_over(event, &target, place) {
-            return Err(CheckErr::TooManyLines);
-        }
-        self.take(event, &target, place)
     }
 
     /// What the next event belongs to: its transaction with how far that has come, its snoop, its line.
@@ -150,9 +241,42 @@ impl Checker {
     ghost use Rattle.ace_portck.specs.Targets.{target_of};
     ghost use Rattle.ace_lineck.specs.Kept.{IsFailure};
     ghost use Rattle.ace_lineck.specs.Stands.{place_on};
-    ghost use Rattle.ace_check.specs.Run.{Stands, MayTake, goes_over, MayLackMemory};
+    ghost use Rattle.ace_check.specs.Run.{Stands, IsAnswer, IsSound, MayTake, goes_over, past_after, break_after, MayLackMemory};
+
+    /// Looks at an event whose kind its type tells, as `feed` does.
+    fn feed_kind<E: EventKind>(&mut self, event: &E) -> Result<Step, CheckErr>
+        ensures answer { (h : Header) (past : Trace) → Stands self.old h past None → IfOk result (IsAnswer h past (E.event event.now)) }
+        ensures stands { (h : Header) (past : Trace) → Stands self.old h past None → length past < 2 ^ 64 - 2
+            → IfOk result (λ s. Stands self.new h (past_after past (E.event event.now) s) (break_after s)) }
+        ensures stays { (h : Header) (past : Trace) → Stands self.old h past None → OnErr result (Stands self.new h past None) }
+        ensures too_many { (h : Header) (past : Trace) → Stands self.old h past None → result ≡ Err CheckErr.TooManyLines
+            → (least_broken h past (E.event event.now) ≡ None) × (goes_over past (E.event event.now) ≡ true) }
+        ensures no_memory { (h : Header) (past : Trace) → Stands self.old h past None → result ≡ Err CheckErr.NoMemory
+            → MayLackMemory h past (E.event event.now) }
+        ensures broken { (h : Header) (past : Trace) (b : Break) → Stands self.old h past (Some b)
+            → (result ≡ Ok (Step.Broken b.index b.rule)) × Stands self.new h past (Some b) }
+        ensures sound { (h : Header) (past : Trace) → Stands self.old h past None → result ≡ Ok Step.Fine → IsSound h ((E.event event.now) ∷ past) }
+    {
+        if let Some(Break { index, rule }) = self.broken {
+            return Ok(Step::Broken { index, rule });
+        }
+        every_event_fits(event.event());
+        let target = self.ports.target(event);
+        let place = self.lines.place(target.line);
+        let failed = self.has_failed(&target, place);
+        if let Some(rule) = self.least_broken(event, &target, place, failed) {
+            let index = self.count.wrapping_add(1);
+            self.broken = Some(Break { index, rule });
+            return Ok(Step::Broken { index, rule });
+        }
+        if self.goes_over(event, &target, place) {
+            return Err(CheckErr::TooManyLines);
+        }
+        self.take(event, &target, place)
+    }
 
     /// The granted transaction of the line, whose record stands at the place, is an exclusive store that failed.
+    #[inline(always)]
     fn has_failed_at(&self, place: Option<usize>) -> bool
         ensures { (h : Header) (past : Trace) (b : Option Break) (line : ℕ) → Stands self.now h past b → place ≡ place_on self.now.lines (Some line)
             → result ≡ has_failed_on h past line }
@@ -164,6 +288,7 @@ impl Checker {
     }
 
     /// The outstanding transaction of this name is an exclusive store that failed.
+    #[inline(always)]
     fn has_failed_as(&self, port: u8, chan: Channel, id: u8) -> bool
         ensures { (h : Header) (past : Trace) (b : Option Break) (x : Transaction) → Stands self.now h past b
             → outstanding h past port chan id ≡ Some x → x.chan ≡ chan → result ≡ has_failed past x }
@@ -175,6 +300,7 @@ impl Checker {
     }
 
     /// The granted transaction of the event's line is an exclusive store that failed.
+    #[inline(always)]
     fn has_failed(&self, target: &Target, place: Option<usize>) -> bool
         ensures { (h : Header) (past : Trace) (b : Option Break) → Stands self.now h past b → place ≡ place_on self.now.lines target.now.line
             → IsFailure h past target.now result }
@@ -186,15 +312,15 @@ impl Checker {
     }
 
     /// The least rule that the event breaks.
-    fn least_broken(
+    fn least_broken<E: EventKind>(
         &self,
-        event: &Event,
+        event: &E,
         target: &Target,
         place: Option<usize>,
         failed: bool,
     ) -> Option<u8>
-        ensures { (h : Header) (past : Trace) (b : Option Break) → Stands self.now h past b → target.now ≡ target_of h past event.now
-            → place ≡ place_on self.now.lines target.now.line → IsFailure h past target.now failed → result ≡ least_broken h past event.now }
+        ensures { (h : Header) (past : Trace) (b : Option Break) → Stands self.now h past b → target.now ≡ target_of h past (E.event event.now)
+            → place ≡ place_on self.now.lines target.now.line → IsFailure h past target.now failed → result ≡ least_broken h past (E.event event.now) }
     {
         let rule = self.ports.test(event, target);
         if is_first(rule) {
@@ -210,29 +336,33 @@ impl Checker {
     }
 
     /// The event names one line more than a trace may have.
-    fn goes_over(&self, event: &Event, target: &Target, place: Option<usize>) -> bool
-        ensures { (h : Header) (past : Trace) (b : Option Break) → Stands self.now h past b → target.now ≡ target_of h past event.now
-            → place ≡ place_on self.now.lines target.now.line → result ≡ goes_over past event.now }
+    fn goes_over<E: EventKind>(&self, event: &E, target: &Target, place: Option<usize>) -> bool
+        ensures { (h : Header) (past : Trace) (b : Option Break) → Stands self.now h past b → target.now ≡ target_of h past (E.event event.now)
+            → place ≡ place_on self.now.lines target.now.line → result ≡ goes_over past (E.event event.now) }
     {
         match target.line {
             None => false,
-            Some(_) => is_too_many(begins(event), self.lines.knows(place), self.lines.lines()),
+            Some(_) => is_too_many(
+                begins(&event.event()),
+                self.lines.knows(place),
+                self.lines.lines(),
+            ),
         }
     }
 
     /// Takes an event that breaks no rule, once there is room for it in each share.
-    fn take(
+    fn take<E: EventKind>(
         &mut self,
-        event: &Event,
+        event: &E,
         target: &Target,
         place: Option<usize>,
     ) -> Result<Step, CheckErr>
         ensures fine { OnOk result (result ≡ Ok Step.Fine) }
         ensures err { OnErr result (result ≡ Err CheckErr.NoMemory) }
-        ensures stands { (h : Header) (past : Trace) → MayTake self.old h past event.now target.now place → length past < 2 ^ 64 - 2
-            → OnOk result (Stands self.new h (event.now ∷ past) None) }
-        ensures stays { (h : Header) (past : Trace) → MayTake self.old h past event.now target.now place → OnErr result (Stands self.new h past None) }
-        ensures cause { (h : Header) (past : Trace) → MayTake self.old h past event.now target.now place → OnErr result (MayLackMemory h past event.now) }
+        ensures stands { (h : Header) (past : Trace) → MayTake self.old h past (E.event event.now) target.now place → length past < 2 ^ 64 - 2
+            → OnOk result (Stands self.new h ((E.event event.now) ∷ past) None) }
+        ensures stays { (h : Header) (past : Trace) → MayTake self.old h past (E.event event.now) target.now place → OnErr result (Stands self.new h past None) }
+        ensures cause { (h : Header) (past : Trace) → MayTake self.old h past (E.event event.now) target.now place → OnErr result (MayLackMemory h past (E.event event.now)) }
     {
         if self.ports.ready(event).is_err() {
             return Err(CheckErr::NoMemory);
@@ -252,6 +382,7 @@ impl Checker {
 }
 
 /// It is K1, which no rule goes before.
+#[inline(always)]
 fn is_first(rule: Option<u8>) -> bool
     ensures { result ≡ is_first rule }
 {
@@ -262,6 +393,7 @@ fn is_first(rule: Option<u8>) -> bool
 }
 
 /// Of so many known lines and one that may be known: an event that issues a transaction on it names one too many.
+#[inline(always)]
 fn is_too_many(begins: bool, known: bool, lines: usize) -> bool
     ensures { result ≡ (begins && (not known && nat_le most_lines lines)) }
 {
@@ -269,6 +401,7 @@ fn is_too_many(begins: bool, known: bool, lines: usize) -> bool
 }
 
 /// The event issues a transaction.
+#[inline(always)]
 fn begins(event: &Event) -> bool
     ensures { result ≡ begins event.now }
 {
@@ -276,6 +409,7 @@ fn begins(event: &Event) -> bool
 }
 
 /// The lesser number, where there is one.
+#[inline(always)]
 fn lesser(a: Option<u8>, b: Option<u8>) -> Option<u8>
     ensures { result ≡ lesser a b }
 {

@@ -36,6 +36,7 @@ use ace_portck::{Progress, Target};
 use ace_tables::is_invalid;
 
 /// The transaction is of a kind that is granted, and the line is free.
+#[inline(always)]
 fn may_be_granted(x: &Option<Progress>, free: bool) -> bool
     ensures { result ≡ is_some_and x.now (λ y. takes_grant y.transaction && free) }
 {
@@ -46,18 +47,21 @@ fn may_be_granted(x: &Option<Progress>, free: bool) -> bool
 }
 
 /// K12, of a G.
+#[inline(always)]
 pub fn keeps_grant(kept: &LineRecord, target: &Target) -> bool
     ensures { (h : Header) (past : Trace) (p : ℕ) (c : Channel) (i : ℕ) → IsNext h past (G p c i) target.now kept.now → result ≡ k12 h past (G p c i) }
 {
     may_be_granted(&target.transaction, kept.grant.is_none())
 }
 
+#[inline(always)]
 fn is_unsnooped(stage: Stage) -> bool
     ensures { result ≡ is_unsnooped stage }
 {
     matches!(stage, Stage::Unsnooped)
 }
 
+#[inline(always)]
 fn is_sending(stage: Stage) -> bool
     ensures { result ≡ is_sending stage }
 {
@@ -65,6 +69,7 @@ fn is_sending(stage: Stage) -> bool
 }
 
 /// The port owes nothing, and was snooped unless it need not be.
+#[inline(always)]
 fn is_settled(stage: Stage, spared: bool) -> bool
     ensures { result ≡ is_settled stage spared }
 {
@@ -76,6 +81,7 @@ fn is_settled(stage: Stage, spared: bool) -> bool
 }
 
 /// Another port may be snooped with this code under the grant.
+#[inline(always)]
 fn may_be_snooped(grant: &Option<Grant>, failed: bool, port: u8, snoop: u8) -> bool
     ensures { result ≡ may_be_snooped failed grant.now port snoop }
 {
@@ -93,6 +99,7 @@ fn may_be_snooped(grant: &Option<Grant>, failed: bool, port: u8, snoop: u8) -> b
 }
 
 /// The port's own transaction is a write with B.
+#[inline(always)]
 fn owes_wack(own: &Option<Progress>) -> bool
     ensures { result ≡ is_some_and own.now (λ x. not (is_read x.transaction.chan) && x.complete) }
 {
@@ -103,6 +110,7 @@ fn owes_wack(own: &Option<Progress>) -> bool
 }
 
 /// It is a read.
+#[inline(always)]
 fn is_read_transaction(x: &Transaction) -> bool
     ensures { result ≡ is_read x.now.chan }
 {
@@ -110,6 +118,7 @@ fn is_read_transaction(x: &Transaction) -> bool
 }
 
 /// The snoop is one of DVM, or the line may be snooped.
+#[inline(always)]
 fn may_snoop(kept: &LineRecord, target: &Target, failed: bool, port: u8, snoop: u8) -> bool
     ensures { result ≡ implies (snoops_a_line snoop)
         (may_be_snooped failed kept.now.grant port snoop && not (is_some_and target.now.own (λ x. not (is_read x.transaction.chan) && x.complete))) }
@@ -119,6 +128,7 @@ fn may_snoop(kept: &LineRecord, target: &Target, failed: bool, port: u8, snoop: 
 }
 
 /// K13, of an AC. `failed` says that the line's granted transaction is an exclusive store that failed.
+#[inline(always)]
 pub fn keeps_snoop(kept: &LineRecord, target: &Target, failed: bool, port: u8, snoop: u8) -> bool
     ensures { (h : Header) (past : Trace) (addr : ℕ) → IsNext h past (Ac port addr snoop) target.now kept.now → IsFailure h past target.now failed
         → result ≡ k13 h past (Ac port addr snoop) }
@@ -127,6 +137,7 @@ pub fn keeps_snoop(kept: &LineRecord, target: &Target, failed: bool, port: u8, s
 }
 
 /// The granted transaction has passed data.
+#[inline(always)]
 pub fn has_passed(g: &Grant) -> bool
     ensures { result ≡ has_passed g.now }
 {
@@ -134,6 +145,7 @@ pub fn has_passed(g: &Grant) -> bool
 }
 
 /// The burst of the passed data is whole.
+#[inline(always)]
 pub fn is_passed_whole(g: &Grant) -> bool
     ensures { result ≡ is_passed_whole g.now }
 {
@@ -144,6 +156,7 @@ pub fn is_passed_whole(g: &Grant) -> bool
 }
 
 /// The snoops of the port under the grant are done.
+#[inline(always)]
 fn is_done_at(kept: &LineRecord, g: &Grant, header: &Header, port: u8) -> bool
     ensures { result ≡ is_done_at header.now g.now kept.now.holders.items port }
 {
@@ -153,6 +166,7 @@ fn is_done_at(kept: &LineRecord, g: &Grant, header: &Header, port: u8) -> bool
     is_settled(stage_at(&g.stages, port), spared)
 }
 
+#[inline(always)]
 fn both(a: bool, b: bool) -> bool
     ensures { result ≡ (a && b) }
 {
@@ -170,6 +184,7 @@ fn is_each_done(kept: &LineRecord, g: &Grant, header: &Header) -> bool
 }
 
 /// The snoops under the grant are done.
+#[inline(always)]
 pub fn are_done(kept: &LineRecord, g: &Grant, header: &Header, failed: bool) -> bool
     ensures { result ≡ are_done header.now failed g.now kept.now.holders.items }
 {
@@ -177,6 +192,7 @@ pub fn are_done(kept: &LineRecord, g: &Grant, header: &Header, failed: bool) -> 
 }
 
 /// The grant is that of the transaction.
+#[inline(always)]
 pub fn is_its(g: &Grant, x: &Transaction) -> bool
     ensures { result ≡ is_its g.now x.now }
 {
@@ -184,6 +200,7 @@ pub fn is_its(g: &Grant, x: &Transaction) -> bool
 }
 
 /// The passed data are for a kind that takes them, they are whole, and the response says PassDirty.
+#[inline(always)]
 fn takes_data(g: &Grant, x: &Transaction, resp: u8) -> bool
     ensures { result ≡ takes_data g.now x.now resp }
 {
@@ -191,6 +208,7 @@ fn takes_data(g: &Grant, x: &Transaction, resp: u8) -> bool
 }
 
 /// The transfer is one that the grant of the line lets through.
+#[inline(always)]
 fn may_have_beat(kept: &LineRecord, header: &Header, failed: bool, x: &Progress, resp: u8) -> bool
     ensures { result ≡ may_have_beat header.now failed kept.now.grant kept.now.holders.items x.now resp }
 {
@@ -205,6 +223,7 @@ fn may_have_beat(kept: &LineRecord, header: &Header, failed: bool, x: &Progress,
 }
 
 /// The transfer is none of a line transaction, or its grant lets it through.
+#[inline(always)]
 fn may_transfer(kept: &LineRecord, header: &Header, target: &Target, failed: bool, resp: u8) -> bool
     ensures { result ≡ is_none_or target.now.transaction (λ x. implies (is_line x.transaction) (may_have_beat header.now failed kept.now.grant kept.now.holders.items x resp)) }
 {
@@ -216,6 +235,7 @@ fn may_transfer(kept: &LineRecord, header: &Header, target: &Target, failed: boo
 
 /// The part of K18 that looks at the line, of an R. `failed` says that the line's granted transaction is an exclusive store that
 /// failed.
+#[inline(always)]
 pub fn keeps_transfer(
     kept: &LineRecord,
     header: &Header,

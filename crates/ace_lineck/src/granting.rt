@@ -12,6 +12,7 @@ use ace_codes::{ArKind, AwKind, SnoopKind, ac_code};
 use ace_model::Transaction;
 use ace_tables::{snoop_of_read, snoop_of_write};
 
+#[inline(always)]
 fn is_line_read(kind: ArKind) -> bool
     ensures { result ≡ is_line_read kind }
 {
@@ -21,6 +22,7 @@ fn is_line_read(kind: ArKind) -> bool
     )
 }
 
+#[inline(always)]
 fn is_granted_write(kind: AwKind) -> bool
     ensures { result ≡ is_granted_write kind }
 {
@@ -31,6 +33,7 @@ fn is_granted_write(kind: AwKind) -> bool
 }
 
 /// It is of a kind that is granted its line.
+#[inline(always)]
 pub fn takes_grant(x: &Transaction) -> bool
     ensures { result ≡ takes_grant x.now }
 {
@@ -38,6 +41,7 @@ pub fn takes_grant(x: &Transaction) -> bool
 }
 
 /// The line snoop that the transaction causes.
+#[inline(always)]
 pub fn snoop_of(x: &Transaction) -> Option<SnoopKind>
     ensures { result ≡ snoop_of x.now }
 {
@@ -49,6 +53,7 @@ pub fn snoop_of(x: &Transaction) -> Option<SnoopKind>
 }
 
 /// The snoop of the transaction has this code.
+#[inline(always)]
 pub fn has_snoop_code(x: &Transaction, snoop: u8) -> bool
     ensures { result ≡ has_snoop_code x.now snoop }
 {
@@ -58,6 +63,7 @@ pub fn has_snoop_code(x: &Transaction, snoop: u8) -> bool
     }
 }
 
+#[inline(always)]
 fn is_taker(kind: ArKind) -> bool
     ensures { result ≡ takes_passed_data kind }
 {
@@ -68,6 +74,7 @@ fn is_taker(kind: ArKind) -> bool
 }
 
 /// It is a read that may take the dirty data that a snooped port passes on.
+#[inline(always)]
 pub fn takes_passed_data(x: &Transaction) -> bool
     ensures { result ≡ is_some_and (read_kind x.now) takes_passed_data }
 {

@@ -22,6 +22,7 @@ use ace_model::Transaction;
 use ace_portck::Target;
 
 /// Whether the port is an ACE port of the header.
+#[inline(always)]
 pub fn is_ace(header: &Header, port: u8) -> bool
     ensures { result ≡ is_ace header.now port }
 {
@@ -29,6 +30,7 @@ pub fn is_ace(header: &Header, port: u8) -> bool
 }
 
 /// Whether what the event belongs to is this transaction.
+#[inline(always)]
 fn is_of(target: &Target, x: &Transaction) -> bool
     ensures { result ≡ is_of target.now.transaction x.now }
 {
@@ -54,6 +56,7 @@ fn fresh(x: Transaction) -> Grant
 }
 
 /// How far a port has come with its answer.
+#[inline(always)]
 fn answered_stage(resp: u8) -> Stage
     ensures { result ≡ (if transfers_data resp then Sending else Done) }
 {
@@ -65,6 +68,7 @@ fn answered_stage(resp: u8) -> Stage
 }
 
 /// The port's copy of the line.
+#[inline(always)]
 fn copy_at(holders: &[Holder], port: u8) -> Line
     ensures { result ≡ (holder_at holders.now port).copy }
 {
@@ -76,6 +80,7 @@ fn copy_at(holders: &[Holder], port: u8) -> Line
 
 impl Grant {
     /// The reply is this line, if it wasn't settled before.
+    #[inline(always)]
     fn settle(&mut self, line: &Line)
         ensures { self.new ≡ record self.old { reply = newer self.old.reply (Some line.now) } }
     {
@@ -85,6 +90,7 @@ impl Grant {
     }
 
     /// A port answers a snoop of the line.
+    #[inline(always)]
     fn hear_answer(&mut self, port: u8, resp: u8, copy: &Line)
         ensures stages { IsMoved self.old.stages self.new.stages port (if transfers_data resp then Sending else Done) }
         ensures rest { self.new ≡ record self.old {
@@ -105,6 +111,7 @@ impl Grant {
     }
 
     /// The granted read has a transfer.
+    #[inline(always)]
     fn hear_beat(&mut self, memory: &Line)
         ensures { self.new ≡ record self.old { begun = true; reply = newer self.old.reply (Some memory.now) } }
     {
@@ -113,6 +120,7 @@ impl Grant {
     }
 
     /// A transaction of the line has its M.
+    #[inline(always)]
     fn hear_write(&mut self, own: bool)
         ensures { self.new ≡ record self.old {
           written = self.old.written || own;
@@ -124,6 +132,7 @@ impl Grant {
     }
 
     /// Whether the event ends the granted transaction.
+    #[inline(always)]
     fn is_ended(&self, event: &Event, target: &Target, header: &Header) -> bool
         ensures { result ≡ is_over header.now event.now (is_of target.now.transaction self.now.transaction) }
     {
@@ -143,6 +152,7 @@ impl Grant {
     }
 
     /// What an event that doesn't end the granted transaction leaves of the grant.
+    #[inline(always)]
     fn hear(&mut self, event: &Event, target: &Target, holders: &[Holder], memory: &Line)
         ensures { (h : _) → (past : Trace) → (l : ℕ) → IsGrantStep h past l event.now target.now (Some self.old) holders.now memory.now
             → is_transaction (ended h past event.now) self.old.transaction ≡ false → GrantStands h (event.now ∷ past) l (Some self.new) }
@@ -169,6 +179,7 @@ impl Grant {
 }
 
 /// The grant that a G begins.
+#[inline(always)]
 fn begin(target: &Target) -> Option<Grant>
     ensures { (h : _) → (past : Trace) → (l p : ℕ) → (c : _) → (i : ℕ) → IsLineStep h past l (G p c i) target.now → GrantStands h (G p c i ∷ past) l result }
 {
@@ -179,6 +190,7 @@ fn begin(target: &Target) -> Option<Grant>
 }
 
 /// What an event leaves of the grant of its line. `holders` and `memory` are those before it.
+#[inline(always)]
 pub fn hear(
     grant: &mut Option<Grant>,
     event: &Event,

@@ -13,6 +13,7 @@ use ace_event::{Event, Line, merge};
 use ace_portck::{Progress, Target};
 
 /// The port that the event names.
+#[inline(always)]
 fn port_of(event: &Event) -> Option<u8>
     ensures { result ≡ port_of event.now }
 {
@@ -38,6 +39,7 @@ fn port_of(event: &Event) -> Option<u8>
 }
 
 /// The port's own transaction is a MakeUnique that is complete: its next store to the line belongs to it.
+#[inline(always)]
 pub fn awaits_store(own: &Option<Progress>) -> bool
     ensures { result ≡ is_some_and own.now awaits_store }
 {
@@ -48,6 +50,7 @@ pub fn awaits_store(own: &Option<Progress>) -> bool
 }
 
 /// What is kept of the port of the event. `whole` is the line that the port has received whole with it.
+#[inline(always)]
 fn hear(holder: &mut Holder, event: &Event, target: &Target, whole: Option<Line>)
     ensures { (h : Header) (past : Trace) (p l : ℕ) → IsHolderStep h past p l event.now target.now whole holder.old → HolderStands h (event.now ∷ past) p l holder.new }
 {
@@ -77,6 +80,7 @@ fn hear(holder: &mut Holder, event: &Event, target: &Target, whole: Option<Line>
 }
 
 /// What is kept of the ports, after an event of the line. `whole` is the line that the event's port has received whole with it.
+#[inline(always)]
 pub fn hear_holders(holders: &mut Vec<Holder>, event: &Event, target: &Target, whole: Option<Line>)
     ensures stand { (h : Header) (past : Trace) (l : ℕ) → IsHoldersStep h past l event.now target.now whole holders.old.items → HoldersStand h (event.now ∷ past) l holders.new.items }
     ensures room { length holders.new.items ≡ length holders.old.items }

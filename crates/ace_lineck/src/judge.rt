@@ -18,7 +18,7 @@ use crate::rules::{
     keeps_update, keeps_use, keeps_word, keeps_write_end, keeps_written,
 };
 use ace_event::{Event, Header};
-use ace_portck::Target;
+use ace_portck::{EventKind, Target};
 
 /// The number of a rule that isn't kept, else what the rules after it say.
 fn unless(kept: bool, number: u8, rest: Option<u8>) -> Option<u8>
@@ -28,6 +28,7 @@ fn unless(kept: bool, number: u8, rest: Option<u8>) -> Option<u8>
 }
 
 /// Of an AR or AW.
+#[inline(always)]
 fn judge_address(kept: &LineRecord, target: &Target) -> Option<u8>
     ensures { (h : Header) (past : Trace) (e : Event) → IsNext h past e target.now kept.now → issues e ≡ true → result ≡ least_of line_rules h past e }
 {
@@ -42,17 +43,17 @@ fn judge_address(kept: &LineRecord, target: &Target) -> Option<u8>
 
 /// The least rule of the share that the event breaks. `kept` is what is kept of its line, and `failed` says whether the granted
 /// transaction of the line is an exclusive store that failed.
-pub fn judge(
+pub fn judge<E: EventKind>(
     kept: &LineRecord,
-    event: &Event,
+    event: &E,
     target: &Target,
     header: &Header,
     failed: bool,
 ) -> Option<u8>
-    ensures { (past : Trace) → IsNext header.now past event.now target.now kept.now → IsFailure header.now past target.now failed
-        → result ≡ least_of line_rules header.now past event.now }
+    ensures { (past : Trace) → IsNext header.now past (E.event event.now) target.now kept.now → IsFailure header.now past target.now failed
+        → result ≡ least_of line_rules header.now past (E.event event.now) }
 {
-    match *event {
+    match event.event() {
         Event::Ar { .. } => judge_address(kept, target),
         Event::Aw { .. } => judge_address(kept, target),
         Event::W { port, word, .. } => unless(keeps_word(kept, target, port, word), 11, None),

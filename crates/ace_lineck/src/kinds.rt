@@ -14,6 +14,7 @@ use ace_event::Channel;
 use ace_model::Transaction;
 
 /// The kind of a transaction, if it is a read.
+#[inline(always)]
 pub fn read_kind(x: &Transaction) -> Option<ArKind>
     ensures { result ≡ read_kind x.now }
 {
@@ -24,6 +25,7 @@ pub fn read_kind(x: &Transaction) -> Option<ArKind>
 }
 
 /// The kind of a transaction, if it is a write.
+#[inline(always)]
 pub fn write_kind(x: &Transaction) -> Option<AwKind>
     ensures { result ≡ write_kind x.now }
 {
@@ -33,6 +35,7 @@ pub fn write_kind(x: &Transaction) -> Option<AwKind>
     }
 }
 
+#[inline(always)]
 fn is_line_read(kind: ArKind) -> bool
     ensures { result ≡ is_line_read kind }
 {
@@ -42,6 +45,7 @@ fn is_line_read(kind: ArKind) -> bool
     )
 }
 
+#[inline(always)]
 fn is_line_write(kind: AwKind) -> bool
     ensures { result ≡ is_line_write kind }
 {
@@ -49,18 +53,21 @@ fn is_line_write(kind: AwKind) -> bool
 }
 
 /// A line transaction.
+#[inline(always)]
 pub fn is_line(x: &Transaction) -> bool
     ensures { result ≡ is_line x.now }
 {
     read_kind(x).is_some_and(is_line_read) || write_kind(x).is_some_and(is_line_write)
 }
 
+#[inline(always)]
 fn is_no_snoop_read(kind: ArKind) -> bool
     ensures { result ≡ is_no_snoop_read kind }
 {
     matches!(kind, ArKind::ReadNoSnoop)
 }
 
+#[inline(always)]
 fn is_no_snoop_write(kind: AwKind) -> bool
     ensures { result ≡ is_no_snoop_write kind }
 {
@@ -68,12 +75,14 @@ fn is_no_snoop_write(kind: AwKind) -> bool
 }
 
 /// A transaction of lines that no cache holds.
+#[inline(always)]
 pub fn is_no_snoop(x: &Transaction) -> bool
     ensures { result ≡ is_no_snoop x.now }
 {
     read_kind(x).is_some_and(is_no_snoop_read) || write_kind(x).is_some_and(is_no_snoop_write)
 }
 
+#[inline(always)]
 fn reads_a_line(kind: ArKind) -> bool
     ensures { result ≡ reads_a_line kind }
 {
@@ -89,12 +98,14 @@ fn reads_a_line(kind: ArKind) -> bool
 }
 
 /// A read of a line, of four beats.
+#[inline(always)]
 pub fn is_line_read_transaction(x: &Transaction) -> bool
     ensures { result ≡ is_line_read_transaction x.now }
 {
     read_kind(x).is_some_and(reads_a_line)
 }
 
+#[inline(always)]
 fn is_make_unique_kind(kind: ArKind) -> bool
     ensures { result ≡ is_make_unique kind }
 {
@@ -102,12 +113,14 @@ fn is_make_unique_kind(kind: ArKind) -> bool
 }
 
 /// A MakeUnique.
+#[inline(always)]
 pub fn is_make_unique(x: &Transaction) -> bool
     ensures { result ≡ is_some_and (read_kind x.now) is_make_unique }
 {
     read_kind(x).is_some_and(is_make_unique_kind)
 }
 
+#[inline(always)]
 fn is_update(kind: AwKind) -> bool
     ensures { result ≡ is_update kind }
 {
@@ -118,6 +131,7 @@ fn is_update(kind: AwKind) -> bool
 }
 
 /// A memory update.
+#[inline(always)]
 pub fn updates_memory(x: &Transaction) -> bool
     ensures { result ≡ updates_memory x.now }
 {
@@ -125,12 +139,14 @@ pub fn updates_memory(x: &Transaction) -> bool
 }
 
 /// A write of this kind has data.
+#[inline(always)]
 pub fn has_write_data(kind: AwKind) -> bool
     ensures { result ≡ has_write_data kind }
 {
     !matches!(kind, AwKind::Evict | AwKind::Barrier)
 }
 
+#[inline(always)]
 fn is_line_snoop(kind: SnoopKind) -> bool
     ensures { result ≡ is_line_snoop kind }
 {
@@ -138,6 +154,7 @@ fn is_line_snoop(kind: SnoopKind) -> bool
 }
 
 /// The code is that of a line snoop.
+#[inline(always)]
 pub fn snoops_a_line(snoop: u8) -> bool
     ensures { result ≡ snoops_a_line snoop }
 {

@@ -4,7 +4,7 @@ use crate::judge::judge;
 use crate::record::{LineRecord, NoMemory, empty_record, new_record};
 use crate::step::advance;
 use ace_event::{Channel, Event, Header, Line};
-use ace_portck::Target;
+use ace_portck::{EventKind, Target};
 use indexmap::IndexMap;
 use std::alloc::Global;
 
@@ -46,7 +46,7 @@ impl LineCheck {
         }
     }
 
-    /// Where the record of a line stands, if it has one. The place is good until room is made for another line.
+    /// Where the record of a line stands, if it has one. It stays there; that a line has none is good until room is made for one.
     pub fn place(&self, line: Option<u32>) -> Option<usize>
         ensures { result ≡ place_on self.now line }
     {
@@ -71,15 +71,15 @@ impl LineCheck {
 
     /// The least rule of the share that the event breaks, if it breaks one and keeps K1. `place` is that of its line, and `failed`
     /// says whether the granted transaction of its line is an exclusive store that failed.
-    pub fn test(
+    pub fn test<E: EventKind>(
         &self,
-        event: &Event,
+        event: &E,
         target: &Target,
         place: Option<usize>,
         failed: bool,
     ) -> Option<u8>
-        ensures { (r : Recording) → MayTest self.now r event.now target.now place failed → k1 r.header r.past event.now ≡ true
-            → result ≡ least_of line_rules r.header r.past event.now }
+        ensures { (r : Recording) → MayTest self.now r (E.event event.now) target.now place failed → k1 r.header r.past (E.event event.now) ≡ true
+            → result ≡ least_of line_rules r.header r.past (E.event event.now) }
     {
         judge(self.record(place), event, target, &self.header, failed)
     }
@@ -112,7 +112,23 @@ impl LineCheck {
 
     /// Makes room for what the event leaves: a record of its line, if a line begins with it. The place of its line from then on.
     /// There is no memory for it only where the event is a MEM, or an AR or AW of a line that no transaction has named.
-    pub fn ready(
+    pub fn ready<E: EventKind>(
+        &mut self,
+        event: &E,
+        target: &Target,
+        place: Option<usize>,
+    ) -> Result<Option<usize>, NoMemory>
+        ensures stands { (r : Recording) → Stands self.old r → place ≡ place_on self.old target.now.line → Stands self.new r }
+        ensures room { place ≡ place_on self.old target.now.line → IfOk result (λ q. HasRoom self.new (E.event event.now) target.now q) }
+        ensures cause { place ≡ place_on self.old target.now.line
+            → OnErr result ((r : Recording) → Stands self.old r → BeginsLine r.past (E.event event.now) target.now) }
+    {
+        self.ready_for(&event.event(), target, place)
+    }
+
+    /// The same, of an event whose kind isn't known.
+    #[inline(always)]
+    fn ready_for(
         &mut self,
         event: &Event,
         target: &Target,
@@ -131,7 +147,15 @@ impl LineCheck {
     }
 
     /// Takes an event that breaks no rule. The room for it was made, and `place` is that of its line.
-    pub fn apply(&mut self, event: &Event, target: &Target, place: Option<usize>)
+    pub fn apply<E: EventKind>(&mut self, event: &E, target: &Target, place: Option<usize>)
+        ensures { (r : Recording) → MayApply self.old r (E.event event.now) target.now place → Stands self.new (after r (E.event event.now)) }
+    {
+        self.hear(&event.event(), target, place);
+    }
+
+    /// The same, of an event whose kind isn't known.
+    #[inline(always)]
+    fn hear(&mut self, event: &Event, target: &Target, place: Option<usize>)
         ensures { (r : Recording) → MayApply self.old r event.now target.now place → Stands self.new (after r event.now) }
     {
         let Some(place) = place else {

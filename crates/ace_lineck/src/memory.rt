@@ -9,6 +9,7 @@ ghost use Rattle.ace_lineck.specs.Holders.{MemoryStands, IsLineStep};
 use ace_event::{Event, Line};
 
 /// What memory has: what an M of the line writes, or its MEM.
+#[inline(always)]
 pub fn hear_memory(memory: &mut Line, event: &Event)
     ensures { (h : Header) (past : Trace) (l : ℕ) (t : Target) → IsLineStep h past l event.now t → MemoryStands past l memory.old → MemoryStands (event.now ∷ past) l memory.new }
 {

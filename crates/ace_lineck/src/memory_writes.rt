@@ -22,6 +22,7 @@ use ace_event::{Channel, Header, Line, merge};
 use ace_model::Transaction;
 use ace_portck::{Progress, Target, WriteData};
 
+#[inline(always)]
 fn is_read(x: &Transaction) -> bool
     ensures { result ≡ is_read x.now.chan }
 {
@@ -29,6 +30,7 @@ fn is_read(x: &Transaction) -> bool
 }
 
 /// The granted read has passed data that are whole.
+#[inline(always)]
 fn has_whole(grant: &Option<Grant>, x: &Transaction) -> bool
     ensures { result ≡ is_some_and grant.now (λ g. is_its g x.now && has_passed g && is_passed_whole g) }
 {
@@ -39,6 +41,7 @@ fn has_whole(grant: &Option<Grant>, x: &Transaction) -> bool
 }
 
 /// The granted write has its snoops done.
+#[inline(always)]
 fn is_write_due(kept: &LineRecord, header: &Header, failed: bool, x: &Transaction) -> bool
     ensures { result ≡ is_some_and kept.now.grant (λ g. is_its g x.now && are_done header.now failed g kept.now.holders.items) }
 {
@@ -49,6 +52,7 @@ fn is_write_due(kept: &LineRecord, header: &Header, failed: bool, x: &Transactio
 }
 
 /// It is a memory update, and no passed data are on their way.
+#[inline(always)]
 fn is_update_due(grant: &Option<Grant>, x: &Transaction) -> bool
     ensures { result ≡ (updates_memory x.now && is_none_or grant.now (λ g. not (has_passed g))) }
 {
@@ -60,6 +64,7 @@ fn is_update_due(grant: &Option<Grant>, x: &Transaction) -> bool
 }
 
 /// The transaction may write memory.
+#[inline(always)]
 fn may_write(
     kept: &LineRecord,
     header: &Header,
@@ -81,6 +86,7 @@ fn may_write(
     }
 }
 
+#[inline(always)]
 fn is_due(kept: &LineRecord, header: &Header, target: &Target, failed: bool) -> bool
     ensures { result ≡ is_some_and target.now.transaction (may_write_kept header.now failed kept.now.grant kept.now.holders.items target.now.«data») }
 {
@@ -91,6 +97,7 @@ fn is_due(kept: &LineRecord, header: &Header, target: &Target, failed: bool) -> 
 }
 
 /// K24, of an M. `failed` says that the line's granted transaction is an exclusive store that failed.
+#[inline(always)]
 pub fn keeps_write(kept: &LineRecord, header: &Header, target: &Target, failed: bool) -> bool
     ensures { (past : Trace) (p : ℕ) (c : Channel) (i : ℕ) (line : Line) → IsNext header.now past (M p c i line) target.now kept.now
         → IsFailure header.now past target.now failed → result ≡ k24 header.now past (M p c i line) }
@@ -99,6 +106,7 @@ pub fn keeps_write(kept: &LineRecord, header: &Header, target: &Target, failed: 
 }
 
 /// The passed data of the line.
+#[inline(always)]
 fn passed_kept(grant: &Option<Grant>) -> Option<Line>
     ensures { result ≡ passed_kept grant.now }
 {
@@ -118,6 +126,7 @@ fn passed_kept(grant: &Option<Grant>) -> Option<Line>
 }
 
 /// The first one, where there is one, else the other.
+#[inline(always)]
 fn line_or(passed: &Option<Line>, memory: &Line) -> Line
     ensures { result ≡ unwrap_or passed.now memory.now }
 {
@@ -128,6 +137,7 @@ fn line_or(passed: &Option<Line>, memory: &Line) -> Line
 }
 
 /// What a write of this kind writes.
+#[inline(always)]
 fn written_kept(passed: &Option<Line>, memory: &Line, burst: &WriteData, kind: AwKind) -> Line
     ensures { result ≡ written_kept passed.now memory.now burst.now kind }
 {
@@ -138,6 +148,7 @@ fn written_kept(passed: &Option<Line>, memory: &Line, burst: &WriteData, kind: A
     }
 }
 
+#[inline(always)]
 fn same_line(a: &Line, b: &Line) -> bool
     ensures { result ≡ same_line a.now b.now }
 {
@@ -146,6 +157,7 @@ fn same_line(a: &Line, b: &Line) -> bool
     a0 == b0 && a1 == b1 && a2 == b2 && a3 == b3
 }
 
+#[inline(always)]
 fn same_passed(passed: &Option<Line>, line: &Line) -> bool
     ensures { result ≡ is_none_or passed.now (same_line line.now) }
 {
@@ -155,6 +167,7 @@ fn same_passed(passed: &Option<Line>, line: &Line) -> bool
     }
 }
 
+#[inline(always)]
 fn fits_burst(
     passed: &Option<Line>,
     memory: &Line,
@@ -174,6 +187,7 @@ fn fits_burst(
 }
 
 /// The line is the one that the transaction writes.
+#[inline(always)]
 fn fits_data(
     passed: &Option<Line>,
     memory: &Line,
@@ -193,6 +207,7 @@ fn fits_data(
     }
 }
 
+#[inline(always)]
 fn has_data(kept: &LineRecord, target: &Target, line: &Line) -> bool
     ensures { result ≡ is_none_or target.now.transaction (λ x. fits_data (passed_kept kept.now.grant) kept.now.memory target.now.«data» line.now x.transaction) }
 {
@@ -206,6 +221,7 @@ fn has_data(kept: &LineRecord, target: &Target, line: &Line) -> bool
 }
 
 /// K25, of an M that keeps K24.
+#[inline(always)]
 pub fn keeps_data(kept: &LineRecord, target: &Target, line: &Line) -> bool
     ensures { (h : Header) (past : Trace) (p : ℕ) (c : Channel) (i : ℕ) → IsNext h past (M p c i line.now) target.now kept.now
         → k24 h past (M p c i line.now) ≡ true → result ≡ k25 h past (M p c i line.now) }

@@ -99,6 +99,7 @@ pub fn empty_record(alloc: Global) -> LineRecord
 }
 
 /// Word k of the line, from 0; 0 where k is above 3.
+#[inline(always)]
 fn word_of(line: &Line, k: u8) -> u128
     ensures { result ≡ word_of line.now k }
 {
@@ -110,6 +111,7 @@ fn word_of(line: &Line, k: u8) -> u128
 
 impl LineRecord {
     /// No transaction has named the line.
+    #[inline(always)]
     pub fn is_unknown(&self) -> bool
         ensures { result ≡ is_unknown self.now.used }
     {
@@ -117,6 +119,7 @@ impl LineRecord {
     }
 
     /// The name of the granted transaction: its port, channel and identifier.
+    #[inline(always)]
     pub fn granted_name(&self) -> Option<(u8, Channel, u8)>
         ensures { result ≡ option_map (λ g. name_of g.transaction) self.now.grant }
     {
@@ -130,6 +133,7 @@ impl LineRecord {
     }
 
     /// The state in which the port has the line.
+    #[inline(always)]
     pub fn state(&self, port: u8) -> LineState
         ensures { result ≡ (holder_at self.now.holders.items port).state }
     {
@@ -140,6 +144,7 @@ impl LineRecord {
     }
 
     /// Word k of the port's copy.
+    #[inline(always)]
     pub fn copied_word(&self, port: u8, k: u8) -> u128
         ensures { result ≡ word_of (holder_at self.now.holders.items port).copy k }
     {
@@ -150,6 +155,7 @@ impl LineRecord {
     }
 
     /// Word k of the port's copy at its last answer with DataTransfer to a snoop of the line.
+    #[inline(always)]
     pub fn sent_word(&self, port: u8, k: u8) -> u128
         ensures { result ≡ word_of (holder_at self.now.holders.items port).sent k }
     {

@@ -27,6 +27,7 @@ use ace_portck::{Progress, Target};
 use ace_tables::end_read;
 
 /// The reply of the granted read: memory, as long as it isn't settled.
+#[inline(always)]
 fn reply_kept(grant: &Option<Grant>, memory: &Line) -> Line
     ensures { result ≡ reply_kept grant.now memory.now }
 {
@@ -40,6 +41,7 @@ fn reply_kept(grant: &Option<Grant>, memory: &Line) -> Line
 }
 
 /// Word k of a line, from 0; 0 where k is above 3.
+#[inline(always)]
 fn word_at(line: &Line, k: u8) -> u128
     ensures { result ≡ word_of line.now k }
 {
@@ -50,6 +52,7 @@ fn word_at(line: &Line, k: u8) -> u128
 }
 
 /// The word of a transfer is that of the reply, or 0 where it is dataless.
+#[inline(always)]
 fn fits_reply(kept: &LineRecord, x: &Progress, word: u128) -> bool
     ensures { result ≡ fits_reply kept.now.grant kept.now.memory word x.now }
 {
@@ -61,6 +64,7 @@ fn fits_reply(kept: &LineRecord, x: &Progress, word: u128) -> bool
     }
 }
 
+#[inline(always)]
 fn has_word(kept: &LineRecord, target: &Target, word: u128) -> bool
     ensures { result ≡ is_none_or target.now.transaction (fits_reply kept.now.grant kept.now.memory word) }
 {
@@ -71,6 +75,7 @@ fn has_word(kept: &LineRecord, target: &Target, word: u128) -> bool
 }
 
 /// K20, of an R that keeps the part of K18 that looks at the line.
+#[inline(always)]
 pub fn keeps_reply(kept: &LineRecord, target: &Target, word: u128) -> bool
     ensures { (h : Header) (past : Trace) (p i resp : ℕ) (last : Bool) → IsNext h past (R p i resp last word) target.now kept.now
         → k18_line h past (R p i resp last word) ≡ true → result ≡ k20 h past (R p i resp last word) }
@@ -78,6 +83,7 @@ pub fn keeps_reply(kept: &LineRecord, target: &Target, word: u128) -> bool
     has_word(kept, target, word)
 }
 
+#[inline(always)]
 fn may_be_shared(kind: ArKind) -> bool
     ensures { result ≡ may_be_shared kind }
 {
@@ -91,12 +97,14 @@ fn may_be_shared(kind: ArKind) -> bool
     )
 }
 
+#[inline(always)]
 fn is_read_not_shared_dirty(kind: ArKind) -> bool
     ensures { result ≡ is_read_not_shared_dirty kind }
 {
     matches!(kind, ArKind::ReadNotSharedDirty)
 }
 
+#[inline(always)]
 fn is_make_unique(kind: ArKind) -> bool
     ensures { result ≡ is_make_unique kind }
 {
@@ -104,6 +112,7 @@ fn is_make_unique(kind: ArKind) -> bool
 }
 
 /// The kind may have these upper bits, with an answer that has IsShared or without.
+#[inline(always)]
 fn fits_shared(header: &Header, shared: bool, resp: u8, x: &Transaction, kind: ArKind) -> bool
     ensures { result ≡ fits_shared header.now shared resp x.now kind }
 {
@@ -112,6 +121,7 @@ fn fits_shared(header: &Header, shared: bool, resp: u8, x: &Transaction, kind: A
         && (!(is_ace(header, x.port) && may_be_shared(kind) && shared) || is_shared(resp))
 }
 
+#[inline(always)]
 fn fits_kind(header: &Header, shared: bool, resp: u8, x: &Transaction) -> bool
     ensures { result ≡ is_none_or (read_kind x.now) (fits_shared header.now shared resp x.now) }
 {
@@ -121,6 +131,7 @@ fn fits_kind(header: &Header, shared: bool, resp: u8, x: &Transaction) -> bool
     }
 }
 
+#[inline(always)]
 fn same_upper_bits(resp: u8, first: u8) -> bool
     ensures { result ≡ same_upper_bits resp first }
 {
@@ -128,6 +139,7 @@ fn same_upper_bits(resp: u8, first: u8) -> bool
 }
 
 /// The upper bits of the response are those that the read may have.
+#[inline(always)]
 fn fits_bits(header: &Header, passed: bool, shared: bool, resp: u8, x: &Progress) -> bool
     ensures { result ≡ fits_bits header.now passed shared resp x.now }
 {
@@ -138,6 +150,7 @@ fn fits_bits(header: &Header, passed: bool, shared: bool, resp: u8, x: &Progress
 }
 
 /// The granted transaction is this one, and has passed data.
+#[inline(always)]
 fn has_passed_for(grant: &Option<Grant>, x: &Transaction) -> bool
     ensures { result ≡ has_passed_for grant.now x.now }
 {
@@ -148,6 +161,7 @@ fn has_passed_for(grant: &Option<Grant>, x: &Transaction) -> bool
         }
 }
 
+#[inline(always)]
 fn is_shared_under(grant: &Option<Grant>) -> bool
     ensures { result ≡ is_shared_under grant.now }
 {
@@ -157,6 +171,7 @@ fn is_shared_under(grant: &Option<Grant>) -> bool
     }
 }
 
+#[inline(always)]
 fn has_bits(kept: &LineRecord, header: &Header, target: &Target, resp: u8) -> bool
     ensures { result ≡ is_none_or target.now.transaction (λ x. fits_bits header.now (has_passed_for kept.now.grant x.transaction) (is_shared_under kept.now.grant) resp x) }
 {
@@ -171,6 +186,7 @@ fn has_bits(kept: &LineRecord, header: &Header, target: &Target, resp: u8) -> bo
 }
 
 /// K19, of an R that keeps the part of K18 that looks at the line.
+#[inline(always)]
 pub fn keeps_bits(kept: &LineRecord, header: &Header, target: &Target, resp: u8) -> bool
     ensures { (past : Trace) (p i : ℕ) (last : Bool) (word : ℕ) → IsNext header.now past (R p i resp last word) target.now kept.now
         → k18_line header.now past (R p i resp last word) ≡ true → result ≡ k19 header.now past (R p i resp last word) }
@@ -179,6 +195,7 @@ pub fn keeps_bits(kept: &LineRecord, header: &Header, target: &Target, resp: u8)
 }
 
 /// The state is an end state of the read, and a MakeUnique has had its D.
+#[inline(always)]
 fn ends_kept(failed: bool, held: LineState, st: LineState, x: &Progress) -> bool
     ensures { result ≡ ends_kept failed held st x.now }
 {
@@ -195,12 +212,14 @@ fn ends_kept(failed: bool, held: LineState, st: LineState, x: &Progress) -> bool
     }
 }
 
+#[inline(always)]
 fn held_if(line: bool, held: LineState) -> LineState
     ensures { result ≡ (if line then held else LineState.I) }
 {
     if line { held } else { LineState::I }
 }
 
+#[inline(always)]
 fn ends_well(failed: bool, held: LineState, st: LineState, x: &Option<Progress>) -> bool
     ensures { result ≡ is_none_or x.now (ends_kept failed held st) }
 {
@@ -211,6 +230,7 @@ fn ends_well(failed: bool, held: LineState, st: LineState, x: &Option<Progress>)
 }
 
 /// K23, of an RK. `failed` says that the line's granted transaction is an exclusive store that failed.
+#[inline(always)]
 pub fn keeps_read_end(
     kept: &LineRecord,
     target: &Target,

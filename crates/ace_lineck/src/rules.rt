@@ -40,6 +40,7 @@ use ace_tables::{
 };
 
 /// The state is a start state of the kind of a line transaction.
+#[inline(always)]
 fn may_start(x: &Transaction, held: LineState) -> bool
     ensures { result ≡ implies (is_line x.now) (is_none_or (read_kind x.now) (λ k. starts_read k held) && is_none_or (write_kind x.now) (λ k. starts_write k held)) }
 {
@@ -49,6 +50,7 @@ fn may_start(x: &Transaction, held: LineState) -> bool
 }
 
 /// K6, of the transaction that an AR or AW begins.
+#[inline(always)]
 pub fn keeps_start(kept: &LineRecord, x: &Transaction) -> bool
     ensures { (h : Header) (past : Trace) (e : Event) (t : Target) → IsNext h past e t kept.now → issued (length past) e ≡ Some x.now → result ≡ k6 h past e }
 {
@@ -56,6 +58,7 @@ pub fn keeps_start(kept: &LineRecord, x: &Transaction) -> bool
 }
 
 /// A line transaction goes with the use of its line.
+#[inline(always)]
 fn goes_with_line(x: &Transaction, used: Use) -> bool
     ensures { result ≡ implies (is_line x.now) (goes_with used (is_no_snoop x.now)) }
 {
@@ -63,6 +66,7 @@ fn goes_with_line(x: &Transaction, used: Use) -> bool
 }
 
 /// K8, of the transaction that an AR or AW begins.
+#[inline(always)]
 pub fn keeps_use(kept: &LineRecord, x: &Transaction) -> bool
     ensures { (h : Header) (past : Trace) (e : Event) (t : Target) → IsNext h past e t kept.now → issued (length past) e ≡ Some x.now → result ≡ k8 h past e }
 {
@@ -70,6 +74,7 @@ pub fn keeps_use(kept: &LineRecord, x: &Transaction) -> bool
 }
 
 /// A memory update sends the word of the copy.
+#[inline(always)]
 fn sends_copy(x: &Option<Progress>, word: u128, copied: u128) -> bool
     ensures { result ≡ is_none_or x.now (λ y. implies (updates_memory y.transaction) (word == copied)) }
 {
@@ -80,6 +85,7 @@ fn sends_copy(x: &Option<Progress>, word: u128, copied: u128) -> bool
 }
 
 /// The data of K11, of a W.
+#[inline(always)]
 pub fn keeps_word(kept: &LineRecord, target: &Target, port: u8, word: u128) -> bool
     ensures { (h : Header) (past : Trace) (strb : ℕ) (last : Bool) → IsNext h past (W port strb last word) target.now kept.now → result ≡ k11_data h past (W port strb last word) }
 {
@@ -91,6 +97,7 @@ pub fn keeps_word(kept: &LineRecord, target: &Target, port: u8, word: u128) -> b
 }
 
 /// The response and the state are a row of the snoop and of the held state.
+#[inline(always)]
 fn is_row(snoop: &Option<Snoop>, held: LineState, update: bool, resp: u8, st: LineState) -> bool
     ensures { result ≡ is_none_or snoop.now (λ s. is_none_or (ac_kind_of s.snoop) (λ k. is_snoop_row k held update resp st)) }
 {
@@ -104,6 +111,7 @@ fn is_row(snoop: &Option<Snoop>, held: LineState, update: bool, resp: u8, st: Li
 }
 
 /// The port's own transaction is a memory update.
+#[inline(always)]
 fn has_update(own: &Option<Progress>) -> bool
     ensures { result ≡ is_some_and own.now (λ x. updates_memory x.transaction) }
 {
@@ -114,6 +122,7 @@ fn has_update(own: &Option<Progress>) -> bool
 }
 
 /// K15, of a CR.
+#[inline(always)]
 pub fn keeps_answer(kept: &LineRecord, target: &Target, port: u8, resp: u8, st: LineState) -> bool
     ensures { (h : Header) (past : Trace) → IsNext h past (Cr port resp st) target.now kept.now → result ≡ k15 h past (Cr port resp st) }
 {
@@ -121,6 +130,7 @@ pub fn keeps_answer(kept: &LineRecord, target: &Target, port: u8, resp: u8, st: 
 }
 
 /// With a memory update of the port, the response and the state are a row that goes with it.
+#[inline(always)]
 fn is_row_beside(
     own: &Option<Progress>,
     snoop: &Option<Snoop>,
@@ -134,6 +144,7 @@ fn is_row_beside(
 }
 
 /// K16, of a CR that keeps K15.
+#[inline(always)]
 pub fn keeps_update(kept: &LineRecord, target: &Target, port: u8, resp: u8, st: LineState) -> bool
     ensures { (h : Header) (past : Trace) → IsNext h past (Cr port resp st) target.now kept.now → k15 h past (Cr port resp st) ≡ true → result ≡ k16 h past (Cr port resp st) }
 {
@@ -141,6 +152,7 @@ pub fn keeps_update(kept: &LineRecord, target: &Target, port: u8, resp: u8, st: 
 }
 
 /// The word is that of the line that the snoop's burst sends.
+#[inline(always)]
 fn sends(snoop: &Option<Snoop>, word: u128, sent: u128) -> bool
     ensures { result ≡ is_none_or snoop.now (λ s. word == sent) }
 {
@@ -148,6 +160,7 @@ fn sends(snoop: &Option<Snoop>, word: u128, sent: u128) -> bool
 }
 
 /// The data of K17, of a CD.
+#[inline(always)]
 pub fn keeps_sent(kept: &LineRecord, target: &Target, port: u8, word: u128) -> bool
     ensures { (h : Header) (past : Trace) (last : Bool) → IsNext h past (Cd port last word) target.now kept.now → result ≡ k17_data h past (Cd port last word) }
 {
@@ -155,6 +168,7 @@ pub fn keeps_sent(kept: &LineRecord, target: &Target, port: u8, word: u128) -> b
 }
 
 /// The M of K26, of a B.
+#[inline(always)]
 pub fn keeps_written(target: &Target) -> bool
     ensures { (h : Header) (past : Trace) (p i resp : ℕ) (x : LineRecord) → IsNext h past (B p i resp) target.now x → result ≡ k26_memory h past (B p i resp) }
 {
@@ -165,6 +179,7 @@ pub fn keeps_written(target: &Target) -> bool
 }
 
 /// The state that the port of a transaction holds of its line; a barrier has none.
+#[inline(always)]
 fn held_of(x: &Transaction, held: LineState) -> LineState
     ensures { result ≡ (if is_line x.now then held else I) }
 {
@@ -172,6 +187,7 @@ fn held_of(x: &Transaction, held: LineState) -> LineState
 }
 
 /// The state is an end state of the write, by the state that its port holds of its line.
+#[inline(always)]
 fn may_end(x: &Option<Progress>, held: LineState, st: LineState) -> bool
     ensures { result ≡ is_none_or x.now (λ y. is_none_or (write_kind y.transaction) (λ k. ends_write k (if is_line y.transaction then held else I) st)) }
 {
@@ -185,6 +201,7 @@ fn may_end(x: &Option<Progress>, held: LineState, st: LineState) -> bool
 }
 
 /// K28, of a WK.
+#[inline(always)]
 pub fn keeps_write_end(kept: &LineRecord, target: &Target, port: u8, st: LineState) -> bool
     ensures { (h : Header) (past : Trace) → IsNext h past (Wk port st) target.now kept.now → result ≡ k28 h past (Wk port st) }
 {
@@ -192,6 +209,7 @@ pub fn keeps_write_end(kept: &LineRecord, target: &Target, port: u8, st: LineSta
 }
 
 /// K29, of an S.
+#[inline(always)]
 pub fn keeps_silence(kept: &LineRecord, target: &Target, port: u8, st: LineState) -> bool
     ensures { (h : Header) (past : Trace) (addr : ℕ) → IsNext h past (S port addr st) target.now kept.now → result ≡ k29 h past (S port addr st) }
 {
@@ -199,6 +217,7 @@ pub fn keeps_silence(kept: &LineRecord, target: &Target, port: u8, st: LineState
 }
 
 /// A silent transition from the held state to the next, which isn't I while a memory update of the port is outstanding.
+#[inline(always)]
 fn may_move(held: LineState, next: LineState, own: &Option<Progress>) -> bool
     ensures { result ≡ (is_silent_move held next && not (is_invalid next && is_some_and own.now (λ x. updates_memory x.transaction))) }
 {
@@ -206,6 +225,7 @@ fn may_move(held: LineState, next: LineState, own: &Option<Progress>) -> bool
 }
 
 /// K30, of an L.
+#[inline(always)]
 pub fn keeps_hold(kept: &LineRecord, port: u8) -> bool
     ensures { (h : Header) (past : Trace) (addr w : ℕ) (x : Bool) (word : ℕ) (t : Target) → IsNext h past (L port addr w x word) t kept.now → result ≡ k30 h past (L port addr w x word) }
 {
@@ -213,6 +233,7 @@ pub fn keeps_hold(kept: &LineRecord, port: u8) -> bool
 }
 
 /// K31, of an L.
+#[inline(always)]
 pub fn keeps_load(kept: &LineRecord, port: u8, w: u8, word: u128) -> bool
     ensures { (h : Header) (past : Trace) (addr : ℕ) (x : Bool) (t : Target) → IsNext h past (L port addr w x word) t kept.now → result ≡ k31 h past (L port addr w x word) }
 {
@@ -220,6 +241,7 @@ pub fn keeps_load(kept: &LineRecord, port: u8, w: u8, word: u128) -> bool
 }
 
 /// The port's own transaction is a complete MakeUnique that has had no store.
+#[inline(always)]
 fn wants_store(own: &Option<Progress>) -> bool
     ensures { result ≡ is_some_and own.now (λ x. awaits_store x && not x.stored) }
 {
@@ -230,6 +252,7 @@ fn wants_store(own: &Option<Progress>) -> bool
 }
 
 /// The port may store alone, or it makes the store of its MakeUnique.
+#[inline(always)]
 fn may_store(held: LineState, own: &Option<Progress>, strobe: u64, x: bool) -> bool
     ensures { result ≡ ((is_unique held && not (is_some own.now)) || (is_some_and own.now (λ y. awaits_store y && not y.stored) && not x && (strobe == full_line))) }
 {
@@ -237,6 +260,7 @@ fn may_store(held: LineState, own: &Option<Progress>, strobe: u64, x: bool) -> b
 }
 
 /// K32, of a D.
+#[inline(always)]
 pub fn keeps_store(kept: &LineRecord, target: &Target, port: u8, strobe: u64, x: bool) -> bool
     ensures { (h : Header) (past : Trace) (addr : ℕ) (line : Line) → IsNext h past (D port addr strobe x line) target.now kept.now → result ≡ k32 h past (D port addr strobe x line) }
 {

@@ -17,6 +17,7 @@ pub enum Stage {
 }
 
 /// What is kept of the port: a port that isn't there wasn't snooped.
+#[inline(always)]
 pub fn stage_at(stages: &[Stage; 32], port: u8) -> Stage
     ensures { result ≡ stage_at stages.now port }
 {
@@ -27,6 +28,7 @@ pub fn stage_at(stages: &[Stage; 32], port: u8) -> Stage
 }
 
 /// The port has come to this stage. A port that isn't there has none.
+#[inline(always)]
 pub fn set_stage(stages: &mut [Stage; 32], port: u8, stage: Stage)
     ensures { IsMoved stages.old stages.new port stage }
 {

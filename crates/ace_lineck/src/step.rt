@@ -18,6 +18,7 @@ use ace_event::{Event, Header, Line};
 use ace_portck::{Progress, Target};
 
 /// The event's read is one of the line that has had three of its four beats.
+#[inline(always)]
 fn has_three(x: &Option<Progress>) -> bool
     ensures { result ≡ has_three x.now }
 {
@@ -28,6 +29,7 @@ fn has_three(x: &Option<Progress>) -> bool
 }
 
 /// The reply of the granted read, once it is settled.
+#[inline(always)]
 fn reply_of(grant: &Option<Grant>) -> Option<Line>
     ensures { result ≡ option_and_then (λ g. g.reply) grant.now }
 {
@@ -38,6 +40,7 @@ fn reply_of(grant: &Option<Grant>) -> Option<Line>
 }
 
 /// The line that the event's port has received whole with it: the reply, at the fourth R of a read of the line.
+#[inline(always)]
 fn received(kept: &LineRecord, event: &Event, target: &Target) -> Option<Line>
     ensures { (h : Header) (past : Trace) (l p : ℕ) → IsRecordStep h past l event.now target.now kept.now → port_of event.now ≡ Some p → result ≡ received past event.now p l }
 {
@@ -54,6 +57,7 @@ fn received(kept: &LineRecord, event: &Event, target: &Target) -> Option<Line>
 }
 
 /// What is kept of the line of the event, after the event. Whether the line has become known with it.
+#[inline(always)]
 pub fn advance(kept: &mut LineRecord, event: &Event, target: &Target, header: &Header) -> bool
     ensures stands { (past : Trace) (l : ℕ) → IsRecordStep header.now past l event.now target.now kept.old → LineStands header.now (event.now ∷ past) l kept.new }
     ensures room { length kept.new.holders.items ≡ length kept.old.holders.items }

@@ -13,6 +13,7 @@ use ace_model::Transaction;
 use ace_portck::Target;
 
 /// How the transaction uses its line.
+#[inline(always)]
 fn use_by(x: &Transaction) -> Use
     ensures { result ≡ use_by x.now }
 {
@@ -24,6 +25,7 @@ fn use_by(x: &Transaction) -> Use
 }
 
 /// A transaction goes with the use of its line: a NoSnoop one, or another.
+#[inline(always)]
 pub fn goes_with(used: Use, unshared: bool) -> bool
     ensures { result ≡ goes_with used unshared }
 {
@@ -35,6 +37,7 @@ pub fn goes_with(used: Use, unshared: bool) -> bool
 }
 
 /// How the line is used: as the last transaction of the line does.
+#[inline(always)]
 pub fn hear_use(used: &mut Use, event: &Event, target: &Target)
     ensures { (h : Header) (past : Trace) (l : ℕ) → IsLineStep h past l event.now target.now → used.old ≡ use_of past l → used.new ≡ use_of (event.now ∷ past) l }
 {

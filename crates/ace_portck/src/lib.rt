@@ -1,6 +1,7 @@
 //! The rules that look at one port, and what an event belongs to.
 #![tactic(auto)]
 
+pub mod event_kinds;
 mod kinds;
 mod no_memory;
 mod opening;
@@ -18,6 +19,7 @@ mod tests;
 mod transactions;
 mod write_data;
 
+pub use event_kinds::EventKind;
 pub use no_memory::NoMemory;
 pub use ports::PortCheck;
 pub use target::{Progress, Target, WriteData};

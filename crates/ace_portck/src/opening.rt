@@ -45,6 +45,7 @@ fn write_line(addr: u32, snoop: u8, dom: u8, bar: u8) -> Option<u32>
 }
 
 /// The address of the line that the event names.
+#[inline(always)]
 fn line_address(event: &Event) -> Option<u32>
     ensures { result ≡ line_address event.now }
 {
@@ -79,6 +80,7 @@ fn line_address(event: &Event) -> Option<u32>
 }
 
 /// The line that the event names, if it names one, is at a multiple of 64.
+#[inline(always)]
 fn is_aligned(event: &Event) -> bool
     ensures { result ≡ is_none_or (line_address event.now) is_aligned }
 {
@@ -116,6 +118,7 @@ impl OpeningMemory {
 
     /// K3: the line of an event is at a multiple of 64. A MEM stands in a trace of version 2, after none but MEM events, with a
     /// greater address than each of them, and it is at most the 4,096th. `place` is the number of events before it.
+    #[inline(always)]
     pub fn may_open(&self, header: &Header, event: &Event, place: usize) -> bool
         ensures { (past : Trace) → OpeningStands past self.now → place ≡ length past → result ≡ k3 header.now past event.now }
     {
@@ -127,6 +130,7 @@ impl OpeningMemory {
     }
 
     /// Hears an event that keeps the rules.
+    #[inline(always)]
     pub fn hear(&mut self, event: &Event)
         ensures { (h : Header) (past : Trace) → IsAccepted h (event.now ∷ past) → OpeningStands past self.old
             → OpeningStands (event.now ∷ past) self.new }

@@ -44,6 +44,7 @@ pub fn begun(transaction: Transaction) -> Progress
 }
 
 /// The transaction that the event issues, where so many events came before it.
+#[inline(always)]
 pub fn issued(place: usize, event: &Event) -> Option<Transaction>
     ensures { result ≡ issued place event.now }
 {
@@ -108,6 +109,7 @@ fn transfer(x: &mut Progress, resp: u8, last: bool)
 }
 
 /// Advances a transaction by the event. Only what changes is written.
+#[inline(always)]
 fn advance(x: &mut Progress, event: &Event)
     ensures { x.new ≡ renewed event.now x.old }
 {
@@ -139,6 +141,7 @@ fn advance(x: &mut Progress, event: &Event)
 }
 
 /// Brings each transaction up to date.
+#[inline(always)]
 fn renew(list: &mut [Progress], event: &Event)
     ensures { list.new ≡ map (renewed event.now) list.old }
 {
@@ -148,6 +151,7 @@ fn renew(list: &mut [Progress], event: &Event)
 }
 
 /// The same, of a list with its room.
+#[inline(always)]
 fn renew_all(list: &mut Vec<Progress>, event: &Event)
     ensures items { list.new.items ≡ map (renewed event.now) list.old.items }
     ensures capacity { vec_capacity list.new ≡ vec_capacity list.old }
@@ -163,6 +167,7 @@ fn find_id(list: &[Progress], id: u8) -> Option<&Progress>
 }
 
 /// Takes the transaction under the identifier out of the list, if there is one.
+#[inline(always)]
 fn take_out(list: &mut Vec<Progress>, ended: Option<u8>)
     ensures items { list.new.items ≡ without_id ended list.old.items }
     ensures capacity { vec_capacity list.new ≡ vec_capacity list.old }
@@ -174,6 +179,7 @@ fn take_out(list: &mut Vec<Progress>, ended: Option<u8>)
 }
 
 /// Puts a new transaction behind the others, if there is one. Where there is room, it takes no memory.
+#[inline(always)]
 fn put_in(list: &mut Vec<Progress>, new: Option<Transaction>)
     ensures items { length list.old.items < vec_capacity list.old → list.new.items ≡ more list.old.items (option_map begun new) }
     ensures none { new ≡ None → list.new.items ≡ list.old.items }
@@ -185,6 +191,7 @@ fn put_in(list: &mut Vec<Progress>, new: Option<Transaction>)
 }
 
 /// The identifier of the transaction on the channel that an event of the port completes: its last R, or its B.
+#[inline(always)]
 fn completed_by(event: &Event, chan: Channel) -> Option<u8>
     ensures { result ≡ completed_by event.now chan }
 {
@@ -196,6 +203,7 @@ fn completed_by(event: &Event, chan: Channel) -> Option<u8>
 }
 
 /// The transaction, where it is on the channel.
+#[inline(always)]
 fn on_channel(chan: Channel, transaction: Option<Transaction>) -> Option<Transaction>
     ensures { result ≡ on_channel chan transaction }
 {
@@ -203,6 +211,7 @@ fn on_channel(chan: Channel, transaction: Option<Transaction>) -> Option<Transac
 }
 
 /// The event is an RK, or a WK for the write channel.
+#[inline(always)]
 fn is_acknowledge(event: &Event, chan: Channel) -> bool
     ensures { result ≡ is_acknowledge event.now chan }
 {
@@ -214,6 +223,7 @@ fn is_acknowledge(event: &Event, chan: Channel) -> bool
 }
 
 /// The complete ones that wait after an event of the port.
+#[inline(always)]
 fn wait(waiting: &mut VecDeque<u8>, ace: bool, chan: Channel, event: &Event)
     ensures waiting { length waiting.old.items < deque_capacity waiting.old
         → waiting.new.items ≡ waiting_after waiting.old.items ace chan event.now }
@@ -275,6 +285,7 @@ impl Pending {
 
     /// The identifier of the transaction that an event of the port ends: at an ACE port an RK or WK the one that waits first, at an
     /// ACE-Lite port the last R or the B its own.
+    #[inline(always)]
     fn ending(&self, ace: bool, chan: Channel, event: &Event) -> Option<u8>
         ensures { result ≡ ending_of self.now.waiting.items ace chan event.now }
     {
@@ -288,6 +299,7 @@ impl Pending {
     }
 
     /// Hears an event of the port that keeps the rules, with `place` events before it. It takes no memory.
+    #[inline(always)]
     pub fn hear(&mut self, header: &Header, port: u8, chan: Channel, place: usize, event: &Event)
         ensures { (past : Trace) → IsHeard header.now past place event.now port → AllByRecursion HasByteId (event.now ∷ past)
             → PendingStands header.now past port chan self.old → PendingStands header.now (event.now ∷ past) port chan self.new }

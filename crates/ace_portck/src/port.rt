@@ -45,6 +45,7 @@ impl PortRecord {
     }
 
     /// Makes room for the event. Memory runs out only at an AC with which the port has more snoops under way than ever before.
+    #[inline(always)]
     pub fn ready(&mut self, event: &Event) -> Result<(), NoMemory>
         ensures stands { (h : Header) (past : Trace) (p : ℕ) → PortStands h past p self.old → PortStands h past p self.new }
         ensures room { OnOk result (HasRoom self.new event.now) }
@@ -58,6 +59,7 @@ impl PortRecord {
     }
 
     /// Hears an event of the port that keeps the rules, with `place` events before it. It takes no memory.
+    #[inline(always)]
     pub fn hear(&mut self, header: &Header, port: u8, place: usize, event: &Event)
         ensures { (past : Trace) → IsHeard header.now past place event.now port → AllByRecursion HasByteId (event.now ∷ past)
             → PortStands header.now past port self.old → HasRoom self.old event.now

@@ -22,6 +22,7 @@ use ace_event::{Event, Header};
 use ace_model::Transaction;
 
 /// The transaction that the event issues.
+#[inline(always)]
 fn begun_by(event: &Event, target: &Target) -> Option<Transaction>
     ensures { (h : Header) (past : Trace) → target.now ≡ target_of h past event.now → result ≡ issued (length past) event.now }
 {
@@ -50,6 +51,7 @@ fn may_transfer(read: Option<Progress>, last: bool) -> bool
 }
 
 /// The outstanding write has had no B, and the response is 0.
+#[inline(always)]
 fn may_respond(write: Option<Progress>, resp: u8) -> bool
     ensures { (h : Header) (past : Trace) (p id : ℕ) → write ≡ option_map (progress_of h past) (outstanding h past p Write id)
         → result ≡ k26_response h past (B p id resp) }
@@ -58,6 +60,7 @@ fn may_respond(write: Option<Progress>, resp: u8) -> bool
 }
 
 /// K7: the new transaction has lock 0, or is of a kind that may be exclusive, at an ACE port.
+#[inline(always)]
 fn keeps_lock(header: &Header, new: Option<Transaction>) -> bool
     ensures { (past : Trace) (e : Event) → new ≡ issued (length past) e → result ≡ k7 header.now past e }
 {
@@ -69,6 +72,7 @@ fn keeps_lock(header: &Header, new: Option<Transaction>) -> bool
 
 /// K18 but grant, snoops and passed data: an R names an outstanding read with transfers left, and is the last exactly where it
 /// says so.
+#[inline(always)]
 fn keeps_transfer(event: &Event, target: &Target) -> bool
     ensures { (h : Header) (past : Trace) → target.now ≡ target_of h past event.now → result ≡ k18_transfer h past event.now }
 {
@@ -79,6 +83,7 @@ fn keeps_transfer(event: &Event, target: &Target) -> bool
 }
 
 /// K22: the port of an RK has a complete read without RK.
+#[inline(always)]
 fn keeps_read_acknowledge(event: &Event, target: &Target) -> bool
     ensures { (h : Header) (past : Trace) → IsAccepted h past → k1 h past event.now ≡ true → target.now ≡ target_of h past event.now
         → result ≡ k22 h past event.now }
@@ -90,6 +95,7 @@ fn keeps_read_acknowledge(event: &Event, target: &Target) -> bool
 }
 
 /// K26 but M: a B names an outstanding write without B, and its response is 0.
+#[inline(always)]
 fn keeps_response(event: &Event, target: &Target) -> bool
     ensures { (h : Header) (past : Trace) → target.now ≡ target_of h past event.now → result ≡ k26_response h past event.now }
 {
@@ -100,6 +106,7 @@ fn keeps_response(event: &Event, target: &Target) -> bool
 }
 
 /// K27: the port of a WK has a complete write without WK.
+#[inline(always)]
 fn keeps_write_acknowledge(event: &Event, target: &Target) -> bool
     ensures { (h : Header) (past : Trace) → IsAccepted h past → k1 h past event.now ≡ true → target.now ≡ target_of h past event.now
         → result ≡ k27 h past event.now }
@@ -111,6 +118,7 @@ fn keeps_write_acknowledge(event: &Event, target: &Target) -> bool
 }
 
 /// The number of a rule that isn't kept.
+#[inline(always)]
 fn broken(kept: bool, number: u8) -> Option<u8>
     ensures { result ≡ (if kept then None else Some number) }
 {
@@ -159,6 +167,7 @@ impl PortRecord {
     }
 
     /// The least of K4, K5, K7 and K10 that an event of the port breaks.
+    #[inline(always)]
     fn test_address(&self, header: &Header, event: &Event, target: &Target) -> Option<u8>
         ensures { (past : Trace) (p : ℕ) → PortStands header.now past p self.now → port_of event.now ≡ Some p
             → target.now ≡ target_of header.now past event.now
@@ -182,6 +191,7 @@ impl PortRecord {
 
     /// The least of the rules from K4 on that an event of the port breaks: it is looked at by the rules of its kind alone. It keeps
     /// K1.
+    #[inline(always)]
     pub fn test(&self, header: &Header, event: &Event, target: &Target) -> Option<u8>
         ensures { (past : Trace) (p : ℕ) → PortStands header.now past p self.now → port_of event.now ≡ Some p
             → k1 header.now past event.now ≡ true → target.now ≡ target_of header.now past event.now

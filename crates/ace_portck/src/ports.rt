@@ -13,6 +13,7 @@ ghost use Rattle.ace_portck.specs.Unfinished.{RisesAt};
 ghost use Rattle.ace_portck.specs.declared.port.PortRecord.{PortRecord};
 
 use crate::NoMemory;
+use crate::event_kinds::EventKind;
 use crate::opening::OpeningMemory;
 use crate::port::PortRecord;
 use crate::rules::{keeps_codes, keeps_port, port_of};
@@ -50,6 +51,7 @@ fn fresh_ports(alloc: Global, count: u8) -> Result<Vec<PortRecord>, NoMemory>
 }
 
 /// What a MEM belongs to, which names no port: its line.
+#[inline(always)]
 fn target_without_port(event: &Event) -> Target
     ensures { (h : Header) (past : Trace) → port_of event.now ≡ None → result ≡ target_of h past event.now }
 {
@@ -78,6 +80,7 @@ fn has_byte_id(event: &Event)
 }
 
 /// The record of the port.
+#[inline(always)]
 fn record_of<'a>(ports: &'a [PortRecord], outside: &'a PortRecord, port: u8) -> &'a PortRecord
     ensures { result.now ≡ record_at ports.now outside.now port }
 {
@@ -88,6 +91,7 @@ fn record_of<'a>(ports: &'a [PortRecord], outside: &'a PortRecord, port: u8) -> 
 }
 
 /// Makes room for the event in the record of its port, if there is such a port.
+#[inline(always)]
 fn make_room(ports: &mut Vec<PortRecord>, port: u8, event: &Event) -> Result<(), NoMemory>
     ensures len { length ports.new.items ≡ length ports.old.items }
     ensures stands { (h : Header) (past : Trace) (outside : PortRecord) → PortsStand h past ports.old.items outside
@@ -103,6 +107,7 @@ fn make_room(ports: &mut Vec<PortRecord>, port: u8, event: &Event) -> Result<(),
 }
 
 /// The record of the port hears the event, which is one of the port.
+#[inline(always)]
 fn hear_at(ports: &mut Vec<PortRecord>, header: &Header, port: u8, place: usize, event: &Event)
     ensures len { length ports.new.items ≡ length ports.old.items }
     ensures stands { (past : Trace) (outside : PortRecord) → IsHeard header.now past place event.now port
@@ -144,7 +149,15 @@ impl PortCheck {
     }
 
     /// What the event belongs to, as the next of the trace.
-    pub fn target(&self, event: &Event) -> Target
+    pub fn target<E: EventKind>(&self, event: &E) -> Target
+        ensures { (r : Recording) → Stands self.now r → result ≡ target_of r.header r.past (E.event event.now) }
+    {
+        self.target_of(&event.event())
+    }
+
+    /// The same, of an event whose kind isn't known.
+    #[inline(always)]
+    fn target_of(&self, event: &Event) -> Target
         ensures { (r : Recording) → Stands self.now r → result ≡ target_of r.header r.past event.now }
     {
         match port_of(event) {
@@ -158,7 +171,16 @@ impl PortCheck {
     }
 
     /// The least rule of those that look at one port that the event breaks, as the next of the trace. `target` is its target.
-    pub fn test(&self, event: &Event, target: &Target) -> Option<u8>
+    pub fn test<E: EventKind>(&self, event: &E, target: &Target) -> Option<u8>
+        ensures { (r : Recording) → MayTest self.now r (E.event event.now) target.now
+            → result ≡ least_of port_rules r.header r.past (E.event event.now) }
+    {
+        self.test_event(&event.event(), target)
+    }
+
+    /// The same, of an event whose kind isn't known.
+    #[inline(always)]
+    fn test_event(&self, event: &Event, target: &Target) -> Option<u8>
         ensures { (r : Recording) → MayTest self.now r event.now target.now → result ≡ least_of port_rules r.header r.past event.now }
     {
         if !keeps_port(&self.header, event) {
@@ -174,6 +196,7 @@ impl PortCheck {
     }
 
     /// The least of those from K4 on.
+    #[inline(always)]
     fn test_port(&self, event: &Event, target: &Target) -> Option<u8>
         ensures { (r : Recording) → MayTest self.now r event.now target.now → k1 r.header r.past event.now ≡ true
             → result ≡ least_of (drop 3 port_rules) r.header r.past event.now }
@@ -193,7 +216,17 @@ impl PortCheck {
     /// # Errors
     ///
     /// `NoMemory` only at an AC with which its port has more snoops under way than at any point before.
-    pub fn ready(&mut self, event: &Event) -> Result<(), NoMemory>
+    pub fn ready<E: EventKind>(&mut self, event: &E) -> Result<(), NoMemory>
+        ensures stands { (r : Recording) → Stands self.old r → Stands self.new r }
+        ensures room { OnOk result (HasRoomFor self.new (E.event event.now)) }
+        ensures cause { OnErr result ((r : Recording) → Stands self.old r → RisesAt r.past (E.event event.now)) }
+    {
+        self.ready_for(&event.event())
+    }
+
+    /// The same, of an event whose kind isn't known.
+    #[inline(always)]
+    fn ready_for(&mut self, event: &Event) -> Result<(), NoMemory>
         ensures stands { (r : Recording) → Stands self.old r → Stands self.new r }
         ensures room { OnOk result (HasRoomFor self.new event.now) }
         ensures cause { OnErr result ((r : Recording) → Stands self.old r → RisesAt r.past event.now) }
@@ -205,7 +238,15 @@ impl PortCheck {
     }
 
     /// Hears the next event of the trace, which keeps the rules.
-    pub fn apply(&mut self, event: &Event)
+    pub fn apply<E: EventKind>(&mut self, event: &E)
+        ensures { (r : Recording) → MayApply self.old r (E.event event.now) → Stands self.new (after r (E.event event.now)) }
+    {
+        self.hear(&event.event());
+    }
+
+    /// The same, of an event whose kind isn't known.
+    #[inline(always)]
+    fn hear(&mut self, event: &Event)
         ensures { (r : Recording) → MayApply self.old r event.now → Stands self.new (after r event.now) }
     {
         has_byte_id(event);

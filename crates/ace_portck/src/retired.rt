@@ -25,6 +25,7 @@ impl RetiredCount {
     }
 
     /// K40: the number of an OP is that of the port's earlier OP events.
+    #[inline(always)]
     pub fn may_retire(&self, event: &Event) -> bool
         ensures { (h : Header) (past : Trace) (p : ℕ) → RetiredStand past p self.now → port_of event.now ≡ Some p
             → result ≡ k40 h past event.now }
@@ -36,6 +37,7 @@ impl RetiredCount {
     }
 
     /// Hears an event of the port that keeps the rules.
+    #[inline(always)]
     pub fn hear(&mut self, event: &Event)
         ensures { (h : Header) (past : Trace) (place p : ℕ) → IsHeard h past place event.now p → RetiredStand past p self.old
             → RetiredStand (event.now ∷ past) p self.new }

@@ -10,6 +10,7 @@ use ace_event::{Event, Header};
 use ace_model::Transaction;
 
 /// The port that the event names.
+#[inline(always)]
 pub fn port_of(event: &Event) -> Option<u8>
     ensures { result ≡ port_of event.now }
 {
@@ -35,6 +36,7 @@ pub fn port_of(event: &Event) -> Option<u8>
 }
 
 /// K1: the port is in the header, and it is an ACE port for what only a master with a cache has (Arm IHI 0022E, C11).
+#[inline(always)]
 pub fn keeps_port(header: &Header, event: &Event) -> bool
     ensures { (past : Trace) → result ≡ k1 header.now past event.now }
 {
@@ -60,6 +62,7 @@ pub fn keeps_port(header: &Header, event: &Event) -> bool
 }
 
 /// The codes have a kind that the port may issue, and no response is an error.
+#[inline(always)]
 fn has_known_codes(header: &Header, event: &Event) -> bool
     ensures { result ≡ has_known_codes header.now event.now }
 {
@@ -87,6 +90,7 @@ fn has_known_codes(header: &Header, event: &Event) -> bool
 
 /// K2: the codes have a kind that the port may issue, and no response is an error (Arm IHI 0022E, C3.1.3, C3.2.1, C3.6.1 and
 /// C3.7).
+#[inline(always)]
 pub fn keeps_codes(header: &Header, event: &Event) -> bool
     ensures { (past : Trace) → result ≡ k2 header.now past event.now }
 {

@@ -108,6 +108,7 @@ impl SnoopQueues {
 
     /// Makes room for the snoop of an AC, and for its data. Memory runs out only where the port has more snoops under way than
     /// ever before.
+    #[inline(always)]
     pub fn ready(&mut self, event: &Event) -> Result<(), AllocError>
         ensures stands { (past : Trace) (p : ℕ) → SnoopsStand past p self.old → SnoopsStand past p self.new }
         ensures room { OnOk result (HasRoom self.new event.now) }
@@ -121,6 +122,7 @@ impl SnoopQueues {
     }
 
     /// Hears an event of the port that keeps the rules, with `place` events before it. It takes no memory.
+    #[inline(always)]
     pub fn hear(&mut self, event: &Event, place: usize)
         ensures { (h : Header) (past : Trace) (p : ℕ) → IsHeard h past place event.now p → SnoopsStand past p self.old
             → HasRoom self.old event.now → SnoopsStand (event.now ∷ past) p self.new }
@@ -147,6 +149,7 @@ impl SnoopQueues {
     }
 
     /// The oldest unanswered snoop has its answer; where that announces data, they are awaited.
+    #[inline(always)]
     fn answer(&mut self, resp: u8)
         ensures { (h : Header) (past : Trace) (p : ℕ) (st : LineState) → IsAccepted h (Cr p resp st ∷ past)
             → SnoopsStand past p self.old → SnoopsStand (Cr p resp st ∷ past) p self.new }
@@ -159,6 +162,7 @@ impl SnoopQueues {
     }
 
     /// One more beat of the oldest data that are awaited; the fourth makes them whole.
+    #[inline(always)]
     fn send(&mut self)
         ensures { (h : Header) (past : Trace) (p : ℕ) (last : Bool) (word : ℕ) → IsAccepted h (Cd p last word ∷ past)
             → SnoopsStand past p self.old → SnoopsStand (Cd p last word ∷ past) p self.new }

@@ -20,6 +20,7 @@ use ace_event::{Channel, Event, Header};
 use ace_model::Snoop;
 
 /// The line of a line transaction.
+#[inline(always)]
 fn line_of(x: Option<Progress>) -> Option<u32>
     ensures { result ≡ line_of x }
 {
@@ -30,6 +31,7 @@ fn line_of(x: Option<Progress>) -> Option<u32>
 }
 
 /// The line of a line snoop.
+#[inline(always)]
 fn line_of_snoop(snoop: Option<Snoop>) -> Option<u32>
     ensures { result ≡ line_of_snoop snoop }
 {
@@ -40,6 +42,7 @@ fn line_of_snoop(snoop: Option<Snoop>) -> Option<u32>
 }
 
 /// The transaction, if any, is half of a barrier.
+#[inline(always)]
 fn answers_barrier(x: Option<Progress>) -> bool
     ensures { (h : Header) (past : Trace) (o : Option Transaction) → x ≡ option_map (progress_of h past) o → result ≡ is_some_and o is_barrier_half }
 {
@@ -47,6 +50,7 @@ fn answers_barrier(x: Option<Progress>) -> bool
 }
 
 /// Of an event that has a transaction, if any, and nothing else.
+#[inline(always)]
 fn of_transaction(transaction: Option<Progress>) -> Target
     ensures { result ≡ of_transaction transaction }
 {
@@ -63,6 +67,7 @@ fn of_transaction(transaction: Option<Progress>) -> Target
 }
 
 /// Of an AR or AW, with `place` events before it.
+#[inline(always)]
 fn of_address(place: usize, event: &Event) -> Target
     ensures { result ≡ of_transaction (option_map begun (issued place event.now)) }
 {
@@ -99,6 +104,7 @@ impl PortRecord {
     ghost use Rattle.ace_portck.specs.TargetsByKind.{of_response, of_snoop, on_line};
 
     /// The transaction that the next RK or WK of the port belongs to, where it is an ACE port.
+    #[inline(always)]
     fn acknowledged(&self, header: &Header, port: u8, chan: Channel) -> Option<Progress>
         ensures { (past : Trace) → PortStands header.now past port self.now
             → result ≡ option_map (progress_of header.now past) (if is_ace header.now port then acknowledged past port chan else None) }
@@ -111,6 +117,7 @@ impl PortRecord {
     }
 
     /// The write that the next W of the port belongs to.
+    #[inline(always)]
     fn filling(&self) -> Option<Progress>
         ensures { (h : Header) (past : Trace) (p : ℕ) → PortStands h past p self.now
             → result ≡ option_map (progress_of h past) (next_write past p) }
@@ -122,6 +129,7 @@ impl PortRecord {
     }
 
     /// Of an R or B: the outstanding transaction under its identifier, and of a barrier also what the port still has to do.
+    #[inline(always)]
     fn of_response(&self, chan: Channel, id: u8) -> Target
         ensures { (h : Header) (past : Trace) (p : ℕ) → PortStands h past p self.now → result ≡ of_response h past p chan id }
     {
@@ -138,6 +146,7 @@ impl PortRecord {
     }
 
     /// Of an M: the outstanding transaction under its identifier, and the burst of a write.
+    #[inline(always)]
     fn of_memory_write(&self, chan: Channel, id: u8) -> Target
         ensures { (h : Header) (past : Trace) (p : ℕ) (line : Line) → PortStands h past p self.now
             → result ≡ target_of h past (M p chan id line) }
@@ -149,6 +158,7 @@ impl PortRecord {
     }
 
     /// Of a W: the write whose burst it fills, and which beat it is.
+    #[inline(always)]
     fn of_write_beat(&self) -> Target
         ensures { (h : Header) (past : Trace) (p strb : ℕ) (last : Bool) (word : ℕ) → PortStands h past p self.now
             → result ≡ target_of h past (W p strb last word) }
@@ -160,6 +170,7 @@ impl PortRecord {
     }
 
     /// The outstanding transaction of the port on the line, if any.
+    #[inline(always)]
     fn own(&self, line: Option<u32>) -> Option<Progress>
         ensures { (h : Header) (past : Trace) (p : ℕ) → PortStands h past p self.now → result ≡ own_on h past p line }
     {
@@ -170,6 +181,7 @@ impl PortRecord {
     }
 
     /// Of an AC or CR: the snoop, its line, and the port's transaction on that.
+    #[inline(always)]
     fn of_snoop(&self, snoop: Option<Snoop>) -> Target
         ensures { (h : Header) (past : Trace) (p : ℕ) → PortStands h past p self.now → result ≡ of_snoop h past p snoop }
     {
@@ -183,6 +195,7 @@ impl PortRecord {
     }
 
     /// Of a CD: the snoop whose data it sends, its line, and which beat it is.
+    #[inline(always)]
     fn of_snoop_beat(&self) -> Target
         ensures { (h : Header) (past : Trace) (p : ℕ) (last : Bool) (word : ℕ) → PortStands h past p self.now
             → result ≡ target_of h past (Cd p last word) }
@@ -197,6 +210,7 @@ impl PortRecord {
     }
 
     /// Of an S, L or D: its line, and the port's transaction on that.
+    #[inline(always)]
     fn on_line(&self, line: u32) -> Target
         ensures { (h : Header) (past : Trace) (p : ℕ) → PortStands h past p self.now → result ≡ on_line h past p line }
     {
@@ -208,6 +222,7 @@ impl PortRecord {
     }
 
     /// What the event of the port belongs to, with `place` events before it.
+    #[inline(always)]
     pub fn target(&self, header: &Header, place: usize, event: &Event) -> Target
         ensures { (past : Trace) (p : ℕ) → PortStands header.now past p self.now → port_of event.now ≡ Some p → place ≡ length past
             → result ≡ target_of header.now past event.now }

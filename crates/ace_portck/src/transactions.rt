@@ -128,6 +128,7 @@ fn lesser(a: Option<usize>, b: Option<usize>) -> Option<usize>
 }
 
 /// The channel on which the event may change something of the outstanding transactions of its port.
+#[inline(always)]
 fn moved_channel(event: &Event) -> Option<Channel>
     ensures { result ≡ moved_channel event.now }
 {
@@ -277,6 +278,7 @@ impl Transactions {
     }
 
     /// Hears an event of the port that keeps the rules, with `place` events before it. It takes no memory.
+    #[inline(always)]
     pub fn hear(&mut self, header: &Header, port: u8, place: usize, event: &Event)
         ensures { (past : Trace) → IsHeard header.now past place event.now port → AllByRecursion HasByteId (event.now ∷ past)
             → TransactionsStand header.now past port self.old → TransactionsStand header.now (event.now ∷ past) port self.new }

@@ -113,6 +113,7 @@ impl Part {
     }
 
     /// One more beat.
+    #[inline(always)]
     fn add(&mut self, strobe: u16, word: u128)
         ensures { (bs : List Beat) → length bs < 4 → IsPart bs self.old
             → IsPart (bs ++ (record { strobe = strobe; word = word }) ∷ []) self.new }
@@ -197,6 +198,7 @@ impl WriteBursts {
 
     /// K11 but its data: a W belongs to a write with data whose burst isn't whole. It is the last beat exactly where it says so,
     /// and WriteLineUnique and memory updates have all strobes.
+    #[inline(always)]
     pub fn may_write(&self, event: &Event) -> bool
         ensures { (h : Header) (past : Trace) (p : ℕ) → WritesStand h past p self.now → port_of event.now ≡ Some p
             → result ≡ k11_burst h past event.now }
@@ -211,6 +213,7 @@ impl WriteBursts {
     }
 
     /// Hears an event of the port that keeps the rules, with `place` events before it. It takes no memory.
+    #[inline(always)]
     pub fn hear(&mut self, event: &Event, place: usize)
         ensures { (h : Header) (past : Trace) (p : ℕ) → IsHeard h past place event.now p → WritesStand h past p self.old
             → WritesStand h (event.now ∷ past) p self.new }
@@ -241,6 +244,7 @@ impl WriteBursts {
     }
 
     /// A write is issued: where it has data, its beats are awaited.
+    #[inline(always)]
     fn begin(&mut self, write: Transaction)
         ensures { (h : Header) (past : Trace) (p i addr snoop dom bar : ℕ) → IsAccepted h (Aw p i addr snoop dom bar ∷ past)
             → issued (length past) (Aw p i addr snoop dom bar) ≡ Some write → WritesStand h past p self.old
@@ -254,6 +258,7 @@ impl WriteBursts {
     }
 
     /// One more beat of the oldest burst that isn't whole. The fourth makes it whole.
+    #[inline(always)]
     fn add(&mut self, strobe: u16, word: u128)
         ensures { (h : Header) (past : Trace) (p : ℕ) (last : Bool) → IsAccepted h (W p strobe last word ∷ past)
             → WritesStand h past p self.old → WritesStand h (W p strobe last word ∷ past) p self.new }
@@ -270,6 +275,7 @@ impl WriteBursts {
     }
 
     /// The transaction under the identifier has had its M. That of a read takes no write data.
+    #[inline(always)]
     fn remove(&mut self, chan: Channel, id: u8)
         ensures { (h : Header) (past : Trace) (p : ℕ) (line : Line) → IsAccepted h (M p chan id line ∷ past)
             → WritesStand h past p self.old → WritesStand h (M p chan id line ∷ past) p self.new }

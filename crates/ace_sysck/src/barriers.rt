@@ -213,6 +213,7 @@ impl Barriers {
     }
 
     /// K34: a barrier is answered once both halves were issued and what is before it has come far enough.
+    #[inline(always)]
     pub fn keeps_k34(&self, event: &Event, target: &Target) -> bool
         ensures { (r : Recording) → MayAskBarriers r self.now event.now target.now → result ≡ k34 r.header r.past event.now }
     {
@@ -225,6 +226,7 @@ impl Barriers {
     }
 
     /// K35: where a G grants a transaction with bar 0, every barrier pair of the port before it is complete.
+    #[inline(always)]
     pub fn keeps_k35(&self, event: &Event, target: &Target) -> bool
         ensures { (r : Recording) → MayAskBarriers r self.now event.now target.now → result ≡ k35 r.header r.past event.now }
     {
@@ -235,6 +237,7 @@ impl Barriers {
     }
 
     /// The barriers after the event.
+    #[inline(always)]
     pub fn hear(&mut self, event: &Event, target: &Target)
         ensures { (r : Recording) → MayHearBarriers r self.old event.now target.now → BarriersStand (after r event.now) self.new }
     {

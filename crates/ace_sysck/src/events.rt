@@ -7,6 +7,7 @@ use ace_event::Event;
 use ace_model::Transaction;
 use ace_portck::Target;
 
+#[inline(always)]
 fn carried(target: &Target) -> Option<Transaction>
     ensures { result ≡ carried target.now }
 {
@@ -17,6 +18,7 @@ fn carried(target: &Target) -> Option<Transaction>
 }
 
 /// The transaction that an AR or AW issues.
+#[inline(always)]
 pub fn begun_in(event: &Event, target: &Target) -> Option<Transaction>
     ensures { result ≡ begun_in event.now target.now }
 {
@@ -28,6 +30,7 @@ pub fn begun_in(event: &Event, target: &Target) -> Option<Transaction>
 }
 
 /// The transaction that an R or B answers.
+#[inline(always)]
 pub fn responded_in(event: &Event, target: &Target) -> Option<Transaction>
     ensures { result ≡ responded_in event.now target.now }
 {
@@ -39,6 +42,7 @@ pub fn responded_in(event: &Event, target: &Target) -> Option<Transaction>
 }
 
 /// The transaction that a last R or a B completes.
+#[inline(always)]
 pub fn completed_in(event: &Event, target: &Target) -> Option<Transaction>
     ensures { result ≡ completed_in event.now target.now }
 {
@@ -50,6 +54,7 @@ pub fn completed_in(event: &Event, target: &Target) -> Option<Transaction>
 }
 
 /// The transaction that a G grants.
+#[inline(always)]
 pub fn granted_in(event: &Event, target: &Target) -> Option<Transaction>
     ensures { result ≡ granted_in event.now target.now }
 {

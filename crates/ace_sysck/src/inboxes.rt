@@ -270,6 +270,7 @@ impl Inboxes {
     }
 
     /// The inboxes after the event. The messages are those before it.
+    #[inline(always)]
     pub fn hear(&mut self, event: &Event, target: &Target, messages: &Messages)
         ensures { (r : Recording) → MayHearInboxes r self.old event.now target.now messages.now → InboxesStand (after r event.now) self.new }
     {

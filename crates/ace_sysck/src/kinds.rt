@@ -48,6 +48,7 @@ fn is_line_write(kind: AwKind) -> bool
 }
 
 /// A line transaction.
+#[inline(always)]
 pub fn is_line(x: &Transaction) -> bool
     ensures { result ≡ is_line x.now }
 {
@@ -55,6 +56,7 @@ pub fn is_line(x: &Transaction) -> bool
 }
 
 /// An exclusive store: a CleanUnique with lock 1 (Arm IHI 0022E, C9).
+#[inline(always)]
 pub fn is_exclusive_store(x: &Transaction) -> bool
     ensures { result ≡ is_exclusive_store x.now }
 {
@@ -62,6 +64,7 @@ pub fn is_exclusive_store(x: &Transaction) -> bool
 }
 
 /// One of the two halves of a barrier (Arm IHI 0022E, C8).
+#[inline(always)]
 pub fn is_barrier_half(x: &Transaction) -> bool
     ensures { result ≡ is_barrier_half x.now }
 {
@@ -69,6 +72,7 @@ pub fn is_barrier_half(x: &Transaction) -> bool
 }
 
 /// A part of a DVM message (Arm IHI 0022E, C12).
+#[inline(always)]
 pub fn is_message_part(x: &Transaction) -> bool
     ensures { result ≡ is_message_part x.now }
 {
@@ -76,6 +80,7 @@ pub fn is_message_part(x: &Transaction) -> bool
 }
 
 /// A DVM Complete of a port.
+#[inline(always)]
 pub fn is_dvm_completion(x: &Transaction) -> bool
     ensures { result ≡ is_dvm_completion x.now }
 {

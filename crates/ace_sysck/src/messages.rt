@@ -176,6 +176,7 @@ impl Messages {
     }
 
     /// What is kept after the event.
+    #[inline(always)]
     pub fn hear(&mut self, event: &Event, target: &Target)
         ensures { (r : Recording) → MayHearMessages r self.old event.now target.now → MessagesStand (after r event.now) self.new }
     {

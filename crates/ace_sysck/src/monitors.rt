@@ -26,6 +26,7 @@ fn kept_after(kept: Option<u32>, line: Option<u32>, state: LineState) -> Option<
 }
 
 /// The port that an RK, WK, CR or S leaves in a state of the line of its target, and the state.
+#[inline(always)]
 fn left_state(event: &Event) -> Option<(u8, LineState)>
     ensures { result ≡ left_state event.now }
 {
@@ -95,6 +96,7 @@ impl Monitors {
     }
 
     /// The monitors after the event.
+    #[inline(always)]
     pub fn hear(&mut self, event: &Event, target: &Target)
         ensures { (r : Recording) → MayHearMonitors r self.old event.now target.now → MonitorsStand (after r event.now) self.new }
     {

@@ -43,6 +43,7 @@ fn kept_bits(x: &Transaction, bits: u32) -> u32
 }
 
 /// The transaction with lock 1 to which the event grants a line.
+#[inline(always)]
 fn locked_in(event: &Event, target: &Target) -> Option<Transaction>
     ensures { result ≡ locked_in event.now target.now }
 {
@@ -88,6 +89,7 @@ impl Registrations {
 
     /// Makes room for the line that the event grants to a transaction with lock 1. There is no memory only where it is the first
     /// of its line.
+    #[inline(always)]
     pub fn ready(&mut self, event: &Event, target: &Target) -> Result<(), AllocError>
         ensures stands { (r : Recording) → RegistrationsStand r self.old → RegistrationsStand r self.new }
         ensures room { OnOk result (HasLineRoom self.new event.now target.now) }
@@ -104,6 +106,7 @@ impl Registrations {
     }
 
     /// The registrations after the event.
+    #[inline(always)]
     pub fn hear(&mut self, event: &Event, target: &Target)
         ensures { (r : Recording) → MayHearRegistrations r self.old event.now target.now → RegistrationsStand (after r event.now) self.new }
     {

@@ -53,6 +53,7 @@ impl Results {
     }
 
     /// The results after the event. `passes` says whether an exclusive store that it grants passes.
+    #[inline(always)]
     pub fn hear(&mut self, event: &Event, target: &Target, passes: bool)
         ensures { (r : Recording) → MayHearResult r self.old event.now target.now passes → ResultsStand (after r event.now) self.new }
     {

@@ -28,6 +28,7 @@ fn begins_well(barriers: &Barriers, messages: &Messages, x: &Transaction) -> boo
 }
 
 /// K9: barriers, messages and DVM Completes begin as they may (Arm IHI 0022E, C8 and C12).
+#[inline(always)]
 pub fn keeps_k9(barriers: &Barriers, messages: &Messages, event: &Event, target: &Target) -> bool
     ensures { (r : Recording) → MayAskK9 r barriers.now messages.now event.now target.now → result ≡ k9 r.header r.past event.now }
 {
@@ -38,6 +39,7 @@ pub fn keeps_k9(barriers: &Barriers, messages: &Messages, event: &Event, target:
 }
 
 /// The read is an exclusive load, or an exclusive store that passed.
+#[inline(always)]
 fn is_okay(x: &Transaction, passed: Option<bool>) -> bool
     ensures { result ≡ is_okay x.now passed }
 {
@@ -53,6 +55,7 @@ fn low_bits_of(okay: bool) -> u8
 
 /// K21: the low two bits of RRESP are EXOKAY for an exclusive load and for an exclusive store that passed, else OKAY
 /// (Arm IHI 0022E, C9).
+#[inline(always)]
 pub fn keeps_k21(results: &Results, event: &Event, target: &Target) -> bool
     ensures { (r : Recording) → MayAskK21 r results.now event.now target.now → result ≡ k21 r.header r.past event.now }
 {
@@ -69,6 +72,7 @@ pub fn keeps_k21(results: &Results, event: &Event, target: &Target) -> bool
 }
 
 /// K37: an R of a DVM Message comes after every other ACE port has answered it (Arm IHI 0022E, C12).
+#[inline(always)]
 pub fn keeps_k37(
     header: &Header,
     messages: &Messages,
@@ -95,6 +99,7 @@ pub fn keeps_k37(
 }
 
 /// K38: the port of a DVM Complete has answered more Syncs than it has issued DVM Completes (Arm IHI 0022E, C12).
+#[inline(always)]
 pub fn keeps_k38(syncs: &Syncs, event: &Event, target: &Target) -> bool
     ensures { (r : Recording) → MayAskK38 r syncs.now event.now target.now → result ≡ k38 r.header r.past event.now }
 {
@@ -106,6 +111,7 @@ pub fn keeps_k38(syncs: &Syncs, event: &Event, target: &Target) -> bool
 
 /// K39: an AC DVM Complete comes once the port's last Sync is complete, and every other ACE port has sent its own for it
 /// (Arm IHI 0022E, C12).
+#[inline(always)]
 pub fn keeps_k39(header: &Header, messages: &Messages, syncs: &Syncs, event: &Event) -> bool
     ensures { (r : Recording) (t : Target) → MayAskK39 r header.now messages.now syncs.now event.now t → result ≡ k39 r.header r.past event.now }
 {

@@ -170,6 +170,7 @@ impl Syncs {
     }
 
     /// What is kept after the event. The messages and the inboxes are those before it.
+    #[inline(always)]
     pub fn hear(&mut self, event: &Event, target: &Target, messages: &Messages, inboxes: &Inboxes)
         ensures { (r : Recording) → MayHearSyncs r self.old event.now target.now messages.now inboxes.now → SyncsStand (after r event.now) self.new }
     {

@@ -12,7 +12,7 @@ use crate::results::Results;
 use crate::rules::{keeps_k9, keeps_k21, keeps_k37, keeps_k38, keeps_k39};
 use crate::syncs::Syncs;
 use ace_event::{Event, Header};
-use ace_portck::{NoMemory, Target};
+use ace_portck::{EventKind, NoMemory, Target};
 use std::alloc::Global;
 
 /// The checker of the rules on barriers, DVM messages and exclusive transactions: what is kept of each after a trace.
@@ -89,6 +89,7 @@ impl SysCheck {
     }
 
     /// Of an AR or AW, the least rule of the share that it breaks.
+    #[inline(always)]
     fn test_begun(&self, event: &Event, target: &Target) -> Option<u8>
         ensures { (r : Recording) → MayTest self.now r event.now target.now → k1 r.header r.past event.now ≡ true
             → result ≡ least_of begun_rules r.header r.past event.now }
@@ -102,6 +103,7 @@ impl SysCheck {
     }
 
     /// Of an R.
+    #[inline(always)]
     fn test_read(&self, event: &Event, target: &Target) -> Option<u8>
         ensures { (r : Recording) → MayTest self.now r event.now target.now → k1 r.header r.past event.now ≡ true
             → result ≡ least_of read_rules r.header r.past event.now }
@@ -114,6 +116,7 @@ impl SysCheck {
     }
 
     /// Of an AC.
+    #[inline(always)]
     fn test_snoop(&self, event: &Event) -> Option<u8>
         ensures { (r : Recording) (t : Target) → MayTest self.now r event.now t → k1 r.header r.past event.now ≡ true
             → result ≡ least_of snoop_rules r.header r.past event.now }
@@ -129,7 +132,16 @@ impl SysCheck {
 
     /// The least rule of the share that the event breaks, if it breaks one and keeps K1. An event is looked at by the rules of its
     /// kind alone.
-    pub fn test(&self, event: &Event, target: &Target) -> Option<u8>
+    pub fn test<E: EventKind>(&self, event: &E, target: &Target) -> Option<u8>
+        ensures { (r : Recording) → MayTest self.now r (E.event event.now) target.now → k1 r.header r.past (E.event event.now) ≡ true
+            → result ≡ least_of system_rules r.header r.past (E.event event.now) }
+    {
+        self.test_event(&event.event(), target)
+    }
+
+    /// The same, of an event whose kind isn't known.
+    #[inline(always)]
+    fn test_event(&self, event: &Event, target: &Target) -> Option<u8>
         ensures { (r : Recording) → MayTest self.now r event.now target.now → k1 r.header r.past event.now ≡ true
             → result ≡ least_of system_rules r.header r.past event.now }
     {
@@ -147,7 +159,17 @@ impl SysCheck {
 
     /// Makes room for what the event leaves. There is no memory for it only where the event grants a line to a transaction with
     /// lock 1 for the first time.
-    pub fn ready(&mut self, event: &Event, target: &Target) -> Result<(), NoMemory>
+    pub fn ready<E: EventKind>(&mut self, event: &E, target: &Target) -> Result<(), NoMemory>
+        ensures stands { (r : Recording) → Stands self.old r → Stands self.new r }
+        ensures room { OnOk result (HasRoom self.new (E.event event.now) target.now) }
+        ensures cause { OnErr result ((r : Recording) → MayTest self.old r (E.event event.now) target.now → IsNewLock r.past (E.event event.now)) }
+    {
+        self.ready_for(&event.event(), target)
+    }
+
+    /// The same, of an event whose kind isn't known.
+    #[inline(always)]
+    fn ready_for(&mut self, event: &Event, target: &Target) -> Result<(), NoMemory>
         ensures stands { (r : Recording) → Stands self.old r → Stands self.new r }
         ensures room { OnOk result (HasRoom self.new event.now target.now) }
         ensures cause { OnErr result ((r : Recording) → MayTest self.old r event.now target.now → IsNewLock r.past event.now) }
@@ -159,6 +181,7 @@ impl SysCheck {
     }
 
     /// Whether an exclusive store that the event grants passes.
+    #[inline(always)]
     fn passes(&self, event: &Event, target: &Target) -> bool
         ensures { (r : Recording) → IsStep r event.now target.now → RegistrationsStand r self.now.registrations → (x : Transaction)
             → given r.past event.now ≡ Some x → result ≡ store_passes r.past x }
@@ -170,6 +193,7 @@ impl SysCheck {
     }
 
     /// Takes an AR or AW.
+    #[inline(always)]
     fn begin(&mut self, event: &Event, target: &Target)
         ensures { (r : Recording) → MayApply self.old r event.now target.now → is_issue event.now ≡ true → Stands self.new (after r event.now) }
     {
@@ -182,6 +206,7 @@ impl SysCheck {
     }
 
     /// Takes an R or B.
+    #[inline(always)]
     fn complete(&mut self, event: &Event, target: &Target)
         ensures { (r : Recording) → MayApply self.old r event.now target.now → is_response event.now ≡ true → Stands self.new (after r event.now) }
     {
@@ -190,7 +215,15 @@ impl SysCheck {
     }
 
     /// Takes an event that breaks no rule. The room for it was made. An event moves the groups of its kind alone.
-    pub fn apply(&mut self, event: &Event, target: &Target)
+    pub fn apply<E: EventKind>(&mut self, event: &E, target: &Target)
+        ensures { (r : Recording) → MayApply self.old r (E.event event.now) target.now → Stands self.new (after r (E.event event.now)) }
+    {
+        self.hear(&event.event(), target);
+    }
+
+    /// The same, of an event whose kind isn't known.
+    #[inline(always)]
+    fn hear(&mut self, event: &Event, target: &Target)
         ensures { (r : Recording) → MayApply self.old r event.now target.now → Stands self.new (after r event.now) }
     {
         match *event {

@@ -7,9 +7,9 @@ use Rattle.ace_lineck.specs.Stands.{record_on}
 use Rattle.ace_lineck.proofs.lines.LineCheck.test.Goals as goal
 
 pub returns : goal.returns
-returns c r s port =
+returns g c r s port =
     let st = s.stands in
-    let e = c.args.event.now in
+    let e = g.E.EventKind.event c.args.event.now in
     let t = c.args.target.now in
     let kept = record_on c.args.self.now t.line in
     let next : IsNext r.header r.past e t kept = record {

@@ -2,7 +2,7 @@ use Rattle.std.proofs.Common.{sym, subst}
 use Rattle.std.proofs.lemmas.Result.{on_err_weaker}
 use Rattle.ace_lineck.specs.Stands.{BeginsLine}
 use Rattle.ace_lineck.proofs.AllLines.{absent-new}
-use Rattle.ace_lineck.proofs.lines.LineCheck.ready.Goals as goal
+use Rattle.ace_lineck.proofs.lines.LineCheck.ready_for.Goals as goal
 
 pub returns-in-Ar-clause-cause : goal.returns-in-Ar-clause-cause
 returns-in-Ar-clause-cause c = λ q.

@@ -3,7 +3,7 @@ use Rattle.indexmap.specs.IndexMap.{get, values}
 use Rattle.ace_lineck.specs.Records.{LineStands, IsRecordStep}
 use Rattle.ace_lineck.proofs.AllLines.{unplaced, placed, line-step, applied-then, applied-else}
 use Rattle.ace_lineck.proofs.Places.{get-at, place-taken, written-here, written-there}
-use Rattle.ace_lineck.proofs.lines.LineCheck.apply.Goals as goal
+use Rattle.ace_lineck.proofs.lines.LineCheck.hear.Goals as goal
 
 pub returns-in_default : goal.returns-in_default
 returns-in_default c r s = unplaced c.args.self.now r c.args.event.now c.args.target.now c.args.place s c.in_default.is

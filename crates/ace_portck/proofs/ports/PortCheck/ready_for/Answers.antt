@@ -1,7 +1,7 @@
 use Rattle.std.proofs.Common.{ap}
 use Rattle.ace_model.specs.Trace.{port_of}
 use Rattle.ace_portck.proofs.AllPorts.{has_room, on_err}
-use Rattle.ace_portck.proofs.ports.PortCheck.ready.Goals as goal
+use Rattle.ace_portck.proofs.ports.PortCheck.ready_for.Goals as goal
 
 pub returns-in-Ac-clause-cause : goal.returns-in-Ac-clause-cause
 returns-in-Ac-clause-cause c =

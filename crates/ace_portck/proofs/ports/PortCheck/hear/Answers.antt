@@ -4,7 +4,7 @@ use Rattle.ace_model.specs.Accepted.{IsAccepted}
 use Rattle.ace_portck.specs.Heard.{IsHeard}
 use Rattle.ace_portck.specs.Stands.{PortsStand, record_at}
 use Rattle.ace_portck.proofs.AllPorts.{port_elsewhere, port_below}
-use Rattle.ace_portck.proofs.ports.PortCheck.apply.Goals as goal
+use Rattle.ace_portck.proofs.ports.PortCheck.hear.Goals as goal
 
 pub returns-in-Some : goal.returns-in-Some
 returns-in-Some c = λ r m.

@@ -1,6 +1,6 @@
 use Rattle.std.proofs.Common.{◌∙◌, sym, ap, refl}
 use Rattle.ace_model.specs.AddressRules.{k1, k2, k3}
-use Rattle.ace_portck.proofs.ports.PortCheck.test.Goals as goal
+use Rattle.ace_portck.proofs.ports.PortCheck.test_event.Goals as goal
 
 pub returns-then-not-keeps_port : goal.returns-then-not-keeps_port
 returns-then-not-keeps_port c = λ r m.

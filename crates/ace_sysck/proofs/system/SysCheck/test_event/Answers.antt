@@ -5,7 +5,7 @@ use Rattle.ace_model.proofs.Terms.{Event, k33, k34, k35}
 use Rattle.ace_sysck.specs.Rules.{begun_rules, read_rules, snoop_rules}
 use Rattle.ace_sysck.specs.Steps.{IsAsked}
 use Rattle.ace_sysck.proofs.Judging.{ruled, least-other}
-use Rattle.ace_sysck.proofs.system.SysCheck.test.Goals as goal
+use Rattle.ace_sysck.proofs.system.SysCheck.test_event.Goals as goal
 
 pub returns-in-Ar : goal.returns-in-Ar
 returns-in-Ar c = λ r m first.

@@ -2,7 +2,7 @@ use Rattle.std.proofs.Common.{ap}
 use Rattle.ace_sysck.specs.Events.{is_issue, is_response}
 use Rattle.ace_sysck.specs.Steps.{IsStep}
 use Rattle.ace_sysck.proofs.Unmoved.{moves_barriers, moves_monitors, moves_results, moves_registrations, moves_messages, moves_inboxes, moves_syncs, barriers_still, monitors_still, results_still, registrations_still, messages_still, inboxes_still, syncs_still, moves-other}
-use Rattle.ace_sysck.proofs.system.SysCheck.apply.Goals as goal
+use Rattle.ace_sysck.proofs.system.SysCheck.hear.Goals as goal
 
 pub returns-in-Ar : goal.returns-in-Ar
 returns-in-Ar c = λ r m. c.begin.ensures r m (ap is_issue c.in-Ar.is)
