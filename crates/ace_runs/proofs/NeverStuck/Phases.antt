@@ -8,3 +8,7 @@ pub mod OneOfTwo
 pub mod Halves
 -- In a run a port has made both acts of a barrier or none.
 pub mod BothHalves
+-- Which act of a message a part is.
+pub mod Parts
+-- In a run a port has made both acts of a message of two parts or none.
+pub mod BothParts
