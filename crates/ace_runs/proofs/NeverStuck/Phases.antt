@@ -12,3 +12,11 @@ pub mod BothHalves
 pub mod Parts
 -- In a run a port has made both acts of a message of two parts or none.
 pub mod BothParts
+-- An operation whose acts are made, other than a Sync, retires.
+pub mod Finished
+-- The act of a Sync issues one.
+pub mod SyncsIssued
+-- A Sync that is issued has its AC DVM Complete, or retires.
+pub mod SyncsEnd
+-- So an operation moves on.
+pub mod OperationsMove

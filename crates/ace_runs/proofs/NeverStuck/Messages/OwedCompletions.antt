@@ -38,7 +38,7 @@ first-found (suc n) test t =
     (rest.0, ap (λ o. newer o (if test (suc n) then Some (suc n) else None)) rest.1)
 
 -- where nothing is outstanding each identifier is free
-none-outstanding : (h : Header) (past : Trace) (p : ℕ) (c : Channel) (i : ℕ) → some_issued past (is_outstanding h past) ≡ false → outstanding h past p c i ≡ None
+pub none-outstanding : (h : Header) (past : Trace) (p : ℕ) (c : Channel) (i : ℕ) → some_issued past (is_outstanding h past) ≡ false → outstanding h past p c i ≡ None
 none-outstanding h past p c i none = by (outstanding h past p c i) refl
   where
     by : (o : Option Transaction) → outstanding h past p c i ≡ o → outstanding h past p c i ≡ None

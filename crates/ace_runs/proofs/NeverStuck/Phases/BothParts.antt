@@ -10,7 +10,7 @@ use Rattle.ace_model.specs.declared.transactions.Transaction.{Transaction}
 use Rattle.ace_model.specs.Kinds.{is_dvm_message}
 use Rattle.ace_model.specs.Messages.{first_waiting, has_second, is_message_part, part_in, waits_after}
 use Rattle.ace_model.specs.Plans.{IsRight, Plan, has_right_fields}
-use Rattle.ace_model.specs.Trace.{Trace, is_some_and, option_filter}
+use Rattle.ace_model.specs.Trace.{Trace, is_some_and}
 use Rattle.ace_model.specs.Transactions.{issued, read_kind}
 use Rattle.ace_model.proofs.General.Options.{is_none_or-at, is_some_and-is}
 use Rattle.ace_codes.specs.declared.kind.ArKind.{ArKind}

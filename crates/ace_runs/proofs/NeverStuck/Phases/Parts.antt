@@ -1,6 +1,6 @@
 -- Which act a part of a DVM message is, of an operation with right fields: the one act of dvm or sync, which no second part follows, or the first
 -- of dvm2, which one follows, or its second.
-use Rattle.std.proofs.Common.{◌≡◌, ◌⊎◌, ℕ, zero, suc, Bool, true, false, not, ◌&&◌, ◌||◌, ◌==◌, [], ◌∷◌, Some, slice_get, inl, inr, refl, sym, ap, subst, ◌∙◌}
+use Rattle.std.proofs.Common.{◌≡◌, ◌⊎◌, ℕ, zero, suc, Bool, true, false, not, ◌&&◌, ◌||◌, ◌==◌, Some, slice_get, inl, inr, refl, sym, ap, subst, ◌∙◌}
 use Rattle.std.specs.List.{list_any}
 use Rattle.std.proofs.lemmas.Bool.{and_parts, eqb-true, not-true, or_cases}
 use Rattle.ace_codes.specs.Places.{is_at, is_normal, is_shareable}
