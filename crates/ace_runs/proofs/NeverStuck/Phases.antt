@@ -20,3 +20,7 @@ pub mod SyncsIssued
 pub mod SyncsEnd
 -- So an operation moves on.
 pub mod OperationsMove
+-- That the AC DVM Complete of a Sync is answered.
+pub mod AnsweredCompletions
+-- A Sync without an answered AC DVM Complete is that of the next operation.
+pub mod SyncsOfNext

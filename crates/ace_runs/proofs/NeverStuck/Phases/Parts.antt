@@ -123,7 +123,7 @@ IsTurnOfPart o x made =
     ⊎ (((is_message_pair o ≡ true) × (made ≡ 0) × (has_second x.addr ≡ true)) ⊎ ((is_message_pair o ≡ true) × (made ≡ 1)))
 
 -- the part has the word of its act
-part-word : (word : ℕ) (fits : Event → Bool) (e : Event) (n : ℕ) (x : Transaction) → issued n e ≡ Some x → Some (issues_read read.DvmMessage word) ≡ Some fits → fits e ≡ true → x.addr ≡ word
+pub part-word : (word : ℕ) (fits : Event → Bool) (e : Event) (n : ℕ) (x : Transaction) → issued n e ≡ Some x → Some (issues_read read.DvmMessage word) ≡ Some fits → fits e ≡ true → x.addr ≡ word
 part-word word fits e n x new turn m =
     let act : issues_read read.DvmMessage word e ≡ true = ap (λ f. f e) (Some-injective (issues_read read.DvmMessage word) fits turn) ∙ m in
     let y = message-issued word e n act in
