@@ -24,3 +24,13 @@ pub mod OperationsMove
 pub mod AnsweredCompletions
 -- A Sync without an answered AC DVM Complete is that of the next operation.
 pub mod SyncsOfNext
+-- Events that leave what a port needs to retire its operation.
+pub mod Calm
+-- Which these are.
+pub mod CalmEvents
+-- The same events are equal.
+pub mod EqualEvents
+-- Bursts that end operations.
+pub mod Endings
+-- Step 4 ends the operation, if it can end.
+pub mod Acknowledged

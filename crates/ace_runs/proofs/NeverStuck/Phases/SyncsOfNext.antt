@@ -38,7 +38,7 @@ use Rattle.ace_runs.proofs.NeverStuck.Phases.AnsweredCompletions.{answered-stays
 use Rattle.ace_runs.proofs.NeverStuck.Phases.BothParts.{part-acts, waits-as-made}
 use Rattle.ace_runs.proofs.NeverStuck.Phases.Finished.{asks_sync}
 use Rattle.ace_runs.proofs.NeverStuck.Phases.Halves.{issued-act, issued-port}
-use Rattle.ace_runs.proofs.NeverStuck.Phases.NextActs.{acts-more, next-stays, next-turn, retires-next}
+use Rattle.ace_runs.proofs.NeverStuck.Phases.NextActs.{acts-more, next-stays, next-turn, retires-next, segment-more}
 use Rattle.ace_runs.proofs.NeverStuck.Phases.Parts.{is_message_pair, part-of-message, part-word}
 
 -- the transaction is among these
@@ -71,10 +71,6 @@ act-of-sync (op.Dvm2 word second) (suc (suc made)) fits e n x new part sync righ
 act-of-sync o made fits e n x new part sync right first turn m =
     let message = part-of-message o made fits e n x new part turn m in cc
 
-grown : (past : Trace) (p : ℕ) (e : Event) → is_retirement e ≡ false → segment (e ∷ past) p ≡ more (segment past p) (option_filter (is_for_operation p) (issued (length past) e))
-grown past p (Retires q k res) none = cc
-grown past p e none = refl
-
 -- a part is no DVM Complete, so it is in the segment
 part-in-segment : (x : Transaction) (p : ℕ) → is_message_part x ≡ true → (x.port == p) ≡ true → is_for_operation p x ≡ true
 part-in-segment x p part here = and_from _ _ here (by (read_kind x) part)
@@ -102,7 +98,7 @@ sync-event plan past p e right f o other some =
     let fields = is_none_or-at (next_operation plan past p) has_right_fields t.of (next-right plan past p right) t.next in
     let a = act-of-sync t.of (acts_made past p) t.fits e (length past) x.0 of.0 part.0 part.1 fields first t.turn t.passes in
     let there : segment (e ∷ past) p ≡ segment past p ++ x.0 ∷ [] =
-    grown past p e other ∙ ap (λ o. more (segment past p) (option_filter (is_for_operation p) o)) of.0 ∙ ap (λ b. more (segment past p) (if b then Some x.0 else None)) (part-in-segment x.0 p part.0 own.1) in
+    segment-more past p e other ∙ ap (λ o. more (segment past p) (option_filter (is_for_operation p) o)) of.0 ∙ ap (λ b. more (segment past p) (if b then Some x.0 else None)) (part-in-segment x.0 p part.0 own.1) in
     record {
       next = ap (λ n. is_some_and n asks_sync) (next-stays plan past p e other ∙ t.next) ∙ a.0;
       made = acts-more past p e other ∙ ap (λ b. if b then acts_made past p + 1 else acts_made past p) both ∙ ap (λ n. n + 1) a.1;
@@ -147,7 +143,7 @@ stays-of-next plan past p e o other none s =
     record {
       next = ap (λ n. is_some_and n asks_sync) (next-stays plan past p e other) ∙ s.next;
       made = acts-more past p e other ∙ ap (λ b. if b then acts_made past p + 1 else acts_made past p) (no-act plan past p e o s) ∙ s.made;
-      own = ap (λ o. is_some_and o (is_among_issued (segment (e ∷ past) p))) (last-stays past p e none ∙ x.1) ∙ ap (λ l. is_among_issued l x.0) (grown past p e other)
+      own = ap (λ o. is_some_and o (is_among_issued (segment (e ∷ past) p))) (last-stays past p e none ∙ x.1) ∙ ap (λ l. is_among_issued l x.0) (segment-more past p e other)
           ∙ more-any (segment past p) (option_filter (is_for_operation p) (issued (length past) e)) x.0 x.2;
     }
 
