@@ -8,3 +8,29 @@ pub mod OneOfTwo
 pub mod Halves
 -- In a run a port has made both acts of a barrier or none.
 pub mod BothHalves
+-- Which act of a message a part is.
+pub mod Parts
+-- In a run a port has made both acts of a message of two parts or none.
+pub mod BothParts
+-- An operation whose acts are made, other than a Sync, retires.
+pub mod Finished
+-- The act of a Sync issues one.
+pub mod SyncsIssued
+-- A Sync that is issued has its AC DVM Complete, or retires.
+pub mod SyncsEnd
+-- So an operation moves on.
+pub mod OperationsMove
+-- That the AC DVM Complete of a Sync is answered.
+pub mod AnsweredCompletions
+-- A Sync without an answered AC DVM Complete is that of the next operation.
+pub mod SyncsOfNext
+-- Events that leave what a port needs to retire its operation.
+pub mod Calm
+-- Which these are.
+pub mod CalmEvents
+-- The same events are equal.
+pub mod EqualEvents
+-- Bursts that end operations.
+pub mod Endings
+-- Step 4 ends the operation, if it can end.
+pub mod Acknowledged

@@ -190,7 +190,7 @@ right-fields h before (first ∷ operations) p n o right there =
         subst (λ v. has_right_fields v ≡ true) (Some-injective first.op o is) fields
     by rest (suc n) is = rest n is
 
-next-right : (plan : Plan) (past : Trace) (p : ℕ) → IsRight plan → is_none_or (next_operation plan past p) has_right_fields ≡ true
+pub next-right : (plan : Plan) (past : Trace) (p : ℕ) → IsRight plan → is_none_or (next_operation plan past p) has_right_fields ≡ true
 next-right plan past p right = by (next_operation plan past p) refl
   where
     by : (next : Option Op) → next_operation plan past p ≡ next → is_none_or next has_right_fields ≡ true

@@ -36,7 +36,7 @@ other-waits (Ar q i addr code dom bar lock) past p other = rw (other, and-false 
     and-false false = refl
 other-waits e past p other = refl
 
-after-part : (waiting : Option Transaction) (x : Transaction) → is_some (waits_after waiting (Some x)) ≡ (not (is_some waiting) && has_second x.addr)
+pub after-part : (waiting : Option Transaction) (x : Transaction) → is_some (waits_after waiting (Some x)) ≡ (not (is_some waiting) && has_second x.addr)
 after-part (Some f) x = refl
 after-part None x =
     elim (cases_Bool (has_second x.addr)) [ inl t ↦ rw t refl | inr f ↦ rw f refl ]

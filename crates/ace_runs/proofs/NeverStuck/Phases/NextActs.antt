@@ -1,5 +1,5 @@
 -- The acts of a port: each is the one whose turn it is of the port's next operation, so there are no more than that has.
-use Rattle.std.proofs.Common.{◌≡◌, ℕ, ◌+◌, ◌≤◌, ◌<◌, Bool, true, false, ◌&&◌, ◌==◌, if◌then◌else◌, [], ◌∷◌, length, Option, Some, None, slice_get, inl, inr, refl, sym, ap, subst, ◌∙◌, arith}
+use Rattle.std.proofs.Common.{◌≡◌, ℕ, ◌+◌, ◌≤◌, ◌<◌, Bool, true, false, ◌&&◌, ◌==◌, if◌then◌else◌, [], ◌∷◌, length, Some, slice_get, inl, inr, refl, sym, subst, ◌∙◌, arith}
 use Rattle.std.proofs.lemmas.Bool.{and_parts, cases_Bool, eqb-true}
 use Rattle.std.proofs.lemmas.Option.{slice_get_within}
 use Rattle.ace_event.specs.declared.event.Event.{Event}
@@ -7,14 +7,15 @@ use Rattle.ace_event.specs.declared.event.Event.TheVariants.{Op as Retires}
 use Rattle.ace_event.specs.declared.event.Outcome.{Outcome}
 use Rattle.ace_model.specs.declared.plans.Op.{Op}
 use Rattle.ace_model.specs.Plans.{Plan}
-use Rattle.ace_model.specs.Trace.{Trace, is_some_and, port_of}
+use Rattle.ace_model.specs.Trace.{Trace, is_some_and, more, option_filter, port_of}
+use Rattle.ace_model.specs.Transactions.{issued}
 use Rattle.ace_model.proofs.General.Options.{Some-injective, is_some_and-is}
 use Rattle.ace_runs.specs.Acts.{acts_of, is_act}
 use Rattle.ace_runs.specs.Counts.{is_retirement}
 use Rattle.ace_runs.specs.Follows.{FollowsSoFar, acts_well, answers_well, carries_data, has_room_after, is_next_act, obeys, retires_well}
 use Rattle.ace_runs.specs.Operations.{next_operation}
 use Rattle.ace_runs.specs.Retiring.{may_retire}
-use Rattle.ace_runs.specs.Segments.{acts_made, is_at_port}
+use Rattle.ace_runs.specs.Segments.{acts_made, is_at_port, is_for_operation, segment}
 
 -- ---- what an event of a trace that follows a plan does -----------------------------------------------
 
@@ -65,6 +66,11 @@ next-stays plan past p e none = refl
 pub acts-more : (past : Trace) (p : ℕ) (e : Event) → is_retirement e ≡ false → acts_made (e ∷ past) p ≡ (if is_at_port p e && is_act e then acts_made past p + 1 else acts_made past p)
 acts-more past p (Retires q k res) none = cc
 acts-more past p e none = refl
+
+-- and a transaction of the port, but a DVM Complete, is one more of the segment
+pub segment-more : (past : Trace) (p : ℕ) (e : Event) → is_retirement e ≡ false → segment (e ∷ past) p ≡ more (segment past p) (option_filter (is_for_operation p) (issued (length past) e))
+segment-more past p (Retires q k res) none = cc
+segment-more past p e none = refl
 
 -- ---- how many acts there are -------------------------------------------------------------------------
 

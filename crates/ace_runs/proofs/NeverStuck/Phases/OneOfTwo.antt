@@ -1,5 +1,5 @@
 -- A port that has made one act for an operation of two: an event that is no such act leaves it so, or not so, and none retires then.
-use Rattle.std.proofs.Common.{◌≡◌, ℕ, ◌+◌, Bool, true, false, ◌&&◌, ◌==◌, if◌then◌else◌, [], ◌∷◌, length, Some, inl, inr, refl, sym, ap, ◌∙◌}
+use Rattle.std.proofs.Common.{◌≡◌, ℕ, ◌+◌, Bool, true, false, ◌&&◌, ◌==◌, if◌then◌else◌, ◌∷◌, inl, inr, refl, ap, ◌∙◌}
 use Rattle.std.proofs.lemmas.Bool.{and_parts, cases_Bool, eqb-true}
 use Rattle.ace_event.specs.declared.event.Event.{Event}
 use Rattle.ace_event.specs.declared.event.Event.TheVariants.{Op as Retires}
@@ -10,7 +10,7 @@ use Rattle.ace_model.specs.declared.plans.Op.{Op}
 use Rattle.ace_model.specs.declared.plans.Op.TheVariants.{Mb, Sb, Dvm2}
 use Rattle.ace_model.specs.Plans.{Plan}
 use Rattle.ace_model.specs.Trace.{Trace, is_some_and}
-use Rattle.ace_runs.specs.Acts.{acts_of, is_act}
+use Rattle.ace_runs.specs.Acts.{is_act}
 use Rattle.ace_runs.specs.Counts.{is_retirement}
 use Rattle.ace_runs.specs.Follows.{obeys}
 use Rattle.ace_runs.specs.Operations.{next_operation}
