@@ -14,3 +14,9 @@ pub mod AsksKept
 pub mod OfPlan
 -- The transactions of a line are of one class.
 pub mod Classes
+-- The lines that a port holds.
+pub mod HeldLines
+-- The parts of DVM messages break no rule.
+pub mod MessagesKept
+-- Nor do the halves of barriers.
+pub mod BarriersKept
