@@ -20,3 +20,19 @@ pub mod HeldLines
 pub mod MessagesKept
 -- Nor do the halves of barriers.
 pub mod BarriersKept
+-- An operation that can't end.
+pub mod Ends
+-- An operation that asks.
+pub mod Asking
+-- What loads and reads ahead ask for.
+pub mod Fetching
+-- What stores ask for.
+pub mod Storing
+-- What updates of memory and accesses past the cache ask for.
+pub mod GivingUp
+-- What accesses without snoops ask for.
+pub mod Unsnooped
+-- What DVM messages ask for.
+pub mod Ordering
+-- So what each operation asks for fits.
+pub mod RequestsFit
