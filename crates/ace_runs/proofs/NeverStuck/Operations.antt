@@ -36,3 +36,13 @@ pub mod Unsnooped
 pub mod Ordering
 -- So what each operation asks for fits.
 pub mod RequestsFit
+-- The bursts of what fits break no rule.
+pub mod BurstsKept
+-- Nor does what ends an operation.
+pub mod ClosingKept
+-- A burst is the same as itself.
+pub mod SameBursts
+-- What asks leaves what lines give.
+pub mod CalmBursts
+-- So step 14 has a burst that breaks no rule.
+pub mod OperationSteps
