@@ -14,3 +14,35 @@ pub mod AsksKept
 pub mod OfPlan
 -- The transactions of a line are of one class.
 pub mod Classes
+-- The lines that a port holds.
+pub mod HeldLines
+-- The parts of DVM messages break no rule.
+pub mod MessagesKept
+-- Nor do the halves of barriers.
+pub mod BarriersKept
+-- An operation that can't end.
+pub mod Ends
+-- An operation that asks.
+pub mod Asking
+-- What loads and reads ahead ask for.
+pub mod Fetching
+-- What stores ask for.
+pub mod Storing
+-- What updates of memory and accesses past the cache ask for.
+pub mod GivingUp
+-- What accesses without snoops ask for.
+pub mod Unsnooped
+-- What DVM messages ask for.
+pub mod Ordering
+-- So what each operation asks for fits.
+pub mod RequestsFit
+-- The bursts of what fits break no rule.
+pub mod BurstsKept
+-- Nor does what ends an operation.
+pub mod ClosingKept
+-- A burst is the same as itself.
+pub mod SameBursts
+-- What asks leaves what lines give.
+pub mod CalmBursts
+-- So step 14 has a burst that breaks no rule.
+pub mod OperationSteps

@@ -72,7 +72,7 @@ module _ (h : Header) (past : Trace) (p : ℕ) (idle : IsIdle h past p) where
   pub found-free : (c : Channel) → IsFound identifiers (is_free h past p c) (free_on h past p c)
   found-free c = least-found identifiers (is_free h past p c) 0 (lit≤ tt) (all-free c 0)
 
-  found-both : IsFound identifiers (λ i. is_free h past p Read i && is_free h past p Write i) (free_on_both h past p)
+  pub found-both : IsFound identifiers (λ i. is_free h past p Read i && is_free h past p Write i) (free_on_both h past p)
   found-both = least-found identifiers (λ i. is_free h past p Read i && is_free h past p Write i) 0 (lit≤ tt) (and_from _ _ (all-free Read 0) (all-free Write 0))
 
   read-asked : (k : ArKind) (a : ℕ) (lock : Bool) → HasFirst (read_bursts h past p k a lock)
@@ -137,7 +137,7 @@ module _ (h : Header) (past : Trace) (p : ℕ) (idle : IsIdle h past p) where
       no-name true = refl
       no-name false = refl
 
-  found-after : (i a s d b : ℕ) (lock : Bool) → IsFound identifiers (is_free h (event.Ar p i a s d b lock ∷ past) p Read) (free_on h (event.Ar p i a s d b lock ∷ past) p Read)
+  pub found-after : (i a s d b : ℕ) (lock : Bool) → IsFound identifiers (is_free h (event.Ar p i a s d b lock ∷ past) p Read) (free_on h (event.Ar p i a s d b lock ∷ past) p Read)
   found-after i a s d b lock =
       elim (cases_Bool (i == 0)) [
         | inl zeroth ↦ least-found identifiers (is_free h (event.Ar p i a s d b lock ∷ past) p Read) 1 (lit≤ tt) (other-free i a s d b lock 1 (ap (λ n. n == 1) (eqb-true i 0 zeroth)))

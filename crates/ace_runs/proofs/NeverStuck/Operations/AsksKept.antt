@@ -1,6 +1,6 @@
 -- What a port with nothing outstanding asks for breaks no rule, where the kind is one for the port, its state and the line.
-use Rattle.std.proofs.Common.{◌≡◌, ℕ, Bool, true, false, not, ◌&&◌, ◌||◌, nat_lt, if◌then◌else◌, Option, Some, None, is_none, refl, sym, ap, ◌∙◌}
-use Rattle.std.proofs.lemmas.Bool.{and_parts, and_from, false_from_ne_true}
+use Rattle.std.proofs.Common.{◌≡◌, ℕ, Bool, true, false, not, ◌&&◌, ◌||◌, nat_lt, if◌then◌else◌, Option, Some, None, is_none, refl, ap, ◌∙◌}
+use Rattle.std.proofs.lemmas.Bool.{and_from}
 use Rattle.ace_codes.specs.declared.kind.ArKind.{ArKind}
 use Rattle.ace_codes.specs.declared.kind.ArKind.TheVariants as read
 use Rattle.ace_codes.specs.declared.kind.AwKind.{AwKind}
@@ -9,20 +9,16 @@ use Rattle.ace_codes.specs.declared.state.LineState.TheVariants.{I}
 use Rattle.ace_codes.specs.Reads.{ar_code, ar_kind_of}
 use Rattle.ace_codes.specs.Writes.{aw_code, aw_kind_of}
 use Rattle.ace_event.specs.declared.event.Channel.TheVariants.{Read, Write}
-use Rattle.ace_event.specs.declared.event.Event.{Event}
 use Rattle.ace_event.specs.declared.event.Event.TheVariants.{Ar, Aw, S}
 use Rattle.ace_event.specs.declared.header.Header.{Header}
 use Rattle.ace_tables.specs.Answers.{same_test}
 use Rattle.ace_tables.specs.SilentTransitions.{is_silent_move}
 use Rattle.ace_tables.specs.StartStates.{starts_read, starts_write}
-use Rattle.ace_model.specs.declared.transactions.Transaction.{Transaction}
-use Rattle.ace_model.specs.AddressRules.{begins_barrier, is_aligned, is_no_snoop, is_part_in_order, k1, k2, k3, k4, k5, k6, k7, k8, k9, k10, keeps_apart, may_issue_read, may_issue_write}
+use Rattle.ace_model.specs.AddressRules.{is_aligned, is_no_snoop, k1, k2, k3, k4, k5, k6, k7, k8, k9, k10, keeps_apart, may_issue_read, may_issue_write}
 use Rattle.ace_model.specs.CacheRules.{k29}
-use Rattle.ace_model.specs.Barriers.{is_barrier_half}
 use Rattle.ace_model.specs.Kinds.{is_dvm_complete, is_dvm_message, is_line_read, is_line_write, is_no_snoop_read, is_no_snoop_write, is_read_barrier, is_write_barrier, may_be_exclusive}
-use Rattle.ace_model.specs.Messages.{first_waiting, is_dvm_completion, is_message_part}
 use Rattle.ace_model.specs.OrderRules.{k38}
-use Rattle.ace_model.specs.Progress.{each_issued, has_update, updates_memory}
+use Rattle.ace_model.specs.Progress.{each_issued}
 use Rattle.ace_model.specs.States.{state_of}
 use Rattle.ace_model.specs.Trace.{Trace, implies, is_none_or, is_some_and}
 use Rattle.ace_model.specs.Transactions.{has_outstanding_on, is_ace, is_on}
@@ -105,34 +101,33 @@ pub record DropFits (h : Header) (past : Trace) (p : ℕ) (a : ℕ) : Type 0 whe
   pub aligned : is_aligned a ≡ true
   pub moves : is_silent_move (state_of h past p a) I ≡ true
 
-or-none : (b : Bool) → (b || false) ≡ b
+pub or-none : (b : Bool) → (b || false) ≡ b
 or-none true = refl
 or-none false = refl
 
+-- An AR keeps all rules where it keeps those that look at it: K7 where it isn't exclusive, and K10 looks at writes alone.
+pub ar-kept : (h : Header) (past : Trace) (p i a s d b : ℕ) (lock : Bool) → nat_lt p h.ports ≡ true → k2 h past (Ar p i a s d b lock) ≡ true → k3 h past (Ar p i a s d b lock) ≡ true
+    → is_free h past p Read i ≡ true → k5 h past (Ar p i a s d b lock) ≡ true → k6 h past (Ar p i a s d b lock) ≡ true → k7 h past (Ar p i a s d b lock) ≡ true
+    → k8 h past (Ar p i a s d b lock) ≡ true → k9 h past (Ar p i a s d b lock) ≡ true → k38 h past (Ar p i a s d b lock) ≡ true → is_kept h past (Ar p i a s d b lock) ≡ true
+unfolding is_kept
+ar-kept h past p i a s d b lock low two three free five six seven eight nine last =
+    let e = Ar p i a s d b lock in
+    let one : k1 h past e ≡ true = and_from _ _ low refl in
+    eleven-kept (k1 h past e) (k2 h past e) (k3 h past e) (k4 h past e) (k5 h past e) (k6 h past e) (k7 h past e) (k8 h past e) (k9 h past e) (k10 h past e) (k38 h past e)
+    one two three free five six seven eight nine refl last
+
+-- An AW does so too; no AW is exclusive or a DVM Complete.
+pub aw-kept : (h : Header) (past : Trace) (p i a s d b : ℕ) → nat_lt p h.ports ≡ true → k2 h past (Aw p i a s d b) ≡ true → k3 h past (Aw p i a s d b) ≡ true
+    → is_free h past p Write i ≡ true → k5 h past (Aw p i a s d b) ≡ true → k6 h past (Aw p i a s d b) ≡ true → k8 h past (Aw p i a s d b) ≡ true
+    → k9 h past (Aw p i a s d b) ≡ true → k10 h past (Aw p i a s d b) ≡ true → is_kept h past (Aw p i a s d b) ≡ true
+unfolding is_kept
+aw-kept h past p i a s d b low two three free five six eight nine ten =
+    let e = Aw p i a s d b in
+    let one : k1 h past e ≡ true = and_from _ _ low refl in
+    eleven-kept (k1 h past e) (k2 h past e) (k3 h past e) (k4 h past e) (k5 h past e) (k6 h past e) (k7 h past e) (k8 h past e) (k9 h past e) (k10 h past e) (k38 h past e)
+    one two three free five six refl eight nine ten refl
+
 module _ (h : Header) (past : Trace) (p : ℕ) (low : nat_lt p h.ports ≡ true) (idle : IsIdle h past p) where
-  -- an AR that keeps the eleven rules that look at it
-  ar-kept : (i a s d b : ℕ) (lock : Bool) → let e = Ar p i a s d b lock in
-      k2 h past e ≡ true → k3 h past e ≡ true → is_free h past p Read i ≡ true → k6 h past e ≡ true → k7 h past e ≡ true → k8 h past e ≡ true → k9 h past e ≡ true → k38 h past e ≡ true
-      → is_kept h past e ≡ true
-  unfolding is_kept
-  ar-kept i a s d b lock two three free six seven eight nine last =
-      let e = Ar p i a s d b lock in
-      let one : k1 h past e ≡ true = and_from _ _ low refl in
-      let five : k5 h past e ≡ true = implies-right _ (not (has_outstanding_on h past p a)) (ap not (none-busy h past p idle a)) in
-      eleven-kept (k1 h past e) (k2 h past e) (k3 h past e) (k4 h past e) (k5 h past e) (k6 h past e) (k7 h past e) (k8 h past e) (k9 h past e) (k10 h past e) (k38 h past e)
-      one two three free five six seven eight nine refl last
-
-  aw-kept : (i a s d b : ℕ) → let e = Aw p i a s d b in
-      k2 h past e ≡ true → k3 h past e ≡ true → is_free h past p Write i ≡ true → k6 h past e ≡ true → k8 h past e ≡ true → k9 h past e ≡ true → k10 h past e ≡ true
-      → is_kept h past e ≡ true
-  unfolding is_kept
-  aw-kept i a s d b two three free six eight nine ten =
-      let e = Aw p i a s d b in
-      let one : k1 h past e ≡ true = and_from _ _ low refl in
-      let five : k5 h past e ≡ true = implies-right _ (not (has_outstanding_on h past p a)) (ap not (none-busy h past p idle a)) in
-      eleven-kept (k1 h past e) (k2 h past e) (k3 h past e) (k4 h past e) (k5 h past e) (k6 h past e) (k7 h past e) (k8 h past e) (k9 h past e) (k10 h past e) (k38 h past e)
-      one two three free five six refl eight nine ten refl
-
   -- a read of a line
   pub read-kept : (k : ArKind) (i a : ℕ) (lock : Bool) → ReadFits h past p k a lock → is_free h past p Read i ≡ true
       → is_kept h past (Ar p i a (ar_code k) (domain_for (is_no_snoop_read k)) 0 lock) ≡ true
@@ -146,6 +141,7 @@ module _ (h : Header) (past : Trace) (p : ℕ) (low : nat_lt p h.ports ≡ true)
       let three : k3 h past e ≡ true =
       ap (λ o. is_none_or (if is_some_and o is_line_read then Some a else None) is_aligned && true) kind
       ∙ ap (λ b. is_none_or (if b then Some a else None) is_aligned && true) f.line ∙ and_from _ _ f.aligned refl in
+      let five : k5 h past e ≡ true = implies-right _ (not (has_outstanding_on h past p a)) (ap not (none-busy h past p idle a)) in
       let six : k6 h past e ≡ true =
       implies-right _ (is_none_or (ar_kind_of (ar_code k) (domain_for (is_no_snoop_read k)) 0) (λ k. starts_read k st) && true)
       (and_from _ _ (ap (λ o. is_none_or o (λ k. starts_read k st)) kind ∙ f.starts) refl) in
@@ -159,7 +155,7 @@ module _ (h : Header) (past : Trace) (p : ℕ) (low : nat_lt p h.ports ≡ true)
       (implies-none _ _ (ap (λ o. is_some_and o is_dvm_message) kind ∙ of.message)))
       (implies-none _ _ (ap (λ o. is_some_and o is_dvm_complete) kind ∙ of.completion)) in
       let last : k38 h past e ≡ true = implies-none _ _ (ap (λ o. is_some_and o is_dvm_complete) kind ∙ of.completion) in
-      ar-kept i a (ar_code k) (domain_for (is_no_snoop_read k)) 0 lock two three free six seven eight nine last
+      ar-kept h past p i a (ar_code k) (domain_for (is_no_snoop_read k)) 0 lock low two three free five six seven eight nine last
 
   -- a write of a line
   pub write-kept : (k : AwKind) (i a : ℕ) → WriteFits h past p k a → is_free h past p Write i ≡ true
@@ -172,6 +168,7 @@ module _ (h : Header) (past : Trace) (p : ℕ) (low : nat_lt p h.ports ≡ true)
       let three : k3 h past e ≡ true =
       ap (λ o. is_none_or (if is_some_and o is_line_write then Some a else None) is_aligned && true) kind
       ∙ ap (λ b. is_none_or (if b then Some a else None) is_aligned && true) f.line ∙ and_from _ _ f.aligned refl in
+      let five : k5 h past e ≡ true = implies-right _ (not (has_outstanding_on h past p a)) (ap not (none-busy h past p idle a)) in
       let six : k6 h past e ≡ true =
       implies-right _ (is_none_or (aw_kind_of (aw_code k) (domain_for (is_no_snoop_write k)) 0) (λ k. starts_write k st))
       (ap (λ o. is_none_or o (λ k. starts_write k st)) kind ∙ f.starts) in
@@ -180,7 +177,7 @@ module _ (h : Header) (past : Trace) (p : ℕ) (low : nat_lt p h.ports ≡ true)
       (ap (λ o. each_issued past (λ y. implies (is_on y a) (same_test (is_some_and o is_no_snoop_write) (is_no_snoop y)))) kind ∙ f.alike) in
       let nine : k9 h past e ≡ true = and_from _ _ (and_from _ _ (implies-none _ _ (ap (λ o. is_some_and o is_write_barrier) kind ∙ line-write k f.line)) refl) refl in
       let ten : k10 h past e ≡ true = ap (λ o. is_none_or o (keeps_apart h past p)) kind ∙ kept-apart h past p idle k in
-      aw-kept i a (aw_code k) (domain_for (is_no_snoop_write k)) 0 two three free six eight nine ten
+      aw-kept h past p i a (aw_code k) (domain_for (is_no_snoop_write k)) 0 low two three free five six eight nine ten
 
   -- a clean line given up
   pub drop-kept : (a : ℕ) → DropFits h past p a → is_kept h past (S p a I) ≡ true

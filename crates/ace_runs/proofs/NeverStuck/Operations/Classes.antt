@@ -1,18 +1,16 @@
 -- The transactions of a line are all NoSnoop, or none is: of a line that an operation names as that operation is, where the trace is lean; of a
 -- line that a port holds none is. A line that a port holds is one of memory, and the port is an ACE port.
-use Rattle.std.proofs.Common.{◌≡◌, ◌≢◌, ℕ, Bool, true, false, not, ◌&&◌, ◌||◌, ◌==◌, nat_eq, if◌then◌else◌, [], ◌∷◌, length, Option, Some, None, slice_get, inl, inr, refl, sym, ap, subst, ◌∙◌, arith}
+use Rattle.std.proofs.Common.{◌≡◌, ℕ, Bool, true, false, not, ◌&&◌, ◌||◌, ◌==◌, nat_eq, if◌then◌else◌, [], ◌∷◌, length, Some, None, inl, inr, refl, sym, ap, subst, ◌∙◌, arith}
 use Rattle.std.specs.List.{list_any}
 use Rattle.std.proofs.lemmas.Bool.{and_parts, cases_Bool, eqb-true, false_from_ne_true}
 use Rattle.ace_codes.specs.Reads.{ar_kind_of}
 use Rattle.ace_codes.specs.Writes.{aw_kind_of}
-use Rattle.ace_codes.specs.declared.state.LineState.TheVariants.{I}
 use Rattle.ace_event.specs.declared.event.Event.{Event}
 use Rattle.ace_event.specs.declared.event.Event.TheVariants.{Ar, Aw}
 use Rattle.ace_event.specs.declared.header.Header.{Header}
 use Rattle.ace_tables.specs.Answers.{same_test}
 use Rattle.ace_tables.specs.States.{is_invalid}
 use Rattle.ace_model.specs.declared.plans.Op.{Op}
-use Rattle.ace_model.specs.declared.plans.PlanOp.{PlanOp}
 use Rattle.ace_model.specs.declared.transactions.Transaction.{Transaction}
 use Rattle.ace_model.specs.Accepted.{IsAccepted}
 use Rattle.ace_model.specs.AddressRules.{is_aligned, is_no_snoop, k3}
@@ -28,8 +26,7 @@ use Rattle.ace_model.proofs.Holders.Law.{accepted_holds}
 use Rattle.ace_model.proofs.Holders.ShareableLines.{held_is_shareable, used_alike}
 use Rattle.ace_model.proofs.Rules.Keeps.{accepted_keeps}
 use Rattle.ace_model.proofs.Trace.Growth.{IsIssued, issued-cases, some_issued-is}
-use Rattle.ace_runs.specs.Follows.{EachEvent}
-use Rattle.ace_runs.specs.Lean.{IsLean, is_on_named_line, is_one_of_three, is_one_of_two, stays_lean}
+use Rattle.ace_runs.specs.Lean.{IsLean, is_on_named_line, is_one_of_three, is_one_of_two}
 use Rattle.ace_runs.specs.Operations.{names}
 use Rattle.ace_runs.proofs.NeverStuck.Operations.AsksKept.{IsOfClass}
 use Rattle.ace_runs.proofs.NeverStuck.Operations.OfPlan.{IsPlanned, alike-in-plan, any-at}

@@ -1,6 +1,6 @@
 -- What a right plan says of the next operation of a port: its port is in the header and may do it, its fields are in range, and the operations on
 -- its line are all NoSnoop, or none is.
-use Rattle.std.proofs.Common.{◌≡◌, ◌⊎◌, ℕ, zero, suc, ◌<◌, Bool, true, false, not, ◌&&◌, ◌||◌, ◌==◌, List, [], ◌∷◌, ◌++◌, map, filter, take, Some, nat_lt, slice_get, inl, inr, refl, sym, ap, subst, ◌∙◌, append-nil, append_assoc, arith}
+use Rattle.std.proofs.Common.{◌≡◌, ℕ, zero, suc, ◌<◌, Bool, true, false, not, ◌==◌, List, [], ◌∷◌, ◌++◌, map, filter, take, Some, nat_lt, slice_get, inl, inr, refl, sym, ap, subst, ◌∙◌, append-nil, append_assoc, arith}
 use Rattle.std.specs.List.{list_all, list_any}
 use Rattle.std.proofs.lemmas.Bool.{and_parts, or_cases, cases_Bool, cases_eq, eq-eqb, eqb-true, ltb-true, ltb-false}
 use Rattle.ace_event.specs.declared.header.Header.{Header}
@@ -9,7 +9,7 @@ use Rattle.ace_model.specs.declared.plans.Op.{Op}
 use Rattle.ace_model.specs.declared.plans.PlanOp.{PlanOp}
 use Rattle.ace_model.specs.AddressRules.{is_aligned}
 use Rattle.ace_model.specs.OrderRules.{retired}
-use Rattle.ace_model.specs.Plans.{AreRightAfter, IsRight, IsRightAfter, Plan, has_right_fields, is_allowed, is_lite_operation, is_of_one_class, line_named, wants_no_snoop}
+use Rattle.ace_model.specs.Plans.{AreRightAfter, IsRight, IsRightAfter, Plan, has_right_fields, is_lite_operation, is_of_one_class, line_named, wants_no_snoop}
 use Rattle.ace_model.specs.Trace.{Trace, implies, is_none_or, is_some_and}
 use Rattle.ace_model.specs.Transactions.{is_ace}
 use Rattle.ace_model.proofs.General.Booleans.{implies-at, same_test-at}

@@ -47,18 +47,20 @@ module _ (ways : ℕ) (h : Header) (past : Trace) (p : ℕ) (op : Op) (idle : Is
       subst HasFirst (sym (ap (λ b. if b then [] else ends_or_asks ways h past p op (closing_of h past p op)) (waits-not none)))
       (ends-or-asks some (closing_of h past p op))
 
--- Where nothing of the port is outstanding, its next operation goes on if it has made no act.
-pub idle-goes-on : (plan : Plan) (past : Trace) (p : ℕ) (op : Op) → 1 ≤ plan.ways → IsIdle plan.header past p
-    → next_operation plan past p ≡ Some op → acts_made past p ≡ 0 → is_enabled_by (14 ∷ []) plan past p ≡ true
-idle-goes-on plan past p op some idle next none =
+pub may-go-on : (plan : Plan) (past : Trace) (p : ℕ) (op : Op) → 1 ≤ plan.ways → IsIdle plan.header past p
+    → next_operation plan past p ≡ Some op → acts_made past p ≡ 0 → may_go_on plan.ways (next_operation plan past p) plan.header past p ≡ true
+may-go-on plan past p op some idle next none =
     let h = plan.header in
     let move = has-move plan.ways h past p op idle some none in
     let moving : HasFirst (moves plan.ways (Some op) h past p) =
     first-right (completion_bursts h past p) (flat_map (moves_of plan.ways h past p) (option_to_list (Some op)))
     (first-flat_map (moves_of plan.ways h past p) (op ∷ []) (record { first = op; rest = []; is = refl }) move) in
-    let may : may_go_on plan.ways (next_operation plan past p) h past p ≡ true =
-    ap (λ o. may_go_on plan.ways o h past p) next ∙ not-empty (moves plan.ways (Some op) h past p) moving in
-    or_left (may_go_on plan.ways (next_operation plan past p) h past p) _ may
+    ap (λ o. may_go_on plan.ways o h past p) next ∙ not-empty (moves plan.ways (Some op) h past p) moving
+
+-- Where nothing of the port is outstanding, its next operation goes on if it has made no act.
+pub idle-goes-on : (plan : Plan) (past : Trace) (p : ℕ) (op : Op) → 1 ≤ plan.ways → IsIdle plan.header past p
+    → next_operation plan past p ≡ Some op → acts_made past p ≡ 0 → is_enabled_by (14 ∷ []) plan past p ≡ true
+idle-goes-on plan past p op some idle next none = or_left (may_go_on plan.ways (next_operation plan past p) plan.header past p) _ (may-go-on plan past p op some idle next none)
 
 -- Where nothing is outstanding, an operation that has made no act goes on.
 pub operation-goes-on : (plan : Plan) (past : Trace) (p : ℕ) (op : Op) → 1 ≤ plan.ways → some_issued past (is_outstanding plan.header past) ≡ false

@@ -1,0 +1,93 @@
+-- Operations that fetch a line ask for it where their port doesn't hold it: loads, and reads ahead.
+use Rattle.std.proofs.Common.{◌≡◌, ℕ, Bool, true, false, not, ◌&&◌, ◌||◌, ◌==◌, List, [], ◌∷◌, refl, sym, ap, ◌∙◌}
+use Rattle.std.specs.List.{list_all, list_any}
+use Rattle.std.proofs.lemmas.Bool.{and_parts, and_from, eq-eqb, eqb-true, false_from_ne_true, or_left}
+use Rattle.ace_codes.specs.declared.kind.ArKind.{ArKind}
+use Rattle.ace_codes.specs.declared.kind.ArKind.TheVariants as read
+use Rattle.ace_codes.specs.declared.state.LineState.TheVariants.{I}
+use Rattle.ace_event.specs.declared.header.Header.{Header}
+use Rattle.ace_tables.specs.EndStates.{is_fetch}
+use Rattle.ace_tables.specs.StartStates.{starts_read}
+use Rattle.ace_tables.specs.States.{is_invalid}
+use Rattle.ace_model.specs.declared.plans.Op.TheVariants.{Ld, Ldx, Pf}
+use Rattle.ace_model.specs.declared.transactions.Transaction.{Transaction}
+use Rattle.ace_model.specs.Kinds.{is_line_read, is_no_snoop_read}
+use Rattle.ace_model.specs.Plans.{Plan}
+use Rattle.ace_model.specs.States.{state_of}
+use Rattle.ace_model.specs.Trace.{Trace}
+use Rattle.ace_model.specs.Transactions.{is_outstanding}
+use Rattle.ace_model.proofs.Tables.States.{is_invalid-is}
+use Rattle.ace_runs.specs.Retiring.{has_read, is_met}
+use Rattle.ace_runs.specs.Segments.{acts_made, is_read_of, segment}
+use Rattle.ace_runs.proofs.NeverStuck.Operations.AsksKept.{ReadFits}
+use Rattle.ace_runs.proofs.NeverStuck.Operations.Asking.{IsAsking, own-read}
+use Rattle.ace_runs.proofs.NeverStuck.Operations.Ends.{no-access, not-skipped}
+use Rattle.ace_runs.proofs.NeverStuck.Operations.Idle.{none-out, segment-port}
+use Rattle.ace_runs.proofs.NeverStuck.Operations.OfPlan.{planned-ace}
+
+not-false : (b : Bool) → not b ≡ false → b ≡ true
+not-false true f = refl
+not-false false f = cc
+
+and-true : (b : Bool) → (b && true) ≡ b
+and-true true = refl
+and-true false = refl
+
+-- a read that fetches a line to keep starts where the port holds nothing of it
+record StartsFetch (k : ArKind) : Type 0 where
+  line : is_line_read k ≡ true
+  snoops : false ≡ is_no_snoop_read k
+  starts : starts_read k I ≡ true
+
+fetch-starts : (k : ArKind) → is_fetch k ≡ true → StartsFetch k
+fetch-starts read.ReadShared f = record { line = refl; snoops = refl; starts = refl }
+fetch-starts read.ReadClean f = record { line = refl; snoops = refl; starts = refl }
+fetch-starts read.ReadNotSharedDirty f = record { line = refl; snoops = refl; starts = refl }
+fetch-starts read.ReadUnique f = record { line = refl; snoops = refl; starts = refl }
+fetch-starts k f = cc
+
+module _ (plan : Plan) (past : Trace) (p a : ℕ) where
+  abbrev h : Header
+  h = plan.header
+
+  pub load-fits : (w : ℕ) → IsAsking plan past p (Ld a w) → ReadFits h past p read.ReadShared a false
+  load-fits w q =
+      let ace = planned-ace plan p (Ld a w) q.planned refl in
+      let none : state_of h past p a ≡ I = is_invalid-is (state_of h past p a) (not-false (is_invalid (state_of h past p a)) (no-access h past p (Ld a w) q.made q.stays _ refl)) in
+      own-read plan past p (Ld a w) q read.ReadShared a false refl refl refl (or_left _ _ ace) refl (ap (starts_read read.ReadShared) none)
+
+  pub exclusive-load-fits : (w : ℕ) → IsAsking plan past p (Ldx a w) → ReadFits h past p read.ReadShared a true
+  exclusive-load-fits w q =
+      let ace = planned-ace plan p (Ldx a w) q.planned refl in
+      let none : state_of h past p a ≡ I = is_invalid-is (state_of h past p a) (not-false (is_invalid (state_of h past p a)) (no-access h past p (Ldx a w) q.made q.stays _ refl)) in
+      own-read plan past p (Ldx a w) q read.ReadShared a true refl refl refl (or_left _ _ ace) (and_from _ _ ace refl) (ap (starts_read read.ReadShared) none)
+
+  -- where nothing is outstanding, a read ahead that has had a read of its kind can end
+  none-fetched : (k : ArKind) → IsAsking plan past p (Pf a k) → list_any (is_read_of k a) (segment past p) ≡ false
+  none-fetched k q =
+      let none : list_any (λ x. is_read_of k a x && not (is_outstanding h past x)) (segment past p) ≡ false =
+      ap (λ b. b && is_met h past p (Pf a k)) (sym (eq-eqb (acts_made past p) 0 q.made)) ∙ q.stays.not_ok in
+      same (segment past p) (segment-port past p) ∙ none
+    where
+      same : (xs : List Transaction) → list_all (λ x. x.port == p) xs ≡ true
+          → list_any (is_read_of k a) xs ≡ list_any (λ x. is_read_of k a x && not (is_outstanding h past x)) xs
+      same [] all = refl
+      same (x ∷ xs) all =
+          let parts = and_parts (x.port == p) (list_all (λ x. x.port == p) xs) all in
+          let out = none-out h past p q.idle x (eqb-true x.port p parts.0) in
+          ap (λ b. is_read_of k a x || b) (same xs parts.1) ∙ ap (λ b. b || list_any (λ x. is_read_of k a x && not (is_outstanding h past x)) xs) (sym (ap (λ b. is_read_of k a x && not b) out ∙ and-true (is_read_of k a x)))
+
+  pub read-ahead-fits : (k : ArKind) → IsAsking plan past p (Pf a k) → ReadFits h past p k a false
+  read-ahead-fits k q =
+      let ace = planned-ace plan p (Pf a k) q.planned refl in
+      let of = fetch-starts k q.planned.fields in
+      let unread : has_read past p a ≡ false =
+      false_from_ne_true (has_read past p a) (λ some. let bad : false ≡ true = sym (none-fetched k q) ∙ q.as_asked some in cc) in
+      let none : state_of h past p a ≡ I =
+      is_invalid-is (state_of h past p a) (unskipped (is_invalid (state_of h past p a)) (has_read past p a) unread (not-skipped h past p (Pf a k) q.made q.stays)) in
+      own-read plan past p (Pf a k) q k a false refl of.line of.snoops (or_left _ _ ace) refl (ap (starts_read k) none ∙ of.starts)
+    where
+      unskipped : (inv read : Bool) → read ≡ false → (not inv && not read) ≡ false → inv ≡ true
+      unskipped true r f s = refl
+      unskipped false true f s = cc
+      unskipped false false f s = cc
