@@ -50,3 +50,7 @@ pub mod OrderMoves
 pub mod Phases
 -- Operations: where nothing is outstanding, the next operation of a port goes on.
 pub mod Operations
+-- So a run that isn't done, with nothing outstanding, has an operation that moves on.
+pub mod OperationsMove
+-- So a run that isn't done has a port that is enabled.
+pub mod RunsGoOn

@@ -17,7 +17,7 @@ ghost use Rattle.ace_model.specs.Trace.{Trace};
 ghost use Rattle.ace_model.specs.Transactions.{is_complete, is_outstanding, outstanding, some_issued};
 ghost use Rattle.ace_model.specs.Plans.{Plan, IsRight};
 ghost use Rattle.ace_runs.specs.Operations.{with_more};
-ghost use Rattle.ace_runs.specs.Follows.{FollowsSoFar, follows_so_far, owes_completion};
+ghost use Rattle.ace_runs.specs.Follows.{Done, FollowsSoFar, follows_so_far, is_done, owes_completion};
 ghost use Rattle.ace_runs.specs.LineSteps.{waits};
 ghost use Rattle.ace_runs.specs.Lean.{IsLean, is_lean};
 ghost use Rattle.ace_runs.specs.Acts.{is_act};
@@ -173,4 +173,24 @@ pub fn barrier_or_message_has_a_step()
         → some_issued past (waits plan.header past) ≡ false
         → (some_issued past (is_outstanding plan.header past) || list_any (owes_completion past) (ports_below plan.header.ports)) ≡ true
         → (p : ℕ) × (p < plan.header.ports) × (is_enabled_by (10 ∷ 11 ∷ 12 ∷ 13 ∷ 14 ∷ []) plan past p ≡ true) }
+{}
+
+/// In a run that follows a right plan so far and isn't done, where no AC is unanswered, no transaction is outstanding and no port owes a DVM
+/// Complete: an operation hasn't retired, and a port of the header is enabled by step 4, 13 or 14.
+pub fn operation_has_a_step()
+    ensures { (plan : Plan) (past : Trace) → IsRight plan → AreSteps plan past → FollowsSoFar plan past
+        → ((q : ℕ) → q < plan.header.ports → answered past q ≡ None)
+        → some_issued past (is_outstanding plan.header past) ≡ false
+        → list_any (owes_completion past) (ports_below plan.header.ports) ≡ false
+        → is_done plan past ≡ false
+        → (p : ℕ) × (p < plan.header.ports) × (is_enabled_by (4 ∷ 13 ∷ 14 ∷ []) plan past p ≡ true) }
+{}
+
+/// A run never gets stuck: in a run that follows a right plan so far, until it is done, a port of the header is enabled. The test of what is done
+/// and the statement that it isn't say the same.
+pub fn run_goes_on()
+    ensures undone { (plan : Plan) (past : Trace) → IsRight plan → AreSteps plan past → FollowsSoFar plan past → is_done plan past ≡ false
+        → (p : ℕ) × (p < plan.header.ports) × Enabled plan past p }
+    ensures not_done { (plan : Plan) (past : Trace) → IsRight plan → AreSteps plan past → FollowsSoFar plan past → (Done plan past → ⊥)
+        → (p : ℕ) × (p < plan.header.ports) × Enabled plan past p }
 {}
