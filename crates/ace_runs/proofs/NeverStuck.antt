@@ -1,4 +1,4 @@
--- What the steps of a run keep, from which it will follow that a run never gets stuck.
+-- What the steps of a run keep, and that so a run never gets stuck.
 
 -- A snoop that can't be answered yet waits for a memory update.
 pub mod Rows

@@ -176,7 +176,7 @@ pub fn barrier_or_message_has_a_step()
 {}
 
 /// In a run that follows a right plan so far and isn't done, where no AC is unanswered, no transaction is outstanding and no port owes a DVM
-/// Complete: an operation hasn't retired, and a port of the header is enabled by step 4, 13 or 14.
+/// Complete, an operation hasn't retired, and a port of the header is enabled by step 4, 13 or 14.
 pub fn operation_has_a_step()
     ensures { (plan : Plan) (past : Trace) → IsRight plan → AreSteps plan past → FollowsSoFar plan past
         → ((q : ℕ) → q < plan.header.ports → answered past q ≡ None)
@@ -186,8 +186,8 @@ pub fn operation_has_a_step()
         → (p : ℕ) × (p < plan.header.ports) × (is_enabled_by (4 ∷ 13 ∷ 14 ∷ []) plan past p ≡ true) }
 {}
 
-/// A run never gets stuck: in a run that follows a right plan so far, until it is done, a port of the header is enabled. The test of what is done
-/// and the statement that it isn't say the same.
+/// A run never gets stuck: in a run that follows a right plan so far and isn't done, by the test (`undone`) or by what `Done` says (`not_done`), a
+/// port of the header is enabled.
 pub fn run_goes_on()
     ensures undone { (plan : Plan) (past : Trace) → IsRight plan → AreSteps plan past → FollowsSoFar plan past → is_done plan past ≡ false
         → (p : ℕ) × (p < plan.header.ports) × Enabled plan past p }
