@@ -7,7 +7,7 @@ use Rattle.ace_event.specs.declared.event.Event.TheVariants.{W, S, Op}
 use Rattle.ace_model.specs.declared.plans.Op.{Op as Operation}
 use Rattle.ace_model.specs.declared.plans.PlanOp.{PlanOp}
 use Rattle.ace_model.specs.declared.transactions.Transaction.{Transaction}
-use Rattle.ace_model.specs.Plans.{Plan}
+use Rattle.ace_model.specs.Plans.{IsRight, Plan, longer}
 use Rattle.ace_model.specs.Trace.{Trace, at_point, implies, is_none_or, is_some_and, port_of}
 use Rattle.ace_model.specs.Transactions.{issued}
 use Rattle.ace_model.specs.Writes.{next_write}
@@ -16,6 +16,7 @@ use Rattle.ace_runs.specs.Follows.{FollowsSoFar, EachEvent, acts_well, answers_w
 use Rattle.ace_runs.specs.Lean.{IsLean, is_on_named_line, is_one_of_three, is_one_of_two, stays_lean}
 use Rattle.ace_runs.specs.Acts.{is_act}
 use Rattle.ace_runs.proofs.LongerPlans.{next-longer}
+use Rattle.ace_engine.specs.Engines.{IsLegal}
 
 -- ---- tests of an option ------------------------------------------------------------------------------
 
@@ -108,8 +109,17 @@ each-too : (f g : Trace → Event → Bool) → ((past : Trace) (e : Event) → 
 each-too f g h [] all = all
 each-too f g h (e ∷ past) all = (each-too f g h past all.0, h past e all.1)
 
-pub follows-longer : (plan : Plan) (more : List PlanOp) (past : Trace) → FollowsSoFar plan past → FollowsSoFar (with_more plan more) past
+follows-longer : (plan : Plan) (more : List PlanOp) (past : Trace) → FollowsSoFar plan past → FollowsSoFar (with_more plan more) past
 follows-longer plan more past = each-too (obeys plan) (obeys (with_more plan more)) (obeys-longer plan more) past
 
-pub stays-lean-longer : (plan : Plan) (more : List PlanOp) (past : Trace) → IsLean plan past → IsLean (with_more plan more) past
+stays-lean-longer : (plan : Plan) (more : List PlanOp) (past : Trace) → IsLean plan past → IsLean (with_more plan more) past
 stays-lean-longer plan more past = each-too (stays_lean plan) (stays_lean (with_more plan more)) (lean-longer plan more) past
+
+-- With one more operation at the end of the plan an engine may stand for the same trace.
+pub legal-longer : (plan : Plan) (past : Trace) (o : PlanOp) → IsLegal plan past → IsRight (longer plan o) → IsLegal (longer plan o) past
+legal-longer plan past o legal right = record {
+  right = right;
+  accepted = legal.accepted;
+  follows = follows-longer plan (o ∷ []) past legal.follows;
+  lean = stays-lean-longer plan (o ∷ []) past legal.lean;
+}
