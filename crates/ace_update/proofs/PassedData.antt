@@ -1,6 +1,6 @@
 -- With each event of an accepted trace, a line's granted transaction has passed data where an answer passes the line on, and none where they are
 -- written or the transaction ends.
-use Rattle.std.proofs.Common.{◌≡◌, ◌≢◌, ℕ, Bool, true, false, not, ◌&&◌, ◌||◌, ◌==◌, nat_lt, if◌then◌else◌, ◌∷◌, Option, Some, None, option_and_then, option_map, refl, sym, ap, subst, ◌∙◌, inl, inr, le_refl}
+use Rattle.std.proofs.Common.{◌≡◌, ◌≢◌, ℕ, Bool, true, false, not, ◌&&◌, ◌||◌, ◌==◌, nat_lt, if◌then◌else◌, ◌∷◌, Option, Some, None, option_map, refl, sym, ap, subst, ◌∙◌, inl, inr, le_refl}
 use Rattle.std.proofs.lemmas.Bool.{and_from, and_parts, cases_Bool, eq-eqb, eqb-true, false_from_ne_true, not-true, not_from_false, or_cases, or_left, or_right}
 use Rattle.ace_codes.specs.declared.kind.AwKind.{AwKind}
 use Rattle.ace_codes.specs.declared.kind.AwKind.TheVariants as write
@@ -18,7 +18,7 @@ use Rattle.ace_model.specs.declared.transactions.Transaction.{Transaction}
 use Rattle.ace_model.specs.Accepted.{IsAccepted}
 use Rattle.ace_model.specs.Trace.{Trace, implies, is_none_or, is_some_and}
 use Rattle.ace_model.specs.Kinds.{has_write_data, is_granted_write}
-use Rattle.ace_model.specs.Transactions.{acknowledged, acknowledgements, ended, is_ace, is_line, is_on, is_read, outstanding, read_kind, takes_grant, write_kind}
+use Rattle.ace_model.specs.Transactions.{acknowledged, acknowledgements, ended, is_ace, is_line, is_on, is_read, outstanding, read_kind, write_kind}
 use Rattle.ace_model.specs.Progress.{updates_memory}
 use Rattle.ace_model.specs.Snoops.{answered, answers_line, is_snoop_on, snoops_a_line}
 use Rattle.ace_model.specs.Grants.{answer_of, granted, has_passed_data, is_begun, is_granted}
@@ -31,7 +31,7 @@ use Rattle.ace_model.proofs.General.Booleans.{else_of, implies-at}
 use Rattle.ace_model.proofs.GrantLooks.Answered.{answer-now, the_answer}
 use Rattle.ace_model.proofs.Grants.Answers.{others_settled}
 use Rattle.ace_model.proofs.Grants.Begins.{line_due}
-use Rattle.ace_model.proofs.Grants.Granted.{granted_at, granted_given, granted_write, has_passed, passed_may, updates_ungranted, written_cases}
+use Rattle.ace_model.proofs.Grants.Granted.{granted_at, granted_given, granted_write, has_passed, passed_may, written_cases}
 use Rattle.ace_model.proofs.Grants.SnoopAnswers.{answering_cr}
 use Rattle.ace_model.proofs.Grants.Stays.{granted_after, granted_before}
 use Rattle.ace_model.proofs.Holders.Law.{accepted_holds}
@@ -39,13 +39,12 @@ use Rattle.ace_model.proofs.Rules.Keeps.{accepted_keeps}
 use Rattle.ace_model.proofs.Tables.Less.{settled_clean}
 use Rattle.ace_model.proofs.Tables.States.{row_is}
 use Rattle.ace_model.proofs.Trace.Issued.{outstanding-name, outstanding-named, same_place}
-use Rattle.ace_model.proofs.Trace.Looks.{is_on-addr}
 use Rattle.ace_model.proofs.Trace.Outstanding.{acknowledged_is, ends_lite}
 use Rattle.ace_model.proofs.Trace.Transfers.{full_some}
 use Rattle.ace_model.proofs.Trace.WriteQueue.{ends_lite_written, ends_write_of}
 use Rattle.ace_model.proofs.Values.PassedData.{answer_kept, passed_origin, passes_data, passes_line, written_passed}
 use Rattle.ace_portck.specs.Targets.{line_of, line_of_snoop, progress_of, target_of}
-use Rattle.ace_update.specs.Passed.{adds, has_passed_on, line_if_granted, removes}
+use Rattle.ace_update.specs.Passed.{adds, has_passed_on, removes}
 
 -- the option is this line
 abbrev pub names : Option ℕ → ℕ → Bool
@@ -93,44 +92,37 @@ module _ (h : Header) (past : Trace) where
   named-transaction : (o : Option Transaction) (l : ℕ) (x : Transaction) → o ≡ Some x → is_on x l ≡ true → names (line_of (option_map (progress_of h past) o)) l ≡ true
   named-transaction o l x is on = let parts = and_parts (is_line x) (x.addr == l) on in rw is (named-if (is_line x) x.addr l parts.0 (eqb-true x.addr l parts.1))
 
-  -- that of one that is granted
-  granted-named : (o : Option Transaction) (l : ℕ) → names (option_and_then line_if_granted (option_map (progress_of h past) o)) l ≡ true
-      → (x : Transaction) × (o ≡ Some x) × (takes_grant x ≡ true) × (x.addr ≡ l)
-  granted-named None l t = cc
-  granted-named (Some x) l t = let parts = if-named (takes_grant x) x.addr l t in (x, refl, parts.0, parts.1)
-
-  named-granted : (o : Option Transaction) (l : ℕ) (x : Transaction) → o ≡ Some x → takes_grant x ≡ true → x.addr ≡ l
-      → names (option_and_then line_if_granted (option_map (progress_of h past) o)) l ≡ true
-  named-granted o l x is t addr = rw is (named-if (takes_grant x) x.addr l t addr)
-
   found : (l : ℕ) (x : Transaction) → granted h past l ≡ Some x → has_passed_data h past x ≡ true → has_passed_on h past l ≡ true
   found l x g has = rw g has
-
-  -- a transaction of a granted kind that may write memory is granted
-  writer-granted : (x : Transaction) → may_write_memory h past x ≡ true → takes_grant x ≡ true → is_granted h past x ≡ true
-  writer-granted x may kind =
-      elim (cases_Bool (is_read x.chan)) [
-        | inl reads ↦ (has_passed h past x (passed_may h past x may reads)).stands
-        | inr writes ↦
-            let parts = and_parts _ (is_write_due h past x || is_update_due h past x) (else_of (is_read x.chan) _ (may_write_data h past x) writes may) in
-            elim (or_cases (is_write_due h past x) (is_update_due h past x) parts.1) [
-              | inl due ↦ (and_parts (is_granted h past x) _ due).0
-              | inr update ↦ absurd (updates_ungranted x kind writes (and_parts (updates_memory x) _ update).0)
-            ]
-      ]
 
 -- ---- where there are some after the event -----------------------------------------------------------
 
 module _ (h : Header) (past : Trace) (l : ℕ) (x : Transaction) where
-  not-by-write : (p : ℕ) (c : Channel) (i : ℕ) (line : Line) → IsAccepted h (M p c i line ∷ past) → granted h past l ≡ Some x
+  -- a write of memory for the line is the granted transaction's, where that has passed data
+  writes-granted : (y : Transaction) → may_write_memory h past y ≡ true → granted h past y.addr ≡ Some x → has_passed_data h past x ≡ true → is_granted h past y ≡ true
+  writes-granted y may g had =
+      elim (cases_Bool (is_read y.chan)) [
+        | inl reads ↦ (has_passed h past y (passed_may h past y may reads)).stands
+        | inr writes ↦
+            let parts = and_parts _ (is_write_due h past y || is_update_due h past y) (else_of (is_read y.chan) _ (may_write_data h past y) writes may) in
+            elim (or_cases (is_write_due h past y) (is_update_due h past y) parts.1) [
+              | inl due ↦ (and_parts (is_granted h past y) _ due).0
+              | inr update ↦
+                  let clear = is_none_or-at (granted h past y.addr) (λ z. not (has_passed_data h past z)) x (and_parts (updates_memory y) _ update).1 g in
+                  let none = not-true (has_passed_data h past x) clear in
+                  let bad : true ≡ false = sym had ∙ none in cc
+            ]
+      ]
+
+  not-by-write : (p : ℕ) (c : Channel) (i : ℕ) (line : Line) → IsAccepted h (M p c i line ∷ past) → granted h past l ≡ Some x → has_passed_data h past x ≡ true
       → has_passed_data h (M p c i line ∷ past) x ≡ true → names (removes (M p c i line) (target_of h past (M p c i line))) l ≡ true → ⊥
-  not-by-write p c i line a g has t =
+  not-by-write p c i line a g had has t =
       let e = M p c i line in
-      let y = granted-named h past (outstanding h past p c i) l t in
+      let y = transaction-named h past (outstanding h past p c i) l t in
       let m = is_some_and-is (outstanding h past p c i) (may_write_memory h past) (accepted_keeps h past e a).rule_24 in
       let one : m.0 ≡ y.0 = Some-injective m.0 y.0 (sym m.1 ∙ y.1) in
       let may : may_write_memory h past y.0 ≡ true = subst (λ z. may_write_memory h past z ≡ true) one m.2 in
-      let stands = granted_at h past a.0 p c i y.0 y.1 (writer-granted h past y.0 may y.2) in
+      let stands = granted_at h past a.0 p c i y.0 y.1 (writes-granted y.0 may (ap (granted h past) y.3 ∙ g) had) in
       let same : y.0 ≡ x = Some-injective y.0 x (sym stands ∙ ap (granted h past) y.3 ∙ g) in
       let name = outstanding-name h past p c i y.0 y.1 in
       let none = (has_passed h (e ∷ past) x has).unwritten in
@@ -165,11 +157,11 @@ module _ (h : Header) (past : Trace) (l : ℕ) (x : Transaction) where
             absurd (stays.lasts z.0 z.1 (ap (λ (v : Transaction). v.place) same))
       ]
 
-  not-removed : (e : Event) → IsAccepted h (e ∷ past) → granted h past l ≡ Some x → granted h (e ∷ past) l ≡ Some x → has_passed_data h (e ∷ past) x ≡ true
-      → names (removes e (target_of h past e)) l ≡ false
-  not-removed (M p c i line) a g after has = false_from_ne_true _ (not-by-write p c i line a g has)
-  not-removed (Rk p st) a g after has = false_from_ne_true _ (not-by-end p st a after)
-  not-removed e a g after has = refl
+  not-removed : (e : Event) → IsAccepted h (e ∷ past) → granted h past l ≡ Some x → has_passed_data h past x ≡ true → granted h (e ∷ past) l ≡ Some x
+      → has_passed_data h (e ∷ past) x ≡ true → names (removes e (target_of h past e)) l ≡ false
+  not-removed (M p c i line) a g had after has = false_from_ne_true _ (not-by-write p c i line a g had has)
+  not-removed (Rk p st) a g had after has = false_from_ne_true _ (not-by-end p st a after)
+  not-removed e a g had after has = refl
 
 -- ---- where there were some before it, or it passes some on -------------------------------------------
 
@@ -253,9 +245,8 @@ module _ (h : Header) (past : Trace) (l : ℕ) where
               let unwritten : has_memory_write (e ∷ past) x.port x.chan x.id ≡ false = false_from_ne_true _ (λ m. elim (written_cases h past e a x.port x.chan x.id x o.0 m) [
                 | inr earlier ↦ let bad : true ≡ false = sym earlier ∙ (has_passed h past x has).unwritten in cc
                 | inl now ↦
-                    let kind = (granted_given h past a.0 l x g).kind in
                     let t : names (removes (M x.port x.chan x.id now.line) (target_of h past (M x.port x.chan x.id now.line))) l ≡ true =
-                    named-granted h past (outstanding h past x.port x.chan x.id) l x o.0 kind (is_on-addr x l o.1) in
+                    named-transaction h past (outstanding h past x.port x.chan x.id) l x o.0 o.1 in
                     let here : names (removes e (target_of h past e)) l ≡ true = subst (λ d. names (removes d (target_of h past d)) l ≡ true) (sym now.is) t in
                     let bad : true ≡ false = sym here ∙ stays_there in cc
               ]) in
@@ -287,7 +278,7 @@ passed-after h past e a l = same-if _ _ sound complete
     complete t =
         let x = is_some_and-is (granted h (e ∷ past) l) (has_passed_data h (e ∷ past)) t in
         elim (passed_origin h past e a l x.0 x.1 x.2) [
-          | inl old ↦ or_left _ _ (and_from _ _ (found h past l x.0 old.0 old.1) (not_from_false _ (not-removed h past l x.0 e a old.0 x.1 x.2)))
+          | inl old ↦ or_left _ _ (and_from _ _ (found h past l x.0 old.0 old.1) (not_from_false _ (not-removed h past l x.0 e a old.0 old.1 x.1 x.2)))
           | inr n ↦
               let resp : passes_dirty n.new.resp ≡ true = subst (λ (w : _). passes_dirty w ≡ true) (ap (λ (v : Answer). v.resp) n.new.now) n.dirty in
               or_right _ _ (new-named h past l n.port e n.new.resp n.new.st n.new.is resp n.new.line)

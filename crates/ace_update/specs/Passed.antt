@@ -1,14 +1,12 @@
 -- The lines whose granted transactions have passed data.
-use Rattle.std.specs.Prelude.{ℕ, ◌≡◌, ◌≤◌, ◌+◌, Bool, not, ◌==◌, if◌then◌else◌, List, [], ◌∷◌, ◌++◌, filter, vec_capacity, Option, Some, None, option_and_then}
+use Rattle.std.specs.Prelude.{ℕ, ◌≡◌, ◌≤◌, ◌+◌, Bool, not, ◌==◌, if◌then◌else◌, List, [], ◌∷◌, ◌++◌, filter, vec_capacity, Option, Some, None}
 use Rattle.std.specs.List.{list_any}
 use Rattle.ace_codes.specs.Responses.{passes_dirty}
 use Rattle.ace_event.specs.declared.event.Event.{Event}
 use Rattle.ace_event.specs.declared.event.Event.TheVariants.{Cr, M, Rk}
 use Rattle.ace_event.specs.declared.header.Header.{Header}
 use Rattle.ace_model.specs.Trace.{Trace, is_some_and}
-use Rattle.ace_model.specs.Transactions.{takes_grant}
 use Rattle.ace_model.specs.Grants.{granted, has_passed_data}
-use Rattle.ace_portck.specs.declared.target.Progress.{Progress}
 use Rattle.ace_portck.specs.declared.target.Target.{Target}
 use Rattle.ace_update.specs.declared.passed.PassedLines.{PassedLines}
 
@@ -39,12 +37,9 @@ abbrev pub adds : Event → Target → Option ℕ
 adds (Cr p resp st) t = if passes_dirty resp then t.line else None
 adds _ t = None
 
-abbrev pub line_if_granted : Progress → Option ℕ
-line_if_granted x = if takes_grant x.transaction then Some x.transaction.addr else None
-
 -- the line whose granted transaction has none from the event on
 abbrev pub removes : Event → Target → Option ℕ
-removes (M p c i line) t = option_and_then line_if_granted t.transaction
+removes (M p c i line) t = t.line
 removes (Rk p st) t = t.line
 removes _ t = None
 

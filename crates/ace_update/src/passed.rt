@@ -7,7 +7,6 @@ ghost use Rattle.ace_model.specs.Trace.{Trace};
 ghost use Rattle.ace_portck.specs.Targets.{target_of};
 ghost use Rattle.ace_update.specs.Passed.{PassedStand, adds, is_among, most_lines, removes, with_line, without_line};
 
-use crate::kinds::takes_grant;
 use ace_codes::passes_dirty;
 use ace_event::Event;
 use ace_io::NoMemory;
@@ -33,16 +32,12 @@ fn adds(event: &Event, target: &Target) -> Option<u32>
     }
 }
 
-/// The line whose granted transaction has none from the event on: they are written to memory, or it ends.
+/// The line whose granted transaction has none from the event on: they are written to memory, or it ends. An update writes its line only where there are none.
 fn removes(event: &Event, target: &Target) -> Option<u32>
     ensures { result ≡ removes event.now target.now }
 {
     match *event {
-        Event::M { .. } => match target.transaction {
-            Some(x) if takes_grant(&x.transaction) => Some(x.transaction.addr),
-            _ => None,
-        },
-        Event::Rk { .. } => target.line,
+        Event::M { .. } | Event::Rk { .. } => target.line,
         _ => None,
     }
 }
