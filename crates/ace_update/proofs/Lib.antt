@@ -12,3 +12,5 @@ pub mod Rooms
 pub mod Listed
 -- The burst of a write that may have it is a step.
 pub mod UpdateSteps
+-- Two worked traces.
+pub mod Worked

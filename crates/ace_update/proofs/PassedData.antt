@@ -225,7 +225,8 @@ module _ (h : Header) (past : Trace) (l : ℕ) where
         let dirty : passes_dirty resp ≡ true = (and_parts _ (passes_dirty resp) takes).1 in
         let bits = is_none_or-at (outstanding h past q Read j) (has_upper_bits h past resp) x (accepted_keeps h past (R q j resp last word) a).rule_19 out in
         let three = (and_parts (implies (passes_dirty resp) (has_passed_data h past x) && is_none_or (read_kind x) (fits_kind h past x resp) && implies (passes_dirty resp || is_shared resp) (is_ace h x.port)) _ bits).0 in
-        let ace = implies-at (passes_dirty resp || is_shared resp) (is_ace h x.port) (and_parts _ _ three).1 (or_left (passes_dirty resp) (is_shared resp) dirty) in
+        let ace : is_ace h x.port ≡ true = implies-at (passes_dirty resp || is_shared resp) (is_ace h x.port)
+        (and_parts (implies (passes_dirty resp) (has_passed_data h past x) && is_none_or (read_kind x) (fits_kind h past x resp)) (implies (passes_dirty resp || is_shared resp) (is_ace h x.port)) three).1 (or_left (passes_dirty resp) (is_shared resp) dirty) in
         let port = (outstanding-name h past q Read j x out).port in
         let has_cache : is_ace h q ≡ true = subst (λ v. is_ace h v ≡ true) port ace in let bad : true ≡ false = sym has_cache ∙ lite.0 in cc
     ends (B q j resp) a z is same =

@@ -160,7 +160,7 @@ module _ (plan : Plan) (past : Trace) (legal : IsLegal plan past) (p : ℕ) (x :
     undone =
         let sends = sends-data x u in
         let parts = (sent-if (is_some_and (write_kind x) has_write_data && is_burst_whole past x && not (has_memory_write past x.port x.chan x.id)) _ d sent).0 in
-        let unwritten = not-true (has_memory_write past x.port x.chan x.id) (and_parts _ _ parts).1 in
+        let unwritten : has_memory_write past x.port x.chan x.id ≡ false = not-true (has_memory_write past x.port x.chan x.id) (and_parts (is_some_and (write_kind x) has_write_data && is_burst_whole past x) (not (has_memory_write past x.port x.chan x.id)) parts).1 in
         false_from_ne_true (is_complete past x.port x.chan x.id) (λ c.
         let here : is_complete past x.port Write x.id ≡ true = subst (λ v. is_complete past x.port v x.id ≡ true) w.chan c in
         let done = done_write plan.header past legal.accepted x.port x.id x out-at here sends in

@@ -3,6 +3,8 @@
 
 mod kinds;
 mod passed;
+#[cfg(test)]
+mod tests;
 mod update;
 
 pub use update::Update;
