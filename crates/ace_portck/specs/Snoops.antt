@@ -31,6 +31,11 @@ HasRoomForOne s =
     (length s.waiting.items + length s.sending.items < deque_capacity s.waiting)
     × (length s.waiting.items + length s.sending.items < deque_capacity s.sending)
 
+-- each queue has room for so many snoops
+pub record IsRoomy (snoops : ℕ) (s : SnoopQueues) : Type 0 where
+  pub waiting : snoops ≤ deque_capacity s.waiting
+  pub sending : snoops ≤ deque_capacity s.sending
+
 -- there is room for the event
 abbrev pub HasRoom : SnoopQueues → Event → Type 0
 HasRoom s (Ac p addr snoop) = HasRoomForOne s

@@ -1,6 +1,6 @@
 -- What is kept of all ports says of a trace.
 use Rattle.std.specs.Prelude.{ℕ, ◌≡◌, ◌<◌, ◌-◌, ◌^◌, List, Some, None, length, slice_get, slice_index_or, []}
-use Rattle.std.specs.List.{AllByRecursion}
+use Rattle.std.specs.List.{All, AllByRecursion}
 use Rattle.ace_event.specs.Ports.{IsHeader}
 use Rattle.ace_event.specs.declared.event.Event.{Event}
 use Rattle.ace_event.specs.declared.header.Header.{Header}
@@ -13,6 +13,7 @@ use Rattle.ace_portck.specs.Opening.{OpeningStands}
 use Rattle.ace_portck.specs.Pending.{HasByteId}
 use Rattle.ace_portck.specs.Port as port
 use Rattle.ace_portck.specs.Port.{PortStands}
+use Rattle.ace_portck.specs.Snoops as snoops
 use Rattle.ace_portck.specs.Targets.{Recording, target_of}
 
 -- the record of port p; a port that isn't there has the other one
@@ -26,6 +27,13 @@ PortsStand h past ports outside = (p : ℕ) → PortStands h past p (record_at p
 -- it is the record of a port without events
 abbrev pub IsFresh : PortRecord → Type 0
 IsFresh s = (h : Header) (p : ℕ) → PortStands h [] p s
+
+-- each of the records has room for so many snoops
+abbrev pub AreRoomy : ℕ → List PortRecord → Type 0
+AreRoomy n ports = All (λ k. snoops.IsRoomy n k.snoops) ports
+
+abbrev pub IsRoomy : ℕ → PortCheck → Type 0
+IsRoomy n s = AreRoomy n s.ports.items
 
 -- What is kept says what there is to say of the recording, which is accepted.
 pub record Stands (s : PortCheck) (r : Recording) : Type 0 where

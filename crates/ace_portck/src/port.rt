@@ -28,17 +28,22 @@ impl PortRecord {
     ghost use Rattle.ace_portck.specs.Heard.{IsHeard};
     ghost use Rattle.ace_portck.specs.Pending.{HasByteId};
     ghost use Rattle.ace_portck.specs.Port.{PortStands, HasRoom};
+    ghost use Rattle.ace_portck.specs.Snoops.{IsRoomy};
     ghost use Rattle.ace_portck.specs.Unfinished.{RisesAt};
 
-    /// What is kept of a port without events.
-    pub fn new(alloc: Global) -> Result<PortRecord, NoMemory>
-        ensures { IfOk result (λ s. (h : Header) → (p : ℕ) → PortStands h [] p s) }
+    /// What is kept of a port without events, with room for so many snoops.
+    pub fn new(alloc: Global, snoops: usize) -> Result<PortRecord, NoMemory>
+        ensures stands { IfOk result (λ s. (h : Header) → (p : ℕ) → PortStands h [] p s) }
+        ensures room { IfOk result (λ s. IsRoomy snoops s.snoops) }
     {
         let transactions = Transactions::new(alloc)?;
         let bursts = WriteBursts::new(alloc)?;
+        let Ok(queues) = SnoopQueues::with_room(alloc, snoops) else {
+            return Err(NoMemory);
+        };
         Ok(PortRecord {
             transactions,
-            snoops: SnoopQueues::new(alloc),
+            snoops: queues,
             bursts,
             retired: RetiredCount::new(),
         })
@@ -61,9 +66,10 @@ impl PortRecord {
     /// Hears an event of the port that keeps the rules, with `place` events before it. It takes no memory.
     #[inline(always)]
     pub fn hear(&mut self, header: &Header, port: u8, place: usize, event: &Event)
-        ensures { (past : Trace) → IsHeard header.now past place event.now port → AllByRecursion HasByteId (event.now ∷ past)
+        ensures stands { (past : Trace) → IsHeard header.now past place event.now port → AllByRecursion HasByteId (event.now ∷ past)
             → PortStands header.now past port self.old → HasRoom self.old event.now
             → PortStands header.now (event.now ∷ past) port self.new }
+        ensures room { (snoops : ℕ) → IsRoomy snoops self.old.snoops → IsRoomy snoops self.new.snoops }
     {
         self.transactions.hear(header, port, place, event);
         self.snoops.hear(event, place);

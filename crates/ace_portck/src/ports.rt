@@ -1,13 +1,13 @@
 //! The rules that look at one port, over all ports.
 
-ghost use Rattle.std.specs.Prelude.{◌≡◌, ◌<◌, ℕ, [], ◌∷◌, None, Some, length, slice_get, IfOk, OnOk, OnErr};
+ghost use Rattle.std.specs.Prelude.{◌≡◌, ◌<◌, ℕ, [], ◌∷◌, None, Some, length, map, slice_get, IfOk, OnOk, OnErr};
 ghost use Rattle.std.specs.List.{All, AllByRecursion};
 ghost use Rattle.ace_event.specs.declared.header.Header.{Header};
 ghost use Rattle.ace_model.specs.Trace.{Trace, port_of};
 ghost use Rattle.ace_portck.specs.Heard.{IsHeard};
 ghost use Rattle.ace_portck.specs.Pending.{HasByteId};
 ghost use Rattle.ace_portck.specs.Port.{HasRoom};
-ghost use Rattle.ace_portck.specs.Stands.{IsFresh, PortsStand, record_at};
+ghost use Rattle.ace_portck.specs.Stands.{AreRoomy, IsFresh, PortsStand, record_at};
 ghost use Rattle.ace_portck.specs.Targets.{target_of};
 ghost use Rattle.ace_portck.specs.Unfinished.{RisesAt};
 ghost use Rattle.ace_portck.specs.declared.port.PortRecord.{PortRecord};
@@ -17,7 +17,7 @@ use crate::event_kinds::EventKind;
 use crate::opening::OpeningMemory;
 use crate::port::PortRecord;
 use crate::rules::{keeps_codes, keeps_port, port_of};
-use crate::target::Target;
+use crate::target::{Progress, Target};
 use crate::targets::of_line;
 use ace_event::{Event, Header};
 use std::alloc::Global;
@@ -35,14 +35,15 @@ pub struct PortCheck {
     outside: PortRecord,
 }
 
-/// The records of so many ports without events.
-fn fresh_ports(alloc: Global, count: u8) -> Result<Vec<PortRecord>, NoMemory>
+/// The records of so many ports without events, each with room for so many snoops.
+fn fresh_ports(alloc: Global, count: u8, snoops: usize) -> Result<Vec<PortRecord>, NoMemory>
     ensures len { IfOk result (λ v. length v.items ≡ count) }
     ensures fresh { IfOk result (λ v. All IsFresh v.items) }
+    ensures room { IfOk result (λ v. AreRoomy snoops v.items) }
 {
     let mut ports = Vec::new(alloc);
     for _port in 0..count {
-        let kept = PortRecord::new(alloc)?;
+        let kept = PortRecord::new(alloc, snoops)?;
         if ports.push(kept).is_err() {
             return Err(NoMemory);
         }
@@ -110,6 +111,7 @@ fn make_room(ports: &mut Vec<PortRecord>, port: u8, event: &Event) -> Result<(),
 #[inline(always)]
 fn hear_at(ports: &mut Vec<PortRecord>, header: &Header, port: u8, place: usize, event: &Event)
     ensures len { length ports.new.items ≡ length ports.old.items }
+    ensures room { (snoops : ℕ) → AreRoomy snoops ports.old.items → AreRoomy snoops ports.new.items }
     ensures stands { (past : Trace) (outside : PortRecord) → IsHeard header.now past place event.now port
         → AllByRecursion HasByteId (event.now ∷ past) → port < length ports.old.items
         → ((k : PortRecord) → slice_get ports.old.items port ≡ Some k → HasRoom k event.now)
@@ -126,8 +128,10 @@ impl PortCheck {
     ghost use Rattle.ace_event.specs.Ports.{IsHeader};
     ghost use Rattle.ace_model.specs.Accepted.{least_of};
     ghost use Rattle.ace_model.specs.Shares.{port_rules};
-    ghost use Rattle.ace_portck.specs.Stands.{Stands, HasRoom as HasRoomFor, MayTest, MayApply};
-    ghost use Rattle.ace_portck.specs.Targets.{Recording, after};
+    ghost use Rattle.ace_portck.specs.Stands.{Stands, HasRoom as HasRoomFor, IsRoomy, MayTest, MayApply};
+    ghost use Rattle.ace_portck.specs.Targets.{Recording, after, progress_of};
+    ghost use Rattle.ace_portck.specs.Pending.{pending_of};
+    ghost use Rattle.ace_event.specs.declared.event.Channel.TheVariants.{Write};
 
     /// The checker of the empty trace under this header.
     ///
@@ -137,8 +141,20 @@ impl PortCheck {
     pub fn new(alloc: Global, header: Header) -> Result<PortCheck, NoMemory>
         ensures { IfOk result (λ s. IsHeader header → Stands s (record { header = header; past = [] })) }
     {
-        let ports = fresh_ports(alloc, header.ports)?;
-        let outside = PortRecord::new(alloc)?;
+        PortCheck::with_room(alloc, header, 0)
+    }
+
+    /// The same, with room for so many snoops under way at each port. As long as no port has more, `apply` needs no `ready`.
+    ///
+    /// # Errors
+    ///
+    /// `NoMemory` where there is none for the ports and their snoops.
+    pub fn with_room(alloc: Global, header: Header, snoops: usize) -> Result<PortCheck, NoMemory>
+        ensures stands { IfOk result (λ s. IsHeader header → Stands s (record { header = header; past = [] })) }
+        ensures room { IfOk result (IsRoomy snoops) }
+    {
+        let ports = fresh_ports(alloc, header.ports, snoops)?;
+        let outside = PortRecord::new(alloc, 0)?;
         Ok(PortCheck {
             header,
             count: 0,
@@ -168,6 +184,15 @@ impl PortCheck {
             ),
             None => target_without_port(event),
         }
+    }
+
+    /// The outstanding writes of the port, in the order of issue, and how far each has come.
+    pub fn writes(&self, port: u8) -> &[Progress]
+        ensures { (r : Recording) → Stands self.now r → result.now ≡ map (progress_of r.header r.past) (pending_of r.header r.past port Write) }
+    {
+        record_of(&self.ports, &self.outside, port)
+            .transactions
+            .writes()
     }
 
     /// The least rule of those that look at one port that the event breaks, as the next of the trace. `target` is its target.
@@ -239,7 +264,8 @@ impl PortCheck {
 
     /// Hears the next event of the trace, which keeps the rules.
     pub fn apply<E: EventKind>(&mut self, event: &E)
-        ensures { (r : Recording) → MayApply self.old r (E.event event.now) → Stands self.new (after r (E.event event.now)) }
+        ensures stands { (r : Recording) → MayApply self.old r (E.event event.now) → Stands self.new (after r (E.event event.now)) }
+        ensures room { (snoops : ℕ) → IsRoomy snoops self.old → IsRoomy snoops self.new }
     {
         self.hear(&event.event());
     }
@@ -247,7 +273,8 @@ impl PortCheck {
     /// The same, of an event whose kind isn't known.
     #[inline(always)]
     fn hear(&mut self, event: &Event)
-        ensures { (r : Recording) → MayApply self.old r event.now → Stands self.new (after r event.now) }
+        ensures stands { (r : Recording) → MayApply self.old r event.now → Stands self.new (after r event.now) }
+        ensures room { (snoops : ℕ) → IsRoomy snoops self.old → IsRoomy snoops self.new }
     {
         has_byte_id(event);
         let place = self.count;

@@ -1,6 +1,6 @@
 //! The snoops of one port that are under way.
 
-ghost use Rattle.std.specs.Prelude.{◌≡◌, slice_get};
+ghost use Rattle.std.specs.Prelude.{◌≡◌, ◌≤◌, slice_get};
 ghost use Rattle.ace_model.specs.Snoops.{snoops_a_line};
 
 use ace_codes::{SnoopKind, read_ac, transfers_data};
@@ -37,7 +37,7 @@ fn first(queue: &VecDeque<Snoop>) -> Option<Snoop>
 }
 
 impl SnoopQueues {
-    ghost use Rattle.std.specs.Prelude.{ℕ, Bool, length, ◌∷◌, OnOk, OnErr, Some, []};
+    ghost use Rattle.std.specs.Prelude.{ℕ, Bool, length, ◌∷◌, IfOk, OnOk, OnErr, Some, []};
     ghost use Rattle.ace_codes.specs.declared.state.LineState.{LineState};
     ghost use Rattle.ace_event.specs.declared.event.Event.TheVariants.{Ac, Cd, Cr};
     ghost use Rattle.ace_event.specs.declared.header.Header.{Header};
@@ -48,19 +48,22 @@ impl SnoopQueues {
     ghost use Rattle.ace_model.specs.Snoops.{answered};
     ghost use Rattle.ace_model.specs.Trace.{Trace, port_of};
     ghost use Rattle.ace_portck.specs.Heard.{IsHeard};
-    ghost use Rattle.ace_portck.specs.Snoops.{SnoopsStand, HasRoom, HasRoomForOne};
+    ghost use Rattle.ace_portck.specs.Snoops.{SnoopsStand, HasRoom, HasRoomForOne, IsRoomy};
     ghost use Rattle.ace_portck.specs.Targets.{sending};
     ghost use Rattle.ace_portck.specs.Unfinished.{RisesAt};
 
-    /// The queues of a port without events.
-    pub fn new(alloc: Global) -> SnoopQueues
-        ensures { (p : ℕ) → SnoopsStand [] p result }
+    /// The queues of a port without events, with room for so many snoops.
+    pub fn with_room(alloc: Global, snoops: usize) -> Result<SnoopQueues, AllocError>
+        ensures stands { IfOk result (λ s. (p : ℕ) → SnoopsStand [] p s) }
+        ensures room { IfOk result (IsRoomy snoops) }
     {
-        SnoopQueues {
-            waiting: VecDeque::new(alloc),
-            sending: VecDeque::new(alloc),
+        let waiting = VecDeque::with_capacity(alloc, snoops)?;
+        let sending = VecDeque::with_capacity(alloc, snoops)?;
+        Ok(SnoopQueues {
+            waiting,
+            sending,
             beats: 0,
-        }
+        })
     }
 
     /// The snoop that the port's next CR answers.
@@ -124,8 +127,9 @@ impl SnoopQueues {
     /// Hears an event of the port that keeps the rules, with `place` events before it. It takes no memory.
     #[inline(always)]
     pub fn hear(&mut self, event: &Event, place: usize)
-        ensures { (h : Header) (past : Trace) (p : ℕ) → IsHeard h past place event.now p → SnoopsStand past p self.old
+        ensures stands { (h : Header) (past : Trace) (p : ℕ) → IsHeard h past place event.now p → SnoopsStand past p self.old
             → HasRoom self.old event.now → SnoopsStand (event.now ∷ past) p self.new }
+        ensures room { (snoops : ℕ) → IsRoomy snoops self.old → IsRoomy snoops self.new }
     {
         match *event {
             Event::Ac { addr, snoop, .. } => {
@@ -151,8 +155,9 @@ impl SnoopQueues {
     /// The oldest unanswered snoop has its answer; where that announces data, they are awaited.
     #[inline(always)]
     fn answer(&mut self, resp: u8)
-        ensures { (h : Header) (past : Trace) (p : ℕ) (st : LineState) → IsAccepted h (Cr p resp st ∷ past)
+        ensures stands { (h : Header) (past : Trace) (p : ℕ) (st : LineState) → IsAccepted h (Cr p resp st ∷ past)
             → SnoopsStand past p self.old → SnoopsStand (Cr p resp st ∷ past) p self.new }
+        ensures room { (snoops : ℕ) → IsRoomy snoops self.old → IsRoomy snoops self.new }
     {
         if let Some(snoop) = self.waiting.pop_front() {
             if transfers_data(resp) {
@@ -164,8 +169,9 @@ impl SnoopQueues {
     /// One more beat of the oldest data that are awaited; the fourth makes them whole.
     #[inline(always)]
     fn send(&mut self)
-        ensures { (h : Header) (past : Trace) (p : ℕ) (last : Bool) (word : ℕ) → IsAccepted h (Cd p last word ∷ past)
+        ensures stands { (h : Header) (past : Trace) (p : ℕ) (last : Bool) (word : ℕ) → IsAccepted h (Cd p last word ∷ past)
             → SnoopsStand past p self.old → SnoopsStand (Cd p last word ∷ past) p self.new }
+        ensures room { (snoops : ℕ) → IsRoomy snoops self.old → IsRoomy snoops self.new }
     {
         if self.beats < 3 {
             self.beats += 1;

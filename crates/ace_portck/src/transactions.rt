@@ -1,6 +1,6 @@
 //! The outstanding transactions of a port.
 
-ghost use Rattle.std.specs.Prelude.{◌≡◌, ◌∷◌, find, option_map};
+ghost use Rattle.std.specs.Prelude.{◌≡◌, ◌∷◌, find, map, option_map};
 ghost use Rattle.std.specs.List.{list_any};
 ghost use Rattle.std.specs.Option.{option_copied};
 ghost use Rattle.ace_model.specs.AddressRules.{gives_up};
@@ -149,6 +149,8 @@ impl Transactions {
     ghost use Rattle.ace_model.specs.Trace.{is_none_or};
     ghost use Rattle.ace_model.specs.Transactions.{is_ace, outstanding, has_outstanding_on, acknowledged, next_complete};
     ghost use Rattle.ace_portck.specs.Targets.{progress_of, own_of, first_unordered, first_incomplete};
+    ghost use Rattle.ace_event.specs.declared.event.Channel.TheVariants.{Write};
+    ghost use Rattle.ace_portck.specs.Pending.{pending_of};
     ghost use Rattle.ace_portck.specs.Transactions.{TransactionsStand};
 
     /// Those of a port without events: none.
@@ -184,6 +186,14 @@ impl Transactions {
             → result ≡ next_complete past p chan }
     {
         self.channel(chan).next_complete()
+    }
+
+    /// The outstanding writes, in the order of issue.
+    pub fn writes(&self) -> &[Progress]
+        ensures { (h : Header) (past : Trace) (p : ℕ) → TransactionsStand h past p self.now
+            → result.now ≡ map (progress_of h past) (pending_of h past p Write) }
+    {
+        self.writes.list()
     }
 
     /// The transaction that the next RK or WK of the port belongs to, which is an ACE port.

@@ -19,3 +19,5 @@ pub mod Completions
 pub mod Sorts
 pub mod Whole
 pub mod Bound
+-- How many snoops each port has, and how many lines are granted.
+pub mod EachPort

@@ -12,7 +12,7 @@ ghost use Rattle.ace_model.specs.declared.transactions.Transaction.{Transaction}
 ghost use Rattle.ace_model.specs.Accepted.{IsAccepted};
 ghost use Rattle.ace_model.specs.Grants.{is_granted, ports_below};
 ghost use Rattle.ace_model.specs.Progress.{evicts, has_update, updates_memory};
-ghost use Rattle.ace_model.specs.Snoops.{answered, snoops_a_line};
+ghost use Rattle.ace_model.specs.Snoops.{answered, snoops_a_line, snoops_of};
 ghost use Rattle.ace_model.specs.Trace.{Trace};
 ghost use Rattle.ace_model.specs.Transactions.{is_complete, is_outstanding, outstanding, some_issued};
 ghost use Rattle.ace_model.specs.Plans.{Plan, IsRight};
@@ -128,6 +128,12 @@ pub fn few_snoops_for_each_transaction()
     ensures syncs { (h : Header) (past : Trace) → IsAccepted h past → counted says_complete past ≤ counted issues_part past }
     ensures answers { (h : Header) (past : Trace) → IsAccepted h past → counted is_answer past ≤ counted is_snoop past }
     ensures snoop_beats { (h : Header) (past : Trace) → IsAccepted h past → counted is_snoop_beat past ≤ counted is_answer past * 4 }
+{}
+
+/// A trace that is accepted, follows its plan so far and is lean snoops each port at most six times for each operation of the plan.
+pub fn few_snoops_of_each_port()
+    ensures { (plan : Plan) (past : Trace) (p : ℕ) → IsAccepted plan.header past → FollowsSoFar plan past → IsLean plan past
+        → length (snoops_of past p) ≤ length plan.operations * 6 }
 {}
 
 /// A trace that is accepted, follows a right plan so far and is lean has at most 256 events for each operation of the plan.

@@ -51,7 +51,7 @@ add_line None ls = ls
 add_line (Some x) ls = if is_line x then x.addr ∷ ls else ls
 
 -- a line for each grant
-abbrev given_lines : Trace → List ℕ
+abbrev pub given_lines : Trace → List ℕ
 given_lines [] = []
 given_lines (e ∷ past) = add_line (given past e) (given_lines past)
 
@@ -59,7 +59,7 @@ line-added : (o : Option Transaction) (ls : List ℕ) → length (add_line o ls)
 line-added None ls = omega arith
 line-added (Some x) ls = elim (cases_Bool (is_line x)) [ inl t ↦ rw t (omega arith) | inr f ↦ rw f (omega arith) ]
 
-few-lines : (past : Trace) → length (given_lines past) ≤ counted is_grant past
+pub few-lines : (past : Trace) → length (given_lines past) ≤ counted is_grant past
 few-lines [] = omega arith
 few-lines (G p c i ∷ past) =
     let rest = few-lines past in let more = line-added (transaction_of past p c i) (given_lines past) in omega (arith, rest, more)
@@ -74,7 +74,7 @@ line-times (Some x) ls l =
     ]
 
 -- the line of a granted transaction is one of them
-granted-there : (h : Header) (past : Trace) (l : ℕ) (x : Transaction) → granted h past l ≡ Some x → 1 ≤ times l (given_lines past)
+pub granted-there : (h : Header) (past : Trace) (l : ℕ) (x : Transaction) → granted h past l ≡ Some x → 1 ≤ times l (given_lines past)
 granted-there h [] l x g = cc
 granted-there h (e ∷ past) l x g =
     let here = line-times (given past e) (given_lines past) l in
@@ -173,7 +173,7 @@ one-each h (e ∷ past) p l a =
     ]
 
 -- of each port, and of all
-snoops-each : (h : Header) (past : Trace) (p : ℕ) → IsAccepted h past → counted (at_port snoops_line p) past ≤ counted is_grant past
+pub snoops-each : (h : Header) (past : Trace) (p : ℕ) → IsAccepted h past → counted (at_port snoops_line p) past ≤ counted is_grant past
 snoops-each h past p a =
     let all = each_bounds 1 (keys_of line_or_zero (at_port snoops_line p) past) (given_lines past)
     (λ l. rw (one-key line_or_zero (at_port snoops_line p) l past) (let within = (one-each h past p l a).within in omega (arith, within))) in

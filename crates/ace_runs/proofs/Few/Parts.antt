@@ -150,9 +150,9 @@ forwards-now h past q addr snoop a message =
     both true s f t well = well
     both false s f t well = cc
 
-record Forwards (past : Trace) (p : ℕ) : Type 0 where
-  some : counted (at_port forwards_part p) past ≤ length (parts_among (forwarded past p))
-  within : length (parts_among (forwarded past p)) ≤ length (parts_for past p)
+pub record Forwards (past : Trace) (p : ℕ) : Type 0 where
+  pub some : counted (at_port forwards_part p) past ≤ length (parts_among (forwarded past p))
+  pub within : length (parts_among (forwarded past p)) ≤ length (parts_for past p)
 
 pub longer-list : (xs ys : List Transaction) → length xs ≤ length (xs ++ ys)
 longer-list xs ys = rw (length-append xs ys) (omega arith)
@@ -181,7 +181,7 @@ snoop-step past p s b i there =
     counts true true there more le = omega (arith, more, le)
     counts true false there more le = let t = there refl in cc
 
-forwards-each : (h : Header) (past : Trace) (p : ℕ) → IsAccepted h past → Forwards past p
+pub forwards-each : (h : Header) (past : Trace) (p : ℕ) → IsAccepted h past → Forwards past p
 forwards-each h [] p a = record { some = omega arith; within = omega arith }
 forwards-each h (Ac q addr snoop ∷ past) p a =
     let i = forwards-each h past p a.0 in

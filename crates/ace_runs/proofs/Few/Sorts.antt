@@ -74,7 +74,7 @@ reads-and-writes past = counted-apart issues_for_operation reads_for_operation (
 
 -- ---- snoops ------------------------------------------------------------------------------------------
 
-snoop-sorts : (k : Option SnoopKind) → is_some k ≡ true → 1 ≤ one (is_some_and k is_line_snoop) + one (is_some_and k is_message_snoop) + one (is_some_and k is_complete_snoop)
+pub snoop-sorts : (k : Option SnoopKind) → is_some k ≡ true → 1 ≤ one (is_some_and k is_line_snoop) + one (is_some_and k is_message_snoop) + one (is_some_and k is_complete_snoop)
 snoop-sorts None some = cc
 snoop-sorts (Some snoop_kind.DvmComplete) some = omega arith
 snoop-sorts (Some snoop_kind.DvmMessage) some = omega arith

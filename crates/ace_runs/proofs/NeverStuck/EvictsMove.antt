@@ -39,7 +39,7 @@ pub response-kept : (h : Header) (past : Trace) (p i : ℕ) → k1 h past (B p i
 unfolding is_kept
 response-kept h past p i one may order = three-kept (k1 h past (B p i 0)) (k26 h past (B p i 0)) (k34 h past (B p i 0)) one may order
 
-evict-no-data : (k : AwKind) → is_evict k ≡ true → has_write_data k ≡ false
+pub evict-no-data : (k : AwKind) → is_evict k ≡ true → has_write_data k ≡ false
 evict-no-data write.Evict e = refl
 evict-no-data k e = cc
 
@@ -47,21 +47,21 @@ evict-no-barrier : (k : AwKind) → is_evict k ≡ true → is_write_barrier k �
 evict-no-barrier write.Evict e = refl
 evict-no-barrier k e = cc
 
-evict-no-update : (k : AwKind) → is_evict k ≡ true → is_update k ≡ false
+pub evict-no-update : (k : AwKind) → is_evict k ≡ true → is_update k ≡ false
 evict-no-update write.Evict e = refl
 evict-no-update k e = cc
 
 pub evicts-write : (x : Transaction) → evicts x ≡ true → is_read x.chan ≡ false
 evicts-write x e = false_from_ne_true (is_read x.chan) (λ t. let bad : false ≡ true = rw t at e in cc)
 
-evicts-no-half : (x : Transaction) (k : AwKind) → is_read x.chan ≡ false → write_kind x ≡ Some k → is_evict k ≡ true → is_barrier_half x ≡ false
+pub evicts-no-half : (x : Transaction) (k : AwKind) → is_read x.chan ≡ false → write_kind x ≡ Some k → is_evict k ≡ true → is_barrier_half x ≡ false
 evicts-no-half x k writes kind e =
     let none : read_kind x ≡ None = rw writes refl in
     ap (λ o. is_some_and o is_read_barrier || is_some_and (write_kind x) is_write_barrier) none
     ∙ ap (λ o. is_some_and o is_write_barrier) kind
     ∙ evict-no-barrier k e
 
-may-answer-evict : (past : Trace) (x : Transaction) → is_barrier_half x ≡ false → may_answer_half past x ≡ true
+pub may-answer-evict : (past : Trace) (x : Transaction) → is_barrier_half x ≡ false → may_answer_half past x ≡ true
 may-answer-evict past x none = ap (λ b. implies b (is_some_and (pair_of past x) (may_answer past x.port))) none
 
 may-respond-evict : (past : Trace) (x : Transaction) → is_complete past x.port x.chan x.id ≡ false → is_some_and (write_kind x) has_write_data ≡ false → may_respond past x ≡ true

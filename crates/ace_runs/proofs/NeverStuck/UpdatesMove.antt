@@ -78,7 +78,7 @@ update-sends write.WriteClean u = refl
 update-sends write.WriteEvict u = refl
 update-sends k u = cc
 
-sends-data : (x : Transaction) → updates_memory x ≡ true → is_some_and (write_kind x) has_write_data ≡ true
+pub sends-data : (x : Transaction) → updates_memory x ≡ true → is_some_and (write_kind x) has_write_data ≡ true
 sends-data x u = let k = is_some_and-is (write_kind x) is_update u in rw k.1 (update-sends k.0 k.2)
 
 four-from : (bs : List Beat) (m : ℕ) → m + 4 ≤ length bs → length (take 4 (drop m bs)) ≡ 4

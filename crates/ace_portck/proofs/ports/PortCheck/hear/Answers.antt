@@ -6,8 +6,8 @@ use Rattle.ace_portck.specs.Stands.{PortsStand, record_at}
 use Rattle.ace_portck.proofs.AllPorts.{port_elsewhere, port_below}
 use Rattle.ace_portck.proofs.ports.PortCheck.hear.Goals as goal
 
-pub returns-in-Some : goal.returns-in-Some
-returns-in-Some c = λ r m.
+pub returns-in-Some-clause-stands : goal.returns-in-Some-clause-stands
+returns-in-Some-clause-stands c = λ r m.
     let s = m.stands in
     let e = c.args.event.now in
     let p = c.in-Some.port in
@@ -37,8 +37,8 @@ returns-in-Some c = λ r m.
       ports = subst (λ (v : Header). PortsStand v (e ∷ r.past) c.hear_at.new.ports.items outside) s.header then;
     }
 
-pub returns-in_default : goal.returns-in_default
-returns-in_default c = λ r m.
+pub returns-in_default-clause-stands : goal.returns-in_default-clause-stands
+returns-in_default-clause-stands c = λ r m.
     let s = m.stands in
     let e = c.args.event.now in
     let items = c.args.self.now.ports.items in

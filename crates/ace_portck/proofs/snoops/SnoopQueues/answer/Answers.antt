@@ -7,8 +7,8 @@ use Rattle.ace_model.proofs.General.Options.{some_is}
 use Rattle.ace_portck.proofs.SnoopSteps.{snoops_cr, snoops_cr_data, cr-answers, answered-is, queues_are}
 use Rattle.ace_portck.proofs.snoops.SnoopQueues.answer.Goals as goal
 
-pub returns-then-transfers_data : goal.returns-then-transfers_data
-returns-then-transfers_data c = λ h past p st a s.
+pub returns-then-transfers_data-clause-stands : goal.returns-then-transfers_data-clause-stands
+returns-then-transfers_data-clause-stands c = λ h past p st a s.
     let q = c.args.self.now in
     let x = c.in-Some.snoop in
     let e = c.in-Some.ensures in
@@ -26,8 +26,8 @@ returns-then-transfers_data c = λ h past p st a s.
     queues_are _ p (drop 1 ws) (ss ++ x ∷ []) q.beats wr sr c.pop_front.new.self.items c.push_back-full.new.self.items
     (deque_capacity c.pop_front.new.self) (deque_capacity c.push_back-full.new.self) e.rest items e.capacity (k.in_place fits) step.1
 
-pub returns-else-transfers_data : goal.returns-else-transfers_data
-returns-else-transfers_data c = λ h past p st a s.
+pub returns-else-transfers_data-clause-stands : goal.returns-else-transfers_data-clause-stands
+returns-else-transfers_data-clause-stands c = λ h past p st a s.
     let q = c.args.self.now in
     let e = c.in-Some.ensures in
     let front : slice_get q.waiting.items 0 ≡ Some c.in-Some.snoop = ap (λ v. slice_get v 0) e.items in
@@ -36,8 +36,8 @@ returns-else-transfers_data c = λ h past p st a s.
     queues_are _ p (drop 1 q.waiting.items) q.sending.items q.beats (deque_capacity q.waiting) (deque_capacity q.sending) c.pop_front.new.self.items q.sending.items
     (deque_capacity c.pop_front.new.self) (deque_capacity q.sending) e.rest refl e.capacity refl step
 
-pub returns-in_default : goal.returns-in_default
-returns-in_default c = λ h past p st a s.
+pub returns-in_default-clause-stands : goal.returns-in_default-clause-stands
+returns-in_default-clause-stands c = λ h past p st a s.
     let q = c.args.self.now in
     let ws = q.waiting.items in
     let e = c.in_default.ensures in

@@ -1,0 +1,11 @@
+//! What the engines of a run have in common: the bursts that they put, and what a turn and an event that is heard promise.
+#![tactic(auto)]
+
+mod burst;
+mod engine;
+pub mod laws;
+#[cfg(test)]
+mod tests;
+
+pub use burst::Burst;
+pub use engine::Engine;

@@ -1,0 +1,212 @@
+-- When an outstanding write may have its burst of step 3, and that there is a step exactly where one may.
+use Rattle.std.proofs.Common.{◌≡◌, ℕ, zero, suc, Bool, true, false, not, ◌&&◌, ◌||◌, ◌==◌, nat_lt, if◌then◌else◌, List, [], ◌∷◌, ◌++◌, filter, map, Option, Some, None, is_none, is_some, slice_get, refl, sym, ap, subst, ◌∙◌, inl, inr}
+use Rattle.std.specs.List.{AllByRecursion, list_any}
+use Rattle.std.specs.Option.{option_to_list}
+use Rattle.std.proofs.lemmas.Bool.{and_from, and_parts, cases_Bool, eqb-true, false_from_ne_true}
+use Rattle.ace_event.specs.declared.event.Channel.{Channel}
+use Rattle.ace_event.specs.declared.event.Channel.TheVariants.{Read, Write}
+use Rattle.ace_event.specs.declared.event.Event.TheVariants.{B, M}
+use Rattle.ace_event.specs.declared.header.Header.{Header}
+use Rattle.ace_event.specs.declared.line.Line.{Line}
+use Rattle.ace_model.specs.declared.transactions.Transaction.{Transaction}
+use Rattle.ace_model.specs.Accepted.{IsAccepted}
+use Rattle.ace_model.specs.AddressRules.{k1}
+use Rattle.ace_model.specs.Barriers.{is_barrier_half}
+use Rattle.ace_model.specs.Grants.{granted, has_passed_data, is_granted}
+use Rattle.ace_model.specs.Kinds.{has_write_data, is_evict, is_update}
+use Rattle.ace_model.specs.OrderRules.{k34}
+use Rattle.ace_model.specs.Progress.{evicts, transactions, updates_memory}
+use Rattle.ace_model.specs.States.{are_snoops_done}
+use Rattle.ace_model.specs.Trace.{Trace, implies, is_none_or, is_some_and}
+use Rattle.ace_model.specs.Transactions.{is_complete, is_outstanding, is_read, outstanding, same_channel, write_kind}
+use Rattle.ace_model.specs.WriteRules.{data_of, data_of_write, is_update_due, is_write_due, k24, k25, k26, may_respond, may_write_data, may_write_passed}
+use Rattle.ace_model.specs.Writes.{has_memory_write, is_burst_whole}
+use Rattle.ace_model.proofs.General.Options.{is_some_and-is}
+use Rattle.ace_model.proofs.Grants.Granted.{granted_at, granted_given, updates_ungranted}
+use Rattle.ace_model.proofs.Outstanding.Issued.{some_issued-any, transactions-issued}
+use Rattle.ace_model.proofs.Trace.Growth.{IsIssued}
+use Rattle.ace_model.proofs.Trace.LineOnce.{outstanding_is}
+use Rattle.ace_model.proofs.Trace.Looks.{is_write-is}
+use Rattle.ace_runs.specs.Bursts.{is_kept, may_begin, may_serve}
+use Rattle.ace_runs.specs.LineSteps.{memory_write, response, update_burst}
+use Rattle.ace_runs.proofs.NeverStuck.EvictsMove.{evict-no-data, evicts-no-half, evicts-write, may-answer-evict}
+use Rattle.ace_runs.proofs.NeverStuck.StepShapes.{updates_write}
+use Rattle.ace_runs.proofs.NeverStuck.UpdatesMove.{data-there, same-line-self, sends-data}
+use Rattle.ace_runs.proofs.NeverStuck.WriterPorts.{issuer-low}
+use Rattle.ace_portck.specs.Pending.{is_pending, pending_of}
+use Rattle.ace_portck.specs.Targets.{data_of_write as data_sent}
+use Rattle.ace_update.specs.Passed.{has_passed_on}
+
+-- ---- the outstanding writes of a port ----------------------------------------------------------------
+
+-- It is one of them.
+pub record IsWrite (h : Header) (past : Trace) (p : ℕ) (x : Transaction) : Type 0 where
+  pub issued : IsIssued past x
+  pub port : x.port ≡ p
+  pub chan : x.chan ≡ Write
+  pub is_out : is_outstanding h past x ≡ true
+  pub out : outstanding h past p Write x.id ≡ Some x
+
+at-place : {A : Type 0} → (P : A → Type 0) (xs : List A) (k : ℕ) (x : A) → AllByRecursion P xs → slice_get xs k ≡ Some x → P x
+at-place P [] k x all is = cc
+at-place P (y ∷ xs) zero x all is = let same : y ≡ x = cc in subst P same all.0
+at-place P (y ∷ xs) (suc k) x all is = at-place P xs k x all.1 is
+
+filtered : {A : Type 0} → (test : A → Bool) (P : A → Type 0) (xs : List A) → AllByRecursion P xs → AllByRecursion (λ x. P x × (test x ≡ true)) (filter test xs)
+filtered test P [] all = tt
+filtered test P (x ∷ xs) all = elim (cases_Bool (test x)) [
+  | inl t ↦ rw t ((all.0, t), filtered test P xs all.1)
+  | inr f ↦ rw f (filtered test P xs all.1)
+]
+
+on-writes : (c : Channel) → same_channel c Write ≡ true → is_read c ≡ false
+on-writes Read t = cc
+on-writes Write t = refl
+
+pub write-at : (h : Header) (past : Trace) (p k : ℕ) (x : Transaction) → slice_get (pending_of h past p Write) k ≡ Some x → IsWrite h past p x
+write-at h past p k x there =
+    let both = at-place _ (pending_of h past p Write) k x (filtered (is_pending h past p Write) (IsIssued past) (transactions past) (transactions-issued past)) there in
+    let two = and_parts ((x.port == p) && same_channel x.chan Write) (is_outstanding h past x) both.1 in
+    let one = and_parts (x.port == p) (same_channel x.chan Write) two.0 in
+    let port = eqb-true x.port p one.0 in
+    let chan = is_write-is x.chan (on-writes x.chan one.1) in
+    record {
+      issued = both.0;
+      port = port;
+      chan = chan;
+      is_out = two.1;
+      out = subst (λ c. outstanding h past p c x.id ≡ Some x) chan (subst (λ q. outstanding h past q x.chan x.id ≡ Some x) port (outstanding_is h past x both.0 two.1));
+    }
+
+-- ---- when its burst may begin ------------------------------------------------------------------------
+
+second-decides : (a b c : Bool) (k l n : ℕ) → a ≡ true → c ≡ true → is_none {T = ℕ} (if a then (if b then (if c then None else Some k) else Some l) else Some n) ≡ b
+second-decides true true true k l n x z = refl
+second-decides true false true k l n x z = refl
+second-decides false b c k l n x z = cc
+second-decides true b false k l n x z = cc
+
+none-not : {A : Type 0} → (o : Option A) (test : A → Bool) → is_none_or o (λ x. not (test x)) ≡ not (is_some_and o test)
+none-not None test = refl
+none-not (Some x) test = refl
+
+some-if : {A : Type 0} → (b : Bool) (x : A) → is_some (if b then Some x else None) ≡ b
+some-if true x = refl
+some-if false x = refl
+
+module _ (h : Header) (past : Trace) (a : IsAccepted h past) (p : ℕ) (x : Transaction) (w : IsWrite h past p x) where
+  out-own : outstanding h past x.port x.chan x.id ≡ Some x
+  out-own = subst (λ c. outstanding h past x.port c x.id ≡ Some x) (sym w.chan) (subst (λ q. outstanding h past q Write x.id ≡ Some x) (sym w.port) w.out)
+
+  low : nat_lt x.port h.ports ≡ true
+  low = issuer-low h past x a w.issued
+
+  -- an update is granted no line
+  ungranted : updates_memory x ≡ true → is_granted h past x ≡ false
+  ungranted u = false_from_ne_true (is_granted h past x) (λ g.
+      let kind = (granted_given h past a x.addr x (granted_at h past a x.port x.chan x.id x out-own g)).kind in
+      absurd (updates_ungranted x kind (updates_write x u) u))
+
+  memory-kept : (line : Line) → data_of h past x ≡ Some line → is_kept h past (M x.port x.chan x.id line) ≡ k24 h past (M x.port x.chan x.id line)
+  unfolding is_kept
+  memory-kept line is =
+      second-decides (k1 h past (M x.port x.chan x.id line)) (k24 h past (M x.port x.chan x.id line)) (k25 h past (M x.port x.chan x.id line)) 25 24 1
+      (and_from _ _ low refl) (let out = out-own in rw out (rw is (same-line-self line)))
+
+  response-kept-as : is_barrier_half x ≡ false → is_kept h past (B x.port x.id 0) ≡ k26 h past (B x.port x.id 0)
+  unfolding is_kept
+  response-kept-as none =
+      let out : outstanding h past x.port Write x.id ≡ Some x = subst (λ q. outstanding h past q Write x.id ≡ Some x) (sym w.port) w.out in
+      second-decides (k1 h past (B x.port x.id 0)) (k26 h past (B x.port x.id 0)) (k34 h past (B x.port x.id 0)) 34 26 1
+      (and_from _ _ low refl) (rw out (may-answer-evict past x none))
+
+  pub update-begins : updates_memory x ≡ true → (is_some (data_sent past x) && not (has_passed_on h past x.addr)) ≡ may_begin h past (update_burst h past x)
+  update-begins u =
+      let writes = updates_write x u in
+      let k = is_some_and-is (write_kind x) is_update u in
+      let line = data_of_write h past x k.0 in
+      let data_is : data_of h past x ≡ Some line = data-there h past x k.0 writes k.1 in
+      let begins : may_begin h past (update_burst h past x) ≡ is_kept h past (M x.port x.chan x.id line) =
+      ap (λ b. may_begin h past (if b then memory_write h past x ++ response x else if evicts x then response x else [])) u
+      ∙ ap (λ o. may_begin h past (map (λ v. M x.port x.chan x.id v) (option_to_list o) ++ response x)) data_is in
+      let out = out-own in
+      let may : k24 h past (M x.port x.chan x.id line) ≡ may_write_data h past x = rw out (ap (λ b. if b then may_write_passed h past x else may_write_data h past x) writes) in
+      let none : is_write_due h past x ≡ false = ap (λ b. b && are_snoops_done h past x) (ungranted u) in
+      let due : is_update_due h past x ≡ not (has_passed_on h past x.addr) =
+      ap (λ b. b && is_none_or (granted h past x.addr) (λ y. not (has_passed_data h past y))) u ∙ none-not (granted h past x.addr) (has_passed_data h past) in
+      let sends : is_some (data_sent past x) ≡ (is_some_and (write_kind x) has_write_data && is_burst_whole past x && not (has_memory_write past x.port x.chan x.id)) =
+      some-if (is_some_and (write_kind x) has_write_data && is_burst_whole past x && not (has_memory_write past x.port x.chan x.id)) _ in
+      let whole : is_some (data_sent past x) ≡ (is_burst_whole past x && not (has_memory_write past x.port x.chan x.id)) =
+      sends ∙ ap (λ b. b && is_burst_whole past x && not (has_memory_write past x.port x.chan x.id)) (sends-data x u) in
+      ap (λ b. b && not (has_passed_on h past x.addr)) whole
+      ∙ sym (ap (λ b. (is_burst_whole past x && not (has_memory_write past x.port x.chan x.id)) && (b || is_update_due h past x)) none
+      ∙ ap (λ b. (is_burst_whole past x && not (has_memory_write past x.port x.chan x.id)) && b) due)
+      ∙ sym (begins ∙ memory-kept line data_is ∙ may)
+
+  pub evict-begins : updates_memory x ≡ false → evicts x ≡ true → not (is_complete past x.port x.chan x.id) ≡ may_begin h past (update_burst h past x)
+  evict-begins f e =
+      let writes = evicts-write x e in
+      let k = is_some_and-is (write_kind x) is_evict e in
+      let none : is_some_and (write_kind x) has_write_data ≡ false = ap (λ o. is_some_and o has_write_data) k.1 ∙ evict-no-data k.0 k.2 in
+      let out : outstanding h past x.port Write x.id ≡ Some x = subst (λ q. outstanding h past q Write x.id ≡ Some x) (sym w.port) w.out in
+      let begins : may_begin h past (update_burst h past x) ≡ is_kept h past (B x.port x.id 0) =
+      ap (λ b. may_begin h past (if b then memory_write h past x ++ response x else if evicts x then response x else [])) f
+      ∙ ap (λ b. may_begin h past (if b then response x else [])) e in
+      let may : k26 h past (B x.port x.id 0) ≡ may_respond past x = rw out refl in
+      let responds : may_respond past x ≡ not (is_complete past x.port x.chan x.id) =
+      ap (λ b. not (is_complete past x.port x.chan x.id) && implies b (has_memory_write past x.port x.chan x.id)) none ∙ both (not (is_complete past x.port x.chan x.id)) in
+      sym (begins ∙ response-kept-as (evicts-no-half x k.0 writes k.1 k.2) ∙ may ∙ responds)
+    where
+      both : (b : Bool) → (b && true) ≡ b
+      both true = refl
+      both false = refl
+
+pub none-begins : (h : Header) (past : Trace) (x : Transaction) → updates_memory x ≡ false → evicts x ≡ false → may_begin h past (update_burst h past x) ≡ false
+none-begins h past x f e =
+    ap (λ b. may_begin h past (if b then memory_write h past x ++ response x else if evicts x then response x else [])) f
+    ∙ ap (λ b. may_begin h past (if b then response x else [])) e
+
+-- ---- whether there is one ----------------------------------------------------------------------------
+
+read-begins-none : (h : Header) (past : Trace) (x : Transaction) → is_read x.chan ≡ true → may_begin h past (update_burst h past x) ≡ false
+read-begins-none h past x reads =
+    none-begins h past x (false_from_ne_true _ (λ u. let w = updates_write x u in cc)) (false_from_ne_true _ (λ e. let w = evicts-write x e in cc))
+
+any-same : {A : Type 0} → (f g : A → Bool) (xs : List A) → ((x : A) → f x ≡ g x) → list_any f xs ≡ list_any g xs
+any-same f g [] same = refl
+any-same f g (x ∷ xs) same = let here = same x in let rest = any-same f g xs same in rw (here, rest) refl
+
+any-filtered : {A : Type 0} → (f g : A → Bool) (xs : List A) → list_any (λ x. f x && g x) xs ≡ list_any g (filter f xs)
+any-filtered f g [] = refl
+any-filtered f g (x ∷ xs) = let rest = any-filtered f g xs in elim (cases_Bool (f x)) [ inl t ↦ rw (t, rest) refl | inr n ↦ rw (n, rest) refl ]
+
+any-none : {A : Type 0} → (test : A → Bool) (xs : List A) → ((k : ℕ) (x : A) → slice_get xs k ≡ Some x → test x ≡ false) → list_any test xs ≡ false
+any-none test [] none = refl
+any-none test (x ∷ xs) none = let here = none 0 x refl in let rest = any-none test xs (λ k y at. none (suc k) y at) in rw (here, rest) refl
+
+one-test : (h : Header) (past : Trace) (p : ℕ) (x : Transaction)
+    → (((x.port == p) && is_outstanding h past x) && may_begin h past (update_burst h past x)) ≡ (is_pending h past p Write x && may_begin h past (update_burst h past x))
+one-test h past p x = by x.chan refl
+  where
+    off : (b : Bool) → (b && false) ≡ false
+    off true = refl
+    off false = refl
+
+    on : (a b c : Bool) → ((a && b) && c) ≡ (((a && true) && b) && c)
+    on true b c = refl
+    on false b c = refl
+
+    by : (c : Channel) → x.chan ≡ c
+        → (((x.port == p) && is_outstanding h past x) && may_begin h past (update_burst h past x)) ≡ (is_pending h past p Write x && may_begin h past (update_burst h past x))
+    by Read is =
+        let none = read-begins-none h past x (ap is_read is) in
+        rw none (off ((x.port == p) && is_outstanding h past x) ∙ sym (off (is_pending h past p Write x)))
+    by Write is = on (x.port == p) (is_outstanding h past x) (may_begin h past (update_burst h past x)) ∙ ap (λ c. (((x.port == p) && same_channel c Write) && is_outstanding h past x) && may_begin h past (update_burst h past x)) (sym is)
+
+pub serves-none : (h : Header) (past : Trace) (p : ℕ) → ((k : ℕ) (x : Transaction) → slice_get (pending_of h past p Write) k ≡ Some x → may_begin h past (update_burst h past x) ≡ false)
+    → may_serve update_burst h past p ≡ false
+serves-none h past p none =
+    some_issued-any past (λ x. (x.port == p) && is_outstanding h past x && may_begin h past (update_burst h past x))
+    ∙ any-same _ (λ x. is_pending h past p Write x && may_begin h past (update_burst h past x)) (transactions past) (one-test h past p)
+    ∙ any-filtered (is_pending h past p Write) (λ x. may_begin h past (update_burst h past x)) (transactions past)
+    ∙ any-none (λ x. may_begin h past (update_burst h past x)) (pending_of h past p Write) none
