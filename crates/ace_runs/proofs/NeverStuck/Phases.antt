@@ -42,3 +42,7 @@ pub mod GoneOn
 pub mod Answered
 -- So in a run no operation of an ACE port is finished and not retired.
 pub mod NeverFinished
+-- An operation of an ACE port of which an act is made is under way.
+pub mod ActsUnderWay
+-- The OP and the AC DVM Complete with which such an operation ends are steps.
+pub mod EndingSteps
