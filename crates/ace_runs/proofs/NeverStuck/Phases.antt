@@ -34,3 +34,15 @@ pub mod EqualEvents
 pub mod Endings
 -- Step 4 ends the operation, if it can end.
 pub mod Acknowledged
+-- The events of the steps of masters are their own.
+pub mod OwnEvents
+-- Step 14 ends the operation, if it can end.
+pub mod GoneOn
+-- Step 1 ends a Sync, if it can end.
+pub mod Answered
+-- So in a run no operation of an ACE port is finished and not retired.
+pub mod NeverFinished
+-- An operation of an ACE port of which an act is made is under way.
+pub mod ActsUnderWay
+-- The OP and the AC DVM Complete with which such an operation ends are steps.
+pub mod EndingSteps

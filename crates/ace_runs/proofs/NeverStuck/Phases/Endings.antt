@@ -28,7 +28,7 @@ use Rattle.ace_runs.proofs.NeverStuck.Phases.NextActs.{next-stays}
 -- ---- after an OP -------------------------------------------------------------------------------------
 
 -- where a port has done nothing for an operation, that can't retire with `ok`
-fresh-stays : (h : Header) (past : Trace) (p : ℕ) (o : Op) → acts_made past p ≡ 0 → segment past p ≡ [] → may_retire h past p o Ok ≡ false
+pub fresh-stays : (h : Header) (past : Trace) (p : ℕ) (o : Op) → acts_made past p ≡ 0 → segment past p ≡ [] → may_retire h past p o Ok ≡ false
 fresh-stays h past p (Pf a k) made none = ap (λ n. (n == 0) && is_met h past p (Pf a k)) made ∙ ap (list_any (λ x. is_read_of k a x && not (is_outstanding h past x))) none
 fresh-stays h past p (Wb a) made none = ap (λ n. (n == 0) && is_met h past p (Wb a)) made ∙ ap (list_any (is_write_of write.WriteBack a)) none
 fresh-stays h past p (Wc a) made none = ap (λ n. (n == 0) && is_met h past p (Wc a)) made ∙ ap (list_any (is_write_of write.WriteClean a)) none

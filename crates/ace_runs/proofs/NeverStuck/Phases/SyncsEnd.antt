@@ -36,7 +36,7 @@ past-end xs n none =
       | inr out ↦ out.0
     ]
 
-all-answered : (past : Trace) (p : ℕ) → answered past p ≡ None → unanswered past p ≡ []
+pub all-answered : (past : Trace) (p : ℕ) → answered past p ≡ None → unanswered past p ≡ []
 all-answered past p none = drop_all (answers past p) (snoops_of past p) (past-end (snoops_of past p) (answers past p) none)
 
 -- In a run that follows a right plan and has nothing outstanding, where a Sync of the port that is complete and wasn't told so is told by step 13, a
