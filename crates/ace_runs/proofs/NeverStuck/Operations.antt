@@ -46,3 +46,9 @@ pub mod SameBursts
 pub mod CalmBursts
 -- So step 14 has a burst that breaks no rule.
 pub mod OperationSteps
+-- Only step 14 issues reads.
+pub mod SilentSteps
+-- It issues those that the next operation asks for.
+pub mod ReadsAsked
+-- A read ahead fetches by its kind alone.
+pub mod ReadsAhead

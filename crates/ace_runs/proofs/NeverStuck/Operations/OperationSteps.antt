@@ -22,7 +22,7 @@ use Rattle.ace_runs.proofs.Turns.{steps-accepted}
 use Rattle.ace_runs.proofs.NeverStuck.StepEvents.{all-mapped}
 use Rattle.ace_runs.proofs.NeverStuck.Barriers.BothAnswered.{halves-together}
 use Rattle.ace_runs.proofs.NeverStuck.Messages.WholeMessages.{issues-whole}
-use Rattle.ace_runs.proofs.NeverStuck.Operations.Asking.{FetchesAsAsked, IsAsking, IsSynced}
+use Rattle.ace_runs.proofs.NeverStuck.Operations.Asking.{IsAsking, IsSynced}
 use Rattle.ace_runs.proofs.NeverStuck.Operations.BurstsKept.{bursts-good, is_calm, is_good}
 use Rattle.ace_runs.proofs.NeverStuck.Operations.CalmBursts.{calm-gives}
 use Rattle.ace_runs.proofs.NeverStuck.Operations.Classes.{named-class}
@@ -31,6 +31,7 @@ use Rattle.ace_runs.proofs.NeverStuck.Operations.Ends.{can-not-end, no-access}
 use Rattle.ace_runs.proofs.NeverStuck.Operations.Idle.{IsIdle}
 use Rattle.ace_runs.proofs.NeverStuck.Operations.OfPlan.{IsPlanned, next-planned}
 use Rattle.ace_runs.proofs.NeverStuck.Operations.OperationsGoOn.{has-move, may-go-on, waits-not}
+use Rattle.ace_runs.proofs.NeverStuck.Operations.ReadsAhead.{fetches-as-asked}
 use Rattle.ace_runs.proofs.NeverStuck.Operations.RequestsFit.{request-fits}
 use Rattle.ace_runs.proofs.NeverStuck.Operations.SameBursts.{burst-self}
 
@@ -64,7 +65,7 @@ module _ (h : Header) (past : Trace) (p : ℕ) (op : Op) (low : nat_lt p h.ports
 -- ---- the moves of an operation -----------------------------------------------------------------------
 
 module _ (plan : Plan) (past : Trace) (p : ℕ) (op : Op) (right : IsRight plan) (steps : AreSteps plan past) (lean : IsLean plan past) (idle : IsIdle plan.header past p)
-    (next : next_operation plan past p ≡ Some op) (made : acts_made past p ≡ 0) (as_asked : FetchesAsAsked past p op) (synced : IsSynced past p op) where
+    (next : next_operation plan past p ≡ Some op) (made : acts_made past p ≡ 0) (synced : IsSynced past p op) where
   abbrev h : Header
   h = plan.header
 
@@ -78,7 +79,7 @@ module _ (plan : Plan) (past : Trace) (p : ℕ) (op : Op) (right : IsRight plan)
         planned = planned;
         alike = λ a line. named-class plan past p a op right lean planned line;
         whole = issues-whole plan past right steps p;
-        as_asked = as_asked;
+        as_asked = fetches-as-asked plan past p op right steps next;
         synced = synced;
         idle = idle;
         made = made;
