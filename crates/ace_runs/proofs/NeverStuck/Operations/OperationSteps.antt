@@ -22,18 +22,18 @@ use Rattle.ace_runs.proofs.Turns.{steps-accepted}
 use Rattle.ace_runs.proofs.NeverStuck.StepEvents.{all-mapped}
 use Rattle.ace_runs.proofs.NeverStuck.Barriers.BothAnswered.{halves-together}
 use Rattle.ace_runs.proofs.NeverStuck.Messages.WholeMessages.{issues-whole}
-use Rattle.ace_runs.proofs.NeverStuck.Operations.Asking.{IsAsking, IsSynced}
-use Rattle.ace_runs.proofs.NeverStuck.Operations.BurstsKept.{bursts-good, is_calm, is_good}
-use Rattle.ace_runs.proofs.NeverStuck.Operations.CalmBursts.{calm-gives}
-use Rattle.ace_runs.proofs.NeverStuck.Operations.Classes.{named-class}
-use Rattle.ace_runs.proofs.NeverStuck.Operations.ClosingKept.{an-access-of, closing-kept, closing-short, has_access, retiring-kept}
-use Rattle.ace_runs.proofs.NeverStuck.Operations.Ends.{can-not-end, no-access}
+use Rattle.ace_runs.proofs.NeverStuck.Operations.Fits.Asking.{IsAsking, IsSynced}
+use Rattle.ace_runs.proofs.NeverStuck.Operations.Kept.BurstsKept.{bursts-good, is_calm, is_good}
+use Rattle.ace_runs.proofs.NeverStuck.Operations.Kept.CalmBursts.{calm-gives}
+use Rattle.ace_runs.proofs.NeverStuck.Operations.Lines.Classes.{named-class}
+use Rattle.ace_runs.proofs.NeverStuck.Operations.Kept.ClosingKept.{an-access-of, closing-kept, closing-short, has_access, retiring-kept}
+use Rattle.ace_runs.proofs.NeverStuck.Operations.Fits.Ends.{can-not-end, no-access}
 use Rattle.ace_runs.proofs.NeverStuck.Operations.Idle.{IsIdle}
-use Rattle.ace_runs.proofs.NeverStuck.Operations.OfPlan.{IsPlanned, next-planned}
+use Rattle.ace_runs.proofs.NeverStuck.Operations.Lines.OfPlan.{IsPlanned, next-planned}
 use Rattle.ace_runs.proofs.NeverStuck.Operations.OperationsGoOn.{has-move, may-go-on, waits-not}
-use Rattle.ace_runs.proofs.NeverStuck.Operations.ReadsAhead.{fetches-as-asked}
-use Rattle.ace_runs.proofs.NeverStuck.Operations.RequestsFit.{request-fits}
-use Rattle.ace_runs.proofs.NeverStuck.Operations.SameBursts.{burst-self}
+use Rattle.ace_runs.proofs.NeverStuck.Operations.Fetches.ReadsAhead.{fetches-as-asked}
+use Rattle.ace_runs.proofs.NeverStuck.Operations.Fits.RequestsFit.{request-fits}
+use Rattle.ace_runs.proofs.NeverStuck.Operations.Kept.SameBursts.{burst-self}
 
 -- ---- a burst and what ends the operation then --------------------------------------------------------
 

@@ -30,15 +30,15 @@ use Rattle.ace_runs.specs.HeldLines.{held_lines}
 use Rattle.ace_runs.specs.Requests.{Request, Reads, Misses, Writes, Drops, Barriers, Messages, and_part, barrier_bursts, barrier_halves, bursts_of, domain_for, drop_bursts, free_on, free_on_both, has_room, identifiers, is_free, message_bursts, read_bursts, room_bursts, victim_bursts, with_identifier, write_bursts}
 use Rattle.ace_runs.proofs.NeverStuck.StepEvents.{all-flat_mapped, all-if}
 use Rattle.ace_runs.proofs.NeverStuck.Barriers.Together.{AreTogether}
-use Rattle.ace_runs.proofs.NeverStuck.Operations.Asking.{IsFit, held-write}
+use Rattle.ace_runs.proofs.NeverStuck.Operations.Fits.Asking.{IsFit, held-write}
 use Rattle.ace_runs.proofs.NeverStuck.Operations.Asks.{found-after, found-both, found-free}
-use Rattle.ace_runs.proofs.NeverStuck.Operations.AsksKept.{DropFits, ReadFits, WriteFits, drop-kept, read-kept, write-kept}
-use Rattle.ace_runs.proofs.NeverStuck.Operations.BarriersKept.{read-half-kept, write-half-kept}
-use Rattle.ace_runs.proofs.NeverStuck.Operations.Classes.{held-line}
-use Rattle.ace_runs.proofs.NeverStuck.Operations.HeldLines.{all-filtered, each-held, holds}
+use Rattle.ace_runs.proofs.NeverStuck.Operations.Kept.AsksKept.{DropFits, ReadFits, WriteFits, drop-kept, read-kept, write-kept}
+use Rattle.ace_runs.proofs.NeverStuck.Operations.Kept.BarriersKept.{read-half-kept, write-half-kept}
+use Rattle.ace_runs.proofs.NeverStuck.Operations.Lines.Classes.{held-line}
+use Rattle.ace_runs.proofs.NeverStuck.Operations.Lines.HeldLines.{all-filtered, each-held, holds}
 use Rattle.ace_runs.proofs.NeverStuck.Operations.Identifiers.{IsFound}
 use Rattle.ace_runs.proofs.NeverStuck.Operations.Idle.{IsIdle}
-use Rattle.ace_runs.proofs.NeverStuck.Operations.MessagesKept.{MessageFits, first-part-kept, second-part-kept}
+use Rattle.ace_runs.proofs.NeverStuck.Operations.Kept.MessagesKept.{MessageFits, first-part-kept, second-part-kept}
 
 -- the event leaves the states of lines, or gives a line up
 abbrev pub is_calm : Event → Bool

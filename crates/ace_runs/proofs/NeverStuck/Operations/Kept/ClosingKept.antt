@@ -28,7 +28,7 @@ use Rattle.ace_runs.specs.Closing.{access_and_retirement, access_of, closing_of,
 use Rattle.ace_runs.specs.Retiring.{has_failed_store, may_fail, may_retire}
 use Rattle.ace_runs.specs.Segments.{acts_made}
 use Rattle.ace_runs.proofs.NeverStuck.Operations.Idle.{IsIdle, none-busy}
-use Rattle.ace_runs.proofs.NeverStuck.Operations.OfPlan.{IsPlanned, planned-ace}
+use Rattle.ace_runs.proofs.NeverStuck.Operations.Lines.OfPlan.{IsPlanned, planned-ace}
 
 two-kept : (a b : Bool) → a ≡ true → b ≡ true → is_none {T = ℕ} (if a then (if b then None else Some 40) else Some 1) ≡ true
 two-kept a b one last = rw (one, last) refl

@@ -6,9 +6,9 @@ use Rattle.ace_model.specs.declared.plans.Op.TheVariants.{Dvm, Sync, Dvm2}
 use Rattle.ace_model.specs.Messages.{has_second, is_message_word, is_sync_completed, is_sync_word, last_sync}
 use Rattle.ace_model.specs.Plans.{Plan}
 use Rattle.ace_model.specs.Trace.{Trace, implies}
-use Rattle.ace_runs.proofs.NeverStuck.Operations.Asking.{IsAsking}
-use Rattle.ace_runs.proofs.NeverStuck.Operations.MessagesKept.{MessageFits}
-use Rattle.ace_runs.proofs.NeverStuck.Operations.OfPlan.{planned-ace}
+use Rattle.ace_runs.proofs.NeverStuck.Operations.Fits.Asking.{IsAsking}
+use Rattle.ace_runs.proofs.NeverStuck.Operations.Kept.MessagesKept.{MessageFits}
+use Rattle.ace_runs.proofs.NeverStuck.Operations.Lines.OfPlan.{planned-ace}
 
 not-true-is : (b : Bool) → not b ≡ true → b ≡ false
 not-true-is true t = cc

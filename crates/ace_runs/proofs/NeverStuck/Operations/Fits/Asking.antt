@@ -22,12 +22,12 @@ use Rattle.ace_model.proofs.General.Options.{is_none_or-at}
 use Rattle.ace_runs.specs.Requests.{Request, Reads, Misses, Writes, Drops, Barriers, Messages}
 use Rattle.ace_runs.specs.Retiring.{has_read}
 use Rattle.ace_runs.specs.Segments.{acts_made, is_read_of, segment}
-use Rattle.ace_runs.proofs.NeverStuck.Operations.AsksKept.{DropFits, IsOfClass, ReadFits, WriteFits}
-use Rattle.ace_runs.proofs.NeverStuck.Operations.Classes.{IsHeld}
-use Rattle.ace_runs.proofs.NeverStuck.Operations.Ends.{CanNotEnd}
+use Rattle.ace_runs.proofs.NeverStuck.Operations.Kept.AsksKept.{DropFits, IsOfClass, ReadFits, WriteFits}
+use Rattle.ace_runs.proofs.NeverStuck.Operations.Lines.Classes.{IsHeld}
+use Rattle.ace_runs.proofs.NeverStuck.Operations.Fits.Ends.{CanNotEnd}
 use Rattle.ace_runs.proofs.NeverStuck.Operations.Idle.{IsIdle}
-use Rattle.ace_runs.proofs.NeverStuck.Operations.MessagesKept.{MessageFits}
-use Rattle.ace_runs.proofs.NeverStuck.Operations.OfPlan.{IsPlanned}
+use Rattle.ace_runs.proofs.NeverStuck.Operations.Kept.MessagesKept.{MessageFits}
+use Rattle.ace_runs.proofs.NeverStuck.Operations.Lines.OfPlan.{IsPlanned}
 
 -- What makes that a request breaks no rule: it fits the port, its state and the line.
 abbrev pub IsFit : Header → Trace → ℕ → Request → Type 0

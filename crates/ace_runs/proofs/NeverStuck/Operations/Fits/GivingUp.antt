@@ -21,11 +21,11 @@ use Rattle.ace_model.specs.States.{state_of}
 use Rattle.ace_model.specs.Trace.{Trace}
 use Rattle.ace_model.specs.Transactions.{is_ace}
 use Rattle.ace_runs.specs.Requests.{Request, Reads, Writes, cleans_first, gives_up_first}
-use Rattle.ace_runs.proofs.NeverStuck.Operations.AsksKept.{DropFits, WriteFits}
-use Rattle.ace_runs.proofs.NeverStuck.Operations.Asking.{IsAsking, IsFit, held-write, own-read, own-write}
-use Rattle.ace_runs.proofs.NeverStuck.Operations.Classes.{held-line}
-use Rattle.ace_runs.proofs.NeverStuck.Operations.Ends.{not-skipped}
-use Rattle.ace_runs.proofs.NeverStuck.Operations.OfPlan.{planned-ace}
+use Rattle.ace_runs.proofs.NeverStuck.Operations.Kept.AsksKept.{DropFits, WriteFits}
+use Rattle.ace_runs.proofs.NeverStuck.Operations.Fits.Asking.{IsAsking, IsFit, held-write, own-read, own-write}
+use Rattle.ace_runs.proofs.NeverStuck.Operations.Lines.Classes.{held-line}
+use Rattle.ace_runs.proofs.NeverStuck.Operations.Fits.Ends.{not-skipped}
+use Rattle.ace_runs.proofs.NeverStuck.Operations.Lines.OfPlan.{planned-ace}
 
 drop-fits : (h : Header) (past : Trace) (p a : ℕ) → IsAccepted h past → is_invalid (state_of h past p a) ≡ false → is_silent_move (state_of h past p a) I ≡ true → DropFits h past p a
 drop-fits h past p a accepted held moves = let of = held-line h past p a accepted held in record { ace = of.ace; aligned = of.aligned; moves = moves }

@@ -19,11 +19,11 @@ use Rattle.ace_model.specs.Transactions.{is_outstanding}
 use Rattle.ace_model.proofs.Tables.States.{is_invalid-is}
 use Rattle.ace_runs.specs.Retiring.{has_read, is_met}
 use Rattle.ace_runs.specs.Segments.{acts_made, is_read_of, segment}
-use Rattle.ace_runs.proofs.NeverStuck.Operations.AsksKept.{ReadFits}
-use Rattle.ace_runs.proofs.NeverStuck.Operations.Asking.{IsAsking, own-read}
-use Rattle.ace_runs.proofs.NeverStuck.Operations.Ends.{no-access, not-skipped}
+use Rattle.ace_runs.proofs.NeverStuck.Operations.Kept.AsksKept.{ReadFits}
+use Rattle.ace_runs.proofs.NeverStuck.Operations.Fits.Asking.{IsAsking, own-read}
+use Rattle.ace_runs.proofs.NeverStuck.Operations.Fits.Ends.{no-access, not-skipped}
 use Rattle.ace_runs.proofs.NeverStuck.Operations.Idle.{none-out, segment-port}
-use Rattle.ace_runs.proofs.NeverStuck.Operations.OfPlan.{planned-ace}
+use Rattle.ace_runs.proofs.NeverStuck.Operations.Lines.OfPlan.{planned-ace}
 
 not-false : (b : Bool) → not b ≡ false → b ≡ true
 not-false true f = refl

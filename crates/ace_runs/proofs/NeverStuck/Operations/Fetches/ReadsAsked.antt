@@ -33,7 +33,7 @@ use Rattle.ace_runs.specs.MasterSteps.{completion_bursts, moves}
 use Rattle.ace_runs.specs.Requests.{Request, Reads, Misses, Writes, Drops, Barriers, Messages, and_part, barrier_halves, bursts_of, domain_for, drop_bursts, ends_or_asks, free_on, free_on_both, has_room, is_waiting, moves_of, read_bursts, request_of, room_bursts, victim_bursts, with_identifier, write_bursts}
 use Rattle.ace_runs.proofs.NeverStuck.StepEvents.{all-append, all-flat_map, all-flat_mapped, all-if, all-map, all-mapped}
 use Rattle.ace_runs.proofs.NeverStuck.Barriers.Quiet.{closing-quiet}
-use Rattle.ace_runs.proofs.NeverStuck.Operations.SilentSteps.{issues_no_read, quiet-issues-no-read}
+use Rattle.ace_runs.proofs.NeverStuck.Operations.Fetches.SilentSteps.{issues_no_read, quiet-issues-no-read}
 
 -- a read with these codes and this address is one that the operation asks for, if it is a read ahead
 abbrev pub is_asked : Op → ℕ → ℕ → ℕ → ℕ → Bool

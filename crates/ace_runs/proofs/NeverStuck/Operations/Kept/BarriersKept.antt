@@ -30,7 +30,7 @@ use Rattle.ace_runs.specs.Requests.{is_free}
 use Rattle.ace_runs.proofs.NeverStuck.Barriers.BothAnswered.{undone-outstanding}
 use Rattle.ace_runs.proofs.NeverStuck.Barriers.DoneBefore.{completed-grown}
 use Rattle.ace_runs.proofs.NeverStuck.Barriers.Together.{AreTogether}
-use Rattle.ace_runs.proofs.NeverStuck.Operations.AsksKept.{ar-kept, aw-kept, implies-none, implies-right}
+use Rattle.ace_runs.proofs.NeverStuck.Operations.Kept.AsksKept.{ar-kept, aw-kept, implies-none, implies-right}
 use Rattle.ace_runs.proofs.NeverStuck.Operations.Idle.{IsIdle, none-out}
 
 -- ---- kinds -------------------------------------------------------------------------------------------
