@@ -1,4 +1,5 @@
--- Where nothing of a port is outstanding, its next operation goes on.
+-- The next operation of a port goes on by step 14: where nothing of the port is outstanding it can, and where it can there is a burst for it that
+-- breaks no rule.
 
 -- Nothing of the port is outstanding.
 pub mod Idle
@@ -10,11 +11,15 @@ pub mod Asks
 pub mod OperationsGoOn
 -- The lines that operations name and that ports hold.
 pub mod Lines
+-- The kinds of reads with some codes.
+pub mod Places
+-- The transactions of a segment.
+pub mod SegmentOf
+-- A read ahead fetches by its kind alone.
+pub mod Fetches
 -- What the operation asks for fits.
 pub mod Fits
 -- What fits breaks no rule.
 pub mod Kept
--- A read ahead fetches by its kind alone.
-pub mod Fetches
--- So step 14 has a burst that breaks no rule.
+-- So where step 14 is enabled it has a burst that breaks no rule.
 pub mod OperationSteps

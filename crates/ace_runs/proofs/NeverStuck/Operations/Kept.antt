@@ -8,6 +8,8 @@ pub mod MessagesKept
 pub mod BarriersKept
 -- So the bursts of a request that fits.
 pub mod BurstsKept
+-- The DVM Complete that a port owes.
+pub mod CompletionsKept
 -- What ends the operation.
 pub mod ClosingKept
 -- What asks only leaves what lines give.

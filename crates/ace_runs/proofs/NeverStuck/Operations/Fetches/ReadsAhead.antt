@@ -4,7 +4,7 @@ use Rattle.std.specs.List.{list_all, list_any}
 use Rattle.std.proofs.lemmas.Bool.{and_parts, and_from, cases_Bool, eqb-true, or_cases, or_left, or_right}
 use Rattle.ace_codes.specs.declared.kind.ArKind.{ArKind}
 use Rattle.ace_codes.specs.declared.kind.ArKind.TheVariants as read
-use Rattle.ace_codes.specs.Places.{is_at, is_normal, is_shareable}
+use Rattle.ace_codes.specs.Places.{is_at}
 use Rattle.ace_codes.specs.Reads.{ar_kind_of, read_place}
 use Rattle.ace_event.specs.declared.event.Event.{Event}
 use Rattle.ace_event.specs.declared.event.Event.TheVariants.{Ar, Aw, Op as Retires}
@@ -28,6 +28,7 @@ use Rattle.ace_runs.proofs.Turns.{of-each-run}
 use Rattle.ace_runs.proofs.NeverStuck.StepShapes.{TellsSame, same-burst-all}
 use Rattle.ace_runs.proofs.NeverStuck.Barriers.GoesOn.{same-ar}
 use Rattle.ace_runs.proofs.NeverStuck.Operations.Fits.Asking.{FetchesAsAsked}
+use Rattle.ace_runs.proofs.NeverStuck.Operations.Places.{completion-there}
 use Rattle.ace_runs.proofs.NeverStuck.Operations.Lines.OfPlan.{next-planned}
 use Rattle.ace_runs.proofs.NeverStuck.Operations.Fetches.ReadsAsked.{asks_first, asks_for, is_asked, moves-first}
 use Rattle.ace_runs.proofs.NeverStuck.Operations.Fetches.SilentSteps.{issues_no_read, reads-by-one, same-no-read}
@@ -65,25 +66,6 @@ unread-keeps plan past (Retires q n res) none before p a k next =
     ]
 unread-keeps plan past e none before p a k next = before p a k next
 
--- a DVM Complete is one
-place-completes : (code dom bar : ℕ) → is_at (read_place read.DvmComplete) code dom bar ≡ true → is_some_and (ar_kind_of code dom bar) is_dvm_complete ≡ true
-unfolding ar_kind_of
-place-completes code dom bar at =
-    let parts = and_parts (is_normal bar && is_shareable dom) (code == 14) at in
-    let both = and_parts (is_normal bar) (is_shareable dom) parts.0 in
-    let c = eqb-true code 14 parts.1 in
-    subst (λ n. is_some_and (ar_kind_of n dom bar) is_dvm_complete ≡ true) (sym c)
-    (elim (or_cases (bar == 0) (bar == 2) both.0) [
-      | inl zero ↦ elim (or_cases (dom == 1) (dom == 2) both.1) [
-        | inl one ↦ rw (eqb-true bar 0 zero, eqb-true dom 1 one) refl
-        | inr two ↦ rw (eqb-true bar 0 zero, eqb-true dom 2 two) refl
-      ]
-      | inr second ↦ elim (or_cases (dom == 1) (dom == 2) both.1) [
-        | inl one ↦ rw (eqb-true bar 2 second, eqb-true dom 1 one) refl
-        | inr two ↦ rw (eqb-true bar 2 second, eqb-true dom 2 two) refl
-      ]
-    ])
-
 -- a read that the next operation of its port asks for, or a DVM Complete
 asked-keeps : (plan : Plan) (past : Trace) (r q i b s d bar : ℕ) (l : Bool) → asks_for r (next_operation plan past r) (Ar q i b s d bar l) ≡ true → AreAsAsked plan past
     → AreAsAsked plan (Ar q i b s d bar l ∷ past)
@@ -100,7 +82,7 @@ asked-keeps plan past r q i b s d bar l asked before p a k next =
     of mine port some =
         let for = and_parts (q == p) (not (is_some_and (ar_kind_of s d bar) is_dvm_complete)) mine in
         elim (or_cases (is_at (read_place read.DvmComplete) s d bar) (is_none_or (next_operation plan past r) (λ op. is_asked op b s d bar)) some) [
-          | inl completes ↦ let bad : not true ≡ true = ap not (sym (place-completes s d bar completes)) ∙ for.1 in cc
+          | inl completes ↦ let bad : not true ≡ true = ap not (sym (ap (λ o. is_some_and o is_dvm_complete) (completion-there s d bar completes))) ∙ for.1 in cc
           | inr fits ↦
               let same : r ≡ p = port ∙ eqb-true q p for.0 in
               let own : next_operation plan past r ≡ Some (Pf a k) = subst (λ n. next_operation plan past n ≡ Some (Pf a k)) (sym same) next in
