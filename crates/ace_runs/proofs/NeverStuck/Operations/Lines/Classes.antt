@@ -28,8 +28,8 @@ use Rattle.ace_model.proofs.Rules.Keeps.{accepted_keeps}
 use Rattle.ace_model.proofs.Trace.Growth.{IsIssued, issued-cases, some_issued-is}
 use Rattle.ace_runs.specs.Lean.{IsLean, is_on_named_line, is_one_of_three, is_one_of_two}
 use Rattle.ace_runs.specs.Operations.{names}
-use Rattle.ace_runs.proofs.NeverStuck.Operations.AsksKept.{IsOfClass}
-use Rattle.ace_runs.proofs.NeverStuck.Operations.OfPlan.{IsPlanned, alike-in-plan, any-at}
+use Rattle.ace_runs.proofs.NeverStuck.Operations.Kept.AsksKept.{IsOfClass}
+use Rattle.ace_runs.proofs.NeverStuck.Operations.Lines.OfPlan.{IsPlanned, alike-in-plan, any-at}
 
 -- what holds of each transaction
 each-issued-from : (past : Trace) (test : Transaction → Bool) → ((y : Transaction) → IsIssued past y → test y ≡ true) → each_issued past test ≡ true

@@ -16,10 +16,10 @@ use Rattle.ace_model.specs.Trace.{Trace}
 use Rattle.ace_model.specs.Transactions.{is_ace}
 use Rattle.ace_runs.specs.Requests.{owns}
 use Rattle.ace_runs.specs.Retiring.{has_failed_store}
-use Rattle.ace_runs.proofs.NeverStuck.Operations.AsksKept.{ReadFits}
-use Rattle.ace_runs.proofs.NeverStuck.Operations.Asking.{IsAsking, IsFit, own-read}
-use Rattle.ace_runs.proofs.NeverStuck.Operations.Ends.{no-access, not-failed}
-use Rattle.ace_runs.proofs.NeverStuck.Operations.OfPlan.{planned-ace}
+use Rattle.ace_runs.proofs.NeverStuck.Operations.Kept.AsksKept.{ReadFits}
+use Rattle.ace_runs.proofs.NeverStuck.Operations.Fits.Asking.{IsAsking, IsFit, own-read}
+use Rattle.ace_runs.proofs.NeverStuck.Operations.Fits.Ends.{no-access, not-failed}
+use Rattle.ace_runs.proofs.NeverStuck.Operations.Lines.OfPlan.{planned-ace}
 
 -- a monitored line is held
 monitored-held : (h : Header) (past : Trace) (p a : ℕ) → is_monitored h past p a ≡ true → is_invalid (state_of h past p a) ≡ false

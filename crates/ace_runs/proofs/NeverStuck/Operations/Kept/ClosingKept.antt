@@ -17,18 +17,17 @@ use Rattle.ace_model.specs.CacheRules.{k30, k31, k32, k33, may_store}
 use Rattle.ace_model.specs.Copies.{copy_of, word_of}
 use Rattle.ace_model.specs.Monitors.{is_monitored}
 use Rattle.ace_model.specs.OrderRules.{k40, retired}
-use Rattle.ace_model.specs.Plans.{Plan}
+use Rattle.ace_model.specs.Plans.{Plan, line_named}
 use Rattle.ace_model.specs.States.{state_of}
 use Rattle.ace_model.specs.Trace.{Trace}
-use Rattle.ace_model.specs.Transactions.{is_ace}
+use Rattle.ace_model.specs.Transactions.{has_outstanding_on, is_ace}
 use Rattle.ace_runs.specs.Acts.{word_line, word_strobe}
 use Rattle.ace_model.specs.Values.{full_line}
 use Rattle.ace_runs.specs.Bursts.{are_kept, is_kept}
 use Rattle.ace_runs.specs.Closing.{access_and_retirement, access_of, closing_of, gives_access, retirement, state_named}
 use Rattle.ace_runs.specs.Retiring.{has_failed_store, may_fail, may_retire}
 use Rattle.ace_runs.specs.Segments.{acts_made}
-use Rattle.ace_runs.proofs.NeverStuck.Operations.Idle.{IsIdle, none-busy}
-use Rattle.ace_runs.proofs.NeverStuck.Operations.OfPlan.{IsPlanned, planned-ace}
+use Rattle.ace_runs.proofs.NeverStuck.Operations.Lines.OfPlan.{IsPlanned, planned-ace}
 
 two-kept : (a b : Bool) → a ≡ true → b ≡ true → is_none {T = ℕ} (if a then (if b then None else Some 40) else Some 1) ≡ true
 two-kept a b one last = rw (one, last) refl
@@ -64,14 +63,14 @@ load-kept h past p a w x low ace aligned held =
     let last : k31 h past e ≡ true = eq-eqb (word_of (copy_of past p a) w) (word_of (copy_of past p a) w) refl in
     four-loaded (k1 h past e) (k3 h past e) (k30 h past e) (k31 h past e) one three (ap not held) last
 
-store-kept : (h : Header) (past : Trace) (p a strobe : ℕ) (x : Bool) (line : Line) → IsIdle h past p → nat_lt p h.ports ≡ true → is_ace h p ≡ true → is_aligned a ≡ true
+store-kept : (h : Header) (past : Trace) (p a strobe : ℕ) (x : Bool) (line : Line) → has_outstanding_on h past p a ≡ false → nat_lt p h.ports ≡ true → is_ace h p ≡ true → is_aligned a ≡ true
     → is_unique (state_of h past p a) ≡ true → (x ≡ true → is_monitored h past p a ≡ true) → is_kept h past (event.D p a strobe x line) ≡ true
 unfolding is_kept
-store-kept h past p a strobe x line idle low ace aligned alone set =
+store-kept h past p a strobe x line quiet low ace aligned alone set =
     let e = event.D p a strobe x line in
     let one : k1 h past e ≡ true = and_from _ _ low ace in
     let three : k3 h past e ≡ true = and_from _ _ aligned refl in
-    let may : may_store h past p a ≡ true = and_from _ _ alone (ap not (none-busy h past p idle a)) in
+    let may : may_store h past p a ≡ true = and_from _ _ alone (ap not quiet) in
     let before : k32 h past e ≡ true = or_left (may_store h past p a) _ may in
     four-stored (k1 h past e) (k3 h past e) (k32 h past e) (k33 h past e) one three before (implied x (is_monitored h past p a) set)
   where
@@ -80,6 +79,10 @@ store-kept h past p a strobe x line idle low ace aligned alone set =
     implied false b t = refl
 
 -- ---- what ends an operation --------------------------------------------------------------------------
+
+-- no transaction of the port on the line that the operation names is outstanding
+abbrev pub IsLineFree : Header → Trace → ℕ → Op → Type 0
+IsLineFree h past p op = (a : ℕ) → line_named op ≡ Some a → has_outstanding_on h past p a ≡ false
 
 -- An operation ends by its OP, or by its access and OP where its line gives that, or it doesn't.
 pub data HowItEnds (h : Header) (past : Trace) (p : ℕ) (op : Op) : Type 0 where
@@ -145,36 +148,36 @@ module _ (plan : Plan) (past : Trace) (p : ℕ) where
   valid I t = cc
   valid st t = refl
 
-  access-kept : (op : Op) → IsPlanned plan p op → IsIdle h past p → acts_made past p ≡ 0 → may_retire h past p op Fail ≡ false
+  access-kept : (op : Op) → IsPlanned plan p op → IsLineFree h past p op → acts_made past p ≡ 0 → may_retire h past p op Fail ≡ false
       → gives_access op (state_named h past p op) ≡ true → are_kept h past (access_and_retirement past p (access_of past p op)) ≡ true
-  access-kept (Ld a w) o idle made fail gives =
+  access-kept (Ld a w) o free made fail gives =
       and_from _ _ (load-kept h past p a w false o.low (planned-ace plan p (Ld a w) o refl) o.aligned (valid (state_of h past p a) gives)) (and_from _ _ (op-kept h _ p (retired past p) Ok o.low refl) refl)
-  access-kept (Ldx a w) o idle made fail gives =
+  access-kept (Ldx a w) o free made fail gives =
       and_from _ _ (load-kept h past p a w true o.low (planned-ace plan p (Ldx a w) o refl) o.aligned (valid (state_of h past p a) gives)) (and_from _ _ (op-kept h _ p (retired past p) Ok o.low refl) refl)
-  access-kept (St a w word) o idle made fail gives =
-      and_from _ _ (store-kept h past p a (word_strobe w) false (word_line w word) idle o.low (planned-ace plan p (St a w word) o refl) o.aligned gives (λ x. cc))
+  access-kept (St a w word) o free made fail gives =
+      and_from _ _ (store-kept h past p a (word_strobe w) false (word_line w word) (free a refl) o.low (planned-ace plan p (St a w word) o refl) o.aligned gives (λ x. cc))
       (and_from _ _ (op-kept h _ p (retired past p) Ok o.low refl) refl)
-  access-kept (Stx a w word) o idle made fail gives =
+  access-kept (Stx a w word) o free made fail gives =
       let not_failed : may_fail h past p (Stx a w word) ≡ false = ap (λ b. b && may_fail h past p (Stx a w word)) (sym (eq-eqb (acts_made past p) 0 made)) ∙ fail in
-      and_from _ _ (store-kept h past p a (word_strobe w) true (word_line w word) idle o.low (planned-ace plan p (Stx a w word) o refl) o.aligned gives
+      and_from _ _ (store-kept h past p a (word_strobe w) true (word_line w word) (free a refl) o.low (planned-ace plan p (Stx a w word) o refl) o.aligned gives
       (λ x. set (is_monitored h past p a) (has_failed_store past p a) not_failed))
       (and_from _ _ (op-kept h _ p (retired past p) Ok o.low refl) refl)
     where
       set : (m f : Bool) → (not m || f) ≡ false → m ≡ true
       set true f n = refl
       set false f n = cc
-  access-kept (Fill a line) o idle made fail gives =
-      and_from _ _ (store-kept h past p a full_line false line idle o.low (planned-ace plan p (Fill a line) o refl) o.aligned gives (λ x. cc))
+  access-kept (Fill a line) o free made fail gives =
+      and_from _ _ (store-kept h past p a full_line false line (free a refl) o.low (planned-ace plan p (Fill a line) o refl) o.aligned gives (λ x. cc))
       (and_from _ _ (op-kept h _ p (retired past p) Ok o.low refl) refl)
-  access-kept op o idle made fail gives = refl
+  access-kept op o free made fail gives = refl
 
-  -- What ends an operation that has made no act breaks no rule, where nothing of the port is outstanding.
-  pub closing-kept : (op : Op) → IsPlanned plan p op → IsIdle h past p → acts_made past p ≡ 0 → are_kept h past (closing_of h past p op) ≡ true
-  closing-kept op o idle made = by (how-it-ends h past p op)
+  -- What ends an operation that has made no act breaks no rule, where no transaction of the port on its line is outstanding.
+  pub closing-kept : (op : Op) → IsPlanned plan p op → IsLineFree h past p op → acts_made past p ≡ 0 → are_kept h past (closing_of h past p op) ≡ true
+  closing-kept op o free made = by (how-it-ends h past p op)
     where
       by : HowItEnds h past p op → are_kept h past (closing_of h past p op) ≡ true
       by (retires res is) = ap (are_kept h past) is ∙ retirement-kept h past p res o.low
-      by (accesses fail gives is) = ap (are_kept h past) is ∙ access-kept op o idle made fail gives
+      by (accesses fail gives is) = ap (are_kept h past) is ∙ access-kept op o free made fail gives
       by (stays is) = ap (are_kept h past) is
 
 -- Where the line doesn't give the access, an operation ends by its OP alone, which breaks no rule.

@@ -1,14 +1,18 @@
 -- DVM messages fit: their words mean what the operations are, and a Sync comes after the port's last one is completed.
-use Rattle.std.proofs.Common.{◌≡◌, ℕ, Bool, true, false, not, ◌&&◌, is_some, refl}
+use Rattle.std.proofs.Common.{◌≡◌, ℕ, Bool, true, false, not, ◌&&◌, is_some, refl, ap, arith}
+use Rattle.std.specs.List.{list_any}
 use Rattle.std.proofs.lemmas.Bool.{and_parts}
 use Rattle.ace_event.specs.declared.header.Header.{Header}
+use Rattle.ace_model.specs.declared.plans.Op.{Op}
 use Rattle.ace_model.specs.declared.plans.Op.TheVariants.{Dvm, Sync, Dvm2}
 use Rattle.ace_model.specs.Messages.{has_second, is_message_word, is_sync_completed, is_sync_word, last_sync}
 use Rattle.ace_model.specs.Plans.{Plan}
 use Rattle.ace_model.specs.Trace.{Trace, implies}
-use Rattle.ace_runs.proofs.NeverStuck.Operations.Asking.{IsAsking}
-use Rattle.ace_runs.proofs.NeverStuck.Operations.MessagesKept.{MessageFits}
-use Rattle.ace_runs.proofs.NeverStuck.Operations.OfPlan.{planned-ace}
+use Rattle.ace_runs.specs.Retiring.{has_answered_completion, tells_completion, unanswered}
+use Rattle.ace_runs.specs.Segments.{acts_made}
+use Rattle.ace_runs.proofs.NeverStuck.Operations.Fits.Asking.{IsAsking, IsSynced}
+use Rattle.ace_runs.proofs.NeverStuck.Operations.Kept.MessagesKept.{MessageFits}
+use Rattle.ace_runs.proofs.NeverStuck.Operations.Lines.OfPlan.{planned-ace}
 
 not-true-is : (b : Bool) → not b ≡ true → b ≡ false
 not-true-is true t = cc
@@ -66,3 +70,16 @@ module _ (plan : Plan) (past : Trace) (p : ℕ) where
         },
         fields.1,
       )
+
+-- Where a Sync whose completion the port hasn't answered is an act of the next operation, a port without an act has none.
+pub synced-by : (past : Trace) (p : ℕ) (op : Op) → (is_some (last_sync past p) ≡ true → has_answered_completion past p ≡ false → acts_made past p ≡ 1) → acts_made past p ≡ 0
+    → IsSynced past p op
+synced-by past p (Sync word) own none = by (is_some (last_sync past p)) (is_sync_completed past p) refl refl
+  where
+    by : (some done : Bool) → is_some (last_sync past p) ≡ some → is_sync_completed past p ≡ done → implies some done ≡ true
+    by false done s d = refl
+    by true true s d = refl
+    by true false s d =
+        let made = own s (ap (λ b. b && not (list_any tells_completion (unanswered past p))) d) in
+        absurd (omega (arith, made, none))
+synced-by past p op own none = tt

@@ -6,12 +6,12 @@ use Rattle.ace_model.specs.Plans.{Plan}
 use Rattle.ace_model.specs.Trace.{Trace}
 use Rattle.ace_runs.specs.Closing.{state_named}
 use Rattle.ace_runs.specs.Requests.{request_of}
-use Rattle.ace_runs.proofs.NeverStuck.Operations.Asking.{IsAsking, IsFit}
-use Rattle.ace_runs.proofs.NeverStuck.Operations.Fetching.{exclusive-load-fits, load-fits, read-ahead-fits}
-use Rattle.ace_runs.proofs.NeverStuck.Operations.GivingUp.{clean-invalid-fits, clean-shared-fits, evict-fits, make-invalid-fits, read-once-fits, write-back-fits, write-clean-fits, write-evict-fits, write-line-unique-fits, write-unique-fits}
-use Rattle.ace_runs.proofs.NeverStuck.Operations.Ordering.{message-fits, messages-fit, sync-fits}
-use Rattle.ace_runs.proofs.NeverStuck.Operations.Storing.{exclusive-store-fits, fill-fits, store-fits}
-use Rattle.ace_runs.proofs.NeverStuck.Operations.Unsnooped.{read-no-snoop-fits, write-no-snoop-fits}
+use Rattle.ace_runs.proofs.NeverStuck.Operations.Fits.Asking.{IsAsking, IsFit}
+use Rattle.ace_runs.proofs.NeverStuck.Operations.Fits.Fetching.{exclusive-load-fits, load-fits, read-ahead-fits}
+use Rattle.ace_runs.proofs.NeverStuck.Operations.Fits.GivingUp.{clean-invalid-fits, clean-shared-fits, evict-fits, make-invalid-fits, read-once-fits, write-back-fits, write-clean-fits, write-evict-fits, write-line-unique-fits, write-unique-fits}
+use Rattle.ace_runs.proofs.NeverStuck.Operations.Fits.Ordering.{message-fits, messages-fit, sync-fits}
+use Rattle.ace_runs.proofs.NeverStuck.Operations.Fits.Storing.{exclusive-store-fits, fill-fits, store-fits}
+use Rattle.ace_runs.proofs.NeverStuck.Operations.Fits.Unsnooped.{read-no-snoop-fits, write-no-snoop-fits}
 
 pub request-fits : (plan : Plan) (past : Trace) (p : ℕ) (op : Op) → IsAsking plan past p op → IsFit plan.header past p (request_of op (state_named plan.header past p op))
 request-fits plan past p (Ld a w) q = load-fits plan past p a w q

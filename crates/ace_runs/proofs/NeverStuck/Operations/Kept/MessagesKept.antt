@@ -16,7 +16,7 @@ use Rattle.ace_model.specs.Transactions.{is_ace, is_line}
 use Rattle.ace_model.proofs.Trace.Outstanding.{read_issued}
 use Rattle.ace_runs.specs.Bursts.{is_kept}
 use Rattle.ace_runs.specs.Requests.{is_free}
-use Rattle.ace_runs.proofs.NeverStuck.Operations.AsksKept.{ar-kept, implies-none, implies-right, read-known}
+use Rattle.ace_runs.proofs.NeverStuck.Operations.Kept.AsksKept.{ar-kept, implies-none, implies-right, read-known}
 
 -- the AR of a part with this word
 abbrev pub part_issued : Trace → ℕ → ℕ → ℕ → Transaction

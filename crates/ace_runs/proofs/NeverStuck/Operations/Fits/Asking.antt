@@ -17,17 +17,16 @@ use Rattle.ace_model.specs.Messages.{first_waiting, has_second, is_sync_complete
 use Rattle.ace_model.specs.Plans.{Plan, line_named, wants_no_snoop}
 use Rattle.ace_model.specs.States.{state_of}
 use Rattle.ace_model.specs.Trace.{Trace, implies}
-use Rattle.ace_model.specs.Transactions.{is_ace}
+use Rattle.ace_model.specs.Transactions.{has_outstanding_on, is_ace}
 use Rattle.ace_model.proofs.General.Options.{is_none_or-at}
 use Rattle.ace_runs.specs.Requests.{Request, Reads, Misses, Writes, Drops, Barriers, Messages}
 use Rattle.ace_runs.specs.Retiring.{has_read}
 use Rattle.ace_runs.specs.Segments.{acts_made, is_read_of, segment}
-use Rattle.ace_runs.proofs.NeverStuck.Operations.AsksKept.{DropFits, IsOfClass, ReadFits, WriteFits}
-use Rattle.ace_runs.proofs.NeverStuck.Operations.Classes.{IsHeld}
-use Rattle.ace_runs.proofs.NeverStuck.Operations.Ends.{CanNotEnd}
-use Rattle.ace_runs.proofs.NeverStuck.Operations.Idle.{IsIdle}
-use Rattle.ace_runs.proofs.NeverStuck.Operations.MessagesKept.{MessageFits}
-use Rattle.ace_runs.proofs.NeverStuck.Operations.OfPlan.{IsPlanned}
+use Rattle.ace_runs.proofs.NeverStuck.Operations.Kept.AsksKept.{DropFits, IsOfClass, ReadFits, WriteFits}
+use Rattle.ace_runs.proofs.NeverStuck.Operations.Lines.Classes.{IsHeld}
+use Rattle.ace_runs.proofs.NeverStuck.Operations.Fits.Ends.{CanNotEnd}
+use Rattle.ace_runs.proofs.NeverStuck.Operations.Kept.MessagesKept.{MessageFits}
+use Rattle.ace_runs.proofs.NeverStuck.Operations.Lines.OfPlan.{IsPlanned}
 
 -- What makes that a request breaks no rule: it fits the port, its state and the line.
 abbrev pub IsFit : Header → Trace → ℕ → Request → Type 0
@@ -48,7 +47,7 @@ abbrev pub IsSynced : Trace → ℕ → Op → Type 0
 IsSynced past p (Sync word) = implies (is_some (last_sync past p)) (is_sync_completed past p) ≡ true
 IsSynced past p _ = Unit {0}
 
--- The port's operation is one of a right plan and has made no act, nothing of the port is outstanding, and the operation can't end.
+-- The port's operation is one of a right plan and has made no act, no transaction of the port on its line is outstanding, and the operation can't end.
 pub record IsAsking (plan : Plan) (past : Trace) (p : ℕ) (op : Op) : Type 0 where
   pub accepted : IsAccepted plan.header past
   pub planned : IsPlanned plan p op
@@ -56,7 +55,7 @@ pub record IsAsking (plan : Plan) (past : Trace) (p : ℕ) (op : Op) : Type 0 wh
   pub whole : first_waiting past p ≡ None
   pub as_asked : FetchesAsAsked past p op
   pub synced : IsSynced past p op
-  pub idle : IsIdle plan.header past p
+  pub free : (a : ℕ) → line_named op ≡ Some a → has_outstanding_on plan.header past p a ≡ false
   pub made : acts_made past p ≡ 0
   pub stays : CanNotEnd plan.header past p op
 
@@ -71,16 +70,16 @@ module _ (plan : Plan) (past : Trace) (p : ℕ) (op : Op) (q : IsAsking plan pas
   pub own-read : (k : ArKind) (a : ℕ) (lock : Bool) → line_named op ≡ Some a → is_line_read k ≡ true → wants_no_snoop op ≡ is_no_snoop_read k → may_issue_read h p k ≡ true
       → implies lock (is_ace h p && may_be_exclusive k) ≡ true → starts_read k (state_of h past p a) ≡ true → ReadFits h past p k a lock
   own-read k a lock line of same may locked starts =
-      record { line = of; may = may; aligned = own-aligned a line; starts = starts; locked = locked; alike = subst (IsOfClass past a) same (q.alike a line) }
+      record { quiet = q.free a line; line = of; may = may; aligned = own-aligned a line; starts = starts; locked = locked; alike = subst (IsOfClass past a) same (q.alike a line) }
 
   -- a write of its line
   pub own-write : (k : AwKind) (a : ℕ) → line_named op ≡ Some a → is_line_write k ≡ true → wants_no_snoop op ≡ is_no_snoop_write k → may_issue_write h p k ≡ true
       → starts_write k (state_of h past p a) ≡ true → WriteFits h past p k a
   own-write k a line of same may starts =
-      record { line = of; may = may; aligned = own-aligned a line; starts = starts; alike = subst (IsOfClass past a) same (q.alike a line) }
+      record { quiet = q.free a line; line = of; may = may; aligned = own-aligned a line; starts = starts; alike = subst (IsOfClass past a) same (q.alike a line) }
 
 -- a write of a line that the port holds
-pub held-write : (h : Header) (past : Trace) (p a : ℕ) (k : AwKind) → IsHeld h past p a → is_line_write k ≡ true → is_no_snoop_write k ≡ false
+pub held-write : (h : Header) (past : Trace) (p a : ℕ) (k : AwKind) → IsHeld h past p a → has_outstanding_on h past p a ≡ false → is_line_write k ≡ true → is_no_snoop_write k ≡ false
     → starts_write k (state_of h past p a) ≡ true → WriteFits h past p k a
-held-write h past p a k held of snoops starts =
-    record { line = of; may = or_left _ _ held.ace; aligned = held.aligned; starts = starts; alike = subst (IsOfClass past a) (sym snoops) held.alike }
+held-write h past p a k held quiet of snoops starts =
+    record { quiet = quiet; line = of; may = or_left _ _ held.ace; aligned = held.aligned; starts = starts; alike = subst (IsOfClass past a) (sym snoops) held.alike }

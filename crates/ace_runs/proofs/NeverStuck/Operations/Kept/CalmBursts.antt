@@ -16,7 +16,7 @@ use Rattle.ace_model.specs.Trace.{Trace}
 use Rattle.ace_model.proofs.Tables.States.{is_invalid-is}
 use Rattle.ace_runs.specs.Bursts.{onto}
 use Rattle.ace_runs.specs.Closing.{gives_access, state_named}
-use Rattle.ace_runs.proofs.NeverStuck.Operations.BurstsKept.{is_calm}
+use Rattle.ace_runs.proofs.NeverStuck.Operations.Kept.BurstsKept.{is_calm}
 
 -- ---- what calm events leave --------------------------------------------------------------------------
 

@@ -1,6 +1,7 @@
--- What a port with nothing outstanding asks for breaks no rule, where the kind is one for the port, its state and the line.
-use Rattle.std.proofs.Common.{◌≡◌, ℕ, Bool, true, false, not, ◌&&◌, ◌||◌, nat_lt, if◌then◌else◌, Option, Some, None, is_none, refl, ap, ◌∙◌}
-use Rattle.std.proofs.lemmas.Bool.{and_from}
+-- What a port asks for breaks no rule, where no transaction of the port on the line is outstanding, and the kind is one for the port, its state and
+-- the line.
+use Rattle.std.proofs.Common.{◌≡◌, ℕ, Bool, true, false, not, ◌&&◌, ◌||◌, ◌==◌, nat_lt, if◌then◌else◌, Option, Some, None, is_none, refl, sym, ap, ◌∙◌}
+use Rattle.std.proofs.lemmas.Bool.{and_parts, and_from, false_from_ne_true}
 use Rattle.ace_codes.specs.declared.kind.ArKind.{ArKind}
 use Rattle.ace_codes.specs.declared.kind.ArKind.TheVariants as read
 use Rattle.ace_codes.specs.declared.kind.AwKind.{AwKind}
@@ -18,14 +19,13 @@ use Rattle.ace_model.specs.AddressRules.{is_aligned, is_no_snoop, k1, k2, k3, k4
 use Rattle.ace_model.specs.CacheRules.{k29}
 use Rattle.ace_model.specs.Kinds.{is_dvm_complete, is_dvm_message, is_line_read, is_line_write, is_no_snoop_read, is_no_snoop_write, is_read_barrier, is_write_barrier, may_be_exclusive}
 use Rattle.ace_model.specs.OrderRules.{k38}
-use Rattle.ace_model.specs.Progress.{each_issued}
+use Rattle.ace_model.specs.Progress.{each_issued, has_update, is_update_on, updates_memory}
 use Rattle.ace_model.specs.States.{state_of}
 use Rattle.ace_model.specs.Trace.{Trace, implies, is_none_or, is_some_and}
-use Rattle.ace_model.specs.Transactions.{has_outstanding_on, is_ace, is_on}
+use Rattle.ace_model.specs.Transactions.{has_outstanding_on, is_ace, is_on, is_outstanding, is_outstanding_on}
+use Rattle.ace_model.proofs.Trace.Growth.{some_issued-found, some_issued-is}
 use Rattle.ace_runs.specs.Bursts.{is_kept}
 use Rattle.ace_runs.specs.Requests.{domain_for, is_free}
-use Rattle.ace_runs.proofs.NeverStuck.Operations.Asks.{kept-apart}
-use Rattle.ace_runs.proofs.NeverStuck.Operations.Idle.{IsIdle, none-busy, no-update}
 
 -- ---- booleans ----------------------------------------------------------------------------------------
 
@@ -80,6 +80,7 @@ IsOfClass past a c = each_issued past (λ y. implies (is_on y a) (same_test c (i
 
 -- The port may issue the read of the line.
 pub record ReadFits (h : Header) (past : Trace) (p : ℕ) (k : ArKind) (a : ℕ) (lock : Bool) : Type 0 where
+  pub quiet : has_outstanding_on h past p a ≡ false
   pub line : is_line_read k ≡ true
   pub may : may_issue_read h p k ≡ true
   pub aligned : is_aligned a ≡ true
@@ -89,6 +90,7 @@ pub record ReadFits (h : Header) (past : Trace) (p : ℕ) (k : ArKind) (a : ℕ)
 
 -- The port may issue the write of the line.
 pub record WriteFits (h : Header) (past : Trace) (p : ℕ) (k : AwKind) (a : ℕ) : Type 0 where
+  pub quiet : has_outstanding_on h past p a ≡ false
   pub line : is_line_write k ≡ true
   pub may : may_issue_write h p k ≡ true
   pub aligned : is_aligned a ≡ true
@@ -97,6 +99,7 @@ pub record WriteFits (h : Header) (past : Trace) (p : ℕ) (k : AwKind) (a : ℕ
 
 -- The port may give up the clean line.
 pub record DropFits (h : Header) (past : Trace) (p : ℕ) (a : ℕ) : Type 0 where
+  pub quiet : has_outstanding_on h past p a ≡ false
   pub ace : is_ace h p ≡ true
   pub aligned : is_aligned a ≡ true
   pub moves : is_silent_move (state_of h past p a) I ≡ true
@@ -127,7 +130,18 @@ aw-kept h past p i a s d b low two three free five six eight nine ten =
     eleven-kept (k1 h past e) (k2 h past e) (k3 h past e) (k4 h past e) (k5 h past e) (k6 h past e) (k7 h past e) (k8 h past e) (k9 h past e) (k10 h past e) (k38 h past e)
     one two three free five six refl eight nine ten refl
 
-module _ (h : Header) (past : Trace) (p : ℕ) (low : nat_lt p h.ports ≡ true) (idle : IsIdle h past p) where
+-- no memory update is outstanding on such a line
+no-update : (h : Header) (past : Trace) (p l : ℕ) → has_outstanding_on h past p l ≡ false → has_update h past p l ≡ false
+no-update h past p l quiet =
+    false_from_ne_true (has_update h past p l) (λ some.
+    let x = some_issued-is past (is_update_on h past p l) some in
+    let p1 = and_parts ((x.0.port == p) && updates_memory x.0 && is_on x.0 l) (is_outstanding h past x.0) x.2 in
+    let p2 = and_parts ((x.0.port == p) && updates_memory x.0) (is_on x.0 l) p1.0 in
+    let port = (and_parts (x.0.port == p) (updates_memory x.0) p2.0).0 in
+    let there = some_issued-found past (is_outstanding_on h past p l) x.0.place x.0 x.1.there (and_from _ _ (and_from _ _ port p2.1) p1.1) in
+    let bad : false ≡ true = sym quiet ∙ there in cc)
+
+module _ (h : Header) (past : Trace) (p : ℕ) (low : nat_lt p h.ports ≡ true) where
   -- a read of a line
   pub read-kept : (k : ArKind) (i a : ℕ) (lock : Bool) → ReadFits h past p k a lock → is_free h past p Read i ≡ true
       → is_kept h past (Ar p i a (ar_code k) (domain_for (is_no_snoop_read k)) 0 lock) ≡ true
@@ -141,7 +155,7 @@ module _ (h : Header) (past : Trace) (p : ℕ) (low : nat_lt p h.ports ≡ true)
       let three : k3 h past e ≡ true =
       ap (λ o. is_none_or (if is_some_and o is_line_read then Some a else None) is_aligned && true) kind
       ∙ ap (λ b. is_none_or (if b then Some a else None) is_aligned && true) f.line ∙ and_from _ _ f.aligned refl in
-      let five : k5 h past e ≡ true = implies-right _ (not (has_outstanding_on h past p a)) (ap not (none-busy h past p idle a)) in
+      let five : k5 h past e ≡ true = implies-right _ (not (has_outstanding_on h past p a)) (ap not f.quiet) in
       let six : k6 h past e ≡ true =
       implies-right _ (is_none_or (ar_kind_of (ar_code k) (domain_for (is_no_snoop_read k)) 0) (λ k. starts_read k st) && true)
       (and_from _ _ (ap (λ o. is_none_or o (λ k. starts_read k st)) kind ∙ f.starts) refl) in
@@ -158,9 +172,9 @@ module _ (h : Header) (past : Trace) (p : ℕ) (low : nat_lt p h.ports ≡ true)
       ar-kept h past p i a (ar_code k) (domain_for (is_no_snoop_read k)) 0 lock low two three free five six seven eight nine last
 
   -- a write of a line
-  pub write-kept : (k : AwKind) (i a : ℕ) → WriteFits h past p k a → is_free h past p Write i ≡ true
+  pub write-kept : (k : AwKind) (i a : ℕ) → WriteFits h past p k a → keeps_apart h past p k ≡ true → is_free h past p Write i ≡ true
       → is_kept h past (Aw p i a (aw_code k) (domain_for (is_no_snoop_write k)) 0) ≡ true
-  write-kept k i a f free =
+  write-kept k i a f apart free =
       let e = Aw p i a (aw_code k) (domain_for (is_no_snoop_write k)) 0 in
       let kind = write-known k (line-write k f.line) in
       let st = state_of h past p a in
@@ -168,7 +182,7 @@ module _ (h : Header) (past : Trace) (p : ℕ) (low : nat_lt p h.ports ≡ true)
       let three : k3 h past e ≡ true =
       ap (λ o. is_none_or (if is_some_and o is_line_write then Some a else None) is_aligned && true) kind
       ∙ ap (λ b. is_none_or (if b then Some a else None) is_aligned && true) f.line ∙ and_from _ _ f.aligned refl in
-      let five : k5 h past e ≡ true = implies-right _ (not (has_outstanding_on h past p a)) (ap not (none-busy h past p idle a)) in
+      let five : k5 h past e ≡ true = implies-right _ (not (has_outstanding_on h past p a)) (ap not f.quiet) in
       let six : k6 h past e ≡ true =
       implies-right _ (is_none_or (aw_kind_of (aw_code k) (domain_for (is_no_snoop_write k)) 0) (λ k. starts_write k st))
       (ap (λ o. is_none_or o (λ k. starts_write k st)) kind ∙ f.starts) in
@@ -176,7 +190,7 @@ module _ (h : Header) (past : Trace) (p : ℕ) (low : nat_lt p h.ports ≡ true)
       implies-right _ (each_issued past (λ y. implies (is_on y a) (same_test (is_some_and (aw_kind_of (aw_code k) (domain_for (is_no_snoop_write k)) 0) is_no_snoop_write) (is_no_snoop y))))
       (ap (λ o. each_issued past (λ y. implies (is_on y a) (same_test (is_some_and o is_no_snoop_write) (is_no_snoop y)))) kind ∙ f.alike) in
       let nine : k9 h past e ≡ true = and_from _ _ (and_from _ _ (implies-none _ _ (ap (λ o. is_some_and o is_write_barrier) kind ∙ line-write k f.line)) refl) refl in
-      let ten : k10 h past e ≡ true = ap (λ o. is_none_or o (keeps_apart h past p)) kind ∙ kept-apart h past p idle k in
+      let ten : k10 h past e ≡ true = ap (λ o. is_none_or o (keeps_apart h past p)) kind ∙ apart in
       aw-kept h past p i a (aw_code k) (domain_for (is_no_snoop_write k)) 0 low two three free five six eight nine ten
 
   -- a clean line given up
@@ -186,5 +200,5 @@ module _ (h : Header) (past : Trace) (p : ℕ) (low : nat_lt p h.ports ≡ true)
       let e = S p a I in
       let one : k1 h past e ≡ true = and_from _ _ low f.ace in
       let three : k3 h past e ≡ true = and_from _ _ f.aligned refl in
-      let twenty_nine : k29 h past e ≡ true = and_from _ _ f.moves (ap not (no-update h past p idle a)) in
+      let twenty_nine : k29 h past e ≡ true = and_from _ _ f.moves (ap not (no-update h past p a f.quiet)) in
       three-kept (k1 h past e) (k3 h past e) (k29 h past e) one three twenty_nine

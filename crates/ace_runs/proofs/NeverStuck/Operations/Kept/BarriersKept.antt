@@ -1,4 +1,4 @@
--- Both halves of a barrier break no rule where nothing of the port is outstanding: each earlier pair of the port is complete.
+-- Both halves of a barrier break no rule where no barrier of the port is outstanding: each earlier pair of the port is complete.
 use Rattle.std.proofs.Common.{◌≡◌, ℕ, zero, suc, ◌≤◌, Bool, true, false, ◌&&◌, ◌||◌, ◌==◌, nat_lt, if◌then◌else◌, List, [], ◌∷◌, ◌++◌, length, take, Some, None, slice_get, is_none, refl, sym, ap, subst, ◌∙◌, inl, inr, le-leb, arith}
 use Rattle.std.specs.List.{list_all}
 use Rattle.std.proofs.lemmas.Bool.{and_parts, and_from, cases_Bool, eq-eqb, eqb-true, or_cases, or_right}
@@ -20,18 +20,17 @@ use Rattle.ace_model.specs.Kinds.{is_dvm_complete, is_dvm_message, is_lite_read,
 use Rattle.ace_model.specs.OrderRules.{k38}
 use Rattle.ace_model.specs.Progress.{is_completed}
 use Rattle.ace_model.specs.Trace.{Trace, at_point, is_none_or, is_some_and, more}
-use Rattle.ace_model.specs.Transactions.{is_ace, is_line, outstanding}
+use Rattle.ace_model.specs.Transactions.{is_ace, is_line, is_outstanding, outstanding}
 use Rattle.ace_model.proofs.Barriers.Pairs.{IsHalf, is_barrier_of-is, pairs-halves}
 use Rattle.ace_model.proofs.General.Lists.{slice_get-at_end}
-use Rattle.ace_model.proofs.Trace.Growth.{at_point-end}
+use Rattle.ace_model.proofs.Trace.Growth.{IsIssued, at_point-end}
 use Rattle.ace_model.proofs.Trace.Outstanding.{read_issued, write_issued}
 use Rattle.ace_runs.specs.Bursts.{is_kept}
 use Rattle.ace_runs.specs.Requests.{is_free}
 use Rattle.ace_runs.proofs.NeverStuck.Barriers.BothAnswered.{undone-outstanding}
 use Rattle.ace_runs.proofs.NeverStuck.Barriers.DoneBefore.{completed-grown}
 use Rattle.ace_runs.proofs.NeverStuck.Barriers.Together.{AreTogether}
-use Rattle.ace_runs.proofs.NeverStuck.Operations.AsksKept.{ar-kept, aw-kept, implies-none, implies-right}
-use Rattle.ace_runs.proofs.NeverStuck.Operations.Idle.{IsIdle, none-out}
+use Rattle.ace_runs.proofs.NeverStuck.Operations.Kept.AsksKept.{ar-kept, aw-kept, implies-none, implies-right}
 
 -- ---- kinds -------------------------------------------------------------------------------------------
 
@@ -78,14 +77,19 @@ at-end past = at_point-end past (length past) refl
 
 -- ---- the halves --------------------------------------------------------------------------------------
 
-module _ (h : Header) (past : Trace) (p : ℕ) (accepted : IsAccepted h past) (together : AreTogether past) (low : nat_lt p h.ports ≡ true) (idle : IsIdle h past p) where
+-- no half of a barrier of the port is outstanding
+abbrev pub HasNoHalf : Header → Trace → ℕ → Type 0
+HasNoHalf h past p = (x : Transaction) → IsIssued past x → is_barrier_half x ≡ true → x.port ≡ p → is_outstanding h past x ≡ false
+
+module _ (h : Header) (past : Trace) (p : ℕ) (accepted : IsAccepted h past) (together : AreTogether past) (low : nat_lt p h.ports ≡ true) (no_half : HasNoHalf h past p) where
   half-done : (x : Transaction) (c : Channel) (k : ℕ) → IsHalf past p c k x → is_completed past x ≡ true
   half-done x c k half =
       elim (cases_Bool (is_completed past x)) [
         | inl done ↦ done
         | inr undone ↦
             let out = undone-outstanding h past x accepted half.stands undone in
-            let bad : false ≡ true = sym (none-out h past p idle x (is_barrier_of-is x p c half.barrier).port) ∙ out in cc
+            let of = is_barrier_of-is x p c half.barrier in
+            let bad : false ≡ true = sym (no_half x half.stands of.barrier of.port) ∙ out in cc
       ]
 
   pair-done : (k : ℕ) (b : Pair) → slice_get (pairs past p) k ≡ Some b → is_pair_complete past b ≡ true

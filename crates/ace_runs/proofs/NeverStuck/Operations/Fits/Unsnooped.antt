@@ -21,8 +21,8 @@ use Rattle.ace_model.proofs.General.Booleans.{implies-at, same_test-at}
 use Rattle.ace_model.proofs.Holders.ShareableLines.{held_is_shareable}
 use Rattle.ace_model.proofs.Tables.States.{is_invalid-is}
 use Rattle.ace_model.proofs.Trace.Growth.{each_issued-at}
-use Rattle.ace_runs.proofs.NeverStuck.Operations.AsksKept.{IsOfClass, ReadFits, WriteFits}
-use Rattle.ace_runs.proofs.NeverStuck.Operations.Asking.{IsAsking, own-read, own-write}
+use Rattle.ace_runs.proofs.NeverStuck.Operations.Kept.AsksKept.{IsOfClass, ReadFits, WriteFits}
+use Rattle.ace_runs.proofs.NeverStuck.Operations.Fits.Asking.{IsAsking, own-read, own-write}
 
 -- no port holds a line whose transactions are NoSnoop
 unheld : (h : Header) (past : Trace) (p a : ℕ) → IsAccepted h past → IsOfClass past a true → state_of h past p a ≡ I
