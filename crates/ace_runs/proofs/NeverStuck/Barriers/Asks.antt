@@ -27,7 +27,7 @@ use Rattle.ace_runs.specs.Bursts.{onto}
 use Rattle.ace_runs.specs.Closing.{and_closing, closing_of, state_named}
 use Rattle.ace_runs.specs.HeldLines.{held_lines}
 use Rattle.ace_runs.specs.Requests.{Request, Reads, Misses, Writes, Drops, Barriers, Messages, and_part, bursts_of, domain_for, drop_bursts, ends_or_asks, free_on, gives_up_first, has_room, is_waiting, moves_of, read_bursts, request_of, room_bursts, victim_bursts, write_bursts}
-use Rattle.ace_runs.proofs.NeverStuck.StepEvents.{all-append, all-flat_map, all-flat_mapped, all-if, all-map, all-mapped}
+use Rattle.ace_runs.proofs.NeverStuck.Steps.StepEvents.{all-append, all-flat_map, all-flat_mapped, all-if, all-map, all-mapped}
 use Rattle.ace_runs.proofs.NeverStuck.Barriers.Acts.{is_barrier_operation}
 use Rattle.ace_runs.proofs.NeverStuck.Barriers.Quiet.{closing-quiet, is_ordinary, is_quiet, issues_no_line, quiet-ordinary, quiet-no-line}
 

@@ -26,7 +26,7 @@ use Rattle.ace_model.proofs.Trace.Served.{had_some}
 use Rattle.ace_runs.specs.Bursts.{onto}
 use Rattle.ace_runs.specs.Requests.{barrier_halves}
 use Rattle.ace_runs.specs.SameEvents.{same_burst, same_event}
-use Rattle.ace_runs.proofs.NeverStuck.StepShapes.{all-as}
+use Rattle.ace_runs.proofs.NeverStuck.Steps.StepShapes.{all-as}
 use Rattle.ace_runs.proofs.NeverStuck.Barriers.GoesOn.{AsksBarrier, same-ar, same-aw}
 use Rattle.ace_runs.proofs.NeverStuck.Barriers.Quiet.{is_quiet, same-quiet}
 use Rattle.ace_runs.proofs.NeverStuck.Barriers.Together.{AreTogether, none-second, quiet-together, same-completed}

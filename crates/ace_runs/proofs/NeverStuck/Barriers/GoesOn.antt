@@ -22,8 +22,8 @@ use Rattle.ace_runs.specs.Follows.{owes_completion}
 use Rattle.ace_runs.specs.MasterSteps.{completion_bursts, goes_on}
 use Rattle.ace_runs.specs.Requests.{barrier_bursts, barrier_halves, bursts_of, ends_or_asks, free_on, free_on_both, is_waiting, moves_of, request_of, with_identifier}
 use Rattle.ace_runs.specs.SameEvents.{same_burst, same_event}
-use Rattle.ace_runs.proofs.NeverStuck.StepEvents.{all-if, all-map}
-use Rattle.ace_runs.proofs.NeverStuck.StepShapes.{TellsSame, all-as}
+use Rattle.ace_runs.proofs.NeverStuck.Steps.StepEvents.{all-if, all-map}
+use Rattle.ace_runs.proofs.NeverStuck.Steps.StepShapes.{TellsSame, all-as}
 use Rattle.ace_runs.proofs.NeverStuck.Barriers.Acts.{is_barrier_operation}
 use Rattle.ace_runs.proofs.NeverStuck.Barriers.Asks.{all-no-line, all-ordinary, moves-ordinary}
 use Rattle.ace_runs.proofs.NeverStuck.Barriers.Quiet.{closing-quiet, is_ordinary, is_quiet, issues_no_line, same-quiet}

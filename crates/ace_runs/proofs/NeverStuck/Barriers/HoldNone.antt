@@ -29,9 +29,9 @@ use Rattle.ace_runs.specs.Steps.{AreSteps, is_step}
 use Rattle.ace_runs.proofs.Accepting.{accepted-after}
 use Rattle.ace_runs.proofs.SoFar.{before-burst}
 use Rattle.ace_runs.proofs.Turns.{of-each-run, step-kept}
-use Rattle.ace_runs.proofs.NeverStuck.StepShapes.{all-as}
+use Rattle.ace_runs.proofs.NeverStuck.Steps.StepShapes.{all-as}
 use Rattle.ace_runs.proofs.NeverStuck.Reads.TransfersKept.{implied_by}
-use Rattle.ace_runs.proofs.NeverStuck.StepEvents.{all-append}
+use Rattle.ace_runs.proofs.NeverStuck.Steps.StepEvents.{all-append}
 use Rattle.ace_runs.proofs.NeverStuck.Barriers.Acts.{is_barrier_operation}
 use Rattle.ace_runs.proofs.NeverStuck.Barriers.Asks.{all-no-line, all-weaker}
 use Rattle.ace_runs.proofs.NeverStuck.Barriers.GoesOn.{AsksBarrier, same-no-line}

@@ -18,8 +18,8 @@ use Rattle.ace_model.specs.Trace.{Trace, is_some_and}
 use Rattle.ace_model.specs.Transactions.{is_line, is_read, read_kind, write_kind}
 use Rattle.ace_model.specs.WriteRules.{data_of}
 use Rattle.ace_runs.specs.LineSteps.{memory_write, response}
-use Rattle.ace_runs.proofs.NeverStuck.StepEvents.{all-append}
-use Rattle.ace_runs.proofs.NeverStuck.StepShapes.{TellsSame}
+use Rattle.ace_runs.proofs.NeverStuck.Steps.StepEvents.{all-append}
+use Rattle.ace_runs.proofs.NeverStuck.Steps.StepShapes.{TellsSame}
 use Rattle.ace_runs.proofs.NeverStuck.Barriers.Asks.{all-weaker}
 use Rattle.ace_runs.proofs.NeverStuck.Barriers.Quiet.{is_quiet}
 

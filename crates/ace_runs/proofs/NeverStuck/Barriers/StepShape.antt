@@ -26,10 +26,10 @@ use Rattle.ace_runs.specs.OrderSteps.{barrier_burst, dvm_burst, pair_burst, plai
 use Rattle.ace_runs.specs.SameEvents.{same_burst}
 use Rattle.ace_runs.specs.Steps.{is_sound, is_step, may_give, steps, steps_of}
 use Rattle.ace_runs.proofs.Turns.{step-kept}
-use Rattle.ace_runs.proofs.NeverStuck.EvictsMove.{evicts-write}
-use Rattle.ace_runs.proofs.NeverStuck.StepEvents.{all-if, answers-answering, is_answering}
-use Rattle.ace_runs.proofs.NeverStuck.StepShapes.{all-as, forwards-all, of-any, snoops-all, updates_write}
-use Rattle.ace_runs.proofs.NeverStuck.UpdatesOrGranted.{updates-line}
+use Rattle.ace_runs.proofs.NeverStuck.Updates.EvictsMove.{evicts-write}
+use Rattle.ace_runs.proofs.NeverStuck.Steps.StepEvents.{all-if, answers-answering, is_answering}
+use Rattle.ace_runs.proofs.NeverStuck.Steps.StepShapes.{all-as, forwards-all, of-any, snoops-all, updates_write}
+use Rattle.ace_runs.proofs.NeverStuck.Updates.UpdatesOrGranted.{updates-line}
 use Rattle.ace_runs.proofs.NeverStuck.Barriers.Asks.{all-weaker}
 use Rattle.ace_runs.proofs.NeverStuck.Barriers.GoesOn.{GoesOn, goes-on-shape}
 use Rattle.ace_runs.proofs.NeverStuck.Barriers.Halves.{dvm-no-half, line-no-half}

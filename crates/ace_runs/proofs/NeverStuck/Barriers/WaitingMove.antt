@@ -24,8 +24,8 @@ use Rattle.ace_runs.specs.LineSteps.{grant_burst, is_first_to_wait, waits}
 use Rattle.ace_runs.specs.Steps.{AreSteps, is_enabled_by}
 use Rattle.ace_runs.proofs.Turns.{steps-accepted}
 use Rattle.ace_runs.proofs.NeverStuck.Barriers.EachIssued.{IsOldest, each-from, oldest}
-use Rattle.ace_runs.proofs.NeverStuck.UpdatesOrGranted.{granted-there}
-use Rattle.ace_runs.proofs.NeverStuck.WriterPorts.{issuer-low}
+use Rattle.ace_runs.proofs.NeverStuck.Updates.UpdatesOrGranted.{granted-there}
+use Rattle.ace_runs.proofs.NeverStuck.Updates.WriterPorts.{issuer-low}
 use Rattle.ace_runs.proofs.NeverStuck.Barriers.HoldNone.{past-barriers}
 
 three-kept : (a b c : Bool) → a ≡ true → b ≡ true → c ≡ true → is_none {T = ℕ} (if a then (if b then (if c then None else Some 35) else Some 12) else Some 1) ≡ true

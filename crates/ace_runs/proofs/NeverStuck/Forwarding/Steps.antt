@@ -34,9 +34,9 @@ use Rattle.ace_runs.specs.MasterSteps.{is_beat}
 use Rattle.ace_runs.specs.Operations.{next_operation}
 use Rattle.ace_runs.specs.OrderSteps.{barrier_burst, dvm_burst, forwards, pair_burst, sync_completion}
 use Rattle.ace_runs.specs.Steps.{is_sound, is_step, steps}
-use Rattle.ace_runs.proofs.NeverStuck.StepEvents.{acknowledges-masters, all-if, answers-answering, goes-on-masters, is_answering, is_masters}
-use Rattle.ace_runs.proofs.NeverStuck.StepShapes.{TellsSame, all-as, of-any, served-all}
-use Rattle.ace_runs.proofs.NeverStuck.WholeAnswers.{all-implied}
+use Rattle.ace_runs.proofs.NeverStuck.Steps.StepEvents.{acknowledges-masters, all-if, answers-answering, goes-on-masters, is_answering, is_masters}
+use Rattle.ace_runs.proofs.NeverStuck.Steps.StepShapes.{TellsSame, all-as, of-any, served-all}
+use Rattle.ace_runs.proofs.NeverStuck.Data.WholeAnswers.{all-implied}
 
 -- the event forwards no part of a message
 abbrev pub forwards_none : Event → Bool

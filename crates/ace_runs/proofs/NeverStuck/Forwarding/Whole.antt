@@ -27,9 +27,9 @@ use Rattle.ace_runs.specs.Segments.{is_at_port}
 use Rattle.ace_runs.specs.Steps.{AreSteps, is_step}
 use Rattle.ace_runs.proofs.Accepting.{accepted-after}
 use Rattle.ace_runs.proofs.Turns.{of-each-run, step-kept}
-use Rattle.ace_runs.proofs.NeverStuck.StepEvents.{all-if, all-map}
-use Rattle.ace_runs.proofs.NeverStuck.StepShapes.{TellsSame, all-by-ports, filtered-all, same-burst-all}
-use Rattle.ace_runs.proofs.NeverStuck.WholeAnswers.{same-length}
+use Rattle.ace_runs.proofs.NeverStuck.Steps.StepEvents.{all-if, all-map}
+use Rattle.ace_runs.proofs.NeverStuck.Steps.StepShapes.{TellsSame, all-by-ports, filtered-all, same-burst-all}
+use Rattle.ace_runs.proofs.NeverStuck.Data.WholeAnswers.{same-length}
 use Rattle.ace_runs.proofs.NeverStuck.Forwarding.Bursts.{grows, is_forwarding, still-between}
 use Rattle.ace_runs.proofs.NeverStuck.Forwarding.NextMessage.{IsBetweenMessages, NextMessage, next-begins, no-second-next, parts-start, point-of-last, same-message}
 use Rattle.ace_runs.proofs.NeverStuck.Forwarding.Steps.{forwards-by-one}

@@ -39,7 +39,7 @@ use Rattle.ace_runs.specs.MasterSteps.{completion_bursts, goes_on, moves}
 use Rattle.ace_runs.specs.Operations.{next_operation}
 use Rattle.ace_runs.specs.Requests.{Request, Reads, Misses, Writes, Drops, Barriers, Messages, and_part, barrier_halves, bursts_of, domain_for, drop_bursts, ends_or_asks, free_on, free_on_both, gives_up_first, has_room, is_waiting, moves_of, read_bursts, request_of, room_bursts, victim_bursts, write_bursts}
 use Rattle.ace_runs.specs.SameEvents.{same_burst}
-use Rattle.ace_runs.proofs.NeverStuck.StepEvents.{all-append, all-flat_map, all-flat_mapped, all-if, all-map, all-mapped}
+use Rattle.ace_runs.proofs.NeverStuck.Steps.StepEvents.{all-append, all-flat_map, all-flat_mapped, all-if, all-map, all-mapped}
 use Rattle.ace_runs.proofs.NeverStuck.Messages.WholeIssues.{closed-whole, closing-none, is_whole, issues_none, leads, leads-append, none-leads, same-leads, then-same}
 
 -- ---- requests ----------------------------------------------------------------------------------------

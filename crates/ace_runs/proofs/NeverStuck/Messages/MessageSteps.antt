@@ -25,9 +25,9 @@ use Rattle.ace_runs.specs.OrderSteps.{barrier_burst, dvm_burst, pair_burst, sync
 use Rattle.ace_runs.specs.Steps.{is_sound, is_step, may_give, steps, steps_of}
 use Rattle.ace_runs.proofs.Turns.{step-kept}
 use Rattle.ace_runs.proofs.NeverStuck.Barriers.Quiet.{acknowledges-quiet, is_quiet}
-use Rattle.ace_runs.proofs.NeverStuck.StepEvents.{all-append, all-if, answers-answering, is_answering}
-use Rattle.ace_runs.proofs.NeverStuck.StepShapes.{TellsSame, all-as, forwards-all, of-any, served-all, snoops-all}
-use Rattle.ace_runs.proofs.NeverStuck.WholeAnswers.{all-implied}
+use Rattle.ace_runs.proofs.NeverStuck.Steps.StepEvents.{all-append, all-if, answers-answering, is_answering}
+use Rattle.ace_runs.proofs.NeverStuck.Steps.StepShapes.{TellsSame, all-as, forwards-all, of-any, served-all, snoops-all}
+use Rattle.ace_runs.proofs.NeverStuck.Data.WholeAnswers.{all-implied}
 use Rattle.ace_runs.proofs.NeverStuck.Messages.WholeIssues.{issues_none}
 
 -- ---- events ------------------------------------------------------------------------------------------

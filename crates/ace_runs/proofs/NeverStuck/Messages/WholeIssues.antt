@@ -16,7 +16,7 @@ use Rattle.ace_runs.specs.Closing.{and_closing, closing_of}
 use Rattle.ace_runs.specs.SameEvents.{same_burst, same_event}
 use Rattle.ace_runs.specs.Segments.{is_at_port}
 use Rattle.ace_runs.proofs.NeverStuck.Barriers.Quiet.{closing-quiet, is_quiet}
-use Rattle.ace_runs.proofs.NeverStuck.WholeAnswers.{all-implied}
+use Rattle.ace_runs.proofs.NeverStuck.Data.WholeAnswers.{all-implied}
 
 -- the word of the part that the event issues
 abbrev pub word_issued : Event → ℕ

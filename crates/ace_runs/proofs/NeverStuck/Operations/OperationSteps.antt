@@ -21,7 +21,7 @@ use Rattle.ace_runs.specs.SameEvents.{same_burst}
 use Rattle.ace_runs.specs.Segments.{acts_made}
 use Rattle.ace_runs.specs.Steps.{AreSteps, is_enabled_by, is_sound, is_step_by}
 use Rattle.ace_runs.proofs.Turns.{steps-accepted}
-use Rattle.ace_runs.proofs.NeverStuck.StepEvents.{all-append, all-mapped}
+use Rattle.ace_runs.proofs.NeverStuck.Steps.StepEvents.{all-append, all-mapped}
 use Rattle.ace_runs.proofs.NeverStuck.Barriers.BothAnswered.{halves-together}
 use Rattle.ace_runs.proofs.NeverStuck.Messages.WholeMessages.{issues-whole}
 use Rattle.ace_runs.proofs.NeverStuck.Operations.SegmentOf.{no-half}

@@ -26,8 +26,8 @@ use Rattle.ace_runs.specs.SameEvents.{same_burst}
 use Rattle.ace_runs.specs.Segments.{acts_made}
 use Rattle.ace_runs.proofs.Accepting.{kept-breaks-none}
 use Rattle.ace_runs.proofs.NeverStuck.Barriers.Asks.{all-weaker}
-use Rattle.ace_runs.proofs.NeverStuck.StepEvents.{all-if}
-use Rattle.ace_runs.proofs.NeverStuck.StepShapes.{TellsSame, all-as}
+use Rattle.ace_runs.proofs.NeverStuck.Steps.StepEvents.{all-if}
+use Rattle.ace_runs.proofs.NeverStuck.Steps.StepShapes.{TellsSame, all-as}
 use Rattle.ace_runs.proofs.NeverStuck.Phases.Calm.{IsCalm, calm-keeps, may_end}
 use Rattle.ace_runs.proofs.NeverStuck.Phases.CalmEvents.{and-false, calm-burst, is_calm, outs-stay}
 use Rattle.ace_runs.proofs.NeverStuck.Phases.Endings.{ends_retired, retired-burst, retirement-ends, same-ends}

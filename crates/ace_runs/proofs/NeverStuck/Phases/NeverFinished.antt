@@ -34,8 +34,8 @@ use Rattle.ace_runs.specs.Steps.{AreSteps, is_sound, is_step, may_give, steps, s
 use Rattle.ace_runs.proofs.Accepting.{accepted-after}
 use Rattle.ace_runs.proofs.Turns.{of-each-run, step-kept}
 use Rattle.ace_runs.proofs.NeverStuck.Barriers.Asks.{all-weaker}
-use Rattle.ace_runs.proofs.NeverStuck.StepEvents.{all-append, all-if}
-use Rattle.ace_runs.proofs.NeverStuck.StepShapes.{TellsSame, all-as, forwards-all, of-any, served-all, snoops-all}
+use Rattle.ace_runs.proofs.NeverStuck.Steps.StepEvents.{all-append, all-if}
+use Rattle.ace_runs.proofs.NeverStuck.Steps.StepShapes.{TellsSame, all-as, forwards-all, of-any, served-all, snoops-all}
 use Rattle.ace_runs.proofs.NeverStuck.Phases.Acknowledged.{acknowledges-stay}
 use Rattle.ace_runs.proofs.NeverStuck.Phases.Answered.{answers-stay}
 use Rattle.ace_runs.proofs.NeverStuck.Phases.Calm.{may_end}

@@ -37,8 +37,8 @@ use Rattle.ace_runs.specs.Requests.{Request, Reads, Misses, Writes, Drops, Barri
 use Rattle.ace_runs.specs.Retiring.{may_retire, tells_completion}
 use Rattle.ace_runs.specs.SameEvents.{same_burst, same_event}
 use Rattle.ace_runs.specs.Segments.{is_at_port, is_in_segment}
-use Rattle.ace_runs.proofs.NeverStuck.StepEvents.{all-append, all-flat_map, all-flat_mapped, all-if, all-map, all-mapped}
-use Rattle.ace_runs.proofs.NeverStuck.StepShapes.{all-as}
+use Rattle.ace_runs.proofs.NeverStuck.Steps.StepEvents.{all-append, all-flat_map, all-flat_mapped, all-if, all-map, all-mapped}
+use Rattle.ace_runs.proofs.NeverStuck.Steps.StepShapes.{all-as}
 use Rattle.ace_runs.proofs.NeverStuck.Phases.CalmEvents.{acknowledged-of}
 use Rattle.ace_runs.proofs.NeverStuck.Phases.EqualEvents.{is_lineless}
 

@@ -23,7 +23,7 @@ use Rattle.ace_runs.specs.Retiring.{has_answered_completion, tells_completion, u
 use Rattle.ace_runs.specs.Segments.{acts_made}
 use Rattle.ace_runs.specs.Steps.{AreSteps, is_enabled_by}
 use Rattle.ace_runs.proofs.Turns.{steps-accepted}
-use Rattle.ace_runs.proofs.NeverStuck.EnabledBy.{enabled-by-more}
+use Rattle.ace_runs.proofs.NeverStuck.Steps.EnabledBy.{enabled-by-more}
 use Rattle.ace_runs.proofs.NeverStuck.Messages.OwedCompletions.{none-outstanding}
 use Rattle.ace_runs.proofs.NeverStuck.Phases.Finished.{all-made, retiring-enabled}
 use Rattle.ace_runs.proofs.NeverStuck.Phases.SyncsIssued.{sync-issued}

@@ -19,7 +19,7 @@ use Rattle.ace_model.proofs.Trace.Looks.{is_read-is}
 use Rattle.ace_runs.specs.Bursts.{serves}
 use Rattle.ace_runs.specs.LineSteps.{response_bits, takes_dirt}
 use Rattle.ace_runs.specs.SameEvents.{same_burst, same_event}
-use Rattle.ace_runs.proofs.NeverStuck.StepShapes.{all-as}
+use Rattle.ace_runs.proofs.NeverStuck.Steps.StepShapes.{all-as}
 
 -- no transfer
 abbrev pub is_other : Event → Bool

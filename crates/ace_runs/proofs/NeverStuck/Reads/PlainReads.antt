@@ -34,7 +34,7 @@ use Rattle.ace_runs.proofs.NeverStuck.Reads.PlainTransfers.{no-line}
 use Rattle.ace_runs.proofs.NeverStuck.Reads.ReadsMove.{no-first}
 use Rattle.ace_runs.proofs.NeverStuck.Reads.TransfersKept.{transfer-kept}
 use Rattle.ace_runs.proofs.NeverStuck.Reads.TransfersLeft.{transfers-left}
-use Rattle.ace_runs.proofs.NeverStuck.WriterPorts.{issuer-low}
+use Rattle.ace_runs.proofs.NeverStuck.Updates.WriterPorts.{issuer-low}
 
 -- ---- kinds without a line ----------------------------------------------------------------------------
 

@@ -27,8 +27,8 @@ use Rattle.ace_runs.specs.LineSteps.{can_take, is_last_beat, next_word, response
 use Rattle.ace_runs.specs.Steps.{AreSteps, is_enabled_by}
 use Rattle.ace_runs.proofs.Turns.{steps-accepted}
 use Rattle.ace_runs.proofs.NeverStuck.Transactions.PassedDataMove.{passed-whole}
-use Rattle.ace_runs.proofs.NeverStuck.UpdatesOrGranted.{HasLine}
-use Rattle.ace_runs.proofs.NeverStuck.WriterPorts.{issuer-low}
+use Rattle.ace_runs.proofs.NeverStuck.Updates.UpdatesOrGranted.{HasLine}
+use Rattle.ace_runs.proofs.NeverStuck.Updates.WriterPorts.{issuer-low}
 use Rattle.ace_runs.proofs.NeverStuck.Reads.FirstTransfers.{firsts-say}
 use Rattle.ace_runs.proofs.NeverStuck.Reads.TransfersKept.{GoesOn, next-kept, response-says, same_test-self}
 use Rattle.ace_runs.proofs.NeverStuck.Reads.TransfersLeft.{transfers-left}

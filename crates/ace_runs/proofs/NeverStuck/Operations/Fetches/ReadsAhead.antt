@@ -25,7 +25,7 @@ use Rattle.ace_runs.specs.SameEvents.{same_burst, same_event}
 use Rattle.ace_runs.specs.Segments.{is_for_operation, is_read_of, segment}
 use Rattle.ace_runs.specs.Steps.{AreSteps, is_step}
 use Rattle.ace_runs.proofs.Turns.{of-each-run}
-use Rattle.ace_runs.proofs.NeverStuck.StepShapes.{TellsSame, same-burst-all}
+use Rattle.ace_runs.proofs.NeverStuck.Steps.StepShapes.{TellsSame, same-burst-all}
 use Rattle.ace_runs.proofs.NeverStuck.Barriers.GoesOn.{same-ar}
 use Rattle.ace_runs.proofs.NeverStuck.Operations.Fits.Asking.{FetchesAsAsked}
 use Rattle.ace_runs.proofs.NeverStuck.Operations.Places.{completion-there}

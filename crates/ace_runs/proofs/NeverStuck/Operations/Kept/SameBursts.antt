@@ -13,7 +13,7 @@ use Rattle.ace_tables.specs.States.{same_state}
 use Rattle.ace_model.specs.Transactions.{same_channel}
 use Rattle.ace_runs.specs.SameEvents.{same_burst, same_event, same_outcome}
 use Rattle.ace_runs.proofs.NeverStuck.Reads.TransfersKept.{same_test-self}
-use Rattle.ace_runs.proofs.NeverStuck.UpdatesMove.{same-line-self}
+use Rattle.ace_runs.proofs.NeverStuck.Updates.UpdatesMove.{same-line-self}
 
 own : (n : ℕ) → (n == n) ≡ true
 own n = eq-eqb n n refl

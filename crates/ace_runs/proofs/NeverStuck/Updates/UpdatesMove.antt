@@ -35,9 +35,9 @@ use Rattle.ace_runs.specs.Steps.{AreSteps, is_enabled_by}
 use Rattle.ace_runs.proofs.Few.Beats.{beats-counted}
 use Rattle.ace_runs.proofs.Turns.{steps-accepted}
 use Rattle.ace_runs.proofs.NeverStuck.Acknowledges.{complete-due}
-use Rattle.ace_runs.proofs.NeverStuck.StepShapes.{updates_write}
-use Rattle.ace_runs.proofs.NeverStuck.WholeBursts.{bursts-whole}
-use Rattle.ace_runs.proofs.NeverStuck.WritesAnswered.{writes-answered}
+use Rattle.ace_runs.proofs.NeverStuck.Steps.StepShapes.{updates_write}
+use Rattle.ace_runs.proofs.NeverStuck.Data.WholeBursts.{bursts-whole}
+use Rattle.ace_runs.proofs.NeverStuck.Data.WritesAnswered.{writes-answered}
 
 -- An outstanding memory update of the port on the line.
 pub record IsUpdate (h : Header) (past : Trace) (p l : ℕ) (x : Transaction) : Type 0 where

@@ -11,7 +11,7 @@ use Rattle.ace_model.specs.Snoops.{data_answers, data_beats}
 use Rattle.ace_model.specs.Trace.{Trace}
 use Rattle.ace_model.proofs.General.Options.{is_some_and-is, newer-cases, some_if-is}
 use Rattle.ace_runs.specs.Steps.{AreSteps}
-use Rattle.ace_runs.proofs.NeverStuck.WholeAnswers.{answers-whole}
+use Rattle.ace_runs.proofs.NeverStuck.Data.WholeAnswers.{answers-whole}
 
 data-answers-grow : (e : Event) (past : Trace) (p : ℕ) → data_answers past p ≤ data_answers (e ∷ past) p
 data-answers-grow (Cr q resp st) past p =

@@ -38,8 +38,8 @@ use Rattle.ace_runs.specs.Steps.{AreSteps, is_step}
 use Rattle.ace_runs.proofs.Accepting.{accepted-after, kept-breaks-none}
 use Rattle.ace_runs.proofs.Turns.{of-each-run, step-kept}
 use Rattle.ace_runs.proofs.NeverStuck.Rows.{has-kind}
-use Rattle.ace_runs.proofs.NeverStuck.StepEvents.{all-if}
-use Rattle.ace_runs.proofs.NeverStuck.StepShapes.{WritesFor, is_plain, step-shape}
+use Rattle.ace_runs.proofs.NeverStuck.Steps.StepEvents.{all-if}
+use Rattle.ace_runs.proofs.NeverStuck.Steps.StepShapes.{WritesFor, is_plain, step-shape}
 
 -- each port has four beats of snoop data for each of its answers that announce them
 abbrev pub AreAnswersWhole : Trace → Type 0

@@ -32,8 +32,8 @@ use Rattle.ace_runs.specs.MasterSteps.{after_answer, answers_snoop, acknowledges
 use Rattle.ace_runs.specs.Requests.{Request, Reads, Misses, Writes, Drops, Barriers, Messages, with_identifier, read_bursts, write_bursts, and_part, drop_bursts, victim_bursts, room_bursts, has_room, bursts_of, free_on, free_on_both, is_waiting, request_of, ends_or_asks, moves_of}
 use Rattle.ace_runs.specs.Retiring.{tells_completion}
 use Rattle.ace_runs.specs.SameEvents.{same_event, same_burst}
-use Rattle.ace_runs.proofs.NeverStuck.Concluding.{Concludes, acknowledges-all, and-closing-all, closing-all}
-pub use Rattle.ace_runs.proofs.NeverStuck.Concluding.{all-append, all-flat_map, all-flat_mapped, all-if, all-map, all-mapped}
+use Rattle.ace_runs.proofs.NeverStuck.Steps.Concluding.{Concludes, acknowledges-all, and-closing-all, closing-all}
+pub use Rattle.ace_runs.proofs.NeverStuck.Steps.Concluding.{all-append, all-flat_map, all-flat_mapped, all-if, all-map, all-mapped}
 
 -- an event of a master, but write data and answers to snoops
 abbrev pub is_masters : Event → Bool

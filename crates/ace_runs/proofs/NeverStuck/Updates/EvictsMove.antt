@@ -25,7 +25,7 @@ use Rattle.ace_runs.specs.Bursts.{is_kept, may_begin, may_serve}
 use Rattle.ace_runs.specs.LineSteps.{memory_write, response, update_burst}
 use Rattle.ace_runs.specs.Steps.{AreSteps, is_enabled_by}
 use Rattle.ace_runs.proofs.Turns.{steps-accepted}
-use Rattle.ace_runs.proofs.NeverStuck.WriterPorts.{issuer-low}
+use Rattle.ace_runs.proofs.NeverStuck.Updates.WriterPorts.{issuer-low}
 
 three-kept : (a b c : Bool) → a ≡ true → b ≡ true → c ≡ true → is_none {T = ℕ} (if a then (if b then (if c then None else Some 34) else Some 26) else Some 1) ≡ true
 three-kept true true true x y z = refl

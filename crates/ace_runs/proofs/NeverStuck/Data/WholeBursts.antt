@@ -19,8 +19,8 @@ use Rattle.ace_runs.specs.SameEvents.{same_burst, same_event}
 use Rattle.ace_runs.specs.Steps.{AreSteps, is_step}
 use Rattle.ace_runs.proofs.Few.Ports.{at_port}
 use Rattle.ace_runs.proofs.Turns.{of-each-run}
-use Rattle.ace_runs.proofs.NeverStuck.StepEvents.{answers-answering, is_answering}
-use Rattle.ace_runs.proofs.NeverStuck.StepShapes.{WritesFor, are_plain, is_plain, step-shape}
+use Rattle.ace_runs.proofs.NeverStuck.Steps.StepEvents.{answers-answering, is_answering}
+use Rattle.ace_runs.proofs.NeverStuck.Steps.StepShapes.{WritesFor, are_plain, is_plain, step-shape}
 
 -- how many beats of write data the port has
 abbrev pub beats_of_port : Trace → ℕ → ℕ

@@ -35,7 +35,7 @@ use Rattle.ace_runs.specs.Segments.{is_at_port}
 use Rattle.ace_runs.specs.Steps.{StepKind, is_sound, is_step, may_give, steps, steps_of}
 use Rattle.ace_runs.proofs.Accepting.{kept-breaks-none}
 use Rattle.ace_runs.proofs.Turns.{step-kept}
-use Rattle.ace_runs.proofs.NeverStuck.StepEvents.{are_masters, is_masters, all-if, all-map, acknowledges-masters, goes-on-masters}
+use Rattle.ace_runs.proofs.NeverStuck.Steps.StepEvents.{are_masters, is_masters, all-if, all-map, acknowledges-masters, goes-on-masters}
 
 -- neither write data nor an answer to a snoop nor its data nor a write of memory
 abbrev pub is_plain : Event → Bool

@@ -21,8 +21,8 @@ use Rattle.ace_runs.specs.MasterSteps.{is_beat}
 use Rattle.ace_runs.specs.SameEvents.{same_burst, same_event}
 use Rattle.ace_runs.specs.Steps.{AreSteps, is_step}
 use Rattle.ace_runs.proofs.Turns.{of-each-run}
-use Rattle.ace_runs.proofs.NeverStuck.StepEvents.{answers-answering, is_answering}
-use Rattle.ace_runs.proofs.NeverStuck.StepShapes.{WritesFor, are_plain, is_plain, plain-as, step-shape}
+use Rattle.ace_runs.proofs.NeverStuck.Steps.StepEvents.{answers-answering, is_answering}
+use Rattle.ace_runs.proofs.NeverStuck.Steps.StepShapes.{WritesFor, are_plain, is_plain, plain-as, step-shape}
 
 -- a write that has written memory has its response
 abbrev pub AreWritesAnswered : Trace → Type 0
