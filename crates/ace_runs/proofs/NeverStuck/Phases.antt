@@ -28,8 +28,6 @@ pub mod SyncsOfNext
 pub mod Calm
 -- Which these are.
 pub mod CalmEvents
--- The same events are equal.
-pub mod EqualEvents
 -- Bursts that end operations.
 pub mod Endings
 -- Step 4 ends the operation, if it can end.

@@ -1,5 +1,11 @@
 -- What each step gives, and which steps a port is enabled by.
 
+-- What passes of each element of a list.
+pub mod Lists
+-- Events that are the same are equal but for their lines.
+pub mod SameEvents
+-- Bursts of the same events.
+pub mod SameBursts
 -- What ends an operation, and what acknowledges.
 pub mod Concluding
 -- Which events each step gives.

@@ -3,7 +3,7 @@
 use Rattle.std.proofs.Common.{◌≡◌, ℕ, Bool, true, false, not, ◌&&◌, ◌||◌, ◌==◌, if◌then◌else◌, List, [], ◌∷◌, ◌++◌, filter, is_none, refl}
 use Rattle.std.specs.List.{list_all, flat_map}
 use Rattle.std.specs.Option.{option_to_list}
-use Rattle.std.proofs.lemmas.Bool.{and_parts, and_from, eq-eqb}
+use Rattle.std.proofs.lemmas.Bool.{and_from, eq-eqb}
 use Rattle.ace_codes.specs.declared.kind.ArKind.{ArKind}
 use Rattle.ace_codes.specs.declared.kind.ArKind.TheVariants as read
 use Rattle.ace_codes.specs.declared.kind.AwKind.{AwKind}
@@ -27,20 +27,15 @@ use Rattle.ace_runs.specs.Bursts.{onto}
 use Rattle.ace_runs.specs.Closing.{and_closing, closing_of, state_named}
 use Rattle.ace_runs.specs.HeldLines.{held_lines}
 use Rattle.ace_runs.specs.Requests.{Request, Reads, Misses, Writes, Drops, Barriers, Messages, and_part, bursts_of, domain_for, drop_bursts, ends_or_asks, free_on, gives_up_first, has_room, is_waiting, moves_of, read_bursts, request_of, room_bursts, victim_bursts, write_bursts}
-use Rattle.ace_runs.proofs.NeverStuck.Steps.StepEvents.{all-append, all-flat_map, all-flat_mapped, all-if, all-map, all-mapped}
+use Rattle.ace_runs.proofs.NeverStuck.Steps.Lists.{all-append, all-flat_map, all-flat_mapped, all-if, all-implied, all-map, all-mapped}
 use Rattle.ace_runs.proofs.NeverStuck.Barriers.Acts.{is_barrier_operation}
 use Rattle.ace_runs.proofs.NeverStuck.Barriers.Quiet.{closing-quiet, is_ordinary, is_quiet, issues_no_line, quiet-ordinary, quiet-no-line}
 
-pub all-weaker : (test later : Event → Bool) → ((e : Event) → test e ≡ true → later e ≡ true) → (burst : List Event) → list_all test burst ≡ true → list_all later burst ≡ true
-all-weaker test later each [] m = refl
-all-weaker test later each (e ∷ burst) m =
-    let parts = and_parts (test e) (list_all test burst) m in and_from _ _ (each e parts.0) (all-weaker test later each burst parts.1)
-
 pub all-ordinary : (p : ℕ) (burst : List Event) → list_all is_quiet burst ≡ true → list_all (is_ordinary p) burst ≡ true
-all-ordinary p burst m = all-weaker is_quiet (is_ordinary p) (quiet-ordinary p) burst m
+all-ordinary p burst m = all-implied is_quiet (is_ordinary p) (quiet-ordinary p) burst m
 
 pub all-no-line : (burst : List Event) → list_all is_quiet burst ≡ true → list_all issues_no_line burst ≡ true
-all-no-line burst m = all-weaker is_quiet issues_no_line quiet-no-line burst m
+all-no-line burst m = all-implied is_quiet issues_no_line quiet-no-line burst m
 
 -- ---- what an operation that is no barrier asks for ---------------------------------------------------
 

@@ -9,7 +9,7 @@ use Rattle.ace_model.specs.Trace.{Trace, is_none_or}
 use Rattle.ace_model.specs.Transactions.{is_line, issued}
 use Rattle.ace_runs.specs.Closing.{closing_of}
 use Rattle.ace_runs.specs.MasterSteps.{acknowledges}
-use Rattle.ace_runs.proofs.NeverStuck.Steps.StepShapes.{TellsSame, all-as}
+use Rattle.ace_runs.proofs.NeverStuck.Steps.SameEvents.{TellsSame, tells-same}
 use Rattle.ace_runs.proofs.NeverStuck.Steps.Concluding.{Concludes, acknowledges-all, closing-all}
 
 -- the event issues no transaction, and no response
@@ -45,19 +45,7 @@ quiet-no-line (Aw q i addr snoop dom bar) m = cc
 quiet-no-line e m = refl
 
 pub same-quiet : TellsSame is_quiet
-same-quiet (Ar p i a s d b l) (Ar q j c t e f n) same = refl
-same-quiet (Ar p i a s d b l) e same = cc
-same-quiet (Aw p i a s d b) (Aw q j c t e f) same = refl
-same-quiet (Aw p i a s d b) e same = cc
-same-quiet (R p i resp last word) (R q j r l w) same = refl
-same-quiet (R p i resp last word) e same = cc
-same-quiet (B p i resp) (B q j r) same = refl
-same-quiet (B p i resp) e same = cc
-same-quiet e (Ar p i a s d b l) same = cc
-same-quiet e (Aw p i a s d b) same = cc
-same-quiet e (R p i resp last word) same = cc
-same-quiet e (B p i resp) same = cc
-same-quiet d e same = refl
+same-quiet = tells-same is_quiet (λ p c i line. refl) (λ p a s x line. refl) (λ a line. refl)
 
 -- ---- what ends an operation, and what acknowledges ---------------------------------------------------
 
@@ -68,4 +56,4 @@ pub closing-quiet : (h : Header) (past : Trace) (p : ℕ) (o : Op) → list_all 
 closing-quiet h past p o = closing-all is_quiet quiet-concludes h past p o
 
 pub acknowledges-quiet : (next : Option Op) (h : Header) (past : Trace) (p : ℕ) (burst : List Event) → acknowledges next h past p burst ≡ true → list_all is_quiet burst ≡ true
-acknowledges-quiet next h past p burst s = acknowledges-all is_quiet quiet-concludes (all-as is_quiet same-quiet) next h past p burst s
+acknowledges-quiet next h past p burst s = acknowledges-all is_quiet quiet-concludes same-quiet next h past p burst s

@@ -26,11 +26,12 @@ use Rattle.ace_runs.specs.OrderSteps.{barrier_burst, dvm_burst, pair_burst, plai
 use Rattle.ace_runs.specs.SameEvents.{same_burst}
 use Rattle.ace_runs.specs.Steps.{is_sound, is_step, may_give, steps, steps_of}
 use Rattle.ace_runs.proofs.Turns.{step-kept}
+use Rattle.ace_runs.proofs.NeverStuck.Steps.SameBursts.{all-as}
+use Rattle.ace_runs.proofs.NeverStuck.Steps.Lists.{all-if, all-implied}
 use Rattle.ace_runs.proofs.NeverStuck.Updates.EvictsMove.{evicts-write}
-use Rattle.ace_runs.proofs.NeverStuck.Steps.StepEvents.{all-if, answers-answering, is_answering}
-use Rattle.ace_runs.proofs.NeverStuck.Steps.StepShapes.{all-as, forwards-all, of-any, snoops-all, updates_write}
+use Rattle.ace_runs.proofs.NeverStuck.Steps.StepEvents.{answers-answering, is_answering}
+use Rattle.ace_runs.proofs.NeverStuck.Steps.StepShapes.{forwards-all, of-any, snoops-all, updates_write}
 use Rattle.ace_runs.proofs.NeverStuck.Updates.UpdatesOrGranted.{updates-line}
-use Rattle.ace_runs.proofs.NeverStuck.Barriers.Asks.{all-weaker}
 use Rattle.ace_runs.proofs.NeverStuck.Barriers.GoesOn.{GoesOn, goes-on-shape}
 use Rattle.ace_runs.proofs.NeverStuck.Barriers.Halves.{dvm-no-half, line-no-half}
 use Rattle.ace_runs.proofs.NeverStuck.Barriers.Quiet.{acknowledges-quiet, is_quiet, same-quiet}
@@ -182,5 +183,5 @@ order-shape plan past p burst s =
     let next = next_operation plan past p in
     let sound = and_parts (is_sound h past burst) (list_any (may_give h past p burst) (steps_of plan past p)) s in
     of-any h past p burst (OrderShape plan past p burst) (steps plan.ways next)
-    ((λ g. inl (all-weaker is_answering is_quiet answering-quiet burst (answers-answering h past p burst g))), ((λ g. inl (all-weaker (is_beat p) is_quiet (beat-quiet p) burst (and_parts (list_all (is_beat p) burst) (length burst == 4) g).0)), ((λ g. updates-shape plan past p burst (served update_burst h past p burst g)), ((λ g. inl (acknowledges-quiet next h past p burst g)), ((λ g. quiet-served plan past p burst grant_burst (served grant_burst h past p burst g) (λ x. all-if is_quiet (takes_grant x && is_first_to_wait h past x) _ [] refl refl)), ((λ g. inl (snoops-all is_quiet snoop-quiet h past p burst g)), ((λ g. quiet-served plan past p burst passed_burst (served passed_burst h past p burst g) (λ x. all-if is_quiet (is_read x.chan && has_passed_data h past x && not (takes_dirt h past x)) _ [] (written-quiet x (data_of h past x)) refl)), ((λ g. transfer-shape plan past p burst (served transfer_burst h past p burst g)), ((λ g. write-shape plan past p burst (served write_burst h past p burst g)), ((λ g. barrier-shape plan past p burst (served barrier_burst h past p burst g)), ((λ g. inl (forwards-all is_quiet same-quiet no-port-quiet (λ q addr code. refl) h past p burst (step-kept plan past p burst s) g)), ((λ g. dvm-shape plan past p burst (served dvm_burst h past p burst g)), ((λ g. inl (all-as is_quiet same-quiet (sync_completion p) burst g refl)), ((λ g. inr (inr (inr (goes-on-shape plan.ways next h past p burst g)))), tt))))))))))))))
+    ((λ g. inl (all-implied is_answering is_quiet answering-quiet burst (answers-answering h past p burst g))), ((λ g. inl (all-implied (is_beat p) is_quiet (beat-quiet p) burst (and_parts (list_all (is_beat p) burst) (length burst == 4) g).0)), ((λ g. updates-shape plan past p burst (served update_burst h past p burst g)), ((λ g. inl (acknowledges-quiet next h past p burst g)), ((λ g. quiet-served plan past p burst grant_burst (served grant_burst h past p burst g) (λ x. all-if is_quiet (takes_grant x && is_first_to_wait h past x) _ [] refl refl)), ((λ g. inl (snoops-all is_quiet snoop-quiet h past p burst g)), ((λ g. quiet-served plan past p burst passed_burst (served passed_burst h past p burst g) (λ x. all-if is_quiet (is_read x.chan && has_passed_data h past x && not (takes_dirt h past x)) _ [] (written-quiet x (data_of h past x)) refl)), ((λ g. transfer-shape plan past p burst (served transfer_burst h past p burst g)), ((λ g. write-shape plan past p burst (served write_burst h past p burst g)), ((λ g. barrier-shape plan past p burst (served barrier_burst h past p burst g)), ((λ g. inl (forwards-all is_quiet same-quiet no-port-quiet (λ q addr code. refl) h past p burst (step-kept plan past p burst s) g)), ((λ g. dvm-shape plan past p burst (served dvm_burst h past p burst g)), ((λ g. inl (all-as is_quiet same-quiet (sync_completion p) burst g refl)), ((λ g. inr (inr (inr (goes-on-shape plan.ways next h past p burst g)))), tt))))))))))))))
     sound.1

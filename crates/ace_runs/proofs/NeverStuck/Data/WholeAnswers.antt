@@ -13,7 +13,7 @@ use Rattle.ace_event.specs.declared.event.Event.TheVariants.{Cr, Cd, M}
 use Rattle.ace_event.specs.declared.event.Outcome.TheVariants.{Ok}
 use Rattle.ace_event.specs.declared.header.Header.{Header}
 use Rattle.ace_event.specs.declared.line.Line.{Line}
-use Rattle.ace_tables.specs.Answers.{is_snoop_row, same_test}
+use Rattle.ace_tables.specs.Answers.{is_snoop_row}
 use Rattle.ace_tables.specs.States.{is_invalid}
 use Rattle.ace_model.specs.declared.snoops.Snoop.{Snoop}
 use Rattle.ace_model.specs.declared.transactions.Transaction.{Transaction}
@@ -33,12 +33,14 @@ use Rattle.ace_runs.specs.Closing.{retirement}
 use Rattle.ace_runs.specs.LineSteps.{memory_write, response}
 use Rattle.ace_runs.specs.MasterSteps.{after_answer, answers_snoop, data_burst, is_beat}
 use Rattle.ace_runs.specs.Retiring.{tells_completion}
-use Rattle.ace_runs.specs.SameEvents.{same_burst, same_event}
+use Rattle.ace_runs.specs.SameEvents.{same_burst}
 use Rattle.ace_runs.specs.Steps.{AreSteps, is_step}
 use Rattle.ace_runs.proofs.Accepting.{accepted-after, kept-breaks-none}
 use Rattle.ace_runs.proofs.Turns.{of-each-run, step-kept}
+use Rattle.ace_runs.proofs.NeverStuck.Steps.SameBursts.{all-as, same-length}
+use Rattle.ace_runs.proofs.NeverStuck.Steps.SameEvents.{TellsSame, tells-same}
+use Rattle.ace_runs.proofs.NeverStuck.Steps.Lists.{all-if, all-implied}
 use Rattle.ace_runs.proofs.NeverStuck.Rows.{has-kind}
-use Rattle.ace_runs.proofs.NeverStuck.Steps.StepEvents.{all-if}
 use Rattle.ace_runs.proofs.NeverStuck.Steps.StepShapes.{WritesFor, is_plain, step-shape}
 
 -- each port has four beats of snoop data for each of its answers that announce them
@@ -64,11 +66,6 @@ all-quiet-kept (e ∷ burst) past whole quiet =
     let parts = and_parts (is_quiet e) (list_all is_quiet burst) quiet in
     all-quiet-kept burst (e ∷ past) (quiet-kept e past whole parts.0) parts.1
 
-pub all-implied : (test later : Event → Bool) → ((e : Event) → test e ≡ true → later e ≡ true) → (burst : List Event) → list_all test burst ≡ true → list_all later burst ≡ true
-all-implied test later each [] m = refl
-all-implied test later each (e ∷ burst) m =
-    let parts = and_parts (test e) (list_all test burst) m in and_from _ _ (each e parts.0) (all-implied test later each burst parts.1)
-
 plain-quiet : (e : Event) → is_plain e ≡ true → is_quiet e ≡ true
 plain-quiet (Cr p resp st) m = cc
 plain-quiet (Cd p last word) m = cc
@@ -82,28 +79,8 @@ beat-quiet q e m = refl
 -- ---- the same bursts ---------------------------------------------------------------------------------
 
 -- what passes the test passes it as the same burst
-all-same : (test : Event → Bool) → ((d e : Event) → same_event d e ≡ true → test d ≡ true → test e ≡ true)
-    → (ds es : List Event) → same_burst ds es ≡ true → list_all test ds ≡ true → list_all test es ≡ true
-all-same test each [] [] s m = refl
-all-same test each [] (e ∷ es) s m = cc
-all-same test each (d ∷ ds) [] s m = cc
-all-same test each (d ∷ ds) (e ∷ es) s m =
-    let same = and_parts (same_event d e) (same_burst ds es) s in
-    let of = and_parts (test d) (list_all test ds) m in
-    and_from _ _ (each d e same.0 of.0) (all-same test each ds es same.1 of.1)
-
-pub same-length : (ds es : List Event) → same_burst ds es ≡ true → length es ≡ length ds
-same-length [] [] s = refl
-same-length [] (e ∷ es) s = cc
-same-length (d ∷ ds) [] s = cc
-same-length (d ∷ ds) (e ∷ es) s = let l = same-length ds es (and_parts (same_event d e) (same_burst ds es) s).1 in omega (arith, l)
-
-same-quiet : (d e : Event) → same_event d e ≡ true → is_quiet d ≡ true → is_quiet e ≡ true
-same-quiet (Cr q resp st) e s m = cc
-same-quiet (Cd q last word) e s m = cc
-same-quiet d (Cr p resp st) s m = cc
-same-quiet d (Cd p last word) s m = cc
-same-quiet d e s m = refl
+same-quiet : TellsSame is_quiet
+same-quiet = tells-same is_quiet (λ p c i line. refl) (λ p a s x line. refl) (λ a line. refl)
 
 written-quiet : (x : Transaction) (o : Option Line) → list_all is_quiet (map (λ line. M x.port x.chan x.id line) (option_to_list o)) ≡ true
 written-quiet x None = refl
@@ -114,8 +91,8 @@ responded-quiet x None = refl
 responded-quiet x (Some line) = refl
 
 writes-quiet : (h : Header) (past : Trace) (burst : List Event) (x : Transaction) → WritesFor h past burst x → list_all is_quiet burst ≡ true
-writes-quiet h past burst x (inl w) = all-same is_quiet same-quiet (memory_write h past x ++ response x) burst w.1 (responded-quiet x (data_of h past x))
-writes-quiet h past burst x (inr w) = all-same is_quiet same-quiet (memory_write h past x) burst w.1 (written-quiet x (data_of h past x))
+writes-quiet h past burst x (inl w) = all-as is_quiet same-quiet (memory_write h past x ++ response x) burst w.1 (responded-quiet x (data_of h past x))
+writes-quiet h past burst x (inr w) = all-as is_quiet same-quiet (memory_write h past x) burst w.1 (written-quiet x (data_of h past x))
 
 -- ---- the beats of an answer --------------------------------------------------------------------------
 
@@ -124,12 +101,8 @@ abbrev is_data : ℕ → Event → Bool
 is_data q (Cd p last word) = q == p
 is_data q _ = false
 
-same-data : (q : ℕ) (d e : Event) → same_event d e ≡ true → is_data q d ≡ true → is_data q e ≡ true
-same-data q (Cd p last word) (Cd r first half) s m =
-    let port = eqb-true p r (and_parts (p == r) (same_test last first) (and_parts ((p == r) && same_test last first) (word == half) s).0).0 in
-    eq-eqb q r (eqb-true q p m ∙ port)
-same-data q (Cd p last word) e s m = cc
-same-data q d e s m = cc
+same-data : (q : ℕ) → TellsSame (is_data q)
+same-data q = tells-same (is_data q) (λ p c i line. refl) (λ p a s x line. refl) (λ a line. refl)
 
 data-of-port : (e : Event) (past : Trace) (q p : ℕ) → is_data q e ≡ true → (p == q) ≡ true → data_beats (e ∷ past) p ≡ data_beats past p + 1
 data-of-port (Cd r last word) past q p m same = let one = eqb-true q r m in rw (← one, same) refl
@@ -174,7 +147,7 @@ with-data : (past : Trace) (q resp : ℕ) (st : LineState) (line : Line) (rest :
     → same_burst (data_burst q line) rest ≡ true → AreAnswersWhole (onto rest (Cr q resp st ∷ past))
 with-data past q resp st line rest whole sends s p =
     let sent : list_all (is_data q) (data_burst q line) ≡ true = rw (eq-eqb q q refl) refl in
-    let sent_data = all-same (is_data q) (same-data q) (data_burst q line) rest s sent in
+    let sent_data = all-as (is_data q) (same-data q) (data_burst q line) rest s sent in
     let four : length rest ≡ 4 = same-length (data_burst q line) rest s in
     let count = all-answers-same rest (Cr q resp st ∷ past) q p sent_data in
     let before = whole p in
@@ -219,7 +192,7 @@ kept-by-answer h past p resp st rest a whole row same =
     elim (cases_Bool (transfers_data resp)) [
       | inr none ↦
           all-quiet-kept rest (Cr p resp st ∷ past) (without-data past p resp st whole none)
-          (all-same is_quiet same-quiet (after_answer past p s.0 resp) rest s.2 (after-quiet past p s.0 resp none))
+          (all-as is_quiet same-quiet (after_answer past p s.0 resp) rest s.2 (after-quiet past p s.0 resp none))
       | inl sends ↦
           let k = some_is (ac_kind_of s.0.snoop) (has-kind h past p (answers past p) s.0 a s.1) in
           let by_row = is_none_or-at (answered past p) (answers_by_row h past p resp st) s.0 row s.1 in

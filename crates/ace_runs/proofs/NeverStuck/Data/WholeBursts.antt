@@ -2,7 +2,7 @@
 use Rattle.std.proofs.Common.{◌≡◌, ℕ, ◌+◌, ◌*◌, true, false, not, ◌==◌, List, [], ◌∷◌, ◌++◌, length, map, Option, Some, None, inl, inr, refl, ap, ◌∙◌, arith}
 use Rattle.std.specs.List.{list_all}
 use Rattle.std.specs.Option.{option_to_list}
-use Rattle.std.proofs.lemmas.Bool.{and_parts, and_from, cases_Bool, eqb-true}
+use Rattle.std.proofs.lemmas.Bool.{and_parts, cases_Bool, eqb-true}
 use Rattle.ace_event.specs.declared.event.Event.{Event}
 use Rattle.ace_event.specs.declared.event.Event.TheVariants.{W, M}
 use Rattle.ace_event.specs.declared.header.Header.{Header}
@@ -15,12 +15,14 @@ use Rattle.ace_runs.specs.Bursts.{onto}
 use Rattle.ace_runs.specs.Counts.{counted, is_write_beat}
 use Rattle.ace_runs.specs.LineSteps.{memory_write, response}
 use Rattle.ace_runs.specs.MasterSteps.{is_beat, sends}
-use Rattle.ace_runs.specs.SameEvents.{same_burst, same_event}
 use Rattle.ace_runs.specs.Steps.{AreSteps, is_step}
 use Rattle.ace_runs.proofs.Few.Ports.{at_port}
 use Rattle.ace_runs.proofs.Turns.{of-each-run}
+use Rattle.ace_runs.proofs.NeverStuck.Steps.SameBursts.{all-as}
+use Rattle.ace_runs.proofs.NeverStuck.Steps.SameEvents.{TellsSame, tells-same}
+use Rattle.ace_runs.proofs.NeverStuck.Steps.Lists.{all-implied}
 use Rattle.ace_runs.proofs.NeverStuck.Steps.StepEvents.{answers-answering, is_answering}
-use Rattle.ace_runs.proofs.NeverStuck.Steps.StepShapes.{WritesFor, are_plain, is_plain, step-shape}
+use Rattle.ace_runs.proofs.NeverStuck.Steps.StepShapes.{WritesFor, is_plain, step-shape}
 
 -- how many beats of write data the port has
 abbrev pub beats_of_port : Trace → ℕ → ℕ
@@ -46,32 +48,12 @@ plain-no-beat : (e : Event) → is_plain e ≡ true → not (is_write_beat e) �
 plain-no-beat (W q strb last word) m = cc
 plain-no-beat e m = refl
 
-plain-no-beats : (burst : List Event) → are_plain burst ≡ true → list_all (λ e. not (is_write_beat e)) burst ≡ true
-plain-no-beats [] m = refl
-plain-no-beats (e ∷ burst) m = let parts = and_parts (is_plain e) (are_plain burst) m in and_from _ _ (plain-no-beat e parts.0) (plain-no-beats burst parts.1)
-
 answering-no-beat : (e : Event) → is_answering e ≡ true → not (is_write_beat e) ≡ true
 answering-no-beat (W q strb last word) m = cc
 answering-no-beat e m = refl
 
-answering-no-beats : (burst : List Event) → list_all is_answering burst ≡ true → list_all (λ e. not (is_write_beat e)) burst ≡ true
-answering-no-beats [] m = refl
-answering-no-beats (e ∷ burst) m =
-    let parts = and_parts (is_answering e) (list_all is_answering burst) m in and_from _ _ (answering-no-beat e parts.0) (answering-no-beats burst parts.1)
-
-same-beat : (d e : Event) → same_event d e ≡ true → not (is_write_beat d) ≡ true → not (is_write_beat e) ≡ true
-same-beat (W q strb last word) e s m = cc
-same-beat d (W p strb last word) s m = cc
-same-beat d e s m = refl
-
-same-beats : (ds es : List Event) → same_burst ds es ≡ true → list_all (λ e. not (is_write_beat e)) ds ≡ true → list_all (λ e. not (is_write_beat e)) es ≡ true
-same-beats [] [] s m = refl
-same-beats [] (e ∷ es) s m = cc
-same-beats (d ∷ ds) [] s m = cc
-same-beats (d ∷ ds) (e ∷ es) s m =
-    let same = and_parts (same_event d e) (same_burst ds es) s in
-    let of = and_parts (not (is_write_beat d)) (list_all (λ e. not (is_write_beat e)) ds) m in
-    and_from _ _ (same-beat d e same.0 of.0) (same-beats ds es same.1 of.1)
+same-beat : TellsSame (λ e. not (is_write_beat e))
+same-beat = tells-same (λ e. not (is_write_beat e)) (λ p c i line. refl) (λ p a s x line. refl) (λ a line. refl)
 
 written-no-beats : (x : Transaction) (o : Option Line) → list_all (λ e. not (is_write_beat e)) (map (λ line. M x.port x.chan x.id line) (option_to_list o)) ≡ true
 written-no-beats x None = refl
@@ -82,8 +64,8 @@ answered-no-beats x None = refl
 answered-no-beats x (Some line) = refl
 
 writes-no-beats : (h : Header) (past : Trace) (burst : List Event) (x : Transaction) → WritesFor h past burst x → list_all (λ e. not (is_write_beat e)) burst ≡ true
-writes-no-beats h past burst x (inl w) = same-beats (memory_write h past x ++ response x) burst w.1 (answered-no-beats x (data_of h past x))
-writes-no-beats h past burst x (inr w) = same-beats (memory_write h past x) burst w.1 (written-no-beats x (data_of h past x))
+writes-no-beats h past burst x (inl w) = all-as (λ e. not (is_write_beat e)) same-beat (memory_write h past x ++ response x) burst w.1 (answered-no-beats x (data_of h past x))
+writes-no-beats h past burst x (inr w) = all-as (λ e. not (is_write_beat e)) same-beat (memory_write h past x) burst w.1 (written-no-beats x (data_of h past x))
 
 -- ---- the beats of one burst --------------------------------------------------------------------------
 
@@ -127,9 +109,9 @@ kept-by-burst h burst past q whole s p =
 pub whole-kept : (plan : Plan) (past : Trace) (p : ℕ) (burst : List Event) → AreBurstsWhole past → is_step plan past p burst ≡ true → AreBurstsWhole (onto burst past)
 whole-kept plan past p burst whole s =
     elim (step-shape plan past p burst s) [
-      | inl plain ↦ kept-by-none burst past whole (plain-no-beats burst plain)
+      | inl plain ↦ kept-by-none burst past whole (all-implied is_plain (λ e. not (is_write_beat e)) plain-no-beat burst plain)
       | inr (inl sent) ↦ kept-by-burst plan.header burst past p whole sent
-      | inr (inr (inl g)) ↦ kept-by-none burst past whole (answering-no-beats burst (answers-answering plan.header past p burst g))
+      | inr (inr (inl g)) ↦ kept-by-none burst past whole (all-implied is_answering (λ e. not (is_write_beat e)) answering-no-beat burst (answers-answering plan.header past p burst g))
       | inr (inr (inr w)) ↦ kept-by-none burst past whole (writes-no-beats plan.header past burst w.0 w.1)
     ]
 

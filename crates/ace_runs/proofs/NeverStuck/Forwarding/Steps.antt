@@ -34,9 +34,11 @@ use Rattle.ace_runs.specs.MasterSteps.{is_beat}
 use Rattle.ace_runs.specs.Operations.{next_operation}
 use Rattle.ace_runs.specs.OrderSteps.{barrier_burst, dvm_burst, forwards, pair_burst, sync_completion}
 use Rattle.ace_runs.specs.Steps.{is_sound, is_step, steps}
-use Rattle.ace_runs.proofs.NeverStuck.Steps.StepEvents.{acknowledges-masters, all-if, answers-answering, goes-on-masters, is_answering, is_masters}
-use Rattle.ace_runs.proofs.NeverStuck.Steps.StepShapes.{TellsSame, all-as, of-any, served-all}
-use Rattle.ace_runs.proofs.NeverStuck.Data.WholeAnswers.{all-implied}
+use Rattle.ace_runs.proofs.NeverStuck.Steps.SameBursts.{all-as}
+use Rattle.ace_runs.proofs.NeverStuck.Steps.SameEvents.{TellsSame, tells-same}
+use Rattle.ace_runs.proofs.NeverStuck.Steps.Lists.{all-if, all-implied}
+use Rattle.ace_runs.proofs.NeverStuck.Steps.StepEvents.{acknowledges-masters, answers-answering, goes-on-masters, is_answering, is_masters}
+use Rattle.ace_runs.proofs.NeverStuck.Steps.StepShapes.{of-any, served-all}
 
 -- the event forwards no part of a message
 abbrev pub forwards_none : Event → Bool
@@ -57,11 +59,7 @@ beat-none p (Ac q addr code) m = cc
 beat-none p e m = refl
 
 same-none : TellsSame forwards_none
-same-none (Ac p a s) (Ac q c t) same =
-    ap (λ n. not (is_some_and (ac_kind_of n) is_message_snoop)) (eqb-true s t (and_parts ((p == q) && (a == c)) (s == t) same).1)
-same-none (Ac p a s) e same = cc
-same-none d (Ac q c t) same = cc
-same-none d e same = refl
+same-none = tells-same forwards_none (λ p c i line. refl) (λ p a s x line. refl) (λ a line. refl)
 
 -- ---- the snoops of a line ----------------------------------------------------------------------------
 

@@ -24,10 +24,12 @@ use Rattle.ace_runs.specs.Operations.{next_operation}
 use Rattle.ace_runs.specs.OrderSteps.{barrier_burst, dvm_burst, pair_burst, sync_completion}
 use Rattle.ace_runs.specs.Steps.{is_sound, is_step, may_give, steps, steps_of}
 use Rattle.ace_runs.proofs.Turns.{step-kept}
+use Rattle.ace_runs.proofs.NeverStuck.Steps.SameBursts.{all-as}
+use Rattle.ace_runs.proofs.NeverStuck.Steps.SameEvents.{TellsSame, tells-same}
+use Rattle.ace_runs.proofs.NeverStuck.Steps.Lists.{all-append, all-if, all-implied}
 use Rattle.ace_runs.proofs.NeverStuck.Barriers.Quiet.{acknowledges-quiet, is_quiet}
-use Rattle.ace_runs.proofs.NeverStuck.Steps.StepEvents.{all-append, all-if, answers-answering, is_answering}
-use Rattle.ace_runs.proofs.NeverStuck.Steps.StepShapes.{TellsSame, all-as, forwards-all, of-any, served-all, snoops-all}
-use Rattle.ace_runs.proofs.NeverStuck.Data.WholeAnswers.{all-implied}
+use Rattle.ace_runs.proofs.NeverStuck.Steps.StepEvents.{answers-answering, is_answering}
+use Rattle.ace_runs.proofs.NeverStuck.Steps.StepShapes.{forwards-all, of-any, served-all, snoops-all}
 use Rattle.ace_runs.proofs.NeverStuck.Messages.WholeIssues.{issues_none}
 
 -- ---- events ------------------------------------------------------------------------------------------
@@ -38,10 +40,7 @@ is_silent (Ar p i addr code dom bar lock) = false
 is_silent _ = true
 
 same-silent : TellsSame is_silent
-same-silent (Ar p i a s d b l) (Ar q j c t e f m) same = refl
-same-silent (Ar p i a s d b l) e same = cc
-same-silent d (Ar q j c t e f m) same = cc
-same-silent d e same = refl
+same-silent = tells-same is_silent (λ p c i line. refl) (λ p a s x line. refl) (λ a line. refl)
 
 silent-none : (e : Event) → is_silent e ≡ true → issues_none e ≡ true
 silent-none (Ar p i addr code dom bar lock) m = cc

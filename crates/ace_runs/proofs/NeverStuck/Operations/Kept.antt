@@ -14,5 +14,3 @@ pub mod CompletionsKept
 pub mod ClosingKept
 -- What asks only leaves what lines give.
 pub mod CalmBursts
--- A burst is the same as itself.
-pub mod SameBursts

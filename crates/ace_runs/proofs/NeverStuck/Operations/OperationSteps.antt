@@ -21,7 +21,8 @@ use Rattle.ace_runs.specs.SameEvents.{same_burst}
 use Rattle.ace_runs.specs.Segments.{acts_made}
 use Rattle.ace_runs.specs.Steps.{AreSteps, is_enabled_by, is_sound, is_step_by}
 use Rattle.ace_runs.proofs.Turns.{steps-accepted}
-use Rattle.ace_runs.proofs.NeverStuck.Steps.StepEvents.{all-append, all-mapped}
+use Rattle.ace_runs.proofs.NeverStuck.Steps.SameBursts.{burst-self}
+use Rattle.ace_runs.proofs.NeverStuck.Steps.Lists.{all-append, all-mapped}
 use Rattle.ace_runs.proofs.NeverStuck.Barriers.BothAnswered.{halves-together}
 use Rattle.ace_runs.proofs.NeverStuck.Messages.WholeMessages.{issues-whole}
 use Rattle.ace_runs.proofs.NeverStuck.Operations.SegmentOf.{no-half}
@@ -33,7 +34,6 @@ use Rattle.ace_runs.proofs.NeverStuck.Operations.Kept.BurstsKept.{bursts-good, i
 use Rattle.ace_runs.proofs.NeverStuck.Operations.Kept.CalmBursts.{calm-gives}
 use Rattle.ace_runs.proofs.NeverStuck.Operations.Kept.CompletionsKept.{completions-sound}
 use Rattle.ace_runs.proofs.NeverStuck.Operations.Kept.ClosingKept.{IsLineFree, an-access-of, closing-kept, closing-short, has_access, retiring-kept}
-use Rattle.ace_runs.proofs.NeverStuck.Operations.Kept.SameBursts.{burst-self}
 use Rattle.ace_runs.proofs.NeverStuck.Operations.Lines.Classes.{named-class}
 use Rattle.ace_runs.proofs.NeverStuck.Operations.Lines.OfPlan.{IsPlanned, next-planned}
 

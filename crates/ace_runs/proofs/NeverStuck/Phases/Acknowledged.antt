@@ -35,10 +35,11 @@ use Rattle.ace_runs.specs.Retiring.{may_retire}
 use Rattle.ace_runs.specs.SameEvents.{same_burst, same_event}
 use Rattle.ace_runs.specs.Segments.{acts_made, is_in_segment, segment}
 use Rattle.ace_runs.proofs.Accepting.{kept-breaks-none}
+use Rattle.ace_runs.proofs.NeverStuck.Steps.SameBursts.{equal-burst}
+use Rattle.ace_runs.proofs.NeverStuck.Steps.SameEvents.{is_lineless}
 use Rattle.ace_runs.proofs.NeverStuck.Phases.Calm.{IsCalm, calm-keeps, may_end}
 use Rattle.ace_runs.proofs.NeverStuck.Phases.CalmEvents.{acknowledged-of, and-false, outs-stay}
 use Rattle.ace_runs.proofs.NeverStuck.Phases.Endings.{closed-stays, lineless-closed, retired-burst, retirement-ends, same-ends}
-use Rattle.ace_runs.proofs.NeverStuck.Phases.EqualEvents.{equal-burst, is_lineless}
 
 -- ---- a transaction of another operation --------------------------------------------------------------
 

@@ -25,9 +25,9 @@ use Rattle.ace_runs.specs.Retiring.{has_answered_completion, tells_completion, u
 use Rattle.ace_runs.specs.SameEvents.{same_burst}
 use Rattle.ace_runs.specs.Segments.{acts_made}
 use Rattle.ace_runs.proofs.Accepting.{kept-breaks-none}
-use Rattle.ace_runs.proofs.NeverStuck.Barriers.Asks.{all-weaker}
-use Rattle.ace_runs.proofs.NeverStuck.Steps.StepEvents.{all-if}
-use Rattle.ace_runs.proofs.NeverStuck.Steps.StepShapes.{TellsSame, all-as}
+use Rattle.ace_runs.proofs.NeverStuck.Steps.SameBursts.{all-as}
+use Rattle.ace_runs.proofs.NeverStuck.Steps.SameEvents.{TellsSame, tells-same}
+use Rattle.ace_runs.proofs.NeverStuck.Steps.Lists.{all-if, all-implied}
 use Rattle.ace_runs.proofs.NeverStuck.Phases.Calm.{IsCalm, calm-keeps, may_end}
 use Rattle.ace_runs.proofs.NeverStuck.Phases.CalmEvents.{and-false, calm-burst, is_calm, outs-stay}
 use Rattle.ace_runs.proofs.NeverStuck.Phases.Endings.{ends_retired, retired-burst, retirement-ends, same-ends}
@@ -70,10 +70,7 @@ is_sent (Cd p last word) = true
 is_sent _ = false
 
 same-sent : TellsSame is_sent
-same-sent (Cd p last word) (Cd q first half) s = refl
-same-sent (Cd p last word) e s = cc
-same-sent d (Cd p last word) s = cc
-same-sent d e s = refl
+same-sent = tells-same is_sent (λ p c i line. refl) (λ p a s x line. refl) (λ a line. refl)
 
 sent-calm : (p : ℕ) (e : Event) → is_sent e ≡ true → is_calm p e ≡ true
 sent-calm p (Cd q last word) m = or_right (not (q == p)) true refl
@@ -102,7 +99,7 @@ module _ (plan : Plan) (past : Trace) (p : ℕ) (ace : is_ace plan.header p ≡ 
           let of = and_parts (is_kept plan.header past (Cr p resp st)) (are_kept plan.header (Cr p resp st ∷ past) rest) kept in
           let now : IsAccepted plan.header (Cr p resp st ∷ past) = (a, kept-breaks-none plan.header past (Cr p resp st) of.0) in
           let sent = all-as is_sent same-sent (if snoops_a_line s.snoop && transfers_data resp then data_burst p (copy_of past p s.addr) else []) rest same (others (snoops_a_line s.snoop && transfers_data resp)) in
-          calm-burst plan rest (Cr p resp st ∷ past) p ace now of.1 (all-weaker is_sent (is_calm p) (sent-calm p) rest sent)
+          calm-burst plan rest (Cr p resp st ∷ past) p ace now of.1 (all-implied is_sent (is_calm p) (sent-calm p) rest sent)
           (calm-keeps plan past p (Cr p resp st) (answer-calm plan past p resp st s now is none) before)
 
   -- After step 1 the next operation can't retire with `ok` where it couldn't before.

@@ -25,10 +25,10 @@ use Rattle.ace_runs.specs.Requests.{bursts_of, ends_or_asks, free_on, is_waiting
 use Rattle.ace_runs.specs.SameEvents.{same_burst}
 use Rattle.ace_runs.specs.Segments.{acts_made, segment}
 use Rattle.ace_runs.proofs.Accepting.{kept-breaks-none}
+use Rattle.ace_runs.proofs.NeverStuck.Steps.SameBursts.{equal-burst}
 use Rattle.ace_runs.proofs.NeverStuck.Phases.Calm.{IsCalm, calm-keeps, may_end}
 use Rattle.ace_runs.proofs.NeverStuck.Phases.CalmEvents.{and-false, outs-stay}
 use Rattle.ace_runs.proofs.NeverStuck.Phases.Endings.{lineless-closed}
-use Rattle.ace_runs.proofs.NeverStuck.Phases.EqualEvents.{equal-burst}
 use Rattle.ace_runs.proofs.NeverStuck.Phases.OwnEvents.{are_asking, asking-lineless, requests-asking}
 
 -- ---- a DVM Complete ----------------------------------------------------------------------------------

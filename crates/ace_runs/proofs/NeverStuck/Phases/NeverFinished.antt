@@ -33,9 +33,10 @@ use Rattle.ace_runs.specs.Segments.{is_at_port}
 use Rattle.ace_runs.specs.Steps.{AreSteps, is_sound, is_step, may_give, steps, steps_of}
 use Rattle.ace_runs.proofs.Accepting.{accepted-after}
 use Rattle.ace_runs.proofs.Turns.{of-each-run, step-kept}
-use Rattle.ace_runs.proofs.NeverStuck.Barriers.Asks.{all-weaker}
-use Rattle.ace_runs.proofs.NeverStuck.Steps.StepEvents.{all-append, all-if}
-use Rattle.ace_runs.proofs.NeverStuck.Steps.StepShapes.{TellsSame, all-as, forwards-all, of-any, served-all, snoops-all}
+use Rattle.ace_runs.proofs.NeverStuck.Steps.SameBursts.{all-as}
+use Rattle.ace_runs.proofs.NeverStuck.Steps.SameEvents.{TellsSame, tells-same}
+use Rattle.ace_runs.proofs.NeverStuck.Steps.Lists.{all-append, all-if, all-implied}
+use Rattle.ace_runs.proofs.NeverStuck.Steps.StepShapes.{forwards-all, of-any, served-all, snoops-all}
 use Rattle.ace_runs.proofs.NeverStuck.Phases.Acknowledged.{acknowledges-stay}
 use Rattle.ace_runs.proofs.NeverStuck.Phases.Answered.{answers-stay}
 use Rattle.ace_runs.proofs.NeverStuck.Phases.Calm.{may_end}
@@ -67,28 +68,7 @@ beside-calm p (Mem addr line) m = refl
 beside-calm p e m = cc
 
 same-beside : TellsSame is_beside
-same-beside (R p i resp last word) (R q j r l w) s = refl
-same-beside (R p i resp last word) e s = cc
-same-beside d (R q j r l w) s = cc
-same-beside (W p strb last word) (W q t l w) s = refl
-same-beside (W p strb last word) e s = cc
-same-beside d (W q t l w) s = cc
-same-beside (B p i resp) (B q j r) s = refl
-same-beside (B p i resp) e s = cc
-same-beside d (B q j r) s = cc
-same-beside (Ac p addr snoop) (Ac q a c) s = refl
-same-beside (Ac p addr snoop) e s = cc
-same-beside d (Ac q a c) s = cc
-same-beside (G p c i) (G q d j) s = refl
-same-beside (G p c i) e s = cc
-same-beside d (G q c j) s = cc
-same-beside (M p c i line) (M q d j l) s = refl
-same-beside (M p c i line) e s = cc
-same-beside d (M q c j l) s = cc
-same-beside (Mem addr line) (Mem a l) s = refl
-same-beside (Mem addr line) e s = cc
-same-beside d (Mem a l) s = cc
-same-beside d e s = refl
+same-beside = tells-same is_beside (λ p c i line. refl) (λ p a s x line. refl) (λ a line. refl)
 
 beat-beside : (q : ℕ) (e : Event) → is_beat q e ≡ true → is_beside e ≡ true
 beat-beside q (W p strb last word) m = refl
@@ -135,7 +115,7 @@ module _ (plan : Plan) (past : Trace) (p q : ℕ) (burst : List Event) (ace : is
   Stays = may_end plan (onto burst past) p ≡ false
 
   beside-stays : list_all is_beside burst ≡ true → Stays
-  beside-stays all = calm-burst plan burst past p ace a kept (all-weaker is_beside (is_calm p) (beside-calm p) burst all) before
+  beside-stays all = calm-burst plan burst past p ace a kept (all-implied is_beside (is_calm p) (beside-calm p) burst all) before
 
   served-stays : (burst_for : Header → Trace → Transaction → List Event) → ((x : Transaction) → list_all is_beside (burst_for plan.header past x) ≡ true)
       → serves burst_for plan.header past q burst ≡ true → Stays
@@ -146,7 +126,7 @@ module _ (plan : Plan) (past : Trace) (p q : ℕ) (burst : List Event) (ace : is
   own-stays own here =
       elim (cases_Bool (q == p)) [
         | inl t ↦ here (eqb-true q p t)
-        | inr f ↦ calm-burst plan burst past p ace a kept (all-weaker (is_at_port q) (is_calm p) (λ e at. own-calm p q e f at) burst own) before
+        | inr f ↦ calm-burst plan burst past p ace a kept (all-implied (is_at_port q) (is_calm p) (λ e at. own-calm p q e f at) burst own) before
       ]
 
   answers-stays : answers_snoop plan.header past q burst ≡ true → Stays
@@ -174,7 +154,7 @@ step-stays plan past p q burst ace a before s =
     let beside = beside-stays plan past p q burst ace a kept before in
     let served = served-stays plan past p q burst ace a kept before in
     of-any h past q burst (may_end plan (onto burst past) p ≡ false) (steps plan.ways next)
-    ((λ g. answers-stays plan past p q burst ace a kept before g), ((λ g. beside (all-weaker (is_beat q) is_beside (beat-beside q) burst (and_parts (list_all (is_beat q) burst) (length burst == 4) g).0)), ((λ g. served update_burst (λ x. all-if is_beside (updates_memory x) _ _ (responded-beside h past x) (all-if is_beside (evicts x) (response x) [] refl refl)) g), ((λ g. acknowledges-stays plan past p q burst ace a kept before g), ((λ g. served grant_burst (λ x. all-if is_beside (takes_grant x && is_first_to_wait h past x) _ [] refl refl) g), ((λ g. beside (snoops-all is_beside snoop-beside h past q burst g)), ((λ g. served passed_burst (λ x. all-if is_beside (is_read x.chan && has_passed_data h past x && not (takes_dirt h past x)) _ [] (written-beside x (data_of h past x)) refl) g), ((λ g. served transfer_burst (λ x. all-if is_beside (is_read x.chan && is_line x && implies (has_passed_data h past x) (takes_dirt h past x)) _ [] refl refl) g), ((λ g. served write_burst (λ x. all-if is_beside (not (is_read x.chan) && takes_grant x) _ [] (responded-beside h past x) refl) g), ((λ g. served barrier_burst (λ x. all-if is_beside (is_some_and (read_kind x) is_read_barrier) _ [] (pair-beside (pair_of past x)) refl) g), ((λ g. beside (forwards-all is_beside same-beside portless-beside (λ r addr code. refl) h past q burst kept g)), ((λ g. served dvm_burst (λ x. all-if is_beside (is_message_part x || is_dvm_completion x) _ [] refl refl) g), ((λ g. beside (all-as is_beside same-beside (sync_completion q) burst g refl)), ((λ g. moves-stays plan past p q burst ace a kept before g), tt))))))))))))))
+    ((λ g. answers-stays plan past p q burst ace a kept before g), ((λ g. beside (all-implied (is_beat q) is_beside (beat-beside q) burst (and_parts (list_all (is_beat q) burst) (length burst == 4) g).0)), ((λ g. served update_burst (λ x. all-if is_beside (updates_memory x) _ _ (responded-beside h past x) (all-if is_beside (evicts x) (response x) [] refl refl)) g), ((λ g. acknowledges-stays plan past p q burst ace a kept before g), ((λ g. served grant_burst (λ x. all-if is_beside (takes_grant x && is_first_to_wait h past x) _ [] refl refl) g), ((λ g. beside (snoops-all is_beside snoop-beside h past q burst g)), ((λ g. served passed_burst (λ x. all-if is_beside (is_read x.chan && has_passed_data h past x && not (takes_dirt h past x)) _ [] (written-beside x (data_of h past x)) refl) g), ((λ g. served transfer_burst (λ x. all-if is_beside (is_read x.chan && is_line x && implies (has_passed_data h past x) (takes_dirt h past x)) _ [] refl refl) g), ((λ g. served write_burst (λ x. all-if is_beside (not (is_read x.chan) && takes_grant x) _ [] (responded-beside h past x) refl) g), ((λ g. served barrier_burst (λ x. all-if is_beside (is_some_and (read_kind x) is_read_barrier) _ [] (pair-beside (pair_of past x)) refl) g), ((λ g. beside (forwards-all is_beside same-beside portless-beside (λ r addr code. refl) h past q burst kept g)), ((λ g. served dvm_burst (λ x. all-if is_beside (is_message_part x || is_dvm_completion x) _ [] refl refl) g), ((λ g. beside (all-as is_beside same-beside (sync_completion q) burst g refl)), ((λ g. moves-stays plan past p q burst ace a kept before g), tt))))))))))))))
     sound.1
 
 -- In a run the next operation of an ACE port can't retire with `ok`.

@@ -1,10 +1,10 @@
 -- The events of step 1, of step 4 and of step 14 are those of the port of the step.
-use Rattle.std.proofs.Common.{◌≡◌, ℕ, Bool, true, false, not, ◌&&◌, ◌||◌, ◌==◌, if◌then◌else◌, List, [], ◌∷◌, ◌++◌, filter, Option, Some, None, is_none, unwrap_or, inl, inr, refl, sym, ap, subst}
+use Rattle.std.proofs.Common.{◌≡◌, ℕ, Bool, true, false, not, ◌&&◌, ◌||◌, ◌==◌, if◌then◌else◌, List, [], ◌∷◌, ◌++◌, filter, Option, Some, None, is_none, unwrap_or, inl, inr, refl, sym, subst}
 use Rattle.std.specs.List.{list_all, list_any, flat_map}
 use Rattle.std.specs.Option.{option_to_list, option_map}
 use Rattle.std.proofs.lemmas.Bool.{and_parts, and_from, cases_Bool, eq-eqb, eqb-true, or_cases}
 use Rattle.ace_event.specs.declared.event.Event.{Event}
-use Rattle.ace_event.specs.declared.event.Event.TheVariants.{Ar, R, Rk, Aw, W, B, Wk, Ac, Cr, Cd, G, M, S, L, D, Mem, Op as Retires}
+use Rattle.ace_event.specs.declared.event.Event.TheVariants.{Ar, Rk, Wk, Cr}
 use Rattle.ace_codes.specs.Reads.{ar_code}
 use Rattle.ace_codes.specs.Responses.{transfers_data}
 use Rattle.ace_codes.specs.declared.kind.ArKind.{ArKind}
@@ -35,71 +35,17 @@ use Rattle.ace_runs.specs.HeldLines.{held_lines}
 use Rattle.ace_runs.specs.MasterSteps.{acknowledge, acknowledge_for, acknowledge_in, acknowledge_of, acknowledges, acknowledges_on, after_answer, answers_snoop, completion_bursts, due, end_of, goes_on, is_finished, moves, store_lacked}
 use Rattle.ace_runs.specs.Requests.{Request, Reads, Misses, Writes, Drops, Barriers, Messages, and_part, bursts_of, drop_bursts, ends_or_asks, free_on, free_on_both, has_room, is_waiting, moves_of, read_bursts, request_of, room_bursts, victim_bursts, with_identifier, write_bursts}
 use Rattle.ace_runs.specs.Retiring.{may_retire, tells_completion}
-use Rattle.ace_runs.specs.SameEvents.{same_burst, same_event}
+use Rattle.ace_runs.specs.SameEvents.{same_burst}
 use Rattle.ace_runs.specs.Segments.{is_at_port, is_in_segment}
-use Rattle.ace_runs.proofs.NeverStuck.Steps.StepEvents.{all-append, all-flat_map, all-flat_mapped, all-if, all-map, all-mapped}
-use Rattle.ace_runs.proofs.NeverStuck.Steps.StepShapes.{all-as}
+use Rattle.ace_runs.proofs.NeverStuck.Steps.SameBursts.{all-as}
+use Rattle.ace_runs.proofs.NeverStuck.Steps.SameEvents.{TellsSame, is_lineless, tells-same}
+use Rattle.ace_runs.proofs.NeverStuck.Steps.Lists.{all-append, all-flat_map, all-flat_mapped, all-if, all-map, all-mapped}
 use Rattle.ace_runs.proofs.NeverStuck.Phases.CalmEvents.{acknowledged-of}
-use Rattle.ace_runs.proofs.NeverStuck.Phases.EqualEvents.{is_lineless}
 
 -- ---- the same events ---------------------------------------------------------------------------------
 
-first-of-two : (a b : Bool) → (a && b) ≡ true → a ≡ true
-first-of-two a b m = (and_parts a b m).0
-
-first-of-three : (a b c : Bool) → (a && b && c) ≡ true → a ≡ true
-first-of-three a b c m = first-of-two a b (and_parts (a && b) c m).0
-
-first-of-four : (a b c d : Bool) → (a && b && c && d) ≡ true → a ≡ true
-first-of-four a b c d m = first-of-three a b c (and_parts (a && b && c) d m).0
-
-first-of-five : (a b c d e : Bool) → (a && b && c && d && e) ≡ true → a ≡ true
-first-of-five a b c d e m = first-of-four a b c d (and_parts (a && b && c && d) e m).0
-
-first-of-six : (a b c d e f : Bool) → (a && b && c && d && e && f) ≡ true → a ≡ true
-first-of-six a b c d e f m = first-of-five a b c d e (and_parts (a && b && c && d && e) f m).0
-
-first-of-seven : (a b c d e f g : Bool) → (a && b && c && d && e && f && g) ≡ true → a ≡ true
-first-of-seven a b c d e f g m = first-of-six a b c d e f (and_parts (a && b && c && d && e && f) g m).0
-
-port-same : (p q r : ℕ) → (p == q) ≡ true → (p == r) ≡ (q == r)
-port-same p q r m = ap (λ v. v == r) (eqb-true p q m)
-
-pub same-port : (port : ℕ) (d e : Event) → same_event d e ≡ true → is_at_port port d ≡ is_at_port port e
-same-port port (Ar p i a s d b l) (Ar q j c t e f m) same = port-same p q port (first-of-seven _ _ _ _ _ _ _ same)
-same-port port (Ar p i a s d b l) e same = cc
-same-port port (R p i resp last word) (R q j r l w) same = port-same p q port (first-of-five _ _ _ _ _ same)
-same-port port (R p i resp last word) e same = cc
-same-port port (Rk p st) (Rk q t) same = port-same p q port (first-of-two _ _ same)
-same-port port (Rk p st) e same = cc
-same-port port (Aw p i a s d b) (Aw q j c t e f) same = port-same p q port (first-of-six _ _ _ _ _ _ same)
-same-port port (Aw p i a s d b) e same = cc
-same-port port (W p strb last word) (W q s l w) same = port-same p q port (first-of-four _ _ _ _ same)
-same-port port (W p strb last word) e same = cc
-same-port port (B p i resp) (B q j r) same = port-same p q port (first-of-three _ _ _ same)
-same-port port (B p i resp) e same = cc
-same-port port (Wk p st) (Wk q t) same = port-same p q port (first-of-two _ _ same)
-same-port port (Wk p st) e same = cc
-same-port port (Ac p a s) (Ac q c t) same = port-same p q port (first-of-three _ _ _ same)
-same-port port (Ac p a s) e same = cc
-same-port port (Cr p resp st) (Cr q r t) same = port-same p q port (first-of-three _ _ _ same)
-same-port port (Cr p resp st) e same = cc
-same-port port (Cd p last word) (Cd q l w) same = port-same p q port (first-of-three _ _ _ same)
-same-port port (Cd p last word) e same = cc
-same-port port (G p c i) (G q d j) same = port-same p q port (first-of-three _ _ _ same)
-same-port port (G p c i) e same = cc
-same-port port (M p c i line) (M q d j l) same = port-same p q port (first-of-four _ _ _ _ same)
-same-port port (M p c i line) e same = cc
-same-port port (S p a st) (S q c t) same = port-same p q port (first-of-three _ _ _ same)
-same-port port (S p a st) e same = cc
-same-port port (L p a w x word) (L q c v y o) same = port-same p q port (first-of-five _ _ _ _ _ same)
-same-port port (L p a w x word) e same = cc
-same-port port (D p a s x line) (D q c t y l) same = port-same p q port (first-of-five _ _ _ _ _ same)
-same-port port (D p a s x line) e same = cc
-same-port port (Retires p k res) (Retires q n r) same = port-same p q port (first-of-three _ _ _ same)
-same-port port (Retires p k res) e same = cc
-same-port port (Mem addr line) (Mem other written) same = refl
-same-port port (Mem addr line) e same = cc
+pub same-port : (port : ℕ) → TellsSame (is_at_port port)
+same-port port = tells-same (is_at_port port) (λ p c i line. refl) (λ p a s x line. refl) (λ a line. refl)
 
 -- ---- what ends an operation --------------------------------------------------------------------------
 

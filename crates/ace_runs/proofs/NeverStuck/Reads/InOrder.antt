@@ -2,12 +2,11 @@
 use Rattle.std.proofs.Common.{◌≡◌, ℕ, Bool, true, false, ◌&&◌, ◌==◌, List, [], ◌∷◌, Some, refl, sym, ap, subst, ◌∙◌}
 use Rattle.std.specs.Bool.{⊤}
 use Rattle.std.specs.List.{list_all}
-use Rattle.std.proofs.lemmas.Bool.{and_parts, eqb-true}
+use Rattle.std.proofs.lemmas.Bool.{and_parts}
 use Rattle.ace_event.specs.declared.event.Channel.TheVariants.{Read}
 use Rattle.ace_event.specs.declared.event.Event.{Event}
 use Rattle.ace_event.specs.declared.event.Event.TheVariants.{R}
 use Rattle.ace_event.specs.declared.header.Header.{Header}
-use Rattle.ace_tables.specs.Answers.{same_test}
 use Rattle.ace_model.specs.declared.transactions.Transaction.{Transaction}
 use Rattle.ace_model.specs.Grants.{has_passed_data}
 use Rattle.ace_model.specs.Trace.{Trace, implies}
@@ -19,7 +18,8 @@ use Rattle.ace_model.proofs.Trace.Looks.{is_read-is}
 use Rattle.ace_runs.specs.Bursts.{serves}
 use Rattle.ace_runs.specs.LineSteps.{response_bits, takes_dirt}
 use Rattle.ace_runs.specs.SameEvents.{same_burst, same_event}
-use Rattle.ace_runs.proofs.NeverStuck.Steps.StepShapes.{all-as}
+use Rattle.ace_runs.proofs.NeverStuck.Steps.SameBursts.{all-as}
+use Rattle.ace_runs.proofs.NeverStuck.Steps.SameEvents.{TellsSame, same-without, tells-same}
 
 -- no transfer
 abbrev pub is_other : Event → Bool
@@ -46,11 +46,8 @@ others-in-order h past [] m = tt
 others-in-order h past (e ∷ burst) m =
     let parts = and_parts (is_other e) (list_all is_other burst) m in (other-in-order h past e parts.0, parts.1)
 
-pub same-other : (d e : Event) → same_event d e ≡ true → is_other d ≡ is_other e
-same-other (R q j resp last word) (R p i r l w) s = refl
-same-other (R q j resp last word) e s = cc
-same-other d (R p i resp last word) s = cc
-same-other d e s = refl
+pub same-other : TellsSame is_other
+same-other = tells-same is_other (λ p c i line. refl) (λ p a s x line. refl) (λ a line. refl)
 
 -- a burst of a transfer in order and other events
 pub begins-in-order : (h : Header) (past : Trace) (d : Event) (ds burst : List Event) → same_burst (d ∷ ds) burst ≡ true → ((e : Event) → same_event d e ≡ true → IsInOrder h past e)
@@ -97,8 +94,5 @@ pub record SameTransfer (q j resp : ℕ) (p i r : ℕ) : Type 0 where
 
 pub same-transfer : (q j resp : ℕ) (last : Bool) (word : ℕ) (p i r : ℕ) (l : Bool) (w : ℕ) → same_event (R q j resp last word) (R p i r l w) ≡ true → SameTransfer q j resp p i r
 same-transfer q j resp last word p i r l w s =
-    let four = and_parts ((q == p) && (j == i) && (resp == r) && same_test last l) (word == w) s in
-    let three = and_parts ((q == p) && (j == i) && (resp == r)) (same_test last l) four.0 in
-    let two = and_parts ((q == p) && (j == i)) (resp == r) three.0 in
-    let one = and_parts (q == p) (j == i) two.0 in
-    record { port = eqb-true q p one.0; id = eqb-true j i one.1; says = eqb-true resp r two.1 }
+    let same : R q j resp last word ≡ R p i r l w = same-without (R q j resp last word) (R p i r l w) s in
+    record { port = cc; id = cc; says = cc }

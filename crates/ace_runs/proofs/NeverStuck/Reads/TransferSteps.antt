@@ -23,9 +23,10 @@ use Rattle.ace_runs.specs.OrderSteps.{barrier_burst, dvm_burst, sync_completion}
 use Rattle.ace_runs.specs.SameEvents.{same_burst, same_event}
 use Rattle.ace_runs.specs.Steps.{is_sound, is_step, may_give, steps, steps_of}
 use Rattle.ace_runs.proofs.Turns.{step-kept}
-use Rattle.ace_runs.proofs.NeverStuck.Steps.StepEvents.{acknowledges-masters, all-if, answers-answering, goes-on-masters, is_answering, is_masters}
-use Rattle.ace_runs.proofs.NeverStuck.Steps.StepShapes.{all-as, forwards-all, of-any, served-all, snoops-all}
-use Rattle.ace_runs.proofs.NeverStuck.Data.WholeAnswers.{all-implied}
+use Rattle.ace_runs.proofs.NeverStuck.Steps.SameBursts.{all-as}
+use Rattle.ace_runs.proofs.NeverStuck.Steps.Lists.{all-if, all-implied}
+use Rattle.ace_runs.proofs.NeverStuck.Steps.StepEvents.{acknowledges-masters, answers-answering, goes-on-masters, is_answering, is_masters}
+use Rattle.ace_runs.proofs.NeverStuck.Steps.StepShapes.{forwards-all, of-any, served-all, snoops-all}
 use Rattle.ace_runs.proofs.NeverStuck.Reads.InOrder.{FirstInOrder, IsInOrder, Serving, begins-in-order, is_other, of-none, others-in-order, read-out, same-name, same-other, same-transfer, serving}
 use Rattle.ace_runs.proofs.NeverStuck.Reads.PlainTransfers.{barrier-in-order, dvm-in-order}
 

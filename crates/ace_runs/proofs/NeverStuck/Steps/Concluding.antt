@@ -1,6 +1,6 @@
 -- What ends an operation, and what acknowledges: a test passes for all of it that passes for acknowledges, loads, stores and OPs.
-use Rattle.std.proofs.Common.{◌≡◌, ℕ, Bool, true, false, not, ◌&&◌, ◌||◌, if◌then◌else◌, List, [], ◌∷◌, ◌++◌, map, Option, Some, None, unwrap_or, inl, inr, refl}
-use Rattle.std.specs.List.{list_all, flat_map}
+use Rattle.std.proofs.Common.{◌≡◌, ℕ, Bool, true, false, not, ◌&&◌, ◌||◌, if◌then◌else◌, List, [], ◌∷◌, ◌++◌, Option, Some, None, unwrap_or, inl, inr, refl}
+use Rattle.std.specs.List.{list_all}
 use Rattle.std.specs.Option.{option_to_list, option_map}
 use Rattle.std.proofs.lemmas.Bool.{and_parts, and_from, or_cases}
 use Rattle.ace_codes.specs.declared.state.LineState.{LineState}
@@ -28,39 +28,9 @@ use Rattle.ace_runs.specs.MasterSteps.{store_lacked, acknowledge, acknowledge_fo
 use Rattle.ace_runs.specs.Retiring.{may_retire}
 use Rattle.ace_runs.specs.SameEvents.{same_burst}
 use Rattle.ace_runs.specs.Segments.{is_in_segment}
-
--- ---- lists -------------------------------------------------------------------------------------------
-
-pub all-append : {A : Type 0} → (test : A → Bool) (xs ys : List A) → list_all test xs ≡ true → list_all test ys ≡ true → list_all test (xs ++ ys) ≡ true
-all-append test [] ys x y = y
-all-append test (a ∷ xs) ys x y =
-    let parts = and_parts (test a) (list_all test xs) x in and_from _ _ parts.0 (all-append test xs ys parts.1 y)
-
-pub all-map : {A B : Type 0} → (test : B → Bool) (f : A → B) (xs : List A) → ((a : A) → test (f a) ≡ true) → list_all test (map f xs) ≡ true
-all-map test f [] each = refl
-all-map test f (a ∷ xs) each = and_from _ _ (each a) (all-map test f xs each)
-
--- the function takes what passes the one test to what passes the other
-pub all-mapped : {A B : Type 0} → (test : A → Bool) (later : B → Bool) (f : A → B) (xs : List A) → ((a : A) → test a ≡ true → later (f a) ≡ true)
-    → list_all test xs ≡ true → list_all later (map f xs) ≡ true
-all-mapped test later f [] each all = refl
-all-mapped test later f (a ∷ xs) each all =
-    let parts = and_parts (test a) (list_all test xs) all in and_from _ _ (each a parts.0) (all-mapped test later f xs each parts.1)
-
-pub all-flat_map : {A B : Type 0} → (test : B → Bool) (f : A → List B) (xs : List A) → ((a : A) → list_all test (f a) ≡ true) → list_all test (flat_map f xs) ≡ true
-all-flat_map test f [] each = refl
-all-flat_map test f (a ∷ xs) each = all-append test (f a) (flat_map f xs) (each a) (all-flat_map test f xs each)
-
-pub all-flat_mapped : {A B : Type 0} → (test : A → Bool) (later : B → Bool) (f : A → List B) (xs : List A) → ((a : A) → test a ≡ true → list_all later (f a) ≡ true)
-    → list_all test xs ≡ true → list_all later (flat_map f xs) ≡ true
-all-flat_mapped test later f [] each all = refl
-all-flat_mapped test later f (a ∷ xs) each all =
-    let parts = and_parts (test a) (list_all test xs) all in
-    all-append later (f a) (flat_map f xs) (each a parts.0) (all-flat_mapped test later f xs each parts.1)
-
-pub all-if : {A : Type 0} → (test : A → Bool) (b : Bool) (xs ys : List A) → list_all test xs ≡ true → list_all test ys ≡ true → list_all test (if b then xs else ys) ≡ true
-all-if test true xs ys x y = x
-all-if test false xs ys x y = y
+use Rattle.ace_runs.proofs.NeverStuck.Steps.SameBursts.{all-as}
+use Rattle.ace_runs.proofs.NeverStuck.Steps.SameEvents.{TellsSame}
+use Rattle.ace_runs.proofs.NeverStuck.Steps.Lists.{all-append, all-if}
 
 -- ---- what ends an operation --------------------------------------------------------------------------
 
@@ -104,7 +74,7 @@ module _ (test : Event → Bool) (c : Concludes test) where
 
 -- ---- step 4 ------------------------------------------------------------------------------------------
 
-module _ (test : Event → Bool) (c : Concludes test) (goes : (ds es : List Event) → same_burst ds es ≡ true → list_all test ds ≡ true → list_all test es ≡ true) where
+module _ (test : Event → Bool) (c : Concludes test) (same : TellsSame test) where
   acknowledge-all : (x : Transaction) (st : LineState) → list_all test (acknowledge x st) ≡ true
   acknowledge-all x st = by (is_read x.chan)
     where
@@ -130,12 +100,12 @@ module _ (test : Event → Bool) (c : Concludes test) (goes : (ds es : List Even
   acknowledges-on-all : (next : Option Op) (h : Header) (past : Trace) (burst : List Event) (o : Option Transaction)
       → is_some_and o (λ x. same_burst (acknowledge_of next h past x) burst) ≡ true → list_all test burst ≡ true
   acknowledges-on-all next h past burst None s = cc
-  acknowledges-on-all next h past burst (Some x) s = goes (acknowledge_of next h past x) burst s (acknowledge-of-all next h past x)
+  acknowledges-on-all next h past burst (Some x) s = all-as test same (acknowledge_of next h past x) burst s (acknowledge-of-all next h past x)
 
   pub acknowledges-all : (next : Option Op) (h : Header) (past : Trace) (p : ℕ) (burst : List Event) → acknowledges next h past p burst ≡ true → list_all test burst ≡ true
   acknowledges-all next h past p burst s =
       elim (or_cases (acknowledges_on next h past p burst Read || acknowledges_on next h past p burst Write) _ s) [
-        | inr finished ↦ goes (retirement past p Ok) burst (and_parts (is_finished next h past p) _ finished).1 (retirement-all test c past p Ok)
+        | inr finished ↦ all-as test same (retirement past p Ok) burst (and_parts (is_finished next h past p) _ finished).1 (retirement-all test c past p Ok)
         | inl on ↦ elim (or_cases (acknowledges_on next h past p burst Read) (acknowledges_on next h past p burst Write) on) [
           | inl reads ↦ acknowledges-on-all next h past burst (due h past p Read) reads
           | inr writes ↦ acknowledges-on-all next h past burst (due h past p Write) writes

@@ -1,10 +1,10 @@
 -- Which events each step gives: steps 4 and 14 give events of masters other than write data and answers to snoops, step 1 those with which
 -- a snoop is answered; what the other steps of one kind give
 -- is in their definitions.
-use Rattle.std.proofs.Common.{◌≡◌, ℕ, Bool, true, false, not, ◌&&◌, ◌||◌, ◌==◌, List, [], ◌∷◌, ◌++◌, filter, Option, Some, None, is_none, inl, inr, refl}
-use Rattle.std.specs.List.{list_all, list_any, flat_map}
+use Rattle.std.proofs.Common.{◌≡◌, ℕ, Bool, true, false, not, ◌&&◌, ◌||◌, ◌==◌, List, [], ◌∷◌, ◌++◌, filter, Option, Some, None, is_none, refl}
+use Rattle.std.specs.List.{list_all, flat_map}
 use Rattle.std.specs.Option.{option_to_list}
-use Rattle.std.proofs.lemmas.Bool.{and_parts, and_from, or_cases}
+use Rattle.std.proofs.lemmas.Bool.{and_parts, and_from}
 use Rattle.ace_event.specs.declared.event.Channel.TheVariants.{Read, Write}
 use Rattle.ace_event.specs.declared.event.Event.{Event}
 use Rattle.ace_event.specs.declared.event.Event.TheVariants.{Ar, Rk, Aw, Wk, Cr, Cd, S, L, D, Op as Retires}
@@ -31,9 +31,11 @@ use Rattle.ace_runs.specs.HeldLines.{held_lines}
 use Rattle.ace_runs.specs.MasterSteps.{after_answer, answers_snoop, acknowledges, completion_bursts, moves, goes_on}
 use Rattle.ace_runs.specs.Requests.{Request, Reads, Misses, Writes, Drops, Barriers, Messages, with_identifier, read_bursts, write_bursts, and_part, drop_bursts, victim_bursts, room_bursts, has_room, bursts_of, free_on, free_on_both, is_waiting, request_of, ends_or_asks, moves_of}
 use Rattle.ace_runs.specs.Retiring.{tells_completion}
-use Rattle.ace_runs.specs.SameEvents.{same_event, same_burst}
+use Rattle.ace_runs.specs.SameEvents.{same_burst}
+use Rattle.ace_runs.proofs.NeverStuck.Steps.SameBursts.{all-as, any-all}
+use Rattle.ace_runs.proofs.NeverStuck.Steps.SameEvents.{TellsSame, tells-same}
+use Rattle.ace_runs.proofs.NeverStuck.Steps.Lists.{all-append, all-flat_map, all-flat_mapped, all-if, all-map, all-mapped}
 use Rattle.ace_runs.proofs.NeverStuck.Steps.Concluding.{Concludes, acknowledges-all, and-closing-all, closing-all}
-pub use Rattle.ace_runs.proofs.NeverStuck.Steps.Concluding.{all-append, all-flat_map, all-flat_mapped, all-if, all-map, all-mapped}
 
 -- an event of a master, but write data and answers to snoops
 abbrev pub is_masters : Event → Bool
@@ -50,35 +52,8 @@ is_masters _ = false
 abbrev pub are_masters : List Event → Bool
 are_masters burst = list_all is_masters burst
 
--- ---- the same events ---------------------------------------------------------------------------------
-
-same-masters : (d e : Event) → same_event d e ≡ true → is_masters d ≡ true → is_masters e ≡ true
-same-masters d (Ar p i addr snoop dom bar lock) s m = refl
-same-masters d (Aw p i addr snoop dom bar) s m = refl
-same-masters d (Rk p st) s m = refl
-same-masters d (Wk p st) s m = refl
-same-masters d (S p addr st) s m = refl
-same-masters d (L p addr w x word) s m = refl
-same-masters d (D p addr strobe x line) s m = refl
-same-masters d (Retires p k res) s m = refl
-same-masters (Ar p i addr snoop dom bar lock) e s m = cc
-same-masters (Aw p i addr snoop dom bar) e s m = cc
-same-masters (Rk p st) e s m = cc
-same-masters (Wk p st) e s m = cc
-same-masters (S p addr st) e s m = cc
-same-masters (L p addr w x word) e s m = cc
-same-masters (D p addr strobe x line) e s m = cc
-same-masters (Retires p k res) e s m = cc
-same-masters d e s m = cc
-
-pub same-burst-masters : (ds es : List Event) → same_burst ds es ≡ true → are_masters ds ≡ true → are_masters es ≡ true
-same-burst-masters [] [] s m = refl
-same-burst-masters [] (e ∷ es) s m = cc
-same-burst-masters (d ∷ ds) [] s m = cc
-same-burst-masters (d ∷ ds) (e ∷ es) s m =
-    let same = and_parts (same_event d e) (same_burst ds es) s in
-    let of = and_parts (is_masters d) (are_masters ds) m in
-    and_from _ _ (same-masters d e same.0 of.0) (same-burst-masters ds es same.1 of.1)
+same-masters : TellsSame is_masters
+same-masters = tells-same is_masters (λ p c i line. refl) (λ p a s x line. refl) (λ a line. refl)
 
 -- ---- what ends an operation --------------------------------------------------------------------------
 
@@ -100,23 +75,8 @@ is_answering (Cd p last word) = true
 is_answering (Retires p k res) = true
 is_answering _ = false
 
-same-answering : (d e : Event) → same_event d e ≡ true → is_answering d ≡ true → is_answering e ≡ true
-same-answering d (Cr p resp st) s m = refl
-same-answering d (Cd p last word) s m = refl
-same-answering d (Retires p k res) s m = refl
-same-answering (Cr p resp st) e s m = cc
-same-answering (Cd p last word) e s m = cc
-same-answering (Retires p k res) e s m = cc
-same-answering d e s m = cc
-
-same-burst-answering : (ds es : List Event) → same_burst ds es ≡ true → list_all is_answering ds ≡ true → list_all is_answering es ≡ true
-same-burst-answering [] [] s m = refl
-same-burst-answering [] (e ∷ es) s m = cc
-same-burst-answering (d ∷ ds) [] s m = cc
-same-burst-answering (d ∷ ds) (e ∷ es) s m =
-    let same = and_parts (same_event d e) (same_burst ds es) s in
-    let of = and_parts (is_answering d) (list_all is_answering ds) m in
-    and_from _ _ (same-answering d e same.0 of.0) (same-burst-answering ds es same.1 of.1)
+same-answering : TellsSame is_answering
+same-answering = tells-same is_answering (λ p c i line. refl) (λ p a s x line. refl) (λ a line. refl)
 
 after-answering : (past : Trace) (p : ℕ) (s : Snoop) (resp : ℕ) → list_all is_answering (after_answer past p s resp) ≡ true
 after-answering past p s resp =
@@ -125,7 +85,7 @@ after-answering past p s resp =
 answer-answering : (past : Trace) (p resp : ℕ) (o : Option Snoop) (rest : List Event)
     → is_some_and o (λ s. same_burst (after_answer past p s resp) rest) ≡ true → list_all is_answering rest ≡ true
 answer-answering past p resp None rest s = cc
-answer-answering past p resp (Some a) rest s = same-burst-answering (after_answer past p a resp) rest s (after-answering past p a resp)
+answer-answering past p resp (Some a) rest s = all-as is_answering same-answering (after_answer past p a resp) rest s (after-answering past p a resp)
 
 pub answers-answering : (h : Header) (past : Trace) (p : ℕ) (burst : List Event) → answers_snoop h past p burst ≡ true → list_all is_answering burst ≡ true
 answers-answering h past p (Cr q resp st ∷ rest) s = answer-answering past p resp (answered past p) rest (and_parts (p == q) _ s).1
@@ -134,7 +94,7 @@ answers-answering h past p _ s = cc
 -- ---- step 4 ------------------------------------------------------------------------------------------
 
 pub acknowledges-masters : (next : Option Op) (h : Header) (past : Trace) (p : ℕ) (burst : List Event) → acknowledges next h past p burst ≡ true → are_masters burst ≡ true
-acknowledges-masters next h past p burst s = acknowledges-all is_masters masters-conclude same-burst-masters next h past p burst s
+acknowledges-masters next h past p burst s = acknowledges-all is_masters masters-conclude same-masters next h past p burst s
 
 -- ---- step 14 -----------------------------------------------------------------------------------------
 
@@ -189,11 +149,5 @@ moves-masters ways next h past p =
     (all-flat_map are_masters (moves_of ways h past p) (option_to_list next)
     (λ o. all-if are_masters (is_waiting h past p o) [] _ refl (ends-or-asks-masters ways h past p o (closing_of h past p o) (closing-masters h past p o))))
 
-any-masters : (burst : List Event) (bursts : List (List Event)) → list_any (λ move. same_burst move burst) bursts ≡ true → are_all_masters bursts ≡ true → are_masters burst ≡ true
-any-masters burst [] s m = cc
-any-masters burst (move ∷ bursts) s m =
-    let of = and_parts (are_masters move) (are_all_masters bursts) m in
-    elim (or_cases (same_burst move burst) _ s) [ inl same ↦ same-burst-masters move burst same of.0 | inr later ↦ any-masters burst bursts later of.1 ]
-
 pub goes-on-masters : (ways : ℕ) (next : Option Op) (h : Header) (past : Trace) (p : ℕ) (burst : List Event) → goes_on ways next h past p burst ≡ true → are_masters burst ≡ true
-goes-on-masters ways next h past p burst s = any-masters burst (moves ways next h past p) s (moves-masters ways next h past p)
+goes-on-masters ways next h past p burst s = any-all is_masters same-masters burst (moves ways next h past p) s (moves-masters ways next h past p)

@@ -1,6 +1,6 @@
 -- What a step puts of write data, of answers to snoops and of writes of memory: none, the four beats of a burst, one answer with its data,
 -- or one write of memory, which for a write comes with the response.
-use Rattle.std.proofs.Common.{◌≡◌, ◌⊎◌, ℕ, Bool, true, false, not, ◌&&◌, ◌||◌, ◌==◌, nat_lt, if◌then◌else◌, List, [], ◌∷◌, ◌++◌, length, filter, Option, Some, None, inl, inr, refl, sym, ap, ◌∙◌}
+use Rattle.std.proofs.Common.{◌≡◌, ◌⊎◌, ℕ, Bool, true, false, not, ◌&&◌, ◌||◌, ◌==◌, nat_lt, if◌then◌else◌, List, [], ◌∷◌, ◌++◌, length, filter, Option, Some, None, inl, inr, refl, ap, ◌∙◌}
 use Rattle.std.specs.Bool.{⊤}
 use Rattle.std.specs.List.{list_all, list_any}
 use Rattle.std.proofs.lemmas.Bool.{and_parts, and_from, or_cases, cases_Bool, eq-eqb, ltb-true, not-true, false_from_ne_true}
@@ -30,12 +30,15 @@ use Rattle.ace_runs.specs.LineSteps.{gives_snoops, grant_burst, is_first_to_wait
 use Rattle.ace_runs.specs.MasterSteps.{answers_snoop, sends}
 use Rattle.ace_runs.specs.Operations.{next_operation}
 use Rattle.ace_runs.specs.OrderSteps.{barrier_burst, dvm_burst, forwarded_to, forwards, gets_message, is_by_port, is_part_of, message_of, pair_burst, parts_missing, sync_completion}
-use Rattle.ace_runs.specs.SameEvents.{same_burst, same_event}
+use Rattle.ace_runs.specs.SameEvents.{same_burst}
 use Rattle.ace_runs.specs.Segments.{is_at_port}
 use Rattle.ace_runs.specs.Steps.{StepKind, is_sound, is_step, may_give, steps, steps_of}
 use Rattle.ace_runs.proofs.Accepting.{kept-breaks-none}
 use Rattle.ace_runs.proofs.Turns.{step-kept}
-use Rattle.ace_runs.proofs.NeverStuck.Steps.StepEvents.{are_masters, is_masters, all-if, all-map, acknowledges-masters, goes-on-masters}
+use Rattle.ace_runs.proofs.NeverStuck.Steps.SameBursts.{all-as, same-burst-all}
+use Rattle.ace_runs.proofs.NeverStuck.Steps.SameEvents.{TellsSame, tells-same}
+use Rattle.ace_runs.proofs.NeverStuck.Steps.Lists.{all-if, all-implied, all-map}
+use Rattle.ace_runs.proofs.NeverStuck.Steps.StepEvents.{are_masters, is_masters, acknowledges-masters, goes-on-masters}
 
 -- neither write data nor an answer to a snoop nor its data nor a write of memory
 abbrev pub is_plain : Event → Bool
@@ -67,39 +70,10 @@ masters-plain (Cd p last word) m = cc
 masters-plain e m = refl
 
 all-plain : (burst : List Event) → are_masters burst ≡ true → are_plain burst ≡ true
-all-plain [] m = refl
-all-plain (e ∷ burst) m = let of = and_parts (is_masters e) (are_masters burst) m in and_from _ _ (masters-plain e of.0) (all-plain burst of.1)
+all-plain burst m = all-implied is_masters is_plain masters-plain burst m
 
-same-plain : (d e : Event) → same_event d e ≡ true → is_plain d ≡ is_plain e
-same-plain (W q strb last word) (W p strobe first half) s = refl
-same-plain (W q strb last word) e s = cc
-same-plain d (W p strb last word) s = cc
-same-plain (M q c i line) (M p d j other) s = refl
-same-plain (M q c i line) e s = cc
-same-plain d (M p c i line) s = cc
-same-plain (Cr q resp st) (Cr p r t) s = refl
-same-plain (Cr q resp st) e s = cc
-same-plain d (Cr p r t) s = cc
-same-plain (Cd q last word) (Cd p first half) s = refl
-same-plain (Cd q last word) e s = cc
-same-plain d (Cd p first half) s = cc
-same-plain d e s = refl
-
--- the test tells the same of the same events
-abbrev pub TellsSame : (Event → Bool) → Type 0
-TellsSame test = (d e : Event) → same_event d e ≡ true → test d ≡ test e
-
-pub same-burst-all : (test : Event → Bool) → TellsSame test → (ds es : List Event) → same_burst ds es ≡ true → list_all test ds ≡ list_all test es
-same-burst-all test same [] [] s = refl
-same-burst-all test same [] (e ∷ es) s = cc
-same-burst-all test same (d ∷ ds) [] s = cc
-same-burst-all test same (d ∷ ds) (e ∷ es) s =
-    let parts = and_parts (same_event d e) (same_burst ds es) s in
-    ap (λ b. b && list_all test ds) (same d e parts.0) ∙ ap (λ b. test e && b) (same-burst-all test same ds es parts.1)
-
--- a burst that is the same as events that pass the test
-pub all-as : (test : Event → Bool) → TellsSame test → (ds es : List Event) → same_burst ds es ≡ true → list_all test ds ≡ true → list_all test es ≡ true
-all-as test same ds es s m = sym (same-burst-all test same ds es s) ∙ m
+same-plain : TellsSame is_plain
+same-plain = tells-same is_plain (λ p c i line. refl) (λ p a s x line. refl) (λ a line. refl)
 
 -- a burst that is the same as plain events
 pub plain-as : (ds es : List Event) → same_burst ds es ≡ true → are_plain ds ≡ true → are_plain es ≡ true

@@ -18,7 +18,8 @@ use Rattle.ace_runs.specs.Bursts.{may_begin, may_serve}
 use Rattle.ace_runs.specs.LineSteps.{memory_write, response, write_burst}
 use Rattle.ace_runs.specs.Steps.{AreSteps, is_enabled_by}
 use Rattle.ace_runs.proofs.Turns.{steps-accepted}
-use Rattle.ace_runs.proofs.NeverStuck.Updates.UpdatesMove.{data-there, same-line-self, write-kept}
+use Rattle.ace_runs.proofs.NeverStuck.Steps.SameEvents.{same-line-self}
+use Rattle.ace_runs.proofs.NeverStuck.Updates.UpdatesMove.{data-there, write-kept}
 use Rattle.ace_runs.proofs.NeverStuck.Updates.UpdatesOrGranted.{HasLine}
 use Rattle.ace_runs.proofs.NeverStuck.Updates.WriterPorts.{issuer-low}
 use Rattle.ace_runs.proofs.NeverStuck.Data.WritesAnswered.{writes-answered}

@@ -12,7 +12,6 @@ use Rattle.ace_event.specs.declared.header.Header.{Header}
 use Rattle.ace_event.specs.declared.line.Line.{Line}
 use Rattle.ace_model.specs.declared.transactions.Transaction.{Transaction}
 use Rattle.ace_model.specs.AddressRules.{k1}
-use Rattle.ace_model.specs.Copies.{same_line, word_of}
 use Rattle.ace_model.specs.Grants.{granted, has_passed_data}
 use Rattle.ace_model.specs.Kinds.{has_write_data, is_update}
 use Rattle.ace_model.specs.Plans.{Plan}
@@ -34,6 +33,7 @@ use Rattle.ace_runs.specs.Operations.{next_operation}
 use Rattle.ace_runs.specs.Steps.{AreSteps, is_enabled_by}
 use Rattle.ace_runs.proofs.Few.Beats.{beats-counted}
 use Rattle.ace_runs.proofs.Turns.{steps-accepted}
+use Rattle.ace_runs.proofs.NeverStuck.Steps.SameEvents.{same-line-self}
 use Rattle.ace_runs.proofs.NeverStuck.Acknowledges.{complete-due}
 use Rattle.ace_runs.proofs.NeverStuck.Steps.StepShapes.{updates_write}
 use Rattle.ace_runs.proofs.NeverStuck.Data.WholeBursts.{bursts-whole}
@@ -117,10 +117,6 @@ may-send plan past p x s i port sends part =
     and_from _ _ (rw next (there-is (data_writes past p) w.0 low)) (eq-eqb (next_write_beat past p) 0 beat)
 
 -- ---- step 3 ------------------------------------------------------------------------------------------
-
-pub same-line-self : (line : Line) → same_line line line ≡ true
-same-line-self line =
-    and_from _ _ (and_from _ _ (and_from _ _ (eq-eqb (word_of line 0) (word_of line 0) refl) (eq-eqb (word_of line 1) (word_of line 1) refl)) (eq-eqb (word_of line 2) (word_of line 2) refl)) (eq-eqb (word_of line 3) (word_of line 3) refl)
 
 three-kept : (a b c : Bool) → a ≡ true → b ≡ true → c ≡ true → is_none {T = ℕ} (if a then (if b then (if c then None else Some 25) else Some 24) else Some 1) ≡ true
 three-kept true true true x y z = refl

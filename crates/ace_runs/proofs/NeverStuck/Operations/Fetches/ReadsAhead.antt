@@ -25,8 +25,8 @@ use Rattle.ace_runs.specs.SameEvents.{same_burst, same_event}
 use Rattle.ace_runs.specs.Segments.{is_for_operation, is_read_of, segment}
 use Rattle.ace_runs.specs.Steps.{AreSteps, is_step}
 use Rattle.ace_runs.proofs.Turns.{of-each-run}
-use Rattle.ace_runs.proofs.NeverStuck.Steps.StepShapes.{TellsSame, same-burst-all}
-use Rattle.ace_runs.proofs.NeverStuck.Barriers.GoesOn.{same-ar}
+use Rattle.ace_runs.proofs.NeverStuck.Steps.SameBursts.{same-burst-all}
+use Rattle.ace_runs.proofs.NeverStuck.Steps.SameEvents.{TellsSame, tells-same}
 use Rattle.ace_runs.proofs.NeverStuck.Operations.Fits.Asking.{FetchesAsAsked}
 use Rattle.ace_runs.proofs.NeverStuck.Operations.Places.{completion-there}
 use Rattle.ace_runs.proofs.NeverStuck.Operations.Lines.OfPlan.{next-planned}
@@ -129,23 +129,10 @@ asks-first-keeps plan (e ∷ burst) past p next is m before =
 -- ---- the same burst ----------------------------------------------------------------------------------
 
 same-asked : (p : ℕ) (next : Option Op) → TellsSame (asks_for p next)
-same-asked p next (Ar q i b s d bar l) (Ar r j c t e f m) same =
-    let is = same-ar q i b s d bar r j c t e f l m same in
-    let p6 = and_parts ((q == r) && (i == j) && (b == c) && (s == t) && (d == e)) (bar == f) (and_parts ((q == r) && (i == j) && (b == c) && (s == t) && (d == e) && (bar == f)) _ same).0 in
-    let p3 = and_parts ((q == r) && (i == j)) (b == c) (and_parts ((q == r) && (i == j) && (b == c)) (s == t) (and_parts ((q == r) && (i == j) && (b == c) && (s == t)) (d == e) p6.0).0).0 in
-    rw (is.port, is.snoop, is.dom, is.bar, eqb-true b c p3.1) refl
-same-asked p next (Ar q i b s d bar l) e same = cc
-same-asked p next d (Ar r j c t e f m) same = cc
-same-asked p next (Retires q k res) (Retires r n out) same = refl
-same-asked p next (Retires q k res) e same = cc
-same-asked p next d (Retires r n out) same = cc
-same-asked p next d e same = refl
+same-asked p next = tells-same (asks_for p next) (λ p c i line. refl) (λ p a s x line. refl) (λ a line. refl)
 
 same-retires : TellsSame is_retirement
-same-retires (Retires q k res) (Retires r n out) same = refl
-same-retires (Retires q k res) e same = cc
-same-retires d (Retires r n out) same = cc
-same-retires d e same = refl
+same-retires = tells-same is_retirement (λ p c i line. refl) (λ p a s x line. refl) (λ a line. refl)
 
 same-first : (p : ℕ) (next : Option Op) (ds es : List Event) → same_burst ds es ≡ true → asks_first p next ds ≡ true → asks_first p next es ≡ true
 same-first p next [] [] same m = refl

@@ -24,10 +24,12 @@ use Rattle.ace_runs.specs.Operations.{next_operation}
 use Rattle.ace_runs.specs.OrderSteps.{barrier_burst, dvm_burst, pair_burst, sync_completion}
 use Rattle.ace_runs.specs.Steps.{is_sound, is_step, may_give, steps, steps_of}
 use Rattle.ace_runs.proofs.Turns.{step-kept}
-use Rattle.ace_runs.proofs.NeverStuck.Steps.StepEvents.{all-append, all-if, answers-answering, is_answering}
-use Rattle.ace_runs.proofs.NeverStuck.Steps.StepShapes.{TellsSame, all-as, forwards-all, of-any, served-all, snoops-all}
+use Rattle.ace_runs.proofs.NeverStuck.Steps.SameBursts.{all-as}
+use Rattle.ace_runs.proofs.NeverStuck.Steps.SameEvents.{TellsSame, tells-same}
+use Rattle.ace_runs.proofs.NeverStuck.Steps.Lists.{all-append, all-if, all-implied}
+use Rattle.ace_runs.proofs.NeverStuck.Steps.StepEvents.{answers-answering, is_answering}
+use Rattle.ace_runs.proofs.NeverStuck.Steps.StepShapes.{forwards-all, of-any, served-all, snoops-all}
 use Rattle.ace_runs.proofs.NeverStuck.Barriers.Quiet.{acknowledges-quiet, is_quiet}
-use Rattle.ace_runs.proofs.NeverStuck.Data.WholeAnswers.{all-implied}
 
 -- ---- events ------------------------------------------------------------------------------------------
 
@@ -37,10 +39,7 @@ issues_no_read (Ar p i addr code dom bar lock) = false
 issues_no_read _ = true
 
 pub same-no-read : TellsSame issues_no_read
-same-no-read (Ar p i a s d b l) (Ar q j c t e f m) same = refl
-same-no-read (Ar p i a s d b l) e same = cc
-same-no-read d (Ar q j c t e f m) same = cc
-same-no-read d e same = refl
+same-no-read = tells-same issues_no_read (λ p c i line. refl) (λ p a s x line. refl) (λ a line. refl)
 
 answering-no-read : (e : Event) → is_answering e ≡ true → issues_no_read e ≡ true
 answering-no-read (Ar p i addr code dom bar lock) m = cc

@@ -28,7 +28,7 @@ use Rattle.ace_model.specs.Transactions.{has_outstanding_on}
 use Rattle.ace_runs.specs.Bursts.{are_kept}
 use Rattle.ace_runs.specs.HeldLines.{held_lines}
 use Rattle.ace_runs.specs.Requests.{Request, Reads, Misses, Writes, Drops, Barriers, Messages, and_part, barrier_bursts, barrier_halves, bursts_of, domain_for, drop_bursts, free_on, has_room, identifiers, is_free, least_below, message_bursts, read_bursts, room_bursts, victim_bursts, with_identifier, write_bursts}
-use Rattle.ace_runs.proofs.NeverStuck.Steps.StepEvents.{all-append, all-flat_mapped, all-if}
+use Rattle.ace_runs.proofs.NeverStuck.Steps.Lists.{all-append, all-flat_mapped, all-if}
 use Rattle.ace_runs.proofs.NeverStuck.Barriers.Together.{AreTogether}
 use Rattle.ace_runs.proofs.NeverStuck.Operations.Fits.Asking.{IsFit, held-write}
 use Rattle.ace_runs.proofs.NeverStuck.Operations.Kept.AsksKept.{DropFits, ReadFits, WriteFits, drop-kept, read-kept, write-kept}

@@ -17,6 +17,7 @@ use Rattle.ace_model.specs.Transactions.{acknowledged, is_line, is_some_on}
 use Rattle.ace_runs.specs.HeldLines.{held_lines, line_of_snoop, line_of_transaction, line_told, others, with_line}
 use Rattle.ace_runs.specs.Segments.{is_at_port}
 use Rattle.ace_runs.proofs.Few.Queues.{eqb-swap}
+use Rattle.ace_runs.proofs.NeverStuck.Steps.Lists.{all-implied}
 
 -- ---- the line whose state an event may change --------------------------------------------------------
 
@@ -80,11 +81,6 @@ state-untold h past e p a f = ap (λ o. unwrap_or o (state_of h past p a)) (left
 
 -- ---- lists -------------------------------------------------------------------------------------------
 
-all-as-well : {A : Type 0} → (test later : A → Bool) → ((x : A) → test x ≡ true → later x ≡ true) → (xs : List A) → list_all test xs ≡ true → list_all later xs ≡ true
-all-as-well test later each [] all = refl
-all-as-well test later each (x ∷ xs) all =
-    let parts = and_parts (test x) (list_all test xs) all in and_from _ _ (each x parts.0) (all-as-well test later each xs parts.1)
-
 pub all-filtered : {A : Type 0} → (test keep later : A → Bool) → ((x : A) → keep x ≡ true → test x ≡ true → later x ≡ true) → (xs : List A) → list_all test xs ≡ true
     → list_all later (filter keep xs) ≡ true
 all-filtered test keep later each [] all = refl
@@ -136,7 +132,7 @@ held-after : (h : Header) (past : Trace) (e : Event) (p : ℕ) (lines : List ℕ
 held-after h past e p lines all = by (is_at_port p e) refl
   where
     stays : ((a : ℕ) → may_tell past e p a ≡ false) → list_all (holds h (e ∷ past) p) lines ≡ true
-    stays none = all-as-well (holds h past p) (holds h (e ∷ past) p) (λ a t. holds-untold h past e p a (none a) t) lines all
+    stays none = all-implied (holds h past p) (holds h (e ∷ past) p) (λ a t. holds-untold h past e p a (none a) t) lines all
 
     told : (o : Option ℕ) → line_told past e ≡ o → list_all (holds h (e ∷ past) p) (with_line o (state_of h (e ∷ past) p) lines) ≡ true
     told None is = stays (λ a. and-none (is_at_port p e) _ (ap (λ o. is_some_and o (λ l. l == a)) is))
