@@ -10,7 +10,13 @@ pub mod SameBursts
 pub mod Concluding
 -- Which events each step gives.
 pub mod StepEvents
+-- The steps that serve a transaction.
+pub mod Serving
 -- What a step puts of write data and of writes of memory.
 pub mod StepShapes
+-- A step is one of masters, or gives nothing but write data and events of the interconnect.
+pub mod MasterSteps
+-- Steps other than step 14 issue no read.
+pub mod SilentSteps
 -- A port enabled by some steps is enabled by more.
 pub mod EnabledBy

@@ -1,7 +1,6 @@
 -- Between the steps of a run each answer to a snoop has the data that it announces: step 1 puts them with it.
-use Rattle.std.proofs.Common.{◌≡◌, ℕ, ◌+◌, ◌*◌, Bool, true, false, ◌&&◌, ◌==◌, if◌then◌else◌, List, [], ◌∷◌, ◌++◌, length, map, Option, Some, None, inl, inr, refl, sym, ap, subst, ◌∙◌, arith}
+use Rattle.std.proofs.Common.{◌≡◌, ℕ, ◌+◌, ◌*◌, Bool, true, false, ◌&&◌, ◌==◌, if◌then◌else◌, List, [], ◌∷◌, ◌++◌, length, inl, inr, refl, sym, ap, subst, ◌∙◌, arith}
 use Rattle.std.specs.List.{list_all}
-use Rattle.std.specs.Option.{option_to_list}
 use Rattle.std.proofs.lemmas.Bool.{and_parts, and_from, cases_Bool, eqb-true, eq-eqb}
 use Rattle.ace_codes.specs.declared.kind.SnoopKind.{SnoopKind}
 use Rattle.ace_codes.specs.declared.kind.SnoopKind.TheVariants as snoop
@@ -9,7 +8,7 @@ use Rattle.ace_codes.specs.declared.state.LineState.{LineState}
 use Rattle.ace_codes.specs.Responses.{transfers_data}
 use Rattle.ace_codes.specs.Snoops.{ac_kind_of}
 use Rattle.ace_event.specs.declared.event.Event.{Event}
-use Rattle.ace_event.specs.declared.event.Event.TheVariants.{Cr, Cd, M}
+use Rattle.ace_event.specs.declared.event.Event.TheVariants.{Cr, Cd}
 use Rattle.ace_event.specs.declared.event.Outcome.TheVariants.{Ok}
 use Rattle.ace_event.specs.declared.header.Header.{Header}
 use Rattle.ace_event.specs.declared.line.Line.{Line}
@@ -25,7 +24,6 @@ use Rattle.ace_model.specs.SnoopRules.{answers_by_row, k15}
 use Rattle.ace_model.specs.Snoops.{answered, answers, data_answers, data_beats, snoops_a_line}
 use Rattle.ace_model.specs.States.{state_of}
 use Rattle.ace_model.specs.Trace.{Trace, is_some_and}
-use Rattle.ace_model.specs.WriteRules.{data_of}
 use Rattle.ace_model.proofs.General.Options.{is_none_or-at, is_some_and-is, some_is}
 use Rattle.ace_model.proofs.Rules.Keeps.{kept}
 use Rattle.ace_runs.specs.Bursts.{are_kept, is_kept, onto}
@@ -37,6 +35,7 @@ use Rattle.ace_runs.specs.SameEvents.{same_burst}
 use Rattle.ace_runs.specs.Steps.{AreSteps, is_step}
 use Rattle.ace_runs.proofs.Accepting.{accepted-after, kept-breaks-none}
 use Rattle.ace_runs.proofs.Turns.{of-each-run, step-kept}
+use Rattle.ace_runs.proofs.NeverStuck.Steps.Serving.{responded-all, written-all}
 use Rattle.ace_runs.proofs.NeverStuck.Steps.SameBursts.{all-as, same-length}
 use Rattle.ace_runs.proofs.NeverStuck.Steps.SameEvents.{TellsSame, tells-same}
 use Rattle.ace_runs.proofs.NeverStuck.Steps.Lists.{all-if, all-implied}
@@ -82,17 +81,9 @@ beat-quiet q e m = refl
 same-quiet : TellsSame is_quiet
 same-quiet = tells-same is_quiet (λ p c i line. refl) (λ p a s x line. refl) (λ a line. refl)
 
-written-quiet : (x : Transaction) (o : Option Line) → list_all is_quiet (map (λ line. M x.port x.chan x.id line) (option_to_list o)) ≡ true
-written-quiet x None = refl
-written-quiet x (Some line) = refl
-
-responded-quiet : (x : Transaction) (o : Option Line) → list_all is_quiet (map (λ line. M x.port x.chan x.id line) (option_to_list o) ++ response x) ≡ true
-responded-quiet x None = refl
-responded-quiet x (Some line) = refl
-
 writes-quiet : (h : Header) (past : Trace) (burst : List Event) (x : Transaction) → WritesFor h past burst x → list_all is_quiet burst ≡ true
-writes-quiet h past burst x (inl w) = all-as is_quiet same-quiet (memory_write h past x ++ response x) burst w.1 (responded-quiet x (data_of h past x))
-writes-quiet h past burst x (inr w) = all-as is_quiet same-quiet (memory_write h past x) burst w.1 (written-quiet x (data_of h past x))
+writes-quiet h past burst x (inl w) = all-as is_quiet same-quiet (memory_write h past x ++ response x) burst w.1 (responded-all is_quiet (λ p c i line. refl) (λ p i resp. refl) h past x)
+writes-quiet h past burst x (inr w) = all-as is_quiet same-quiet (memory_write h past x) burst w.1 (written-all is_quiet (λ p c i line. refl) h past x)
 
 -- ---- the beats of an answer --------------------------------------------------------------------------
 

@@ -1,16 +1,13 @@
 -- Between the steps of a run the beats of write data of each port are whole bursts: a step puts none, or the four of one burst.
-use Rattle.std.proofs.Common.{◌≡◌, ℕ, ◌+◌, ◌*◌, true, false, not, ◌==◌, List, [], ◌∷◌, ◌++◌, length, map, Option, Some, None, inl, inr, refl, ap, ◌∙◌, arith}
+use Rattle.std.proofs.Common.{◌≡◌, ℕ, ◌+◌, ◌*◌, true, false, not, ◌==◌, List, [], ◌∷◌, ◌++◌, length, inl, inr, refl, ap, ◌∙◌, arith}
 use Rattle.std.specs.List.{list_all}
-use Rattle.std.specs.Option.{option_to_list}
 use Rattle.std.proofs.lemmas.Bool.{and_parts, cases_Bool, eqb-true}
 use Rattle.ace_event.specs.declared.event.Event.{Event}
-use Rattle.ace_event.specs.declared.event.Event.TheVariants.{W, M}
+use Rattle.ace_event.specs.declared.event.Event.TheVariants.{W}
 use Rattle.ace_event.specs.declared.header.Header.{Header}
-use Rattle.ace_event.specs.declared.line.Line.{Line}
 use Rattle.ace_model.specs.declared.transactions.Transaction.{Transaction}
 use Rattle.ace_model.specs.Plans.{Plan}
 use Rattle.ace_model.specs.Trace.{Trace}
-use Rattle.ace_model.specs.WriteRules.{data_of}
 use Rattle.ace_runs.specs.Bursts.{onto}
 use Rattle.ace_runs.specs.Counts.{counted, is_write_beat}
 use Rattle.ace_runs.specs.LineSteps.{memory_write, response}
@@ -18,6 +15,7 @@ use Rattle.ace_runs.specs.MasterSteps.{is_beat, sends}
 use Rattle.ace_runs.specs.Steps.{AreSteps, is_step}
 use Rattle.ace_runs.proofs.Few.Ports.{at_port}
 use Rattle.ace_runs.proofs.Turns.{of-each-run}
+use Rattle.ace_runs.proofs.NeverStuck.Steps.Serving.{responded-all, written-all}
 use Rattle.ace_runs.proofs.NeverStuck.Steps.SameBursts.{all-as}
 use Rattle.ace_runs.proofs.NeverStuck.Steps.SameEvents.{TellsSame, tells-same}
 use Rattle.ace_runs.proofs.NeverStuck.Steps.Lists.{all-implied}
@@ -55,17 +53,9 @@ answering-no-beat e m = refl
 same-beat : TellsSame (λ e. not (is_write_beat e))
 same-beat = tells-same (λ e. not (is_write_beat e)) (λ p c i line. refl) (λ p a s x line. refl) (λ a line. refl)
 
-written-no-beats : (x : Transaction) (o : Option Line) → list_all (λ e. not (is_write_beat e)) (map (λ line. M x.port x.chan x.id line) (option_to_list o)) ≡ true
-written-no-beats x None = refl
-written-no-beats x (Some line) = refl
-
-answered-no-beats : (x : Transaction) (o : Option Line) → list_all (λ e. not (is_write_beat e)) (map (λ line. M x.port x.chan x.id line) (option_to_list o) ++ response x) ≡ true
-answered-no-beats x None = refl
-answered-no-beats x (Some line) = refl
-
 writes-no-beats : (h : Header) (past : Trace) (burst : List Event) (x : Transaction) → WritesFor h past burst x → list_all (λ e. not (is_write_beat e)) burst ≡ true
-writes-no-beats h past burst x (inl w) = all-as (λ e. not (is_write_beat e)) same-beat (memory_write h past x ++ response x) burst w.1 (answered-no-beats x (data_of h past x))
-writes-no-beats h past burst x (inr w) = all-as (λ e. not (is_write_beat e)) same-beat (memory_write h past x) burst w.1 (written-no-beats x (data_of h past x))
+writes-no-beats h past burst x (inl w) = all-as (λ e. not (is_write_beat e)) same-beat (memory_write h past x ++ response x) burst w.1 (responded-all (λ e. not (is_write_beat e)) (λ p c i line. refl) (λ p i resp. refl) h past x)
+writes-no-beats h past burst x (inr w) = all-as (λ e. not (is_write_beat e)) same-beat (memory_write h past x) burst w.1 (written-all (λ e. not (is_write_beat e)) (λ p c i line. refl) h past x)
 
 -- ---- the beats of one burst --------------------------------------------------------------------------
 

@@ -14,15 +14,16 @@ use Rattle.ace_model.specs.Trace.{Trace}
 use Rattle.ace_model.specs.Transactions.{is_complete, is_completion, is_named, is_read, issued, same_channel}
 use Rattle.ace_model.specs.WriteRules.{data_of}
 use Rattle.ace_model.specs.Writes.{has_memory_write, is_memory_write}
-use Rattle.ace_model.proofs.Trace.Looks.{same_channel-is}
 use Rattle.ace_runs.specs.Bursts.{onto}
 use Rattle.ace_runs.specs.LineSteps.{response}
 use Rattle.ace_runs.specs.MasterSteps.{is_beat}
 use Rattle.ace_runs.specs.SameEvents.{same_burst, same_event}
 use Rattle.ace_runs.specs.Steps.{AreSteps, is_step}
 use Rattle.ace_runs.proofs.Turns.{of-each-run}
+use Rattle.ace_runs.proofs.NeverStuck.Steps.SameEvents.{TellsSame, tells-same}
+use Rattle.ace_runs.proofs.NeverStuck.Steps.Lists.{all-implied}
 use Rattle.ace_runs.proofs.NeverStuck.Steps.StepEvents.{answers-answering, is_answering}
-use Rattle.ace_runs.proofs.NeverStuck.Steps.StepShapes.{WritesFor, are_plain, is_plain, plain-as, step-shape}
+use Rattle.ace_runs.proofs.NeverStuck.Steps.StepShapes.{WritesFor, is_plain, plain-as, step-shape}
 
 -- a write that has written memory has its response
 abbrev pub AreWritesAnswered : Trace → Type 0
@@ -60,26 +61,13 @@ plain-none : (e : Event) → is_plain e ≡ true → writes_none e ≡ true
 plain-none (M p c i line) m = cc
 plain-none e m = refl
 
-all-plain-none : (burst : List Event) → are_plain burst ≡ true → list_all writes_none burst ≡ true
-all-plain-none [] m = refl
-all-plain-none (e ∷ burst) m = let parts = and_parts (is_plain e) (are_plain burst) m in and_from _ _ (plain-none e parts.0) (all-plain-none burst parts.1)
-
 answering-none : (e : Event) → is_answering e ≡ true → writes_none e ≡ true
 answering-none (M p c i line) m = cc
 answering-none e m = refl
 
-all-answering-none : (burst : List Event) → list_all is_answering burst ≡ true → list_all writes_none burst ≡ true
-all-answering-none [] m = refl
-all-answering-none (e ∷ burst) m =
-    let parts = and_parts (is_answering e) (list_all is_answering burst) m in and_from _ _ (answering-none e parts.0) (all-answering-none burst parts.1)
-
 beat-none : (q : ℕ) (e : Event) → is_beat q e ≡ true → writes_none e ≡ true
 beat-none q (M p c i line) b = cc
 beat-none q e b = refl
-
-beats-none : (q : ℕ) (burst : List Event) → list_all (is_beat q) burst ≡ true → list_all writes_none burst ≡ true
-beats-none q [] b = refl
-beats-none q (e ∷ burst) b = let parts = and_parts (is_beat q e) (list_all (is_beat q) burst) b in and_from _ _ (beat-none q e parts.0) (beats-none q burst parts.1)
 
 -- ---- with one ----------------------------------------------------------------------------------------
 
@@ -111,7 +99,7 @@ kept-by-pair d e past x line answered s t p i m = cc
 
 kept-by-write : (past : Trace) (burst : List Event) (x : Transaction) (o : Option Line) → AreWritesAnswered past
     → same_burst (map (λ line. M x.port x.chan x.id line) (option_to_list o) ++ response x) burst ≡ true → AreWritesAnswered (onto burst past)
-kept-by-write past burst x None answered s = kept-by-events burst past answered (all-plain-none burst (plain-as (response x) burst s refl))
+kept-by-write past burst x None answered s = kept-by-events burst past answered (all-implied is_plain writes_none plain-none burst (plain-as (response x) burst s refl))
 kept-by-write past [] x (Some line) answered s = cc
 kept-by-write past (d ∷ []) x (Some line) answered s =
     let parts = and_parts (same_event (M x.port x.chan x.id line) d) false s in cc
@@ -122,12 +110,11 @@ kept-by-write past (d ∷ e ∷ f ∷ burst) x (Some line) answered s =
     let parts = and_parts (same_event (M x.port x.chan x.id line) d) (same_event (B x.port x.id 0) e && false) s in
     let none = and_parts (same_event (B x.port x.id 0) e) false parts.1 in cc
 
+same-writes : TellsSame writes_none
+same-writes = tells-same writes_none (λ p c i line. refl) (λ p a s x line. refl) (λ a line. refl)
+
 read-none : (d : Event) (x : Transaction) (line : Line) → is_read x.chan ≡ true → same_event (M x.port x.chan x.id line) d ≡ true → writes_none d ≡ true
-read-none (M r c k other) x line reads s =
-    let three = (and_parts ((x.port == r) && same_channel x.chan c && (x.id == k)) _ s).0 in
-    let chan = (and_parts (x.port == r) (same_channel x.chan c) (and_parts ((x.port == r) && same_channel x.chan c) (x.id == k) three).0).1 in
-    rw (← same_channel-is x.chan c chan) reads
-read-none d x line reads s = cc
+read-none d x line reads s = sym (same-writes (M x.port x.chan x.id line) d s) ∙ reads
 
 kept-by-passed : (past : Trace) (burst : List Event) (x : Transaction) (o : Option Line) → AreWritesAnswered past → is_read x.chan ≡ true
     → same_burst (map (λ line. M x.port x.chan x.id line) (option_to_list o)) burst ≡ true → AreWritesAnswered (onto burst past)
@@ -147,9 +134,9 @@ for-one h past burst x answered (inr w) = kept-by-passed past burst x (data_of h
 pub answered-kept : (plan : Plan) (past : Trace) (p : ℕ) (burst : List Event) → AreWritesAnswered past → is_step plan past p burst ≡ true → AreWritesAnswered (onto burst past)
 answered-kept plan past p burst answered s =
     elim (step-shape plan past p burst s) [
-      | inl plain ↦ kept-by-events burst past answered (all-plain-none burst plain)
-      | inr (inl sent) ↦ kept-by-events burst past answered (beats-none p burst (and_parts (list_all (is_beat p) burst) (length burst == 4) sent).0)
-      | inr (inr (inl g)) ↦ kept-by-events burst past answered (all-answering-none burst (answers-answering plan.header past p burst g))
+      | inl plain ↦ kept-by-events burst past answered (all-implied is_plain writes_none plain-none burst plain)
+      | inr (inl sent) ↦ kept-by-events burst past answered (all-implied (is_beat p) writes_none (beat-none p) burst (and_parts (list_all (is_beat p) burst) (length burst == 4) sent).0)
+      | inr (inr (inl g)) ↦ kept-by-events burst past answered (all-implied is_answering writes_none answering-none burst (answers-answering plan.header past p burst g))
       | inr (inr (inr w)) ↦ for-one plan.header past burst w.0 answered w.1
     ]
 

@@ -15,9 +15,9 @@ use Rattle.ace_runs.specs.Counts.{issues_part}
 use Rattle.ace_runs.specs.Closing.{and_closing, closing_of}
 use Rattle.ace_runs.specs.SameEvents.{same_burst, same_event}
 use Rattle.ace_runs.specs.Segments.{is_at_port}
+use Rattle.ace_runs.proofs.NeverStuck.Steps.SilentSteps.{closing-no-read, issues_no_read}
 use Rattle.ace_runs.proofs.NeverStuck.Steps.SameEvents.{TellsSame, equal-event, same_test-self, tells-same}
 use Rattle.ace_runs.proofs.NeverStuck.Steps.Lists.{all-implied}
-use Rattle.ace_runs.proofs.NeverStuck.Barriers.Quiet.{closing-quiet, is_quiet}
 
 -- the word of the part that the event issues
 abbrev pub word_issued : Event → ℕ
@@ -55,12 +55,12 @@ leads-append p was mid later (e ∷ xs) ys x y =
       | inr f ↦ rw f (leads-append p was mid later xs ys (rw f at x) y)
     ]
 
-quiet-none : (e : Event) → is_quiet e ≡ true → issues_none e ≡ true
-quiet-none (Ar p i addr code dom bar lock) m = cc
-quiet-none e m = refl
+pub silent-none : (e : Event) → issues_no_read e ≡ true → issues_none e ≡ true
+silent-none (Ar p i addr code dom bar lock) m = cc
+silent-none e m = refl
 
 pub closing-none : (h : Header) (past : Trace) (p : ℕ) (o : Op) → list_all issues_none (closing_of h past p o) ≡ true
-closing-none h past p o = all-implied is_quiet issues_none quiet-none (closing_of h past p o) (closing-quiet h past p o)
+closing-none h past p o = all-implied issues_no_read issues_none silent-none (closing_of h past p o) (closing-no-read h past p o)
 
 pub closed-whole : (h : Header) (past : Trace) (p : ℕ) (o : Op) (burst : List Event) → is_whole p burst ≡ true → is_whole p (and_closing h past p o burst) ≡ true
 closed-whole h past p o burst w =

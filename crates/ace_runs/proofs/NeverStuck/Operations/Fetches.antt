@@ -1,8 +1,6 @@
 -- A read ahead fetches its line by reads of its kind alone.
 
--- Only step 14 issues reads.
-pub mod SilentSteps
--- It issues those that the next operation asks for.
+-- Step 14 issues those that the next operation asks for.
 pub mod ReadsAsked
 -- So those of a read ahead are of its kind.
 pub mod ReadsAhead

@@ -1,5 +1,5 @@
 -- Bursts whose transfers are in order: at most the first event is a transfer, and of a line transaction it says what step 8 says.
-use Rattle.std.proofs.Common.{◌≡◌, ℕ, Bool, true, false, ◌&&◌, ◌==◌, List, [], ◌∷◌, Some, refl, sym, ap, subst, ◌∙◌}
+use Rattle.std.proofs.Common.{◌≡◌, ℕ, Bool, true, false, List, [], ◌∷◌, Some, refl, sym, ap, subst, ◌∙◌}
 use Rattle.std.specs.Bool.{⊤}
 use Rattle.std.specs.List.{list_all}
 use Rattle.std.proofs.lemmas.Bool.{and_parts}
@@ -12,10 +12,9 @@ use Rattle.ace_model.specs.Grants.{has_passed_data}
 use Rattle.ace_model.specs.Trace.{Trace, implies}
 use Rattle.ace_model.specs.Transactions.{is_line, is_outstanding, is_read, outstanding}
 use Rattle.ace_model.proofs.General.Options.{Some-injective}
-use Rattle.ace_model.proofs.Trace.Growth.{IsIssued, some_issued-is}
+use Rattle.ace_model.proofs.Trace.Growth.{IsIssued}
 use Rattle.ace_model.proofs.Trace.LineOnce.{outstanding_is}
 use Rattle.ace_model.proofs.Trace.Looks.{is_read-is}
-use Rattle.ace_runs.specs.Bursts.{serves}
 use Rattle.ace_runs.specs.LineSteps.{response_bits, takes_dirt}
 use Rattle.ace_runs.specs.SameEvents.{same_burst, same_event}
 use Rattle.ace_runs.proofs.NeverStuck.Steps.SameBursts.{all-as}
@@ -59,25 +58,10 @@ begins-in-order h past d ds (e ∷ burst) s each others =
 pub of-none : (h : Header) (past : Trace) (burst : List Event) → same_burst [] burst ≡ true → FirstInOrder h past burst
 of-none h past burst s = others-in-order h past burst (all-as is_other same-other [] burst s refl)
 
--- ---- the transaction that a step serves --------------------------------------------------------------
+-- ---- the same transfer -------------------------------------------------------------------------------
 
--- An outstanding transaction whose burst a step gives.
-pub record Serving (burst_for : Header → Trace → Transaction → List Event) (h : Header) (past : Trace) (burst : List Event) : Type 0 where
-  pub one : Transaction
-  pub there : IsIssued past one
-  pub out : outstanding h past one.port one.chan one.id ≡ Some one
-  pub gives : same_burst (burst_for h past one) burst ≡ true
-
-pub serving : (burst_for : Header → Trace → Transaction → List Event) (h : Header) (past : Trace) (p : ℕ) (burst : List Event) → serves burst_for h past p burst ≡ true
-    → Serving burst_for h past burst
-serving burst_for h past p burst s =
-    let x = some_issued-is past (λ x. (x.port == p) && is_outstanding h past x && same_burst (burst_for h past x) burst) s in
-    let parts = and_parts ((x.0.port == p) && is_outstanding h past x.0) (same_burst (burst_for h past x.0) burst) x.2 in
-    let is_out = (and_parts (x.0.port == p) (is_outstanding h past x.0) parts.0).1 in
-    record { one = x.0; there = x.1; out = outstanding_is h past x.0 x.1 is_out; gives = parts.1 }
-
-pub read-out : (h : Header) (past : Trace) (x : Transaction) → outstanding h past x.port x.chan x.id ≡ Some x → is_read x.chan ≡ true → outstanding h past x.port Read x.id ≡ Some x
-read-out h past x o reads = subst (λ c. outstanding h past x.port c x.id ≡ Some x) (is_read-is x.chan reads) o
+pub read-out : (h : Header) (past : Trace) (x : Transaction) → IsIssued past x → is_outstanding h past x ≡ true → is_read x.chan ≡ true → outstanding h past x.port Read x.id ≡ Some x
+read-out h past x i out reads = subst (λ c. outstanding h past x.port c x.id ≡ Some x) (is_read-is x.chan reads) (outstanding_is h past x i out)
 
 -- an outstanding transaction under the name of another is that one
 pub same-name : (h : Header) (past : Trace) (x y : Transaction) (p i : ℕ) → outstanding h past y.port Read y.id ≡ Some y → outstanding h past p Read i ≡ Some x

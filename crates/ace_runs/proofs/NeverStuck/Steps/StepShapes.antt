@@ -1,6 +1,7 @@
 -- What a step puts of write data, of answers to snoops and of writes of memory: none, the four beats of a burst, one answer with its data,
 -- or one write of memory, which for a write comes with the response.
-use Rattle.std.proofs.Common.{◌≡◌, ◌⊎◌, ℕ, Bool, true, false, not, ◌&&◌, ◌||◌, ◌==◌, nat_lt, if◌then◌else◌, List, [], ◌∷◌, ◌++◌, length, filter, Option, Some, None, inl, inr, refl, ap, ◌∙◌}
+use Rattle.std.proofs.Common.{◌≡◌, ◌⊎◌, ℕ, Bool, true, false, not, ◌&&◌, ◌==◌, nat_lt, if◌then◌else◌, List, [], ◌∷◌, ◌++◌, filter, Option, Some, None, inl, inr, refl, ap, ◌∙◌}
+use Rattle.ace_model.proofs.Trace.Growth.{some_issued-is}
 use Rattle.std.specs.Bool.{⊤}
 use Rattle.std.specs.List.{list_all, list_any}
 use Rattle.std.proofs.lemmas.Bool.{and_parts, and_from, or_cases, cases_Bool, eq-eqb, ltb-true, not-true, false_from_ne_true}
@@ -14,27 +15,26 @@ use Rattle.ace_model.specs.declared.transactions.Transaction.{Transaction}
 use Rattle.ace_model.specs.Trace.{Trace, implies, is_some_and, port_of}
 use Rattle.ace_model.specs.Accepted.{rules}
 use Rattle.ace_model.specs.AddressRules.{k1, may_have}
-use Rattle.ace_model.specs.Barriers.{Pair, pair_of}
 use Rattle.ace_model.specs.Grants.{has_passed_data, is_granted, ports_below}
-use Rattle.ace_model.specs.Kinds.{is_read_barrier}
-use Rattle.ace_model.specs.Messages.{is_dvm_completion, is_message_part, is_other_ace, next_part, has_part}
+use Rattle.ace_model.specs.Messages.{is_other_ace, next_part, has_part}
 use Rattle.ace_model.specs.Plans.{Plan}
 use Rattle.ace_model.specs.Progress.{evicts, updates_memory}
-use Rattle.ace_model.specs.Transactions.{is_line, is_outstanding, is_read, issued, read_kind, snoop_of, some_issued, takes_grant}
+use Rattle.ace_model.specs.Transactions.{is_outstanding, is_read, snoop_of, takes_grant}
 use Rattle.ace_model.proofs.General.Booleans.{implies-at}
 use Rattle.ace_model.proofs.General.Options.{is_none_or-at, is_some_and-is}
 use Rattle.ace_model.proofs.General.Ports.{each_at}
 use Rattle.ace_model.proofs.Rules.Keeps.{kept}
-use Rattle.ace_runs.specs.Bursts.{are_kept, is_kept, serves}
-use Rattle.ace_runs.specs.LineSteps.{gives_snoops, grant_burst, is_first_to_wait, is_snoop_for, memory_write, passed_burst, response, takes_dirt, transfer_burst, update_burst, write_burst}
+use Rattle.ace_runs.specs.Bursts.{are_kept, is_kept}
+use Rattle.ace_runs.specs.LineSteps.{gives_snoops, grant_burst, is_snoop_for, memory_write, passed_burst, response, takes_dirt, transfer_burst, update_burst, write_burst}
 use Rattle.ace_runs.specs.MasterSteps.{answers_snoop, sends}
 use Rattle.ace_runs.specs.Operations.{next_operation}
-use Rattle.ace_runs.specs.OrderSteps.{barrier_burst, dvm_burst, forwarded_to, forwards, gets_message, is_by_port, is_part_of, message_of, pair_burst, parts_missing, sync_completion}
+use Rattle.ace_runs.specs.OrderSteps.{barrier_burst, dvm_burst, forwarded_to, forwards, gets_message, is_by_port, is_part_of, message_of, parts_missing, sync_completion}
 use Rattle.ace_runs.specs.SameEvents.{same_burst}
 use Rattle.ace_runs.specs.Segments.{is_at_port}
 use Rattle.ace_runs.specs.Steps.{StepKind, is_sound, is_step, may_give, steps, steps_of}
 use Rattle.ace_runs.proofs.Accepting.{kept-breaks-none}
 use Rattle.ace_runs.proofs.Turns.{step-kept}
+use Rattle.ace_runs.proofs.NeverStuck.Steps.Serving.{barrier-all, dvm-all, grant-all, served, served-all, transfer-all}
 use Rattle.ace_runs.proofs.NeverStuck.Steps.SameBursts.{all-as, same-burst-all}
 use Rattle.ace_runs.proofs.NeverStuck.Steps.SameEvents.{TellsSame, tells-same}
 use Rattle.ace_runs.proofs.NeverStuck.Steps.Lists.{all-if, all-implied, all-map}
@@ -81,29 +81,6 @@ plain-as ds es s m = all-as is_plain same-plain ds es s m
 
 -- ---- steps that serve a transaction ------------------------------------------------------------------
 
-issued-passes : (past : Trace) (test : Transaction → Bool) → some_issued past test ≡ true → (x : Transaction) × (test x ≡ true)
-issued-passes [] test s = cc
-issued-passes (e ∷ past) test s =
-    elim (or_cases (is_some_and (issued (length past) e) test) (some_issued past test) s) [
-      | inl new ↦ let x = is_some_and-is (issued (length past) e) test new in (x.0, x.2)
-      | inr old ↦ issued-passes past test old
-    ]
-
-served : (burst_for : Header → Trace → Transaction → List Event) (h : Header) (past : Trace) (p : ℕ) (burst : List Event)
-    → serves burst_for h past p burst ≡ true → (x : Transaction) × (same_burst (burst_for h past x) burst ≡ true)
-served burst_for h past p burst s =
-    let x = issued-passes past (λ x. (x.port == p) && is_outstanding h past x && same_burst (burst_for h past x) burst) s in
-    (x.0, (and_parts _ (same_burst (burst_for h past x.0) burst) x.1).1)
-
-pub served-all : (test : Event → Bool) → TellsSame test → (burst_for : Header → Trace → Transaction → List Event) (h : Header) (past : Trace) (p : ℕ) (burst : List Event)
-    → ((x : Transaction) → list_all test (burst_for h past x) ≡ true) → serves burst_for h past p burst ≡ true → list_all test burst ≡ true
-served-all test same burst_for h past p burst each s =
-    let x = served burst_for h past p burst s in all-as test same (burst_for h past x.0) burst x.1 (each x.0)
-
-pair-plain : (o : Option Pair) → are_plain (pair_burst o) ≡ true
-pair-plain None = refl
-pair-plain (Some b) = refl
-
 pub updates_write : (x : Transaction) → updates_memory x ≡ true → is_read x.chan ≡ false
 updates_write x u = false_from_ne_true (is_read x.chan) (λ t. let bad : false ≡ true = rw t at u in cc)
 
@@ -140,21 +117,14 @@ snoop-plain x k (Cr p resp st) s = cc
 snoop-plain x k (Cd p last word) s = cc
 snoop-plain x k e s = refl
 
-all-snoops : (test : Event → Bool) (x : Transaction) (k : SnoopKind) → ((e : Event) → is_snoop_for x k e ≡ true → test e ≡ true)
-    → (burst : List Event) → list_all (is_snoop_for x k) burst ≡ true → list_all test burst ≡ true
-all-snoops test x k each [] s = refl
-all-snoops test x k each (e ∷ burst) s =
-    let parts = and_parts (is_snoop_for x k e) (list_all (is_snoop_for x k) burst) s in
-    and_from _ _ (each e parts.0) (all-snoops test x k each burst parts.1)
-
 pub snoops-all : (test : Event → Bool) → ((x : Transaction) (k : SnoopKind) (e : Event) → is_snoop_for x k e ≡ true → test e ≡ true)
     → (h : Header) (past : Trace) (p : ℕ) (burst : List Event) → gives_snoops h past p burst ≡ true → list_all test burst ≡ true
 snoops-all test each h past p burst s =
     let of_it = λ (x : Transaction). is_granted h past x && is_some_and (snoop_of x) (λ k. list_all (is_snoop_for x k) burst) in
-    let x = issued-passes past (λ x. (x.port == p) && is_outstanding h past x && of_it x) s in
-    let of = (and_parts (is_granted h past x.0) _ (and_parts ((x.0.port == p) && is_outstanding h past x.0) (of_it x.0) x.1).1).1 in
+    let x = some_issued-is past (λ x. (x.port == p) && is_outstanding h past x && of_it x) s in
+    let of = (and_parts (is_granted h past x.0) _ (and_parts ((x.0.port == p) && is_outstanding h past x.0) (of_it x.0) x.2).1).1 in
     let k = is_some_and-is (snoop_of x.0) (λ k. list_all (is_snoop_for x.0 k) burst) of in
-    all-snoops test x.0 k.0 (each x.0 k.0) burst k.2
+    all-implied (is_snoop_for x.0 k.0) test (each x.0 k.0) burst k.2
 
 pub filtered-all : (test : Event → Bool) (q : ℕ) (burst : List Event) → list_all test (filter (is_at_port q) burst) ≡ true
     → list_all (λ e. implies (is_at_port q e) (test e)) burst ≡ true
@@ -194,8 +164,8 @@ all-by-ports test portless h past (e ∷ burst) k each =
 pub forwards-all : (test : Event → Bool) → TellsSame test → ((e : Event) → port_of e ≡ None → test e ≡ true) → ((q addr snoop : ℕ) → test (Ac q addr snoop) ≡ true)
     → (h : Header) (past : Trace) (p : ℕ) (burst : List Event) → are_kept h past burst ≡ true → forwards h past p burst ≡ true → list_all test burst ≡ true
 forwards-all test same portless acs h past p burst k s =
-    let x = issued-passes past (λ x. is_part_of p x && list_all (gets_message h past x burst) (ports_below h.ports)) (and_parts (is_by_port burst) _ s).1 in
-    let all = (and_parts (is_part_of p x.0) (list_all (gets_message h past x.0 burst) (ports_below h.ports)) x.1).1 in
+    let x = some_issued-is past (λ x. is_part_of p x && list_all (gets_message h past x burst) (ports_below h.ports)) (and_parts (is_by_port burst) _ s).1 in
+    let all = (and_parts (is_part_of p x.0) (list_all (gets_message h past x.0 burst) (ports_below h.ports)) x.2).1 in
     all-by-ports test portless h past burst k (λ q low.
     let gets = each_at h.ports (gets_message h past x.0 burst) q all (ltb-true q h.ports low) in
     filtered-all test q burst (same-burst-all test same (filter (is_at_port q) burst) (forwarded_to h past x.0 q) gets ∙ (all-if test (is_other_ace h x.0.port q && is_some_and (next_part past q) (has_part (message_of past x.0))) _ [] (all-map test (λ (y : Transaction). Ac q y.addr (ac_code snoop.DvmMessage)) (parts_missing past x.0 q) (λ y. acs q y.addr (ac_code snoop.DvmMessage))) refl)))
@@ -235,25 +205,25 @@ step-shape plan past p burst s =
       (
         (λ g. inr (inl g)),
         (
-          (λ g. let x = served update_burst h past p burst g in update-shape h past p burst x.0 x.1),
+          (λ g. let x = served update_burst h past p burst g in update-shape h past p burst x.of x.same),
           (
             (λ g. inl (all-plain burst (acknowledges-masters next h past p burst g))),
             (
-              (λ g. inl (served-all is_plain same-plain grant_burst h past p burst (λ x. all-if is_plain (takes_grant x && is_first_to_wait h past x) _ [] refl refl) g)),
+              (λ g. inl (served-all is_plain same-plain grant_burst h past p burst (grant-all is_plain (λ q c i. refl) h past) g)),
               (
                 (λ g. inl (snoops-all is_plain snoop-plain h past p burst g)),
                 (
-                  (λ g. let x = served passed_burst h past p burst g in passed-shape h past p burst x.0 x.1),
+                  (λ g. let x = served passed_burst h past p burst g in passed-shape h past p burst x.of x.same),
                   (
-                    (λ g. inl (served-all is_plain same-plain transfer_burst h past p burst (λ x. all-if is_plain (is_read x.chan && is_line x && implies (has_passed_data h past x) (takes_dirt h past x)) _ [] refl refl) g)),
+                    (λ g. inl (served-all is_plain same-plain transfer_burst h past p burst (transfer-all is_plain (λ q i resp last word. refl) h past) g)),
                     (
-                      (λ g. let x = served write_burst h past p burst g in write-shape h past p burst x.0 x.1),
+                      (λ g. let x = served write_burst h past p burst g in write-shape h past p burst x.of x.same),
                       (
-                        (λ g. inl (served-all is_plain same-plain barrier_burst h past p burst (λ x. all-if is_plain (is_some_and (read_kind x) is_read_barrier) _ [] (pair-plain (pair_of past x)) refl) g)),
+                        (λ g. inl (served-all is_plain same-plain barrier_burst h past p burst (barrier-all is_plain (λ q i resp last word. refl) (λ q i resp. refl) h past) g)),
                         (
                           (λ g. inl (forwards-all is_plain same-plain portless-plain (λ q addr snoop. refl) h past p burst kept_all g)),
                           (
-                            (λ g. inl (served-all is_plain same-plain dvm_burst h past p burst (λ x. all-if is_plain (is_message_part x || is_dvm_completion x) _ [] refl refl) g)),
+                            (λ g. inl (served-all is_plain same-plain dvm_burst h past p burst (dvm-all is_plain (λ q i resp last word. refl) h past) g)),
                             (
                               (λ g. inl (plain-as (sync_completion p) burst g refl)),
                               ((λ g. inl (all-plain burst (goes-on-masters plan.ways next h past p burst g))), tt),

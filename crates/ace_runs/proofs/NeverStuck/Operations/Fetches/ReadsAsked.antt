@@ -31,9 +31,8 @@ use Rattle.ace_runs.specs.Follows.{owes_completion}
 use Rattle.ace_runs.specs.HeldLines.{held_lines}
 use Rattle.ace_runs.specs.MasterSteps.{completion_bursts, moves}
 use Rattle.ace_runs.specs.Requests.{Request, Reads, Misses, Writes, Drops, Barriers, Messages, and_part, barrier_halves, bursts_of, domain_for, drop_bursts, ends_or_asks, free_on, free_on_both, has_room, is_waiting, moves_of, read_bursts, request_of, room_bursts, victim_bursts, with_identifier, write_bursts}
+use Rattle.ace_runs.proofs.NeverStuck.Steps.SilentSteps.{closing-no-read, issues_no_read}
 use Rattle.ace_runs.proofs.NeverStuck.Steps.Lists.{all-append, all-flat_map, all-flat_mapped, all-if, all-map, all-mapped}
-use Rattle.ace_runs.proofs.NeverStuck.Barriers.Quiet.{closing-quiet}
-use Rattle.ace_runs.proofs.NeverStuck.Operations.Fetches.SilentSteps.{issues_no_read, quiet-issues-no-read}
 
 -- a read with these codes and this address is one that the operation asks for, if it is a read ahead
 abbrev pub is_asked : Op → ℕ → ℕ → ℕ → ℕ → Bool
@@ -66,9 +65,6 @@ then-first p next [] ys m n = none-first p next ys n
 then-first p next (e ∷ xs) ys m n =
     let parts = and_parts (asks_for p next e) (list_all (asks_for p next) xs) m in
     ap (λ b. if b then asks_first p next (xs ++ ys) else is_retirement e && list_all issues_no_read (xs ++ ys)) parts.0 ∙ then-first p next xs ys parts.1 n
-
-pub closing-no-read : (h : Header) (past : Trace) (p : ℕ) (op : Op) → list_all issues_no_read (closing_of h past p op) ≡ true
-closing-no-read h past p op = quiet-issues-no-read (closing_of h past p op) (closing-quiet h past p op)
 
 -- ---- requests ----------------------------------------------------------------------------------------
 
