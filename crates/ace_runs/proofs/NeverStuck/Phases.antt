@@ -4,6 +4,8 @@
 pub mod NextActs
 -- A port that has made one act of two.
 pub mod OneOfTwo
+-- Acts that issue transactions.
+pub mod IssuedActs
 -- Which act of a barrier a half is.
 pub mod Halves
 -- In a run a port has made both acts of a barrier or none.

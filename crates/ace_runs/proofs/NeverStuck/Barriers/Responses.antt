@@ -14,9 +14,9 @@ use Rattle.ace_model.specs.Progress.{evicts}
 use Rattle.ace_model.specs.Trace.{Trace, is_some_and}
 use Rattle.ace_model.specs.Transactions.{is_line, is_read, read_kind, write_kind}
 use Rattle.ace_runs.specs.LineSteps.{memory_write, response}
-use Rattle.ace_runs.proofs.NeverStuck.Steps.Serving.{written-all}
 use Rattle.ace_runs.proofs.NeverStuck.Steps.SameEvents.{TellsSame, tells-same}
 use Rattle.ace_runs.proofs.NeverStuck.Steps.Lists.{all-append}
+use Rattle.ace_runs.proofs.NeverStuck.Steps.Serving.{written-all}
 use Rattle.ace_runs.proofs.NeverStuck.Barriers.Quiet.{is_quiet}
 
 -- it issues no transaction, and a response is one for this transaction

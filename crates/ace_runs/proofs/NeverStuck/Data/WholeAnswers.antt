@@ -35,10 +35,10 @@ use Rattle.ace_runs.specs.SameEvents.{same_burst}
 use Rattle.ace_runs.specs.Steps.{AreSteps, is_step}
 use Rattle.ace_runs.proofs.Accepting.{accepted-after, kept-breaks-none}
 use Rattle.ace_runs.proofs.Turns.{of-each-run, step-kept}
-use Rattle.ace_runs.proofs.NeverStuck.Steps.Serving.{responded-all, written-all}
 use Rattle.ace_runs.proofs.NeverStuck.Steps.SameBursts.{all-as, same-length}
 use Rattle.ace_runs.proofs.NeverStuck.Steps.SameEvents.{TellsSame, tells-same}
 use Rattle.ace_runs.proofs.NeverStuck.Steps.Lists.{all-if, all-implied}
+use Rattle.ace_runs.proofs.NeverStuck.Steps.Serving.{responded-all, written-all}
 use Rattle.ace_runs.proofs.NeverStuck.Rows.{has-kind}
 use Rattle.ace_runs.proofs.NeverStuck.Steps.StepShapes.{WritesFor, is_plain, step-shape}
 

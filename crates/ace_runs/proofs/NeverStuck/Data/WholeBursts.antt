@@ -15,10 +15,10 @@ use Rattle.ace_runs.specs.MasterSteps.{is_beat, sends}
 use Rattle.ace_runs.specs.Steps.{AreSteps, is_step}
 use Rattle.ace_runs.proofs.Few.Ports.{at_port}
 use Rattle.ace_runs.proofs.Turns.{of-each-run}
-use Rattle.ace_runs.proofs.NeverStuck.Steps.Serving.{responded-all, written-all}
 use Rattle.ace_runs.proofs.NeverStuck.Steps.SameBursts.{all-as}
 use Rattle.ace_runs.proofs.NeverStuck.Steps.SameEvents.{TellsSame, tells-same}
 use Rattle.ace_runs.proofs.NeverStuck.Steps.Lists.{all-implied}
+use Rattle.ace_runs.proofs.NeverStuck.Steps.Serving.{responded-all, written-all}
 use Rattle.ace_runs.proofs.NeverStuck.Steps.StepEvents.{answers-answering, is_answering}
 use Rattle.ace_runs.proofs.NeverStuck.Steps.StepShapes.{WritesFor, is_plain, step-shape}
 

@@ -28,10 +28,10 @@ use Rattle.ace_runs.specs.MasterSteps.{is_beat}
 use Rattle.ace_runs.specs.Operations.{next_operation}
 use Rattle.ace_runs.specs.OrderSteps.{barrier_burst, dvm_burst, forwards, sync_completion}
 use Rattle.ace_runs.specs.Steps.{is_sound, is_step, steps}
-use Rattle.ace_runs.proofs.NeverStuck.Steps.Serving.{barrier-all, dvm-all, grant-all, passed-all, served-all, transfer-all, update-all, write-all}
 use Rattle.ace_runs.proofs.NeverStuck.Steps.SameBursts.{all-as}
 use Rattle.ace_runs.proofs.NeverStuck.Steps.SameEvents.{TellsSame, tells-same}
 use Rattle.ace_runs.proofs.NeverStuck.Steps.Lists.{all-implied}
+use Rattle.ace_runs.proofs.NeverStuck.Steps.Serving.{barrier-all, dvm-all, grant-all, passed-all, served-all, transfer-all, update-all, write-all}
 use Rattle.ace_runs.proofs.NeverStuck.Steps.StepEvents.{acknowledges-masters, answers-answering, goes-on-masters, is_answering, is_masters}
 use Rattle.ace_runs.proofs.NeverStuck.Steps.StepShapes.{of-any}
 

@@ -7,8 +7,8 @@ use Rattle.ace_model.specs.Trace.{Trace}
 use Rattle.ace_runs.specs.MasterSteps.{goes_on}
 use Rattle.ace_runs.specs.Operations.{next_operation}
 use Rattle.ace_runs.specs.Steps.{is_step}
-use Rattle.ace_runs.proofs.NeverStuck.Steps.SilentSteps.{issues_no_read, reads-by-one}
 use Rattle.ace_runs.proofs.NeverStuck.Steps.Lists.{all-implied}
+use Rattle.ace_runs.proofs.NeverStuck.Steps.SilentSteps.{issues_no_read, reads-by-one}
 use Rattle.ace_runs.proofs.NeverStuck.Messages.WholeIssues.{issues_none, silent-none}
 
 -- A step issues no part, or is step 14.

@@ -15,9 +15,9 @@ use Rattle.ace_runs.specs.Counts.{issues_part}
 use Rattle.ace_runs.specs.Closing.{and_closing, closing_of}
 use Rattle.ace_runs.specs.SameEvents.{same_burst, same_event}
 use Rattle.ace_runs.specs.Segments.{is_at_port}
-use Rattle.ace_runs.proofs.NeverStuck.Steps.SilentSteps.{closing-no-read, issues_no_read}
 use Rattle.ace_runs.proofs.NeverStuck.Steps.SameEvents.{TellsSame, equal-event, same_test-self, tells-same}
 use Rattle.ace_runs.proofs.NeverStuck.Steps.Lists.{all-implied}
+use Rattle.ace_runs.proofs.NeverStuck.Steps.SilentSteps.{closing-no-read, issues_no_read}
 
 -- the word of the part that the event issues
 abbrev pub word_issued : Event → ℕ

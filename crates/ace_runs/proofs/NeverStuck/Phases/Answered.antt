@@ -1,6 +1,7 @@
 -- After step 1 the next operation of its port, an ACE port, can't retire with `ok` where it couldn't before: the answer to an AC DVM Complete comes with
 -- the OP of the Sync, and another answer leaves what the operation needs.
 use Rattle.std.proofs.Common.{◌≡◌, ℕ, zero, suc, ◌+◌, Bool, true, false, not, ◌&&◌, ◌||◌, ◌==◌, if◌then◌else◌, List, [], ◌∷◌, drop, Some, slice_get, refl, sym, ap, subst, ◌∙◌}
+use Rattle.std.proofs.Math.Bool.{and-false}
 use Rattle.std.specs.List.{list_all, list_any}
 use Rattle.std.proofs.lemmas.Bool.{and_parts, eq-eqb, eqb-true, or_right}
 use Rattle.std.proofs.lemmas.List.{drop-drop}
@@ -29,7 +30,7 @@ use Rattle.ace_runs.proofs.NeverStuck.Steps.SameBursts.{all-as}
 use Rattle.ace_runs.proofs.NeverStuck.Steps.SameEvents.{TellsSame, tells-same}
 use Rattle.ace_runs.proofs.NeverStuck.Steps.Lists.{all-if, all-implied}
 use Rattle.ace_runs.proofs.NeverStuck.Phases.Calm.{IsCalm, calm-keeps, may_end}
-use Rattle.ace_runs.proofs.NeverStuck.Phases.CalmEvents.{and-false, calm-burst, is_calm, outs-stay}
+use Rattle.ace_runs.proofs.NeverStuck.Phases.CalmEvents.{calm-burst, is_calm, outs-stay}
 use Rattle.ace_runs.proofs.NeverStuck.Phases.Endings.{ends_retired, retired-burst, retirement-ends, same-ends}
 
 -- ---- an answer that isn't to an AC DVM Complete ------------------------------------------------------

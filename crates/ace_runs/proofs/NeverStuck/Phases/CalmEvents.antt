@@ -1,6 +1,7 @@
 -- At an ACE port all events but ARs, AWs, acknowledges, answers to snoops, loads, stores and OPs of the port leave what it needs to retire its next
 -- operation.
 use Rattle.std.proofs.Common.{◌≡◌, ◌≢◌, ℕ, ◌+◌, ◌≤◌, Bool, true, false, not, ◌&&◌, ◌||◌, ◌==◌, if◌then◌else◌, List, [], ◌∷◌, ◌++◌, length, drop, Option, Some, None, is_some, slice_get, inl, inr, refl, sym, ap, ◌∙◌}
+use Rattle.std.proofs.Math.Bool.{and-false}
 use Rattle.std.specs.List.{list_all, list_any}
 use Rattle.std.proofs.lemmas.Bool.{and_parts, and_from, cases_Bool, eq-eqb, eqb-true, ne_eqb, not-true}
 use Rattle.std.proofs.lemmas.List.{drop-append-le}
@@ -141,10 +142,6 @@ outs-stay h past p e a none k x there =
     and-true false = refl
 
 -- ---- the answer of an AC DVM Complete ----------------------------------------------------------------
-
-pub and-false : (b : Bool) → (b && false) ≡ false
-and-false true = refl
-and-false false = refl
 
 or-parts : (a b : Bool) → (a || b) ≡ false → (a ≡ false) × (b ≡ false)
 or-parts true b f = cc

@@ -1,21 +1,18 @@
 -- The steps that end an operation whose acts are made: the OP of step 4, and the AC DVM Complete of step 13, break no rule.
-use Rattle.std.proofs.Common.{◌≡◌, ℕ, ◌<◌, Bool, true, false, not, ◌&&◌, ◌||◌, nat_lt, if◌then◌else◌, List, [], ◌∷◌, Option, Some, None, is_none, is_some, le_refl, refl, sym, ap, ◌∙◌}
+use Rattle.std.proofs.Common.{◌≡◌, ℕ, ◌<◌, Bool, true, false, not, ◌&&◌, ◌||◌, nat_lt, if◌then◌else◌, List, [], ◌∷◌, Option, Some, None, is_some, le_refl, refl, sym, ap, ◌∙◌}
 use Rattle.std.proofs.lemmas.Bool.{and_from, eq-eqb, or_left, or_right}
 use Rattle.ace_event.specs.declared.event.Channel.{Channel}
 use Rattle.ace_event.specs.declared.event.Channel.TheVariants.{Read, Write}
 use Rattle.ace_event.specs.declared.event.Event.{Event}
-use Rattle.ace_event.specs.declared.event.Event.TheVariants.{Op as Retires}
 use Rattle.ace_event.specs.declared.event.Outcome.TheVariants.{Ok}
 use Rattle.ace_event.specs.declared.header.Header.{Header}
 use Rattle.ace_model.specs.declared.plans.Op.{Op}
 use Rattle.ace_model.specs.Accepted.{IsAccepted}
-use Rattle.ace_model.specs.AddressRules.{k1}
-use Rattle.ace_model.specs.OrderRules.{k40, retired}
+use Rattle.ace_model.specs.OrderRules.{retired}
 use Rattle.ace_model.specs.Plans.{IsRight, Plan}
 use Rattle.ace_model.specs.Trace.{Trace, is_some_and}
 use Rattle.ace_model.specs.Transactions.{acknowledgements, is_ace, is_outstanding, next_complete, some_issued, transaction_under}
 use Rattle.ace_model.proofs.Outstanding.Waiting.{waits_is}
-use Rattle.ace_runs.specs.Bursts.{is_kept}
 use Rattle.ace_runs.specs.Closing.{retirement}
 use Rattle.ace_runs.specs.Follows.{FollowsSoFar}
 use Rattle.ace_runs.specs.MasterSteps.{acknowledges, acknowledges_on, due, has_due, is_finished, may_acknowledge}
@@ -26,20 +23,11 @@ use Rattle.ace_runs.specs.SameEvents.{same_burst}
 use Rattle.ace_runs.specs.Segments.{acts_made}
 use Rattle.ace_runs.specs.Steps.{AreSteps, is_enabled_by, is_sound, is_step_by}
 use Rattle.ace_runs.proofs.Turns.{steps-accepted}
+use Rattle.ace_runs.proofs.NeverStuck.Operations.Kept.ClosingKept.{retirement-kept}
 use Rattle.ace_runs.proofs.NeverStuck.Messages.OwedCompletions.{none-outstanding}
 use Rattle.ace_runs.proofs.NeverStuck.Phases.Finished.{acted-retires, asks_sync}
 
 -- ---- step 4 ------------------------------------------------------------------------------------------
-
-two-kept : (a b : Bool) → a ≡ true → b ≡ true → is_none {T = ℕ} (if a then (if b then None else Some 40) else Some 1) ≡ true
-two-kept a b one last = rw (one, last) refl
-
--- the OP breaks no rule
-retirement-kept : (h : Header) (past : Trace) (p : ℕ) → nat_lt p h.ports ≡ true → is_kept h past (Retires p (retired past p) Ok) ≡ true
-unfolding is_kept
-retirement-kept h past p low =
-    let one : k1 h past (Retires p (retired past p) Ok) ≡ true = and_from _ _ low refl in
-    two-kept (k1 h past (Retires p (retired past p) Ok)) (k40 h past (Retires p (retired past p) Ok)) one (eq-eqb (retired past p) (retired past p) refl)
 
 -- where nothing is outstanding, nothing is to be acknowledged
 none-due-on : (h : Header) (past : Trace) (p : ℕ) (c : Channel) → IsAccepted h past → some_issued past (is_outstanding h past) ≡ false → is_some (due h past p c) ≡ false
@@ -68,7 +56,7 @@ retirement-step plan past p o s low none next may =
     let same : same_burst burst burst ≡ true = rw (eq-eqb p p (refl {a = p}), eq-eqb (retired past p) (retired past p) (refl {a = retired past p})) refl in
     let gives : acknowledges op h past p burst ≡ true =
     or_right (acknowledges_on op h past p burst Read || acknowledges_on op h past p burst Write) _ (and_from _ _ finished same) in
-    let sound : is_sound h past burst ≡ true = and_from _ _ refl (and_from _ _ (retirement-kept h past p low) refl) in
+    let sound : is_sound h past burst ≡ true = and_from _ _ refl (retirement-kept h past p Ok low) in
     and_from _ _ sound (or_left (may_acknowledge op h past p && acknowledges op h past p burst) _ (and_from _ _ enabled gives))
 
 -- So it is one of an operation of which an act is made, and which is no Sync.

@@ -1,6 +1,7 @@
 -- After step 14 the next operation of its port can't retire with `ok` where it couldn't before: what the operation asks comes with what ends the
 -- operation, if that can end then; and a DVM Complete is no act.
 use Rattle.std.proofs.Common.{◌≡◌, ℕ, ◌+◌, Bool, true, false, ◌&&◌, ◌==◌, if◌then◌else◌, List, [], ◌∷◌, map, Option, Some, None, inl, inr, refl, sym, ap, subst, ◌∙◌}
+use Rattle.std.proofs.Math.Bool.{and-false}
 use Rattle.std.specs.List.{list_all, list_any, flat_map}
 use Rattle.std.specs.Option.{option_to_list}
 use Rattle.std.proofs.lemmas.Bool.{and_parts, or_cases}
@@ -27,7 +28,7 @@ use Rattle.ace_runs.specs.Segments.{acts_made, segment}
 use Rattle.ace_runs.proofs.Accepting.{kept-breaks-none}
 use Rattle.ace_runs.proofs.NeverStuck.Steps.SameBursts.{equal-burst}
 use Rattle.ace_runs.proofs.NeverStuck.Phases.Calm.{IsCalm, calm-keeps, may_end}
-use Rattle.ace_runs.proofs.NeverStuck.Phases.CalmEvents.{and-false, outs-stay}
+use Rattle.ace_runs.proofs.NeverStuck.Phases.CalmEvents.{outs-stay}
 use Rattle.ace_runs.proofs.NeverStuck.Phases.Endings.{lineless-closed}
 use Rattle.ace_runs.proofs.NeverStuck.Phases.OwnEvents.{are_asking, asking-lineless, requests-asking}
 

@@ -20,8 +20,8 @@ use Rattle.ace_runs.specs.Segments.{is_at_port}
 use Rattle.ace_runs.specs.Steps.{AreSteps, is_step}
 use Rattle.ace_runs.proofs.Accepting.{accepted-after}
 use Rattle.ace_runs.proofs.Turns.{of-each-run, step-kept}
-use Rattle.ace_runs.proofs.NeverStuck.Steps.MasterSteps.{is_beside, master-step}
 use Rattle.ace_runs.proofs.NeverStuck.Steps.Lists.{all-implied}
+use Rattle.ace_runs.proofs.NeverStuck.Steps.MasterSteps.{is_beside, master-step}
 use Rattle.ace_runs.proofs.NeverStuck.Phases.Acknowledged.{acknowledges-stay}
 use Rattle.ace_runs.proofs.NeverStuck.Phases.Answered.{answers-stay}
 use Rattle.ace_runs.proofs.NeverStuck.Phases.Calm.{may_end}

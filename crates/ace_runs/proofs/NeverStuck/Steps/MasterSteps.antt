@@ -16,10 +16,10 @@ use Rattle.ace_runs.specs.Operations.{next_operation}
 use Rattle.ace_runs.specs.OrderSteps.{barrier_burst, dvm_burst, sync_completion}
 use Rattle.ace_runs.specs.Steps.{is_sound, is_step, may_give, steps, steps_of}
 use Rattle.ace_runs.proofs.Turns.{step-kept}
-use Rattle.ace_runs.proofs.NeverStuck.Steps.Serving.{barrier-all, dvm-all, grant-all, passed-all, served-all, transfer-all, update-all, write-all}
 use Rattle.ace_runs.proofs.NeverStuck.Steps.SameBursts.{all-as}
 use Rattle.ace_runs.proofs.NeverStuck.Steps.SameEvents.{TellsSame, tells-same}
 use Rattle.ace_runs.proofs.NeverStuck.Steps.Lists.{all-implied}
+use Rattle.ace_runs.proofs.NeverStuck.Steps.Serving.{barrier-all, dvm-all, grant-all, passed-all, served-all, transfer-all, update-all, write-all}
 use Rattle.ace_runs.proofs.NeverStuck.Steps.StepShapes.{forwards-all, of-any, snoops-all}
 
 -- write data, or an event of the interconnect

@@ -34,10 +34,10 @@ use Rattle.ace_runs.specs.Segments.{is_at_port}
 use Rattle.ace_runs.specs.Steps.{StepKind, is_sound, is_step, may_give, steps, steps_of}
 use Rattle.ace_runs.proofs.Accepting.{kept-breaks-none}
 use Rattle.ace_runs.proofs.Turns.{step-kept}
-use Rattle.ace_runs.proofs.NeverStuck.Steps.Serving.{barrier-all, dvm-all, grant-all, served, served-all, transfer-all}
 use Rattle.ace_runs.proofs.NeverStuck.Steps.SameBursts.{all-as, same-burst-all}
 use Rattle.ace_runs.proofs.NeverStuck.Steps.SameEvents.{TellsSame, tells-same}
 use Rattle.ace_runs.proofs.NeverStuck.Steps.Lists.{all-if, all-implied, all-map}
+use Rattle.ace_runs.proofs.NeverStuck.Steps.Serving.{barrier-all, dvm-all, grant-all, served, served-all, transfer-all}
 use Rattle.ace_runs.proofs.NeverStuck.Steps.StepEvents.{are_masters, is_masters, acknowledges-masters, goes-on-masters}
 
 -- neither write data nor an answer to a snoop nor its data nor a write of memory

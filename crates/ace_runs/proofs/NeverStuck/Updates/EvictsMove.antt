@@ -1,5 +1,5 @@
 -- An Evict that isn't complete has its response: its port is enabled by step 3.
-use Rattle.std.proofs.Common.{◌≡◌, ℕ, Bool, true, false, not, ◌&&◌, ◌||◌, ◌==◌, if◌then◌else◌, [], ◌∷◌, ◌++◌, Some, None, is_none, refl, ap, subst, ◌∙◌}
+use Rattle.std.proofs.Common.{◌≡◌, ℕ, true, false, not, ◌&&◌, ◌||◌, ◌==◌, if◌then◌else◌, [], ◌∷◌, ◌++◌, Some, None, refl, ap, subst, ◌∙◌}
 use Rattle.std.proofs.lemmas.Bool.{and_from, or_left, eq-eqb, false_from_ne_true}
 use Rattle.ace_codes.specs.declared.kind.AwKind.{AwKind}
 use Rattle.ace_codes.specs.declared.kind.AwKind.TheVariants as write
@@ -25,19 +25,14 @@ use Rattle.ace_runs.specs.Bursts.{is_kept, may_begin, may_serve}
 use Rattle.ace_runs.specs.LineSteps.{memory_write, response, update_burst}
 use Rattle.ace_runs.specs.Steps.{AreSteps, is_enabled_by}
 use Rattle.ace_runs.proofs.Turns.{steps-accepted}
+use Rattle.ace_runs.proofs.Accepting.{three-kept}
 use Rattle.ace_runs.proofs.NeverStuck.Updates.WriterPorts.{issuer-low}
-
-three-kept : (a b c : Bool) → a ≡ true → b ≡ true → c ≡ true → is_none {T = ℕ} (if a then (if b then (if c then None else Some 34) else Some 26) else Some 1) ≡ true
-three-kept true true true x y z = refl
-three-kept false b c x y z = cc
-three-kept true false c x y z = cc
-three-kept true true false x y z = cc
 
 -- of the rules that look at a response three can be broken by one that is OKAY
 pub response-kept : (h : Header) (past : Trace) (p i : ℕ) → k1 h past (B p i 0) ≡ true → k26 h past (B p i 0) ≡ true
     → k34 h past (B p i 0) ≡ true → is_kept h past (B p i 0) ≡ true
 unfolding is_kept
-response-kept h past p i one may order = three-kept (k1 h past (B p i 0)) (k26 h past (B p i 0)) (k34 h past (B p i 0)) one may order
+response-kept h past p i one may order = three-kept (k1 h past (B p i 0)) (k26 h past (B p i 0)) (k34 h past (B p i 0)) 1 26 34 one may order
 
 evict-no-data : (k : AwKind) → is_evict k ≡ true → has_write_data k ≡ false
 evict-no-data write.Evict e = refl

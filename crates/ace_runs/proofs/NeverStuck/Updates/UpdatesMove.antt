@@ -1,5 +1,5 @@
 -- A memory update whose line's granted transaction has no passed data moves on: its port is enabled by step 2, 3 or 4.
-use Rattle.std.proofs.Common.{◌≡◌, ℕ, zero, suc, ◌+◌, ◌*◌, ◌/◌, ◌%◌, ◌<◌, ◌≤◌, Bool, true, false, not, ◌&&◌, ◌||◌, ◌==◌, nat_lt, if◌then◌else◌, List, [], ◌∷◌, ◌++◌, length, map, take, drop, Some, None, is_some, is_none, slice_get, refl, sym, ap, subst, ◌∙◌, inl, inr, arith}
+use Rattle.std.proofs.Common.{◌≡◌, ℕ, zero, suc, ◌+◌, ◌*◌, ◌/◌, ◌%◌, ◌<◌, ◌≤◌, true, false, not, ◌&&◌, ◌||◌, ◌==◌, nat_lt, if◌then◌else◌, List, [], ◌∷◌, ◌++◌, length, map, take, drop, Some, is_some, slice_get, refl, sym, ap, subst, ◌∙◌, inl, inr, arith}
 use Rattle.std.specs.Option.{option_map, option_to_list}
 use Rattle.std.proofs.lemmas.Bool.{and_parts, and_from, or_left, or_right, cases_Bool, eqb-true, eq-eqb, false_from_ne_true, ltb-true, ltb-false}
 use Rattle.std.proofs.lemmas.Option.{slice_get_within}
@@ -33,6 +33,7 @@ use Rattle.ace_runs.specs.Operations.{next_operation}
 use Rattle.ace_runs.specs.Steps.{AreSteps, is_enabled_by}
 use Rattle.ace_runs.proofs.Few.Beats.{beats-counted}
 use Rattle.ace_runs.proofs.Turns.{steps-accepted}
+use Rattle.ace_runs.proofs.Accepting.{three-kept}
 use Rattle.ace_runs.proofs.NeverStuck.Steps.SameEvents.{same-line-self}
 use Rattle.ace_runs.proofs.NeverStuck.Acknowledges.{complete-due}
 use Rattle.ace_runs.proofs.NeverStuck.Steps.StepShapes.{updates_write}
@@ -118,17 +119,11 @@ may-send plan past p x s i port sends part =
 
 -- ---- step 3 ------------------------------------------------------------------------------------------
 
-three-kept : (a b c : Bool) → a ≡ true → b ≡ true → c ≡ true → is_none {T = ℕ} (if a then (if b then (if c then None else Some 25) else Some 24) else Some 1) ≡ true
-three-kept true true true x y z = refl
-three-kept false b c x y z = cc
-three-kept true false c x y z = cc
-three-kept true true false x y z = cc
-
 -- of the rules only three look at a write of memory
 pub write-kept : (h : Header) (past : Trace) (p : ℕ) (c : Channel) (i : ℕ) (line : Line) → k1 h past (M p c i line) ≡ true → k24 h past (M p c i line) ≡ true
     → k25 h past (M p c i line) ≡ true → is_kept h past (M p c i line) ≡ true
 unfolding is_kept
-write-kept h past p c i line one may line_is = three-kept (k1 h past (M p c i line)) (k24 h past (M p c i line)) (k25 h past (M p c i line)) one may line_is
+write-kept h past p c i line one may line_is = three-kept (k1 h past (M p c i line)) (k24 h past (M p c i line)) (k25 h past (M p c i line)) 1 24 25 one may line_is
 
 pub data-there : (h : Header) (past : Trace) (x : Transaction) (k : AwKind) → is_read x.chan ≡ false → write_kind x ≡ Some k → data_of h past x ≡ Some (data_of_write h past x k)
 data-there h past x k writes kind =

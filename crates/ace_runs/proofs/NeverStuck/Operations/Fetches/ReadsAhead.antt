@@ -25,9 +25,9 @@ use Rattle.ace_runs.specs.SameEvents.{same_burst, same_event}
 use Rattle.ace_runs.specs.Segments.{is_for_operation, is_read_of, segment}
 use Rattle.ace_runs.specs.Steps.{AreSteps, is_step}
 use Rattle.ace_runs.proofs.Turns.{of-each-run}
-use Rattle.ace_runs.proofs.NeverStuck.Steps.SilentSteps.{issues_no_read, reads-by-one, same-no-read}
 use Rattle.ace_runs.proofs.NeverStuck.Steps.SameBursts.{same-burst-all}
 use Rattle.ace_runs.proofs.NeverStuck.Steps.SameEvents.{TellsSame, tells-same}
+use Rattle.ace_runs.proofs.NeverStuck.Steps.SilentSteps.{issues_no_read, reads-by-one, same-no-read}
 use Rattle.ace_runs.proofs.NeverStuck.Operations.Fits.Asking.{FetchesAsAsked}
 use Rattle.ace_runs.proofs.NeverStuck.Operations.Places.{completion-there}
 use Rattle.ace_runs.proofs.NeverStuck.Operations.Lines.OfPlan.{next-planned}

@@ -31,8 +31,8 @@ use Rattle.ace_runs.specs.Follows.{owes_completion}
 use Rattle.ace_runs.specs.HeldLines.{held_lines}
 use Rattle.ace_runs.specs.MasterSteps.{completion_bursts, moves}
 use Rattle.ace_runs.specs.Requests.{Request, Reads, Misses, Writes, Drops, Barriers, Messages, and_part, barrier_halves, bursts_of, domain_for, drop_bursts, ends_or_asks, free_on, free_on_both, has_room, is_waiting, moves_of, read_bursts, request_of, room_bursts, victim_bursts, with_identifier, write_bursts}
-use Rattle.ace_runs.proofs.NeverStuck.Steps.SilentSteps.{closing-no-read, issues_no_read}
 use Rattle.ace_runs.proofs.NeverStuck.Steps.Lists.{all-append, all-flat_map, all-flat_mapped, all-if, all-map, all-mapped}
+use Rattle.ace_runs.proofs.NeverStuck.Steps.SilentSteps.{closing-no-read, issues_no_read}
 
 -- a read with these codes and this address is one that the operation asks for, if it is a read ahead
 abbrev pub is_asked : Op → ℕ → ℕ → ℕ → ℕ → Bool

@@ -26,6 +26,7 @@ use Rattle.ace_model.specs.Transactions.{has_outstanding_on, is_ace, is_on, is_o
 use Rattle.ace_model.proofs.Trace.Growth.{some_issued-found, some_issued-is}
 use Rattle.ace_runs.specs.Bursts.{is_kept}
 use Rattle.ace_runs.specs.Requests.{domain_for, is_free}
+use Rattle.ace_runs.proofs.Accepting.{three-kept}
 
 -- ---- booleans ----------------------------------------------------------------------------------------
 
@@ -40,9 +41,6 @@ implies-none false b f = refl
 eleven-kept : (a b c d e f g i j k l : Bool) → a ≡ true → b ≡ true → c ≡ true → d ≡ true → e ≡ true → f ≡ true → g ≡ true → i ≡ true → j ≡ true → k ≡ true → l ≡ true
     → is_none {T = ℕ} (if a then (if b then (if c then (if d then (if e then (if f then (if g then (if i then (if j then (if k then (if l then None else Some 38) else Some 10) else Some 9) else Some 8) else Some 7) else Some 6) else Some 5) else Some 4) else Some 3) else Some 2) else Some 1) ≡ true
 eleven-kept a b c d e f g i j k l one two three four five six seven eight nine ten last = rw (one, two, three, four, five, six, seven, eight, nine, ten, last) refl
-
-three-kept : (a b c : Bool) → a ≡ true → b ≡ true → c ≡ true → is_none {T = ℕ} (if a then (if b then (if c then None else Some 29) else Some 3) else Some 1) ≡ true
-three-kept a b c one three last = rw (one, three, last) refl
 
 -- ---- kinds -------------------------------------------------------------------------------------------
 
@@ -201,4 +199,4 @@ module _ (h : Header) (past : Trace) (p : ℕ) (low : nat_lt p h.ports ≡ true)
       let one : k1 h past e ≡ true = and_from _ _ low f.ace in
       let three : k3 h past e ≡ true = and_from _ _ f.aligned refl in
       let twenty_nine : k29 h past e ≡ true = and_from _ _ f.moves (ap not (no-update h past p a f.quiet)) in
-      three-kept (k1 h past e) (k3 h past e) (k29 h past e) one three twenty_nine
+      three-kept (k1 h past e) (k3 h past e) (k29 h past e) 1 3 29 one three twenty_nine

@@ -1,5 +1,5 @@
 -- What ends an operation breaks no rule.
-use Rattle.std.proofs.Common.{◌≡◌, ℕ, Bool, true, false, not, ◌&&◌, ◌||◌, nat_le, nat_lt, if◌then◌else◌, List, [], length, Option, Some, None, is_none, refl, sym, ap, ◌∙◌, inl, inr}
+use Rattle.std.proofs.Common.{◌≡◌, ℕ, Bool, true, false, not, ◌&&◌, ◌||◌, nat_le, nat_lt, List, [], length, Option, Some, None, refl, sym, ap, ◌∙◌, inl, inr}
 use Rattle.std.proofs.lemmas.Bool.{and_from, cases_Bool, eq-eqb, or_left}
 use Rattle.ace_codes.specs.declared.state.LineState.{LineState}
 use Rattle.ace_codes.specs.declared.state.LineState.TheVariants.{I}
@@ -27,18 +27,8 @@ use Rattle.ace_runs.specs.Bursts.{are_kept, is_kept}
 use Rattle.ace_runs.specs.Closing.{access_and_retirement, access_of, closing_of, gives_access, retirement, state_named}
 use Rattle.ace_runs.specs.Retiring.{has_failed_store, may_fail, may_retire}
 use Rattle.ace_runs.specs.Segments.{acts_made}
+use Rattle.ace_runs.proofs.Accepting.{four-kept, two-kept}
 use Rattle.ace_runs.proofs.NeverStuck.Operations.Lines.OfPlan.{IsPlanned, planned-ace}
-
-two-kept : (a b : Bool) → a ≡ true → b ≡ true → is_none {T = ℕ} (if a then (if b then None else Some 40) else Some 1) ≡ true
-two-kept a b one last = rw (one, last) refl
-
-four-loaded : (a b c d : Bool) → a ≡ true → b ≡ true → c ≡ true → d ≡ true
-    → is_none {T = ℕ} (if a then (if b then (if c then (if d then None else Some 31) else Some 30) else Some 3) else Some 1) ≡ true
-four-loaded a b c d one three thirty last = rw (one, three, thirty, last) refl
-
-four-stored : (a b c d : Bool) → a ≡ true → b ≡ true → c ≡ true → d ≡ true
-    → is_none {T = ℕ} (if a then (if b then (if c then (if d then None else Some 33) else Some 32) else Some 3) else Some 1) ≡ true
-four-stored a b c d one three before last = rw (one, three, before, last) refl
 
 -- an OP with the number of those before it
 op-kept : (h : Header) (past : Trace) (p n : ℕ) (res : Outcome) → nat_lt p h.ports ≡ true → n ≡ retired past p → is_kept h past (event.Op p n res) ≡ true
@@ -46,7 +36,7 @@ unfolding is_kept
 op-kept h past p n res low same =
     let e = event.Op p n res in
     let one : k1 h past e ≡ true = and_from _ _ low refl in
-    two-kept (k1 h past e) (k40 h past e) one (eq-eqb n (retired past p) same)
+    two-kept (k1 h past e) (k40 h past e) 1 40 one (eq-eqb n (retired past p) same)
 
 pub retirement-kept : (h : Header) (past : Trace) (p : ℕ) (res : Outcome) → nat_lt p h.ports ≡ true → are_kept h past (retirement past p res) ≡ true
 retirement-kept h past p res low = and_from _ _ (op-kept h past p (retired past p) res low refl) refl
@@ -61,7 +51,7 @@ load-kept h past p a w x low ace aligned held =
     let one : k1 h past e ≡ true = and_from _ _ low ace in
     let three : k3 h past e ≡ true = and_from _ _ aligned refl in
     let last : k31 h past e ≡ true = eq-eqb (word_of (copy_of past p a) w) (word_of (copy_of past p a) w) refl in
-    four-loaded (k1 h past e) (k3 h past e) (k30 h past e) (k31 h past e) one three (ap not held) last
+    four-kept (k1 h past e) (k3 h past e) (k30 h past e) (k31 h past e) 1 3 30 31 one three (ap not held) last
 
 store-kept : (h : Header) (past : Trace) (p a strobe : ℕ) (x : Bool) (line : Line) → has_outstanding_on h past p a ≡ false → nat_lt p h.ports ≡ true → is_ace h p ≡ true → is_aligned a ≡ true
     → is_unique (state_of h past p a) ≡ true → (x ≡ true → is_monitored h past p a ≡ true) → is_kept h past (event.D p a strobe x line) ≡ true
@@ -72,7 +62,7 @@ store-kept h past p a strobe x line quiet low ace aligned alone set =
     let three : k3 h past e ≡ true = and_from _ _ aligned refl in
     let may : may_store h past p a ≡ true = and_from _ _ alone (ap not quiet) in
     let before : k32 h past e ≡ true = or_left (may_store h past p a) _ may in
-    four-stored (k1 h past e) (k3 h past e) (k32 h past e) (k33 h past e) one three before (implied x (is_monitored h past p a) set)
+    four-kept (k1 h past e) (k3 h past e) (k32 h past e) (k33 h past e) 1 3 32 33 one three before (implied x (is_monitored h past p a) set)
   where
     implied : (a b : Bool) → (a ≡ true → b ≡ true) → (not a || b) ≡ true
     implied true b t = t refl
