@@ -4,6 +4,8 @@
 
 -- What each step gives.
 pub mod Steps
+-- What the rules say of each transaction that was issued.
+pub mod IssuedTransactions
 -- Data are whole between the steps of a run.
 pub mod Data
 -- Memory updates and Evicts move on.

@@ -1,7 +1,5 @@
 -- Memory updates and Evicts: each moves on, or waits for the passed data of its line.
 
--- The port of a write may issue its kind.
-pub mod WriterPorts
 -- An Evict that isn't complete has its response.
 pub mod EvictsMove
 -- A memory update with no passed data before it moves on.

@@ -17,7 +17,6 @@ use Rattle.ace_runs.specs.LineSteps.{memory_write, response}
 use Rattle.ace_runs.proofs.NeverStuck.Steps.SameEvents.{TellsSame, tells-same}
 use Rattle.ace_runs.proofs.NeverStuck.Steps.Lists.{all-append}
 use Rattle.ace_runs.proofs.NeverStuck.Steps.Serving.{written-all}
-use Rattle.ace_runs.proofs.NeverStuck.Barriers.Quiet.{is_quiet}
 
 -- it issues no transaction, and a response is one for this transaction
 abbrev pub is_response_for : Transaction → Event → Bool
@@ -31,13 +30,6 @@ is_response_for x _ = true
 
 pub same-response : (x : Transaction) → TellsSame (is_response_for x)
 same-response x = tells-same (is_response_for x) (λ p c i line. refl) (λ p a s x line. refl) (λ a line. refl)
-
-pub quiet-response : (x : Transaction) (e : Event) → is_quiet e ≡ true → is_response_for x e ≡ true
-quiet-response x (Ar q i addr snoop dom bar lock) m = cc
-quiet-response x (Aw q i addr snoop dom bar) m = cc
-quiet-response x (R q i resp last word) m = cc
-quiet-response x (B q i resp) m = cc
-quiet-response x e m = refl
 
 pub response-for : (x : Transaction) → is_read x.chan ≡ false → list_all (is_response_for x) (response x) ≡ true
 response-for x writes = and_from _ _ (and_from _ _ (and_from _ _ (ap not writes) (eq-eqb x.port x.port refl)) (eq-eqb x.id x.id refl)) refl

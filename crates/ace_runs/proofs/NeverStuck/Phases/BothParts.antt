@@ -3,6 +3,9 @@
 use Rattle.std.proofs.Common.{◌≡◌, ℕ, ◌+◌, Bool, true, false, not, ◌&&◌, ◌==◌, if◌then◌else◌, [], ◌∷◌, length, Option, Some, None, is_some, inl, inr, refl, sym, ap, subst, ◌∙◌}
 use Rattle.std.proofs.Math.Bool.{and-false}
 use Rattle.std.proofs.lemmas.Bool.{cases_Bool, eqb-true}
+use Rattle.std.proofs.lemmas.Bool.{or_left}
+use Rattle.ace_codes.specs.declared.kind.ArKind.{ArKind}
+use Rattle.ace_codes.specs.declared.kind.ArKind.TheVariants as read
 use Rattle.ace_event.specs.declared.event.Event.{Event}
 use Rattle.ace_event.specs.declared.event.Event.TheVariants.{Op as Retires}
 use Rattle.ace_model.specs.declared.plans.Op.{Op}
@@ -14,15 +17,12 @@ use Rattle.ace_model.specs.Plans.{IsRight, Plan, has_right_fields}
 use Rattle.ace_model.specs.Trace.{Trace, is_some_and}
 use Rattle.ace_model.specs.Transactions.{issued, read_kind}
 use Rattle.ace_model.proofs.General.Options.{is_none_or-at}
-use Rattle.ace_codes.specs.declared.kind.ArKind.{ArKind}
-use Rattle.ace_codes.specs.declared.kind.ArKind.TheVariants as read
 use Rattle.ace_runs.specs.Acts.{is_act_read, is_act_transaction}
 use Rattle.ace_runs.specs.Counts.{is_retirement}
 use Rattle.ace_runs.specs.Follows.{FollowsSoFar, obeys}
 use Rattle.ace_runs.specs.Operations.{next_operation}
 use Rattle.ace_runs.specs.Segments.{acts_made}
 use Rattle.ace_runs.specs.Steps.{AreSteps}
-use Rattle.std.proofs.lemmas.Bool.{or_left}
 use Rattle.ace_runs.proofs.NeverStuck.Phases.IssuedActs.{issued-turn, issues_of, none-issued}
 use Rattle.ace_runs.proofs.NeverStuck.Messages.IssuedMessages.{next-right}
 use Rattle.ace_runs.proofs.NeverStuck.Messages.WholeMessages.{after-part, issues-whole}

@@ -58,7 +58,7 @@ begins-in-order h past d ds (e ∷ burst) s each others =
 pub of-none : (h : Header) (past : Trace) (burst : List Event) → same_burst [] burst ≡ true → FirstInOrder h past burst
 of-none h past burst s = others-in-order h past burst (all-as is_other same-other [] burst s refl)
 
--- ---- the same transfer -------------------------------------------------------------------------------
+-- ---- outstanding reads -----------------------------------------------------------------------------
 
 pub read-out : (h : Header) (past : Trace) (x : Transaction) → IsIssued past x → is_outstanding h past x ≡ true → is_read x.chan ≡ true → outstanding h past x.port Read x.id ≡ Some x
 read-out h past x i out reads = subst (λ c. outstanding h past x.port c x.id ≡ Some x) (is_read-is x.chan reads) (outstanding_is h past x i out)

@@ -1,9 +1,9 @@
 -- A step is one of masters by its number, 1, 4 or 14, or gives nothing but write data and events of the interconnect.
 use Rattle.std.proofs.Common.{◌≡◌, ◌⊎◌, ℕ, Bool, true, false, ◌==◌, List, length, None, inl, inr, refl}
-use Rattle.ace_event.specs.declared.header.Header.{Header}
 use Rattle.std.specs.List.{list_all, list_any}
 use Rattle.std.proofs.lemmas.Bool.{and_parts}
 use Rattle.ace_codes.specs.declared.kind.SnoopKind.{SnoopKind}
+use Rattle.ace_event.specs.declared.header.Header.{Header}
 use Rattle.ace_event.specs.declared.event.Event.{Event}
 use Rattle.ace_event.specs.declared.event.Event.TheVariants.{R, W, B, Ac, G, M, Mem}
 use Rattle.ace_model.specs.declared.transactions.Transaction.{Transaction}

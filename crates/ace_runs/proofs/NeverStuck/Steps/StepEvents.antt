@@ -1,10 +1,15 @@
--- Which events each step gives: steps 4 and 14 give events of masters other than write data and answers to snoops, step 1 those with which
--- a snoop is answered; what the other steps of one kind give
--- is in their definitions.
+-- Which events the steps of masters give: steps 4 and 14 give events of masters other than write data and answers to snoops, step 1 those with
+-- which a snoop is answered. What the other steps of one kind give is in their definitions.
 use Rattle.std.proofs.Common.{◌≡◌, ℕ, Bool, true, false, not, ◌&&◌, ◌||◌, ◌==◌, List, [], ◌∷◌, ◌++◌, filter, Option, Some, None, is_none, refl}
 use Rattle.std.specs.List.{list_all, flat_map}
 use Rattle.std.specs.Option.{option_to_list}
 use Rattle.std.proofs.lemmas.Bool.{and_parts, and_from}
+use Rattle.ace_codes.specs.Reads.{ar_code}
+use Rattle.ace_codes.specs.Responses.{transfers_data}
+use Rattle.ace_codes.specs.declared.kind.ArKind.{ArKind}
+use Rattle.ace_codes.specs.declared.kind.ArKind.TheVariants as read
+use Rattle.ace_codes.specs.declared.kind.AwKind.{AwKind}
+use Rattle.ace_codes.specs.declared.kind.AwKind.TheVariants as write
 use Rattle.ace_event.specs.declared.event.Channel.TheVariants.{Read, Write}
 use Rattle.ace_event.specs.declared.event.Event.{Event}
 use Rattle.ace_event.specs.declared.event.Event.TheVariants.{Ar, Rk, Aw, Wk, Cr, Cd, S, L, D, Op as Retires}
@@ -17,12 +22,6 @@ use Rattle.ace_model.specs.Kinds.{is_unique_write}
 use Rattle.ace_model.specs.Transactions.{is_ace, has_outstanding_on}
 use Rattle.ace_model.specs.AddressRules.{has_write, keeps_apart}
 use Rattle.ace_model.specs.Snoops.{answered, snoops_a_line}
-use Rattle.ace_codes.specs.Reads.{ar_code}
-use Rattle.ace_codes.specs.Responses.{transfers_data}
-use Rattle.ace_codes.specs.declared.kind.ArKind.{ArKind}
-use Rattle.ace_codes.specs.declared.kind.ArKind.TheVariants as read
-use Rattle.ace_codes.specs.declared.kind.AwKind.{AwKind}
-use Rattle.ace_codes.specs.declared.kind.AwKind.TheVariants as write
 use Rattle.ace_model.specs.States.{state_of}
 use Rattle.ace_runs.specs.Bursts.{onto}
 use Rattle.ace_runs.specs.Closing.{state_named, closing_of, and_closing}

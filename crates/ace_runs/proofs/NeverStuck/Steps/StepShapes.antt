@@ -1,16 +1,15 @@
 -- What a step puts of write data, of answers to snoops and of writes of memory: none, the four beats of a burst, one answer with its data,
 -- or one write of memory, which for a write comes with the response.
 use Rattle.std.proofs.Common.{◌≡◌, ◌⊎◌, ℕ, Bool, true, false, not, ◌&&◌, ◌==◌, nat_lt, if◌then◌else◌, List, [], ◌∷◌, ◌++◌, filter, Option, Some, None, inl, inr, refl, ap, ◌∙◌}
-use Rattle.ace_model.proofs.Trace.Growth.{some_issued-is}
 use Rattle.std.specs.Bool.{⊤}
 use Rattle.std.specs.List.{list_all, list_any}
 use Rattle.std.proofs.lemmas.Bool.{and_parts, and_from, or_cases, cases_Bool, eq-eqb, ltb-true, not-true, false_from_ne_true}
 use Rattle.ace_codes.specs.declared.kind.SnoopKind.{SnoopKind}
+use Rattle.ace_codes.specs.Snoops.{ac_code}
+use Rattle.ace_codes.specs.declared.kind.SnoopKind.TheVariants as snoop
 use Rattle.ace_event.specs.declared.event.Event.{Event}
 use Rattle.ace_event.specs.declared.event.Event.TheVariants.{Ac, Cr, Cd, W, M, Mem}
 use Rattle.ace_event.specs.declared.header.Header.{Header}
-use Rattle.ace_codes.specs.Snoops.{ac_code}
-use Rattle.ace_codes.specs.declared.kind.SnoopKind.TheVariants as snoop
 use Rattle.ace_model.specs.declared.transactions.Transaction.{Transaction}
 use Rattle.ace_model.specs.Trace.{Trace, implies, is_some_and, port_of}
 use Rattle.ace_model.specs.Accepted.{rules}
@@ -20,6 +19,7 @@ use Rattle.ace_model.specs.Messages.{is_other_ace, next_part, has_part}
 use Rattle.ace_model.specs.Plans.{Plan}
 use Rattle.ace_model.specs.Progress.{evicts, updates_memory}
 use Rattle.ace_model.specs.Transactions.{is_outstanding, is_read, snoop_of, takes_grant}
+use Rattle.ace_model.proofs.Trace.Growth.{some_issued-is}
 use Rattle.ace_model.proofs.General.Booleans.{implies-at}
 use Rattle.ace_model.proofs.General.Options.{is_none_or-at, is_some_and-is}
 use Rattle.ace_model.proofs.General.Ports.{each_at}

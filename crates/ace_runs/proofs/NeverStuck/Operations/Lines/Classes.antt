@@ -1,33 +1,28 @@
 -- The transactions of a line are all NoSnoop, or none is: of a line that an operation names as that operation is, where the trace is lean; of a
 -- line that a port holds none is. A line that a port holds is one of memory, and the port is an ACE port.
-use Rattle.std.proofs.Common.{◌≡◌, ℕ, Bool, true, false, not, ◌&&◌, ◌||◌, ◌==◌, nat_eq, if◌then◌else◌, [], ◌∷◌, length, Some, None, inl, inr, refl, sym, ap, subst, ◌∙◌, arith}
+use Rattle.std.proofs.Common.{◌≡◌, ℕ, Bool, true, false, not, ◌&&◌, ◌==◌, nat_eq, [], ◌∷◌, length, Some, inl, inr, refl, sym, ap, subst, ◌∙◌, arith}
 use Rattle.std.specs.List.{list_any}
 use Rattle.std.proofs.lemmas.Bool.{and_parts, cases_Bool, eqb-true, false_from_ne_true}
-use Rattle.ace_codes.specs.Reads.{ar_kind_of}
-use Rattle.ace_codes.specs.Writes.{aw_kind_of}
-use Rattle.ace_event.specs.declared.event.Event.{Event}
-use Rattle.ace_event.specs.declared.event.Event.TheVariants.{Ar, Aw}
 use Rattle.ace_event.specs.declared.header.Header.{Header}
 use Rattle.ace_tables.specs.Answers.{same_test}
 use Rattle.ace_tables.specs.States.{is_invalid}
 use Rattle.ace_model.specs.declared.plans.Op.{Op}
 use Rattle.ace_model.specs.declared.transactions.Transaction.{Transaction}
 use Rattle.ace_model.specs.Accepted.{IsAccepted}
-use Rattle.ace_model.specs.AddressRules.{is_aligned, is_no_snoop, k3}
-use Rattle.ace_model.specs.Kinds.{is_line_read, is_line_write}
+use Rattle.ace_model.specs.AddressRules.{is_aligned, is_no_snoop}
 use Rattle.ace_model.specs.Plans.{IsRight, Plan, line_named, wants_no_snoop}
 use Rattle.ace_model.specs.Progress.{each_issued}
 use Rattle.ace_model.specs.States.{state_of}
-use Rattle.ace_model.specs.Trace.{Trace, implies, is_none_or, is_some_and}
+use Rattle.ace_model.specs.Trace.{Trace, implies, is_none_or}
 use Rattle.ace_model.specs.Transactions.{is_ace, is_line, is_on, issued, some_issued}
 use Rattle.ace_model.proofs.General.Booleans.{implies-at, same_test-at}
 use Rattle.ace_model.proofs.General.Options.{is_none_or-at, is_some_and-is}
 use Rattle.ace_model.proofs.Holders.Law.{accepted_holds}
 use Rattle.ace_model.proofs.Holders.ShareableLines.{held_is_shareable, used_alike}
-use Rattle.ace_model.proofs.Rules.Keeps.{accepted_keeps}
 use Rattle.ace_model.proofs.Trace.Growth.{IsIssued, issued-cases, some_issued-is}
 use Rattle.ace_runs.specs.Lean.{IsLean, is_on_named_line, is_one_of_three, is_one_of_two}
 use Rattle.ace_runs.specs.Operations.{names}
+use Rattle.ace_runs.proofs.NeverStuck.IssuedTransactions.{line-aligned}
 use Rattle.ace_runs.proofs.NeverStuck.Operations.Kept.AsksKept.{IsOfClass}
 use Rattle.ace_runs.proofs.NeverStuck.Operations.Lines.OfPlan.{IsPlanned, alike-in-plan, any-at}
 
@@ -76,32 +71,6 @@ named-class plan past p a op right lean o line =
 
 -- ---- lines that a port holds -------------------------------------------------------------------------
 
-aligned-by-rule : (h : Header) (past : Trace) (e : Event) (n : ℕ) → k3 h past e ≡ true → is_none_or (issued n e) (λ x. implies (is_line x) (is_aligned x.addr)) ≡ true
-aligned-by-rule h past (Ar p i addr snoop dom bar lock) n k =
-    by (is_some_and (ar_kind_of snoop dom bar) is_line_read) (and_parts (is_none_or (if is_some_and (ar_kind_of snoop dom bar) is_line_read then Some addr else None) is_aligned) true k).0
-  where
-    by : (b : Bool) → is_none_or (if b then Some addr else None) is_aligned ≡ true → implies (b || false) (is_aligned addr) ≡ true
-    by true t = t
-    by false t = refl
-aligned-by-rule h past (Aw p i addr snoop dom bar) n k =
-    by (is_some_and (aw_kind_of snoop dom bar) is_line_write) (and_parts (is_none_or (if is_some_and (aw_kind_of snoop dom bar) is_line_write then Some addr else None) is_aligned) true k).0
-  where
-    by : (b : Bool) → is_none_or (if b then Some addr else None) is_aligned ≡ true → implies b (is_aligned addr) ≡ true
-    by true t = t
-    by false t = refl
-aligned-by-rule h past e n k = refl
-
-issued-aligned : (h : Header) (past : Trace) (x : Transaction) → IsAccepted h past → IsIssued past x → is_line x ≡ true → is_aligned x.addr ≡ true
-issued-aligned h [] x a i line = let low = i.before in absurd (omega (arith, low))
-issued-aligned h (e ∷ past) x a i line =
-    elim (issued-cases e past x i) [
-      | inr old ↦ issued-aligned h past x a.0 old line
-      | inl new ↦
-          implies-at (is_line x) (is_aligned x.addr)
-          (is_none_or-at (issued (length past) e) (λ x. implies (is_line x) (is_aligned x.addr)) x (aligned-by-rule h past e (length past) (accepted_keeps h past e a).rule_3) new)
-          line
-    ]
-
 -- A port that holds the line is an ACE port; the line is one of memory, and no transaction of it is NoSnoop.
 pub record IsHeld (h : Header) (past : Trace) (p a : ℕ) : Type 0 where
   pub ace : is_ace h p ≡ true
@@ -117,6 +86,6 @@ held-line h past p a accepted held =
         | inl t ↦ t
         | inr f ↦ let bad : true ≡ false = sym (ap is_invalid ((accepted_holds h past accepted).outside p a f)) ∙ held in cc
       ];
-      aligned = subst (λ b. is_aligned b ≡ true) (eqb-true s.one.addr a on.1) (issued-aligned h past s.one accepted s.stands on.0);
+      aligned = subst (λ b. is_aligned b ≡ true) (eqb-true s.one.addr a on.1) (line-aligned h past s.one accepted s.stands on.0);
       alike = class-of past a false (λ y i is_on_a. used_alike h past accepted y s.one a i s.stands is_on_a s.on ∙ s.snoops);
     }
