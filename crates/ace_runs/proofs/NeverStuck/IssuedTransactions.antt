@@ -6,6 +6,7 @@ use Rattle.ace_codes.specs.Reads.{ar_kind_of}
 use Rattle.ace_codes.specs.declared.kind.AwKind.{AwKind}
 use Rattle.ace_codes.specs.declared.kind.AwKind.TheVariants as write
 use Rattle.ace_codes.specs.Writes.{aw_kind_of}
+use Rattle.ace_event.specs.declared.event.Channel.{Channel}
 use Rattle.ace_event.specs.declared.event.Event.{Event}
 use Rattle.ace_event.specs.declared.event.Event.TheVariants.{Ar, Aw}
 use Rattle.ace_event.specs.declared.header.Header.{Header}
@@ -15,11 +16,13 @@ use Rattle.ace_model.specs.AddressRules.{k1, k2, may_issue_write, k3, is_aligned
 use Rattle.ace_model.specs.Kinds.{is_update, is_line_read, is_line_write}
 use Rattle.ace_model.specs.Progress.{updates_memory}
 use Rattle.ace_model.specs.Trace.{Trace, is_none_or, is_some_and, implies}
-use Rattle.ace_model.specs.Transactions.{is_ace, issued, write_kind, is_line}
+use Rattle.ace_model.specs.Transactions.{is_ace, issued, write_kind, is_line, acknowledged, transaction_of}
+use Rattle.ace_model.proofs.Trace.Outstanding.{acknowledged_is}
+use Rattle.ace_model.proofs.Trace.Issued.{transaction_of-name}
 use Rattle.ace_model.proofs.General.Booleans.{implies-at}
 use Rattle.ace_model.proofs.General.Options.{is_none_or-at, is_some_and-is}
 use Rattle.ace_model.proofs.Rules.Keeps.{accepted_keeps}
-use Rattle.ace_model.proofs.Trace.Growth.{IsIssued, issued-cases}
+use Rattle.ace_model.proofs.Trace.Growth.{IsIssued, issued-cases, named-issued}
 
 -- what a rule says of each transaction that an event issues is so of each that was issued
 pub issued-by-rule : (test : Transaction → Bool) (h : Header) → ((past : Trace) (e : Event) → IsAccepted h (e ∷ past) → is_none_or (issued (length past) e) test ≡ true)
@@ -92,3 +95,12 @@ pub line-aligned : (h : Header) (past : Trace) (x : Transaction) → IsAccepted 
 line-aligned h past x a i line =
     implies-at (is_line x) (is_aligned x.addr)
     (issued-by-rule (λ x. implies (is_line x) (is_aligned x.addr)) h (λ past e a. aligned-by-rule h past e (length past) (accepted_keeps h past e a).rule_3) past x a i) line
+
+-- ---- names -------------------------------------------------------------------------------------------
+
+-- a transaction that is named, or is to be acknowledged, was issued by the port
+pub named-of : (past : Trace) (q : ℕ) (c : Channel) (i : ℕ) (z : Transaction) → transaction_of past q c i ≡ Some z → IsIssued past z × (z.port ≡ q)
+named-of past q c i z named = (named-issued past q c i z named, (transaction_of-name past q c i z named).port)
+
+pub acknowledged-of : (past : Trace) (q : ℕ) (c : Channel) (z : Transaction) → acknowledged past q c ≡ Some z → IsIssued past z × (z.port ≡ q)
+acknowledged-of past q c z next = let n = acknowledged_is past q c z next in named-of past q c n.id z n.named

@@ -8,7 +8,9 @@ pub mod SameEvents
 pub mod SameBursts
 -- What ends an operation, and what acknowledges.
 pub mod Concluding
--- Which events each step gives.
+-- What an operation asks for.
+pub mod Asking
+-- Which events the steps of masters give.
 pub mod StepEvents
 -- The steps that serve a transaction.
 pub mod Serving
