@@ -14,9 +14,9 @@ use Rattle.ace_model.specs.declared.plans.Op.TheVariants as op
 use Rattle.ace_model.specs.Trace.{Trace}
 use Rattle.ace_runs.specs.Closing.{state_named}
 use Rattle.ace_runs.specs.Requests.{Request, Reads, Misses, Writes, Drops, Barriers, gives_up_first, moves_of, request_of}
+use Rattle.ace_runs.proofs.NeverStuck.Steps.Lists.{all-implied}
 use Rattle.ace_runs.proofs.NeverStuck.Steps.Asking.{Asks, moves-all}
 use Rattle.ace_runs.proofs.NeverStuck.Steps.Concluding.{Concludes}
-use Rattle.ace_runs.proofs.NeverStuck.Steps.Lists.{all-implied}
 use Rattle.ace_runs.proofs.NeverStuck.Barriers.Acts.{is_barrier_operation}
 use Rattle.ace_runs.proofs.NeverStuck.Barriers.Quiet.{is_ordinary, is_quiet, issues_no_line, quiet-ordinary, quiet-no-line}
 
@@ -53,7 +53,7 @@ request-no-barrier (op.Wlu a line) st none = gives-up-no-barrier a st (Writes wr
 request-no-barrier (op.Cs a) st none = no-barrier-if (is_dirty st) (Writes write.WriteClean a) (Reads read.CleanShared a false) refl refl
 request-no-barrier o st none = refl
 
-ordinary-asks : (p : ℕ) → Asks p (is_ordinary p)
+pub ordinary-asks : (p : ℕ) → Asks p (is_ordinary p)
 ordinary-asks p = record { reads = λ i a code dom lock. own; writes = λ i a code dom. own; drops = λ a st. refl }
   where
     own : ((p == p) && true) ≡ true

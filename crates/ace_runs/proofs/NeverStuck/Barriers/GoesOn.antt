@@ -2,7 +2,7 @@
 use Rattle.std.proofs.Common.{◌≡◌, ◌⊎◌, ℕ, Bool, true, false, not, ◌&&◌, if◌then◌else◌, List, [], ◌∷◌, ◌++◌, map, Option, Some, None, inl, inr, refl, sym, ap, ◌∙◌}
 use Rattle.std.specs.List.{list_all, list_any, flat_map}
 use Rattle.std.specs.Option.{option_to_list}
-use Rattle.std.proofs.lemmas.Bool.{and_from, or_cases, or_left, or_right, eq-eqb}
+use Rattle.std.proofs.lemmas.Bool.{or_cases, or_left, or_right}
 use Rattle.ace_codes.specs.declared.kind.ArKind.TheVariants as read
 use Rattle.ace_codes.specs.Places.{is_barrier}
 use Rattle.ace_codes.specs.Reads.{ar_code, ar_kind_of}
@@ -21,11 +21,12 @@ use Rattle.ace_runs.specs.Follows.{owes_completion}
 use Rattle.ace_runs.specs.MasterSteps.{completion_bursts, goes_on}
 use Rattle.ace_runs.specs.Requests.{barrier_bursts, barrier_halves, bursts_of, ends_or_asks, free_on, free_on_both, is_waiting, moves_of, request_of, with_identifier}
 use Rattle.ace_runs.specs.SameEvents.{same_burst}
+use Rattle.ace_runs.proofs.NeverStuck.Steps.Asking.{completions-all}
 use Rattle.ace_runs.proofs.NeverStuck.Steps.SameBursts.{all-as, any-all}
 use Rattle.ace_runs.proofs.NeverStuck.Steps.SameEvents.{TellsSame, tells-same}
 use Rattle.ace_runs.proofs.NeverStuck.Steps.Lists.{all-if, all-map}
 use Rattle.ace_runs.proofs.NeverStuck.Barriers.Acts.{is_barrier_operation}
-use Rattle.ace_runs.proofs.NeverStuck.Barriers.Asks.{all-no-line, all-ordinary, moves-ordinary}
+use Rattle.ace_runs.proofs.NeverStuck.Barriers.Asks.{all-no-line, all-ordinary, moves-ordinary, ordinary-asks}
 use Rattle.ace_runs.proofs.NeverStuck.Barriers.Quiet.{closing-quiet, is_ordinary, is_quiet, issues_no_line, same-quiet}
 
 -- the two halves of a barrier of the port, and events that issue nothing
@@ -69,13 +70,9 @@ completion-no-line : (p i : ℕ) → list_all issues_no_line (Ar p i 0 (ar_code 
 unfolding ar_kind_of
 completion-no-line p i = refl
 
-completion-ordinary : (p i : ℕ) → list_all (is_ordinary p) (Ar p i 0 (ar_code read.DvmComplete) 1 0 false ∷ []) ≡ true
-completion-ordinary p i = and_from _ _ (and_from _ _ (eq-eqb p p refl) refl) refl
-
 completion-beside : (h : Header) (past : Trace) (p : ℕ) (burst : List Event) → list_any (λ move. same_burst move burst) (completion_bursts h past p) ≡ true → IsBeside p burst
 completion-beside h past p burst s = (
-  any-all (is_ordinary p) (same-ordinary p) burst (completion_bursts h past p) s
-      (all-if (list_all (is_ordinary p)) (is_ace h p && owes_completion past p) _ [] (all-map (list_all (is_ordinary p)) _ (option_to_list (free_on h past p Read)) (completion-ordinary p)) refl),
+  any-all (is_ordinary p) (same-ordinary p) burst (completion_bursts h past p) s (completions-all p (is_ordinary p) (ordinary-asks p) h past),
   any-all issues_no_line same-no-line burst (completion_bursts h past p) s
       (all-if (list_all issues_no_line) (is_ace h p && owes_completion past p) _ [] (all-map (list_all issues_no_line) _ (option_to_list (free_on h past p Read)) (completion-no-line p)) refl),
 )

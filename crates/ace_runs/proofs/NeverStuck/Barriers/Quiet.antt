@@ -9,8 +9,8 @@ use Rattle.ace_model.specs.Trace.{Trace, is_none_or}
 use Rattle.ace_model.specs.Transactions.{is_line, issued}
 use Rattle.ace_runs.specs.Closing.{closing_of}
 use Rattle.ace_runs.specs.MasterSteps.{acknowledges}
-use Rattle.ace_runs.proofs.NeverStuck.Steps.Concluding.{Concludes, acknowledges-all, closing-all}
 use Rattle.ace_runs.proofs.NeverStuck.Steps.SameEvents.{TellsSame, tells-same}
+use Rattle.ace_runs.proofs.NeverStuck.Steps.Concluding.{Concludes, acknowledges-all, closing-all}
 
 -- the event issues no transaction, and no response
 abbrev pub is_quiet : Event → Bool

@@ -16,11 +16,11 @@ use Rattle.ace_runs.specs.Requests.{Request, bursts_of}
 use Rattle.ace_runs.specs.Retiring.{tells_completion}
 use Rattle.ace_runs.specs.SameEvents.{same_burst}
 use Rattle.ace_runs.specs.Segments.{is_at_port}
-use Rattle.ace_runs.proofs.NeverStuck.Steps.Asking.{goes-on-all, requests-all}
-use Rattle.ace_runs.proofs.NeverStuck.Steps.Concluding.{Concludes, acknowledges-all}
 use Rattle.ace_runs.proofs.NeverStuck.Steps.SameBursts.{all-as}
 use Rattle.ace_runs.proofs.NeverStuck.Steps.SameEvents.{TellsSame, is_lineless, tells-same}
 use Rattle.ace_runs.proofs.NeverStuck.Steps.Lists.{all-if, all-implied}
+use Rattle.ace_runs.proofs.NeverStuck.Steps.Asking.{goes-on-all, requests-all}
+use Rattle.ace_runs.proofs.NeverStuck.Steps.Concluding.{Concludes, acknowledges-all}
 
 -- ---- the same events ---------------------------------------------------------------------------------
 
@@ -33,14 +33,14 @@ same-port port = tells-same (is_at_port port) (λ p c i line. refl) (λ p a s x 
 abbrev pub are_own : ℕ → List Event → Bool
 are_own p burst = list_all (is_at_port p) burst
 
+own : (p : ℕ) → (p == p) ≡ true
+own p = eq-eqb p p refl
+
 itself : (p : ℕ) → (p == p) && true ≡ true
-itself p = and_from _ _ (eq-eqb p p refl) refl
+itself p = and_from _ _ (own p) refl
 
 own-concludes : (p : ℕ) → Concludes p (is_at_port p)
-own-concludes p = record { reads = λ st. here; writes = λ st. here; loads = λ a w x word. here; stores = λ a s x line. here; retires = λ k res. here }
-  where
-    here : (p == p) ≡ true
-    here = eq-eqb p p refl
+own-concludes p = record { reads = λ st. own p; writes = λ st. own p; loads = λ a w x word. own p; stores = λ a s x line. own p; retires = λ k res. own p }
 
 -- ---- step 1 ------------------------------------------------------------------------------------------
 
@@ -48,11 +48,8 @@ after-own : (past : Trace) (p : ℕ) (s : Snoop) (resp : ℕ) → are_own p (aft
 after-own past p s resp =
     all-if (is_at_port p) (tells_completion s) _ _ (itself p) (all-if (is_at_port p) (snoops_a_line s.snoop && transfers_data resp) _ [] four refl)
   where
-    use_it : (p == p) ≡ true
-    use_it = eq-eqb p p refl
-
     four : ((p == p) && ((p == p) && ((p == p) && ((p == p) && true)))) ≡ true
-    four = and_from _ _ use_it (and_from _ _ use_it (and_from _ _ use_it (and_from _ _ use_it refl)))
+    four = and_from _ _ (own p) (and_from _ _ (own p) (and_from _ _ (own p) (and_from _ _ (own p) refl)))
 
 pub answers-own : (h : Header) (past : Trace) (p : ℕ) (burst : List Event) → answers_snoop h past p burst ≡ true → are_own p burst ≡ true
 answers-own h past p (Cr q resp st ∷ rest) s =
@@ -77,19 +74,13 @@ are_asking p burst = list_all (is_asking p) burst
 
 pub requests-asking : (h : Header) (past : Trace) (p : ℕ) (r : Request) (ways : ℕ) → list_all (are_asking p) (bursts_of ways h past p r) ≡ true
 requests-asking h past p r ways =
-    requests-all p (is_asking p) (record { reads = λ i a code dom lock. here; writes = λ i a code dom. here; drops = λ a st. here }) h past r ways
-    (λ bar i is. and_from _ _ here (itself p))
-  where
-    here : (p == p) ≡ true
-    here = eq-eqb p p refl
+    requests-all p (is_asking p) (record { reads = λ i a code dom lock. own p; writes = λ i a code dom. own p; drops = λ a st. own p }) h past r ways
+    (λ bar i is. and_from _ _ (own p) (itself p))
 
 pub asking-lineless : (p : ℕ) (burst : List Event) → are_asking p burst ≡ true → list_all is_lineless burst ≡ true
 asking-lineless p burst m = all-implied (is_asking p) is_lineless (λ e asks. (and_parts (is_lineless e) (is_at_port p e) asks).0) burst m
 
 pub goes-on-own : (ways : ℕ) (next : Option Op) (h : Header) (past : Trace) (p : ℕ) (burst : List Event) → goes_on ways next h past p burst ≡ true → are_own p burst ≡ true
 goes-on-own ways next h past p burst s =
-    goes-on-all p (is_at_port p) (record { reads = λ i a code dom lock. here; writes = λ i a code dom. here; drops = λ a st. here }) (own-concludes p) (same-port p)
-    (λ r bar i is. and_from _ _ here (itself p)) ways next h past burst s
-  where
-    here : (p == p) ≡ true
-    here = eq-eqb p p refl
+    goes-on-all p (is_at_port p) (record { reads = λ i a code dom lock. own p; writes = λ i a code dom. own p; drops = λ a st. own p }) (own-concludes p) (same-port p)
+    (λ r bar i is. and_from _ _ (own p) (itself p)) ways next h past burst s

@@ -30,10 +30,10 @@ use Rattle.ace_runs.specs.Follows.{owes_completion}
 use Rattle.ace_runs.specs.HeldLines.{held_lines}
 use Rattle.ace_runs.specs.MasterSteps.{completion_bursts, goes_on, moves}
 use Rattle.ace_runs.specs.Requests.{Request, Reads, Misses, Writes, Drops, Barriers, Messages, and_part, barrier_halves, bursts_of, domain_for, drop_bursts, ends_or_asks, free_on, free_on_both, has_room, is_waiting, moves_of, read_bursts, request_of, room_bursts, victim_bursts, write_bursts}
-use Rattle.ace_runs.proofs.NeverStuck.Steps.Concluding.{Concludes, and-closing-all, closing-all}
 use Rattle.ace_runs.proofs.NeverStuck.Steps.SameBursts.{any-all}
 use Rattle.ace_runs.proofs.NeverStuck.Steps.SameEvents.{TellsSame}
 use Rattle.ace_runs.proofs.NeverStuck.Steps.Lists.{all-append, all-flat_map, all-flat_mapped, all-if, all-map, all-mapped}
+use Rattle.ace_runs.proofs.NeverStuck.Steps.Concluding.{Concludes, and-closing-all, closing-all}
 
 -- A test that passes for reads and writes of the port that are no barriers, and for its silent transitions.
 pub record Asks (p : ℕ) (test : Event → Bool) : Type 0 where
@@ -86,6 +86,13 @@ module _ (p : ℕ) (test : Event → Bool) (asks : Asks p test) where
           all-mapped (list_all test) (list_all test) (λ later. burst ++ later) (read_bursts h (onto burst past) p read.DvmMessage word false)
           (λ later l. all-append test burst later m l) (reads-all h (onto burst past) read.DvmMessage word false)
 
+  -- a DVM Complete, which is a read of the port too
+  pub completions-all : (h : Header) (past : Trace) → list_all (list_all test) (completion_bursts h past p) ≡ true
+  completions-all h past =
+      all-if (list_all test) (is_ace h p && owes_completion past p) _ []
+      (all-map (list_all test) (λ i. Ar p i 0 (ar_code read.DvmComplete) 1 0 false ∷ []) (option_to_list (free_on h past p Read))
+      (λ i. and_from _ _ (asks.reads i 0 (ar_code read.DvmComplete) 1 false) refl)) refl
+
   module _ (c : Concludes p test) where
     ends-or-asks-all : (ways : ℕ) (h : Header) (past : Trace) (o : Op) (end : List Event) → PassesHalves p test (request_of o (state_named h past p o)) → list_all test end ≡ true
         → all_pass (ends_or_asks ways h past p o end) ≡ true
@@ -97,12 +104,6 @@ module _ (p : ℕ) (test : Event → Bool) (asks : Asks p test) where
     pub moves-all : (ways : ℕ) (h : Header) (past : Trace) (o : Op) → PassesHalves p test (request_of o (state_named h past p o)) → list_all (list_all test) (moves_of ways h past p o) ≡ true
     moves-all ways h past o halves =
         all-if (list_all test) (is_waiting h past p o) [] _ refl (ends-or-asks-all ways h past o (closing_of h past p o) halves (closing-all p test c h past o))
-
-    pub completions-all : (h : Header) (past : Trace) → list_all (list_all test) (completion_bursts h past p) ≡ true
-    completions-all h past =
-        all-if (list_all test) (is_ace h p && owes_completion past p) _ []
-        (all-map (list_all test) (λ i. Ar p i 0 (ar_code read.DvmComplete) 1 0 false ∷ []) (option_to_list (free_on h past p Read))
-        (λ i. and_from _ _ (asks.reads i 0 (ar_code read.DvmComplete) 1 false) refl)) refl
 
     pub goes-on-all : TellsSame test → ((r : Request) → PassesHalves p test r) → (ways : ℕ) (next : Option Op) (h : Header) (past : Trace) (burst : List Event)
         → goes_on ways next h past p burst ≡ true → list_all test burst ≡ true

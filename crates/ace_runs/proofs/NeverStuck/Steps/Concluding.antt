@@ -30,10 +30,10 @@ use Rattle.ace_runs.specs.MasterSteps.{store_lacked, acknowledge, acknowledge_fo
 use Rattle.ace_runs.specs.Retiring.{may_retire}
 use Rattle.ace_runs.specs.SameEvents.{same_burst}
 use Rattle.ace_runs.specs.Segments.{is_in_segment}
-use Rattle.ace_runs.proofs.NeverStuck.IssuedTransactions.{acknowledged-of}
 use Rattle.ace_runs.proofs.NeverStuck.Steps.SameBursts.{all-as}
 use Rattle.ace_runs.proofs.NeverStuck.Steps.SameEvents.{TellsSame}
 use Rattle.ace_runs.proofs.NeverStuck.Steps.Lists.{all-append, all-if}
+use Rattle.ace_runs.proofs.NeverStuck.IssuedTransactions.{acknowledged-of}
 
 -- ---- what ends an operation --------------------------------------------------------------------------
 

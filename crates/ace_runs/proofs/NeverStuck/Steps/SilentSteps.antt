@@ -11,9 +11,9 @@ use Rattle.ace_runs.specs.Closing.{closing_of}
 use Rattle.ace_runs.specs.MasterSteps.{goes_on}
 use Rattle.ace_runs.specs.Operations.{next_operation}
 use Rattle.ace_runs.specs.Steps.{is_step}
-use Rattle.ace_runs.proofs.NeverStuck.Steps.Concluding.{Concludes, acknowledges-all, closing-all}
 use Rattle.ace_runs.proofs.NeverStuck.Steps.SameEvents.{TellsSame, tells-same}
 use Rattle.ace_runs.proofs.NeverStuck.Steps.Lists.{all-implied}
+use Rattle.ace_runs.proofs.NeverStuck.Steps.Concluding.{Concludes, acknowledges-all, closing-all}
 use Rattle.ace_runs.proofs.NeverStuck.Steps.MasterSteps.{is_beside, master-step}
 use Rattle.ace_runs.proofs.NeverStuck.Steps.StepEvents.{answers-answering, is_answering}
 

@@ -14,11 +14,11 @@ use Rattle.ace_model.specs.Snoops.{answered, snoops_a_line}
 use Rattle.ace_runs.specs.MasterSteps.{after_answer, answers_snoop, acknowledges, goes_on}
 use Rattle.ace_runs.specs.Retiring.{tells_completion}
 use Rattle.ace_runs.specs.SameEvents.{same_burst}
-use Rattle.ace_runs.proofs.NeverStuck.Steps.Asking.{goes-on-all}
-use Rattle.ace_runs.proofs.NeverStuck.Steps.Concluding.{Concludes, acknowledges-all}
 use Rattle.ace_runs.proofs.NeverStuck.Steps.SameBursts.{all-as}
 use Rattle.ace_runs.proofs.NeverStuck.Steps.SameEvents.{TellsSame, tells-same}
 use Rattle.ace_runs.proofs.NeverStuck.Steps.Lists.{all-if}
+use Rattle.ace_runs.proofs.NeverStuck.Steps.Asking.{goes-on-all}
+use Rattle.ace_runs.proofs.NeverStuck.Steps.Concluding.{Concludes, acknowledges-all}
 
 -- an event of a master, but write data and answers to snoops
 abbrev pub is_masters : Event → Bool
@@ -37,8 +37,6 @@ are_masters burst = list_all is_masters burst
 
 same-masters : TellsSame is_masters
 same-masters = tells-same is_masters (λ p c i line. refl) (λ p a s x line. refl) (λ a line. refl)
-
--- ---- what ends an operation --------------------------------------------------------------------------
 
 masters-conclude : (p : ℕ) → Concludes p is_masters
 masters-conclude p = record { reads = λ st. refl; writes = λ st. refl; loads = λ a w x word. refl; stores = λ a s x line. refl; retires = λ k res. refl }
