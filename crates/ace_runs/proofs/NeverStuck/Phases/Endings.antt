@@ -1,7 +1,7 @@
 -- A burst that ends with what ends an operation, if that can end then: afterwards the next operation of the port can't retire with `ok`.
 use Rattle.std.proofs.Common.{◌≡◌, ◌⊎◌, ℕ, Bool, true, false, not, ◌&&◌, ◌==◌, if◌then◌else◌, List, [], ◌∷◌, ◌++◌, append-nil, length, Option, Some, None, inl, inr, refl, sym, ap, ◌∙◌}
 use Rattle.std.specs.List.{list_all, list_any}
-use Rattle.std.proofs.lemmas.Bool.{and_parts, and_from, eq-eqb, not-true}
+use Rattle.std.proofs.lemmas.Bool.{and_parts, eq-eqb, not-true}
 use Rattle.ace_codes.specs.declared.kind.AwKind.TheVariants as write
 use Rattle.ace_event.specs.declared.event.Event.{Event}
 use Rattle.ace_event.specs.declared.event.Event.TheVariants.{Op as Retires}
@@ -21,6 +21,7 @@ use Rattle.ace_runs.specs.Operations.{next_operation}
 use Rattle.ace_runs.specs.Retiring.{is_met, may_retire}
 use Rattle.ace_runs.specs.SameEvents.{same_burst, same_event}
 use Rattle.ace_runs.specs.Segments.{acts_made, is_read_of, is_write_of, segment}
+use Rattle.ace_runs.proofs.NeverStuck.Steps.Lists.{all-implied}
 use Rattle.ace_runs.proofs.NeverStuck.Steps.SameBursts.{equal-burst}
 use Rattle.ace_runs.proofs.NeverStuck.Steps.SameEvents.{TellsSame, is_lineless, tells-same}
 use Rattle.ace_runs.proofs.NeverStuck.Phases.Calm.{may_end}
@@ -125,9 +126,7 @@ next-burst plan (e ∷ burst) past p none =
     next-burst plan burst (e ∷ past) p parts.1 ∙ next-stays plan past p e (not-true (is_retirement e) parts.0)
 
 lineless-none : (burst : List Event) → list_all is_lineless burst ≡ true → list_all (λ e. not (is_retirement e)) burst ≡ true
-lineless-none [] all = refl
-lineless-none (e ∷ burst) all =
-    let parts = and_parts (is_lineless e) (list_all is_lineless burst) all in and_from _ _ (one e parts.0) (lineless-none burst parts.1)
+lineless-none burst all = all-implied is_lineless (λ e. not (is_retirement e)) one burst all
   where
     one : (e : Event) → is_lineless e ≡ true → not (is_retirement e) ≡ true
     one (Retires q k res) m = cc
