@@ -1,5 +1,5 @@
 -- An accepted trace was accepted at each earlier point, and stays so with a burst that breaks no rule.
-use Rattle.std.proofs.Common.{◌≡◌, true, List, [], ◌∷◌, Option, Some, None, is_none, ℕ, refl}
+use Rattle.std.proofs.Common.{◌≡◌, true, List, [], ◌∷◌, Option, Some, None, is_none, ℕ, refl, Bool, if◌then◌else◌}
 use Rattle.std.proofs.lemmas.Bool.{and_parts}
 use Rattle.ace_event.specs.declared.event.Event.{Event}
 use Rattle.ace_event.specs.declared.header.Header.{Header}
@@ -24,3 +24,15 @@ accepted-after h [] past a k = a
 accepted-after h (e ∷ burst) past a k =
     let parts = and_parts (is_kept h past e) (are_kept h (e ∷ past) burst) k in
     accepted-after h burst (e ∷ past) (a, kept-breaks-none h past e parts.0) parts.1
+
+-- ---- an event that breaks none of the rules that look at it ------------------------------------------
+
+pub two-kept : (a b : Bool) (i j : ℕ) → a ≡ true → b ≡ true → is_none {T = ℕ} (if a then (if b then None else Some j) else Some i) ≡ true
+two-kept a b i j x y = rw (x, y) refl
+
+pub three-kept : (a b c : Bool) (i j k : ℕ) → a ≡ true → b ≡ true → c ≡ true → is_none {T = ℕ} (if a then (if b then (if c then None else Some k) else Some j) else Some i) ≡ true
+three-kept a b c i j k x y z = rw (x, y, z) refl
+
+pub four-kept : (a b c d : Bool) (i j k l : ℕ) → a ≡ true → b ≡ true → c ≡ true → d ≡ true
+    → is_none {T = ℕ} (if a then (if b then (if c then (if d then None else Some l) else Some k) else Some j) else Some i) ≡ true
+four-kept a b c d i j k l w x y z = rw (w, x, y, z) refl

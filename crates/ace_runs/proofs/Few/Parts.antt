@@ -1,5 +1,6 @@
 -- The parts of DVM messages are forwarded to each ACE port at most once.
 use Rattle.std.proofs.Common.{◌≡◌, ℕ, ◌+◌, ◌*◌, ◌≤◌, Bool, true, false, ◌&&◌, ◌||◌, ◌==◌, if◌then◌else◌, List, [], ◌∷◌, ◌++◌, length, map, Option, Some, None, is_some, refl, sym, ap, subst, ◌∙◌, inl, inr, arith, length-append, le_trans}
+use Rattle.std.proofs.Math.Bool.{and-false}
 use Rattle.std.proofs.lemmas.Bool.{cases_Bool, and_parts, eqb-true}
 use Rattle.std.proofs.lemmas.List.{map-append, length-map, append-nil}
 use Rattle.std.proofs.lemmas.Option.{slice_get_within}
@@ -208,10 +209,6 @@ forwards-each h (Ac q addr snoop ∷ past) p a =
           let within = step.1 in
           record { some = rw t (omega (arith, up, some)); within = rw t (omega (arith, within, nil)) }
     ]
-  where
-    and-false : (b : Bool) → (b && false) ≡ false
-    and-false true = refl
-    and-false false = refl
 forwards-each h (e ∷ past) p a =
     let i = forwards-each h past p a.0 in
     record { some = i.some; within = le_trans i.within (longer-list (parts_for past p) (parts_in past (issued (length past) e) p)) }

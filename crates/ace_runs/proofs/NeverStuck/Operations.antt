@@ -1,4 +1,5 @@
--- Where nothing of a port is outstanding, its next operation goes on.
+-- The next operation of a port goes on by step 14: where nothing of the port is outstanding it can, and where it can there is a burst for it that
+-- breaks no rule.
 
 -- Nothing of the port is outstanding.
 pub mod Idle
@@ -8,41 +9,17 @@ pub mod Identifiers
 pub mod Asks
 -- An operation that has made no act goes on by step 14.
 pub mod OperationsGoOn
--- What it asks breaks no rule.
-pub mod AsksKept
--- What a right plan says of an operation.
-pub mod OfPlan
--- The transactions of a line are of one class.
-pub mod Classes
--- The lines that a port holds.
-pub mod HeldLines
--- The parts of DVM messages break no rule.
-pub mod MessagesKept
--- Nor do the halves of barriers.
-pub mod BarriersKept
--- An operation that can't end.
-pub mod Ends
--- An operation that asks.
-pub mod Asking
--- What loads and reads ahead ask for.
-pub mod Fetching
--- What stores ask for.
-pub mod Storing
--- What updates of memory and accesses past the cache ask for.
-pub mod GivingUp
--- What accesses without snoops ask for.
-pub mod Unsnooped
--- What DVM messages ask for.
-pub mod Ordering
--- So what each operation asks for fits.
-pub mod RequestsFit
--- The bursts of what fits break no rule.
-pub mod BurstsKept
--- Nor does what ends an operation.
-pub mod ClosingKept
--- A burst is the same as itself.
-pub mod SameBursts
--- What asks leaves what lines give.
-pub mod CalmBursts
--- So step 14 has a burst that breaks no rule.
+-- The lines that operations name and that ports hold.
+pub mod Lines
+-- The kinds of reads with some codes.
+pub mod Places
+-- The transactions of a segment.
+pub mod SegmentOf
+-- A read ahead fetches by its kind alone.
+pub mod Fetches
+-- What the operation asks for fits.
+pub mod Fits
+-- What fits breaks no rule.
+pub mod Kept
+-- So where step 14 is enabled it has a burst that breaks no rule.
 pub mod OperationSteps

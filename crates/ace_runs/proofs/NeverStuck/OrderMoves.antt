@@ -27,8 +27,8 @@ use Rattle.ace_runs.specs.LineSteps.{waits}
 use Rattle.ace_runs.specs.Steps.{AreSteps}
 use Rattle.ace_runs.proofs.Turns.{steps-accepted}
 use Rattle.ace_runs.proofs.NeverStuck.Barriers.Answered.{barrier-moves}
-use Rattle.ace_runs.proofs.NeverStuck.EnabledBy.{enabled-by-more}
-use Rattle.ace_runs.proofs.NeverStuck.WriterPorts.{issuer-low}
+use Rattle.ace_runs.proofs.NeverStuck.Steps.EnabledBy.{enabled-by-more}
+use Rattle.ace_runs.proofs.NeverStuck.IssuedTransactions.{issuer-low}
 use Rattle.ace_runs.proofs.NeverStuck.Messages.DvmSteps.{OrderStep, dvm-has-a-step, owed-has-a-step}
 use Rattle.ace_runs.proofs.NeverStuck.Messages.Sorts.{transaction-sort}
 

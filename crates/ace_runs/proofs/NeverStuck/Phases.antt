@@ -4,6 +4,8 @@
 pub mod NextActs
 -- A port that has made one act of two.
 pub mod OneOfTwo
+-- Acts that issue transactions.
+pub mod IssuedActs
 -- Which act of a barrier a half is.
 pub mod Halves
 -- In a run a port has made both acts of a barrier or none.
@@ -28,9 +30,19 @@ pub mod SyncsOfNext
 pub mod Calm
 -- Which these are.
 pub mod CalmEvents
--- The same events are equal.
-pub mod EqualEvents
 -- Bursts that end operations.
 pub mod Endings
 -- Step 4 ends the operation, if it can end.
 pub mod Acknowledged
+-- The events of the steps of masters are their own.
+pub mod OwnEvents
+-- Step 14 ends the operation, if it can end.
+pub mod GoneOn
+-- Step 1 ends a Sync, if it can end.
+pub mod Answered
+-- So in a run no operation of an ACE port is finished and not retired.
+pub mod NeverFinished
+-- An operation of an ACE port of which an act is made is under way.
+pub mod ActsUnderWay
+-- The OP and the AC DVM Complete with which such an operation ends are steps.
+pub mod EndingSteps

@@ -20,13 +20,13 @@ use Rattle.ace_runs.specs.LineSteps.{waits}
 use Rattle.ace_runs.specs.Steps.{AreSteps, Enabled, is_enabled_by}
 use Rattle.ace_runs.proofs.Turns.{steps-accepted}
 use Rattle.ace_runs.proofs.NeverStuck.Barriers.WaitingMove.{some-waiting-moves}
-use Rattle.ace_runs.proofs.NeverStuck.EnabledBy.{enabled-by-some}
+use Rattle.ace_runs.proofs.NeverStuck.Steps.EnabledBy.{enabled-by-some}
 use Rattle.ace_runs.proofs.NeverStuck.OperationsMove.{some-operation-moves}
 use Rattle.ace_runs.proofs.NeverStuck.OrderMoves.{is_served, order-moves}
 use Rattle.ace_runs.proofs.NeverStuck.Snoops.{unanswered-snoop}
 use Rattle.ace_runs.proofs.NeverStuck.Transactions.SnoopsMove.{failing-port}
 use Rattle.ace_runs.proofs.NeverStuck.Transactions.TransactionsMove.{moving_steps, transaction-moves}
-use Rattle.ace_runs.proofs.NeverStuck.UpdatesOrGranted.{granted-there}
+use Rattle.ace_runs.proofs.NeverStuck.Updates.UpdatesOrGranted.{granted-there}
 
 -- a port of the header is enabled
 abbrev pub SomeEnabled : Plan → Trace → Type 0

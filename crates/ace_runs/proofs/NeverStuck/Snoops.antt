@@ -14,9 +14,9 @@ use Rattle.ace_model.proofs.Grants.Pending.{snoops}
 use Rattle.ace_model.proofs.Trace.Looks.{is_on-addr}
 use Rattle.ace_runs.specs.Steps.{AreSteps, is_enabled_by}
 use Rattle.ace_runs.proofs.Turns.{steps-accepted}
-use Rattle.ace_runs.proofs.NeverStuck.BesideUpdates.{none-passed}
+use Rattle.ace_runs.proofs.NeverStuck.Updates.BesideUpdates.{none-passed}
 use Rattle.ace_runs.proofs.NeverStuck.Rows.{answers-or-waits, snooped-ace}
-use Rattle.ace_runs.proofs.NeverStuck.UpdatesMove.{IsUpdate, update-moves, update-there}
+use Rattle.ace_runs.proofs.NeverStuck.Updates.UpdatesMove.{IsUpdate, update-moves, update-there}
 
 -- the snoop isn't answered under the grant, so no data are passed on
 no-passed : (h : Header) (past : Trace) (p l : ℕ) (u : Transaction) → IsAccepted h past → IsUpdate h past p l u → answer_of past p l ≡ None

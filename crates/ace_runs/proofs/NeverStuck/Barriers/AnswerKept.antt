@@ -29,9 +29,9 @@ use Rattle.ace_runs.specs.SameEvents.{same_burst}
 use Rattle.ace_runs.specs.Steps.{AreSteps, is_sound, is_step_by}
 use Rattle.ace_runs.proofs.Accepting.{kept-breaks-none}
 use Rattle.ace_runs.proofs.Turns.{steps-accepted}
-use Rattle.ace_runs.proofs.NeverStuck.EvictsMove.{response-kept}
+use Rattle.ace_runs.proofs.NeverStuck.Updates.EvictsMove.{response-kept}
 use Rattle.ace_runs.proofs.NeverStuck.Reads.TransfersKept.{implied_by}
-use Rattle.ace_runs.proofs.NeverStuck.WriterPorts.{issuer-low}
+use Rattle.ace_runs.proofs.NeverStuck.IssuedTransactions.{issuer-low}
 use Rattle.ace_runs.proofs.NeverStuck.Barriers.Answered.{ReadAnswered, read-answered}
 use Rattle.ace_runs.proofs.NeverStuck.Barriers.BothAnswered.{halves-together, undone-outstanding}
 use Rattle.ace_runs.proofs.NeverStuck.Barriers.Halves.{half-dataless}

@@ -26,8 +26,9 @@ use Rattle.ace_model.proofs.Trace.Served.{had_some}
 use Rattle.ace_runs.specs.Bursts.{onto}
 use Rattle.ace_runs.specs.Requests.{barrier_halves}
 use Rattle.ace_runs.specs.SameEvents.{same_burst, same_event}
-use Rattle.ace_runs.proofs.NeverStuck.StepShapes.{all-as}
-use Rattle.ace_runs.proofs.NeverStuck.Barriers.GoesOn.{AsksBarrier, same-ar, same-aw}
+use Rattle.ace_runs.proofs.NeverStuck.Steps.SameBursts.{all-as}
+use Rattle.ace_runs.proofs.NeverStuck.Steps.SameEvents.{equal-event}
+use Rattle.ace_runs.proofs.NeverStuck.Barriers.GoesOn.{AsksBarrier}
 use Rattle.ace_runs.proofs.NeverStuck.Barriers.Quiet.{is_quiet, same-quiet}
 use Rattle.ace_runs.proofs.NeverStuck.Barriers.Together.{AreTogether, none-second, quiet-together, same-completed}
 
@@ -58,18 +59,14 @@ unfolding aw_kind_of
 write-barrier bar b = by-bar (λ n. is_some_and (aw_kind_of 0 1 n) is_write_barrier ≡ true) bar b refl refl
 
 issues-read : (past : Trace) (p i bar : ℕ) (e : Event) → is_barrier bar ≡ true → same_event (Ar p i 0 (ar_code read.Barrier) 1 bar false) e ≡ true → IssuesHalf (length past) p Read e
-issues-read past p i bar (Ar q j a code domain b lock) is same =
-    let s = same-ar p i 0 (ar_code read.Barrier) 1 bar q j a code domain b false lock same in
-    let kind : is_some_and (ar_kind_of code domain b) is_read_barrier ≡ true = rw (← s.snoop, ← s.dom, ← s.bar) (read-barrier bar is) in
-    record { half = read_issued past q j a code domain b lock; is = refl; barrier = or_left _ _ kind; port = sym s.port; chan = refl; none = refl }
-issues-read past p i bar e is same = cc
+issues-read past p i bar e is same =
+    subst (λ v. IssuesHalf (length past) p Read v) (equal-event (Ar p i 0 (ar_code read.Barrier) 1 bar false) e same refl)
+    (record { half = read_issued past p i 0 (ar_code read.Barrier) 1 bar false; is = refl; barrier = or_left _ _ (read-barrier bar is); port = refl; chan = refl; none = refl })
 
 issues-write : (past : Trace) (p i bar : ℕ) (e : Event) → is_barrier bar ≡ true → same_event (Aw p i 0 (aw_code write.Barrier) 1 bar) e ≡ true → IssuesHalf (length past) p Write e
-issues-write past p i bar (Aw q j a code domain b) is same =
-    let s = same-aw p i 0 (aw_code write.Barrier) 1 bar q j a code domain b same in
-    let kind : is_some_and (aw_kind_of code domain b) is_write_barrier ≡ true = rw (← s.snoop, ← s.dom, ← s.bar) (write-barrier bar is) in
-    record { half = write_issued past q j a code domain b; is = refl; barrier = kind; port = sym s.port; chan = refl; none = refl }
-issues-write past p i bar e is same = cc
+issues-write past p i bar e is same =
+    subst (λ v. IssuesHalf (length past) p Write v) (equal-event (Aw p i 0 (aw_code write.Barrier) 1 bar) e same refl)
+    (record { half = write_issued past p i 0 (aw_code write.Barrier) 1 bar; is = refl; barrier = write-barrier bar is; port = refl; chan = refl; none = refl })
 
 -- ---- the halves --------------------------------------------------------------------------------------
 

@@ -1,16 +1,15 @@
 -- The bursts of step 14: beside barriers and lines; for an operation that is no barrier; or the two halves of a barrier.
-use Rattle.std.proofs.Common.{◌≡◌, ◌⊎◌, ℕ, Bool, true, false, not, ◌&&◌, ◌==◌, if◌then◌else◌, List, [], ◌∷◌, ◌++◌, map, Option, Some, None, inl, inr, refl, sym, ap, ◌∙◌}
+use Rattle.std.proofs.Common.{◌≡◌, ◌⊎◌, ℕ, Bool, true, false, not, ◌&&◌, if◌then◌else◌, List, [], ◌∷◌, ◌++◌, map, Option, Some, None, inl, inr, refl, sym, ap, ◌∙◌}
 use Rattle.std.specs.List.{list_all, list_any, flat_map}
 use Rattle.std.specs.Option.{option_to_list}
-use Rattle.std.proofs.lemmas.Bool.{and_parts, and_from, or_cases, or_left, or_right, eqb-true, eq-eqb}
+use Rattle.std.proofs.lemmas.Bool.{or_cases, or_left, or_right}
 use Rattle.ace_codes.specs.declared.kind.ArKind.TheVariants as read
 use Rattle.ace_codes.specs.Places.{is_barrier}
 use Rattle.ace_codes.specs.Reads.{ar_code, ar_kind_of}
 use Rattle.ace_event.specs.declared.event.Channel.TheVariants.{Read}
 use Rattle.ace_event.specs.declared.event.Event.{Event}
-use Rattle.ace_event.specs.declared.event.Event.TheVariants.{Ar, R, Aw, B}
+use Rattle.ace_event.specs.declared.event.Event.TheVariants.{Ar}
 use Rattle.ace_event.specs.declared.header.Header.{Header}
-use Rattle.ace_tables.specs.Answers.{same_test}
 use Rattle.ace_model.specs.declared.plans.Op.{Op}
 use Rattle.ace_model.specs.declared.plans.Op.TheVariants as op
 use Rattle.ace_model.specs.Trace.{Trace, is_some_and}
@@ -21,11 +20,13 @@ use Rattle.ace_runs.specs.Closing.{and_closing, closing_of, state_named}
 use Rattle.ace_runs.specs.Follows.{owes_completion}
 use Rattle.ace_runs.specs.MasterSteps.{completion_bursts, goes_on}
 use Rattle.ace_runs.specs.Requests.{barrier_bursts, barrier_halves, bursts_of, ends_or_asks, free_on, free_on_both, is_waiting, moves_of, request_of, with_identifier}
-use Rattle.ace_runs.specs.SameEvents.{same_burst, same_event}
-use Rattle.ace_runs.proofs.NeverStuck.StepEvents.{all-if, all-map}
-use Rattle.ace_runs.proofs.NeverStuck.StepShapes.{TellsSame, all-as}
+use Rattle.ace_runs.specs.SameEvents.{same_burst}
+use Rattle.ace_runs.proofs.NeverStuck.Steps.Asking.{completions-all}
+use Rattle.ace_runs.proofs.NeverStuck.Steps.SameBursts.{all-as, any-all}
+use Rattle.ace_runs.proofs.NeverStuck.Steps.SameEvents.{TellsSame, tells-same}
+use Rattle.ace_runs.proofs.NeverStuck.Steps.Lists.{all-if, all-map}
 use Rattle.ace_runs.proofs.NeverStuck.Barriers.Acts.{is_barrier_operation}
-use Rattle.ace_runs.proofs.NeverStuck.Barriers.Asks.{all-no-line, all-ordinary, moves-ordinary}
+use Rattle.ace_runs.proofs.NeverStuck.Barriers.Asks.{all-no-line, all-ordinary, moves-ordinary, ordinary-asks}
 use Rattle.ace_runs.proofs.NeverStuck.Barriers.Quiet.{closing-quiet, is_ordinary, is_quiet, issues_no_line, same-quiet}
 
 -- the two halves of a barrier of the port, and events that issue nothing
@@ -47,52 +48,11 @@ IsForOperation next p burst = (is_some_and next (λ o. not (is_barrier_operation
 
 -- ---- the same events ---------------------------------------------------------------------------------
 
-pub record IsSameAr (q r s t d e b f : ℕ) : Type 0 where
-  pub port : q ≡ r
-  pub snoop : s ≡ t
-  pub dom : d ≡ e
-  pub bar : b ≡ f
-
-pub same-ar : (q i a s d b r j c t e f : ℕ) (l m : Bool) → same_event (Ar q i a s d b l) (Ar r j c t e f m) ≡ true → IsSameAr q r s t d e b f
-same-ar q i a s d b r j c t e f l m same =
-    let p1 = and_parts ((q == r) && (i == j) && (a == c) && (s == t) && (d == e) && (b == f)) (same_test l m) same in
-    let p2 = and_parts ((q == r) && (i == j) && (a == c) && (s == t) && (d == e)) (b == f) p1.0 in
-    let p3 = and_parts ((q == r) && (i == j) && (a == c) && (s == t)) (d == e) p2.0 in
-    let p4 = and_parts ((q == r) && (i == j) && (a == c)) (s == t) p3.0 in
-    let p5 = and_parts ((q == r) && (i == j)) (a == c) p4.0 in
-    record { port = eqb-true q r (and_parts (q == r) (i == j) p5.0).0; snoop = eqb-true s t p4.1; dom = eqb-true d e p3.1; bar = eqb-true b f p2.1 }
-
-pub same-aw : (q i a s d b r j c t e f : ℕ) → same_event (Aw q i a s d b) (Aw r j c t e f) ≡ true → IsSameAr q r s t d e b f
-same-aw q i a s d b r j c t e f same =
-    let p2 = and_parts ((q == r) && (i == j) && (a == c) && (s == t) && (d == e)) (b == f) same in
-    let p3 = and_parts ((q == r) && (i == j) && (a == c) && (s == t)) (d == e) p2.0 in
-    let p4 = and_parts ((q == r) && (i == j) && (a == c)) (s == t) p3.0 in
-    let p5 = and_parts ((q == r) && (i == j)) (a == c) p4.0 in
-    record { port = eqb-true q r (and_parts (q == r) (i == j) p5.0).0; snoop = eqb-true s t p4.1; dom = eqb-true d e p3.1; bar = eqb-true b f p2.1 }
-
 same-ordinary : (p : ℕ) → TellsSame (is_ordinary p)
-same-ordinary p (Ar q i a s d b l) (Ar r j c t e f n) same = let is = same-ar q i a s d b r j c t e f l n same in rw (is.port, is.bar) refl
-same-ordinary p (Ar q i a s d b l) e same = cc
-same-ordinary p (Aw q i a s d b) (Aw r j c t e f) same = let is = same-aw q i a s d b r j c t e f same in rw (is.port, is.bar) refl
-same-ordinary p (Aw q i a s d b) e same = cc
-same-ordinary p (R q i resp last word) (R r j x l w) same = refl
-same-ordinary p (R q i resp last word) e same = cc
-same-ordinary p (B q i resp) (B r j x) same = refl
-same-ordinary p (B q i resp) e same = cc
-same-ordinary p e (Ar r j c t d f n) same = cc
-same-ordinary p e (Aw r j c t d f) same = cc
-same-ordinary p e (R q i resp last word) same = cc
-same-ordinary p e (B q i resp) same = cc
-same-ordinary p d e same = refl
+same-ordinary p = tells-same (is_ordinary p) (λ p c i line. refl) (λ p a s x line. refl) (λ a line. refl)
 
 pub same-no-line : TellsSame issues_no_line
-same-no-line (Ar q i a s d b l) (Ar r j c t e f n) same = let is = same-ar q i a s d b r j c t e f l n same in rw (is.snoop, is.dom, is.bar) refl
-same-no-line (Ar q i a s d b l) e same = cc
-same-no-line (Aw q i a s d b) (Aw r j c t e f) same = let is = same-aw q i a s d b r j c t e f same in rw (is.snoop, is.dom, is.bar) refl
-same-no-line (Aw q i a s d b) e same = cc
-same-no-line e (Ar r j c t d f n) same = cc
-same-no-line e (Aw r j c t d f) same = cc
-same-no-line d e same = refl
+same-no-line = tells-same issues_no_line (λ p c i line. refl) (λ p a s x line. refl) (λ a line. refl)
 
 -- ---- lists of bursts ---------------------------------------------------------------------------------
 
@@ -104,27 +64,15 @@ any-append test (x ∷ xs) ys s =
       | inr later ↦ elim (any-append test xs ys later) [ inl first ↦ inl (or_right (test x) _ first) | inr second ↦ inr second ]
     ]
 
--- a burst that is the same as one of those that pass the test
-any-all : (test : Event → Bool) → TellsSame test → (burst : List Event) (bursts : List (List Event)) → list_any (λ move. same_burst move burst) bursts ≡ true
-    → list_all (list_all test) bursts ≡ true → list_all test burst ≡ true
-any-all test goes burst [] s m = cc
-any-all test goes burst (move ∷ bursts) s m =
-    let of = and_parts (list_all test move) (list_all (list_all test) bursts) m in
-    elim (or_cases (same_burst move burst) _ s) [ inl same ↦ all-as test goes move burst same of.0 | inr later ↦ any-all test goes burst bursts later of.1 ]
-
 -- ---- a DVM Complete ----------------------------------------------------------------------------------
 
 completion-no-line : (p i : ℕ) → list_all issues_no_line (Ar p i 0 (ar_code read.DvmComplete) 1 0 false ∷ []) ≡ true
 unfolding ar_kind_of
 completion-no-line p i = refl
 
-completion-ordinary : (p i : ℕ) → list_all (is_ordinary p) (Ar p i 0 (ar_code read.DvmComplete) 1 0 false ∷ []) ≡ true
-completion-ordinary p i = and_from _ _ (and_from _ _ (eq-eqb p p refl) refl) refl
-
 completion-beside : (h : Header) (past : Trace) (p : ℕ) (burst : List Event) → list_any (λ move. same_burst move burst) (completion_bursts h past p) ≡ true → IsBeside p burst
 completion-beside h past p burst s = (
-  any-all (is_ordinary p) (same-ordinary p) burst (completion_bursts h past p) s
-      (all-if (list_all (is_ordinary p)) (is_ace h p && owes_completion past p) _ [] (all-map (list_all (is_ordinary p)) _ (option_to_list (free_on h past p Read)) (completion-ordinary p)) refl),
+  any-all (is_ordinary p) (same-ordinary p) burst (completion_bursts h past p) s (completions-all p (is_ordinary p) (ordinary-asks p) h past),
   any-all issues_no_line same-no-line burst (completion_bursts h past p) s
       (all-if (list_all issues_no_line) (is_ace h p && owes_completion past p) _ [] (all-map (list_all issues_no_line) _ (option_to_list (free_on h past p Read)) (completion-no-line p)) refl),
 )

@@ -29,11 +29,11 @@ use Rattle.ace_runs.specs.Steps.{AreSteps, is_step}
 use Rattle.ace_runs.proofs.Accepting.{accepted-after}
 use Rattle.ace_runs.proofs.SoFar.{before-burst}
 use Rattle.ace_runs.proofs.Turns.{of-each-run, step-kept}
-use Rattle.ace_runs.proofs.NeverStuck.StepShapes.{all-as}
+use Rattle.ace_runs.proofs.NeverStuck.Steps.SameBursts.{all-as}
+use Rattle.ace_runs.proofs.NeverStuck.Steps.Lists.{all-append, all-implied}
 use Rattle.ace_runs.proofs.NeverStuck.Reads.TransfersKept.{implied_by}
-use Rattle.ace_runs.proofs.NeverStuck.StepEvents.{all-append}
 use Rattle.ace_runs.proofs.NeverStuck.Barriers.Acts.{is_barrier_operation}
-use Rattle.ace_runs.proofs.NeverStuck.Barriers.Asks.{all-no-line, all-weaker}
+use Rattle.ace_runs.proofs.NeverStuck.Barriers.Asks.{all-no-line}
 use Rattle.ace_runs.proofs.NeverStuck.Barriers.GoesOn.{AsksBarrier, same-no-line}
 use Rattle.ace_runs.proofs.NeverStuck.Barriers.OfNext.{barrier-of-next}
 use Rattle.ace_runs.proofs.NeverStuck.Barriers.Quiet.{issues_no_line}
@@ -86,7 +86,7 @@ done-kept : (plan : Plan) (past : Trace) (p : ℕ) (burst : List Event) → IsAc
 done-kept plan past p burst a f done step =
     elim (order-shape plan past p burst step) [
       | inl quiet ↦ no-line-keeps burst past done (all-no-line burst quiet)
-      | inr (inl r) ↦ no-line-keeps burst past done (all-weaker (is_response_for r.of) issues_no_line (response-no-line r.of) burst r.all)
+      | inr (inl r) ↦ no-line-keeps burst past done (all-implied (is_response_for r.of) issues_no_line (response-no-line r.of) burst r.all)
       | inr (inr (inl b)) ↦
           no-line-keeps burst past done (all-as issues_no_line same-no-line (plain_transfer b.pair.read ∷ B b.pair.write.port b.pair.write.id 0 ∷ []) burst b.same refl)
       | inr (inr (inr (inl beside))) ↦ no-line-keeps burst past done beside.1

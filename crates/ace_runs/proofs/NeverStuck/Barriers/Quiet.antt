@@ -9,8 +9,8 @@ use Rattle.ace_model.specs.Trace.{Trace, is_none_or}
 use Rattle.ace_model.specs.Transactions.{is_line, issued}
 use Rattle.ace_runs.specs.Closing.{closing_of}
 use Rattle.ace_runs.specs.MasterSteps.{acknowledges}
-use Rattle.ace_runs.proofs.NeverStuck.StepShapes.{TellsSame, all-as}
-use Rattle.ace_runs.proofs.NeverStuck.Concluding.{Concludes, acknowledges-all, closing-all}
+use Rattle.ace_runs.proofs.NeverStuck.Steps.SameEvents.{TellsSame, tells-same}
+use Rattle.ace_runs.proofs.NeverStuck.Steps.Concluding.{Concludes, acknowledges-all, closing-all}
 
 -- the event issues no transaction, and no response
 abbrev pub is_quiet : Event → Bool
@@ -45,27 +45,15 @@ quiet-no-line (Aw q i addr snoop dom bar) m = cc
 quiet-no-line e m = refl
 
 pub same-quiet : TellsSame is_quiet
-same-quiet (Ar p i a s d b l) (Ar q j c t e f n) same = refl
-same-quiet (Ar p i a s d b l) e same = cc
-same-quiet (Aw p i a s d b) (Aw q j c t e f) same = refl
-same-quiet (Aw p i a s d b) e same = cc
-same-quiet (R p i resp last word) (R q j r l w) same = refl
-same-quiet (R p i resp last word) e same = cc
-same-quiet (B p i resp) (B q j r) same = refl
-same-quiet (B p i resp) e same = cc
-same-quiet e (Ar p i a s d b l) same = cc
-same-quiet e (Aw p i a s d b) same = cc
-same-quiet e (R p i resp last word) same = cc
-same-quiet e (B p i resp) same = cc
-same-quiet d e same = refl
+same-quiet = tells-same is_quiet (λ p c i line. refl) (λ p a s x line. refl) (λ a line. refl)
 
 -- ---- what ends an operation, and what acknowledges ---------------------------------------------------
 
-quiet-concludes : Concludes is_quiet
-quiet-concludes = record { reads = λ p st. refl; writes = λ p st. refl; loads = λ p a w x word. refl; stores = λ p a s x line. refl; retires = λ p k res. refl }
+quiet-concludes : (p : ℕ) → Concludes p is_quiet
+quiet-concludes p = record { reads = λ st. refl; writes = λ st. refl; loads = λ a w x word. refl; stores = λ a s x line. refl; retires = λ k res. refl }
 
 pub closing-quiet : (h : Header) (past : Trace) (p : ℕ) (o : Op) → list_all is_quiet (closing_of h past p o) ≡ true
-closing-quiet h past p o = closing-all is_quiet quiet-concludes h past p o
+closing-quiet h past p o = closing-all p is_quiet (quiet-concludes p) h past o
 
 pub acknowledges-quiet : (next : Option Op) (h : Header) (past : Trace) (p : ℕ) (burst : List Event) → acknowledges next h past p burst ≡ true → list_all is_quiet burst ≡ true
-acknowledges-quiet next h past p burst s = acknowledges-all is_quiet quiet-concludes (all-as is_quiet same-quiet) next h past p burst s
+acknowledges-quiet next h past p burst s = acknowledges-all p is_quiet (quiet-concludes p) same-quiet next h past burst s

@@ -1,27 +1,22 @@
 -- Responses, and the channel of what has them.
-use Rattle.std.proofs.Common.{◌≡◌, ℕ, Bool, true, false, not, ◌&&◌, ◌||◌, ◌==◌, [], ◌∷◌, ◌++◌, map, Option, Some, None, inl, inr, refl, ap}
+use Rattle.std.proofs.Common.{◌≡◌, ℕ, Bool, true, false, not, ◌&&◌, ◌||◌, ◌==◌, [], ◌∷◌, ◌++◌, Option, Some, None, inl, inr, refl, ap}
 use Rattle.std.specs.List.{list_all}
-use Rattle.std.specs.Option.{option_to_list}
-use Rattle.std.proofs.lemmas.Bool.{and_parts, and_from, or_right, cases_Bool, eqb-true, eq-eqb}
+use Rattle.std.proofs.lemmas.Bool.{and_from, or_right, cases_Bool, eq-eqb}
 use Rattle.ace_codes.specs.declared.kind.AwKind.{AwKind}
 use Rattle.ace_codes.specs.declared.kind.AwKind.TheVariants as write
 use Rattle.ace_event.specs.declared.event.Event.{Event}
-use Rattle.ace_event.specs.declared.event.Event.TheVariants.{Ar, R, Aw, B, M}
+use Rattle.ace_event.specs.declared.event.Event.TheVariants.{Ar, R, Aw, B}
 use Rattle.ace_event.specs.declared.header.Header.{Header}
-use Rattle.ace_event.specs.declared.line.Line.{Line}
-use Rattle.ace_tables.specs.Answers.{same_test}
 use Rattle.ace_model.specs.declared.transactions.Transaction.{Transaction}
 use Rattle.ace_model.specs.Kinds.{is_evict, is_line_read, is_line_write}
 use Rattle.ace_model.specs.Messages.{is_dvm_completion, is_message_part}
 use Rattle.ace_model.specs.Progress.{evicts}
 use Rattle.ace_model.specs.Trace.{Trace, is_some_and}
 use Rattle.ace_model.specs.Transactions.{is_line, is_read, read_kind, write_kind}
-use Rattle.ace_model.specs.WriteRules.{data_of}
 use Rattle.ace_runs.specs.LineSteps.{memory_write, response}
-use Rattle.ace_runs.proofs.NeverStuck.StepEvents.{all-append}
-use Rattle.ace_runs.proofs.NeverStuck.StepShapes.{TellsSame}
-use Rattle.ace_runs.proofs.NeverStuck.Barriers.Asks.{all-weaker}
-use Rattle.ace_runs.proofs.NeverStuck.Barriers.Quiet.{is_quiet}
+use Rattle.ace_runs.proofs.NeverStuck.Steps.SameEvents.{TellsSame, tells-same}
+use Rattle.ace_runs.proofs.NeverStuck.Steps.Lists.{all-append}
+use Rattle.ace_runs.proofs.NeverStuck.Steps.Serving.{written-all}
 
 -- it issues no transaction, and a response is one for this transaction
 abbrev pub is_response_for : Transaction → Event → Bool
@@ -34,38 +29,7 @@ is_response_for x _ = true
 -- ---- responses ---------------------------------------------------------------------------------------
 
 pub same-response : (x : Transaction) → TellsSame (is_response_for x)
-same-response x (R p i resp last word) (R q j r l w) same =
-    let p1 = and_parts ((p == q) && (i == j) && (resp == r) && same_test last l) (word == w) same in
-    let p2 = and_parts ((p == q) && (i == j) && (resp == r)) (same_test last l) p1.0 in
-    let p3 = and_parts ((p == q) && (i == j)) (resp == r) p2.0 in
-    let p4 = and_parts (p == q) (i == j) p3.0 in
-    rw (eqb-true p q p4.0, eqb-true i j p4.1) refl
-same-response x (R p i resp last word) e same = cc
-same-response x (B p i resp) (B q j r) same =
-    let p3 = and_parts ((p == q) && (i == j)) (resp == r) same in
-    let p4 = and_parts (p == q) (i == j) p3.0 in
-    rw (eqb-true p q p4.0, eqb-true i j p4.1) refl
-same-response x (B p i resp) e same = cc
-same-response x (Ar p i a s d b l) (Ar q j c t e f n) same = refl
-same-response x (Ar p i a s d b l) e same = cc
-same-response x (Aw p i a s d b) (Aw q j c t e f) same = refl
-same-response x (Aw p i a s d b) e same = cc
-same-response x d (Ar q i addr snoop dom bar lock) same = cc
-same-response x d (Aw q i addr snoop dom bar) same = cc
-same-response x d (R q i resp last word) same = cc
-same-response x d (B q i resp) same = cc
-same-response x d e same = refl
-
-pub quiet-response : (x : Transaction) (e : Event) → is_quiet e ≡ true → is_response_for x e ≡ true
-quiet-response x (Ar q i addr snoop dom bar lock) m = cc
-quiet-response x (Aw q i addr snoop dom bar) m = cc
-quiet-response x (R q i resp last word) m = cc
-quiet-response x (B q i resp) m = cc
-quiet-response x e m = refl
-
-pub written-quiet : (x : Transaction) (o : Option Line) → list_all is_quiet (map (λ line. M x.port x.chan x.id line) (option_to_list o)) ≡ true
-written-quiet x None = refl
-written-quiet x (Some line) = refl
+same-response x = tells-same (is_response_for x) (λ p c i line. refl) (λ p a s x line. refl) (λ a line. refl)
 
 pub response-for : (x : Transaction) → is_read x.chan ≡ false → list_all (is_response_for x) (response x) ≡ true
 response-for x writes = and_from _ _ (and_from _ _ (and_from _ _ (ap not writes) (eq-eqb x.port x.port refl)) (eq-eqb x.id x.id refl)) refl
@@ -76,7 +40,7 @@ transfer-for x resp last word reads = and_from _ _ (and_from _ _ (and_from _ _ r
 pub written-responses : (h : Header) (past : Trace) (x : Transaction) → is_read x.chan ≡ false → list_all (is_response_for x) (memory_write h past x ++ response x) ≡ true
 written-responses h past x writes =
     all-append (is_response_for x) (memory_write h past x) (response x)
-    (all-weaker is_quiet (is_response_for x) (quiet-response x) (memory_write h past x) (written-quiet x (data_of h past x)))
+    (written-all (is_response_for x) (λ p c i line. refl) h past x)
     (response-for x writes)
 
 -- ---- lines and reads ---------------------------------------------------------------------------------

@@ -15,26 +15,26 @@ use Rattle.ace_model.specs.Plans.{Plan}
 use Rattle.ace_model.specs.Progress.{evicts, updates_memory}
 use Rattle.ace_model.specs.Trace.{Trace, implies, is_some_and, port_of}
 use Rattle.ace_model.specs.Transactions.{is_line, is_outstanding, is_read, read_kind, takes_grant}
-use Rattle.ace_model.specs.WriteRules.{data_of}
 use Rattle.ace_model.proofs.GrantLooks.Had.{takes-line}
-use Rattle.ace_model.proofs.Trace.Growth.{IsIssued, some_issued-is}
-use Rattle.ace_runs.specs.Bursts.{serves}
-use Rattle.ace_runs.specs.LineSteps.{grant_burst, is_first_to_wait, is_last_beat, is_snoop_for, memory_write, next_word, passed_burst, response, response_bits, takes_dirt, transfer_burst, update_burst, write_burst}
+use Rattle.ace_model.proofs.Trace.Growth.{IsIssued}
+use Rattle.ace_runs.specs.LineSteps.{grant_burst, is_last_beat, is_snoop_for, memory_write, next_word, passed_burst, response, response_bits, takes_dirt, transfer_burst, update_burst, write_burst}
 use Rattle.ace_runs.specs.MasterSteps.{is_beat}
 use Rattle.ace_runs.specs.Operations.{next_operation}
 use Rattle.ace_runs.specs.OrderSteps.{barrier_burst, dvm_burst, pair_burst, plain_transfer, sync_completion}
 use Rattle.ace_runs.specs.SameEvents.{same_burst}
 use Rattle.ace_runs.specs.Steps.{is_sound, is_step, may_give, steps, steps_of}
 use Rattle.ace_runs.proofs.Turns.{step-kept}
-use Rattle.ace_runs.proofs.NeverStuck.EvictsMove.{evicts-write}
-use Rattle.ace_runs.proofs.NeverStuck.StepEvents.{all-if, answers-answering, is_answering}
-use Rattle.ace_runs.proofs.NeverStuck.StepShapes.{all-as, forwards-all, of-any, snoops-all, updates_write}
-use Rattle.ace_runs.proofs.NeverStuck.UpdatesOrGranted.{updates-line}
-use Rattle.ace_runs.proofs.NeverStuck.Barriers.Asks.{all-weaker}
+use Rattle.ace_runs.proofs.NeverStuck.Steps.SameBursts.{all-as}
+use Rattle.ace_runs.proofs.NeverStuck.Steps.Lists.{all-implied}
+use Rattle.ace_runs.proofs.NeverStuck.Steps.Serving.{IsServed, grant-all, passed-all, served}
+use Rattle.ace_runs.proofs.NeverStuck.Updates.EvictsMove.{evicts-write}
+use Rattle.ace_runs.proofs.NeverStuck.Steps.StepEvents.{answers-answering, is_answering}
+use Rattle.ace_runs.proofs.NeverStuck.Steps.StepShapes.{forwards-all, of-any, snoops-all, updates_write}
+use Rattle.ace_runs.proofs.NeverStuck.Updates.UpdatesOrGranted.{updates-line}
 use Rattle.ace_runs.proofs.NeverStuck.Barriers.GoesOn.{GoesOn, goes-on-shape}
 use Rattle.ace_runs.proofs.NeverStuck.Barriers.Halves.{dvm-no-half, line-no-half}
 use Rattle.ace_runs.proofs.NeverStuck.Barriers.Quiet.{acknowledges-quiet, is_quiet, same-quiet}
-use Rattle.ace_runs.proofs.NeverStuck.Barriers.Responses.{dvm-reads, evicts-line, is_response_for, response-for, same-response, transfer-for, written-quiet, written-responses}
+use Rattle.ace_runs.proofs.NeverStuck.Barriers.Responses.{dvm-reads, evicts-line, is_response_for, response-for, same-response, transfer-for, written-responses}
 
 -- The responses are for one outstanding transaction, which is no barrier.
 pub record Responds (h : Header) (past : Trace) (burst : List Event) : Type 0 where
@@ -87,20 +87,6 @@ snoop-quiet x k (Aw q i addr snoop dom bar) m = cc
 snoop-quiet x k (R q i resp last word) m = cc
 snoop-quiet x k (B q i resp) m = cc
 snoop-quiet x k e m = refl
-
--- what a step serves that serves a transaction
-record IsServed (burst_for : Header → Trace → Transaction → List Event) (h : Header) (past : Trace) (burst : List Event) : Type 0 where
-  of : Transaction
-  issued : IsIssued past of
-  out : is_outstanding h past of ≡ true
-  same : same_burst (burst_for h past of) burst ≡ true
-
-served : (burst_for : Header → Trace → Transaction → List Event) (h : Header) (past : Trace) (p : ℕ) (burst : List Event)
-    → serves burst_for h past p burst ≡ true → IsServed burst_for h past burst
-served burst_for h past p burst s =
-    let x = some_issued-is past (λ x. (x.port == p) && is_outstanding h past x && same_burst (burst_for h past x) burst) s in
-    let parts = and_parts ((x.0.port == p) && is_outstanding h past x.0) (same_burst (burst_for h past x.0) burst) x.2 in
-    record { of = x.0; issued = x.1; out = (and_parts (x.0.port == p) (is_outstanding h past x.0) parts.0).1; same = parts.1 }
 
 -- the burst for the transaction is empty, or its responses are for it
 module _ (plan : Plan) (past : Trace) (p : ℕ) (burst : List Event) where
@@ -182,5 +168,5 @@ order-shape plan past p burst s =
     let next = next_operation plan past p in
     let sound = and_parts (is_sound h past burst) (list_any (may_give h past p burst) (steps_of plan past p)) s in
     of-any h past p burst (OrderShape plan past p burst) (steps plan.ways next)
-    ((λ g. inl (all-weaker is_answering is_quiet answering-quiet burst (answers-answering h past p burst g))), ((λ g. inl (all-weaker (is_beat p) is_quiet (beat-quiet p) burst (and_parts (list_all (is_beat p) burst) (length burst == 4) g).0)), ((λ g. updates-shape plan past p burst (served update_burst h past p burst g)), ((λ g. inl (acknowledges-quiet next h past p burst g)), ((λ g. quiet-served plan past p burst grant_burst (served grant_burst h past p burst g) (λ x. all-if is_quiet (takes_grant x && is_first_to_wait h past x) _ [] refl refl)), ((λ g. inl (snoops-all is_quiet snoop-quiet h past p burst g)), ((λ g. quiet-served plan past p burst passed_burst (served passed_burst h past p burst g) (λ x. all-if is_quiet (is_read x.chan && has_passed_data h past x && not (takes_dirt h past x)) _ [] (written-quiet x (data_of h past x)) refl)), ((λ g. transfer-shape plan past p burst (served transfer_burst h past p burst g)), ((λ g. write-shape plan past p burst (served write_burst h past p burst g)), ((λ g. barrier-shape plan past p burst (served barrier_burst h past p burst g)), ((λ g. inl (forwards-all is_quiet same-quiet no-port-quiet (λ q addr code. refl) h past p burst (step-kept plan past p burst s) g)), ((λ g. dvm-shape plan past p burst (served dvm_burst h past p burst g)), ((λ g. inl (all-as is_quiet same-quiet (sync_completion p) burst g refl)), ((λ g. inr (inr (inr (goes-on-shape plan.ways next h past p burst g)))), tt))))))))))))))
+    ((λ g. inl (all-implied is_answering is_quiet answering-quiet burst (answers-answering h past p burst g))), ((λ g. inl (all-implied (is_beat p) is_quiet (beat-quiet p) burst (and_parts (list_all (is_beat p) burst) (length burst == 4) g).0)), ((λ g. updates-shape plan past p burst (served update_burst h past p burst g)), ((λ g. inl (acknowledges-quiet next h past p burst g)), ((λ g. quiet-served plan past p burst grant_burst (served grant_burst h past p burst g) (grant-all is_quiet (λ q c i. refl) h past)), ((λ g. inl (snoops-all is_quiet snoop-quiet h past p burst g)), ((λ g. quiet-served plan past p burst passed_burst (served passed_burst h past p burst g) (passed-all is_quiet (λ q c i line. refl) h past)), ((λ g. transfer-shape plan past p burst (served transfer_burst h past p burst g)), ((λ g. write-shape plan past p burst (served write_burst h past p burst g)), ((λ g. barrier-shape plan past p burst (served barrier_burst h past p burst g)), ((λ g. inl (forwards-all is_quiet same-quiet no-port-quiet (λ q addr code. refl) h past p burst (step-kept plan past p burst s) g)), ((λ g. dvm-shape plan past p burst (served dvm_burst h past p burst g)), ((λ g. inl (all-as is_quiet same-quiet (sync_completion p) burst g refl)), ((λ g. inr (inr (inr (goes-on-shape plan.ways next h past p burst g)))), tt))))))))))))))
     sound.1

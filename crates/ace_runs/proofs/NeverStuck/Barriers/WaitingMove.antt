@@ -23,22 +23,17 @@ use Rattle.ace_runs.specs.Follows.{FollowsSoFar}
 use Rattle.ace_runs.specs.LineSteps.{grant_burst, is_first_to_wait, waits}
 use Rattle.ace_runs.specs.Steps.{AreSteps, is_enabled_by}
 use Rattle.ace_runs.proofs.Turns.{steps-accepted}
+use Rattle.ace_runs.proofs.Accepting.{three-kept}
 use Rattle.ace_runs.proofs.NeverStuck.Barriers.EachIssued.{IsOldest, each-from, oldest}
-use Rattle.ace_runs.proofs.NeverStuck.UpdatesOrGranted.{granted-there}
-use Rattle.ace_runs.proofs.NeverStuck.WriterPorts.{issuer-low}
+use Rattle.ace_runs.proofs.NeverStuck.Updates.UpdatesOrGranted.{granted-there}
+use Rattle.ace_runs.proofs.NeverStuck.IssuedTransactions.{issuer-low}
 use Rattle.ace_runs.proofs.NeverStuck.Barriers.HoldNone.{past-barriers}
-
-three-kept : (a b c : Bool) → a ≡ true → b ≡ true → c ≡ true → is_none {T = ℕ} (if a then (if b then (if c then None else Some 35) else Some 12) else Some 1) ≡ true
-three-kept true true true x y z = refl
-three-kept false b c x y z = cc
-three-kept true false c x y z = cc
-three-kept true true false x y z = cc
 
 -- of the rules that look at a grant three can be broken
 grant-kept : (h : Header) (past : Trace) (p : ℕ) (c : Channel) (i : ℕ) → k1 h past (G p c i) ≡ true → k12 h past (G p c i) ≡ true → k35 h past (G p c i) ≡ true
     → is_kept h past (G p c i) ≡ true
 unfolding is_kept
-grant-kept h past p c i one may order = three-kept (k1 h past (G p c i)) (k12 h past (G p c i)) (k35 h past (G p c i)) one may order
+grant-kept h past p c i one may order = three-kept (k1 h past (G p c i)) (k12 h past (G p c i)) (k35 h past (G p c i)) 1 12 35 one may order
 
 -- ---- the grant ---------------------------------------------------------------------------------------
 

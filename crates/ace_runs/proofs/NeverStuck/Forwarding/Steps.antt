@@ -1,7 +1,6 @@
 -- Step 11 alone forwards parts of messages: the events of any other step are no AC DVM Message.
-use Rattle.std.proofs.Common.{◌≡◌, ◌⊎◌, ℕ, Bool, true, false, not, ◌&&◌, ◌||◌, ◌==◌, List, [], ◌++◌, length, map, Option, Some, None, inl, inr, refl, ap, ◌∙◌}
+use Rattle.std.proofs.Common.{◌≡◌, ◌⊎◌, ℕ, Bool, true, false, not, ◌&&◌, ◌==◌, List, length, Option, Some, None, inl, inr, refl, ap, ◌∙◌}
 use Rattle.std.specs.List.{list_all}
-use Rattle.std.specs.Option.{option_to_list}
 use Rattle.std.proofs.lemmas.Bool.{and_parts, eqb-true}
 use Rattle.ace_codes.specs.declared.kind.ArKind.{ArKind}
 use Rattle.ace_codes.specs.declared.kind.ArKind.TheVariants as read
@@ -11,32 +10,30 @@ use Rattle.ace_codes.specs.declared.kind.SnoopKind.{SnoopKind}
 use Rattle.ace_codes.specs.declared.kind.SnoopKind.TheVariants as snoop
 use Rattle.ace_codes.specs.Snoops.{ac_code, ac_kind_of}
 use Rattle.ace_event.specs.declared.event.Event.{Event}
-use Rattle.ace_event.specs.declared.event.Event.TheVariants.{Ac, M}
+use Rattle.ace_event.specs.declared.event.Event.TheVariants.{Ac}
 use Rattle.ace_event.specs.declared.header.Header.{Header}
-use Rattle.ace_event.specs.declared.line.Line.{Line}
 use Rattle.ace_tables.specs.SnoopKinds.{snoop_of_read, snoop_of_write}
 use Rattle.ace_model.specs.declared.transactions.Transaction.{Transaction}
-use Rattle.ace_model.specs.Barriers.{Pair, pair_of}
-use Rattle.ace_model.specs.Grants.{has_passed_data, is_granted}
-use Rattle.ace_model.specs.Kinds.{is_line_snoop, is_message_snoop, is_read_barrier}
-use Rattle.ace_model.specs.Messages.{is_dvm_completion, is_message_part}
+use Rattle.ace_model.specs.Grants.{is_granted}
+use Rattle.ace_model.specs.Kinds.{is_line_snoop, is_message_snoop}
 use Rattle.ace_model.specs.Plans.{Plan}
-use Rattle.ace_model.specs.Progress.{evicts, updates_memory}
-use Rattle.ace_model.specs.Trace.{Trace, implies, is_none_or, is_some_and}
-use Rattle.ace_model.specs.Transactions.{is_line, is_outstanding, is_read, read_kind, snoop_kind_of, snoop_of, takes_grant, write_kind}
-use Rattle.ace_model.specs.WriteRules.{data_of}
+use Rattle.ace_model.specs.Trace.{Trace, is_none_or, is_some_and}
+use Rattle.ace_model.specs.Transactions.{is_outstanding, read_kind, snoop_kind_of, snoop_of, write_kind}
 use Rattle.ace_model.proofs.General.Options.{is_none_or-at, is_some_and-is}
 use Rattle.ace_model.proofs.Tables.ReadSnoops.{kind_of_code}
 use Rattle.ace_model.proofs.Trace.Growth.{some_issued-is}
 use Rattle.ace_runs.specs.Counts.{forwards_part}
-use Rattle.ace_runs.specs.LineSteps.{gives_snoops, grant_burst, is_first_to_wait, is_snoop_for, memory_write, passed_burst, response, takes_dirt, transfer_burst, update_burst, write_burst}
+use Rattle.ace_runs.specs.LineSteps.{gives_snoops, grant_burst, is_snoop_for, passed_burst, transfer_burst, update_burst, write_burst}
 use Rattle.ace_runs.specs.MasterSteps.{is_beat}
 use Rattle.ace_runs.specs.Operations.{next_operation}
-use Rattle.ace_runs.specs.OrderSteps.{barrier_burst, dvm_burst, forwards, pair_burst, sync_completion}
+use Rattle.ace_runs.specs.OrderSteps.{barrier_burst, dvm_burst, forwards, sync_completion}
 use Rattle.ace_runs.specs.Steps.{is_sound, is_step, steps}
-use Rattle.ace_runs.proofs.NeverStuck.StepEvents.{acknowledges-masters, all-if, answers-answering, goes-on-masters, is_answering, is_masters}
-use Rattle.ace_runs.proofs.NeverStuck.StepShapes.{TellsSame, all-as, of-any, served-all}
-use Rattle.ace_runs.proofs.NeverStuck.WholeAnswers.{all-implied}
+use Rattle.ace_runs.proofs.NeverStuck.Steps.SameBursts.{all-as}
+use Rattle.ace_runs.proofs.NeverStuck.Steps.SameEvents.{TellsSame, tells-same}
+use Rattle.ace_runs.proofs.NeverStuck.Steps.Lists.{all-implied}
+use Rattle.ace_runs.proofs.NeverStuck.Steps.Serving.{barrier-all, dvm-all, grant-all, passed-all, served-all, transfer-all, update-all, write-all}
+use Rattle.ace_runs.proofs.NeverStuck.Steps.StepEvents.{acknowledges-masters, answers-answering, goes-on-masters, is_answering, is_masters}
+use Rattle.ace_runs.proofs.NeverStuck.Steps.StepShapes.{of-any}
 
 -- the event forwards no part of a message
 abbrev pub forwards_none : Event → Bool
@@ -57,11 +54,7 @@ beat-none p (Ac q addr code) m = cc
 beat-none p e m = refl
 
 same-none : TellsSame forwards_none
-same-none (Ac p a s) (Ac q c t) same =
-    ap (λ n. not (is_some_and (ac_kind_of n) is_message_snoop)) (eqb-true s t (and_parts ((p == q) && (a == c)) (s == t) same).1)
-same-none (Ac p a s) e same = cc
-same-none d (Ac q c t) same = cc
-same-none d e same = refl
+same-none = tells-same forwards_none (λ p c i line. refl) (λ p a s x line. refl) (λ a line. refl)
 
 -- ---- the snoops of a line ----------------------------------------------------------------------------
 
@@ -100,31 +93,6 @@ snoops-none h past p burst s =
     let k = is_some_and-is (snoop_of x.0) (λ k. list_all (is_snoop_for x.0 k) burst) of in
     all-implied (is_snoop_for x.0 k.0) forwards_none (snoop-none x.0 k.0 (caused-line x.0 k.0 k.1)) burst k.2
 
--- ---- steps that serve a transaction ------------------------------------------------------------------
-
-written-none : (x : Transaction) (o : Option Line) → list_all forwards_none (map (λ line. M x.port x.chan x.id line) (option_to_list o)) ≡ true
-written-none x None = refl
-written-none x (Some line) = refl
-
-responded-none : (x : Transaction) (o : Option Line) → list_all forwards_none (map (λ line. M x.port x.chan x.id line) (option_to_list o) ++ response x) ≡ true
-responded-none x None = refl
-responded-none x (Some line) = refl
-
-pair-none : (o : Option Pair) → list_all forwards_none (pair_burst o) ≡ true
-pair-none None = refl
-pair-none (Some b) = refl
-
-update-none : (h : Header) (past : Trace) (x : Transaction) → list_all forwards_none (update_burst h past x) ≡ true
-update-none h past x =
-    all-if forwards_none (updates_memory x) (memory_write h past x ++ response x) _ (responded-none x (data_of h past x)) (all-if forwards_none (evicts x) (response x) [] refl refl)
-
-passed-none : (h : Header) (past : Trace) (x : Transaction) → list_all forwards_none (passed_burst h past x) ≡ true
-passed-none h past x =
-    all-if forwards_none (is_read x.chan && has_passed_data h past x && not (takes_dirt h past x)) (memory_write h past x) [] (written-none x (data_of h past x)) refl
-
-write-none : (h : Header) (past : Trace) (x : Transaction) → list_all forwards_none (write_burst h past x) ≡ true
-write-none h past x = all-if forwards_none (not (is_read x.chan) && takes_grant x) (memory_write h past x ++ response x) [] (responded-none x (data_of h past x)) refl
-
 completion-none : (p : ℕ) → list_all forwards_none (sync_completion p) ≡ true
 completion-none p = ap (λ o. not (is_some_and o is_message_snoop) && true) (kind_of_code snoop.DvmComplete)
 
@@ -141,25 +109,25 @@ forwards-by-one plan past p burst s =
       (
         (λ g. inl (all-implied (is_beat p) forwards_none (beat-none p) burst (and_parts (list_all (is_beat p) burst) (length burst == 4) g).0)),
         (
-          (λ g. inl (served-all forwards_none same-none update_burst h past p burst (update-none h past) g)),
+          (λ g. inl (served-all forwards_none same-none update_burst h past p burst (update-all forwards_none (λ q c i line. refl) (λ q i resp. refl) h past) g)),
           (
             (λ g. inl (all-implied is_masters forwards_none masters-none burst (acknowledges-masters next h past p burst g))),
             (
-              (λ g. inl (served-all forwards_none same-none grant_burst h past p burst (λ x. all-if forwards_none (takes_grant x && is_first_to_wait h past x) _ [] refl refl) g)),
+              (λ g. inl (served-all forwards_none same-none grant_burst h past p burst (grant-all forwards_none (λ q c i. refl) h past) g)),
               (
                 (λ g. inl (snoops-none h past p burst g)),
                 (
-                  (λ g. inl (served-all forwards_none same-none passed_burst h past p burst (passed-none h past) g)),
+                  (λ g. inl (served-all forwards_none same-none passed_burst h past p burst (passed-all forwards_none (λ q c i line. refl) h past) g)),
                   (
-                    (λ g. inl (served-all forwards_none same-none transfer_burst h past p burst (λ x. all-if forwards_none (is_read x.chan && is_line x && implies (has_passed_data h past x) (takes_dirt h past x)) _ [] refl refl) g)),
+                    (λ g. inl (served-all forwards_none same-none transfer_burst h past p burst (transfer-all forwards_none (λ q i resp last word. refl) h past) g)),
                     (
-                      (λ g. inl (served-all forwards_none same-none write_burst h past p burst (write-none h past) g)),
+                      (λ g. inl (served-all forwards_none same-none write_burst h past p burst (write-all forwards_none (λ q c i line. refl) (λ q i resp. refl) h past) g)),
                       (
-                        (λ g. inl (served-all forwards_none same-none barrier_burst h past p burst (λ x. all-if forwards_none (is_some_and (read_kind x) is_read_barrier) _ [] (pair-none (pair_of past x)) refl) g)),
+                        (λ g. inl (served-all forwards_none same-none barrier_burst h past p burst (barrier-all forwards_none (λ q i resp last word. refl) (λ q i resp. refl) h past) g)),
                         (
                           (λ g. inr g),
                           (
-                            (λ g. inl (served-all forwards_none same-none dvm_burst h past p burst (λ x. all-if forwards_none (is_message_part x || is_dvm_completion x) _ [] refl refl) g)),
+                            (λ g. inl (served-all forwards_none same-none dvm_burst h past p burst (dvm-all forwards_none (λ q i resp last word. refl) h past) g)),
                             (
                               (λ g. inl (all-as forwards_none same-none (sync_completion p) burst g (completion-none p))),
                               ((λ g. inl (all-implied is_masters forwards_none masters-none burst (goes-on-masters plan.ways next h past p burst g))), tt),

@@ -1,10 +1,10 @@
 -- Each run forwards whole messages: step 11 puts the parts of a message that a port lacks, and these are all its parts.
 use Rattle.std.proofs.Common.{◌≡◌, ℕ, true, false, not, ◌&&◌, ◌==◌, nat_lt, if◌then◌else◌, List, [], ◌∷◌, ◌++◌, length, map, filter, Option, Some, None, refl, sym, ap, subst, ◌∙◌, inl, inr, arith}
 use Rattle.std.specs.List.{list_all}
-use Rattle.std.proofs.lemmas.Bool.{and_parts, and_from, cases_Bool, eqb-true, false_from_ne_true, ltb-true}
+use Rattle.std.proofs.lemmas.Bool.{and_parts, and_from, cases_Bool, false_from_ne_true, ltb-true}
 use Rattle.std.proofs.lemmas.List.{append-nil, length-map}
 use Rattle.ace_codes.specs.declared.kind.SnoopKind.TheVariants as snoop
-use Rattle.ace_codes.specs.Snoops.{ac_code, ac_kind_of}
+use Rattle.ace_codes.specs.Snoops.{ac_code}
 use Rattle.ace_event.specs.declared.event.Event.{Event}
 use Rattle.ace_event.specs.declared.event.Event.TheVariants.{Ac, Mem}
 use Rattle.ace_event.specs.declared.header.Header.{Header}
@@ -27,9 +27,10 @@ use Rattle.ace_runs.specs.Segments.{is_at_port}
 use Rattle.ace_runs.specs.Steps.{AreSteps, is_step}
 use Rattle.ace_runs.proofs.Accepting.{accepted-after}
 use Rattle.ace_runs.proofs.Turns.{of-each-run, step-kept}
-use Rattle.ace_runs.proofs.NeverStuck.StepEvents.{all-if, all-map}
-use Rattle.ace_runs.proofs.NeverStuck.StepShapes.{TellsSame, all-by-ports, filtered-all, same-burst-all}
-use Rattle.ace_runs.proofs.NeverStuck.WholeAnswers.{same-length}
+use Rattle.ace_runs.proofs.NeverStuck.Steps.SameBursts.{same-burst-all, same-length}
+use Rattle.ace_runs.proofs.NeverStuck.Steps.SameEvents.{TellsSame, tells-same}
+use Rattle.ace_runs.proofs.NeverStuck.Steps.Lists.{all-if, all-map}
+use Rattle.ace_runs.proofs.NeverStuck.Steps.StepShapes.{all-by-ports, filtered-all}
 use Rattle.ace_runs.proofs.NeverStuck.Forwarding.Bursts.{grows, is_forwarding, still-between}
 use Rattle.ace_runs.proofs.NeverStuck.Forwarding.NextMessage.{IsBetweenMessages, NextMessage, next-begins, no-second-next, parts-start, point-of-last, same-message}
 use Rattle.ace_runs.proofs.NeverStuck.Forwarding.Steps.{forwards-by-one}
@@ -38,14 +39,7 @@ use Rattle.ace_runs.proofs.NeverStuck.Forwarding.Waiting.{waiting-apart}
 -- ---- the events of the burst -------------------------------------------------------------------------
 
 same-forwarding : TellsSame is_forwarding
-same-forwarding (Ac p a s) (Ac q c t) same =
-    ap (λ n. is_some_and (ac_kind_of n) is_message_snoop) (eqb-true s t (and_parts ((p == q) && (a == c)) (s == t) same).1)
-same-forwarding (Ac p a s) e same = cc
-same-forwarding d (Ac q c t) same = cc
-same-forwarding (Mem a line) (Mem c other) same = refl
-same-forwarding (Mem a line) e same = cc
-same-forwarding d (Mem c line) same = cc
-same-forwarding d e same = refl
+same-forwarding = tells-same is_forwarding (λ p c i line. refl) (λ p a s x line. refl) (λ a line. refl)
 
 no-port : (e : Event) → port_of e ≡ None → is_forwarding e ≡ true
 no-port (Mem addr line) none = refl

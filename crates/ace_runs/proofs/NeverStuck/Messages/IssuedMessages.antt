@@ -39,8 +39,9 @@ use Rattle.ace_runs.specs.MasterSteps.{completion_bursts, goes_on, moves}
 use Rattle.ace_runs.specs.Operations.{next_operation}
 use Rattle.ace_runs.specs.Requests.{Request, Reads, Misses, Writes, Drops, Barriers, Messages, and_part, barrier_halves, bursts_of, domain_for, drop_bursts, ends_or_asks, free_on, free_on_both, gives_up_first, has_room, is_waiting, moves_of, read_bursts, request_of, room_bursts, victim_bursts, write_bursts}
 use Rattle.ace_runs.specs.SameEvents.{same_burst}
-use Rattle.ace_runs.proofs.NeverStuck.StepEvents.{all-append, all-flat_map, all-flat_mapped, all-if, all-map, all-mapped}
-use Rattle.ace_runs.proofs.NeverStuck.Messages.WholeIssues.{closed-whole, closing-none, is_whole, issues_none, leads, leads-append, none-leads, same-leads, then-same}
+use Rattle.ace_runs.proofs.NeverStuck.Steps.SameEvents.{same_test-self}
+use Rattle.ace_runs.proofs.NeverStuck.Steps.Lists.{all-append, all-flat_map, all-flat_mapped, all-if, all-map, all-mapped}
+use Rattle.ace_runs.proofs.NeverStuck.Messages.WholeIssues.{closed-whole, closing-none, is_whole, issues_none, leads, leads-append, none-leads, same-leads}
 
 -- ---- requests ----------------------------------------------------------------------------------------
 
@@ -58,7 +59,7 @@ are_whole p bursts = list_all (is_whole p) bursts
 -- the AR of a part
 part-leads : (p i a : ℕ) (was later lock : Bool) → not was && has_second a ≡ later → leads p was later (Ar p i a (ar_code read.DvmMessage) 1 0 lock ∷ []) ≡ true
 unfolding ar_kind_of
-part-leads p i a was later lock same = and_from _ _ (eq-eqb p p refl) (subst (λ b. same_test b later ≡ true) (sym same) (then-same later))
+part-leads p i a was later lock same = and_from _ _ (eq-eqb p p refl) (subst (λ b. same_test b later ≡ true) (sym same) (same_test-self later))
 
 read-whole : (k : ArKind) (p i a : ℕ) (lock : Bool) → implies (is_dvm_message k) (not (has_second a)) ≡ true
     → is_whole p (Ar p i a (ar_code k) (domain_for (is_no_snoop_read k)) 0 lock ∷ []) ≡ true

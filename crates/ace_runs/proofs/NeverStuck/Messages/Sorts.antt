@@ -1,5 +1,5 @@
 -- What a transaction of an accepted trace is: a line transaction, a half of a barrier, a part of a DVM message or a DVM Complete.
-use Rattle.std.proofs.Common.{◌≡◌, ◌⊎◌, ℕ, Bool, true, false, ◌||◌, [], ◌∷◌, length, Option, Some, None, refl, inl, inr, arith}
+use Rattle.std.proofs.Common.{◌≡◌, ◌⊎◌, ℕ, Bool, true, false, ◌||◌, length, Option, Some, None, refl, inl, inr}
 use Rattle.ace_codes.specs.declared.kind.ArKind.{ArKind}
 use Rattle.ace_codes.specs.declared.kind.ArKind.TheVariants as read
 use Rattle.ace_codes.specs.declared.kind.AwKind.{AwKind}
@@ -17,9 +17,9 @@ use Rattle.ace_model.specs.Kinds.{is_dvm_complete, is_dvm_message, is_line_read,
 use Rattle.ace_model.specs.Messages.{is_dvm_completion, is_message_part}
 use Rattle.ace_model.specs.Trace.{Trace, is_none_or, is_some_and}
 use Rattle.ace_model.specs.Transactions.{is_line, issued}
-use Rattle.ace_model.proofs.General.Options.{is_none_or-at}
 use Rattle.ace_model.proofs.Rules.Keeps.{accepted_keeps}
-use Rattle.ace_model.proofs.Trace.Growth.{IsIssued, issued-cases}
+use Rattle.ace_model.proofs.Trace.Growth.{IsIssued}
+use Rattle.ace_runs.proofs.NeverStuck.IssuedTransactions.{issued-by-rule}
 
 abbrev is_sorted : Transaction → Bool
 is_sorted x = is_line x || is_barrier_half x || is_message_part x || is_dvm_completion x
@@ -44,12 +44,7 @@ sorted-by-rule h past (Aw p i addr code dom bar) n k = write-sorted (aw_kind_of 
 sorted-by-rule h past e n k = refl
 
 sorted : (h : Header) (past : Trace) (x : Transaction) → IsAccepted h past → IsIssued past x → is_sorted x ≡ true
-sorted h [] x a i = let low = i.before in absurd (omega (arith, low))
-sorted h (e ∷ past) x a i =
-    elim (issued-cases e past x i) [
-      | inl new ↦ is_none_or-at (issued (length past) e) is_sorted x (sorted-by-rule h past e (length past) (accepted_keeps h past e a).rule_2) new
-      | inr old ↦ sorted h past x a.0 old
-    ]
+sorted h past x a i = issued-by-rule is_sorted h (λ past e a. sorted-by-rule h past e (length past) (accepted_keeps h past e a).rule_2) past x a i
 
 pub transaction-sort : (h : Header) (past : Trace) (x : Transaction) → IsAccepted h past → IsIssued past x
     → (is_line x ≡ true) ⊎ (is_barrier_half x ≡ true) ⊎ ((is_message_part x || is_dvm_completion x) ≡ true)

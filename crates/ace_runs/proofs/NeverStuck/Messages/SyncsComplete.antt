@@ -1,6 +1,6 @@
 -- A Sync that is complete has its AC DVM Complete: where no port owes a DVM Complete, each has sent the one for it, and the port of the Sync is
 -- enabled by step 13.
-use Rattle.std.proofs.Common.{◌≡◌, ◌≢◌, ℕ, zero, suc, ◌+◌, ◌≤◌, ◌<◌, Bool, true, false, not, ◌||◌, ◌==◌, cond, nat_lt, nat_le, List, [], ◌∷◌, ◌++◌, length, length-append, count_by, Option, Some, None, refl, sym, ap, subst, ◌∙◌, inl, inr, arith}
+use Rattle.std.proofs.Common.{◌≡◌, ◌≢◌, ℕ, zero, suc, ◌+◌, ◌≤◌, ◌<◌, Bool, true, false, not, ◌||◌, ◌==◌, cond, nat_lt, nat_le, List, [], ◌∷◌, ◌++◌, length, length-append, count_by, Some, refl, sym, ap, subst, ◌∙◌, inl, inr, arith}
 use Rattle.std.specs.List.{list_all}
 use Rattle.std.proofs.lemmas.Bool.{and_parts, and_from, cases_Bool, cases_lt, eq-eqb, le-leb, ltb-false, or_left, or_right}
 use Rattle.std.proofs.lemmas.List.Sums.{sum_by_push}
@@ -29,7 +29,7 @@ use Rattle.ace_model.proofs.Dvm.Syncs.{IsSyncIn, last_sync-is, sync-at, sync-nex
 use Rattle.ace_model.proofs.General.Lists.{IsStart, count_by-start, start-all, start-both, start-length, start-self}
 use Rattle.ace_model.proofs.General.Options.{is_none_or-at, is_some_and-is}
 use Rattle.ace_model.proofs.Rules.Keeps.{accepted_keeps}
-use Rattle.ace_model.proofs.Trace.Growth.{IsIssued, issued-cases}
+use Rattle.ace_model.proofs.Trace.Growth.{IsIssued}
 use Rattle.ace_model.proofs.Trace.Places.{at_point-length}
 use Rattle.ace_runs.specs.Follows.{owes_completion}
 use Rattle.ace_runs.specs.OrderSteps.{may_give_completion}
@@ -38,26 +38,17 @@ use Rattle.ace_runs.proofs.Turns.{steps-accepted}
 use Rattle.ace_runs.proofs.NeverStuck.Forwarding.Whole.{next-not-second}
 use Rattle.ace_runs.proofs.NeverStuck.Messages.AnsweredMessages.{completed-answered}
 use Rattle.ace_runs.proofs.NeverStuck.Transactions.SnoopsKept.{ac-kept}
+use Rattle.ace_runs.proofs.NeverStuck.IssuedTransactions.{issued-by-rule, some-none}
 
 -- ---- the port of a message ---------------------------------------------------------------------------
 
 reader-by-rule : (h : Header) (past : Trace) (e : Event) (n : ℕ) → k2 h past e ≡ true → is_none_or (issued n e) (λ x. is_none_or (read_kind x) (may_issue_read h x.port)) ≡ true
-reader-by-rule h past (Ar p i addr code dom bar lock) n k = some-none (ar_kind_of code dom bar) k
-  where
-    some-none : (o : Option ArKind) → is_some_and o (may_issue_read h p) ≡ true → is_none_or o (may_issue_read h p) ≡ true
-    some-none None s = refl
-    some-none (Some k) s = s
+reader-by-rule h past (Ar p i addr code dom bar lock) n k = some-none (ar_kind_of code dom bar) (may_issue_read h p) k
 reader-by-rule h past e n k = refl
 
 reader-may : (h : Header) (past : Trace) (x : Transaction) → IsAccepted h past → IsIssued past x → is_none_or (read_kind x) (may_issue_read h x.port) ≡ true
-reader-may h [] x a i = let low = i.before in absurd (omega (arith, low))
-reader-may h (e ∷ past) x a i =
-    elim (issued-cases e past x i) [
-      | inl new ↦
-          is_none_or-at (issued (length past) e) (λ x. is_none_or (read_kind x) (may_issue_read h x.port)) x
-          (reader-by-rule h past e (length past) (accepted_keeps h past e a).rule_2) new
-      | inr old ↦ reader-may h past x a.0 old
-    ]
+reader-may h past x a i =
+    issued-by-rule (λ x. is_none_or (read_kind x) (may_issue_read h x.port)) h (λ past e a. reader-by-rule h past e (length past) (accepted_keeps h past e a).rule_2) past x a i
 
 -- it is an ACE port
 pub message-of-ace : (h : Header) (past : Trace) (x : Transaction) → IsAccepted h past → IsIssued past x → is_message_part x ≡ true → is_ace h x.port ≡ true

@@ -1,7 +1,7 @@
 -- Bursts that issue whole messages: to each first part that a second part follows they have both.
-use Rattle.std.proofs.Common.{◌≡◌, ℕ, Bool, true, false, not, ◌&&◌, ◌==◌, if◌then◌else◌, List, [], ◌∷◌, ◌++◌, inl, inr, refl, sym, subst}
+use Rattle.std.proofs.Common.{◌≡◌, ℕ, Bool, true, false, not, ◌&&◌, if◌then◌else◌, List, [], ◌∷◌, ◌++◌, inl, inr, refl, sym, subst, ◌∙◌}
 use Rattle.std.specs.List.{list_all}
-use Rattle.std.proofs.lemmas.Bool.{and_parts, and_from, cases_Bool, eqb-true, not-true}
+use Rattle.std.proofs.lemmas.Bool.{and_parts, and_from, cases_Bool, not-true}
 use Rattle.ace_event.specs.declared.event.Event.{Event}
 use Rattle.ace_event.specs.declared.event.Event.TheVariants.{Ar}
 use Rattle.ace_event.specs.declared.header.Header.{Header}
@@ -15,8 +15,9 @@ use Rattle.ace_runs.specs.Counts.{issues_part}
 use Rattle.ace_runs.specs.Closing.{and_closing, closing_of}
 use Rattle.ace_runs.specs.SameEvents.{same_burst, same_event}
 use Rattle.ace_runs.specs.Segments.{is_at_port}
-use Rattle.ace_runs.proofs.NeverStuck.Barriers.Quiet.{closing-quiet, is_quiet}
-use Rattle.ace_runs.proofs.NeverStuck.WholeAnswers.{all-implied}
+use Rattle.ace_runs.proofs.NeverStuck.Steps.SameEvents.{TellsSame, equal-event, same_test-self, tells-same}
+use Rattle.ace_runs.proofs.NeverStuck.Steps.Lists.{all-implied}
+use Rattle.ace_runs.proofs.NeverStuck.Steps.SilentSteps.{closing-no-read, issues_no_read}
 
 -- the word of the part that the event issues
 abbrev pub word_issued : Event → ℕ
@@ -34,16 +35,12 @@ is_whole p burst = leads p false false burst
 
 -- ---- bursts ------------------------------------------------------------------------------------------
 
-pub then-same : (b : Bool) → same_test b b ≡ true
-then-same true = refl
-then-same false = refl
-
 -- events that issue no part
 abbrev pub issues_none : Event → Bool
 issues_none e = not (issues_part e)
 
 pub none-leads : (p : ℕ) (was : Bool) (burst : List Event) → list_all issues_none burst ≡ true → leads p was was burst ≡ true
-none-leads p was [] m = then-same was
+none-leads p was [] m = same_test-self was
 none-leads p was (e ∷ burst) m =
     let parts = and_parts (issues_none e) (list_all issues_none burst) m in
     rw (not-true (issues_part e) parts.0) (none-leads p was burst parts.1)
@@ -58,12 +55,12 @@ leads-append p was mid later (e ∷ xs) ys x y =
       | inr f ↦ rw f (leads-append p was mid later xs ys (rw f at x) y)
     ]
 
-quiet-none : (e : Event) → is_quiet e ≡ true → issues_none e ≡ true
-quiet-none (Ar p i addr code dom bar lock) m = cc
-quiet-none e m = refl
+pub silent-none : (e : Event) → issues_no_read e ≡ true → issues_none e ≡ true
+silent-none (Ar p i addr code dom bar lock) m = cc
+silent-none e m = refl
 
 pub closing-none : (h : Header) (past : Trace) (p : ℕ) (o : Op) → list_all issues_none (closing_of h past p o) ≡ true
-closing-none h past p o = all-implied is_quiet issues_none quiet-none (closing_of h past p o) (closing-quiet h past p o)
+closing-none h past p o = all-implied issues_no_read issues_none silent-none (closing_of h past p o) (closing-no-read h past p o)
 
 pub closed-whole : (h : Header) (past : Trace) (p : ℕ) (o : Op) (burst : List Event) → is_whole p burst ≡ true → is_whole p (and_closing h past p o burst) ≡ true
 closed-whole h past p o burst w =
@@ -72,26 +69,11 @@ closed-whole h past p o burst w =
 -- ---- the same events ---------------------------------------------------------------------------------
 
 same-issued : (d e : Event) → same_event d e ≡ true → issues_part d ≡ true → d ≡ e
-same-issued (Ar p i a s d b l) (Ar q j c t e f m) same part =
-    let p6 = and_parts ((p == q) && (i == j) && (a == c) && (s == t) && (d == e) && (b == f)) (same_test l m) same in
-    let p5 = and_parts ((p == q) && (i == j) && (a == c) && (s == t) && (d == e)) (b == f) p6.0 in
-    let p4 = and_parts ((p == q) && (i == j) && (a == c) && (s == t)) (d == e) p5.0 in
-    let p3 = and_parts ((p == q) && (i == j) && (a == c)) (s == t) p4.0 in
-    let p2 = and_parts ((p == q) && (i == j)) (a == c) p3.0 in
-    let p1 = and_parts (p == q) (i == j) p2.0 in
-    rw (eqb-true p q p1.0, eqb-true i j p1.1, eqb-true a c p2.1, eqb-true s t p3.1, eqb-true d e p4.1, eqb-true b f p5.1, same_test-at l m p6.1) refl
-same-issued (Ar p i a s d b l) e same part = cc
+same-issued (Ar p i a s d b l) e same part = equal-event (Ar p i a s d b l) e same refl
 same-issued d e same part = cc
 
-same-not-issued : (d e : Event) → same_event d e ≡ true → issues_part d ≡ false → issues_part e ≡ false
-same-not-issued (Ar p i a s d b l) (Ar q j c t e f m) same none =
-    let p6 = and_parts ((p == q) && (i == j) && (a == c) && (s == t) && (d == e) && (b == f)) (same_test l m) same in
-    let p5 = and_parts ((p == q) && (i == j) && (a == c) && (s == t) && (d == e)) (b == f) p6.0 in
-    let p4 = and_parts ((p == q) && (i == j) && (a == c) && (s == t)) (d == e) p5.0 in
-    let p3 = and_parts ((p == q) && (i == j) && (a == c)) (s == t) p4.0 in
-    rw (← eqb-true s t p3.1, ← eqb-true d e p4.1, ← eqb-true b f p5.1) none
-same-not-issued d (Ar q j c t e f m) same none = cc
-same-not-issued d e same none = refl
+same-part : TellsSame issues_part
+same-part = tells-same issues_part (λ p c i line. refl) (λ p a s x line. refl) (λ a line. refl)
 
 pub same-leads : (p : ℕ) (was later : Bool) (ds es : List Event) → same_burst ds es ≡ true → leads p was later ds ≡ true → leads p was later es ≡ true
 same-leads p was later [] [] s m = m
@@ -106,5 +88,5 @@ same-leads p was later (d ∷ ds) (e ∷ es) s m =
           let rest = same-leads p (not was && has_second (word_issued d)) later ds es same.1 parts.1 in
           let here : leads p was later (d ∷ es) ≡ true = rw t (and_from _ _ parts.0 rest) in
           subst (λ (v : Event). leads p was later (v ∷ es) ≡ true) one here
-      | inr f ↦ rw (same-not-issued d e same.0 f) (same-leads p was later ds es same.1 (rw f at m))
+      | inr f ↦ rw (sym (same-part d e same.0) ∙ f) (same-leads p was later ds es same.1 (rw f at m))
     ]

@@ -1,5 +1,6 @@
 -- Between the steps of a run no first part of a DVM message waits for its second: for a right plan step 14 issues whole messages.
 use Rattle.std.proofs.Common.{◌≡◌, ◌≢◌, ℕ, Bool, true, false, not, ◌&&◌, List, [], ◌∷◌, Option, Some, None, is_some, inl, inr, refl, sym, ap, subst, ◌∙◌}
+use Rattle.std.proofs.Math.Bool.{and-false}
 use Rattle.std.specs.List.{list_all}
 use Rattle.std.proofs.lemmas.Bool.{and_parts, cases_Bool, cases_eq, eqb-true, ne_eqb, not-true}
 use Rattle.ace_event.specs.declared.event.Event.{Event}
@@ -30,10 +31,6 @@ unissued-waits e past p none = refl
 
 other-waits : (e : Event) (past : Trace) (p : ℕ) → is_at_port p e ≡ false → first_waiting (e ∷ past) p ≡ first_waiting past p
 other-waits (Ar q i addr code dom bar lock) past p other = rw (other, and-false (issues_part (Ar q i addr code dom bar lock))) refl
-  where
-    and-false : (b : Bool) → (b && false) ≡ false
-    and-false true = refl
-    and-false false = refl
 other-waits e past p other = refl
 
 pub after-part : (waiting : Option Transaction) (x : Transaction) → is_some (waits_after waiting (Some x)) ≡ (not (is_some waiting) && has_second x.addr)

@@ -17,7 +17,7 @@ found-newer n test new older f =
     let low = f.low in record { number = f.number; is = ap (λ o. newer o older) f.is; low = omega (arith, low); passes = f.passes }
 
 -- what is found is below the bound and passes the test
-least-low : (n : ℕ) (test : ℕ → Bool) (j : ℕ) → least_below n test ≡ Some j → (j < n) × (test j ≡ true)
+pub least-low : (n : ℕ) (test : ℕ → Bool) (j : ℕ) → least_below n test ≡ Some j → (j < n) × (test j ≡ true)
 least-low zero test j is = cc
 least-low (suc n) test j is =
     elim (newer-cases (least_below n test) (if test n then Some n else None) j is) [

@@ -1,6 +1,7 @@
 -- After step 4 the next operation of its port, an ACE port, can't retire with `ok`: the acknowledge of a transaction of the operation comes with
 -- what ends the operation, if that can end then; and the acknowledge of another one leaves what the operation needs.
 use Rattle.std.proofs.Common.{◌≡◌, ◌⊎◌, ℕ, ◌+◌, Bool, true, false, not, ◌&&◌, ◌||◌, ◌==◌, if◌then◌else◌, List, [], ◌∷◌, ◌++◌, zero, suc, Option, Some, None, slice_get, unwrap_or, inl, inr, refl, sym, ap, subst, ◌∙◌}
+use Rattle.std.proofs.Math.Bool.{and-false}
 use Rattle.std.specs.List.{list_all, list_any}
 use Rattle.std.specs.Option.{option_to_list, option_map}
 use Rattle.std.proofs.lemmas.Bool.{and_parts, and_from, eqb-true, or_cases}
@@ -35,10 +36,12 @@ use Rattle.ace_runs.specs.Retiring.{may_retire}
 use Rattle.ace_runs.specs.SameEvents.{same_burst, same_event}
 use Rattle.ace_runs.specs.Segments.{acts_made, is_in_segment, segment}
 use Rattle.ace_runs.proofs.Accepting.{kept-breaks-none}
+use Rattle.ace_runs.proofs.NeverStuck.Steps.SameBursts.{equal-burst}
+use Rattle.ace_runs.proofs.NeverStuck.Steps.SameEvents.{is_lineless}
+use Rattle.ace_runs.proofs.NeverStuck.IssuedTransactions.{acknowledged-of}
 use Rattle.ace_runs.proofs.NeverStuck.Phases.Calm.{IsCalm, calm-keeps, may_end}
-use Rattle.ace_runs.proofs.NeverStuck.Phases.CalmEvents.{acknowledged-of, and-false, outs-stay}
+use Rattle.ace_runs.proofs.NeverStuck.Phases.CalmEvents.{outs-stay}
 use Rattle.ace_runs.proofs.NeverStuck.Phases.Endings.{closed-stays, lineless-closed, retired-burst, retirement-ends, same-ends}
-use Rattle.ace_runs.proofs.NeverStuck.Phases.EqualEvents.{equal-burst, is_lineless}
 
 -- ---- a transaction of another operation --------------------------------------------------------------
 

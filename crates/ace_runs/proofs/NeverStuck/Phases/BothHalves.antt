@@ -1,7 +1,8 @@
 -- A port that has made one act of a barrier has issued one half more on the read channel than on the write channel, and else as many. So in a
 -- run, where both halves are issued together, it has made both acts or none.
 use Rattle.std.proofs.Common.{◌≡◌, ℕ, ◌+◌, Bool, true, false, ◌&&◌, ◌==◌, if◌then◌else◌, [], ◌∷◌, ◌++◌, length, length-append, Option, Some, None, inl, inr, refl, sym, ap, subst, ◌∙◌, arith}
-use Rattle.std.proofs.lemmas.Bool.{and_parts, and_from, cases_Bool, eqb-true}
+use Rattle.std.proofs.Math.Bool.{and-false}
+use Rattle.std.proofs.lemmas.Bool.{and_from, cases_Bool, eqb-true}
 use Rattle.ace_event.specs.declared.event.Channel.{Channel}
 use Rattle.ace_event.specs.declared.event.Channel.TheVariants.{Read, Write}
 use Rattle.ace_event.specs.declared.event.Event.{Event}
@@ -11,19 +12,17 @@ use Rattle.ace_model.specs.Barriers.{barriers, is_barrier_half, is_barrier_of}
 use Rattle.ace_model.specs.Plans.{Plan}
 use Rattle.ace_model.specs.Trace.{Trace, is_some_and, more, option_filter}
 use Rattle.ace_model.specs.Transactions.{issued, same_channel}
-use Rattle.ace_model.proofs.General.Options.{is_some_and-is}
-use Rattle.ace_runs.specs.Acts.{is_act}
 use Rattle.ace_runs.specs.Counts.{is_retirement}
 use Rattle.ace_runs.specs.Follows.{FollowsSoFar, obeys}
 use Rattle.ace_runs.specs.Operations.{next_operation}
-use Rattle.ace_runs.specs.Segments.{acts_made, is_at_port}
+use Rattle.ace_runs.specs.Segments.{acts_made}
 use Rattle.ace_runs.specs.Steps.{AreSteps}
+use Rattle.ace_runs.proofs.NeverStuck.Phases.IssuedActs.{issued-turn, issues_of, none-issued}
 use Rattle.ace_runs.proofs.NeverStuck.Barriers.Acts.{is_barrier_operation}
 use Rattle.ace_runs.proofs.NeverStuck.Barriers.BothAnswered.{halves-together}
 use Rattle.ace_runs.proofs.NeverStuck.Barriers.Halves.{half-acts}
-use Rattle.ace_runs.proofs.NeverStuck.Phases.Halves.{barrier-half, half-of-barrier, half-turn, issued-act, issued-port, two-halves}
-use Rattle.ace_runs.proofs.NeverStuck.Phases.NextActs.{IsTurn, next-turn}
-use Rattle.ace_runs.proofs.NeverStuck.Phases.OneOfTwo.{none-made, one-after, one-stays, one_made, other-retires, retires-none}
+use Rattle.ace_runs.proofs.NeverStuck.Phases.Halves.{barrier-half, half-of-barrier, half-turn, two-halves}
+use Rattle.ace_runs.proofs.NeverStuck.Phases.OneOfTwo.{none-made, one-if, one-then, one_made, other-retires, retires-none}
 
 -- the port has made one act of a barrier
 abbrev pub one_half : Plan → Trace → ℕ → Bool
@@ -55,38 +54,18 @@ no-more past e p c none = by (issued (length past) e) none
 
 -- ---- an event other than an OP -----------------------------------------------------------------------
 
--- the event issues a half of a barrier of the port
-abbrev issues_half : Trace → ℕ → Event → Bool
-issues_half past p e = is_some_and (issued (length past) e) (λ x. is_barrier_half x && (x.port == p))
-
 no-half : (o : Option Transaction) (p : ℕ) (c : Channel) → is_some_and o (λ x. is_barrier_half x && (x.port == p)) ≡ false → is_some_and o (λ x. is_barrier_of x p c) ≡ false
 no-half None p c f = refl
 no-half (Some x) p c f = rw f refl
 
--- one that issues none is no act of a barrier
-no-turn : (plan : Plan) (past : Trace) (p : ℕ) (e : Event) → issues_half past p e ≡ false → (is_at_port p e && is_act e) ≡ true → (t : IsTurn plan past p e) → is_barrier_operation t.of ≡ false
-no-turn plan past p e none both t =
-    elim (cases_Bool (is_barrier_operation t.of)) [
-      | inr f ↦ f
-      | inl barrier ↦
-          let x = is_some_and-is (issued (length past) e) is_barrier_half (barrier-half t.of (acts_made past p) t.fits e (length past) barrier t.turn t.passes) in
-          let port : (x.0.port == p) ≡ true = sym (issued-port e (length past) p x.0 x.1) ∙ (and_parts (is_at_port p e) (is_act e) both).0 in
-          let some : issues_half past p e ≡ true = rw x.1 (and_from _ _ x.2 port) in
-          let bad : false ≡ true = sym none ∙ some in cc
-    ]
-
-none-paced : (plan : Plan) (past : Trace) (p : ℕ) (e : Event) → obeys plan past e ≡ true → is_retirement e ≡ false → issues_half past p e ≡ false → IsPaced plan past p
+none-paced : (plan : Plan) (past : Trace) (p : ℕ) (e : Event) → obeys plan past e ≡ true → is_retirement e ≡ false → issues_of is_barrier_half past p e ≡ false → IsPaced plan past p
     → IsPaced plan (e ∷ past) p
 none-paced plan past p e o other none paced =
     paced-as plan past (e ∷ past) p (no-more past e p Read (no-half (issued (length past) e) p Read none)) (no-more past e p Write (no-half (issued (length past) e) p Write none))
-    (one-stays is_barrier_operation plan past p e o other (no-turn plan past p e none)) paced
+    (none-issued is_barrier_operation is_barrier_half plan past p e (λ t barrier. barrier-half t.of (acts_made past p) t.fits e (length past) barrier t.turn t.passes) o other none) paced
 
 only-on : (past : Trace) (e : Event) (p : ℕ) (c : Channel) (x : Transaction) → issued (length past) e ≡ Some x → same_channel x.chan c ≡ false → barriers (e ∷ past) p c ≡ barriers past p c
 only-on past e p c x new other = no-more past e p c (rw (new, other) (and-false (is_barrier_half x && (x.port == p))))
-  where
-    and-false : (b : Bool) → (b && false) ≡ false
-    and-false true = refl
-    and-false false = refl
 
 -- the first half, and the second
 first-paced : (plan : Plan) (past later : Trace) (p : ℕ) → one_half plan past p ≡ false → one_half plan later p ≡ true → length (barriers later p Read) ≡ length (barriers past p Read) + 1
@@ -105,37 +84,29 @@ second-paced plan past later p was now reads writes paced =
     let count : length (barriers later p Read) ≡ length (barriers later p Write) + 0 = omega (arith, before, writes, same) in
     count ∙ sym (ap (λ b. length (barriers later p Write) + (if b then 1 else 0)) now)
 
--- the port's next operation is a barrier for which it has made so many acts
-one-if : (plan : Plan) (past : Trace) (p made : ℕ) → is_some_and (next_operation plan past p) is_barrier_operation ≡ true → acts_made past p ≡ made → one_half plan past p ≡ (made == 1)
-one-if plan past p made barrier is = ap (λ b. b && (acts_made past p == 1)) barrier ∙ ap (λ n. n == 1) is
-
-half-paced : (plan : Plan) (past : Trace) (p : ℕ) (e : Event) → obeys plan past e ≡ true → is_retirement e ≡ false → issues_half past p e ≡ true → IsPaced plan past p
+half-paced : (plan : Plan) (past : Trace) (p : ℕ) (e : Event) → obeys plan past e ≡ true → is_retirement e ≡ false → issues_of is_barrier_half past p e ≡ true → IsPaced plan past p
     → IsPaced plan (e ∷ past) p
 half-paced plan past p e o other some paced =
-    let x = is_some_and-is (issued (length past) e) (λ x. is_barrier_half x && (x.port == p)) some in
-    let of = and_parts (is_barrier_half x.0) (x.0.port == p) x.2 in
-    let here : is_at_port p e ≡ true = issued-port e (length past) p x.0 x.1 ∙ of.1 in
-    let both = and_from _ _ here (issued-act e (length past) x.0 x.1 (half-acts x.0 of.0)) in
-    let t = next-turn plan past p e o both in
-    let barrier = half-of-barrier t.of (acts_made past p) t.fits e (length past) x.0 x.1 of.0 t.turn t.passes in
+    let x = issued-turn is_barrier_half half-acts plan past p e o some in
+    let t = x.turn in
+    let barrier = half-of-barrier t.of (acts_made past p) t.fits e (length past) x.of x.is x.such t.turn t.passes in
     let sorted : is_some_and (next_operation plan past p) is_barrier_operation ≡ true = ap (λ next. is_some_and next is_barrier_operation) t.next ∙ barrier in
-    let after : (made : ℕ) → acts_made past p ≡ made → one_half plan (e ∷ past) p ≡ (made + 1 == 1) =
-    λ made is. one-after is_barrier_operation plan past p e other ∙ ap (λ b. b && ((if is_at_port p e && is_act e then acts_made past p + 1 else acts_made past p) == 1)) sorted
-    ∙ ap (λ b. (if b then acts_made past p + 1 else acts_made past p) == 1) both ∙ ap (λ n. n + 1 == 1) is in
-    elim (half-turn t.of (acts_made past p) t.fits e (length past) x.0 x.1 barrier t.turn t.passes) [
+    let before : (made : ℕ) → acts_made past p ≡ made → one_half plan past p ≡ (made == 1) = λ made is. one-if is_barrier_operation plan past p made true sorted is in
+    let after : (made : ℕ) → acts_made past p ≡ made → one_half plan (e ∷ past) p ≡ (made + 1 == 1) = λ made is. one-then is_barrier_operation plan past p e made true other x.act sorted is in
+    elim (half-turn t.of (acts_made past p) t.fits e (length past) x.of x.is barrier t.turn t.passes) [
       | inl first ↦
-          first-paced plan past (e ∷ past) p (one-if plan past p 0 sorted first.1) (after 0 first.1)
-          (one-more past e p Read x.0 x.1 (and_from _ _ x.2 (ap (λ c. same_channel c Read) first.0)))
-          (only-on past e p Write x.0 x.1 (ap (λ c. same_channel c Write) first.0)) paced
+          first-paced plan past (e ∷ past) p (before 0 first.1) (after 0 first.1)
+          (one-more past e p Read x.of x.is (and_from _ _ x.passes (ap (λ c. same_channel c Read) first.0)))
+          (only-on past e p Write x.of x.is (ap (λ c. same_channel c Write) first.0)) paced
       | inr second ↦
-          second-paced plan past (e ∷ past) p (one-if plan past p 1 sorted second.1) (after 1 second.1)
-          (only-on past e p Read x.0 x.1 (ap (λ c. same_channel c Read) second.0))
-          (one-more past e p Write x.0 x.1 (and_from _ _ x.2 (ap (λ c. same_channel c Write) second.0))) paced
+          second-paced plan past (e ∷ past) p (before 1 second.1) (after 1 second.1)
+          (only-on past e p Read x.of x.is (ap (λ c. same_channel c Read) second.0))
+          (one-more past e p Write x.of x.is (and_from _ _ x.passes (ap (λ c. same_channel c Write) second.0))) paced
     ]
 
 event-paced : (plan : Plan) (past : Trace) (p : ℕ) (e : Event) → obeys plan past e ≡ true → is_retirement e ≡ false → IsPaced plan past p → IsPaced plan (e ∷ past) p
 event-paced plan past p e o other paced =
-    elim (cases_Bool (issues_half past p e)) [
+    elim (cases_Bool (issues_of is_barrier_half past p e)) [
       | inl some ↦ half-paced plan past p e o other some paced
       | inr none ↦ none-paced plan past p e o other none paced
     ]
@@ -144,10 +115,6 @@ event-paced plan past p e o other paced =
 
 pub paced : (plan : Plan) (past : Trace) (p : ℕ) → FollowsSoFar plan past → IsPaced plan past p
 paced plan [] p f = sym (ap (λ (b : Bool). 0 + (if b then 1 else 0)) (and-false (is_some_and (next_operation plan [] p) is_barrier_operation)))
-  where
-    and-false : (b : Bool) → (b && false) ≡ false
-    and-false true = refl
-    and-false false = refl
 paced plan (Retires q k res ∷ past) p f =
     elim (cases_Bool (p == q)) [
       | inr n ↦ paced-as plan past (Retires q k res ∷ past) p refl refl (other-retires is_barrier_operation plan past p q k res n) (paced plan past p f.0)

@@ -1,6 +1,7 @@
 -- At an ACE port all events but ARs, AWs, acknowledges, answers to snoops, loads, stores and OPs of the port leave what it needs to retire its next
 -- operation.
 use Rattle.std.proofs.Common.{◌≡◌, ◌≢◌, ℕ, ◌+◌, ◌≤◌, Bool, true, false, not, ◌&&◌, ◌||◌, ◌==◌, if◌then◌else◌, List, [], ◌∷◌, ◌++◌, length, drop, Option, Some, None, is_some, slice_get, inl, inr, refl, sym, ap, ◌∙◌}
+use Rattle.std.proofs.Math.Bool.{and-false}
 use Rattle.std.specs.List.{list_all, list_any}
 use Rattle.std.proofs.lemmas.Bool.{and_parts, and_from, cases_Bool, eq-eqb, eqb-true, ne_eqb, not-true}
 use Rattle.std.proofs.lemmas.List.{drop-append-le}
@@ -21,15 +22,16 @@ use Rattle.ace_model.specs.Transactions.{acknowledged, ended, is_ace, is_outstan
 use Rattle.ace_model.proofs.General.Lists.{slice_get-more}
 use Rattle.ace_model.proofs.General.Options.{Some-injective, option_filter-is}
 use Rattle.ace_model.proofs.Outstanding.Steps.{outstanding_after}
-use Rattle.ace_model.proofs.Trace.Growth.{IsIssued, issued-new, issued-old, named-issued}
-use Rattle.ace_model.proofs.Trace.Issued.{issued_at, transaction_of-name}
-use Rattle.ace_model.proofs.Trace.Outstanding.{acknowledged_is, read_issued}
+use Rattle.ace_model.proofs.Trace.Growth.{IsIssued, issued-new, issued-old}
+use Rattle.ace_model.proofs.Trace.Issued.{issued_at}
+use Rattle.ace_model.proofs.Trace.Outstanding.{read_issued}
 use Rattle.ace_runs.specs.Acts.{is_act}
 use Rattle.ace_runs.specs.Bursts.{are_kept, is_kept, onto}
 use Rattle.ace_runs.specs.Retiring.{has_answered_completion, tells_completion, unanswered}
 use Rattle.ace_runs.specs.Segments.{acts_made, is_at_port, is_for_operation, segment}
 use Rattle.ace_runs.proofs.Accepting.{kept-breaks-none}
 use Rattle.ace_runs.proofs.Few.Queues.{answers-within, eqb-swap}
+use Rattle.ace_runs.proofs.NeverStuck.IssuedTransactions.{acknowledged-of, named-of}
 use Rattle.ace_runs.proofs.NeverStuck.Phases.Calm.{IsCalm, calm-keeps, may_end}
 use Rattle.ace_runs.proofs.NeverStuck.Phases.NextActs.{acts-more, segment-more}
 
@@ -68,12 +70,6 @@ other-ends past p (Some z) x others i =
     ne_eqb z.place x.place (λ same.
     let one : z ≡ x = Some-injective z x (sym of.0.there ∙ ap (issued_at past) same ∙ i.there.there) in
     of.1 (ap (λ (v : Transaction). v.port) one ∙ i.port))
-
-named-of : (past : Trace) (q : ℕ) (c : Channel) (i : ℕ) (z : Transaction) → transaction_of past q c i ≡ Some z → IsIssued past z × (z.port ≡ q)
-named-of past q c i z named = (named-issued past q c i z named, (transaction_of-name past q c i z named).port)
-
-pub acknowledged-of : (past : Trace) (q : ℕ) (c : Channel) (z : Transaction) → acknowledged past q c ≡ Some z → IsIssued past z × (z.port ≡ q)
-acknowledged-of past q c z next = let n = acknowledged_is past q c z next in named-of past q c n.id z n.named
 
 -- an event at the port that is calm
 abbrev pub is_calm_here : Event → Bool
@@ -141,10 +137,6 @@ outs-stay h past p e a none k x there =
     and-true false = refl
 
 -- ---- the answer of an AC DVM Complete ----------------------------------------------------------------
-
-pub and-false : (b : Bool) → (b && false) ≡ false
-and-false true = refl
-and-false false = refl
 
 or-parts : (a b : Bool) → (a || b) ≡ false → (a ≡ false) × (b ≡ false)
 or-parts true b f = cc

@@ -1,7 +1,7 @@
 -- A burst that ends with what ends an operation, if that can end then: afterwards the next operation of the port can't retire with `ok`.
-use Rattle.std.proofs.Common.{◌≡◌, ◌⊎◌, ℕ, Bool, true, false, not, ◌&&◌, ◌==◌, if◌then◌else◌, List, [], ◌∷◌, ◌++◌, append-nil, length, Option, Some, None, inl, inr, refl, sym, ap, subst, ◌∙◌}
+use Rattle.std.proofs.Common.{◌≡◌, ◌⊎◌, ℕ, Bool, true, false, not, ◌&&◌, ◌==◌, if◌then◌else◌, List, [], ◌∷◌, ◌++◌, append-nil, length, Option, Some, None, inl, inr, refl, sym, ap, ◌∙◌}
 use Rattle.std.specs.List.{list_all, list_any}
-use Rattle.std.proofs.lemmas.Bool.{and_parts, and_from, eq-eqb, eqb-true, not-true}
+use Rattle.std.proofs.lemmas.Bool.{and_parts, eq-eqb, not-true}
 use Rattle.ace_codes.specs.declared.kind.AwKind.TheVariants as write
 use Rattle.ace_event.specs.declared.event.Event.{Event}
 use Rattle.ace_event.specs.declared.event.Event.TheVariants.{Op as Retires}
@@ -19,16 +19,18 @@ use Rattle.ace_runs.specs.Closing.{access_and_retirement, access_of, and_closing
 use Rattle.ace_runs.specs.Counts.{is_retirement}
 use Rattle.ace_runs.specs.Operations.{next_operation}
 use Rattle.ace_runs.specs.Retiring.{is_met, may_retire}
-use Rattle.ace_runs.specs.SameEvents.{same_burst, same_event, same_outcome}
+use Rattle.ace_runs.specs.SameEvents.{same_burst, same_event}
 use Rattle.ace_runs.specs.Segments.{acts_made, is_read_of, is_write_of, segment}
+use Rattle.ace_runs.proofs.NeverStuck.Steps.Lists.{all-implied}
+use Rattle.ace_runs.proofs.NeverStuck.Steps.SameBursts.{equal-burst}
+use Rattle.ace_runs.proofs.NeverStuck.Steps.SameEvents.{TellsSame, is_lineless, tells-same}
 use Rattle.ace_runs.proofs.NeverStuck.Phases.Calm.{may_end}
-use Rattle.ace_runs.proofs.NeverStuck.Phases.EqualEvents.{equal-burst, is_lineless}
 use Rattle.ace_runs.proofs.NeverStuck.Phases.NextActs.{next-stays}
 
 -- ---- after an OP -------------------------------------------------------------------------------------
 
 -- where a port has done nothing for an operation, that can't retire with `ok`
-fresh-stays : (h : Header) (past : Trace) (p : ℕ) (o : Op) → acts_made past p ≡ 0 → segment past p ≡ [] → may_retire h past p o Ok ≡ false
+pub fresh-stays : (h : Header) (past : Trace) (p : ℕ) (o : Op) → acts_made past p ≡ 0 → segment past p ≡ [] → may_retire h past p o Ok ≡ false
 fresh-stays h past p (Pf a k) made none = ap (λ n. (n == 0) && is_met h past p (Pf a k)) made ∙ ap (list_any (λ x. is_read_of k a x && not (is_outstanding h past x))) none
 fresh-stays h past p (Wb a) made none = ap (λ n. (n == 0) && is_met h past p (Wb a)) made ∙ ap (list_any (is_write_of write.WriteBack a)) none
 fresh-stays h past p (Wc a) made none = ap (λ n. (n == 0) && is_met h past p (Wc a)) made ∙ ap (list_any (is_write_of write.WriteClean a)) none
@@ -60,17 +62,13 @@ retired-burst plan (Retires q k res ∷ []) past p ends = retired-stays plan pas
 retired-burst plan (e ∷ []) past p ends = cc
 retired-burst plan (e ∷ f ∷ burst) past p ends = retired-burst plan (f ∷ burst) (e ∷ past) p ends
 
-same-retirement : (d e : Event) (p : ℕ) → same_event d e ≡ true → is_retirement_at p d ≡ true → is_retirement_at p e ≡ true
-same-retirement (Retires q k res) (Retires r n other) p same at =
-    let port = eqb-true q r (and_parts (q == r) (k == n) (and_parts ((q == r) && (k == n)) (same_outcome res other) same).0).0 in
-    subst (λ v. (p == v) ≡ true) port at
-same-retirement (Retires q k res) e p same at = cc
-same-retirement d e p same at = cc
+same-retirement : (p : ℕ) → TellsSame (is_retirement_at p)
+same-retirement p = tells-same (is_retirement_at p) (λ p c i line. refl) (λ p a s x line. refl) (λ a line. refl)
 
 pub same-ends : (ds es : List Event) (p : ℕ) → same_burst ds es ≡ true → ends_retired p ds ≡ true → ends_retired p es ≡ true
 same-ends [] es p same ends = cc
 same-ends (d ∷ []) [] p same ends = cc
-same-ends (d ∷ []) (e ∷ []) p same ends = same-retirement d e p (and_parts (same_event d e) true same).0 ends
+same-ends (d ∷ []) (e ∷ []) p same ends = sym (same-retirement p d e (and_parts (same_event d e) true same).0) ∙ ends
 same-ends (d ∷ []) (e ∷ f ∷ es) p same ends = let bad = (and_parts (same_event d e) false same).1 in cc
 same-ends (d ∷ c ∷ ds) [] p same ends = cc
 same-ends (d ∷ c ∷ ds) (e ∷ []) p same ends = let bad = (and_parts (same_event d e) false same).1 in cc
@@ -128,9 +126,7 @@ next-burst plan (e ∷ burst) past p none =
     next-burst plan burst (e ∷ past) p parts.1 ∙ next-stays plan past p e (not-true (is_retirement e) parts.0)
 
 lineless-none : (burst : List Event) → list_all is_lineless burst ≡ true → list_all (λ e. not (is_retirement e)) burst ≡ true
-lineless-none [] all = refl
-lineless-none (e ∷ burst) all =
-    let parts = and_parts (is_lineless e) (list_all is_lineless burst) all in and_from _ _ (one e parts.0) (lineless-none burst parts.1)
+lineless-none burst all = all-implied is_lineless (λ e. not (is_retirement e)) one burst all
   where
     one : (e : Event) → is_lineless e ≡ true → not (is_retirement e) ≡ true
     one (Retires q k res) m = cc

@@ -84,20 +84,20 @@ ended-each h past (x ∷ xs) none =
     let ended : is_outstanding h past x ≡ false = ap (λ o. is_transaction o x) (none-outstanding h past x.port x.chan x.id none) in
     and_from _ _ (or_right (not (is_act_transaction x)) (not (is_outstanding h past x)) (ap not ended)) (ended-each h past xs none)
 
-acts-done : (h : Header) (past : Trace) (p : ℕ) → some_issued past (is_outstanding h past) ≡ false → are_acts_done h past p ≡ true
+pub acts-done : (h : Header) (past : Trace) (p : ℕ) → some_issued past (is_outstanding h past) ≡ false → are_acts_done h past p ≡ true
 acts-done h past p none = ended-each h past (segment past p) none
 
--- so what holds beside the acts holds of an operation with acts that is no Sync
-met : (h : Header) (past : Trace) (p : ℕ) (o : Op) → some_issued past (is_outstanding h past) ≡ false → 0 < length (acts_of o) → asks_sync o ≡ false → is_met h past p o ≡ true
-met h past p (Pf a k) none some other = absurd (omega (arith, some))
-met h past p (Wb a) none some other = absurd (omega (arith, some))
-met h past p (Wc a) none some other = absurd (omega (arith, some))
-met h past p (Ev a) none some other = absurd (omega (arith, some))
-met h past p (We a) none some other = absurd (omega (arith, some))
-met h past p (Wu a strobe line) none some other = refl
-met h past p (Wlu a line) none some other = refl
-met h past p (Sync word) none some other = cc
-met h past p o none some other = acts-done h past p none
+-- what holds beside the acts holds where they are done, of an operation with acts that is no Sync
+pub met : (h : Header) (past : Trace) (p : ℕ) (o : Op) → are_acts_done h past p ≡ true → 0 < length (acts_of o) → asks_sync o ≡ false → is_met h past p o ≡ true
+met h past p (Pf a k) done some other = absurd (omega (arith, some))
+met h past p (Wb a) done some other = absurd (omega (arith, some))
+met h past p (Wc a) done some other = absurd (omega (arith, some))
+met h past p (Ev a) done some other = absurd (omega (arith, some))
+met h past p (We a) done some other = absurd (omega (arith, some))
+met h past p (Wu a strobe line) done some other = refl
+met h past p (Wlu a line) done some other = refl
+met h past p (Sync word) done some other = cc
+met h past p o done some other = done
 
 -- ---- step 4 ------------------------------------------------------------------------------------------
 
@@ -117,12 +117,16 @@ retiring-enabled plan past p o next may =
         or_right (has_due plan.header past p) (is_finished (next_operation plan past p) plan.header past p)
         (and_from (not (has_due plan.header past p)) _ (ap not is) ends)
 
--- In a run that follows a right plan and has nothing outstanding, a port that has made an act for its next operation, which is no Sync, is enabled
--- by step 4.
+-- In a run that follows a right plan and has nothing outstanding, an operation of which an act is made, and which is no Sync, may retire with `ok`.
+pub acted-retires : (plan : Plan) (past : Trace) (p : ℕ) (o : Op) → IsRight plan → AreSteps plan past → FollowsSoFar plan past
+    → some_issued past (is_outstanding plan.header past) ≡ false → next_operation plan past p ≡ Some o → 0 < acts_made past p → asks_sync o ≡ false
+    → may_retire plan.header past p o Ok ≡ true
+acted-retires plan past p o right s f none next some other =
+    let all = all-made plan past p o right s f next some in
+    and_from _ _ (eq-eqb (acts_made past p) (length (acts_of o)) all) (met plan.header past p o (acts-done plan.header past p none) (omega (arith, all, some)) other)
+
+-- So its port is enabled by step 4.
 pub acted-enabled : (plan : Plan) (past : Trace) (p : ℕ) (o : Op) → IsRight plan → AreSteps plan past → FollowsSoFar plan past
     → some_issued past (is_outstanding plan.header past) ≡ false → next_operation plan past p ≡ Some o → 0 < acts_made past p → asks_sync o ≡ false
     → is_enabled_by (4 ∷ []) plan past p ≡ true
-acted-enabled plan past p o right s f none next some other =
-    let all = all-made plan past p o right s f next some in
-    retiring-enabled plan past p o next
-    (and_from _ _ (eq-eqb (acts_made past p) (length (acts_of o)) all) (met plan.header past p o none (omega (arith, all, some)) other))
+acted-enabled plan past p o right s f none next some other = retiring-enabled plan past p o next (acted-retires plan past p o right s f none next some other)

@@ -18,8 +18,7 @@ use Rattle.ace_model.specs.Kinds.{is_read_barrier, is_write_barrier}
 use Rattle.ace_model.specs.Trace.{is_some_and}
 use Rattle.ace_model.specs.Transactions.{issued}
 use Rattle.ace_model.proofs.General.Options.{Some-injective}
-use Rattle.ace_runs.specs.Acts.{acts_of, begins_on_reads, begins_on_writes, is_act, is_act_transaction}
-use Rattle.ace_runs.specs.Segments.{is_at_port}
+use Rattle.ace_runs.specs.Acts.{acts_of, begins_on_reads, begins_on_writes}
 use Rattle.ace_runs.proofs.NeverStuck.Barriers.Acts.{is_barrier_operation, not-both, read-act, read-barrier-bar, write-act, write-barrier-bar}
 use Rattle.ace_runs.proofs.NeverStuck.Phases.OneOfTwo.{has_two_acts}
 
@@ -30,17 +29,6 @@ pub any-turn : (tests : List (Event → Bool)) (k : ℕ) (fits : Event → Bool)
 any-turn [] k fits e there t = cc
 any-turn (test ∷ tests) zero fits e there t = or_left (test e) _ (rw (Some-injective test fits there) t)
 any-turn (test ∷ tests) (suc k) fits e there t = or_right (test e) _ (any-turn tests k fits e there t)
-
--- an event that issues a transaction is at its port, and an act where that is one
-pub issued-port : (e : Event) (n p : ℕ) (x : Transaction) → issued n e ≡ Some x → is_at_port p e ≡ (x.port == p)
-issued-port (Ar q i a s d b l) n p x new = ap (λ (v : Transaction). v.port == p) (Some-injective _ x new)
-issued-port (Aw q i a s d b) n p x new = ap (λ (v : Transaction). v.port == p) (Some-injective _ x new)
-issued-port e n p x new = cc
-
-pub issued-act : (e : Event) (n : ℕ) (x : Transaction) → issued n e ≡ Some x → is_act_transaction x ≡ true → is_act e ≡ true
-issued-act (Ar q i a s d b l) n x new t = ap (λ (v : Transaction). is_act_transaction v) (Some-injective _ x new) ∙ t
-issued-act (Aw q i a s d b) n x new t = ap (λ (v : Transaction). is_act_transaction v) (Some-injective _ x new) ∙ t
-issued-act e n x new t = cc
 
 -- ---- acts of barriers --------------------------------------------------------------------------------
 

@@ -1,5 +1,6 @@
 -- A port that has made one act for an operation of two: an event that is no such act leaves it so, or not so, and none retires then.
 use Rattle.std.proofs.Common.{◌≡◌, ℕ, ◌+◌, Bool, true, false, ◌&&◌, ◌==◌, if◌then◌else◌, ◌∷◌, inl, inr, refl, ap, ◌∙◌}
+use Rattle.std.proofs.Math.Bool.{and-false}
 use Rattle.std.proofs.lemmas.Bool.{and_parts, cases_Bool, eqb-true}
 use Rattle.ace_event.specs.declared.event.Event.{Event}
 use Rattle.ace_event.specs.declared.event.Event.TheVariants.{Op as Retires}
@@ -35,6 +36,17 @@ pub one-after : (sort : Op → Bool) (plan : Plan) (past : Trace) (p : ℕ) (e :
 one-after sort plan past p e none =
     ap (λ o. is_some_and o sort && (acts_made (e ∷ past) p == 1)) (next-stays plan past p e none)
     ∙ ap (λ n. is_some_and (next_operation plan past p) sort && (n == 1)) (acts-more past p e none)
+
+-- how it is where the next operation is of the sort or isn't, and so many acts were made for it; and after one more
+pub one-if : (sort : Op → Bool) (plan : Plan) (past : Trace) (p made : ℕ) (is : Bool) → is_some_and (next_operation plan past p) sort ≡ is → acts_made past p ≡ made
+    → one_made sort plan past p ≡ (is && (made == 1))
+one-if sort plan past p made is sorted count = ap (λ b. b && (acts_made past p == 1)) sorted ∙ ap (λ n. is && (n == 1)) count
+
+pub one-then : (sort : Op → Bool) (plan : Plan) (past : Trace) (p : ℕ) (e : Event) (made : ℕ) (is : Bool) → is_retirement e ≡ false → (is_at_port p e && is_act e) ≡ true
+    → is_some_and (next_operation plan past p) sort ≡ is → acts_made past p ≡ made → one_made sort plan (e ∷ past) p ≡ (is && (made + 1 == 1))
+one-then sort plan past p e made is other act sorted count =
+    one-after sort plan past p e other ∙ ap (λ b. b && ((if is_at_port p e && is_act e then acts_made past p + 1 else acts_made past p) == 1)) sorted
+    ∙ ap (λ b. is && ((if b then acts_made past p + 1 else acts_made past p) == 1)) act ∙ ap (λ n. is && (n + 1 == 1)) count
 
 unchanged : (sorted acts : Bool) (made : ℕ) → (acts ≡ true → sorted ≡ false) → (sorted && ((if acts then made + 1 else made) == 1)) ≡ (sorted && (made == 1))
 unchanged false acts made other = refl
@@ -79,10 +91,6 @@ retires-none sort two plan past p k res o =
 pub none-made : (sort : Op → Bool) (plan : Plan) (past : Trace) (p q k : ℕ) (res : Outcome) → (p == q) ≡ true → one_made sort plan (Retires q k res ∷ past) p ≡ false
 none-made sort plan past p q k res t =
     ap (λ n. is_some_and (next_operation plan (Retires q k res ∷ past) p) sort && (n == 1)) (ap (λ b. if b then 0 else acts_made past p) t) ∙ and-false (is_some_and (next_operation plan (Retires q k res ∷ past) p) sort)
-  where
-    and-false : (b : Bool) → (b && false) ≡ false
-    and-false true = refl
-    and-false false = refl
 
 pub other-retires : (sort : Op → Bool) (plan : Plan) (past : Trace) (p q k : ℕ) (res : Outcome) → (p == q) ≡ false → one_made sort plan (Retires q k res ∷ past) p ≡ one_made sort plan past p
 other-retires sort plan past p q k res n = rw n refl

@@ -16,7 +16,7 @@ use Rattle.ace_runs.specs.Follows.{FollowsSoFar}
 use Rattle.ace_runs.specs.Operations.{next_operation}
 use Rattle.ace_runs.specs.Segments.{acts_made}
 use Rattle.ace_runs.specs.Steps.{AreSteps, is_enabled_by}
-use Rattle.ace_runs.proofs.NeverStuck.EnabledBy.{enabled-by-more}
+use Rattle.ace_runs.proofs.NeverStuck.Steps.EnabledBy.{enabled-by-more}
 use Rattle.ace_runs.proofs.NeverStuck.Phases.Finished.{acted-enabled}
 use Rattle.ace_runs.proofs.NeverStuck.Phases.SyncsEnd.{sync-enabled}
 

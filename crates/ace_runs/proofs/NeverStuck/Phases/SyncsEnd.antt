@@ -23,7 +23,7 @@ use Rattle.ace_runs.specs.Retiring.{has_answered_completion, tells_completion, u
 use Rattle.ace_runs.specs.Segments.{acts_made}
 use Rattle.ace_runs.specs.Steps.{AreSteps, is_enabled_by}
 use Rattle.ace_runs.proofs.Turns.{steps-accepted}
-use Rattle.ace_runs.proofs.NeverStuck.EnabledBy.{enabled-by-more}
+use Rattle.ace_runs.proofs.NeverStuck.Steps.EnabledBy.{enabled-by-more}
 use Rattle.ace_runs.proofs.NeverStuck.Messages.OwedCompletions.{none-outstanding}
 use Rattle.ace_runs.proofs.NeverStuck.Phases.Finished.{all-made, retiring-enabled}
 use Rattle.ace_runs.proofs.NeverStuck.Phases.SyncsIssued.{sync-issued}
@@ -36,7 +36,7 @@ past-end xs n none =
       | inr out ↦ out.0
     ]
 
-all-answered : (past : Trace) (p : ℕ) → answered past p ≡ None → unanswered past p ≡ []
+pub all-answered : (past : Trace) (p : ℕ) → answered past p ≡ None → unanswered past p ≡ []
 all-answered past p none = drop_all (answers past p) (snoops_of past p) (past-end (snoops_of past p) (answers past p) none)
 
 -- In a run that follows a right plan and has nothing outstanding, where a Sync of the port that is complete and wasn't told so is told by step 13, a

@@ -19,9 +19,9 @@ use Rattle.ace_runs.specs.Counts.{is_retirement}
 use Rattle.ace_runs.specs.Follows.{FollowsSoFar, obeys}
 use Rattle.ace_runs.specs.Operations.{next_operation}
 use Rattle.ace_runs.specs.Segments.{acts_made, is_at_port}
+use Rattle.ace_runs.proofs.NeverStuck.Phases.IssuedActs.{issued-port}
 use Rattle.ace_runs.proofs.NeverStuck.Messages.IssuedMessages.{next-right}
 use Rattle.ace_runs.proofs.NeverStuck.Phases.BothParts.{waits-as-made}
-use Rattle.ace_runs.proofs.NeverStuck.Phases.Halves.{issued-port}
 use Rattle.ace_runs.proofs.NeverStuck.Phases.NextActs.{acts-more, next-turn}
 use Rattle.ace_runs.proofs.NeverStuck.Phases.Parts.{is_message_pair, message-issued}
 

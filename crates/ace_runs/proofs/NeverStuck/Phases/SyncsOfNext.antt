@@ -33,11 +33,11 @@ use Rattle.ace_runs.specs.Follows.{FollowsSoFar, obeys}
 use Rattle.ace_runs.specs.Operations.{next_operation}
 use Rattle.ace_runs.specs.Retiring.{has_answered_completion, may_retire}
 use Rattle.ace_runs.specs.Segments.{acts_made, is_at_port, is_for_operation, segment}
+use Rattle.ace_runs.proofs.NeverStuck.Phases.IssuedActs.{issued-act, issued-port}
 use Rattle.ace_runs.proofs.NeverStuck.Messages.IssuedMessages.{next-right}
 use Rattle.ace_runs.proofs.NeverStuck.Phases.AnsweredCompletions.{answered-stays, issues_sync, untold-unanswered}
 use Rattle.ace_runs.proofs.NeverStuck.Phases.BothParts.{part-acts, waits-as-made}
 use Rattle.ace_runs.proofs.NeverStuck.Phases.Finished.{asks_sync}
-use Rattle.ace_runs.proofs.NeverStuck.Phases.Halves.{issued-act, issued-port}
 use Rattle.ace_runs.proofs.NeverStuck.Phases.NextActs.{acts-more, next-stays, next-turn, retires-next, segment-more}
 use Rattle.ace_runs.proofs.NeverStuck.Phases.Parts.{is_message_pair, part-of-message, part-word}
 

@@ -1,25 +1,24 @@
 -- Bursts whose transfers are in order: at most the first event is a transfer, and of a line transaction it says what step 8 says.
-use Rattle.std.proofs.Common.{◌≡◌, ℕ, Bool, true, false, ◌&&◌, ◌==◌, List, [], ◌∷◌, Some, refl, sym, ap, subst, ◌∙◌}
+use Rattle.std.proofs.Common.{◌≡◌, ℕ, Bool, true, false, List, [], ◌∷◌, Some, refl, sym, ap, subst, ◌∙◌}
 use Rattle.std.specs.Bool.{⊤}
 use Rattle.std.specs.List.{list_all}
-use Rattle.std.proofs.lemmas.Bool.{and_parts, eqb-true}
+use Rattle.std.proofs.lemmas.Bool.{and_parts}
 use Rattle.ace_event.specs.declared.event.Channel.TheVariants.{Read}
 use Rattle.ace_event.specs.declared.event.Event.{Event}
 use Rattle.ace_event.specs.declared.event.Event.TheVariants.{R}
 use Rattle.ace_event.specs.declared.header.Header.{Header}
-use Rattle.ace_tables.specs.Answers.{same_test}
 use Rattle.ace_model.specs.declared.transactions.Transaction.{Transaction}
 use Rattle.ace_model.specs.Grants.{has_passed_data}
 use Rattle.ace_model.specs.Trace.{Trace, implies}
 use Rattle.ace_model.specs.Transactions.{is_line, is_outstanding, is_read, outstanding}
 use Rattle.ace_model.proofs.General.Options.{Some-injective}
-use Rattle.ace_model.proofs.Trace.Growth.{IsIssued, some_issued-is}
+use Rattle.ace_model.proofs.Trace.Growth.{IsIssued}
 use Rattle.ace_model.proofs.Trace.LineOnce.{outstanding_is}
 use Rattle.ace_model.proofs.Trace.Looks.{is_read-is}
-use Rattle.ace_runs.specs.Bursts.{serves}
 use Rattle.ace_runs.specs.LineSteps.{response_bits, takes_dirt}
 use Rattle.ace_runs.specs.SameEvents.{same_burst, same_event}
-use Rattle.ace_runs.proofs.NeverStuck.StepShapes.{all-as}
+use Rattle.ace_runs.proofs.NeverStuck.Steps.SameBursts.{all-as}
+use Rattle.ace_runs.proofs.NeverStuck.Steps.SameEvents.{TellsSame, same-without, tells-same}
 
 -- no transfer
 abbrev pub is_other : Event → Bool
@@ -46,11 +45,8 @@ others-in-order h past [] m = tt
 others-in-order h past (e ∷ burst) m =
     let parts = and_parts (is_other e) (list_all is_other burst) m in (other-in-order h past e parts.0, parts.1)
 
-pub same-other : (d e : Event) → same_event d e ≡ true → is_other d ≡ is_other e
-same-other (R q j resp last word) (R p i r l w) s = refl
-same-other (R q j resp last word) e s = cc
-same-other d (R p i resp last word) s = cc
-same-other d e s = refl
+pub same-other : TellsSame is_other
+same-other = tells-same is_other (λ p c i line. refl) (λ p a s x line. refl) (λ a line. refl)
 
 -- a burst of a transfer in order and other events
 pub begins-in-order : (h : Header) (past : Trace) (d : Event) (ds burst : List Event) → same_burst (d ∷ ds) burst ≡ true → ((e : Event) → same_event d e ≡ true → IsInOrder h past e)
@@ -62,25 +58,10 @@ begins-in-order h past d ds (e ∷ burst) s each others =
 pub of-none : (h : Header) (past : Trace) (burst : List Event) → same_burst [] burst ≡ true → FirstInOrder h past burst
 of-none h past burst s = others-in-order h past burst (all-as is_other same-other [] burst s refl)
 
--- ---- the transaction that a step serves --------------------------------------------------------------
+-- ---- outstanding reads -----------------------------------------------------------------------------
 
--- An outstanding transaction whose burst a step gives.
-pub record Serving (burst_for : Header → Trace → Transaction → List Event) (h : Header) (past : Trace) (burst : List Event) : Type 0 where
-  pub one : Transaction
-  pub there : IsIssued past one
-  pub out : outstanding h past one.port one.chan one.id ≡ Some one
-  pub gives : same_burst (burst_for h past one) burst ≡ true
-
-pub serving : (burst_for : Header → Trace → Transaction → List Event) (h : Header) (past : Trace) (p : ℕ) (burst : List Event) → serves burst_for h past p burst ≡ true
-    → Serving burst_for h past burst
-serving burst_for h past p burst s =
-    let x = some_issued-is past (λ x. (x.port == p) && is_outstanding h past x && same_burst (burst_for h past x) burst) s in
-    let parts = and_parts ((x.0.port == p) && is_outstanding h past x.0) (same_burst (burst_for h past x.0) burst) x.2 in
-    let is_out = (and_parts (x.0.port == p) (is_outstanding h past x.0) parts.0).1 in
-    record { one = x.0; there = x.1; out = outstanding_is h past x.0 x.1 is_out; gives = parts.1 }
-
-pub read-out : (h : Header) (past : Trace) (x : Transaction) → outstanding h past x.port x.chan x.id ≡ Some x → is_read x.chan ≡ true → outstanding h past x.port Read x.id ≡ Some x
-read-out h past x o reads = subst (λ c. outstanding h past x.port c x.id ≡ Some x) (is_read-is x.chan reads) o
+pub read-out : (h : Header) (past : Trace) (x : Transaction) → IsIssued past x → is_outstanding h past x ≡ true → is_read x.chan ≡ true → outstanding h past x.port Read x.id ≡ Some x
+read-out h past x i out reads = subst (λ c. outstanding h past x.port c x.id ≡ Some x) (is_read-is x.chan reads) (outstanding_is h past x i out)
 
 -- an outstanding transaction under the name of another is that one
 pub same-name : (h : Header) (past : Trace) (x y : Transaction) (p i : ℕ) → outstanding h past y.port Read y.id ≡ Some y → outstanding h past p Read i ≡ Some x
@@ -97,8 +78,5 @@ pub record SameTransfer (q j resp : ℕ) (p i r : ℕ) : Type 0 where
 
 pub same-transfer : (q j resp : ℕ) (last : Bool) (word : ℕ) (p i r : ℕ) (l : Bool) (w : ℕ) → same_event (R q j resp last word) (R p i r l w) ≡ true → SameTransfer q j resp p i r
 same-transfer q j resp last word p i r l w s =
-    let four = and_parts ((q == p) && (j == i) && (resp == r) && same_test last l) (word == w) s in
-    let three = and_parts ((q == p) && (j == i) && (resp == r)) (same_test last l) four.0 in
-    let two = and_parts ((q == p) && (j == i)) (resp == r) three.0 in
-    let one = and_parts (q == p) (j == i) two.0 in
-    record { port = eqb-true q p one.0; id = eqb-true j i one.1; says = eqb-true resp r two.1 }
+    let same : R q j resp last word ≡ R p i r l w = same-without (R q j resp last word) (R p i r l w) s in
+    record { port = cc; id = cc; says = cc }

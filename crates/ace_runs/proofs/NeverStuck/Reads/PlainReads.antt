@@ -1,5 +1,5 @@
 -- The transfer of an outstanding read without a line that isn't complete breaks no rule, but for those on order.
-use Rattle.std.proofs.Common.{◌≡◌, Bool, true, false, not, ◌&&◌, ◌==◌, if◌then◌else◌, [], ◌∷◌, length, Some, refl, sym, ap, subst, ◌∙◌, inl, inr, arith}
+use Rattle.std.proofs.Common.{◌≡◌, Bool, true, false, not, ◌&&◌, ◌==◌, if◌then◌else◌, Some, refl, sym, ap, subst, ◌∙◌, arith}
 use Rattle.std.proofs.lemmas.Bool.{and_parts, and_from, false_from_ne_true}
 use Rattle.ace_codes.specs.Responses.{is_shared, low_bits, passes_dirty}
 use Rattle.ace_codes.specs.declared.kind.ArKind.{ArKind}
@@ -19,12 +19,11 @@ use Rattle.ace_model.specs.Progress.{is_completed}
 use Rattle.ace_model.specs.ReadRules.{fits_kind, has_low_bits, has_upper_bits, has_word, is_due, is_exclusive_okay, is_next_transfer, k18, k19, k20, k21, may_transfer, same_upper_bits}
 use Rattle.ace_model.specs.Replies.{reply_of}
 use Rattle.ace_model.specs.Trace.{Trace, implies, is_none_or, is_some_and}
-use Rattle.ace_model.specs.Transactions.{first_resp, is_ace, is_complete, is_outstanding, issued, outstanding, read_kind, transfers}
+use Rattle.ace_model.specs.Transactions.{first_resp, is_ace, is_complete, is_outstanding, outstanding, read_kind, transfers}
 use Rattle.ace_model.proofs.General.Booleans.{implies-at}
-use Rattle.ace_model.proofs.General.Options.{is_none_or-at}
 use Rattle.ace_model.proofs.Outstanding.Names.{complete_by_name}
 use Rattle.ace_model.proofs.Rules.Keeps.{accepted_keeps}
-use Rattle.ace_model.proofs.Trace.Growth.{IsIssued, issued-cases}
+use Rattle.ace_model.proofs.Trace.Growth.{IsIssued}
 use Rattle.ace_model.proofs.Trace.Issued.{outstanding-named}
 use Rattle.ace_model.proofs.Trace.LineOnce.{outstanding_is}
 use Rattle.ace_model.proofs.Trace.Looks.{is_read-is, read_writes_none}
@@ -34,7 +33,7 @@ use Rattle.ace_runs.proofs.NeverStuck.Reads.PlainTransfers.{no-line}
 use Rattle.ace_runs.proofs.NeverStuck.Reads.ReadsMove.{no-first}
 use Rattle.ace_runs.proofs.NeverStuck.Reads.TransfersKept.{transfer-kept}
 use Rattle.ace_runs.proofs.NeverStuck.Reads.TransfersLeft.{transfers-left}
-use Rattle.ace_runs.proofs.NeverStuck.WriterPorts.{issuer-low}
+use Rattle.ace_runs.proofs.NeverStuck.IssuedTransactions.{issuer-low, issued-by-rule}
 
 -- ---- kinds without a line ----------------------------------------------------------------------------
 
@@ -55,12 +54,7 @@ without-line k none = cc
 
 -- K7, at each transaction of the trace
 lock-allowed : (h : Header) (past : Trace) (x : Transaction) → IsAccepted h past → IsIssued past x → may_lock h x ≡ true
-lock-allowed h [] x a i = let low = i.before in absurd (omega (arith, low))
-lock-allowed h (e ∷ past) x a i =
-    elim (issued-cases e past x i) [
-      | inl new ↦ is_none_or-at (issued (length past) e) (may_lock h) x (accepted_keeps h past e a).rule_7 new
-      | inr old ↦ lock-allowed h past x a.0 old
-    ]
+lock-allowed h past x a i = issued-by-rule (may_lock h) h (λ past e a. (accepted_keeps h past e a).rule_7) past x a i
 
 unlocked : (h : Header) (past : Trace) (x : Transaction) (k : ArKind) → IsAccepted h past → IsIssued past x → read_kind x ≡ Some k → is_line_read k ≡ false → x.lock ≡ false
 unlocked h past x k a i kind none =

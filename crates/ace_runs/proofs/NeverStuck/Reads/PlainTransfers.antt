@@ -23,7 +23,8 @@ use Rattle.ace_model.proofs.Trace.Looks.{is_read-is, read_writes_none}
 use Rattle.ace_model.proofs.Trace.Places.{at_point-last}
 use Rattle.ace_runs.specs.OrderSteps.{barrier_burst, dvm_burst, pair_burst, plain_transfer}
 use Rattle.ace_runs.specs.SameEvents.{same_burst, same_event}
-use Rattle.ace_runs.proofs.NeverStuck.Reads.InOrder.{FirstInOrder, IsInOrder, Serving, begins-in-order, of-none, read-out, same-name, same-transfer}
+use Rattle.ace_runs.proofs.NeverStuck.Steps.Serving.{IsServed}
+use Rattle.ace_runs.proofs.NeverStuck.Reads.InOrder.{FirstInOrder, IsInOrder, begins-in-order, of-none, read-out, same-name, same-transfer}
 
 -- the transfer of a read that is no line transaction
 plain-in-order : (h : Header) (past : Trace) (y : Transaction) (e : Event) → outstanding h past y.port Read y.id ≡ Some y → is_line y ≡ false
@@ -68,15 +69,15 @@ dvm-read x m =
       | inr completion ↦ plain-read is_dvm_complete x completion-no-line completion
     ]
 
-pub dvm-in-order : (h : Header) (past : Trace) (burst : List Event) → Serving dvm_burst h past burst → FirstInOrder h past burst
+pub dvm-in-order : (h : Header) (past : Trace) (burst : List Event) → IsServed dvm_burst h past burst → FirstInOrder h past burst
 dvm-in-order h past burst s =
-    let y = s.one in
+    let y = s.of in
     elim (cases_Bool (is_message_part y || is_dvm_completion y)) [
-      | inr f ↦ of-none h past burst (subst (λ b. same_burst (if b then plain_transfer y ∷ [] else []) burst ≡ true) f s.gives)
+      | inr f ↦ of-none h past burst (subst (λ b. same_burst (if b then plain_transfer y ∷ [] else []) burst ≡ true) f s.same)
       | inl t ↦
           let plain = dvm-read y t in
-          begins-in-order h past (plain_transfer y) [] burst (subst (λ b. same_burst (if b then plain_transfer y ∷ [] else []) burst ≡ true) t s.gives)
-          (λ e same. plain-in-order h past y e (read-out h past y s.out plain.reads) plain.none same) refl
+          begins-in-order h past (plain_transfer y) [] burst (subst (λ b. same_burst (if b then plain_transfer y ∷ [] else []) burst ≡ true) t s.same)
+          (λ e same. plain-in-order h past y e (read-out h past y s.issued s.out plain.reads) plain.none same) refl
     ]
 
 -- a barrier half stands among those of its port at its number
@@ -111,17 +112,17 @@ reads-half past y b i barrier reads is =
     let other = half-there past y.port Read (number_of past y) b.read (pairs-halves past y.port (number_of past y) b is).read in
     Some-injective b.read y (sym other ∙ half-there past y.port Read (number_of past y) y mine)
 
-pub barrier-in-order : (h : Header) (past : Trace) (burst : List Event) → Serving barrier_burst h past burst → FirstInOrder h past burst
+pub barrier-in-order : (h : Header) (past : Trace) (burst : List Event) → IsServed barrier_burst h past burst → FirstInOrder h past burst
 barrier-in-order h past burst s =
-    elim (cases_Bool (is_some_and (read_kind s.one) is_read_barrier)) [
-      | inr f ↦ of-none h past burst (subst (λ b. same_burst (if b then pair_burst (pair_of past s.one) else []) burst ≡ true) f s.gives)
-      | inl t ↦ by (pair_of past s.one) refl t (subst (λ b. same_burst (if b then pair_burst (pair_of past s.one) else []) burst ≡ true) t s.gives)
+    elim (cases_Bool (is_some_and (read_kind s.of) is_read_barrier)) [
+      | inr f ↦ of-none h past burst (subst (λ b. same_burst (if b then pair_burst (pair_of past s.of) else []) burst ≡ true) f s.same)
+      | inl t ↦ by (pair_of past s.of) refl t (subst (λ b. same_burst (if b then pair_burst (pair_of past s.of) else []) burst ≡ true) t s.same)
     ]
   where
-    by : (o : Option Pair) → pair_of past s.one ≡ o → is_some_and (read_kind s.one) is_read_barrier ≡ true → same_burst (pair_burst (pair_of past s.one)) burst ≡ true → FirstInOrder h past burst
+    by : (o : Option Pair) → pair_of past s.of ≡ o → is_some_and (read_kind s.of) is_read_barrier ≡ true → same_burst (pair_burst (pair_of past s.of)) burst ≡ true → FirstInOrder h past burst
     by None is t gives = of-none h past burst (subst (λ o. same_burst (pair_burst o) burst ≡ true) is gives)
     by (Some b) is t gives =
-        let plain = plain-read is_read_barrier s.one barrier-no-line t in
-        let one = reads-half past s.one b s.there t plain.reads is in
+        let plain = plain-read is_read_barrier s.of barrier-no-line t in
+        let one = reads-half past s.of b s.issued t plain.reads is in
         begins-in-order h past (plain_transfer b.read) (B b.write.port b.write.id 0 ∷ []) burst (subst (λ o. same_burst (pair_burst o) burst ≡ true) is gives)
-        (λ e same. plain-in-order h past s.one e (read-out h past s.one s.out plain.reads) plain.none (subst (λ z. same_event (plain_transfer z) e ≡ true) one same)) refl
+        (λ e same. plain-in-order h past s.of e (read-out h past s.of s.issued s.out plain.reads) plain.none (subst (λ z. same_event (plain_transfer z) e ≡ true) one same)) refl

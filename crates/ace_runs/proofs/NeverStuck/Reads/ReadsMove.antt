@@ -26,11 +26,12 @@ use Rattle.ace_runs.specs.Bursts.{may_begin, may_serve}
 use Rattle.ace_runs.specs.LineSteps.{can_take, is_last_beat, next_word, response_bits, takes_dirt, transfer_burst}
 use Rattle.ace_runs.specs.Steps.{AreSteps, is_enabled_by}
 use Rattle.ace_runs.proofs.Turns.{steps-accepted}
+use Rattle.ace_runs.proofs.NeverStuck.Steps.SameEvents.{same_test-self}
 use Rattle.ace_runs.proofs.NeverStuck.Transactions.PassedDataMove.{passed-whole}
-use Rattle.ace_runs.proofs.NeverStuck.UpdatesOrGranted.{HasLine}
-use Rattle.ace_runs.proofs.NeverStuck.WriterPorts.{issuer-low}
+use Rattle.ace_runs.proofs.NeverStuck.Updates.UpdatesOrGranted.{HasLine}
+use Rattle.ace_runs.proofs.NeverStuck.IssuedTransactions.{issuer-low}
 use Rattle.ace_runs.proofs.NeverStuck.Reads.FirstTransfers.{firsts-say}
-use Rattle.ace_runs.proofs.NeverStuck.Reads.TransfersKept.{GoesOn, next-kept, response-says, same_test-self}
+use Rattle.ace_runs.proofs.NeverStuck.Reads.TransfersKept.{GoesOn, next-kept, response-says}
 use Rattle.ace_runs.proofs.NeverStuck.Reads.TransfersLeft.{transfers-left}
 
 -- a read that is granted its line

@@ -1,32 +1,30 @@
 -- The transfers that steps put: a step puts at most one, as its first event, and of a line transaction it is that of step 8.
-use Rattle.std.proofs.Common.{◌≡◌, ℕ, true, not, ◌&&◌, ◌==◌, if◌then◌else◌, List, [], ◌∷◌, ◌++◌, length, map, Option, Some, None, refl, sym, ap, subst, ◌∙◌, inl, inr}
+use Rattle.std.proofs.Common.{◌≡◌, ℕ, true, ◌&&◌, ◌==◌, if◌then◌else◌, List, [], ◌∷◌, length, Some, None, refl, sym, ap, subst, ◌∙◌, inl, inr}
 use Rattle.std.specs.List.{list_all, list_any}
-use Rattle.std.specs.Option.{option_to_list}
 use Rattle.std.proofs.lemmas.Bool.{and_parts, cases_Bool}
 use Rattle.ace_codes.specs.declared.kind.SnoopKind.{SnoopKind}
 use Rattle.ace_event.specs.declared.event.Channel.TheVariants.{Read}
 use Rattle.ace_event.specs.declared.event.Event.{Event}
-use Rattle.ace_event.specs.declared.event.Event.TheVariants.{M, R}
+use Rattle.ace_event.specs.declared.event.Event.TheVariants.{R}
 use Rattle.ace_event.specs.declared.header.Header.{Header}
-use Rattle.ace_event.specs.declared.line.Line.{Line}
 use Rattle.ace_model.specs.declared.transactions.Transaction.{Transaction}
 use Rattle.ace_model.specs.Grants.{has_passed_data}
 use Rattle.ace_model.specs.Plans.{Plan}
-use Rattle.ace_model.specs.Progress.{evicts, updates_memory}
 use Rattle.ace_model.specs.Trace.{Trace, implies, port_of}
-use Rattle.ace_model.specs.Transactions.{is_line, is_read, outstanding, takes_grant}
-use Rattle.ace_model.specs.WriteRules.{data_of}
-use Rattle.ace_runs.specs.LineSteps.{grant_burst, is_first_to_wait, is_last_beat, is_snoop_for, memory_write, next_word, passed_burst, response, response_bits, takes_dirt, transfer_burst, update_burst, write_burst}
+use Rattle.ace_model.specs.Transactions.{is_line, is_read, outstanding}
+use Rattle.ace_runs.specs.LineSteps.{grant_burst, is_last_beat, is_snoop_for, next_word, passed_burst, response_bits, takes_dirt, transfer_burst, update_burst, write_burst}
 use Rattle.ace_runs.specs.MasterSteps.{is_beat}
 use Rattle.ace_runs.specs.Operations.{next_operation}
 use Rattle.ace_runs.specs.OrderSteps.{barrier_burst, dvm_burst, sync_completion}
 use Rattle.ace_runs.specs.SameEvents.{same_burst, same_event}
 use Rattle.ace_runs.specs.Steps.{is_sound, is_step, may_give, steps, steps_of}
 use Rattle.ace_runs.proofs.Turns.{step-kept}
-use Rattle.ace_runs.proofs.NeverStuck.StepEvents.{acknowledges-masters, all-if, answers-answering, goes-on-masters, is_answering, is_masters}
-use Rattle.ace_runs.proofs.NeverStuck.StepShapes.{all-as, forwards-all, of-any, served-all, snoops-all}
-use Rattle.ace_runs.proofs.NeverStuck.WholeAnswers.{all-implied}
-use Rattle.ace_runs.proofs.NeverStuck.Reads.InOrder.{FirstInOrder, IsInOrder, Serving, begins-in-order, is_other, of-none, others-in-order, read-out, same-name, same-other, same-transfer, serving}
+use Rattle.ace_runs.proofs.NeverStuck.Steps.SameBursts.{all-as}
+use Rattle.ace_runs.proofs.NeverStuck.Steps.Lists.{all-implied}
+use Rattle.ace_runs.proofs.NeverStuck.Steps.Serving.{IsServed, grant-all, passed-all, served, served-all, update-all, write-all}
+use Rattle.ace_runs.proofs.NeverStuck.Steps.StepEvents.{acknowledges-masters, answers-answering, goes-on-masters, is_answering, is_masters}
+use Rattle.ace_runs.proofs.NeverStuck.Steps.StepShapes.{forwards-all, of-any, snoops-all}
+use Rattle.ace_runs.proofs.NeverStuck.Reads.InOrder.{FirstInOrder, IsInOrder, begins-in-order, is_other, of-none, others-in-order, read-out, same-name, same-other, same-transfer}
 use Rattle.ace_runs.proofs.NeverStuck.Reads.PlainTransfers.{barrier-in-order, dvm-in-order}
 
 -- ---- events that are no transfers --------------------------------------------------------------------
@@ -51,20 +49,6 @@ beat-other : (q : ℕ) (e : Event) → is_beat q e ≡ true → is_other e ≡ t
 beat-other q (R p i resp last word) m = cc
 beat-other q e m = refl
 
-written-other : (h : Header) (past : Trace) (x : Transaction) → list_all is_other (memory_write h past x) ≡ true
-written-other h past x = by (data_of h past x)
-  where
-    by : (o : Option Line) → list_all is_other (map (λ line. M x.port x.chan x.id line) (option_to_list o)) ≡ true
-    by None = refl
-    by (Some line) = refl
-
-responded-other : (h : Header) (past : Trace) (x : Transaction) → list_all is_other (memory_write h past x ++ response x) ≡ true
-responded-other h past x = by (data_of h past x)
-  where
-    by : (o : Option Line) → list_all is_other (map (λ line. M x.port x.chan x.id line) (option_to_list o) ++ response x) ≡ true
-    by None = refl
-    by (Some line) = refl
-
 -- ---- step 8 ------------------------------------------------------------------------------------------
 
 next-in-order : (h : Header) (past : Trace) (y : Transaction) (e : Event) → outstanding h past y.port Read y.id ≡ Some y → implies (has_passed_data h past y) (takes_dirt h past y) ≡ true
@@ -75,17 +59,17 @@ next-in-order h past y e own takes s p i resp last word x is o line =
     let one = same-name h past x y p i own o same.port same.id in
     (sym same.says ∙ ap (response_bits h past) one, subst (λ z. implies (has_passed_data h past z) (takes_dirt h past z) ≡ true) one takes)
 
-transfer-in-order : (h : Header) (past : Trace) (burst : List Event) → Serving transfer_burst h past burst → FirstInOrder h past burst
+transfer-in-order : (h : Header) (past : Trace) (burst : List Event) → IsServed transfer_burst h past burst → FirstInOrder h past burst
 transfer-in-order h past burst s =
-    let y = s.one in
+    let y = s.of in
     elim (cases_Bool (is_read y.chan && is_line y && implies (has_passed_data h past y) (takes_dirt h past y))) [
-      | inr f ↦ of-none h past burst (subst (λ b. same_burst (if b then R y.port y.id (response_bits h past y) (is_last_beat past y) (next_word past y) ∷ [] else []) burst ≡ true) f s.gives)
+      | inr f ↦ of-none h past burst (subst (λ b. same_burst (if b then R y.port y.id (response_bits h past y) (is_last_beat past y) (next_word past y) ∷ [] else []) burst ≡ true) f s.same)
       | inl t ↦
           let parts = and_parts (is_read y.chan && is_line y) (implies (has_passed_data h past y) (takes_dirt h past y)) t in
           let reads = (and_parts (is_read y.chan) (is_line y) parts.0).0 in
           begins-in-order h past (R y.port y.id (response_bits h past y) (is_last_beat past y) (next_word past y)) [] burst
-          (subst (λ b. same_burst (if b then R y.port y.id (response_bits h past y) (is_last_beat past y) (next_word past y) ∷ [] else []) burst ≡ true) t s.gives)
-          (λ e same. next-in-order h past y e (read-out h past y s.out reads) parts.1 same) refl
+          (subst (λ b. same_burst (if b then R y.port y.id (response_bits h past y) (is_last_beat past y) (next_word past y) ∷ [] else []) burst ≡ true) t s.same)
+          (λ e same. next-in-order h past y e (read-out h past y s.issued s.out reads) parts.1 same) refl
     ]
 
 -- ---- all steps ---------------------------------------------------------------------------------------
@@ -103,25 +87,25 @@ step-in-order plan past p burst s =
       (
         (λ g. others (all-implied (is_beat p) is_other (beat-other p) burst (and_parts (list_all (is_beat p) burst) (length burst == 4) g).0)),
         (
-          (λ g. others (served-all is_other same-other update_burst h past p burst (λ x. all-if is_other (updates_memory x) _ _ (responded-other h past x) (all-if is_other (evicts x) (response x) [] refl refl)) g)),
+          (λ g. others (served-all is_other same-other update_burst h past p burst (update-all is_other (λ q c i line. refl) (λ q i resp. refl) h past) g)),
           (
             (λ g. others (all-implied is_masters is_other masters-other burst (acknowledges-masters next h past p burst g))),
             (
-              (λ g. others (served-all is_other same-other grant_burst h past p burst (λ x. all-if is_other (takes_grant x && is_first_to_wait h past x) _ [] refl refl) g)),
+              (λ g. others (served-all is_other same-other grant_burst h past p burst (grant-all is_other (λ q c i. refl) h past) g)),
               (
                 (λ g. others (snoops-all is_other snoop-other h past p burst g)),
                 (
-                  (λ g. others (served-all is_other same-other passed_burst h past p burst (λ x. all-if is_other (is_read x.chan && has_passed_data h past x && not (takes_dirt h past x)) _ [] (written-other h past x) refl) g)),
+                  (λ g. others (served-all is_other same-other passed_burst h past p burst (passed-all is_other (λ q c i line. refl) h past) g)),
                   (
-                    (λ g. transfer-in-order h past burst (serving transfer_burst h past p burst g)),
+                    (λ g. transfer-in-order h past burst (served transfer_burst h past p burst g)),
                     (
-                      (λ g. others (served-all is_other same-other write_burst h past p burst (λ x. all-if is_other (not (is_read x.chan) && takes_grant x) _ [] (responded-other h past x) refl) g)),
+                      (λ g. others (served-all is_other same-other write_burst h past p burst (write-all is_other (λ q c i line. refl) (λ q i resp. refl) h past) g)),
                       (
-                        (λ g. barrier-in-order h past burst (serving barrier_burst h past p burst g)),
+                        (λ g. barrier-in-order h past burst (served barrier_burst h past p burst g)),
                         (
                           (λ g. others (forwards-all is_other same-other portless-other (λ q addr snoop. refl) h past p burst kept_all g)),
                           (
-                            (λ g. dvm-in-order h past burst (serving dvm_burst h past p burst g)),
+                            (λ g. dvm-in-order h past burst (served dvm_burst h past p burst g)),
                             (
                               (λ g. others (all-as is_other same-other (sync_completion p) burst g refl)),
                               ((λ g. others (all-implied is_masters is_other masters-other burst (goes-on-masters plan.ways next h past p burst g))), tt),

@@ -23,16 +23,13 @@ use Rattle.ace_model.proofs.General.Booleans.{each_flags, same_test-at}
 use Rattle.ace_model.proofs.Trace.Looks.{read_writes_none}
 use Rattle.ace_runs.specs.Bursts.{is_kept}
 use Rattle.ace_runs.specs.LineSteps.{bit_if, can_take, is_last_beat, next_word, response_bits}
+use Rattle.ace_runs.proofs.NeverStuck.Steps.SameEvents.{same_test-self}
 
 -- ---- booleans ----------------------------------------------------------------------------------------
 
 pub implied_by : (a b : Bool) → (a ≡ true → b ≡ true) → implies a b ≡ true
 implied_by true b t = t refl
 implied_by false b t = refl
-
-pub same_test-self : (a : Bool) → same_test a a ≡ true
-same_test-self true = refl
-same_test-self false = refl
 
 eight-kept : (a b c d e f g i : Bool) → a ≡ true → b ≡ true → c ≡ true → d ≡ true → e ≡ true → f ≡ true → g ≡ true → i ≡ true
     → is_none {T = ℕ} (if a then (if b then (if c then (if d then (if e then (if f then (if g then (if i then None else Some 37) else Some 34) else Some 21) else Some 20) else Some 19) else Some 18) else Some 2) else Some 1) ≡ true

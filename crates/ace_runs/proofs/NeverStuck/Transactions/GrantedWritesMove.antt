@@ -18,10 +18,11 @@ use Rattle.ace_runs.specs.Bursts.{may_begin, may_serve}
 use Rattle.ace_runs.specs.LineSteps.{memory_write, response, write_burst}
 use Rattle.ace_runs.specs.Steps.{AreSteps, is_enabled_by}
 use Rattle.ace_runs.proofs.Turns.{steps-accepted}
-use Rattle.ace_runs.proofs.NeverStuck.UpdatesMove.{data-there, same-line-self, write-kept}
-use Rattle.ace_runs.proofs.NeverStuck.UpdatesOrGranted.{HasLine}
-use Rattle.ace_runs.proofs.NeverStuck.WriterPorts.{issuer-low}
-use Rattle.ace_runs.proofs.NeverStuck.WritesAnswered.{writes-answered}
+use Rattle.ace_runs.proofs.NeverStuck.Steps.SameEvents.{same-line-self}
+use Rattle.ace_runs.proofs.NeverStuck.Updates.UpdatesMove.{data-there, write-kept}
+use Rattle.ace_runs.proofs.NeverStuck.Updates.UpdatesOrGranted.{HasLine}
+use Rattle.ace_runs.proofs.NeverStuck.IssuedTransactions.{issuer-low}
+use Rattle.ace_runs.proofs.NeverStuck.Data.WritesAnswered.{writes-answered}
 
 -- a write that isn't complete has written no memory
 pub undone-unwritten : (plan : Plan) (past : Trace) (x : Transaction) → AreSteps plan past → is_read x.chan ≡ false → is_complete past x.port x.chan x.id ≡ false

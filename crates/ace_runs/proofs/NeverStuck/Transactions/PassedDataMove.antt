@@ -22,10 +22,11 @@ use Rattle.ace_runs.specs.Bursts.{may_begin, may_serve}
 use Rattle.ace_runs.specs.LineSteps.{memory_write, passed_burst, takes_dirt}
 use Rattle.ace_runs.specs.Steps.{AreSteps, is_enabled_by}
 use Rattle.ace_runs.proofs.Turns.{steps-accepted}
-use Rattle.ace_runs.proofs.NeverStuck.NoDataOwed.{no-data-owed}
-use Rattle.ace_runs.proofs.NeverStuck.UpdatesMove.{same-line-self, write-kept}
-use Rattle.ace_runs.proofs.NeverStuck.UpdatesOrGranted.{HasLine}
-use Rattle.ace_runs.proofs.NeverStuck.WriterPorts.{issuer-low}
+use Rattle.ace_runs.proofs.NeverStuck.Steps.SameEvents.{same-line-self}
+use Rattle.ace_runs.proofs.NeverStuck.Data.NoDataOwed.{no-data-owed}
+use Rattle.ace_runs.proofs.NeverStuck.Updates.UpdatesMove.{write-kept}
+use Rattle.ace_runs.proofs.NeverStuck.Updates.UpdatesOrGranted.{HasLine}
+use Rattle.ace_runs.proofs.NeverStuck.IssuedTransactions.{issuer-low}
 
 -- the passed data of the granted transaction
 passed-there : (h : Header) (past : Trace) (x : Transaction) → granted h past x.addr ≡ Some x → has_passed_data h past x ≡ true

@@ -1,63 +1,31 @@
 -- The snoop of a granted transaction, of another ACE port that wasn't snooped under its grant, breaks no rule where the port awaits no WK of a
 -- write of the line and its next part of a message is no second one.
-use Rattle.std.proofs.Common.{◌≡◌, ℕ, Bool, true, false, not, ◌&&◌, ◌||◌, ◌==◌, nat_lt, if◌then◌else◌, [], ◌∷◌, length, Option, Some, None, is_none, is_some, refl, ap, ◌∙◌, inl, inr, arith}
-use Rattle.std.proofs.lemmas.Bool.{and_parts, and_from, cases_Bool, eq-eqb, or_right}
+use Rattle.std.proofs.Common.{◌≡◌, ℕ, Bool, true, false, not, ◌&&◌, ◌==◌, nat_lt, if◌then◌else◌, Option, Some, None, is_none, is_some, refl, ap, ◌∙◌}
+use Rattle.std.proofs.lemmas.Bool.{and_parts, and_from, eq-eqb, or_right}
 use Rattle.ace_codes.specs.declared.kind.SnoopKind.{SnoopKind}
-use Rattle.ace_codes.specs.Reads.{ar_kind_of}
 use Rattle.ace_codes.specs.Snoops.{ac_code}
-use Rattle.ace_codes.specs.Writes.{aw_kind_of}
-use Rattle.ace_event.specs.declared.event.Event.{Event}
-use Rattle.ace_event.specs.declared.event.Event.TheVariants.{Ac, Ar, Aw}
+use Rattle.ace_event.specs.declared.event.Event.TheVariants.{Ac}
 use Rattle.ace_event.specs.declared.header.Header.{Header}
 use Rattle.ace_model.specs.declared.transactions.Transaction.{Transaction}
 use Rattle.ace_model.specs.Accepted.{IsAccepted}
 use Rattle.ace_model.specs.AddressRules.{is_aligned, k1, k2, k3}
 use Rattle.ace_model.specs.Exclusives.{has_failed}
 use Rattle.ace_model.specs.Grants.{granted, is_begun, was_snooped}
-use Rattle.ace_model.specs.Kinds.{is_line_read, is_line_snoop, is_line_write}
+use Rattle.ace_model.specs.Kinds.{is_line_snoop}
 use Rattle.ace_model.specs.Messages.{is_second_part, next_part}
 use Rattle.ace_model.specs.OrderRules.{completes_next, forwards_next, k36, k39}
 use Rattle.ace_model.specs.SnoopRules.{has_snoop_code, k13, may_snoop, may_snoop_for}
 use Rattle.ace_model.specs.Snoops.{snoops_a_line}
 use Rattle.ace_model.specs.States.{owes_wack}
-use Rattle.ace_model.specs.Trace.{Trace, implies, is_none_or, is_some_and}
-use Rattle.ace_model.specs.Transactions.{is_ace, is_line, issued, snoop_of}
-use Rattle.ace_model.proofs.General.Booleans.{implies-at}
-use Rattle.ace_model.proofs.General.Options.{is_none_or-at}
-use Rattle.ace_model.proofs.Rules.Keeps.{accepted_keeps}
+use Rattle.ace_model.specs.Trace.{Trace, is_none_or, is_some_and}
+use Rattle.ace_model.specs.Transactions.{is_ace, is_line, snoop_of}
 use Rattle.ace_model.proofs.Tables.ReadSnoops.{kind_of_code}
-use Rattle.ace_model.proofs.Trace.Growth.{IsIssued, issued-cases}
+use Rattle.ace_model.proofs.Trace.Growth.{IsIssued}
 use Rattle.ace_runs.specs.Bursts.{is_kept}
 use Rattle.ace_runs.specs.LineSteps.{snoop_for}
-use Rattle.ace_runs.proofs.NeverStuck.WholeAnswers.{line-not-complete}
+use Rattle.ace_runs.proofs.NeverStuck.IssuedTransactions.{line-aligned}
+use Rattle.ace_runs.proofs.NeverStuck.Data.WholeAnswers.{line-not-complete}
 use Rattle.ace_runs.proofs.NeverStuck.Forwarding.Steps.{caused-line, line-no-message}
-
--- ---- the address of a line ---------------------------------------------------------------------------
-
-aligned-if : (b : Bool) (addr : ℕ) → (is_none_or (if b then Some addr else None) is_aligned && true) ≡ true → implies (b || false) (is_aligned addr) ≡ true
-aligned-if true addr k = (and_parts (is_aligned addr) true k).0
-aligned-if false addr k = refl
-
-aligned-by-rule : (h : Header) (past : Trace) (e : Event) (n : ℕ) → k3 h past e ≡ true → is_none_or (issued n e) (λ x. implies (is_line x) (is_aligned x.addr)) ≡ true
-aligned-by-rule h past (Ar p i addr snoop dom bar lock) n k = aligned-if (is_some_and (ar_kind_of snoop dom bar) is_line_read) addr k
-aligned-by-rule h past (Aw p i addr snoop dom bar) n k =
-    let of = aligned-if (is_some_and (aw_kind_of snoop dom bar) is_line_write) addr k in
-    elim (cases_Bool (is_some_and (aw_kind_of snoop dom bar) is_line_write)) [
-      | inl t ↦ rw t (rw t at of)
-      | inr f ↦ rw f refl
-    ]
-aligned-by-rule h past e n k = refl
-
--- the address of a line transaction is that of a line
-line-aligned : (h : Header) (past : Trace) (x : Transaction) → IsAccepted h past → IsIssued past x → is_line x ≡ true → is_aligned x.addr ≡ true
-line-aligned h [] x a i line = let low = i.before in absurd (omega (arith, low))
-line-aligned h (e ∷ past) x a i line =
-    elim (issued-cases e past x i) [
-      | inl new ↦
-          implies-at (is_line x) (is_aligned x.addr)
-          (is_none_or-at (issued (length past) e) (λ x. implies (is_line x) (is_aligned x.addr)) x (aligned-by-rule h past e (length past) (accepted_keeps h past e a).rule_3) new) line
-      | inr old ↦ line-aligned h past x a.0 old line
-    ]
 
 -- ---- the rules that look at a snoop ------------------------------------------------------------------
 

@@ -23,10 +23,10 @@ use Rattle.ace_runs.specs.Steps.{AreSteps, is_enabled_by}
 use Rattle.ace_runs.proofs.Few.Queues.{eqb-swap}
 use Rattle.ace_runs.proofs.Turns.{steps-accepted}
 use Rattle.ace_runs.proofs.NeverStuck.Complete.{complete-enabled}
-use Rattle.ace_runs.proofs.NeverStuck.EnabledBy.{enabled-by-more}
-use Rattle.ace_runs.proofs.NeverStuck.NoDataOwed.{no-data-owed}
-use Rattle.ace_runs.proofs.NeverStuck.UpdatesOrGranted.{HasLine}
-use Rattle.ace_runs.proofs.NeverStuck.WriterPorts.{issuer-low}
+use Rattle.ace_runs.proofs.NeverStuck.Steps.EnabledBy.{enabled-by-more}
+use Rattle.ace_runs.proofs.NeverStuck.Data.NoDataOwed.{no-data-owed}
+use Rattle.ace_runs.proofs.NeverStuck.Updates.UpdatesOrGranted.{HasLine}
+use Rattle.ace_runs.proofs.NeverStuck.IssuedTransactions.{issuer-low}
 use Rattle.ace_runs.proofs.NeverStuck.Forwarding.Whole.{next-not-second}
 use Rattle.ace_runs.proofs.NeverStuck.Transactions.SnoopsKept.{MaySnoop, snoop-kept}
 use Rattle.ace_runs.proofs.NeverStuck.Transactions.Unanswered.{answered-all}

@@ -23,14 +23,14 @@ use Rattle.ace_runs.specs.LineSteps.{takes_dirt}
 use Rattle.ace_runs.specs.Steps.{AreSteps, is_enabled_by}
 use Rattle.ace_runs.proofs.Turns.{steps-accepted}
 use Rattle.ace_runs.proofs.NeverStuck.Complete.{complete-enabled}
-use Rattle.ace_runs.proofs.NeverStuck.EnabledBy.{are_among, enabled-by-more}
-use Rattle.ace_runs.proofs.NeverStuck.EvictsMove.{evict-moves}
+use Rattle.ace_runs.proofs.NeverStuck.Steps.EnabledBy.{are_among, enabled-by-more}
+use Rattle.ace_runs.proofs.NeverStuck.Updates.EvictsMove.{evict-moves}
 use Rattle.ace_runs.proofs.NeverStuck.Transactions.GrantedWritesMove.{granted-write-moves, undone-unwritten}
 use Rattle.ace_runs.proofs.NeverStuck.Transactions.PassedDataMove.{passed-data-move}
 use Rattle.ace_runs.proofs.NeverStuck.Reads.ReadsMove.{begun-read-moves, unbegun-read-moves}
 use Rattle.ace_runs.proofs.NeverStuck.Transactions.UnsentBursts.{unsent-burst-enabled}
-use Rattle.ace_runs.proofs.NeverStuck.UpdatesOrGranted.{HasLine, granted-there, update-or-granted}
-use Rattle.ace_runs.proofs.NeverStuck.WriterPorts.{issuer-low}
+use Rattle.ace_runs.proofs.NeverStuck.Updates.UpdatesOrGranted.{HasLine, granted-there, update-or-granted}
+use Rattle.ace_runs.proofs.NeverStuck.IssuedTransactions.{issuer-low}
 use Rattle.ace_runs.proofs.NeverStuck.Transactions.SnoopsMove.{snoops-move}
 
 -- ---- the cases ---------------------------------------------------------------------------------------

@@ -10,7 +10,7 @@ use Rattle.ace_model.specs.Writes.{is_burst_whole}
 use Rattle.ace_model.proofs.Trace.Growth.{IsIssued}
 use Rattle.ace_runs.specs.MasterSteps.{may_send}
 use Rattle.ace_runs.specs.Steps.{AreSteps, is_enabled_by}
-use Rattle.ace_runs.proofs.NeverStuck.UpdatesMove.{may-send}
+use Rattle.ace_runs.proofs.NeverStuck.Updates.UpdatesMove.{may-send}
 
 pub unsent-burst-enabled : (plan : Plan) (past : Trace) (x : Transaction) → AreSteps plan past → IsIssued past x
     → is_some_and (write_kind x) has_write_data ≡ true → is_burst_whole past x ≡ false → is_enabled_by (2 ∷ []) plan past x.port ≡ true
