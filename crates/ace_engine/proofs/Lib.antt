@@ -4,3 +4,5 @@ pub mod LongerPlans
 pub mod EnabledBySteps
 -- An element of a burst is one of its array.
 pub mod Taken
+-- No event is one that steps of two engines give.
+pub mod OwnEvents
