@@ -29,10 +29,11 @@ use Rattle.ace_model.proofs.Trace.LineOnce.{outstanding_is}
 use Rattle.ace_model.proofs.Trace.Looks.{is_write-is}
 use Rattle.ace_runs.specs.Bursts.{is_kept, may_begin, may_serve}
 use Rattle.ace_runs.specs.LineSteps.{memory_write, response, update_burst}
-use Rattle.ace_runs.proofs.NeverStuck.EvictsMove.{evict-no-data, evicts-no-half, evicts-write, may-answer-evict}
-use Rattle.ace_runs.proofs.NeverStuck.StepShapes.{updates_write}
-use Rattle.ace_runs.proofs.NeverStuck.UpdatesMove.{data-there, same-line-self, sends-data}
-use Rattle.ace_runs.proofs.NeverStuck.WriterPorts.{issuer-low}
+use Rattle.ace_runs.proofs.NeverStuck.Updates.EvictsMove.{evict-no-data, evicts-no-half, evicts-write, may-answer-evict}
+use Rattle.ace_runs.proofs.NeverStuck.Steps.StepShapes.{updates_write}
+use Rattle.ace_runs.proofs.NeverStuck.Steps.SameEvents.{same-line-self}
+use Rattle.ace_runs.proofs.NeverStuck.Updates.UpdatesMove.{data-there, sends-data}
+use Rattle.ace_runs.proofs.NeverStuck.IssuedTransactions.{issuer-low}
 use Rattle.ace_portck.specs.Pending.{is_pending, pending_of}
 use Rattle.ace_portck.specs.Targets.{data_of_write as data_sent}
 use Rattle.ace_update.specs.Passed.{has_passed_on}

@@ -32,10 +32,11 @@ use Rattle.ace_runs.specs.SameEvents.{same_burst}
 use Rattle.ace_runs.specs.Segments.{is_at_port}
 use Rattle.ace_runs.specs.Steps.{is_sound, is_step_by}
 use Rattle.ace_runs.proofs.Accepting.{kept-breaks-none}
-use Rattle.ace_runs.proofs.NeverStuck.EvictsMove.{may-answer-evict, response-kept}
-use Rattle.ace_runs.proofs.NeverStuck.StepShapes.{updates_write}
-use Rattle.ace_runs.proofs.NeverStuck.UpdatesMove.{data-there, same-line-self, sends-data}
-use Rattle.ace_runs.proofs.NeverStuck.WriterPorts.{issuer-low}
+use Rattle.ace_runs.proofs.NeverStuck.Updates.EvictsMove.{may-answer-evict, response-kept}
+use Rattle.ace_runs.proofs.NeverStuck.Steps.StepShapes.{updates_write}
+use Rattle.ace_runs.proofs.NeverStuck.Steps.SameEvents.{same-line-self}
+use Rattle.ace_runs.proofs.NeverStuck.Updates.UpdatesMove.{data-there, sends-data}
+use Rattle.ace_runs.proofs.NeverStuck.IssuedTransactions.{issuer-low}
 use Rattle.ace_engine.specs.Engines.{IsLegal}
 use Rattle.ace_portck.specs.declared.target.WriteData.{WriteData}
 use Rattle.ace_portck.specs.Targets.{data_of_write as data_sent}
