@@ -21,3 +21,5 @@ pub mod Whole
 pub mod Bound
 -- How many snoops each port has, and how many lines are granted.
 pub mod EachPort
+-- How many lines a trace names.
+pub mod KnownLines

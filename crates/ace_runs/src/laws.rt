@@ -1,6 +1,6 @@
 //! Laws of runs. These functions do no work: what they promise is the law.
 
-ghost use Rattle.std.specs.Prelude.{◌≡◌, ◌↔◌, ◌≤◌, ◌<◌, ◌*◌, ◌⊎◌, ◌&&◌, ◌||◌, ℕ, true, false, List, [], ◌∷◌, Some, None, length};
+ghost use Rattle.std.specs.Prelude.{◌≡◌, ◌↔◌, ◌≤◌, ◌<◌, ◌*◌, ◌⊎◌, ◌&&◌, ◌||◌, ℕ, true, false, List, [], ◌∷◌, Some, None, is_some, length};
 ghost use Rattle.std.specs.List.{list_any};
 ghost use Rattle.ace_event.specs.declared.event.Channel.{Channel};
 ghost use Rattle.ace_event.specs.declared.event.Channel.TheVariants.{Read, Write};
@@ -11,9 +11,10 @@ ghost use Rattle.ace_model.specs.declared.snoops.Snoop.{Snoop};
 ghost use Rattle.ace_model.specs.declared.transactions.Transaction.{Transaction};
 ghost use Rattle.ace_model.specs.Accepted.{IsAccepted};
 ghost use Rattle.ace_model.specs.Grants.{is_granted, ports_below};
+ghost use Rattle.ace_model.specs.Lines.{known_lines};
 ghost use Rattle.ace_model.specs.Progress.{evicts, has_update, updates_memory};
 ghost use Rattle.ace_model.specs.Snoops.{answered, snoops_a_line, snoops_of};
-ghost use Rattle.ace_model.specs.Trace.{Trace};
+ghost use Rattle.ace_model.specs.Trace.{Trace, port_of};
 ghost use Rattle.ace_model.specs.Transactions.{is_complete, is_outstanding, outstanding, some_issued};
 ghost use Rattle.ace_model.specs.Plans.{Plan, IsRight};
 ghost use Rattle.ace_runs.specs.Operations.{with_more};
@@ -134,6 +135,16 @@ pub fn few_snoops_for_each_transaction()
 pub fn few_snoops_of_each_port()
     ensures { (plan : Plan) (past : Trace) (p : ℕ) → IsAccepted plan.header past → FollowsSoFar plan past → IsLean plan past
         → length (snoops_of past p) ≤ length plan.operations * 6 }
+{}
+
+/// A lean trace names at most as many lines as its plan has operations.
+pub fn few_lines_of_a_plan()
+    ensures { (plan : Plan) (past : Trace) → IsLean plan past → length (known_lines past) ≤ length plan.operations }
+{}
+
+/// In an accepted trace of a right plan each event names a port: none is a MEM.
+pub fn each_event_names_a_port()
+    ensures { (plan : Plan) (past : Trace) (e : Event) → IsRight plan → IsAccepted plan.header (e ∷ past) → is_some (port_of e) ≡ true }
 {}
 
 /// A trace that is accepted, follows a right plan so far and is lean has at most 256 events for each operation of the plan.

@@ -30,7 +30,7 @@ use Rattle.ace_runs.proofs.NeverStuck.IssuedTransactions.{issuer-low}
 use Rattle.ace_runs.proofs.NeverStuck.Barriers.HoldNone.{past-barriers}
 
 -- of the rules that look at a grant three can be broken
-grant-kept : (h : Header) (past : Trace) (p : ℕ) (c : Channel) (i : ℕ) → k1 h past (G p c i) ≡ true → k12 h past (G p c i) ≡ true → k35 h past (G p c i) ≡ true
+pub grant-kept : (h : Header) (past : Trace) (p : ℕ) (c : Channel) (i : ℕ) → k1 h past (G p c i) ≡ true → k12 h past (G p c i) ≡ true → k35 h past (G p c i) ≡ true
     → is_kept h past (G p c i) ≡ true
 unfolding is_kept
 grant-kept h past p c i one may order = three-kept (k1 h past (G p c i)) (k12 h past (G p c i)) (k35 h past (G p c i)) 1 12 35 one may order

@@ -29,7 +29,7 @@ use Rattle.ace_runs.proofs.NeverStuck.Updates.UpdatesOrGranted.{HasLine}
 use Rattle.ace_runs.proofs.NeverStuck.IssuedTransactions.{issuer-low}
 
 -- the passed data of the granted transaction
-passed-there : (h : Header) (past : Trace) (x : Transaction) → granted h past x.addr ≡ Some x → has_passed_data h past x ≡ true
+pub passed-there : (h : Header) (past : Trace) (x : Transaction) → granted h past x.addr ≡ Some x → has_passed_data h past x ≡ true
     → (d : Line) × (passed_data h past x.addr ≡ Some d)
 passed-there h past x g has =
     let some = (and_parts (is_granted h past x) (is_some (passer h past x.addr)) (and_parts (is_granted h past x && is_some (passer h past x.addr)) _ has).0).1 in

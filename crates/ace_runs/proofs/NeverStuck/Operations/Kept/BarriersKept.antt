@@ -29,7 +29,6 @@ use Rattle.ace_runs.specs.Bursts.{is_kept}
 use Rattle.ace_runs.specs.Requests.{is_free}
 use Rattle.ace_runs.proofs.NeverStuck.Barriers.BothAnswered.{undone-outstanding}
 use Rattle.ace_runs.proofs.NeverStuck.Barriers.DoneBefore.{completed-grown}
-use Rattle.ace_runs.proofs.NeverStuck.Barriers.Together.{AreTogether}
 use Rattle.ace_runs.proofs.NeverStuck.Operations.Kept.AsksKept.{ar-kept, aw-kept, implies-none, implies-right}
 
 -- ---- kinds -------------------------------------------------------------------------------------------
@@ -41,11 +40,11 @@ by-bar P bar b one three =
       | inr t ↦ subst P (sym (eqb-true bar 3 t)) three
     ]
 
-read-half : (bar : ℕ) → is_barrier bar ≡ true → ar_kind_of (ar_code read.Barrier) 1 bar ≡ Some read.Barrier
+pub read-half : (bar : ℕ) → is_barrier bar ≡ true → ar_kind_of (ar_code read.Barrier) 1 bar ≡ Some read.Barrier
 unfolding ar_kind_of
 read-half bar b = by-bar (λ n. ar_kind_of 0 1 n ≡ Some read.Barrier) bar b refl refl
 
-write-half : (bar : ℕ) → is_barrier bar ≡ true → aw_kind_of (aw_code write.Barrier) 1 bar ≡ Some write.Barrier
+pub write-half : (bar : ℕ) → is_barrier bar ≡ true → aw_kind_of (aw_code write.Barrier) 1 bar ≡ Some write.Barrier
 unfolding aw_kind_of
 write-half bar b = by-bar (λ n. aw_kind_of 0 1 n ≡ Some write.Barrier) bar b refl refl
 
@@ -81,7 +80,7 @@ at-end past = at_point-end past (length past) refl
 abbrev pub HasNoHalf : Header → Trace → ℕ → Type 0
 HasNoHalf h past p = (x : Transaction) → IsIssued past x → is_barrier_half x ≡ true → x.port ≡ p → is_outstanding h past x ≡ false
 
-module _ (h : Header) (past : Trace) (p : ℕ) (accepted : IsAccepted h past) (together : AreTogether past) (low : nat_lt p h.ports ≡ true) (no_half : HasNoHalf h past p) where
+module _ (h : Header) (past : Trace) (p : ℕ) (accepted : IsAccepted h past) (many : length (barriers past p Read) ≡ length (barriers past p Write)) (low : nat_lt p h.ports ≡ true) (no_half : HasNoHalf h past p) where
   half-done : (x : Transaction) (c : Channel) (k : ℕ) → IsHalf past p c k x → is_completed past x ≡ true
   half-done x c k half =
       elim (cases_Bool (is_completed past x)) [
@@ -102,7 +101,7 @@ module _ (h : Header) (past : Trace) (p : ℕ) (accepted : IsAccepted h past) (t
       → are_complete now p (length (barriers past p Read)) ≡ true
   all-complete now same grown =
       let n = length (barriers past p Read) in
-      let long : n ≤ length (pairs now p) = let l = paired-length (barriers past p Read) (barriers past p Write) (together.as_many p) in let s = ap length same in omega (arith, l, s) in
+      let long : n ≤ length (pairs now p) = let l = paired-length (barriers past p Read) (barriers past p Write) many in let s = ap length same in omega (arith, l, s) in
       let each : list_all (is_pair_complete now) (pairs now p) ≡ true =
       subst (λ bs. list_all (is_pair_complete now) bs ≡ true) (sym same)
       (all-from (is_pair_complete now) (pairs past p) (λ k b there. let done = and_parts (is_completed past b.read) (is_completed past b.write) (pair-done k b there) in
@@ -135,7 +134,7 @@ module _ (h : Header) (past : Trace) (p : ℕ) (accepted : IsAccepted h past) (t
     read-begins =
         let complete : are_complete past p (number_of past half_read) ≡ true = ap (are_complete past p) read-number ∙ all-complete past refl (λ x done. done) in
         let alone : partner_of past half_read ≡ None =
-        ap (slice_get (barriers past p Write)) read-number ∙ none-past (barriers past p Write) (length (barriers past p Read)) (let same = together.as_many p in omega (arith, same)) in
+        ap (slice_get (barriers past p Write)) read-number ∙ none-past (barriers past p Write) (length (barriers past p Read)) (let same = many in omega (arith, same)) in
         and_from _ _ (and_from _ _ refl complete) (ap (λ o. is_none_or o (is_like_half half_read)) alone)
 
     pub read-half-kept : is_free h past p Read i ≡ true → is_kept h past first ≡ true
@@ -171,10 +170,10 @@ module _ (h : Header) (past : Trace) (p : ℕ) (accepted : IsAccepted h past) (t
     pairs-now : pairs now p ≡ pairs past p
     pairs-now =
         ap (λ rs. paired rs (barriers now p Write)) reads-now ∙ ap (paired (barriers past p Read ++ half_read ∷ [])) writes-now
-        ∙ paired-more (barriers past p Read) (barriers past p Write) half_read (together.as_many p)
+        ∙ paired-more (barriers past p Read) (barriers past p Write) half_read many
 
     write-number : number_of now half_written ≡ length (barriers past p Read)
-    write-number = ap (λ (t : Trace). length (barriers t p Write)) (at-end now) ∙ ap length writes-now ∙ sym (together.as_many p)
+    write-number = ap (λ (t : Trace). length (barriers t p Write)) (at-end now) ∙ ap length writes-now ∙ sym many
 
     -- the half on the write channel is like it
     write-begins : begins_barrier now half_written ≡ true

@@ -132,7 +132,7 @@ module _ (h : Header) (past : Trace) (p : ℕ) (accepted : IsAccepted h past) (t
   barriers-good bar is =
       with-good identifiers (λ i. is_free h past p Read i && is_free h past p Write i) (is_good h past) (barrier_halves p bar)
       (λ i free. let both = and_parts (is_free h past p Read i) (is_free h past p Write i) free in
-      and_from _ _ (and_from _ _ refl (and_from _ _ (read-half-kept h past p accepted together low no_half bar i is both.0) (and_from _ _ (write-half-kept h past p accepted together low no_half bar i is both.1) refl))) refl)
+      and_from _ _ (and_from _ _ refl (and_from _ _ (read-half-kept h past p accepted (together.as_many p) low no_half bar i is both.0) (and_from _ _ (write-half-kept h past p accepted (together.as_many p) low no_half bar i is both.1) refl))) refl)
 
   message-good : (word : ℕ) → MessageFits h past p word → list_all (is_good h past) (read_bursts h past p read.DvmMessage word false) ≡ true
   message-good word f =
