@@ -11,6 +11,16 @@ use ace_sysck::SysCheck;
 use std::alloc::Global;
 use thiserror::Error;
 
+/// Feeds a checker an event of one of these kinds as a value of the type that tells its kind, and any other as it is.
+macro_rules! by_kind {
+    ($checker:ident, $event:ident, { $($kind:ident { $($field:ident),* },)* }) => {
+        match *$event {
+            $(Event::$kind { $($field),* } => $checker.feed_kind(&event_kinds::$kind { $($field),* }),)*
+            _ => $checker.feed_kind($event),
+        }
+    };
+}
+
 /// What the checker says of an event.
 #[derive(Clone, Copy, Debug, PartialEq, Eq)]
 pub enum Step {
@@ -96,113 +106,22 @@ impl Checker {
             → (result ≡ Ok (Step.Broken b.index b.rule)) × Stands self.new h past (Some b) }
         ensures sound { (h : Header) (past : Trace) → Stands self.old h past None → result ≡ Ok Step.Fine → IsSound h (event.now ∷ past) }
     {
-        match *event {
-            Event::Ar {
-                port,
-                id,
-                addr,
-                snoop,
-                dom,
-                bar,
-                lock,
-            } => self.feed_kind(&event_kinds::Ar {
-                port,
-                id,
-                addr,
-                snoop,
-                dom,
-                bar,
-                lock,
-            }),
-            Event::R {
-                port,
-                id,
-                resp,
-                last,
-                word,
-            } => self.feed_kind(&event_kinds::R {
-                port,
-                id,
-                resp,
-                last,
-                word,
-            }),
-            Event::Rk { port, st } => self.feed_kind(&event_kinds::Rk { port, st }),
-            Event::Aw {
-                port,
-                id,
-                addr,
-                snoop,
-                dom,
-                bar,
-            } => self.feed_kind(&event_kinds::Aw {
-                port,
-                id,
-                addr,
-                snoop,
-                dom,
-                bar,
-            }),
-            Event::W {
-                port,
-                strb,
-                last,
-                word,
-            } => self.feed_kind(&event_kinds::W {
-                port,
-                strb,
-                last,
-                word,
-            }),
-            Event::B { port, id, resp } => self.feed_kind(&event_kinds::B { port, id, resp }),
-            Event::Wk { port, st } => self.feed_kind(&event_kinds::Wk { port, st }),
-            Event::Ac { port, addr, snoop } => self.feed_kind(&event_kinds::Ac {
-                port,
-                addr,
-                snoop,
-            }),
-            Event::Cr { port, resp, st } => self.feed_kind(&event_kinds::Cr { port, resp, st }),
-            Event::Cd { port, last, word } => self.feed_kind(&event_kinds::Cd { port, last, word }),
-            Event::G { port, chan, id } => self.feed_kind(&event_kinds::G { port, chan, id }),
-            Event::M {
-                port,
-                chan,
-                id,
-                line,
-            } => self.feed_kind(&event_kinds::M {
-                port,
-                chan,
-                id,
-                line,
-            }),
-            Event::L {
-                port,
-                addr,
-                w,
-                x,
-                word,
-            } => self.feed_kind(&event_kinds::L {
-                port,
-                addr,
-                w,
-                x,
-                word,
-            }),
-            Event::D {
-                port,
-                addr,
-                strobe,
-                x,
-                line,
-            } => self.feed_kind(&event_kinds::D {
-                port,
-                addr,
-                strobe,
-                x,
-                line,
-            }),
-            _ => self.feed_kind(event),
-        }
+        by_kind!(self, event, {
+            Ar { port, id, addr, snoop, dom, bar, lock },
+            R { port, id, resp, last, word },
+            Rk { port, st },
+            Aw { port, id, addr, snoop, dom, bar },
+            W { port, strb, last, word },
+            B { port, id, resp },
+            Wk { port, st },
+            Ac { port, addr, snoop },
+            Cr { port, resp, st },
+            Cd { port, last, word },
+            G { port, chan, id },
+            M { port, chan, id, line },
+            L { port, addr, w, x, word },
+            D { port, addr, strobe, x, line },
+        })
     }
 
     /// What the next event belongs to: its transaction with how far that has come, its snoop, its line.

@@ -2,6 +2,7 @@
 use Rattle.std.proofs.Common.{rules, ◌≡◌, ◌⊎◌, ◌+◌, ◌%◌, ℕ, nat_eq, true, false, Bool, not, ◌&&◌, if◌then◌else◌, ◌∷◌, length, Option, Some, None, option_map, IsSome, refl, sym, ap, subst, ◌∙◌, inl, inr, unwrap_or, arith}
 use Rattle.std.proofs.lemmas.Bool.{cases_eq}
 use Rattle.std.specs.Bool.{OnTrue}
+use Rattle.std.specs.List.{All}
 use Rattle.indexmap.specs.IndexMap.{get}
 use Rattle.ace_model.specs.Lines.{known_lines}
 use Rattle.ace_model.proofs.Terms.{Event, Header, Trace, IsAccepted, granted}
@@ -47,8 +48,8 @@ pub record IsChanged (s t : LineCheck) (line : ℕ) (x : LineRecord) : Type 0 wh
 
 pub changed : (s t : LineCheck) (r : Recording) (e : Event) (line : ℕ) (x : LineRecord) → IsChanged s t line x → Stands s r → least_broken r.header r.past e ≡ None
     → line_in r.header r.past e ≡ Some line → LineStands r.header (e ∷ r.past) line x → length x.holders.items ≡ r.header.ports → t.known ≡ length (known_lines (e ∷ r.past))
-    → Stands t (after r e)
-changed s t r e line x c st fine on new room known = record {
+    → All (IsFresh r.header.ports) t.spare.items → Stands t (after r e)
+changed s t r e line x c st fine on new room known spare = record {
   header = c.header ∙ st.header;
   ports = st.ports;
   accepted = accepted;
@@ -56,6 +57,7 @@ changed s t r e line x c st fine on new room known = record {
   lines = λ l. by l (cases_eq l line);
   holders = λ l y is. rooms l y is (cases_eq l line);
   known = known;
+  spare = spare;
 }
   where
     accepted : IsAccepted r.header (e ∷ r.past)
@@ -87,6 +89,7 @@ unchanged s r e st fine off = record {
   lines = λ l. line-stays r.header r.past e (st.accepted, fine) l (record_of s l) (λ q. let f : None ≡ Some l = sym off ∙ q in cc) (st.lines l);
   holders = st.holders;
   known = st.known ∙ sym (known-same r.header r.past e off);
+  spare = st.spare;
 }
 
 -- a new record of a line of which nothing was kept stands where the empty one stood
@@ -106,8 +109,8 @@ fresh-stands h past l x y e f s = record {
     same p = f.holders p ∙ ap (λ v. holder_at v p) (sym e.holders)
 
 pub made : (s t : LineCheck) (r : Recording) (line : ℕ) (x : LineRecord) → IsChanged s t line x → get nat_eq s.lines line ≡ None → t.known ≡ s.known → IsFresh s.header.ports x
-    → Stands s r → Stands t r
-made s t r line x c none known f st = record {
+    → All (IsFresh s.header.ports) t.spare.items → Stands s r → Stands t r
+made s t r line x c none known f spare st = record {
   header = c.header ∙ st.header;
   ports = st.ports;
   accepted = st.accepted;
@@ -115,6 +118,7 @@ made s t r line x c none known f st = record {
   lines = λ l. by l (cases_eq l line);
   holders = λ l y is. rooms l y is (cases_eq l line);
   known = known ∙ st.known;
+  spare = subst (λ (v : Header). All (IsFresh v.ports) t.spare.items) st.header spare;
 }
   where
     fresh : IsFresh r.header.ports x
@@ -202,8 +206,8 @@ counts s r e t place m l line x y old new =
 
 pub applied-then : (s t : LineCheck) (r : Recording) (e : Event) (g : Target) (place : Option ℕ) → MayApply s r e g place → (l : ℕ) → g.line ≡ Some l → (x y : LineRecord) → IsRecordStep r.header r.past l e g x
     → LineStands r.header (e ∷ r.past) l y → length y.holders.items ≡ length x.holders.items → (is_unknown x.used && not (is_unknown y.used)) ≡ true → IsChanged s t l y
-    → t.known ≡ (s.known + 1) % 18446744073709551616 → Stands t (after r e)
-applied-then s t r e g place m l line x y step new room grows c known =
+    → t.known ≡ (s.known + 1) % 18446744073709551616 → All (IsFresh r.header.ports) t.spare.items → Stands t (after r e)
+applied-then s t r e g place m l line x y step new room grows c known spare =
     changed s t r e l y c m.stands m.kept (ap (λ (v : Target). v.line) (sym m.target) ∙ line) new (room ∙ step.room)
     (let n : length (known_lines (e ∷ r.past)) ≡ s.known + 1 = rw grows at (counts s r e g place m l line x y step.stands new) in
     let low = few-known r.past in
@@ -211,10 +215,12 @@ applied-then s t r e g place m l line x y step new room grows c known =
     let few = m.few in
     let fits : (s.known + 1) % 18446744073709551616 ≡ s.known + 1 = omega arith in
     known ∙ fits ∙ sym n)
+    spare
 
 pub applied-else : (s t : LineCheck) (r : Recording) (e : Event) (g : Target) (place : Option ℕ) → MayApply s r e g place → (l : ℕ) → g.line ≡ Some l → (x y : LineRecord) → IsRecordStep r.header r.past l e g x
     → LineStands r.header (e ∷ r.past) l y → length y.holders.items ≡ length x.holders.items → (is_unknown x.used && not (is_unknown y.used)) ≡ false → IsChanged s t l y
-    → t.known ≡ s.known → Stands t (after r e)
-applied-else s t r e g place m l line x y step new room same c known =
+    → t.known ≡ s.known → All (IsFresh r.header.ports) t.spare.items → Stands t (after r e)
+applied-else s t r e g place m l line x y step new room same c known spare =
     changed s t r e l y c m.stands m.kept (ap (λ (v : Target). v.line) (sym m.target) ∙ line) new (room ∙ step.room)
     (let n : length (known_lines (e ∷ r.past)) ≡ s.known = rw same at (counts s r e g place m l line x y step.stands new) in known ∙ sym n)
+    spare

@@ -19,10 +19,13 @@ pub mod Received
 pub mod KnownLines
 pub mod Places
 pub mod AllLines
+pub mod Rooms
 -- What the rules say, in the words of what is kept.
 pub mod RuleLaws
 pub mod GrantLaws
 pub mod ReplyLaws
 pub mod WriteLaws
+-- What the interconnect looks up of a line.
+pub mod LineLooks
 -- The least rule that an event breaks.
 pub mod Judging

@@ -48,8 +48,34 @@ updates-line x u =
     (or_right (is_some_and (read_kind x) is_line_read) (is_some_and (write_kind x) is_line_write) (rw kind both.0), rw kind both.1)
 
 -- the burst of a write
-abbrev the_burst : Trace → Transaction → WriteData
+abbrev pub the_burst : Trace → Transaction → WriteData
 the_burst past y = record { strobe = burst_strobe (burst_of past y); line = burst_line (burst_of past y) }
+
+-- the passed data of a line
+pub passed-data-law : (h : Header) (past : Trace) → IsAccepted h past → (l : ℕ) (g : Option Grant) → GrantStands h past l g → passed_kept g ≡ passed_data h past l
+passed-data-law h past a l g f = by g f
+  where
+    lines : (o : Option ℕ) → passer h past l ≡ o → option_map (λ q. q.line) (option_map (passed_at past l) o) ≡ option_and_then (copy_at_answer past l) o
+    lines None is = refl
+    lines (Some q) is =
+        let w = is_some_and-is (answer_of past q l) (λ (v : Answer). passes_dirty v.resp) (found_passes h.ports (passes past l) q is) in
+        let copy : copy_at_answer past l q ≡ Some (copy_of (at_point w.0.place past) q l) = ap (option_map (λ (v : Answer). copy_of (at_point v.place past) q l)) w.1 in
+        ap (λ v. Some (unwrap_or v zero_line)) copy ∙ sym copy
+
+    by : (g : Option Grant) → GrantStands h past l g → passed_kept g ≡ passed_data h past l
+    by None f = sym (ap (λ o. if is_some_and o (has_passed_data h past) then option_and_then (copy_at_answer past l) (passer h past l) else None) f)
+    by (Some g) f =
+        ap (λ b. if b then option_map (λ q. q.line) g.passed else None) (passed-law h past a l g f)
+        ∙ ap (λ v. if has_passed_data h past g.transaction then option_map (λ q. q.line) v else None) f.passed
+        ∙ ap (λ v. if has_passed_data h past g.transaction then v else None) (lines (passer h past l) refl)
+        ∙ sym (ap (λ o. if is_some_and o (has_passed_data h past) then option_and_then (copy_at_answer past l) (passer h past l) else None) f.granted)
+
+-- what a write of this kind writes
+pub written-law : (h : Header) (past : Trace) (y : Transaction) (passed : Option Line) (memory : Line) → passed ≡ passed_data h past y.addr → memory ≡ memory_of past y.addr → (k : AwKind)
+    → written_kept passed memory (the_burst past y) k ≡ rules.data_of_write h past y k
+written-law h past y passed memory passed_is memory_is write.WriteUnique = rw (passed_is, memory_is) refl
+written-law h past y passed memory passed_is memory_is write.WriteNoSnoop = rw memory_is refl
+written-law h past y passed memory passed_is memory_is k = refl
 
 module _ (h : Header) (past : Trace) (a : IsAccepted h past) (p : ℕ) (c : Channel) (i : ℕ) (y : Transaction) (o : outstanding h past p c i ≡ Some y) where
   granted-line : is_granted h past y ≡ true → is_line y ≡ true
@@ -121,22 +147,7 @@ module _ (h : Header) (past : Trace) (a : IsAccepted h past) (p : ℕ) (c : Chan
 
     -- the passed data
     passed-for : passed_kept g ≡ passed_data h past y.addr
-    passed-for = by g f
-      where
-        lines : (o : Option ℕ) → passer h past y.addr ≡ o → option_map (λ q. q.line) (option_map (passed_at past y.addr) o) ≡ option_and_then (copy_at_answer past y.addr) o
-        lines None is = refl
-        lines (Some q) is =
-            let w = is_some_and-is (answer_of past q y.addr) (λ (v : Answer). passes_dirty v.resp) (found_passes h.ports (passes past y.addr) q is) in
-            let copy : copy_at_answer past y.addr q ≡ Some (copy_of (at_point w.0.place past) q y.addr) = ap (option_map (λ (v : Answer). copy_of (at_point v.place past) q y.addr)) w.1 in
-            ap (λ v. Some (unwrap_or v zero_line)) copy ∙ sym copy
-
-        by : (g : Option Grant) → GrantStands h past y.addr g → passed_kept g ≡ passed_data h past y.addr
-        by None f = sym (ap (λ o. if is_some_and o (has_passed_data h past) then option_and_then (copy_at_answer past y.addr) (passer h past y.addr) else None) f)
-        by (Some g) f =
-            ap (λ b. if b then option_map (λ q. q.line) g.passed else None) (passed-law h past a y.addr g f)
-            ∙ ap (λ v. if has_passed_data h past g.transaction then option_map (λ q. q.line) v else None) f.passed
-            ∙ ap (λ v. if has_passed_data h past g.transaction then v else None) (lines (passer h past y.addr) refl)
-            ∙ sym (ap (λ o. if is_some_and o (has_passed_data h past) then option_and_then (copy_at_answer past y.addr) (passer h past y.addr) else None) f.granted)
+    passed-for = passed-data-law h past a y.addr g f
 
 module _ (h : Header) (past : Trace) (t : Target) (x : LineRecord) (p : ℕ) (c : Channel) (i : ℕ) (line : Line) (s : IsNext h past (M p c i line) t x) where
   line-for : (y : Transaction) → outstanding h past p c i ≡ Some y → is_line y ≡ true → t.line ≡ Some y.addr
@@ -211,16 +222,10 @@ module _ (h : Header) (past : Trace) (t : Target) (x : LineRecord) (p : ℕ) (c 
   k25-law kept =
       ap (λ (v : Target). is_none_or v.transaction (λ y. fits_data (passed_kept x.grant) x.memory t.«data» line y.transaction)) s.target ∙ by (outstanding h past p c i) refl
     where
-      kinds : (y : Transaction) → passed_kept x.grant ≡ passed_data h past y.addr → x.memory ≡ memory_of past y.addr → (k : AwKind)
-          → written_kept (passed_kept x.grant) x.memory (the_burst past y) k ≡ rules.data_of_write h past y k
-      kinds y passed memory write.WriteUnique = rw (passed, memory) refl
-      kinds y passed memory write.WriteNoSnoop = rw memory refl
-      kinds y passed memory k = refl
-
       each : (y : Transaction) → passed_kept x.grant ≡ passed_data h past y.addr → x.memory ≡ memory_of past y.addr → (o : Option AwKind)
           → is_none_or o (λ k. same_line line (written_kept (passed_kept x.grant) x.memory (the_burst past y) k)) ≡ is_none_or (option_map (rules.data_of_write h past y) o) (same_line line)
       each y passed memory None = refl
-      each y passed memory (Some k) = ap (same_line line) (kinds y passed memory k)
+      each y passed memory (Some k) = ap (same_line line) (written-law h past y (passed_kept x.grant) x.memory passed memory k)
 
       by : (o : Option Transaction) → outstanding h past p c i ≡ o
           → is_none_or (option_map (progress_of h past) o) (λ y. fits_data (passed_kept x.grant) x.memory t.«data» line y.transaction) ≡ is_none_or o (has_data h past line)

@@ -25,13 +25,12 @@ ghost use Rattle.ace_lineck.specs.Kept.{is_unsnooped, is_sending, is_settled, ma
 
 use crate::grant::Grant;
 use crate::granting::{has_snoop_code, snoop_of, takes_grant, takes_passed_data};
-use crate::heard::is_ace;
-use crate::kinds::{is_line, snoops_a_line};
 use crate::record::LineRecord;
 use crate::stages::{Stage, stage_at};
 use ace_codes::passes_dirty;
 use ace_event::Header;
 use ace_model::Transaction;
+use ace_portck::kinds::{is_ace, is_line, snoops_a_line};
 use ace_portck::{Progress, Target};
 use ace_tables::is_invalid;
 
@@ -142,6 +141,17 @@ pub fn has_passed(g: &Grant) -> bool
     ensures { result ≡ has_passed g.now }
 {
     g.passed.is_some() && !g.written
+}
+
+/// There is a granted transaction, and it has passed data.
+#[inline(always)]
+pub fn has_passed_under(grant: &Option<Grant>) -> bool
+    ensures { result ≡ is_some_and grant.now has_passed }
+{
+    match grant {
+        None => false,
+        Some(g) => has_passed(g),
+    }
 }
 
 /// The burst of the passed data is whole.

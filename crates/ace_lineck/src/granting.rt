@@ -7,9 +7,9 @@ ghost use Rattle.ace_model.specs.SnoopRules.{has_snoop_code};
 ghost use Rattle.ace_model.specs.Trace.{is_some_and};
 ghost use Rattle.ace_model.specs.Transactions.{read_kind};
 
-use crate::kinds::{read_kind, write_kind};
 use ace_codes::{ArKind, AwKind, SnoopKind, ac_code};
 use ace_model::Transaction;
+use ace_portck::kinds::{read_kind, write_kind};
 use ace_tables::{snoop_of_read, snoop_of_write};
 
 #[inline(always)]
@@ -63,8 +63,9 @@ pub fn has_snoop_code(x: &Transaction, snoop: u8) -> bool
     }
 }
 
+/// A read of this kind may take the dirty data that a snooped port passes on.
 #[inline(always)]
-fn is_taker(kind: ArKind) -> bool
+pub fn is_taker(kind: ArKind) -> bool
     ensures { result ≡ takes_passed_data kind }
 {
     matches!(

@@ -7,7 +7,7 @@ ghost use Rattle.ace_event.specs.declared.event.Event.TheVariants.{G};
 ghost use Rattle.ace_model.specs.Accepted.{IsAccepted};
 ghost use Rattle.ace_model.specs.Grants.{granted};
 ghost use Rattle.ace_model.specs.Trace.{Trace, is_some_and, newer};
-ghost use Rattle.ace_model.specs.Transactions.{is_ace, is_read, is_transaction, ended};
+ghost use Rattle.ace_model.specs.Transactions.{is_read, is_transaction, ended};
 ghost use Rattle.ace_portck.specs.declared.target.Progress.{Progress};
 ghost use Rattle.ace_lineck.specs.Holders.{IsLineStep, HoldersStand, MemoryStands, holder_at};
 ghost use Rattle.ace_lineck.specs.declared.stages.Stage.TheVariants.{Unanswered, Sending, Done};
@@ -17,17 +17,10 @@ use crate::grant::{Grant, Passed};
 use crate::record::Holder;
 use crate::stages::{Stage, set_stage};
 use ace_codes::{is_shared, passes_dirty, transfers_data};
-use ace_event::{Channel, Event, Header, Line, PortKind, kind_of};
+use ace_event::{Channel, Event, Header, Line};
 use ace_model::Transaction;
 use ace_portck::Target;
-
-/// Whether the port is an ACE port of the header.
-#[inline(always)]
-pub fn is_ace(header: &Header, port: u8) -> bool
-    ensures { result ≡ is_ace header.now port }
-{
-    matches!(kind_of(header, port), Some(PortKind::Ace))
-}
+use ace_portck::kinds::is_ace;
 
 /// Whether what the event belongs to is this transaction.
 #[inline(always)]

@@ -9,6 +9,7 @@ mod holders;
 mod judge;
 mod kinds;
 mod lines;
+mod looks;
 mod memory;
 mod memory_writes;
 mod record;

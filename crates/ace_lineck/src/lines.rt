@@ -1,7 +1,7 @@
 //! The records of all lines.
 
 use crate::judge::judge;
-use crate::record::{LineRecord, NoMemory, empty_record, new_record};
+use crate::record::{LineRecord, NoMemory, empty_record, new_records, take_record};
 use crate::step::advance;
 use ace_event::{Channel, Event, Header, Line};
 use ace_portck::{EventKind, Target};
@@ -11,26 +11,29 @@ use std::alloc::Global;
 /// The checker of the rules that look at one line: what is kept of each line of which something has come.
 #[derive(Drop)]
 pub struct LineCheck {
-    header: Header,
+    pub(crate) header: Header,
     alloc: Global,
     lines: IndexMap<u32, LineRecord>,
     /// How many lines a transaction has named.
     known: usize,
     /// What is kept of every other line.
     empty: LineRecord,
+    /// Records of lines to come.
+    spare: Vec<LineRecord>,
 }
 
 impl LineCheck {
-    ghost use Rattle.std.specs.Prelude.{◌≡◌, ℕ, true, [], length, Option, Some, option_map, IfOk, OnOk, OnErr};
+    ghost use Rattle.std.specs.Prelude.{◌≡◌, ◌≤◌, ◌∷◌, ℕ, true, [], length, Option, Some, option_map, IfOk, IsOk, OnOk, OnErr};
     ghost use Rattle.ace_event.specs.Ports.{IsHeader};
     ghost use Rattle.ace_model.specs.Accepted.{least_of};
     ghost use Rattle.ace_model.specs.AddressRules.{k1};
     ghost use Rattle.ace_model.specs.Copies.{memory_of};
     ghost use Rattle.ace_model.specs.Grants.{granted};
     ghost use Rattle.ace_model.specs.Shares.{line_rules};
+    ghost use Rattle.ace_model.specs.Trace.{Trace};
     ghost use Rattle.ace_model.specs.Lines.{is_known, known_lines};
     ghost use Rattle.ace_portck.specs.Targets.{Recording, after};
-    ghost use Rattle.ace_lineck.specs.Stands.{Stands, MayTest, MayApply, HasRecord, HasRoom, IsAbsent, BeginsLine, place_on, record_on};
+    ghost use Rattle.ace_lineck.specs.Stands.{Stands, MayTest, MayApply, MayMakeRoom, HasRecord, HasRoom, IsAbsent, IsKnown, IsRoomy, BeginsLine, place_on, record_on};
     ghost use Rattle.ace_lineck.specs.Records.{name_of};
 
     /// The checker of the empty trace under the header.
@@ -43,7 +46,27 @@ impl LineCheck {
             lines: IndexMap::new(alloc),
             known: 0,
             empty: empty_record(alloc),
+            spare: Vec::new(alloc),
         }
+    }
+
+    /// The same, with room for so many lines: as long as no more are known, `ready` makes room for any event but a MEM.
+    pub fn with_room(alloc: Global, header: Header, lines: usize) -> Result<LineCheck, NoMemory>
+        ensures stands { IfOk result (λ s. IsHeader header → Stands s (record { header = header; past = [] })) }
+        ensures room { IfOk result (IsRoomy lines []) }
+    {
+        let Ok(records) = IndexMap::with_capacity(alloc, lines) else {
+            return Err(NoMemory);
+        };
+        let spare = new_records(alloc, header.ports, lines)?;
+        Ok(LineCheck {
+            header,
+            alloc,
+            lines: records,
+            known: 0,
+            empty: empty_record(alloc),
+            spare,
+        })
     }
 
     /// Where the record of a line stands, if it has one. It stays there; that a line has none is good until room is made for one.
@@ -57,7 +80,7 @@ impl LineCheck {
     }
 
     /// What is kept of the line whose record stands at the place.
-    fn record(&self, place: Option<usize>) -> &LineRecord
+    pub(crate) fn record(&self, place: Option<usize>) -> &LineRecord
         ensures { (line : Option ℕ) → place ≡ place_on self.now line → result.now ≡ record_on self.now line }
     {
         match place {
@@ -94,6 +117,10 @@ impl LineCheck {
         ensures room { place ≡ place_on self.old line → IfOk result (λ q. q ≡ place_on self.new line) }
         ensures made { place ≡ place_on self.old line → OnOk result (HasRecord self.new line) }
         ensures cause { place ≡ place_on self.old line → OnErr result (IsAbsent self.old line) }
+        ensures roomy { (n : ℕ) (past : Trace) → IsRoomy n past self.old → place ≡ place_on self.old line → IsKnown past line → IsRoomy n past self.new }
+        ensures refused { OnErr result ((n : ℕ) (past : Trace) → IsRoomy n past self.old → IsRoomy n past self.new) }
+        ensures succeeds { (n : ℕ) (past : Trace) → IsRoomy n past self.old → place ≡ place_on self.old line → IsKnown past line
+            → length (known_lines past) ≤ n → IsOk result }
     {
         let Some(line) = line else {
             return Ok(place);
@@ -101,7 +128,7 @@ impl LineCheck {
         if place.is_some() {
             return Ok(place);
         }
-        let Ok(kept) = new_record(self.alloc, self.header.ports) else {
+        let Ok(kept) = take_record(&mut self.spare, self.alloc, self.header.ports) else {
             return Err(NoMemory);
         };
         match self.lines.insert(line, kept) {
@@ -122,6 +149,11 @@ impl LineCheck {
         ensures room { place ≡ place_on self.old target.now.line → IfOk result (λ q. HasRoom self.new (E.event event.now) target.now q) }
         ensures cause { place ≡ place_on self.old target.now.line
             → OnErr result ((r : Recording) → Stands self.old r → BeginsLine r.past (E.event event.now) target.now) }
+        ensures roomy { (n : ℕ) (r : Recording) → MayMakeRoom n self.old r (E.event event.now) target.now place
+            → IsRoomy n (E.event event.now ∷ r.past) self.new }
+        ensures refused { OnErr result ((n : ℕ) (past : Trace) → IsRoomy n past self.old → IsRoomy n past self.new) }
+        ensures succeeds { (n : ℕ) (r : Recording) → MayMakeRoom n self.old r (E.event event.now) target.now place
+            → length (known_lines (E.event event.now ∷ r.past)) ≤ n → IsOk result }
     {
         self.ready_for(&event.event(), target, place)
     }
@@ -137,6 +169,10 @@ impl LineCheck {
         ensures stands { (r : Recording) → Stands self.old r → place ≡ place_on self.old target.now.line → Stands self.new r }
         ensures room { place ≡ place_on self.old target.now.line → IfOk result (λ q. HasRoom self.new event.now target.now q) }
         ensures cause { place ≡ place_on self.old target.now.line → OnErr result ((r : Recording) → Stands self.old r → BeginsLine r.past event.now target.now) }
+        ensures roomy { (n : ℕ) (r : Recording) → MayMakeRoom n self.old r event.now target.now place → IsRoomy n (event.now ∷ r.past) self.new }
+        ensures refused { OnErr result ((n : ℕ) (past : Trace) → IsRoomy n past self.old → IsRoomy n past self.new) }
+        ensures succeeds { (n : ℕ) (r : Recording) → MayMakeRoom n self.old r event.now target.now place
+            → length (known_lines (event.now ∷ r.past)) ≤ n → IsOk result }
     {
         match *event {
             Event::Ar { .. } => self.make_room(target.line, place),
@@ -148,7 +184,8 @@ impl LineCheck {
 
     /// Takes an event that breaks no rule. The room for it was made, and `place` is that of its line.
     pub fn apply<E: EventKind>(&mut self, event: &E, target: &Target, place: Option<usize>)
-        ensures { (r : Recording) → MayApply self.old r (E.event event.now) target.now place → Stands self.new (after r (E.event event.now)) }
+        ensures stands { (r : Recording) → MayApply self.old r (E.event event.now) target.now place → Stands self.new (after r (E.event event.now)) }
+        ensures roomy { (n : ℕ) (past : Trace) → IsRoomy n past self.old → IsRoomy n past self.new }
     {
         self.hear(&event.event(), target, place);
     }
@@ -156,7 +193,8 @@ impl LineCheck {
     /// The same, of an event whose kind isn't known.
     #[inline(always)]
     fn hear(&mut self, event: &Event, target: &Target, place: Option<usize>)
-        ensures { (r : Recording) → MayApply self.old r event.now target.now place → Stands self.new (after r event.now) }
+        ensures stands { (r : Recording) → MayApply self.old r event.now target.now place → Stands self.new (after r event.now) }
+        ensures roomy { (n : ℕ) (past : Trace) → IsRoomy n past self.old → IsRoomy n past self.new }
     {
         let Some(place) = place else {
             return;

@@ -15,11 +15,11 @@ ghost use Rattle.ace_lineck.specs.Kept.{has_passed, is_passed_whole, are_done, i
 
 use crate::grant::Grant;
 use crate::grant_rules::{are_done, has_passed, is_its, is_passed_whole};
-use crate::kinds::{is_line, updates_memory, write_kind};
 use crate::record::LineRecord;
 use ace_codes::AwKind;
 use ace_event::{Channel, Header, Line, merge};
 use ace_model::Transaction;
+use ace_portck::kinds::{is_line, updates_memory, write_kind};
 use ace_portck::{Progress, Target, WriteData};
 
 #[inline(always)]
@@ -107,7 +107,7 @@ pub fn keeps_write(kept: &LineRecord, header: &Header, target: &Target, failed: 
 
 /// The passed data of the line.
 #[inline(always)]
-fn passed_kept(grant: &Option<Grant>) -> Option<Line>
+pub fn passed_kept(grant: &Option<Grant>) -> Option<Line>
     ensures { result ≡ passed_kept grant.now }
 {
     match grant {
@@ -138,7 +138,7 @@ fn line_or(passed: &Option<Line>, memory: &Line) -> Line
 
 /// What a write of this kind writes.
 #[inline(always)]
-fn written_kept(passed: &Option<Line>, memory: &Line, burst: &WriteData, kind: AwKind) -> Line
+pub fn written_kept(passed: &Option<Line>, memory: &Line, burst: &WriteData, kind: AwKind) -> Line
     ensures { result ≡ written_kept passed.now memory.now burst.now kind }
 {
     match kind {

@@ -1,6 +1,7 @@
 //! What is kept of a line.
 
-ghost use Rattle.std.specs.Prelude.{◌≡◌, IfOk, option_map};
+ghost use Rattle.std.specs.Prelude.{◌≡◌, ◌+◌, ◌<◌, ◌≤◌, length, IfOk, IsOk, option_map};
+ghost use Rattle.std.specs.List.{All};
 ghost use Rattle.ace_model.specs.Copies.{word_of};
 ghost use Rattle.ace_lineck.specs.Holders.{holder_at, HasNothing};
 ghost use Rattle.ace_lineck.specs.Records.{IsFresh, name_of};
@@ -84,6 +85,40 @@ pub fn new_record(alloc: Global, ports: u8) -> Result<LineRecord, NoMemory>
         grant: None,
         holders,
     })
+}
+
+/// So many of them, of lines that are to come.
+pub fn new_records(alloc: Global, ports: u8, count: usize) -> Result<Vec<LineRecord>, NoMemory>
+    ensures count { IfOk result (λ v. length v.items ≡ count) }
+    ensures fresh { IfOk result (λ v. All (IsFresh ports) v.items) }
+{
+    let Ok(mut records) = Vec::with_capacity(alloc, count) else {
+        return Err(NoMemory);
+    };
+    for _line in 0..count {
+        let kept = new_record(alloc, ports)?;
+        if records.push(kept).is_err() {
+            return Err(NoMemory);
+        }
+    }
+    Ok(records)
+}
+
+/// One of the spare ones or, where there is none, a new one.
+pub fn take_record(
+    spare: &mut Vec<LineRecord>,
+    alloc: Global,
+    ports: u8,
+) -> Result<LineRecord, NoMemory>
+    ensures fresh { All (IsFresh ports) spare.old.items → IfOk result (IsFresh ports) }
+    ensures rest { All (IsFresh ports) spare.old.items → All (IsFresh ports) spare.new.items }
+    ensures count { length spare.old.items ≤ length spare.new.items + 1 }
+    ensures succeeds { 0 < length spare.old.items → IsOk result }
+{
+    match spare.pop() {
+        Some(kept) => Ok(kept),
+        None => new_record(alloc, ports),
+    }
 }
 
 /// What is kept of a line for no port at all.

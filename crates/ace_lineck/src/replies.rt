@@ -6,9 +6,9 @@ ghost use Rattle.ace_codes.specs.declared.state.LineState.{LineState};
 ghost use Rattle.ace_event.specs.declared.event.Event.TheVariants.{R, Rk};
 ghost use Rattle.ace_event.specs.declared.header.Header.{Header};
 ghost use Rattle.ace_model.specs.Trace.{Trace, implies, is_none_or, is_some_and};
-ghost use Rattle.ace_model.specs.Kinds.{may_be_shared, is_read_not_shared_dirty, is_make_unique};
+ghost use Rattle.ace_model.specs.Kinds.{may_be_shared, is_read_not_shared_dirty, is_make_unique, takes_passed_data};
 ghost use Rattle.ace_model.specs.Copies.{word_of, is_line_read_transaction};
-ghost use Rattle.ace_model.specs.Transactions.{read_kind};
+ghost use Rattle.ace_model.specs.Transactions.{is_ace, read_kind};
 ghost use Rattle.ace_model.specs.ReadRules.{same_upper_bits, k19, k20, k23};
 ghost use Rattle.ace_model.specs.Shares.{k18_line};
 ghost use Rattle.ace_lineck.specs.Holders.{holder_at};
@@ -17,18 +17,19 @@ ghost use Rattle.ace_lineck.specs.Kept.{reply_kept, fits_reply, fits_shared, fit
 
 use crate::grant::Grant;
 use crate::grant_rules::{has_passed, is_its};
-use crate::heard::is_ace;
-use crate::kinds::{is_line, is_line_read_transaction, read_kind};
+use crate::granting::is_taker;
+use crate::kinds::is_line_read_transaction;
 use crate::record::LineRecord;
 use ace_codes::{ArKind, LineState, is_shared, passes_dirty};
 use ace_event::{Header, Line};
 use ace_model::Transaction;
+use ace_portck::kinds::{is_ace, is_line, read_kind};
 use ace_portck::{Progress, Target};
 use ace_tables::end_read;
 
 /// The reply of the granted read: memory, as long as it isn't settled.
 #[inline(always)]
-fn reply_kept(grant: &Option<Grant>, memory: &Line) -> Line
+pub fn reply_kept(grant: &Option<Grant>, memory: &Line) -> Line
     ensures { result ≡ reply_kept grant.now memory.now }
 {
     match grant {
@@ -111,6 +112,22 @@ fn is_make_unique(kind: ArKind) -> bool
     matches!(kind, ArKind::MakeUnique)
 }
 
+/// An answer has IsShared, and the read is one that can be told.
+#[inline(always)]
+pub fn must_be_shared(header: &Header, shared: bool, x: &Transaction, kind: ArKind) -> bool
+    ensures { result ≡ (is_ace header.now x.now.port && may_be_shared kind && shared) }
+{
+    is_ace(header, x.port) && may_be_shared(kind) && shared
+}
+
+/// A read of this kind can take passed data, beside an answer with IsShared or without: its response may say PassDirty.
+#[inline(always)]
+pub fn can_take(kind: ArKind, shared: bool) -> bool
+    ensures { result ≡ (takes_passed_data kind && not (is_read_not_shared_dirty kind && shared)) }
+{
+    is_taker(kind) && !(is_read_not_shared_dirty(kind) && shared)
+}
+
 /// The kind may have these upper bits, with an answer that has IsShared or without.
 #[inline(always)]
 fn fits_shared(header: &Header, shared: bool, resp: u8, x: &Transaction, kind: ArKind) -> bool
@@ -118,7 +135,7 @@ fn fits_shared(header: &Header, shared: bool, resp: u8, x: &Transaction, kind: A
 {
     (!is_shared(resp) || may_be_shared(kind))
         && !(is_read_not_shared_dirty(kind) && passes_dirty(resp) && is_shared(resp))
-        && (!(is_ace(header, x.port) && may_be_shared(kind) && shared) || is_shared(resp))
+        && (!must_be_shared(header, shared, x, kind) || is_shared(resp))
 }
 
 #[inline(always)]
@@ -161,8 +178,9 @@ fn has_passed_for(grant: &Option<Grant>, x: &Transaction) -> bool
         }
 }
 
+/// An answer under the grant has IsShared.
 #[inline(always)]
-fn is_shared_under(grant: &Option<Grant>) -> bool
+pub fn is_shared_under(grant: &Option<Grant>) -> bool
     ensures { result ≡ is_shared_under grant.now }
 {
     match grant {

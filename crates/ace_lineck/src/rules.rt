@@ -29,11 +29,12 @@ ghost use Rattle.ace_lineck.specs.Holders.{awaits_store};
 ghost use Rattle.ace_lineck.specs.Records.{IsNext};
 
 use crate::holders::awaits_store;
-use crate::kinds::{has_write_data, is_line, is_no_snoop, read_kind, updates_memory, write_kind};
+use crate::kinds::is_no_snoop;
 use crate::record::{LineRecord, Use};
 use crate::uses::goes_with;
 use ace_codes::{LineState, read_ac};
 use ace_model::{Snoop, Transaction};
+use ace_portck::kinds::{has_write_data, is_line, read_kind, updates_memory, write_kind};
 use ace_portck::{Progress, Target};
 use ace_tables::{
     end_write, is_invalid, is_snoop_row, is_unique, silent_ok, start_read_ok, start_write_ok,

@@ -11,3 +11,5 @@ pub mod Parts
 pub mod Elsewhere
 pub mod Kept
 pub mod AllPorts
+pub mod Rooms
+pub mod LineMaps

@@ -24,7 +24,7 @@ use Rattle.ace_portck.specs.Targets.{data_of_write}
 use Rattle.ace_portck.specs.WriteData.{data_of_burst, open_burst, filled_at, filled}
 
 -- an element that a test keeps was there, and passes it
-filter-at : {A : Type 0} → (test : A → Bool) (xs : List A) (k : ℕ) (x : A) → slice_get (filter test xs) k ≡ Some x
+pub filter-at : {A : Type 0} → (test : A → Bool) (xs : List A) (k : ℕ) (x : A) → slice_get (filter test xs) k ≡ Some x
     → ((j : ℕ) × (slice_get xs j ≡ Some x)) × (test x ≡ true)
 filter-at test [] k x e = cc
 filter-at test (y ∷ ys) zero x e =
@@ -39,7 +39,7 @@ filter-at test (y ∷ ys) (suc k) x e =
     ]
 
 -- and one that passes it is kept
-filter-there : {A : Type 0} → (test : A → Bool) (xs : List A) (j : ℕ) (x : A) → slice_get xs j ≡ Some x → test x ≡ true
+pub filter-there : {A : Type 0} → (test : A → Bool) (xs : List A) (j : ℕ) (x : A) → slice_get xs j ≡ Some x → test x ≡ true
     → (k : ℕ) × (slice_get (filter test xs) k ≡ Some x)
 filter-there test [] j x e pass = cc
 filter-there test (y ∷ ys) zero x e pass =

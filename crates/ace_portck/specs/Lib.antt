@@ -9,4 +9,6 @@ pub mod Retired
 pub mod Opening
 pub mod WriteData
 pub mod Port
+pub mod OnePort
 pub mod Stands
+pub mod LineMaps

@@ -7,6 +7,13 @@ ghost use Rattle.ace_event.specs.declared.event.Event.TheVariants as event;
 use ace_codes::LineState;
 use ace_event::{Channel, Event, Line};
 
+/// The event of this kind with the fields of a value.
+macro_rules! with_fields {
+    ($value:ident, $kind:ident { $($field:ident),* }) => {
+        Event::$kind { $($field: $value.$field),* }
+    };
+}
+
 /// An event, of a type that may tell its kind.
 pub trait EventKind {
     /// The event.
@@ -42,15 +49,18 @@ impl EventKind for Ar {
     ghost event = { λ e. event.Ar e.port e.id e.addr e.snoop e.dom e.bar e.lock };
 
     fn event(&self) -> Event {
-        Event::Ar {
-            port: self.port,
-            id: self.id,
-            addr: self.addr,
-            snoop: self.snoop,
-            dom: self.dom,
-            bar: self.bar,
-            lock: self.lock,
-        }
+        with_fields!(
+            self,
+            Ar {
+                port,
+                id,
+                addr,
+                snoop,
+                dom,
+                bar,
+                lock
+            }
+        )
     }
 }
 
@@ -68,13 +78,16 @@ impl EventKind for R {
     ghost event = { λ e. event.R e.port e.id e.resp e.last e.word };
 
     fn event(&self) -> Event {
-        Event::R {
-            port: self.port,
-            id: self.id,
-            resp: self.resp,
-            last: self.last,
-            word: self.word,
-        }
+        with_fields!(
+            self,
+            R {
+                port,
+                id,
+                resp,
+                last,
+                word
+            }
+        )
     }
 }
 
@@ -89,10 +102,7 @@ impl EventKind for Rk {
     ghost event = { λ e. event.Rk e.port e.st };
 
     fn event(&self) -> Event {
-        Event::Rk {
-            port: self.port,
-            st: self.st,
-        }
+        with_fields!(self, Rk { port, st })
     }
 }
 
@@ -111,14 +121,17 @@ impl EventKind for Aw {
     ghost event = { λ e. event.Aw e.port e.id e.addr e.snoop e.dom e.bar };
 
     fn event(&self) -> Event {
-        Event::Aw {
-            port: self.port,
-            id: self.id,
-            addr: self.addr,
-            snoop: self.snoop,
-            dom: self.dom,
-            bar: self.bar,
-        }
+        with_fields!(
+            self,
+            Aw {
+                port,
+                id,
+                addr,
+                snoop,
+                dom,
+                bar
+            }
+        )
     }
 }
 
@@ -135,12 +148,15 @@ impl EventKind for W {
     ghost event = { λ e. event.W e.port e.strb e.last e.word };
 
     fn event(&self) -> Event {
-        Event::W {
-            port: self.port,
-            strb: self.strb,
-            last: self.last,
-            word: self.word,
-        }
+        with_fields!(
+            self,
+            W {
+                port,
+                strb,
+                last,
+                word
+            }
+        )
     }
 }
 
@@ -156,11 +172,7 @@ impl EventKind for B {
     ghost event = { λ e. event.B e.port e.id e.resp };
 
     fn event(&self) -> Event {
-        Event::B {
-            port: self.port,
-            id: self.id,
-            resp: self.resp,
-        }
+        with_fields!(self, B { port, id, resp })
     }
 }
 
@@ -175,10 +187,7 @@ impl EventKind for Wk {
     ghost event = { λ e. event.Wk e.port e.st };
 
     fn event(&self) -> Event {
-        Event::Wk {
-            port: self.port,
-            st: self.st,
-        }
+        with_fields!(self, Wk { port, st })
     }
 }
 
@@ -194,11 +203,7 @@ impl EventKind for Ac {
     ghost event = { λ e. event.Ac e.port e.addr e.snoop };
 
     fn event(&self) -> Event {
-        Event::Ac {
-            port: self.port,
-            addr: self.addr,
-            snoop: self.snoop,
-        }
+        with_fields!(self, Ac { port, addr, snoop })
     }
 }
 
@@ -214,11 +219,7 @@ impl EventKind for Cr {
     ghost event = { λ e. event.Cr e.port e.resp e.st };
 
     fn event(&self) -> Event {
-        Event::Cr {
-            port: self.port,
-            resp: self.resp,
-            st: self.st,
-        }
+        with_fields!(self, Cr { port, resp, st })
     }
 }
 
@@ -234,11 +235,7 @@ impl EventKind for Cd {
     ghost event = { λ e. event.Cd e.port e.last e.word };
 
     fn event(&self) -> Event {
-        Event::Cd {
-            port: self.port,
-            last: self.last,
-            word: self.word,
-        }
+        with_fields!(self, Cd { port, last, word })
     }
 }
 
@@ -254,11 +251,7 @@ impl EventKind for G {
     ghost event = { λ e. event.G e.port e.chan e.id };
 
     fn event(&self) -> Event {
-        Event::G {
-            port: self.port,
-            chan: self.chan,
-            id: self.id,
-        }
+        with_fields!(self, G { port, chan, id })
     }
 }
 
@@ -275,12 +268,15 @@ impl EventKind for M {
     ghost event = { λ e. event.M e.port e.chan e.id e.line };
 
     fn event(&self) -> Event {
-        Event::M {
-            port: self.port,
-            chan: self.chan,
-            id: self.id,
-            line: self.line,
-        }
+        with_fields!(
+            self,
+            M {
+                port,
+                chan,
+                id,
+                line
+            }
+        )
     }
 }
 
@@ -298,13 +294,16 @@ impl EventKind for L {
     ghost event = { λ e. event.L e.port e.addr e.w e.x e.word };
 
     fn event(&self) -> Event {
-        Event::L {
-            port: self.port,
-            addr: self.addr,
-            w: self.w,
-            x: self.x,
-            word: self.word,
-        }
+        with_fields!(
+            self,
+            L {
+                port,
+                addr,
+                w,
+                x,
+                word
+            }
+        )
     }
 }
 
@@ -322,12 +321,15 @@ impl EventKind for D {
     ghost event = { λ e. event.D e.port e.addr e.strobe e.x e.line };
 
     fn event(&self) -> Event {
-        Event::D {
-            port: self.port,
-            addr: self.addr,
-            strobe: self.strobe,
-            x: self.x,
-            line: self.line,
-        }
+        with_fields!(
+            self,
+            D {
+                port,
+                addr,
+                strobe,
+                x,
+                line
+            }
+        )
     }
 }

@@ -1,12 +1,14 @@
-//! The kinds of transactions, and what they have in common.
+//! The kinds of transactions and snoops, and what they have in common.
 
 ghost use Rattle.std.specs.Prelude.{◌≡◌};
-ghost use Rattle.ace_model.specs.Kinds.{is_line_read, is_line_write, beats_of, is_update, is_evict, is_unique_write, is_lite_read, is_lite_write, may_be_exclusive, is_make_unique, is_read_barrier, is_write_barrier};
+ghost use Rattle.ace_model.specs.Kinds.{has_write_data, is_line_snoop, is_line_read, is_line_write, beats_of, is_update, is_evict, is_unique_write, is_lite_read, is_lite_write, may_be_exclusive, is_make_unique, is_read_barrier, is_write_barrier};
 ghost use Rattle.ace_model.specs.Transactions.{is_ace, has_name, read_kind, write_kind, is_line, is_on};
 ghost use Rattle.ace_model.specs.Barriers.{is_barrier_half};
 ghost use Rattle.ace_model.specs.AddressRules.{gives_up};
+ghost use Rattle.ace_model.specs.Progress.{evicts, updates_memory};
+ghost use Rattle.ace_model.specs.Snoops.{snoops_a_line};
 
-use ace_codes::{ArKind, AwKind, read_ar, read_aw};
+use ace_codes::{ArKind, AwKind, SnoopKind, read_ac, read_ar, read_aw};
 use ace_event::{Channel, Header, PortKind, kind_of};
 use ace_model::Transaction;
 
@@ -25,6 +27,7 @@ pub fn has_name(transaction: &Transaction, port: u8, chan: Channel, id: u8) -> b
 }
 
 /// The kind of a transaction, if it is a read.
+#[inline(always)]
 pub fn read_kind(transaction: &Transaction) -> Option<ArKind>
     ensures { result ≡ read_kind transaction.now }
 {
@@ -35,6 +38,7 @@ pub fn read_kind(transaction: &Transaction) -> Option<ArKind>
 }
 
 /// The kind of a transaction, if it is a write.
+#[inline(always)]
 pub fn write_kind(transaction: &Transaction) -> Option<AwKind>
     ensures { result ≡ write_kind transaction.now }
 {
@@ -125,6 +129,27 @@ pub fn is_evict(kind: AwKind) -> bool
     matches!(kind, AwKind::Evict)
 }
 
+/// A write of this kind has data: all but Evicts and barriers have.
+pub fn has_write_data(kind: AwKind) -> bool
+    ensures { result ≡ has_write_data kind }
+{
+    !matches!(kind, AwKind::Evict | AwKind::Barrier)
+}
+
+/// The transaction is a memory update.
+pub fn updates_memory(transaction: &Transaction) -> bool
+    ensures { result ≡ updates_memory transaction.now }
+{
+    write_kind(transaction).is_some_and(is_update)
+}
+
+/// The transaction is an Evict.
+pub fn evicts(transaction: &Transaction) -> bool
+    ensures { result ≡ evicts transaction.now }
+{
+    write_kind(transaction).is_some_and(is_evict)
+}
+
 /// A memory update or an Evict.
 pub fn gives_up(kind: AwKind) -> bool
     ensures { result ≡ gives_up kind }
@@ -177,4 +202,17 @@ pub fn is_make_unique(kind: ArKind) -> bool
     ensures { result ≡ is_make_unique kind }
 {
     matches!(kind, ArKind::MakeUnique)
+}
+
+fn is_line_snoop(kind: SnoopKind) -> bool
+    ensures { result ≡ is_line_snoop kind }
+{
+    !matches!(kind, SnoopKind::DvmComplete | SnoopKind::DvmMessage)
+}
+
+/// The code is that of a line snoop.
+pub fn snoops_a_line(snoop: u8) -> bool
+    ensures { result ≡ snoops_a_line snoop }
+{
+    read_ac(snoop).is_some_and(is_line_snoop)
 }

@@ -2,8 +2,11 @@
 #![tactic(auto)]
 
 pub mod event_kinds;
-mod kinds;
+pub mod kinds;
 mod no_memory;
+mod one_port;
+#[cfg(test)]
+mod one_port_tests;
 mod opening;
 mod pending;
 mod port;
@@ -21,5 +24,8 @@ mod write_data;
 
 pub use event_kinds::EventKind;
 pub use no_memory::NoMemory;
+pub use one_port::OnePort;
+pub use pending::issued;
 pub use ports::PortCheck;
+pub use rules::is_at;
 pub use target::{Progress, Target, WriteData};

@@ -5,8 +5,7 @@ ghost use Rattle.ace_event.specs.declared.event.Event.TheVariants.{Ar, Aw};
 ghost use Rattle.ace_model.specs.AddressRules.{is_aligned, line_address};
 ghost use Rattle.ace_model.specs.Trace.{is_none_or};
 
-use crate::kinds::{is_line_read, is_line_write};
-use crate::snoops::snoops_a_line;
+use crate::kinds::{is_line_read, is_line_write, snoops_a_line};
 use ace_codes::{read_ar, read_aw};
 use ace_event::{Event, Header};
 

@@ -22,7 +22,7 @@ pub struct PortRecord {
 }
 
 impl PortRecord {
-    ghost use Rattle.std.specs.Prelude.{ℕ, [], ◌∷◌, Some, IfOk, OnOk, OnErr};
+    ghost use Rattle.std.specs.Prelude.{ℕ, [], ◌∷◌, Some, IfOk, IsOk, OnOk, OnErr};
     ghost use Rattle.std.specs.List.{AllByRecursion};
     ghost use Rattle.ace_model.specs.Trace.{port_of};
     ghost use Rattle.ace_portck.specs.Heard.{IsHeard};
@@ -56,6 +56,8 @@ impl PortRecord {
         ensures room { OnOk result (HasRoom self.new event.now) }
         ensures cause { OnErr result ((h : Header) (past : Trace) (p : ℕ) → PortStands h past p self.old → port_of event.now ≡ Some p
             → RisesAt past event.now) }
+        ensures roomy { (snoops : ℕ) → IsRoomy snoops self.old.snoops → IsRoomy snoops self.new.snoops }
+        ensures succeeds { HasRoom self.old event.now → IsOk result }
     {
         match self.snoops.ready(event) {
             Ok(()) => Ok(()),

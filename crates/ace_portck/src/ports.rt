@@ -1,6 +1,6 @@
 //! The rules that look at one port, over all ports.
 
-ghost use Rattle.std.specs.Prelude.{◌≡◌, ◌<◌, ℕ, [], ◌∷◌, None, Some, length, map, slice_get, IfOk, OnOk, OnErr};
+ghost use Rattle.std.specs.Prelude.{◌≡◌, ◌<◌, ℕ, [], ◌∷◌, None, Some, length, map, slice_get, IfOk, IsOk, OnOk, OnErr};
 ghost use Rattle.std.specs.List.{All, AllByRecursion};
 ghost use Rattle.ace_event.specs.declared.header.Header.{Header};
 ghost use Rattle.ace_model.specs.Trace.{Trace, port_of};
@@ -68,7 +68,7 @@ fn id_fits(id: u8)
 {}
 
 /// The identifier of the event is a byte.
-fn has_byte_id(event: &Event)
+pub fn has_byte_id(event: &Event)
     ensures { HasByteId event.now }
 {
     match *event {
@@ -100,6 +100,8 @@ fn make_room(ports: &mut Vec<PortRecord>, port: u8, event: &Event) -> Result<(),
     ensures room { OnOk result ((k : PortRecord) → slice_get ports.new.items port ≡ Some k → HasRoom k event.now) }
     ensures cause { OnErr result ((h : Header) (past : Trace) (outside : PortRecord) → PortsStand h past ports.old.items outside
         → port_of event.now ≡ Some port → RisesAt past event.now) }
+    ensures roomy { (snoops : ℕ) → AreRoomy snoops ports.old.items → AreRoomy snoops ports.new.items }
+    ensures succeeds { ((k : PortRecord) → slice_get ports.old.items port ≡ Some k → HasRoom k event.now) → IsOk result }
 {
     match ports.get_mut(usize::from(port)) {
         Some(kept) => kept.ready(event),
@@ -131,7 +133,7 @@ impl PortCheck {
     ghost use Rattle.ace_portck.specs.Stands.{Stands, HasRoom as HasRoomFor, IsRoomy, MayTest, MayApply};
     ghost use Rattle.ace_portck.specs.Targets.{Recording, after, progress_of};
     ghost use Rattle.ace_portck.specs.Pending.{pending_of};
-    ghost use Rattle.ace_event.specs.declared.event.Channel.TheVariants.{Write};
+    ghost use Rattle.ace_event.specs.declared.event.Channel.TheVariants.{Read, Write};
 
     /// The checker of the empty trace under this header.
     ///
@@ -184,6 +186,15 @@ impl PortCheck {
             ),
             None => target_without_port(event),
         }
+    }
+
+    /// The outstanding reads of the port, in the order of issue, and how far each has come.
+    pub fn reads(&self, port: u8) -> &[Progress]
+        ensures { (r : Recording) → Stands self.now r → result.now ≡ map (progress_of r.header r.past) (pending_of r.header r.past port Read) }
+    {
+        record_of(&self.ports, &self.outside, port)
+            .transactions
+            .reads()
     }
 
     /// The outstanding writes of the port, in the order of issue, and how far each has come.
@@ -245,6 +256,8 @@ impl PortCheck {
         ensures stands { (r : Recording) → Stands self.old r → Stands self.new r }
         ensures room { OnOk result (HasRoomFor self.new (E.event event.now)) }
         ensures cause { OnErr result ((r : Recording) → Stands self.old r → RisesAt r.past (E.event event.now)) }
+        ensures roomy { (snoops : ℕ) → IsRoomy snoops self.old → IsRoomy snoops self.new }
+        ensures succeeds { HasRoomFor self.old (E.event event.now) → IsOk result }
     {
         self.ready_for(&event.event())
     }
@@ -255,6 +268,8 @@ impl PortCheck {
         ensures stands { (r : Recording) → Stands self.old r → Stands self.new r }
         ensures room { OnOk result (HasRoomFor self.new event.now) }
         ensures cause { OnErr result ((r : Recording) → Stands self.old r → RisesAt r.past event.now) }
+        ensures roomy { (snoops : ℕ) → IsRoomy snoops self.old → IsRoomy snoops self.new }
+        ensures succeeds { HasRoomFor self.old event.now → IsOk result }
     {
         match *event {
             Event::Ac { port, .. } => make_room(&mut self.ports, port, event),

@@ -24,6 +24,13 @@ impl RetiredCount {
         RetiredCount { next: 0 }
     }
 
+    /// How many retired.
+    pub fn next(&self) -> u32
+        ensures { (past : Trace) (p : ℕ) → RetiredStand past p self.now → result ≡ retired past p }
+    {
+        self.next
+    }
+
     /// K40: the number of an OP is that of the port's earlier OP events.
     #[inline(always)]
     pub fn may_retire(&self, event: &Event) -> bool

@@ -1,8 +1,8 @@
 //! The rules that look at the header and at the event alone.
 
-ghost use Rattle.std.specs.Prelude.{◌≡◌};
+ghost use Rattle.std.specs.Prelude.{◌≡◌, ◌==◌};
 ghost use Rattle.ace_model.specs.AddressRules.{k1, has_known_codes, k2, may_lock};
-ghost use Rattle.ace_model.specs.Trace.{Trace, port_of};
+ghost use Rattle.ace_model.specs.Trace.{Trace, is_some_and, port_of};
 
 use crate::kinds::{is_ace, is_lite_read, is_lite_write, may_be_exclusive, read_kind};
 use ace_codes::{has_error, low_bits, read_ac, read_ar, read_aw};
@@ -32,6 +32,16 @@ pub fn port_of(event: &Event) -> Option<u8>
         | Event::D { port, .. }
         | Event::Op { port, .. } => Some(port),
         Event::Mem { .. } => None,
+    }
+}
+
+/// The event is one of the port.
+pub fn is_at(event: &Event, port: u8) -> bool
+    ensures { result ≡ is_some_and (port_of event.now) (λ q. q == port) }
+{
+    match port_of(event) {
+        Some(own) => own == port,
+        None => false,
     }
 }
 

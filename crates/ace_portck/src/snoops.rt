@@ -1,9 +1,8 @@
 //! The snoops of one port that are under way.
 
 ghost use Rattle.std.specs.Prelude.{◌≡◌, ◌≤◌, slice_get};
-ghost use Rattle.ace_model.specs.Snoops.{snoops_a_line};
 
-use ace_codes::{SnoopKind, read_ac, transfers_data};
+use ace_codes::transfers_data;
 use ace_event::Event;
 use ace_model::Snoop;
 use std::alloc::{AllocError, Global};
@@ -19,16 +18,6 @@ pub struct SnoopQueues {
     beats: u8,
 }
 
-/// ACSNOOP is the code of a line snoop.
-pub fn snoops_a_line(snoop: u8) -> bool
-    ensures { result ≡ snoops_a_line snoop }
-{
-    match read_ac(snoop) {
-        Some(kind) => !matches!(kind, SnoopKind::DvmComplete | SnoopKind::DvmMessage),
-        None => false,
-    }
-}
-
 /// The oldest of the queue.
 fn first(queue: &VecDeque<Snoop>) -> Option<Snoop>
     ensures { result ≡ slice_get queue.now.items 0 }
@@ -37,7 +26,7 @@ fn first(queue: &VecDeque<Snoop>) -> Option<Snoop>
 }
 
 impl SnoopQueues {
-    ghost use Rattle.std.specs.Prelude.{ℕ, Bool, length, ◌∷◌, IfOk, OnOk, OnErr, Some, []};
+    ghost use Rattle.std.specs.Prelude.{ℕ, Bool, length, ◌∷◌, IfOk, IsOk, OnOk, OnErr, Some, []};
     ghost use Rattle.ace_codes.specs.declared.state.LineState.{LineState};
     ghost use Rattle.ace_event.specs.declared.event.Event.TheVariants.{Ac, Cd, Cr};
     ghost use Rattle.ace_event.specs.declared.header.Header.{Header};
@@ -117,6 +106,8 @@ impl SnoopQueues {
         ensures room { OnOk result (HasRoom self.new event.now) }
         ensures cause { OnErr result ((past : Trace) (p : ℕ) → SnoopsStand past p self.old → port_of event.now ≡ Some p
             → RisesAt past event.now) }
+        ensures roomy { (snoops : ℕ) → IsRoomy snoops self.old → IsRoomy snoops self.new }
+        ensures succeeds { HasRoom self.old event.now → IsOk result }
     {
         match *event {
             Event::Ac { .. } => self.make_room(),
@@ -147,6 +138,8 @@ impl SnoopQueues {
         ensures room { OnOk result (HasRoomForOne self.new) }
         ensures cause { OnErr result ((past : Trace) (p addr snoop : ℕ) → SnoopsStand past p self.old
             → RisesAt past (Ac p addr snoop)) }
+        ensures roomy { (snoops : ℕ) → IsRoomy snoops self.old → IsRoomy snoops self.new }
+        ensures succeeds { HasRoomForOne self.old → IsOk result }
     {
         self.waiting.reserve(self.sending.len() + 1)?;
         self.sending.reserve(self.waiting.len() + 1)

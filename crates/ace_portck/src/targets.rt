@@ -11,10 +11,9 @@ ghost use Rattle.ace_model.specs.declared.transactions.Transaction.{Transaction}
 ghost use Rattle.ace_portck.specs.Targets.{begun, progress_of, line_of, line_of_snoop, target_of};
 ghost use Rattle.ace_portck.specs.TargetsByKind.{of_transaction};
 
-use crate::kinds::{is_ace, is_barrier_half, is_line};
+use crate::kinds::{is_ace, is_barrier_half, is_line, snoops_a_line};
 use crate::pending::{begun, issued};
 use crate::port::PortRecord;
-use crate::snoops::snoops_a_line;
 use crate::target::{Progress, Target};
 use ace_event::{Channel, Event, Header};
 use ace_model::Snoop;

@@ -5,7 +5,6 @@ ghost use Rattle.std.specs.List.{list_any};
 ghost use Rattle.std.specs.Option.{option_copied};
 ghost use Rattle.ace_model.specs.AddressRules.{gives_up};
 ghost use Rattle.ace_model.specs.Kinds.{is_unique_write};
-ghost use Rattle.ace_model.specs.Progress.{updates_memory, evicts};
 ghost use Rattle.ace_model.specs.Shares.{lesser};
 ghost use Rattle.ace_model.specs.Transactions.{is_on, write_kind};
 ghost use Rattle.std.specs.List.{AllByRecursion};
@@ -15,7 +14,7 @@ ghost use Rattle.ace_portck.specs.Pending.{HasByteId, PendingStands};
 ghost use Rattle.ace_portck.specs.Transactions.{is_ordered_by, has_order_point, is_unordered, is_incomplete, moved_channel};
 
 use crate::NoMemory;
-use crate::kinds::{gives_up, is_evict, is_line, is_on, is_unique_write, is_update, write_kind};
+use crate::kinds::{evicts, gives_up, is_line, is_on, is_unique_write, updates_memory, write_kind};
 use crate::pending::Pending;
 use crate::target::Progress;
 use ace_event::{Channel, Event, Header};
@@ -49,19 +48,6 @@ fn has_giving_up(list: &[Progress]) -> bool
 {
     list.iter()
         .any(|x| write_kind(&x.transaction).is_some_and(gives_up))
-}
-
-/// The transaction is a memory update.
-fn updates_memory(transaction: &Transaction) -> bool
-    ensures { result ≡ updates_memory transaction.now }
-{
-    write_kind(transaction).is_some_and(is_update)
-}
-
-fn evicts(transaction: &Transaction) -> bool
-    ensures { result ≡ evicts transaction.now }
-{
-    write_kind(transaction).is_some_and(is_evict)
 }
 
 /// A line transaction with bar 0: one that barriers order.
@@ -149,7 +135,7 @@ impl Transactions {
     ghost use Rattle.ace_model.specs.Trace.{is_none_or};
     ghost use Rattle.ace_model.specs.Transactions.{is_ace, outstanding, has_outstanding_on, acknowledged, next_complete};
     ghost use Rattle.ace_portck.specs.Targets.{progress_of, own_of, first_unordered, first_incomplete};
-    ghost use Rattle.ace_event.specs.declared.event.Channel.TheVariants.{Write};
+    ghost use Rattle.ace_event.specs.declared.event.Channel.TheVariants.{Read, Write};
     ghost use Rattle.ace_portck.specs.Pending.{pending_of};
     ghost use Rattle.ace_portck.specs.Transactions.{TransactionsStand};
 
@@ -186,6 +172,14 @@ impl Transactions {
             → result ≡ next_complete past p chan }
     {
         self.channel(chan).next_complete()
+    }
+
+    /// The outstanding reads, in the order of issue.
+    pub fn reads(&self) -> &[Progress]
+        ensures { (h : Header) (past : Trace) (p : ℕ) → TransactionsStand h past p self.now
+            → result.now ≡ map (progress_of h past) (pending_of h past p Read) }
+    {
+        self.reads.list()
     }
 
     /// The outstanding writes, in the order of issue.
@@ -246,21 +240,21 @@ impl Transactions {
     }
 
     /// None on the line is outstanding.
-    fn is_line_free(&self, line: u32) -> bool
+    pub fn is_line_free(&self, line: u32) -> bool
         ensures { (h : Header) (past : Trace) (p : ℕ) → TransactionsStand h past p self.now → result ≡ not (has_outstanding_on h past p line) }
     {
         self.own(line).is_none()
     }
 
     /// A WriteUnique or WriteLineUnique is outstanding.
-    fn has_unique_write(&self) -> bool
+    pub fn has_unique_write(&self) -> bool
         ensures { (h : Header) (past : Trace) (p : ℕ) → TransactionsStand h past p self.now → result ≡ has_write h past p is_unique_write }
     {
         has_unique_write(self.writes.list())
     }
 
     /// A memory update or an Evict is outstanding.
-    fn has_giving_up(&self) -> bool
+    pub fn has_giving_up(&self) -> bool
         ensures { (h : Header) (past : Trace) (p : ℕ) → TransactionsStand h past p self.now → result ≡ has_write h past p gives_up }
     {
         has_giving_up(self.writes.list())

@@ -2,13 +2,13 @@
 
 ghost use Rattle.std.specs.Prelude.{◌≡◌, ◌<◌, ◌++◌, ◌∷◌, List, [], length, option_map, find, ◌==◌};
 ghost use Rattle.std.specs.Option.{option_copied};
-ghost use Rattle.ace_model.specs.Kinds.{has_write_data, is_write_line_unique};
+ghost use Rattle.ace_model.specs.Kinds.{is_write_line_unique};
 ghost use Rattle.ace_model.specs.Shares.{fits_burst, fits_strobe};
 ghost use Rattle.ace_model.specs.Writes.{Beat};
 ghost use Rattle.ace_portck.specs.WriteData.{IsPart, data_of_burst};
 
 use crate::NoMemory;
-use crate::kinds::{is_update, write_kind};
+use crate::kinds::{has_write_data, is_update, write_kind};
 use crate::target::WriteData;
 use ace_codes::AwKind;
 use ace_event::{Channel, Event, Line};
@@ -49,13 +49,6 @@ pub struct WriteBursts {
     part: Part,
     /// The bursts of the others.
     whole: Vec<Burst>,
-}
-
-/// A write with data: all kinds but Evict and barriers.
-fn has_write_data(kind: AwKind) -> bool
-    ensures { result ≡ has_write_data kind }
-{
-    !matches!(kind, AwKind::Evict | AwKind::Barrier)
 }
 
 /// A write of a whole line.

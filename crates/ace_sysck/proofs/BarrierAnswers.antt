@@ -1,23 +1,24 @@
 -- Whether a barrier half may be answered, where the barriers of its port stand.
-use Rattle.std.proofs.Common.{◌≡◌, ◌⊎◌, ℕ, zero, suc, ◌-◌, ◌<◌, Bool, true, false, not, ◌&&◌, ◌||◌, nat_eq, List, [], ◌∷◌, ◌++◌, length, map, slice_get, Some, None, refl, sym, ap, ◌∙◌, arith, inl, inr}
+use Rattle.std.proofs.Common.{◌≡◌, ◌⊎◌, ℕ, zero, suc, ◌-◌, ◌<◌, Bool, true, false, not, ◌&&◌, ◌||◌, nat_eq, List, [], ◌∷◌, ◌++◌, length, map, slice_get, Some, None, refl, sym, ap, subst, ◌∙◌, arith, inl, inr}
+use Rattle.std.specs.Option.{option_map}
 use Rattle.std.proofs.lemmas.Bool.{cases_Bool, eq-eqb, ne_eqb}
 use Rattle.std.proofs.lemmas.List.{append-nil, length-map}
 use Rattle.ace_event.specs.declared.event.Channel.TheVariants.{Read, Write}
 use Rattle.ace_model.specs.declared.transactions.Transaction.{Transaction}
-use Rattle.ace_model.proofs.Terms.{Channel, Trace, at_point, is_some_and, issued, Pair, barriers, option_filter, is_barrier_of, pairs, pair_of, number_of, place_of, is_barrier_half, may_answer, is_completed, is_ordered}
+use Rattle.ace_model.proofs.Terms.{Channel, Trace, at_point, is_some_and, issued, Pair, barriers, option_filter, is_barrier_of, pairs, pair_of, number_of, place_of, is_barrier_half, may_answer, is_completed, is_ordered, is_pair_complete, more}
 use Rattle.ace_model.proofs.Barriers.Pairs.{IsHalf, barriers-half, is_barrier_of-is}
 use Rattle.ace_model.proofs.Trace.Growth.{IsIssued, issued-cases, at_point-before}
 use Rattle.ace_model.proofs.Trace.Issued.{issued_at, issued-place}
 use Rattle.ace_model.proofs.Trace.Places.{at_point-last}
 use Rattle.ace_model.proofs.Trace.Looks.{same_channel-self}
 use Rattle.ace_model.proofs.General.Options.{Some-injective}
-use Rattle.ace_model.proofs.General.Lists.{slice_get-at_end, slice_get-grown, slice_get-append, slice_get-all}
+use Rattle.ace_model.proofs.General.Lists.{slice_get-at_end, slice_get-grown, slice_get-append, slice_get-all, slice_get-more}
 use Rattle.ace_portck.specs.declared.target.Target.{Target}
 use Rattle.ace_portck.specs.Targets.{first_unordered, first_incomplete, is_ordered_by_barriers}
 use Rattle.ace_sysck.specs.declared.barriers.OpenPair.{OpenPair}
 use Rattle.ace_sysck.specs.declared.barriers.Barrier.{Barrier}
 use Rattle.ace_sysck.specs.declared.barriers.Barrier.TheVariants.{Idle, ReadHalf, WriteHalf, Open}
-use Rattle.ace_sysck.specs.Barriers.{BarrierStands, IsDone, reads_of, writes_of, pair_in, may_answer_after, comes_far_enough}
+use Rattle.ace_sysck.specs.Barriers.{BarrierStands, IsDone, IsOpen, TellsOpenPair, reads_of, writes_of, open_of, pair_in, may_answer_after, comes_far_enough}
 use Rattle.ace_sysck.proofs.FirstIssued.{each-before}
 use Rattle.ace_sysck.proofs.BarrierRules.{pairs-of, past_end}
 
@@ -174,3 +175,31 @@ module _ (past : Trace) (x : Transaction) (t : Target) (i : IsIssued past x) (ha
           second : (u v : Bool) → v ≡ ((not u && false) || v)
           second true v = refl
           second false v = refl
+
+-- ---- the pair that isn't complete --------------------------------------------------------------------
+
+-- the pairs of the port are those that are done, and then the one that isn't complete
+done-and-open : (past : Trace) (p : ℕ) (b : Barrier) (s : BarrierStands past p b) → pairs past p ≡ more s.done (option_map pair_in (open_of b))
+done-and-open past p Idle s = pairs-of past p Idle s ∙ append-nil s.done
+done-and-open past p (ReadHalf x) s = pairs-of past p (ReadHalf x) s ∙ append-nil s.done
+done-and-open past p (WriteHalf x) s = pairs-of past p (WriteHalf x) s ∙ append-nil s.done
+done-and-open past p (Open o) s = pairs-of past p (Open o) s
+
+pub tells-open : (past : Trace) (p : ℕ) (b : Barrier) → BarrierStands past p b → TellsOpenPair past p (open_of b)
+tells-open past p b s = record { there = there b s; is = is b s; only = only }
+  where
+    there : (b : Barrier) → BarrierStands past p b → (o : OpenPair) → open_of b ≡ Some o → (k : ℕ) × (slice_get (pairs past p) k ≡ Some (pair_in o))
+    there (Open u) s o e =
+        (length s.done, ap (λ l. slice_get l (length s.done)) (done-and-open past p (Open u) s) ∙ slice_get-at_end s.done (length s.done) (pair_in u) refl ∙ ap (λ v. Some (pair_in v)) (Some-injective u o e))
+    there b s o e = cc
+
+    is : (b : Barrier) → BarrierStands past p b → (o : OpenPair) → open_of b ≡ Some o → IsOpen past o
+    is (Open u) s o e = subst (IsOpen past) (Some-injective u o e) s.under_way
+    is b s o e = cc
+
+    only : (k : ℕ) (d : Pair) → slice_get (pairs past p) k ≡ Some d → is_pair_complete past d ≡ false → option_map pair_in (open_of b) ≡ Some d
+    only k d at undone =
+        elim (slice_get-more s.done (option_map pair_in (open_of b)) k d (ap (λ l. slice_get l k) (sym (done-and-open past p b s)) ∙ at)) [
+          | inl done ↦ let complete = (slice_get-all (IsDone past p) s.done k d s.are_done done).complete in let bad : true ≡ false = sym complete ∙ undone in cc
+          | inr last ↦ last.1
+        ]

@@ -19,7 +19,7 @@ use Rattle.ace_portck.specs.Targets.{Recording}
 use Rattle.ace_sysck.specs.declared.inboxes.Inbox.{Inbox}
 use Rattle.ace_sysck.specs.declared.inboxes.Inboxes.{Inboxes}
 use Rattle.ace_sysck.specs.Messages.{is_at}
-use Rattle.ace_sysck.specs.Inboxes.{InboxesStand, MayAskInboxes, part_of, next_in, forwards_in, awaits, has_place}
+use Rattle.ace_sysck.specs.Inboxes.{InboxStands, InboxesStand, MayAskInboxes, part_of, own_transaction, message_with, next_message_in, next_message, next_in, forwards_in, awaits, has_place}
 use Rattle.ace_sysck.proofs.PartLaws.{parts-apart, waiting-apart, AreOthers}
 
 -- an element of a list that is mapped
@@ -169,3 +169,27 @@ answered_by_all-is r s x stands i part =
           rw (t, awaits-is r s q x stands parts.0) (answered-is r.past x q i part other)
       | inr f ↦ rw f refl
     ])
+
+-- a part of an inbox is one that the port hasn't answered
+own-part : (past : Trace) (o : Option Transaction) → option_map own_transaction (option_map (part_of past) o) ≡ o
+own-part past None = refl
+own-part past (Some x) = refl
+
+part-after : (past : Trace) (q : ℕ) (b : Inbox) → InboxStands past q b.parts.items b.forwarded
+    → option_map own_transaction (slice_get b.parts.items (b.forwarded + 1)) ≡ slice_get (parts_for past q) (length (parts_among (forwarded past q)) + 1)
+part-after past q b k =
+    let a = length (answered_parts past q) in
+    let count = k.count_is in
+    ap (λ l. option_map own_transaction (slice_get l (b.forwarded + 1))) k.parts_are
+    ∙ ap (option_map own_transaction) (slice_get-map (part_of past) (drop a (parts_for past q)) (b.forwarded + 1))
+    ∙ own-part past (slice_get (drop a (parts_for past q)) (b.forwarded + 1))
+    ∙ slice_get-drop (parts_for past q) a (b.forwarded + 1) (length (parts_among (forwarded past q)) + 1) (omega (arith, count))
+
+-- the next message
+pub next-message-is : (r : Recording) (s : Inboxes) (q : ℕ) (b : Inbox) → InboxesStand r s → is_ace r.header q ≡ true → slice_get s.ports.items q ≡ Some b
+    → next_message_in b.parts.items b.forwarded ≡ next_message r.past q
+next-message-is r s q b stands ace at =
+    let k = stands.ports q b at ace in
+    let first : option_map own_transaction (slice_get b.parts.items b.forwarded) ≡ next_part r.past q =
+    ap (λ o. option_map own_transaction (next_in o)) (sym at) ∙ ap (option_map own_transaction) (next-is r s q stands ace) ∙ own-part r.past (next_part r.past q) in
+    ap (λ o. message_with o (option_map own_transaction (slice_get b.parts.items (b.forwarded + 1)))) first ∙ ap (message_with (next_part r.past q)) (part-after r.past q b k)

@@ -1,6 +1,7 @@
 -- What is kept of the barriers of each port.
-use Rattle.std.specs.Prelude.{ℕ, ◌≡◌, ◌<◌, Bool, true, false, not, max, ◌&&◌, ◌||◌, ◌==◌, nat_le, if◌then◌else◌, List, [], ◌∷◌, ◌++◌, length, map, slice_index_or, Option, Some, None, ⊤}
+use Rattle.std.specs.Prelude.{ℕ, ◌≡◌, ◌<◌, Bool, true, false, not, max, ◌&&◌, ◌||◌, ◌==◌, nat_le, if◌then◌else◌, List, [], ◌∷◌, ◌++◌, length, map, slice_get, slice_index_or, Option, Some, None, ⊤}
 use Rattle.std.specs.List.{All}
+use Rattle.std.specs.Option.{option_map}
 use Rattle.ace_event.specs.declared.event.Channel.TheVariants.{Read, Write}
 use Rattle.ace_event.specs.declared.event.Event.{Event}
 use Rattle.ace_model.specs.declared.transactions.Transaction.{Transaction}
@@ -8,7 +9,7 @@ use Rattle.ace_model.specs.Trace.{Trace}
 use Rattle.ace_model.specs.Transactions.{is_read}
 use Rattle.ace_model.specs.Progress.{is_completed}
 use Rattle.ace_model.specs.AddressRules.{is_like_half}
-use Rattle.ace_model.specs.Barriers.{Pair, barriers, is_pair_complete, may_answer, place_of}
+use Rattle.ace_model.specs.Barriers.{Pair, barriers, pairs, is_pair_complete, may_answer, place_of}
 use Rattle.ace_portck.specs.declared.target.Target.{Target}
 use Rattle.ace_portck.specs.Targets.{Recording}
 use Rattle.ace_sysck.specs.declared.barriers.OpenPair.{OpenPair}
@@ -64,6 +65,17 @@ pub record BarrierStands (past : Trace) (p : ℕ) (b : Barrier) : Type 0 where
   pub writes : barriers past p Write ≡ map write_half done ++ writes_of b
   pub are_done : All (IsDone past p) done
   pub under_way : IsUnderWay past b
+
+-- the pair, where there is one
+abbrev pub open_of : Barrier → Option OpenPair
+open_of (Open b) = Some b
+open_of b = None
+
+-- What is said of the pair of the port that isn't complete: it is one of its pairs, has had the responses that it says, and is the only one.
+pub record TellsOpenPair (past : Trace) (p : ℕ) (o : Option OpenPair) : Type 0 where
+  pub there : (b : OpenPair) → o ≡ Some b → (k : ℕ) × (slice_get (pairs past p) k ≡ Some (pair_in b))
+  pub is : (b : OpenPair) → o ≡ Some b → IsOpen past b
+  pub only : (k : ℕ) (b : Pair) → slice_get (pairs past p) k ≡ Some b → is_pair_complete past b ≡ false → option_map pair_in o ≡ Some b
 
 pub record BarriersStand (r : Recording) (s : Barriers) : Type 0 where
   pub size : length s.ports.items ≡ r.header.ports

@@ -1,7 +1,7 @@
 -- What is kept of the parts of messages that are forwarded to each port.
 use Rattle.std.specs.Prelude.{ℕ, ◌≡◌, ◌≤◌, ◌<◌, ◌+◌, ◌-◌, ◌*◌, Bool, true, false, ◌&&◌, ◌||◌, ◌==◌, if◌then◌else◌, List, [], ◌∷◌, ◌++◌, length, map, drop, slice_get, Option, Some, None}
 use Rattle.std.specs.List.{list_any}
-use Rattle.std.specs.Option.{option_to_list}
+use Rattle.std.specs.Option.{option_map, option_to_list}
 use Rattle.std.specs.VecDeque.{deque_capacity}
 use Rattle.ace_codes.specs.Snoops.{ac_kind_of}
 use Rattle.ace_codes.specs.declared.kind.SnoopKind.{SnoopKind}
@@ -11,11 +11,12 @@ use Rattle.ace_model.specs.Trace.{Trace, implies, is_some_and}
 use Rattle.ace_model.specs.Kinds.{is_message_snoop}
 use Rattle.ace_model.specs.Transactions.{is_ace}
 use Rattle.ace_model.specs.Progress.{IsTransaction}
-use Rattle.ace_model.specs.Messages.{has_second, is_sync_word, is_second_part, is_sync, parts_for, answered_parts, parts_among, forwarded}
+use Rattle.ace_model.specs.Messages.{has_second, is_sync_word, is_second_part, is_sync, parts_for, answered_parts, parts_among, forwarded, next_part}
 use Rattle.ace_portck.specs.declared.target.Target.{Target}
 use Rattle.ace_portck.specs.Targets.{Recording}
 use Rattle.ace_sysck.specs.declared.messages.PortMessages.{PortMessages}
 use Rattle.ace_sysck.specs.declared.messages.Messages.{Messages}
+use Rattle.ace_sysck.specs.declared.inboxes.Message.{Message}
 use Rattle.ace_sysck.specs.declared.inboxes.Part.{Part}
 use Rattle.ace_sysck.specs.declared.inboxes.Sent.{Sent}
 use Rattle.ace_sysck.specs.declared.inboxes.Inbox.{Inbox}
@@ -116,6 +117,27 @@ awaits s q place = is_some_and (slice_get s.ports.items q) (λ b. has_place b.pa
 abbrev pub next_in : Option Inbox → Option Part
 next_in None = None
 next_in (Some b) = slice_get b.parts.items b.forwarded
+
+abbrev pub own_transaction : Part → Transaction
+own_transaction part = part.transaction
+
+-- the message that begins with the part, and may have a second one
+abbrev pub message_with : Option Transaction → Option Transaction → Option Message
+message_with None second = None
+message_with (Some first) second = Some (record { first = first; second = if has_second first.addr then second else None })
+
+-- the message that begins with the part of this number
+abbrev pub next_message_in : List Part → ℕ → Option Message
+next_message_in parts k = message_with (option_map own_transaction (slice_get parts k)) (option_map own_transaction (slice_get parts (k + 1)))
+
+-- the message that the inbox has next
+abbrev pub message_of : Option Inbox → Option Message
+message_of None = None
+message_of (Some b) = next_message_in b.parts.items b.forwarded
+
+-- the message that is forwarded to the port next, from its next part on
+abbrev pub next_message : Trace → ℕ → Option Message
+next_message past q = message_with (next_part past q) (slice_get (parts_for past q) (length (parts_among (forwarded past q)) + 1))
 
 -- an AC of the kind forwards the next part, and no other AC comes before a second part
 abbrev pub forwards_in : Option Part → ℕ → SnoopKind → Bool

@@ -1,9 +1,11 @@
 -- What is kept of the system as a whole says what there is to say of it after a recording.
-use Rattle.std.specs.Prelude.{◌≡◌, ◌<◌, ◌-◌, ◌^◌, None, length}
+use Rattle.std.specs.Prelude.{ℕ, ◌≡◌, ◌<◌, ◌-◌, ◌^◌, None, length}
 use Rattle.ace_event.specs.Ports.{IsHeader}
 use Rattle.ace_event.specs.declared.event.Event.{Event}
 use Rattle.ace_model.specs.Accepted.{IsAccepted, least_broken}
+use Rattle.ace_model.specs.Trace.{Trace}
 use Rattle.ace_portck.specs.declared.target.Target.{Target}
+use Rattle.ace_portck.specs.LineMaps.{HasRoomForLines}
 use Rattle.ace_portck.specs.Targets.{Recording, target_of}
 use Rattle.ace_sysck.specs.declared.system.SysCheck.{SysCheck}
 use Rattle.ace_sysck.specs.Barriers.{BarriersStand}
@@ -35,6 +37,11 @@ pub record MayTest (s : SysCheck) (r : Recording) (e : Event) (t : Target) : Typ
 -- there is room for what the event leaves: a place for the line that it grants to a transaction with lock 1
 abbrev pub HasRoom : SysCheck → Event → Target → Type 0
 HasRoom s e t = HasLineRoom s.registrations e t
+
+-- There is room for so many lines that are granted to transactions with lock 1, and each place is that of a line which a transaction of
+-- the trace names.
+abbrev pub IsRoomy : ℕ → Trace → SysCheck → Type 0
+IsRoomy lines past s = HasRoomForLines lines past s.registrations.lines
 
 -- the event may be next: it breaks no rule, the target is its own, and there is room for what it leaves
 pub record MayApply (s : SysCheck) (r : Recording) (e : Event) (t : Target) : Type 0 where

@@ -5,10 +5,10 @@ ghost use Rattle.ace_model.specs.AddressRules.{is_like_half};
 ghost use Rattle.ace_sysck.specs.Barriers.{begins_after, joined, answered, is_awaited_by, comes_far_enough, may_answer_after, is_past};
 
 use crate::events::{begun_in, completed_in, granted_in, responded_in};
-use crate::kinds::is_barrier_half;
 use ace_event::{Channel, Event};
 use ace_model::Transaction;
 use ace_portck::Target;
+use ace_portck::kinds::is_barrier_half;
 use std::alloc::{AllocError, Global};
 
 /// A barrier pair that isn't complete: its halves, and whether they have had their R and B.
@@ -170,7 +170,7 @@ impl Barriers {
     ghost use Rattle.ace_model.specs.AddressRules.{begins_barrier};
     ghost use Rattle.ace_model.specs.Barriers.{is_barrier_half};
     ghost use Rattle.ace_portck.specs.Targets.{Recording, after};
-    ghost use Rattle.ace_sysck.specs.Barriers.{BarriersStand, MayBegin, MayHearBarriers, MayAskBarriers};
+    ghost use Rattle.ace_sysck.specs.Barriers.{BarriersStand, TellsOpenPair, MayBegin, MayHearBarriers, MayAskBarriers};
     ghost use Rattle.ace_sysck.specs.declared.barriers.Barrier.TheVariants.{Idle};
 
     /// The barriers of the empty trace, of so many ports.
@@ -192,6 +192,18 @@ impl Barriers {
             self.ports[p]
         } else {
             Barrier::Idle
+        }
+    }
+
+    /// The pair of the port that isn't complete, if there is one.
+    pub fn open_pair(&self, port: u8) -> Option<OpenPair>
+        ensures { (r : Recording) → BarriersStand r self.now → TellsOpenPair r.past port result }
+    {
+        match self.barrier_of(port) {
+            Barrier::Open(pair) => Some(pair),
+            Barrier::Idle => None,
+            Barrier::ReadHalf(_) => None,
+            Barrier::WriteHalf(_) => None,
         }
     }
 

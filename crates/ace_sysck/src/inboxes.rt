@@ -1,18 +1,19 @@
 //! The parts of DVM messages that are forwarded to the ports.
 
-ghost use Rattle.std.specs.Prelude.{◌≡◌, ◌≤◌, ◌+◌, ◌++◌, ◌∷◌, [], length, slice_get, IfOk};
-ghost use Rattle.std.specs.Option.{option_to_list};
+ghost use Rattle.std.specs.Prelude.{◌≡◌, ◌<◌, ◌≤◌, ◌+◌, ◌++◌, ◌∷◌, [], length, slice_get, IfOk};
+ghost use Rattle.std.specs.Option.{option_map, option_to_list};
 ghost use Rattle.std.specs.VecDeque.{deque_capacity};
-ghost use Rattle.ace_sysck.specs.Inboxes.{parts_sent, sent_list, Receives, forwards_in, has_place, answers_message};
+ghost use Rattle.ace_sysck.specs.Inboxes.{parts_sent, sent_list, Receives, forwards_in, has_place, answers_message, own_transaction, next_message_in};
 
 use crate::events::begun_in;
-use crate::kinds::{is_ace, is_message_part, is_message_snoop};
+use crate::kinds::{is_message_part, is_message_snoop};
 use crate::messages::{Messages, PortMessages};
 use crate::words::{has_second, is_sync_word};
 use ace_codes::{SnoopKind, read_ac};
 use ace_event::{Event, Header};
 use ace_model::Transaction;
 use ace_portck::Target;
+use ace_portck::kinds::is_ace;
 use std::alloc::{AllocError, Global};
 use std::collections::VecDeque;
 
@@ -45,6 +46,13 @@ pub struct Inboxes {
 pub struct Sent {
     pub first: Option<Part>,
     pub last: Option<Part>,
+}
+
+/// A DVM message: its first part, and its second, where it has two.
+#[derive(Clone, Copy, Debug, PartialEq, Eq)]
+pub struct Message {
+    pub first: Transaction,
+    pub second: Option<Transaction>,
 }
 
 /// The message that the port issues with this part.
@@ -115,6 +123,35 @@ fn has_place(parts: &VecDeque<Part>, place: usize) -> bool
     false
 }
 
+/// The part after this one of those that are there.
+fn part_after(parts: &VecDeque<Part>, k: usize) -> Option<Transaction>
+    requires { k < length parts.now.items }
+    ensures { result ≡ option_map own_transaction (slice_get parts.now.items (k + 1)) }
+{
+    match parts.get(k + 1) {
+        None => None,
+        Some(part) => Some(part.transaction),
+    }
+}
+
+/// The message that begins with the part that is forwarded next.
+fn next_message_in(inbox: &Inbox) -> Option<Message>
+    ensures { result ≡ next_message_in inbox.now.parts.items inbox.now.forwarded }
+{
+    match inbox.parts.get(inbox.forwarded) {
+        None => None,
+        Some(part) => {
+            let first = part.transaction;
+            let second = if has_second(first.addr) {
+                part_after(&inbox.parts, inbox.forwarded)
+            } else {
+                None
+            };
+            Some(Message { first, second })
+        }
+    }
+}
+
 /// An AC of the kind forwards the next part, and no other AC comes before a second part.
 fn forwards_in(next: Option<Part>, addr: u32, kind: SnoopKind) -> bool
     ensures { result ≡ forwards_in next addr kind }
@@ -141,7 +178,7 @@ impl Inboxes {
     ghost use Rattle.ace_model.specs.Grants.{ports_below};
     ghost use Rattle.ace_model.specs.Messages.{is_other_ace};
     ghost use Rattle.ace_portck.specs.Targets.{Recording, after};
-    ghost use Rattle.ace_sysck.specs.Inboxes.{InboxesStand, MayAskInboxes, MayHearInboxes, SendsAll, SendsOne, ForwardsTo, AnswersFirst, first_is_sync, sent_list, awaits, next_in, part_of};
+    ghost use Rattle.ace_sysck.specs.Inboxes.{InboxesStand, MayAskInboxes, MayHearInboxes, SendsAll, SendsOne, ForwardsTo, AnswersFirst, first_is_sync, sent_list, awaits, message_of, next_in, next_message, part_of};
 
     /// The inboxes of the empty trace, of so many ports. Each has room for a part under each identifier of each port.
     pub fn new(alloc: Global, ports: u8) -> Result<Inboxes, AllocError>
@@ -172,6 +209,23 @@ impl Inboxes {
                 Some(part) => Some(*part),
             },
         }
+    }
+
+    /// The message that the inbox of the port has next.
+    fn message_of(&self, port: u8) -> Option<Message>
+        ensures { result ≡ message_of (slice_get self.now.ports.items port) }
+    {
+        match self.ports.get(port as usize) {
+            None => None,
+            Some(inbox) => next_message_in(inbox),
+        }
+    }
+
+    /// The message that is forwarded to the port next, which is an ACE port, from its next part on.
+    pub fn next_message(&self, port: u8) -> Option<Message>
+        ensures { (r : Recording) → InboxesStand r self.now → is_ace r.header port ≡ true → result ≡ next_message r.past port }
+    {
+        self.message_of(port)
     }
 
     /// The part at the place is one that the port has not answered.

@@ -16,4 +16,6 @@ mod system;
 mod tests;
 mod words;
 
+pub use barriers::OpenPair;
+pub use inboxes::Message;
 pub use system::SysCheck;

@@ -4,10 +4,11 @@ ghost use Rattle.std.specs.Prelude.{◌≡◌, ◌<◌, ◌==◌, ◌||◌, ℕ}
 ghost use Rattle.std.specs.Int.{bit_at};
 ghost use Rattle.ace_sysck.specs.Registrations.{locked_in, kept_bits};
 
-use crate::kinds::{is_exclusive_store, is_line};
+use crate::kinds::is_exclusive_store;
 use ace_event::Event;
 use ace_model::Transaction;
 use ace_portck::Target;
+use ace_portck::kinds::is_line;
 use indexmap::IndexMap;
 use std::alloc::{AllocError, Global};
 
@@ -56,10 +57,13 @@ fn locked_in(event: &Event, target: &Target) -> Option<Transaction>
 }
 
 impl Registrations {
-    ghost use Rattle.std.specs.Prelude.{◌≡◌, [], OnOk, OnErr, nat_eq};
+    ghost use Rattle.std.specs.Prelude.{◌≡◌, ◌≤◌, [], IfOk, IsOk, OnOk, OnErr, length, nat_eq};
     ghost use Rattle.ace_event.specs.declared.header.Header.{Header};
     ghost use Rattle.ace_model.specs.Exclusives.{is_registered};
-    ghost use Rattle.ace_portck.specs.Targets.{Recording, after};
+    ghost use Rattle.ace_model.specs.Lines.{known_lines};
+    ghost use Rattle.ace_model.specs.Trace.{Trace};
+    ghost use Rattle.ace_portck.specs.LineMaps.{HasRoomForLines};
+    ghost use Rattle.ace_portck.specs.Targets.{Recording, after, target_of};
     ghost use Rattle.ace_sysck.specs.Registrations.{RegistrationsStand, MayMakeLineRoom, MayHearRegistrations, HasLineRoom, IsNewLock, registered_bits};
 
     /// The registrations of the empty trace.
@@ -69,6 +73,15 @@ impl Registrations {
         Registrations {
             lines: IndexMap::new(alloc),
         }
+    }
+
+    /// The same, with room for so many lines.
+    pub fn with_room(alloc: Global, lines: usize) -> Result<Registrations, AllocError>
+        ensures stands { IfOk result (λ s. (h : Header) → RegistrationsStand (record { header = h; past = [] }) s) }
+        ensures room { IfOk result (λ s. HasRoomForLines lines [] s.lines) }
+    {
+        let lines = IndexMap::with_capacity(alloc, lines)?;
+        Ok(Registrations { lines })
     }
 
     fn bits_of(&self, line: u32) -> u32
@@ -94,6 +107,10 @@ impl Registrations {
         ensures stands { (r : Recording) → RegistrationsStand r self.old → RegistrationsStand r self.new }
         ensures room { OnOk result (HasLineRoom self.new event.now target.now) }
         ensures cause { OnErr result ((r : Recording) → MayMakeLineRoom r self.old event.now target.now → IsNewLock r.past event.now) }
+        ensures roomy { (n : ℕ) (r : Recording) → HasRoomForLines n r.past self.old.lines → target.now ≡ target_of r.header r.past event.now
+            → HasRoomForLines n r.past self.new.lines }
+        ensures succeeds { (n : ℕ) (r : Recording) → HasRoomForLines n r.past self.old.lines → target.now ≡ target_of r.header r.past event.now
+            → length (known_lines r.past) ≤ n → IsOk result }
     {
         if let Some(x) = locked_in(event, target) {
             if !self.lines.contains_key(&x.addr) {
@@ -108,7 +125,8 @@ impl Registrations {
     /// The registrations after the event.
     #[inline(always)]
     pub fn hear(&mut self, event: &Event, target: &Target)
-        ensures { (r : Recording) → MayHearRegistrations r self.old event.now target.now → RegistrationsStand (after r event.now) self.new }
+        ensures stands { (r : Recording) → MayHearRegistrations r self.old event.now target.now → RegistrationsStand (after r event.now) self.new }
+        ensures roomy { (n : ℕ) (past : Trace) → HasRoomForLines n past self.old.lines → HasRoomForLines n past self.new.lines }
     {
         if let Some(x) = locked_in(event, target) {
             let kept = kept_bits(&x, self.bits_of(x.addr));

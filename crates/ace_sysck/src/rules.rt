@@ -40,7 +40,7 @@ pub fn keeps_k9(barriers: &Barriers, messages: &Messages, event: &Event, target:
 
 /// The read is an exclusive load, or an exclusive store that passed.
 #[inline(always)]
-fn is_okay(x: &Transaction, passed: Option<bool>) -> bool
+pub fn is_okay(x: &Transaction, passed: Option<bool>) -> bool
     ensures { result ≡ is_okay x.now passed }
 {
     x.lock && (!is_exclusive_store(x) || matches!(passed, Some(true)))

@@ -5,11 +5,12 @@ ghost use Rattle.ace_sysck.specs.Syncs.{next_count, reached_by, one_answered, on
 
 use crate::events::begun_in;
 use crate::inboxes::{Inboxes, answers_message};
-use crate::kinds::{is_ace, is_dvm_completion, is_message_part};
+use crate::kinds::{is_dvm_completion, is_message_part};
 use crate::messages::{Messages, is_new_sync};
 use ace_event::{Event, Header};
 use ace_model::Transaction;
 use ace_portck::Target;
+use ace_portck::kinds::is_ace;
 use std::alloc::{AllocError, Global};
 
 /// What is kept of the Syncs of other ports that reach one port (Arm IHI 0022E, C12).

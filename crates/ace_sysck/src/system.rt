@@ -2,16 +2,17 @@
 
 ghost use Rattle.std.specs.Prelude.{◌≡◌, Some, if◌then◌else◌};
 
-use crate::barriers::Barriers;
+use crate::barriers::{Barriers, OpenPair};
 use crate::events::granted_in;
-use crate::inboxes::Inboxes;
+use crate::inboxes::{Inboxes, Message};
 use crate::messages::Messages;
 use crate::monitors::Monitors;
 use crate::registrations::Registrations;
 use crate::results::Results;
-use crate::rules::{keeps_k9, keeps_k21, keeps_k37, keeps_k38, keeps_k39};
+use crate::rules::{is_okay, keeps_k9, keeps_k21, keeps_k37, keeps_k38, keeps_k39};
 use crate::syncs::Syncs;
 use ace_event::{Event, Header};
+use ace_model::Transaction;
 use ace_portck::{EventKind, NoMemory, Target};
 use std::alloc::Global;
 
@@ -36,7 +37,7 @@ fn unless(kept: bool, number: u8, rest: Option<u8>) -> Option<u8>
 }
 
 impl SysCheck {
-    ghost use Rattle.std.specs.Prelude.{◌≡◌, ℕ, [], true, Some, OnOk, OnErr, IfOk};
+    ghost use Rattle.std.specs.Prelude.{◌≡◌, ◌≤◌, ℕ, [], true, Some, OnOk, OnErr, IfOk, IsOk, length};
     ghost use Rattle.ace_event.specs.Ports.{IsHeader};
     ghost use Rattle.ace_event.specs.declared.event.Channel.TheVariants.{Read};
     ghost use Rattle.ace_model.specs.declared.transactions.Transaction.{Transaction};
@@ -45,18 +46,47 @@ impl SysCheck {
     ghost use Rattle.ace_model.specs.Shares.{system_rules};
     ghost use Rattle.ace_model.specs.Exclusives.{has_failed, store_passes};
     ghost use Rattle.ace_model.specs.Grants.{given};
-    ghost use Rattle.ace_model.specs.Transactions.{outstanding};
+    ghost use Rattle.ace_model.specs.Lines.{known_lines};
+    ghost use Rattle.ace_model.specs.ReadRules.{is_exclusive_okay};
+    ghost use Rattle.ace_model.specs.Trace.{Trace};
+    ghost use Rattle.ace_model.specs.Transactions.{is_ace, outstanding};
     ghost use Rattle.ace_portck.specs.declared.target.Target.{Target};
-    ghost use Rattle.ace_portck.specs.Targets.{Recording, after};
+    ghost use Rattle.ace_portck.specs.Targets.{Recording, after, target_of};
+    ghost use Rattle.ace_sysck.specs.Barriers.{TellsOpenPair};
     ghost use Rattle.ace_sysck.specs.Events.{is_issue, is_response};
+    ghost use Rattle.ace_sysck.specs.Inboxes.{next_message};
     ghost use Rattle.ace_sysck.specs.Registrations.{RegistrationsStand, IsNewLock};
     ghost use Rattle.ace_sysck.specs.Rules.{begun_rules, read_rules, snoop_rules};
-    ghost use Rattle.ace_sysck.specs.Stands.{Stands, MayTest, HasRoom, MayApply};
+    ghost use Rattle.ace_sysck.specs.Stands.{Stands, IsRoomy, MayTest, HasRoom, MayApply};
     ghost use Rattle.ace_sysck.specs.Steps.{IsStep};
 
     /// The checker of the empty trace under the header. There is no memory for it where there is none for its ports.
     pub fn new(alloc: Global, header: Header) -> Result<SysCheck, NoMemory>
         ensures { IfOk result (λ s. IsHeader header → Stands s (record { header = header; past = [] })) }
+    {
+        SysCheck::starting(alloc, header, Registrations::new(alloc))
+    }
+
+    /// The same, with room for so many lines: as long as no more are known, `ready` makes room for any event.
+    pub fn with_room(alloc: Global, header: Header, lines: usize) -> Result<SysCheck, NoMemory>
+        ensures stands { IfOk result (λ s. IsHeader header → Stands s (record { header = header; past = [] })) }
+        ensures room { IfOk result (IsRoomy lines []) }
+    {
+        let Ok(registrations) = Registrations::with_room(alloc, lines) else {
+            return Err(NoMemory);
+        };
+        SysCheck::starting(alloc, header, registrations)
+    }
+
+    /// The checker of the empty trace, with these registrations of it.
+    fn starting(
+        alloc: Global,
+        header: Header,
+        registrations: Registrations,
+    ) -> Result<SysCheck, NoMemory>
+        ensures stands { RegistrationsStand (record { header = header; past = [] }) registrations
+            → IfOk result (λ s. IsHeader header → Stands s (record { header = header; past = [] })) }
+        ensures registrations { IfOk result (λ s. s.registrations ≡ registrations) }
     {
         let Ok(barriers) = Barriers::new(alloc, header.ports) else {
             return Err(NoMemory);
@@ -81,7 +111,7 @@ impl SysCheck {
             barriers,
             monitors,
             results,
-            registrations: Registrations::new(alloc),
+            registrations,
             messages,
             inboxes,
             syncs,
@@ -163,6 +193,10 @@ impl SysCheck {
         ensures stands { (r : Recording) → Stands self.old r → Stands self.new r }
         ensures room { OnOk result (HasRoom self.new (E.event event.now) target.now) }
         ensures cause { OnErr result ((r : Recording) → MayTest self.old r (E.event event.now) target.now → IsNewLock r.past (E.event event.now)) }
+        ensures roomy { (n : ℕ) (r : Recording) → IsRoomy n r.past self.old → target.now ≡ target_of r.header r.past (E.event event.now)
+            → IsRoomy n r.past self.new }
+        ensures succeeds { (n : ℕ) (r : Recording) → IsRoomy n r.past self.old → target.now ≡ target_of r.header r.past (E.event event.now)
+            → length (known_lines r.past) ≤ n → IsOk result }
     {
         self.ready_for(&event.event(), target)
     }
@@ -173,6 +207,9 @@ impl SysCheck {
         ensures stands { (r : Recording) → Stands self.old r → Stands self.new r }
         ensures room { OnOk result (HasRoom self.new event.now target.now) }
         ensures cause { OnErr result ((r : Recording) → MayTest self.old r event.now target.now → IsNewLock r.past event.now) }
+        ensures roomy { (n : ℕ) (r : Recording) → IsRoomy n r.past self.old → target.now ≡ target_of r.header r.past event.now → IsRoomy n r.past self.new }
+        ensures succeeds { (n : ℕ) (r : Recording) → IsRoomy n r.past self.old → target.now ≡ target_of r.header r.past event.now
+            → length (known_lines r.past) ≤ n → IsOk result }
     {
         match self.registrations.ready(event, target) {
             Ok(()) => Ok(()),
@@ -195,7 +232,8 @@ impl SysCheck {
     /// Takes an AR or AW.
     #[inline(always)]
     fn begin(&mut self, event: &Event, target: &Target)
-        ensures { (r : Recording) → MayApply self.old r event.now target.now → is_issue event.now ≡ true → Stands self.new (after r event.now) }
+        ensures stands { (r : Recording) → MayApply self.old r event.now target.now → is_issue event.now ≡ true → Stands self.new (after r event.now) }
+        ensures registrations { self.new.registrations ≡ self.old.registrations }
     {
         self.barriers.hear(event, target);
         self.results.hear(event, target, false);
@@ -208,7 +246,8 @@ impl SysCheck {
     /// Takes an R or B.
     #[inline(always)]
     fn complete(&mut self, event: &Event, target: &Target)
-        ensures { (r : Recording) → MayApply self.old r event.now target.now → is_response event.now ≡ true → Stands self.new (after r event.now) }
+        ensures stands { (r : Recording) → MayApply self.old r event.now target.now → is_response event.now ≡ true → Stands self.new (after r event.now) }
+        ensures registrations { self.new.registrations ≡ self.old.registrations }
     {
         self.barriers.hear(event, target);
         self.messages.hear(event, target);
@@ -216,7 +255,8 @@ impl SysCheck {
 
     /// Takes an event that breaks no rule. The room for it was made. An event moves the groups of its kind alone.
     pub fn apply<E: EventKind>(&mut self, event: &E, target: &Target)
-        ensures { (r : Recording) → MayApply self.old r (E.event event.now) target.now → Stands self.new (after r (E.event event.now)) }
+        ensures stands { (r : Recording) → MayApply self.old r (E.event event.now) target.now → Stands self.new (after r (E.event event.now)) }
+        ensures roomy { (n : ℕ) (past : Trace) → IsRoomy n past self.old → IsRoomy n past self.new }
     {
         self.hear(&event.event(), target);
     }
@@ -224,7 +264,8 @@ impl SysCheck {
     /// The same, of an event whose kind isn't known.
     #[inline(always)]
     fn hear(&mut self, event: &Event, target: &Target)
-        ensures { (r : Recording) → MayApply self.old r event.now target.now → Stands self.new (after r event.now) }
+        ensures stands { (r : Recording) → MayApply self.old r event.now target.now → Stands self.new (after r event.now) }
+        ensures roomy { (n : ℕ) (past : Trace) → IsRoomy n past self.old → IsRoomy n past self.new }
     {
         match *event {
             Event::Ar { .. } => self.begin(event, target),
@@ -250,6 +291,20 @@ impl SysCheck {
         }
     }
 
+    /// The barrier pair of the port that isn't complete, if there is one.
+    pub fn open_pair(&self, port: u8) -> Option<OpenPair>
+        ensures { (r : Recording) → Stands self.now r → TellsOpenPair r.past port result }
+    {
+        self.barriers.open_pair(port)
+    }
+
+    /// The DVM message that is forwarded to the port next, which is an ACE port, from its next part on.
+    pub fn next_message(&self, port: u8) -> Option<Message>
+        ensures { (r : Recording) → Stands self.now r → is_ace r.header port ≡ true → result ≡ next_message r.past port }
+    {
+        self.inboxes.next_message(port)
+    }
+
     /// Whether the port's outstanding read under the identifier is an exclusive store that failed.
     pub fn failed(&self, port: u8, id: u8) -> bool
         ensures { (r : Recording) (x : Transaction) → Stands self.now r → outstanding r.header r.past port Read id ≡ Some x → result ≡ has_failed r.past x }
@@ -258,5 +313,12 @@ impl SysCheck {
             None => false,
             Some(passed) => !passed,
         }
+    }
+
+    /// Whether the read is an exclusive load, or an exclusive store that passed: its response is EXOKAY.
+    pub fn is_okay(&self, read: &Transaction) -> bool
+        ensures { (r : Recording) → Stands self.now r → result ≡ is_exclusive_okay r.past read.now }
+    {
+        is_okay(read, self.results.passed(read.port, read.id))
     }
 }

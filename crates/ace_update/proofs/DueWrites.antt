@@ -23,10 +23,6 @@ use Rattle.ace_model.specs.WriteRules.{data_of, data_of_write, is_update_due, is
 use Rattle.ace_model.specs.Writes.{has_memory_write, is_burst_whole}
 use Rattle.ace_model.proofs.General.Options.{is_some_and-is}
 use Rattle.ace_model.proofs.Grants.Granted.{granted_at, granted_given, updates_ungranted}
-use Rattle.ace_model.proofs.Outstanding.Issued.{some_issued-any, transactions-issued}
-use Rattle.ace_model.proofs.Trace.Growth.{IsIssued}
-use Rattle.ace_model.proofs.Trace.LineOnce.{outstanding_is}
-use Rattle.ace_model.proofs.Trace.Looks.{is_write-is}
 use Rattle.ace_runs.specs.Bursts.{is_kept, may_begin, may_serve}
 use Rattle.ace_runs.specs.LineSteps.{memory_write, response, update_burst}
 use Rattle.ace_runs.proofs.NeverStuck.Updates.EvictsMove.{evict-no-data, evicts-no-half, evicts-write, may-answer-evict}
@@ -34,50 +30,19 @@ use Rattle.ace_runs.proofs.NeverStuck.Steps.StepShapes.{updates_write}
 use Rattle.ace_runs.proofs.NeverStuck.Steps.SameEvents.{same-line-self}
 use Rattle.ace_runs.proofs.NeverStuck.Updates.UpdatesMove.{data-there, sends-data}
 use Rattle.ace_runs.proofs.NeverStuck.IssuedTransactions.{issuer-low}
-use Rattle.ace_portck.specs.Pending.{is_pending, pending_of}
+use Rattle.ace_engine.proofs.Pending.{IsPending, pending-at, serves-none as none-served}
+use Rattle.ace_portck.specs.Pending.{pending_of}
 use Rattle.ace_portck.specs.Targets.{data_of_write as data_sent}
 use Rattle.ace_update.specs.Passed.{has_passed_on}
 
 -- ---- the outstanding writes of a port ----------------------------------------------------------------
 
 -- It is one of them.
-pub record IsWrite (h : Header) (past : Trace) (p : ℕ) (x : Transaction) : Type 0 where
-  pub issued : IsIssued past x
-  pub port : x.port ≡ p
-  pub chan : x.chan ≡ Write
-  pub is_out : is_outstanding h past x ≡ true
-  pub out : outstanding h past p Write x.id ≡ Some x
-
-at-place : {A : Type 0} → (P : A → Type 0) (xs : List A) (k : ℕ) (x : A) → AllByRecursion P xs → slice_get xs k ≡ Some x → P x
-at-place P [] k x all is = cc
-at-place P (y ∷ xs) zero x all is = let same : y ≡ x = cc in subst P same all.0
-at-place P (y ∷ xs) (suc k) x all is = at-place P xs k x all.1 is
-
-filtered : {A : Type 0} → (test : A → Bool) (P : A → Type 0) (xs : List A) → AllByRecursion P xs → AllByRecursion (λ x. P x × (test x ≡ true)) (filter test xs)
-filtered test P [] all = tt
-filtered test P (x ∷ xs) all = elim (cases_Bool (test x)) [
-  | inl t ↦ rw t ((all.0, t), filtered test P xs all.1)
-  | inr f ↦ rw f (filtered test P xs all.1)
-]
-
-on-writes : (c : Channel) → same_channel c Write ≡ true → is_read c ≡ false
-on-writes Read t = cc
-on-writes Write t = refl
+abbrev pub IsWrite : Header → Trace → ℕ → Transaction → Type 0
+IsWrite h past p x = IsPending h past p Write x
 
 pub write-at : (h : Header) (past : Trace) (p k : ℕ) (x : Transaction) → slice_get (pending_of h past p Write) k ≡ Some x → IsWrite h past p x
-write-at h past p k x there =
-    let both = at-place _ (pending_of h past p Write) k x (filtered (is_pending h past p Write) (IsIssued past) (transactions past) (transactions-issued past)) there in
-    let two = and_parts ((x.port == p) && same_channel x.chan Write) (is_outstanding h past x) both.1 in
-    let one = and_parts (x.port == p) (same_channel x.chan Write) two.0 in
-    let port = eqb-true x.port p one.0 in
-    let chan = is_write-is x.chan (on-writes x.chan one.1) in
-    record {
-      issued = both.0;
-      port = port;
-      chan = chan;
-      is_out = two.1;
-      out = subst (λ c. outstanding h past p c x.id ≡ Some x) chan (subst (λ q. outstanding h past q x.chan x.id ≡ Some x) port (outstanding_is h past x both.0 two.1));
-    }
+write-at h past p k x there = pending-at h past p Write k x there
 
 -- ---- when its burst may begin ------------------------------------------------------------------------
 
@@ -167,47 +132,15 @@ none-begins h past x f e =
     ap (λ b. may_begin h past (if b then memory_write h past x ++ response x else if evicts x then response x else [])) f
     ∙ ap (λ b. may_begin h past (if b then response x else [])) e
 
--- ---- whether there is one ----------------------------------------------------------------------------
-
-read-begins-none : (h : Header) (past : Trace) (x : Transaction) → is_read x.chan ≡ true → may_begin h past (update_burst h past x) ≡ false
+read-begins-none : (h : Header) (past : Trace) (x : Transaction) → same_channel x.chan Write ≡ false → may_begin h past (update_burst h past x) ≡ false
 read-begins-none h past x reads =
-    none-begins h past x (false_from_ne_true _ (λ u. let w = updates_write x u in cc)) (false_from_ne_true _ (λ e. let w = evicts-write x e in cc))
-
-any-same : {A : Type 0} → (f g : A → Bool) (xs : List A) → ((x : A) → f x ≡ g x) → list_any f xs ≡ list_any g xs
-any-same f g [] same = refl
-any-same f g (x ∷ xs) same = let here = same x in let rest = any-same f g xs same in rw (here, rest) refl
-
-any-filtered : {A : Type 0} → (f g : A → Bool) (xs : List A) → list_any (λ x. f x && g x) xs ≡ list_any g (filter f xs)
-any-filtered f g [] = refl
-any-filtered f g (x ∷ xs) = let rest = any-filtered f g xs in elim (cases_Bool (f x)) [ inl t ↦ rw (t, rest) refl | inr n ↦ rw (n, rest) refl ]
-
-any-none : {A : Type 0} → (test : A → Bool) (xs : List A) → ((k : ℕ) (x : A) → slice_get xs k ≡ Some x → test x ≡ false) → list_any test xs ≡ false
-any-none test [] none = refl
-any-none test (x ∷ xs) none = let here = none 0 x refl in let rest = any-none test xs (λ k y at. none (suc k) y at) in rw (here, rest) refl
-
-one-test : (h : Header) (past : Trace) (p : ℕ) (x : Transaction)
-    → (((x.port == p) && is_outstanding h past x) && may_begin h past (update_burst h past x)) ≡ (is_pending h past p Write x && may_begin h past (update_burst h past x))
-one-test h past p x = by x.chan refl
+    none-begins h past x (false_from_ne_true _ (λ u. let w = updates_write x u in by x.chan reads w)) (false_from_ne_true _ (λ e. let w = evicts-write x e in by x.chan reads w))
   where
-    off : (b : Bool) → (b && false) ≡ false
-    off true = refl
-    off false = refl
+    by : (c : Channel) → same_channel c Write ≡ false → is_read c ≡ false → ⊥
+    by Read reads w = cc
+    by Write reads w = cc
 
-    on : (a b c : Bool) → ((a && b) && c) ≡ (((a && true) && b) && c)
-    on true b c = refl
-    on false b c = refl
-
-    by : (c : Channel) → x.chan ≡ c
-        → (((x.port == p) && is_outstanding h past x) && may_begin h past (update_burst h past x)) ≡ (is_pending h past p Write x && may_begin h past (update_burst h past x))
-    by Read is =
-        let none = read-begins-none h past x (ap is_read is) in
-        rw none (off ((x.port == p) && is_outstanding h past x) ∙ sym (off (is_pending h past p Write x)))
-    by Write is = on (x.port == p) (is_outstanding h past x) (may_begin h past (update_burst h past x)) ∙ ap (λ c. (((x.port == p) && same_channel c Write) && is_outstanding h past x) && may_begin h past (update_burst h past x)) (sym is)
-
+-- where no outstanding write of the port may have its burst, there is no step
 pub serves-none : (h : Header) (past : Trace) (p : ℕ) → ((k : ℕ) (x : Transaction) → slice_get (pending_of h past p Write) k ≡ Some x → may_begin h past (update_burst h past x) ≡ false)
     → may_serve update_burst h past p ≡ false
-serves-none h past p none =
-    some_issued-any past (λ x. (x.port == p) && is_outstanding h past x && may_begin h past (update_burst h past x))
-    ∙ any-same _ (λ x. is_pending h past p Write x && may_begin h past (update_burst h past x)) (transactions past) (one-test h past p)
-    ∙ any-filtered (is_pending h past p Write) (λ x. may_begin h past (update_burst h past x)) (transactions past)
-    ∙ any-none (λ x. may_begin h past (update_burst h past x)) (pending_of h past p Write) none
+serves-none h past p none = none-served update_burst h past p Write (read-begins-none h past) none

@@ -6,10 +6,8 @@ pub mod LineLists
 pub mod PassedLists
 -- When an outstanding write may have its burst of step 3.
 pub mod DueWrites
--- What is kept has room for what comes.
+-- There is room for one more line with passed data.
 pub mod Rooms
--- An element of a list that tells of the elements of another.
-pub mod Listed
 -- The burst of a write that may have it is a step.
 pub mod UpdateSteps
 -- Two worked traces.

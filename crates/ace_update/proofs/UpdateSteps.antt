@@ -24,60 +24,20 @@ use Rattle.ace_model.proofs.General.Options.{Some-injective, is_none_or-at, is_s
 use Rattle.ace_model.proofs.Trace.Growth.{some_issued-found}
 use Rattle.ace_model.proofs.Trace.WriteQueue.{done_write}
 use Rattle.ace_runs.specs.Bursts.{are_kept, is_kept, may_begin, may_serve, serves}
-use Rattle.ace_runs.specs.Follows.{FollowsSoFar, has_room_after, obeys}
-use Rattle.ace_runs.specs.HeldLines.{held_lines}
-use Rattle.ace_runs.specs.Lean.{stays_lean}
 use Rattle.ace_runs.specs.LineSteps.{memory_write, response, update_burst}
 use Rattle.ace_runs.specs.SameEvents.{same_burst}
-use Rattle.ace_runs.specs.Segments.{is_at_port}
 use Rattle.ace_runs.specs.Steps.{is_sound, is_step_by}
-use Rattle.ace_runs.proofs.Accepting.{kept-breaks-none}
 use Rattle.ace_runs.proofs.NeverStuck.Updates.EvictsMove.{may-answer-evict, response-kept}
 use Rattle.ace_runs.proofs.NeverStuck.Steps.StepShapes.{updates_write}
 use Rattle.ace_runs.proofs.NeverStuck.Steps.SameEvents.{same-line-self}
 use Rattle.ace_runs.proofs.NeverStuck.Updates.UpdatesMove.{data-there, sends-data}
 use Rattle.ace_runs.proofs.NeverStuck.IssuedTransactions.{issuer-low}
 use Rattle.ace_engine.specs.Engines.{IsLegal}
+use Rattle.ace_engine.proofs.OfInterconnect.{legal-with}
 use Rattle.ace_portck.specs.declared.target.WriteData.{WriteData}
 use Rattle.ace_portck.specs.Targets.{data_of_write as data_sent}
 use Rattle.ace_update.specs.Passed.{has_passed_on}
 use Rattle.ace_update.proofs.DueWrites.{IsWrite, none-begins, update-begins}
-
--- ---- the longer trace --------------------------------------------------------------------------------
-
--- Each port holds no more lines than the plan has ways.
-held-few : (plan : Plan) (past : Trace) (p : ℕ) → FollowsSoFar plan past → nat_le (length (held_lines plan.header past p)) plan.ways ≡ true
-held-few plan [] p f = le-leb 0 plan.ways (omega arith)
-held-few plan (e ∷ past) p f =
-    elim (cases_Bool (is_at_port p e)) [
-      | inr other ↦ rw other (held-few plan past p f.0)
-      | inl own ↦
-          let q = is_some_and-is (port_of e) (λ q. q == p) own in
-          let room : has_room_after plan past e ≡ true = (and_parts _ (has_room_after plan past e) f.1).1 in
-          subst (λ r. nat_le (length (held_lines plan.header (e ∷ past) r)) plan.ways ≡ true) (eqb-true q.0 p q.2)
-          (is_none_or-at (port_of e) (λ r. nat_le (length (held_lines plan.header (e ∷ past) r)) plan.ways) q.0 room q.1)
-    ]
-
-either-same : {A : Type 0} → (b : Bool) (x : A) → (if b then x else x) ≡ x
-either-same true x = refl
-either-same false x = refl
-
--- a write of memory and a response obey any plan
-memory-obeys : (plan : Plan) (past : Trace) (p : ℕ) (c : Channel) (i : ℕ) (line : Line) → FollowsSoFar plan past → obeys plan past (M p c i line) ≡ true
-memory-obeys plan past p c i line f =
-    ap (λ (ls : List ℕ). nat_le (length ls) plan.ways) (either-same (p == p) (held_lines plan.header past p)) ∙ held-few plan past p f
-
-response-obeys : (plan : Plan) (past : Trace) (p i resp : ℕ) → FollowsSoFar plan past → obeys plan past (B p i resp) ≡ true
-response-obeys plan past p i resp f =
-    ap (λ (ls : List ℕ). nat_le (length ls) plan.ways) (either-same (p == p) (held_lines plan.header past p)) ∙ held-few plan past p f
-
-legal-more : (plan : Plan) (past : Trace) (e : Event) → IsLegal plan past → is_kept plan.header past e ≡ true → obeys plan past e ≡ true → stays_lean plan past e ≡ true → IsLegal plan (e ∷ past)
-legal-more plan past e legal kept obeying lean = record {
-  right = legal.right;
-  accepted = (legal.accepted, kept-breaks-none plan.header past e kept);
-  follows = (legal.follows, obeying);
-  lean = (legal.lean, lean);
-}
 
 -- ---- the burst ---------------------------------------------------------------------------------------
 
@@ -148,7 +108,7 @@ module _ (plan : Plan) (past : Trace) (legal : IsLegal plan past) (p : ℕ) (x :
 
     pub legal-memory : IsLegal plan (M x.port x.chan x.id d.line ∷ past)
     legal-memory =
-        legal-more plan past (M x.port x.chan x.id d.line) legal memory-is-kept (memory-obeys plan past x.port x.chan x.id d.line legal.follows) refl
+        legal-with plan past (M x.port x.chan x.id d.line) refl legal memory-is-kept
 
     no-half : is_barrier_half x ≡ false
     no-half =
@@ -183,8 +143,7 @@ module _ (plan : Plan) (past : Trace) (legal : IsLegal plan past) (p : ℕ) (x :
 
     pub legal-both : IsLegal plan (B x.port x.id 0 ∷ M x.port x.chan x.id d.line ∷ past)
     legal-both =
-        legal-more plan (M x.port x.chan x.id d.line ∷ past) (B x.port x.id 0) legal-memory response-is-kept
-        (response-obeys plan (M x.port x.chan x.id d.line ∷ past) x.port x.id 0 legal-memory.follows) refl
+        legal-with plan (M x.port x.chan x.id d.line ∷ past) (B x.port x.id 0) refl legal-memory response-is-kept
 
     pub update-step : is_step_by (3 ∷ []) plan past p (M x.port x.chan x.id d.line ∷ B x.port x.id 0 ∷ []) ≡ true
     update-step =
@@ -210,7 +169,7 @@ module _ (plan : Plan) (past : Trace) (legal : IsLegal plan past) (p : ℕ) (x :
     evict-kept = ap (may_begin plan.header past) (sym evict-burst) ∙ begins
 
     pub legal-response : IsLegal plan (B x.port x.id 0 ∷ past)
-    legal-response = legal-more plan past (B x.port x.id 0) legal evict-kept (response-obeys plan past x.port x.id 0 legal.follows) refl
+    legal-response = legal-with plan past (B x.port x.id 0) refl legal evict-kept
 
     pub evict-step : is_step_by (3 ∷ []) plan past p (B x.port x.id 0 ∷ []) ≡ true
     evict-step =

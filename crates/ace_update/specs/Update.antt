@@ -1,25 +1,20 @@
 -- What the engine of memory updates keeps says of a trace.
-use Rattle.std.specs.Prelude.{ℕ, ◌≡◌, true, false, List, [], ◌∷◌, Some, slice_get}
+use Rattle.std.specs.Prelude.{ℕ, ◌≡◌, true, List, [], ◌∷◌, Some, slice_get}
 use Rattle.ace_event.specs.declared.event.Channel.TheVariants.{Write}
 use Rattle.ace_event.specs.declared.event.Event.{Event}
 use Rattle.ace_event.specs.declared.header.Header.{Header}
-use Rattle.ace_model.specs.declared.plans.PlanOp.{PlanOp}
 use Rattle.ace_model.specs.declared.transactions.Transaction.{Transaction}
-use Rattle.ace_model.specs.Plans.{IsRight, Plan, longer}
+use Rattle.ace_model.specs.Plans.{Plan}
 use Rattle.ace_model.specs.Trace.{Trace}
 use Rattle.ace_runs.specs.Bursts.{may_begin, onto}
 use Rattle.ace_runs.specs.LineSteps.{update_burst}
 use Rattle.ace_runs.specs.Steps.{is_step_by}
-use Rattle.ace_engine.specs.Engines.{IsLegal, Update as OfUpdates, is_their_operation}
-use Rattle.ace_engine.proofs.LongerPlans.{legal-longer}
+use Rattle.ace_engine.specs.Engines.{IsLegal}
+use Rattle.ace_engine.specs.Rooms.{most_snoops}
 use Rattle.ace_portck.specs.Pending.{pending_of}
 use Rattle.ace_portck.specs.Stands.{IsRoomy, Stands}
 use Rattle.ace_update.specs.Passed.{PassedStand}
 use Rattle.ace_update.specs.declared.update.Update.{Update}
-
--- the most snoops that a plan can have at one port
-abbrev pub most_snoops : ℕ
-most_snoops = 24576
 
 -- It keeps what there is of each port, and the lines whose granted transactions have passed data. It has room for all snoops of a plan.
 pub record UpdateStands (s : Update) (plan : Plan) (past : Trace) : Type 0 where
@@ -37,16 +32,3 @@ pub record IsDue (h : Header) (past : Trace) (p : ℕ) (x : Transaction) : Type 
 pub record IsTurn (s : Update) (plan : Plan) (past : Trace) (p : ℕ) (burst : List Event) : Type 0 where
   pub step : is_step_by (3 ∷ []) plan past p burst ≡ true
   pub stands : UpdateStands s plan (onto burst past)
-
-pub legal : (s : Update) (plan : Plan) (past : Trace) → UpdateStands s plan past → IsLegal plan past
-legal s plan past stands = stands.legal
-
--- it doesn't look at the operations of the plan
-pub grows : (s : Update) (plan : Plan) (past : Trace) (o : PlanOp) → UpdateStands s plan past → IsRight (longer plan o)
-    → is_their_operation OfUpdates (λ _. true) o ≡ false → UpdateStands s (longer plan o) past
-grows s plan past o stands right other = record {
-  legal = legal-longer plan past o stands.legal right;
-  ports = stands.ports;
-  room = stands.room;
-  passed = stands.passed;
-}

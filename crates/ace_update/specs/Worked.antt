@@ -1,5 +1,5 @@
 -- Two worked traces of one port, each up to a burst of the engine.
-use Rattle.std.specs.Prelude.{Bool, true, false, not, ◌&&◌, List, [], ◌∷◌}
+use Rattle.std.specs.Prelude.{Bool, true, false, List, [], ◌∷◌}
 use Rattle.ace_codes.specs.declared.kind.ArKind.TheVariants as read
 use Rattle.ace_codes.specs.declared.state.LineState.TheVariants.{UC, UD}
 use Rattle.ace_event.specs.declared.event.Channel.TheVariants.{Read}
@@ -14,6 +14,7 @@ use Rattle.ace_model.specs.Plans.{Plan}
 use Rattle.ace_model.specs.Trace.{Trace}
 use Rattle.ace_model.specs.Values.{full_line}
 use Rattle.ace_engine.specs.Engines.{is_of_update}
+use Rattle.ace_engine.specs.Heard.{none_passes}
 
 -- the plan of one ACE port with one way and these two operations
 abbrev pub plan_of : Operation → Operation → Plan
@@ -47,5 +48,4 @@ evict_events =
 
 -- none of the events is one of the engine's own
 abbrev pub are_others : Trace → List Event → Bool
-are_others past [] = true
-are_others past (e ∷ events) = not (is_of_update past e) && are_others (e ∷ past) events
+are_others past events = none_passes is_of_update past events

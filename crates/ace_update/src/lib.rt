@@ -1,7 +1,6 @@
 //! The engine of memory updates and Evicts: it writes their data to memory and responds to them.
 #![tactic(auto)]
 
-mod kinds;
 mod passed;
 #[cfg(test)]
 mod tests;

@@ -14,12 +14,12 @@ ghost use Rattle.ace_portck.specs.Pending.{pending_of};
 ghost use Rattle.ace_portck.specs.Targets.{data_of_write, progress_of};
 ghost use Rattle.ace_update.specs.Update.{IsDue, IsTurn, UpdateStands};
 
-use crate::kinds::{evicts, updates_memory};
 use crate::passed::PassedLines;
 use ace_engine::{Burst, Engine};
 use ace_event::{Channel, Event, Line};
 use ace_io::NoMemory;
 use ace_model::{PlanView, Transaction};
+use ace_portck::kinds::{evicts, updates_memory};
 use ace_portck::{PortCheck, Progress, WriteData};
 use std::alloc::Global;
 
@@ -154,7 +154,8 @@ impl Update {
 impl Engine for Update {
     ghost use Rattle.std.specs.Prelude.{true};
     ghost use Rattle.ace_engine.specs.Engines.{Update as OfUpdates};
-    ghost use Rattle.ace_update.specs.Update.{UpdateStands, grows, legal};
+    ghost use Rattle.ace_update.specs.EngineLaws.{grows, legal};
+    ghost use Rattle.ace_update.specs.Update.{UpdateStands};
 
     ghost kind = { OfUpdates };
 

@@ -7,9 +7,10 @@ use Rattle.ace_event.specs.declared.event.Outcome.TheVariants.{Ok}
 use Rattle.ace_model.specs.Plans.{Plan}
 use Rattle.ace_runs.specs.Bursts.{onto}
 use Rattle.ace_engine.specs.Engines.{IsLegal}
+use Rattle.ace_engine.proofs.Heard.{legal-between}
 use Rattle.ace_update.specs.Update.{UpdateStands}
 use Rattle.ace_update.specs.Worked.{are_others, evict_plan}
-use Rattle.ace_update.proofs.Worked.{before, evict-legal}
+use Rattle.ace_update.proofs.Worked.{evict-legal}
 use Rattle.ace_update.proofs.tests.giving_up.Goals as goal
 
 -- the events before the write, and those from it on
@@ -26,7 +27,7 @@ returns c =
     let two : c.aw.result ∷ c.op-2.result ∷ [] ≡ second = rw (c.aw.ensures, c.op-2.ensures) refl in
     let halfway : UpdateStands c.hear_all.new.update evict_plan (onto first []) =
     subst (λ es. UpdateStands c.in_ok-update.update evict_plan [] → IsLegal evict_plan (onto es []) → are_others [] es ≡ true → UpdateStands c.hear_all.new.update evict_plan (onto es []))
-    one (c.hear_all.ensures evict_plan []) begun (before evict_plan first second [] evict-legal) refl in
+    one (c.hear_all.ensures evict_plan []) begun (legal-between evict_plan first second [] evict-legal) refl in
     subst (λ es. UpdateStands c.hear_all.new.update evict_plan (onto first []) → IsLegal evict_plan (onto es (onto first [])) → are_others (onto first []) es ≡ true
     → UpdateStands c.hear_all-2.new.update evict_plan (onto es (onto first [])))
     two (c.hear_all-2.ensures evict_plan (onto first [])) halfway evict-legal refl

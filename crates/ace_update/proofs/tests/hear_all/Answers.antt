@@ -3,7 +3,8 @@ use Rattle.ace_event.specs.declared.event.Event.{Event}
 use Rattle.ace_event.specs.declared.event.Event.TheVariants.{Ar}
 use Rattle.ace_runs.specs.Bursts.{onto}
 use Rattle.ace_update.specs.Update.{UpdateStands}
-use Rattle.ace_update.proofs.Worked.{legal-next, onto-next, other-next, same-for-all}
+use Rattle.ace_engine.proofs.Heard.{legal-next, onto-next}
+use Rattle.ace_update.proofs.Worked.{other-next, same-for-all}
 use Rattle.ace_update.proofs.tests.hear_all.Goals as goal
 
 pub loop-event-preserved : goal.loop-event-preserved

@@ -8,9 +8,10 @@ use Rattle.ace_model.specs.Plans.{Plan}
 use Rattle.ace_model.specs.Values.{full_line}
 use Rattle.ace_runs.specs.Bursts.{onto}
 use Rattle.ace_engine.specs.Engines.{IsLegal}
+use Rattle.ace_engine.proofs.Heard.{legal-between}
 use Rattle.ace_update.specs.Update.{UpdateStands}
 use Rattle.ace_update.specs.Worked.{are_others, update_plan, stored}
-use Rattle.ace_update.proofs.Worked.{before, update-legal}
+use Rattle.ace_update.proofs.Worked.{update-legal}
 use Rattle.ace_update.proofs.tests.writing_back.Goals as goal
 
 -- the events before the write, and those from it on
@@ -27,7 +28,7 @@ returns c =
     let two : c.aw.result ∷ c.op-2.result ∷ c.w.result ∷ c.w-2.result ∷ c.w-3.result ∷ c.w-4.result ∷ [] ≡ second = rw (c.aw.ensures, c.op-2.ensures, c.w.ensures, c.w-2.ensures, c.w-3.ensures, c.w-4.ensures) refl in
     let halfway : UpdateStands c.hear_all.new.update update_plan (onto first []) =
     subst (λ es. UpdateStands c.in_ok-update.update update_plan [] → IsLegal update_plan (onto es []) → are_others [] es ≡ true → UpdateStands c.hear_all.new.update update_plan (onto es []))
-    one (c.hear_all.ensures update_plan []) begun (before update_plan first second [] update-legal) refl in
+    one (c.hear_all.ensures update_plan []) begun (legal-between update_plan first second [] update-legal) refl in
     subst (λ es. UpdateStands c.hear_all.new.update update_plan (onto first []) → IsLegal update_plan (onto es (onto first [])) → are_others (onto first []) es ≡ true
     → UpdateStands c.hear_all-2.new.update update_plan (onto es (onto first [])))
     two (c.hear_all-2.ensures update_plan (onto first [])) halfway update-legal refl

@@ -44,8 +44,8 @@ returns-clause-stands g c = λ h past m few.
     let room = s.few in
     record {
       ports = c.apply.ensures.stands r (record { stands = c.ready.ensures.stands r s.ports; room = from_ok c.ready.result (sym c.is_err.ensures.value ∙ c.if-is_err.false) c.ready.ensures.room; keeps = m.fine; few = room });
-      lines = c.apply-2.ensures r (record { stands = c.ready-2.ensures.stands r s.lines m.at; target = m.target; room = c.in-Ok.ensures.room m.at; kept = m.fine; few = room });
-      system = c.apply-3.ensures r (record { stands = c.ready-3.ensures.stands r s.system; target = m.target; room = from_ok c.ready-3.result (sym c.is_err-2.ensures.value ∙ c.if-is_err-2.false) c.ready-3.ensures.room; kept = m.fine; few = room });
+      lines = c.apply-2.ensures.stands r (record { stands = c.ready-2.ensures.stands r s.lines m.at; target = m.target; room = c.in-Ok.ensures.room m.at; kept = m.fine; few = room });
+      system = c.apply-3.ensures.stands r (record { stands = c.ready-3.ensures.stands r s.system; target = m.target; room = from_ok c.ready-3.result (sym c.is_err-2.ensures.value ∙ c.if-is_err-2.false) c.ready-3.ensures.room; kept = m.fine; few = room });
       count = omega (arith, count, few);
       few = omega (arith, few);
       broken = s.broken;

@@ -3,20 +3,21 @@ use Rattle.indexmap.specs.IndexMap.{get, values}
 use Rattle.ace_lineck.specs.Records.{LineStands, IsRecordStep}
 use Rattle.ace_lineck.proofs.AllLines.{unplaced, placed, line-step, applied-then, applied-else}
 use Rattle.ace_lineck.proofs.Places.{get-at, place-taken, written-here, written-there}
+use Rattle.ace_lineck.proofs.Rooms.{written-records, written-roomy}
 use Rattle.ace_lineck.proofs.lines.LineCheck.hear.Goals as goal
 
-pub returns-in_default : goal.returns-in_default
-returns-in_default c r s = unplaced c.args.self.now r c.args.event.now c.args.target.now c.args.place s c.in_default.is
+pub returns-in_default-clause-stands : goal.returns-in_default-clause-stands
+returns-in_default-clause-stands c r s = unplaced c.args.self.now r c.args.event.now c.args.target.now c.args.place s c.in_default.is
 
-pub returns-in_default-get_index_mut : goal.returns-in_default-get_index_mut
-returns-in_default-get_index_mut c r s =
+pub returns-in_default-get_index_mut-clause-stands : goal.returns-in_default-get_index_mut-clause-stands
+returns-in_default-get_index_mut-clause-stands c r s =
     let i = c.in-Some.place in
     let on = placed c.args.self.now r c.args.event.now c.args.target.now c.args.place s i c.in-Some.is in
     let within = place-taken c.args.self.now (Some on.0) i on.2 in
     let bad : false ≡ true = c.in_default-get_index_mut.ensures.found.1 within in cc
 
-pub returns-then-advance : goal.returns-then-advance
-returns-then-advance c r s =
+pub returns-then-advance-clause-stands : goal.returns-then-advance-clause-stands
+returns-then-advance-clause-stands c r s =
     let self = c.args.self.now in
     let e = c.args.event.now in
     let i = c.in-Some.place in
@@ -31,10 +32,10 @@ returns-then-advance c r s =
     subst (λ v. LineStands v (e ∷ r.past) on.0 kept) s.stands.header
     (c.advance.ensures.stands r.past on.0 (subst (λ v. IsRecordStep v r.past on.0 e c.args.target.now was) (sym s.stands.header) step)) in
     applied-then self _ r e c.args.target.now c.args.place s on.0 on.1 was kept step new c.advance.ensures.room (sym c.advance.ensures.known ∙ c.if-advance.true)
-    (record { header = refl; empty = refl; here = written-here self on.0 i on.2 unique was kept value; others = written-there self on.0 i on.2 unique was kept value }) refl
+    (record { header = refl; empty = refl; here = written-here self on.0 i on.2 unique was kept value; others = written-there self on.0 i on.2 unique was kept value }) refl s.stands.spare
 
-pub returns-else-advance : goal.returns-else-advance
-returns-else-advance c r s =
+pub returns-else-advance-clause-stands : goal.returns-else-advance-clause-stands
+returns-else-advance-clause-stands c r s =
     let self = c.args.self.now in
     let e = c.args.event.now in
     let i = c.in-Some.place in
@@ -49,4 +50,10 @@ returns-else-advance c r s =
     subst (λ v. LineStands v (e ∷ r.past) on.0 kept) s.stands.header
     (c.advance.ensures.stands r.past on.0 (subst (λ v. IsRecordStep v r.past on.0 e c.args.target.now was) (sym s.stands.header) step)) in
     applied-else self _ r e c.args.target.now c.args.place s on.0 on.1 was kept step new c.advance.ensures.room (sym c.advance.ensures.known ∙ c.if-advance.false)
-    (record { header = refl; empty = refl; here = written-here self on.0 i on.2 unique was kept value; others = written-there self on.0 i on.2 unique was kept value }) refl
+    (record { header = refl; empty = refl; here = written-here self on.0 i on.2 unique was kept value; others = written-there self on.0 i on.2 unique was kept value }) refl s.stands.spare
+
+pub returns-then-advance-clause-roomy : goal.returns-then-advance-clause-roomy
+returns-then-advance-clause-roomy c n past room = record { map = written-roomy n past c.args.self.now c.in-Some.place c.advance.new.kept room; records = written-records n past c.args.self.now c.in-Some.place c.advance.new.kept room }
+
+pub returns-else-advance-clause-roomy : goal.returns-else-advance-clause-roomy
+returns-else-advance-clause-roomy c n past room = record { map = written-roomy n past c.args.self.now c.in-Some.place c.advance.new.kept room; records = written-records n past c.args.self.now c.in-Some.place c.advance.new.kept room }

@@ -1,4 +1,4 @@
-use Rattle.std.proofs.Common.{ap}
+use Rattle.std.proofs.Common.{ap, ◌∙◌}
 use Rattle.ace_model.specs.Trace.{port_of}
 use Rattle.ace_portck.proofs.AllPorts.{has_room, on_err}
 use Rattle.ace_portck.proofs.ports.PortCheck.ready_for.Goals as goal
@@ -9,3 +9,16 @@ returns-in-Ac-clause-cause c =
 
 pub returns-in_default-clause-room : goal.returns-in_default-clause-room
 returns-in_default-clause-room c = λ p k own at. has_room c.args.event.now k c.in_default.not-Ac
+
+pub returns-in-Ac-clause-stands : goal.returns-in-Ac-clause-stands
+returns-in-Ac-clause-stands c = λ r s.
+    record {
+      header = s.header;
+      is_header = s.is_header;
+      accepted = s.accepted;
+      bytes = s.bytes;
+      count = s.count;
+      len = c.make_room.ensures.len ∙ s.len;
+      opening = s.opening;
+      ports = c.make_room.ensures.stands r.header r.past c.args.self.now.outside s.ports;
+    }

@@ -3,8 +3,8 @@ use Rattle.ace_sysck.specs.Steps.{IsStep}
 use Rattle.ace_sysck.proofs.Unmoved.{moves_monitors, moves_registrations, monitors_still, registrations_still, by_issue, issue-grants_none}
 use Rattle.ace_sysck.proofs.system.SysCheck.begin.Goals as goal
 
-pub returns : goal.returns
-returns c = λ r m is.
+pub returns-clause-stands : goal.returns-clause-stands
+returns-clause-stands c = λ r m is.
     let s = m.stands in
     let k = c.args.self.now in
     let e = c.args.event.now in

@@ -9,7 +9,7 @@ use Rattle.ace_portck.specs.Pending.{pending_of}
 use Rattle.ace_portck.specs.Targets.{Recording, progress_of}
 use Rattle.ace_update.specs.Update.{IsDue}
 use Rattle.ace_update.proofs.DueWrites.{serves-none}
-use Rattle.ace_update.proofs.Listed.{listed-at, listed-within}
+use Rattle.ace_engine.proofs.Listed.{listed-at, listed-within}
 use Rattle.ace_update.proofs.update.Update.due.Goals as goal
 
 pub returns-then-is_due-clause-some : goal.returns-then-is_due-clause-some

@@ -1,5 +1,6 @@
 use Rattle.ace_portck.specs.Targets.{Recording}
-use Rattle.ace_update.proofs.Rooms.{few-events-there, few-lines-there, room-for-event}
+use Rattle.ace_engine.proofs.Rooms.{few-events-there, room-for-event}
+use Rattle.ace_update.proofs.Rooms.{few-lines-there}
 use Rattle.ace_update.proofs.update.Update.note.Goals as goal
 
 pub returns : goal.returns
