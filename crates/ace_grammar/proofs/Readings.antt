@@ -14,3 +14,5 @@ pub mod Progress
 pub mod OneReading
 -- A reading of all bytes.
 pub mod EveryReading
+-- What stands whole at the front of bytes.
+pub mod Fronts

@@ -1,5 +1,5 @@
 -- What an answer of the reader says of the bytes and of their source.
-use Rattle.std.specs.Prelude.{◌≡◌, ◌≢◌, ◌<◌, ◌+◌, ℕ, List, [], Option, None, Some, Result, Ok, Err}
+use Rattle.std.specs.Prelude.{◌≡◌, ◌≢◌, ◌<◌, ◌+◌, ⊤, ℕ, List, [], Option, None, Some, Result, Ok, Err}
 use Rattle.std.specs.Io.KnownBytes.{Consumes, Keeps, IsAtEnd}
 use Rattle.ace_event.specs.declared.event.Event.{Event}
 use Rattle.ace_event.specs.Text.{event_text, line_text}
@@ -25,6 +25,12 @@ HasNoHeader (Malformed line reason) old faults new faults' = IfTold old (λ byte
 HasNoHeader TooManyEvents old faults new faults' = ⊥
 HasNoHeader ReadFault old faults new faults' = TakesNoHeader old new × Rose faults faults'
 HasNoHeader NoMemory old faults new faults' = Keeps old new × (faults' ≡ faults)
+
+-- the answer of a reader that puts the next event in a place, by the event that stands there then
+abbrev pub with_event : Event → Result (Option ⊤) ReadErr → Result (Option Event) ReadErr
+with_event event (Ok (Some put)) = Ok (Some event)
+with_event event (Ok None) = Ok None
+with_event event (Err error) = Err error
 
 -- What stands next in a trace of a version after so many events, by the bytes that no line had before and has after it,
 -- and those that the source has left then.

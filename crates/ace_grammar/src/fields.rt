@@ -292,7 +292,7 @@ pub fn take_outcome(bytes: &[u8]) -> Option<Outcome>
 }
 
 /// The value, where no bytes are left.
-pub fn at_end<A: Drop>(value: A, bytes: &[u8]) -> Option<A>
+fn at_end<A: Drop>(value: A, bytes: &[u8]) -> Option<A>
     ensures { result ≡ ended value bytes.now }
 {
     match bytes {

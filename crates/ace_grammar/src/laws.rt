@@ -1,12 +1,13 @@
 //! Facts about the definitions, as contracts of functions that do nothing.
 
-ghost use Rattle.std.specs.Prelude.{◌≡◌, ◌≢◌, ◌≤◌, ◌⊎◌, ℕ, List, length};
+ghost use Rattle.std.specs.Prelude.{◌≡◌, ◌≢◌, ◌≤◌, ◌++◌, ◌⊎◌, ℕ, List, length};
 ghost use Rattle.std.specs.List.{AllByRecursion};
 ghost use Rattle.ace_event.specs.declared.event.Event.{Event};
 ghost use Rattle.ace_event.specs.declared.header.Header.{Header};
 ghost use Rattle.ace_event.specs.Range.{InRange};
 ghost use Rattle.ace_event.specs.Text.{event_text, trace_text};
 ghost use Rattle.ace_grammar.specs.declared.reason.Reason.{Reason};
+ghost use Rattle.ace_grammar.specs.Lines.{BeginsWith};
 ghost use Rattle.ace_grammar.specs.Reasons.{HasReason};
 ghost use Rattle.ace_grammar.specs.Reading.{Ending, Whole, Reads, IsReadable, IsReadableHeader, HasBadHeader, most_events};
 
@@ -41,4 +42,14 @@ pub fn some_reading()
 pub fn text_reads_back()
     ensures { (header : Header) (events : List Event) → IsReadableHeader header → AllByRecursion (IsReadable header.version) events
         → length events ≤ most_events → Reads (trace_text header events) header events Whole }
+{}
+
+/// A header and events that stand whole at the front of bytes are a front of what these read as, and no header line is malformed then.
+pub fn front_is_read()
+    ensures front { (bytes : List ℕ) (header other : Header) (events read : List Event) (end : Ending)
+        → IsReadableHeader header → AllByRecursion (IsReadable header.version) events → length events ≤ most_events → BeginsWith bytes (trace_text header events)
+        → Reads bytes other read end → (other ≡ header) × ((more : List Event) × (read ≡ events ++ more)) }
+    ensures apart { (bytes : List ℕ) (header : Header) (events : List Event) (number : ℕ) (reason : Reason)
+        → IsReadableHeader header → AllByRecursion (IsReadable header.version) events → length events ≤ most_events → BeginsWith bytes (trace_text header events)
+        → ¬ HasBadHeader bytes number reason }
 {}

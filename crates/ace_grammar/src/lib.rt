@@ -14,7 +14,7 @@ mod records;
 mod shapes;
 
 pub use error::ReadErr;
-pub use event::parse_event;
+pub use event::{NO_EVENT, parse_event};
 pub use fields::number_of;
 pub use header::{parse_ports, parse_version};
 pub use line_reason::cut_field;

@@ -1,15 +1,17 @@
 // The header and the events of a trace, line by line.
-ghost use Rattle.std.specs.Prelude.{◌≡◌, ℕ, ◌<◌, ◌≤◌, length, IfOk, IfErr, OnOk, OnErr, IsTrue, false};
+ghost use Rattle.std.specs.Prelude.{◌≡◌, ℕ, ◌<◌, ◌≤◌, None, length, IfOk, IfErr, IfNone, OnOk, OnErr, IsTrue, false};
 ghost use Rattle.std.specs.Io.KnownBytes.{Consumes};
 ghost use Rattle.ace_io.specs.Faults.{Rose};
 ghost use Rattle.ace_io.specs.Line.{HasNoLf, IsPending};
 ghost use Rattle.ace_io.specs.Reader.{source_of, waiting};
+ghost use Rattle.ace_event.specs.declared.event.Event.{Event};
 ghost use Rattle.ace_event.specs.Text.{line_text, header_text};
-ghost use Rattle.ace_grammar.specs.Errors.{HasNoHeader, HasFaultCause, StandsNext, TakesFront};
+ghost use Rattle.ace_grammar.specs.Errors.{HasNoHeader, HasFaultCause, StandsNext, TakesFront, with_event};
 ghost use Rattle.ace_grammar.specs.Lines.{HasNoLine};
 ghost use Rattle.ace_grammar.specs.Reading.{IsReadableHeader, IfTold, most_events};
 
-use crate::{ReadErr, Reason, parse_event, parse_ports, parse_version};
+use crate::event::read_into;
+use crate::{ReadErr, Reason, parse_ports, parse_version};
 use ace_event::{Event, Header};
 use ace_io::{Failed, LineBuf, LineEnd, LineReader, Source};
 
@@ -86,13 +88,11 @@ pub fn read_header<S: Source>(
 
 /// What stands after as many events as a trace may have: the end of the input, or more.
 #[tactic(auto, using(crate::proofs::Readings::Taken::cut_end))]
-fn read_end<S: Source>(
-    lines: &mut LineReader<S>,
-    line: &mut LineBuf,
-) -> Result<Option<Event>, ReadErr>
+fn read_end<S: Source>(lines: &mut LineReader<S>, line: &mut LineBuf) -> Result<Option<()>, ReadErr>
     ensures same_source { (source_of lines.new).ghost_name ≡ (source_of lines.old).ghost_name }
-    ensures next { (version : ℕ) → StandsNext version result most_events (waiting S.left lines.old) (waiting S.left lines.new) (S.left (source_of lines.new).now) }
-    ensures cause { HasFaultCause result (S.faults (source_of lines.old).now) (S.faults (source_of lines.new).now) }
+    ensures next { (version : ℕ) (event : Event) → StandsNext version (with_event event result) most_events (waiting S.left lines.old) (waiting S.left lines.new) (S.left (source_of lines.new).now) }
+    ensures none { IfOk result (λ next. next ≡ None) }
+    ensures cause { (event : Event) → HasFaultCause (with_event event result) (S.faults (source_of lines.old).now) (S.faults (source_of lines.new).now) }
 {
     match lines.next(line) {
         Ok(LineEnd::End) => Ok(None),
@@ -101,26 +101,29 @@ fn read_end<S: Source>(
     }
 }
 
-/// Reads the next event of a trace of a version, after so many, or None at the end of the input after a whole line. After an error read no more.
-/// `line` is room for a line.
+/// Reads the next event of a trace of a version, after so many, into its place, or None at the end of the input after a whole line:
+/// then the place stays, as after an error. After an error read no more. `line` is room for a line.
 #[tactic(auto, using(crate::proofs::Readings::Taken::cut_end))]
 pub fn read_event<S: Source>(
     lines: &mut LineReader<S>,
     line: &mut LineBuf,
     count: u64,
     version: u8,
-) -> Result<Option<Event>, ReadErr>
+    event: &mut Event,
+) -> Result<Option<()>, ReadErr>
     requires { count ≤ most_events }
     ensures same_source { (source_of lines.new).ghost_name ≡ (source_of lines.old).ghost_name }
-    ensures next { StandsNext version result count (waiting S.left lines.old) (waiting S.left lines.new) (S.left (source_of lines.new).now) }
-    ensures cause { HasFaultCause result (S.faults (source_of lines.old).now) (S.faults (source_of lines.new).now) }
+    ensures next { StandsNext version (with_event event.new result) count (waiting S.left lines.old) (waiting S.left lines.new) (S.left (source_of lines.new).now) }
+    ensures stays { IfOk result (λ next. IfNone next (event.new ≡ event.old)) }
+    ensures stays_behind { OnErr result (event.new ≡ event.old) }
+    ensures cause { HasFaultCause (with_event event.new result) (S.faults (source_of lines.old).now) (S.faults (source_of lines.new).now) }
 {
     if count == MOST_EVENTS {
         return read_end(lines, line);
     }
     match lines.next(line) {
-        Ok(LineEnd::Whole) => match parse_event(line.bytes(), version) {
-            Ok(event) => Ok(Some(event)),
+        Ok(LineEnd::Whole) => match read_into(line.bytes(), version, event) {
+            Ok(()) => Ok(Some(())),
             Err(reason) => Err(ReadErr::Malformed {
                 line: count + FIRST_EVENT_LINE,
                 reason,

@@ -1,14 +1,14 @@
 // A trace is read from a source: its header at once, and then event by event.
-ghost use Rattle.std.specs.Prelude.{◌≡◌, ◌≤◌, ℕ, List, [], Option, None, Some, Result, IfOk, IfErr, IfSome};
+ghost use Rattle.std.specs.Prelude.{◌≡◌, ◌≤◌, ℕ, List, [], Option, None, Some, Result, IfOk, IfErr, IfNone, IfSome, OnErr};
 ghost use Rattle.std.specs.Io.KnownBytes.{Consumes};
 ghost use Rattle.ace_event.specs.declared.event.Event.{Event};
 ghost use Rattle.ace_event.specs.Text.{header_text};
 ghost use Rattle.ace_grammar.specs.declared.error.ReadErr.{ReadErr};
-ghost use Rattle.ace_grammar.specs.Errors.{HasNoHeader, HasFaultCause, StandsNext};
+ghost use Rattle.ace_grammar.specs.Errors.{HasNoHeader, HasFaultCause, StandsNext, with_event};
 ghost use Rattle.ace_grammar.specs.Reading.{IsReadableHeader};
 
-use crate::ReadErr;
 use crate::lines::{read_event, read_header};
+use crate::{NO_EVENT, ReadErr};
 use ace_event::{Event, Header};
 use ace_io::{LineBuf, LineReader, NoMemory, Source};
 use std::alloc::Global;
@@ -117,15 +117,45 @@ impl<'a, S: Source> Reader<'a, S> {
         ensures cause { last_answer self.old ≡ None
             → HasFaultCause result (S.faults (source_of self.old).now) (S.faults (source_of self.new).now) }
     {
+        let mut event = NO_EVENT;
+        match self.next_into(&mut event) {
+            Ok(Some(())) => Ok(Some(event)),
+            Ok(None) => Ok(None),
+            Err(error) => Err(error),
+        }
+    }
+
+    /// The same, with the event put in its place, which spares a copy of it. Where there is none, the place stays.
+    ///
+    /// # Errors
+    ///
+    /// Those of `next`.
+    #[tactic(auto, using(crate::proofs::Readings::Progress::reading_next))]
+    pub fn next_into(&mut self, event: &mut Event) -> Result<Option<()>, ReadErr>
+        ensures same_source { (source_of self.new).ghost_name ≡ (source_of self.old).ghost_name }
+        ensures same_header { header_of self.new ≡ header_of self.old }
+        ensures next { last_answer self.old ≡ None → StandsNext (header_of self.old).version (with_event event.new result) (count_of self.old)
+            (unread S.left self.old) (unread S.left self.new) (S.left (source_of self.new).now) }
+        ensures reads { last_answer self.old ≡ None → (bytes : List ℕ) (events : List Event)
+            → HasRead S.left bytes events self.old → IsReading S.left bytes events self.old self.new (with_event event.new result) }
+        ensures count { count_of self.new ≡ count_after (count_of self.old) (with_event event.new result) }
+        ensures last { last_answer self.new ≡ lasting (with_event event.new result) }
+        ensures again { (answer : Result (Option Event) ReadErr) → last_answer self.old ≡ Some answer
+            → (with_event event.new result ≡ answer) × (self.new ≡ self.old) }
+        ensures stays { IfOk result (λ next. IfNone next (event.new ≡ event.old)) }
+        ensures stays_behind { OnErr result (event.new ≡ event.old) }
+        ensures cause { last_answer self.old ≡ None
+            → HasFaultCause (with_event event.new result) (S.faults (source_of self.old).now) (S.faults (source_of self.new).now) }
+    {
         match self.stage {
             Stage::Reading => {}
             Stage::Ended => return Ok(None),
             Stage::Failed(error) => return Err(error),
         }
         let version = self.header.version;
-        let answer = read_event(&mut self.lines, &mut self.line, self.count, version);
+        let answer = read_event(&mut self.lines, &mut self.line, self.count, version, event);
         match answer {
-            Ok(Some(_)) => self.count += 1,
+            Ok(Some(())) => self.count += 1,
             Ok(None) => self.stage = Stage::Ended,
             Err(error) => self.stage = Stage::Failed(error),
         }

@@ -15,7 +15,8 @@ ghost use Rattle.ace_top.specs.declared.words.Command.TheVariants as command;
 use crate::answer::{Answer, error_answer};
 use crate::follow::{Follower, events_of, put_report};
 use crate::output::{break_off, conclude};
-use ace_grammar::Reader;
+use ace_event::Event;
+use ace_grammar::{NO_EVENT, Reader};
 use ace_io::{Sink, Source};
 use std::alloc::Global;
 
@@ -138,8 +139,9 @@ fn check_events<S: Source>(follower: &mut Follower, reader: &mut Reader<S>) -> R
     ensures steady { OnOk result (S.faults (source_of reader.new).now ≡ S.faults (source_of reader.old).now) }
     ensures cause { IfErr result (HasReadCause (S.faults (source_of reader.old).now) (S.faults (source_of reader.new).now)) }
 {
+    let mut event = NO_EVENT;
     'events: loop {
-        match check_next(follower, reader) {
+        match check_next(follower, reader, &mut event) {
             Ok(true) => {}
             Ok(false) => return Ok(()),
             Err(answer) => return Err(answer),
@@ -147,9 +149,13 @@ fn check_events<S: Source>(follower: &mut Follower, reader: &mut Reader<S>) -> R
     }
 }
 
-/// Reads one event and follows it; false at the end of the trace. An answer ends the reading.
+/// Reads one event into its place and follows it; false at the end of the trace. An answer ends the reading.
 #[tactic(auto, using(crate::proofs::ErrorLemmas::errors))]
-fn check_next<S: Source>(follower: &mut Follower, reader: &mut Reader<S>) -> Result<bool, Answer>
+fn check_next<S: Source>(
+    follower: &mut Follower,
+    reader: &mut Reader<S>,
+    event: &mut Event,
+) -> Result<bool, Answer>
     requires reads_on { last_answer reader.old ≡ None }
     ensures same_source { (source_of reader.new).ghost_name ≡ (source_of reader.old).ghost_name }
     ensures same_header { header_of reader.new ≡ header_of reader.old }
@@ -159,8 +165,8 @@ fn check_next<S: Source>(follower: &mut Follower, reader: &mut Reader<S>) -> Res
     ensures count { result ≡ Ok true → count_of reader.new ≡ count_of reader.old + 1 }
     ensures front { result ≡ Ok true → TakesFront (unread S.left reader.old) (unread S.left reader.new) }
     ensures takes { (past : Trace) → Follows follower.old (header_of reader.old) past → count_of reader.old ≡ length past → result ≡ Ok true
-        → (event : Event) × Follows follower.new (header_of reader.old) (event ∷ past)
-        × TakesEvent (header_of reader.old) past event (unread S.left reader.old) (unread S.left reader.new) }
+        → Follows follower.new (header_of reader.old) (event.new ∷ past)
+        × TakesEvent (header_of reader.old) past event.new (unread S.left reader.old) (unread S.left reader.new) }
     ensures ended { result ≡ Ok false → IsAtEnd (unread S.left reader.old) }
     ensures stays { result ≡ Ok false → follower.new ≡ follower.old }
     ensures end { result ≡ Ok false → LeavesNothing (unread S.left reader.old) (S.left (source_of reader.new).now) }
@@ -170,8 +176,8 @@ fn check_next<S: Source>(follower: &mut Follower, reader: &mut Reader<S>) -> Res
     ensures steady { OnOk result (S.faults (source_of reader.new).now ≡ S.faults (source_of reader.old).now) }
     ensures cause { IfErr result (HasReadCause (S.faults (source_of reader.old).now) (S.faults (source_of reader.new).now)) }
 {
-    match reader.next() {
-        Ok(Some(event)) => match follower.take(&event) {
+    match reader.next_into(event) {
+        Ok(Some(())) => match follower.take(event) {
             None => Ok(true),
             Some(answer) => Err(answer),
         },

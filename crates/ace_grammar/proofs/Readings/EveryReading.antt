@@ -61,7 +61,7 @@ first_line bytes = first_of 256 refl bytes
 -- ---- events
 
 -- how the events of a trace of a version end, where there is room for so many
-abbrev Stops : ℕ → ℕ → ℕ → List ℕ → Type 0
+abbrev pub Stops : ℕ → ℕ → ℕ → List ℕ → Type 0
 Stops version room count rest =
     ((count ≤ room) × (rest ≡ [])) ⊎ (((count ≡ room) × (rest ≢ [])) ⊎ ((count < room) × ((reason : Reason) × HasBadLine version rest reason)))
 
@@ -70,7 +70,7 @@ one_more version room count rest (inl h) = inl (omega (arith, h.0), h.1)
 one_more version room count rest (inr (inl h)) = inr (inl (omega (arith, h.0), h.1))
 one_more version room count rest (inr (inr h)) = inr (inr (omega (arith, h.0), h.1))
 
-abbrev ReadsEvents : ℕ → ℕ → List ℕ → Type 0
+abbrev pub ReadsEvents : ℕ → ℕ → List ℕ → Type 0
 ReadsEvents version room bytes =
     (events : List Event) × (rest : List ℕ) × AllByRecursion (IsReadable version) events × (bytes ≡ events_text version events ++ rest) × Stops version room (length events) rest
 
@@ -87,7 +87,7 @@ more_events version room bytes more event is e r = (
 stopped : (version room : ℕ) (bytes : List ℕ) → Stops version room 0 bytes → ReadsEvents version room bytes
 stopped version room bytes stops = ([], bytes, tt, refl, stops)
 
-events_of : (version room : ℕ) (bytes : List ℕ) → ReadsEvents version room bytes
+pub events_of : (version room : ℕ) (bytes : List ℕ) → ReadsEvents version room bytes
 events_of version room [] = stopped version room [] (inl (omega arith, refl))
 events_of version zero (x ∷ xs) = stopped version zero (x ∷ xs) (inr (inl (refl, λ e. absurd cc)))
 events_of version (suc room) (x ∷ xs) =

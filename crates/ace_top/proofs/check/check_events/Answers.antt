@@ -13,7 +13,7 @@ events-preserved g c =
       same_header = next.same_header ∙ before.same_header;
       same_source = next.same_source ∙ before.same_source;
       same_reports = next.same_reports ∙ before.same_reports;
-      comes = λ follows. comes_further _ _ _ _ _ _ _ _ _ before.same_header (next.count yes) (before.comes follows) (λ past f same. next.takes past f same yes);
+      comes = λ follows. comes_further _ _ _ _ _ _ _ _ _ before.same_header (next.count yes) (before.comes follows) (λ past f same. let t = next.takes past f same yes in (_, t.0, t.1));
       front = front_further _ _ _ before.front (next.front yes);
       faults = c.in-Ok-true.ensures.steady ∙ before.faults;
     }
