@@ -1,5 +1,5 @@
 -- What the parts of a checker say together.
-use Rattle.std.proofs.Common.{◌≡◌, ℕ, ◌+◌, ◌<◌, Bool, true, false, not, ◌&&◌, nat_le, nat_lt, if◌then◌else◌, List, [], ◌∷◌, Option, Some, None, length, option_map, Result, Ok, Err, is_err, IfOk, OnOk, OnErr, refl, sym, ap, subst, ◌∙◌, inl, inr, arith}
+use Rattle.std.proofs.Common.{◌≡◌, ℕ, ◌+◌, ◌<◌, Bool, true, false, not, ◌&&◌, nat_le, nat_lt, if◌then◌else◌, List, [], ◌∷◌, Option, Some, None, length, is_some, is_none, option_map, Result, Ok, Err, is_err, IfOk, IsOk, OnOk, OnErr, refl, sym, ap, subst, ◌∙◌, inl, inr, arith}
 use Rattle.std.proofs.lemmas.Bool.{cases_Bool, eqb-true}
 use Rattle.std.specs.List.{AllByRecursion}
 use Rattle.ace_event.specs.Range.{FitsFields}
@@ -159,3 +159,17 @@ to_ok (Err e) p = tt
 
 pub err_then : {A E P : Type 0} → (r : Result A E) (e : E) → r ≡ Err e → OnErr r P → P
 err_then r e is p = from_err r (ap is_err is) p
+
+pub from_is_ok : {A E P : Type 0} → (r : Result A E) → IsOk r → OnOk r P → P
+from_is_ok (Ok x) ok p = p
+from_is_ok (Err e) ok p = cc
+
+pub err_is_no_ok : {A E : Type 0} → (r : Result A E) → is_err r ≡ true → IsOk r → ⊥
+err_is_no_ok (Ok x) b ok = cc
+err_is_no_ok (Err e) b ok = cc
+
+pub none_from_some : {A : Type 0} → (o : Option A) (b : Bool) → is_some o ≡ not b → b ≡ is_none o
+none_from_some None true is = refl
+none_from_some None false is = cc
+none_from_some (Some x) true is = cc
+none_from_some (Some x) false is = refl

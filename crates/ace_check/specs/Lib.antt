@@ -1,1 +1,3 @@
+-- What the three shares of the rules keep of a trace.
+pub mod Shares
 pub mod Run

@@ -14,21 +14,14 @@ use Rattle.ace_model.specs.Coherent.{Coherent}
 use Rattle.ace_model.specs.ExclusiveHolds.{ExclusiveHolds}
 use Rattle.ace_model.specs.BarrierHolds.{BarrierHolds}
 use Rattle.ace_model.specs.DvmHolds.{DvmHolds}
-use Rattle.ace_portck.specs.declared.target.Target.{Target}
-use Rattle.ace_portck.specs.Targets.{Recording, target_of}
+use Rattle.ace_portck.specs.Targets.{target_of}
 use Rattle.ace_portck.specs.Unfinished.{RisesAt}
-use Rattle.ace_lineck.specs.Stands.{BeginsLine, place_on}
+use Rattle.ace_lineck.specs.Stands.{BeginsLine}
 use Rattle.ace_sysck.specs.Registrations.{IsNewLock}
-use Rattle.ace_portck.specs.Stands as ports
-use Rattle.ace_lineck.specs.Stands as lines
-use Rattle.ace_sysck.specs.Stands as system
+use Rattle.ace_check.specs.Shares.{SharesTell, most_lines}
 use Rattle.ace_check.specs.declared.checker.Checker.{Checker}
 use Rattle.ace_check.specs.declared.checker.Step.{Step}
 use Rattle.ace_check.specs.declared.checker.Step.TheVariants.{Fine, Broken}
-
--- the most lines that the transactions of a trace may name
-abbrev pub most_lines : ℕ
-most_lines = 4096
 
 -- it is K1
 abbrev pub is_first : Option ℕ → Bool
@@ -47,21 +40,11 @@ goes_over past e = is_some_and (issued (length past) e) (names_new_line past) &&
 -- The checker stands for a trace under its header: for each share it keeps what there is to keep of the trace, which is accepted.
 -- The last number is the break that was answered after it, if any was.
 pub record Stands (c : Checker) (h : Header) (past : Trace) (b : Option Break) : Type 0 where
-  pub ports : ports.Stands c.ports (record { header = h; past = past })
-  pub lines : lines.Stands c.lines (record { header = h; past = past })
-  pub system : system.Stands c.system (record { header = h; past = past })
+  pub tell : SharesTell c.shares h past
   pub count : c.count ≡ length past
   pub few : length past < 2 ^ 64 - 1
   pub broken : c.broken ≡ b
   pub fits : AllByRecursion FitsFields past
-
--- The event may be taken: it breaks no rule, names no line too many, the target is its own, and the place is that of its line.
-pub record MayTake (c : Checker) (h : Header) (past : Trace) (e : Event) (t : Target) (place : Option ℕ) : Type 0 where
-  pub stands : Stands c h past None
-  pub target : t ≡ target_of h past e
-  pub at : place ≡ place_on c.lines t.line
-  pub fine : least_broken h past e ≡ None
-  pub fits : FitsFields e
 
 -- where there may be no memory for an event: at an AC with which more snoops of its port are under way than ever before, at the first AR
 -- or AW of a line and a MEM, and at the first exclusive grant of a line

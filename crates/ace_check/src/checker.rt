@@ -1,13 +1,8 @@
-ghost use Rattle.std.specs.Prelude.{◌≡◌, ◌&&◌, not, nat_le, Option};
-ghost use Rattle.ace_model.specs.Shares.{lesser};
-ghost use Rattle.ace_check.specs.Run.{begins, is_first, most_lines};
-
+use crate::shares::Shares;
 use ace_event::laws::every_event_fits;
-use ace_event::{Channel, Event, Header, Line};
-use ace_lineck::LineCheck;
+use ace_event::{Event, Header, Line};
 use ace_model::Break;
-use ace_portck::{EventKind, PortCheck, Target, event_kinds};
-use ace_sysck::SysCheck;
+use ace_portck::{EventKind, Target, event_kinds};
 use std::alloc::Global;
 use thiserror::Error;
 
@@ -41,16 +36,11 @@ pub enum CheckErr {
     TooManyLines,
 }
 
-/// The most lines that the transactions of a trace may name.
-const MOST_LINES: usize = 4096;
-
 /// A checker of one trace by the forty rules, in three shares: what it keeps of each port, of each line, and of the system as a
 /// whole. It keeps no event. After the first event that breaks a rule it gives the same answer for good.
 #[derive(Drop)]
 pub struct Checker {
-    ports: PortCheck,
-    lines: LineCheck,
-    system: SysCheck,
+    shares: Shares,
     count: u64,
     broken: Option<Break>,
 }
@@ -73,17 +63,11 @@ impl Checker {
         ensures stands { IfOk result (λ c. Stands c header [] None) }
         ensures refusal { IfErr result (λ e. e ≡ CheckErr.NoMemory) }
     {
-        let Ok(ports) = PortCheck::new(alloc, header) else {
-            return Err(CheckErr::NoMemory);
-        };
-        let lines = LineCheck::new(alloc, header);
-        let Ok(system) = SysCheck::new(alloc, header) else {
+        let Ok(shares) = Shares::growing(alloc, header) else {
             return Err(CheckErr::NoMemory);
         };
         Ok(Checker {
-            ports,
-            lines,
-            system,
+            shares,
             count: 0,
             broken: None,
         })
@@ -128,14 +112,14 @@ impl Checker {
     pub fn target(&self, event: &Event) -> Target
         ensures { (h : Header) (past : Trace) (b : Option Break) → Stands self.now h past b → result ≡ target_of h past event.now }
     {
-        self.ports.target(event)
+        self.shares.ports.target(event)
     }
 
     /// Memory of the line.
     pub fn memory(&self, line: u32) -> Line
         ensures { (h : Header) (past : Trace) (b : Option Break) → Stands self.now h past b → result ≡ memory_of past line }
     {
-        self.lines.memory(line)
+        self.shares.lines.memory(line)
     }
 
     /// How many events were answered `Fine`.
@@ -160,7 +144,9 @@ impl Checker {
     ghost use Rattle.ace_portck.specs.Targets.{target_of};
     ghost use Rattle.ace_lineck.specs.Kept.{IsFailure};
     ghost use Rattle.ace_lineck.specs.Stands.{place_on};
-    ghost use Rattle.ace_check.specs.Run.{Stands, IsAnswer, IsSound, MayTake, goes_over, past_after, break_after, MayLackMemory};
+    ghost use Rattle.ace_event.specs.Range.{FitsFields};
+    ghost use Rattle.ace_check.specs.Run.{Stands, IsAnswer, IsSound, goes_over, past_after, break_after, MayLackMemory};
+    ghost use Rattle.ace_check.specs.Shares.{MayTake};
 
     /// Looks at an event whose kind its type tells, as `feed` does.
     fn feed_kind<E: EventKind>(&mut self, event: &E) -> Result<Step, CheckErr>
@@ -180,93 +166,18 @@ impl Checker {
             return Ok(Step::Broken { index, rule });
         }
         every_event_fits(event.event());
-        let target = self.ports.target(event);
-        let place = self.lines.place(target.line);
-        let failed = self.has_failed(&target, place);
-        if let Some(rule) = self.least_broken(event, &target, place, failed) {
+        let target = self.shares.ports.target(event);
+        let place = self.shares.lines.place(target.line);
+        let failed = self.shares.has_failed(&target, place);
+        if let Some(rule) = self.shares.least_broken(event, &target, place, failed) {
             let index = self.count.wrapping_add(1);
             self.broken = Some(Break { index, rule });
             return Ok(Step::Broken { index, rule });
         }
-        if self.goes_over(event, &target, place) {
+        if self.shares.goes_over(event, &target, place) {
             return Err(CheckErr::TooManyLines);
         }
         self.take(event, &target, place)
-    }
-
-    /// The granted transaction of the line, whose record stands at the place, is an exclusive store that failed.
-    #[inline(always)]
-    fn has_failed_at(&self, place: Option<usize>) -> bool
-        ensures { (h : Header) (past : Trace) (b : Option Break) (line : ℕ) → Stands self.now h past b → place ≡ place_on self.now.lines (Some line)
-            → result ≡ has_failed_on h past line }
-    {
-        match self.lines.granted(place) {
-            None => false,
-            Some((port, chan, id)) => self.has_failed_as(port, chan, id),
-        }
-    }
-
-    /// The outstanding transaction of this name is an exclusive store that failed.
-    #[inline(always)]
-    fn has_failed_as(&self, port: u8, chan: Channel, id: u8) -> bool
-        ensures { (h : Header) (past : Trace) (b : Option Break) (x : Transaction) → Stands self.now h past b
-            → outstanding h past port chan id ≡ Some x → x.chan ≡ chan → result ≡ has_failed past x }
-    {
-        match chan {
-            Channel::Read => self.system.failed(port, id),
-            Channel::Write => false,
-        }
-    }
-
-    /// The granted transaction of the event's line is an exclusive store that failed.
-    #[inline(always)]
-    fn has_failed(&self, target: &Target, place: Option<usize>) -> bool
-        ensures { (h : Header) (past : Trace) (b : Option Break) → Stands self.now h past b → place ≡ place_on self.now.lines target.now.line
-            → IsFailure h past target.now result }
-    {
-        match target.line {
-            None => false,
-            Some(_) => self.has_failed_at(place),
-        }
-    }
-
-    /// The least rule that the event breaks.
-    fn least_broken<E: EventKind>(
-        &self,
-        event: &E,
-        target: &Target,
-        place: Option<usize>,
-        failed: bool,
-    ) -> Option<u8>
-        ensures { (h : Header) (past : Trace) (b : Option Break) → Stands self.now h past b → target.now ≡ target_of h past (E.event event.now)
-            → place ≡ place_on self.now.lines target.now.line → IsFailure h past target.now failed → result ≡ least_broken h past (E.event event.now) }
-    {
-        let rule = self.ports.test(event, target);
-        if is_first(rule) {
-            return rule;
-        }
-        lesser(
-            rule,
-            lesser(
-                self.lines.test(event, target, place, failed),
-                self.system.test(event, target),
-            ),
-        )
-    }
-
-    /// The event names one line more than a trace may have.
-    fn goes_over<E: EventKind>(&self, event: &E, target: &Target, place: Option<usize>) -> bool
-        ensures { (h : Header) (past : Trace) (b : Option Break) → Stands self.now h past b → target.now ≡ target_of h past (E.event event.now)
-            → place ≡ place_on self.now.lines target.now.line → result ≡ goes_over past (E.event event.now) }
-    {
-        match target.line {
-            None => false,
-            Some(_) => is_too_many(
-                begins(&event.event()),
-                self.lines.knows(place),
-                self.lines.lines(),
-            ),
-        }
     }
 
     /// Takes an event that breaks no rule, once there is room for it in each share.
@@ -278,63 +189,16 @@ impl Checker {
     ) -> Result<Step, CheckErr>
         ensures fine { OnOk result (result ≡ Ok Step.Fine) }
         ensures err { OnErr result (result ≡ Err CheckErr.NoMemory) }
-        ensures stands { (h : Header) (past : Trace) → MayTake self.old h past (E.event event.now) target.now place → length past < 2 ^ 64 - 2
+        ensures stands { (h : Header) (past : Trace) → Stands self.old h past None → MayTake self.old.shares h past (E.event event.now) target.now place
+            → FitsFields (E.event event.now) → length past < 2 ^ 64 - 2
             → OnOk result (Stands self.new h ((E.event event.now) ∷ past) None) }
-        ensures stays { (h : Header) (past : Trace) → MayTake self.old h past (E.event event.now) target.now place → OnErr result (Stands self.new h past None) }
-        ensures cause { (h : Header) (past : Trace) → MayTake self.old h past (E.event event.now) target.now place → OnErr result (MayLackMemory h past (E.event event.now)) }
+        ensures stays { (h : Header) (past : Trace) → Stands self.old h past None → MayTake self.old.shares h past (E.event event.now) target.now place → OnErr result (Stands self.new h past None) }
+        ensures cause { (h : Header) (past : Trace) → MayTake self.old.shares h past (E.event event.now) target.now place → OnErr result (MayLackMemory h past (E.event event.now)) }
     {
-        if self.ports.ready(event).is_err() {
+        if self.shares.take(event, target, place).is_err() {
             return Err(CheckErr::NoMemory);
         }
-        let Ok(place) = self.lines.ready(event, target, place) else {
-            return Err(CheckErr::NoMemory);
-        };
-        if self.system.ready(event, target).is_err() {
-            return Err(CheckErr::NoMemory);
-        }
-        self.ports.apply(event);
-        self.lines.apply(event, target, place);
-        self.system.apply(event, target);
         self.count = self.count.wrapping_add(1);
         Ok(Step::Fine)
-    }
-}
-
-/// It is K1, which no rule goes before.
-#[inline(always)]
-fn is_first(rule: Option<u8>) -> bool
-    ensures { result ≡ is_first rule }
-{
-    match rule {
-        None => false,
-        Some(number) => number == 1,
-    }
-}
-
-/// Of so many known lines and one that may be known: an event that issues a transaction on it names one too many.
-#[inline(always)]
-fn is_too_many(begins: bool, known: bool, lines: usize) -> bool
-    ensures { result ≡ (begins && (not known && nat_le most_lines lines)) }
-{
-    begins && !known && lines >= MOST_LINES
-}
-
-/// The event issues a transaction.
-#[inline(always)]
-fn begins(event: &Event) -> bool
-    ensures { result ≡ begins event.now }
-{
-    matches!(event, Event::Ar { .. } | Event::Aw { .. })
-}
-
-/// The lesser number, where there is one.
-#[inline(always)]
-fn lesser(a: Option<u8>, b: Option<u8>) -> Option<u8>
-    ensures { result ≡ lesser a b }
-{
-    match (a, b) {
-        (None, b) => b,
-        (a, None) => a,
-        (Some(j), Some(k)) => Some(if k < j { k } else { j }),
     }
 }

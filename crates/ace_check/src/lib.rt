@@ -1,8 +1,10 @@
-//! The checker of a trace, which is fed one event at a time.
+//! The checker of a trace, which is fed one event at a time, and the three shares of the rules that it stands on.
 #![tactic(auto)]
 
 mod checker;
+mod shares;
 #[cfg(test)]
 mod tests;
 
 pub use checker::{CheckErr, Checker, Step};
+pub use shares::Shares;

@@ -2,7 +2,7 @@
 
 ghost use Rattle.ace_event.specs.Ports.{IsHeader};
 
-use crate::{CheckErr, Checker, Step};
+use crate::{CheckErr, Checker, Shares, Step};
 use ace_codes::LineState::{self, I, SC, UC, UD};
 use ace_event::Channel::{self, Read, Write};
 use ace_event::{Event, Header, Line, Outcome};
@@ -593,5 +593,21 @@ fn stays_broken(rt: HostRuntime) -> Result<(), Fail> {
     assert!(rt; feed_all(&mut checker, &[rk(0, UC)])? == Some((1, 22)));
     assert!(rt; feed_all(&mut checker, &get(0))? == Some((1, 22)));
     assert!(rt; checker.count() == 0);
+    Ok(())
+}
+
+/// The shares with room for a run tell which events may come next.
+#[test]
+fn shares_of_a_run(rt: HostRuntime) -> Result<(), Fail> {
+    let mut shares = Shares::new(rt.alloc(), TWO_ACE)?;
+    assert!(rt; !shares.keeps(&g(0, Read, 0)));
+    for event in get(0) {
+        assert!(rt; shares.keeps(&event));
+        shares.hear(&event);
+    }
+    assert!(rt; !shares.keeps(&g(0, Read, 0)));
+    assert!(rt; shares.ports().reads(0).is_empty());
+    assert!(rt; shares.lines().lines() == 1);
+    assert!(rt; shares.system().open_pair(0).is_none());
     Ok(())
 }

@@ -6,4 +6,4 @@ use Rattle.ace_portck.specs.Targets.{Recording}
 use Rattle.ace_check.proofs.checker.Checker.memory.Goals as goal
 
 pub returns : goal.returns
-returns c = λ h past b s. c.memory.ensures (record { header = h; past = past }) s.lines
+returns c = λ h past b s. c.memory.ensures (record { header = h; past = past }) s.tell.lines

@@ -1,0 +1,11 @@
+use Rattle.ace_check.proofs.shares.Shares.new.Goals as goal
+
+pub returns : goal.returns
+returns c = record {
+  tell = record {
+    ports = c.in_ok-ports.ensures.stands c.requires;
+    lines = c.in-Ok.ensures.stands c.requires;
+    system = c.in_ok-system.ensures.stands c.requires;
+  };
+  room = record { ports = c.in_ok-ports.ensures.room; lines = c.in-Ok.ensures.room; system = c.in_ok-system.ensures.room };
+}
