@@ -1,5 +1,5 @@
 -- What the verdict and its status say.
-use Rattle.std.proofs.Common.{◌≡◌, ◌≢◌, ℕ, List, Option, None, Some, IfSome, refl, codes, arith}
+use Rattle.std.proofs.Common.{◌≡◌, ◌≢◌, ℕ, List, Option, None, Some, IfSome, refl, inl, codes, arith}
 use Rattle.std.specs.Io.KnownBytes.{Appends}
 use Rattle.ace_grammar.specs.Errors.{LeavesNothing}
 use Rattle.ace_top.specs.declared.answer.Answer.{Answer}
@@ -80,10 +80,10 @@ check_answers None left answer status out out' notes notes' v s given noted = (a
 check_answers (Some bytes) left answer status out out' notes notes' v s given noted = (answer, out_text_of answer, refl, v, s, given, noted)
 
 -- a verdict that an output broke off
-pub check_breaks_off : (told : Option (List ℕ)) (answer : Answer) (out out' notes notes' : Option (List ℕ))
+pub check_breaks_off : (told left : Option (List ℕ)) (answer : Answer) (out out' notes notes' : Option (List ℕ))
     → IfSome told (λ bytes. IsVerdict bytes answer) → AppendsPart out out' (out_text_of answer) → AppendsParts notes notes' (notes_text_of answer) (codes "write fault\n")
-    → BreaksOff Check told out out' notes notes'
-check_breaks_off None answer out out' notes notes' v part parts = (answer, out_text_of answer, tt, part, parts)
-check_breaks_off (Some bytes) answer out out' notes notes' v part parts = (answer, out_text_of answer, (answer, v, refl), part, parts)
+    → BreaksOff Check told left out out' notes notes'
+check_breaks_off None left answer out out' notes notes' v part parts = inl (answer, out_text_of answer, refl, tt, part, parts)
+check_breaks_off (Some bytes) left answer out out' notes notes' v part parts = inl (answer, out_text_of answer, refl, v, part, parts)
 
 pub ruleset accepted_end = (zero_end, zero_sound, verdict_status, refusal_status)

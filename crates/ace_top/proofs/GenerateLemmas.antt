@@ -1,5 +1,5 @@
 -- What `gen` answers.
-use Rattle.std.proofs.Common.{◌≡◌, ℕ, List, [], Option, refl, sym, subst, ap, codes, ◌++◌, ◌∙◌, append-nil}
+use Rattle.std.proofs.Common.{◌≡◌, ℕ, List, [], Option, refl, sym, subst, ap, inl, codes, ◌++◌, ◌∙◌, append-nil}
 use Rattle.std.specs.Io.KnownBytes.{Appends}
 use Rattle.std.proofs.KnownBytes.{Appends-trans, Appends-nil}
 use Rattle.ace_model.specs.Plans.{PlanWithRoom}
@@ -46,27 +46,28 @@ pub no_script : (number : ℕ) (input left : Option (List ℕ)) (status : ℕ) (
 no_script number input left status out out' notes notes' is given noted = (NoMemory, [], tt, refl, is, given, noted)
 
 -- an output broke off behind the script
-pub script_breaks_after : (number : ℕ) (input out out' out'' notes notes' : Option (List ℕ))
+pub script_breaks_after : (number : ℕ) (input left out out' out'' notes notes' : Option (List ℕ))
     → Appends out out' (script_of number) → AppendsPart out' out'' (out_text_of Generated) → AppendsParts notes notes' (notes_text_of Generated) (codes "write fault\n")
-    → BreaksOff (Gen number) input out out'' notes notes'
-script_breaks_after number input out out' out'' notes notes' given (part, rest, cut, more) parts = (
-  Generated,
-  script_of number,
-  refl,
-  (script_of number, [], sym (append-nil (script_of number)), whole_script number out out' out'' part (both_nothing part rest (sym cut)).0 given more),
-  parts,
-)
+    → BreaksOff (Gen number) input left out out'' notes notes'
+script_breaks_after number input left out out' out'' notes notes' given (part, rest, cut, more) parts =
+    inl (
+      Generated,
+      script_of number,
+      tt,
+      refl,
+      (script_of number, [], sym (append-nil (script_of number)), whole_script number out out' out'' part (both_nothing part rest (sym cut)).0 given more),
+      parts,
+    )
 
 -- the standard output broke off the script
-pub script_breaks_off : (number : ℕ) (input out out' notes notes' : Option (List ℕ))
-    → AppendsPart out out' (script_of number) → AppendsPart notes notes' (codes "write fault\n") → BreaksOff (Gen number) input out out' notes notes'
-script_breaks_off number input out out' notes notes' part noted =
-    (Generated, script_of number, refl, part, (notes, ([], [], refl, Appends-nil notes), noted))
+pub script_breaks_off : (number : ℕ) (input left out out' notes notes' : Option (List ℕ))
+    → AppendsPart out out' (script_of number) → AppendsPart notes notes' (codes "write fault\n") → BreaksOff (Gen number) input left out out' notes notes'
+script_breaks_off number input left out out' notes notes' part noted =
+    inl (Generated, script_of number, tt, refl, part, (notes, ([], [], refl, Appends-nil notes), noted))
 
 -- an output failed where there was no memory for the plan
-pub no_script_breaks_off : (number : ℕ) (input out out' notes notes' : Option (List ℕ))
-    → AppendsPart out out' (out_text_of NoMemory) → AppendsParts notes notes' (notes_text_of NoMemory) (codes "write fault\n") → BreaksOff (Gen number) input out out' notes notes'
-no_script_breaks_off number input out out' notes notes' (part, rest, cut, given) parts =
-    (NoMemory, script_of number, refl, ([], script_of number, refl, subst (Appends out out') (both_nothing part rest (sym cut)).0 given), parts)
+pub no_script_breaks_off : (number : ℕ) (input left out out' notes notes' : Option (List ℕ))
+    → AppendsPart out out' (out_text_of NoMemory) → AppendsParts notes notes' (notes_text_of NoMemory) (codes "write fault\n") → BreaksOff (Gen number) input left out out' notes notes'
+no_script_breaks_off number input left out out' notes notes' part parts = inl (NoMemory, [], tt, refl, part, parts)
 
 pub ruleset scripts = (front_given)

@@ -3,8 +3,10 @@ pub mod CopyLemmas
 pub mod ErrorLemmas
 pub mod Followed
 pub mod Following
+pub mod FrontGiven
 pub mod GenerateLemmas
 pub mod Numbers
+pub mod OneAnswer
 pub mod OneWord
 pub mod Parts
 pub mod ProgressLemmas

@@ -23,6 +23,10 @@ both_nothing (b ∷ front) rest e = absurd (cc)
 pub whole_part : (a b : Option (List ℕ)) (text : List ℕ) → Appends a b text → AppendsPart a b text
 whole_part a b text p = (text, [], sym (append-nil text), p)
 
+-- no more than nothing was appended
+pub nothing_appended : (a b : Option (List ℕ)) → AppendsPart a b [] → Appends a b []
+nothing_appended a b (part, rest, cut, given) = subst (Appends a b) (both_nothing part rest (sym cut)).0 given
+
 -- nothing is a front of any text
 pub no_part : (a : Option (List ℕ)) (text : List ℕ) → AppendsPart a a text
 no_part a text = ([], text, refl, Appends-nil a)

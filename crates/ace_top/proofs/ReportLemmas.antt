@@ -1,5 +1,5 @@
 -- What `report` answers.
-use Rattle.std.proofs.Common.{◌≡◌, ℕ, List, [], Option, None, Some, IfSome, reverse, refl, sym, subst, ap, codes, ◌++◌, ◌∙◌, append-nil}
+use Rattle.std.proofs.Common.{◌≡◌, ℕ, List, [], Option, None, Some, IfSome, reverse, refl, sym, subst, ap, inl, codes, ◌++◌, ◌∙◌, append-nil}
 use Rattle.std.proofs.lemmas.List.{reverse-reverse}
 use Rattle.std.specs.Io.KnownBytes.{Appends}
 use Rattle.std.proofs.KnownBytes.{Appends-trans, Appends-nil}
@@ -23,11 +23,6 @@ reported : (told : Option (List ℕ)) (f : Follower) (w : HasFollowed told f) �
 reported None f w = tt
 reported (Some bytes) f w = (w.header, reverse w.past, w.reads, w.unbroken, ap (report_text w.header) (sym (reverse-reverse w.past)))
 
--- the same where an output failed
-begun_report : (told : Option (List ℕ)) (f : Follower) (w : HasFollowed told f) → IfSome told (λ bytes. (answer : Answer) × IsReported bytes answer (report_text w.header w.past))
-begun_report None f w = tt
-begun_report (Some bytes) f w = (Reported, reported (Some bytes) f w)
-
 -- a report that was given
 pub report_answers : (told left : Option (List ℕ)) (f : Follower) (w : HasFollowed told f) (status : ℕ) (out out' out'' notes notes' : Option (List ℕ))
     → status ≡ status_of Reported → Appends out out' (report_text w.header w.past) → Appends out' out'' (out_text_of Reported) → Appends notes notes' (notes_text_of Reported)
@@ -43,20 +38,20 @@ report_answers told left f w status out out' out'' notes notes' is given more no
 )
 
 -- a report that an output broke off behind its text
-pub report_breaks_after : (told : Option (List ℕ)) (f : Follower) (w : HasFollowed told f) (out out' out'' notes notes' : Option (List ℕ))
+pub report_breaks_after : (told left : Option (List ℕ)) (f : Follower) (w : HasFollowed told f) (out out' out'' notes notes' : Option (List ℕ))
     → Appends out out' (report_text w.header w.past) → AppendsPart out' out'' (out_text_of Reported) → AppendsParts notes notes' (notes_text_of Reported) (codes "write fault\n")
-    → BreaksOff Report told out out'' notes notes'
-report_breaks_after told f w out out' out'' notes notes' given (part, rest, cut, more) parts =
+    → BreaksOff Report told left out out'' notes notes'
+report_breaks_after told left f w out out' out'' notes notes' given (part, rest, cut, more) parts =
     let none : part ≡ [] = (both_nothing part rest (sym cut)).0 in
     let whole : Appends out out'' (report_text w.header w.past) =
     subst (Appends out out'') (ap (λ t. report_text w.header w.past ++ t) none ∙ append-nil (report_text w.header w.past)) (Appends-trans out out' out'' _ _ given more) in
-    (Reported, report_text w.header w.past, begun_report told f w, (report_text w.header w.past, [], sym (append-nil (report_text w.header w.past)), whole), parts)
+    inl (Reported, report_text w.header w.past, tt, reported told f w, (report_text w.header w.past, [], sym (append-nil (report_text w.header w.past)), whole), parts)
 
 -- a report that the standard output broke off
-pub report_breaks_off : (told : Option (List ℕ)) (f : Follower) (w : HasFollowed told f) (out out' notes notes' : Option (List ℕ))
-    → AppendsPart out out' (report_text w.header w.past) → AppendsPart notes notes' (codes "write fault\n") → BreaksOff Report told out out' notes notes'
-report_breaks_off told f w out out' notes notes' part noted =
-    (Reported, report_text w.header w.past, begun_report told f w, part, (notes, ([], [], refl, Appends-nil notes), noted))
+pub report_breaks_off : (told left : Option (List ℕ)) (f : Follower) (w : HasFollowed told f) (out out' notes notes' : Option (List ℕ))
+    → AppendsPart out out' (report_text w.header w.past) → AppendsPart notes notes' (codes "write fault\n") → BreaksOff Report told left out out' notes notes'
+report_breaks_off told left f w out out' notes notes' part noted =
+    inl (Reported, report_text w.header w.past, tt, reported told f w, part, (notes, ([], [], refl, Appends-nil notes), noted))
 
 -- a trace that isn't accepted has its verdict
 refused_text : (answer : Answer) → IsRefusal answer → FitsAnswer Report answer (out_text_of answer)
@@ -91,11 +86,11 @@ pub refusal_answers : (told left : Option (List ℕ)) (answer : Answer) (status 
 refusal_answers None left answer status out out' notes notes' r v s given noted = (answer, out_text_of answer, refused_text answer r, tt, s, given, noted)
 refusal_answers (Some bytes) left answer status out out' notes notes' r v s given noted = (answer, out_text_of answer, refused_text answer r, refused bytes answer r v, s, given, noted)
 
-pub refusal_breaks_off : (told : Option (List ℕ)) (answer : Answer) (out out' notes notes' : Option (List ℕ))
+pub refusal_breaks_off : (told left : Option (List ℕ)) (answer : Answer) (out out' notes notes' : Option (List ℕ))
     → IsRefusal answer → IfSome told (λ bytes. IsVerdict bytes answer) → AppendsPart out out' (out_text_of answer) → AppendsParts notes notes' (notes_text_of answer) (codes "write fault\n")
-    → BreaksOff Report told out out' notes notes'
-refusal_breaks_off None answer out out' notes notes' r v part parts = (answer, out_text_of answer, tt, part, parts)
-refusal_breaks_off (Some bytes) answer out out' notes notes' r v part parts = (answer, out_text_of answer, (answer, refused bytes answer r v), part, parts)
+    → BreaksOff Report told left out out' notes notes'
+refusal_breaks_off None left answer out out' notes notes' r v part parts = inl (answer, out_text_of answer, refused_text answer r, tt, part, parts)
+refusal_breaks_off (Some bytes) left answer out out' notes notes' r v part parts = inl (answer, out_text_of answer, refused_text answer r, refused bytes answer r v, part, parts)
 
 -- the trace that was reported has all that acceptance promises
 pub reported_sound : (told : Option (List ℕ)) (f : Follower) → HasFollowed told f → IfSome told ReadsSound

@@ -1,8 +1,8 @@
 -- What `show` and `migrate` answer.
-use Rattle.std.proofs.Common.{◌≡◌, ◌≢◌, ◌≤◌, ◌++◌, ◌⊎◌, ℕ, List, [], Option, None, Some, IfSome, length, refl, sym, ap, subst, ◌∙◌, append-nil, inl, inr, codes, arith}
+use Rattle.std.proofs.Common.{◌≡◌, ◌≢◌, ◌≤◌, ◌++◌, ℕ, List, [], Option, None, Some, IfSome, length, refl, sym, ap, subst, ◌∙◌, append-nil, inl, inr, codes, arith}
 use Rattle.std.specs.List.{AllByRecursion}
 use Rattle.std.specs.Io.KnownBytes.{Consumes, Appends}
-use Rattle.std.proofs.KnownBytes.{Consumes-trans, Appends-trans, Appends-nil}
+use Rattle.std.proofs.KnownBytes.{Consumes-trans, Appends-trans}
 use Rattle.ace_event.specs.declared.header.Header.{Header}
 use Rattle.ace_event.specs.declared.event.Event.{Event}
 use Rattle.ace_event.specs.Text.{header_text, events_text, trace_text}
@@ -18,7 +18,7 @@ use Rattle.ace_top.specs.declared.show.Version.{Version}
 use Rattle.ace_top.specs.declared.show.Version.TheVariants.{AsRead, Two}
 use Rattle.ace_top.specs.declared.words.Command.{Command}
 use Rattle.ace_top.specs.Command.{writing}
-use Rattle.ace_top.specs.Answer.{IsAnswer, Answers, FitsAnswer, BreaksOff, IsBegun}
+use Rattle.ace_top.specs.Answer.{IsAnswer, Answers, FitsAnswer, BreaksOff}
 use Rattle.ace_top.specs.Copy.{HasWritten, WritesPart, EndsCopy}
 use Rattle.ace_top.specs.ErrorAnswer.{error_answer}
 use Rattle.ace_top.specs.Output.{AppendsPart, AppendsParts}
@@ -84,9 +84,27 @@ answered : (version : Version) (old left : Option (List ℕ)) (answer : Answer) 
 answered AsRead old left answer text s = s
 answered Two old left answer text s = s
 
-begins : (version : Version) (old : Option (List ℕ)) (text : List ℕ) → IfSome old (λ bytes. (text ≡ []) ⊎ ShowsFront version bytes text) → IsBegun (writing version) old text
-begins AsRead old text b = b
-begins Two old text b = b
+-- a copy of a trace is an answer
+copy_fits : (version : Version) (from : ℕ) (answer : Answer) (text : List ℕ) (count : ℕ) (next left : Option (List ℕ)) → EndsCopy from answer count next left → FitsAnswer (writing version) answer text
+copy_fits AsRead from NoMemory text count next left e = absurd e
+copy_fits Two from NoMemory text count next left e = absurd e
+copy_fits AsRead from answer text count next left e = tt
+copy_fits Two from answer text count next left e = tt
+
+copy_is_answer : (version : Version) (old mid next left : Option (List ℕ)) (header header' : Header) (events : List Event) (answer : Answer)
+    → header' ≡ header_written version header → IsReadableHeader header → Consumes old mid (header_text header) → HasWritten header.version mid next events → EndsCopy header.version answer (length events) next left
+    → IsAnswer (writing version) old left answer (trace_text header' events)
+copy_is_answer version old mid next left header header' events answer by readable head w e =
+    subst (λ (h : Header). IsAnswer (writing version) old left answer (trace_text h events)) (sym by) (answered version old left answer _ (shown old head))
+  where
+    shown : (old : Option (List ℕ)) → Consumes old mid (header_text header) → IfSome old (λ bytes. IsShown version bytes left answer (trace_text (header_written version header) events))
+    shown None head = tt
+    shown (Some bytes) head = copied_shown version bytes header events next left answer (copied_from bytes header events mid next readable head w) e
+
+-- nothing more was given behind the copy
+copy_alone : (out out' out'' : Option (List ℕ)) (text more : List ℕ) → more ≡ [] → Appends out out' text → Appends out' out'' more → Appends out out'' text
+copy_alone out out' out'' text more none given then =
+    subst (Appends out out'') (ap (λ t. text ++ t) none ∙ append-nil text) (Appends-trans out out' out'' _ _ given then)
 
 -- no output failed: the trace stands on the standard output
 pub shows_copy : (version : Version) (old mid next left out out' out'' notes notes' : Option (List ℕ)) (header header' : Header) (events : List Event) (answer : Answer) (status : ℕ)
@@ -96,22 +114,12 @@ pub shows_copy : (version : Version) (old mid next left out out' out'' notes not
 shows_copy version old mid next left out out' out'' notes notes' header header' events answer status by readable head w e given more told is = (
   answer,
   trace_text header' events,
-  fits version answer e,
-  subst (λ (h : Header). IsAnswer (writing version) old left answer (trace_text h events)) (sym by) (answered version old left answer _ (shown old head)),
+  copy_fits version header.version answer _ (length events) next left e,
+  copy_is_answer version old mid next left header header' events answer by readable head w e,
   is,
-  subst (Appends out out'') (ap (λ t. trace_text header' events ++ t) (quiet header.version answer (length events) next left e) ∙ append-nil (trace_text header' events)) (Appends-trans out out' out'' _ _ given more),
+  copy_alone out out' out'' (trace_text header' events) _ (quiet header.version answer (length events) next left e) given more,
   told,
 )
-  where
-    fits : (version : Version) (answer : Answer) → EndsCopy header.version answer (length events) next left → FitsAnswer (writing version) answer (trace_text header' events)
-    fits AsRead NoMemory e = absurd e
-    fits Two NoMemory e = absurd e
-    fits AsRead answer e = tt
-    fits Two answer e = tt
-
-    shown : (old : Option (List ℕ)) → Consumes old mid (header_text header) → IfSome old (λ bytes. IsShown version bytes left answer (trace_text (header_written version header) events))
-    shown None head = tt
-    shown (Some bytes) head = copied_shown version bytes header events next left answer (copied_from bytes header events mid next readable head w) e
 
 -- the answer, where what is left is that of a source
 pub shows_left : {S : Type 0} (left : S → Option (List ℕ)) (command : Command) (source source' : S) (old out out' notes notes' : Option (List ℕ)) (status : ℕ)
@@ -153,26 +161,17 @@ silent error.TooManyEvents = refl
 silent error.ReadFault = refl
 silent error.NoMemory = refl
 
--- there was no header
-pub shows_no_header : (version : Version) (old left out out' notes notes' : Option (List ℕ)) (status before now : ℕ) (e : ReadErr) (answer : Answer)
-    → answer ≡ error_answer e → HasNoHeader e old before left now
-    → Appends out out' (out_text_of answer) → Appends notes notes' (notes_text_of answer) → status ≡ status_of answer → Answers (writing version) old left status out out' notes notes'
-shows_no_header version old left out out' notes notes' status before now e answer is none given told same = (
-  answer,
-  [],
-  fits version answer,
-  subst (λ (a : Answer). IsAnswer (writing version) old left a []) (sym is) (answered version old left (error_answer e) [] (shown e old none)),
-  same,
-  subst (Appends out out') (ap out_text_of is ∙ silent e) given,
-  told,
-)
-  where
-    fits : (version : Version) (answer : Answer) → FitsAnswer (writing version) answer []
-    fits AsRead NoMemory = refl
-    fits Two NoMemory = refl
-    fits AsRead answer = tt
-    fits Two answer = tt
+no_header_fits : (version : Version) (answer : Answer) → FitsAnswer (writing version) answer []
+no_header_fits AsRead NoMemory = refl
+no_header_fits Two NoMemory = refl
+no_header_fits AsRead answer = tt
+no_header_fits Two answer = tt
 
+no_header_is_answer : (version : Version) (old left : Option (List ℕ)) (before now : ℕ) (e : ReadErr) (answer : Answer)
+    → answer ≡ error_answer e → HasNoHeader e old before left now → IsAnswer (writing version) old left answer []
+no_header_is_answer version old left before now e answer is none =
+    subst (λ (a : Answer). IsAnswer (writing version) old left a []) (sym is) (answered version old left (error_answer e) [] (shown e old none))
+  where
     shown : (e : ReadErr) (old : Option (List ℕ)) → HasNoHeader e old before left now → IfSome old (λ bytes. IsShown version bytes left (error_answer e) [])
     shown e None none = tt
     shown (error.Malformed line reason) (Some bytes) none = inl (none.0, refl)
@@ -180,41 +179,70 @@ shows_no_header version old left out out' notes notes' status before now e answe
     shown error.ReadFault (Some bytes) none = inl (refl, none.0)
     shown error.NoMemory (Some bytes) none = refl
 
+-- there was no header
+pub shows_no_header : (version : Version) (old left out out' notes notes' : Option (List ℕ)) (status before now : ℕ) (e : ReadErr) (answer : Answer)
+    → answer ≡ error_answer e → HasNoHeader e old before left now
+    → Appends out out' (out_text_of answer) → Appends notes notes' (notes_text_of answer) → status ≡ status_of answer → Answers (writing version) old left status out out' notes notes'
+shows_no_header version old left out out' notes notes' status before now e answer is none given told same = (
+  answer,
+  [],
+  no_header_fits version answer,
+  no_header_is_answer version old left before now e answer is none,
+  same,
+  subst (Appends out out') (ap out_text_of is ∙ silent e) given,
+  told,
+)
+
+-- the bytes begin with the trace that was copied so far
 begun : (version : Version) (old mid next : Option (List ℕ)) (header header' : Header) (events : List Event) → header' ≡ header_written version header → IsReadableHeader header
-    → Consumes old mid (header_text header) → HasWritten header.version mid next events → IsBegun (writing version) old (trace_text header' events)
-begun version None mid next header header' events by readable head w = begins version None (trace_text header' events) tt
+    → Consumes old mid (header_text header) → HasWritten header.version mid next events → IfSome old (λ bytes. ShowsFront version bytes (trace_text header' events))
+begun version None mid next header header' events by readable head w = tt
 begun version (Some bytes) mid next header header' events by readable head w =
     let c = copied_from bytes header events mid next readable head w in
-    begins version (Some bytes) (trace_text header' events) (inr (header, events, readable, w.readable, w.few, front next c.text, ap (λ (h : Header). trace_text h events) by))
+    (header, events, readable, w.readable, w.few, front next c.text, ap (λ (h : Header). trace_text h events) by)
   where
     front : (next : Option (List ℕ)) → Consumes (Some bytes) next (trace_text header events) → BeginsWith bytes (trace_text header events)
     front None c = absurd c
     front (Some rest) c = (rest, c)
 
-begun_nothing : (version : Version) (old : Option (List ℕ)) → IsBegun (writing version) old []
-begun_nothing version None = begins version None [] tt
-begun_nothing version (Some bytes) = begins version (Some bytes) [] (inl refl)
-
 -- the standard output failed in the trace
-pub breaks_in_copy : (version : Version) (old mid out out' notes notes' : Option (List ℕ)) (header header' : Header) → header' ≡ header_written version header → IsReadableHeader header
+pub breaks_in_copy : (version : Version) (old mid left out out' notes notes' : Option (List ℕ)) (header header' : Header) → header' ≡ header_written version header → IsReadableHeader header
     → Consumes old mid (header_text header) → WritesPart header.version header'.version out out' (header_text header') mid → AppendsPart notes notes' (codes "write fault\n")
-    → BreaksOff (writing version) old out out' notes notes'
-breaks_in_copy version old mid out out' notes notes' header header' by readable head w told =
-    (Shown, trace_text header' w.events, begun version old mid w.next header header' w.events by readable head w.written, w.part, (notes, ([], [], refl, Appends-nil notes), told))
+    → BreaksOff (writing version) old left out out' notes notes'
+breaks_in_copy version old mid left out out' notes notes' header header' by readable head w told =
+    inr (version, trace_text header' w.events, refl, begun version old mid w.next header header' w.events by readable head w.written, w.part, told)
 
 -- an output failed behind the trace
 pub breaks_after_copy : (version : Version) (old mid next left out out' out'' notes notes' : Option (List ℕ)) (header header' : Header) (events : List Event) (answer : Answer)
     → header' ≡ header_written version header → IsReadableHeader header → Consumes old mid (header_text header) → HasWritten header.version mid next events → EndsCopy header.version answer (length events) next left
     → Appends out out' (trace_text header' events) → AppendsPart out' out'' (out_text_of answer) → AppendsParts notes notes' (notes_text_of answer) (codes "write fault\n")
-    → BreaksOff (writing version) old out out'' notes notes'
+    → BreaksOff (writing version) old left out out'' notes notes'
 breaks_after_copy version old mid next left out out' out'' notes notes' header header' events answer by readable head w e given (part, rest, cut, more) told =
     let none : part ≡ [] = (both_nothing part rest (sym cut ∙ quiet header.version answer (length events) next left e)).0 in
-    let whole : Appends out out'' (trace_text header' events) =
-    subst (Appends out out'') (ap (λ t. trace_text header' events ++ t) none ∙ append-nil (trace_text header' events)) (Appends-trans out out' out'' _ _ given more) in
-    (answer, trace_text header' events, begun version old mid next header header' events by readable head w, (trace_text header' events, [], sym (append-nil (trace_text header' events)), whole), told)
+    inl (
+      answer,
+      trace_text header' events,
+      copy_fits version header.version answer _ (length events) next left e,
+      copy_is_answer version old mid next left header header' events answer by readable head w e,
+      (trace_text header' events, [], sym (append-nil (trace_text header' events)), copy_alone out out' out'' (trace_text header' events) part none given more),
+      told,
+    )
 
 -- an output failed, and there was no header
-pub breaks_without_header : (version : Version) (old out out' notes notes' : Option (List ℕ)) (e : ReadErr) (answer : Answer) → answer ≡ error_answer e
-    → AppendsPart out out' (out_text_of answer) → AppendsParts notes notes' (notes_text_of answer) (codes "write fault\n") → BreaksOff (writing version) old out out' notes notes'
-breaks_without_header version old out out' notes notes' error answer is part told =
-    (answer, [], begun_nothing version old, subst (AppendsPart out out') (ap out_text_of is ∙ silent error) part, told)
+pub breaks_without_header : (version : Version) (old left out out' notes notes' : Option (List ℕ)) (before now : ℕ) (e : ReadErr) (answer : Answer)
+    → answer ≡ error_answer e → HasNoHeader e old before left now
+    → AppendsPart out out' (out_text_of answer) → AppendsParts notes notes' (notes_text_of answer) (codes "write fault\n") → BreaksOff (writing version) old left out out' notes notes'
+breaks_without_header version old left out out' notes notes' before now e answer is none part told =
+    inl (
+      answer,
+      [],
+      no_header_fits version answer,
+      no_header_is_answer version old left before now e answer is none,
+      subst (AppendsPart out out') (ap out_text_of is ∙ silent e) part,
+      told,
+    )
+
+-- what was broken off, where what is left is that of a source
+pub breaks_left : {S : Type 0} (left : S → Option (List ℕ)) (command : Command) (source source' : S) (old out out' notes notes' : Option (List ℕ))
+    → source' ≡ source → BreaksOff command old (left source) out out' notes notes' → BreaksOff command old (left source') out out' notes notes'
+breaks_left left command source source' old out out' notes notes' is b = subst (λ s. BreaksOff command old (left s) out out' notes notes') (sym is) b

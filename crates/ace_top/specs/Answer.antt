@@ -4,12 +4,13 @@ use Rattle.std.specs.Io.KnownBytes.{Appends}
 use Rattle.std.specs.declared.alloc.Global.{Global}
 use Rattle.ace_io.specs.Faults.{Rose}
 use Rattle.ace_top.specs.declared.answer.Answer.{Answer}
-use Rattle.ace_top.specs.declared.answer.Answer.TheVariants.{Accepted, NoMemory, Reported, Usage}
+use Rattle.ace_top.specs.declared.answer.Answer.TheVariants.{Accepted, NoMemory, ReadFault, Reported, Usage}
+use Rattle.ace_top.specs.declared.show.Version.{Version}
 use Rattle.ace_top.specs.declared.show.Version.TheVariants.{AsRead, Two}
 use Rattle.ace_top.specs.declared.words.Command.{Command}
 use Rattle.ace_top.specs.declared.words.Command.TheVariants.{Check, Report, Show, Migrate, Gen}
-use Rattle.ace_top.specs.Command.{Names}
-use Rattle.ace_top.specs.Generate.{IsGenerated, script_of}
+use Rattle.ace_top.specs.Command.{Names, writing}
+use Rattle.ace_top.specs.Generate.{IsGenerated}
 use Rattle.ace_top.specs.Output.{AppendsPart, AppendsParts}
 use Rattle.ace_top.specs.Show.{IsShown, ShowsFront}
 use Rattle.ace_top.specs.Texts.{status_of, out_text_of, notes_text_of}
@@ -38,6 +39,12 @@ FitsAnswer Migrate NoMemory text = text ≡ []
 FitsAnswer Migrate answer text = ⊤
 FitsAnswer (Gen number) answer text = ⊤
 
+-- an answer that says what is in the input, and not that it failed or that there was no memory
+abbrev pub IsDue : Answer → Type 0
+IsDue ReadFault = ⊥
+IsDue NoMemory = ⊥
+IsDue answer = ⊤
+
 -- The status is that of an answer of the command, and its texts were appended to the two outputs, whether or not the input
 -- tells its bytes.
 abbrev pub Answers : Command → Option (List ℕ) → Option (List ℕ) → ℕ
@@ -53,27 +60,32 @@ AnswersWords words input left status out out' notes notes' =
     ((command : Command) × Names words command × Answers command input left status out out' notes notes')
     ⊎ (¬ IsCommand words × (status ≡ status_of Usage) × Appends out out' [] × Appends notes notes' (notes_text_of Usage))
 
--- a text that the command would write to the standard output, if no output failed
-abbrev pub IsBegun : Command → Option (List ℕ) → List ℕ → Type 0
-IsBegun Check input text = IfSome input (λ bytes. (answer : Answer) × IsVerdict bytes answer × (text ≡ out_text_of answer))
-IsBegun Report input text = IfSome input (λ bytes. (answer : Answer) × IsReported bytes answer text)
-IsBegun Show input text = IfSome input (λ bytes. (text ≡ []) ⊎ ShowsFront AsRead bytes text)
-IsBegun Migrate input text = IfSome input (λ bytes. (text ≡ []) ⊎ ShowsFront Two bytes text)
-IsBegun (Gen number) input text = text ≡ script_of number
-
--- A front of such a text was appended to the one output, and to the other a front of the text of an answer, and then a
--- front of the word that an output failed.
-abbrev pub BreaksOff : Command → Option (List ℕ)
+-- An output failed where this was to be answered: of each text of an answer a front was appended, and to the notes then a front of
+-- the word that an output failed.
+abbrev pub AnswersInPart : Command → Option (List ℕ) → Option (List ℕ)
     → Option (List ℕ) → Option (List ℕ) → Option (List ℕ) → Option (List ℕ) → Type 0
-BreaksOff command input out out' notes notes' =
-    (answer : Answer) × (text : List ℕ) × IsBegun command input text
+AnswersInPart command input left out out' notes notes' =
+    (answer : Answer) × (text : List ℕ) × FitsAnswer command answer text × IsAnswer command input left answer text
     × AppendsPart out out' text × AppendsParts notes notes' (notes_text_of answer) (codes "write fault\n")
 
--- the same for a list of words
-abbrev pub BreaksOffWords : List (String Global) → Option (List ℕ)
+-- The standard output failed while a trace was written, before its end was read: a front was appended of what is written for the
+-- header and events that had been read, and to the notes a front of the word that an output failed.
+abbrev pub WritesInPart : Command → Option (List ℕ)
     → Option (List ℕ) → Option (List ℕ) → Option (List ℕ) → Option (List ℕ) → Type 0
-BreaksOffWords words input out out' notes notes' =
-    ((command : Command) × Names words command × BreaksOff command input out out' notes notes')
+WritesInPart command input out out' notes notes' =
+    (version : Version) × (text : List ℕ) × (command ≡ writing version) × IfSome input (λ bytes. ShowsFront version bytes text)
+    × AppendsPart out out' text × AppendsPart notes notes' (codes "write fault\n")
+
+abbrev pub BreaksOff : Command → Option (List ℕ) → Option (List ℕ)
+    → Option (List ℕ) → Option (List ℕ) → Option (List ℕ) → Option (List ℕ) → Type 0
+BreaksOff command input left out out' notes notes' =
+    AnswersInPart command input left out out' notes notes' ⊎ WritesInPart command input out out' notes notes'
+
+-- the same for a list of words
+abbrev pub BreaksOffWords : List (String Global) → Option (List ℕ) → Option (List ℕ)
+    → Option (List ℕ) → Option (List ℕ) → Option (List ℕ) → Option (List ℕ) → Type 0
+BreaksOffWords words input left out out' notes notes' =
+    ((command : Command) × Names words command × BreaksOff command input left out out' notes notes')
     ⊎ (¬ IsCommand words × Appends out out' [] × AppendsParts notes notes' (notes_text_of Usage) (codes "write fault\n"))
 
 -- What a command leaves: where no output failed, an answer; and where one did, what had been given by then, and the word
@@ -81,7 +93,7 @@ BreaksOffWords words input out out' notes notes' =
 pub record CarriesOut (command : Command) (input left : Option (List ℕ)) (status : ℕ)
     (out out' notes notes' : Option (List ℕ)) (faults faults' : ℕ) : Type 0 where
   pub answer : status ≢ 5 → Answers command input left status out out' notes notes'
-  pub broken_off : status ≡ 5 → BreaksOff command input out out' notes notes'
+  pub broken_off : status ≡ 5 → BreaksOff command input left out out' notes notes'
   pub told : status ≡ 5 → faults < 2 ^ 64 - 1 → faults' ≡ faults → Appends notes notes' (codes "write fault\n")
 
 -- Why a command ends with its status, by the counts of faults of the input and of the two outputs.

@@ -6,6 +6,7 @@ mod check;
 mod copy;
 mod follow;
 mod generate;
+pub mod laws;
 mod output;
 mod show;
 #[cfg(test)]

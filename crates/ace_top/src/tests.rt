@@ -1,4 +1,7 @@
 // What a call answers, over inputs and outputs in memory.
+
+mod faults;
+
 use crate::top::{ace, tell_no_memory};
 use ace_io::{Free, HonestSource, MemSink, MemSource, Source};
 use std::alloc::Global;

@@ -6,6 +6,7 @@ ghost use Rattle.ace_grammar.specs.Errors.{LeavesNothing};
 ghost use Rattle.ace_top.specs.Verdict.{ReadsSound};
 ghost use Rattle.ace_top.specs.Words.{IsCheck, IsReport, IsTraceCommand, IsCommand};
 ghost use Rattle.ace_top.specs.Answer.{AnswersWords, BreaksOffWords};
+ghost use Rattle.ace_top.specs.Output.{AppendsParts};
 
 use crate::answer::Answer;
 use crate::check::{tell_report, tell_verdict};
@@ -40,7 +41,7 @@ pub fn ace<R: Threads + Wait + Sync, S: Source, K: Sink, E: Sink, G: Gate + Sync
     ensures sound { IsCheck words.now ⊎ IsReport words.now → result ≡ 0 → IfSome (S.left input.old) ReadsSound }
 
     // Where an output failed, each has a front of what such an answer gives it, and then the notes tell so if they can.
-    ensures broken_off { result ≡ 5 → BreaksOffWords words.now (S.left input.old)
+    ensures broken_off { result ≡ 5 → BreaksOffWords words.now (S.left input.old) (S.left input.new)
         (K.held out.old) (K.held out.new) (E.held notes.old) (E.held notes.new) }
     ensures told { result ≡ 5 → E.faults notes.old < 2 ^ 64 - 1 → E.faults notes.new ≡ E.faults notes.old
         → Appends (E.held notes.old) (E.held notes.new) (codes "write fault\n") }
@@ -73,11 +74,20 @@ pub fn ace<R: Threads + Wait + Sync, S: Source, K: Sink, E: Sink, G: Gate + Sync
 
 /// Tells that there was no memory for the words, where `ace` can't be called for want of them, and returns the status.
 pub fn tell_no_memory<K: Sink, E: Sink>(out: &mut K, notes: &mut E) -> u8
+    // The standard output gets nothing, and the notes get the text, or where an output failed a front of it, and what `ace` tells then.
     ensures status { (result ≡ 7) ⊎ (result ≡ 5) }
-    ensures nothing { result ≡ 7 → Appends (K.held out.old) (K.held out.new) [] }
+    ensures nothing { Appends (K.held out.old) (K.held out.new) [] }
     ensures told { result ≡ 7 → Appends (E.held notes.old) (E.held notes.new) (codes "out of memory\n") }
+    ensures broken_off { result ≡ 5
+        → AppendsParts (E.held notes.old) (E.held notes.new) (codes "out of memory\n") (codes "write fault\n") }
+    ensures fault_told { result ≡ 5 → E.faults notes.old < 2 ^ 64 - 1 → E.faults notes.new ≡ E.faults notes.old
+        → Appends (E.held notes.old) (E.held notes.new) (codes "write fault\n") }
+
+    // A write fault is answered exactly where an output failed.
     ensures write_fault { result ≡ 5
         → Rose (K.faults out.old) (K.faults out.new) ⊎ Rose (E.faults notes.old) (E.faults notes.new) }
+    ensures output_failed { (K.faults out.old < K.faults out.new) ⊎ (E.faults notes.old < E.faults notes.new)
+        → result ≡ 5 }
 {
     conclude(out, notes, Answer::NoMemory)
 }

@@ -8,7 +8,7 @@ returns-in-Ok-put_report-clause-carried_out g c =
     record {
       answer = λ ne.
           report_answers _ (g.S.Source.left c.check.new.input) _ w _ _ _ _ _ _ (c.conclude.ensures.status ne) given (c.conclude.ensures.out_given ne) (c.conclude.ensures.notes_given ne);
-      broken_off = λ five. report_breaks_after _ _ w _ _ _ _ _ given c.conclude.ensures.out_part (c.conclude.ensures.notes_part five);
+      broken_off = λ five. report_breaks_after _ (g.S.Source.left c.check.new.input) _ w _ _ _ _ _ given c.conclude.ensures.out_part (c.conclude.ensures.notes_part five);
       told = c.conclude.ensures.notes_told;
     }
 
@@ -21,7 +21,7 @@ returns-in-Err-put_report-clause-carried_out g c =
     let part = c.in-Err-put_report.ensures.part w.header w.past w.follows c.in-Ok.ensures.reports in
     record {
       answer = λ ne. absurd (ne c.break_off.ensures.status);
-      broken_off = λ five. report_breaks_off _ _ w _ _ _ _ part c.break_off.ensures.part;
+      broken_off = λ five. report_breaks_off _ (g.S.Source.left c.check.new.input) _ w _ _ _ _ part c.break_off.ensures.part;
       told = λ five. c.break_off.ensures.told;
     }
 
@@ -30,6 +30,6 @@ returns-in-Err-clause-carried_out g c = record {
   answer = λ ne.
       refusal_answers _ (g.S.Source.left c.check.new.input) _ _ _ _ _ _ c.in-Err.ensures.refusal c.in-Err.ensures.verdict (c.conclude-in-Err.ensures.status ne) (c.conclude-in-Err.ensures.out_given ne) (c.conclude-in-Err.ensures.notes_given ne);
   broken_off = λ five.
-      refusal_breaks_off _ _ _ _ _ _ c.in-Err.ensures.refusal c.in-Err.ensures.verdict c.conclude-in-Err.ensures.out_part (c.conclude-in-Err.ensures.notes_part five);
+      refusal_breaks_off _ (g.S.Source.left c.check.new.input) _ _ _ _ _ c.in-Err.ensures.refusal c.in-Err.ensures.verdict c.conclude-in-Err.ensures.out_part (c.conclude-in-Err.ensures.notes_part five);
   told = c.conclude-in-Err.ensures.notes_told;
 }

@@ -19,4 +19,4 @@ returns-in-Some-Gen-clause-told g c = (c.write_script.ensures.carried_out (g.S.S
 
 pub returns-in-None-clause-broken_off : goal.returns-in-None-clause-broken_off
 returns-in-None-clause-broken_off g c five =
-    usage_broken _ _ _ _ _ _ c.in-None.ensures c.conclude.ensures.out_part (c.conclude.ensures.notes_part five)
+    usage_broken _ _ _ _ _ _ _ c.in-None.ensures c.conclude.ensures.out_part (c.conclude.ensures.notes_part five)

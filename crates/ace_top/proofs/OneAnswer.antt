@@ -1,0 +1,348 @@
+-- The answer that is due to bytes is that which their one reading has.
+use Rattle.std.proofs.Common.{◌≡◌, ◌≤◌, ℕ, List, [], ◌∷◌, ◌++◌, Option, None, Some, length, reverse, refl, sym, ap, subst, ◌∙◌, inl, inr, Bool, true, false, ◌+◌, arith}
+use Rattle.ace_event.specs.declared.header.Header.{Header}
+use Rattle.ace_event.specs.declared.event.Event.{Event}
+use Rattle.ace_event.specs.Text.{trace_text}
+use Rattle.ace_grammar.specs.declared.reason.Reason.{Reason}
+use Rattle.ace_grammar.specs.Reading.{Ending, Ends, Whole, Full, Bad, Reads, HasBadHeader, most_events}
+use Rattle.ace_grammar.proofs.Readings.EveryReading.{some_reading}
+use Rattle.ace_grammar.proofs.Readings.Fronts.{front_is_read, front_is_good}
+use Rattle.ace_grammar.proofs.Readings.OneReading.{one_reading, no_bad_header, one_bad_header}
+use Rattle.ace_report.specs.Report.{report_text}
+use Rattle.ace_model.specs.Accepted.{least_broken}
+use Rattle.ace_model.specs.Trace.{newer}
+use Rattle.ace_check.specs.Run.{goes_over}
+use Rattle.ace_top.specs.declared.answer.Answer.{Answer}
+use Rattle.ace_top.specs.declared.answer.Answer.TheVariants.{Accepted, Refused, Shown, Reported, Generated, Usage, Malformed, ReadFault, LimitEvents, LimitLines, NoMemory}
+use Rattle.ace_top.specs.declared.show.Version.{Version}
+use Rattle.ace_top.specs.declared.show.Version.TheVariants.{AsRead, Two}
+use Rattle.ace_top.specs.declared.words.Command.{Command}
+use Rattle.ace_top.specs.declared.words.Command.TheVariants.{Check, Report, Show, Migrate, Gen}
+use Rattle.ace_top.specs.Answer.{IsAnswer, FitsAnswer, IsDue}
+use Rattle.ace_top.specs.Generate.{IsGenerated, script_of}
+use Rattle.ace_top.specs.Report.{IsReported}
+use Rattle.ace_top.specs.Show.{IsShown, header_written}
+use Rattle.ace_top.specs.Texts.{out_text_of}
+use Rattle.ace_top.specs.Verdict.{IsVerdict, BeginsStopped, Stop, Breaks, GoesOver, stop_of, first_stop, first_stop_after}
+
+-- ---- verdicts
+
+-- what ends the check of a trace ends that of each longer one
+found_first : (n : ℕ) (k : Option ℕ) (over : Bool) (later more : Option Stop) (stop : Stop)
+    → ((s : Stop) → later ≡ Some s → more ≡ Some s) → newer (stop_of n k over) later ≡ Some stop → newer (stop_of n k over) more ≡ Some stop
+found_first n (Some k) over later more stop go is = is
+found_first n None true later more stop go is = is
+found_first n None false later more stop go is = go stop is
+
+stops_after : (h : Header) (past events more : List Event) (stop : Stop) → first_stop_after h past events ≡ Some stop → first_stop_after h past (events ++ more) ≡ Some stop
+stops_after h past [] more stop is = absurd cc
+stops_after h past (e ∷ events) more stop is =
+    found_first (length past + 1) (least_broken h past e) (goes_over past e) (first_stop_after h (e ∷ past) events) (first_stop_after h (e ∷ past) (events ++ more)) stop
+    (λ s. stops_after h (e ∷ past) events more s) is
+
+-- the verdict on a trace that ends so, by what ends its check before
+abbrev pub verdict_of : Option Stop → Ending → ℕ → Answer
+verdict_of (Some (Breaks index rule)) end count = Refused index rule
+verdict_of (Some GoesOver) end count = LimitLines
+verdict_of None Whole count = Accepted count
+verdict_of None Full count = LimitEvents
+verdict_of None (Bad line reason) count = Malformed line reason
+
+-- where nothing ends the check before
+unbroken : (bytes : List ℕ) (h header : Header) (events es : List Event) (end ending : Ending) (count : ℕ) → Reads bytes h events end → Reads bytes header es ending
+    → first_stop header es ≡ None → length es ≡ count → verdict_of None ending count ≡ verdict_of (first_stop h events) end (length events)
+unbroken bytes h header events es end ending count r reads none is =
+    let one = one_reading bytes h header events es end ending r reads in
+    rw one.0 (rw one.1 (rw one.2 (rw none (rw is refl))))
+
+-- where something does
+broken : (bytes : List ℕ) (h : Header) (events : List Event) (end : Ending) (stop : Stop) → Reads bytes h events end → BeginsStopped bytes stop
+    → first_stop h events ≡ Some stop
+broken bytes h events end stop r (header, es, readable, all, few, front, is) =
+    let f = front_is_read bytes header h es events end readable all few front r in
+    rw f.0 (rw f.1.1 (stops_after header [] es f.1.0 stop is))
+
+due_verdict : (bytes : List ℕ) (h : Header) (events : List Event) (end : Ending) (answer : Answer) → Reads bytes h events end → IsDue answer → IsVerdict bytes answer
+    → answer ≡ verdict_of (first_stop h events) end (length events)
+due_verdict bytes h events end (Accepted count) r d (header, es, reads, none, is) = unbroken bytes h header events es end Whole count r reads none is
+due_verdict bytes h events end (Refused index rule) r d b = ap (λ s. verdict_of s end (length events)) (sym (broken bytes h events end (Breaks index rule) r b))
+due_verdict bytes h events end (Malformed line reason) r d (inl bad) = absurd (no_bad_header bytes h events end line reason r bad)
+due_verdict bytes h events end (Malformed line reason) r d (inr (count, (header, es, reads, none, is))) = unbroken bytes h header events es end (Bad line reason) count r reads none is
+due_verdict bytes h events end LimitEvents r d (count, (header, es, reads, none, is)) = unbroken bytes h header events es end Full count r reads none is
+due_verdict bytes h events end LimitLines r d b = ap (λ s. verdict_of s end (length events)) (sym (broken bytes h events end GoesOver r b))
+due_verdict bytes h events end ReadFault r d v = absurd d
+due_verdict bytes h events end NoMemory r d v = absurd d
+due_verdict bytes h events end Shown r d v = absurd v
+due_verdict bytes h events end Reported r d v = absurd v
+due_verdict bytes h events end Generated r d v = absurd v
+due_verdict bytes h events end Usage r d v = absurd v
+
+no_front : (bytes : List ℕ) (number : ℕ) (reason : Reason) (stop : Stop) → HasBadHeader bytes number reason → BeginsStopped bytes stop → ⊥
+no_front bytes number reason stop bad (header, es, readable, all, few, front, is) = front_is_good bytes header es number reason readable all few front bad
+
+due_without_header : (bytes : List ℕ) (number : ℕ) (reason : Reason) (answer : Answer) → HasBadHeader bytes number reason → IsDue answer → IsVerdict bytes answer
+    → answer ≡ Malformed number reason
+due_without_header bytes number reason (Accepted count) bad d (header, es, reads, none, is) = absurd (no_bad_header bytes header es Whole number reason reads bad)
+due_without_header bytes number reason (Refused index rule) bad d b = absurd (no_front bytes number reason (Breaks index rule) bad b)
+due_without_header bytes number reason (Malformed line other) bad d (inl wrong) =
+    let one = one_bad_header bytes line number other reason wrong bad in
+    rw one.0 (rw one.1 refl)
+due_without_header bytes number reason (Malformed line other) bad d (inr (count, (header, es, reads, none, is))) = absurd (no_bad_header bytes header es (Bad line other) number reason reads bad)
+due_without_header bytes number reason LimitEvents bad d (count, (header, es, reads, none, is)) = absurd (no_bad_header bytes header es Full number reason reads bad)
+due_without_header bytes number reason LimitLines bad d b = absurd (no_front bytes number reason GoesOver bad b)
+due_without_header bytes number reason ReadFault bad d v = absurd d
+due_without_header bytes number reason NoMemory bad d v = absurd d
+due_without_header bytes number reason Shown bad d v = absurd v
+due_without_header bytes number reason Reported bad d v = absurd v
+due_without_header bytes number reason Generated bad d v = absurd v
+due_without_header bytes number reason Usage bad d v = absurd v
+
+-- the bytes have one verdict
+one_verdict : (bytes : List ℕ) (answer other : Answer) → IsDue answer → IsDue other → IsVerdict bytes answer → IsVerdict bytes other → answer ≡ other
+one_verdict bytes answer other d o v w =
+    elim (some_reading bytes) [
+      | inl (number, reason, bad) ↦ due_without_header bytes number reason answer bad d v ∙ sym (due_without_header bytes number reason other bad o w)
+      | inr (header, events, end, r) ↦ due_verdict bytes header events end answer r d v ∙ sym (due_verdict bytes header events end other r o w)
+    ]
+
+few_events : (version : ℕ) (end : Ending) (events : List Event) (rest : List ℕ) → Ends version end events rest → length events ≤ most_events
+few_events version Whole events rest e = e.0
+few_events version Full events rest e = omega (arith, e.0)
+few_events version (Bad line reason) events rest e = omega (arith, e.0)
+
+begins_stopped : (bytes : List ℕ) (header : Header) (events : List Event) (end : Ending) (stop : Stop) → Reads bytes header events end → first_stop header events ≡ Some stop
+    → BeginsStopped bytes stop
+begins_stopped bytes header events end stop r is =
+    (header, events, r.header_is_readable, r.events_are_readable, few_events header.version end events r.text.0 r.text.2, (r.text.0, r.text.1), is)
+
+read_verdict : (bytes : List ℕ) (header : Header) (events : List Event) (end : Ending) (stop : Option Stop) → Reads bytes header events end → first_stop header events ≡ stop
+    → IsDue (verdict_of stop end (length events)) × IsVerdict bytes (verdict_of stop end (length events))
+read_verdict bytes header events end (Some (Breaks index rule)) r is = (tt, begins_stopped bytes header events end (Breaks index rule) r is)
+read_verdict bytes header events end (Some GoesOver) r is = (tt, begins_stopped bytes header events end GoesOver r is)
+read_verdict bytes header events Whole None r is = (tt, (header, events, r, is, refl))
+read_verdict bytes header events Full None r is = (tt, (length events, (header, events, r, is, refl)))
+read_verdict bytes header events (Bad line reason) None r is = (tt, inr (length events, (header, events, r, is, refl)))
+
+-- the bytes have a verdict
+some_verdict : (bytes : List ℕ) → (answer : Answer) × IsDue answer × IsVerdict bytes answer
+some_verdict bytes =
+    elim (some_reading bytes) [
+      | inl (number, reason, bad) ↦ (Malformed number reason, tt, inl bad)
+      | inr (header, events, end, r) ↦
+          let v = read_verdict bytes header events end (first_stop header events) r refl in
+          (verdict_of (first_stop header events) end (length events), v.0, v.1)
+    ]
+
+-- ---- reports
+
+-- the verdict on the same bytes
+abbrev pub verdict_told : Answer → ℕ → Answer
+verdict_told Reported count = Accepted count
+verdict_told answer count = answer
+
+told_verdict : (bytes : List ℕ) (answer : Answer) (text : List ℕ) → IsDue answer → IsReported bytes answer text
+    → (count : ℕ) × IsDue (verdict_told answer count) × IsVerdict bytes (verdict_told answer count)
+told_verdict bytes Reported text d (header, events, reads, none, is) = (length events, tt, (header, events, reads, none, refl))
+told_verdict bytes (Accepted count) text d r = absurd r
+told_verdict bytes (Refused index rule) text d r = (0, d, r.0)
+told_verdict bytes (Malformed line reason) text d r = (0, d, r.0)
+told_verdict bytes ReadFault text d r = absurd d
+told_verdict bytes NoMemory text d r = absurd d
+told_verdict bytes LimitEvents text d r = (0, d, r.0)
+told_verdict bytes LimitLines text d r = (0, d, r.0)
+told_verdict bytes Shown text d r = absurd r.0
+told_verdict bytes Generated text d r = absurd r.0
+told_verdict bytes Usage text d r = absurd r.0
+
+abbrev pub told_of : Answer → Answer
+told_of (Accepted count) = Reported
+told_of answer = answer
+
+told_back : (bytes : List ℕ) (answer : Answer) (text : List ℕ) (count : ℕ) → IsReported bytes answer text → told_of (verdict_told answer count) ≡ answer
+told_back bytes Reported text count r = refl
+told_back bytes (Accepted n) text count r = absurd r
+told_back bytes (Refused index rule) text count r = refl
+told_back bytes (Malformed line reason) text count r = refl
+told_back bytes ReadFault text count r = refl
+told_back bytes NoMemory text count r = refl
+told_back bytes LimitEvents text count r = refl
+told_back bytes LimitLines text count r = refl
+told_back bytes Shown text count r = refl
+told_back bytes Generated text count r = refl
+told_back bytes Usage text count r = refl
+
+-- the answer has one text
+one_report : (bytes : List ℕ) (answer : Answer) (text more : List ℕ) → IsReported bytes answer text → IsReported bytes answer more → text ≡ more
+one_report bytes Reported text more (h, events, reads, none, is) (header, es, r, nothing, was) =
+    let one = one_reading bytes h header events es Whole Whole reads r in
+    is ∙ (rw one.0 (rw one.1 (sym was)))
+one_report bytes (Accepted n) text more r s = absurd r
+one_report bytes (Refused index rule) text more r s = r.1 ∙ sym s.1
+one_report bytes (Malformed line reason) text more r s = r.1 ∙ sym s.1
+one_report bytes ReadFault text more r s = r.1 ∙ sym s.1
+one_report bytes NoMemory text more r s = r.1 ∙ sym s.1
+one_report bytes LimitEvents text more r s = r.1 ∙ sym s.1
+one_report bytes LimitLines text more r s = r.1 ∙ sym s.1
+one_report bytes Shown text more r s = r.1 ∙ sym s.1
+one_report bytes Generated text more r s = r.1 ∙ sym s.1
+one_report bytes Usage text more r s = r.1 ∙ sym s.1
+
+one_told : (bytes : List ℕ) (answer other : Answer) (text more : List ℕ) → IsDue answer → IsDue other → IsReported bytes answer text → IsReported bytes other more → (answer ≡ other) × (text ≡ more)
+one_told bytes answer other text more d o r s =
+    let v = told_verdict bytes answer text d r in
+    let w = told_verdict bytes other more o s in
+    let same : answer ≡ other =
+    sym (told_back bytes answer text v.0 r) ∙ ap told_of (one_verdict bytes (verdict_told answer v.0) (verdict_told other w.0) v.1 w.1 v.2 w.2) ∙ told_back bytes other more w.0 s in
+    (same, one_report bytes answer text more r (subst (λ a. IsReported bytes a more) (sym same) s))
+
+some_told : (bytes : List ℕ) (answer : Answer) → IsDue answer → IsVerdict bytes answer
+    → (told : Answer) × (text : List ℕ) × IsDue told × FitsAnswer Report told text × IsReported bytes told text
+some_told bytes (Accepted count) d (header, events, reads, none, is) = (Reported, report_text header (reverse events), tt, tt, (header, events, reads, none, refl))
+some_told bytes (Refused index rule) d v = (Refused index rule, out_text_of (Refused index rule), tt, refl, (v, refl))
+some_told bytes (Malformed line reason) d v = (Malformed line reason, [], tt, refl, (v, refl))
+some_told bytes LimitEvents d v = (LimitEvents, [], tt, refl, (v, refl))
+some_told bytes LimitLines d v = (LimitLines, [], tt, refl, (v, refl))
+some_told bytes ReadFault d v = absurd d
+some_told bytes NoMemory d v = absurd d
+some_told bytes Shown d v = absurd v
+some_told bytes Reported d v = absurd v
+some_told bytes Generated d v = absurd v
+some_told bytes Usage d v = absurd v
+
+-- ---- traces that are written
+
+-- the answer where a trace that ends so is written
+abbrev pub written_of : Ending → Answer
+written_of Whole = Shown
+written_of Full = LimitEvents
+written_of (Bad line reason) = Malformed line reason
+
+shows : (version : Version) (bytes : List ℕ) (h header : Header) (events es : List Event) (end ending : Ending) (text : List ℕ) → Reads bytes h events end → Reads bytes header es ending
+    → text ≡ trace_text (header_written version header) es → (written_of ending ≡ written_of end) × (text ≡ trace_text (header_written version h) events)
+shows version bytes h header events es end ending text r reads is =
+    let one = one_reading bytes h header events es end ending r reads in
+    (ap written_of (sym one.2), is ∙ ap (λ (g : Header). trace_text (header_written version g) es) (sym one.0) ∙ ap (λ (t : List Event). trace_text (header_written version h) t) (sym one.1))
+
+pub due_written : (version : Version) (bytes : List ℕ) (left : Option (List ℕ)) (h : Header) (events : List Event) (end : Ending) (answer : Answer) (text : List ℕ)
+    → Reads bytes h events end → IsDue answer → IsShown version bytes left answer text → (answer ≡ written_of end) × (text ≡ trace_text (header_written version h) events)
+due_written version bytes left h events end Shown text r d (header, es, reads, is) = shows version bytes h header events es end Whole text r reads is
+due_written version bytes left h events end (Malformed line reason) text r d (inl (bad, none)) = absurd (no_bad_header bytes h events end line reason r bad)
+due_written version bytes left h events end (Malformed line reason) text r d (inr (header, es, reads, is)) = shows version bytes h header events es end (Bad line reason) text r reads is
+due_written version bytes left h events end LimitEvents text r d (header, es, reads, is) = shows version bytes h header events es end Full text r reads is
+due_written version bytes left h events end ReadFault text r d s = absurd d
+due_written version bytes left h events end NoMemory text r d s = absurd d
+due_written version bytes left h events end (Accepted count) text r d s = absurd s
+due_written version bytes left h events end (Refused index rule) text r d s = absurd s
+due_written version bytes left h events end Reported text r d s = absurd s
+due_written version bytes left h events end LimitLines text r d s = absurd s
+due_written version bytes left h events end Generated text r d s = absurd s
+due_written version bytes left h events end Usage text r d s = absurd s
+
+written_without_header : (version : Version) (bytes : List ℕ) (left : Option (List ℕ)) (number : ℕ) (reason : Reason) (answer : Answer) (text : List ℕ)
+    → HasBadHeader bytes number reason → IsDue answer → IsShown version bytes left answer text → (answer ≡ Malformed number reason) × (text ≡ [])
+written_without_header version bytes left number reason Shown text bad d (header, es, reads, is) = absurd (no_bad_header bytes header es Whole number reason reads bad)
+written_without_header version bytes left number reason (Malformed line other) text bad d (inl (wrong, none)) =
+    let one = one_bad_header bytes line number other reason wrong bad in
+    ((rw one.0 (rw one.1 refl)), none)
+written_without_header version bytes left number reason (Malformed line other) text bad d (inr (header, es, reads, is)) =
+    absurd (no_bad_header bytes header es (Bad line other) number reason reads bad)
+written_without_header version bytes left number reason LimitEvents text bad d (header, es, reads, is) = absurd (no_bad_header bytes header es Full number reason reads bad)
+written_without_header version bytes left number reason ReadFault text bad d s = absurd d
+written_without_header version bytes left number reason NoMemory text bad d s = absurd d
+written_without_header version bytes left number reason (Accepted count) text bad d s = absurd s
+written_without_header version bytes left number reason (Refused index rule) text bad d s = absurd s
+written_without_header version bytes left number reason Reported text bad d s = absurd s
+written_without_header version bytes left number reason LimitLines text bad d s = absurd s
+written_without_header version bytes left number reason Generated text bad d s = absurd s
+written_without_header version bytes left number reason Usage text bad d s = absurd s
+
+one_written : (version : Version) (bytes : List ℕ) (left last : Option (List ℕ)) (answer other : Answer) (text more : List ℕ) → IsDue answer → IsDue other
+    → IsShown version bytes left answer text → IsShown version bytes last other more → (answer ≡ other) × (text ≡ more)
+one_written version bytes left last answer other text more d o s t =
+    elim (some_reading bytes) [
+      | inl (number, reason, bad) ↦
+          let p = written_without_header version bytes left number reason answer text bad d s in
+          let q = written_without_header version bytes last number reason other more bad o t in
+          (p.0 ∙ sym q.0, p.1 ∙ sym q.1)
+      | inr (header, events, end, r) ↦
+          let p = due_written version bytes left header events end answer text r d s in
+          let q = due_written version bytes last header events end other more r o t in
+          (p.0 ∙ sym q.0, p.1 ∙ sym q.1)
+    ]
+
+read_written : (version : Version) (bytes : List ℕ) (left : Option (List ℕ)) (header : Header) (events : List Event) (end : Ending) → Reads bytes header events end
+    → IsDue (written_of end) × IsShown version bytes left (written_of end) (trace_text (header_written version header) events)
+read_written version bytes left header events Whole r = (tt, (header, events, r, refl))
+read_written version bytes left header events Full r = (tt, (header, events, r, refl))
+read_written version bytes left header events (Bad line reason) r = (tt, inr (header, events, r, refl))
+
+some_written : (version : Version) (bytes : List ℕ) (left : Option (List ℕ)) → (answer : Answer) × (text : List ℕ) × IsDue answer × IsShown version bytes left answer text
+some_written version bytes left =
+    elim (some_reading bytes) [
+      | inl (number, reason, bad) ↦ (Malformed number reason, [], tt, inl (bad, refl))
+      | inr (header, events, end, r) ↦
+          let w = read_written version bytes left header events end r in
+          (written_of end, trace_text (header_written version header) events, w.0, w.1)
+    ]
+
+-- ---- scripts
+
+generated_due : (number : ℕ) (answer : Answer) (text : List ℕ) → IsDue answer → IsGenerated number answer text → (answer ≡ Generated) × (text ≡ script_of number)
+generated_due number Generated text d g = (refl, g)
+generated_due number NoMemory text d g = absurd d
+generated_due number ReadFault text d g = absurd d
+generated_due number (Accepted count) text d g = absurd g
+generated_due number (Refused index rule) text d g = absurd g
+generated_due number (Malformed line reason) text d g = absurd g
+generated_due number LimitEvents text d g = absurd g
+generated_due number LimitLines text d g = absurd g
+generated_due number Shown text d g = absurd g
+generated_due number Reported text d g = absurd g
+generated_due number Usage text d g = absurd g
+
+-- ---- commands
+
+-- the answer that is due, and its text, are one
+pub one_answer : (command : Command) (bytes : List ℕ) (left last : Option (List ℕ)) (answer other : Answer) (text more : List ℕ)
+    → IsDue answer → IsDue other → FitsAnswer command answer text → FitsAnswer command other more
+    → IsAnswer command (Some bytes) left answer text → IsAnswer command (Some bytes) last other more → (answer ≡ other) × (text ≡ more)
+one_answer Check bytes left last answer other text more d o f g v w =
+    let same = one_verdict bytes answer other d o v w in
+    (same, f ∙ ap out_text_of same ∙ sym g)
+one_answer Report bytes left last answer other text more d o f g r s = one_told bytes answer other text more d o r s
+one_answer Show bytes left last answer other text more d o f g s t = one_written AsRead bytes left last answer other text more d o s t
+one_answer Migrate bytes left last answer other text more d o f g s t = one_written Two bytes left last answer other text more d o s t
+one_answer (Gen number) bytes left last answer other text more d o f g s t =
+    let p = generated_due number answer text d s in
+    let q = generated_due number other more o t in
+    (p.0 ∙ sym q.0, p.1 ∙ sym q.1)
+
+fits_written : (answer : Answer) (text : List ℕ) → IsDue answer → FitsAnswer Show answer text × FitsAnswer Migrate answer text
+fits_written NoMemory text d = absurd d
+fits_written ReadFault text d = absurd d
+fits_written (Accepted count) text d = (tt, tt)
+fits_written (Refused index rule) text d = (tt, tt)
+fits_written (Malformed line reason) text d = (tt, tt)
+fits_written LimitEvents text d = (tt, tt)
+fits_written LimitLines text d = (tt, tt)
+fits_written Shown text d = (tt, tt)
+fits_written Reported text d = (tt, tt)
+fits_written Generated text d = (tt, tt)
+fits_written Usage text d = (tt, tt)
+
+-- an answer is due
+pub some_answer : (command : Command) (bytes : List ℕ) (left : Option (List ℕ))
+    → (answer : Answer) × (text : List ℕ) × IsDue answer × FitsAnswer command answer text × IsAnswer command (Some bytes) left answer text
+some_answer Check bytes left =
+    let v = some_verdict bytes in
+    (v.0, out_text_of v.0, v.1, refl, v.2)
+some_answer Report bytes left =
+    let v = some_verdict bytes in
+    some_told bytes v.0 v.1 v.2
+some_answer Show bytes left =
+    let w = some_written AsRead bytes left in
+    (w.0, w.1, w.2, (fits_written w.0 w.1 w.2).0, w.3)
+some_answer Migrate bytes left =
+    let w = some_written Two bytes left in
+    (w.0, w.1, w.2, (fits_written w.0 w.1 w.2).1, w.3)
+some_answer (Gen number) bytes left = (Generated, script_of number, tt, tt, refl)
