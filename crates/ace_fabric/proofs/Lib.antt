@@ -16,5 +16,7 @@ pub mod Given
 pub mod Taken
 -- A run with more events at its end.
 pub mod Continued
+-- Turns of ports, one after the other.
+pub mod TurnsBy
 -- The engines after a step of one of them.
 pub mod Moves

@@ -171,4 +171,24 @@ impl<H: Engine, U: Engine, O: Engine, M: Engine> Fabric<H, U, O, M> {
             self.keeps();
         }
     }
+
+    /// A turn for each number, one after the other, of the port of the number modulo the number of ports.
+    fn take_turns(&mut self, turns: &[u8])
+        ensures { (events : List Event) × (self.new ≡ continued events self.old) × AreTurnsBy self.old.plan turns.now self.old.past self.new.past }
+    {
+        for number in turns {
+            let ports = self.plan.header().ports;
+            self.turn(*number % ports);
+        }
+    }
+
+    /// A turn for each number, one after the other, of the port of the number modulo the number of ports; then rounds of turns until the run is done.
+    /// It takes no memory.
+    pub fn drain_by(&mut self, turns: &[u8])
+        ensures turns { (middle : Trace) × AreTurnsBy self.old.plan turns.now self.old.past middle × (events : List Event) × (self.new ≡ record self.old { past = onto events middle }) }
+        ensures done { Done self.new.plan self.new.past }
+    {
+        self.take_turns(turns);
+        self.drain();
+    }
 }
