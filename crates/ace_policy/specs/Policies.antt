@@ -18,3 +18,8 @@ eager_rows snoop held update = option_to_list (eager_row snoop held update)
 abbrev pub row_at_word : SnoopKind → LineState → Bool → ℕ → Option Row
 row_at_word snoop held update word =
     slice_get (snoop_rows snoop held update) (word % length (snoop_rows snoop held update))
+
+-- the numbers by which a caller picks rows, and the place of the next of them
+pub record Picks : Type 0 where
+  pub picks : List ℕ
+  pub next : ℕ

@@ -4,6 +4,7 @@
 mod chosen;
 mod eager;
 mod keep;
+mod listed;
 mod mixed;
 mod policy;
 #[cfg(test)]
@@ -12,5 +13,6 @@ mod tests;
 pub use chosen::Chosen;
 pub use eager::Eager;
 pub use keep::Keep;
+pub use listed::Listed;
 pub use mixed::Mixed;
 pub use policy::Policy;

@@ -1,6 +1,6 @@
 // Answers by each policy: rows of the tables, and the first words of the generator.
 
-use crate::{Chosen, Eager, Keep, Mixed, Policy};
+use crate::{Chosen, Eager, Keep, Listed, Mixed, Policy};
 use ace_codes::LineState::{I, SC, SD, UD};
 use ace_codes::{LineState, SnoopKind};
 use ace_tables::{Row, snoop_rows};
@@ -59,6 +59,30 @@ fn mixes_rows(rt: HostRuntime) -> Result<(), Fail> {
         let (resp, next) = rows[place];
         let row = Some(Row { resp, next });
         assert_eq!(rt; picked(&mut mixed, SnoopKind::ReadShared, UD), row);
+        assert_eq!(rt; picked(&mut chosen, SnoopKind::ReadShared, UD), row);
+    }
+    Ok(())
+}
+
+#[test]
+fn takes_listed_rows(rt: HostRuntime) -> Result<(), Fail> {
+    // 1, 255 and 4 modulo the six rows, and again
+    let places = [1, 3, 4, 1, 3];
+    let rows = [
+        (0x09, SD),
+        (0x19, SD),
+        (0x0d, SC),
+        (0x1d, SC),
+        (0x05, I),
+        (0x15, I),
+    ];
+    let picks = [1, 255, 4];
+    let mut listed = Listed::new(rt.alloc(), &picks)?;
+    let mut chosen = Chosen::Listed(Listed::new(rt.alloc(), &picks)?);
+    for place in places {
+        let (resp, next) = rows[place];
+        let row = Some(Row { resp, next });
+        assert_eq!(rt; picked(&mut listed, SnoopKind::ReadShared, UD), row);
         assert_eq!(rt; picked(&mut chosen, SnoopKind::ReadShared, UD), row);
     }
     Ok(())

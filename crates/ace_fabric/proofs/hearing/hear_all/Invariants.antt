@@ -1,0 +1,5 @@
+use Rattle.ace_fabric.specs.Parts.{HaveHeard}
+use Rattle.ace_fabric.proofs.hearing.hear_all.Given as goal
+
+abbrev pub invariant-loop-k : goal.invariant-loop-k
+invariant-loop-k g l = HaveHeard g.E.Engine l.burst l.but l.k l.initial.engines l.engines

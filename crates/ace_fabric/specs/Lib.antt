@@ -1,0 +1,4 @@
+-- How engines take part in a run.
+pub mod Parts
+-- A run as it is seen, and what is kept of it.
+pub mod Runs

@@ -1,0 +1,8 @@
+//! The engines of a run that share one trace: a system of masters and an interconnect, for any engines.
+#![tactic(auto)]
+
+mod fabric;
+mod hearing;
+mod moving;
+
+pub use fabric::{Fabric, Turn};

@@ -1,0 +1,144 @@
+//! A step of one engine, which the others hear.
+
+ghost use Rattle.std.specs.Prelude.{◌≡◌, ◌<◌, false, [], IsTrue};
+ghost use Rattle.ace_model.specs.Plans.{Plan};
+ghost use Rattle.ace_model.specs.Trace.{Trace};
+ghost use Rattle.ace_runs.specs.Steps.{is_enabled, is_enabled_by};
+ghost use Rattle.ace_engine.specs.Engines.{Home as OfHome, Master as OfMaster, Order as OfOrder, Update as OfUpdates, numbers_of};
+ghost use Rattle.ace_fabric.specs.Parts.{AreEngines, HaveMoved};
+
+use crate::hearing::{hear, hear_all};
+use ace_engine::{Burst, Engine};
+
+/// A step of the port's master.
+pub fn by_master<H: Engine, U: Engine, O: Engine, M: Engine>(
+    home: &mut H,
+    update: &mut U,
+    order: &mut O,
+    masters: &mut [M],
+    port: u8,
+    out: &mut Burst,
+) -> bool
+    requires run { (plan : Plan) × (past : Trace) × AreEngines H.Engine U.Engine O.Engine M.Engine plan past home.old update.old order.old masters.old × (port < plan.header.ports) }
+    requires empty { out.old ≡ [] }
+    ensures moved { IsTrue result → HaveMoved H.Engine U.Engine O.Engine M.Engine port out.new home.old update.old order.old masters.old home.new update.new order.new masters.new }
+    ensures none { result ≡ false → (plan : Plan) (past : Trace) → AreEngines H.Engine U.Engine O.Engine M.Engine plan past home.old update.old order.old masters.old
+        → is_enabled_by (numbers_of OfMaster) plan past port ≡ false }
+    ensures unchanged { result ≡ false → (home.new ≡ home.old) × (update.new ≡ update.old) × (order.new ≡ order.old) × (masters.new ≡ masters.old) × (out.new ≡ []) }
+{
+    let own = usize::from(port);
+    if !masters[own].turn(port, out) {
+        return false;
+    }
+    hear_all(masters, own, out);
+    hear(home, out);
+    hear(update, out);
+    hear(order, out);
+    true
+}
+
+/// A step of the engine of memory updates.
+pub fn by_update<H: Engine, U: Engine, O: Engine, M: Engine>(
+    home: &mut H,
+    update: &mut U,
+    order: &mut O,
+    masters: &mut [M],
+    port: u8,
+    out: &mut Burst,
+) -> bool
+    requires run { (plan : Plan) × (past : Trace) × AreEngines H.Engine U.Engine O.Engine M.Engine plan past home.old update.old order.old masters.old × (port < plan.header.ports) }
+    requires empty { out.old ≡ [] }
+    ensures moved { IsTrue result → HaveMoved H.Engine U.Engine O.Engine M.Engine port out.new home.old update.old order.old masters.old home.new update.new order.new masters.new }
+    ensures none { result ≡ false → (plan : Plan) (past : Trace) → AreEngines H.Engine U.Engine O.Engine M.Engine plan past home.old update.old order.old masters.old
+        → is_enabled_by (numbers_of OfUpdates) plan past port ≡ false }
+    ensures unchanged { result ≡ false → (home.new ≡ home.old) × (update.new ≡ update.old) × (order.new ≡ order.old) × (masters.new ≡ masters.old) × (out.new ≡ []) }
+{
+    if !update.turn(port, out) {
+        return false;
+    }
+    let none = masters.len();
+    hear_all(masters, none, out);
+    hear(home, out);
+    hear(order, out);
+    true
+}
+
+/// A step of the home.
+pub fn by_home<H: Engine, U: Engine, O: Engine, M: Engine>(
+    home: &mut H,
+    update: &mut U,
+    order: &mut O,
+    masters: &mut [M],
+    port: u8,
+    out: &mut Burst,
+) -> bool
+    requires run { (plan : Plan) × (past : Trace) × AreEngines H.Engine U.Engine O.Engine M.Engine plan past home.old update.old order.old masters.old × (port < plan.header.ports) }
+    requires empty { out.old ≡ [] }
+    ensures moved { IsTrue result → HaveMoved H.Engine U.Engine O.Engine M.Engine port out.new home.old update.old order.old masters.old home.new update.new order.new masters.new }
+    ensures none { result ≡ false → (plan : Plan) (past : Trace) → AreEngines H.Engine U.Engine O.Engine M.Engine plan past home.old update.old order.old masters.old
+        → is_enabled_by (numbers_of OfHome) plan past port ≡ false }
+    ensures unchanged { result ≡ false → (home.new ≡ home.old) × (update.new ≡ update.old) × (order.new ≡ order.old) × (masters.new ≡ masters.old) × (out.new ≡ []) }
+{
+    if !home.turn(port, out) {
+        return false;
+    }
+    let none = masters.len();
+    hear_all(masters, none, out);
+    hear(update, out);
+    hear(order, out);
+    true
+}
+
+/// A step of the engine of barriers and DVM.
+pub fn by_order<H: Engine, U: Engine, O: Engine, M: Engine>(
+    home: &mut H,
+    update: &mut U,
+    order: &mut O,
+    masters: &mut [M],
+    port: u8,
+    out: &mut Burst,
+) -> bool
+    requires run { (plan : Plan) × (past : Trace) × AreEngines H.Engine U.Engine O.Engine M.Engine plan past home.old update.old order.old masters.old × (port < plan.header.ports) }
+    requires empty { out.old ≡ [] }
+    ensures moved { IsTrue result → HaveMoved H.Engine U.Engine O.Engine M.Engine port out.new home.old update.old order.old masters.old home.new update.new order.new masters.new }
+    ensures none { result ≡ false → (plan : Plan) (past : Trace) → AreEngines H.Engine U.Engine O.Engine M.Engine plan past home.old update.old order.old masters.old
+        → is_enabled_by (numbers_of OfOrder) plan past port ≡ false }
+    ensures unchanged { result ≡ false → (home.new ≡ home.old) × (update.new ≡ update.old) × (order.new ≡ order.old) × (masters.new ≡ masters.old) × (out.new ≡ []) }
+{
+    if !order.turn(port, out) {
+        return false;
+    }
+    let none = masters.len();
+    hear_all(masters, none, out);
+    hear(home, out);
+    hear(update, out);
+    true
+}
+
+/// A step of the first engine that has one for the port: its master, the engine of memory updates, the home, the engine of barriers and DVM.
+pub fn by_any<H: Engine, U: Engine, O: Engine, M: Engine>(
+    home: &mut H,
+    update: &mut U,
+    order: &mut O,
+    masters: &mut [M],
+    port: u8,
+    out: &mut Burst,
+) -> bool
+    requires run { (plan : Plan) × (past : Trace) × AreEngines H.Engine U.Engine O.Engine M.Engine plan past home.old update.old order.old masters.old × (port < plan.header.ports) }
+    requires empty { out.old ≡ [] }
+    ensures moved { IsTrue result → HaveMoved H.Engine U.Engine O.Engine M.Engine port out.new home.old update.old order.old masters.old home.new update.new order.new masters.new }
+    ensures none { result ≡ false → (plan : Plan) (past : Trace) → AreEngines H.Engine U.Engine O.Engine M.Engine plan past home.old update.old order.old masters.old
+        → is_enabled plan past port ≡ false }
+    ensures unchanged { result ≡ false → (home.new ≡ home.old) × (update.new ≡ update.old) × (order.new ≡ order.old) × (masters.new ≡ masters.old) × (out.new ≡ []) }
+{
+    if by_master(home, update, order, masters, port, out) {
+        return true;
+    }
+    if by_update(home, update, order, masters, port, out) {
+        return true;
+    }
+    if by_home(home, update, order, masters, port, out) {
+        return true;
+    }
+    by_order(home, update, order, masters, port, out)
+}
