@@ -1,0 +1,30 @@
+-- A burst that one of the four steps gives is a step of the engine.
+pub mod FourSteps
+-- The R of a read without a line.
+pub mod PlainReads
+-- The halves of barrier pairs are answered together.
+pub mod Together
+-- The R and the B of a barrier pair leave all pairs answered together.
+pub mod BothAnswered
+-- The R and the B of a barrier pair that may have them are a step.
+pub mod BarrierSteps
+-- What stays with an event that is none of the engine's own.
+pub mod Others
+-- The R of a part of a DVM message, or of a DVM Complete, that may have it is a step.
+pub mod DvmSteps
+-- The AC that completes a Sync is a step.
+pub mod SyncSteps
+-- The message that is next for a port.
+pub mod NextMessages
+-- What the engine gives each port of a message.
+pub mod GivenParts
+-- The events of each port are next to each other, and are what it gets.
+pub mod ByPorts
+-- The ACs that forward a message break no rule, and leave messages forwarded whole.
+pub mod Forwarded
+-- Once each port has had the message, messages were forwarded whole.
+pub mod WholeAfter
+-- A burst has room for what the ports get of a message.
+pub mod FewParts
+-- The burst that forwards a message is a step.
+pub mod ForwardSteps

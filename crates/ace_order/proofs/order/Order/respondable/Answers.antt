@@ -1,0 +1,45 @@
+use Rattle.std.proofs.Common.{◌≡◌, false, slice_get, sym, ap, subst, ◌∙◌, inl, inr, arith}
+use Rattle.std.proofs.lemmas.Bool.{cases_eq}
+use Rattle.ace_event.specs.declared.event.Channel.TheVariants.{Read}
+use Rattle.ace_model.proofs.General.Options.{Some-injective}
+use Rattle.ace_runs.specs.Bursts.{may_begin}
+use Rattle.ace_runs.specs.OrderSteps.{dvm_burst}
+use Rattle.ace_portck.specs.declared.target.Progress.{Progress}
+use Rattle.ace_portck.specs.Pending.{pending_of}
+use Rattle.ace_portck.specs.Targets.{Recording, progress_of}
+use Rattle.ace_order.specs.Order.{IsRespondable}
+use Rattle.ace_order.proofs.DvmSteps.{serves-none}
+use Rattle.ace_engine.proofs.Listed.{listed-at, listed-within}
+use Rattle.ace_order.proofs.order.Order.respondable.Goals as goal
+
+pub returns-then-may_respond-clause-some : goal.returns-then-may_respond-clause-some
+returns-then-may_respond-clause-some c = λ x is plan past s.
+    let h = plan.header in
+    let r : Recording = record { header = h; past = past } in
+    let list = c.reads-reads.ensures r s.current.ports in
+    let y = listed-at (progress_of h past) (pending_of h past c.args.port Read) c.reads-reads.result.now c.loop-i.i _ list c.loop-i-test.true in
+    let due = c.may_respond.ensures plan past c.args.port c.loop-i.i y.0 s y.1 y.2 in
+    let same : y.0 ≡ x = ap (λ (v : Progress). v.transaction) (sym y.2) ∙ Some-injective _ x is in
+    subst (IsRespondable h past c.args.port) same (record { pending = (c.loop-i.i, y.1); begins = sym due ∙ c.if-may_respond.true })
+
+pub loop-i-preserved : goal.loop-i-preserved
+loop-i-preserved c = λ plan past k x s low at.
+    let h = plan.header in
+    let r : Recording = record { header = h; past = past } in
+    elim (cases_eq k c.loop-i.i) [
+      | inr earlier ↦ c.loop-i.invariant plan past k x s (omega (arith, low, earlier)) at
+      | inl here ↦
+          let list = c.reads-reads.ensures r s.current.ports in
+          let y = listed-at (progress_of h past) (pending_of h past c.args.port Read) c.reads-reads.result.now c.loop-i.i _ list c.loop-i-test.true in
+          let due = c.may_respond.ensures plan past c.args.port c.loop-i.i y.0 s y.1 y.2 in
+          let same : y.0 ≡ x = Some-injective y.0 x (sym y.1 ∙ ap (slice_get (pending_of h past c.args.port Read)) (sym here) ∙ at) in
+          subst (λ v. may_begin h past (dvm_burst h past v) ≡ false) same (sym due ∙ c.if-may_respond.false)
+    ]
+
+pub returns-clause-none : goal.returns-clause-none
+returns-clause-none c = λ none plan past s.
+    let h = plan.header in
+    let r : Recording = record { header = h; past = past } in
+    let list = c.reads-reads.ensures r s.current.ports in
+    serves-none h past c.args.port (λ k x at. c.loop-i.invariant plan past k x s
+    (let within = listed-within (progress_of h past) (pending_of h past c.args.port Read) c.reads-reads.result.now list k x at in let high = c.loop-i-test.false in let end = c.loop-i.auto.i-end in omega (arith, within, high, end)) at)

@@ -1,0 +1,7 @@
+//! The engine of barriers and DVM: it answers barriers, forwards DVM messages and completes Syncs.
+#![tactic(auto)]
+
+mod events;
+mod order;
+
+pub use order::Order;
