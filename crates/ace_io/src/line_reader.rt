@@ -150,6 +150,7 @@ impl<'a, S: Source> LineReader<'a, S> {
     }
 
     /// Moves the front of what is held into the line, up to its line feed or its limit.
+    #[inline(always)]
     #[tactic(auto, using(crate::proofs::Held::held_steps))]
     fn cut(&mut self, into: &mut LineBuf) -> Option<LineEnd>
         requires held { self.old.start < self.old.end }
@@ -184,6 +185,7 @@ impl<'a, S: Source> LineReader<'a, S> {
     }
 
     /// Moves what is at hand into the line, after asking the source for more where nothing is. An answer ends the line.
+    #[inline(always)]
     fn advance(&mut self, into: &mut LineBuf) -> Result<Option<LineEnd>, Failed>
         requires short { length into.old < 256 }
         requires no_lf { HasNoLf into.old }
@@ -210,6 +212,7 @@ impl<'a, S: Source> LineReader<'a, S> {
     ///
     /// `Failed` only where the source's count of faults rose in this call, or stood at its last value before. What
     /// was taken from the source and not given in a line then holds no line feed and is fewer than 256 bytes.
+    #[inline(always)]
     pub fn next(&mut self, into: &mut LineBuf) -> Result<LineEnd, Failed>
         ensures same_source { (source_of self.new).ghost_name ≡ (source_of self.old).ghost_name }
         ensures no_lf { HasNoLf into.new }

@@ -13,3 +13,4 @@ pub mod Kept
 pub mod AllPorts
 pub mod Rooms
 pub mod LineMaps
+pub mod BarrierBars

@@ -1,5 +1,5 @@
 -- Maps by lines that have room for the lines that the transactions of a trace name.
-use Rattle.std.proofs.Common.{◌≡◌, ◌⊎◌, ℕ, ◌+◌, ◌≤◌, ◌<◌, true, false, Bool, ◌&&◌, ◌||◌, nat_eq, if◌then◌else◌, [], ◌∷◌, length, Option, Some, None, is_some, IsSome, refl, sym, ap, subst, ◌∙◌, inl, inr, arith, List}
+use Rattle.std.proofs.Common.{◌≡◌, ℕ, ◌+◌, ◌≤◌, ◌<◌, true, false, ◌||◌, nat_eq, [], ◌∷◌, length, Option, Some, None, is_some, IsSome, refl, sym, ap, subst, ◌∙◌, inl, inr, arith, List}
 use Rattle.std.specs.Cmp.{nat_eq_equiv}
 use Rattle.std.specs.HashMap.{HashMap, get, hash_map_len, keys, spare, IsEmpty, IsUnique}
 use Rattle.std.specs.List.{list_any, AllByRecursion}

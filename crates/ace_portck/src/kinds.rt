@@ -64,11 +64,16 @@ pub fn is_on(transaction: &Transaction, line: u32) -> bool
 }
 
 /// Half of a barrier.
+#[tactic(auto, using(crate::proofs::BarrierBars::no_half))]
 pub fn is_barrier_half(transaction: &Transaction) -> bool
     ensures { result ≡ is_barrier_half transaction.now }
 {
-    read_kind(transaction).is_some_and(is_read_barrier)
-        || write_kind(transaction).is_some_and(is_write_barrier)
+    // Few transactions have one of the bars of barriers, so most need no look at the rest.
+    match transaction.bar {
+        1 | 3 => read_kind(transaction).is_some_and(is_read_barrier)
+            || write_kind(transaction).is_some_and(is_write_barrier),
+        _ => false,
+    }
 }
 
 pub fn is_line_read(kind: ArKind) -> bool

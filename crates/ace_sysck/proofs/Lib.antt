@@ -24,3 +24,4 @@ pub mod RuleLaws
 -- What each kind of event leaves as it is.
 pub mod Unmoved
 pub mod Judging
+pub mod MessageCodes

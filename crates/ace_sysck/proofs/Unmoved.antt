@@ -1,6 +1,5 @@
 -- Each kind of event moves some groups, and the others stand after it as they are.
 use Rattle.std.proofs.Common.{◌≡◌, ℕ, Bool, true, false, None, refl}
-use Rattle.ace_event.specs.declared.line.Line.{Line}
 use Rattle.ace_codes.specs.declared.state.LineState.{LineState}
 use Rattle.ace_model.proofs.Terms.{Event, Channel, Ar, Aw, R, B, Rk, Wk, Ac, Cr, G, S, L, D, Trace, given}
 use Rattle.ace_portck.specs.declared.target.Target.{Target}

@@ -216,6 +216,19 @@ impl Barriers {
         }
     }
 
+    /// The port's transaction at the place is complete. Only an open pair is moved by that.
+    #[inline(always)]
+    fn answer(&mut self, port: u8, place: usize)
+        ensures { self.new.ports.items ≡ slice_set self.old.ports.items port (answered (slice_index_or self.old.ports.items port Idle) place) }
+    {
+        let p = port as usize;
+        if p < self.ports.len() {
+            if let Barrier::Open(pair) = self.ports[p] {
+                self.ports[p] = answered(Barrier::Open(pair), place);
+            }
+        }
+    }
+
     /// Of K9, where the event issues the transaction: a barrier half has address 0, every earlier pair of the port is complete, and
     /// its own other half, if it was issued, is alike.
     pub fn keeps_k9(&self, x: &Transaction) -> bool
@@ -259,8 +272,7 @@ impl Barriers {
                 self.set(x.port, barrier);
             }
         } else if let Some(x) = completed_in(event, target) {
-            let barrier = answered(self.barrier_of(x.port), x.place);
-            self.set(x.port, barrier);
+            self.answer(x.port, x.place);
         }
     }
 }

@@ -19,20 +19,28 @@ pub fn is_exclusive_store(x: &Transaction) -> bool
     x.lock && matches!(read_kind(x), Some(ArKind::CleanUnique))
 }
 
-/// A part of a DVM message (Arm IHI 0022E, C12).
+/// A part of a DVM message (Arm IHI 0022E, C12). Few transactions have its code, so most need no look at the rest.
 #[inline(always)]
+#[tactic(auto, using(crate::proofs::MessageCodes::no_part))]
 pub fn is_message_part(x: &Transaction) -> bool
     ensures { result ≡ is_message_part x.now }
 {
-    matches!(read_kind(x), Some(ArKind::DvmMessage))
+    match x.snoop {
+        15 => matches!(read_kind(x), Some(ArKind::DvmMessage)),
+        _ => false,
+    }
 }
 
 /// A DVM Complete of a port.
 #[inline(always)]
+#[tactic(auto, using(crate::proofs::MessageCodes::no_completion))]
 pub fn is_dvm_completion(x: &Transaction) -> bool
     ensures { result ≡ is_dvm_completion x.now }
 {
-    matches!(read_kind(x), Some(ArKind::DvmComplete))
+    match x.snoop {
+        14 => matches!(read_kind(x), Some(ArKind::DvmComplete)),
+        _ => false,
+    }
 }
 
 /// The code is that of an AC DVM Message.

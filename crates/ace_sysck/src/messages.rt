@@ -70,24 +70,13 @@ fn part_issued(kept: PortMessages, x: Transaction) -> PortMessages
 }
 
 /// It is the transaction at the place.
+#[inline(always)]
 pub fn is_at(x: Option<Transaction>, place: usize) -> bool
     ensures { result ≡ is_at x place }
 {
     match x {
         None => false,
         Some(y) => place == y.place,
-    }
-}
-
-/// What is kept once the transaction at the place is complete.
-fn part_completed(kept: PortMessages, place: usize) -> PortMessages
-    ensures { result ≡ part_completed kept place }
-{
-    PortMessages {
-        first: kept.first,
-        sync: kept.sync,
-        sync_done: is_at(kept.sync, place) || kept.sync_done,
-        sync_completed: kept.sync_completed,
     }
 }
 
@@ -168,6 +157,19 @@ impl Messages {
         }
     }
 
+    /// The port's transaction at the place is complete. It is looked at only where the port has issued a Sync.
+    #[inline(always)]
+    fn complete(&mut self, port: u8, place: usize)
+        ensures { self.new.ports.items ≡ slice_set self.old.ports.items port (part_completed (slice_index_or self.old.ports.items port silent) place) }
+    {
+        let p = port as usize;
+        if p < self.ports.len() {
+            if is_at(self.ports[p].sync, place) {
+                self.ports[p].sync_done = true;
+            }
+        }
+    }
+
     /// Of K9, where the event issues the transaction: a part of a message follows the part that the port issued before it.
     pub fn keeps_k9(&self, x: &Transaction) -> bool
         ensures { (r : Recording) → MessagesStand r self.now → result ≡ implies (is_message_part x.now) (is_part_in_order r.past x.now (first_waiting r.past x.now.port)) }
@@ -186,8 +188,7 @@ impl Messages {
                 self.set(x.port, kept);
             }
         } else if let Some(x) = completed_in(event, target) {
-            let kept = part_completed(self.of(x.port), x.place);
-            self.set(x.port, kept);
+            self.complete(x.port, x.place);
         } else if let Event::Ac { port, snoop, .. } = *event {
             if is_complete_snoop(snoop) {
                 let kept = told_complete(self.of(port));

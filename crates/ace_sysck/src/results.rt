@@ -32,6 +32,7 @@ impl Results {
     }
 
     /// Whether the exclusive store that the port issued last under the identifier passed at its G.
+    #[inline(always)]
     pub fn passed(&self, port: u8, id: u8) -> Option<bool>
         ensures { (r : Recording) → ResultsStand r self.now → result ≡ passed_at_grant r.past port id }
     {
@@ -43,6 +44,7 @@ impl Results {
         }
     }
 
+    #[inline(always)]
     fn set(&mut self, port: u8, id: u8, passed: Option<bool>)
         ensures { self.new.passed.items ≡ slice_set self.old.passed.items (slot_of port id) passed }
     {

@@ -1,7 +1,7 @@
 use Rattle.std.proofs.Common.{◌≡◌, None, Some, sym, ap, ◌∙◌, arith, slice_set}
 use Rattle.std.proofs.lemmas.Grind.{common_steps}
 use Rattle.ace_sysck.specs.Events.{begun_in, completed_in}
-use Rattle.ace_sysck.specs.Barriers.{joined, answered}
+use Rattle.ace_sysck.specs.Barriers.{joined}
 use Rattle.ace_sysck.proofs.BarrierSteps.{barriers_begun, barriers_plain, barriers_completed, barriers_stay}
 use Rattle.ace_sysck.proofs.barriers.Barriers.hear.Goals as goal
 
@@ -26,9 +26,7 @@ returns-in-Some-completed_in c = λ r q.
     let s = c.args.self.now in
     let x = c.in-Some-completed_in.x in
     let completed : completed_in c.args.event.now c.args.target.now ≡ Some x = sym c.completed_in.ensures ∙ c.in-Some-completed_in.is in
-    let items = c.set-in-Some-completed_in.ensures
-    ∙ ap (slice_set s.ports.items x.port) (c.answered-barrier.ensures ∙ ap (λ v. answered v x.place) c.barrier_of-in-Some-completed_in.ensures) in
-    barriers_completed r s c.set-in-Some-completed_in.new.self c.args.event.now c.args.target.now x q.step.accepted q.step.target completed q.stands items
+    barriers_completed r s c.answer.new.self c.args.event.now c.args.target.now x q.step.accepted q.step.target completed q.stands c.answer.ensures
 
 pub returns-in_default-completed_in : goal.returns-in_default-completed_in
 returns-in_default-completed_in c = λ r q.

@@ -3,7 +3,7 @@ use Rattle.std.proofs.lemmas.Grind.{common_steps}
 use Rattle.ace_model.proofs.Terms.{Event, Ac, IsAccepted}
 use Rattle.ace_portck.specs.Targets.{after}
 use Rattle.ace_sysck.specs.Events.{begun_in, completed_in}
-use Rattle.ace_sysck.specs.Messages.{MessagesStand, part_issued, part_completed, told_complete}
+use Rattle.ace_sysck.specs.Messages.{MessagesStand, part_issued, told_complete}
 use Rattle.ace_sysck.proofs.MessageSteps.{messages_part, messages_plain, messages_completed, messages_told, messages_untold, messages_stay}
 use Rattle.ace_sysck.proofs.messages.Messages.hear.Goals as goal
 
@@ -27,9 +27,7 @@ returns-in-Some-completed_in c = λ r q.
     let s = c.args.self.now in
     let x = c.in-Some-completed_in.x in
     let completed : completed_in c.args.event.now c.args.target.now ≡ Some x = sym c.completed_in.ensures ∙ c.in-Some-completed_in.is in
-    let items = c.set-in-Some-completed_in.ensures
-    ∙ ap (slice_set s.ports.items x.port) (c.part_completed-kept.ensures ∙ ap (λ v. part_completed v x.place) c.of-in-Some-completed_in.ensures.kept) in
-    messages_completed r s c.set-in-Some-completed_in.new.self c.args.event.now c.args.target.now x q.step.accepted q.step.target completed q.stands items
+    messages_completed r s c.complete.new.self c.args.event.now c.args.target.now x q.step.accepted q.step.target completed q.stands c.complete.ensures
 
 pub returns-then-is_complete_snoop : goal.returns-then-is_complete_snoop
 returns-then-is_complete_snoop c = λ r q.
