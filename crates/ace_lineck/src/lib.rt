@@ -21,5 +21,7 @@ mod step;
 mod tests;
 mod uses;
 
+pub use granting::snoop_of;
+pub use kinds::is_line_read_transaction;
 pub use lines::LineCheck;
 pub use record::NoMemory;

@@ -1,0 +1,14 @@
+-- Outstanding transactions: their places, and whether they are granted.
+pub mod Outstanding
+-- Which transactions wait for a line.
+pub mod Waiting
+-- The first event of each burst, where it breaks no rule.
+pub mod FirstEvents
+-- What serves a transaction is a step.
+pub mod Serving
+-- The shares may hear the next event.
+pub mod Hearing
+-- What the engine keeps, as its looks see it.
+pub mod Kept
+-- The next transfer of a read.
+pub mod Transfers

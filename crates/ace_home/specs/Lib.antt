@@ -1,0 +1,4 @@
+-- The steps for one transaction, what the engine keeps of a trace, and what the trait of engines asks of it.
+pub mod EngineLaws
+pub mod Home
+pub mod Services

@@ -1,0 +1,233 @@
+//! The first event of the burst of each step, where it breaks no rule.
+
+ghost use Rattle.std.specs.Prelude.{◌≡◌, ◌+◌, ◌==◌, ◌&&◌, ℕ, false, not, None, Some, if◌then◌else◌};
+ghost use Rattle.ace_event.specs.declared.event.Channel.TheVariants.{Read as Reads, Write as Writes};
+ghost use Rattle.ace_event.specs.declared.event.Event.{Event as Next};
+ghost use Rattle.ace_event.specs.declared.event.Event.TheVariants.{M, R};
+ghost use Rattle.ace_model.specs.Copies.{is_line_read_transaction, word_of};
+ghost use Rattle.ace_model.specs.Kinds.{beats_of};
+ghost use Rattle.ace_model.specs.Plans.{Plan};
+ghost use Rattle.ace_model.specs.Trace.{Trace, is_some_and};
+ghost use Rattle.ace_model.specs.Transactions.{read_kind};
+ghost use Rattle.ace_runs.specs.LineSteps.{bit_if, grant_burst, passed_burst, transfer_burst, write_burst};
+ghost use Rattle.ace_portck.specs.Targets.{data_of_write};
+ghost use Rattle.ace_home.specs.Home.{HomeStands, IsOf, Tells};
+ghost use Rattle.ace_home.specs.Services.{AnswersNone, IsService, IsSnoop, first_kept, has_snoop, if_kept};
+ghost use Rattle.ace_home.specs.declared.service.Service.{Service as Step};
+
+use crate::home::Home;
+use crate::queues::grant_of;
+use crate::service::Service;
+use ace_codes::ac_code;
+use ace_event::{Event, Line};
+use ace_lineck::{is_line_read_transaction, snoop_of};
+use ace_model::Transaction;
+use ace_portck::kinds::{beats_of, read_kind};
+use ace_portck::{Progress, WriteData};
+
+/// The M by which the transaction writes the line.
+fn write_of(x: &Transaction, line: Line) -> Event
+    ensures { result ≡ M x.now.port x.now.chan x.now.id line }
+{
+    Event::M {
+        port: x.port,
+        chan: x.chan,
+        id: x.id,
+        line,
+    }
+}
+
+/// RRESP with PassDirty, IsShared and EXOKAY.
+fn response_bits(dirty: bool, shared: bool, okay: bool) -> u8
+    ensures { result ≡ bit_if 4 dirty + bit_if 8 shared + bit_if 1 okay }
+{
+    let dirty = if dirty { 4 } else { 0 };
+    let shared = if shared { 8 } else { 0 };
+    let okay = if okay { 1 } else { 0 };
+    dirty + shared + okay
+}
+
+/// There are passed data, and the read can't take them.
+fn is_stuck(dirty: bool, takes: bool) -> bool
+    ensures { result ≡ (dirty && not takes) }
+{
+    dirty && !takes
+}
+
+/// The next transfer of the read is its last.
+fn is_last(x: &Progress) -> bool
+    ensures { result ≡ is_some_and (read_kind x.now.transaction) (λ k. x.now.transfers + 1 == beats_of k) }
+{
+    match read_kind(&x.transaction) {
+        None => false,
+        Some(kind) => u16::from(x.transfers) + 1 == u16::from(beats_of(kind)),
+    }
+}
+
+/// The word of the next transfer of the read, of which this is the reply.
+fn next_word(x: &Progress, reply: &Line) -> u128
+    ensures { result ≡ (if is_line_read_transaction x.now.transaction then word_of reply.now x.now.transfers else 0) }
+{
+    if !is_line_read_transaction(&x.transaction) {
+        return 0;
+    }
+    match reply.words.get(usize::from(x.transfers)) {
+        None => 0,
+        Some(word) => *word,
+    }
+}
+
+/// The next R of the read, with this response, of which this is the reply.
+fn transfer_of(x: &Progress, resp: u8, reply: &Line) -> Event
+    ensures { result ≡ R x.now.transaction.port x.now.transaction.id resp (is_some_and (read_kind x.now.transaction) (λ k. x.now.transfers + 1 == beats_of k))
+        (if is_line_read_transaction x.now.transaction then word_of reply.now x.now.transfers else 0) }
+{
+    Event::R {
+        port: x.transaction.port,
+        id: x.transaction.id,
+        resp,
+        last: is_last(x),
+        word: next_word(x, reply),
+    }
+}
+
+impl Home {
+    /// The event, where it breaks no rule.
+    fn kept(&self, event: Event) -> Option<Event>
+        ensures { (plan : Plan) (past : Trace) → HomeStands self.now plan past → result ≡ if_kept plan.header past event }
+    {
+        if self.shares.keeps(&event) {
+            Some(event)
+        } else {
+            None
+        }
+    }
+
+    /// The G of a transaction that waits for its line.
+    pub(crate) fn grant(&self, x: &Progress) -> Option<Event>
+        ensures { (plan : Plan) (past : Trace) (p : ℕ) → Tells self.now plan past p x.now
+            → result ≡ first_kept plan.header past (grant_burst plan.header past x.now.transaction) }
+    {
+        if x.granted {
+            return None;
+        }
+        let grant = grant_of(&x.transaction);
+        if !self.shares.keeps(&grant) {
+            return None;
+        }
+        if self.is_first_to_wait(&x.transaction) {
+            Some(grant)
+        } else {
+            None
+        }
+    }
+
+    /// The AC of a port that may be snooped for the transaction.
+    pub(crate) fn snoop(&self, x: &Progress) -> Option<Event>
+        ensures some { (e : Next) → result ≡ Some e → (plan : Plan) (past : Trace) (p : ℕ) → Tells self.now plan past p x.now
+            → IsSnoop plan.header past x.now.transaction e }
+        ensures none { result ≡ None → (plan : Plan) (past : Trace) (p : ℕ) → Tells self.now plan past p x.now
+            → has_snoop plan.header past x.now.transaction ≡ false }
+    {
+        if !x.granted {
+            return None;
+        }
+        let Some(kind) = snoop_of(&x.transaction) else {
+            return None;
+        };
+        for port in 0..self.ports {
+            let snoop = Event::Ac {
+                port,
+                addr: x.transaction.addr,
+                snoop: ac_code(kind),
+            };
+            if self.shares.keeps(&snoop) {
+                return Some(snoop);
+            }
+        }
+        None
+    }
+
+    /// The M of passed data that the read can't take.
+    fn passed(&self, x: &Progress) -> Option<Event>
+        ensures { (plan : Plan) (past : Trace) (p : ℕ) → Tells self.now plan past p x.now → x.now.transaction.chan ≡ Reads
+            → result ≡ first_kept plan.header past (passed_burst plan.header past x.now.transaction) }
+    {
+        if !x.granted {
+            return None;
+        }
+        let lines = self.shares.lines();
+        let place = lines.place(Some(x.transaction.addr));
+        if lines.can_take_passed_data(place, &x.transaction) {
+            return None;
+        }
+        let Some(line) = lines.passed_data(place) else {
+            return None;
+        };
+        self.kept(write_of(&x.transaction, line))
+    }
+
+    /// The next R of the read.
+    fn transfer(&self, x: &Progress) -> Option<Event>
+        ensures { (plan : Plan) (past : Trace) (p : ℕ) → Tells self.now plan past p x.now → x.now.transaction.chan ≡ Reads
+            → result ≡ first_kept plan.header past (transfer_burst plan.header past x.now.transaction) }
+    {
+        if !x.granted {
+            return None;
+        }
+        let read = &x.transaction;
+        let lines = self.shares.lines();
+        let place = lines.place(Some(read.addr));
+        let dirty = lines.has_passed_data(place);
+        let takes = lines.can_take_passed_data(place, read);
+        if is_stuck(dirty, takes) {
+            return None;
+        }
+        let shared = lines.must_be_shared(place, read);
+        let okay = self.shares.system().is_okay(read);
+        let resp = response_bits(dirty, shared, okay);
+        self.kept(transfer_of(x, resp, &lines.reply(place)))
+    }
+
+    /// The next event of a granted read.
+    pub(crate) fn answer(&self, x: &Progress) -> Option<Service>
+        ensures some { (s : Step) → result ≡ Some s → (plan : Plan) (past : Trace) (p : ℕ) → Tells self.now plan past p x.now
+            → x.now.transaction.chan ≡ Reads → IsService plan.header past x.now.transaction s }
+        ensures none { result ≡ None → (plan : Plan) (past : Trace) (p : ℕ) → Tells self.now plan past p x.now
+            → x.now.transaction.chan ≡ Reads → AnswersNone plan.header past x.now.transaction }
+    {
+        if let Some(event) = self.passed(x) {
+            return Some(Service::Passed(event));
+        }
+        match self.transfer(x) {
+            None => None,
+            Some(event) => Some(Service::Transfer(event)),
+        }
+    }
+
+    /// The burst of a write that has written no memory yet, where it is whole.
+    fn burst(&self, write: &Transaction) -> Option<WriteData>
+        ensures { (plan : Plan) (past : Trace) (p : ℕ) → HomeStands self.now plan past → IsOf plan.header past p write.now
+            → result ≡ data_of_write past write.now }
+    {
+        let unwritten = write_of(write, Line { words: [0; 4] });
+        self.shares.ports().target(&unwritten).data
+    }
+
+    /// The M of a granted write.
+    pub(crate) fn write(&self, x: &Progress) -> Option<Event>
+        ensures { (plan : Plan) (past : Trace) (p : ℕ) → Tells self.now plan past p x.now → x.now.transaction.chan ≡ Writes
+            → result ≡ first_kept plan.header past (write_burst plan.header past x.now.transaction) }
+    {
+        if !x.granted {
+            return None;
+        }
+        let write = &x.transaction;
+        let Some(burst) = self.burst(write) else {
+            return None;
+        };
+        let lines = self.shares.lines();
+        let place = lines.place(Some(write.addr));
+        self.kept(write_of(write, lines.written(place, write, &burst)))
+    }
+}

@@ -1,0 +1,12 @@
+//! The engine of the interconnect that serves lines: it grants each line to one transaction at a time, snoops for it, answers it, and
+//! writes to memory what it leaves.
+#![tactic(auto)]
+
+mod candidates;
+mod home;
+mod queues;
+mod service;
+#[cfg(test)]
+mod tests;
+
+pub use home::Home;
