@@ -17,11 +17,12 @@ ghost use Rattle.ace_model.specs.Shares.{k18_line};
 ghost use Rattle.ace_model.specs.Lines.{has_failed_on};
 ghost use Rattle.ace_portck.specs.declared.target.Progress.{Progress};
 ghost use Rattle.ace_portck.specs.declared.target.Target.{Target};
+ghost use Rattle.ace_portck.specs.Targets.{line_of};
 ghost use Rattle.ace_lineck.specs.declared.record.Holder.{Holder};
 ghost use Rattle.ace_lineck.specs.Holders.{holder_at};
 ghost use Rattle.ace_lineck.specs.Records.{IsNext};
 ghost use Rattle.ace_lineck.specs.Grants.{stage_at};
-ghost use Rattle.ace_lineck.specs.Kept.{is_unsnooped, is_sending, is_settled, may_be_snooped, has_passed, is_passed_whole, is_done_at, are_done, is_its, takes_data, may_have_beat, IsFailure};
+ghost use Rattle.ace_lineck.specs.Kept.{is_unsnooped, is_sending, may_be_snooped, has_passed, is_passed_whole, is_done_at, are_done, is_its, takes_data, may_have_beat, IsFailure};
 
 use crate::grant::Grant;
 use crate::granting::{has_snoop_code, snoop_of, takes_grant, takes_passed_data};
@@ -30,7 +31,7 @@ use crate::stages::{Stage, stage_at};
 use ace_codes::passes_dirty;
 use ace_event::Header;
 use ace_model::Transaction;
-use ace_portck::kinds::{is_ace, is_line, snoops_a_line};
+use ace_portck::kinds::{is_ace, snoops_a_line};
 use ace_portck::{Progress, Target};
 use ace_tables::is_invalid;
 
@@ -65,18 +66,6 @@ fn is_sending(stage: Stage) -> bool
     ensures { result ≡ is_sending stage }
 {
     matches!(stage, Stage::Sending)
-}
-
-/// The port owes nothing, and was snooped unless it need not be.
-#[inline(always)]
-fn is_settled(stage: Stage, spared: bool) -> bool
-    ensures { result ≡ is_settled stage spared }
-{
-    match stage {
-        Stage::Unsnooped => spared,
-        Stage::Done => true,
-        _ => false,
-    }
 }
 
 /// Another port may be snooped with this code under the grant.
@@ -165,15 +154,18 @@ pub fn is_passed_whole(g: &Grant) -> bool
     }
 }
 
-/// The snoops of the port under the grant are done.
+/// The snoops of the port under the grant are done: it owes nothing, and was snooped unless it need not be.
 #[inline(always)]
 fn is_done_at(kept: &LineRecord, g: &Grant, header: &Header, port: u8) -> bool
     ensures { result ≡ is_done_at header.now g.now kept.now.holders.items port }
 {
-    let spared = port == g.transaction.port
-        || !is_ace(header, port)
-        || is_invalid(kept.state(port));
-    is_settled(stage_at(&g.stages, port), spared)
+    match stage_at(&g.stages, port) {
+        Stage::Done => true,
+        Stage::Unsnooped => {
+            port == g.transaction.port || !is_ace(header, port) || is_invalid(kept.state(port))
+        }
+        _ => false,
+    }
 }
 
 #[inline(always)]
@@ -235,11 +227,12 @@ fn may_have_beat(kept: &LineRecord, header: &Header, failed: bool, x: &Progress,
 /// The transfer is none of a line transaction, or its grant lets it through.
 #[inline(always)]
 fn may_transfer(kept: &LineRecord, header: &Header, target: &Target, failed: bool, resp: u8) -> bool
-    ensures { result ≡ is_none_or target.now.transaction (λ x. implies (is_line x.transaction) (may_have_beat header.now failed kept.now.grant kept.now.holders.items x resp)) }
+    ensures { target.now.line ≡ line_of target.now.transaction
+        → result ≡ is_none_or target.now.transaction (λ x. implies (is_line x.transaction) (may_have_beat header.now failed kept.now.grant kept.now.holders.items x resp)) }
 {
     match &target.transaction {
         None => true,
-        Some(x) => !is_line(&x.transaction) || may_have_beat(kept, header, failed, x, resp),
+        Some(x) => target.line.is_none() || may_have_beat(kept, header, failed, x, resp),
     }
 }
 

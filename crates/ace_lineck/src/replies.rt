@@ -41,6 +41,20 @@ pub fn reply_kept(grant: &Option<Grant>, memory: &Line) -> Line
     }
 }
 
+/// The same, where it stands.
+#[inline(always)]
+fn reply_in<'a>(grant: &'a Option<Grant>, memory: &'a Line) -> &'a Line
+    ensures { result.now ≡ reply_kept grant.now memory.now }
+{
+    match grant {
+        None => memory,
+        Some(g) => match &g.reply {
+            None => memory,
+            Some(line) => line,
+        },
+    }
+}
+
 /// Word k of a line, from 0; 0 where k is above 3.
 #[inline(always)]
 fn word_at(line: &Line, k: u8) -> u128
@@ -58,8 +72,7 @@ fn fits_reply(kept: &LineRecord, x: &Progress, word: u128) -> bool
     ensures { result ≡ fits_reply kept.now.grant kept.now.memory word x.now }
 {
     if is_line_read_transaction(&x.transaction) {
-        let line = reply_kept(&kept.grant, &kept.memory);
-        word == word_at(&line, x.transfers)
+        word == word_at(reply_in(&kept.grant, &kept.memory), x.transfers)
     } else {
         word == 0
     }
@@ -171,11 +184,10 @@ fn fits_bits(header: &Header, passed: bool, shared: bool, resp: u8, x: &Progress
 fn has_passed_for(grant: &Option<Grant>, x: &Transaction) -> bool
     ensures { result ≡ has_passed_for grant.now x.now }
 {
-    is_line(x)
-        && match grant {
-            None => false,
-            Some(g) => is_its(g, x) && has_passed(g),
-        }
+    match grant {
+        None => false,
+        Some(g) => is_its(g, x) && has_passed(g) && is_line(x),
+    }
 }
 
 /// An answer under the grant has IsShared.
@@ -196,7 +208,7 @@ fn has_bits(kept: &LineRecord, header: &Header, target: &Target, resp: u8) -> bo
     match &target.transaction {
         None => true,
         Some(x) => {
-            let passed = has_passed_for(&kept.grant, &x.transaction);
+            let passed = passes_dirty(resp) && has_passed_for(&kept.grant, &x.transaction);
             let shared = is_shared_under(&kept.grant);
             fits_bits(header, passed, shared, resp, x)
         }

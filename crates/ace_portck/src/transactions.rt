@@ -202,6 +202,7 @@ impl Transactions {
     }
 
     /// The outstanding transaction on the line.
+    #[inline(always)]
     pub fn own(&self, line: u32) -> Option<Progress>
         ensures { (h : Header) (past : Trace) (p : ℕ) → TransactionsStand h past p self.now
             → result ≡ option_map (progress_of h past) (own_of h past p line) }

@@ -184,6 +184,7 @@ impl Barriers {
         Ok(Barriers { ports: all })
     }
 
+    #[inline(always)]
     fn barrier_of(&self, port: u8) -> Barrier
         ensures { result ≡ slice_index_or self.now.ports.items port Idle }
     {
@@ -207,6 +208,7 @@ impl Barriers {
         }
     }
 
+    #[inline(always)]
     fn set(&mut self, port: u8, barrier: Barrier)
         ensures { self.new.ports.items ≡ slice_set self.old.ports.items port barrier }
     {
@@ -231,6 +233,7 @@ impl Barriers {
 
     /// Of K9, where the event issues the transaction: a barrier half has address 0, every earlier pair of the port is complete, and
     /// its own other half, if it was issued, is alike.
+    #[inline(always)]
     pub fn keeps_k9(&self, x: &Transaction) -> bool
         ensures { (r : Recording) → MayBegin r self.now x.now → result ≡ implies (is_barrier_half x.now) (begins_barrier r.past x.now) }
     {

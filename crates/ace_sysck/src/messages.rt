@@ -171,6 +171,7 @@ impl Messages {
     }
 
     /// Of K9, where the event issues the transaction: a part of a message follows the part that the port issued before it.
+    #[inline(always)]
     pub fn keeps_k9(&self, x: &Transaction) -> bool
         ensures { (r : Recording) → MessagesStand r self.now → result ≡ implies (is_message_part x.now) (is_part_in_order r.past x.now (first_waiting r.past x.now.port)) }
     {

@@ -4,7 +4,9 @@ ghost use Rattle.std.specs.Prelude.{◌≡◌, Some, if◌then◌else◌};
 ghost use Rattle.ace_model.specs.AddressRules.{begins_well, k9};
 ghost use Rattle.ace_model.specs.ReadRules.{k21};
 ghost use Rattle.ace_model.specs.OrderRules.{k37, k38, k39};
+ghost use Rattle.ace_model.specs.Exclusives.{passed_at_grant};
 ghost use Rattle.ace_portck.specs.Targets.{Recording};
+ghost use Rattle.ace_sysck.specs.Results.{ResultsStand};
 ghost use Rattle.ace_sysck.specs.Rules.{MayAskK9, MayBeginNext, MayAskK21, MayAskK37, MayAskK38, MayAskK39, is_okay, completes_now};
 ghost use Rattle.ace_portck.specs.declared.target.Target.{Target};
 
@@ -21,6 +23,7 @@ use ace_model::Transaction;
 use ace_portck::Target;
 
 /// A barrier half, a part of a message and a DVM Complete may begin now.
+#[inline(always)]
 fn begins_well(barriers: &Barriers, messages: &Messages, x: &Transaction) -> bool
     ensures { (r : Recording) → MayBeginNext r barriers.now messages.now x.now → result ≡ begins_well r.past x.now }
 {
@@ -46,6 +49,14 @@ pub fn is_okay(x: &Transaction, passed: Option<bool>) -> bool
     x.lock && (!is_exclusive_store(x) || matches!(passed, Some(true)))
 }
 
+/// The same, by what is kept. Only a transaction with lock 1 is looked up.
+#[inline(always)]
+fn is_kept_okay(x: &Transaction, results: &Results) -> bool
+    ensures { (r : Recording) → ResultsStand r results.now → result ≡ is_okay x.now (passed_at_grant r.past x.now.port x.now.id) }
+{
+    x.lock && is_okay(x, results.passed(x.port, x.id))
+}
+
 /// EXOKAY, or OKAY.
 fn low_bits_of(okay: bool) -> u8
     ensures { result ≡ (if okay then 1 else 0) }
@@ -63,7 +74,7 @@ pub fn keeps_k21(results: &Results, event: &Event, target: &Target) -> bool
         Event::R { resp, .. } => match responded_in(event, target) {
             None => true,
             Some(x) => {
-                let okay = is_okay(&x, results.passed(x.port, x.id));
+                let okay = is_kept_okay(&x, results);
                 low_bits(resp) == low_bits_of(okay)
             }
         },

@@ -15,7 +15,7 @@ returns-in-Some c = λ r q.
     let x = c.in-Some.x in
     let out : outstanding h past i.port Read i.id ≡ Some x =
     sym (ap (responding h past) i.is) ∙ sym (responded-is h past c.args.event.now c.args.target.now q.asked.target) ∙ sym c.responded_in.ensures ∙ c.in-Some.is in
-    let okay : c.is_okay-okay.result ≡ is_okay x (passed_at_grant past x.port x.id) = c.is_okay-okay.ensures ∙ ap (is_okay x) (c.passed.ensures r q.results) in
+    let okay : c.is_kept_okay-okay.result ≡ is_okay x (passed_at_grant past x.port x.id) = c.is_kept_okay-okay.ensures r q.results in
     let value : nat_eq c.low_bits.result c.low_bits_of.result ≡ has_low_bits past i.resp x =
     ap (λ n. nat_eq n c.low_bits_of.result) c.low_bits.ensures ∙ ap (nat_eq (low_bits i.resp)) (c.low_bits_of.ensures ∙ ap (λ b. if b then 1 else 0) okay) in
     value ∙ sym (ap (λ o. is_none_or o (has_low_bits past i.resp)) out) ∙ sym (ap (k21 h past) i.is)
