@@ -1,5 +1,5 @@
 -- What the parts of a checker say together.
-use Rattle.std.proofs.Common.{◌≡◌, ℕ, ◌+◌, ◌<◌, Bool, true, false, not, ◌&&◌, nat_le, nat_lt, if◌then◌else◌, List, [], ◌∷◌, Option, Some, None, length, is_some, is_none, option_map, Result, Ok, Err, is_err, IfOk, IsOk, OnOk, OnErr, refl, sym, ap, subst, ◌∙◌, inl, inr, arith}
+use Rattle.std.proofs.Common.{◌≡◌, ℕ, Bool, true, false, not, ◌&&◌, nat_le, if◌then◌else◌, Option, Some, None, length, is_some, is_none, option_map, Result, Ok, Err, is_err, IfOk, IsOk, OnOk, OnErr, refl, sym, ap, subst, ◌∙◌, inl, inr}
 use Rattle.std.proofs.lemmas.Bool.{cases_Bool, eqb-true}
 use Rattle.std.specs.List.{AllByRecursion}
 use Rattle.ace_event.specs.Range.{FitsFields}
@@ -9,8 +9,8 @@ use Rattle.ace_event.specs.declared.event.Event.{Event}
 use Rattle.ace_event.specs.declared.event.Event.TheVariants.{Ar, Aw}
 use Rattle.ace_event.specs.declared.header.Header.{Header}
 use Rattle.ace_model.specs.declared.transactions.Transaction.{Transaction}
-use Rattle.ace_model.specs.Trace.{Trace, is_some_and}
-use Rattle.ace_model.specs.Transactions.{issued, is_line, outstanding}
+use Rattle.ace_model.specs.Trace.{Trace}
+use Rattle.ace_model.specs.Transactions.{is_line, outstanding}
 use Rattle.ace_model.specs.Accepted.{IsAccepted, least_broken, least_of}
 use Rattle.ace_model.specs.AddressRules.{k1}
 use Rattle.ace_model.specs.Exclusives.{has_failed}
@@ -23,7 +23,7 @@ use Rattle.ace_model.proofs.Barriers.Law.{accepted_barriers_order}
 use Rattle.ace_model.proofs.Exclusives.Law.{accepted_exclusive_holds}
 use Rattle.ace_model.proofs.Dvm.Law.{accepted_dvm_holds}
 use Rattle.ace_model.proofs.Holders.Law.{accepted_holds}
-use Rattle.ace_portck.specs.Targets.{Recording, line_in}
+use Rattle.ace_portck.specs.Targets.{line_in}
 use Rattle.ace_check.specs.declared.checker.CheckErr.{CheckErr}
 use Rattle.ace_check.specs.declared.checker.Step.{Step}
 use Rattle.ace_check.specs.declared.checker.Step.TheVariants.{Fine}

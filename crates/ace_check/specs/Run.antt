@@ -1,5 +1,5 @@
 -- What a checker stands for, and what it answers to an event.
-use Rattle.std.specs.Prelude.{◌+◌, ◌≡◌, ◌≤◌, ◌<◌, ◌-◌, ◌^◌, ◌∷◌, ◌⊎◌, ◌&&◌, ◌==◌, ℕ, Bool, true, false, not, nat_le, Option, Some, None, length, MatchOption, ⊤}
+use Rattle.std.specs.Prelude.{◌+◌, ◌≡◌, ◌<◌, ◌-◌, ◌^◌, ◌∷◌, ◌⊎◌, ◌&&◌, ◌==◌, ℕ, Bool, true, false, nat_le, Option, Some, None, length}
 use Rattle.std.specs.List.{AllByRecursion}
 use Rattle.ace_event.specs.Range.{FitsFields}
 use Rattle.ace_event.specs.declared.event.Event.{Event}

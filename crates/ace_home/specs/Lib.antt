@@ -2,3 +2,5 @@
 pub mod EngineLaws
 pub mod Home
 pub mod Services
+-- Worked traces.
+pub mod Worked

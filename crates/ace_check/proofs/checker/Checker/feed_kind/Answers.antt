@@ -1,10 +1,6 @@
-use Rattle.std.proofs.Common.{◌≡◌, ℕ, ◌<◌, ◌-◌, ◌^◌, true, false, None, Some, Option, Ok, Err, [], ◌∷◌, length, refl, sym, ap, subst, ◌∙◌, inl, inr, arith}
+use Rattle.std.proofs.Common.{◌∷◌, sym, subst, ◌∙◌, arith}
 use Rattle.ace_event.specs.Range.{FitsFields}
-use Rattle.ace_event.specs.declared.header.Header.{Header}
-use Rattle.ace_model.specs.Trace.{Trace}
-use Rattle.ace_model.specs.Accepted.{least_broken}
 use Rattle.ace_check.specs.Shares.{MayTake}
-use Rattle.ace_check.specs.Run.{Stands, goes_over}
 use Rattle.ace_check.proofs.Steps.{accepted_sound, ok_then, to_ok, err_then}
 use Rattle.ace_check.proofs.checker.Checker.feed_kind.Goals as goal
 

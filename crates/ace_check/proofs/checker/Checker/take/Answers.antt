@@ -1,4 +1,4 @@
-use Rattle.std.proofs.Common.{◌≡◌, ◌<◌, ◌-◌, ◌^◌, true, false, length, is_err, sym, ◌∙◌, arith}
+use Rattle.std.proofs.Common.{sym, ◌∙◌, arith}
 use Rattle.ace_check.proofs.Steps.{from_err, from_ok}
 use Rattle.ace_check.proofs.checker.Checker.take.Goals as goal
 

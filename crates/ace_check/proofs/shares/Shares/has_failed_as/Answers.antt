@@ -1,4 +1,4 @@
-use Rattle.std.proofs.Common.{◌≡◌, Some, sym, subst, ◌∙◌}
+use Rattle.std.proofs.Common.{◌≡◌, Some, subst, ◌∙◌}
 use Rattle.ace_event.specs.declared.event.Channel.{Channel}
 use Rattle.ace_model.specs.Transactions.{outstanding}
 use Rattle.ace_check.proofs.Steps.{no_write_fails}

@@ -1,4 +1,4 @@
-use Rattle.std.proofs.Common.{◌≡◌, Some, None, sym, ◌∙◌}
+use Rattle.std.proofs.Common.{sym, ◌∙◌}
 use Rattle.ace_check.proofs.Steps.{granted_named, failed_none}
 use Rattle.ace_check.proofs.shares.Shares.has_failed_at.Goals as goal
 

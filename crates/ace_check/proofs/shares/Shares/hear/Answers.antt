@@ -1,4 +1,3 @@
-use Rattle.std.proofs.Common.{◌≡◌}
 use Rattle.ace_check.specs.Shares.{MayTake}
 use Rattle.ace_check.proofs.Steps.{from_is_ok}
 use Rattle.ace_check.proofs.shares.Shares.hear.Goals as goal

@@ -1,4 +1,4 @@
-use Rattle.std.proofs.Common.{◌≡◌, sym, ap, ◌∙◌}
+use Rattle.std.proofs.Common.{sym, ap, ◌∙◌}
 use Rattle.ace_portck.specs.Targets.{Recording}
 use Rattle.ace_model.specs.Shares.{lesser}
 use Rattle.ace_model.proofs.Rules.Shares.{least_is_one}

@@ -1,4 +1,4 @@
-use Rattle.std.proofs.Common.{◌≡◌, ℕ, ◌≤◌, ◌<◌, ◌-◌, ◌^◌, true, false, None, Some, Option, [], ◌∷◌, length, is_err, refl, sym, ap, subst, ◌∙◌, inl, inr, arith}
+use Rattle.std.proofs.Common.{◌≤◌, ◌∷◌, length, sym, subst, ◌∙◌, inl, inr, arith}
 use Rattle.ace_event.specs.declared.header.Header.{Header}
 use Rattle.ace_model.specs.Lines.{known_lines}
 use Rattle.ace_model.specs.Trace.{Trace}
