@@ -18,5 +18,7 @@ pub mod Taken
 pub mod Continued
 -- Turns of ports, one after the other.
 pub mod TurnsBy
+-- What is left to do in a run.
+pub mod WhatIsLeft
 -- The engines after a step of one of them.
 pub mod Moves

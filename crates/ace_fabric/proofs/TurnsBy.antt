@@ -1,5 +1,5 @@
 -- Turns of ports, one after the other.
-use Rattle.std.proofs.Common.{◌≡◌, ◌%◌, ℕ, false, List, [], ◌∷◌, ◌++◌, inl, inr, refl, sym, ap, subst, ◌∙◌}
+use Rattle.std.proofs.Common.{◌≡◌, ◌%◌, ℕ, false, List, [], ◌∷◌, ◌++◌, inl, inr, refl, ap, subst, ◌∙◌}
 use Rattle.ace_event.specs.declared.event.Event.{Event}
 use Rattle.ace_model.specs.Plans.{Plan}
 use Rattle.ace_model.specs.Trace.{Trace}

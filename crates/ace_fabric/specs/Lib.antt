@@ -2,3 +2,5 @@
 pub mod Parts
 -- A run as it is seen, and what is kept of it.
 pub mod Runs
+-- What is left to do in a run.
+pub mod Left

@@ -4,12 +4,13 @@ ghost use Rattle.std.specs.Prelude.{◌≡◌, ◌≢◌, ◌<◌, ◌≤◌, �
 ghost use Rattle.ace_event.specs.declared.event.Event.{Event};
 ghost use Rattle.ace_model.specs.Trace.{Trace};
 ghost use Rattle.ace_runs.specs.Bursts.{onto};
-ghost use Rattle.ace_runs.specs.Follows.{Done};
+ghost use Rattle.ace_runs.specs.Follows.{Done, is_done};
 ghost use Rattle.ace_runs.specs.Steps.{AreSteps, Enabled, IsStep, is_enabled};
 ghost use Rattle.ace_engine.specs.Engines.{IsLegal};
 ghost use Rattle.ace_fabric.specs.Parts.{AreEngines};
 ghost use Rattle.ace_fabric.specs.Runs.{AreTurnsBy, continued};
 
+use crate::left::Left;
 use crate::moving::by_any;
 use ace_engine::{Burst, Engine};
 use ace_event::Event;
@@ -39,6 +40,7 @@ pub struct Fabric<H: Engine, U: Engine, O: Engine, M: Engine> {
     update: U,
     order: O,
     masters: Vec<M>,
+    left: Left,
 }
 
 impl<H: Engine, U: Engine, O: Engine, M: Engine> Model for Fabric<H, U, O, M> {
@@ -49,7 +51,7 @@ impl<H: Engine, U: Engine, O: Engine, M: Engine> Model for Fabric<H, U, O, M> {
 
     ghost view = { λ s. record { plan = s.plan.plan; room = s.plan.room; past = reverse s.events.items } };
 
-    ghost invariant = { λ s. IsRunning H.Engine U.Engine O.Engine M.Engine s.plan (reverse s.events.items) (vec_capacity s.events) s.home s.update s.order s.masters.items };
+    ghost invariant = { λ s. IsRunning H.Engine U.Engine O.Engine M.Engine s.plan (reverse s.events.items) (vec_capacity s.events) s.home s.update s.order s.masters.items s.left };
 }
 
 /// Puts the burst at the end of the events, for which there is room.
@@ -83,6 +85,7 @@ impl<H: Engine + Drop, U: Engine + Drop, O: Engine + Drop, M: Engine + Drop> Fab
         requires { AreEngines H.Engine U.Engine O.Engine M.Engine plan.plan [] home update order masters.items }
         ensures { IfOk result (λ s. s ≡ record { plan = plan.plan; room = plan.room; past = [] }) }
     {
+        let left = Left::new(alloc, &plan)?;
         let operations = usize::from(plan.count()) + usize::from(plan.room());
         let Ok(events) = Vec::with_capacity(alloc, operations * MOST) else {
             return Err(NoMemory);
@@ -94,6 +97,7 @@ impl<H: Engine + Drop, U: Engine + Drop, O: Engine + Drop, M: Engine + Drop> Fab
             update,
             order,
             masters,
+            left,
         })
     }
 }
@@ -124,6 +128,13 @@ impl<H: Engine, U: Engine, O: Engine, M: Engine> Fabric<H, U, O, M> {
         &self.plan
     }
 
+    /// Whether the run is done: every operation has retired, no transaction is outstanding, no snoop is unanswered, and no DVM Complete is owed.
+    pub fn done(&self) -> bool
+        ensures { result ≡ is_done self.now.plan self.now.past }
+    {
+        self.left.is_none(self.plan.header().ports)
+    }
+
     /// A turn of the port: its master, the engine of memory updates, the home and the engine of barriers and DVM are asked, in this order, and the
     /// first that has a step for the port takes it. It takes no memory.
     pub fn turn(&mut self, port: u8) -> Turn
@@ -143,6 +154,7 @@ impl<H: Engine, U: Engine, O: Engine, M: Engine> Fabric<H, U, O, M> {
             return Turn::Idle;
         }
         append(&mut self.events, &out);
+        self.left.hear_all(&out);
         Turn::Moved
     }
 

@@ -3,6 +3,7 @@
 
 mod fabric;
 mod hearing;
+mod left;
 mod moving;
 
 pub use fabric::{Fabric, Turn};

@@ -1,4 +1,4 @@
-use Rattle.std.proofs.Common.{◌≡◌, ◌∙◌, ap}
+use Rattle.std.proofs.Common.{◌∙◌, ap}
 use Rattle.ace_runs.specs.Bursts.{onto}
 use Rattle.ace_fabric.specs.Runs.{Run}
 use Rattle.ace_fabric.proofs.fabric.Fabric.drain_by.Goals as goal

@@ -1,9 +1,11 @@
-use Rattle.std.proofs.Common.{◌∙◌, ap, arith, reverse, sym, subst, List}
-use Rattle.std.proofs.lemmas.List.{length-reverse}
+use Rattle.std.proofs.Common.{◌∙◌, ap, arith, length, reverse, sym, subst, List}
+use Rattle.std.specs.Vec.{with_items}
+use Rattle.std.proofs.lemmas.List.{length-reverse, with_items_is}
 use Rattle.ace_model.specs.Trace.{Trace}
 use Rattle.ace_runs.specs.Bursts.{onto}
 use Rattle.ace_runs.specs.Steps.{IsStep}
 use Rattle.ace_runs.proofs.Few.Bound.{few-events}
+use Rattle.ace_fabric.specs.Left.{LeftStands}
 use Rattle.ace_fabric.specs.Parts.{AreEngines}
 use Rattle.ace_fabric.specs.Runs.{Run, continued}
 use Rattle.ace_fabric.proofs.Continued.{onto-length}
@@ -20,6 +22,27 @@ append-requires g c =
     let turned = length-reverse c.self.inside.events.items in
     let room = c.self.invariant.room in
     omega (arith, few, long, turned, room)
+
+pub invariant_of-self-2 : goal.invariant_of-self-2
+invariant_of-self-2 g c =
+    let view = c.self.inside.plan in
+    let past = reverse c.self.inside.events.items in
+    let out = c.by_any.new.out in
+    let asked : AreEngines g.H.Engine g.U.Engine g.O.Engine g.M.Engine view.plan past c.self.inside.home c.self.inside.update c.self.inside.order c.as_mut_slice.result.now =
+    subst (λ (ms : List g.row.M.Denot). AreEngines g.H.Engine g.U.Engine g.O.Engine g.M.Engine view.plan past c.self.inside.home c.self.inside.update c.self.inside.order ms)
+    (sym c.as_mut_slice.ensures.value) c.self.invariant.engines in
+    let moved = c.by_any.ensures.moved c.if-not-by_any.false view.plan past asked in
+    let same = c.by_any.auto.masters ∙ ap length c.as_mut_slice.ensures.value ∙ sym c.self.inside.masters.ok.0 in
+    let items = with_items_is c.self.inside.masters c.by_any.new.masters same in
+    let room = c.self.invariant.room in
+    let capacity = c.append.ensures.capacity in
+    record {
+      engines = subst (λ (t : Trace). AreEngines g.H.Engine g.U.Engine g.O.Engine g.M.Engine view.plan t c.by_any.new.home c.by_any.new.update c.by_any.new.order (with_items c.self.inside.masters c.by_any.new.masters).items)
+          (sym c.append.ensures.items)
+          (subst (λ (ms : List g.row.M.Denot). AreEngines g.H.Engine g.U.Engine g.O.Engine g.M.Engine view.plan (onto out past) c.by_any.new.home c.by_any.new.update c.by_any.new.order ms) (sym items) moved.1);
+      room = omega (arith, room, capacity);
+      left_is = subst (λ (t : Trace). LeftStands c.hear_all.new.self view.plan t) (sym c.append.ensures.items) (c.hear_all.ensures view.plan past c.self.invariant.left_is moved.1.legal);
+    }
 
 pub returns-clause-moved : goal.returns-clause-moved
 returns-clause-moved g c = λ _.
