@@ -32,7 +32,7 @@ either-same true x = refl
 either-same false x = refl
 
 -- an event that changes no state leaves its port the lines that it holds
-still-few : (plan : Plan) (past : Trace) (p : ℕ) → FollowsSoFar plan past
+pub still-few : (plan : Plan) (past : Trace) (p : ℕ) → FollowsSoFar plan past
     → nat_le (length (if p == p then held_lines plan.header past p else held_lines plan.header past p)) plan.ways ≡ true
 still-few plan past p f =
     ap (λ (ls : List ℕ). nat_le (length ls) plan.ways) (either-same (p == p) (held_lines plan.header past p)) ∙ held-few plan past p f
