@@ -120,7 +120,8 @@ impl LineCache {
 
     /// Whether the cache holds fewer Ways than it has room for.
     pub fn has_room(&self) -> bool
-        ensures { result ≡ room_in self.now }
+        ensures room { result ≡ room_in self.now }
+        ensures lawful { IsCache self.now }
     {
         self.held.len() < usize::from(self.ways)
     }

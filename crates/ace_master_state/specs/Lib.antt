@@ -1,0 +1,14 @@
+-- Lines that come in word by word.
+pub mod Arriving
+-- The lines that a port holds.
+pub mod Cached
+-- What an event of a port does to the lines that it holds.
+pub mod Change
+-- What a port has done for its next operation.
+pub mod Segment
+-- The monitor of a port.
+pub mod Monitor
+-- What a master asks for.
+pub mod AceRequests
+-- The DVM Completes that a port owes.
+pub mod Completions

@@ -1,0 +1,20 @@
+//! What the master of an ACE port keeps of the trace of a run: the lines that it holds, its monitor, what it has done for its next operation and
+//! the DVM Completes that it owes; and what its operations ask for.
+#![tactic(auto)]
+
+mod ace_requests;
+mod acts;
+mod arriving;
+mod cached;
+mod change;
+mod completions;
+mod monitor;
+mod segment;
+#[cfg(test)]
+mod tests;
+
+pub use ace_requests::{Request, request_of};
+pub use cached::Cached;
+pub use completions::Completions;
+pub use monitor::Monitor;
+pub use segment::Segment;
