@@ -28,3 +28,5 @@ pub mod WholeAfter
 pub mod FewParts
 -- The burst that forwards a message is a step.
 pub mod ForwardSteps
+-- Three worked traces.
+pub mod Worked

@@ -1,4 +1,5 @@
--- What the engine keeps of a trace, how it forwards messages, and what the trait of engines asks of it.
+-- What the engine keeps of a trace, how messages are forwarded, what the trait of engines asks of it, and worked traces.
 pub mod EngineLaws
 pub mod Messages
 pub mod Order
+pub mod Worked

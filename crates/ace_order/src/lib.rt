@@ -3,5 +3,7 @@
 
 mod events;
 mod order;
+#[cfg(test)]
+mod tests;
 
 pub use order::Order;
