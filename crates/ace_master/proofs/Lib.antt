@@ -34,3 +34,5 @@ pub mod LiteBarriers
 pub mod LiteOwn
 -- Where the next operation waits for its line.
 pub mod LiteWaits
+-- The worked traces are ones for which its master may stand.
+pub mod LiteWorked

@@ -7,3 +7,5 @@ pub mod LiteRequests
 -- What the master of an ACE-Lite port keeps, and what the trait of engines asks of it.
 pub mod Lite
 pub mod LiteLaws
+-- Worked traces of an ACE-Lite port.
+pub mod LiteWorked

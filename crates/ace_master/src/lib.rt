@@ -5,6 +5,8 @@ mod identifiers;
 mod kept_port;
 mod lite;
 mod lite_requests;
+#[cfg(test)]
+mod lite_tests;
 mod operations;
 
 pub use lite::LiteMaster;
