@@ -37,7 +37,7 @@ use Rattle.ace_runs.proofs.NeverStuck.Phases.BothHalves.{one_half, paced}
 use Rattle.ace_engine.specs.Engines.{IsLegal}
 use Rattle.ace_engine.proofs.LegalSteps.{legal-more}
 use Rattle.ace_master.specs.Lite.{AreIssued, LiteTells, are_none_or_all, own_steps}
-use Rattle.ace_master.specs.LiteRequests.{barrier_ar, barrier_aw}
+use Rattle.ace_master.specs.Issues.{barrier_ar, barrier_aw}
 use Rattle.ace_master.proofs.LiteMoves.{closing-none, goes-step, lite-moves, moves-asking}
 use Rattle.ace_master.proofs.LiteNext.{IsNext, unasked}
 use Rattle.ace_master.proofs.LiteOperations.{IsBarrier}

@@ -37,7 +37,7 @@ use Rattle.ace_runs.proofs.NeverStuck.Operations.Lines.OfPlan.{IsPlanned, next-p
 use Rattle.ace_engine.specs.Engines.{IsLegal}
 use Rattle.ace_engine.proofs.LegalSteps.{legal-more}
 use Rattle.ace_master.specs.Lite.{AreIssued, LiteTells, are_none_or_all, own_steps}
-use Rattle.ace_master.specs.LiteRequests.{ar_of}
+use Rattle.ace_master.specs.Issues.{ar_of}
 use Rattle.ace_master.proofs.LiteMoves.{closing-none, goes-step, lite-moves, lite-state, moves-asking}
 use Rattle.ace_master.proofs.LiteNext.{IsNext, unasked}
 use Rattle.ace_master.proofs.LiteOperations.{IsRead}
@@ -75,18 +75,18 @@ module _ (plan : Plan) (past : Trace) (p : ℕ) (legal : IsLegal plan past) (ope
     alike = subst (IsOfClass past a) r.class (named-class plan past p a op legal.right legal.lean planned r.line);
   }
 
-  moves-are : moves_of plan.ways h past p op ≡ map (and_closing h past p op) (with_identifier (free_on h past p Read) (λ i. ar_of p i k a ∷ []))
+  moves-are : moves_of plan.ways h past p op ≡ map (and_closing h past p op) (with_identifier (free_on h past p Read) (λ i. ar_of p i k a false ∷ []))
   moves-are = moves-asking plan past p legal t.lite op r.plain some-act t.issued.segment_is t.issued.made line-quiet plan.ways (Reads k a false) r.asks
 
   -- where no identifier is free, no step is enabled
   pub no-read : free_on h past p Read ≡ None → is_enabled_by own_steps plan past p ≡ false
   no-read full =
       unasked plan past p legal operations op t next some-act
-      (lite-moves plan past p legal t.lite plan.ways op ∙ moves-are ∙ ap (λ o. map (and_closing h past p op) (with_identifier o (λ i. ar_of p i k a ∷ []))) full)
+      (lite-moves plan past p legal t.lite plan.ways op ∙ moves-are ∙ ap (λ o. map (and_closing h past p op) (with_identifier o (λ i. ar_of p i k a false ∷ []))) full)
 
   module _ (i : ℕ) (first : free_on h past p Read ≡ Some i) where
     abbrev e : Event
-    e = ar_of p i k a
+    e = ar_of p i k a false
 
     abbrev x : Transaction
     x = read-now past p k a i
@@ -140,7 +140,7 @@ module _ (plan : Plan) (past : Trace) (p : ℕ) (legal : IsLegal plan past) (ope
 
     moves-now : moves_of plan.ways h past p op ≡ (e ∷ []) ∷ []
     moves-now =
-        moves-are ∙ ap (λ o. map (and_closing h past p op) (with_identifier o (λ i. ar_of p i k a ∷ []))) first ∙ ap (λ (end : List Event). (e ∷ end) ∷ []) closing
+        moves-are ∙ ap (λ o. map (and_closing h past p op) (with_identifier o (λ i. ar_of p i k a false ∷ []))) first ∙ ap (λ (end : List Event). (e ∷ end) ∷ []) closing
 
     issued-now : AreIssued plan (e ∷ past) p (x ∷ [])
     issued-now = record {

@@ -47,7 +47,7 @@ use Rattle.ace_engine.specs.Engines.{IsLegal}
 use Rattle.ace_engine.proofs.LegalSteps.{legal-more}
 use Rattle.ace_portck.specs.declared.target.WriteData.{WriteData}
 use Rattle.ace_master.specs.Lite.{AreIssued, IsUnsent, LiteTells, are_none_or_all, own_steps}
-use Rattle.ace_master.specs.LiteRequests.{aw_of}
+use Rattle.ace_master.specs.Issues.{aw_of}
 use Rattle.ace_master.specs.Operations.{write_data}
 use Rattle.ace_master.proofs.LiteHeard.{behind-left}
 use Rattle.ace_master.proofs.LiteMoves.{closing-none, closing-ok, goes-step, lite-moves, lite-state, moves-asking}

@@ -2,6 +2,10 @@
 pub mod Operations
 -- What a master keeps of its port.
 pub mod KeptPort
+-- The events by which a port issues transactions.
+pub mod Issues
+-- What a port asks by.
+pub mod Asking
 -- What the operations of an ACE-Lite port ask for.
 pub mod LiteRequests
 -- What the master of an ACE-Lite port keeps, and what the trait of engines asks of it.
@@ -9,3 +13,7 @@ pub mod Lite
 pub mod LiteLaws
 -- Worked traces of an ACE-Lite port.
 pub mod LiteWorked
+-- The burst of write data that a port sends next.
+pub mod Sending
+-- The answer of a port to a snoop.
+pub mod Answering

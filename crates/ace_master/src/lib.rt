@@ -1,12 +1,25 @@
 //! The masters of the ports: each does the operations that the plan has for its port.
 #![tactic(auto)]
 
+mod answering;
+mod asking;
+mod bursts;
+#[cfg(test)]
+mod bursts_tests;
 mod identifiers;
+mod issues;
 mod kept_port;
+pub mod laws;
 mod lite;
 mod lite_requests;
 #[cfg(test)]
 mod lite_tests;
 mod operations;
+mod pushing;
+mod sending;
+#[cfg(test)]
+mod tests;
 
+pub use answering::answer;
 pub use lite::LiteMaster;
+pub use sending::send;

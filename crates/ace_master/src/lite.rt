@@ -16,14 +16,13 @@ ghost use Rattle.ace_master.specs.Lite.{IsAsking, IsTurn, LiteStands, is_line_bu
 ghost use Rattle.ace_master.specs.LiteRequests.{lite_request};
 
 use crate::identifiers::{free_on, free_on_both};
-use crate::kept_port::{note, put};
-use crate::lite_requests::{
-    LiteRequest, ar_of, aw_of, barrier_ar, barrier_aw, is_no_snoop_write, lite_request,
-};
+use crate::issues::{ar_of, aw_of, barrier_ar, barrier_aw, is_no_snoop_write};
+use crate::kept_port::{note, put, retirement};
+use crate::lite_requests::{LiteRequest, lite_request};
 use crate::operations::{beats, data_of, operations_of};
 use ace_codes::{ArKind, AwKind};
 use ace_engine::{Burst, Engine};
-use ace_event::{Channel, Event, Outcome};
+use ace_event::{Channel, Event};
 use ace_io::NoMemory;
 use ace_model::{Op, PlanView, Transaction};
 use ace_portck::{OnePort, WriteData, issued};
@@ -141,11 +140,7 @@ impl LiteMaster {
     fn op(&self) -> Event
         ensures { (plan : Plan) (past : Trace) → LiteStands self.now plan past → retirement past (port_of self.now) Ok ≡ result ∷ [] }
     {
-        Event::Op {
-            port: self.port.port(),
-            k: self.retired(),
-            res: Outcome::Ok,
-        }
+        retirement(&self.port)
     }
 
     /// Puts the OP of the next operation, which may retire.
@@ -174,7 +169,7 @@ impl LiteMaster {
         let Some(id) = free_on(&self.port, Channel::Read) else {
             return false;
         };
-        let asks = ar_of(self.port.port(), id, kind, addr);
+        let asks = ar_of(self.port.port(), id, kind, addr, false);
         self.read = issued(self.port.count(), &asks);
         put(&mut self.port, &[asks], out);
         true

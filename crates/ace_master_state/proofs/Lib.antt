@@ -26,3 +26,5 @@ pub mod MonitorMoves
 pub mod PartOrder
 -- The Syncs that a port has answered.
 pub mod SyncsAnswered
+-- What is kept of a port may hear each event that an engine may.
+pub mod KeptHears

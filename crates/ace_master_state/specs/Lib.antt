@@ -12,3 +12,5 @@ pub mod Monitor
 pub mod AceRequests
 -- The DVM Completes that a port owes.
 pub mod Completions
+-- What the master of an ACE port keeps, all in one.
+pub mod Kept

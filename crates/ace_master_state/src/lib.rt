@@ -8,6 +8,7 @@ mod arriving;
 mod cached;
 mod change;
 mod completions;
+mod kept;
 mod monitor;
 mod segment;
 #[cfg(test)]
@@ -16,5 +17,6 @@ mod tests;
 pub use ace_requests::{Request, request_of};
 pub use cached::Cached;
 pub use completions::Completions;
+pub use kept::Kept;
 pub use monitor::Monitor;
 pub use segment::Segment;

@@ -4,7 +4,7 @@ use Rattle.ace_model.specs.Transactions.{issued}
 use Rattle.ace_runs.specs.Requests.{free_on_both}
 use Rattle.ace_engine.proofs.Rooms.{few-events-there}
 use Rattle.ace_master.specs.Lite.{port_of}
-use Rattle.ace_master.specs.LiteRequests.{barrier_ar, barrier_aw}
+use Rattle.ace_master.specs.Issues.{barrier_ar, barrier_aw}
 use Rattle.ace_master.proofs.LiteBarriers.{barrier-next, first-half, no-barrier, second-half}
 use Rattle.ace_master.proofs.LiteNext.{asking-tells, next-as, put-turn}
 use Rattle.ace_master.proofs.LiteOperations.{barrier-of}

@@ -1,11 +1,11 @@
-use Rattle.std.proofs.Common.{◌≡◌, ◌∷◌, ◌++◌, [], List, Some, None, sym, ap, ◌∙◌}
+use Rattle.std.proofs.Common.{◌≡◌, false, ◌∷◌, ◌++◌, [], List, Some, None, sym, ap, ◌∙◌}
 use Rattle.ace_event.specs.declared.event.Channel.TheVariants.{Read}
 use Rattle.ace_event.specs.declared.event.Event.{Event}
 use Rattle.ace_model.specs.Trace.{is_some_and}
 use Rattle.ace_model.specs.Transactions.{has_outstanding_on, issued}
 use Rattle.ace_runs.specs.Requests.{free_on}
 use Rattle.ace_master.specs.Lite.{port_of}
-use Rattle.ace_master.specs.LiteRequests.{ar_of}
+use Rattle.ace_master.specs.Issues.{ar_of}
 use Rattle.ace_master.proofs.LiteNext.{asking-tells, next-as, put-turn}
 use Rattle.ace_master.proofs.LiteOperations.{read-of}
 use Rattle.ace_master.proofs.LiteReads.{no-read, read-next, read-now}
@@ -21,13 +21,13 @@ returns-clause-turn c = λ moved plan past op a free asks.
     let r = read-of op k l asks in
     let kept = a.stands.port.kept in
     let first : free_on plan.header past p Read ≡ Some i = sym (c.free_on.ensures plan.header past p kept) ∙ c.in-Some.is in
-    let event : c.ar_of-asks.result ≡ ar_of p i k l = c.ar_of-asks.ensures ∙ ap (λ q. ar_of q i k l) c.port.ensures in
+    let event : c.ar_of-asks.result ≡ ar_of p i k l false = c.ar_of-asks.ensures ∙ ap (λ q. ar_of q i k l false) c.port.ensures in
     let quiet = sym (ap (λ o. is_some_and o (has_outstanding_on plan.header past p)) r.line) ∙ free in
     let reads : c.issued-self.result ≡ Some (read-now past p k l i) =
-    c.issued-self.ensures ∙ ap (issued c.count.result) event ∙ ap (λ n. issued n (ar_of p i k l)) (c.count.ensures plan.header past p kept) in
-    put-turn s _ plan past (c.ar_of-asks.result ∷ []) (ar_of p i k l ∷ []) c.put.new.out a.stands (ap (λ (e : Event). e ∷ []) event)
+    c.issued-self.ensures ∙ ap (issued c.count.result) event ∙ ap (λ n. issued n (ar_of p i k l false)) (c.count.ensures plan.header past p kept) in
+    put-turn s _ plan past (c.ar_of-asks.result ∷ []) (ar_of p i k l false ∷ []) c.put.new.out a.stands (ap (λ (e : Event). e ∷ []) event)
     (c.put.ensures.burst ∙ ap (λ (es : List Event). es ++ c.ar_of-asks.result ∷ []) c.requires) c.put.ensures.port (c.put.ensures.kept plan past)
-    (next-as plan past p (ar_of p i k l ∷ []) s.operations.items (Some (read-now past p k l i)) None c.issued-self.result s.write None s.unsent reads a.none_written a.sent
+    (next-as plan past p (ar_of p i k l false ∷ []) s.operations.items (Some (read-now past p k l i)) None c.issued-self.result s.write None s.unsent reads a.none_written a.sent
     (read-next plan past p a.stands.port.legal s.operations.items (asking-tells s plan past op a) op a.next k l r quiet i first))
 
 pub returns-in_default-clause-none : goal.returns-in_default-clause-none

@@ -9,7 +9,7 @@ use Rattle.ace_model.specs.Transactions.{has_outstanding_on, issued}
 use Rattle.ace_runs.specs.Closing.{retirement}
 use Rattle.ace_runs.specs.Requests.{free_on}
 use Rattle.ace_master.specs.Lite.{port_of}
-use Rattle.ace_master.specs.LiteRequests.{aw_of}
+use Rattle.ace_master.specs.Issues.{aw_of}
 use Rattle.ace_master.proofs.LiteNext.{asking-tells, next-as, put-turn}
 use Rattle.ace_master.proofs.LiteOperations.{write-of}
 use Rattle.ace_master.proofs.LiteWrites.{carried-is, data_carried, going-write, no-write, waiting-write, written-now}

@@ -1,0 +1,72 @@
+//! What the master of an ACE port keeps, all in one.
+
+ghost use Rattle.std.specs.Prelude.{◌≡◌, ◌≤◌, ◌∷◌, ℕ, [], true, Some, IfOk};
+ghost use Rattle.ace_model.specs.Plans.{IsRight, Plan};
+ghost use Rattle.ace_model.specs.Trace.{Trace, port_of};
+ghost use Rattle.ace_model.specs.Transactions.{is_ace};
+ghost use Rattle.ace_engine.specs.Engines.{IsLegal};
+ghost use Rattle.ace_master_state.specs.Cached.{HasLowId};
+ghost use Rattle.ace_master_state.specs.Kept.{KeptStands};
+
+use crate::{Cached, Completions, Monitor, Segment};
+use ace_event::Event;
+use ace_io::NoMemory;
+use ace_model::PlanView;
+use ace_portck::OnePort;
+use std::alloc::Global;
+
+/// The most snoops that a port can have in a run.
+const SNOOPS: usize = 24576;
+
+/// What the master of an ACE port keeps of the trace of a run.
+#[derive(Drop)]
+pub struct Kept {
+    /// Its transactions and snoops under way.
+    pub port: OnePort,
+    /// The lines that it holds.
+    pub lines: Cached,
+    pub monitor: Monitor,
+    /// What it has done for its next operation.
+    pub segment: Segment,
+    /// The DVM Completes that it owes.
+    pub completions: Completions,
+}
+
+impl Kept {
+    /// What is kept of the port of a plan, an ACE port, and the empty trace. It takes all the memory that it will need.
+    ///
+    /// # Errors
+    ///
+    /// `NoMemory` where there is none.
+    pub fn new(alloc: Global, plan: &PlanView, port: u8) -> Result<Kept, NoMemory>
+        requires right { IsRight plan.now.plan }
+        requires ace { is_ace plan.now.plan.header port ≡ true }
+        ensures { IfOk result (λ s. KeptStands plan.now.plan [] port s) }
+    {
+        let lines = Cached::new(alloc, plan.ways())?;
+        let segment = Segment::new(alloc, port)?;
+        let Ok(of_port) = OnePort::new(alloc, plan.header(), port, SNOOPS) else {
+            return Err(NoMemory);
+        };
+        Ok(Kept {
+            port: of_port,
+            lines,
+            monitor: Monitor::new(port),
+            segment,
+            completions: Completions::new(port),
+        })
+    }
+
+    /// Hears the next event of the trace.
+    pub fn hear(&mut self, event: &Event)
+        ensures { (plan : Plan) (past : Trace) (p : ℕ) → KeptStands plan past p self.old → IsLegal plan (event.now ∷ past)
+            → (port_of event.now ≡ Some p → HasLowId event.now) → KeptStands plan (event.now ∷ past) p self.new }
+    {
+        let place = self.port.count();
+        self.lines.hear(&self.port, event);
+        self.monitor.hear(event, &self.lines);
+        self.segment.hear(event, place);
+        self.completions.hear(&self.port, event);
+        self.port.hear(event);
+    }
+}
