@@ -28,3 +28,13 @@ pub mod PartOrder
 pub mod SyncsAnswered
 -- What is kept of a port may hear each event that an engine may.
 pub mod KeptHears
+-- A loop that looks for an element which passes a test.
+pub mod Found
+-- What an event leaves of the Syncs of a port.
+pub mod SyncMoves
+-- A list without elements that pass a test.
+pub mod NoneFound
+-- No more operations of a port retired than it has.
+pub mod Retirements
+-- Which events end an operation, case by case.
+pub mod Closings

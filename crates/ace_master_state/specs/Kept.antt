@@ -11,6 +11,7 @@ use Rattle.ace_master_state.specs.Cached.{CachedStands}
 use Rattle.ace_master_state.specs.Completions.{CompletionsStand}
 use Rattle.ace_master_state.specs.Monitor.{MonitorStands}
 use Rattle.ace_master_state.specs.Segment.{SegmentStands}
+use Rattle.ace_master_state.specs.Syncs.{SyncsStand}
 
 -- Each part says what there is to say of the port, after a trace for which an engine may stand, and there is room for all snoops of a plan.
 pub record KeptStands (plan : Plan) (past : Trace) (p : ℕ) (s : Kept) : Type 0 where
@@ -22,3 +23,4 @@ pub record KeptStands (plan : Plan) (past : Trace) (p : ℕ) (s : Kept) : Type 0
   pub monitor : MonitorStands plan.header past p s.monitor
   pub segment : SegmentStands past p s.segment
   pub completions : CompletionsStand past p s.completions
+  pub syncs : SyncsStand past p s.syncs

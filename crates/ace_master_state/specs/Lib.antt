@@ -14,3 +14,11 @@ pub mod AceRequests
 pub mod Completions
 -- What the master of an ACE port keeps, all in one.
 pub mod Kept
+-- What is looked for among the transactions for an operation.
+pub mod Sought
+-- The Syncs of a port.
+pub mod Syncs
+-- What a port is told of its exclusive stores.
+pub mod Retiring
+-- What ends an operation.
+pub mod Closing

@@ -39,14 +39,14 @@ fn is_message(snoop: &Snoop) -> bool
 }
 
 /// The word is that of a Sync.
-fn is_sync_word(word: u32) -> bool
+pub(crate) fn is_sync_word(word: u32) -> bool
     ensures { result ≡ is_sync_word word }
 {
     word / 4096 % 8 == 4
 }
 
 /// A second part follows a first part with this word.
-fn has_second(word: u32) -> bool
+pub(crate) fn has_second(word: u32) -> bool
     ensures { result ≡ has_second word }
 {
     word % 2 == 1
@@ -63,7 +63,7 @@ fn completes(event: &Event) -> bool
 }
 
 /// Whether the second holds where the first doesn't.
-fn unless(first: bool, second: bool) -> bool
+pub(crate) fn unless(first: bool, second: bool) -> bool
     ensures { result ≡ (not first && second) }
 {
     !first && second

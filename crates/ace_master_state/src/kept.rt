@@ -8,7 +8,7 @@ ghost use Rattle.ace_engine.specs.Engines.{IsLegal};
 ghost use Rattle.ace_master_state.specs.Cached.{HasLowId};
 ghost use Rattle.ace_master_state.specs.Kept.{KeptStands};
 
-use crate::{Cached, Completions, Monitor, Segment};
+use crate::{Cached, Completions, Monitor, Segment, Syncs};
 use ace_event::Event;
 use ace_io::NoMemory;
 use ace_model::PlanView;
@@ -30,6 +30,8 @@ pub struct Kept {
     pub segment: Segment,
     /// The DVM Completes that it owes.
     pub completions: Completions,
+    /// Whether its last Sync is complete.
+    pub syncs: Syncs,
 }
 
 impl Kept {
@@ -54,6 +56,7 @@ impl Kept {
             monitor: Monitor::new(port),
             segment,
             completions: Completions::new(port),
+            syncs: Syncs::new(port),
         })
     }
 
@@ -67,6 +70,7 @@ impl Kept {
         self.monitor.hear(event, &self.lines);
         self.segment.hear(event, place);
         self.completions.hear(&self.port, event);
+        self.syncs.hear(&self.port, event);
         self.port.hear(event);
     }
 }

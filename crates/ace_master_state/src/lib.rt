@@ -7,16 +7,22 @@ mod acts;
 mod arriving;
 mod cached;
 mod change;
+mod closing;
 mod completions;
 mod kept;
 mod monitor;
+mod retiring;
 mod segment;
+mod sought;
+mod syncs;
 #[cfg(test)]
 mod tests;
 
 pub use ace_requests::{Request, request_of};
 pub use cached::Cached;
+pub use closing::{Closing, gives_access};
 pub use completions::Completions;
 pub use kept::Kept;
 pub use monitor::Monitor;
 pub use segment::Segment;
+pub use syncs::Syncs;

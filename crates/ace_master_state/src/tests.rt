@@ -1,8 +1,9 @@
 //! What a master keeps, after worked traces.
 
-use crate::{Cached, Completions, Monitor, Segment};
+use crate::{Cached, Closing, Completions, Kept, Monitor, Segment, Syncs};
 use ace_codes::LineState::{self, I, SC, UC, UD};
 use ace_event::{Channel, Event, Header, Line, Outcome};
+use ace_model::Op;
 use ace_portck::OnePort;
 use std::alloc::Global;
 use std::test::Fail;
@@ -14,30 +15,20 @@ const HEADER: Header = Header {
 };
 
 /// What is kept of port 0.
-#[derive(Drop)]
-struct Kept {
-    port: OnePort,
-    lines: Cached,
-    segment: Segment,
-    monitor: Monitor,
-}
-
 fn start(alloc: Global) -> Result<Kept, Fail> {
     Ok(Kept {
         port: OnePort::new(alloc, HEADER, 0, 8)?,
         lines: Cached::new(alloc, 2)?,
-        segment: Segment::new(alloc, 0)?,
         monitor: Monitor::new(0),
+        segment: Segment::new(alloc, 0)?,
+        completions: Completions::new(0),
+        syncs: Syncs::new(0),
     })
 }
 
 fn hear(kept: &mut Kept, events: &[Event]) {
     for event in events {
-        let place = kept.port.count();
-        kept.lines.hear(&kept.port, event);
-        kept.monitor.hear(event, &kept.lines);
-        kept.segment.hear(event, place);
-        kept.port.hear(event);
+        kept.hear(event);
     }
 }
 
@@ -207,5 +198,88 @@ fn owes_a_completion(rt: HostRuntime) -> Result<(), Fail> {
     assert!(rt; completions.owes());
     completions.hear(&port, &last[1]);
     assert!(rt; !completions.owes());
+    Ok(())
+}
+
+fn op(k: u16, res: Outcome) -> Event {
+    Event::Op { port: 0, k, res }
+}
+
+/// A load waits for its line, is made once the line is there, and ends the operation.
+#[test]
+fn ends_a_load(rt: HostRuntime) -> Result<(), Fail> {
+    let mut kept = start(rt.alloc())?;
+    let ld = Op::Ld { addr: 64, w: 1 };
+    assert!(rt; kept.closing_of(ld, false) == Closing::Nothing && !kept.is_waiting(ld));
+    reading(&mut kept);
+    assert!(rt; kept.is_waiting(ld) && !kept.awaits_update());
+    hear(&mut kept, &[rk(SC)]);
+    let load = Event::L {
+        port: 0,
+        addr: 64,
+        w: 1,
+        x: false,
+        word: 2,
+    };
+    let ends = op(0, Outcome::Ok);
+    assert!(rt; kept.closing_of(ld, false) == Closing::Accesses(load, ends));
+    hear(&mut kept, &[load]);
+    assert!(rt; kept.closing_of(ld, false) == Closing::Retires(ends));
+    Ok(())
+}
+
+/// A store is made in a unique line alone; what finds nothing to do is skipped, and an exclusive store that was refused fails.
+#[test]
+fn ends_other_operations(rt: HostRuntime) -> Result<(), Fail> {
+    let mut kept = start(rt.alloc())?;
+    reading(&mut kept);
+    let word = 9;
+    let st = Op::St {
+        addr: 64,
+        w: 1,
+        word,
+    };
+    let stx = Op::Stx {
+        addr: 64,
+        w: 1,
+        word,
+    };
+    hear(&mut kept, &[rk(SC), load(64, true), retires()]);
+    assert!(rt; kept.closing_of(st, false) == Closing::Nothing);
+    assert!(rt; kept.closing_of(stx, false) == Closing::Nothing);
+    let fails = op(1, Outcome::Fail);
+    assert!(rt; kept.closing_of(stx, true) == Closing::Retires(fails));
+    let skips = op(1, Outcome::Skip);
+    assert!(rt; kept.closing_of(Op::Wb { addr: 64 }, false) == Closing::Retires(skips));
+    assert!(rt; !kept.may_retire(Op::Ev { addr: 64 }, Outcome::Skip, false));
+    hear(&mut kept, &[ar(0, 64, 11, false), granted(0)]);
+    hear(&mut kept, &[r(0, 0, true, 0), rk(UC)]);
+    let line = Line {
+        words: [0, 9, 0, 0],
+    };
+    let store = Event::D {
+        port: 0,
+        addr: 64,
+        strobe: 0xffff_0000,
+        x: false,
+        line,
+    };
+    let ends = op(1, Outcome::Ok);
+    assert!(rt; kept.closing_of(st, false) == Closing::Accesses(store, ends));
+    Ok(())
+}
+
+/// A Sync ends once its port has answered the AC DVM Complete.
+#[test]
+fn ends_a_sync(rt: HostRuntime) -> Result<(), Fail> {
+    let mut kept = start(rt.alloc())?;
+    let sync = Op::Sync { word: 0xc000 };
+    hear(&mut kept, &[ar(0, 0xc000, 15, false), r(0, 0, true, 0)]);
+    assert!(rt; kept.closing_of(sync, false) == Closing::Nothing);
+    hear(&mut kept, &[snooped(0, 14)]);
+    assert!(rt; kept.closing_of(sync, false) == Closing::Nothing);
+    hear(&mut kept, &[answers()]);
+    let ends = op(0, Outcome::Ok);
+    assert!(rt; kept.closing_of(sync, false) == Closing::Retires(ends));
     Ok(())
 }

@@ -17,4 +17,5 @@ returns c =
       monitor = c.new-4.ensures plan.header;
       segment = c.in_ok-segment.ensures;
       completions = c.new-5.ensures;
+      syncs = c.new-6.ensures;
     }
