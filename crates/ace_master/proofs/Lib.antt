@@ -36,15 +36,11 @@ pub mod LiteOwn
 pub mod LiteWaits
 -- The worked traces are ones for which its master may stand.
 pub mod LiteWorked
--- What a port asks by, among the bursts by which it may.
-pub mod OneBurst
--- The bursts by which a port makes room.
-pub mod RoomBursts
--- Each burst by which a port may ask breaks no rule.
-pub mod GoodBursts
--- What a port asks for by its next operation is a step.
-pub mod AskingSteps
 -- The answers of a port to its snoops.
 pub mod AnsweredSnoops
 -- The write data that a port sends.
 pub mod WriteData
+-- What the master of an ACE port keeps.
+pub mod AcePorts
+-- The bursts by which a port asks.
+pub mod AskedBursts

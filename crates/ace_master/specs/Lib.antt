@@ -17,3 +17,12 @@ pub mod LiteWorked
 pub mod Sending
 -- The answer of a port to a snoop.
 pub mod Answering
+-- Events that what is kept of an ACE port may hear.
+pub mod AceEvents
+-- What the master of an ACE port keeps.
+pub mod AcePort
+-- What the master of an ACE port keeps, and what the trait of engines asks of it.
+pub mod Ace
+pub mod AceLaws
+-- A worked plan of one ACE port.
+pub mod AceWorked

@@ -18,7 +18,7 @@ pub legal : (s : LiteMaster) (plan : Plan) (past : Trace) → LiteStands s plan 
 legal s plan past stands = stands.port.legal
 
 -- the operations of its own port stay
-same-operations : (plan : Plan) (o : PlanOp) (p : ℕ) → (o.port == p) ≡ false → operations_of (longer plan o) p ≡ operations_of plan p
+pub same-operations : (plan : Plan) (o : PlanOp) (p : ℕ) → (o.port == p) ≡ false → operations_of (longer plan o) p ≡ operations_of plan p
 same-operations plan o p other =
     operations-longer plan (o ∷ []) p ∙ ap (λ (b : Bool). operations_of plan p ++ map (λ (v : PlanOp). v.op) (if b then o ∷ [] else [])) other ∙ append-nil (operations_of plan p)
 

@@ -1,6 +1,11 @@
 //! The masters of the ports: each does the operations that the plan has for its port.
 #![tactic(auto)]
 
+mod ace;
+mod ace_port;
+mod ace_steps;
+#[cfg(test)]
+mod ace_tests;
 mod answering;
 mod asking;
 mod bursts;
@@ -8,6 +13,7 @@ mod bursts;
 mod bursts_tests;
 mod identifiers;
 mod issues;
+mod kept_burst;
 mod kept_port;
 pub mod laws;
 mod lite;
@@ -20,6 +26,8 @@ mod sending;
 #[cfg(test)]
 mod tests;
 
+pub use ace::AceMaster;
+pub use ace_port::AcePort;
 pub use answering::answer;
 pub use lite::LiteMaster;
 pub use sending::send;

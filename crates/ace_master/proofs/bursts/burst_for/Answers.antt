@@ -3,7 +3,7 @@ use Rattle.ace_runs.specs.Closing.{state_named}
 use Rattle.ace_runs.specs.Requests.{bursts_of, request_of}
 use Rattle.ace_master_state.specs.AceRequests.{asks}
 use Rattle.ace_master.specs.Asking.{IsOneOf}
-use Rattle.ace_master.proofs.AskingSteps.{asked-steps, none-asked}
+use Rattle.ace_master.proofs.AskedBursts.AskingSteps.{asked-steps, none-asked}
 use Rattle.ace_master.proofs.bursts.burst_for.Goals as goal
 
 pub returns-clause-step : goal.returns-clause-step

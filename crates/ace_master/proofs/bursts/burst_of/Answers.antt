@@ -1,4 +1,4 @@
-use Rattle.ace_master.proofs.OneBurst.{only-one}
+use Rattle.ace_master.proofs.AskedBursts.OneBurst.{only-one}
 use Rattle.ace_master.proofs.bursts.burst_of.Goals as goal
 
 pub returns-in-Writes : goal.returns-in-Writes

@@ -6,8 +6,8 @@ use Rattle.ace_runs.specs.Follows.{owes_completion}
 use Rattle.ace_runs.specs.MasterSteps.{completion_bursts}
 use Rattle.ace_runs.specs.Requests.{read_bursts}
 use Rattle.ace_master.specs.Asking.{IsOneOf, only}
-use Rattle.ace_master.proofs.AskingSteps.{completion-steps}
-use Rattle.ace_master.proofs.OneBurst.{only-one}
+use Rattle.ace_master.proofs.AskedBursts.AskingSteps.{completion-steps}
+use Rattle.ace_master.proofs.AskedBursts.OneBurst.{only-one}
 use Rattle.ace_master.proofs.bursts.completion_burst.Goals as goal
 
 pub returns-then-owes-clause-step : goal.returns-then-owes-clause-step

@@ -1,7 +1,7 @@
 use Rattle.std.proofs.Common.{if◌then◌else◌, sym, subst, ◌∙◌}
 use Rattle.ace_runs.specs.Requests.{read_bursts, room_bursts}
 use Rattle.ace_master.specs.Asking.{IsOneOf}
-use Rattle.ace_master.proofs.OneBurst.{only-one}
+use Rattle.ace_master.proofs.AskedBursts.OneBurst.{only-one}
 use Rattle.ace_master.proofs.bursts.miss_burst.Goals as goal
 
 pub returns-then-has_room : goal.returns-then-has_room

@@ -8,7 +8,7 @@ use Rattle.ace_model.specs.Kinds.{is_unique_write}
 use Rattle.ace_runs.specs.Requests.{drop_bursts, free_on, room_bursts}
 use Rattle.ace_master.specs.Asking.{IsOneOf, events_of}
 use Rattle.ace_master.specs.Issues.{aw_of}
-use Rattle.ace_master.proofs.RoomBursts.{clean-victim, dirty-victim, none-for-room, one-for-room}
+use Rattle.ace_master.proofs.AskedBursts.RoomBursts.{clean-victim, dirty-victim, none-for-room, one-for-room}
 use Rattle.ace_master.proofs.bursts.room_burst.Goals as goal
 
 pub returns-in_err-line : goal.returns-in_err-line

@@ -40,7 +40,7 @@ use Rattle.ace_runs.proofs.NeverStuck.Phases.Parts.{is_message_pair}
 use Rattle.ace_runs.proofs.NeverStuck.Phases.SyncsOfNext.{sync-of-next}
 use Rattle.ace_runs.proofs.NeverStuck.Steps.SameBursts.{burst-self}
 use Rattle.ace_engine.specs.Engines.{IsLegal}
-use Rattle.ace_master.proofs.GoodBursts.{all-good}
+use Rattle.ace_master.proofs.AskedBursts.GoodBursts.{all-good}
 
 -- ---- lists -------------------------------------------------------------------------------------------
 

@@ -17,7 +17,7 @@ use Rattle.ace_runs.specs.HeldLines.{held_lines}
 use Rattle.ace_runs.specs.Requests.{drop_bursts, free_on, room_bursts, victim_bursts, with_identifier, write_bursts}
 use Rattle.ace_master_state.proofs.HeldCount.{held-there, is_in, there-held}
 use Rattle.ace_master.specs.Issues.{aw_of}
-use Rattle.ace_master.proofs.OneBurst.{Contains-first}
+use Rattle.ace_master.proofs.AskedBursts.OneBurst.{Contains-first}
 
 -- ---- lists -------------------------------------------------------------------------------------------
 
