@@ -184,7 +184,6 @@ impl Barriers {
         Ok(Barriers { ports: all })
     }
 
-    #[inline(always)]
     fn barrier_of(&self, port: u8) -> Barrier
         ensures { result ≡ slice_index_or self.now.ports.items port Idle }
     {
@@ -208,7 +207,6 @@ impl Barriers {
         }
     }
 
-    #[inline(always)]
     fn set(&mut self, port: u8, barrier: Barrier)
         ensures { self.new.ports.items ≡ slice_set self.old.ports.items port barrier }
     {
@@ -219,7 +217,6 @@ impl Barriers {
     }
 
     /// The port's transaction at the place is complete. Only an open pair is moved by that.
-    #[inline(always)]
     fn answer(&mut self, port: u8, place: usize)
         ensures { self.new.ports.items ≡ slice_set self.old.ports.items port (answered (slice_index_or self.old.ports.items port Idle) place) }
     {

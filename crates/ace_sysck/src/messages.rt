@@ -70,7 +70,6 @@ fn part_issued(kept: PortMessages, x: Transaction) -> PortMessages
 }
 
 /// It is the transaction at the place.
-#[inline(always)]
 pub fn is_at(x: Option<Transaction>, place: usize) -> bool
     ensures { result ≡ is_at x place }
 {
@@ -158,7 +157,6 @@ impl Messages {
     }
 
     /// The port's transaction at the place is complete. It is looked at only where the port has issued a Sync.
-    #[inline(always)]
     fn complete(&mut self, port: u8, place: usize)
         ensures { self.new.ports.items ≡ slice_set self.old.ports.items port (part_completed (slice_index_or self.old.ports.items port silent) place) }
     {

@@ -44,7 +44,6 @@ impl Results {
         }
     }
 
-    #[inline(always)]
     fn set(&mut self, port: u8, id: u8, passed: Option<bool>)
         ensures { self.new.passed.items ≡ slice_set self.old.passed.items (slot_of port id) passed }
     {
