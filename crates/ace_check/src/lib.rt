@@ -3,8 +3,6 @@
 
 mod checker;
 mod shares;
-#[cfg(test)]
-mod tests;
 
 pub use checker::{CheckErr, Checker, Step};
 pub use shares::Shares;

@@ -22,3 +22,7 @@ pub mod TurnsBy
 pub mod WhatIsLeft
 -- The engines after a step of one of them.
 pub mod Moves
+-- What a master does as an engine of that kind.
+pub mod PortMasters
+-- The masters of the ports of a script.
+pub mod ScriptMasters

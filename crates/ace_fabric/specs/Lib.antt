@@ -4,3 +4,7 @@ pub mod Parts
 pub mod Runs
 -- What is left to do in a run.
 pub mod Left
+-- The master of a port, of either kind.
+pub mod PortMaster
+-- The start of the run of a script.
+pub mod System

@@ -15,7 +15,7 @@ use crate::moving::by_any;
 use ace_engine::{Burst, Engine};
 use ace_event::Event;
 use ace_io::NoMemory;
-use ace_model::PlanView;
+use ace_script::Plan;
 use std::alloc::Global;
 use std::marker::Model;
 
@@ -33,7 +33,7 @@ pub enum Turn {
 /// and a master for each port.
 #[derive(Drop)]
 pub struct Fabric<H: Engine, U: Engine, O: Engine, M: Engine> {
-    plan: PlanView,
+    plan: Plan,
     /// It has room for all events that a run of the plan can have.
     events: Vec<Event>,
     home: H,
@@ -76,7 +76,7 @@ impl<H: Engine + Drop, U: Engine + Drop, O: Engine + Drop, M: Engine + Drop> Fab
     /// `NoMemory` where there is none for the events.
     pub fn new(
         alloc: Global,
-        plan: PlanView,
+        plan: Plan,
         home: H,
         update: U,
         order: O,
@@ -85,8 +85,8 @@ impl<H: Engine + Drop, U: Engine + Drop, O: Engine + Drop, M: Engine + Drop> Fab
         requires { AreEngines H.Engine U.Engine O.Engine M.Engine plan.plan [] home update order masters.items }
         ensures { IfOk result (λ s. s ≡ record { plan = plan.plan; room = plan.room; past = [] }) }
     {
-        let left = Left::new(alloc, &plan)?;
-        let operations = usize::from(plan.count()) + usize::from(plan.room());
+        let left = Left::new(alloc, plan.view())?;
+        let operations = usize::from(plan.view().count()) + usize::from(plan.room());
         let Ok(events) = Vec::with_capacity(alloc, operations * MOST) else {
             return Err(NoMemory);
         };
@@ -122,7 +122,7 @@ impl<H: Engine, U: Engine, O: Engine, M: Engine> Fabric<H, U, O, M> {
     }
 
     /// The plan, and its room.
-    pub fn plan(&self) -> &PlanView
+    pub fn plan(&self) -> &Plan
         ensures { result.now ≡ record { plan = self.now.plan; room = self.now.room } }
     {
         &self.plan
@@ -132,7 +132,7 @@ impl<H: Engine, U: Engine, O: Engine, M: Engine> Fabric<H, U, O, M> {
     pub fn done(&self) -> bool
         ensures { result ≡ is_done self.now.plan self.now.past }
     {
-        self.left.is_none(self.plan.header().ports)
+        self.left.is_none(self.plan.view().header().ports)
     }
 
     /// A turn of the port: its master, the engine of memory updates, the home and the engine of barriers and DVM are asked, in this order, and the
@@ -165,7 +165,7 @@ impl<H: Engine, U: Engine, O: Engine, M: Engine> Fabric<H, U, O, M> {
         ensures idle { result ≡ false → (self.new ≡ self.old) × Done self.old.plan self.old.past }
     {
         let mut moved = false;
-        for port in 0..self.plan.header().ports {
+        for port in 0..self.plan.view().header().ports {
             match self.turn(port) {
                 Turn::Moved => moved = true,
                 Turn::Idle => {}
@@ -189,7 +189,7 @@ impl<H: Engine, U: Engine, O: Engine, M: Engine> Fabric<H, U, O, M> {
         ensures { (events : List Event) × (self.new ≡ continued events self.old) × AreTurnsBy self.old.plan turns.now self.old.past self.new.past }
     {
         for number in turns {
-            let ports = self.plan.header().ports;
+            let ports = self.plan.view().header().ports;
             self.turn(*number % ports);
         }
     }

@@ -4,6 +4,12 @@
 mod fabric;
 mod hearing;
 mod left;
+mod masters;
 mod moving;
+mod port_master;
+mod system;
 
 pub use fabric::{Fabric, Turn};
+pub use masters::ScriptMaster;
+pub use port_master::PortMaster;
+pub use system::System;

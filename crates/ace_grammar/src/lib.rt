@@ -22,6 +22,3 @@ pub use lines::take_line;
 pub use reader::{Reader, StartErr};
 pub use reason::Reason;
 pub use shapes::Shape;
-
-#[cfg(test)]
-mod tests;

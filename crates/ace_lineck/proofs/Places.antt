@@ -6,7 +6,8 @@ use Rattle.std.specs.Cmp.{nat_eq_equiv}
 use Rattle.std.specs.Map.{keys_of, values_of}
 use Rattle.indexmap.specs.IndexMap.{get, index_of, values, with_value_at, IsUnique}
 use Rattle.indexmap.proofs.CallerLemmas.{updates-with_value_at}
-use Rattle.indexmap.proofs.MapLemmas.{Found-position, some_index}
+use Rattle.indexmap.proofs.MapLemmas.{Found-position, index-first, some_index}
+use Rattle.indexmap.proofs.RemoveLemmas.{own_first}
 use Rattle.ace_lineck.specs.declared.lines.LineCheck.{LineCheck}
 use Rattle.ace_lineck.specs.declared.record.LineRecord.{LineRecord}
 use Rattle.ace_lineck.specs.Stands.{HasRecord, place_on, record_on}
@@ -33,6 +34,10 @@ pub entry-at : (s : LineCheck) (l i : ℕ) → place_on s (Some l) ≡ Some i �
 entry-at s l i p x is =
     let first = (Found-position (nat_eq l) s.lines.entries i p).or_len in
     subst (λ j. slice_get s.lines.entries j ≡ Some (l, x)) first (first-entry l s.lines.entries x (subst (λ j. slice_get (values s.lines) j ≡ Some x) (sym first) is))
+
+-- the place of the entry of a line
+pub placed-at : (s : LineCheck) (l i : ℕ) (x : LineRecord) → IsUnique nat_eq s.lines → slice_get s.lines.entries i ≡ Some (l, x) → place_on s (Some l) ≡ Some i
+placed-at s l i x unique at = index-first (nat_eq l) s.lines.entries i (own_first nat_eq nat_eq_equiv s.lines.entries i l x unique at)
 
 -- the record at the place of a line
 pub get-at : (s : LineCheck) (l i : ℕ) → place_on s (Some l) ≡ Some i → get nat_eq s.lines l ≡ slice_get (values s.lines) i

@@ -22,7 +22,7 @@ ghost use Rattle.ace_lineck.specs.declared.record.Holder.{Holder};
 ghost use Rattle.ace_lineck.specs.Holders.{holder_at};
 ghost use Rattle.ace_lineck.specs.Records.{IsNext};
 ghost use Rattle.ace_lineck.specs.Grants.{stage_at};
-ghost use Rattle.ace_lineck.specs.Kept.{is_unsnooped, is_sending, may_be_snooped, has_passed, is_passed_whole, is_done_at, are_done, is_its, takes_data, may_have_beat, IsFailure};
+ghost use Rattle.ace_lineck.specs.Kept.{is_unsnooped, is_sending, may_be_snooped, has_passed, is_passed_whole, is_settled, is_done_at, are_done, is_its, takes_data, may_have_beat, IsFailure};
 
 use crate::grant::Grant;
 use crate::granting::{has_snoop_code, snoop_of, takes_grant, takes_passed_data};
@@ -154,18 +154,12 @@ pub fn is_passed_whole(g: &Grant) -> bool
     }
 }
 
-/// The snoops of the port under the grant are done: it owes nothing, and was snooped unless it need not be.
+/// The first or the second, where both are known: no jump depends on the first.
 #[inline(always)]
-fn is_done_at(kept: &LineRecord, g: &Grant, header: &Header, port: u8) -> bool
-    ensures { result ≡ is_done_at header.now g.now kept.now.holders.items port }
+fn either(a: bool, b: bool) -> bool
+    ensures { result ≡ (a || b) }
 {
-    match stage_at(&g.stages, port) {
-        Stage::Done => true,
-        Stage::Unsnooped => {
-            port == g.transaction.port || !is_ace(header, port) || is_invalid(kept.state(port))
-        }
-        _ => false,
-    }
+    a || b
 }
 
 #[inline(always)]
@@ -173,6 +167,30 @@ fn both(a: bool, b: bool) -> bool
     ensures { result ≡ (a && b) }
 {
     a && b
+}
+
+/// A port at this stage owes nothing, where `spared` says whether it need not be snooped.
+#[inline(always)]
+fn is_settled(stage: Stage, spared: bool) -> bool
+    ensures { result ≡ is_settled stage spared }
+{
+    either(
+        matches!(stage, Stage::Done),
+        both(is_unsnooped(stage), spared),
+    )
+}
+
+/// The snoops of the port under the grant are done: it owes nothing, and was snooped unless it need not be.
+#[inline(always)]
+fn is_done_at(kept: &LineRecord, g: &Grant, header: &Header, port: u8) -> bool
+    ensures { result ≡ is_done_at header.now g.now kept.now.holders.items port }
+{
+    let stage = stage_at(&g.stages, port);
+    let spared = either(
+        either(port == g.transaction.port, !is_ace(header, port)),
+        is_invalid(kept.state(port)),
+    );
+    is_settled(stage, spared)
 }
 
 fn is_each_done(kept: &LineRecord, g: &Grant, header: &Header) -> bool

@@ -5,6 +5,7 @@ mod grant;
 mod grant_rules;
 mod granting;
 mod heard;
+mod hints;
 mod holders;
 mod judge;
 mod kinds;
@@ -17,8 +18,6 @@ mod replies;
 mod rules;
 mod stages;
 mod step;
-#[cfg(test)]
-mod tests;
 mod uses;
 
 pub use granting::snoop_of;

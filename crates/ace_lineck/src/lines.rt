@@ -1,5 +1,6 @@
 //! The records of all lines.
 
+use crate::hints::Hints;
 use crate::judge::judge;
 use crate::record::{LineRecord, NoMemory, empty_record, new_records, take_record};
 use crate::step::advance;
@@ -20,6 +21,8 @@ pub struct LineCheck {
     empty: LineRecord,
     /// Records of lines to come.
     spare: Vec<LineRecord>,
+    /// Where the record of a line may stand.
+    hints: Hints,
 }
 
 impl LineCheck {
@@ -47,6 +50,7 @@ impl LineCheck {
             known: 0,
             empty: empty_record(alloc),
             spare: Vec::new(alloc),
+            hints: Hints::new(),
         }
     }
 
@@ -66,16 +70,53 @@ impl LineCheck {
             known: 0,
             empty: empty_record(alloc),
             spare,
+            hints: Hints::new(),
         })
     }
 
     /// Where the record of a line stands, if it has one. It stays there; that a line has none is good until room is made for one.
+    #[inline(always)]
     pub fn place(&self, line: Option<u32>) -> Option<usize>
         ensures { result ≡ place_on self.now line }
     {
         match line {
             None => None,
-            Some(line) => self.lines.get_index_of(&line),
+            Some(line) => self.place_of(line),
+        }
+    }
+
+    /// The same, of a line.
+    #[inline(always)]
+    fn place_of(&self, line: u32) -> Option<usize>
+        ensures { result ≡ place_on self.now (Some line) }
+    {
+        let guess = self.hints.guess(line);
+        if self.stands_at(guess, line) {
+            Some(guess)
+        } else {
+            self.search(line)
+        }
+    }
+
+    /// The same, of a line that doesn't stand where it is looked for first.
+    #[inline(never)]
+    fn search(&self, line: u32) -> Option<usize>
+        ensures { result ≡ place_on self.now (Some line) }
+    {
+        self.lines.get_index_of(&line)
+    }
+
+    /// The record of the line stands at the place.
+    #[inline(always)]
+    fn stands_at(&self, place: usize, line: u32) -> bool
+        ensures { result ≡ true → place_on self.now (Some line) ≡ Some place }
+    {
+        if place >= self.lines.len() {
+            return false;
+        }
+        match self.lines.get_index(place) {
+            Some((key, _kept)) => *key == line,
+            None => false,
         }
     }
 
@@ -132,7 +173,11 @@ impl LineCheck {
             return Err(NoMemory);
         };
         match self.lines.insert(line, kept) {
-            Ok(_) => Ok(self.place(Some(line))),
+            Ok(_) => {
+                let made = self.place(Some(line));
+                self.hints.put(line, made);
+                Ok(made)
+            }
             Err(_) => Err(NoMemory),
         }
     }

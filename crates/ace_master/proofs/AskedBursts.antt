@@ -8,3 +8,5 @@ pub mod RoomBursts
 pub mod GoodBursts
 -- What a port asks for by its next operation is a step.
 pub mod AskingSteps
+-- The events by which a port asks.
+pub mod AskedEvents

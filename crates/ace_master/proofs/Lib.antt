@@ -34,6 +34,8 @@ pub mod LiteBarriers
 pub mod LiteOwn
 -- Where the next operation waits for its line.
 pub mod LiteWaits
+-- What the port has issued for its next operation, where it has one more operation.
+pub mod LitePushed
 -- The worked traces are ones for which its master may stand.
 pub mod LiteWorked
 -- The answers of a port to its snoops.

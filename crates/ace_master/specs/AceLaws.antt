@@ -17,6 +17,8 @@ use Rattle.ace_engine.specs.Engines.{IsLegal, Master, is_their_operation}
 use Rattle.ace_engine.proofs.LongerPlans.{legal-longer}
 use Rattle.ace_portck.specs.declared.target.WriteData.{WriteData}
 use Rattle.ace_master_laws.specs.Orderly.{IsOrderly, IsUnderWay}
+use Rattle.ace_master_state.specs.declared.kept.Kept.{Kept}
+use Rattle.ace_master_state.specs.Kept.{KeptStands}
 use Rattle.ace_master.specs.declared.ace_port.AcePort.{AcePort}
 use Rattle.ace_master.specs.Ace.{AceStands}
 use Rattle.ace_master.specs.LiteLaws.{same-operations}
@@ -26,7 +28,7 @@ pub legal : (at : AcePort) (rows : SnoopKind → LineState → Bool → List Row
 legal at rows plan past stands = stands.port.kept.legal
 
 module _ (plan : Plan) (o : PlanOp) (past : Trace) (p : ℕ) where
-  unsent-longer : (unsent : Option WriteData) → UnsentStands plan past p unsent → UnsentStands (longer plan o) past p unsent
+  pub unsent-longer : (unsent : Option WriteData) → UnsentStands plan past p unsent → UnsentStands (longer plan o) past p unsent
   unsent-longer unsent u = record {
     whole = u.whole;
     last = u.last;
@@ -43,7 +45,7 @@ module _ (plan : Plan) (o : PlanOp) (past : Trace) (p : ℕ) where
         );
   }
 
-  under-way-longer : (op : Op) → IsUnderWay plan past p op → IsUnderWay (longer plan o) past p op
+  pub under-way-longer : (op : Op) → IsUnderWay plan past p op → IsUnderWay (longer plan o) past p op
   under-way-longer op u = record {
     asked = u.asked;
     settled = u.settled;
@@ -52,6 +54,7 @@ module _ (plan : Plan) (o : PlanOp) (past : Trace) (p : ℕ) where
     one_owner = u.one_owner;
     room = u.room;
     apart = u.apart;
+    absent = u.absent;
   }
 
   module _ (other : (o.port == p) ≡ false) where
@@ -65,24 +68,27 @@ module _ (plan : Plan) (o : PlanOp) (past : Trace) (p : ℕ) where
       under_way = λ op next. under-way-longer op (c.under_way op (sym same-next ∙ next));
     }
 
+-- what is kept of the port stands for the longer plan
+pub kept-longer : (plan : Plan) (o : PlanOp) (past : Trace) (p : ℕ) (s : Kept) → KeptStands plan past p s → IsRight (longer plan o) → KeptStands (longer plan o) past p s
+kept-longer plan o past p s k right = record {
+  legal = legal-longer plan past o k.legal right;
+  ace = k.ace;
+  port = k.port;
+  room = k.room;
+  lines = k.lines;
+  monitor = k.monitor;
+  segment = k.segment;
+  completions = k.completions;
+  syncs = k.syncs;
+}
+
 pub grows : (at : AcePort) (rows : SnoopKind → LineState → Bool → List Row) (plan : Plan) (past : Trace) (o : PlanOp) → AceStands at rows plan past → IsRight (longer plan o)
     → is_their_operation Master (λ p. p == at.port) o ≡ false → AceStands at rows (longer plan o) past
 grows at rows plan past o stands right other =
-    let k = stands.port.kept in
     let t = stands.port.tells in
     record {
       port = record {
-        kept = record {
-          legal = legal-longer plan past o k.legal right;
-          ace = k.ace;
-          port = k.port;
-          room = k.room;
-          lines = k.lines;
-          monitor = k.monitor;
-          segment = k.segment;
-          completions = k.completions;
-          syncs = k.syncs;
-        };
+        kept = kept-longer plan o past at.port at.kept stands.port.kept right;
         tells = record {
           operations_are = t.operations_are ∙ sym (same-operations plan o at.port other);
           orderly = orderly-longer plan o past at.port other t.orderly;

@@ -17,6 +17,8 @@ pub mod LiteWorked
 pub mod Sending
 -- The answer of a port to a snoop.
 pub mod Answering
+-- How a port acknowledges what is due.
+pub mod Acknowledging
 -- Events that what is kept of an ACE port may hear.
 pub mod AceEvents
 -- What the master of an ACE port keeps.

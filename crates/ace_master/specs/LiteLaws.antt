@@ -22,7 +22,7 @@ pub same-operations : (plan : Plan) (o : PlanOp) (p : ℕ) → (o.port == p) ≡
 same-operations plan o p other =
     operations-longer plan (o ∷ []) p ∙ ap (λ (b : Bool). operations_of plan p ++ map (λ (v : PlanOp). v.op) (if b then o ∷ [] else [])) other ∙ append-nil (operations_of plan p)
 
-sent-longer : (plan : Plan) (o : PlanOp) (past : Trace) (p : ℕ) (unsent : Option WriteData) → AreSent plan past p unsent → AreSent (longer plan o) past p unsent
+pub sent-longer : (plan : Plan) (o : PlanOp) (past : Trace) (p : ℕ) (unsent : Option WriteData) → AreSent plan past p unsent → AreSent (longer plan o) past p unsent
 sent-longer plan o past p None sent = sent
 sent-longer plan o past p (Some d) u = record {
   earlier = u.earlier;

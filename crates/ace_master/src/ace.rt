@@ -1,16 +1,19 @@
 //! The master of an ACE port.
 
-ghost use Rattle.std.specs.Prelude.{◌≡◌, true, [], IfOk};
+ghost use Rattle.std.specs.Prelude.{◌≡◌, ◌≤◌, ◌<◌, ◌-◌, true, [], IfOk};
 ghost use Rattle.ace_model.specs.OrderRules.{retired};
-ghost use Rattle.ace_model.specs.Plans.{IsRight, Plan};
+ghost use Rattle.ace_model.specs.Plans.{IsRight, Plan, longer};
 ghost use Rattle.ace_model.specs.Trace.{Trace};
 ghost use Rattle.ace_model.specs.Transactions.{is_ace};
 ghost use Rattle.ace_master.specs.Ace.{AceStands};
+ghost use Rattle.ace_master.specs.AcePort.{room_of};
 ghost use Rattle.ace_master.specs.Answering.{IsByWord};
 
 use crate::ace_port::AcePort;
+use ace_engine::{Burst, Engine};
+use ace_event::Event;
 use ace_io::NoMemory;
-use ace_model::PlanView;
+use ace_model::{Op, PlanView};
 use ace_policy::Policy;
 use std::alloc::Global;
 
@@ -23,7 +26,7 @@ pub struct AceMaster<P: Policy> {
 
 impl<P: Policy + Drop> AceMaster<P> {
     /// The master of the port for a plan and the empty trace. Where the word of the plan is `keep` or `eager`, the policy may pick the row of that
-    /// word alone. It takes all the memory that it will need.
+    /// word alone. It takes all the memory that it will need, also for the operations that the plan has room for.
     ///
     /// # Errors
     ///
@@ -39,6 +42,7 @@ impl<P: Policy + Drop> AceMaster<P> {
         requires picks { IsByWord plan.now.plan.policy (P.rows policy) }
         ensures stands { IfOk result (λ s. AceStands s.at (P.rows s.policy) plan.now.plan []) }
         ensures port { IfOk result (λ s. s.at.port ≡ port) }
+        ensures room { IfOk result (λ s. plan.now.room ≤ room_of s.at) }
     {
         let at = AcePort::new(alloc, plan, port)?;
         Ok(AceMaster { at, policy })
@@ -51,5 +55,51 @@ impl<P: Policy> AceMaster<P> {
         ensures { (plan : Plan) (past : Trace) → AceStands self.now.at (P.rows self.now.policy) plan past → result ≡ retired past self.now.at.port }
     {
         self.at.retired()
+    }
+
+    /// Puts the operation at the end of those of the port, and takes one from their room. It takes no memory.
+    pub fn push(&mut self, op: Op)
+        requires { 0 < room_of self.old.at }
+        ensures stands { (plan : Plan) (past : Trace) → AceStands self.old.at (P.rows self.old.policy) plan past
+            → IsRight (longer plan (record { port = self.old.at.port; op = op }))
+            → AceStands self.new.at (P.rows self.new.policy) (longer plan (record { port = self.old.at.port; op = op })) past }
+        ensures port { self.new.at.port ≡ self.old.at.port }
+        ensures room { room_of self.new.at ≡ room_of self.old.at - 1 }
+    {
+        self.at.push(op);
+    }
+}
+
+impl<P: Policy> Engine for AceMaster<P> {
+    ghost use Rattle.std.specs.Prelude.{◌==◌};
+    ghost use Rattle.ace_engine.specs.Engines.{Master};
+    ghost use Rattle.ace_master.specs.Ace.{AceStands};
+    ghost use Rattle.ace_master.specs.AceLaws.{grows, legal};
+
+    ghost kind = { Master };
+
+    ghost serves = { λ s p. p == s.at.port };
+
+    ghost stands = { λ s. AceStands s.at (P.rows s.policy) };
+
+    ghost legal = { λ s. legal s.at (P.rows s.policy) };
+
+    ghost grows = { λ s. grows s.at (P.rows s.policy) };
+
+    fn turn(&mut self, _port: u8, out: &mut Burst) -> bool {
+        if self.at.answer(&mut self.policy, out) {
+            return true;
+        }
+        if self.at.send(out) {
+            return true;
+        }
+        if self.at.acknowledge(out) {
+            return true;
+        }
+        self.at.go_on(out)
+    }
+
+    fn hear(&mut self, event: &Event) {
+        self.at.hear(event);
     }
 }

@@ -1,13 +1,13 @@
 //! What the master of an ACE port keeps, but for its policy.
 
-ghost use Rattle.std.specs.Prelude.{◌≡◌, ◌∷◌, ℕ, [], true, false, IfOk};
+ghost use Rattle.std.specs.Prelude.{◌≡◌, ◌≤◌, ◌<◌, ◌-◌, ◌∷◌, ℕ, [], true, false, IfOk};
 ghost use Rattle.ace_model.specs.OrderRules.{retired};
-ghost use Rattle.ace_model.specs.Plans.{IsRight, Plan};
+ghost use Rattle.ace_model.specs.Plans.{IsRight, Plan, longer};
 ghost use Rattle.ace_model.specs.Trace.{Trace};
 ghost use Rattle.ace_model.specs.Transactions.{is_ace};
 ghost use Rattle.ace_runs.specs.Operations.{next_operation};
 ghost use Rattle.ace_engine.specs.Engines.{IsLegal, Master, is_given_by};
-ghost use Rattle.ace_master.specs.AcePort.{AcePortStands};
+ghost use Rattle.ace_master.specs.AcePort.{AcePortStands, room_of};
 
 use crate::operations::operations_of;
 use ace_event::Event;
@@ -29,7 +29,8 @@ pub struct AcePort {
 }
 
 impl AcePort {
-    /// What is kept of the port of a plan and the empty trace. It takes all the memory that it will need.
+    /// What is kept of the port of a plan and the empty trace. It takes all the memory that it will need, also for the operations that the plan has
+    /// room for.
     ///
     /// # Errors
     ///
@@ -39,6 +40,7 @@ impl AcePort {
         requires ace { is_ace plan.now.plan.header port ≡ true }
         ensures stands { IfOk result (λ s. AcePortStands s plan.now.plan []) }
         ensures port { IfOk result (λ s. s.port ≡ port) }
+        ensures room { IfOk result (λ s. plan.now.room ≤ room_of s) }
     {
         let operations = operations_of(alloc, plan, port)?;
         let kept = Kept::new(alloc, plan, port)?;
@@ -67,6 +69,17 @@ impl AcePort {
         } else {
             None
         }
+    }
+
+    /// Puts the operation at the end of those of the port, and takes one from their room. It takes no memory.
+    pub fn push(&mut self, op: Op)
+        requires { 0 < room_of self.old }
+        ensures stands { (plan : Plan) (past : Trace) → AcePortStands self.old plan past → IsRight (longer plan (record { port = self.old.port; op = op }))
+            → AcePortStands self.new (longer plan (record { port = self.old.port; op = op })) past }
+        ensures port { self.new.port ≡ self.old.port }
+        ensures room { room_of self.new ≡ room_of self.old - 1 }
+    {
+        self.operations.push_reserved(op);
     }
 
     /// Hears the next event of the trace, which is none of the port's master.

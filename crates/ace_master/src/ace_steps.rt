@@ -5,12 +5,12 @@ ghost use Rattle.ace_codes.specs.declared.kind.SnoopKind.{SnoopKind};
 ghost use Rattle.ace_codes.specs.declared.state.LineState.{LineState};
 ghost use Rattle.ace_model.specs.Plans.{Plan};
 ghost use Rattle.ace_model.specs.Trace.{Trace};
-ghost use Rattle.ace_runs.specs.Closing.{and_closing, closing_of};
+ghost use Rattle.ace_runs.specs.Closing.{and_closing, closing_of, state_named};
 ghost use Rattle.ace_runs.specs.MasterSteps.{completion_bursts, may_answer_snoop, may_send};
-ghost use Rattle.ace_runs.specs.Requests.{moves_of};
+ghost use Rattle.ace_runs.specs.Requests.{bursts_of, moves_of, request_of};
 ghost use Rattle.ace_runs.specs.Steps.{is_step_by};
 ghost use Rattle.ace_master.specs.declared.asking.Asking.{Asking};
-ghost use Rattle.ace_master.specs.Asking.{events_of};
+ghost use Rattle.ace_master.specs.Asking.{IsOneOf, events_of};
 ghost use Rattle.ace_master.specs.Lite.{own_steps};
 ghost use Rattle.ace_master.specs.AcePort.{AcePortStands, IsAceTurn, IsGoingOn};
 ghost use Rattle.ace_master.specs.Answering.{IsByWord};
@@ -100,6 +100,8 @@ impl AcePort {
             → is_step_by own_steps plan past self.now.port (and_closing plan.header past self.now.port op (events_of asking)) ≡ true }
         ensures none { (plan : Plan) (past : Trace) → IsGoingOn self.now plan past op → closing_of plan.header past self.now.port op ≡ [] → result ≡ None
             → moves_of plan.ways plan.header past self.now.port op ≡ [] }
+        ensures asks { (plan : Plan) (past : Trace) → AcePortStands self.now plan past
+            → IsOneOf result (bursts_of plan.ways plan.header past self.now.port (request_of op (state_named plan.header past self.now.port op))) }
     {
         burst_for(&self.kept.port, &self.kept.lines, op)
     }

@@ -1,13 +1,13 @@
 //! What the master of an ACE port does by its steps, for a plan of one port.
 
-ghost use Rattle.std.specs.Prelude.{◌≡◌, [], IfOk};
-ghost use Rattle.ace_master.specs.AcePort.{AcePortStands};
+ghost use Rattle.std.specs.Prelude.{◌≡◌, ◌≤◌, [], IfOk};
+ghost use Rattle.ace_master.specs.AcePort.{AcePortStands, room_of};
 ghost use Rattle.ace_master.specs.AceWorked.{cleaning_plan};
 
 use crate::asking::Asking;
 use crate::{AceMaster, AcePort};
 use ace_codes::LineState::{I, SC};
-use ace_engine::Burst;
+use ace_engine::{Burst, Engine};
 use ace_event::{Channel, Event, Header, Line, Outcome};
 use ace_model::{Op, PlanOp, PlanView, PolicyWord};
 use ace_policy::Keep;
@@ -22,11 +22,12 @@ const HEADER: Header = Header {
 
 const CLEANS: Op = Op::Cs { addr: 64 };
 
-/// The plan of the only port, which cleans a line.
+/// The plan of the only port, which cleans a line. It has room for another operation.
 fn plan(alloc: Global) -> Result<PlanView, Fail>
-    ensures { IfOk result (λ view. view.plan ≡ cleaning_plan) }
+    ensures plan { IfOk result (λ view. view.plan ≡ cleaning_plan) }
+    ensures room { IfOk result (λ view. view.room ≡ 1) }
 {
-    let mut plan = PlanView::with_room(alloc, HEADER, 1, PolicyWord::Keep, 1)?;
+    let mut plan = PlanView::with_room(alloc, HEADER, 1, PolicyWord::Keep, 2)?;
     plan.push(PlanOp {
         port: 0,
         op: CLEANS,
@@ -36,21 +37,52 @@ fn plan(alloc: Global) -> Result<PlanView, Fail>
 
 /// What is kept of the port at first.
 fn port(alloc: Global) -> Result<AcePort, Fail>
-    ensures { IfOk result (λ s. AcePortStands s cleaning_plan []) }
+    ensures stands { IfOk result (λ s. AcePortStands s cleaning_plan []) }
+    ensures room { IfOk result (λ s. 1 ≤ room_of s) }
 {
     let plan = plan(alloc)?;
     Ok(AcePort::new(alloc, &plan, 0)?)
 }
 
-/// The master of a port whose next operation is its first.
+/// The AR by which the port asks that the line is cleaned.
+const CLEAN: Event = Event::Ar {
+    port: 0,
+    id: 0,
+    addr: 64,
+    snoop: 8,
+    dom: 1,
+    bar: 0,
+    lock: false,
+};
+
+/// The master of a port whose next operation is its first asks for what that needs.
 #[test]
 fn begins_with_the_first(rt: HostRuntime) -> Result<(), Fail> {
     let plan = plan(rt.alloc())?;
-    let master = AceMaster::new(rt.alloc(), &plan, 0, Keep)?;
+    let mut master = AceMaster::new(rt.alloc(), &plan, 0, Keep)?;
     assert_eq!(rt; master.retired(), 0);
     let port = port(rt.alloc())?;
     assert_eq!(rt; port.retired(), 0);
     assert_eq!(rt; port.next(), Some(CLEANS));
+    let mut burst = Burst::empty();
+    assert!(rt; master.turn(0, &mut burst));
+    assert_eq!(rt; burst.len(), 1);
+    assert_eq!(rt; burst.get(0), CLEAN);
+    Ok(())
+}
+
+/// An operation that is pushed comes after those of the plan.
+#[test]
+fn takes_another(rt: HostRuntime) -> Result<(), Fail> {
+    let mut port = port(rt.alloc())?;
+    port.push(Op::Mb);
+    assert_eq!(rt; port.next(), Some(CLEANS));
+    port.kept.hear(&Event::Op {
+        port: 0,
+        k: 0,
+        res: Outcome::Ok,
+    });
+    assert_eq!(rt; port.next(), Some(Op::Mb));
     Ok(())
 }
 
@@ -110,18 +142,9 @@ fn completes_a_sync(rt: HostRuntime) -> Result<(), Fail> {
 #[test]
 fn asks_or_ends(rt: HostRuntime) -> Result<(), Fail> {
     let mut port = port(rt.alloc())?;
-    let cleans = Event::Ar {
-        port: 0,
-        id: 0,
-        addr: 64,
-        snoop: 8,
-        dom: 1,
-        bar: 0,
-        lock: false,
-    };
     let mut burst = Burst::empty();
     assert!(rt; !port.end(CLEANS, &mut burst));
-    assert_eq!(rt; port.asking_for(CLEANS), Some(Asking::One(cleans)));
+    assert_eq!(rt; port.asking_for(CLEANS), Some(Asking::One(CLEAN)));
     assert!(rt; port.end(Op::Wb { addr: 64 }, &mut burst));
     assert_eq!(rt; burst.len(), 1);
     let skips = Event::Op {

@@ -9,7 +9,7 @@ ghost use Rattle.ace_model.specs.Transactions.{is_ace};
 ghost use Rattle.ace_portck.specs.OnePort.{OnePortStands, port_of};
 ghost use Rattle.ace_runs.specs.Closing.{and_closing, state_named};
 ghost use Rattle.ace_runs.specs.MasterSteps.{completion_bursts};
-ghost use Rattle.ace_runs.specs.Requests.{Misses, barrier_bursts, bursts_of, drop_bursts, has_room, message_bursts, moves_of, read_bursts, room_bursts, write_bursts};
+ghost use Rattle.ace_runs.specs.Requests.{Misses, barrier_bursts, bursts_of, drop_bursts, has_room, message_bursts, moves_of, read_bursts, request_of, room_bursts, write_bursts};
 ghost use Rattle.ace_runs.specs.Steps.{is_step_by};
 ghost use Rattle.ace_master_state.specs.AceRequests.{asks};
 ghost use Rattle.ace_master_state.specs.Cached.{CachedStands};
@@ -144,6 +144,8 @@ pub fn burst_of(port: &OnePort, lines: &Cached, request: Request) -> Option<Aski
 
 /// What the port asks for by its next operation, which doesn't wait and can't end.
 pub fn burst_for(port: &OnePort, lines: &Cached, op: Op) -> Option<Asking>
+    ensures asks { (h : Header) (ways : ℕ) (past : Trace) (p : ℕ) → OnePortStands port.now h past p → CachedStands h ways past p lines.now
+        → IsOneOf result (bursts_of ways h past p (request_of op (state_named h past p op))) }
     ensures step { (plan : Plan) (past : Trace) (p : ℕ) (asking : Asking) → OnePortStands port.now plan.header past p → CachedStands plan.header plan.ways past p lines.now
         → MayAsk plan past p op → result ≡ Some asking → is_step_by (14 ∷ []) plan past p (and_closing plan.header past p op (events_of asking)) ≡ true }
     ensures none { (plan : Plan) (past : Trace) (p : ℕ) → OnePortStands port.now plan.header past p → CachedStands plan.header plan.ways past p lines.now

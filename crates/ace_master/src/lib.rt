@@ -6,11 +6,17 @@ mod ace_port;
 mod ace_steps;
 #[cfg(test)]
 mod ace_tests;
+mod acknowledging;
+#[cfg(test)]
+mod acknowledging_tests;
 mod answering;
 mod asking;
 mod bursts;
 #[cfg(test)]
 mod bursts_tests;
+mod going_on;
+#[cfg(test)]
+mod going_on_tests;
 mod identifiers;
 mod issues;
 mod kept_burst;

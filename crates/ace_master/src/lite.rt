@@ -1,10 +1,10 @@
 //! The master of an ACE-Lite port.
 
-ghost use Rattle.std.specs.Prelude.{◌≡◌, ◌<◌, ◌∷◌, ◌==◌, ◌&&◌, ◌||◌, not, true, false, [], Some, None, is_some, IfOk, IsTrue};
+ghost use Rattle.std.specs.Prelude.{◌≡◌, ◌<◌, ◌≤◌, ◌-◌, ◌∷◌, ◌==◌, ◌&&◌, ◌||◌, not, true, false, [], Some, None, is_some, IfOk, IsTrue};
 ghost use Rattle.ace_event.specs.declared.event.Outcome.TheVariants.{Ok};
 ghost use Rattle.ace_model.specs.declared.plans.Op.{Op};
 ghost use Rattle.ace_model.specs.OrderRules.{retired};
-ghost use Rattle.ace_model.specs.Plans.{IsRight, Plan};
+ghost use Rattle.ace_model.specs.Plans.{IsRight, Plan, longer};
 ghost use Rattle.ace_model.specs.Trace.{Trace, is_none_or, is_some_and};
 ghost use Rattle.ace_model.specs.Transactions.{is_ace, is_outstanding};
 ghost use Rattle.ace_runs.specs.Closing.{retirement};
@@ -12,7 +12,7 @@ ghost use Rattle.ace_runs.specs.Operations.{next_operation};
 ghost use Rattle.ace_runs.specs.Retiring.{may_retire};
 ghost use Rattle.ace_runs.specs.Steps.{is_enabled_by};
 ghost use Rattle.ace_master.specs.declared.lite_requests.LiteRequest.TheVariants.{Read, Write, Barrier};
-ghost use Rattle.ace_master.specs.Lite.{IsAsking, IsTurn, LiteStands, is_line_busy, own_steps, port_of};
+ghost use Rattle.ace_master.specs.Lite.{IsAsking, IsTurn, LiteStands, is_line_busy, own_steps, port_of, room_of};
 ghost use Rattle.ace_master.specs.LiteRequests.{lite_request};
 
 use crate::identifiers::{free_on, free_on_both};
@@ -42,7 +42,8 @@ pub struct LiteMaster {
 }
 
 impl LiteMaster {
-    /// The master of the port for a plan and the empty trace. It takes all the memory that it will need.
+    /// The master of the port for a plan and the empty trace. It takes all the memory that it will need, also for the operations that the plan has
+    /// room for.
     ///
     /// # Errors
     ///
@@ -53,6 +54,7 @@ impl LiteMaster {
         requires lite { is_ace plan.now.plan.header port ≡ false }
         ensures stands { IfOk result (λ s. LiteStands s plan.now.plan []) }
         ensures port { IfOk result (λ s. port_of s ≡ port) }
+        ensures room { IfOk result (λ s. plan.now.room ≤ room_of s) }
     {
         let operations = operations_of(alloc, plan, port)?;
         let Ok(port) = OnePort::new(alloc, plan.header(), port, 0) else {
@@ -65,6 +67,17 @@ impl LiteMaster {
             write: None,
             unsent: None,
         })
+    }
+
+    /// Puts the operation at the end of those of the port, and takes one from their room. It takes no memory.
+    pub fn push(&mut self, op: Op)
+        requires { 0 < room_of self.old }
+        ensures stands { (plan : Plan) (past : Trace) → LiteStands self.old plan past → IsRight (longer plan (record { port = port_of self.old; op = op }))
+            → LiteStands self.new (longer plan (record { port = port_of self.old; op = op })) past }
+        ensures port { port_of self.new ≡ port_of self.old }
+        ensures room { room_of self.new ≡ room_of self.old - 1 }
+    {
+        self.operations.push_reserved(op);
     }
 
     /// How many operations of the port retired.

@@ -1,6 +1,6 @@
 //! The operations of one port, and the data that their writes carry.
 
-ghost use Rattle.std.specs.Prelude.{◌≡◌, ◌<◌, IfOk};
+ghost use Rattle.std.specs.Prelude.{◌≡◌, ◌<◌, ◌≤◌, ◌-◌, IfOk, vec_capacity, vec_len};
 ghost use Rattle.ace_runs.specs.Operations.{operations_of};
 ghost use Rattle.ace_master.specs.Operations.{beat_of, beats_of_data, write_data};
 
@@ -10,13 +10,14 @@ use ace_model::{Op, PlanView};
 use ace_portck::WriteData;
 use std::alloc::Global;
 
-/// The port's operations, in order.
+/// The port's operations, in order, with memory for so many more as the plan has room for.
 ///
 /// # Errors
 ///
 /// `NoMemory` where there is none for them.
 pub fn operations_of(alloc: Global, plan: &PlanView, port: u8) -> Result<Vec<Op>, NoMemory>
-    ensures { IfOk result (λ operations. operations.items ≡ operations_of plan.now.plan port) }
+    ensures items { IfOk result (λ operations. operations.items ≡ operations_of plan.now.plan port) }
+    ensures room { IfOk result (λ operations. plan.now.room ≤ vec_capacity operations - vec_len operations) }
 {
     let mut operations = Vec::new(alloc);
     for planned in plan.operations() {
@@ -24,6 +25,9 @@ pub fn operations_of(alloc: Global, plan: &PlanView, port: u8) -> Result<Vec<Op>
             operations.push(planned.op).map_err(|_| NoMemory)?;
         }
     }
+    operations
+        .try_reserve_exact(usize::from(plan.room()))
+        .map_err(|_| NoMemory)?;
     Ok(operations)
 }
 

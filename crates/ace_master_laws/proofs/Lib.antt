@@ -10,3 +10,5 @@ pub mod Acknowledges
 pub mod GoesOn
 -- So a step of a master keeps a run legal.
 pub mod MasterLaw
+-- The acknowledge that is due is a step.
+pub mod AcknowledgeSteps

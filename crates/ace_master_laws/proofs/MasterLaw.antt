@@ -167,6 +167,7 @@ orderly-first plan p =
         one_owner = omega arith;
         room = λ k x there out takes. absurd (nothing-at k x there);
         apart = λ j k x y at_x at_y b u out. absurd (nothing-at j x at_x);
+        absent = λ k x there out updates l used. absurd (nothing-at k x there);
       };
     }
   where

@@ -99,6 +99,14 @@ abbrev pub has_lost : Header → Trace → ℕ → Op → Bool
 has_lost h past p (St a w word) = is_invalid (state_of h past p a)
 has_lost h past p _ = false
 
+-- the line that the operation loads from or stores to, which it brings in where its port doesn't hold it
+abbrev pub line_used : Op → Option ℕ
+line_used (Ld a w) = Some a
+line_used (Ldx a w) = Some a
+line_used (St a w word) = Some a
+line_used (Fill a line) = Some a
+line_used _ = None
+
 -- what has come of a transaction of the operation that is no longer outstanding, while the operation goes on
 abbrev pub is_settled : ℕ → Header → Trace → ℕ → Op → Transaction → Bool
 is_settled ways h past p op x =
@@ -124,6 +132,9 @@ pub record IsUnderWay (plan : Plan) (past : Trace) (p : ℕ) (op : Op) : Type 0 
   -- and it is brought in once the update is done
   pub apart : (j k : ℕ) (x y : Transaction) → slice_get (segment past p) j ≡ Some x → slice_get (segment past p) k ≡ Some y → brings_line x ≡ true → updates_memory y ≡ true
       → is_outstanding plan.header past x ≡ true → is_outstanding plan.header past y ≡ false
+  -- while an update makes way for the line that it loads from or stores to, its port doesn't hold that line
+  pub absent : (k : ℕ) (x : Transaction) → slice_get (segment past p) k ≡ Some x → is_outstanding plan.header past x ≡ true → updates_memory x ≡ true
+      → (l : ℕ) → line_used op ≡ Some l → is_invalid (state_of plan.header past p l) ≡ true
 
 -- What a port keeps between its steps.
 pub record IsOrderly (plan : Plan) (past : Trace) (p : ℕ) : Type 0 where

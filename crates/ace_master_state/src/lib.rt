@@ -15,8 +15,6 @@ mod retiring;
 mod segment;
 mod sought;
 mod syncs;
-#[cfg(test)]
-mod tests;
 
 pub use ace_requests::{Request, request_of};
 pub use cached::Cached;

@@ -28,5 +28,3 @@ pub mod WholeAfter
 pub mod FewParts
 -- The burst that forwards a message is a step.
 pub mod ForwardSteps
--- Three worked traces.
-pub mod Worked

@@ -1,5 +1,4 @@
--- What the engine keeps of a trace, how messages are forwarded, what the trait of engines asks of it, and worked traces.
+-- What the engine keeps of a trace, how messages are forwarded, and what the trait of engines asks of it.
 pub mod EngineLaws
 pub mod Messages
 pub mod Order
-pub mod Worked

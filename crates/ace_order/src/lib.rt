@@ -3,7 +3,5 @@
 
 mod events;
 mod order;
-#[cfg(test)]
-mod tests;
 
 pub use order::Order;

@@ -5,8 +5,6 @@ pub mod event_kinds;
 pub mod kinds;
 mod no_memory;
 mod one_port;
-#[cfg(test)]
-mod one_port_tests;
 mod opening;
 mod pending;
 mod port;
@@ -17,8 +15,6 @@ mod rules;
 mod snoops;
 mod target;
 mod targets;
-#[cfg(test)]
-mod tests;
 mod transactions;
 mod write_data;
 

@@ -9,8 +9,6 @@ mod put;
 mod report;
 mod stores;
 mod tally;
-#[cfg(test)]
-mod tests;
 mod text;
 
 pub use no_memory::NoMemory;

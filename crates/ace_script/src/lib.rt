@@ -17,6 +17,3 @@ pub use ace_model::{Op, PlanOp, PlanView, PolicyWord};
 pub use error::PlanErr;
 pub use plan::Plan;
 pub use reason::Reason;
-
-#[cfg(test)]
-mod tests;

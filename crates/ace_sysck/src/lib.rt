@@ -12,8 +12,6 @@ mod results;
 mod rules;
 mod syncs;
 mod system;
-#[cfg(test)]
-mod tests;
 mod words;
 
 pub use barriers::OpenPair;

@@ -3,7 +3,7 @@ use Rattle.std.proofs.Common.{◌≡◌, ◌≢◌, ℕ, List, Option, None, Som
 use Rattle.std.specs.Io.KnownBytes.{Appends}
 use Rattle.ace_grammar.specs.Errors.{LeavesNothing}
 use Rattle.ace_top.specs.declared.answer.Answer.{Answer}
-use Rattle.ace_top.specs.declared.answer.Answer.TheVariants.{Accepted, Refused, Shown, Reported, Generated, Usage, Malformed, ReadFault, LimitEvents, LimitLines, NoMemory}
+use Rattle.ace_top.specs.declared.answer.Answer.TheVariants.{Accepted, Refused, Shown, Reported, Generated, Ran, Tried, Usage, Malformed, ReadFault, LimitEvents, LimitLines, NoMemory}
 use Rattle.ace_top.specs.declared.words.Command.TheVariants.{Check}
 use Rattle.ace_top.specs.Answer.{Answers, BreaksOff}
 use Rattle.ace_top.specs.Output.{AppendsPart, AppendsParts}
@@ -20,38 +20,27 @@ refusal_status ReadFault r = (λ s. absurd (omega (arith, s)), λ s. absurd (ome
 refusal_status LimitEvents r = (λ s. absurd (omega (arith, s)), λ s. absurd (omega (arith, s)))
 refusal_status LimitLines r = (λ s. absurd (omega (arith, s)), λ s. absurd (omega (arith, s)))
 refusal_status NoMemory r = (λ s. absurd (omega (arith, s)), λ s. absurd (omega (arith, s)))
-refusal_status (Accepted events) r = absurd r
-refusal_status Shown r = absurd r
-refusal_status Reported r = absurd r
-refusal_status Generated r = absurd r
-refusal_status Usage r = absurd r
+refusal_status answer r = absurd r
 
 -- of the answers that `check` gives it is the status of an accepted trace alone, which was read to the end
 pub zero_end : (answer : Answer) (old left : Option (List ℕ)) → status_of answer ≡ 0 → EndsInput answer old left → LeavesNothing old left
 zero_end (Accepted events) old left s e = e
 zero_end Shown old left s e = e
 zero_end Reported old left s e = e
-zero_end (Refused index rule) old left s e = absurd (omega (arith, s))
 zero_end Generated old left s e = absurd e
-zero_end Usage old left s e = absurd (omega (arith, s))
-zero_end (Malformed line reason) old left s e = absurd (omega (arith, s))
-zero_end ReadFault old left s e = absurd (omega (arith, s))
-zero_end LimitEvents old left s e = absurd (omega (arith, s))
-zero_end LimitLines old left s e = absurd (omega (arith, s))
-zero_end NoMemory old left s e = absurd (omega (arith, s))
+zero_end Ran old left s e = absurd e
+zero_end (Tried number events) old left s e = absurd e
+zero_end answer old left s e = absurd (omega (arith, s))
 
 verdict-sound : (bytes : List ℕ) (answer : Answer) → status_of answer ≡ 0 → IsVerdict bytes answer → ReadsSound bytes
 verdict-sound bytes (Accepted events) s (header, trace, reads, unbroken, count) = whole_sound bytes header trace reads unbroken
-verdict-sound bytes (Refused index rule) s v = absurd (omega (arith, s))
 verdict-sound bytes Shown s v = absurd v
 verdict-sound bytes Reported s v = absurd v
 verdict-sound bytes Generated s v = absurd v
 verdict-sound bytes Usage s v = absurd v
-verdict-sound bytes (Malformed line reason) s v = absurd (omega (arith, s))
-verdict-sound bytes ReadFault s v = absurd (omega (arith, s))
-verdict-sound bytes LimitEvents s v = absurd (omega (arith, s))
-verdict-sound bytes LimitLines s v = absurd (omega (arith, s))
-verdict-sound bytes NoMemory s v = absurd (omega (arith, s))
+verdict-sound bytes Ran s v = absurd v
+verdict-sound bytes (Tried number events) s v = absurd v
+verdict-sound bytes answer s v = absurd (omega (arith, s))
 
 -- the trace that was read has all that acceptance promises
 pub zero_sound : (told : Option (List ℕ)) (answer : Answer) → status_of answer ≡ 0 → IfSome told (λ bytes. IsVerdict bytes answer) → IfSome told ReadsSound
@@ -67,10 +56,7 @@ verdict_status ReadFault a s = absurd (omega (arith, s))
 verdict_status LimitEvents a s = absurd (omega (arith, s))
 verdict_status LimitLines a s = absurd (omega (arith, s))
 verdict_status NoMemory a s = absurd (omega (arith, s))
-verdict_status Shown a s = absurd a
-verdict_status Reported a s = absurd a
-verdict_status Generated a s = absurd a
-verdict_status Usage a s = absurd a
+verdict_status answer a s = absurd a
 
 -- a verdict that was told
 pub check_answers : (told left : Option (List ℕ)) (answer : Answer) (status : ℕ) (out out' notes notes' : Option (List ℕ))

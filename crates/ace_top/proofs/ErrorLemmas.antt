@@ -9,7 +9,7 @@ use Rattle.ace_grammar.specs.declared.error.ReadErr.TheVariants as error
 use Rattle.ace_grammar.specs.Reading.{IsReadable, most_events}
 use Rattle.ace_grammar.specs.Errors.{HasNoHeader, StandsNext, HasFaultCause}
 use Rattle.ace_top.specs.declared.answer.Answer.{Answer}
-use Rattle.ace_top.specs.declared.answer.Answer.TheVariants.{Accepted, Refused, Shown, Reported, Generated, Usage, Malformed, ReadFault, LimitEvents, LimitLines, NoMemory}
+use Rattle.ace_top.specs.declared.answer.Answer.TheVariants.{Refused, LimitLines, NoMemory}
 use Rattle.ace_top.specs.Copy.{EndsCopy}
 use Rattle.ace_top.specs.ErrorAnswer.{error_answer}
 use Rattle.ace_top.specs.Progress.{IsNextVerdict, IsRefusal, IsStop, StopsAt, HasReadCause}
@@ -20,29 +20,20 @@ pub error_next : (h : Header) (past : List Event) (version count : ℕ) (old new
     → IsNextVerdict h past old new (error_answer e)
 error_next h past version count old new left (error.Malformed line reason) same read s = (rw read at s.2, rw same at s.0, rw same at s.1)
 error_next h past version count old new left error.TooManyEvents same read s = (s.1, rw same at s.0)
-error_next h past version count old new left error.ReadFault same read s = tt
-error_next h past version count old new left error.NoMemory same read s = tt
+error_next h past version count old new left e same read s = tt
 
 -- no trace is accepted at an error
 pub error_refusal : (e : ReadErr) → IsRefusal (error_answer e)
 error_refusal (error.Malformed line reason) = tt
 error_refusal error.TooManyEvents = tt
-error_refusal error.ReadFault = tt
-error_refusal error.NoMemory = tt
+error_refusal e = tt
 
 -- nor where an event ends the check, and then the input didn't fail
 pub stop_refusal : (answer : Answer) → IsStop answer → IsRefusal answer
 stop_refusal (Refused index rule) s = tt
 stop_refusal LimitLines s = tt
 stop_refusal NoMemory s = tt
-stop_refusal (Malformed line reason) s = absurd s
-stop_refusal ReadFault s = absurd s
-stop_refusal LimitEvents s = absurd s
-stop_refusal (Accepted events) s = absurd s
-stop_refusal Shown s = absurd s
-stop_refusal Reported s = absurd s
-stop_refusal Generated s = absurd s
-stop_refusal Usage s = absurd s
+stop_refusal answer s = absurd s
 
 pub stop_cause : (before now : ℕ) (answer : Answer) → IsStop answer → now ≡ before → HasReadCause before now answer
 stop_cause before now answer s same = record { failed = λ is. absurd (subst IsStop is s); steady = λ not. same }
@@ -53,14 +44,7 @@ pub stop_next : (h : Header) (past : List Event) (event : Event) (old new : Opti
 stop_next h past event old new (Refused index rule) room readable taken stops = (event, readable, taken, stops, room)
 stop_next h past event old new LimitLines room readable taken stops = (event, readable, taken, stops, room)
 stop_next h past event old new NoMemory room readable taken stops = tt
-stop_next h past event old new (Malformed line reason) room readable taken stops = absurd stops
-stop_next h past event old new LimitEvents room readable taken stops = absurd stops
-stop_next h past event old new ReadFault room readable taken stops = absurd stops
-stop_next h past event old new (Accepted events) room readable taken stops = absurd stops
-stop_next h past event old new Shown room readable taken stops = absurd stops
-stop_next h past event old new Reported room readable taken stops = absurd stops
-stop_next h past event old new Generated room readable taken stops = absurd stops
-stop_next h past event old new Usage room readable taken stops = absurd stops
+stop_next h past event old new answer room readable taken stops = absurd stops
 
 -- it ends a copy
 pub error_ends : (version count : ℕ) (old new left : Option (List ℕ)) (e : ReadErr) → StandsNext version (Err e) count old new left → EndsCopy version (error_answer e) count old left
@@ -81,8 +65,7 @@ pub no_header_verdict : (e : ReadErr) (old new : Option (List ℕ)) (before now 
 no_header_verdict e None new before now n = tt
 no_header_verdict (error.Malformed line reason) (Some bytes) new before now n = inl n.0
 no_header_verdict error.TooManyEvents (Some bytes) new before now n = absurd n
-no_header_verdict error.ReadFault (Some bytes) new before now n = tt
-no_header_verdict error.NoMemory (Some bytes) new before now n = tt
+no_header_verdict e (Some bytes) new before now n = tt
 
 pub no_header_cause : (e : ReadErr) (old new : Option (List ℕ)) (before now : ℕ) → HasNoHeader e old before new now → HasReadCause before now (error_answer e)
 no_header_cause (error.Malformed line reason) old new before now n = error_cause before now (error.Malformed line reason) n.2

@@ -4,7 +4,7 @@ use Rattle.std.proofs.lemmas.List.{length-reverse}
 use Rattle.ace_event.specs.declared.header.Header.{Header}
 use Rattle.ace_model.specs.Trace.{Trace}
 use Rattle.ace_top.specs.declared.answer.Answer.{Answer}
-use Rattle.ace_top.specs.declared.answer.Answer.TheVariants.{Accepted, Refused, Shown, Reported, Generated, Usage, Malformed, ReadFault, LimitEvents, LimitLines, NoMemory}
+use Rattle.ace_top.specs.declared.answer.Answer.TheVariants.{Accepted, Refused, Malformed, ReadFault, LimitEvents, LimitLines, NoMemory}
 use Rattle.ace_top.specs.declared.follow.Follower.{Follower}
 use Rattle.ace_top.specs.Follow.{Follows, HasFollowed}
 use Rattle.ace_top.specs.Progress.{EndsInput, HasReadCause, IsRefusal, IsVerdictAnswer}
@@ -25,11 +25,7 @@ refusal_end ReadFault old left r = tt
 refusal_end LimitEvents old left r = tt
 refusal_end LimitLines old left r = tt
 refusal_end NoMemory old left r = tt
-refusal_end (Accepted events) old left r = absurd r
-refusal_end Shown old left r = absurd r
-refusal_end Reported old left r = absurd r
-refusal_end Generated old left r = absurd r
-refusal_end Usage old left r = absurd r
+refusal_end answer old left r = absurd r
 
 pub refusal_answer : (answer : Answer) → IsRefusal answer → IsVerdictAnswer answer
 refusal_answer (Refused index rule) r = tt
@@ -38,11 +34,7 @@ refusal_answer ReadFault r = tt
 refusal_answer LimitEvents r = tt
 refusal_answer LimitLines r = tt
 refusal_answer NoMemory r = tt
-refusal_answer (Accepted events) r = absurd r
-refusal_answer Shown r = absurd r
-refusal_answer Reported r = absurd r
-refusal_answer Generated r = absurd r
-refusal_answer Usage r = absurd r
+refusal_answer answer r = absurd r
 
 pub accepted_cause : (before now events : ℕ) → now ≡ before → HasReadCause before now (Accepted events)
 accepted_cause before now events same = record { failed = λ is. absurd cc; steady = λ not. same }

@@ -8,12 +8,12 @@ use Rattle.ace_grammar.specs.Lines.{BeginsWith}
 use Rattle.ace_grammar.proofs.Readings.EveryReading.{some_reading}
 use Rattle.ace_grammar.proofs.Readings.Fronts.{front_is_read, front_is_good, trace_text-append}
 use Rattle.ace_top.specs.declared.answer.Answer.{Answer}
-use Rattle.ace_top.specs.declared.answer.Answer.TheVariants.{Accepted, Refused, Shown, Reported, Generated, Usage, Malformed, ReadFault, LimitEvents, LimitLines, NoMemory}
+use Rattle.ace_top.specs.declared.answer.Answer.TheVariants.{ReadFault, NoMemory}
 use Rattle.ace_top.specs.declared.show.Version.{Version}
 use Rattle.ace_top.specs.declared.show.Version.TheVariants.{AsRead, Two}
 use Rattle.ace_top.specs.declared.words.Command.{Command}
-use Rattle.ace_top.specs.declared.words.Command.TheVariants.{Check, Report, Show, Migrate, Gen}
-use Rattle.ace_top.specs.Answer.{IsAnswer, FitsAnswer, IsDue}
+use Rattle.ace_top.specs.declared.words.Command.TheVariants.{Check, Report, Show, Migrate, Run, Gen, Trial}
+use Rattle.ace_top.specs.Answer.{IsAnswer, FitsAnswer, IsDue, IsSettled}
 use Rattle.ace_top.specs.Command.{writing}
 use Rattle.ace_top.specs.Show.{IsShown, ShowsFront, header_written}
 use Rattle.ace_top.proofs.OneAnswer.{one_answer, due_written}
@@ -58,6 +58,8 @@ fault_given Report bytes left last due text whole d f a b = nothing_given text w
 fault_given Show bytes left last due text whole d f a b = fault_written AsRead bytes left last due text whole d b a
 fault_given Migrate bytes left last due text whole d f a b = fault_written Two bytes left last due text whole d b a
 fault_given (Gen number) bytes left last due text whole d f a b = absurd a
+fault_given Run bytes left last due text whole d f a b = nothing_given text whole f
+fault_given (Trial number) bytes left last due text whole d f a b = nothing_given text whole f
 
 -- where there was no memory
 no_memory_given : (command : Command) (bytes : List ℕ) (left : Option (List ℕ)) (text whole : List ℕ) → FitsAnswer command NoMemory text
@@ -67,28 +69,22 @@ no_memory_given Report bytes left text whole f a = nothing_given text whole f
 no_memory_given Show bytes left text whole f a = nothing_given text whole f
 no_memory_given Migrate bytes left text whole f a = nothing_given text whole f
 no_memory_given (Gen number) bytes left text whole f a = nothing_given text whole a
+no_memory_given Run bytes left text whole f a = nothing_given text whole f
+no_memory_given (Trial number) bytes left text whole f a = nothing_given text whole f
 
 due_or_fault : (answer : Answer) → (answer ≡ ReadFault) ⊎ ((answer ≡ NoMemory) ⊎ IsDue answer)
 due_or_fault ReadFault = inl refl
 due_or_fault NoMemory = inr (inl refl)
-due_or_fault (Accepted count) = inr (inr tt)
-due_or_fault (Refused index rule) = inr (inr tt)
-due_or_fault (Malformed line reason) = inr (inr tt)
-due_or_fault LimitEvents = inr (inr tt)
-due_or_fault LimitLines = inr (inr tt)
-due_or_fault Shown = inr (inr tt)
-due_or_fault Reported = inr (inr tt)
-due_or_fault Generated = inr (inr tt)
-due_or_fault Usage = inr (inr tt)
+due_or_fault answer = inr (inr tt)
 
-pub front_given : (command : Command) (bytes : List ℕ) (left last : Option (List ℕ)) (answer due : Answer) (text whole : List ℕ) → IsDue due
+pub front_given : (command : Command) (bytes : List ℕ) (left last : Option (List ℕ)) (answer due : Answer) (text whole : List ℕ) → IsSettled command → IsDue due
     → FitsAnswer command answer text → FitsAnswer command due whole → IsAnswer command (Some bytes) left answer text → IsAnswer command (Some bytes) last due whole
     → BeginsWith whole text
-front_given command bytes left last answer due text whole d f g a b =
+front_given command bytes left last answer due text whole settled d f g a b =
     elim (due_or_fault answer) [
       | inl is ↦ fault_given command bytes left last due text whole d (subst (λ x. FitsAnswer command x text) is f) (subst (λ x. IsAnswer command (Some bytes) left x text) is a) b
       | inr (inl is) ↦ no_memory_given command bytes left text whole (subst (λ x. FitsAnswer command x text) is f) (subst (λ x. IsAnswer command (Some bytes) left x text) is a)
-      | inr (inr e) ↦ same_text text whole (one_answer command bytes left last answer due text whole e d f g a b).1
+      | inr (inr e) ↦ same_text text whole (one_answer command bytes left last answer due text whole settled e d f g a b).1
     ]
 
 pub trace_given : (version : Version) (bytes : List ℕ) (last : Option (List ℕ)) (due : Answer) (text whole : List ℕ) → IsDue due

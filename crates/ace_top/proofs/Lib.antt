@@ -7,10 +7,13 @@ pub mod FrontGiven
 pub mod GenerateLemmas
 pub mod Numbers
 pub mod OneAnswer
+pub mod OneRun
 pub mod OneWord
 pub mod Parts
 pub mod ProgressLemmas
 pub mod ReportLemmas
+pub mod RunLemmas
+pub mod RunTexts
 pub mod ShowLemmas
 pub mod Sound
 pub mod Stops

@@ -13,12 +13,12 @@ use Rattle.ace_model.specs.Accepted.{least_broken}
 use Rattle.ace_model.specs.Trace.{newer}
 use Rattle.ace_check.specs.Run.{goes_over}
 use Rattle.ace_top.specs.declared.answer.Answer.{Answer}
-use Rattle.ace_top.specs.declared.answer.Answer.TheVariants.{Accepted, Refused, Shown, Reported, Generated, Usage, Malformed, ReadFault, LimitEvents, LimitLines, NoMemory}
+use Rattle.ace_top.specs.declared.answer.Answer.TheVariants.{Accepted, Refused, Shown, Reported, Generated, Malformed, ReadFault, LimitEvents, LimitLines, NoMemory}
 use Rattle.ace_top.specs.declared.show.Version.{Version}
 use Rattle.ace_top.specs.declared.show.Version.TheVariants.{AsRead, Two}
 use Rattle.ace_top.specs.declared.words.Command.{Command}
-use Rattle.ace_top.specs.declared.words.Command.TheVariants.{Check, Report, Show, Migrate, Gen}
-use Rattle.ace_top.specs.Answer.{IsAnswer, FitsAnswer, IsDue}
+use Rattle.ace_top.specs.declared.words.Command.TheVariants.{Check, Report, Show, Migrate, Run, Gen, Trial}
+use Rattle.ace_top.specs.Answer.{IsAnswer, FitsAnswer, IsDue, IsSettled}
 use Rattle.ace_top.specs.Generate.{IsGenerated, script_of}
 use Rattle.ace_top.specs.Report.{IsReported}
 use Rattle.ace_top.specs.Show.{IsShown, header_written}
@@ -72,10 +72,7 @@ due_verdict bytes h events end LimitEvents r d (count, (header, es, reads, none,
 due_verdict bytes h events end LimitLines r d b = ap (λ s. verdict_of s end (length events)) (sym (broken bytes h events end GoesOver r b))
 due_verdict bytes h events end ReadFault r d v = absurd d
 due_verdict bytes h events end NoMemory r d v = absurd d
-due_verdict bytes h events end Shown r d v = absurd v
-due_verdict bytes h events end Reported r d v = absurd v
-due_verdict bytes h events end Generated r d v = absurd v
-due_verdict bytes h events end Usage r d v = absurd v
+due_verdict bytes h events end answer r d v = absurd v
 
 no_front : (bytes : List ℕ) (number : ℕ) (reason : Reason) (stop : Stop) → HasBadHeader bytes number reason → BeginsStopped bytes stop → ⊥
 no_front bytes number reason stop bad (header, es, readable, all, few, front, is) = front_is_good bytes header es number reason readable all few front bad
@@ -92,10 +89,7 @@ due_without_header bytes number reason LimitEvents bad d (count, (header, es, re
 due_without_header bytes number reason LimitLines bad d b = absurd (no_front bytes number reason GoesOver bad b)
 due_without_header bytes number reason ReadFault bad d v = absurd d
 due_without_header bytes number reason NoMemory bad d v = absurd d
-due_without_header bytes number reason Shown bad d v = absurd v
-due_without_header bytes number reason Reported bad d v = absurd v
-due_without_header bytes number reason Generated bad d v = absurd v
-due_without_header bytes number reason Usage bad d v = absurd v
+due_without_header bytes number reason answer bad d v = absurd v
 
 -- the bytes have one verdict
 one_verdict : (bytes : List ℕ) (answer other : Answer) → IsDue answer → IsDue other → IsVerdict bytes answer → IsVerdict bytes other → answer ≡ other
@@ -150,9 +144,7 @@ told_verdict bytes ReadFault text d r = absurd d
 told_verdict bytes NoMemory text d r = absurd d
 told_verdict bytes LimitEvents text d r = (0, d, r.0)
 told_verdict bytes LimitLines text d r = (0, d, r.0)
-told_verdict bytes Shown text d r = absurd r.0
-told_verdict bytes Generated text d r = absurd r.0
-told_verdict bytes Usage text d r = absurd r.0
+told_verdict bytes answer text d r = absurd r.0
 
 abbrev pub told_of : Answer → Answer
 told_of (Accepted count) = Reported
@@ -161,15 +153,7 @@ told_of answer = answer
 told_back : (bytes : List ℕ) (answer : Answer) (text : List ℕ) (count : ℕ) → IsReported bytes answer text → told_of (verdict_told answer count) ≡ answer
 told_back bytes Reported text count r = refl
 told_back bytes (Accepted n) text count r = absurd r
-told_back bytes (Refused index rule) text count r = refl
-told_back bytes (Malformed line reason) text count r = refl
-told_back bytes ReadFault text count r = refl
-told_back bytes NoMemory text count r = refl
-told_back bytes LimitEvents text count r = refl
-told_back bytes LimitLines text count r = refl
-told_back bytes Shown text count r = refl
-told_back bytes Generated text count r = refl
-told_back bytes Usage text count r = refl
+told_back bytes answer text count r = refl
 
 -- the answer has one text
 one_report : (bytes : List ℕ) (answer : Answer) (text more : List ℕ) → IsReported bytes answer text → IsReported bytes answer more → text ≡ more
@@ -177,15 +161,7 @@ one_report bytes Reported text more (h, events, reads, none, is) (header, es, r,
     let one = one_reading bytes h header events es Whole Whole reads r in
     is ∙ (rw one.0 (rw one.1 (sym was)))
 one_report bytes (Accepted n) text more r s = absurd r
-one_report bytes (Refused index rule) text more r s = r.1 ∙ sym s.1
-one_report bytes (Malformed line reason) text more r s = r.1 ∙ sym s.1
-one_report bytes ReadFault text more r s = r.1 ∙ sym s.1
-one_report bytes NoMemory text more r s = r.1 ∙ sym s.1
-one_report bytes LimitEvents text more r s = r.1 ∙ sym s.1
-one_report bytes LimitLines text more r s = r.1 ∙ sym s.1
-one_report bytes Shown text more r s = r.1 ∙ sym s.1
-one_report bytes Generated text more r s = r.1 ∙ sym s.1
-one_report bytes Usage text more r s = r.1 ∙ sym s.1
+one_report bytes answer text more r s = r.1 ∙ sym s.1
 
 one_told : (bytes : List ℕ) (answer other : Answer) (text more : List ℕ) → IsDue answer → IsDue other → IsReported bytes answer text → IsReported bytes other more → (answer ≡ other) × (text ≡ more)
 one_told bytes answer other text more d o r s =
@@ -204,10 +180,7 @@ some_told bytes LimitEvents d v = (LimitEvents, [], tt, refl, (v, refl))
 some_told bytes LimitLines d v = (LimitLines, [], tt, refl, (v, refl))
 some_told bytes ReadFault d v = absurd d
 some_told bytes NoMemory d v = absurd d
-some_told bytes Shown d v = absurd v
-some_told bytes Reported d v = absurd v
-some_told bytes Generated d v = absurd v
-some_told bytes Usage d v = absurd v
+some_told bytes answer d v = absurd v
 
 -- ---- traces that are written
 
@@ -231,12 +204,7 @@ due_written version bytes left h events end (Malformed line reason) text r d (in
 due_written version bytes left h events end LimitEvents text r d (header, es, reads, is) = shows version bytes h header events es end Full text r reads is
 due_written version bytes left h events end ReadFault text r d s = absurd d
 due_written version bytes left h events end NoMemory text r d s = absurd d
-due_written version bytes left h events end (Accepted count) text r d s = absurd s
-due_written version bytes left h events end (Refused index rule) text r d s = absurd s
-due_written version bytes left h events end Reported text r d s = absurd s
-due_written version bytes left h events end LimitLines text r d s = absurd s
-due_written version bytes left h events end Generated text r d s = absurd s
-due_written version bytes left h events end Usage text r d s = absurd s
+due_written version bytes left h events end answer text r d s = absurd s
 
 written_without_header : (version : Version) (bytes : List ℕ) (left : Option (List ℕ)) (number : ℕ) (reason : Reason) (answer : Answer) (text : List ℕ)
     → HasBadHeader bytes number reason → IsDue answer → IsShown version bytes left answer text → (answer ≡ Malformed number reason) × (text ≡ [])
@@ -249,12 +217,7 @@ written_without_header version bytes left number reason (Malformed line other) t
 written_without_header version bytes left number reason LimitEvents text bad d (header, es, reads, is) = absurd (no_bad_header bytes header es Full number reason reads bad)
 written_without_header version bytes left number reason ReadFault text bad d s = absurd d
 written_without_header version bytes left number reason NoMemory text bad d s = absurd d
-written_without_header version bytes left number reason (Accepted count) text bad d s = absurd s
-written_without_header version bytes left number reason (Refused index rule) text bad d s = absurd s
-written_without_header version bytes left number reason Reported text bad d s = absurd s
-written_without_header version bytes left number reason LimitLines text bad d s = absurd s
-written_without_header version bytes left number reason Generated text bad d s = absurd s
-written_without_header version bytes left number reason Usage text bad d s = absurd s
+written_without_header version bytes left number reason answer text bad d s = absurd s
 
 one_written : (version : Version) (bytes : List ℕ) (left last : Option (List ℕ)) (answer other : Answer) (text more : List ℕ) → IsDue answer → IsDue other
     → IsShown version bytes left answer text → IsShown version bytes last other more → (answer ≡ other) × (text ≡ more)
@@ -291,58 +254,47 @@ generated_due : (number : ℕ) (answer : Answer) (text : List ℕ) → IsDue ans
 generated_due number Generated text d g = (refl, g)
 generated_due number NoMemory text d g = absurd d
 generated_due number ReadFault text d g = absurd d
-generated_due number (Accepted count) text d g = absurd g
-generated_due number (Refused index rule) text d g = absurd g
-generated_due number (Malformed line reason) text d g = absurd g
-generated_due number LimitEvents text d g = absurd g
-generated_due number LimitLines text d g = absurd g
-generated_due number Shown text d g = absurd g
-generated_due number Reported text d g = absurd g
-generated_due number Usage text d g = absurd g
+generated_due number answer text d g = absurd g
 
 -- ---- commands
 
 -- the answer that is due, and its text, are one
 pub one_answer : (command : Command) (bytes : List ℕ) (left last : Option (List ℕ)) (answer other : Answer) (text more : List ℕ)
-    → IsDue answer → IsDue other → FitsAnswer command answer text → FitsAnswer command other more
+    → IsSettled command → IsDue answer → IsDue other → FitsAnswer command answer text → FitsAnswer command other more
     → IsAnswer command (Some bytes) left answer text → IsAnswer command (Some bytes) last other more → (answer ≡ other) × (text ≡ more)
-one_answer Check bytes left last answer other text more d o f g v w =
+one_answer Check bytes left last answer other text more settled d o f g v w =
     let same = one_verdict bytes answer other d o v w in
     (same, f ∙ ap out_text_of same ∙ sym g)
-one_answer Report bytes left last answer other text more d o f g r s = one_told bytes answer other text more d o r s
-one_answer Show bytes left last answer other text more d o f g s t = one_written AsRead bytes left last answer other text more d o s t
-one_answer Migrate bytes left last answer other text more d o f g s t = one_written Two bytes left last answer other text more d o s t
-one_answer (Gen number) bytes left last answer other text more d o f g s t =
+one_answer Report bytes left last answer other text more settled d o f g r s = one_told bytes answer other text more d o r s
+one_answer Show bytes left last answer other text more settled d o f g s t = one_written AsRead bytes left last answer other text more d o s t
+one_answer Migrate bytes left last answer other text more settled d o f g s t = one_written Two bytes left last answer other text more d o s t
+one_answer (Gen number) bytes left last answer other text more settled d o f g s t =
     let p = generated_due number answer text d s in
     let q = generated_due number other more o t in
     (p.0 ∙ sym q.0, p.1 ∙ sym q.1)
+one_answer Run bytes left last answer other text more settled d o f g s t = absurd settled
+one_answer (Trial number) bytes left last answer other text more settled d o f g s t = absurd settled
 
 fits_written : (answer : Answer) (text : List ℕ) → IsDue answer → FitsAnswer Show answer text × FitsAnswer Migrate answer text
 fits_written NoMemory text d = absurd d
 fits_written ReadFault text d = absurd d
-fits_written (Accepted count) text d = (tt, tt)
-fits_written (Refused index rule) text d = (tt, tt)
-fits_written (Malformed line reason) text d = (tt, tt)
-fits_written LimitEvents text d = (tt, tt)
-fits_written LimitLines text d = (tt, tt)
-fits_written Shown text d = (tt, tt)
-fits_written Reported text d = (tt, tt)
-fits_written Generated text d = (tt, tt)
-fits_written Usage text d = (tt, tt)
+fits_written answer text d = (tt, tt)
 
 -- an answer is due
-pub some_answer : (command : Command) (bytes : List ℕ) (left : Option (List ℕ))
+pub some_answer : (command : Command) (bytes : List ℕ) (left : Option (List ℕ)) → IsSettled command
     → (answer : Answer) × (text : List ℕ) × IsDue answer × FitsAnswer command answer text × IsAnswer command (Some bytes) left answer text
-some_answer Check bytes left =
+some_answer Check bytes left settled =
     let v = some_verdict bytes in
     (v.0, out_text_of v.0, v.1, refl, v.2)
-some_answer Report bytes left =
+some_answer Report bytes left settled =
     let v = some_verdict bytes in
     some_told bytes v.0 v.1 v.2
-some_answer Show bytes left =
+some_answer Show bytes left settled =
     let w = some_written AsRead bytes left in
     (w.0, w.1, w.2, (fits_written w.0 w.1 w.2).0, w.3)
-some_answer Migrate bytes left =
+some_answer Migrate bytes left settled =
     let w = some_written Two bytes left in
     (w.0, w.1, w.2, (fits_written w.0 w.1 w.2).1, w.3)
-some_answer (Gen number) bytes left = (Generated, script_of number, tt, tt, refl)
+some_answer (Gen number) bytes left settled = (Generated, script_of number, tt, tt, refl)
+some_answer Run bytes left settled = absurd settled
+some_answer (Trial number) bytes left settled = absurd settled

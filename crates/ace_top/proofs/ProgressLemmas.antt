@@ -12,7 +12,7 @@ use Rattle.ace_grammar.proofs.Readings.Taken.{split, reads_to, at_end}
 use Rattle.ace_grammar.specs.Errors.{TakesFront, LeavesNothing}
 use Rattle.ace_grammar.specs.Reading.{Reads, Ending, Ends, Whole, Full, Bad, IsReadable, IsReadableHeader, HasBadLine, IfTold, most_events}
 use Rattle.ace_top.specs.declared.answer.Answer.{Answer}
-use Rattle.ace_top.specs.declared.answer.Answer.TheVariants.{Accepted, Refused, Shown, Reported, Generated, Usage, Malformed, ReadFault, LimitEvents, LimitLines, NoMemory}
+use Rattle.ace_top.specs.declared.answer.Answer.TheVariants.{Refused, Malformed, ReadFault, LimitEvents, LimitLines, NoMemory}
 use Rattle.ace_top.specs.declared.follow.Follower.{Follower}
 use Rattle.ace_top.specs.Follow.{Follows, HasCome, HasFollowed}
 use Rattle.ace_top.specs.Progress.{IsFine, StandsAt, TakesEvent, TakesStop, StopsAt, IsNextVerdict}
@@ -103,11 +103,7 @@ verdict_next None h past left left' ReadFault next s = tt
 verdict_next (Some bytes) h past left left' ReadFault next s = tt
 verdict_next None h past left left' NoMemory next s = tt
 verdict_next (Some bytes) h past left left' NoMemory next s = tt
-verdict_next told h past left left' (Accepted events) next s = absurd next
-verdict_next told h past left left' Shown next s = absurd next
-verdict_next told h past left left' Reported next s = absurd next
-verdict_next told h past left left' Generated next s = absurd next
-verdict_next told h past left left' Usage next s = absurd next
+verdict_next told h past left left' answer next s = absurd next
 
 -- a follower stands at the start
 pub comes_at_start : (f : Follower) (count : ℕ) (h : Header) (start : Option (List ℕ)) → count ≡ 0 → Follows f h [] → HasCome f count h start start

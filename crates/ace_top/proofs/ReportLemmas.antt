@@ -5,7 +5,7 @@ use Rattle.std.specs.Io.KnownBytes.{Appends}
 use Rattle.std.proofs.KnownBytes.{Appends-trans, Appends-nil}
 use Rattle.ace_report.specs.Report.{report_text}
 use Rattle.ace_top.specs.declared.answer.Answer.{Answer}
-use Rattle.ace_top.specs.declared.answer.Answer.TheVariants.{Accepted, Refused, Shown, Reported, Generated, Usage, Malformed, ReadFault, LimitEvents, LimitLines, NoMemory}
+use Rattle.ace_top.specs.declared.answer.Answer.TheVariants.{Refused, Reported, Malformed, ReadFault, LimitEvents, LimitLines, NoMemory}
 use Rattle.ace_top.specs.declared.follow.Follower.{Follower}
 use Rattle.ace_top.specs.declared.words.Command.TheVariants.{Report}
 use Rattle.ace_top.specs.Answer.{Answers, BreaksOff, FitsAnswer}
@@ -61,11 +61,7 @@ refused_text ReadFault r = refl
 refused_text LimitEvents r = refl
 refused_text LimitLines r = refl
 refused_text NoMemory r = refl
-refused_text (Accepted events) r = absurd r
-refused_text Shown r = absurd r
-refused_text Reported r = absurd r
-refused_text Generated r = absurd r
-refused_text Usage r = absurd r
+refused_text answer r = absurd r
 
 refused : (bytes : List ℕ) (answer : Answer) → IsRefusal answer → IsVerdict bytes answer → IsReported bytes answer (out_text_of answer)
 refused bytes (Refused index rule) r v = (v, refl)
@@ -74,11 +70,7 @@ refused bytes ReadFault r v = (v, refl)
 refused bytes LimitEvents r v = (v, refl)
 refused bytes LimitLines r v = (v, refl)
 refused bytes NoMemory r v = (v, refl)
-refused bytes (Accepted events) r v = absurd r
-refused bytes Shown r v = absurd r
-refused bytes Reported r v = absurd r
-refused bytes Generated r v = absurd r
-refused bytes Usage r v = absurd r
+refused bytes answer r v = absurd r
 
 pub refusal_answers : (told left : Option (List ℕ)) (answer : Answer) (status : ℕ) (out out' notes notes' : Option (List ℕ))
     → IsRefusal answer → IfSome told (λ bytes. IsVerdict bytes answer) → status ≡ status_of answer → Appends out out' (out_text_of answer) → Appends notes notes' (notes_text_of answer)

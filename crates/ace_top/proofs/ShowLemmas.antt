@@ -13,7 +13,7 @@ use Rattle.ace_grammar.specs.Lines.{BeginsWith}
 use Rattle.ace_grammar.proofs.Readings.Taken.{reads_to, at_end}
 use Rattle.ace_grammar.specs.Reading.{Reads, Ending, Ends, Whole, Full, Bad, IsReadable, IsReadableHeader, HasBadLine, IfTold, most_events}
 use Rattle.ace_top.specs.declared.answer.Answer.{Answer}
-use Rattle.ace_top.specs.declared.answer.Answer.TheVariants.{Accepted, Refused, Shown, Reported, Generated, Usage, Malformed, ReadFault, LimitEvents, LimitLines, NoMemory}
+use Rattle.ace_top.specs.declared.answer.Answer.TheVariants.{Shown, Malformed, ReadFault, LimitEvents, NoMemory}
 use Rattle.ace_top.specs.declared.show.Version.{Version}
 use Rattle.ace_top.specs.declared.show.Version.TheVariants.{AsRead, Two}
 use Rattle.ace_top.specs.declared.words.Command.{Command}
@@ -34,12 +34,7 @@ quiet from (Malformed line reason) count next left e = refl
 quiet from LimitEvents count next left e = refl
 quiet from ReadFault count next left e = refl
 quiet from NoMemory count next left e = refl
-quiet from (Accepted events) count next left e = absurd e
-quiet from (Refused index rule) count next left e = absurd e
-quiet from Reported count next left e = absurd e
-quiet from LimitLines count next left e = absurd e
-quiet from Generated count next left e = absurd e
-quiet from Usage count next left e = absurd e
+quiet from answer count next left e = absurd e
 
 -- the bytes of a trace that was copied, and what stands next
 record Copied (bytes : List ℕ) (header : Header) (events : List Event) (next : Option (List ℕ)) : Type 0 where
@@ -63,13 +58,7 @@ copied_shown version bytes header events next left LimitEvents c e =
     (header, events, ends bytes header events next Full (λ rest. rest ≢ []) c e.0 (λ rest some. (e.1, some)), refl)
 copied_shown version bytes header events next left ReadFault c (pending, none, short, taken) =
     inr (header, events, pending, c.readable, c.all, c.few, none, short, Consumes-trans (Some bytes) next left _ _ c.text taken, refl)
-copied_shown version bytes header events next left NoMemory c e = absurd e
-copied_shown version bytes header events next left (Accepted count) c e = absurd e
-copied_shown version bytes header events next left (Refused index rule) c e = absurd e
-copied_shown version bytes header events next left Reported c e = absurd e
-copied_shown version bytes header events next left LimitLines c e = absurd e
-copied_shown version bytes header events next left Generated c e = absurd e
-copied_shown version bytes header events next left Usage c e = absurd e
+copied_shown version bytes header events next left answer c e = absurd e
 
 copied_from : (bytes : List ℕ) (header : Header) (events : List Event) (mid next : Option (List ℕ)) → IsReadableHeader header → Consumes (Some bytes) mid (header_text header) → HasWritten header.version mid next events → Copied bytes header events next
 copied_from bytes header events mid next readable head w = record {
@@ -102,7 +91,7 @@ copy_is_answer version old mid next left header header' events answer by readabl
     shown (Some bytes) head = copied_shown version bytes header events next left answer (copied_from bytes header events mid next readable head w) e
 
 -- nothing more was given behind the copy
-copy_alone : (out out' out'' : Option (List ℕ)) (text more : List ℕ) → more ≡ [] → Appends out out' text → Appends out' out'' more → Appends out out'' text
+pub copy_alone : (out out' out'' : Option (List ℕ)) (text more : List ℕ) → more ≡ [] → Appends out out' text → Appends out' out'' more → Appends out out'' text
 copy_alone out out' out'' text more none given then =
     subst (Appends out out'') (ap (λ t. text ++ t) none ∙ append-nil text) (Appends-trans out out' out'' _ _ given then)
 
@@ -132,13 +121,7 @@ shown_ends from Shown count next left zero e = e.1
 shown_ends from (Malformed line reason) count next left zero e = absurd (omega arith)
 shown_ends from LimitEvents count next left zero e = absurd (omega arith)
 shown_ends from ReadFault count next left zero e = absurd (omega arith)
-shown_ends from NoMemory count next left zero e = absurd (omega arith)
-shown_ends from (Accepted events) count next left zero e = absurd e
-shown_ends from (Refused index rule) count next left zero e = absurd e
-shown_ends from Reported count next left zero e = absurd e
-shown_ends from LimitLines count next left zero e = absurd e
-shown_ends from Generated count next left zero e = absurd e
-shown_ends from Usage count next left zero e = absurd (omega arith)
+shown_ends from answer count next left zero e = absurd e
 
 pub shows_whole : {S : Type 0} (left : S → Option (List ℕ)) (source source' : S) (old mid next : Option (List ℕ)) (header : Header) (events : List Event) (answer : Answer) (status : ℕ)
     → source' ≡ source → Consumes old mid (header_text header) → HasWritten header.version mid next events → EndsCopy header.version answer (length events) next (left source)
@@ -151,15 +134,13 @@ shows_whole left source source' old mid next header events answer status same he
 pub error_status : (e : ReadErr) (answer : Answer) → answer ≡ error_answer e → status_of answer ≢ 0
 error_status (error.Malformed line reason) answer is zero = absurd (omega (arith, sym (ap status_of is) ∙ zero))
 error_status error.TooManyEvents answer is zero = absurd (omega (arith, sym (ap status_of is) ∙ zero))
-error_status error.ReadFault answer is zero = absurd (omega (arith, sym (ap status_of is) ∙ zero))
-error_status error.NoMemory answer is zero = absurd (omega (arith, sym (ap status_of is) ∙ zero))
+error_status e answer is zero = absurd (omega (arith, sym (ap status_of is) ∙ zero))
 
 -- where there is no header, there is no text for the standard output
 silent : (e : ReadErr) → out_text_of (error_answer e) ≡ []
 silent (error.Malformed line reason) = refl
 silent error.TooManyEvents = refl
-silent error.ReadFault = refl
-silent error.NoMemory = refl
+silent e = refl
 
 no_header_fits : (version : Version) (answer : Answer) → FitsAnswer (writing version) answer []
 no_header_fits AsRead NoMemory = refl

@@ -8,7 +8,7 @@ use Rattle.ace_top.proofs.Parts.{nothing_appended}
 use Rattle.ace_top.specs.declared.answer.Answer.TheVariants.{Usage}
 use Rattle.ace_top.specs.Output.{AppendsPart, AppendsParts}
 use Rattle.ace_top.specs.Texts.{notes_text_of}
-use Rattle.ace_top.specs.Words.{IsCheck, IsReport, IsShow, IsMigrate, IsGen, IsTraceCommand, IsCommand}
+use Rattle.ace_top.specs.Words.{IsCheck, IsReport, IsShow, IsMigrate, IsRun, IsGen, IsNumbered, IsTrial, IsTraceCommand, IsReadingCommand, IsCommand}
 
 pub words_carried : (words : List (String Global)) (command : Command) (input left : Option (List ℕ)) (status : ℕ) (out out' notes notes' : Option (List ℕ)) (faults faults' : ℕ)
     → CarriesOut command input left status out out' notes notes' faults faults' → Names words command → status ≢ 5 → AnswersWords words input left status out out' notes notes'
@@ -36,24 +36,70 @@ pub is_migrate : (words : List (String Global)) → IsMigrate words → IsTraceC
 is_migrate words n = inr (inr (inr n))
 
 pub is_trace_command : (words : List (String Global)) → IsTraceCommand words → IsCommand words
-is_trace_command words n = inl n
+is_trace_command words n = inl (inl n)
+
+pub reads_trace : (words : List (String Global)) → IsTraceCommand words → IsReadingCommand words
+reads_trace words n = inl n
+
+pub is_run : (words : List (String Global)) → IsRun words → IsReadingCommand words
+is_run words n = inr n
+
+pub is_reading : (words : List (String Global)) → IsReadingCommand words → IsCommand words
+is_reading words n = inl n
 
 pub is_gen : (words : List (String Global)) (number : ℕ) → IsGen words number → IsCommand words
-is_gen words number n = inr (number, n)
+is_gen words number n = inr (number, inl n)
+
+pub is_trial : (words : List (String Global)) (number : ℕ) → IsTrial words number → IsCommand words
+is_trial words number n = inr (number, inr n)
 
 -- words that are none of these name no command
-pub no_command : (words : List (String Global)) → ¬ IsCheck words → ¬ IsReport words → ¬ IsShow words → ¬ IsMigrate words → ((number : ℕ) → ¬ IsGen words number) → ¬ IsCommand words
-no_command words check report show migrate gen (inl (inl n)) = check n
-no_command words check report show migrate gen (inl (inr (inl n))) = report n
-no_command words check report show migrate gen (inl (inr (inr (inl n)))) = show n
-no_command words check report show migrate gen (inl (inr (inr (inr n)))) = migrate n
-no_command words check report show migrate gen (inr (number, n)) = gen number n
+pub no_command : (words : List (String Global)) → ¬ IsCheck words → ¬ IsReport words → ¬ IsShow words → ¬ IsMigrate words → ¬ IsRun words
+    → ((number : ℕ) → ¬ IsGen words number) → ((number : ℕ) → ¬ IsTrial words number) → ¬ IsCommand words
+no_command words check report show migrate run gen trial (inl (inl (inl n))) = check n
+no_command words check report show migrate run gen trial (inl (inl (inr (inl n)))) = report n
+no_command words check report show migrate run gen trial (inl (inl (inr (inr (inl n))))) = show n
+no_command words check report show migrate run gen trial (inl (inl (inr (inr (inr n))))) = migrate n
+no_command words check report show migrate run gen trial (inl (inr n)) = run n
+no_command words check report show migrate run gen trial (inr (number, inl n)) = gen number n
+no_command words check report show migrate run gen trial (inr (number, inr n)) = trial number n
 
--- the words that ask for a script name no trace command
-pub reads_no_trace : (words : List (String Global)) (number : ℕ) → IsGen words number → ¬ IsTraceCommand words
-reads_no_trace words number (word, are, is) (inl one) = absurd cc
-reads_no_trace words number (word, are, is) (inr (inl one)) = absurd cc
-reads_no_trace words number (word, are, is) (inr (inr (inl one))) = absurd cc
-reads_no_trace words number (word, are, is) (inr (inr (inr one))) = absurd cc
+-- the word `run` names no trace command
+pub runs_no_trace : (words : List (String Global)) → IsRun words → ¬ IsTraceCommand words
+runs_no_trace words n (inl one) = absurd cc
+runs_no_trace words n (inr (inl one)) = absurd cc
+runs_no_trace words n (inr (inr (inl one))) = absurd cc
+runs_no_trace words n (inr (inr (inr one))) = absurd cc
 
-pub ruleset words_answered = (words_carried, words_broken, usage_broken, is_check, is_report, is_show, is_migrate, is_trace_command, is_gen, reads_no_trace)
+-- nor do two words name a command that reads its input
+two_words : (words : List (String Global)) (text : List ℕ) (number : ℕ) → IsNumbered words text number → ¬ IsReadingCommand words
+two_words words text number (word, are, is) (inl (inl one)) = absurd cc
+two_words words text number (word, are, is) (inl (inr (inl one))) = absurd cc
+two_words words text number (word, are, is) (inl (inr (inr (inl one)))) = absurd cc
+two_words words text number (word, are, is) (inl (inr (inr (inr one)))) = absurd cc
+two_words words text number (word, are, is) (inr one) = absurd cc
+
+pub gen_reads_nothing : (words : List (String Global)) (number : ℕ) → IsGen words number → ¬ IsReadingCommand words
+gen_reads_nothing words number n = two_words words (codes "gen") number n
+
+pub trial_reads_nothing : (words : List (String Global)) (number : ℕ) → IsTrial words number → ¬ IsReadingCommand words
+trial_reads_nothing words number n = two_words words (codes "trial") number n
+
+pub ruleset words_answered = (
+  words_carried,
+  words_broken,
+  usage_broken,
+  is_check,
+  is_report,
+  is_show,
+  is_migrate,
+  is_run,
+  is_trace_command,
+  reads_trace,
+  is_reading,
+  is_gen,
+  is_trial,
+  runs_no_trace,
+  gen_reads_nothing,
+  trial_reads_nothing,
+)

@@ -1,20 +1,21 @@
--- What a call of the program answers, by its words and, where it reads a trace, by the bytes of its input, where these are told.
+-- What a call of the program answers, by its words and, where it reads a trace or a script, by the bytes of its input, where these are told.
 use Rattle.std.specs.Prelude.{◌≡◌, ◌≢◌, ◌<◌, ◌≤◌, ◌-◌, ◌^◌, ◌⊎◌, ℕ, List, [], Option, String, IfSome, codes, ⊤}
 use Rattle.std.specs.Io.KnownBytes.{Appends}
 use Rattle.std.specs.declared.alloc.Global.{Global}
 use Rattle.ace_io.specs.Faults.{Rose}
 use Rattle.ace_top.specs.declared.answer.Answer.{Answer}
-use Rattle.ace_top.specs.declared.answer.Answer.TheVariants.{Accepted, NoMemory, ReadFault, Reported, Usage}
+use Rattle.ace_top.specs.declared.answer.Answer.TheVariants.{Accepted, NoMemory, Ran, ReadFault, Reported, Usage}
 use Rattle.ace_top.specs.declared.show.Version.{Version}
 use Rattle.ace_top.specs.declared.show.Version.TheVariants.{AsRead, Two}
 use Rattle.ace_top.specs.declared.words.Command.{Command}
-use Rattle.ace_top.specs.declared.words.Command.TheVariants.{Check, Report, Show, Migrate, Gen}
+use Rattle.ace_top.specs.declared.words.Command.TheVariants.{Check, Report, Show, Migrate, Run, Gen, Trial}
 use Rattle.ace_top.specs.Command.{Names, writing}
 use Rattle.ace_top.specs.Generate.{IsGenerated}
 use Rattle.ace_top.specs.Output.{AppendsPart, AppendsParts}
 use Rattle.ace_top.specs.Show.{IsShown, ShowsFront}
 use Rattle.ace_top.specs.Texts.{status_of, out_text_of, notes_text_of}
 use Rattle.ace_top.specs.Report.{IsReported}
+use Rattle.ace_top.specs.Run.{IsRan, IsTried, WritesSomeRun}
 use Rattle.ace_top.specs.Verdict.{IsVerdict}
 use Rattle.ace_top.specs.Words.{IsCommand}
 
@@ -24,10 +25,13 @@ IsAnswer Check input left answer text = IfSome input (λ bytes. IsVerdict bytes 
 IsAnswer Report input left answer text = IfSome input (λ bytes. IsReported bytes answer text)
 IsAnswer Show input left answer text = IfSome input (λ bytes. IsShown AsRead bytes left answer text)
 IsAnswer Migrate input left answer text = IfSome input (λ bytes. IsShown Two bytes left answer text)
+IsAnswer Run input left answer text = IfSome input (λ bytes. IsRan bytes answer text)
 IsAnswer (Gen number) input left answer text = IsGenerated number answer text
+IsAnswer (Trial number) input left answer text = IsTried number answer
 
 -- what the answer alone says of that text: `check` writes no more than its answer, and so does `report` where it reports no
--- trace; `show` and `migrate` write nothing where there was no memory; and of `gen` it is said above
+-- trace; `show` and `migrate` write nothing where there was no memory; `run` writes the trace of a run of some script, or nothing; `trial`
+-- writes no more than its answer; and of `gen` it is said above
 abbrev pub FitsAnswer : Command → Answer → List ℕ → Type 0
 FitsAnswer Check answer text = text ≡ out_text_of answer
 FitsAnswer Report Reported text = ⊤
@@ -37,13 +41,22 @@ FitsAnswer Show NoMemory text = text ≡ []
 FitsAnswer Show answer text = ⊤
 FitsAnswer Migrate NoMemory text = text ≡ []
 FitsAnswer Migrate answer text = ⊤
+FitsAnswer Run Ran text = WritesSomeRun text
+FitsAnswer Run answer text = text ≡ out_text_of answer
 FitsAnswer (Gen number) answer text = ⊤
+FitsAnswer (Trial number) answer text = text ≡ out_text_of answer
 
 -- an answer that says what is in the input, and not that it failed or that there was no memory
 abbrev pub IsDue : Answer → Type 0
 IsDue ReadFault = ⊥
 IsDue NoMemory = ⊥
 IsDue answer = ⊤
+
+-- a command of which the words and the input alone tell what it writes: all but those that run a script
+abbrev pub IsSettled : Command → Type 0
+IsSettled Run = ⊥
+IsSettled (Trial number) = ⊥
+IsSettled command = ⊤
 
 -- The status is that of an answer of the command, and its texts were appended to the two outputs, whether or not the input
 -- tells its bytes.

@@ -11,7 +11,7 @@ use Rattle.ace_writer.specs.declared.writer.Writer.{Writer}
 use Rattle.ace_writer.specs.Given.{GivesFront}
 use Rattle.ace_top.specs.Output.{AppendsPart}
 use Rattle.ace_top.specs.declared.answer.Answer.{Answer}
-use Rattle.ace_top.specs.declared.answer.Answer.TheVariants.{Accepted, Refused, Shown, Reported, Generated, Usage, Malformed, ReadFault, LimitEvents, LimitLines, NoMemory}
+use Rattle.ace_top.specs.declared.answer.Answer.TheVariants.{Shown, Malformed, ReadFault, LimitEvents}
 
 -- These events were read in a trace of the one version, and their lines in the other were added to the text of the writer.
 pub record HasCopied {K : Type 0} (held : K → Option (List ℕ)) (from to : ℕ) (old new : Option (List ℕ)) (writer writer' : Writer K)
@@ -56,10 +56,4 @@ EndsCopy from Shown count next left = IsAtEnd next × LeavesNothing next left
 EndsCopy from (Malformed line reason) count next left = IfTold next (λ bytes. HasBadLine from bytes reason) × (count < most_events) × (line ≡ count + 3)
 EndsCopy from LimitEvents count next left = IfTold next (λ bytes. bytes ≢ []) × (count ≡ most_events)
 EndsCopy from ReadFault count next left = IsPending next left
-EndsCopy from NoMemory count next left = ⊥
-EndsCopy from (Accepted events) count next left = ⊥
-EndsCopy from (Refused index rule) count next left = ⊥
-EndsCopy from Reported count next left = ⊥
-EndsCopy from LimitLines count next left = ⊥
-EndsCopy from Generated count next left = ⊥
-EndsCopy from Usage count next left = ⊥
+EndsCopy from answer count next left = ⊥

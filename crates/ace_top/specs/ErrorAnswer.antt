@@ -1,6 +1,8 @@
--- The answer where a trace could not be read on.
+-- The answer where a trace, or a script, could not be read on.
 use Rattle.ace_grammar.specs.declared.error.ReadErr.{ReadErr}
 use Rattle.ace_grammar.specs.declared.error.ReadErr.TheVariants.{Malformed, TooManyEvents, ReadFault, NoMemory}
+use Rattle.ace_script.specs.declared.error.PlanErr.{PlanErr}
+use Rattle.ace_script.specs.declared.error.PlanErr.TheVariants as plan
 use Rattle.ace_top.specs.declared.answer.Answer.{Answer}
 use Rattle.ace_top.specs.declared.answer.Answer.TheVariants as answer
 
@@ -9,3 +11,9 @@ error_answer (Malformed line reason) = answer.Malformed line reason
 error_answer TooManyEvents = answer.LimitEvents
 error_answer ReadFault = answer.ReadFault
 error_answer NoMemory = answer.NoMemory
+
+abbrev pub plan_answer : PlanErr → Answer
+plan_answer (plan.Malformed line reason) = answer.MalformedScript line reason
+plan_answer plan.TooManyOps = answer.LimitOperations
+plan_answer plan.ReadFault = answer.ReadFault
+plan_answer plan.NoMemory = answer.NoMemory

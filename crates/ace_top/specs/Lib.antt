@@ -7,6 +7,7 @@ pub mod Generate
 pub mod Output
 pub mod Progress
 pub mod Report
+pub mod Run
 pub mod Show
 pub mod Texts
 pub mod Verdict

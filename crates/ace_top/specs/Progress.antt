@@ -11,7 +11,7 @@ use Rattle.ace_grammar.specs.Reading.{IsReadable, IsReadableHeader, HasBadLine, 
 use Rattle.ace_model.specs.Accepted.{least_broken}
 use Rattle.ace_check.specs.Run.{goes_over}
 use Rattle.ace_top.specs.declared.answer.Answer.{Answer}
-use Rattle.ace_top.specs.declared.answer.Answer.TheVariants.{Accepted, Refused, Shown, Reported, Generated, Usage, Malformed, ReadFault, LimitEvents, LimitLines, NoMemory}
+use Rattle.ace_top.specs.declared.answer.Answer.TheVariants.{Accepted, Refused, Shown, Reported, Generated, Ran, Tried, Malformed, ReadFault, LimitEvents, LimitLines, NoMemory}
 
 -- no event breaks a rule, or names a line too many
 abbrev pub IsFine : Header → List Event → Type 0
@@ -38,14 +38,7 @@ abbrev pub StopsAt : Header → List Event → Event → Answer → Type 0
 StopsAt header past event (Refused index rule) = (index ≡ length past + 1) × (least_broken header past event ≡ Some rule)
 StopsAt header past event LimitLines = (least_broken header past event ≡ None) × (goes_over past event ≡ true)
 StopsAt header past event NoMemory = ⊤
-StopsAt header past event (Accepted events) = ⊥
-StopsAt header past event Shown = ⊥
-StopsAt header past event Reported = ⊥
-StopsAt header past event Generated = ⊥
-StopsAt header past event Usage = ⊥
-StopsAt header past event (Malformed line reason) = ⊥
-StopsAt header past event ReadFault = ⊥
-StopsAt header past event LimitEvents = ⊥
+StopsAt header past event answer = ⊥
 
 -- the next line is an event that ends the check so
 abbrev pub TakesStop : Header → List Event → Option (List ℕ) → Option (List ℕ) → Answer → Type 0
@@ -60,25 +53,14 @@ IsNextVerdict header past left left' (Malformed line reason) = IfTold left (λ b
 IsNextVerdict header past left left' LimitEvents = IfTold left (λ bytes. bytes ≢ []) × (length past ≡ most_events)
 IsNextVerdict header past left left' ReadFault = ⊤
 IsNextVerdict header past left left' NoMemory = ⊤
-IsNextVerdict header past left left' (Accepted events) = ⊥
-IsNextVerdict header past left left' Shown = ⊥
-IsNextVerdict header past left left' Reported = ⊥
-IsNextVerdict header past left left' Generated = ⊥
-IsNextVerdict header past left left' Usage = ⊥
+IsNextVerdict header past left left' answer = ⊥
 
 -- an answer that an event may have where it isn't followed
 abbrev pub IsStop : Answer → Type 0
 IsStop (Refused index rule) = ⊤
 IsStop LimitLines = ⊤
 IsStop NoMemory = ⊤
-IsStop (Malformed line reason) = ⊥
-IsStop ReadFault = ⊥
-IsStop LimitEvents = ⊥
-IsStop (Accepted events) = ⊥
-IsStop Shown = ⊥
-IsStop Reported = ⊥
-IsStop Generated = ⊥
-IsStop Usage = ⊥
+IsStop answer = ⊥
 
 -- an answer where a trace isn't accepted
 abbrev pub IsRefusal : Answer → Type 0
@@ -88,30 +70,22 @@ IsRefusal ReadFault = ⊤
 IsRefusal LimitEvents = ⊤
 IsRefusal LimitLines = ⊤
 IsRefusal NoMemory = ⊤
-IsRefusal (Accepted events) = ⊥
-IsRefusal Shown = ⊥
-IsRefusal Reported = ⊥
-IsRefusal Generated = ⊥
-IsRefusal Usage = ⊥
+IsRefusal answer = ⊥
 
 -- an answer of `check`
 abbrev pub IsVerdictAnswer : Answer → Type 0
 IsVerdictAnswer (Accepted events) = ⊤
 IsVerdictAnswer answer = IsRefusal answer
 
--- Of the input before and after: a trace that is accepted or shown was read to its end. Where a script was written, no trace was read.
+-- Of the input before and after: a trace that is accepted or shown was read to its end. Where a script was written or run, no trace was read.
 abbrev pub EndsInput : Answer → Option (List ℕ) → Option (List ℕ) → Type 0
 EndsInput (Accepted events) old left = LeavesNothing old left
-EndsInput (Refused index rule) old left = ⊤
 EndsInput Shown old left = LeavesNothing old left
 EndsInput Reported old left = LeavesNothing old left
 EndsInput Generated old left = ⊥
-EndsInput Usage old left = ⊤
-EndsInput (Malformed line reason) old left = ⊤
-EndsInput ReadFault old left = ⊤
-EndsInput LimitEvents old left = ⊤
-EndsInput LimitLines old left = ⊤
-EndsInput NoMemory old left = ⊤
+EndsInput Ran old left = ⊥
+EndsInput (Tried number events) old left = ⊥
+EndsInput answer old left = ⊤
 
 -- A count of faults goes up exactly where the answer is that the input failed.
 pub record HasReadCause (before now : ℕ) (answer : Answer) : Type 0 where

@@ -9,7 +9,7 @@ use Rattle.ace_event.specs.Text.{trace_text}
 use Rattle.ace_grammar.specs.Lines.{BeginsWith}
 use Rattle.ace_grammar.specs.Reading.{Ending, Whole, Full, Bad, Reads, IsReadable, IsReadableHeader, HasBadHeader, TakesNoHeader, most_events}
 use Rattle.ace_top.specs.declared.answer.Answer.{Answer}
-use Rattle.ace_top.specs.declared.answer.Answer.TheVariants.{Accepted, Refused, Shown, Reported, Generated, Usage, Malformed, ReadFault, LimitEvents, LimitLines, NoMemory}
+use Rattle.ace_top.specs.declared.answer.Answer.TheVariants.{Shown, Malformed, ReadFault, LimitEvents, NoMemory}
 use Rattle.ace_top.specs.declared.show.Version.{Version}
 use Rattle.ace_top.specs.declared.show.Version.TheVariants.{AsRead, Two}
 
@@ -49,9 +49,4 @@ IsShown version bytes left (Malformed line reason) text = (HasBadHeader bytes li
 IsShown version bytes left LimitEvents text = ShowsTrace version bytes text Full
 IsShown version bytes left ReadFault text = ((text ≡ []) × TakesNoHeader (Some bytes) left) ⊎ ShowsTaken version bytes left text
 IsShown version bytes left NoMemory text = text ≡ []
-IsShown version bytes left (Accepted events) text = ⊥
-IsShown version bytes left (Refused index rule) text = ⊥
-IsShown version bytes left Reported text = ⊥
-IsShown version bytes left LimitLines text = ⊥
-IsShown version bytes left Generated text = ⊥
-IsShown version bytes left Usage text = ⊥
+IsShown version bytes left answer text = ⊥

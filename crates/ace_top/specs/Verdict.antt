@@ -10,7 +10,7 @@ use Rattle.ace_model.specs.Trace.{Trace, newer}
 use Rattle.ace_model.specs.Accepted.{least_broken}
 use Rattle.ace_check.specs.Run.{IsSound, goes_over}
 use Rattle.ace_top.specs.declared.answer.Answer.{Answer}
-use Rattle.ace_top.specs.declared.answer.Answer.TheVariants.{Accepted, Refused, Shown, Reported, Generated, Usage, Malformed, ReadFault, LimitEvents, LimitLines, NoMemory}
+use Rattle.ace_top.specs.declared.answer.Answer.TheVariants.{Accepted, Refused, Malformed, ReadFault, LimitEvents, LimitLines, NoMemory}
 
 -- what ends a check before the end of the trace: the event with this number breaks this rule, the least; or an event that breaks none
 -- names one line more than a trace may have
@@ -52,10 +52,7 @@ IsVerdict bytes LimitEvents = (count : ℕ) × ReadsUnbroken bytes count Full
 IsVerdict bytes LimitLines = BeginsStopped bytes GoesOver
 IsVerdict bytes ReadFault = ⊤
 IsVerdict bytes NoMemory = ⊤
-IsVerdict bytes Shown = ⊥
-IsVerdict bytes Reported = ⊥
-IsVerdict bytes Generated = ⊥
-IsVerdict bytes Usage = ⊥
+IsVerdict bytes answer = ⊥
 
 -- The bytes are a whole trace, which has all that acceptance promises.
 abbrev pub ReadsSound : List ℕ → Type 0

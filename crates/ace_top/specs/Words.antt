@@ -23,14 +23,27 @@ IsMigrate words = IsWord words (codes "migrate")
 abbrev pub IsNumber : List ℕ → ℕ → Type 0
 IsNumber word number = (number < 2 ^ 64) × (word ≡ decimal number)
 
--- there are two words, `gen` and this number
+abbrev pub IsRun : List (String Global) → Type 0
+IsRun words = IsWord words (codes "run")
+
+-- there are two words, this text and this number
+abbrev pub IsNumbered : List (String Global) → List ℕ → ℕ → Type 0
+IsNumbered words text number = (word : List ℕ) × (map string_bytes words ≡ text ∷ word ∷ []) × IsNumber word number
+
 abbrev pub IsGen : List (String Global) → ℕ → Type 0
-IsGen words number = (word : List ℕ) × (map string_bytes words ≡ codes "gen" ∷ word ∷ []) × IsNumber word number
+IsGen words number = IsNumbered words (codes "gen") number
+
+abbrev pub IsTrial : List (String Global) → ℕ → Type 0
+IsTrial words number = IsNumbered words (codes "trial") number
 
 -- The words name a command that reads a trace.
 abbrev pub IsTraceCommand : List (String Global) → Type 0
 IsTraceCommand words = IsCheck words ⊎ IsReport words ⊎ IsShow words ⊎ IsMigrate words
 
--- The words name a command that is built.
+-- The words name a command that reads its input: a trace, or a script.
+abbrev pub IsReadingCommand : List (String Global) → Type 0
+IsReadingCommand words = IsTraceCommand words ⊎ IsRun words
+
+-- The words name a command.
 abbrev pub IsCommand : List (String Global) → Type 0
-IsCommand words = IsTraceCommand words ⊎ ((number : ℕ) × IsGen words number)
+IsCommand words = IsReadingCommand words ⊎ ((number : ℕ) × (IsGen words number ⊎ IsTrial words number))

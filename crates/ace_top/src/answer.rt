@@ -1,9 +1,10 @@
 // The answers of the program: their statuses and texts.
-ghost use Rattle.std.specs.Prelude.{◌≡◌, ◌≢◌};
-ghost use Rattle.ace_top.specs.ErrorAnswer.{error_answer};
+ghost use Rattle.std.specs.Prelude.{◌≡◌, ◌≢◌, ◌≤◌, ◌++◌, codes, decimal, length};
+ghost use Rattle.ace_top.specs.ErrorAnswer.{error_answer, plan_answer};
 ghost use Rattle.ace_top.specs.Texts.{status_of, out_text_of, notes_text_of};
 
 use ace_grammar::{ReadErr, Reason};
+use ace_script::PlanErr;
 use arrayvec::ArrayString;
 use itoa::Buffer;
 
@@ -11,25 +12,47 @@ use itoa::Buffer;
 #[derive(Clone, Copy, Debug, PartialEq, Eq)]
 pub enum Answer {
     /// The trace was read to its end, and none of its events breaks a rule.
-    Accepted { events: u64 },
+    Accepted {
+        events: u64,
+    },
     /// This event, counted from 1, is the first that breaks a rule, and this is the least rule that it breaks.
-    Refused { index: u64, rule: u8 },
+    Refused {
+        index: u64,
+        rule: u8,
+    },
     /// The trace was written to its end.
     Shown,
     /// The report of an accepted trace was written.
     Reported,
     /// The script that is made from a number was written.
     Generated,
+    /// The trace of a run of a script was written.
+    Ran,
+    /// The script of this number was run, and its trace has so many events.
+    Tried {
+        number: u64,
+        events: u64,
+    },
     /// The words of the command line name no command.
     Usage,
     /// This line, counted from 1, is the first that is outside the grammar, for this reason.
-    Malformed { line: u64, reason: Reason },
+    Malformed {
+        line: u64,
+        reason: Reason,
+    },
+    /// The same of a script.
+    MalformedScript {
+        line: u64,
+        reason: ace_script::Reason,
+    },
     /// The input failed.
     ReadFault,
     /// The input goes on after as many events as a trace may have.
     LimitEvents,
     /// An event breaks no rule and names one line more than a trace may have.
     LimitLines,
+    /// The input goes on after as many operations as a script may have.
+    LimitOperations,
     /// There was no memory.
     NoMemory,
 }
@@ -46,24 +69,41 @@ pub fn error_answer(error: ReadErr) -> Answer
     }
 }
 
+/// The answer where a script could not be read.
+pub fn plan_answer(error: PlanErr) -> Answer
+    ensures { result ≡ plan_answer error }
+{
+    match error {
+        PlanErr::Malformed { line, reason } => Answer::MalformedScript { line, reason },
+        PlanErr::TooManyOps => Answer::LimitOperations,
+        PlanErr::ReadFault => Answer::ReadFault,
+        PlanErr::NoMemory => Answer::NoMemory,
+    }
+}
+
 /// The status with which the program ends.
 pub fn status_of(answer: Answer) -> u8
     ensures value { result ≡ status_of answer }
     ensures no_write_fault { result ≢ 5 }
 {
     match answer {
-        Answer::Accepted { .. } | Answer::Shown | Answer::Reported | Answer::Generated => 0,
+        Answer::Accepted { .. }
+        | Answer::Shown
+        | Answer::Reported
+        | Answer::Generated
+        | Answer::Ran
+        | Answer::Tried { .. } => 0,
         Answer::Refused { .. } => 1,
         Answer::Usage => 2,
-        Answer::Malformed { .. } => 3,
+        Answer::Malformed { .. } | Answer::MalformedScript { .. } => 3,
         Answer::ReadFault => 4,
-        Answer::LimitEvents | Answer::LimitLines => 6,
+        Answer::LimitEvents | Answer::LimitLines | Answer::LimitOperations => 6,
         Answer::NoMemory => 7,
     }
 }
 
 /// The text of a verdict for the standard output, with its line feed.
-pub fn out_text(answer: Answer) -> ArrayString<64>
+pub fn out_text(answer: Answer) -> ArrayString<96>
     ensures { result.bytes ≡ out_text_of answer }
 {
     let mut text = ArrayString::new();
@@ -81,8 +121,31 @@ pub fn out_text(answer: Answer) -> ArrayString<64>
             text.push_str(digits.format(rule));
             text.push_str("\n");
         }
+        Answer::Tried { number, events } => {
+            text.push_str("trial ");
+            text.push_str(digits.format(number));
+            text.push_str(": 512 operations, ");
+            text.push_str(digits.format(events));
+            text.push_str(" events, accepted\n");
+        }
         _ => {}
     }
+    text
+}
+
+/// Which line is malformed, and for which reason: the letter of its kind, and its number.
+fn malformed_text(line: u64, letter: &str, number: u8) -> ArrayString<64>
+    requires { length letter.now ≤ 2 }
+    ensures { result.bytes ≡ codes "malformed line " ++ decimal line ++ codes ": " ++ letter.now ++ decimal number ++ codes "\n" }
+{
+    let mut text = ArrayString::new();
+    let mut digits = Buffer::new();
+    text.push_str("malformed line ");
+    text.push_str(digits.format(line));
+    text.push_str(": ");
+    text.push_str(letter);
+    text.push_str(digits.format(number));
+    text.push_str("\n");
     text
 }
 
@@ -92,24 +155,17 @@ pub fn notes_text(answer: Answer) -> ArrayString<64>
 {
     let mut text = ArrayString::new();
     match answer {
-        Answer::Malformed { line, reason } => {
-            let mut digits = Buffer::new();
-            text.push_str("malformed line ");
-            text.push_str(digits.format(line));
-            text.push_str(": F");
-            text.push_str(digits.format(reason.number()));
-            text.push_str("\n");
+        Answer::Malformed { line, reason } => return malformed_text(line, "F", reason.number()),
+        Answer::MalformedScript { line, reason } => {
+            return malformed_text(line, "P", reason.number());
         }
         Answer::Usage => text.push_str("usage: ace check|run|show|migrate|report|gen N|trial N\n"),
         Answer::ReadFault => text.push_str("read fault\n"),
         Answer::LimitEvents => text.push_str("limit events\n"),
         Answer::LimitLines => text.push_str("limit lines\n"),
+        Answer::LimitOperations => text.push_str("limit operations\n"),
         Answer::NoMemory => text.push_str("out of memory\n"),
-        Answer::Accepted { .. }
-        | Answer::Refused { .. }
-        | Answer::Shown
-        | Answer::Reported
-        | Answer::Generated => {}
+        _ => {}
     }
     text
 }

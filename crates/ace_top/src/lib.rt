@@ -8,10 +8,11 @@ mod follow;
 mod generate;
 pub mod laws;
 mod output;
+mod range;
+mod run;
 mod show;
-#[cfg(test)]
-mod tests;
 mod top;
+mod trial;
 mod words;
 
 pub use top::{ace, tell_no_memory};

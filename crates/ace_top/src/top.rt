@@ -1,10 +1,10 @@
 // The top call: all that the program does.
 ghost use Rattle.std.specs.Prelude.{◌≡◌, ◌≢◌, ◌<◌, ◌≤◌, ◌-◌, ◌^◌, ◌⊎◌, [], IfSome, codes};
-ghost use Rattle.std.specs.Io.KnownBytes.{Appends};
+ghost use Rattle.std.specs.Io.KnownBytes.{Appends, IsAtEnd};
 ghost use Rattle.ace_io.specs.Faults.{Rose};
 ghost use Rattle.ace_grammar.specs.Errors.{LeavesNothing};
 ghost use Rattle.ace_top.specs.Verdict.{ReadsSound};
-ghost use Rattle.ace_top.specs.Words.{IsCheck, IsReport, IsTraceCommand, IsCommand};
+ghost use Rattle.ace_top.specs.Words.{IsCheck, IsReport, IsRun, IsTraceCommand, IsReadingCommand, IsCommand};
 ghost use Rattle.ace_top.specs.Answer.{AnswersWords, BreaksOffWords};
 ghost use Rattle.ace_top.specs.Output.{AppendsParts};
 
@@ -12,7 +12,9 @@ use crate::answer::Answer;
 use crate::check::{tell_report, tell_verdict};
 use crate::generate::write_script;
 use crate::output::conclude;
+use crate::run::run_script;
 use crate::show::{Version, write_out};
+use crate::trial::tell_trial;
 use crate::words::{Command, command_of};
 use ace_io::{Gate, Sink, Source};
 use std::alloc::Global;
@@ -22,15 +24,16 @@ use std::thread::Threads;
 /// Does what the words ask, and returns the status.
 #[tactic(auto, using(crate::proofs::WordsAnswered::words_answered))]
 pub fn ace<R: Threads + Wait + Sync, S: Source, K: Sink, E: Sink, G: Gate + Sync>(
-    _rt: &R,
+    rt: &R,
     alloc: Global,
     words: &[String],
     input: &mut S,
     out: &mut K,
     notes: &mut E,
-    _gate: &G,
+    gate: &G,
 ) -> u8
-    // Where no output failed, the status and the texts are those of an answer to the words and the input.
+    // Where no output failed, the status and the texts are those of an answer to the words and the input. So a run writes the trace of a
+    // run of the whole script, however its threads come to their turns.
     ensures answer { result ≢ 5 → AnswersWords words.now (S.left input.old) (S.left input.new) result
         (K.held out.old) (K.held out.new) (E.held notes.old) (E.held notes.new) }
 
@@ -38,6 +41,7 @@ pub fn ace<R: Threads + Wait + Sync, S: Source, K: Sink, E: Sink, G: Gate + Sync
     // are, and none is left. Where it is that of `check` or `report`, the trace has all that acceptance promises: it is coherent, its
     // exclusive stores are exclusive, its barriers order, and its Syncs wait for all.
     ensures whole { IsTraceCommand words.now → result ≡ 0 → LeavesNothing (S.left input.old) (S.left input.new) }
+    ensures script_whole { IsRun words.now → result ≡ 0 → IsAtEnd (S.left input.new) }
     ensures sound { IsCheck words.now ⊎ IsReport words.now → result ≡ 0 → IfSome (S.left input.old) ReadsSound }
 
     // Where an output failed, each has a front of what such an answer gives it, and then the notes tell so if they can.
@@ -56,10 +60,10 @@ pub fn ace<R: Threads + Wait + Sync, S: Source, K: Sink, E: Sink, G: Gate + Sync
     ensures output_failed { (K.faults out.old < K.faults out.new) ⊎ (E.faults notes.old < E.faults notes.new)
         → result ≡ 5 }
 
-    // The usage is told exactly where the words name no command. Where they name none that reads a trace, the input isn't touched.
+    // The usage is told exactly where the words name no command. Where they name none that reads it, the input isn't touched.
     ensures usage { result ≡ 2 → ¬ IsCommand words.now }
     ensures no_command { ¬ IsCommand words.now → (result ≡ 2) ⊎ (result ≡ 5) ⊎ (result ≡ 7) }
-    ensures untouched { ¬ IsTraceCommand words.now → input.new ≡ input.old }
+    ensures untouched { ¬ IsReadingCommand words.now → input.new ≡ input.old }
     ensures status { result ≤ 7 }
 {
     match command_of(words) {
@@ -67,7 +71,9 @@ pub fn ace<R: Threads + Wait + Sync, S: Source, K: Sink, E: Sink, G: Gate + Sync
         Some(Command::Report) => tell_report(alloc, input, out, notes),
         Some(Command::Show) => write_out(alloc, input, out, notes, Version::AsRead),
         Some(Command::Migrate) => write_out(alloc, input, out, notes, Version::Two),
+        Some(Command::Run) => run_script(rt, alloc, input, out, notes, gate),
         Some(Command::Gen { number }) => write_script(alloc, number, out, notes),
+        Some(Command::Trial { number }) => tell_trial(alloc, number, out, notes),
         None => conclude(out, notes, Answer::Usage),
     }
 }

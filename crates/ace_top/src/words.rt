@@ -1,7 +1,7 @@
 // The words of the command line.
 ghost use Rattle.std.specs.Prelude.{◌≡◌, ◌↔◌, ℕ, decimal, IsTrue, MatchOption};
 ghost use Rattle.ace_top.specs.Command.{Names};
-ghost use Rattle.ace_top.specs.Words.{IsCommand, IsGen, IsNumber, IsWord};
+ghost use Rattle.ace_top.specs.Words.{IsCommand, IsNumber, IsNumbered, IsWord};
 
 use itoa::Buffer;
 
@@ -16,8 +16,12 @@ pub enum Command {
     Show,
     /// To write a trace in version 2.
     Migrate,
+    /// To run a script, and to write the trace of the run.
+    Run,
     /// To write the script that is made from this number.
     Gen { number: u64 },
+    /// To run that script, and to tell of the run.
+    Trial { number: u64 },
 }
 
 /// Whether there is one word, and it is this one.
@@ -52,11 +56,14 @@ fn number_of(word: &str) -> Option<u64>
     }
 }
 
-/// The number whose script the words ask for, if they do.
-fn number_to_generate(words: &[String]) -> Option<u64>
-    ensures { MatchOption result ((n : ℕ) → ¬ IsGen words.now n) (IsGen words.now) }
+/// The number behind this word, if the words are these two.
+fn number_behind(words: &[String], text: &str) -> Option<u64>
+    ensures { MatchOption result ((n : ℕ) → ¬ IsNumbered words.now text.now n) (IsNumbered words.now text.now) }
 {
-    if words.len() == 2 && words[0].as_str() == "gen" {
+    if words.len() != 2 {
+        return None;
+    }
+    if words[0].as_str() == text {
         number_of(words[1].as_str())
     } else {
         None
@@ -76,10 +83,15 @@ pub fn command_of(words: &[String]) -> Option<Command>
         Some(Command::Show)
     } else if is_word(words, "migrate") {
         Some(Command::Migrate)
+    } else if is_word(words, "run") {
+        Some(Command::Run)
     } else {
-        match number_to_generate(words) {
+        match number_behind(words, "gen") {
             Some(number) => Some(Command::Gen { number }),
-            None => None,
+            None => match number_behind(words, "trial") {
+                Some(number) => Some(Command::Trial { number }),
+                None => None,
+            },
         }
     }
 }

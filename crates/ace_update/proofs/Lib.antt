@@ -10,5 +10,3 @@ pub mod DueWrites
 pub mod Rooms
 -- The burst of a write that may have it is a step.
 pub mod UpdateSteps
--- Two worked traces.
-pub mod Worked

@@ -2,4 +2,3 @@
 pub mod EngineLaws
 pub mod Passed
 pub mod Update
-pub mod Worked

@@ -2,8 +2,6 @@
 #![tactic(auto)]
 
 mod passed;
-#[cfg(test)]
-mod tests;
 mod update;
 
 pub use update::Update;

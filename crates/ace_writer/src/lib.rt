@@ -5,8 +5,6 @@ mod error;
 mod fields;
 mod header;
 mod records;
-#[cfg(test)]
-mod tests;
 mod text_buf;
 mod writer;
 

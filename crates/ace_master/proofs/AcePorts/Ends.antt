@@ -45,6 +45,7 @@ use Rattle.ace_master.specs.AcePort.{AceTells}
 use Rattle.ace_master.specs.AceEvents.{HaveLowIds}
 use Rattle.ace_master.specs.Answering.{AreDataSent}
 use Rattle.ace_master.specs.Sending.{UnsentStands}
+use Rattle.ace_master.specs.Lite.{own_steps}
 use Rattle.ace_master.proofs.AcePorts.Turns.{IsTaken, going-own, taken}
 use Rattle.ace_master.proofs.WriteData.UnsentData.{unsent-left}
 
@@ -59,24 +60,24 @@ is_plain (Cr p resp st) = false
 is_plain (Cd p last word) = false
 is_plain _ = true
 
-plain-low : (burst : List Event) → list_all is_plain burst ≡ true → HaveLowIds burst
+pub plain-low : (burst : List Event) → list_all is_plain burst ≡ true → HaveLowIds burst
 plain-low [] q = tt
 plain-low (Ar p i addr snoop dom bar lock ∷ burst) q = cc
 plain-low (e ∷ burst) q = (tt, plain-low burst (and_parts (is_plain e) (list_all is_plain burst) q).1)
 
-plain-chosen : (plan : Plan) (burst : List Event) (past : Trace) → list_all is_plain burst ≡ true → AreChosen plan past burst
+pub plain-chosen : (plan : Plan) (burst : List Event) (past : Trace) → list_all is_plain burst ≡ true → AreChosen plan past burst
 plain-chosen plan [] past q = tt
 plain-chosen plan (W p strb last word ∷ burst) past q = cc
 plain-chosen plan (Cr p resp st ∷ burst) past q = cc
 plain-chosen plan (e ∷ burst) past q = (refl, plain-chosen plan burst (e ∷ past) (and_parts (is_plain e) (list_all is_plain burst) q).1)
 
-plain-answered : (p : ℕ) (burst : List Event) (past : Trace) → list_all is_plain burst ≡ true → AreDataSent past p → AreDataSent (onto burst past) p
+pub plain-answered : (p : ℕ) (burst : List Event) (past : Trace) → list_all is_plain burst ≡ true → AreDataSent past p → AreDataSent (onto burst past) p
 plain-answered p [] past q s = s
 plain-answered p (Cr r resp st ∷ burst) past q s = cc
 plain-answered p (Cd r last word ∷ burst) past q s = cc
 plain-answered p (e ∷ burst) past q s = plain-answered p burst (e ∷ past) (and_parts (is_plain e) (list_all is_plain burst) q).1 s
 
-plain-unsent : (plan : Plan) (p : ℕ) (unsent : Option WriteData) (burst : List Event) (past : Trace) → list_all is_plain burst ≡ true → UnsentStands plan past p unsent
+pub plain-unsent : (plan : Plan) (p : ℕ) (unsent : Option WriteData) (burst : List Event) (past : Trace) → list_all is_plain burst ≡ true → UnsentStands plan past p unsent
     → UnsentStands plan (onto burst past) p unsent
 plain-unsent plan p unsent [] past q u = u
 plain-unsent plan p unsent (Ar r i addr snoop dom bar lock ∷ burst) past q u = cc
@@ -86,13 +87,18 @@ plain-unsent plan p unsent (e ∷ burst) past q u =
     plain-unsent plan p unsent burst (e ∷ past) (and_parts (is_plain e) (list_all is_plain burst) q).1 (unsent-left plan past p e unsent refl refl u)
 
 -- a step that is such a burst
+pub plain-own : (plan : Plan) (past : Trace) (p : ℕ) (burst : List Event) → is_ace plan.header p ≡ true → IsLegal plan past → (operations : List Op) (before : Option WriteData)
+    → AceTells plan past p operations before → list_all is_plain burst ≡ true → is_step_by own_steps plan past p burst ≡ true → IsTaken plan past p burst operations before
+plain-own plan past p burst ace legal operations before t plain step =
+    taken plan past p burst ace legal operations before t before step (plain-chosen plan burst past plain) (plain-low burst plain)
+    (plain-answered p burst past plain t.answered) (plain-unsent plan p before burst past plain t.unsent_is)
+
 pub plain-taken : (plan : Plan) (past : Trace) (p : ℕ) (burst : List Event) → is_ace plan.header p ≡ true → IsLegal plan past → (operations : List Op) (before : Option WriteData)
     → AceTells plan past p operations before → list_all is_plain burst ≡ true → is_step_by (14 ∷ []) plan past p burst ≡ true → IsTaken plan past p burst operations before
 plain-taken plan past p burst ace legal operations before t plain step =
-    taken plan past p burst ace legal operations before t before (going-own plan past p burst step) (plain-chosen plan burst past plain) (plain-low burst plain)
-    (plain-answered p burst past plain t.answered) (plain-unsent plan p before burst past plain t.unsent_is)
+    plain-own plan past p burst ace legal operations before t plain (going-own plan past p burst step)
 
-plain-ends : (p : ℕ) → Concludes p is_plain
+pub plain-ends : (p : ℕ) → Concludes p is_plain
 plain-ends p = record { reads = λ st. refl; writes = λ st. refl; loads = λ addr w x word. refl; stores = λ addr strobe x line. refl; retires = λ k res. refl }
 
 pub closing-plain : (h : Header) (past : Trace) (p : ℕ) (op : Op) → list_all is_plain (closing_of h past p op) ≡ true

@@ -28,7 +28,7 @@ past-end (x ∷ xs) zero none = cc
 past-end (x ∷ xs) (suc n) none = let low = past-end xs n none in omega (arith, low)
 
 -- where nothing is left to send, nothing need be kept
-none-keeps : (plan : Plan) (past : Trace) (p : ℕ) (unsent : Option WriteData) → next_write past p ≡ None → KeepsData plan past p unsent
+pub none-keeps : (plan : Plan) (past : Trace) (p : ℕ) (unsent : Option WriteData) → next_write past p ≡ None → KeepsData plan past p unsent
 none-keeps plan past p unsent none = λ x next stores. let bad : None ≡ Some x = sym none ∙ next in cc
 
 pub unsent-first : (plan : Plan) (p : ℕ) (unsent : Option WriteData) → UnsentStands plan [] p unsent
@@ -66,7 +66,7 @@ unsent-sent plan past p burst before unsent s u =
       data_is = none-keeps plan (onto burst past) p unsent (none-past (data_writes (onto burst past) p) (length (beats (onto burst past) p) / 4) all);
     }
 
-none-first : (a b : Bool) → b ≡ true → (a && b) ≡ false → a ≡ false
+pub none-first : (a b : Bool) → b ≡ true → (a && b) ≡ false → a ≡ false
 none-first true b t f = let bad : true ≡ false = sym t ∙ f in cc
 none-first false b t f = refl
 

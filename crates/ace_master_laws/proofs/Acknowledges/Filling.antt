@@ -25,7 +25,7 @@ use Rattle.ace_runs.specs.Bursts.{are_kept}
 use Rattle.ace_master_laws.proofs.Acknowledges.Acknowledging.{brings-room, no-other}
 use Rattle.ace_master_laws.specs.Orderly.{brings_line}
 use Rattle.ace_runs.proofs.NeverStuck.Operations.Fits.Ends.{can-not-end}
-use Rattle.ace_runs.specs.Closing.{closing_of}
+use Rattle.ace_runs.specs.Closing.{closing_of, retirement}
 use Rattle.ace_master_laws.proofs.Progress.Ended.{ended-come, nothing-new}
 use Rattle.ace_runs.proofs.NeverStuck.Steps.SameEvents.{equal-event}
 use Rattle.ace_model.specs.Values.{full_line}
@@ -46,7 +46,7 @@ unfolding closing_of
 closing-alike h past p b line other st = refl
 
 -- a store completes nothing
-acknowledged-same : (past : Trace) (p q b s : ℕ) (y : Bool) (l : Line) (c : Channel) → acknowledged (D q b s y l ∷ past) p c ≡ acknowledged past p c
+pub acknowledged-same : (past : Trace) (p q b s : ℕ) (y : Bool) (l : Line) (c : Channel) → acknowledged (D q b s y l ∷ past) p c ≡ acknowledged past p c
 acknowledged-same past p q b s y l c = by (next_complete past p c)
   where
     by : (o : Option ℕ) → transaction_under (D q b s y l ∷ past) p c o ≡ transaction_under past p c o
@@ -100,6 +100,19 @@ module _ (plan : Plan) (past : Trace) (p : ℕ) (right : IsRight plan) (a : IsAc
         let one = held-one h (store ∷ past) (Rk p st) p x.addr told (eq-eqb p p refl) in
         le-leb (length (held_lines h now p)) plan.ways (omega (arith, low, few, one))
 
+    -- the operation may retire then
+    may-end : IsAccepted h now → may_retire h now p o Ok ≡ true
+    may-end now2 =
+        let m = stored now2.0 in
+        let w = rk-well plan (store ∷ past) p st (room now2.0) in
+        let made : acts_made now p ≡ 1 = ack-made (store ∷ past) Read p p st ∙ m.made ∙ ap (λ n. n + 1) unmade in
+        access-retires plan now p o ((f, m.well.obeying), w.obeying) (m.stays ∙ next) refl made
+
+    -- so its OP ends it
+    pub fill-ends : IsAccepted h now → closing_of h now p o ≡ retirement now p Ok
+    unfolding closing_of
+    fill-ends now2 = let may = may-end now2 in rw may refl
+
     pub filled : (rest : List Event) → are_kept h past (store ∷ Rk p st ∷ rest) ≡ true → same_burst (closing_of h now p o) rest ≡ true → KeepsOn plan past p (store ∷ Rk p st ∷ rest)
     filled rest kept same =
         let now1 = accepted-one plan past store (Rk p st ∷ rest) a kept in
@@ -110,8 +123,7 @@ module _ (plan : Plan) (past : Trace) (p : ℕ) (right : IsRight plan) (a : IsAc
         let f2 : FollowsSoFar plan now = ((f, m.well.obeying), w.obeying) in
         let later : next_operation plan now p ≡ Some o = m.stays ∙ next in
         let all = closing-well plan now p o f2 later rest now2 same (kept-rest h (store ∷ past) (Rk p st) rest kept1) in
-        let made : acts_made now p ≡ 1 = ack-made (store ∷ past) Read p p st ∙ m.made ∙ ap (λ n. n + 1) unmade in
-        let may = access-retires plan now p o f2 later refl made in
+        let may = may-end now2 in
         record {
           well = (m.well, (w, all));
           come = elim (ended-come plan now p o rest same none) [

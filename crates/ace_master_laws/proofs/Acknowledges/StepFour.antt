@@ -56,13 +56,13 @@ never o right m = let bad : false ≡ true = m in absurd (falsity bad)
     falsity b = cc
 
 -- the operation that a MakeUnique is for
-made-for : (o : Op) (l : ℕ) → read_wanted o ≡ Some (read.MakeUnique, l) → has_right_fields o ≡ true → (line : Line) × (o ≡ op.Fill l line)
+pub made-for : (o : Op) (l : ℕ) → read_wanted o ≡ Some (read.MakeUnique, l) → has_right_fields o ≡ true → (line : Line) × (o ≡ op.Fill l line)
 made-for o l wanted right =
     let fill = never o right (ap (λ v. is_some_and v (λ (q : ArKind × ℕ). is_make_unique q.0)) wanted) in
     let same = (pair-parts (read_wanted o) read.MakeUnique read.MakeUnique l fill.1 wanted (ap read_wanted fill.2)).1 in
     (fill.0, fill.2 ∙ ap (λ v. op.Fill v fill.0) (sym same))
 
-make-kind : (k : ArKind) → is_make_unique k ≡ true → k ≡ read.MakeUnique
+pub make-kind : (k : ArKind) → is_make_unique k ≡ true → k ≡ read.MakeUnique
 make-kind read.MakeUnique m = refl
 make-kind k m = cc
 

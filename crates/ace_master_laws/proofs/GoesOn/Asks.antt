@@ -126,7 +126,7 @@ module _ (plan : Plan) (past : Trace) (p : ℕ) (o : Op) (right : IsRight plan) 
 
   -- ---- a read that brings a line in ------------------------------------------------------------------
 
-  access-waits : has_access o ≡ true → gives_access o (state_named h past p o) ≡ false
+  pub access-waits : has_access o ≡ true → gives_access o (state_named h past p o) ≡ false
   access-waits some =
       false_from_ne_true (gives_access o (state_named h past p o)) (λ access.
       let e = an-access-of past p o some in
@@ -255,6 +255,7 @@ module _ (plan : Plan) (past : Trace) (p : ℕ) (o : Op) (right : IsRight plan) 
             | inl b ↦ ap (λ v. is_some_and v takes_line) (sym q.known) ∙ b
             | inr m ↦ cc
           ]);
+          absent = λ t m used. cc;
           brought = λ n y there b. idle plan past p o right a f c r n y there;
           cleared = λ n y there b. idle plan past p o right a f c r n y there;
         }

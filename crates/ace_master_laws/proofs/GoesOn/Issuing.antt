@@ -12,7 +12,9 @@ use Rattle.ace_runs.specs.Segments.{segment, is_for_operation, silent_moves}
 use Rattle.ace_runs.specs.Follows.{FollowsSoFar, acts_well, answers_well, carries_data, retires_well}
 use Rattle.ace_master_laws.proofs.Progress.Come.{HasCome, no-read, out-stays}
 use Rattle.ace_model.specs.Accepted.{IsAccepted}
-use Rattle.ace_master_laws.specs.Orderly.{IsFor, IsUnderWay, brings_line, is_settled, owns_line, takes_line, takes_way}
+use Rattle.ace_master_laws.specs.Orderly.{IsFor, IsUnderWay, brings_line, is_settled, line_used, owns_line, takes_line, takes_way}
+use Rattle.ace_tables.specs.States.{is_invalid}
+use Rattle.ace_model.specs.States.{state_of}
 use Rattle.ace_master_laws.proofs.Lines.Gentle.{IsGentle, cleared-stays, settled-stays, gentle}
 use Rattle.ace_master_laws.proofs.Progress.Wells.{IsWell, gentle-room, obeys-from}
 use Rattle.ace_model.specs.Plans.{Plan}
@@ -42,6 +44,7 @@ pub record Issues (plan : Plan) (past : Trace) (p : ℕ) (o : Op) (e : Event) (x
   pub updates : updates_memory x ≡ true → length (filter updates_memory (segment past p)) ≤ 0
   pub owners : owns_line x ≡ true → length (filter owns_line (segment past p)) ≤ 0
   pub way : takes_way o x ≡ true → length (others x.addr (held_lines plan.header past p)) < plan.ways
+  pub absent : updates_memory x ≡ true → (l : ℕ) → line_used o ≡ Some l → is_invalid (state_of plan.header past p l) ≡ true
   pub brought : (k : ℕ) (y : Transaction) → slice_get (segment past p) k ≡ Some y → brings_line y ≡ true → is_outstanding plan.header past y ≡ false
   pub cleared : (k : ℕ) (y : Transaction) → slice_get (segment past p) k ≡ Some y → updates_memory y ≡ true → is_outstanding plan.header past y ≡ false
 
@@ -147,6 +150,14 @@ module _ (plan : Plan) (past : Trace) (p : ℕ) (o : Op) (e : Event) (x : Transa
         ]
       ]
 
+  absent-now : (k : ℕ) (y : Transaction) → slice_get (segment now p) k ≡ Some y → is_outstanding h now y ≡ true → updates_memory y ≡ true → (l : ℕ) → line_used o ≡ Some l
+      → is_invalid (state_of h now p l) ≡ true
+  absent-now k y there out updates_y l used =
+      elim (issue-at k y there) [
+        | inl old ↦ let bad : true ≡ false = sym out ∙ issue-outs k y old ∙ s.cleared k y old updates_y in cc
+        | inr same ↦ g.raises l (s.absent (ap updates_memory same ∙ updates_y) l used)
+      ]
+
   -- What it asks for leaves the port as it is to be.
   pub issue-come : HasCome plan now p
   issue-come =
@@ -176,6 +187,7 @@ module _ (plan : Plan) (past : Trace) (p : ℕ) (o : Op) (e : Event) (x : Transa
               one_owner = subst (λ l. length (filter owns_line l) ≤ 1) (sym issue-segment) (filtered-more owns_line (segment past p) x u.one_owner s.owners);
               room = room-now;
               apart = apart-now;
+              absent = absent-now;
             });
       }
 

@@ -71,6 +71,7 @@ act-issues plan past p o e x t now brought cleared =
       way = λ m.
           let some = (and_parts (wants_way o) (brings_line x || updates_memory x) m).1 in
           let bad : false ≡ true = sym (ap (λ b. b || updates_memory x) t.still ∙ t.no_update) ∙ some in cc;
+      absent = λ m l used. let bad : false ≡ true = sym t.no_update ∙ m in cc;
       brought = brought;
       cleared = cleared;
     }

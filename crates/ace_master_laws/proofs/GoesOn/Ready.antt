@@ -48,7 +48,7 @@ wanted-named (op.Fill a line) k l is = ap Some (pair-parts (Some (read.MakeUniqu
 wanted-named (op.Pf a j) k l is = ap Some (pair-parts (Some (j, a)) j k a l refl is).1
 wanted-named o k l is = cc
 
-stored-named : (o : Op) (l : ℕ) (lock : Bool) → store_wanted o ≡ Some (l, lock) → line_named o ≡ Some l
+pub stored-named : (o : Op) (l : ℕ) (lock : Bool) → store_wanted o ≡ Some (l, lock) → line_named o ≡ Some l
 stored-named (op.St b w word) l lock is = ap Some (store-parts (Some (b, false)) b false l lock refl is).0
 stored-named (op.Stx b w word) l lock is = ap Some (store-parts (Some (b, true)) b true l lock refl is).0
 stored-named o l lock is = cc

@@ -16,11 +16,11 @@ use Rattle.ace_event.specs.declared.header.Header.{Header}
 use Rattle.ace_model.specs.declared.plans.Op.{Op}
 use Rattle.ace_model.specs.declared.plans.Op.TheVariants as op
 use Rattle.ace_model.specs.declared.transactions.Transaction.{Transaction}
-use Rattle.ace_master_laws.specs.Orderly.{is_cleared, wants_way, clears, has_lost, read_wanted, store_wanted, takes_line, gives, acts, owns, brings}
+use Rattle.ace_master_laws.specs.Orderly.{is_cleared, line_used, wants_way, clears, has_lost, read_wanted, store_wanted, takes_line, gives, acts, owns, brings}
 use Rattle.ace_runs.specs.Follows.{FollowsSoFar}
 use Rattle.ace_master_laws.proofs.Progress.Come.{HasCome}
 use Rattle.ace_model.specs.Accepted.{IsAccepted}
-use Rattle.ace_master_laws.proofs.GoesOn.Asks.{IsGood, ReadAsk, read-good, own-named}
+use Rattle.ace_master_laws.proofs.GoesOn.Asks.{IsGood, ReadAsk, access-waits, read-good, own-named}
 use Rattle.ace_model.proofs.Trace.Growth.{IsIssued, issued-cases}
 use Rattle.ace_runs.specs.Lean.{IsLean, is_on_named_line, is_one_of_three, is_one_of_two}
 use Rattle.ace_master_laws.proofs.GoesOn.Ready.{IsReady, wanted-named, none-issued}
@@ -40,7 +40,7 @@ use Rattle.ace_tables.specs.States.{is_invalid, is_dirty}
 use Rattle.ace_model.specs.Transactions.{is_line, write_kind, issued, has_outstanding_on, read_kind}
 use Rattle.ace_model.specs.AddressRules.{is_no_snoop, keeps_apart, has_write}
 use Rattle.ace_model.specs.Kinds.{is_no_snoop_read, is_no_snoop_write, is_update, is_write_barrier, is_clean_unique, is_dvm_complete, is_granted_write, is_line_read, is_read_barrier, is_unique_write, is_evict}
-use Rattle.ace_model.proofs.General.Options.{is_none_or-at}
+use Rattle.ace_model.proofs.General.Options.{Some-injective, is_none_or-at}
 use Rattle.ace_tables.specs.Answers.{same_test}
 use Rattle.ace_model.specs.States.{state_of}
 use Rattle.ace_runs.proofs.NeverStuck.Operations.Kept.AsksKept.{write-known, read-known}
@@ -56,7 +56,7 @@ use Rattle.ace_runs.specs.Segments.{acts_made, has_written, segment}
 use Rattle.ace_runs.proofs.NeverStuck.Phases.OneOfTwo.{has_two_acts}
 use Rattle.ace_runs.proofs.NeverStuck.Operations.Fits.Ends.{not-skipped}
 use Rattle.ace_tables.specs.StartStates.{starts_write}
-use Rattle.ace_runs.specs.Closing.{state_named}
+use Rattle.ace_runs.specs.Closing.{gives_access, state_named}
 
 -- ---- operations that want a way ----------------------------------------------------------------------
 
@@ -68,6 +68,14 @@ clears-way (op.Wu b strobe line) l w = cc
 clears-way (op.Wlu b line) l w = cc
 clears-way (op.Cs b) l w = cc
 clears-way o l w = w
+
+-- the line that an operation loads from or stores to is one that it wants a way for
+used-way : (o : Op) (l : ℕ) → line_used o ≡ Some l → wants_way o ≡ true
+used-way (op.Ld a w) l used = refl
+used-way (op.Ldx a w) l used = refl
+used-way (op.St a w word) l used = refl
+used-way (op.Fill a line) l used = refl
+used-way o l used = cc
 
 cleared-way : (ways : ℕ) (h : Header) (past : Trace) (p : ℕ) (o : Op) → wants_way o ≡ true → is_cleared ways h past p o ≡ has_room ways h past p
 cleared-way ways h past p (op.Ro b) w = cc
@@ -161,7 +169,15 @@ module _ (plan : Plan) (past : Trace) (p : ℕ) (o : Op) (right : IsRight plan) 
   gone-now : (m : ℕ) → is_invalid (state_of h (S p m I ∷ past) p m) ≡ true
   gone-now m = ap (λ b. is_invalid (unwrap_or (if b then Some I else None) (state_of h past p m))) (and_from _ _ (eq-eqb p p refl) (eq-eqb m m refl))
 
-  module _ (way : wants_way o ≡ true) (full : has_room plan.ways h past p ≡ false) where
+  -- the port holds nothing of the line that the operation loads from or stores to
+  abbrev IsAbsent : Type 0
+  IsAbsent = (n : ℕ) → line_used o ≡ Some n → is_invalid (state_of h past p n) ≡ true
+
+  -- it uses none
+  no-line : wants_way o ≡ false → IsAbsent
+  no-line no_way n used = let bad : false ≡ true = sym no_way ∙ used-way o n used in cc
+
+  module _ (way : wants_way o ≡ true) (full : has_room plan.ways h past p ≡ false) (gone : IsAbsent) where
     not-cleared : is_cleared plan.ways h past p o ≡ false
     not-cleared = cleared-way plan.ways h past p o way ∙ full
 
@@ -169,7 +185,7 @@ module _ (plan : Plan) (past : Trace) (p : ℕ) (o : Op) (right : IsRight plan) 
     victim-good m held =
         good-if (is_dirty (state_of h past p m)) (write_bursts h past p write.WriteBack m) (drop_bursts p m)
         (λ t. good-writes write.WriteBack m (λ i. write-good plan past p o right a f c r write.WriteBack m (update-ask write.WriteBack m refl held) i
-        (λ x is addr. gives write.WriteBack is (clears-way o x.addr way)) (λ u. not-cleared) (λ u w. held-way m held)))
+        (λ x is addr. gives write.WriteBack is (clears-way o x.addr way)) (λ u. not-cleared) (λ u w. held-way m held) (λ u. gone)))
         (λ t. good-drop m (drop-good plan past p o right a f c r m not-cleared (λ now.
         let few = held-gone h past (S p m I) p m refl (eq-eqb p p refl) (gone-now m) in
         let low = held-way m held in
@@ -222,8 +238,8 @@ module _ (plan : Plan) (past : Trace) (p : ℕ) (o : Op) (right : IsRight plan) 
       wanted-ends (op.Pf b i) j n is = let s = pair-parts (Some (i, b)) i j b n refl is in (refl, inr (ap (λ v. op.Pf v i) s.1 ∙ ap (op.Pf n) s.0))
       wanted-ends v j n is = cc
 
-  misses : (k : ArKind) (m : ℕ) (lock : Bool) → read_wanted o ≡ Some (k, m) → EachGood (bursts_of plan.ways h past p (Misses k m lock))
-  misses k m lock wanted =
+  misses : (k : ArKind) (m : ℕ) (lock : Bool) → read_wanted o ≡ Some (k, m) → IsAbsent → EachGood (bursts_of plan.ways h past p (Misses k m lock))
+  misses k m lock wanted gone =
       let takes = wanted-taken o k m wanted (next-planned plan past p o right r.next).fields in
       let way : wants_way o ≡ true = ap is_some wanted in
       good-if (has_room plan.ways h past p) (read_bursts h past p k m lock) (room_bursts h past p)
@@ -231,7 +247,7 @@ module _ (plan : Plan) (past : Trace) (p : ℕ) (o : Op) (right : IsRight plan) 
       let low = ltb-true (length (held_lines h past p)) plan.ways room in
       let few = others-few m (held_lines h past p) in
       good-reads k m lock (bring-ask k m lock wanted takes (omega (arith, low, few))))
-      (λ full. rooms way full)
+      (λ full. rooms way full gone)
 
   -- the CleanUnique of a line that the operation stores to
   own-ask : (m : ℕ) (lock : Bool) → store_wanted o ≡ Some (m, lock) → has_lost h past p o ≡ false → (line_named o ≡ Some m) × (wants_no_snoop o ≡ false) → ReadAsk plan past p o right a f c r read.CleanUnique m lock
@@ -291,7 +307,8 @@ module _ (plan : Plan) (past : Trace) (p : ℕ) (o : Op) (right : IsRight plan) 
             (ap (λ v. is_some_and v is_no_snoop_read || is_some_and (write_kind x) is_no_snoop_write) reads ∙ ap (λ v. is_some_and v is_no_snoop_write) is ∙ class);
       }) i
       (λ x is addr. acts (or_right (is_some_and (read_kind x) is_act_read) _ (ap (λ v. is_some_and v is_act_write) is ∙ or_left (is_granted_write k) _ granted)))
-      (λ u. let none = kind.1.1 in let bad : false ≡ true = sym none ∙ u in cc) (λ u w. let none = kind.1.1 in let bad : false ≡ true = sym none ∙ u in cc))
+      (λ u. let none = kind.1.1 in let bad : false ≡ true = sym none ∙ u in cc) (λ u w. let none = kind.1.1 in let bad : false ≡ true = sym none ∙ u in cc)
+      (λ u n used. let none = kind.1.1 in let bad : false ≡ true = sym none ∙ u in cc))
     where
       granted-kind : (j : AwKind) → is_granted_write j ≡ true → (is_write_barrier j ≡ false) × ((is_at (write_place j) (aw_code j) (domain_for (is_no_snoop_write j)) 0 ≡ true) × (is_update j ≡ false))
       granted-kind write.WriteNoSnoop g = (refl, (refl, refl))
@@ -309,7 +326,7 @@ module _ (plan : Plan) (past : Trace) (p : ℕ) (o : Op) (right : IsRight plan) 
       by true d is = goes is
       by false true is =
           good-writes write.WriteBack m (λ i. write-good plan past p o right a f c r write.WriteBack m (update-ask write.WriteBack m refl is) i
-          (λ x k addr. gives write.WriteBack k (for x.addr (sym addr))) (λ u. alike past ∙ is) (λ u w. let bad : false ≡ true = sym no_way ∙ w in cc))
+          (λ x k addr. gives write.WriteBack k (for x.addr (sym addr))) (λ u. alike past ∙ is) (λ u w. let bad : false ≡ true = sym no_way ∙ w in cc) (λ u. no-line no_way))
       by false false is =
           good-drop m (drop-good plan past p o right a f c r m (alike past ∙ is) (λ now. alike (S p m I ∷ past) ∙ gone-now m))
 
@@ -338,15 +355,34 @@ module _ (plan : Plan) (past : Trace) (p : ℕ) (o : Op) (right : IsRight plan) 
       (alike (Aw p i m (aw_code k) (domain_for (is_no_snoop_write k)) 0 ∷ past)
       ∙ and_from _ _ (ap (λ n. n == 0) (unacted plan past p o right a f c r k m q i plain)) (written-now plan past p o right a f c r k m q i)))
 
-  store-good : (b : ℕ) (v : Bool) → is_invalid (state_of h past p b) ≡ v → read_wanted o ≡ Some (read.ReadUnique, b) → store_wanted o ≡ Some (b, false) → has_lost h past p o ≡ is_invalid (state_of h past p b)
-      → (line_named o ≡ Some b) × (wants_no_snoop o ≡ false) → EachGood (bursts_of plan.ways h past p (if v then Misses read.ReadUnique b false else Reads read.CleanUnique b false))
-  store-good b true is wanted stored lost line = misses read.ReadUnique b false wanted
-  store-good b false is wanted stored lost line = good-reads read.CleanUnique b false (own-ask b false stored (lost ∙ is) line)
+  -- the line that it uses isn't held
+  used-gone : (b : ℕ) → line_used o ≡ Some b → is_invalid (state_of h past p b) ≡ true → IsAbsent
+  used-gone b uses is n used = ap (λ m. is_invalid (state_of h past p m)) (sym (Some-injective b n (sym uses ∙ used))) ∙ is
 
-  fill-good : (b : ℕ) (v : Bool) → is_invalid (state_of h past p b) ≡ v → read_wanted o ≡ Some (read.MakeUnique, b)
+  -- a load waits for its line
+  load-gone : (b : ℕ) → line_used o ≡ Some b → has_access o ≡ true → gives_access o (state_named h past p o) ≡ not (is_invalid (state_of h past p b)) → IsAbsent
+  load-gone b uses some alike = used-gone b uses (not-false (is_invalid (state_of h past p b)) (sym alike ∙ access-waits plan past p o right a f c r some))
+    where
+      not-false : (v : Bool) → not v ≡ false → v ≡ true
+      not-false true n = refl
+      not-false false n = cc
+
+  -- a read ahead uses none
+  none-used : line_used o ≡ None → IsAbsent
+  none-used none n used = let bad : None ≡ Some n = sym none ∙ used in nothing bad
+    where
+      nothing : {n : ℕ} {A : Type 0} → None ≡ Some n → A
+      nothing bad = cc
+
+  store-good : (b : ℕ) (v : Bool) → is_invalid (state_of h past p b) ≡ v → line_used o ≡ Some b → read_wanted o ≡ Some (read.ReadUnique, b) → store_wanted o ≡ Some (b, false) → has_lost h past p o ≡ is_invalid (state_of h past p b)
+      → (line_named o ≡ Some b) × (wants_no_snoop o ≡ false) → EachGood (bursts_of plan.ways h past p (if v then Misses read.ReadUnique b false else Reads read.CleanUnique b false))
+  store-good b true is uses wanted stored lost line = misses read.ReadUnique b false wanted (used-gone b uses is)
+  store-good b false is uses wanted stored lost line = good-reads read.CleanUnique b false (own-ask b false stored (lost ∙ is) line)
+
+  fill-good : (b : ℕ) (v : Bool) → is_invalid (state_of h past p b) ≡ v → line_used o ≡ Some b → read_wanted o ≡ Some (read.MakeUnique, b)
       → EachGood (bursts_of plan.ways h past p (if v then Misses read.MakeUnique b false else Reads read.MakeUnique b false))
-  fill-good b true is wanted = misses read.MakeUnique b false wanted
-  fill-good b false is wanted = good-reads read.MakeUnique b false (bring-ask read.MakeUnique b false wanted refl (held-way b is))
+  fill-good b true is uses wanted = misses read.MakeUnique b false wanted (used-gone b uses is)
+  fill-good b false is uses wanted = good-reads read.MakeUnique b false (bring-ask read.MakeUnique b false wanted refl (held-way b is))
 
   clean-good : (b : ℕ) (v : Bool) → is_dirty (state_of h past p b) ≡ v → o ≡ op.Cs b
       → EachGood (bursts_of plan.ways h past p (if v then Writes write.WriteClean b else Reads read.CleanShared b false))
@@ -355,7 +391,7 @@ module _ (plan : Plan) (past : Trace) (p : ℕ) (o : Op) (right : IsRight plan) 
   clean-good b true is of =
       good-writes write.WriteClean b (λ i. write-good plan past p o right a f c r write.WriteClean b (update-ask write.WriteClean b refl (dirty-held (state_of h past p b) is)) i
       (λ x k addr. gives write.WriteClean k (ap (λ v. clears v write.WriteClean x.addr) of ∙ eq-eqb b x.addr (sym addr)))
-      (λ u. ap (is_cleared plan.ways h past p) of ∙ ap not is) (λ u w. let bad : false ≡ true = sym (ap wants_way of) ∙ w in cc))
+      (λ u. ap (is_cleared plan.ways h past p) of ∙ ap not is) (λ u w. let bad : false ≡ true = sym (ap wants_way of) ∙ w in cc) (λ u. no-line (ap wants_way of)))
     where
       dirty-held : (st : LineState) → is_dirty st ≡ true → is_invalid st ≡ false
       dirty-held I d = cc
@@ -374,14 +410,16 @@ module _ (plan : Plan) (past : Trace) (p : ℕ) (o : Op) (right : IsRight plan) 
 
   -- What an operation asks for keeps on, but for barriers and messages of two parts.
   pub request-good : (v : Op) → o ≡ v → has_two_acts v ≡ false → EachGood (bursts_of plan.ways h past p (request_of v (state_named h past p v)))
-  request-good (op.Ld b w) of two = misses read.ReadShared b false (ap read_wanted of)
-  request-good (op.Ldx b w) of two = misses read.ReadShared b true (ap read_wanted of)
-  request-good (op.Pf b k) of two = misses k b false (ap read_wanted of)
+  request-good (op.Ld b w) of two =
+      misses read.ReadShared b false (ap read_wanted of) (load-gone b (ap line_used of) (ap has_access of) (ap (λ v. gives_access v (state_named h past p v)) of))
+  request-good (op.Ldx b w) of two =
+      misses read.ReadShared b true (ap read_wanted of) (load-gone b (ap line_used of) (ap has_access of) (ap (λ v. gives_access v (state_named h past p v)) of))
+  request-good (op.Pf b k) of two = misses k b false (ap read_wanted of) (none-used (ap line_used of))
   request-good (op.St b w word) of two =
-      store-good b (is_invalid (state_of h past p b)) refl (ap read_wanted of) (ap store_wanted of) (ap (has_lost h past p) of) (ap line_named of, ap wants_no_snoop of)
+      store-good b (is_invalid (state_of h past p b)) refl (ap line_used of) (ap read_wanted of) (ap store_wanted of) (ap (has_lost h past p) of) (ap line_named of, ap wants_no_snoop of)
   request-good (op.Stx b w word) of two =
       good-reads read.CleanUnique b true (own-ask b true (ap store_wanted of) (ap (has_lost h past p) of) (ap line_named of, ap wants_no_snoop of))
-  request-good (op.Fill b line) of two = fill-good b (is_invalid (state_of h past p b)) refl (ap read_wanted of)
+  request-good (op.Fill b line) of two = fill-good b (is_invalid (state_of h past p b)) refl (ap line_used of) (ap read_wanted of)
   request-good (op.Wb b) of two = update-good write.WriteBack b refl refl (sym (ap (may_skip h past p) of) ∙ skips-none) (λ t. ap (λ v. may_retire h t p v Ok) of)
   request-good (op.Wc b) of two = update-good write.WriteClean b refl refl (sym (ap (may_skip h past p) of) ∙ skips-none) (λ t. ap (λ v. may_retire h t p v Ok) of)
   request-good (op.Ev b) of two = update-good write.Evict b refl refl (sym (ap (may_skip h past p) of) ∙ skips-none) (λ t. ap (λ v. may_retire h t p v Ok) of)

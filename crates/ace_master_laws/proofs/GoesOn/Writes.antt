@@ -15,7 +15,9 @@ use Rattle.ace_runs.specs.Segments.{segment, acts_made, has_written, is_write_of
 use Rattle.ace_runs.specs.Follows.{FollowsSoFar, acts_well, is_next_act}
 use Rattle.ace_master_laws.proofs.Progress.Come.{HasCome, NoneBrought, out-stays}
 use Rattle.ace_model.specs.Accepted.{IsAccepted}
-use Rattle.ace_master_laws.specs.Orderly.{IsFor, IsUnderWay, brings_line, is_cleared, wants_way}
+use Rattle.ace_master_laws.specs.Orderly.{IsFor, IsUnderWay, brings_line, is_cleared, line_used, wants_way}
+use Rattle.ace_tables.specs.States.{is_invalid}
+use Rattle.ace_model.specs.States.{state_of}
 use Rattle.ace_master_laws.proofs.GoesOn.Asks.{IsGood, issue-keeps, one-good}
 use Rattle.ace_master_laws.proofs.GoesOn.Ready.{IsReady, few-issued, none-brought, none-cleared, idle}
 use Rattle.ace_model.specs.Plans.{IsRight, Plan}
@@ -90,8 +92,9 @@ module _ (plan : Plan) (past : Trace) (p : ℕ) (o : Op) (right : IsRight plan) 
         }
 
     write-issues : ((x : Transaction) → write_kind x ≡ Some k → x.addr ≡ l → IsFor o x) → (is_update k ≡ true → is_cleared plan.ways h past p o ≡ false)
-        → (is_update k ≡ true → wants_way o ≡ true → length (others l (held_lines h past p)) < plan.ways) → IsAccepted h (aw ∷ past) → Issues plan past p o aw wr
-    write-issues for first way now =
+        → (is_update k ≡ true → wants_way o ≡ true → length (others l (held_lines h past p)) < plan.ways)
+        → (is_update k ≡ true → (m : ℕ) → line_used o ≡ Some m → is_invalid (state_of h past p m) ≡ true) → IsAccepted h (aw ∷ past) → Issues plan past p o aw wr
+    write-issues for first way gone now =
         record {
           accepted = now;
           new = refl;
@@ -101,16 +104,18 @@ module _ (plan : Plan) (past : Trace) (p : ℕ) (o : Op) (right : IsRight plan) 
           updates = λ t. (none-cleared plan past p o right a f c r (first (ap (λ v. is_some_and v is_update) (sym q.known) ∙ t))).0;
           owners = λ t. cc;
           way = λ t. let parts = and_parts (wants_way o) (brings_line wr || updates_memory wr) t in way (ap (λ v. is_some_and v is_update) (sym q.known) ∙ parts.1) parts.0;
+          absent = λ t m used. gone (ap (λ v. is_some_and v is_update) (sym q.known) ∙ t) m used;
           brought = λ n y there b. idle plan past p o right a f c r n y there;
           cleared = λ n y there b. idle plan past p o right a f c r n y there;
         }
 
     -- a write that the operation asks for
     pub write-good : ((x : Transaction) → write_kind x ≡ Some k → x.addr ≡ l → IsFor o x) → (is_update k ≡ true → is_cleared plan.ways h past p o ≡ false)
-        → (is_update k ≡ true → wants_way o ≡ true → length (others l (held_lines h past p)) < plan.ways) → IsGood plan past p o right a f c r (aw ∷ [])
-    write-good for first way =
+        → (is_update k ≡ true → wants_way o ≡ true → length (others l (held_lines h past p)) < plan.ways)
+        → (is_update k ≡ true → (m : ℕ) → line_used o ≡ Some m → is_invalid (state_of h past p m) ≡ true) → IsGood plan past p o right a f c r (aw ∷ [])
+    write-good for first way gone =
         one-good plan past p o right a f c r aw refl
-        (λ rest kept same. issue-keeps plan past p o right a f c r aw wr (λ now. (write-issues for first way now, write-well now)) (inl refl) rest kept same)
+        (λ rest kept same. issue-keeps plan past p o right a f c r aw wr (λ now. (write-issues for first way gone now, write-well now)) (inl refl) rest kept same)
 
     none-written : NoneBrought h (aw ∷ past) p
     none-written i2 y out b =
@@ -182,6 +187,7 @@ module _ (plan : Plan) (past : Trace) (p : ℕ) (o : Op) (right : IsRight plan) 
                     let few = others-not-more h past drops p y.addr (λ l apart inv. g.raises l inv) in omega (arith, low, few);
                 apart = λ j k x y at_x at_y b m out.
                     out-stays h past p drops now k y at_y refl ∙ u.apart j k x y at_x at_y b m (sym (out-stays h past p drops now j x at_x refl) ∙ out);
+                absent = λ k y there out m l used. g.raises l (u.absent k y there (sym (out-stays h past p drops now k y there refl) ∙ out) m l used);
               });
         }
 

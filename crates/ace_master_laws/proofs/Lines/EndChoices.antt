@@ -22,7 +22,7 @@ use Rattle.ace_model.proofs.General.Options.{Some-injective}
 -- ---- the table ---------------------------------------------------------------------------------------
 
 -- the first of the states
-abbrev first_of : List LineState → Option LineState
+abbrev pub first_of : List LineState → Option LineState
 first_of states = find (λ st. is_among st states) end_order
 
 -- of a fetch of a line that isn't held
@@ -78,18 +78,27 @@ write-clean-ends = each_state (λ held. is_some_and (first_of (end_states_of_wri
 of-some : (o : Option LineState) (test : LineState → Bool) (st : LineState) → is_some_and o test ≡ false → o ≡ Some st → test st ≡ false
 of-some o test st none is = sym (ap (λ v. is_some_and v test) is) ∙ none
 
-module _ (h : Header) (past : Trace) (x : Transaction) (st : LineState) (end : end_of h past x ≡ Some st) where
-  read-end : (k : ArKind) → read_kind x ≡ Some k
-      → first_of (end_states_of_read k (held_of h past x) (is_told_shared past x) (is_told_dirty past x) (has_failed past x)) ≡ Some st
-  read-end k is =
-      sym (ap (λ o. first_of (unwrap_or (option_map (λ k. end_states_of_read k (held_of h past x) (is_told_shared past x) (is_told_dirty past x) (has_failed past x)) o)
-      (unwrap_or (option_map (λ k. end_states_of_write k (held_of h past x)) (write_kind x)) []))) is) ∙ end
+module _ (h : Header) (past : Trace) (x : Transaction) where
+  -- the state in which a read ends, a write
+  pub end-of-read : (k : ArKind) → read_kind x ≡ Some k
+      → end_of h past x ≡ first_of (end_states_of_read k (held_of h past x) (is_told_shared past x) (is_told_dirty past x) (has_failed past x))
+  end-of-read k is =
+      ap (λ o. first_of (unwrap_or (option_map (λ k. end_states_of_read k (held_of h past x) (is_told_shared past x) (is_told_dirty past x) (has_failed past x)) o)
+      (unwrap_or (option_map (λ k. end_states_of_write k (held_of h past x)) (write_kind x)) []))) is
 
-  write-end : (k : AwKind) → read_kind x ≡ None → write_kind x ≡ Some k → first_of (end_states_of_write k (held_of h past x)) ≡ Some st
-  write-end k none is =
-      sym (ap (λ o. first_of (unwrap_or (option_map (λ k. end_states_of_read k (held_of h past x) (is_told_shared past x) (is_told_dirty past x) (has_failed past x)) o)
+  pub end-of-write : (k : AwKind) → read_kind x ≡ None → write_kind x ≡ Some k → end_of h past x ≡ first_of (end_states_of_write k (held_of h past x))
+  end-of-write k none is =
+      ap (λ o. first_of (unwrap_or (option_map (λ k. end_states_of_read k (held_of h past x) (is_told_shared past x) (is_told_dirty past x) (has_failed past x)) o)
       (unwrap_or (option_map (λ k. end_states_of_write k (held_of h past x)) (write_kind x)) []))) none
-      ∙ ap (λ o. first_of (unwrap_or (option_map (λ k. end_states_of_write k (held_of h past x)) o) [])) is) ∙ end
+      ∙ ap (λ o. first_of (unwrap_or (option_map (λ k. end_states_of_write k (held_of h past x)) o) [])) is
+
+module _ (h : Header) (past : Trace) (x : Transaction) (st : LineState) (end : end_of h past x ≡ Some st) where
+  pub read-end : (k : ArKind) → read_kind x ≡ Some k
+      → first_of (end_states_of_read k (held_of h past x) (is_told_shared past x) (is_told_dirty past x) (has_failed past x)) ≡ Some st
+  read-end k is = sym (end-of-read h past x k is) ∙ end
+
+  pub write-end : (k : AwKind) → read_kind x ≡ None → write_kind x ≡ Some k → first_of (end_states_of_write k (held_of h past x)) ≡ Some st
+  write-end k none is = sym (end-of-write h past x k none is) ∙ end
 
   -- a fetch of a line that isn't held ends with the line
   pub fetch-end : (k : ArKind) → read_kind x ≡ Some k → is_fetch k ≡ true → held_of h past x ≡ I → is_invalid st ≡ false

@@ -239,6 +239,7 @@ retired-come plan past p k res none =
         one_owner = subst (λ l. length (filter owns_line l) ≤ 1) (sym empty) (omega arith);
         room = λ k x there out takes. absurd (never k x there);
         apart = λ j k x y at_x at_y b u out. absurd (never j x at_x);
+        absent = λ k x there out updates l used. absurd (never k x there);
       };
     }
   where

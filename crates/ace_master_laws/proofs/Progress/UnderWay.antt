@@ -71,6 +71,8 @@ module _ (plan : Plan) (past : Trace) (p : ℕ) (e : Event) (op : Op) (s : IsSti
             let later = there-before k y at_y in
             let none = u.apart j k x y before later brings updates (out-before j x before out) in
             false-after (is_outstanding h (e ∷ past) y) (is_outstanding h past y) (out-before k y later) none;
+        absent = λ k x there out updates l used.
+            let before = there-before k x there in s.gentle.raises l (u.absent k x before (out-before k x before out) updates l used);
       }
     where
       false-after : (a b : Bool) → (a ≡ true → b ≡ true) → b ≡ false → a ≡ false

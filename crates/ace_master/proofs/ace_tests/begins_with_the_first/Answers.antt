@@ -6,4 +6,4 @@ use Rattle.ace_master.proofs.AnsweredSnoops.PolicyWords.{keep-by-word}
 use Rattle.ace_master.proofs.ace_tests.begins_with_the_first.Goals as goal
 
 pub new-requires-clause-picks : goal.new-requires-clause-picks
-new-requires-clause-picks g c = subst (λ (v : Plan). IsByWord v.policy keep_rows) (sym c.in_ok-plan.ensures) keep-by-word
+new-requires-clause-picks g c = subst (λ (v : Plan). IsByWord v.policy keep_rows) (sym c.in_ok-plan.ensures.plan) keep-by-word

@@ -1,6 +1,6 @@
 use Rattle.std.proofs.Common.{subst}
 use Rattle.ace_top.specs.Command.{Names}
-use Rattle.ace_top.specs.declared.words.Command.TheVariants.{Gen}
+use Rattle.ace_top.specs.declared.words.Command.TheVariants.{Gen, Trial}
 use Rattle.ace_top.proofs.WordsAnswered.{usage_broken, words_carried, words_broken}
 use Rattle.ace_top.proofs.top.ace.Goals as goal
 
@@ -16,6 +16,19 @@ returns-in-Some-Gen-clause-broken_off g c five =
 
 pub returns-in-Some-Gen-clause-told : goal.returns-in-Some-Gen-clause-told
 returns-in-Some-Gen-clause-told g c = (c.write_script.ensures.carried_out (g.S.Source.left c.args.input.now)).told
+
+pub returns-in-Some-Trial-clause-answer : goal.returns-in-Some-Trial-clause-answer
+returns-in-Some-Trial-clause-answer g c ne =
+    let names = subst (Names c.args.words.now) c.in-Some-Trial.field-0-is c.in-Some-Trial.ensures in
+    words_carried _ (Trial c.in-Some-Trial.number) _ _ _ _ _ _ _ _ _ (c.tell_trial.ensures.carried_out _) names ne
+
+pub returns-in-Some-Trial-clause-broken_off : goal.returns-in-Some-Trial-clause-broken_off
+returns-in-Some-Trial-clause-broken_off g c five =
+    let names = subst (Names c.args.words.now) c.in-Some-Trial.field-0-is c.in-Some-Trial.ensures in
+    words_broken _ (Trial c.in-Some-Trial.number) _ _ _ _ _ _ _ _ _ (c.tell_trial.ensures.carried_out _) names five
+
+pub returns-in-Some-Trial-clause-told : goal.returns-in-Some-Trial-clause-told
+returns-in-Some-Trial-clause-told g c = (c.tell_trial.ensures.carried_out (g.S.Source.left c.args.input.now)).told
 
 pub returns-in-None-clause-broken_off : goal.returns-in-None-clause-broken_off
 returns-in-None-clause-broken_off g c five =

@@ -1,5 +1,6 @@
 use Rattle.std.proofs.Common.{◌≡◌, ◌<◌, ◌∙◌, ◌++◌, ℕ, false, inl, inr, refl, sym, ap, arith, length, subst}
 use Rattle.std.proofs.lemmas.Bool.{cases_eq}
+use Rattle.ace_model.specs.Plans.{PlanWithRoom}
 use Rattle.ace_runs.specs.Steps.{AreSteps, is_enabled}
 use Rattle.ace_engine.specs.Engines.{IsLegal}
 use Rattle.ace_fabric.specs.Runs.{Run}
@@ -44,4 +45,5 @@ returns-clause-idle g c = λ f.
     let steps : AreSteps a.plan a.past = subst (λ (r : Run). AreSteps r.plan r.past) c.self.view_is c.self.invariant.engines.steps in
     let i = c.loop-port.invariant.idle f in
     let ports = ap (λ (r : Run). r.plan.header.ports) c.self.view_is in
-    (i.0, idle-done a.plan a.past legal steps (λ p low. i.1 p (let end = c.header-port-end.ensures in let over = c.loop-port-test.false in omega (arith, low, over, ports, ap (λ h. h.ports) end))))
+    let view = ap (λ (v : PlanWithRoom). v.plan.header.ports) c.view.ensures.view in
+    (i.0, idle-done a.plan a.past legal steps (λ p low. i.1 p (let end = c.header-port-end.ensures in let over = c.loop-port-test.false in omega (arith, low, over, ports, view, ap (λ h. h.ports) end))))

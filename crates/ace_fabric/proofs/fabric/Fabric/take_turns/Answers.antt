@@ -2,7 +2,7 @@ use Rattle.std.proofs.Common.{◌≡◌, ◌<◌, ◌%◌, ◌++◌, List, ℕ, 
 use Rattle.std.proofs.Math.ListN.{get_or}
 use Rattle.std.proofs.lemmas.List.{take_more}
 use Rattle.ace_event.specs.declared.header.Header.{Header}
-use Rattle.ace_model.specs.Plans.{Plan}
+use Rattle.ace_model.specs.Plans.{Plan, PlanWithRoom}
 use Rattle.ace_fabric.specs.Runs.{AreTurnsBy, IsTurnOf, Run}
 use Rattle.ace_fabric.proofs.Continued.{continued-twice}
 use Rattle.ace_fabric.proofs.TurnsBy.{taken, turns-more}
@@ -20,7 +20,7 @@ loop-number-preserved g c =
     let low : i < length turns = omega (arith, c.loop-number-test.true) in
     let same : b.plan ≡ a.plan = ap (λ (r : Run). r.plan) old.1 in
     let ports : c.header-ports.result.ports ≡ a.plan.header.ports =
-    ap (λ (h : Header). h.ports) c.header-ports.ensures ∙ ap (λ (r : Run). r.plan.header.ports) c.self.view_is ∙ ap (λ (v : Plan). v.header.ports) same in
+    ap (λ (h : Header). h.ports) c.header-ports.ensures ∙ ap (λ (v : PlanWithRoom). v.plan.header.ports) c.view.ensures.view ∙ ap (λ (r : Run). r.plan.header.ports) c.self.view_is ∙ ap (λ (v : Plan). v.header.ports) same in
     let t = taken (n % c.header-ports.result.ports) c.turn.result b d c.turn.ensures.moved c.turn.ensures.idle in
     let turn : IsTurnOf a.plan b.past (n % a.plan.header.ports) t.burst =
     subst (λ (k : ℕ). IsTurnOf a.plan b.past (n % k) t.burst) ports (subst (λ (v : Plan). IsTurnOf v b.past (n % c.header-ports.result.ports) t.burst) same t.turn) in

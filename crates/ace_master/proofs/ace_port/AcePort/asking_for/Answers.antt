@@ -15,3 +15,6 @@ pub returns-clause-none : goal.returns-clause-none
 returns-clause-none c = λ plan past g unclosed none.
     let k = g.stands.kept in
     c.burst_for.ensures.none plan past c.args.self.now.port k.port k.lines (may-ask plan past c.args.self.now c.args.op g unclosed) none
+
+pub returns-clause-asks : goal.returns-clause-asks
+returns-clause-asks c = λ plan past s. c.burst_for.ensures.asks plan.header plan.ways past c.args.self.now.port s.kept.port s.kept.lines

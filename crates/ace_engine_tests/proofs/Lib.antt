@@ -1,0 +1,3 @@
+-- The worked traces are ones for which an engine may stand.
+pub mod UpdateWorked
+pub mod OrderWorked

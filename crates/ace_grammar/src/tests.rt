@@ -1,5 +1,0 @@
-// Lines and traces written out by hand.
-
-mod pieces;
-mod records;
-mod refusals;

@@ -1,0 +1,236 @@
+//! Runs of small scripts: turn by turn, drained, and with chosen answers and turns.
+
+use ace_codes::LineState::{SD, UC};
+use ace_event::Channel::{Read, Write};
+use ace_event::Outcome::{Ok as Done, Skip};
+use ace_event::{Event, Line};
+use ace_fabric::{System, Turn};
+use ace_io::HonestSource;
+use ace_script::Plan;
+use std::alloc::Global;
+use std::test::Fail;
+
+macro_rules! ar {
+    ($port:expr, $addr:expr, $snoop:expr) => {
+        Event::Ar { port: $port, id: 0, addr: $addr, snoop: $snoop, dom: 1, bar: 0, lock: false }
+    };
+}
+
+macro_rules! g {
+    ($port:expr, $chan:expr) => { Event::G { port: $port, chan: $chan, id: 0 } };
+}
+
+/// A transfer to port 0.
+macro_rules! r {
+    ($last:expr, $word:expr) => { Event::R { port: 0, id: 0, resp: 0, last: $last, word: $word } };
+}
+
+/// A beat of write data of port 0.
+macro_rules! w {
+    ($last:expr, $word:expr) => { Event::W { port: 0, strb: 0xffff, last: $last, word: $word } };
+}
+
+macro_rules! l {
+    ($port:expr, $word:expr) => { Event::L { port: $port, addr: 0x40, w: 0, x: false, word: $word } };
+}
+
+macro_rules! op {
+    ($port:expr, $k:expr, $res:expr) => { Event::Op { port: $port, k: $k, res: $res } };
+}
+
+const ACKNOWLEDGE: Event = Event::Rk { port: 0, st: UC };
+
+const STORED: u128 = 0x11111111111111111111111111111111;
+
+const WRITTEN: u128 = 0x22222222222222222222222222222222;
+
+/// Turns of ports of the run of a script, each with whether it puts a step; how many events there are then, and the last of them.
+struct Turns {
+    script: &'static [u8],
+    turns: &'static [(u8, bool)],
+    count: usize,
+    end: &'static [Event],
+}
+
+const TURNS: &[Turns] = &[
+    // reads of two lines go on beside each other
+    Turns {
+        script: b"ACE SCRIPT 1\nPORTS AA\nCACHE 1\nPOLICY keep\n0 ld 00000040 0\n1 ld 00000080 0\n",
+        turns: &[(0, true), (1, true), (0, true), (1, true)],
+        count: 4,
+        end: &[ar!(0, 0x40, 1), ar!(1, 0x80, 1), g!(0, Read), g!(1, Read)],
+    },
+    // the second read of a line waits for the first, and is granted after its acknowledge
+    Turns {
+        script: b"ACE SCRIPT 1\nPORTS AA\nCACHE 1\nPOLICY keep\n0 ld 00000040 0\n1 ld 00000040 0\n",
+        turns: &[
+            (0, true),
+            (1, true),
+            (1, false),
+            (0, true),
+            (1, false),
+            (0, true),
+            (1, true),
+            (0, true),
+            (0, true),
+            (0, true),
+            (0, true),
+            (0, true),
+            (1, true),
+        ],
+        count: 13,
+        end: &[ACKNOWLEDGE, l!(0, 0), op!(0, 0, Done), g!(1, Read)],
+    },
+];
+
+/// A script of one port, and the trace of its run.
+struct Drained {
+    script: &'static [u8],
+    events: &'static [Event],
+}
+
+const DRAINED: &[Drained] = &[
+    // a load, a store to the line, and a WriteBack of a line that isn't held
+    Drained {
+        script: b"ACE SCRIPT 1\nPORTS A\nCACHE 1\nPOLICY keep\n0 ld 00000040 0\n0 st 00000040 0 11111111111111111111111111111111\n0 wb 00000080\n",
+        events: &[
+            ar!(0, 0x40, 1),
+            g!(0, Read),
+            r!(false, 0),
+            r!(false, 0),
+            r!(false, 0),
+            r!(true, 0),
+            ACKNOWLEDGE,
+            l!(0, 0),
+            op!(0, 0, Done),
+            Event::D {
+                port: 0,
+                addr: 0x40,
+                strobe: 0xffff,
+                x: false,
+                line: Line {
+                    words: [STORED, 0, 0, 0],
+                },
+            },
+            op!(0, 1, Done),
+            op!(0, 2, Skip),
+        ],
+    },
+    // a write of a line by an ACE-Lite port, and a read of it
+    Drained {
+        script: b"ACE SCRIPT 1\nPORTS L\nCACHE 1\nPOLICY keep\n0 wlu 00000040 22222222222222222222222222222222222222222222222222222222222222222222222222222222222222222222222222222222222222222222222222222222\n0 ro 00000040\n",
+        events: &[
+            Event::Aw {
+                port: 0,
+                id: 0,
+                addr: 0x40,
+                snoop: 1,
+                dom: 1,
+                bar: 0,
+            },
+            op!(0, 0, Done),
+            w!(false, WRITTEN),
+            w!(false, WRITTEN),
+            w!(false, WRITTEN),
+            w!(true, WRITTEN),
+            g!(0, Write),
+            Event::M {
+                port: 0,
+                chan: Write,
+                id: 0,
+                line: Line {
+                    words: [WRITTEN, WRITTEN, WRITTEN, WRITTEN],
+                },
+            },
+            Event::B {
+                port: 0,
+                id: 0,
+                resp: 0,
+            },
+            ar!(0, 0x40, 0),
+            g!(0, Read),
+            r!(false, WRITTEN),
+            r!(false, WRITTEN),
+            r!(false, WRITTEN),
+            r!(true, WRITTEN),
+            op!(0, 1, Done),
+        ],
+    },
+];
+
+/// A dirty line is snooped; the second port begins with a barrier.
+const MIXED: &[u8] =
+    b"ACE SCRIPT 1\nPORTS AA\nCACHE 1\nPOLICY mixed 0000000000000000\n0 st 00000040 0 11111111111111111111111111111111\n1 mb\n1 ld 00000040 0\n";
+
+const BARRIER: Event = Event::Ar {
+    port: 1,
+    id: 0,
+    addr: 0,
+    snoop: 0,
+    dom: 1,
+    bar: 1,
+    lock: false,
+};
+
+const ANSWER: Event = Event::Cr {
+    port: 0,
+    resp: 0x19,
+    st: SD,
+};
+
+const LOADED: Event = l!(1, STORED);
+
+/// The run of the script, before its first step.
+fn start(alloc: Global, script: &[u8]) -> Result<System, Fail> {
+    let plan = Plan::read(alloc, &mut HonestSource::new(script))?;
+    Ok(System::start(alloc, &plan)?)
+}
+
+/// Whether a turn of the port, if there is such a port, puts a step.
+fn moves(system: &mut System, port: u8) -> bool {
+    port < system.plan().view().header().ports && system.turn(port) == Turn::Moved
+}
+
+/// Whether each of the turns puts a step, or nothing, as it says.
+fn answers(system: &mut System, turns: &[(u8, bool)]) -> bool {
+    let mut same = true;
+    for (port, moved) in turns {
+        same &= moves(system, *port) == *moved;
+    }
+    same
+}
+
+#[test]
+fn takes_turns(rt: HostRuntime) -> Result<(), Fail> {
+    for case in TURNS {
+        let mut system = start(rt.alloc(), case.script)?;
+        assert!(rt; answers(&mut system, case.turns));
+        assert!(rt;
+            system.trace().len() == case.count
+                && system.trace().ends_with(case.end)
+                && !system.done()
+        );
+    }
+    Ok(())
+}
+
+#[test]
+fn drains(rt: HostRuntime) -> Result<(), Fail> {
+    for case in DRAINED {
+        let mut system = start(rt.alloc(), case.script)?;
+        system.drain();
+        assert!(rt; system.done() && system.trace() == case.events);
+    }
+    Ok(())
+}
+
+/// The number picks how the first port answers the snoop of its dirty line, and a turn of the second port comes first.
+#[test]
+fn takes_chosen_answers_and_turns(rt: HostRuntime) -> Result<(), Fail> {
+    let plan = Plan::read(rt.alloc(), &mut HonestSource::new(MIXED))?;
+    let mut system = System::start_listed(rt.alloc(), &plan, &[7])?;
+    system.drain_by(&[255]);
+    assert!(rt; system.done() && system.trace().starts_with(&[BARRIER]));
+    assert!(rt; system.trace().contains(&ANSWER) && system.trace().contains(&LOADED));
+    Ok(())
+}
