@@ -2,7 +2,6 @@
 
 mod faults;
 mod gates;
-mod rows;
 mod runs;
 
 use ace_io::{Free, MemSink, MemSource, Source};

@@ -1,10 +1,5 @@
-//! Tests of the top call, of the system of a run and of a run with a thread for each port. They stand in a crate of their own, so that what they test is
-//! proved once.
+//! Tests of the top call. They stand in a crate of their own, so that what they test is proved once.
 #![tactic(auto)]
 
 #[cfg(test)]
 mod answers;
-#[cfg(test)]
-mod systems;
-#[cfg(test)]
-mod threads;

@@ -1,5 +1,6 @@
 //! Runs of small scripts: turn by turn, drained, and with chosen answers and turns.
 
+use crate::chosen::start_chosen;
 use ace_codes::LineState::{SD, UC};
 use ace_event::Channel::{Read, Write};
 use ace_event::Outcome::{Ok as Done, Skip};
@@ -228,7 +229,9 @@ fn drains(rt: HostRuntime) -> Result<(), Fail> {
 #[test]
 fn takes_chosen_answers_and_turns(rt: HostRuntime) -> Result<(), Fail> {
     let plan = Plan::read(rt.alloc(), &mut HonestSource::new(MIXED))?;
-    let mut system = System::start_listed(rt.alloc(), &plan, &[7])?;
+    let Some(mut system) = start_chosen(rt.alloc(), &plan, &[7])? else {
+        panic!(rt; "its masters pick by themselves");
+    };
     system.drain_by(&[255]);
     assert!(rt; system.done() && system.trace().starts_with(&[BARRIER]));
     assert!(rt; system.trace().contains(&ANSWER) && system.trace().contains(&LOADED));

@@ -1,5 +1,6 @@
 // Which answers to snoops the masters of a run pick, by the words of a generator.
 
+use crate::chosen::start_chosen;
 use ace_check::{Checker, Step};
 use ace_codes::{ArKind, LineState, SnoopKind, read_ac, read_ar};
 use ace_event::Event;
@@ -26,8 +27,8 @@ struct Pending {
     whole: Vec<Open>,
 }
 
-/// What the trace says of a port: the states of lines, the newest last, what is outstanding and what is complete on each channel, the snoops
-/// that it hasn't answered, and how many line snoops it has answered.
+/// What the trace says of a port: the states of its lines, what is outstanding and what is complete on each channel, the snoops that it hasn't
+/// answered, and how many line snoops it has answered.
 #[derive(Drop)]
 struct Port {
     number: u8,
@@ -91,10 +92,19 @@ impl Port {
 
     /// The state in which it holds the line.
     fn state(&self, line: u32) -> LineState {
-        match self.states.iter().rev().find(|(of, _)| *of == line) {
+        match self.states.iter().find(|(of, _)| *of == line) {
             Some((_, state)) => *state,
             None => LineState::I,
         }
+    }
+
+    /// It holds the line in this state from now on.
+    fn set_state(&mut self, line: u32, state: LineState) -> Result<(), Fail> {
+        if let Some(place) = self.states.iter().position(|(of, _)| *of == line) {
+            self.states.remove(place);
+        }
+        self.states.push((line, state))?;
+        Ok(())
     }
 
     /// Whether a memory update of the line is outstanding.
@@ -119,7 +129,7 @@ impl Port {
             },
         ) = ended
         {
-            self.states.push((line, state))?;
+            self.set_state(line, state)?;
         }
         Ok(())
     }
@@ -138,7 +148,7 @@ impl Port {
         let rows = snoop_rows(kind, self.state(line), self.has_update(line));
         let word = words.iter().cycle().nth(self.answers).copied().unwrap_or(0);
         self.answers = self.answers.wrapping_add(1);
-        self.states.push((line, state))?;
+        self.set_state(line, state)?;
         if rows.count() == 0 {
             return Ok(false);
         }
@@ -191,8 +201,8 @@ impl Port {
             }
             Event::Ac { addr, snoop, .. } => self.snoops.push((*addr, *snoop))?,
             Event::Cr { resp, st, .. } => return self.answer(*resp, *st, words),
-            Event::S { addr, st, .. } => self.states.push((*addr, *st))?,
-            Event::D { addr, .. } => self.states.push((*addr, LineState::UD))?,
+            Event::S { addr, st, .. } => self.set_state(*addr, *st)?,
+            Event::D { addr, .. } => self.set_state(*addr, LineState::UD)?,
             _ => {}
         }
         Ok(true)
@@ -249,14 +259,19 @@ fn words_of(alloc: Global, n: u64, stream: u64, count: u32) -> Result<Vec<u32>, 
     Ok(words)
 }
 
+/// Whether the masters of the plan of n, each with a generator of its own, answer by the words of that of n.
+fn is_as_drawn(alloc: Global, n: u64) -> Result<bool, Fail> {
+    let plan = Plan::generate(alloc, n)?;
+    let mut system = System::start(alloc, &plan)?;
+    system.drain();
+    let words = words_of(alloc, n, 1, 65536)?;
+    goes_by(alloc, system.trace(), &words)
+}
+
 /// The masters of a plan with `POLICY mixed` each draw from a generator of their own.
 #[test]
 fn mixed_rows(rt: HostRuntime) -> Result<(), Fail> {
-    let plan = Plan::generate(rt.alloc(), 42)?;
-    let mut system = System::start(rt.alloc(), &plan)?;
-    system.drain();
-    let words = words_of(rt.alloc(), 42, 1, 65536)?;
-    assert!(rt; goes_by(rt.alloc(), system.trace(), &words)?);
+    assert!(rt; is_as_drawn(rt.alloc(), 42)?);
     Ok(())
 }
 
@@ -276,10 +291,9 @@ fn is_as_chosen(alloc: Global, n: u64) -> Result<bool, Fail> {
     let Some((picks, turns)) = bytes.split_at_checked(256) else {
         return Ok(false);
     };
-    if picks.is_empty() {
+    let Some(mut system) = start_chosen(alloc, &plan, picks)? else {
         return Ok(false);
-    }
-    let mut system = System::start_listed(alloc, &plan, picks)?;
+    };
     system.drain_by(turns);
     let mut words = Vec::new(alloc);
     for pick in picks {
@@ -291,7 +305,7 @@ fn is_as_chosen(alloc: Global, n: u64) -> Result<bool, Fail> {
 /// The masters take their answers, and the ports their turns, as the caller chooses.
 #[test]
 fn schedules(rt: HostRuntime) -> Result<(), Fail> {
-    for n in 0..2 {
+    for n in 0..64 {
         assert!(rt; is_as_chosen(rt.alloc(), n)?, "{n}");
     }
     Ok(())
