@@ -275,31 +275,50 @@ fn mixed_rows(rt: HostRuntime) -> Result<(), Fail> {
     Ok(())
 }
 
-/// The low bytes of words.
-fn low_bytes(alloc: Global, words: &[u32]) -> Result<Vec<u8>, Fail> {
+/// The low bytes of the next so many words.
+fn low_bytes(alloc: Global, generator: &mut Lcg64Xsh32, count: u32) -> Result<Vec<u8>, Fail> {
     let mut bytes = Vec::new(alloc);
-    for word in words {
-        bytes.push((*word & 255) as u8)?;
+    for _ in 0..count {
+        bytes.push((generator.next_word() & 255) as u8)?;
     }
     Ok(bytes)
 }
 
-/// Whether a run of the plan of n with chosen answers and turns is accepted, and has these answers.
-fn is_as_chosen(alloc: Global, n: u64) -> Result<bool, Fail> {
+/// The run of the plan of n with these answers and turns, if the plan lets the caller choose.
+fn chosen_run(alloc: Global, n: u64, picks: &[u8], turns: &[u8]) -> Result<Option<System>, Fail> {
     let plan = Plan::generate(alloc, n)?;
-    let bytes = low_bytes(alloc, &words_of(alloc, n, 3, 256 + 4096)?)?;
-    let Some((picks, turns)) = bytes.split_at_checked(256) else {
-        return Ok(false);
-    };
-    let Some(mut system) = start_chosen(alloc, &plan, picks)? else {
-        return Ok(false);
-    };
-    system.drain_by(turns);
+    let mut run = start_chosen(alloc, &plan, picks)?;
+    if let Some(system) = &mut run {
+        system.drain_by(turns);
+    }
+    Ok(run)
+}
+
+/// Whether the answers are those at these numbers.
+fn goes_by_picks(alloc: Global, trace: &[Event], picks: &[u8]) -> Result<bool, Fail> {
     let mut words = Vec::new(alloc);
     for pick in picks {
         words.push(u32::from(*pick))?;
     }
-    Ok(is_fine(alloc, &system)? && goes_by(alloc, system.trace(), &words)?)
+    goes_by(alloc, trace, &words)
+}
+
+/// Whether the run with these answers and turns is accepted, and has these answers.
+fn is_as_picked(alloc: Global, n: u64, picks: &[u8], turns: &[u8]) -> Result<bool, Fail> {
+    match chosen_run(alloc, n, picks, turns)? {
+        Some(system) => {
+            Ok(is_fine(alloc, &system)? && goes_by_picks(alloc, system.trace(), picks)?)
+        }
+        None => Ok(false),
+    }
+}
+
+/// Whether a run of the plan of n with chosen answers and turns is accepted, and has these answers.
+fn is_as_chosen(alloc: Global, n: u64) -> Result<bool, Fail> {
+    let mut generator = Lcg64Xsh32::new(n, 3);
+    let picks = low_bytes(alloc, &mut generator, 256)?;
+    let turns = low_bytes(alloc, &mut generator, 4096)?;
+    is_as_picked(alloc, n, &picks, &turns)
 }
 
 /// The masters take their answers, and the ports their turns, as the caller chooses.
