@@ -26,3 +26,5 @@ pub mod Moves
 pub mod PortMasters
 -- The masters of the ports of a script.
 pub mod ScriptMasters
+-- The parts of a run whose plan grows.
+pub mod LongerRuns

@@ -1,7 +1,8 @@
 -- What a master, which is the one that is there, does as an engine of that kind.
 use Rattle.std.proofs.Common.{◌≡◌, ◌∷◌, ℕ, true, false, List, ap, subst, ◌∙◌}
 use Rattle.ace_event.specs.declared.event.Event.{Event}
-use Rattle.ace_model.specs.Plans.{Plan}
+use Rattle.ace_model.specs.declared.plans.Op.{Op}
+use Rattle.ace_model.specs.Plans.{IsRight, Plan, longer}
 use Rattle.ace_model.specs.Trace.{Trace}
 use Rattle.ace_runs.specs.Bursts.{onto}
 use Rattle.ace_runs.specs.Steps.{is_enabled_by, is_step_by}
@@ -35,3 +36,10 @@ module _ {E : Type 0} (g : Ghosts E) (old : E) where
       → (plan : Plan) (past : Trace) → IsMaster g old plan past → is_enabled_by (numbers_of Master) plan past p ≡ false
   none p off plan past m =
       subst (λ (k : EngineKind). is_enabled_by (numbers_of k) plan past p ≡ false) m.kind_is (off plan past m.stands)
+
+  -- it has been given the operation
+  pub given : (new : E) (op : Op) → ((plan : Plan) (past : Trace) (port : ℕ) → g.stands old plan past → g.serves old port ≡ true
+      → IsRight (longer plan (record { port = port; op = op })) → g.stands new (longer plan (record { port = port; op = op })) past)
+      → (plan : Plan) (past : Trace) (port : ℕ) → IsMaster g old plan past → g.serves old port ≡ true
+      → IsRight (longer plan (record { port = port; op = op })) → IsMaster g new (longer plan (record { port = port; op = op })) past
+  given new op stands plan past port m own right = record { kind_is = m.kind_is; stands = stands plan past port m.stands own right }

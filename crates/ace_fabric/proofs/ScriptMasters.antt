@@ -1,5 +1,5 @@
 -- The masters of the ports of a script, as engines.
-use Rattle.std.proofs.Common.{◌≡◌, ◌<◌, ◌≤◌, ◌∷◌, ◌++◌, ◌==◌, ℕ, List, [], Some, length, slice_get, subst, sym, inl, inr, ◌∙◌}
+use Rattle.std.proofs.Common.{◌≡◌, ◌∷◌, ◌++◌, ℕ, List, [], Some, length, slice_get, subst, sym, inl, inr, ◌∙◌}
 use Rattle.std.proofs.lemmas.Bool.{cases_eq}
 use Rattle.ace_model.specs.Plans.{Plan}
 use Rattle.ace_model.specs.Trace.{Trace}

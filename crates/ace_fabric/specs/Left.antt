@@ -29,6 +29,10 @@ left_after (Ac q addr snoop) s = record { operations = s.operations; snoops = mi
 left_after (Cr q resp st) s = record { operations = s.operations; snoops = s.snoops - 1 }
 left_after _ s = s
 
+-- what is left of a port that has one more operation
+abbrev pub with_one_more : PortLeft → PortLeft
+with_one_more s = record { operations = min (s.operations + 1) 65535; snoops = s.snoops }
+
 -- the port of whose operations and snoops something is counted at the event
 abbrev pub counted_port : Event → Option ℕ
 counted_port (Op q k res) = Some q

@@ -1,7 +1,8 @@
--- A run as it is seen, what is kept of it, and what turns of ports make of it.
-use Rattle.std.specs.Prelude.{ℕ, ◌≡◌, ◌≤◌, ◌+◌, ◌*◌, ◌%◌, ◌⊎◌, false, List, [], ◌∷◌, length}
+-- A run as it is seen, what is kept of it, and what turns of ports and a longer plan make of it.
+use Rattle.std.specs.Prelude.{ℕ, ◌≡◌, ◌≤◌, ◌+◌, ◌-◌, ◌*◌, ◌%◌, ◌⊎◌, false, List, [], ◌∷◌, length}
 use Rattle.ace_event.specs.declared.event.Event.{Event}
-use Rattle.ace_model.specs.Plans.{Plan, PlanWithRoom}
+use Rattle.ace_model.specs.declared.plans.PlanOp.{PlanOp}
+use Rattle.ace_model.specs.Plans.{Plan, PlanWithRoom, longer}
 use Rattle.ace_model.specs.Trace.{Trace}
 use Rattle.ace_runs.specs.Bursts.{onto}
 use Rattle.ace_runs.specs.Steps.{IsStep, is_enabled}
@@ -29,6 +30,10 @@ pub record IsRunning {H U O M : Type 0} (h : Ghosts H) (u : Ghosts U) (o : Ghost
 -- the run with these events at its end
 abbrev pub continued : List Event → Run → Run
 continued events run = record run { past = onto events run.past }
+
+-- the run with one more operation at the end of its plan, for which it has room
+abbrev pub grown : PlanOp → Run → Run
+grown o run = record run { plan = longer run.plan o; room = run.room - 1 }
 
 -- The turn of the port put a step, or nothing, as the port isn't enabled.
 abbrev pub IsTurnOf : Plan → Trace → ℕ → List Event → Type 0

@@ -1,20 +1,24 @@
 //! The engines of a run that share one trace.
 
-ghost use Rattle.std.specs.Prelude.{◌≡◌, ◌≢◌, ◌<◌, ◌≤◌, ◌+◌, ◌*◌, ℕ, false, List, [], IfOk, IsTrue, length, reverse, vec_len, vec_capacity};
+ghost use Rattle.std.specs.Prelude.{◌≡◌, ◌≢◌, ◌<◌, ◌≤◌, ◌+◌, ◌-◌, ◌*◌, ℕ, false, List, [], IfOk, IsTrue, length, reverse, vec_len, vec_capacity};
 ghost use Rattle.ace_event.specs.declared.event.Event.{Event};
+ghost use Rattle.ace_model.specs.Plans.{IsRight, IsRightAfter, longer};
 ghost use Rattle.ace_model.specs.Trace.{Trace};
 ghost use Rattle.ace_runs.specs.Bursts.{onto};
 ghost use Rattle.ace_runs.specs.Follows.{Done, is_done};
 ghost use Rattle.ace_runs.specs.Steps.{AreSteps, Enabled, IsStep, is_enabled};
 ghost use Rattle.ace_engine.specs.Engines.{IsLegal};
 ghost use Rattle.ace_fabric.specs.Parts.{AreEngines};
-ghost use Rattle.ace_fabric.specs.Runs.{AreTurnsBy, continued};
+ghost use Rattle.ace_fabric.specs.Runs.{AreTurnsBy, continued, grown};
 
+use crate::growing::give;
 use crate::left::Left;
 use crate::moving::by_any;
 use ace_engine::{Burst, Engine};
 use ace_event::Event;
 use ace_io::NoMemory;
+use ace_master::Master;
+use ace_model::Op;
 use ace_script::Plan;
 use std::alloc::Global;
 use std::marker::Model;
@@ -65,6 +69,17 @@ fn append(events: &mut Vec<Event>, burst: &Burst)
             unreachable!();
         }
     }
+}
+
+/// Puts the operation at the end of the plan, which is right then.
+fn lengthen(plan: &mut Plan, port: u8, op: Op)
+    requires room { plan.old.room ≢ 0 }
+    requires right { IsRightAfter plan.old.plan.header plan.old.plan.operations (record { port = port; op = op }) }
+    ensures value { plan.new ≡ record { plan = longer plan.old.plan (record { port = port; op = op }); room = plan.old.room - 1 } }
+    ensures right { IsRight plan.new.plan }
+{
+    plan.push(port, op);
+    let _view = plan.view();
 }
 
 impl<H: Engine + Drop, U: Engine + Drop, O: Engine + Drop, M: Engine + Drop> Fabric<H, U, O, M> {
@@ -202,5 +217,18 @@ impl<H: Engine, U: Engine, O: Engine, M: Engine> Fabric<H, U, O, M> {
     {
         self.take_turns(turns);
         self.drain();
+    }
+}
+
+impl<H: Engine, U: Engine, O: Engine, M: Master> Fabric<H, U, O, M> {
+    /// Puts the operation at the end of the plan, where it can stand there, and takes one from the room. The trace stays. It takes no memory.
+    pub fn push(&mut self, port: u8, op: Op)
+        requires room { self.old.room ≢ 0 }
+        requires right { IsRightAfter self.old.plan.header self.old.plan.operations (record { port = port; op = op }) }
+        ensures { self.new ≡ grown (record { port = port; op = op }) self.old }
+    {
+        lengthen(&mut self.plan, port, op);
+        give(self.masters.as_mut_slice(), port, op);
+        self.left.push(port);
     }
 }

@@ -3,12 +3,13 @@
 ghost use Rattle.std.specs.Prelude.{◌≡◌, ◌≢◌, ◌<◌, ◌∷◌, ◌&&◌, ◌==◌, ℕ, not, [], Some, IfOk, length, slice_get};
 ghost use Rattle.ace_event.specs.declared.header.Header.{Header};
 ghost use Rattle.ace_event.specs.declared.event.Channel.TheVariants.{Read, Write};
-ghost use Rattle.ace_model.specs.Plans.{IsRight, Plan};
+ghost use Rattle.ace_model.specs.declared.plans.Op.{Op};
+ghost use Rattle.ace_model.specs.Plans.{IsRight, Plan, longer};
 ghost use Rattle.ace_model.specs.Trace.{Trace};
 ghost use Rattle.ace_runs.specs.Follows.{is_done, owes_completion};
 ghost use Rattle.ace_engine.specs.Engines.{IsLegal};
 ghost use Rattle.ace_portck.specs.Pending.{pending_of};
-ghost use Rattle.ace_fabric.specs.Left.{CountsStand, LeftStands, counted_port, is_empty, is_port_done, left_after};
+ghost use Rattle.ace_fabric.specs.Left.{CountsStand, LeftStands, counted_port, is_empty, is_port_done, left_after, with_one_more};
 ghost use Rattle.ace_runs.specs.Bursts.{onto};
 ghost use Rattle.ace_runs.specs.Operations.{operations_of};
 ghost use Rattle.ace_runs.specs.Follows.{is_port_at_end};
@@ -76,6 +77,27 @@ fn count_at(counts: &mut [PortLeft], port: u8, event: &Event)
     let own = usize::from(port);
     if own < counts.len() {
         counts[own] = left_after(counts[own], event);
+    }
+}
+
+/// What is left of a port that has one more operation.
+fn with_one_more(kept: PortLeft) -> PortLeft
+    ensures { result ≡ with_one_more kept }
+{
+    PortLeft {
+        operations: kept.operations.saturating_add(1),
+        snoops: kept.snoops,
+    }
+}
+
+/// One more operation of the port is counted, where there is such a port.
+fn count_one_more(counts: &mut [PortLeft], port: u8)
+    ensures own { (x : PortLeft) → slice_get counts.old port ≡ Some x → slice_get counts.new port ≡ Some (with_one_more x) }
+    ensures others { (k : ℕ) → k ≢ port → slice_get counts.new k ≡ slice_get counts.old k }
+{
+    let own = usize::from(port);
+    if own < counts.len() {
+        counts[own] = with_one_more(counts[own]);
     }
 }
 
@@ -229,6 +251,14 @@ impl Left {
             }
         }
         true
+    }
+
+    /// One more operation of the port, at the end of the plan, hasn't retired. It takes no memory.
+    pub fn push(&mut self, port: u8)
+        ensures { (plan : Plan) (past : Trace) (op : Op) → LeftStands self.old plan past → IsRight (longer plan (record { port = port; op = op }))
+            → LeftStands self.new (longer plan (record { port = port; op = op })) past }
+    {
+        count_one_more(self.counts.as_mut_slice(), port);
     }
 
     /// Hears the events of the burst, which come next.

@@ -2,6 +2,7 @@
 #![tactic(auto)]
 
 mod fabric;
+mod growing;
 mod hearing;
 mod left;
 mod masters;

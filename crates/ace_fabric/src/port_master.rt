@@ -2,6 +2,8 @@
 
 use ace_engine::{Burst, Engine};
 use ace_event::Event;
+use ace_master::Master;
+use ace_model::Op;
 
 /// The master of a port: that of an ACE port, or that of an ACE-Lite port.
 #[derive(Drop)]
@@ -35,6 +37,15 @@ impl<A: Engine, L: Engine> Engine for PortMaster<A, L> {
         match self {
             PortMaster::Ace(master) => master.hear(event),
             PortMaster::Lite(master) => master.hear(event),
+        }
+    }
+}
+
+impl<A: Master, L: Master> Master for PortMaster<A, L> {
+    fn push(&mut self, op: Op) {
+        match self {
+            PortMaster::Ace(master) => master.push(op),
+            PortMaster::Lite(master) => master.push(op),
         }
     }
 }

@@ -2,12 +2,13 @@
 
 ghost use Rattle.std.specs.Prelude.{◌≡◌, ◌≢◌, ◌<◌, ◌≤◌, ◌*◌, ℕ, true, false, List, [], IfOk, length, reverse};
 ghost use Rattle.ace_event.specs.declared.event.Event.{Event};
+ghost use Rattle.ace_model.specs.Plans.{IsRightAfter};
 ghost use Rattle.ace_model.specs.Trace.{Trace};
 ghost use Rattle.ace_runs.specs.Bursts.{onto};
 ghost use Rattle.ace_runs.specs.Follows.{Done, is_done};
 ghost use Rattle.ace_runs.specs.Steps.{AreSteps, Enabled, IsStep, is_enabled};
 ghost use Rattle.ace_engine.specs.Engines.{IsLegal};
-ghost use Rattle.ace_fabric.specs.Runs.{AreTurnsBy, continued};
+ghost use Rattle.ace_fabric.specs.Runs.{AreTurnsBy, continued, grown};
 ghost use Rattle.ace_fabric.specs.System.{MayPick, is_mixed, plan_of, starting};
 
 use crate::masters::{ScriptMaster, masters};
@@ -15,6 +16,7 @@ use crate::{Fabric, Turn};
 use ace_event::Event;
 use ace_home::Home;
 use ace_io::NoMemory;
+use ace_model::Op;
 use ace_order::Order;
 use ace_script::Plan;
 use ace_update::Update;
@@ -120,6 +122,15 @@ impl System {
         ensures done { Done self.new.plan self.new.past }
     {
         self.run.drain_by(turns);
+    }
+
+    /// Puts the operation at the end of the plan, where it can stand there, and takes one from the room. The trace stays. It takes no memory.
+    pub fn push(&mut self, port: u8, op: Op)
+        requires room { self.old.room ≢ 0 }
+        requires right { IsRightAfter self.old.plan.header self.old.plan.operations (record { port = port; op = op }) }
+        ensures { self.new ≡ grown (record { port = port; op = op }) self.old }
+    {
+        self.run.push(port, op);
     }
 
     /// The events so far, in order.

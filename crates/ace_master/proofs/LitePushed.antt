@@ -1,5 +1,5 @@
 -- What the port has issued for its next operation, where it has one more operation.
-use Rattle.std.proofs.Common.{◌≡◌, ◌==◌, ◌&&◌, ℕ, true, [], ◌∷◌, List, length, Option, Some, refl, ap, ◌∙◌}
+use Rattle.std.proofs.Common.{◌≡◌, ◌==◌, ◌&&◌, ℕ, true, [], ◌∷◌, List, length, Option, refl, ap, ◌∙◌}
 use Rattle.ace_model.specs.declared.plans.Op.{Op}
 use Rattle.ace_model.specs.declared.plans.PlanOp.{PlanOp}
 use Rattle.ace_model.specs.declared.transactions.Transaction.{Transaction}

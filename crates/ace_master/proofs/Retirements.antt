@@ -1,4 +1,4 @@
--- No more operations of a port retired than it has.
+-- No more operations of a port retired than it has, and it has no more than a plan can have.
 use Rattle.std.proofs.Common.{ℕ, ◌≤◌, ◌<◌, ◌==◌, Bool, List, [], ◌∷◌, length, filter, inl, inr, sym, subst, arith}
 use Rattle.std.proofs.lemmas.Bool.{cases_Bool, eqb-true}
 use Rattle.std.proofs.lemmas.List.{length-map}
@@ -11,7 +11,7 @@ use Rattle.ace_runs.specs.Follows.{FollowsSoFar}
 use Rattle.ace_runs.specs.Operations.{operations_of}
 use Rattle.ace_runs.proofs.Few.Ports.{retires-within}
 
-retired-within : (plan : Plan) (past : Trace) (p : ℕ) → FollowsSoFar plan past → retired past p ≤ length (operations_of plan p)
+pub retired-within : (plan : Plan) (past : Trace) (p : ℕ) → FollowsSoFar plan past → retired past p ≤ length (operations_of plan p)
 retired-within plan [] p f = omega arith
 retired-within plan (Op q k res ∷ past) p f =
     elim (cases_Bool (p == q)) [
@@ -28,10 +28,15 @@ fewer test (x ∷ xs) =
     let rest = fewer test xs in
     elim (cases_Bool (test x)) [ inl t ↦ rw t (omega (arith, rest)) | inr f ↦ rw f (omega (arith, rest)) ]
 
-pub few-retired : (plan : Plan) (past : Trace) (p : ℕ) → IsRight plan → FollowsSoFar plan past → retired past p ≤ 4096
-few-retired plan past p right f =
-    let within = retired-within plan past p f in
+pub few-own : (plan : Plan) (p : ℕ) → IsRight plan → length (operations_of plan p) ≤ 4096
+few-own plan p right =
     let own = fewer (λ o. o.port == p) plan.operations in
     let long = length-map (filter (λ (o : PlanOp). o.port == p) plan.operations) (λ (o : PlanOp). o.op) in
     let few = right.few in
-    omega (arith, within, own, long, few)
+    omega (arith, own, long, few)
+
+pub few-retired : (plan : Plan) (past : Trace) (p : ℕ) → IsRight plan → FollowsSoFar plan past → retired past p ≤ 4096
+few-retired plan past p right f =
+    let within = retired-within plan past p f in
+    let few = few-own plan p right in
+    omega (arith, within, few)

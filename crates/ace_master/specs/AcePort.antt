@@ -1,5 +1,5 @@
 -- What the master of an ACE port keeps, but for its policy, says of a trace.
-use Rattle.std.specs.Prelude.{ℕ, ◌≡◌, ◌-◌, true, false, List, Option, Some, vec_capacity, vec_len}
+use Rattle.std.specs.Prelude.{ℕ, ◌≡◌, true, false, List, Option, Some}
 use Rattle.ace_event.specs.declared.event.Event.{Event}
 use Rattle.ace_model.specs.declared.plans.Op.{Op}
 use Rattle.ace_model.specs.Plans.{Plan}
@@ -27,10 +27,6 @@ pub record AceTells (plan : Plan) (past : Trace) (p : ℕ) (operations : List Op
 pub record AcePortStands (s : AcePort) (plan : Plan) (past : Trace) : Type 0 where
   pub kept : KeptStands plan past s.port s.kept
   pub tells : AceTells plan past s.port s.operations.items s.unsent
-
--- how many operations can be put at the end of the port's
-abbrev pub room_of : AcePort → ℕ
-room_of s = vec_capacity s.operations - vec_len s.operations
 
 -- The burst is a step of the port, and what is kept stands for the trace with it.
 pub record IsAceTurn (s : AcePort) (plan : Plan) (past : Trace) (burst : List Event) : Type 0 where

@@ -1,4 +1,6 @@
--- The operations of a port and the data that their writes carry.
+-- The operations of a port.
+pub mod PortOperations
+-- The data that the writes of operations carry.
 pub mod Operations
 -- What a master keeps of its port.
 pub mod KeptPort

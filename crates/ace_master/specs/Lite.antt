@@ -1,5 +1,5 @@
 -- What the master of an ACE-Lite port keeps says of a trace.
-use Rattle.std.specs.Prelude.{ℕ, ◌≡◌, ◌*◌, ◌-◌, Bool, true, false, ◌&&◌, ◌==◌, nat_lt, List, [], ◌∷◌, ◌++◌, length, Option, Some, None, vec_capacity, vec_len}
+use Rattle.std.specs.Prelude.{ℕ, ◌≡◌, ◌*◌, Bool, true, false, ◌&&◌, ◌==◌, nat_lt, List, [], ◌∷◌, ◌++◌, length, Option, Some, None}
 use Rattle.std.specs.List.{list_all}
 use Rattle.std.specs.Option.{option_to_list}
 use Rattle.ace_codes.specs.declared.kind.AwKind.{AwKind}
@@ -26,10 +26,6 @@ use Rattle.ace_master.specs.KeptPort.{KeepsPort}
 -- the port that it is the master of
 abbrev pub port_of : LiteMaster → ℕ
 port_of s = one_port.port_of s.port
-
--- how many operations can be put at the end of the port's
-abbrev pub room_of : LiteMaster → ℕ
-room_of s = vec_capacity s.operations - vec_len s.operations
 
 -- what a port has issued on each channel, the read first
 abbrev pub both_of : Option Transaction → Option Transaction → List Transaction

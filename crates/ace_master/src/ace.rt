@@ -1,14 +1,14 @@
 //! The master of an ACE port.
 
-ghost use Rattle.std.specs.Prelude.{◌≡◌, ◌≤◌, ◌<◌, ◌-◌, true, [], IfOk};
+ghost use Rattle.std.specs.Prelude.{◌≡◌, true, [], IfOk};
 ghost use Rattle.ace_model.specs.OrderRules.{retired};
 ghost use Rattle.ace_model.specs.Plans.{IsRight, Plan, longer};
 ghost use Rattle.ace_model.specs.Trace.{Trace};
 ghost use Rattle.ace_model.specs.Transactions.{is_ace};
 ghost use Rattle.ace_master.specs.Ace.{AceStands};
-ghost use Rattle.ace_master.specs.AcePort.{room_of};
 ghost use Rattle.ace_master.specs.Answering.{IsByWord};
 
+use crate::Master;
 use crate::ace_port::AcePort;
 use ace_engine::{Burst, Engine};
 use ace_event::Event;
@@ -26,7 +26,7 @@ pub struct AceMaster<P: Policy> {
 
 impl<P: Policy + Drop> AceMaster<P> {
     /// The master of the port for a plan and the empty trace. Where the word of the plan is `keep` or `eager`, the policy may pick the row of that
-    /// word alone. It takes all the memory that it will need, also for the operations that the plan has room for.
+    /// word alone. It takes all the memory that it will need, also for the operations that it can be given.
     ///
     /// # Errors
     ///
@@ -42,7 +42,6 @@ impl<P: Policy + Drop> AceMaster<P> {
         requires picks { IsByWord plan.now.plan.policy (P.rows policy) }
         ensures stands { IfOk result (λ s. AceStands s.at (P.rows s.policy) plan.now.plan []) }
         ensures port { IfOk result (λ s. s.at.port ≡ port) }
-        ensures room { IfOk result (λ s. plan.now.room ≤ room_of s.at) }
     {
         let at = AcePort::new(alloc, plan, port)?;
         Ok(AceMaster { at, policy })
@@ -57,14 +56,14 @@ impl<P: Policy> AceMaster<P> {
         self.at.retired()
     }
 
-    /// Puts the operation at the end of those of the port, and takes one from their room. It takes no memory.
+    /// Puts the operation at the end of those of the port. It takes no memory.
     pub fn push(&mut self, op: Op)
-        requires { 0 < room_of self.old.at }
+        requires { (plan : Plan) × (past : Trace) × AceStands self.old.at (P.rows self.old.policy) plan past
+            × IsRight (longer plan (record { port = self.old.at.port; op = op })) }
         ensures stands { (plan : Plan) (past : Trace) → AceStands self.old.at (P.rows self.old.policy) plan past
             → IsRight (longer plan (record { port = self.old.at.port; op = op }))
             → AceStands self.new.at (P.rows self.new.policy) (longer plan (record { port = self.old.at.port; op = op })) past }
         ensures port { self.new.at.port ≡ self.old.at.port }
-        ensures room { room_of self.new.at ≡ room_of self.old.at - 1 }
     {
         self.at.push(op);
     }
@@ -101,5 +100,11 @@ impl<P: Policy> Engine for AceMaster<P> {
 
     fn hear(&mut self, event: &Event) {
         self.at.hear(event);
+    }
+}
+
+impl<P: Policy> Master for AceMaster<P> {
+    fn push(&mut self, op: Op) {
+        AceMaster::push(self, op);
     }
 }

@@ -1,15 +1,15 @@
 //! What the master of an ACE port keeps, but for its policy.
 
-ghost use Rattle.std.specs.Prelude.{◌≡◌, ◌≤◌, ◌<◌, ◌-◌, ◌∷◌, ℕ, [], true, false, IfOk};
+ghost use Rattle.std.specs.Prelude.{◌≡◌, ◌∷◌, [], true, false, IfOk};
 ghost use Rattle.ace_model.specs.OrderRules.{retired};
 ghost use Rattle.ace_model.specs.Plans.{IsRight, Plan, longer};
 ghost use Rattle.ace_model.specs.Trace.{Trace};
 ghost use Rattle.ace_model.specs.Transactions.{is_ace};
 ghost use Rattle.ace_runs.specs.Operations.{next_operation};
 ghost use Rattle.ace_engine.specs.Engines.{IsLegal, Master, is_given_by};
-ghost use Rattle.ace_master.specs.AcePort.{AcePortStands, room_of};
+ghost use Rattle.ace_master.specs.AcePort.{AcePortStands};
 
-use crate::operations::operations_of;
+use crate::port_operations::PortOperations;
 use ace_event::Event;
 use ace_io::NoMemory;
 use ace_master_state::Kept;
@@ -23,14 +23,14 @@ pub struct AcePort {
     pub port: u8,
     pub kept: Kept,
     /// The port's operations, in order.
-    pub operations: Vec<Op>,
+    pub operations: PortOperations,
     /// The data of the operation for which the write was issued whose burst isn't sent, where it carries an operation's.
     pub unsent: Option<WriteData>,
 }
 
 impl AcePort {
-    /// What is kept of the port of a plan and the empty trace. It takes all the memory that it will need, also for the operations that the plan has
-    /// room for.
+    /// What is kept of the port of a plan and the empty trace. It takes all the memory that it will need, also for the operations that it can be
+    /// given.
     ///
     /// # Errors
     ///
@@ -40,9 +40,8 @@ impl AcePort {
         requires ace { is_ace plan.now.plan.header port ≡ true }
         ensures stands { IfOk result (λ s. AcePortStands s plan.now.plan []) }
         ensures port { IfOk result (λ s. s.port ≡ port) }
-        ensures room { IfOk result (λ s. plan.now.room ≤ room_of s) }
     {
-        let operations = operations_of(alloc, plan, port)?;
+        let operations = PortOperations::new(alloc, plan, port)?;
         let kept = Kept::new(alloc, plan, port)?;
         Ok(AcePort {
             port,
@@ -63,23 +62,17 @@ impl AcePort {
     pub fn next(&self) -> Option<Op>
         ensures { (plan : Plan) (past : Trace) → AcePortStands self.now plan past → result ≡ next_operation plan past self.now.port }
     {
-        let number = self.kept.port.retired() as usize;
-        if number < self.operations.len() {
-            Some(self.operations[number])
-        } else {
-            None
-        }
+        self.operations.get(self.kept.port.retired() as usize)
     }
 
-    /// Puts the operation at the end of those of the port, and takes one from their room. It takes no memory.
+    /// Puts the operation at the end of those of the port. It takes no memory.
     pub fn push(&mut self, op: Op)
-        requires { 0 < room_of self.old }
+        requires { (plan : Plan) × (past : Trace) × AcePortStands self.old plan past × IsRight (longer plan (record { port = self.old.port; op = op })) }
         ensures stands { (plan : Plan) (past : Trace) → AcePortStands self.old plan past → IsRight (longer plan (record { port = self.old.port; op = op }))
             → AcePortStands self.new (longer plan (record { port = self.old.port; op = op })) past }
         ensures port { self.new.port ≡ self.old.port }
-        ensures room { room_of self.new ≡ room_of self.old - 1 }
     {
-        self.operations.push_reserved(op);
+        self.operations.push(op);
     }
 
     /// Hears the next event of the trace, which is none of the port's master.

@@ -1,7 +1,7 @@
 //! What the master of an ACE port does by its steps, for a plan of one port.
 
-ghost use Rattle.std.specs.Prelude.{◌≡◌, ◌≤◌, [], IfOk};
-ghost use Rattle.ace_master.specs.AcePort.{AcePortStands, room_of};
+ghost use Rattle.std.specs.Prelude.{◌≡◌, [], IfOk};
+ghost use Rattle.ace_master.specs.AcePort.{AcePortStands};
 ghost use Rattle.ace_master.specs.AceWorked.{cleaning_plan};
 
 use crate::asking::Asking;
@@ -38,7 +38,6 @@ fn plan(alloc: Global) -> Result<PlanView, Fail>
 /// What is kept of the port at first.
 fn port(alloc: Global) -> Result<AcePort, Fail>
     ensures stands { IfOk result (λ s. AcePortStands s cleaning_plan []) }
-    ensures room { IfOk result (λ s. 1 ≤ room_of s) }
 {
     let plan = plan(alloc)?;
     Ok(AcePort::new(alloc, &plan, 0)?)

@@ -1,6 +1,7 @@
 //! What the master of an ACE port acknowledges.
 
 use crate::AcePort;
+use crate::operations_tests::operations;
 use ace_codes::LineState::{self, I, SC, UC, UD};
 use ace_engine::Burst;
 use ace_event::{Channel, Event, Header, Line, Outcome};
@@ -21,7 +22,7 @@ const LINE: Line = Line {
 };
 
 /// What is kept at first of the only port, which has these operations.
-fn port(alloc: Global, operations: Vec<Op>) -> Result<AcePort, Fail> {
+fn port(alloc: Global, of: &[Op]) -> Result<AcePort, Fail> {
     let kept = Kept {
         port: OnePort::new(alloc, HEADER, 0, 8)?,
         lines: Cached::new(alloc, 2)?,
@@ -33,7 +34,7 @@ fn port(alloc: Global, operations: Vec<Op>) -> Result<AcePort, Fail> {
     Ok(AcePort {
         port: 0,
         kept,
-        operations,
+        operations: operations(alloc, HEADER, of)?,
         unsent: None,
     })
 }
@@ -120,10 +121,7 @@ fn reads(port: &mut AcePort, snoop: u8, lock: bool, resp: u8) {
 /// A load ends with the acknowledge of its read.
 #[test]
 fn loads_what_it_read(rt: HostRuntime) -> Result<(), Fail> {
-    let mut port = port(
-        rt.alloc(),
-        vec![in rt.alloc(); Op::Ld { addr: 64, w: 2 }; 1]?,
-    )?;
+    let mut port = port(rt.alloc(), &[Op::Ld { addr: 64, w: 2 }])?;
     let mut burst = Burst::empty();
     assert!(rt; !port.acknowledge(&mut burst));
     reads(&mut port, 1, false, 0);
@@ -144,7 +142,7 @@ fn fills_before_the_end(rt: HostRuntime) -> Result<(), Fail> {
         addr: 64,
         line: LINE,
     };
-    let mut port = port(rt.alloc(), vec![in rt.alloc(); fill; 1]?)?;
+    let mut port = port(rt.alloc(), &[fill])?;
     hear(&mut port, &[ar(3, 12, false), g(3), r(3, 0, true, 0)]);
     let mut burst = Burst::empty();
     assert!(rt; port.acknowledge(&mut burst));
@@ -193,7 +191,7 @@ fn writes_back(port: &mut AcePort) {
 /// A WriteBack gives its line up. It ends no operation: its own retired before.
 #[test]
 fn gives_up_what_it_wrote(rt: HostRuntime) -> Result<(), Fail> {
-    let mut port = port(rt.alloc(), vec![in rt.alloc(); Op::Wb { addr: 64 }; 1]?)?;
+    let mut port = port(rt.alloc(), &[Op::Wb { addr: 64 }])?;
     reads(&mut port, 1, false, 4);
     hear(&mut port, &[rk(UD)]);
     writes_back(&mut port);
@@ -221,14 +219,14 @@ const STORE: Op = Op::Stx {
 /// An exclusive store that the interconnect refused fails; one that passed is made.
 #[test]
 fn stores_if_it_may(rt: HostRuntime) -> Result<(), Fail> {
-    let mut fails = port(rt.alloc(), vec![in rt.alloc(); STORE; 2]?)?;
+    let mut fails = port(rt.alloc(), &[STORE; 2])?;
     asks_to_store(&mut fails, 0);
     let mut refused = Burst::empty();
     assert!(rt; fails.acknowledge(&mut refused));
     assert_eq!(rt; refused.len(), 2);
     assert_eq!(rt; refused.get(0), rk(SC));
     assert_eq!(rt; refused.get(1), op(1, Outcome::Fail));
-    let mut passes = port(rt.alloc(), vec![in rt.alloc(); STORE; 2]?)?;
+    let mut passes = port(rt.alloc(), &[STORE; 2])?;
     asks_to_store(&mut passes, 1);
     let mut passed = Burst::empty();
     assert!(rt; passes.acknowledge(&mut passed));

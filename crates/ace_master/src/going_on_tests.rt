@@ -1,6 +1,7 @@
 //! The steps by which an ACE port does whole operations: the first of its steps that is enabled, and between them what the interconnect gives.
 
 use crate::AcePort;
+use crate::operations_tests::operations;
 use ace_codes::LineState::{self, I, SC, UC, UD};
 use ace_engine::Burst;
 use ace_event::{Channel, Event, Header, Line, Outcome};
@@ -18,7 +19,7 @@ const HEADER: Header = Header {
 };
 
 /// What is kept at first of port 0, which has these operations, and a cache of one line.
-fn port(alloc: Global, operations: &[Op]) -> Result<AcePort, Fail> {
+fn port(alloc: Global, of: &[Op]) -> Result<AcePort, Fail> {
     let kept = Kept {
         port: OnePort::new(alloc, HEADER, 0, 8)?,
         lines: Cached::new(alloc, 1)?,
@@ -30,7 +31,7 @@ fn port(alloc: Global, operations: &[Op]) -> Result<AcePort, Fail> {
     Ok(AcePort {
         port: 0,
         kept,
-        operations: Vec::from_slice(alloc, operations)?,
+        operations: operations(alloc, HEADER, of)?,
         unsent: None,
     })
 }

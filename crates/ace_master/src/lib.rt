@@ -26,7 +26,11 @@ mod lite;
 mod lite_requests;
 #[cfg(test)]
 mod lite_tests;
+mod master;
 mod operations;
+#[cfg(test)]
+mod operations_tests;
+mod port_operations;
 mod pushing;
 mod sending;
 #[cfg(test)]
@@ -36,4 +40,5 @@ pub use ace::AceMaster;
 pub use ace_port::AcePort;
 pub use answering::answer;
 pub use lite::LiteMaster;
+pub use master::Master;
 pub use sending::send;

@@ -1,6 +1,6 @@
 //! The master of an ACE-Lite port.
 
-ghost use Rattle.std.specs.Prelude.{◌≡◌, ◌<◌, ◌≤◌, ◌-◌, ◌∷◌, ◌==◌, ◌&&◌, ◌||◌, not, true, false, [], Some, None, is_some, IfOk, IsTrue};
+ghost use Rattle.std.specs.Prelude.{◌≡◌, ◌<◌, ◌∷◌, ◌==◌, ◌&&◌, ◌||◌, not, true, false, [], Some, None, is_some, IfOk, IsTrue};
 ghost use Rattle.ace_event.specs.declared.event.Outcome.TheVariants.{Ok};
 ghost use Rattle.ace_model.specs.declared.plans.Op.{Op};
 ghost use Rattle.ace_model.specs.OrderRules.{retired};
@@ -12,14 +12,16 @@ ghost use Rattle.ace_runs.specs.Operations.{next_operation};
 ghost use Rattle.ace_runs.specs.Retiring.{may_retire};
 ghost use Rattle.ace_runs.specs.Steps.{is_enabled_by};
 ghost use Rattle.ace_master.specs.declared.lite_requests.LiteRequest.TheVariants.{Read, Write, Barrier};
-ghost use Rattle.ace_master.specs.Lite.{IsAsking, IsTurn, LiteStands, is_line_busy, own_steps, port_of, room_of};
+ghost use Rattle.ace_master.specs.Lite.{IsAsking, IsTurn, LiteStands, is_line_busy, own_steps, port_of};
 ghost use Rattle.ace_master.specs.LiteRequests.{lite_request};
 
+use crate::Master;
 use crate::identifiers::{free_on, free_on_both};
 use crate::issues::{ar_of, aw_of, barrier_ar, barrier_aw, is_no_snoop_write};
 use crate::kept_port::{note, put, retirement};
 use crate::lite_requests::{LiteRequest, lite_request};
-use crate::operations::{beats, data_of, operations_of};
+use crate::operations::{beats, data_of};
+use crate::port_operations::PortOperations;
 use ace_codes::{ArKind, AwKind};
 use ace_engine::{Burst, Engine};
 use ace_event::{Channel, Event};
@@ -33,7 +35,7 @@ use std::alloc::Global;
 pub struct LiteMaster {
     port: OnePort,
     /// The port's operations, in order.
-    operations: Vec<Op>,
+    operations: PortOperations,
     /// What it has issued for its next operation, on each channel.
     read: Option<Transaction>,
     write: Option<Transaction>,
@@ -42,8 +44,8 @@ pub struct LiteMaster {
 }
 
 impl LiteMaster {
-    /// The master of the port for a plan and the empty trace. It takes all the memory that it will need, also for the operations that the plan has
-    /// room for.
+    /// The master of the port for a plan and the empty trace. It takes all the memory that it will need, also for the operations that it can be
+    /// given.
     ///
     /// # Errors
     ///
@@ -54,9 +56,8 @@ impl LiteMaster {
         requires lite { is_ace plan.now.plan.header port ≡ false }
         ensures stands { IfOk result (λ s. LiteStands s plan.now.plan []) }
         ensures port { IfOk result (λ s. port_of s ≡ port) }
-        ensures room { IfOk result (λ s. plan.now.room ≤ room_of s) }
     {
-        let operations = operations_of(alloc, plan, port)?;
+        let operations = PortOperations::new(alloc, plan, port)?;
         let Ok(port) = OnePort::new(alloc, plan.header(), port, 0) else {
             return Err(NoMemory);
         };
@@ -69,15 +70,14 @@ impl LiteMaster {
         })
     }
 
-    /// Puts the operation at the end of those of the port, and takes one from their room. It takes no memory.
+    /// Puts the operation at the end of those of the port. It takes no memory.
     pub fn push(&mut self, op: Op)
-        requires { 0 < room_of self.old }
+        requires { (plan : Plan) × (past : Trace) × LiteStands self.old plan past × IsRight (longer plan (record { port = port_of self.old; op = op })) }
         ensures stands { (plan : Plan) (past : Trace) → LiteStands self.old plan past → IsRight (longer plan (record { port = port_of self.old; op = op }))
             → LiteStands self.new (longer plan (record { port = port_of self.old; op = op })) past }
         ensures port { port_of self.new ≡ port_of self.old }
-        ensures room { room_of self.new ≡ room_of self.old - 1 }
     {
-        self.operations.push_reserved(op);
+        self.operations.push(op);
     }
 
     /// How many operations of the port retired.
@@ -91,12 +91,7 @@ impl LiteMaster {
     fn next(&self) -> Option<Op>
         ensures { (plan : Plan) (past : Trace) → LiteStands self.now plan past → result ≡ next_operation plan past (port_of self.now) }
     {
-        let number = self.port.retired() as usize;
-        if number < self.operations.len() {
-            Some(self.operations[number])
-        } else {
-            None
-        }
+        self.operations.get(self.port.retired() as usize)
     }
 
     /// What the port has issued is outstanding.
@@ -307,5 +302,11 @@ impl Engine for LiteMaster {
 
     fn hear(&mut self, event: &Event) {
         note(&mut self.port, event);
+    }
+}
+
+impl Master for LiteMaster {
+    fn push(&mut self, op: Op) {
+        LiteMaster::push(self, op);
     }
 }

@@ -1,35 +1,11 @@
-//! The operations of one port, and the data that their writes carry.
+//! The data that the writes of operations carry.
 
-ghost use Rattle.std.specs.Prelude.{◌≡◌, ◌<◌, ◌≤◌, ◌-◌, IfOk, vec_capacity, vec_len};
-ghost use Rattle.ace_runs.specs.Operations.{operations_of};
+ghost use Rattle.std.specs.Prelude.{◌≡◌, ◌<◌};
 ghost use Rattle.ace_master.specs.Operations.{beat_of, beats_of_data, write_data};
 
 use ace_event::Event;
-use ace_io::NoMemory;
-use ace_model::{Op, PlanView};
+use ace_model::Op;
 use ace_portck::WriteData;
-use std::alloc::Global;
-
-/// The port's operations, in order, with memory for so many more as the plan has room for.
-///
-/// # Errors
-///
-/// `NoMemory` where there is none for them.
-pub fn operations_of(alloc: Global, plan: &PlanView, port: u8) -> Result<Vec<Op>, NoMemory>
-    ensures items { IfOk result (λ operations. operations.items ≡ operations_of plan.now.plan port) }
-    ensures room { IfOk result (λ operations. plan.now.room ≤ vec_capacity operations - vec_len operations) }
-{
-    let mut operations = Vec::new(alloc);
-    for planned in plan.operations() {
-        if planned.port == port {
-            operations.push(planned.op).map_err(|_| NoMemory)?;
-        }
-    }
-    operations
-        .try_reserve_exact(usize::from(plan.room()))
-        .map_err(|_| NoMemory)?;
-    Ok(operations)
-}
 
 /// What the write of the operation carries.
 pub fn data_of(op: Op) -> Option<WriteData>

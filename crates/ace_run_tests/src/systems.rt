@@ -1,12 +1,16 @@
 //! Runs of small scripts: turn by turn, drained, and with chosen answers and turns.
 
+ghost use Rattle.std.specs.Prelude.{◌≡◌, ◌≢◌, ◌-◌};
+ghost use Rattle.ace_model.specs.Plans.{IsRightAfter, longer};
+
 use crate::chosen::start_chosen;
 use ace_codes::LineState::{SD, UC};
 use ace_event::Channel::{Read, Write};
 use ace_event::Outcome::{Ok as Done, Skip};
-use ace_event::{Event, Line};
+use ace_event::{Event, Header, Line};
 use ace_fabric::{System, Turn};
 use ace_io::HonestSource;
+use ace_model::{Op, PolicyWord};
 use ace_script::Plan;
 use std::alloc::Global;
 use std::test::Fail;
@@ -159,6 +163,23 @@ const DRAINED: &[Drained] = &[
     },
 ];
 
+/// The header of a script of one ACE port, and the operations of the first script above.
+const HEADER: Header = Header {
+    version: 1,
+    ports: 1,
+    ace: 1,
+};
+
+const LOAD: Op = Op::Ld { addr: 64, w: 0 };
+
+const STORE: Op = Op::St {
+    addr: 64,
+    w: 0,
+    word: STORED,
+};
+
+const WRITE_BACK: Op = Op::Wb { addr: 128 };
+
 /// A dirty line is snooped; the second port begins with a barrier.
 const MIXED: &[u8] =
     b"ACE SCRIPT 1\nPORTS AA\nCACHE 1\nPOLICY mixed 0000000000000000\n0 st 00000040 0 11111111111111111111111111111111\n1 mb\n1 ld 00000040 0\n";
@@ -235,5 +256,32 @@ fn takes_chosen_answers_and_turns(rt: HostRuntime) -> Result<(), Fail> {
     system.drain_by(&[255]);
     assert!(rt; system.done() && system.trace().starts_with(&[BARRIER]));
     assert!(rt; system.trace().contains(&ANSWER) && system.trace().contains(&LOADED));
+    Ok(())
+}
+
+/// Gives the only port the operation, and goes on until the run is done.
+fn does(system: &mut System, op: Op)
+    requires room { system.old.room ≢ 0 }
+    requires right { IsRightAfter system.old.plan.header system.old.plan.operations (record { port = 0; op = op }) }
+    ensures plan { system.new.plan ≡ longer system.old.plan (record { port = 0; op = op }) }
+    ensures room { system.new.room ≡ system.old.room - 1 }
+{
+    system.push(0, op);
+    system.drain();
+}
+
+/// A run whose plan grows has the trace of the script that has the operations at once.
+#[test]
+fn grows(rt: HostRuntime) -> Result<(), Fail> {
+    let plan = Plan::blank(rt.alloc(), HEADER, 1, PolicyWord::Keep, 3)?;
+    let mut system = System::start(rt.alloc(), &plan)?;
+    assert!(rt; system.done() && system.trace().is_empty());
+    does(&mut system, LOAD);
+    assert!(rt; system.done() && system.trace().len() == 9);
+    assert!(rt; DRAINED[0].events.starts_with(system.trace()));
+    does(&mut system, STORE);
+    does(&mut system, WRITE_BACK);
+    assert!(rt; system.done() && system.trace() == DRAINED[0].events);
+    assert!(rt; system.plan().room() == 0 && system.plan().view().count() == 3);
     Ok(())
 }

@@ -1,7 +1,8 @@
 -- The master of an ACE port that has one more operation: its next one stays, or it is that one, for which the port has done nothing yet.
-use Rattle.std.proofs.Common.{◌≡◌, ℕ, ◌+◌, Bool, true, false, not, ◌&&◌, ◌||◌, ◌==◌, nat_lt, if◌then◌else◌, List, [], ◌∷◌, ◌++◌, length, map, filter, slice_get, Option, Some, None, is_some, inl, inr, refl, sym, ap, subst, ◌∙◌, arith}
+use Rattle.std.proofs.Common.{◌≡◌, ◌<◌, ℕ, ◌+◌, Bool, true, false, not, ◌&&◌, ◌==◌, nat_lt, if◌then◌else◌, List, [], ◌∷◌, ◌++◌, length, map, filter, slice_get, Option, Some, None, is_some, inl, inr, refl, sym, ap, ◌∙◌, arith}
 use Rattle.std.proofs.Math.Bool.{and-false}
 use Rattle.std.proofs.lemmas.Bool.{and_parts, cases_Bool, eq-eqb, eqb-true, false_from_ne_true}
+use Rattle.std.proofs.lemmas.List.{length-append}
 use Rattle.ace_event.specs.declared.event.Event.{Event}
 use Rattle.ace_event.specs.declared.event.Event.TheVariants.{S, Op as Retires}
 use Rattle.ace_event.specs.declared.event.Outcome.TheVariants.{Ok}
@@ -10,7 +11,7 @@ use Rattle.ace_model.specs.declared.plans.PlanOp.{PlanOp}
 use Rattle.ace_model.specs.declared.transactions.Transaction.{Transaction}
 use Rattle.ace_model.specs.Messages.{is_dvm_completion}
 use Rattle.ace_model.specs.OrderRules.{retired}
-use Rattle.ace_model.specs.Plans.{Plan, longer}
+use Rattle.ace_model.specs.Plans.{IsRight, Plan, longer}
 use Rattle.ace_model.specs.Progress.{updates_memory}
 use Rattle.ace_model.specs.Trace.{Trace, implies, is_none_or, is_some_and, more, option_filter, port_of}
 use Rattle.ace_model.specs.Transactions.{issued}
@@ -26,6 +27,7 @@ use Rattle.ace_runs.proofs.NeverStuck.Phases.Endings.{fresh-stays}
 use Rattle.ace_engine.specs.Engines.{IsLegal}
 use Rattle.ace_master_laws.specs.Orderly.{IsOrderly, IsUnderWay, owns_line}
 use Rattle.ace_master.specs.AceLaws.{under-way-longer}
+use Rattle.ace_master.proofs.Retirements.{few-own}
 
 -- ---- a port without a next operation -----------------------------------------------------------------
 
@@ -174,3 +176,11 @@ pub pushed-operations : (plan : Plan) (p : ℕ) (op : Op) → operations_of (lon
 pushed-operations plan p op =
     let o : PlanOp = record { port = p; op = op } in
     operations-longer plan (o ∷ []) p ∙ ap (λ (b : Bool). operations_of plan p ++ map (λ (v : PlanOp). v.op) (if b then o ∷ [] else [])) (eq-eqb p p refl)
+
+-- which a plan has room for
+pub pushed-few : (plan : Plan) (p : ℕ) (op : Op) → IsRight (longer plan (record { port = p; op = op })) → length (operations_of plan p) < 4096
+pushed-few plan p op right =
+    let few = few-own (longer plan (record { port = p; op = op })) p right in
+    let more = ap length (pushed-operations plan p op) in
+    let long = length-append (operations_of plan p) (op ∷ []) in
+    omega (arith, few, more, long)

@@ -10,7 +10,7 @@ returns-clause-stands c =
     record {
       kept = c.in_ok-kept.ensures;
       tells = record {
-        operations_are = c.in_ok-operations.ensures.items;
+        operations_are = c.in_ok-operations.ensures;
         orderly = orderly-first plan p;
         answered = refl;
         unsent_is = unsent-first plan p None;

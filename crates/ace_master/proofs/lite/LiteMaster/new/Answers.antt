@@ -16,7 +16,7 @@ returns-clause-stands c =
     let tells : LiteTells plan [] p c.in_ok-operations.operations.items None None None = record {
       low = lt-ltb p plan.header.ports c.requires.port;
       lite = c.requires.lite;
-      operations_are = c.in_ok-operations.ensures.items;
+      operations_are = c.in_ok-operations.ensures;
       issued = record { segment_is = refl; made = refl; acts = refl; whole = refl };
       sent = refl;
     } in
