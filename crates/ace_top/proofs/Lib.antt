@@ -5,10 +5,11 @@ pub mod Followed
 pub mod Following
 pub mod FrontGiven
 pub mod GenerateLemmas
+pub mod Hyphens
 pub mod Numbers
 pub mod OneAnswer
 pub mod OneRun
-pub mod OneWord
+pub mod ParseLemmas
 pub mod Parts
 pub mod ProgressLemmas
 pub mod ReportLemmas

@@ -5,7 +5,7 @@ use Rattle.ace_top.specs.declared.words.Command.{Command}
 use Rattle.ace_top.specs.Answer.{CarriesOut, AnswersWords, BreaksOffWords}
 use Rattle.ace_top.specs.Command.{Names}
 use Rattle.ace_top.proofs.Parts.{nothing_appended}
-use Rattle.ace_top.specs.declared.answer.Answer.TheVariants.{Usage}
+use Rattle.ace_top.specs.declared.answer.Answer.TheVariants.{NoMemory, Usage}
 use Rattle.ace_top.specs.Output.{AppendsPart, AppendsParts}
 use Rattle.ace_top.specs.Texts.{notes_text_of}
 use Rattle.ace_top.specs.Words.{IsCheck, IsReport, IsShow, IsMigrate, IsRun, IsGen, IsNumbered, IsTrial, IsTraceCommand, IsReadingCommand, IsCommand}
@@ -21,7 +21,12 @@ words_broken words command input left status out out' notes notes' faults faults
 -- the usage was broken off: its text is for the notes alone
 pub usage_broken : (words : List (String Global)) (input left out out' notes notes' : Option (List ℕ))
     → ¬ IsCommand words → AppendsPart out out' [] → AppendsParts notes notes' (notes_text_of Usage) (codes "write fault\n") → BreaksOffWords words input left out out' notes notes'
-usage_broken words input left out out' notes notes' n part parts = inr (n, nothing_appended out out' part, parts)
+usage_broken words input left out out' notes notes' n part parts = inr (inl (n, nothing_appended out out' part, parts))
+
+-- so was the text that there was no memory to parse the words
+pub memory_broken : (words : List (String Global)) (input left out out' notes notes' : Option (List ℕ))
+    → AppendsPart out out' [] → AppendsParts notes notes' (notes_text_of NoMemory) (codes "write fault\n") → BreaksOffWords words input left out out' notes notes'
+memory_broken words input left out out' notes notes' part parts = inr (inr (nothing_appended out out' part, parts))
 
 pub is_check : (words : List (String Global)) → IsCheck words → IsTraceCommand words
 is_check words n = inl n
@@ -52,17 +57,6 @@ is_gen words number n = inr (number, inl n)
 
 pub is_trial : (words : List (String Global)) (number : ℕ) → IsTrial words number → IsCommand words
 is_trial words number n = inr (number, inr n)
-
--- words that are none of these name no command
-pub no_command : (words : List (String Global)) → ¬ IsCheck words → ¬ IsReport words → ¬ IsShow words → ¬ IsMigrate words → ¬ IsRun words
-    → ((number : ℕ) → ¬ IsGen words number) → ((number : ℕ) → ¬ IsTrial words number) → ¬ IsCommand words
-no_command words check report show migrate run gen trial (inl (inl (inl n))) = check n
-no_command words check report show migrate run gen trial (inl (inl (inr (inl n)))) = report n
-no_command words check report show migrate run gen trial (inl (inl (inr (inr (inl n))))) = show n
-no_command words check report show migrate run gen trial (inl (inl (inr (inr (inr n))))) = migrate n
-no_command words check report show migrate run gen trial (inl (inr n)) = run n
-no_command words check report show migrate run gen trial (inr (number, inl n)) = gen number n
-no_command words check report show migrate run gen trial (inr (number, inr n)) = trial number n
 
 -- the word `run` names no trace command
 pub runs_no_trace : (words : List (String Global)) → IsRun words → ¬ IsTraceCommand words

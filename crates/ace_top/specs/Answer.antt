@@ -66,12 +66,13 @@ Answers command input left status out out' notes notes' =
     (answer : Answer) × (text : List ℕ) × FitsAnswer command answer text
     × IsAnswer command input left answer text × (status ≡ status_of answer) × Appends out out' text × Appends notes notes' (notes_text_of answer)
 
--- the same for a list of words: where they name no command, the usage is told
+-- the same for a list of words: where they name no command, the usage is told. Want of memory to parse them may take its place.
 abbrev pub AnswersWords : List (String Global) → Option (List ℕ) → Option (List ℕ) → ℕ
     → Option (List ℕ) → Option (List ℕ) → Option (List ℕ) → Option (List ℕ) → Type 0
 AnswersWords words input left status out out' notes notes' =
     ((command : Command) × Names words command × Answers command input left status out out' notes notes')
     ⊎ (¬ IsCommand words × (status ≡ status_of Usage) × Appends out out' [] × Appends notes notes' (notes_text_of Usage))
+    ⊎ ((status ≡ status_of NoMemory) × Appends out out' [] × Appends notes notes' (notes_text_of NoMemory))
 
 -- An output failed where this was to be answered: of each text of an answer a front was appended, and to the notes then a front of
 -- the word that an output failed.
@@ -100,6 +101,7 @@ abbrev pub BreaksOffWords : List (String Global) → Option (List ℕ) → Optio
 BreaksOffWords words input left out out' notes notes' =
     ((command : Command) × Names words command × BreaksOff command input left out out' notes notes')
     ⊎ (¬ IsCommand words × Appends out out' [] × AppendsParts notes notes' (notes_text_of Usage) (codes "write fault\n"))
+    ⊎ (Appends out out' [] × AppendsParts notes notes' (notes_text_of NoMemory) (codes "write fault\n"))
 
 -- What a command leaves: where no output failed, an answer; and where one did, what had been given by then, and the word
 -- that it failed, if the notes could take that.

@@ -5,6 +5,7 @@ pub mod ErrorAnswer
 pub mod Follow
 pub mod Generate
 pub mod Output
+pub mod Parse
 pub mod Progress
 pub mod Report
 pub mod Run

@@ -8,6 +8,7 @@ mod follow;
 mod generate;
 pub mod laws;
 mod output;
+mod parse;
 mod range;
 mod run;
 mod show;

@@ -66,7 +66,10 @@ pub fn ace<R: Threads + Wait + Sync, S: Source, K: Sink, E: Sink, G: Gate + Sync
     ensures untouched { ¬ IsReadingCommand words.now → input.new ≡ input.old }
     ensures status { result ≤ 7 }
 {
-    match command_of(words) {
+    let Ok(command) = command_of(alloc, words) else {
+        return conclude(out, notes, Answer::NoMemory);
+    };
+    match command {
         Some(Command::Check) => tell_verdict(alloc, input, out, notes),
         Some(Command::Report) => tell_report(alloc, input, out, notes),
         Some(Command::Show) => write_out(alloc, input, out, notes, Version::AsRead),

@@ -1,9 +1,14 @@
 // The words of the command line.
-ghost use Rattle.std.specs.Prelude.{◌≡◌, ◌↔◌, ℕ, decimal, IsTrue, MatchOption};
+ghost use Rattle.std.specs.Prelude.{◌≡◌, ◌↔◌, ℕ, List, [], ◌∷◌, map, String, decimal, IfOk, IsTrue, MatchOption};
+ghost use Rattle.std.specs.String.{string_bytes};
 ghost use Rattle.ace_top.specs.Command.{Names};
-ghost use Rattle.ace_top.specs.Words.{IsCommand, IsNumber, IsNumbered, IsWord};
+ghost use Rattle.ace_top.specs.Parse.{any_hyphen, starts_with_hyphen};
+ghost use Rattle.ace_top.specs.Words.{IsCommand, IsNumber};
 
+use crate::parse::{Positionals, parse_words};
+use ace_io::NoMemory;
 use itoa::Buffer;
+use std::alloc::Global;
 
 /// What the program is asked to do.
 #[derive(Clone, Copy, Debug, PartialEq, Eq)]
@@ -22,13 +27,6 @@ pub enum Command {
     Gen { number: u64 },
     /// To run that script, and to tell of the run.
     Trial { number: u64 },
-}
-
-/// Whether there is one word, and it is this one.
-fn is_word(words: &[String], text: &str) -> bool
-    ensures { IsTrue result ↔ IsWord words.now text.now }
-{
-    words.len() == 1 && words[0].as_str() == text
 }
 
 /// Whether the word is this number, in decimal.
@@ -56,42 +54,62 @@ fn number_of(word: &str) -> Option<u64>
     }
 }
 
-/// The number behind this word, if the words are these two.
-fn number_behind(words: &[String], text: &str) -> Option<u64>
-    ensures { MatchOption result ((n : ℕ) → ¬ IsNumbered words.now text.now n) (IsNumbered words.now text.now) }
+fn begins_with_hyphen(word: &str) -> bool
+    ensures { result ≡ starts_with_hyphen word.now }
 {
-    if words.len() != 2 {
-        return None;
-    }
-    if words[0].as_str() == text {
-        number_of(words[1].as_str())
-    } else {
-        None
+    match word.as_bytes().first() {
+        Some(first) => *first == b'-',
+        None => false,
     }
 }
 
-/// The command that the words name.
-#[tactic(auto, using(crate::proofs::WordsAnswered::no_command))]
-pub fn command_of(words: &[String]) -> Option<Command>
-    ensures { MatchOption result (¬ IsCommand words.now) (Names words.now) }
+/// Whether one of the words begins with `-`.
+fn has_hyphen(words: &[String]) -> bool
+    ensures { result ≡ any_hyphen words.now }
 {
-    if is_word(words, "check") {
-        Some(Command::Check)
-    } else if is_word(words, "report") {
-        Some(Command::Report)
-    } else if is_word(words, "show") {
-        Some(Command::Show)
-    } else if is_word(words, "migrate") {
-        Some(Command::Migrate)
-    } else if is_word(words, "run") {
-        Some(Command::Run)
-    } else {
-        match number_behind(words, "gen") {
-            Some(number) => Some(Command::Gen { number }),
-            None => match number_behind(words, "trial") {
-                Some(number) => Some(Command::Trial { number }),
-                None => None,
-            },
-        }
+    words.iter().any(|word| begins_with_hyphen(word.as_str()))
+}
+
+/// The command that one word names.
+fn one_word(text: &str) -> Option<Command>
+    ensures { (words : List (String Global)) → map string_bytes words ≡ text.now ∷ []
+        → MatchOption result (¬ IsCommand words) (Names words) }
+{
+    match text {
+        "check" => Some(Command::Check),
+        "report" => Some(Command::Report),
+        "show" => Some(Command::Show),
+        "migrate" => Some(Command::Migrate),
+        "run" => Some(Command::Run),
+        _ => None,
+    }
+}
+
+/// The command that two words name.
+fn two_words(text: &str, word: &str) -> Option<Command>
+    ensures { (words : List (String Global)) → map string_bytes words ≡ text.now ∷ word.now ∷ []
+        → MatchOption result (¬ IsCommand words) (Names words) }
+{
+    match (text, number_of(word)) {
+        ("gen", Some(number)) => Some(Command::Gen { number }),
+        ("trial", Some(number)) => Some(Command::Trial { number }),
+        _ => None,
+    }
+}
+
+/// The command that the words name. There may be no memory to parse them.
+#[tactic(auto, using(crate::proofs::Hyphens::no_hyphen))]
+pub fn command_of(alloc: Global, words: &[String]) -> Result<Option<Command>, NoMemory>
+    ensures { IfOk result (λ command. MatchOption command (¬ IsCommand words.now) (Names words.now)) }
+{
+    if has_hyphen(words) {
+        return Ok(None);
+    }
+    match parse_words(alloc, words)? {
+        Some(given) => match given.second {
+            Some(second) => Ok(two_words(given.first, second)),
+            None => Ok(one_word(given.first)),
+        },
+        None => Ok(None),
     }
 }

@@ -511,7 +511,7 @@ fn scripts_broken_off(rt: HostRuntime) -> Result<(), Fail> {
 }
 
 /// Words that name no command.
-const NO_COMMANDS: [&[&str]; 25] = [
+const NO_COMMANDS: [&[&str]; 35] = [
     &["gen"],
     &["gen", ""],
     &["gen", "x"],
@@ -534,9 +534,19 @@ const NO_COMMANDS: [&[&str]; 25] = [
     &["trial"],
     &["trial", "01"],
     &["trial", "1", "1"],
+    &["trial", "-1"],
     &["--help"],
     &["-h"],
+    &["-V"],
+    &["-"],
+    &["--"],
+    &["--", "check"],
+    &["-", "1"],
+    &["check", "--"],
+    &["gen", "1", "--"],
     &["help"],
+    &["help", "check"],
+    &[""],
 ];
 
 #[test]
