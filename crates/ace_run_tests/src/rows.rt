@@ -249,9 +249,8 @@ fn is_fine(alloc: Global, system: &System) -> Result<bool, Fail> {
     Ok(true)
 }
 
-/// So many words of the generator from n on the stream.
-fn words_of(alloc: Global, n: u64, stream: u64, count: u32) -> Result<Vec<u32>, Fail> {
-    let mut generator = Lcg64Xsh32::new(n, stream);
+/// The next so many words.
+fn next_words(alloc: Global, generator: &mut Lcg64Xsh32, count: u32) -> Result<Vec<u32>, Fail> {
     let mut words = Vec::new(alloc);
     for _ in 0..count {
         words.push(generator.next_word())?;
@@ -259,12 +258,18 @@ fn words_of(alloc: Global, n: u64, stream: u64, count: u32) -> Result<Vec<u32>, 
     Ok(words)
 }
 
-/// Whether the masters of the plan of n, each with a generator of its own, answer by the words of that of n.
-fn is_as_drawn(alloc: Global, n: u64) -> Result<bool, Fail> {
+/// The run of the plan of n.
+fn drained(alloc: Global, n: u64) -> Result<System, Fail> {
     let plan = Plan::generate(alloc, n)?;
     let mut system = System::start(alloc, &plan)?;
     system.drain();
-    let words = words_of(alloc, n, 1, 65536)?;
+    Ok(system)
+}
+
+/// Whether the masters of the plan of n, each with a generator of its own, answer by the words of that of n.
+fn is_as_drawn(alloc: Global, n: u64) -> Result<bool, Fail> {
+    let words = next_words(alloc, &mut Lcg64Xsh32::new(n, 1), 65536)?;
+    let system = drained(alloc, n)?;
     goes_by(alloc, system.trace(), &words)
 }
 
@@ -303,12 +308,15 @@ fn goes_by_picks(alloc: Global, trace: &[Event], picks: &[u8]) -> Result<bool, F
     goes_by(alloc, trace, &words)
 }
 
+/// Whether the run is accepted, and its answers are those at these numbers.
+fn is_picked_run(alloc: Global, system: &System, picks: &[u8]) -> Result<bool, Fail> {
+    Ok(is_fine(alloc, system)? && goes_by_picks(alloc, system.trace(), picks)?)
+}
+
 /// Whether the run with these answers and turns is accepted, and has these answers.
 fn is_as_picked(alloc: Global, n: u64, picks: &[u8], turns: &[u8]) -> Result<bool, Fail> {
     match chosen_run(alloc, n, picks, turns)? {
-        Some(system) => {
-            Ok(is_fine(alloc, &system)? && goes_by_picks(alloc, system.trace(), picks)?)
-        }
+        Some(system) => is_picked_run(alloc, &system, picks),
         None => Ok(false),
     }
 }

@@ -222,40 +222,68 @@ fn answers(system: &mut System, turns: &[(u8, bool)]) -> bool {
     same
 }
 
+/// Whether the run isn't done, has so many events, and ends with these.
+fn ends_with(system: &System, count: usize, end: &[Event]) -> bool {
+    system.trace().len() == count && system.trace().ends_with(end) && !system.done()
+}
+
+/// Whether the turns of the case put what it says.
+fn is_as_turned(alloc: Global, case: &Turns) -> Result<bool, Fail> {
+    let mut system = start(alloc, case.script)?;
+    Ok(answers(&mut system, case.turns) && ends_with(&system, case.count, case.end))
+}
+
 #[test]
 fn takes_turns(rt: HostRuntime) -> Result<(), Fail> {
     for case in TURNS {
-        let mut system = start(rt.alloc(), case.script)?;
-        assert!(rt; answers(&mut system, case.turns));
-        assert!(rt;
-            system.trace().len() == case.count
-                && system.trace().ends_with(case.end)
-                && !system.done()
-        );
+        assert!(rt; is_as_turned(rt.alloc(), case)?);
     }
     Ok(())
+}
+
+/// Whether the run of the script has these events.
+fn is_as_drained(alloc: Global, case: &Drained) -> Result<bool, Fail> {
+    let mut system = start(alloc, case.script)?;
+    system.drain();
+    Ok(system.done() && system.trace() == case.events)
 }
 
 #[test]
 fn drains(rt: HostRuntime) -> Result<(), Fail> {
     for case in DRAINED {
-        let mut system = start(rt.alloc(), case.script)?;
-        system.drain();
-        assert!(rt; system.done() && system.trace() == case.events);
+        assert!(rt; is_as_drained(rt.alloc(), case)?);
     }
     Ok(())
+}
+
+/// The run of the script with these answers and turns, if it lets the caller choose.
+fn chosen_run(
+    alloc: Global,
+    script: &[u8],
+    picks: &[u8],
+    turns: &[u8],
+) -> Result<Option<System>, Fail> {
+    let plan = Plan::read(alloc, &mut HonestSource::new(script))?;
+    let mut run = start_chosen(alloc, &plan, picks)?;
+    if let Some(system) = &mut run {
+        system.drain_by(turns);
+    }
+    Ok(run)
+}
+
+/// Whether the run is done, begins with the barrier, and has the answer and the load of what the first port stored.
+fn is_as_picked(system: &System) -> bool {
+    system.done()
+        && system.trace().starts_with(&[BARRIER])
+        && system.trace().contains(&ANSWER)
+        && system.trace().contains(&LOADED)
 }
 
 /// The number picks how the first port answers the snoop of its dirty line, and a turn of the second port comes first.
 #[test]
 fn takes_chosen_answers_and_turns(rt: HostRuntime) -> Result<(), Fail> {
-    let plan = Plan::read(rt.alloc(), &mut HonestSource::new(MIXED))?;
-    let Some(mut system) = start_chosen(rt.alloc(), &plan, &[7])? else {
-        panic!(rt; "its masters pick by themselves");
-    };
-    system.drain_by(&[255]);
-    assert!(rt; system.done() && system.trace().starts_with(&[BARRIER]));
-    assert!(rt; system.trace().contains(&ANSWER) && system.trace().contains(&LOADED));
+    let run = chosen_run(rt.alloc(), MIXED, &[7], &[255])?;
+    assert!(rt; run.as_ref().is_some_and(|system| is_as_picked(system)));
     Ok(())
 }
 
@@ -270,18 +298,25 @@ fn does(system: &mut System, op: Op)
     system.drain();
 }
 
+/// The run of the operations of the first script, each given where those before it are done.
+fn grown(alloc: Global) -> Result<System, Fail> {
+    let plan = Plan::blank(alloc, HEADER, 1, PolicyWord::Keep, 3)?;
+    let mut system = System::start(alloc, &plan)?;
+    does(&mut system, LOAD);
+    does(&mut system, STORE);
+    does(&mut system, WRITE_BACK);
+    Ok(system)
+}
+
 /// A run whose plan grows has the trace of the script that has the operations at once.
 #[test]
 fn grows(rt: HostRuntime) -> Result<(), Fail> {
-    let plan = Plan::blank(rt.alloc(), HEADER, 1, PolicyWord::Keep, 3)?;
-    let mut system = System::start(rt.alloc(), &plan)?;
-    assert!(rt; system.done() && system.trace().is_empty());
-    does(&mut system, LOAD);
-    assert!(rt; system.done() && system.trace().len() == 9);
-    assert!(rt; DRAINED[0].events.starts_with(system.trace()));
-    does(&mut system, STORE);
-    does(&mut system, WRITE_BACK);
-    assert!(rt; system.done() && system.trace() == DRAINED[0].events);
-    assert!(rt; system.plan().room() == 0 && system.plan().view().count() == 3);
+    let system = grown(rt.alloc())?;
+    assert!(rt;
+        system.done()
+            && system.trace() == DRAINED[0].events
+            && system.plan().room() == 0
+            && system.plan().view().count() == 3
+    );
     Ok(())
 }

@@ -5,8 +5,11 @@ use ace_io::{Free, Gate, HonestSource};
 use ace_run::run_threads;
 use ace_script::Plan;
 use crossbeam_utils::CachePadded;
+use std::alloc::Global;
+use std::sync::Wait;
 use std::sync::atomic::{AtomicU64, Ordering};
 use std::test::Fail;
+use std::thread::Threads;
 
 const SCRIPT: &[u8] =
     b"ACE SCRIPT 1\nPORTS AL\nCACHE 1\nPOLICY keep\n0 st 00000040 0 11111111111111111111111111111111\n1 ro 00000040\n";
@@ -36,28 +39,38 @@ fn has_retired(trace: &[Event], port: u8, k: u16) -> bool {
     })
 }
 
-/// The run comes to its end, with both operations.
+/// Whether the run of the script through the gate comes to its end, with both operations.
+fn ends<R: Threads + Wait + Sync, G: Gate + Sync>(
+    rt: &R,
+    alloc: Global,
+    gate: &G,
+) -> Result<bool, Fail> {
+    let plan = Plan::read(alloc, &mut HonestSource::new(SCRIPT))?;
+    let system = run_threads(rt, alloc, &plan, gate)?;
+    Ok(
+        system.done()
+            && system.plan().same(&plan)
+            && has_retired(system.trace(), 0, 0)
+            && has_retired(system.trace(), 1, 0),
+    )
+}
+
 #[test]
 fn runs_in_threads(rt: HostRuntime) -> Result<(), Fail> {
-    let plan = Plan::read(rt.alloc(), &mut HonestSource::new(SCRIPT))?;
-    let system = run_threads(&rt, rt.alloc(), &plan, &Free)?;
-    assert!(rt; system.done() && system.plan().same(&plan));
-    assert!(rt; has_retired(system.trace(), 0, 0) && has_retired(system.trace(), 1, 0));
+    assert!(rt; ends(&rt, rt.alloc(), &Free)?);
     Ok(())
 }
 
 /// Each worker passes the gate before each of its 64 turns and 16 for each operation, in order.
 #[test]
 fn passes_the_gate_before_each_turn(rt: HostRuntime) -> Result<(), Fail> {
-    let plan = Plan::read(rt.alloc(), &mut HonestSource::new(SCRIPT))?;
     let gate = Counter {
         first: CachePadded::new(AtomicU64::new(0)),
         second: CachePadded::new(AtomicU64::new(0)),
     };
-    let system = run_threads(&rt, rt.alloc(), &plan, &gate)?;
-    assert!(rt; system.done());
+    let ended = ends(&rt, rt.alloc(), &gate)?;
     let first = gate.first.load(Ordering::SeqCst);
     let second = gate.second.load(Ordering::SeqCst);
-    assert!(rt; first == 96 && second == 96);
+    assert!(rt; ended && first == 96 && second == 96);
     Ok(())
 }
