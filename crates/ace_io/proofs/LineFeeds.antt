@@ -46,7 +46,7 @@ at_most (byte ∷ bytes) =
       | inr other ↦ omega (arith, goes_on byte bytes other, at_most bytes)
     ]
 
-run_is : (v : List ℕ) → length v ≡ 16 → first_set (mask_l (map (λ x. eqb x 10) v)) 16 ≡ prefix_len is_other v
+run_is : (v : List ℕ) → length v ≡ 64 → first_set (mask_l (map (λ x. eqb x 10) v)) 64 ≡ prefix_len is_other v
 run_is v long =
     elim (cases_eq (mask_l (map (λ x. eqb x 10) v)) 0) [
       | inl none ↦ cond-true _ _ _ (eq-eqb _ _ none) ∙ sym (leading_from_mask_l (λ x. eqb x 10) v none ∙ long)
@@ -55,25 +55,25 @@ run_is v long =
 
 -- what the bytes that are looked at together tell
 pub record Told (piece : List ℕ) (at n : ℕ) : Type 0 where
-  pub within : n ≤ 16
+  pub within : n ≤ 64
   pub no_lf : HasNoLf (take n (drop at piece))
-  pub lf : n < 16 → get_or piece (at + n) 0 ≡ 10
+  pub lf : n < 64 → get_or piece (at + n) 0 ≡ 10
 
-pub told : (piece : List ℕ) (at r : ℕ) → at + 16 ≤ length piece
-    → r ≡ first_set (mask_l (map (top 7) (zip2 (λ a b. cond (eqb a b) 255 0) (chunk at 16 piece) (replicate 16 10))) % 2 ^ 64) 16 → Told piece at r
+pub told : (piece : List ℕ) (at r : ℕ) → at + 64 ≤ length piece
+    → r ≡ first_set (mask_l (map (top 7) (zip2 (λ a b. cond (eqb a b) 255 0) (chunk at 64 piece) (replicate 64 10))) % 2 ^ 64) 64 → Told piece at r
 told piece at r room found =
-    let v = chunk at 16 piece in
-    let long : length (chunk at 16 piece) ≡ 16 = length-chunk at 16 piece room in
-    let counted : r ≡ prefix_len is_other (chunk at 16 piece) =
-    found ∙ ap (λ m. first_set m 16) (bitmask_splat w8 eqb (chunk at 16 piece) 16 10 long (omega arith)) ∙ run_is (chunk at 16 piece) long in
-    let most : r ≤ 16 = omega (arith, counted, at_most (chunk at 16 piece), long) in
+    let v = chunk at 64 piece in
+    let long : length (chunk at 64 piece) ≡ 64 = length-chunk at 64 piece room in
+    let counted : r ≡ prefix_len is_other (chunk at 64 piece) =
+    found ∙ ap (λ m. first_set m 64) (bitmask_splat w8 eqb (chunk at 64 piece) 64 10 long (omega arith)) ∙ run_is (chunk at 64 piece) long in
+    let most : r ≤ 64 = omega (arith, counted, at_most (chunk at 64 piece), long) in
     record {
       within = most;
-      no_lf = subst HasNoLf (ap (λ n. take n (chunk at 16 piece)) (sym counted) ∙ take-take r 16 (drop at piece) most) (before_lf (chunk at 16 piece));
+      no_lf = subst HasNoLf (ap (λ n. take n (chunk at 64 piece)) (sym counted) ∙ take-take r 64 (drop at piece) most) (before_lf (chunk at 64 piece));
       lf = λ short.
-          sym (get_or-chunk at 16 piece r 0 short)
-          ∙ ap (λ n. get_or (chunk at 16 piece) n 0) counted
-          ∙ at_lf (chunk at 16 piece) (omega (arith, short, counted, long));
+          sym (get_or-chunk at 64 piece r 0 short)
+          ∙ ap (λ n. get_or (chunk at 64 piece) n 0) counted
+          ∙ at_lf (chunk at 64 piece) (omega (arith, short, counted, long));
     }
 
 -- no line feed stands before one place, nor before another from there on

@@ -16,7 +16,7 @@ const LINE_LIMIT: usize = 256;
 const BUFFER_SIZE: usize = 4096;
 
 /// How many bytes are looked at together.
-const LANES: usize = 16;
+const LANES: usize = 64;
 
 /// The lowest bit that is set, or `lanes`.
 #[inline(always)]
@@ -33,13 +33,13 @@ fn first_set(mask: u64, lanes: usize) -> usize
 /// How many of the bytes that are looked at together stand before their first line feed.
 #[inline(always)]
 fn lf_among(piece: &[u8], at: usize) -> usize
-    requires { at + 16 ≤ length piece.now }
-    ensures within { result ≤ 16 }
+    requires { at + 64 ≤ length piece.now }
+    ensures within { result ≤ 64 }
     ensures no_lf { HasNoLf (take result (drop at piece.now)) }
-    ensures lf { result < 16 → slice_index piece.now (at + result) ≡ 10 }
+    ensures lf { result < 64 → slice_index piece.now (at + result) ≡ 10 }
 {
-    let marks = u8x16::from_slice(&piece[at..])
-        .simd_eq(u8x16::splat(b'\n'))
+    let marks = u8x64::from_slice(&piece[at..])
+        .simd_eq(u8x64::splat(b'\n'))
         .to_bitmask();
     first_set(marks, LANES)
 }
@@ -168,7 +168,7 @@ impl<'a, S: Source> LineReader<'a, S> {
         let piece = &held[..most];
         match find_lf(piece) {
             Some(at) => {
-                into.append(&piece[..at]);
+                into.append_front(piece, at);
                 self.start += at + 1;
                 Some(LineEnd::Whole)
             }

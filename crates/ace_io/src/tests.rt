@@ -38,13 +38,18 @@ fn marked_lines<S: Source>(alloc: Global, source: &mut S, out: &mut MemSink) -> 
 
 #[test]
 fn cuts_lines(rt: HostRuntime) -> Result<(), Fail> {
-    let texts: [(&[u8], &[u8]); 6] = [
+    let texts: [(&[u8], &[u8]); 7] = [
         (b"", b"$"),
         (b"\n", b"|$"),
         (b"a\n\nbc\n", b"a||bc|$"),
         (b"a", b"a~$"),
         (b"\n\na", b"||a~$"),
         (b"0123456\n89abcde\n", b"0123456|89abcde|$"),
+        // lines about as long as what is looked at together
+        (
+            b"aaaaaaaaaaaaaaaaaaaaaaaaaaaaaaaaaaaaaaaaaaaaaaaaaaaaaaaaaaaaaaa\nbbbbbbbbbbbbbbbbbbbbbbbbbbbbbbbbbbbbbbbbbbbbbbbbbbbbbbbbbbbbbbbb\nccccccccccccccccccccccccccccccccccccccccccccccccccccccccccccccccc\ndd\neeeeeeeeeeeeeeeeeeeeeeeeeeeeeeeeeeeeeeeeeeeeeeeeeeeeeeeeeeeeeeee",
+            b"aaaaaaaaaaaaaaaaaaaaaaaaaaaaaaaaaaaaaaaaaaaaaaaaaaaaaaaaaaaaaaa|bbbbbbbbbbbbbbbbbbbbbbbbbbbbbbbbbbbbbbbbbbbbbbbbbbbbbbbbbbbbbbbb|ccccccccccccccccccccccccccccccccccccccccccccccccccccccccccccccccc|dd|eeeeeeeeeeeeeeeeeeeeeeeeeeeeeeeeeeeeeeeeeeeeeeeeeeeeeeeeeeeeeeee~$",
+        ),
     ];
     for (text, marked) in texts {
         for size in SIZES {
