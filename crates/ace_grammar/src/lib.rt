@@ -6,6 +6,7 @@ mod event;
 mod fields;
 mod header;
 pub mod laws;
+mod lengths;
 mod line_reason;
 mod lines;
 mod reader;

@@ -27,6 +27,7 @@ fn put_at_end(read: Event, bytes: &[u8], event: &mut Event) -> Option<()>
 
 /// The record `AR`.
 #[tactic(auto, unfolding(crate::specs::Records::ar_fields))]
+#[inline(always)]
 pub fn read_ar(bytes: &[u8], version: u8, event: &mut Event) -> Option<()>
     ensures event { option_map (λ _. event.new) result ≡ option_map ar_event (ar_fields version bytes.now) }
     ensures stays { result ≡ None → event.new ≡ event.old }
@@ -52,6 +53,7 @@ pub fn read_ar(bytes: &[u8], version: u8, event: &mut Event) -> Option<()>
 
 /// The record `R`.
 #[tactic(auto, unfolding(crate::specs::Records::r_fields))]
+#[inline(always)]
 pub fn read_r(bytes: &[u8], version: u8, event: &mut Event) -> Option<()>
     ensures event { option_map (λ _. event.new) result ≡ option_map r_event (r_fields version bytes.now) }
     ensures stays { result ≡ None → event.new ≡ event.old }
@@ -85,6 +87,7 @@ pub fn read_rk(bytes: &[u8], version: u8, event: &mut Event) -> Option<()>
 
 /// The record `AW`.
 #[tactic(auto, unfolding(crate::specs::Records::aw_fields))]
+#[inline(always)]
 pub fn read_aw(bytes: &[u8], version: u8, event: &mut Event) -> Option<()>
     ensures event { option_map (λ _. event.new) result ≡ option_map aw_event (aw_fields version bytes.now) }
     ensures stays { result ≡ None → event.new ≡ event.old }
@@ -108,6 +111,7 @@ pub fn read_aw(bytes: &[u8], version: u8, event: &mut Event) -> Option<()>
 
 /// The record `W`.
 #[tactic(auto, unfolding(crate::specs::Records::w_fields))]
+#[inline(always)]
 pub fn read_w(bytes: &[u8], version: u8, event: &mut Event) -> Option<()>
     ensures event { option_map (λ _. event.new) result ≡ option_map w_event (w_fields version bytes.now) }
     ensures stays { result ≡ None → event.new ≡ event.old }
@@ -127,6 +131,7 @@ pub fn read_w(bytes: &[u8], version: u8, event: &mut Event) -> Option<()>
 
 /// The record `B`.
 #[tactic(auto, unfolding(crate::specs::Records::b_fields))]
+#[inline(always)]
 pub fn read_b(bytes: &[u8], version: u8, event: &mut Event) -> Option<()>
     ensures event { option_map (λ _. event.new) result ≡ option_map b_event (b_fields version bytes.now) }
     ensures stays { result ≡ None → event.new ≡ event.old }
@@ -156,6 +161,7 @@ pub fn read_wk(bytes: &[u8], version: u8, event: &mut Event) -> Option<()>
 
 /// The record `AC`.
 #[tactic(auto, unfolding(crate::specs::Records::ac_fields))]
+#[inline(always)]
 pub fn read_ac(bytes: &[u8], version: u8, event: &mut Event) -> Option<()>
     ensures event { option_map (λ _. event.new) result ≡ option_map ac_event (ac_fields version bytes.now) }
     ensures stays { result ≡ None → event.new ≡ event.old }
@@ -190,6 +196,7 @@ pub fn read_cr(bytes: &[u8], version: u8, event: &mut Event) -> Option<()>
 
 /// The record `CD`.
 #[tactic(auto, unfolding(crate::specs::Records::cd_fields))]
+#[inline(always)]
 pub fn read_cd(bytes: &[u8], version: u8, event: &mut Event) -> Option<()>
     ensures event { option_map (λ _. event.new) result ≡ option_map cd_event (cd_fields version bytes.now) }
     ensures stays { result ≡ None → event.new ≡ event.old }
@@ -203,6 +210,7 @@ pub fn read_cd(bytes: &[u8], version: u8, event: &mut Event) -> Option<()>
 
 /// The record `G`.
 #[tactic(auto, unfolding(crate::specs::Records::g_fields))]
+#[inline(always)]
 pub fn read_g(bytes: &[u8], version: u8, event: &mut Event) -> Option<()>
     ensures event { option_map (λ _. event.new) result ≡ option_map g_event (g_fields version bytes.now) }
     ensures stays { result ≡ None → event.new ≡ event.old }
@@ -220,6 +228,7 @@ pub fn read_g(bytes: &[u8], version: u8, event: &mut Event) -> Option<()>
 
 /// The record `M`.
 #[tactic(auto, unfolding(crate::specs::Records::m_fields))]
+#[inline(always)]
 pub fn read_m(bytes: &[u8], version: u8, event: &mut Event) -> Option<()>
     ensures event { option_map (λ _. event.new) result ≡ option_map m_event (m_fields version bytes.now) }
     ensures stays { result ≡ None → event.new ≡ event.old }
@@ -256,6 +265,7 @@ pub fn read_s(bytes: &[u8], version: u8, event: &mut Event) -> Option<()>
 
 /// The record `L`.
 #[tactic(auto, unfolding(crate::specs::Records::l_fields))]
+#[inline(always)]
 pub fn read_l(bytes: &[u8], version: u8, event: &mut Event) -> Option<()>
     ensures event { option_map (λ _. event.new) result ≡ option_map l_event (l_fields version bytes.now) }
     ensures stays { result ≡ None → event.new ≡ event.old }
@@ -277,6 +287,7 @@ pub fn read_l(bytes: &[u8], version: u8, event: &mut Event) -> Option<()>
 
 /// The record `D`.
 #[tactic(auto, unfolding(crate::specs::Records::d_fields))]
+#[inline(always)]
 pub fn read_d(bytes: &[u8], version: u8, event: &mut Event) -> Option<()>
     ensures event { option_map (λ _. event.new) result ≡ option_map d_event (d_fields version bytes.now) }
     ensures stays { result ≡ None → event.new ≡ event.old }
