@@ -3,267 +3,273 @@ ghost use Rattle.std.specs.Prelude.{◌<◌};
 
 use ace_event::Header;
 use ace_grammar::{ReadErr, Reader, Reason};
-use ace_io::{HonestSource, MemSource, Source};
+use ace_io::{HonestSource, MemSink, MemSource, Sink, Source};
 use std::alloc::Global;
-use std::test::Fail;
 
-/// How the reading of a trace ends.
-#[derive(Clone, Copy, Debug, PartialEq, Eq)]
-enum End {
-    NoHeader(ReadErr),
-    /// After so many events.
-    After(u32, Result<Header, ReadErr>),
-}
-
-/// The header of a trace.
-fn header(version: u8, ports: u8, ace: u32) -> Header {
-    Header {
-        version,
-        ports,
-        ace,
+/// Whether the next call reads an event, where one is said to come, and else answers this end: that of a trace with this
+/// header, or this error.
+fn answers<S: Source>(
+    reader: &mut Reader<S>,
+    has_event: bool,
+    end: &Result<Header, ReadErr>,
+) -> bool {
+    match reader.next() {
+        Ok(Some(_)) => has_event,
+        Ok(None) => !has_event && *end == Ok(reader.header()),
+        Err(error) => !has_event && *end == Err(error),
     }
 }
 
-/// A malformed line.
-fn malformed(line: u64, reason: Reason) -> ReadErr {
-    ReadErr::Malformed { line, reason }
-}
-
-/// Reads to the end, and sees that its answer stays: nothing where it doesn't, or where there are more than 100 events.
-fn end_of<S: Source>(alloc: Global, source: &mut S) -> Option<End> {
-    let mut reader = match Reader::start(alloc, source) {
-        Ok(reader) => reader,
-        Err(failed) => return Some(End::NoHeader(failed.error)),
-    };
-    for count in 0..100 {
-        let answer = reader.next();
-        if let Ok(Some(_)) = answer {
-            continue;
+/// Whether so many calls read an event, and the four after them have this end, which stays.
+fn has_rest<S: Source>(reader: &mut Reader<S>, count: u8, end: &Result<Header, ReadErr>) -> bool {
+    for turn in 0..count.saturating_add(4) {
+        if !answers(reader, turn < count, end) {
+            return false;
         }
-        let stays = reader.next() == answer && reader.next() == answer && reader.next() == answer;
-        let end = End::After(count, answer.map(|_| reader.header()));
-        return if stays { Some(end) } else { None };
     }
-    None
+    true
 }
 
-/// The end where a source gives so many bytes at once.
-fn end_in_pieces(alloc: Global, text: &[u8], size: usize) -> Option<End>
+/// Whether the source is a trace of so many events with this end. Where there is no header, there is no count.
+fn is_trace<S: Source>(
+    alloc: Global,
+    source: &mut S,
+    count: Option<u8>,
+    end: &Result<Header, ReadErr>,
+) -> bool {
+    match Reader::start(alloc, source) {
+        Ok(mut reader) => match count {
+            Some(count) => has_rest(&mut reader, count, end),
+            None => false,
+        },
+        Err(failed) => count.is_none() && *end == Err(failed.error),
+    }
+}
+
+/// The same of a text where a source gives so many bytes at once, and these takes fail.
+fn is_so_in_pieces(
+    alloc: Global,
+    text: &[u8],
+    size: usize,
+    fails: &[u32],
+    count: Option<u8>,
+    end: &Result<Header, ReadErr>,
+) -> bool
     requires { 0 < size }
 {
-    let mut source = MemSource::new(alloc, text, &[size], &[]).ok()?;
-    end_of(alloc, &mut source)
+    match MemSource::new(alloc, text, &[size], fails) {
+        Ok(mut source) => is_trace(alloc, &mut source, count, end),
+        Err(_) => false,
+    }
 }
 
-/// Whether the text is read to this end, whole and in pieces.
-fn ends_so(alloc: Global, text: &[u8], end: End) -> bool {
-    let end = Some(end);
-    end_of(alloc, &mut HonestSource::new(text)) == end
-        && end_in_pieces(alloc, text, 1) == end
-        && end_in_pieces(alloc, text, 2) == end
-        && end_in_pieces(alloc, text, 3) == end
-        && end_in_pieces(alloc, text, 7) == end
-        && end_in_pieces(alloc, text, 64) == end
+/// The same of a text, whole and in pieces.
+fn is_so(alloc: Global, text: &[u8], count: Option<u8>, end: &Result<Header, ReadErr>) -> bool {
+    is_trace(alloc, &mut HonestSource::new(text), count, end)
+        && is_so_in_pieces(alloc, text, 1, &[], count, end)
+        && is_so_in_pieces(alloc, text, 2, &[], count, end)
+        && is_so_in_pieces(alloc, text, 3, &[], count, end)
+        && is_so_in_pieces(alloc, text, 7, &[], count, end)
+        && is_so_in_pieces(alloc, text, 64, &[], count, end)
 }
 
-/// Whether the text is read as a trace of so many events behind this header.
-fn reads(alloc: Global, text: &[u8], count: u32, header: Header) -> bool {
-    ends_so(alloc, text, End::After(count, Ok(header)))
+/// The reason of this number.
+fn reason_of(digit: u8) -> Reason {
+    match digit {
+        b'1' => Reason::F1,
+        b'2' => Reason::F2,
+        b'3' => Reason::F3,
+        b'4' => Reason::F4,
+        b'5' => Reason::F5,
+        b'6' => Reason::F6,
+        _ => Reason::F7,
+    }
 }
 
-/// Whether the line is malformed so, after so many events.
-fn stops(alloc: Global, text: &[u8], count: u32, line: u64, reason: Reason) -> bool {
-    ends_so(alloc, text, End::After(count, Err(malformed(line, reason))))
+/// How the reading of a text ends whose line of this number is malformed for the reason of this number.
+fn malformed(line: u8, reason: u8) -> Result<Header, ReadErr> {
+    Err(ReadErr::Malformed {
+        line: u64::from(line.wrapping_sub(b'0')),
+        reason: reason_of(reason),
+    })
 }
 
-/// How many of the texts, which bars part, have no header for this reason, up to the first of which this isn't true.
-fn headless(alloc: Global, texts: &[u8], line: u64, reason: Reason) -> usize {
-    let end = End::NoHeader(malformed(line, reason));
-    texts
-        .split(|byte| *byte == b'|')
-        .take_while(|text| ends_so(alloc, text, end))
-        .count()
+/// Whether the text behind the three digits stops as they say.
+fn stops(alloc: Global, row: &[u8]) -> bool {
+    match row.split_first_chunk::<3>() {
+        Some(([count, line, reason], text)) => {
+            let count = match count {
+                b'-' => None,
+                digit => Some(digit.wrapping_sub(b'0')),
+            };
+            is_so(alloc, text, count, &malformed(*line, *reason))
+        }
+        None => false,
+    }
 }
 
-const CUT_FIRST_LINES: &[u8] = b"|ACE 1|ACE 2";
-
-const CUT_SECOND_LINES: &[u8] = b"ACE 1\n|ACE 1\nPORTS A|ACE 2\nPORTS A";
-
-const WRONG_FIRST_LINES: &[u8] =
-    b"ACE 9\nPORTS A\n|ACE 1 \nPORTS A\n|\nACE 1\n|ACE 3\nPORTS A\n|ACE 02\nPORTS A\n";
-
-const WRONG_SECOND_LINES: &[u8] =
-    b"ACE 1\nPORTS \n|ACE 1\nPORTS\n|ACE 1\nPORTS AAAAAAAAA\n|ACE 1\nPORTS LLLLLLLLLAA\n|ACE 1\nPORTS AM\n|ACE 1\nPORTS a\n|ACE 1\nPORTS A A\n|ACE 2\nPORTS AAAAAAAAAAAAAAAAA\n|ACE 2\nPORTS ALLLLLLLLLLLLLLLLL\n|ACE 2\nPORTS \n";
-
-#[test]
-fn refuses_headers(rt: HostRuntime) {
-    let alloc = rt.alloc();
-    assert_eq!(rt; headless(alloc, CUT_FIRST_LINES, 1, Reason::F1), 3);
-    assert_eq!(rt; headless(alloc, CUT_SECOND_LINES, 2, Reason::F1), 3);
-    assert_eq!(rt; headless(alloc, WRONG_FIRST_LINES, 1, Reason::F7), 5);
-    assert_eq!(rt; headless(alloc, WRONG_SECOND_LINES, 2, Reason::F7), 10);
+/// How many of the texts, which bars part, stop as their three digits say, up to the first that doesn't. The digits are how
+/// many events are read, or `-` where there is no header, the number of the malformed line and that of its reason.
+fn stopped(alloc: Global, rows: &str) -> usize {
+    let mut count: usize = 0;
+    for row in rows.split('|') {
+        if !stops(alloc, row.as_bytes()) {
+            break;
+        }
+        count = count.saturating_add(1);
+    }
+    count
 }
 
-#[test]
-fn reads_headers(rt: HostRuntime) {
-    let alloc = rt.alloc();
-    assert!(rt; reads(alloc, b"ACE 1\nPORTS A\n", 0, header(1, 1, 1)));
-    assert!(rt; reads(alloc, b"ACE 1\nPORTS AAAAAAAA\n", 0, header(1, 8, 0xff)));
-    assert!(rt;
-        reads(
-            alloc,
-            b"ACE 1\nPORTS AAAALLLLLLLALAAA\n",
-            0,
-            header(1, 16, 0xe80f)
-        )
-    );
-    assert!(rt; reads(alloc, b"ACE 2\nPORTS A\n", 0, header(2, 1, 1)));
-    assert!(rt; reads(alloc, b"ACE 2\nPORTS AAAAAAAAA\n", 0, header(2, 9, 0x1ff)));
-    assert!(rt;
-        reads(
-            alloc,
-            b"ACE 2\nPORTS LLLLLLLLLLLLLLLL\n",
-            0,
-            header(2, 16, 0)
-        )
-    );
-    let all: &[u8] = b"ACE 2\nPORTS LLLLLLLLLLLLLLLLAAAAAAAAAAAAAAAA\n";
-    assert!(rt; reads(alloc, all, 0, header(2, 32, 0xffff_0000)));
-}
+/// First lines and second lines that are cut, and wrong ones.
+const HEADERS: &str = "-11|-11ACE 1|-11ACE 2\
+|-21ACE 1\n|-21ACE 1\nPORTS A|-21ACE 2\nPORTS A\
+|-17ACE 9\nPORTS A\n|-17ACE 1 \nPORTS A\n|-17\nACE 1\n|-17ACE 3\nPORTS A\n|-17ACE 02\nPORTS A\n\
+|-27ACE 1\nPORTS \n|-27ACE 1\nPORTS\n|-27ACE 1\nPORTS AAAAAAAAA\n|-27ACE 1\nPORTS LLLLLLLLLAA\n|-27ACE 1\nPORTS AM\n\
+|-27ACE 1\nPORTS a\n|-27ACE 1\nPORTS A A\n|-27ACE 2\nPORTS AAAAAAAAAAAAAAAAA\n|-27ACE 2\nPORTS ALLLLLLLLLLLLLLLLL\n\
+|-27ACE 2\nPORTS \n";
 
-const LINE_OF_MEMORY: &[u8] =
-    b"ACE 2\nPORTS A\nMEM 00000040 00000000000000000000000000000010ffffffffffffffffffffffffffffffff0000000000000000000000000000200080000000000000000000000000000000\nRK 00 I\n";
+/// Malformed lines behind a header.
+const LINES: &str = "141ACE 1\nPORTS A\nRK 0 I\nG 0 R 0\
+|142ACE 1\nPORTS A\nRK 0 I\n\n\
+|143ACE 1\nPORTS A\nRK 0 I\nG 0\nR 0\n\
+|032ACE 1\nPORTS A\nXX\nOP 0 0001 ok\n\
+|142ACE 1\nPORTS A\nOP 0 0001 ok\nXX\n\
+|035ACE 1\nPORTS A\nRK 0 I\r\n\
+|036ACE 1\nPORTS A\nAR 0 0 00000040 7 1 0 2\n\
+|034ACE 1\nPORTS A\nOP 0 000 ok\nOP";
 
-#[test]
-fn reads_events(rt: HostRuntime) {
-    let alloc = rt.alloc();
-    assert!(rt;
-        reads(
-            alloc,
-            b"ACE 1\nPORTS A\nRK 0 I\nG 0 R 0\n",
-            2,
-            header(1, 1, 1)
-        )
-    );
-    let turned: &[u8] = b"ACE 2\nPORTS AAAAAAAAAAAAAAAALLLLLLLLLLLLLLLL\nRK 1f I\n";
-    assert!(rt; reads(alloc, turned, 1, header(2, 32, 0xffff)));
-    assert!(rt; reads(alloc, LINE_OF_MEMORY, 2, header(2, 1, 1)));
-}
+/// Lines of another version, and a line of memory that is cut.
+const VERSIONS: &str =
+    "032ACE 1\nPORTS A\nMEM 00000040 00000000000000000000000000000010ffffffffffffffffffffffffffffffff0000000000000000000000000000200080000000000000000000000000000000\nRK 0 I\n\
+|034ACE 1\nPORTS A\nRK 00 I\n\
+|144ACE 2\nPORTS A\nRK 00 I\nRK 0 I\n\
+|031ACE 2\nPORTS A\nMEM 00000040";
 
 #[test]
 fn stops_at_malformed_lines(rt: HostRuntime) {
     let alloc = rt.alloc();
-    assert!(rt; stops(alloc, b"ACE 1\nPORTS A\nRK 0 I\nG 0 R 0", 1, 4, Reason::F1));
-    assert!(rt; stops(alloc, b"ACE 1\nPORTS A\nRK 0 I\n\n", 1, 4, Reason::F2));
-    assert!(rt;
-        stops(
+    assert!(rt; stopped(alloc, HEADERS) == 21);
+    assert!(rt; stopped(alloc, LINES) == 8);
+    assert!(rt; stopped(alloc, VERSIONS) == 4);
+}
+
+/// Whether the text is read as a trace of so many events behind this header.
+fn reads(alloc: Global, text: &[u8], count: u8, version: u8, ports: u8, ace: u32) -> bool {
+    let header = Header {
+        version,
+        ports,
+        ace,
+    };
+    is_so(alloc, text, Some(count), &Ok(header))
+}
+
+/// Traces of version 1.
+fn reads_first(alloc: Global) -> bool {
+    reads(alloc, b"ACE 1\nPORTS A\n", 0, 1, 1, 1)
+        && reads(alloc, b"ACE 1\nPORTS AAAAAAAA\n", 0, 1, 8, 0xff)
+        && reads(alloc, b"ACE 1\nPORTS AAAALLLLLLLALAAA\n", 0, 1, 16, 0xe80f)
+        && reads(alloc, b"ACE 1\nPORTS A\nRK 0 I\nG 0 R 0\n", 2, 1, 1, 1)
+}
+
+/// Traces of version 2.
+fn reads_second(alloc: Global) -> bool {
+    reads(alloc, b"ACE 2\nPORTS A\n", 0, 2, 1, 1)
+        && reads(alloc, b"ACE 2\nPORTS AAAAAAAAA\n", 0, 2, 9, 0x1ff)
+        && reads(alloc, b"ACE 2\nPORTS LLLLLLLLLLLLLLLL\n", 0, 2, 16, 0)
+        && reads(
             alloc,
-            b"ACE 1\nPORTS A\nRK 0 I\nG 0\nR 0\n",
-            1,
-            4,
-            Reason::F3
-        )
-    );
-    assert!(rt;
-        stops(
-            alloc,
-            b"ACE 1\nPORTS A\nXX\nOP 0 0001 ok\n",
+            b"ACE 2\nPORTS LLLLLLLLLLLLLLLLAAAAAAAAAAAAAAAA\n",
             0,
-            3,
-            Reason::F2
+            2,
+            32,
+            0xffff_0000,
         )
-    );
-    assert!(rt;
-        stops(
+        && reads(
             alloc,
-            b"ACE 1\nPORTS A\nOP 0 0001 ok\nXX\n",
+            b"ACE 2\nPORTS AAAAAAAAAAAAAAAALLLLLLLLLLLLLLLL\nRK 1f I\n",
             1,
-            4,
-            Reason::F2
+            2,
+            32,
+            0xffff,
         )
-    );
-    assert!(rt; stops(alloc, b"ACE 1\nPORTS A\nRK 0 I\r\n", 0, 3, Reason::F5));
-    let out_of_range: &[u8] = b"ACE 1\nPORTS A\nAR 0 0 00000040 7 1 0 2\n";
-    assert!(rt; stops(alloc, out_of_range, 0, 3, Reason::F6));
-    assert!(rt; stops(alloc, b"ACE 1\nPORTS A\nOP 0 000 ok\nOP", 0, 3, Reason::F4));
+        && reads(
+            alloc,
+            b"ACE 2\nPORTS A\nMEM 00000040 00000000000000000000000000000010ffffffffffffffffffffffffffffffff0000000000000000000000000000200080000000000000000000000000000000\nRK 00 I\n",
+            2,
+            2,
+            1,
+            1,
+        )
 }
-
-const LINE_OF_MEMORY_IN_FIRST: &[u8] =
-    b"ACE 1\nPORTS A\nMEM 00000040 00000000000000000000000000000010ffffffffffffffffffffffffffffffff0000000000000000000000000000200080000000000000000000000000000000\nRK 0 I\n";
 
 #[test]
-fn stops_where_versions_differ(rt: HostRuntime) {
-    let alloc = rt.alloc();
-    assert!(rt; stops(alloc, LINE_OF_MEMORY_IN_FIRST, 0, 3, Reason::F2));
-    assert!(rt; stops(alloc, b"ACE 1\nPORTS A\nRK 00 I\n", 0, 3, Reason::F4));
-    assert!(rt;
-        stops(
-            alloc,
-            b"ACE 2\nPORTS A\nRK 00 I\nRK 0 I\n",
-            1,
-            4,
-            Reason::F4
-        )
-    );
-    assert!(rt; stops(alloc, b"ACE 2\nPORTS A\nMEM 00000040", 0, 3, Reason::F1));
+fn reads_headers_and_events(rt: HostRuntime) {
+    assert!(rt; reads_first(rt.alloc()) && reads_second(rt.alloc()));
 }
 
-/// The end of a trace whose one line has so many spaces behind it.
-fn end_with_spaces(alloc: Global, count: usize) -> Result<Option<End>, Fail> {
-    let mut text = Vec::from_slice(alloc, b"ACE 1\nPORTS A\nRK 0 I")?;
-    for _ in 0..count {
-        text.push(b' ')?;
+/// Whether a trace whose one line has so many spaces behind it stops at that line for this reason.
+fn stops_with_spaces(alloc: Global, count: usize, reason: Reason) -> bool {
+    match MemSink::new(alloc, 400, &[]) {
+        Ok(mut text) => {
+            text.give(b"ACE 1\nPORTS A\nRK 0 I").ok();
+            for _ in 0..count {
+                text.give(b" ").ok();
+            }
+            text.give(b"\n").ok();
+            let end = Err(ReadErr::Malformed { line: 3, reason });
+            is_trace(alloc, &mut HonestSource::new(text.bytes()), Some(0), &end)
+        }
+        Err(_) => false,
     }
-    text.push(b'\n')?;
-    Ok(end_of(alloc, &mut HonestSource::new(&text)))
 }
 
 #[test]
-fn refuses_long_lines(rt: HostRuntime) -> Result<(), Fail> {
+fn refuses_long_lines(rt: HostRuntime) {
     let alloc = rt.alloc();
-    let within = Some(End::After(0, Err(malformed(3, Reason::F3))));
-    let beyond = Some(End::After(0, Err(malformed(3, Reason::F1))));
-    assert_eq!(rt; end_with_spaces(alloc, 248)?, within);
-    assert_eq!(rt; end_with_spaces(alloc, 249)?, within);
-    assert_eq!(rt; end_with_spaces(alloc, 250)?, beyond);
-    assert_eq!(rt; end_with_spaces(alloc, 300)?, beyond);
-    Ok(())
+    assert!(rt;
+        stops_with_spaces(alloc, 248, Reason::F3) && stops_with_spaces(alloc, 249, Reason::F3)
+    );
+    assert!(rt;
+        stops_with_spaces(alloc, 250, Reason::F1) && stops_with_spaces(alloc, 300, Reason::F1)
+    );
 }
 
-/// The end of a trace of two events where this take of eight bytes fails.
-fn end_at_fault(alloc: Global, failing: u32) -> Option<End> {
+/// Whether a trace of two events ends so where this take of eight bytes fails.
+fn ends_at_fault(alloc: Global, failing: u32, count: Option<u8>) -> bool {
     let text = b"ACE 1\nPORTS A\nRK 0 I\nG 0 R 0\n";
-    let mut source = MemSource::new(alloc, text, &[8], &[failing]).ok()?;
-    end_of(alloc, &mut source)
+    is_so_in_pieces(alloc, text, 8, &[failing], count, &Err(ReadErr::ReadFault))
 }
 
 #[test]
 fn tells_a_read_fault(rt: HostRuntime) {
     let alloc = rt.alloc();
-    let no_header = Some(End::NoHeader(ReadErr::ReadFault));
-    assert_eq!(rt; end_at_fault(alloc, 0), no_header);
-    assert_eq!(rt; end_at_fault(alloc, 1), no_header);
-    assert_eq!(rt;
-        end_at_fault(alloc, 2),
-        Some(End::After(0, Err(ReadErr::ReadFault)))
-    );
-    assert_eq!(rt;
-        end_at_fault(alloc, 3),
-        Some(End::After(1, Err(ReadErr::ReadFault)))
-    );
+    assert!(rt; ends_at_fault(alloc, 0, None) && ends_at_fault(alloc, 1, None));
+    assert!(rt; ends_at_fault(alloc, 2, Some(0)) && ends_at_fault(alloc, 3, Some(1)));
+}
+
+/// Whether the start of a reader fails, and the source that it hands back then gives four bytes, the first of these.
+fn hands_back<S: Source>(alloc: Global, source: &mut S, bytes: &[u8; 8]) -> bool {
+    match Reader::start(alloc, source) {
+        Ok(_) => false,
+        Err(failed) => {
+            let mut into = [0; 8];
+            failed.error == ReadErr::ReadFault
+                && failed.source.take(&mut into) == Ok(4)
+                && into == *bytes
+        }
+    }
+}
+
+/// Whether a source whose second take fails is handed back so.
+fn is_handed_back(alloc: Global) -> bool {
+    match MemSource::new(alloc, b"ACE 1\nPORTS A\n", &[4], &[1]) {
+        Ok(mut source) => hands_back(alloc, &mut source, b"1\nPO\0\0\0\0"),
+        Err(_) => false,
+    }
 }
 
 #[test]
-fn hands_the_source_back(rt: HostRuntime) -> Result<(), Fail> {
-    let mut source = MemSource::new(rt.alloc(), b"ACE 1\nPORTS A\n", &[4], &[1])?;
-    match Reader::start(rt.alloc(), &mut source) {
-        Ok(_) => Err("a header over a fault")?,
-        Err(failed) => {
-            let mut into = [0; 8];
-            assert_eq!(rt; failed.error, ReadErr::ReadFault);
-            assert_eq!(rt; failed.source.take(&mut into), Ok(4));
-            assert_eq!(rt; into, *b"1\nPO\0\0\0\0");
-        }
-    }
-    Ok(())
+fn hands_the_source_back(rt: HostRuntime) {
+    assert!(rt; is_handed_back(rt.alloc()));
 }
