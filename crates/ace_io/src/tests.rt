@@ -1,4 +1,5 @@
 // Lines cut in pieces of any size, what a failing take leaves, and sinks that are full or fail.
+ghost use Rattle.std.specs.Prelude.{◌<◌};
 
 use crate::{
     Failed, Free, Gate, HonestSource, LineBuf, LineEnd, LineReader, MemSink, MemSource, OpenSink,
@@ -7,133 +8,195 @@ use crate::{
 use std::alloc::Global;
 use std::io;
 use std::io::{Error, ErrorKind, Read};
-use std::test::Fail;
 
-/// The sizes of pieces in which each text is cut.
-const SIZES: [usize; 6] = [1, 2, 3, 7, 64, 4096];
-
-/// Writes each line of a source, with a mark for its end: `|` for a whole line, `~` for one without its line feed, `$`
-/// at the end of the bytes and `!` at a failure.
-fn marked_lines<S: Source>(alloc: Global, source: &mut S, out: &mut MemSink) -> Result<(), Fail> {
-    let mut line = LineBuf::empty();
-    let mut reader = LineReader::start(alloc, source)?;
-    for _ in 0..1000 {
-        let answer = reader.next(&mut line);
-        if answer.is_ok() {
-            out.give(line.bytes())?;
-        }
-        let mark = match answer {
-            Ok(LineEnd::Whole) => b"|",
-            Ok(LineEnd::NoLf) => b"~",
-            Ok(LineEnd::End) => b"$",
-            Err(_) => b"!",
-        };
-        out.give(mark)?;
-        if mark == b"$" || mark == b"!" {
-            break;
-        }
+/// The mark of an answer: `|` for a whole line, `~` for one without its line feed, `$` at the end of the bytes and `!` at
+/// a failure.
+fn mark_of(answer: Result<LineEnd, Failed>) -> u8 {
+    match answer {
+        Ok(LineEnd::Whole) => b'|',
+        Ok(LineEnd::NoLf) => b'~',
+        Ok(LineEnd::End) => b'$',
+        Err(_) => b'!',
     }
-    Ok(())
+}
+
+/// What stands in a text behind this line and its mark, which have to be at its front. At a failure there is no line.
+fn behind<'a>(text: &'a [u8], line: &[u8], mark: u8) -> Option<&'a [u8]> {
+    let marked = if mark == b'!' {
+        Some(text)
+    } else {
+        text.strip_prefix(line)
+    };
+    match marked {
+        Some(marked) => marked.strip_prefix(&[mark]),
+        None => None,
+    }
+}
+
+/// Whether the lines of a source, up to its end or a failure and each with its mark behind it, are this text.
+fn are_lines<S: Source>(alloc: Global, source: &mut S, marked: &[u8]) -> bool {
+    match LineReader::start(alloc, source) {
+        Ok(mut reader) => {
+            let mut line = LineBuf::empty();
+            let mut text = marked;
+            for _ in 0..1000 {
+                let mark = mark_of(reader.next(&mut line));
+                match behind(text, line.bytes(), mark) {
+                    Some(rest) => text = rest,
+                    None => return false,
+                }
+                if mark == b'$' || mark == b'!' {
+                    return text.is_empty();
+                }
+            }
+            false
+        }
+        Err(_) => false,
+    }
+}
+
+/// Whether a text, of which a source gives so many bytes at once, is cut into these lines.
+fn is_cut_in_pieces(alloc: Global, text: &[u8], size: usize, marked: &[u8]) -> bool
+    requires { 0 < size }
+{
+    match MemSource::new(alloc, text, &[size], &[]) {
+        Ok(mut source) => are_lines(alloc, &mut source, marked),
+        Err(_) => false,
+    }
+}
+
+/// Whether a text is cut into these lines in pieces of each size.
+fn is_cut(alloc: Global, text: &[u8], marked: &[u8]) -> bool {
+    is_cut_in_pieces(alloc, text, 1, marked)
+        && is_cut_in_pieces(alloc, text, 2, marked)
+        && is_cut_in_pieces(alloc, text, 3, marked)
+        && is_cut_in_pieces(alloc, text, 7, marked)
+        && is_cut_in_pieces(alloc, text, 64, marked)
+        && is_cut_in_pieces(alloc, text, 4096, marked)
+}
+
+/// Lines about as long as what is looked at together.
+const LINES: &[u8] =
+    b"aaaaaaaaaaaaaaaaaaaaaaaaaaaaaaaaaaaaaaaaaaaaaaaaaaaaaaaaaaaaaaa\nbbbbbbbbbbbbbbbbbbbbbbbbbbbbbbbbbbbbbbbbbbbbbbbbbbbbbbbbbbbbbbbb\nccccccccccccccccccccccccccccccccccccccccccccccccccccccccccccccccc\ndd\neeeeeeeeeeeeeeeeeeeeeeeeeeeeeeeeeeeeeeeeeeeeeeeeeeeeeeeeeeeeeeee";
+
+/// The same lines with their marks.
+const MARKED: &[u8] =
+    b"aaaaaaaaaaaaaaaaaaaaaaaaaaaaaaaaaaaaaaaaaaaaaaaaaaaaaaaaaaaaaaa|bbbbbbbbbbbbbbbbbbbbbbbbbbbbbbbbbbbbbbbbbbbbbbbbbbbbbbbbbbbbbbbb|ccccccccccccccccccccccccccccccccccccccccccccccccccccccccccccccccc|dd|eeeeeeeeeeeeeeeeeeeeeeeeeeeeeeeeeeeeeeeeeeeeeeeeeeeeeeeeeeeeeeee~$";
+
+#[test]
+fn cuts_lines(rt: HostRuntime) {
+    let alloc = rt.alloc();
+    assert!(rt;
+        is_cut(alloc, b"", b"$")
+            && is_cut(alloc, b"\n", b"|$")
+            && is_cut(alloc, b"a\n\nbc\n", b"a||bc|$")
+            && is_cut(alloc, b"a", b"a~$")
+            && is_cut(alloc, b"\n\na", b"||a~$")
+            && is_cut(alloc, b"0123456\n89abcde\n", b"0123456|89abcde|$")
+            && is_cut(alloc, LINES, MARKED)
+    );
+}
+
+/// So many `x` and this text behind them, where there is memory for them.
+fn behind_xs(alloc: Global, count: usize, text: &[u8]) -> Option<Vec<u8>> {
+    match vec![in alloc; b'x'; count] {
+        Ok(mut bytes) => match bytes.extend_from_slice(text) {
+            Ok(()) => Some(bytes),
+            Err(_) => None,
+        },
+        Err(_) => None,
+    }
+}
+
+/// Whether a line of so many `x` is cut into a line of as many of them, or the first 256, and the rest.
+fn is_cut_long(alloc: Global, len: usize, rest: &[u8]) -> bool {
+    match behind_xs(alloc, len, b"\n") {
+        Some(text) => match behind_xs(alloc, len.min(256), rest) {
+            Some(marked) => is_cut(alloc, &text, &marked),
+            None => false,
+        },
+        None => false,
+    }
 }
 
 #[test]
-fn cuts_lines(rt: HostRuntime) -> Result<(), Fail> {
-    let texts: [(&[u8], &[u8]); 7] = [
-        (b"", b"$"),
-        (b"\n", b"|$"),
-        (b"a\n\nbc\n", b"a||bc|$"),
-        (b"a", b"a~$"),
-        (b"\n\na", b"||a~$"),
-        (b"0123456\n89abcde\n", b"0123456|89abcde|$"),
-        // lines about as long as what is looked at together
-        (
-            b"aaaaaaaaaaaaaaaaaaaaaaaaaaaaaaaaaaaaaaaaaaaaaaaaaaaaaaaaaaaaaaa\nbbbbbbbbbbbbbbbbbbbbbbbbbbbbbbbbbbbbbbbbbbbbbbbbbbbbbbbbbbbbbbbb\nccccccccccccccccccccccccccccccccccccccccccccccccccccccccccccccccc\ndd\neeeeeeeeeeeeeeeeeeeeeeeeeeeeeeeeeeeeeeeeeeeeeeeeeeeeeeeeeeeeeeee",
-            b"aaaaaaaaaaaaaaaaaaaaaaaaaaaaaaaaaaaaaaaaaaaaaaaaaaaaaaaaaaaaaaa|bbbbbbbbbbbbbbbbbbbbbbbbbbbbbbbbbbbbbbbbbbbbbbbbbbbbbbbbbbbbbbbb|ccccccccccccccccccccccccccccccccccccccccccccccccccccccccccccccccc|dd|eeeeeeeeeeeeeeeeeeeeeeeeeeeeeeeeeeeeeeeeeeeeeeeeeeeeeeeeeeeeeeee~$",
-        ),
-    ];
-    for (text, marked) in texts {
-        for size in SIZES {
-            let sizes = [size];
-            assert!(rt; size > 0);
-            let mut source = MemSource::new(rt.alloc(), text, &sizes, &[])?;
-            let mut out = MemSink::new(rt.alloc(), 1000, &[])?;
-            marked_lines(rt.alloc(), &mut source, &mut out)?;
-            assert_eq!(rt; out.bytes(), marked, "in pieces of {size}");
+fn cuts_long_lines(rt: HostRuntime) {
+    let alloc = rt.alloc();
+    assert!(rt;
+        is_cut_long(alloc, 255, b"|$")
+            && is_cut_long(alloc, 256, b"~|$")
+            && is_cut_long(alloc, 257, b"~x|$")
+    );
+}
+
+/// Whether a source whose take of this number fails has these lines before it, and those of the bytes that were not
+/// taken after it.
+fn stops(alloc: Global, failing: u32, before: &[u8], after: &[u8]) -> bool {
+    match MemSource::new(alloc, b"ab\ncd\nef", &[4], &[failing]) {
+        Ok(mut source) => {
+            are_lines(alloc, &mut source, before) && are_lines(alloc, &mut source, after)
         }
+        Err(_) => false,
     }
-    Ok(())
 }
 
 #[test]
-fn cuts_long_lines(rt: HostRuntime) -> Result<(), Fail> {
-    let cases: [(usize, &[u8]); 3] = [(255, b"|$"), (256, b"~|$"), (257, b"~x|$")];
-    for (len, tail) in cases {
-        let mut text = vec![in rt.alloc(); b'x'; len]?;
-        text.push(b'\n')?;
-        for size in SIZES {
-            let sizes = [size];
-            assert!(rt; size > 0);
-            let mut source = MemSource::new(rt.alloc(), &text, &sizes, &[])?;
-            let mut out = MemSink::new(rt.alloc(), 1000, &[])?;
-            marked_lines(rt.alloc(), &mut source, &mut out)?;
-            let (front, rest) = out.bytes().split_at_checked(len.min(256)).ok_or("short")?;
-            assert!(rt;
-                front.iter().all(|b| *b == b'x'),
-                "the front of {len} in pieces of {size}"
-            );
-            assert_eq!(rt; rest, tail, "the tail of {len} in pieces of {size}");
-        }
-    }
-    Ok(())
+fn stops_at_a_failing_take(rt: HostRuntime) {
+    let alloc = rt.alloc();
+    assert!(rt;
+        stops(alloc, 0, b"!", b"ab|cd|ef~$")
+            && stops(alloc, 1, b"ab|!", b"d|ef~$")
+            && stops(alloc, 2, b"ab|cd|!", b"$")
+            && stops(alloc, 9, b"ab|cd|ef~$", b"$")
+    );
 }
 
-#[test]
-fn stops_at_a_failing_take(rt: HostRuntime) -> Result<(), Fail> {
-    // the number of the failing take, the lines before it, and those of the bytes that were not taken
-    let cases: [(u32, &[u8], &[u8]); 4] = [
-        (0, b"!", b"ab|cd|ef~$"),
-        (1, b"ab|!", b"d|ef~$"),
-        (2, b"ab|cd|!", b"$"),
-        (9, b"ab|cd|ef~$", b"$"),
-    ];
-    for (failing, before, after) in cases {
-        let fails = [failing];
-        let mut source = MemSource::new(rt.alloc(), b"ab\ncd\nef", &[4], &fails)?;
-        for marked in [before, after] {
-            let mut out = MemSink::new(rt.alloc(), 20, &[])?;
-            marked_lines(rt.alloc(), &mut source, &mut out)?;
-            assert_eq!(rt; out.bytes(), marked, "where take {failing} fails");
-        }
-    }
-    Ok(())
+/// Whether a give of these bytes is answered so.
+fn gives<K: Sink>(sink: &mut K, bytes: &[u8], answer: Result<usize, Failed>) -> bool {
+    sink.give(bytes) == answer
 }
 
-#[test]
-fn fills_sinks(rt: HostRuntime) -> Result<(), Fail> {
-    // the room, the failing give, the answers to four gives of three bytes, and what is held then
-    let cases: [(usize, u32, [Result<usize, Failed>; 4], &[u8]); 4] = [
-        (
-            0,
-            9,
-            [Err(Failed), Err(Failed), Err(Failed), Err(Failed)],
-            b"",
-        ),
-        (2, 9, [Ok(2), Err(Failed), Err(Failed), Err(Failed)], b"ab"),
-        (8, 9, [Ok(3), Ok(3), Ok(2), Err(Failed)], b"abcabcab"),
-        (8, 1, [Ok(3), Err(Failed), Ok(3), Ok(2)], b"abcabcab"),
-    ];
-    for (room, failing, answers, held) in cases {
-        let fails = [failing];
-        let mut sink = MemSink::new(rt.alloc(), room, &fails)?;
-        for answer in answers {
-            assert_eq!(rt; sink.give(b"abc"), answer, "room {room}, failing {failing}");
+/// Whether four gives of three bytes are answered so, and these bytes are held then, where there is so much room and the
+/// give of this number fails.
+fn fills(
+    alloc: Global,
+    room: usize,
+    failing: u32,
+    answers: [Result<usize, Failed>; 4],
+    held: &[u8],
+) -> bool {
+    match MemSink::new(alloc, room, &[failing]) {
+        Ok(mut sink) => {
+            let [first, second, third, fourth] = answers;
+            gives(&mut sink, b"abc", first)
+                && gives(&mut sink, b"abc", second)
+                && gives(&mut sink, b"abc", third)
+                && gives(&mut sink, b"abc", fourth)
+                && sink.bytes() == held
         }
-        assert_eq!(rt; sink.bytes(), held, "room {room}, failing {failing}");
+        Err(_) => false,
     }
+}
+
+/// A give that fails.
+const ERR: Result<usize, Failed> = Err(Failed);
+
+/// Whether an open sink takes all.
+fn takes_all() -> bool {
     let mut open = OpenSink::new();
-    assert_eq!(rt; open.give(b"abc"), Ok(3));
-    assert_eq!(rt; open.give(b""), Ok(0));
-    Ok(())
+    gives(&mut open, b"abc", Ok(3)) && gives(&mut open, b"", Ok(0))
+}
+
+#[test]
+fn fills_sinks(rt: HostRuntime) {
+    let alloc = rt.alloc();
+    assert!(rt;
+        fills(alloc, 0, 9, [ERR, ERR, ERR, ERR], b"")
+            && fills(alloc, 2, 9, [Ok(2), ERR, ERR, ERR], b"ab")
+            && fills(alloc, 8, 9, [Ok(3), Ok(3), Ok(2), ERR], b"abcabcab")
+            && fills(alloc, 8, 1, [Ok(3), ERR, Ok(3), Ok(2)], b"abcabcab")
+            && takes_all()
+    );
 }
 
 /// A reader whose reads all fail.
@@ -146,26 +209,26 @@ impl Read for Broken {
     }
 }
 
-#[test]
-fn reaches_readers_and_writers(rt: HostRuntime) -> Result<(), Fail> {
+/// Whether bytes that are lent, those of a reader and a reader that fails have their lines.
+fn reads(alloc: Global) -> bool {
     let text: &[u8] = b"ab\ncd";
-    let mut lent = HonestSource::new(text);
-    let mut read = StdSource::new(text);
-    let mut out = MemSink::new(rt.alloc(), 20, &[])?;
-    marked_lines(rt.alloc(), &mut lent, &mut out)?;
-    marked_lines(rt.alloc(), &mut read, &mut out)?;
-    marked_lines(rt.alloc(), &mut StdSource::new(Broken), &mut out)?;
-    assert_eq!(rt; out.bytes(), b"ab|cd~$ab|cd~$!".as_slice());
+    are_lines(alloc, &mut HonestSource::new(text), b"ab|cd~$")
+        && are_lines(alloc, &mut StdSource::new(text), b"ab|cd~$")
+        && are_lines(alloc, &mut StdSource::new(Broken), b"!")
+        && StdSource::new(Broken).take(&mut [0; 4]) == Err(Failed)
+}
 
-    let mut into = [0; 4];
-    assert_eq!(rt; StdSource::new(Broken).take(&mut into), Err(Failed));
-
+/// Whether a writer with room for four bytes takes four.
+fn writes() -> bool {
     let mut room = [0; 4];
     let mut sink = StdSink::new(room.as_mut_slice());
-    assert_eq!(rt; sink.give(b"abcdef"), Ok(4));
-    assert_eq!(rt; sink.give(b"ef"), Err(Failed));
-    assert_eq!(rt; sink.give(b""), Ok(0));
+    gives(&mut sink, b"abcdef", Ok(4))
+        && gives(&mut sink, b"ef", Err(Failed))
+        && gives(&mut sink, b"", Ok(0))
+}
 
+#[test]
+fn reaches_readers_and_writers(rt: HostRuntime) {
+    assert!(rt; reads(rt.alloc()) && writes());
     Free.pass(0, 0);
-    Ok(())
 }
