@@ -1,6 +1,10 @@
 // The bytes of a cache line.
-ghost use Rattle.std.specs.Prelude.{◌≡◌, ℕ, ◌<◌};
+ghost use Rattle.std.specs.Prelude.{◌≡◌, ℕ, ◌%◌, ◌^◌, ◌<◌};
+ghost use Rattle.std.specs.Int.{w128, to_le_bytes};
+ghost use Rattle.std.specs.Simd.Lanes.{number_l};
 ghost use Rattle.ace_event.specs.Bytes.{byte_of, stored_byte, merged_word, merged};
+
+use std::simd::prelude::*;
 
 /// The 64 bytes of a cache line, four words in order of address. The most significant byte of a word has its lowest
 /// address, so byte n of the line is byte n mod 16 of word n div 16, counted from the most significant.
@@ -9,49 +13,38 @@ pub struct Line {
     pub words: [u128; 4],
 }
 
-/// Byte n of the line, in order of address.
-fn byte_in(line: &Line, n: usize) -> u8
-    requires { n < 64 }
-    ensures { result ≡ byte_of line.now n }
+/// The bytes of a word as lanes, from the least significant on.
+#[inline(always)]
+fn lanes_of(word: u128) -> u8x16
+    ensures { result ≡ to_le_bytes w128 word }
 {
-    let place = 15 - n % 16;
-    (line.words[n / 16] >> (8 * place) & 0xff) as u8
+    let low = (word & 0xffff_ffff_ffff_ffff) as u64;
+    let high = (word >> 64) as u64;
+    u64x2::from_array([low, high]).to_le_bytes()
 }
 
-/// Byte n after the store.
-fn byte_after(line: &Line, strobe: u64, bytes: &Line, n: usize) -> u8
-    requires { n < 64 }
-    ensures { result ≡ stored_byte line.now strobe bytes.now n }
+/// The word of such lanes.
+#[inline(always)]
+fn word_of(lanes: u8x16) -> u128
+    ensures { result ≡ number_l 256 lanes % 2 ^ 128 }
 {
-    if strobe >> n & 1 == 1 {
-        byte_in(bytes, n)
-    } else {
-        byte_in(line, n)
-    }
+    let halves = u64x2::from_le_bytes(lanes).to_array();
+    u128::from(halves[1]) << 64 | u128::from(halves[0])
 }
 
-/// Word k after the store, byte by byte.
-fn merge_bytes(line: &Line, strobe: u64, bytes: &Line, k: usize) -> u128
-    requires { k < 4 }
-    ensures { result ≡ merged_word line.now strobe bytes.now k }
-{
-    let mut word = 0;
-    for j in 0..16 {
-        word = word * 256 + u128::from(byte_after(line, strobe, bytes, 16 * k + j));
-    }
-    word
-}
-
-/// Word k after the store. Most stores take all bytes of a word or none, so the word is told without looking at each.
+/// Word k after the store. Lane i is byte 15 - i of the word in order of address, and `bits` has the bit of that byte in
+/// its half of the strobe of the word.
+#[inline(always)]
 fn merge_word(line: &Line, strobe: u64, bytes: &Line, k: usize) -> u128
     requires { k < 4 }
     ensures { result ≡ merged_word line.now strobe bytes.now k }
 {
-    match strobe >> (16 * k) & 0xffff {
-        0 => line.words[k],
-        0xffff => bytes.words[k],
-        _ => merge_bytes(line, strobe, bytes, k),
-    }
+    let of_word = (strobe >> (16 * k) & 0xffff) as u16;
+    let halves = u16x1::from_array([of_word]).to_le_bytes();
+    let strobes: u8x16 = halves.swizzle([1, 1, 1, 1, 1, 1, 1, 1, 0, 0, 0, 0, 0, 0, 0, 0]);
+    let bits = u8x16::from_array([128, 64, 32, 16, 8, 4, 2, 1, 128, 64, 32, 16, 8, 4, 2, 1]);
+    let stored = (strobes & bits).simd_eq(bits);
+    word_of(stored.select(lanes_of(bytes.words[k]), lanes_of(line.words[k])))
 }
 
 /// The line after a store: byte n, from 0 to 63, is that of `bytes` where bit n of the strobe is 1, and else it stays

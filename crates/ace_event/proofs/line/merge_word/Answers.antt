@@ -1,8 +1,6 @@
-use Rattle.ace_event.proofs.Bytes.{merged_word-all, merged_word-none}
+use Rattle.std.proofs.Common.{arith, ◌∙◌}
+use Rattle.ace_event.proofs.Lanes.{stored_word}
 use Rattle.ace_event.proofs.line.merge_word.Goals as goal
 
-pub returns-in-0 : goal.returns-in-0
-returns-in-0 c = merged_word-none c.args.line.now c.args.strobe c.args.bytes.now c.args.k c.in-0.is (let words = c.type_inv.line in assumption words)
-
-pub returns-in-65535 : goal.returns-in-65535
-returns-in-65535 c = merged_word-all c.args.line.now c.args.strobe c.args.bytes.now c.args.k c.in-65535.is (let words = c.type_inv.bytes in assumption words)
+pub returns : goal.returns
+returns c = c.word_of.ensures ∙ stored_word c.args.line.now c.args.strobe c.args.bytes.now c.args.k _ _ _ (omega arith) c.lanes_of-2.ensures c.lanes_of.ensures
