@@ -1,6 +1,6 @@
 //! The rules that look at one port, over all ports.
 
-ghost use Rattle.std.specs.Prelude.{◌≡◌, ◌<◌, ℕ, [], ◌∷◌, None, Some, length, map, slice_get, IfOk, IsOk, OnOk, OnErr};
+ghost use Rattle.std.specs.Prelude.{◌≡◌, ◌<◌, ℕ, [], ◌∷◌, None, Some, length, map, option_map, slice_get, IfOk, IsOk, OnOk, OnErr};
 ghost use Rattle.std.specs.List.{All, AllByRecursion};
 ghost use Rattle.ace_event.specs.declared.header.Header.{Header};
 ghost use Rattle.ace_model.specs.Trace.{Trace, port_of};
@@ -19,7 +19,7 @@ use crate::port::PortRecord;
 use crate::rules::{keeps_codes, keeps_port, port_of};
 use crate::target::{Progress, Target};
 use crate::targets::of_line;
-use ace_event::{Event, Header};
+use ace_event::{Channel, Event, Header};
 use std::alloc::Global;
 
 /// What is kept of the ports of a trace, to tell what an event belongs to, and which rules about one port it breaks.
@@ -128,6 +128,8 @@ impl PortCheck {
     ghost use Rattle.std.specs.Prelude.{true, drop};
     ghost use Rattle.ace_model.specs.AddressRules.{k1};
     ghost use Rattle.ace_event.specs.Ports.{IsHeader};
+    ghost use Rattle.std.specs.Option.{option_copied};
+    ghost use Rattle.ace_model.specs.Transactions.{outstanding};
     ghost use Rattle.ace_model.specs.Accepted.{least_of};
     ghost use Rattle.ace_model.specs.Shares.{port_rules};
     ghost use Rattle.ace_portck.specs.Stands.{Stands, HasRoom as HasRoomFor, IsRoomy, MayTest, MayApply};
@@ -186,6 +188,17 @@ impl PortCheck {
             ),
             None => target_without_port(event),
         }
+    }
+
+    /// The outstanding transaction of the port on the channel under the identifier, where it stands.
+    #[inline(always)]
+    pub fn outstanding(&self, port: u8, chan: Channel, id: u8) -> Option<&Progress>
+        ensures { (r : Recording) → Stands self.now r
+            → option_copied result ≡ option_map (progress_of r.header r.past) (outstanding r.header r.past port chan id) }
+    {
+        record_of(&self.ports, &self.outside, port)
+            .transactions
+            .outstanding(chan, id)
     }
 
     /// The outstanding reads of the port, in the order of issue, and how far each has come.
