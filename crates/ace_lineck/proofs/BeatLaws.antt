@@ -7,12 +7,11 @@ use Rattle.ace_model.specs.Accepted.{least_of}
 use Rattle.ace_model.specs.AddressRules.{k1}
 use Rattle.ace_model.specs.Lines.{has_failed_on}
 use Rattle.ace_model.specs.Shares.{line_rules, k18_line}
-use Rattle.ace_model.proofs.Terms.{Header, Trace, Event, R, Read, IsAccepted, implies, is_some_and, is_none_or, is_line, is_line_read, read_kind, outstanding, granted, has_failed, k19, k20}
+use Rattle.ace_model.proofs.Terms.{Header, Trace, R, Read, IsAccepted, implies, is_some_and, is_none_or, is_line, is_line_read, read_kind, outstanding, granted, has_failed, k19, k20}
 use Rattle.ace_model.proofs.General.Options.{Some-injective, some_if-is}
 use Rattle.ace_portck.specs.Plain.{plain_read}
 use Rattle.ace_portck.specs.Targets.{line_in, line_of, progress_of, target_of}
 use Rattle.ace_portck.specs.declared.target.Progress.{Progress}
-use Rattle.ace_portck.specs.declared.target.Target.{Target}
 use Rattle.ace_lineck.specs.declared.record.LineRecord.{LineRecord}
 use Rattle.ace_lineck.specs.declared.grant.Grant.{Grant}
 use Rattle.ace_lineck.specs.Grants.{GrantFits, GrantStands}

@@ -1,12 +1,12 @@
 -- What a transfer of a plain read leaves of what is kept of its line.
-use Rattle.std.proofs.Common.{◌≡◌, ◌⊎◌, ◌<◌, ◌-◌, ◌^◌, ℕ, true, false, Bool, not, ◌&&◌, ◌==◌, if◌then◌else◌, nat_lt, List, ◌∷◌, length, Option, Some, None, option_map, option_and_then, slice_set, slice_get, unwrap_or, refl, sym, ap, subst, ◌∙◌, inl, inr}
+use Rattle.std.proofs.Common.{◌≡◌, ◌⊎◌, ◌<◌, ◌-◌, ◌^◌, ℕ, true, false, Bool, not, ◌&&◌, nat_lt, List, ◌∷◌, length, Option, Some, None, option_map, option_and_then, slice_set, slice_get, unwrap_or, refl, sym, ap, subst, ◌∙◌, inl, inr}
 use Rattle.std.proofs.lemmas.Bool.{and_parts, cases_eq, eq-eqb, ltb-true, ne_eqb}
 use Rattle.ace_codes.specs.declared.kind.ArKind.{ArKind}
 use Rattle.ace_event.specs.declared.line.Line.{Line}
 use Rattle.ace_model.specs.declared.transactions.Transaction.{Transaction}
 use Rattle.ace_model.specs.Accepted.{least_broken}
 use Rattle.ace_model.specs.Copies.{received}
-use Rattle.ace_model.proofs.Terms.{Header, Trace, R, Read, IsAccepted, newer, is_ace, is_line, is_transaction, ended, outstanding, granted, copy_of}
+use Rattle.ace_model.proofs.Terms.{Header, Trace, R, Read, newer, is_ace, is_line, is_transaction, ended, outstanding, granted, copy_of}
 use Rattle.ace_model.proofs.General.Options.{Some-injective}
 use Rattle.ace_model.proofs.Rules.Keeps.{accepted_keeps}
 use Rattle.ace_model.proofs.Trace.Issued.{outstanding-name}
@@ -22,7 +22,7 @@ use Rattle.ace_lineck.specs.declared.record.LineRecord.{LineRecord}
 use Rattle.ace_lineck.specs.declared.grant.Grant.{Grant}
 use Rattle.ace_lineck.specs.declared.record.Use.{Use}
 use Rattle.ace_lineck.specs.Grants.{GrantFits, GrantStands, IsGrantStep, is_of}
-use Rattle.ace_lineck.specs.Holders.{HolderStands, HoldersStand, IsHoldersStep, IsLineStep, holder_at}
+use Rattle.ace_lineck.specs.Holders.{HoldersStand, IsHoldersStep, IsLineStep}
 use Rattle.ace_lineck.specs.Records.{IsRecordStep, has_three}
 use Rattle.ace_lineck.specs.Uses.{is_unknown}
 use Rattle.ace_lineck.specs.Stands.{Stands, MayApply, place_on}

@@ -1,4 +1,4 @@
-use Rattle.std.proofs.Common.{◌≡◌, sym, subst}
+use Rattle.std.proofs.Common.{◌≡◌, subst}
 use Rattle.ace_model.specs.Copies.{received}
 use Rattle.ace_model.proofs.General.Options.{Some-injective}
 use Rattle.ace_model.proofs.Terms.{R}
@@ -14,7 +14,7 @@ returns-clause-stands c past l i resp word t s at kind =
       used = s.stands.used;
       memory = record { memory = s.stands.memory.memory };
       grant = c.serve.ensures h past l p i resp word c.args.last t xs
-      (record { step = s.step; grant = s.stands.grant; holders = s.stands.holders; memory = s.stands.memory }) c.ends_read-over.ensures;
+          (record { step = s.step; grant = s.stands.grant; holders = s.stands.holders; memory = s.stands.memory }) c.ends_read-over.ensures;
       holders = c.receive.ensures.stand h past l i resp word c.args.last t (record {
         step = s.step;
         room = s.room;

@@ -1,4 +1,4 @@
-use Rattle.std.proofs.Common.{◌∷◌, Some, sym, subst, ◌∙◌}
+use Rattle.std.proofs.Common.{◌∷◌, sym, subst, ◌∙◌}
 use Rattle.ace_event.specs.declared.event.Event.TheVariants.{R}
 use Rattle.ace_lineck.specs.Grants.{GrantStands, IsGrantStep}
 use Rattle.ace_lineck.proofs.BeatSteps.{ungranted, over, goes-on}

@@ -1,4 +1,4 @@
-use Rattle.std.proofs.Common.{Some, is_none, sym, ap, subst, ◌∙◌}
+use Rattle.std.proofs.Common.{Some, sym, ap, subst, ◌∙◌}
 use Rattle.ace_lineck.specs.Beats.{keeps_beat}
 use Rattle.ace_lineck.specs.Records.{LineStands}
 use Rattle.ace_lineck.proofs.BeatLaws.{plain, of-place, beat-law}
