@@ -196,7 +196,8 @@ fn advance(kept: &mut LineRecord, header: &Header, x: &Progress, kind: ArKind, l
 }
 
 impl LineCheck {
-    /// Whether the transfer of the plain read breaks no rule of the share. `kind` is that of the read, and `place` that of its line.
+    /// An R of the plain read keeps the rules that look at its line: K19, K20 and, of K18, that its grant lets it through (Arm IHI 0022E,
+    /// C3.2.1, C4 and C6). `kind` is that of the read, and `place` that of its line.
     #[inline(always)]
     pub fn keeps_beat(
         &self,
@@ -214,7 +215,7 @@ impl LineCheck {
         keeps_rules(self.record(place), &self.header, x, kind, resp, word)
     }
 
-    /// Takes the transfer of the plain read, which breaks no rule. `kind` is that of the read, and `place` that of its line.
+    /// Takes an R of the plain read, which breaks no rule. `kind` is that of the read, and `place` that of its line.
     #[inline(always)]
     pub fn hear_beat(&mut self, x: &Progress, kind: ArKind, place: Option<usize>, last: bool)
         ensures stands { (r : Recording) (port id resp word : ℕ) → Stands self.old r
