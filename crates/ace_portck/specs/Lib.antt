@@ -12,3 +12,4 @@ pub mod Port
 pub mod OnePort
 pub mod Stands
 pub mod LineMaps
+pub mod Plain

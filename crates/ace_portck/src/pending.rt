@@ -274,6 +274,15 @@ impl Pending {
         find_id(&self.list, id).copied()
     }
 
+    /// The same, where it stands.
+    #[inline(always)]
+    pub fn outstanding(&self, id: u8) -> Option<&Progress>
+        ensures { (h : Header) (past : Trace) (p : ℕ) (c : Channel) → PendingStands h past p c self.now
+            → option_copied result ≡ option_map (progress_of h past) (outstanding h past p c id) }
+    {
+        find_id(&self.list, id)
+    }
+
     /// The identifier of the complete transaction that the port's next RK or WK belongs to, at an ACE port.
     pub fn next_complete(&self) -> Option<u8>
         ensures items { result ≡ slice_get self.now.waiting.items 0 }

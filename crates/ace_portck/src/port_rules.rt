@@ -12,12 +12,14 @@ ghost use Rattle.ace_model.specs.WriteRules.{k27};
 ghost use Rattle.ace_model.specs.Shares.{k18_transfer, k26_response};
 ghost use Rattle.ace_model.specs.Trace.{Trace};
 ghost use Rattle.ace_model.specs.Transactions.{issued, outstanding};
+ghost use Rattle.ace_portck.specs.Plain.{is_next_beat};
 ghost use Rattle.ace_portck.specs.Targets.{progress_of, target_of};
 
 use crate::kinds::{beats_of, read_kind};
 use crate::port::PortRecord;
 use crate::rules::may_lock;
 use crate::target::{Progress, Target};
+use ace_codes::ArKind;
 use ace_event::{Event, Header};
 use ace_model::Transaction;
 
@@ -33,6 +35,15 @@ fn begun_by(event: &Event, target: &Target) -> Option<Transaction>
     }
 }
 
+/// After so many transfers of a read of this kind some are left, and `last` says whether the next is the last.
+#[inline(always)]
+pub fn is_next_beat(transfers: u8, last: bool, kind: ArKind) -> bool
+    ensures { result ≡ is_next_beat transfers last kind }
+{
+    let beats = beats_of(kind);
+    transfers < beats && last == (transfers.wrapping_add(1) == beats)
+}
+
 /// The outstanding read has transfers left, and `last` says whether this is the last.
 fn may_transfer(read: Option<Progress>, last: bool) -> bool
     ensures { (h : Header) (past : Trace) (p id resp word : ℕ) → read ≡ option_map (progress_of h past) (outstanding h past p Read id)
@@ -42,10 +53,7 @@ fn may_transfer(read: Option<Progress>, last: bool) -> bool
         None => false,
         Some(x) => match read_kind(&x.transaction) {
             None => false,
-            Some(kind) => {
-                let beats = beats_of(kind);
-                x.transfers < beats && last == (x.transfers.wrapping_add(1) == beats)
-            }
+            Some(kind) => is_next_beat(x.transfers, last, kind),
         },
     }
 }

@@ -166,6 +166,15 @@ impl Transactions {
         self.channel(chan).named(id)
     }
 
+    /// The same, where it stands.
+    #[inline(always)]
+    pub fn outstanding(&self, chan: Channel, id: u8) -> Option<&Progress>
+        ensures { (h : Header) (past : Trace) (p : ℕ) → TransactionsStand h past p self.now
+            → option_copied result ≡ option_map (progress_of h past) (outstanding h past p chan id) }
+    {
+        self.channel(chan).outstanding(id)
+    }
+
     /// The identifier of the complete transaction that the next RK or WK of the port belongs to, which is an ACE port.
     pub fn next_complete(&self, chan: Channel) -> Option<u8>
         ensures { (h : Header) (past : Trace) (p : ℕ) → TransactionsStand h past p self.now → is_ace h p ≡ true
