@@ -2,6 +2,7 @@
 #![tactic(auto)]
 
 mod checker;
+mod plain_grants;
 mod shares;
 
 pub use checker::{CheckErr, Checker, Step};

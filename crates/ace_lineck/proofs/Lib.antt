@@ -27,6 +27,8 @@ pub mod ReplyLaws
 pub mod WriteLaws
 -- What the interconnect looks up of a line.
 pub mod LineLooks
+-- What a G grants, by what is kept of the line.
+pub mod PlainGrants
 -- The least rule that an event breaks.
 pub mod Judging
 -- The transfers of plain reads: what their rules say, and what they leave.

@@ -34,7 +34,7 @@ fn is_of(target: &Target, x: &Transaction) -> bool
 }
 
 /// A grant under which nothing has come.
-fn fresh(x: Transaction) -> Grant
+pub fn fresh(x: Transaction) -> Grant
     ensures { result ≡ fresh_grant x }
 {
     Grant {

@@ -14,6 +14,7 @@ mod looks;
 mod memory;
 mod memory_writes;
 mod plain_beats;
+mod plain_grants;
 mod record;
 mod replies;
 mod rules;

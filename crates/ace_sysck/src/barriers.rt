@@ -166,7 +166,7 @@ impl Barriers {
     ghost use Rattle.ace_event.specs.declared.header.Header.{Header};
     ghost use Rattle.ace_model.specs.Trace.{is_none_or, implies};
     ghost use Rattle.ace_model.specs.Transactions.{issued};
-    ghost use Rattle.ace_model.specs.OrderRules.{k34, k35};
+    ghost use Rattle.ace_model.specs.OrderRules.{is_past_barriers, k34, k35};
     ghost use Rattle.ace_model.specs.AddressRules.{begins_barrier};
     ghost use Rattle.ace_model.specs.Barriers.{is_barrier_half};
     ghost use Rattle.ace_portck.specs.Targets.{Recording, after};
@@ -258,6 +258,17 @@ impl Barriers {
         match granted_in(event, target) {
             None => true,
             Some(x) => is_past(&self.barrier_of(x.port), &x),
+        }
+    }
+
+    /// The same, of the transaction that a G grants.
+    #[inline(always)]
+    pub fn lets_past(&self, x: &Transaction) -> bool
+        ensures { (r : Recording) → BarriersStand r self.now → result ≡ is_past_barriers r.past x.now }
+    {
+        match self.ports.get(usize::from(x.port)) {
+            None => true,
+            Some(barrier) => is_past(barrier, x),
         }
     }
 

@@ -20,7 +20,7 @@ use std::alloc::Global;
 #[derive(Drop)]
 pub struct SysCheck {
     header: Header,
-    barriers: Barriers,
+    pub(crate) barriers: Barriers,
     monitors: Monitors,
     results: Results,
     registrations: Registrations,

@@ -1,0 +1,37 @@
+//! The short way of a G: it grants a plain transaction, and only K12 and K35 can break.
+
+use crate::shares::Shares;
+use ace_portck::event_kinds;
+
+impl Shares {
+    ghost use Rattle.std.specs.Prelude.{◌≡◌, ◌<◌, ◌-◌, ◌^◌, ◌∷◌, true, false, None, length};
+    ghost use Rattle.ace_event.specs.declared.event.Event.TheVariants.{G};
+    ghost use Rattle.ace_event.specs.declared.header.Header.{Header};
+    ghost use Rattle.ace_model.specs.Accepted.{least_broken};
+    ghost use Rattle.ace_model.specs.Trace.{Trace};
+    ghost use Rattle.ace_check.specs.Shares.{SharesTell};
+
+    /// Takes a G, if it grants a transaction with lock 0 and breaks no rule. If it isn't taken, nothing has changed.
+    #[inline(always)]
+    pub(crate) fn take_grant(&mut self, grant: &event_kinds::G) -> bool
+        ensures taken { (h : Header) (past : Trace) → SharesTell self.old h past → length past < 2 ^ 64 - 1 → result ≡ true
+            → (least_broken h past (G grant.now.port grant.now.chan grant.now.id) ≡ None)
+            × SharesTell self.new h (G grant.now.port grant.now.chan grant.now.id ∷ past) }
+        ensures stays { result ≡ false → self.new ≡ self.old }
+    {
+        let Some(progress) = self.ports.outstanding(grant.port, grant.chan, grant.id) else {
+            return false;
+        };
+        let x = progress.transaction;
+        if x.lock {
+            return false;
+        }
+        let place = self.lines.place(Some(x.addr));
+        if !(self.lines.keeps_grant(&x, place) && self.system.keeps_grant(&x)) {
+            return false;
+        }
+        self.ports.apply(grant);
+        self.lines.hear_grant(&x, place);
+        true
+    }
+}
