@@ -7,6 +7,7 @@ mod inboxes;
 mod kinds;
 mod messages;
 mod monitors;
+mod plain_answers;
 mod registrations;
 mod results;
 mod rules;
@@ -16,4 +17,5 @@ mod words;
 
 pub use barriers::OpenPair;
 pub use inboxes::Message;
+pub use plain_answers::keeps_plain_beat;
 pub use system::SysCheck;
