@@ -29,3 +29,6 @@ pub mod WriteLaws
 pub mod LineLooks
 -- The least rule that an event breaks.
 pub mod Judging
+-- The transfers of plain reads: what their rules say, and what they leave.
+pub mod BeatLaws
+pub mod BeatSteps

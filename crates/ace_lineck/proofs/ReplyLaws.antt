@@ -79,7 +79,7 @@ clean_unique-line read.DvmComplete e = cc
 clean_unique-line read.DvmMessage e = cc
 clean_unique-line k e = refl
 
-kind-line : (x : Transaction) (k : ArKind) → read_kind x ≡ Some k → is_line_read k ≡ true → is_line x ≡ true
+pub kind-line : (x : Transaction) (k : ArKind) → read_kind x ≡ Some k → is_line_read k ≡ true → is_line x ≡ true
 kind-line x k kind line = or_left (is_some_and (read_kind x) is_line_read) (is_some_and (write_kind x) is_line_write) (rw kind line)
 
 -- a first response is there from the first transfer on

@@ -193,7 +193,7 @@ fn is_done_at(kept: &LineRecord, g: &Grant, header: &Header, port: u8) -> bool
     is_settled(stage, spared)
 }
 
-fn is_each_done(kept: &LineRecord, g: &Grant, header: &Header) -> bool
+pub fn is_each_done(kept: &LineRecord, g: &Grant, header: &Header) -> bool
     ensures { result ≡ list_all (is_done_at header.now g.now kept.now.holders.items) (ports_below header.now.ports) }
 {
     let mut all = true;

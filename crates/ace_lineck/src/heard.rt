@@ -105,7 +105,7 @@ impl Grant {
 
     /// The granted read has a transfer.
     #[inline(always)]
-    fn hear_beat(&mut self, memory: &Line)
+    pub fn hear_beat(&mut self, memory: &Line)
         ensures { self.new ≡ record self.old { begun = true; reply = newer self.old.reply (Some memory.now) } }
     {
         self.begun = true;

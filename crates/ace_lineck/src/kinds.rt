@@ -34,7 +34,7 @@ pub fn is_no_snoop(x: &Transaction) -> bool
 }
 
 #[inline(always)]
-fn reads_a_line(kind: ArKind) -> bool
+pub fn reads_a_line(kind: ArKind) -> bool
     ensures { result ≡ reads_a_line kind }
 {
     matches!(

@@ -43,7 +43,7 @@ pub fn reply_kept(grant: &Option<Grant>, memory: &Line) -> Line
 
 /// The same, where it stands.
 #[inline(always)]
-fn reply_in<'a>(grant: &'a Option<Grant>, memory: &'a Line) -> &'a Line
+pub fn reply_in<'a>(grant: &'a Option<Grant>, memory: &'a Line) -> &'a Line
     ensures { result.now ≡ reply_kept grant.now memory.now }
 {
     match grant {
@@ -57,7 +57,7 @@ fn reply_in<'a>(grant: &'a Option<Grant>, memory: &'a Line) -> &'a Line
 
 /// Word k of a line, from 0; 0 where k is above 3.
 #[inline(always)]
-fn word_at(line: &Line, k: u8) -> u128
+pub fn word_at(line: &Line, k: u8) -> u128
     ensures { result ≡ word_of line.now k }
 {
     match line.words.get(usize::from(k)) {
@@ -143,7 +143,7 @@ pub fn can_take(kind: ArKind, shared: bool) -> bool
 
 /// The kind may have these upper bits, with an answer that has IsShared or without.
 #[inline(always)]
-fn fits_shared(header: &Header, shared: bool, resp: u8, x: &Transaction, kind: ArKind) -> bool
+pub fn fits_shared(header: &Header, shared: bool, resp: u8, x: &Transaction, kind: ArKind) -> bool
     ensures { result ≡ fits_shared header.now shared resp x.now kind }
 {
     (!is_shared(resp) || may_be_shared(kind))
@@ -162,7 +162,7 @@ fn fits_kind(header: &Header, shared: bool, resp: u8, x: &Transaction) -> bool
 }
 
 #[inline(always)]
-fn same_upper_bits(resp: u8, first: u8) -> bool
+pub fn same_upper_bits(resp: u8, first: u8) -> bool
     ensures { result ≡ same_upper_bits resp first }
 {
     passes_dirty(resp) == passes_dirty(first) && is_shared(resp) == is_shared(first)

@@ -30,7 +30,7 @@ fn has_three(x: &Option<Progress>) -> bool
 
 /// The reply of the granted read, once it is settled.
 #[inline(always)]
-fn reply_of(grant: &Option<Grant>) -> Option<Line>
+pub fn reply_of(grant: &Option<Grant>) -> Option<Line>
     ensures { result ≡ option_and_then (λ g. g.reply) grant.now }
 {
     match grant {

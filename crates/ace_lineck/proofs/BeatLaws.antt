@@ -1,0 +1,119 @@
+-- What the rules of a transfer say of a plain read, in the words of what is kept of its line.
+use Rattle.std.proofs.Common.{◌≡◌, ℕ, true, false, Bool, not, ◌&&◌, if◌then◌else◌, Option, Some, None, is_none, option_map, option_and_then, refl, sym, ap, subst, ◌∙◌, inl, inr}
+use Rattle.std.proofs.lemmas.Bool.{and_parts, cases_Bool, not-true}
+use Rattle.ace_codes.specs.declared.kind.ArKind.{ArKind}
+use Rattle.ace_model.specs.declared.transactions.Transaction.{Transaction}
+use Rattle.ace_model.specs.Accepted.{least_of}
+use Rattle.ace_model.specs.AddressRules.{k1}
+use Rattle.ace_model.specs.Lines.{has_failed_on}
+use Rattle.ace_model.specs.Shares.{line_rules, k18_line}
+use Rattle.ace_model.proofs.Terms.{Header, Trace, R, Read, IsAccepted, implies, is_some_and, is_none_or, is_line, is_line_read, read_kind, outstanding, granted, has_failed, k19, k20}
+use Rattle.ace_model.proofs.General.Options.{Some-injective, some_if-is}
+use Rattle.ace_portck.specs.Plain.{plain_read}
+use Rattle.ace_portck.specs.Targets.{line_in, line_of, progress_of, target_of}
+use Rattle.ace_portck.specs.declared.target.Progress.{Progress}
+use Rattle.ace_lineck.specs.declared.record.LineRecord.{LineRecord}
+use Rattle.ace_lineck.specs.declared.grant.Grant.{Grant}
+use Rattle.ace_lineck.specs.Grants.{GrantFits, GrantStands}
+use Rattle.ace_lineck.specs.Records.{IsNext, LineStands}
+use Rattle.ace_lineck.specs.Kept.{may_have_beat, fits_bits, fits_reply, has_passed_for, is_shared_under, is_its, IsFailure}
+use Rattle.ace_lineck.specs.Beats.{keeps_beat, IsOfPlace}
+use Rattle.ace_lineck.proofs.GrantLaws.{its-is, k18-law}
+use Rattle.ace_lineck.proofs.ReplyLaws.{kind-line, k19-law, k20-law}
+
+-- What a plain read of this kind is.
+pub record IsPlainRead (x : Transaction) (k : ArKind) : Type 0 where
+  pub kind : read_kind x ≡ Some k
+  pub line : is_line_read k ≡ true
+  pub unlocked : x.lock ≡ false
+
+pub plain : (x : Transaction) (k : ArKind) → plain_read x ≡ Some k → IsPlainRead x k
+plain x k is = by (read_kind x) refl
+  where
+    own : ArKind → Option ArKind
+    own j = if is_line_read j && not x.lock then Some j else None
+
+    by : (o : Option ArKind) → read_kind x ≡ o → IsPlainRead x k
+    by None none = let bad : None ≡ Some k = sym (ap (option_and_then own) none) ∙ is in cc
+    by (Some j) some =
+        let here : own j ≡ Some k = sym (ap (option_and_then own) some) ∙ is in
+        let s = some_if-is (is_line_read j && not x.lock) j k here in
+        let parts = and_parts (is_line_read j) (not x.lock) s.0 in
+        record { kind = some ∙ ap (λ v. Some v) s.1; line = ap is_line_read (sym s.1) ∙ parts.0; unlocked = not-true x.lock parts.1 }
+
+-- three rules that are asked in order, where the later ones need the first
+three-rules : (a b c k m n : Bool) → a ≡ k → (k ≡ true → b ≡ m) → (k ≡ true → c ≡ n)
+    → ((a && b) && c) ≡ is_none {T = ℕ} (if k then if m then if n then None else Some 20 else Some 19 else Some 18)
+three-rules a b c false m n is bits reply = rw is refl
+three-rules a b c true m n is bits reply =
+    let here = bits refl in
+    let word = reply refl in
+    rw (is, here, word) (by m n)
+  where
+    by : (m n : Bool) → (m && n) ≡ is_none {T = ℕ} (if m then if n then None else Some 20 else Some 19)
+    by true true = refl
+    by true false = refl
+    by false n = refl
+
+module _ (h : Header) (past : Trace) (p i resp : ℕ) (last : Bool) (word : ℕ) (x : Progress) (k : ArKind) (out : option_map (progress_of h past) (outstanding h past p Read i) ≡ Some x)
+    (own : IsPlainRead x.transaction k) where
+  -- the read of the transfer
+  pub read-out : outstanding h past p Read i ≡ Some x.transaction
+  read-out = by (outstanding h past p Read i) out
+    where
+      by : (o : Option Transaction) → option_map (progress_of h past) o ≡ Some x → o ≡ Some x.transaction
+      by None is = cc
+      by (Some y) is = ap (λ (v : Progress). Some v.transaction) (Some-injective (progress_of h past y) x is)
+
+  pub read-on : is_line x.transaction ≡ true
+  read-on = kind-line x.transaction k own.kind own.line
+
+  -- its line
+  pub beat-line : line_in h past (R p i resp last word) ≡ Some x.transaction.addr
+  beat-line = ap line_of out ∙ (let on = read-on in rw on refl)
+
+  module _ (kept : LineRecord) (a : IsAccepted h past) (s : LineStands h past x.transaction.addr kept) where
+    pub of-place : IsOfPlace kept.grant x.transaction
+    of-place g is same =
+        let f : GrantStands h past x.transaction.addr (Some g) = subst (GrantStands h past x.transaction.addr) is s.grant in
+        its-is h past a x.transaction.addr g f p Read i x.transaction read-out refl same
+
+    -- where the read is granted, it is no exclusive store that failed
+    unfailed : may_have_beat h (has_failed_on h past x.transaction.addr) kept.grant kept.holders.items x resp ≡ may_have_beat h false kept.grant kept.holders.items x resp
+    unfailed = by kept.grant refl
+      where
+        by : (o : Option Grant) → kept.grant ≡ o → may_have_beat h (has_failed_on h past x.transaction.addr) o kept.holders.items x resp ≡ may_have_beat h false o kept.holders.items x resp
+        by None is = refl
+        by (Some g) is =
+            elim (cases_Bool (is_its g x.transaction)) [
+              | inr n ↦ rw n refl
+              | inl same ↦
+                  let f : GrantFits h past x.transaction.addr g = subst (GrantStands h past x.transaction.addr) is s.grant in
+                  let stands : granted h past x.transaction.addr ≡ Some x.transaction = f.granted ∙ ap (λ v. Some v) (of-place g is same) in
+                  let unlocked = own.unlocked in
+                  let fine : has_failed past x.transaction ≡ false = rw unlocked refl in
+                  let failed : has_failed_on h past x.transaction.addr ≡ false = ap (λ o. is_some_and o (has_failed past)) stands ∙ fine in
+                  ap (λ b. may_have_beat h b (Some g) kept.holders.items x resp) failed
+            ]
+
+    pub beat-law : k1 h past (R p i resp last word) ≡ true → keeps_beat h kept x resp word ≡ is_none (least_of line_rules h past (R p i resp last word))
+    beat-law port =
+        let e = R p i resp last word in
+        let t = target_of h past e in
+        let failed = has_failed_on h past x.transaction.addr in
+        let next : IsNext h past e t kept = record {
+          accepted = a;
+          port = port;
+          target = refl;
+          line = λ l is. subst (λ v. LineStands h past v kept) (Some-injective x.transaction.addr l (sym beat-line ∙ is)) s;
+        } in
+        let fails : IsFailure h past t failed = λ l is. ap (has_failed_on h past) (Some-injective x.transaction.addr l (sym beat-line ∙ is)) in
+        let on = read-on in
+        let first : is_none_or t.transaction (λ y. implies (is_line y.transaction) (may_have_beat h failed kept.grant kept.holders.items y resp))
+        ≡ may_have_beat h failed kept.grant kept.holders.items x resp =
+        ap (λ o. is_none_or o (λ y. implies (is_line y.transaction) (may_have_beat h failed kept.grant kept.holders.items y resp))) out ∙ (rw on refl) in
+        let due : may_have_beat h false kept.grant kept.holders.items x resp ≡ k18_line h past e =
+        sym unfailed ∙ sym first ∙ k18-law h past t kept p i resp last word next failed fails in
+        three-rules _ _ _ (k18_line h past e) (k19 h past e) (k20 h past e) due
+        (λ is. sym (ap (λ o. is_none_or o (λ y. fits_bits h (has_passed_for kept.grant y.transaction) (is_shared_under kept.grant) resp y)) out) ∙ k19-law h past t kept p i resp last word next is)
+        (λ is. sym (ap (λ o. is_none_or o (fits_reply kept.grant kept.memory word)) out) ∙ k20-law h past t kept p i resp last word next is)

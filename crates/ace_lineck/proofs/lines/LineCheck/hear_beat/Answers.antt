@@ -1,0 +1,57 @@
+use Rattle.std.proofs.Common.{◌≡◌, ◌∷◌, Some, true, false, nat_eq, slice_get, refl, sym, subst, ◌∙◌}
+use Rattle.indexmap.specs.IndexMap.{get, values}
+use Rattle.ace_model.proofs.Terms.{R}
+use Rattle.ace_portck.specs.Targets.{target_of}
+use Rattle.ace_lineck.specs.Records.{LineStands, IsRecordStep}
+use Rattle.ace_lineck.proofs.AllLines.{unplaced, placed, line-step, applied-else}
+use Rattle.ace_lineck.proofs.BeatLaws.{plain}
+use Rattle.ace_lineck.proofs.BeatSteps.{beat-may, beat-port, still-used}
+use Rattle.ace_lineck.proofs.Places.{get-at, place-taken, written-here, written-there}
+use Rattle.ace_lineck.proofs.Rooms.{written-records, written-roomy}
+use Rattle.ace_lineck.proofs.lines.LineCheck.hear_beat.Goals as goal
+
+pub returns-in_default-clause-stands : goal.returns-in_default-clause-stands
+returns-in_default-clause-stands c r p i resp word st out reads at fine few =
+    let a = c.args in
+    let e = R p i resp a.last word in
+    let m = beat-may a.self.now r p i resp a.last word a.x.now a.kind a.place st out (plain a.x.now.transaction a.kind reads) at fine few in
+    unplaced a.self.now r e (target_of r.header r.past e) a.place m c.in_default.is
+
+pub returns-in_default-get_index_mut-clause-stands : goal.returns-in_default-get_index_mut-clause-stands
+returns-in_default-get_index_mut-clause-stands c r p i resp word st out reads at fine few =
+    let a = c.args in
+    let e = R p i resp a.last word in
+    let m = beat-may a.self.now r p i resp a.last word a.x.now a.kind a.place st out (plain a.x.now.transaction a.kind reads) at fine few in
+    let n = c.in-Some.place in
+    let on = placed a.self.now r e (target_of r.header r.past e) a.place m n c.in-Some.is in
+    let within = place-taken a.self.now (Some on.0) n on.2 in
+    let bad : false ≡ true = c.in_default-get_index_mut.ensures.found.1 within in cc
+
+pub returns-clause-stands : goal.returns-clause-stands
+returns-clause-stands c r p i resp word st out reads at fine few =
+    let a = c.args in
+    let self = a.self.now in
+    let x = a.x.now in
+    let e = R p i resp a.last word in
+    let t = target_of r.header r.past e in
+    let own = plain x.transaction a.kind reads in
+    let m = beat-may self r p i resp a.last word x a.kind a.place st out own at fine few in
+    let n = c.in-Some.place in
+    let was = c.in-Some-get_index_mut.kept.now in
+    let kept = c.advance.new.kept in
+    let on = placed self r e t a.place m n c.in-Some.is in
+    let value : slice_get (values self.lines) n ≡ Some was = sym c.in-Some-get_index_mut.ensures.value in
+    let unique = c.get_index_mut.ensures.unique in
+    let here : get nat_eq self.lines on.0 ≡ Some was = get-at self on.0 n on.2 ∙ value in
+    let step = line-step self r e t a.place m on.0 on.1 was here in
+    let port : x.transaction.port ≡ p = beat-port r.header r.past on.0 p i resp a.last word t x out step.step in
+    let moved : IsRecordStep self.header r.past on.0 e t was → LineStands self.header (e ∷ r.past) on.0 kept =
+    subst (λ q. IsRecordStep self.header r.past on.0 (R q i resp a.last word) t was → LineStands self.header (R q i resp a.last word ∷ r.past) on.0 kept) port
+    (λ s. c.advance.ensures.stands r.past on.0 i resp word t s out own.kind) in
+    let new : LineStands r.header (e ∷ r.past) on.0 kept =
+    subst (λ v. LineStands v (e ∷ r.past) on.0 kept) st.header (moved (subst (λ v. IsRecordStep v r.past on.0 e t was) (sym st.header) step)) in
+    applied-else self _ r e t a.place m on.0 on.1 was kept step new c.advance.ensures.room (still-used was.used kept.used c.advance.ensures.used)
+    (record { header = refl; empty = refl; here = written-here self on.0 n on.2 unique was kept value; others = written-there self on.0 n on.2 unique was kept value }) refl st.spare
+
+pub returns-clause-roomy : goal.returns-clause-roomy
+returns-clause-roomy c n past room = record { map = written-roomy n past c.args.self.now c.in-Some.place c.advance.new.kept room; records = written-records n past c.args.self.now c.in-Some.place c.advance.new.kept room }
