@@ -94,7 +94,7 @@ under_way-stays past e (Open o) none u = record {
 }
 
 -- an event that issues no half of the port, and completes none of its barrier
-barrier_stays : (past : Trace) (e : Event) (p : ℕ) (b : Barrier) → ((c : Channel) → option_filter (λ y. is_barrier_of y p c) (issued (length past) e) ≡ None)
+pub barrier_stays : (past : Trace) (e : Event) (p : ℕ) (b : Barrier) → ((c : Channel) → option_filter (λ y. is_barrier_of y p c) (issued (length past) e) ≡ None)
     → ((c : Channel) (y : Transaction) → halves_on c b ≡ y ∷ [] → hits past e y ≡ false) → BarrierStands past p b → BarrierStands (e ∷ past) p b
 barrier_stays past e p b issues completes s = record {
   done = s.done;
@@ -239,7 +239,7 @@ k34-is h past (B p i resp) = refl
 k34-is h past e = refl
 
 -- a transaction that was issued where a half of the barrier was is this half
-same-half : (past : Trace) (p : ℕ) (b : Barrier) (s : BarrierStands past p b) (c : Channel) (y x : Transaction) → halves_on c b ≡ y ∷ [] → IsIssued past x → x.place ≡ y.place
+pub same-half : (past : Trace) (p : ℕ) (b : Barrier) (s : BarrierStands past p b) (c : Channel) (y x : Transaction) → halves_on c b ≡ y ∷ [] → IsIssued past x → x.place ≡ y.place
     → (y ≡ x) × (is_barrier_half x ≡ true) × (x.port ≡ p)
 same-half past p b s c y x is i at =
     let h = current past p b s c y is in

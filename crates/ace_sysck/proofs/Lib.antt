@@ -24,5 +24,7 @@ pub mod RuleLaws
 -- What each kind of event leaves as it is.
 pub mod Unmoved
 pub mod PlainGrants
+-- What an answer to a plain transaction leaves, and the rules that look at it.
+pub mod PlainAnswers
 pub mod Judging
 pub mod MessageCodes

@@ -37,7 +37,7 @@ in_order-is past x m s = sym (go m.first refl) ∙ refl
     go None is = rw (← s.first, is, s.sync, s.sync_completed) refl
 
 -- an event that issues no part of the port, completes not its Sync, and isn't an AC DVM Complete to it
-stays : (past : Trace) (e : Event) (p : ℕ) (m : PortMessages) → part_in (issued (length past) e) p ≡ None → sync_in past (issued (length past) e) p ≡ None
+pub stays : (past : Trace) (e : Event) (p : ℕ) (m : PortMessages) → part_in (issued (length past) e) p ≡ None → sync_in past (issued (length past) e) p ≡ None
     → completes_sync e p ≡ false → ((x : Transaction) → last_sync past p ≡ Some x → hits past e x ≡ false) → PortMessagesStand past p m → PortMessagesStand (e ∷ past) p m
 stays past e p m no_part no_sync no_ac no_hit s = record {
   first = s.first ∙ sym (ap (waits_after (first_waiting past p)) no_part);
@@ -131,7 +131,7 @@ issues-no_ac : (past : Trace) (e : Event) (x : Transaction) (p : ℕ) → issued
 issues-no_ac past (Ac q addr snoop) x p new = cc
 issues-no_ac past e x p new = refl
 
-answers-no_ac : (h : Header) (past : Trace) (e : Event) (x : Transaction) (p : ℕ) → responding h past e ≡ Some x → completes_sync e p ≡ false
+pub answers-no_ac : (h : Header) (past : Trace) (e : Event) (x : Transaction) (p : ℕ) → responding h past e ≡ Some x → completes_sync e p ≡ false
 answers-no_ac h past (Ac q addr snoop) x p a = cc
 answers-no_ac h past e x p a = refl
 

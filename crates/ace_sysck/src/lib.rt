@@ -8,6 +8,7 @@ mod kinds;
 mod messages;
 mod monitors;
 mod plain_grants;
+mod plain_answers;
 mod registrations;
 mod results;
 mod rules;
@@ -17,4 +18,5 @@ mod words;
 
 pub use barriers::OpenPair;
 pub use inboxes::Message;
+pub use plain_answers::keeps_plain_beat;
 pub use system::SysCheck;

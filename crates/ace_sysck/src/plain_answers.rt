@@ -1,0 +1,23 @@
+//! The rules of the share that look at an answer to a plain transaction.
+
+ghost use Rattle.std.specs.Prelude.{◌≡◌, ℕ, Bool, Some, is_none};
+ghost use Rattle.ace_codes.specs.declared.kind.ArKind.{ArKind};
+ghost use Rattle.ace_event.specs.declared.event.Channel.TheVariants.{Read};
+ghost use Rattle.ace_event.specs.declared.event.Event.TheVariants.{R};
+ghost use Rattle.ace_model.specs.Accepted.{least_of};
+ghost use Rattle.ace_model.specs.Shares.{system_rules};
+ghost use Rattle.ace_model.specs.Transactions.{outstanding};
+ghost use Rattle.ace_model.specs.declared.transactions.Transaction.{Transaction};
+ghost use Rattle.ace_portck.specs.Plain.{plain_read};
+ghost use Rattle.ace_portck.specs.Targets.{Recording};
+
+use ace_codes::low_bits;
+
+/// An R of a plain read keeps the rules of the share: of these only K21 looks at it, and asks for OKAY.
+#[inline(always)]
+pub fn keeps_plain_beat(resp: u8) -> bool
+    ensures { (r : Recording) (port id : ℕ) (last : Bool) (word : ℕ) (x : Transaction) (k : ArKind) → outstanding r.header r.past port Read id ≡ Some x
+        → plain_read x ≡ Some k → result ≡ is_none (least_of system_rules r.header r.past (R port id resp last word)) }
+{
+    low_bits(resp) == 0
+}
