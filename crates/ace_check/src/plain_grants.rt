@@ -27,7 +27,10 @@ impl Shares {
             return false;
         }
         let place = self.lines.place(Some(x.addr));
-        if !(self.lines.keeps_grant(&x, place) && self.system.keeps_grant(&x)) {
+        if !self.lines.keeps_grant(&x, place) {
+            return false;
+        }
+        if !self.system.keeps_grant(&x) {
             return false;
         }
         self.ports.apply(grant);

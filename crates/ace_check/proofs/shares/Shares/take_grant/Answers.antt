@@ -1,0 +1,28 @@
+use Rattle.std.proofs.Common.{◌≡◌, Some, option_map, sym, ap, ◌∙◌}
+use Rattle.std.specs.Option.{option_copied}
+use Rattle.ace_event.specs.declared.event.Event.TheVariants.{G}
+use Rattle.ace_model.specs.Transactions.{outstanding}
+use Rattle.ace_portck.specs.Targets.{Recording, progress_of}
+use Rattle.ace_sysck.proofs.PlainGrants.{still-at_grant}
+use Rattle.ace_sysck.proofs.Steps.{progress_from}
+use Rattle.ace_check.proofs.PlainGrants.{keeps-all}
+use Rattle.ace_check.proofs.shares.Shares.take_grant.Goals as goal
+
+pub returns-clause-taken : goal.returns-clause-taken
+returns-clause-taken c = λ h past s few taken.
+    let g = c.args.grant.now in
+    let r : Recording = record { header = h; past = past } in
+    let y = c.in-Some.progress.now in
+    let there : option_map (progress_of h past) (outstanding h past g.port g.chan g.id) ≡ Some y = sym (c.outstanding.ensures r s.ports) ∙ ap option_copied c.in-Some.is in
+    let out = progress_from h past (outstanding h past g.port g.chan g.id) y there in
+    let at = c.place-place.ensures in
+    let lines = sym (c.keeps_grant.ensures r g.port g.chan g.id s.lines out at) ∙ c.if-not-keeps_grant.false in
+    let system = sym (c.keeps_grant-2.ensures r g.port g.chan g.id s.system out) ∙ c.if-not-keeps_grant-2.false in
+    let fine = keeps-all h past g.port g.chan g.id y.transaction s.ports.accepted out lines system in (
+      fine,
+      record {
+        ports = c.apply.ensures.stands r (record { stands = s.ports; room = λ p k own there. tt; keeps = fine; few = few });
+        lines = c.hear_grant.ensures r g.port g.chan g.id s.lines out at fine few;
+        system = still-at_grant c.args.self.now.system r g.port g.chan g.id y.transaction s.system out c.if-x.false fine few;
+      },
+    )
