@@ -2,6 +2,8 @@
 #![tactic(auto)]
 
 mod checker;
+mod plain_loads;
+mod plain_writes;
 mod shares;
 
 pub use checker::{CheckErr, Checker, Step};

@@ -13,6 +13,8 @@ mod lines;
 mod looks;
 mod memory;
 mod memory_writes;
+mod plain_load;
+mod plain_write;
 mod record;
 mod replies;
 mod rules;

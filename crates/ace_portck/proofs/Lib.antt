@@ -14,3 +14,4 @@ pub mod AllPorts
 pub mod Rooms
 pub mod LineMaps
 pub mod BarrierBars
+pub mod PlainEvents
