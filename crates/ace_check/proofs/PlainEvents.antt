@@ -1,5 +1,5 @@
 -- An event breaks no rule where it breaks none of each share.
-use Rattle.std.proofs.Common.{◌≡◌, ◌<◌, ◌-◌, ◌^◌, ◌∷◌, ℕ, Bool, true, false, ◌&&◌, nat_lt, if◌then◌else◌, Option, Some, None, is_none, length, refl, sym, ap, ◌∙◌, inl, inr}
+use Rattle.std.proofs.Common.{◌≡◌, ◌<◌, ◌-◌, ◌^◌, ℕ, Bool, true, false, ◌&&◌, nat_lt, Option, Some, None, is_none, length, refl, sym, ap, ◌∙◌, inl, inr}
 use Rattle.std.proofs.lemmas.Bool.{cases_Bool}
 use Rattle.ace_event.specs.declared.event.Event.{Event}
 use Rattle.ace_event.specs.declared.event.Event.TheVariants.{Ac}

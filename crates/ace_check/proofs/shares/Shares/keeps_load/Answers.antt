@@ -12,8 +12,8 @@ returns-then-may_load c = λ h past s.
     let e = L l.port l.addr l.w l.x l.word in
     let r : Recording = record { header = h; past = past } in
     let may = c.if-may_load.true in
-    let held = c.may_load-2.ensures r s.lines (c.may_load.ensures.first r s.ports may) in
-    and-true c.may_load-2.result ∙ keeps-all h past e true c.may_load-2.result true (sym may ∙ c.may_load.ensures.keeps r s.ports) held refl
+    let held = c.may_load-then-may_load.ensures r s.lines (c.may_load.ensures.first r s.ports may) in
+    and-true c.may_load-then-may_load.result ∙ keeps-all h past e true c.may_load-then-may_load.result true (sym may ∙ c.may_load.ensures.keeps r s.ports) held refl
 
 pub returns-else-may_load : goal.returns-else-may_load
 returns-else-may_load c = λ h past s.
