@@ -3,6 +3,8 @@
 
 mod checker;
 mod plain_grants;
+mod plain_loads;
+mod plain_writes;
 mod shares;
 
 pub use checker::{CheckErr, Checker, Step};

@@ -19,12 +19,16 @@ pub mod Received
 pub mod KnownLines
 pub mod Places
 pub mod AllLines
+-- Events that move nothing of any line.
+pub mod StillLines
 pub mod Rooms
 -- What the rules say, in the words of what is kept.
 pub mod RuleLaws
 pub mod GrantLaws
 pub mod ReplyLaws
 pub mod WriteLaws
+-- What a W and an L ask of a line.
+pub mod PlainEvents
 -- What the interconnect looks up of a line.
 pub mod LineLooks
 -- What a G grants, by what is kept of the line.

@@ -15,6 +15,8 @@ mod memory;
 mod memory_writes;
 mod plain_beats;
 mod plain_grants;
+mod plain_load;
+mod plain_write;
 mod record;
 mod replies;
 mod rules;

@@ -7,6 +7,8 @@ mod no_memory;
 mod one_port;
 mod opening;
 mod pending;
+mod plain_load;
+mod plain_write;
 mod port;
 mod port_rules;
 mod ports;

@@ -1,9 +1,10 @@
 -- Each kind of event moves some groups, and the others stand after it as they are.
-use Rattle.std.proofs.Common.{◌≡◌, ℕ, Bool, true, false, None, refl}
+use Rattle.std.proofs.Common.{◌≡◌, ◌<◌, ◌-◌, ◌^◌, ℕ, Bool, true, false, None, length, refl}
 use Rattle.ace_codes.specs.declared.state.LineState.{LineState}
-use Rattle.ace_model.proofs.Terms.{Event, Channel, Ar, Aw, R, B, Rk, Wk, Ac, Cr, G, S, L, D, Trace, given}
+use Rattle.ace_model.proofs.Terms.{Event, Channel, Ar, Aw, R, B, Rk, Wk, Ac, Cr, Cd, G, M, S, L, D, Op, W, Trace, given}
+use Rattle.ace_model.specs.Accepted.{least_broken}
 use Rattle.ace_portck.specs.declared.target.Target.{Target}
-use Rattle.ace_portck.specs.Targets.{Recording, after}
+use Rattle.ace_portck.specs.Targets.{Recording, after, target_of}
 use Rattle.ace_sysck.specs.declared.barriers.Barriers.{Barriers}
 use Rattle.ace_sysck.specs.declared.monitors.Monitors.{Monitors}
 use Rattle.ace_sysck.specs.declared.results.Results.{Results}
@@ -11,6 +12,7 @@ use Rattle.ace_sysck.specs.declared.registrations.Registrations.{Registrations}
 use Rattle.ace_sysck.specs.declared.messages.Messages.{Messages}
 use Rattle.ace_sysck.specs.declared.inboxes.Inboxes.{Inboxes}
 use Rattle.ace_sysck.specs.declared.syncs.Syncs.{Syncs}
+use Rattle.ace_sysck.specs.declared.system.SysCheck.{SysCheck}
 use Rattle.ace_sysck.specs.Barriers.{BarriersStand}
 use Rattle.ace_sysck.specs.Monitors.{MonitorsStand}
 use Rattle.ace_sysck.specs.Results.{ResultsStand}
@@ -19,6 +21,7 @@ use Rattle.ace_sysck.specs.Messages.{MessagesStand}
 use Rattle.ace_sysck.specs.Inboxes.{InboxesStand}
 use Rattle.ace_sysck.specs.Syncs.{SyncsStand}
 use Rattle.ace_sysck.specs.Events.{is_issue, is_response}
+use Rattle.ace_sysck.specs.Stands.{Stands}
 use Rattle.ace_sysck.specs.Steps.{IsStep}
 use Rattle.ace_sysck.proofs.BarrierSteps.{barriers_stay}
 use Rattle.ace_sysck.proofs.MonitorSteps.{monitors_other}
@@ -167,3 +170,38 @@ moves-other (Ac p addr snoop) ar aw r b ac cr g = absurd (ac p addr snoop refl)
 moves-other (Cr p resp st) ar aw r b ac cr g = absurd (cr p resp st refl)
 moves-other (G p c i) ar aw r b ac cr g = absurd (g p c i refl)
 moves-other e ar aw r b ac cr g = record { barriers = refl; results = refl; registrations = refl; messages = refl; inboxes = refl; syncs = refl }
+
+-- the event moves nothing of the system
+abbrev pub moves_nothing : Event → Bool
+moves_nothing (W p strb last word) = true
+moves_nothing (Cd p last word) = true
+moves_nothing (M p c i line) = true
+moves_nothing (Op p k res) = true
+moves_nothing _ = false
+
+moved-none : (e : Event) → moves_nothing e ≡ true → MovesMonitors e × (moves_monitors e ≡ false)
+moved-none (W p strb last word) n = (record { barriers = refl; results = refl; registrations = refl; messages = refl; inboxes = refl; syncs = refl }, refl)
+moved-none (Cd p last word) n = (record { barriers = refl; results = refl; registrations = refl; messages = refl; inboxes = refl; syncs = refl }, refl)
+moved-none (M p c i line) n = (record { barriers = refl; results = refl; registrations = refl; messages = refl; inboxes = refl; syncs = refl }, refl)
+moved-none (Op p k res) n = (record { barriers = refl; results = refl; registrations = refl; messages = refl; inboxes = refl; syncs = refl }, refl)
+moved-none e n = cc
+
+-- all groups stand after it as they are
+pub system_still : (s : SysCheck) (r : Recording) (e : Event) → moves_nothing e ≡ true → Stands s r → least_broken r.header r.past e ≡ None
+    → length r.past < 2 ^ 64 - 1 → Stands s (after r e)
+system_still s r e nothing st fine few =
+    let t = target_of r.header r.past e in
+    let n = moved-none e nothing in
+    let step : IsStep r e t = record { header = st.ports; accepted = (st.accepted, fine); target = refl; few = few } in
+    record {
+      header = st.header;
+      ports = st.ports;
+      accepted = step.accepted;
+      barriers = barriers_still r s.barriers e t step n.0.barriers st.barriers;
+      monitors = monitors_still r s.monitors e n.1 st.monitors;
+      results = results_still r s.results e n.0.results st.results;
+      registrations = registrations_still r s.registrations e t step n.0.registrations st.registrations;
+      messages = messages_still r s.messages e t step n.0.messages st.messages;
+      inboxes = inboxes_still r s.inboxes e t step n.0.inboxes st.inboxes;
+      syncs = syncs_still r s.syncs e t step n.0.syncs st.syncs;
+    }

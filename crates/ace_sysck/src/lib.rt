@@ -9,6 +9,7 @@ mod messages;
 mod monitors;
 mod plain_grants;
 mod plain_answers;
+mod plain_load;
 mod registrations;
 mod results;
 mod rules;

@@ -40,8 +40,10 @@ fn left_state(event: &Event) -> Option<(u8, LineState)>
 }
 
 impl Monitors {
-    ghost use Rattle.std.specs.Prelude.{◌≡◌, [], IfOk, None, slice_set, slice_index_or};
+    ghost use Rattle.std.specs.Prelude.{◌≡◌, ◌∷◌, ℕ, [], IfOk, None, slice_set, slice_index_or};
+    ghost use Rattle.ace_event.specs.declared.event.Event.TheVariants.{L};
     ghost use Rattle.ace_event.specs.declared.header.Header.{Header};
+    ghost use Rattle.ace_model.specs.Accepted.{IsAccepted};
     ghost use Rattle.ace_model.specs.CacheRules.{k33};
     ghost use Rattle.ace_portck.specs.Targets.{Recording, after};
     ghost use Rattle.ace_sysck.specs.Monitors.{MonitorsStand, MayHearMonitors, kept_after};
@@ -95,17 +97,24 @@ impl Monitors {
         self.set(port, kept);
     }
 
+    /// The monitors after an L: where it is exclusive, that of its port is set for the line.
+    #[inline(always)]
+    pub fn load(&mut self, port: u8, addr: u32, x: bool)
+        ensures { (r : Recording) (w word : ℕ) → IsAccepted r.header (L port addr w x word ∷ r.past) → MonitorsStand r self.old
+            → MonitorsStand (after r (L port addr w x word)) self.new }
+    {
+        if x {
+            self.set(port, Some(addr));
+        }
+    }
+
     /// The monitors after the event.
     #[inline(always)]
     pub fn hear(&mut self, event: &Event, target: &Target)
         ensures { (r : Recording) → MayHearMonitors r self.old event.now target.now → MonitorsStand (after r event.now) self.new }
     {
         match *event {
-            Event::L { port, addr, x, .. } => {
-                if x {
-                    self.set(port, Some(addr));
-                }
-            }
+            Event::L { port, addr, x, .. } => self.load(port, addr, x),
             Event::D { port, x, .. } => {
                 if x {
                     self.set(port, None);

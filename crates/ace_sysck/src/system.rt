@@ -21,7 +21,7 @@ use std::alloc::Global;
 pub struct SysCheck {
     header: Header,
     pub(crate) barriers: Barriers,
-    monitors: Monitors,
+    pub(crate) monitors: Monitors,
     results: Results,
     registrations: Registrations,
     messages: Messages,

@@ -5,39 +5,30 @@ use Rattle.ace_portck.specs.declared.target.Target.{Target}
 use Rattle.ace_sysck.specs.Monitors.{MonitorsStand, left_state}
 use Rattle.ace_portck.specs.Targets.{after}
 use Rattle.ace_sysck.proofs.Steps.{port_within}
-use Rattle.ace_sysck.proofs.MonitorSteps.{monitors_load, monitors_store, monitors_exclusive_load, monitors_exclusive_store, monitors_leave, monitors_other, left_at}
+use Rattle.ace_sysck.proofs.MonitorSteps.{monitors_store, monitors_exclusive_store, monitors_leave, monitors_other, left_at}
 use Rattle.ace_sysck.proofs.monitors.Monitors.hear.Goals as goal
+
+pub returns-in-L : goal.returns-in-L
+returns-in-L c = λ r q.
+    let i = c.in-L in
+    let e : Event = L i.port i.addr i.w i.x i.word in
+    let accepted : IsAccepted r.header (e ∷ r.past) = subst (λ (v : Event). IsAccepted r.header (v ∷ r.past)) i.is q.step.accepted in
+    subst (λ (v : Event). MonitorsStand (after r v) c.load.new.self) (sym i.is) (c.load.ensures r i.w i.word accepted q.stands)
 
 pub returns-then-x : goal.returns-then-x
 returns-then-x c = λ r q.
-    let i = c.in-L in
-    let e : Event = L i.port i.addr i.w true i.word in
-    let is : c.args.event.now ≡ e = i.is ∙ ap (λ b. L i.port i.addr i.w b i.word) c.if-x.true in
+    let i = c.in-D in
+    let e : Event = D i.port i.addr i.strobe true i.line in
+    let is : c.args.event.now ≡ e = i.is ∙ ap (λ b. D i.port i.addr i.strobe b i.line) c.if-x.true in
     let accepted : IsAccepted r.header (e ∷ r.past) = subst (λ (v : Event). IsAccepted r.header (v ∷ r.past)) is q.step.accepted in
     subst (λ (v : Event). MonitorsStand (after r v) c.set.new.self) (sym is)
-    (monitors_exclusive_load r c.args.self.now c.set.new.self i.port i.addr i.w i.word accepted q.stands
+    (monitors_exclusive_store r c.args.self.now c.set.new.self i.port i.addr i.strobe i.line q.stands
     (port_within r.header r.past e i.port accepted refl) c.set.ensures)
 
 pub returns-else-x : goal.returns-else-x
 returns-else-x c = λ r q.
-    let i = c.in-L in
-    let is : c.args.event.now ≡ L i.port i.addr i.w false i.word = i.is ∙ ap (λ b. L i.port i.addr i.w b i.word) c.if-x.false in
-    subst (λ (v : Event). MonitorsStand (after r v) c.args.self.now) (sym is) (monitors_load r c.args.self.now i.port i.addr i.w i.word q.stands)
-
-pub returns-then-x-2 : goal.returns-then-x-2
-returns-then-x-2 c = λ r q.
     let i = c.in-D in
-    let e : Event = D i.port i.addr i.strobe true i.line in
-    let is : c.args.event.now ≡ e = i.is ∙ ap (λ b. D i.port i.addr i.strobe b i.line) c.if-x-2.true in
-    let accepted : IsAccepted r.header (e ∷ r.past) = subst (λ (v : Event). IsAccepted r.header (v ∷ r.past)) is q.step.accepted in
-    subst (λ (v : Event). MonitorsStand (after r v) c.set-then-x-2.new.self) (sym is)
-    (monitors_exclusive_store r c.args.self.now c.set-then-x-2.new.self i.port i.addr i.strobe i.line q.stands
-    (port_within r.header r.past e i.port accepted refl) c.set-then-x-2.ensures)
-
-pub returns-else-x-2 : goal.returns-else-x-2
-returns-else-x-2 c = λ r q.
-    let i = c.in-D in
-    let is : c.args.event.now ≡ D i.port i.addr i.strobe false i.line = i.is ∙ ap (λ b. D i.port i.addr i.strobe b i.line) c.if-x-2.false in
+    let is : c.args.event.now ≡ D i.port i.addr i.strobe false i.line = i.is ∙ ap (λ b. D i.port i.addr i.strobe b i.line) c.if-x.false in
     subst (λ (v : Event). MonitorsStand (after r v) c.args.self.now) (sym is) (monitors_store r c.args.self.now i.port i.addr i.strobe i.line q.stands)
 
 pub returns-in-Some : goal.returns-in-Some

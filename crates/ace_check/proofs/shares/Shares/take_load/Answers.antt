@@ -1,0 +1,21 @@
+use Rattle.std.proofs.Common.{refl, sym, ◌∙◌}
+use Rattle.ace_event.specs.declared.event.Event.TheVariants.{L}
+use Rattle.ace_portck.specs.Targets.{Recording}
+use Rattle.ace_lineck.proofs.StillLines.{lines-still}
+use Rattle.ace_check.proofs.PlainEvents.{none-is, may-apply}
+use Rattle.ace_check.proofs.shares.Shares.take_load.Goals as goal
+
+pub returns-clause-taken : goal.returns-clause-taken
+returns-clause-taken c = λ h past s few taken.
+    let l = c.args.load.now in
+    let e = L l.port l.addr l.w l.x l.word in
+    let r : Recording = record { header = h; past = past } in
+    let k = c.args.self.now in
+    let fine = none-is _ (sym (c.keeps_load.ensures h past s) ∙ c.if-not-keeps_load.false) in (
+      fine,
+      record {
+        ports = c.apply.ensures.stands r (may-apply k.ports h past e s.ports fine few (λ p addr snoop is. cc));
+        lines = lines-still k.lines r e refl s.lines fine;
+        system = c.load.ensures r s.system fine few;
+      },
+    )

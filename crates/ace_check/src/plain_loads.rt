@@ -1,0 +1,38 @@
+//! Loads, taken by the short way: an L moves nothing but what is kept of its port, and the port's monitor where it is exclusive.
+
+ghost use Rattle.std.specs.Prelude.{◌≡◌, ◌<◌, ◌-◌, ◌^◌, ◌∷◌, true, false, None, is_none, length};
+ghost use Rattle.ace_event.specs.declared.event.Event.TheVariants.{L};
+ghost use Rattle.ace_event.specs.declared.header.Header.{Header};
+ghost use Rattle.ace_model.specs.Accepted.{least_broken};
+ghost use Rattle.ace_model.specs.Trace.{Trace};
+ghost use Rattle.ace_check.specs.Shares.{SharesTell};
+
+use crate::shares::Shares;
+use ace_portck::event_kinds;
+
+impl Shares {
+    /// The L breaks no rule. Only K1, K3, K30 and K31 look at an L.
+    #[inline(always)]
+    fn keeps_load(&self, load: &event_kinds::L) -> bool
+        ensures { (h : Header) (past : Trace) → SharesTell self.now h past
+            → result ≡ is_none (least_broken h past (L load.now.port load.now.addr load.now.w load.now.x load.now.word)) }
+    {
+        self.ports.may_load(load) && self.lines.may_load(load)
+    }
+
+    /// Takes an L that breaks no rule. If it isn't taken, nothing has changed.
+    #[inline(always)]
+    pub(crate) fn take_load(&mut self, load: &event_kinds::L) -> bool
+        ensures taken { (h : Header) (past : Trace) → SharesTell self.old h past → length past < 2 ^ 64 - 1 → result ≡ true
+            → (least_broken h past (L load.now.port load.now.addr load.now.w load.now.x load.now.word) ≡ None)
+            × SharesTell self.new h (L load.now.port load.now.addr load.now.w load.now.x load.now.word ∷ past) }
+        ensures stays { result ≡ false → self.new ≡ self.old }
+    {
+        if !self.keeps_load(load) {
+            return false;
+        }
+        self.ports.apply(load);
+        self.system.load(load);
+        true
+    }
+}

@@ -1,0 +1,40 @@
+//! Write data, taken by the short way: a W moves nothing but what is kept of its port.
+
+ghost use Rattle.std.specs.Prelude.{◌≡◌, ◌<◌, ◌-◌, ◌^◌, ◌∷◌, true, false, None, is_none, length};
+ghost use Rattle.ace_event.specs.declared.event.Event.TheVariants.{W};
+ghost use Rattle.ace_event.specs.declared.header.Header.{Header};
+ghost use Rattle.ace_model.specs.Accepted.{least_broken};
+ghost use Rattle.ace_model.specs.Trace.{Trace};
+ghost use Rattle.ace_check.specs.Shares.{SharesTell};
+
+use crate::shares::Shares;
+use ace_portck::event_kinds;
+
+impl Shares {
+    /// The W breaks no rule. Only K1 and K11 look at a W, and at its line only where its write is a memory update.
+    #[inline(always)]
+    fn keeps_write_beat(&self, beat: &event_kinds::W) -> bool
+        ensures { (h : Header) (past : Trace) → SharesTell self.now h past
+            → result ≡ is_none (least_broken h past (W beat.now.port beat.now.strb beat.now.last beat.now.word)) }
+    {
+        match self.ports.write_of(beat) {
+            None => false,
+            Some((write, number)) => self.lines.may_write_word(&write, number, beat.word),
+        }
+    }
+
+    /// Takes a W that breaks no rule. If it isn't taken, nothing has changed.
+    #[inline(always)]
+    pub(crate) fn take_write_beat(&mut self, beat: &event_kinds::W) -> bool
+        ensures taken { (h : Header) (past : Trace) → SharesTell self.old h past → length past < 2 ^ 64 - 1 → result ≡ true
+            → (least_broken h past (W beat.now.port beat.now.strb beat.now.last beat.now.word) ≡ None)
+            × SharesTell self.new h (W beat.now.port beat.now.strb beat.now.last beat.now.word ∷ past) }
+        ensures stays { result ≡ false → self.new ≡ self.old }
+    {
+        if !self.keeps_write_beat(beat) {
+            return false;
+        }
+        self.ports.apply(beat);
+        true
+    }
+}
