@@ -4,3 +4,4 @@ pub mod Grants
 pub mod Records
 pub mod Kept
 pub mod Stands
+pub mod PlainSnoops

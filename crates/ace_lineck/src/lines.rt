@@ -14,7 +14,7 @@ use std::alloc::Global;
 pub struct LineCheck {
     pub(crate) header: Header,
     alloc: Global,
-    lines: IndexMap<u32, LineRecord>,
+    pub(crate) lines: IndexMap<u32, LineRecord>,
     /// How many lines a transaction has named.
     known: usize,
     /// What is kept of every other line.

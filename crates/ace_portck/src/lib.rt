@@ -7,6 +7,7 @@ mod no_memory;
 mod one_port;
 mod opening;
 mod pending;
+mod plain_snoops;
 mod port;
 mod port_rules;
 mod ports;

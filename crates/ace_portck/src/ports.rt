@@ -25,12 +25,12 @@ use std::alloc::Global;
 /// What is kept of the ports of a trace, to tell what an event belongs to, and which rules about one port it breaks.
 #[derive(Drop)]
 pub struct PortCheck {
-    header: Header,
+    pub(crate) header: Header,
     /// How many events came.
     count: usize,
     opening: OpeningMemory,
     /// The ports of the header, in order.
-    ports: Vec<PortRecord>,
+    pub(crate) ports: Vec<PortRecord>,
     /// Any other port: no event of it is accepted.
     outside: PortRecord,
 }

@@ -23,5 +23,6 @@ pub mod ExclusiveLaws
 pub mod RuleLaws
 -- What each kind of event leaves as it is.
 pub mod Unmoved
+pub mod SnoopLaws
 pub mod Judging
 pub mod MessageCodes
