@@ -6,7 +6,7 @@ use Rattle.ace_model.specs.Accepted.{least_of}
 use Rattle.ace_model.specs.Shares.{line_rules}
 use Rattle.ace_model.specs.SnoopRules.{may_snoop}
 use Rattle.ace_model.specs.States.{owes_wack}
-use Rattle.ace_model.proofs.Terms.{Header, Trace, Ac, IsAccepted, implies, is_some_and, granted, has_failed, k13, may_snoop_for, snoops_a_line, was_snooped}
+use Rattle.ace_model.proofs.Terms.{Header, Trace, Ac, IsAccepted, implies, is_some_and, granted, has_failed, k13, snoops_a_line}
 use Rattle.ace_lineck.specs.declared.grant.Grant.{Grant}
 use Rattle.ace_lineck.specs.Grants.{GrantStands}
 use Rattle.ace_lineck.specs.Kept.{may_be_snooped}

@@ -1,6 +1,5 @@
 -- Line snoops: what the rules ask, and what they leave.
-use Rattle.std.proofs.Common.{◌≡◌, ℕ, Bool, true, false, not, ◌&&◌, if◌then◌else◌, ◌∷◌, length, Option, Some, None, is_none, slice_get, ◌<◌, ◌-◌, ◌^◌, refl, sym, ap, ◌∙◌, inl, inr}
-use Rattle.std.proofs.lemmas.Bool.{cases_Bool}
+use Rattle.std.proofs.Common.{◌≡◌, ℕ, Bool, true, false, not, if◌then◌else◌, ◌∷◌, length, Option, Some, None, is_none, slice_get, ◌<◌, ◌-◌, ◌^◌, refl, sym, ap, ◌∙◌}
 use Rattle.ace_codes.specs.declared.kind.SnoopKind.{SnoopKind}
 use Rattle.ace_codes.specs.declared.kind.SnoopKind.TheVariants as snoop
 use Rattle.ace_model.specs.Accepted.{least_of}
@@ -10,7 +9,6 @@ use Rattle.ace_model.specs.OrderRules.{completes_next, k39}
 use Rattle.ace_model.specs.Shares.{system_rules}
 use Rattle.ace_model.proofs.Terms.{Header, Trace, Ac, IsAccepted, ac_kind_of, implies, is_complete_snoop, is_message_snoop, is_none_or, is_some_and, k36, snoops_a_line}
 use Rattle.ace_portck.specs.Targets.{Recording, after, target_of}
-use Rattle.ace_portck.specs.declared.target.Target.{Target}
 use Rattle.ace_sysck.specs.declared.inboxes.Part.{Part}
 use Rattle.ace_sysck.specs.declared.system.SysCheck.{SysCheck}
 use Rattle.ace_sysck.specs.Inboxes.{forwards_in, next_in}

@@ -1,10 +1,8 @@
-use Rattle.std.proofs.Common.{◌≡◌, ◌∷◌, None, Some, ℕ, Bool, true, false, nat_eq, slice_get, length, refl, sym, ap, subst, ◌∙◌}
+use Rattle.std.proofs.Common.{◌≡◌, ◌∷◌, Some, true, false, nat_eq, slice_get, refl, sym, ◌∙◌}
 use Rattle.indexmap.specs.IndexMap.{get, values}
 use Rattle.ace_model.proofs.Terms.{Ac}
 use Rattle.ace_portck.specs.Targets.{target_of}
-use Rattle.ace_portck.specs.declared.target.Target.{Target}
-use Rattle.ace_lineck.specs.Grants.{GrantStands, IsGrantStep}
-use Rattle.ace_lineck.specs.Records.{LineStands, IsRecordStep}
+use Rattle.ace_lineck.specs.Grants.{GrantStands}
 use Rattle.ace_lineck.proofs.AllLines.{unplaced, placed, line-step, applied-else}
 use Rattle.ace_lineck.proofs.Places.{get-at, place-taken, written-here, written-there}
 use Rattle.ace_lineck.proofs.SnoopLaws.{may_apply, snooped_record, stays_known}
