@@ -5,6 +5,7 @@ mod checker;
 mod plain_grants;
 mod plain_loads;
 mod plain_writes;
+mod plain_snoops;
 mod shares;
 
 pub use checker::{CheckErr, Checker, Step};

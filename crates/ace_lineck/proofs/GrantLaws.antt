@@ -138,6 +138,19 @@ module _ (h : Header) (past : Trace) (a : IsAccepted h past) (l : ℕ) (g : Gran
           ∙ ap (λ st. not (owes_answer past q l) && not (owes_data past q l) && ((((q == g.transaction.port) || not (is_ace h q)) || is_invalid st) || was_snooped past q l)) (held.state q)
           ∙ ap (λ v. not (owes_answer past q v) && not (owes_data past q v) && ((((q == g.transaction.port) || not (is_ace h q)) || is_invalid (state_of h past q v)) || was_snooped past q v)) (sym addr-of)
 
+-- K13: whether the port may be snooped under the grant
+pub snooped-law : (h : Header) (past : Trace) → IsAccepted h past → (addr p snoop : ℕ) (failed : Bool) (g : Option Grant)
+    → ((y : Transaction) → granted h past addr ≡ Some y → failed ≡ has_failed past y) → GrantStands h past addr g
+    → may_be_snooped failed g p snoop ≡ (is_some_and (granted h past addr) (λ y. may_snoop_for past y p snoop) && not (was_snooped past p addr))
+snooped-law h past a addr p snoop failed None fails f = sym (ap (λ o. is_some_and o (λ y. may_snoop_for past y p snoop) && not (was_snooped past p addr)) f)
+snooped-law h past a addr p snoop failed (Some g) fails f =
+    let y = g.transaction in
+    let failed_is : failed ≡ has_failed past y = fails y f.granted in
+    ap (λ b. (((not (y.port == p) && has_snoop_code y snoop) && not b) && not g.begun) && is_unsnooped (stage_at g.stages p)) failed_is
+    ∙ ap (λ b. (((not (y.port == p) && has_snoop_code y snoop) && not (has_failed past y)) && not b) && is_unsnooped (stage_at g.stages p)) f.begun
+    ∙ ap (λ b. may_snoop_for past y p snoop && b) (ap is_unsnooped (f.stages p) ∙ unsnooped-is h past a p addr)
+    ∙ sym (ap (λ o. is_some_and o (λ v. may_snoop_for past v p snoop) && not (was_snooped past p addr)) f.granted)
+
 module _ (h : Header) (past : Trace) (t : Target) (x : LineRecord) where
   -- K12
   pub k12-law : (p : ℕ) (c : Channel) (i : ℕ) → IsNext h past (G p c i) t x
@@ -164,7 +177,7 @@ module _ (h : Header) (past : Trace) (t : Target) (x : LineRecord) where
   k13-law p addr snoop failed s fails =
       elim (cases_Bool (snoops_a_line snoop)) [
         | inr n ↦ rw n refl
-        | inl line ↦ ap (implies (snoops_a_line snoop)) (ap (λ b. b && not (is_some_and t.own (λ y. not (is_read y.transaction.chan) && y.complete))) (snooped x.grant (s.line addr (on line)).grant line)
+        | inl line ↦ ap (implies (snoops_a_line snoop)) (ap (λ b. b && not (is_some_and t.own (λ y. not (is_read y.transaction.chan) && y.complete))) (snooped-law h past s.accepted addr p snoop failed x.grant (λ y there. fails addr (on line) ∙ ap (λ o. is_some_and o (has_failed past)) there) (s.line addr (on line)).grant)
             ∙ ap (λ b. (is_some_and (granted h past addr) (λ y. may_snoop_for past y p snoop) && not (was_snooped past p addr)) && not b) (own line))
       ]
     where
@@ -184,17 +197,6 @@ module _ (h : Header) (past : Trace) (t : Target) (x : LineRecord) where
               ≡ is_some_and o (λ y. not (is_read y.chan) && is_complete past y.port y.chan y.id)
           by None = refl
           by (Some y) = refl
-
-      snooped : (g : Option Grant) → GrantStands h past addr g → snoops_a_line snoop ≡ true
-          → may_be_snooped failed g p snoop ≡ (is_some_and (granted h past addr) (λ y. may_snoop_for past y p snoop) && not (was_snooped past p addr))
-      snooped None f line = sym (ap (λ o. is_some_and o (λ y. may_snoop_for past y p snoop) && not (was_snooped past p addr)) f)
-      snooped (Some g) f line =
-          let y = g.transaction in
-          let failed_is : failed ≡ has_failed past y = fails addr (on line) ∙ ap (λ o. is_some_and o (has_failed past)) f.granted in
-          ap (λ b. (((not (y.port == p) && has_snoop_code y snoop) && not b) && not g.begun) && is_unsnooped (stage_at g.stages p)) failed_is
-          ∙ ap (λ b. (((not (y.port == p) && has_snoop_code y snoop) && not (has_failed past y)) && not b) && is_unsnooped (stage_at g.stages p)) f.begun
-          ∙ ap (λ b. may_snoop_for past y p snoop && b) (ap is_unsnooped (f.stages p) ∙ unsnooped-is h past s.accepted p addr)
-          ∙ sym (ap (λ o. is_some_and o (λ v. may_snoop_for past v p snoop) && not (was_snooped past p addr)) f.granted)
 
   -- K18 of a line
   module _ (p i resp : ℕ) (last : Bool) (word : ℕ) (s : IsNext h past (R p i resp last word) t x) where

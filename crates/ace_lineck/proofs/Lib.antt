@@ -25,6 +25,7 @@ pub mod Rooms
 -- What the rules say, in the words of what is kept.
 pub mod RuleLaws
 pub mod GrantLaws
+pub mod SnoopLaws
 pub mod ReplyLaws
 pub mod WriteLaws
 -- What a W and an L ask of a line.

@@ -5,3 +5,4 @@ pub mod Records
 pub mod Kept
 pub mod Stands
 pub mod Beats
+pub mod PlainSnoops

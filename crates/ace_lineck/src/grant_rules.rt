@@ -70,7 +70,7 @@ fn is_sending(stage: Stage) -> bool
 
 /// Another port may be snooped with this code under the grant.
 #[inline(always)]
-fn may_be_snooped(grant: &Option<Grant>, failed: bool, port: u8, snoop: u8) -> bool
+pub fn may_be_snooped(grant: &Option<Grant>, failed: bool, port: u8, snoop: u8) -> bool
     ensures { result ≡ may_be_snooped failed grant.now port snoop }
 {
     match grant {

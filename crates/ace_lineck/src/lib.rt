@@ -17,6 +17,7 @@ mod plain_beats;
 mod plain_grants;
 mod plain_load;
 mod plain_write;
+mod plain_snoops;
 mod record;
 mod replies;
 mod rules;

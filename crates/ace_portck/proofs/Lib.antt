@@ -4,6 +4,7 @@ pub mod Few
 pub mod Heard
 pub mod Stays
 pub mod Found
+pub mod SnoopLaws
 pub mod SnoopSteps
 pub mod WriteLaws
 pub mod WriteSteps

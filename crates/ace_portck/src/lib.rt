@@ -9,6 +9,7 @@ mod opening;
 mod pending;
 mod plain_load;
 mod plain_write;
+mod plain_snoops;
 mod port;
 mod port_rules;
 mod ports;

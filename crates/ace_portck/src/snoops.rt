@@ -26,7 +26,7 @@ fn first(queue: &VecDeque<Snoop>) -> Option<Snoop>
 }
 
 impl SnoopQueues {
-    ghost use Rattle.std.specs.Prelude.{ℕ, Bool, length, ◌∷◌, IfOk, IsOk, OnOk, OnErr, Some, []};
+    ghost use Rattle.std.specs.Prelude.{ℕ, Bool, true, length, ◌∷◌, IfOk, IsOk, OnOk, OnErr, Some, []};
     ghost use Rattle.ace_codes.specs.declared.state.LineState.{LineState};
     ghost use Rattle.ace_event.specs.declared.event.Event.TheVariants.{Ac, Cd, Cr};
     ghost use Rattle.ace_event.specs.declared.header.Header.{Header};
@@ -113,6 +113,15 @@ impl SnoopQueues {
             Event::Ac { .. } => self.make_room(),
             _ => Ok(()),
         }
+    }
+
+    /// There is room for one more snoop, and for its data.
+    #[inline(always)]
+    pub fn has_room_for_one(&self) -> bool
+        ensures { result ≡ true → HasRoomForOne self.now }
+    {
+        let under_way = self.waiting.len() + self.sending.len();
+        under_way < self.waiting.capacity() && under_way < self.sending.capacity()
     }
 
     /// Hears an event of the port that keeps the rules, with `place` events before it. It takes no memory.

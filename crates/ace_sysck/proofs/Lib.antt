@@ -26,5 +26,6 @@ pub mod Unmoved
 pub mod PlainGrants
 -- What an answer to a plain transaction leaves, and the rules that look at it.
 pub mod PlainAnswers
+pub mod SnoopLaws
 pub mod Judging
 pub mod MessageCodes

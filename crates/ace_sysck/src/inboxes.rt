@@ -199,7 +199,7 @@ impl Inboxes {
     }
 
     /// The part that is forwarded to the port next.
-    fn next_of(&self, port: u8) -> Option<Part>
+    pub(crate) fn next_of(&self, port: u8) -> Option<Part>
         ensures { result ≡ next_in (slice_get self.now.ports.items port) }
     {
         match self.ports.get(port as usize) {

@@ -10,6 +10,7 @@ mod monitors;
 mod plain_grants;
 mod plain_answers;
 mod plain_load;
+mod plain_snoops;
 mod registrations;
 mod results;
 mod rules;

@@ -25,7 +25,7 @@ pub struct SysCheck {
     results: Results,
     registrations: Registrations,
     messages: Messages,
-    inboxes: Inboxes,
+    pub(crate) inboxes: Inboxes,
     syncs: Syncs,
 }
 

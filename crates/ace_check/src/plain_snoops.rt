@@ -1,0 +1,59 @@
+//! Line snoops under the grants of plain transactions, taken by the short way.
+
+ghost use Rattle.std.specs.Prelude.{◌≡◌, ◌<◌, ◌-◌, ◌^◌, ◌∷◌, true, false, None, length};
+ghost use Rattle.ace_event.specs.declared.event.Event.TheVariants.{Ac};
+ghost use Rattle.ace_event.specs.declared.header.Header.{Header};
+ghost use Rattle.ace_model.specs.Accepted.{least_broken};
+ghost use Rattle.ace_model.specs.Snoops.{snoops_a_line};
+ghost use Rattle.ace_model.specs.Trace.{Trace};
+ghost use Rattle.ace_lineck.specs.Stands.{place_on};
+ghost use Rattle.std.specs.Prelude.{Some};
+ghost use Rattle.ace_check.specs.Shares.{SharesTell};
+
+use crate::shares::Shares;
+use ace_portck::event_kinds;
+use ace_portck::kinds::snoops_a_line;
+
+impl Shares {
+    /// The line snoop, whose line's record stands at the place, is one under the grant of a transaction with lock 0, and breaks no rule.
+    #[inline(always)]
+    fn keeps_snoop(&self, snoop: &event_kinds::Ac, place: Option<usize>) -> bool
+        ensures { (h : Header) (past : Trace) → SharesTell self.now h past → snoops_a_line snoop.now.snoop ≡ true
+            → place ≡ place_on self.now.lines (Some snoop.now.addr) → result ≡ true
+            → least_broken h past (Ac snoop.now.port snoop.now.addr snoop.now.snoop) ≡ None }
+    {
+        if !self.ports.keeps_line_snoop(snoop.port, snoop.addr) {
+            return false;
+        }
+        if !self.system.keeps_line_snoop(snoop.port) {
+            return false;
+        }
+        let owes = self.ports.owes_wack(snoop.port, snoop.addr);
+        self.lines
+            .keeps_plain_snoop(place, snoop.port, snoop.snoop, owes)
+    }
+
+    /// Takes an AC that snoops a line under the grant of a transaction with lock 0, if it breaks no rule and there is room for it. If it
+    /// isn't taken, nothing has changed.
+    #[inline(always)]
+    pub(crate) fn take_snoop(&mut self, snoop: &event_kinds::Ac) -> bool
+        ensures taken { (h : Header) (past : Trace) → SharesTell self.old h past → length past < 2 ^ 64 - 1 → result ≡ true
+            → (least_broken h past (Ac snoop.now.port snoop.now.addr snoop.now.snoop) ≡ None)
+            × SharesTell self.new h (Ac snoop.now.port snoop.now.addr snoop.now.snoop ∷ past) }
+        ensures stays { result ≡ false → self.new ≡ self.old }
+    {
+        if !snoops_a_line(snoop.snoop) {
+            return false;
+        }
+        let place = self.lines.place(Some(snoop.addr));
+        if !self.keeps_snoop(snoop, place) {
+            return false;
+        }
+        if !self.ports.has_room_for_snoop(snoop.port) {
+            return false;
+        }
+        self.ports.apply(snoop);
+        self.lines.hear_snoop(place, snoop.port);
+        true
+    }
+}

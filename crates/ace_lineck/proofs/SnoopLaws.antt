@@ -1,0 +1,89 @@
+-- Line snoops under the grant of a transaction with lock 0: K13, and what they leave.
+use Rattle.std.proofs.Common.{◌≡◌, ℕ, true, false, Bool, not, ◌&&◌, if◌then◌else◌, ◌∷◌, Option, Some, None, is_none, refl, sym, ap, ◌∙◌, inl, inr}
+use Rattle.std.proofs.lemmas.Bool.{cases_Bool, eq-eqb}
+use Rattle.ace_model.specs.declared.transactions.Transaction.{Transaction}
+use Rattle.ace_model.specs.Accepted.{least_of}
+use Rattle.ace_model.specs.Shares.{line_rules}
+use Rattle.ace_model.specs.SnoopRules.{may_snoop}
+use Rattle.ace_model.specs.States.{owes_wack}
+use Rattle.ace_model.proofs.Terms.{Header, Trace, Ac, IsAccepted, implies, is_some_and, granted, has_failed, k13, snoops_a_line}
+use Rattle.ace_lineck.specs.declared.grant.Grant.{Grant}
+use Rattle.ace_lineck.specs.Grants.{GrantStands}
+use Rattle.ace_lineck.specs.Kept.{may_be_snooped}
+use Rattle.ace_lineck.specs.PlainSnoops.{may_be_snooped_plainly}
+use Rattle.ace_lineck.proofs.GrantLaws.{snooped-law}
+use Rattle.ace_model.proofs.General.Options.{Some-injective}
+use Rattle.ace_portck.specs.Targets.{Recording, line_in, target_of}
+use Rattle.ace_lineck.specs.declared.lines.LineCheck.{LineCheck}
+use Rattle.ace_lineck.specs.declared.record.LineRecord.{LineRecord}
+use Rattle.ace_lineck.specs.declared.record.Use.{Use}
+use Rattle.ace_lineck.specs.declared.record.Use.TheVariants.{Unknown, Shareable, NoSnoop}
+use Rattle.ace_lineck.specs.PlainSnoops.{HearsSnoop}
+use Rattle.ace_lineck.specs.Records.{LineStands}
+use Rattle.ace_lineck.specs.Stands.{MayApply, place_on}
+use Rattle.ace_lineck.specs.Uses.{is_unknown}
+
+-- a transaction with lock 0 is no exclusive store
+no_failure : (past : Trace) (y : Transaction) → y.lock ≡ false → false ≡ has_failed past y
+no_failure past y unlocked = rw unlocked refl
+
+never : (b : Bool) → (not b && false) ≡ false
+never true = refl
+never false = refl
+
+turned : (owes may k : Bool) → k ≡ (may && not owes) → (not owes && may) ≡ is_none {T = ℕ} (if k then None else Some 13)
+turned true true k is = rw is refl
+turned true false k is = rw is refl
+turned false true k is = rw is refl
+turned false false k is = rw is refl
+
+pub plain_snoop-law : (h : Header) (past : Trace) → IsAccepted h past → (addr p snoop : ℕ) (owes : Bool) (g : Option Grant) → snoops_a_line snoop ≡ true
+    → owes ≡ owes_wack h past p addr → GrantStands h past addr g
+    → (not owes && may_be_snooped_plainly g p snoop) ≡ (is_some_and (granted h past addr) (λ x. not x.lock) && is_none (least_of line_rules h past (Ac p addr snoop)))
+plain_snoop-law h past a addr p snoop owes None line is f = never owes ∙ sym (ap (λ o. is_some_and o (λ (x : Transaction). not x.lock) && is_none (least_of line_rules h past (Ac p addr snoop))) f)
+plain_snoop-law h past a addr p snoop owes (Some g) line is f =
+    elim (cases_Bool g.transaction.lock) [
+      | inl t ↦
+          ap (λ b. not owes && (not b && may_be_snooped false (Some g) p snoop)) t ∙ never owes
+          ∙ sym (ap (λ o. is_some_and o (λ (x : Transaction). not x.lock) && is_none (least_of line_rules h past (Ac p addr snoop))) f.granted
+          ∙ ap (λ b. not b && is_none (least_of line_rules h past (Ac p addr snoop))) t)
+      | inr n ↦
+          let may = snooped-law h past a addr p snoop false (Some g)
+          (λ y there. no_failure past y (sym (ap (λ (v : Transaction). v.lock) (Some-injective g.transaction y (sym f.granted ∙ there))) ∙ n)) f in
+          let rule : k13 h past (Ac p addr snoop) ≡ (may_be_snooped false (Some g) p snoop && not owes) =
+          ap (λ b. implies b (may_snoop h past p addr snoop)) line ∙ ap (λ b. b && not (owes_wack h past p addr)) (sym may) ∙ ap (λ b. may_be_snooped false (Some g) p snoop && not b) (sym is) in
+          ap (λ b. not owes && (not b && may_be_snooped false (Some g) p snoop)) n
+          ∙ turned owes (may_be_snooped false (Some g) p snoop) (k13 h past (Ac p addr snoop)) rule
+          ∙ sym (ap (λ o. is_some_and o (λ (x : Transaction). not x.lock) && is_none (least_of line_rules h past (Ac p addr snoop))) f.granted
+          ∙ ap (λ b. not b && is_none (least_of line_rules h past (Ac p addr snoop))) n)
+    ]
+
+-- the line of a line snoop
+pub snoop_line : (h : Header) (past : Trace) (p addr snoop : ℕ) → snoops_a_line snoop ≡ true → line_in h past (Ac p addr snoop) ≡ Some addr
+snoop_line h past p addr snoop line = rw (eq-eqb p p (refl {a = p}), line) refl
+
+-- a line snoop that breaks no rule may be heard
+pub may_apply : (s : LineCheck) (r : Recording) (p addr snoop : ℕ) (place : Option ℕ) → HearsSnoop s r p addr snoop place
+    → MayApply s r (Ac p addr snoop) (target_of r.header r.past (Ac p addr snoop)) place
+may_apply s r p addr snoop place m = record {
+  stands = m.stands;
+  target = refl;
+  room = record { made = tt; at = m.at ∙ sym (ap (place_on s) (snoop_line r.header r.past p addr snoop m.line)) };
+  kept = m.kept;
+  few = m.few;
+}
+
+-- it leaves of its line what was kept, but for the grant
+pub snooped_record : (h : Header) (past : Trace) (l p addr snoop : ℕ) (x : LineRecord) (g : Option Grant) → LineStands h past l x
+    → GrantStands h (Ac p addr snoop ∷ past) l g → LineStands h (Ac p addr snoop ∷ past) l (record x { grant = g })
+snooped_record h past l p addr snoop x g s grant = record {
+  used = s.used;
+  memory = record { memory = s.memory.memory };
+  grant = grant;
+  holders = record { state = s.holders.state; copy = s.holders.copy; sent = s.holders.sent };
+}
+
+pub stays_known : (u : Use) → (is_unknown u && not (is_unknown u)) ≡ false
+stays_known Unknown = refl
+stays_known Shareable = refl
+stays_known NoSnoop = refl
