@@ -2,6 +2,7 @@
 #![tactic(auto)]
 
 mod checker;
+mod plain_addresses;
 mod shares;
 
 pub use checker::{CheckErr, Checker, Step};

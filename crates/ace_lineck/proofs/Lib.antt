@@ -29,3 +29,5 @@ pub mod WriteLaws
 pub mod LineLooks
 -- The least rule that an event breaks.
 pub mod Judging
+-- What the AR of a plain read asks of its line, which it leaves as it is.
+pub mod PlainAddresses

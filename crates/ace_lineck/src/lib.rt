@@ -13,6 +13,7 @@ mod lines;
 mod looks;
 mod memory;
 mod memory_writes;
+mod plain_addresses;
 mod record;
 mod replies;
 mod rules;

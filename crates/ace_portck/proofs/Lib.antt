@@ -15,3 +15,4 @@ pub mod Rooms
 pub mod LineMaps
 pub mod BarrierBars
 pub mod Plain
+pub mod PlainAddresses

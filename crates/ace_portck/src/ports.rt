@@ -27,14 +27,14 @@ use std::alloc::Global;
 /// What is kept of the ports of a trace, to tell what an event belongs to, and which rules about one port it breaks.
 #[derive(Drop)]
 pub struct PortCheck {
-    header: Header,
+    pub(crate) header: Header,
     /// How many events came.
     count: usize,
     opening: OpeningMemory,
     /// The ports of the header, in order.
-    ports: Vec<PortRecord>,
+    pub(crate) ports: Vec<PortRecord>,
     /// Any other port: no event of it is accepted.
-    outside: PortRecord,
+    pub(crate) outside: PortRecord,
 }
 
 /// The records of so many ports without events, each with room for so many snoops.
@@ -84,7 +84,11 @@ pub fn has_byte_id(event: &Event)
 
 /// The record of the port.
 #[inline(always)]
-fn record_of<'a>(ports: &'a [PortRecord], outside: &'a PortRecord, port: u8) -> &'a PortRecord
+pub(crate) fn record_of<'a>(
+    ports: &'a [PortRecord],
+    outside: &'a PortRecord,
+    port: u8,
+) -> &'a PortRecord
     ensures { result.now ≡ record_at ports.now outside.now port }
 {
     match ports.get(usize::from(port)) {

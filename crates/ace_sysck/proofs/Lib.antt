@@ -23,5 +23,7 @@ pub mod ExclusiveLaws
 pub mod RuleLaws
 -- What each kind of event leaves as it is.
 pub mod Unmoved
+-- What the AR of a plain read moves.
+pub mod PlainAddresses
 pub mod Judging
 pub mod MessageCodes

@@ -7,6 +7,7 @@ mod inboxes;
 mod kinds;
 mod messages;
 mod monitors;
+mod plain_addresses;
 mod registrations;
 mod results;
 mod rules;

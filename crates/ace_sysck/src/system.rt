@@ -22,7 +22,7 @@ pub struct SysCheck {
     header: Header,
     barriers: Barriers,
     monitors: Monitors,
-    results: Results,
+    pub(crate) results: Results,
     registrations: Registrations,
     messages: Messages,
     inboxes: Inboxes,
