@@ -6,6 +6,7 @@ mod plain_grants;
 mod plain_loads;
 mod plain_writes;
 mod plain_snoops;
+mod plain_addresses;
 mod shares;
 
 pub use checker::{CheckErr, Checker, Step};

@@ -130,7 +130,7 @@ same-true true = refl
 same-true false = refl
 
 -- a transaction goes with the use of its line exactly where it goes with each of the line
-uses-law : (h : Header) (past : Trace) → IsAccepted h past → (y : Transaction) → goes_with (use_of past y.addr) (is_no_snoop y) ≡ each_issued past (is_used_alike y)
+pub uses-law : (h : Header) (past : Trace) → IsAccepted h past → (y : Transaction) → goes_with (use_of past y.addr) (is_no_snoop y) ≡ each_issued past (is_used_alike y)
 uses-law h past a y = by (use_of past y.addr) (use-is past y.addr)
   where
     by : (u : Use) → UseIs past y.addr u → goes_with u (is_no_snoop y) ≡ each_issued past (is_used_alike y)

@@ -12,7 +12,7 @@ use ace_model::Transaction;
 use ace_portck::kinds::{read_kind, write_kind};
 
 #[inline(always)]
-fn is_no_snoop_read(kind: ArKind) -> bool
+pub fn is_no_snoop_read(kind: ArKind) -> bool
     ensures { result ≡ is_no_snoop_read kind }
 {
     matches!(kind, ArKind::ReadNoSnoop)

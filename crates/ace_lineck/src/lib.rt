@@ -18,6 +18,7 @@ mod plain_grants;
 mod plain_load;
 mod plain_write;
 mod plain_snoops;
+mod plain_addresses;
 mod record;
 mod replies;
 mod rules;

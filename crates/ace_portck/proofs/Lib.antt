@@ -17,3 +17,4 @@ pub mod LineMaps
 pub mod BarrierBars
 pub mod Plain
 pub mod PlainEvents
+pub mod PlainAddresses

@@ -13,3 +13,4 @@ pub mod OnePort
 pub mod Stands
 pub mod LineMaps
 pub mod Plain
+pub mod PlainAddresses

@@ -129,7 +129,7 @@ fn moved_channel(event: &Event) -> Option<Channel>
 }
 
 impl Transactions {
-    ghost use Rattle.std.specs.Prelude.{ℕ, true, not, [], IfOk};
+    ghost use Rattle.std.specs.Prelude.{ℕ, true, not, [], IfOk, is_none};
     ghost use Rattle.ace_event.specs.declared.header.Header.{Header};
     ghost use Rattle.ace_model.specs.AddressRules.{has_free_name, has_free_line, has_write, keeps_apart};
     ghost use Rattle.ace_model.specs.Trace.{is_none_or};
@@ -249,7 +249,16 @@ impl Transactions {
         self.named(x.chan, x.id).is_none()
     }
 
+    /// None is outstanding on the channel under the identifier.
+    #[inline(always)]
+    pub fn is_name_free(&self, chan: Channel, id: u8) -> bool
+        ensures { (h : Header) (past : Trace) (p : ℕ) → TransactionsStand h past p self.now → result ≡ is_none (outstanding h past p chan id) }
+    {
+        self.outstanding(chan, id).is_none()
+    }
+
     /// None on the line is outstanding.
+    #[inline(always)]
     pub fn is_line_free(&self, line: u32) -> bool
         ensures { (h : Header) (past : Trace) (p : ℕ) → TransactionsStand h past p self.now → result ≡ not (has_outstanding_on h past p line) }
     {

@@ -27,5 +27,7 @@ pub mod PlainGrants
 -- What an answer to a plain transaction leaves, and the rules that look at it.
 pub mod PlainAnswers
 pub mod SnoopLaws
+-- What the AR of a plain read moves.
+pub mod PlainAddresses
 pub mod Judging
 pub mod MessageCodes

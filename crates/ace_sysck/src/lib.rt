@@ -11,6 +11,7 @@ mod plain_grants;
 mod plain_answers;
 mod plain_load;
 mod plain_snoops;
+mod plain_addresses;
 mod registrations;
 mod results;
 mod rules;

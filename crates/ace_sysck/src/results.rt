@@ -13,7 +13,7 @@ pub struct Results {
 }
 
 impl Results {
-    ghost use Rattle.std.specs.Prelude.{◌≡◌, [], IfOk, slice_set, Option};
+    ghost use Rattle.std.specs.Prelude.{◌≡◌, [], IfOk, slice_set, Option, None};
     ghost use Rattle.ace_event.specs.declared.header.Header.{Header};
     ghost use Rattle.ace_model.specs.Exclusives.{passed_at_grant};
     ghost use Rattle.ace_portck.specs.Targets.{Recording, after};
@@ -51,6 +51,14 @@ impl Results {
         if slot < self.passed.len() {
             self.passed[slot] = passed;
         }
+    }
+
+    /// The port issues a read under the identifier.
+    #[inline(always)]
+    pub fn begin(&mut self, port: u8, id: u8)
+        ensures { self.new.passed.items ≡ slice_set self.old.passed.items (slot_of port id) None }
+    {
+        self.set(port, id, None);
     }
 
     /// The results after the event. `passes` says whether an exclusive store that it grants passes.

@@ -22,7 +22,7 @@ pub struct SysCheck {
     header: Header,
     pub(crate) barriers: Barriers,
     pub(crate) monitors: Monitors,
-    results: Results,
+    pub(crate) results: Results,
     registrations: Registrations,
     messages: Messages,
     pub(crate) inboxes: Inboxes,

@@ -1,0 +1,116 @@
+-- The AR of a plain read: it breaks no rule of the share, and moves the results alone.
+use Rattle.std.proofs.Common.{◌≡◌, ◌<◌, ◌-◌, ◌^◌, ℕ, Bool, true, false, not, ◌&&◌, ◌||◌, if◌then◌else◌, ◌∷◌, length, Option, Some, None, slice_set, refl}
+use Rattle.ace_codes.specs.declared.kind.ArKind.{ArKind}
+use Rattle.ace_codes.specs.declared.kind.ArKind.TheVariants as read
+use Rattle.ace_event.specs.declared.event.Event.TheVariants.{Ar}
+use Rattle.ace_model.specs.Accepted.{IsAccepted, least_broken, least_of}
+use Rattle.ace_model.specs.AddressRules.{k9}
+use Rattle.ace_model.specs.Barriers.{is_barrier_half}
+use Rattle.ace_model.specs.Kinds.{is_dvm_complete, is_line_read}
+use Rattle.ace_model.specs.Messages.{is_dvm_completion, is_message_part}
+use Rattle.ace_model.specs.OrderRules.{k38}
+use Rattle.ace_model.specs.Shares.{system_rules}
+use Rattle.ace_model.specs.Trace.{implies}
+use Rattle.ace_model.specs.declared.transactions.Transaction.{Transaction}
+use Rattle.ace_model.proofs.Terms.{Event, Header, Trace}
+use Rattle.ace_portck.specs.PlainAddresses.{plain_kind}
+use Rattle.ace_portck.specs.Targets.{Recording, after, target_of}
+use Rattle.ace_portck.specs.declared.target.Target.{Target}
+use Rattle.ace_portck.proofs.Plain.{IsPlainRead, plain_read-no_half, plain_read-no_message}
+use Rattle.ace_portck.proofs.PlainAddresses.{plain_kind-is, read_of}
+use Rattle.ace_sysck.specs.declared.results.Results.{Results}
+use Rattle.ace_sysck.specs.declared.system.SysCheck.{SysCheck}
+use Rattle.ace_sysck.specs.Results.{slot_of}
+use Rattle.ace_sysck.specs.Stands.{Stands}
+use Rattle.ace_sysck.specs.Steps.{IsStep}
+use Rattle.ace_sysck.proofs.BarrierSteps.{barriers_plain}
+use Rattle.ace_sysck.proofs.InboxHears.{inboxes_plain}
+use Rattle.ace_sysck.proofs.MessageSteps.{messages_plain}
+use Rattle.ace_sysck.proofs.ResultSteps.{results_ar}
+use Rattle.ace_sysck.proofs.Steps.{port_within}
+use Rattle.ace_sysck.proofs.SyncSteps.{syncs_plain}
+use Rattle.ace_sysck.proofs.Unmoved.{monitors_still, registrations_still}
+
+line-no_completion : (k : ArKind) → is_line_read k ≡ true → is_dvm_complete k ≡ false
+line-no_completion read.DvmComplete line = cc
+line-no_completion k line = refl
+
+-- no plain read is a DVM Complete
+pub plain_read-no_completion : (x : Transaction) (k : ArKind) → IsPlainRead x k → is_dvm_completion x ≡ false
+plain_read-no_completion x k p = rw (p.kind, line-no_completion k p.line) refl
+
+idle : (b c : Bool) → b ≡ false → implies b c ≡ true
+idle false c f = refl
+idle true c f = cc
+
+all-three : (a b c : Bool) → a ≡ true → b ≡ true → c ≡ true → (a && b && c) ≡ true
+all-three true true true is also too = refl
+all-three false b c is also too = cc
+all-three true false c is also too = cc
+all-three true true false is also too = cc
+
+abbrev least_of_two : Bool → Bool → Option ℕ
+least_of_two a b = if a then if b then None else Some 38 else Some 9
+
+two-rules : (a b : Bool) → a ≡ true → b ≡ true → least_of_two a b ≡ None
+two-rules true true is also = refl
+two-rules false b is also = cc
+two-rules true false is also = cc
+
+module _ (h : Header) (past : Trace) (p i addr snoop dom bar : ℕ) (lock : Bool) (k : ArKind) (is : plain_kind snoop dom bar lock ≡ Some k) where
+  abbrev begun : Transaction
+  begun = read_of (length past) p i addr snoop dom bar lock
+
+  plain : IsPlainRead begun k
+  plain = plain_kind-is (length past) p i addr snoop dom bar lock k is
+
+  pub no_half : is_barrier_half begun ≡ false
+  no_half = plain_read-no_half begun k plain
+
+  pub no_part : is_message_part begun ≡ false
+  no_part = plain_read-no_message begun k plain
+
+  pub no_completion : is_dvm_completion begun ≡ false
+  no_completion = plain_read-no_completion begun k plain
+
+  k9-kept : k9 h past (Ar p i addr snoop dom bar lock) ≡ true
+  k9-kept = all-three _ _ _ (idle (is_barrier_half begun) _ no_half) (idle (is_message_part begun) _ no_part) (idle (is_dvm_completion begun) _ no_completion)
+
+  k38-kept : k38 h past (Ar p i addr snoop dom bar lock) ≡ true
+  k38-kept = idle (is_dvm_completion begun) _ no_completion
+
+  -- it breaks no rule of the share
+  pub system-keeps : least_of system_rules h past (Ar p i addr snoop dom bar lock) ≡ None
+  system-keeps = two-rules (k9 h past (Ar p i addr snoop dom bar lock)) (k38 h past (Ar p i addr snoop dom bar lock)) k9-kept k38-kept
+
+-- it moves the results alone
+pub begun-stands : (s : SysCheck) (n : Results) (r : Recording) (p i addr snoop dom bar : ℕ) (lock : Bool) (k : ArKind) → Stands s r → plain_kind snoop dom bar lock ≡ Some k
+    → least_broken r.header r.past (Ar p i addr snoop dom bar lock) ≡ None → length r.past < 2 ^ 64 - 1 → i < 256
+    → n.passed.items ≡ slice_set s.results.passed.items (slot_of p i) None → Stands (record s { results = n }) (after r (Ar p i addr snoop dom bar lock))
+begun-stands s n r p i addr snoop dom bar lock k st is fine few low items = record {
+  header = st.header;
+  ports = st.ports;
+  accepted = accepted;
+  barriers = barriers_plain r s.barriers e t x refl refl (no_half r.header r.past p i addr snoop dom bar lock k is) st.barriers;
+  monitors = monitors_still r s.monitors e refl st.monitors;
+  results = results_ar r s.results n p i addr snoop dom bar lock st.results (port_within r.header r.past e p accepted refl) low items;
+  registrations = registrations_still r s.registrations e t step refl st.registrations;
+  messages = messages_plain r s.messages e t x refl refl (no_part r.header r.past p i addr snoop dom bar lock k is) st.messages;
+  inboxes = inboxes_plain r s.inboxes e t x refl refl low (no_part r.header r.past p i addr snoop dom bar lock k is) st.inboxes;
+  syncs = syncs_plain r s.syncs e t x step refl (no_part r.header r.past p i addr snoop dom bar lock k is) (no_completion r.header r.past p i addr snoop dom bar lock k is) st.syncs;
+}
+  where
+    e : Event
+    e = Ar p i addr snoop dom bar lock
+
+    t : Target
+    t = target_of r.header r.past e
+
+    x : Transaction
+    x = read_of (length r.past) p i addr snoop dom bar lock
+
+    accepted : IsAccepted r.header (e ∷ r.past)
+    accepted = (st.accepted, fine)
+
+    step : IsStep r e t
+    step = record { header = st.ports; accepted = accepted; target = refl; few = few }
