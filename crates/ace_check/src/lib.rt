@@ -2,6 +2,8 @@
 #![tactic(auto)]
 
 mod checker;
+mod plain;
+mod plain_beats;
 mod shares;
 
 pub use checker::{CheckErr, Checker, Step};
