@@ -1,3 +1,4 @@
+use crate::plain::PlainKind;
 use crate::shares::Shares;
 use ace_event::laws::every_event_fits;
 use ace_event::{Event, Header, Line};
@@ -6,11 +7,12 @@ use ace_portck::{EventKind, Target, event_kinds};
 use std::alloc::Global;
 use thiserror::Error;
 
-/// Feeds a checker an event of one of these kinds as a value of the type that tells its kind, and any other as it is.
+/// Feeds a checker an event of one of these kinds, by the function that stands with it, as a value of the type that tells its kind, and any
+/// other as it is.
 macro_rules! by_kind {
-    ($checker:ident, $event:ident, { $($kind:ident { $($field:ident),* },)* }) => {
+    ($checker:ident, $event:ident, { $($kind:ident { $($field:ident),* } => $feed:ident,)* }) => {
         match *$event {
-            $(Event::$kind { $($field),* } => $checker.feed_kind(&event_kinds::$kind { $($field),* }),)*
+            $(Event::$kind { $($field),* } => $checker.$feed(&event_kinds::$kind { $($field),* }),)*
             _ => $checker.feed_kind($event),
         }
     };
@@ -91,20 +93,20 @@ impl Checker {
         ensures sound { (h : Header) (past : Trace) → Stands self.old h past None → result ≡ Ok Step.Fine → IsSound h (event.now ∷ past) }
     {
         by_kind!(self, event, {
-            Ar { port, id, addr, snoop, dom, bar, lock },
-            R { port, id, resp, last, word },
-            Rk { port, st },
-            Aw { port, id, addr, snoop, dom, bar },
-            W { port, strb, last, word },
-            B { port, id, resp },
-            Wk { port, st },
-            Ac { port, addr, snoop },
-            Cr { port, resp, st },
-            Cd { port, last, word },
-            G { port, chan, id },
-            M { port, chan, id, line },
-            L { port, addr, w, x, word },
-            D { port, addr, strobe, x, line },
+            Ar { port, id, addr, snoop, dom, bar, lock } => feed_kind,
+            R { port, id, resp, last, word } => feed_plain,
+            Rk { port, st } => feed_kind,
+            Aw { port, id, addr, snoop, dom, bar } => feed_kind,
+            W { port, strb, last, word } => feed_kind,
+            B { port, id, resp } => feed_kind,
+            Wk { port, st } => feed_kind,
+            Ac { port, addr, snoop } => feed_kind,
+            Cr { port, resp, st } => feed_kind,
+            Cd { port, last, word } => feed_kind,
+            G { port, chan, id } => feed_kind,
+            M { port, chan, id, line } => feed_kind,
+            L { port, addr, w, x, word } => feed_kind,
+            D { port, addr, strobe, x, line } => feed_kind,
         })
     }
 
@@ -147,6 +149,48 @@ impl Checker {
     ghost use Rattle.ace_event.specs.Range.{FitsFields};
     ghost use Rattle.ace_check.specs.Run.{Stands, IsAnswer, IsSound, goes_over, past_after, break_after, MayLackMemory};
     ghost use Rattle.ace_check.specs.Shares.{MayTake};
+    ghost use Rattle.std.specs.Prelude.{Option};
+
+    /// Looks at an event of a kind of which most are plain, as `feed` does.
+    #[inline(always)]
+    fn feed_plain<E: PlainKind>(&mut self, event: &E) -> Result<Step, CheckErr>
+        ensures answer { (h : Header) (past : Trace) → Stands self.old h past None → IfOk result (IsAnswer h past (E.event event.now)) }
+        ensures stands { (h : Header) (past : Trace) → Stands self.old h past None → length past < 2 ^ 64 - 2
+            → IfOk result (λ s. Stands self.new h (past_after past (E.event event.now) s) (break_after s)) }
+        ensures stays { (h : Header) (past : Trace) → Stands self.old h past None → OnErr result (Stands self.new h past None) }
+        ensures too_many { (h : Header) (past : Trace) → Stands self.old h past None → result ≡ Err CheckErr.TooManyLines
+            → (least_broken h past (E.event event.now) ≡ None) × (goes_over past (E.event event.now) ≡ true) }
+        ensures no_memory { (h : Header) (past : Trace) → Stands self.old h past None → result ≡ Err CheckErr.NoMemory
+            → MayLackMemory h past (E.event event.now) }
+        ensures broken { (h : Header) (past : Trace) (b : Break) → Stands self.old h past (Some b)
+            → (result ≡ Ok (Step.Broken b.index b.rule)) × Stands self.new h past (Some b) }
+        ensures sound { (h : Header) (past : Trace) → Stands self.old h past None → result ≡ Ok Step.Fine → IsSound h ((E.event event.now) ∷ past) }
+    {
+        every_event_fits(event.event());
+        if self.take_plain(event) {
+            return Ok(Step::Fine);
+        }
+        self.feed_kind(event)
+    }
+
+    /// Takes the event by the short way, if no event broke a rule. If it isn't taken, nothing has changed.
+    #[inline(always)]
+    fn take_plain<E: PlainKind>(&mut self, event: &E) -> bool
+        ensures fine { (h : Header) (past : Trace) (b : Option Break) → Stands self.old h past b → result ≡ true
+            → (b ≡ None) × (least_broken h past (E.event event.now) ≡ None) × (goes_over past (E.event event.now) ≡ false) }
+        ensures stands { (h : Header) (past : Trace) → Stands self.old h past None → result ≡ true → FitsFields (E.event event.now)
+            → length past < 2 ^ 64 - 2 → Stands self.new h ((E.event event.now) ∷ past) None }
+        ensures stays { result ≡ false → self.new ≡ self.old }
+    {
+        if self.broken.is_some() {
+            return false;
+        }
+        if !event.take(&mut self.shares) {
+            return false;
+        }
+        self.count = self.count.wrapping_add(1);
+        true
+    }
 
     /// Looks at an event whose kind its type tells, as `feed` does.
     fn feed_kind<E: EventKind>(&mut self, event: &E) -> Result<Step, CheckErr>

@@ -7,6 +7,8 @@ mod plain_loads;
 mod plain_writes;
 mod plain_snoops;
 mod plain_addresses;
+mod plain;
+mod plain_beats;
 mod shares;
 
 pub use checker::{CheckErr, Checker, Step};
