@@ -1,8 +1,7 @@
 -- The G of an outstanding transaction: it keeps the rules of the ports, and which rules are left.
-use Rattle.std.proofs.Common.{◌≡◌, ◌<◌, ℕ, Bool, true, false, if◌then◌else◌, nat_lt, ◌&&◌, [], ◌∷◌, length, Option, Some, None, is_none, refl, sym, ap, subst, ◌∙◌, inl, inr}
+use Rattle.std.proofs.Common.{◌≡◌, ◌<◌, ℕ, true, [], ◌∷◌, Option, Some, None, is_none, refl, sym, subst, inl, inr}
 use Rattle.std.proofs.lemmas.Bool.{lt-ltb}
 use Rattle.ace_model.specs.Accepted.{IsAccepted, least_broken, least_of}
-use Rattle.ace_model.specs.AddressRules.{k1}
 use Rattle.ace_model.specs.Shares.{port_rules, line_rules, system_rules}
 use Rattle.ace_model.specs.declared.transactions.Transaction.{Transaction}
 use Rattle.ace_model.proofs.Terms.{Channel, G, Header, Trace, outstanding}

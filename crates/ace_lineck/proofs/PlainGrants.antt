@@ -1,5 +1,5 @@
 -- The G of an outstanding transaction, by what is kept of its line.
-use Rattle.std.proofs.Common.{◌≡◌, ◌<◌, ◌-◌, ◌^◌, ℕ, Bool, true, false, not, ◌&&◌, if◌then◌else◌, ◌∷◌, length, Option, Some, None, is_none, option_map, refl, sym, ap, subst, ◌∙◌}
+use Rattle.std.proofs.Common.{◌≡◌, ◌<◌, ◌-◌, ◌^◌, ℕ, Bool, true, false, not, ◌&&◌, if◌then◌else◌, ◌∷◌, length, Option, Some, None, is_none, option_map, refl, sym, ap, ◌∙◌}
 use Rattle.std.proofs.lemmas.Bool.{and_parts}
 use Rattle.ace_model.specs.Accepted.{least_broken, least_of}
 use Rattle.ace_model.specs.Shares.{line_rules}
@@ -14,7 +14,6 @@ use Rattle.ace_lineck.specs.declared.record.LineRecord.{LineRecord}
 use Rattle.ace_lineck.specs.Grants.{GrantStands, fresh_grant}
 use Rattle.ace_lineck.specs.Records.{IsRecordStep, LineStands}
 use Rattle.ace_lineck.specs.Stands.{MayApply, Stands, place_on}
-use Rattle.ace_lineck.specs.Uses.{is_unknown}
 use Rattle.ace_lineck.proofs.GrantHear.{given_heard}
 use Rattle.ace_lineck.proofs.GrantLaws.{none-is}
 use Rattle.ace_lineck.proofs.OnLine.{line-transaction}

@@ -1,5 +1,5 @@
 -- The G of an outstanding transaction: what is asked of it, and what it leaves as it is.
-use Rattle.std.proofs.Common.{◌≡◌, ◌<◌, ◌-◌, ◌^◌, ℕ, Bool, true, false, if◌then◌else◌, ◌∷◌, length, Option, Some, None, is_none, option_map, refl, sym, ap, ◌∙◌}
+use Rattle.std.proofs.Common.{◌≡◌, ◌<◌, ◌-◌, ◌^◌, ℕ, Bool, true, false, if◌then◌else◌, ◌∷◌, length, Some, None, is_none, option_map, refl, sym, ap, ◌∙◌}
 use Rattle.ace_model.specs.Accepted.{IsAccepted, least_broken, least_of}
 use Rattle.ace_model.specs.Shares.{system_rules}
 use Rattle.ace_model.specs.OrderRules.{is_past_barriers, k35}
@@ -7,7 +7,6 @@ use Rattle.ace_model.specs.declared.transactions.Transaction.{Transaction}
 use Rattle.ace_model.specs.Trace.{is_none_or}
 use Rattle.ace_model.proofs.Terms.{Channel, Event, G, Header, Trace, is_exclusive_store, outstanding}
 use Rattle.ace_model.proofs.Trace.Issued.{outstanding-named}
-use Rattle.ace_portck.specs.declared.target.Progress.{Progress}
 use Rattle.ace_portck.specs.declared.target.Target.{Target}
 use Rattle.ace_portck.specs.Targets.{Recording, after, progress_of, target_of}
 use Rattle.ace_sysck.specs.declared.system.SysCheck.{SysCheck}

@@ -1,4 +1,4 @@
-use Rattle.std.proofs.Common.{◌≡◌, ◌∷◌, Some, nat_eq, true, false, slice_get, refl, sym, ap, subst, ◌∙◌}
+use Rattle.std.proofs.Common.{◌≡◌, ◌∷◌, Some, nat_eq, true, false, slice_get, refl, sym, subst, ◌∙◌}
 use Rattle.ace_event.specs.declared.event.Event.TheVariants.{G}
 use Rattle.indexmap.specs.IndexMap.{get, values}
 use Rattle.ace_portck.specs.Targets.{target_of}

@@ -1,4 +1,4 @@
-use Rattle.std.proofs.Common.{rules, ◌≡◌, None, Some, sym, ap, ◌∙◌, get_or}
+use Rattle.std.proofs.Common.{rules, ◌≡◌, sym, ap, ◌∙◌, get_or}
 use Rattle.ace_sysck.specs.declared.barriers.Barrier.TheVariants.{Idle}
 use Rattle.ace_sysck.specs.Barriers.{is_past}
 use Rattle.ace_sysck.proofs.BarrierRules.{past-is}

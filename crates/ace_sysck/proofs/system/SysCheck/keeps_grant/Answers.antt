@@ -1,4 +1,4 @@
-use Rattle.std.proofs.Common.{Some, ◌∙◌}
+use Rattle.std.proofs.Common.{◌∙◌}
 use Rattle.ace_sysck.proofs.PlainGrants.{keeps-grant}
 use Rattle.ace_sysck.proofs.system.SysCheck.keeps_grant.Goals as goal
 
