@@ -1,5 +1,5 @@
 -- Which of the rules that look at one port a W and an L may break.
-use Rattle.std.proofs.Common.{◌≡◌, ℕ, Bool, true, false, ◌&&◌, is_none, refl, sym, ap, ◌∙◌}
+use Rattle.std.proofs.Common.{◌≡◌, ℕ, Bool, true, false, is_none, refl, sym, ap, ◌∙◌}
 use Rattle.ace_event.specs.declared.event.Event.{Event}
 use Rattle.ace_event.specs.declared.event.Event.TheVariants.{W, L}
 use Rattle.ace_event.specs.declared.header.Header.{Header}

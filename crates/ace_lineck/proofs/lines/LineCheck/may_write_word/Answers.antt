@@ -1,9 +1,7 @@
 use Rattle.std.proofs.Common.{◌≡◌, ◌==◌, true, false, Some, refl, sym, ap, ◌∙◌}
-use Rattle.ace_event.specs.declared.event.Event.TheVariants.{W}
 use Rattle.ace_model.specs.Copies.{word_of}
 use Rattle.ace_model.proofs.Terms.{implies, updates_memory}
 use Rattle.ace_model.proofs.Lines.Known.{data_write-issued}
-use Rattle.ace_lineck.specs.declared.record.LineRecord.{LineRecord}
 use Rattle.ace_lineck.specs.Holders.{holder_at}
 use Rattle.ace_lineck.specs.Stands.{record_of}
 use Rattle.ace_lineck.proofs.PlainEvents.{word-kept}

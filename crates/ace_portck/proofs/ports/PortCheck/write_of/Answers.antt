@@ -1,8 +1,4 @@
-use Rattle.std.proofs.Common.{◌≡◌, true, false, sym, ap, ◌∙◌, subst}
-use Rattle.ace_event.specs.declared.event.Event.{Event}
-use Rattle.ace_event.specs.declared.event.Event.TheVariants.{W}
-use Rattle.ace_event.specs.declared.header.Header.{Header}
-use Rattle.ace_model.specs.AddressRules.{k1}
+use Rattle.std.proofs.Common.{sym, ap, ◌∙◌, subst}
 use Rattle.ace_model.specs.Shares.{k11_burst}
 use Rattle.ace_model.specs.Trace.{port_of}
 use Rattle.ace_portck.specs.declared.port.PortRecord.{PortRecord}
