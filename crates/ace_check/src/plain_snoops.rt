@@ -1,13 +1,12 @@
 //! Line snoops under the grants of plain transactions, taken by the short way.
 
-ghost use Rattle.std.specs.Prelude.{◌≡◌, ◌<◌, ◌-◌, ◌^◌, ◌∷◌, true, false, None, length};
+ghost use Rattle.std.specs.Prelude.{◌≡◌, ◌<◌, ◌-◌, ◌^◌, ◌∷◌, true, false, None, Some, length};
 ghost use Rattle.ace_event.specs.declared.event.Event.TheVariants.{Ac};
 ghost use Rattle.ace_event.specs.declared.header.Header.{Header};
 ghost use Rattle.ace_model.specs.Accepted.{least_broken};
 ghost use Rattle.ace_model.specs.Snoops.{snoops_a_line};
 ghost use Rattle.ace_model.specs.Trace.{Trace};
 ghost use Rattle.ace_lineck.specs.Stands.{place_on};
-ghost use Rattle.std.specs.Prelude.{Some};
 ghost use Rattle.ace_check.specs.Shares.{SharesTell};
 
 use crate::shares::Shares;

@@ -1,13 +1,12 @@
 //! Line snoops under the grant of a transaction with lock 0: no exclusive store fails there.
 
-ghost use Rattle.std.specs.Prelude.{◌≡◌, ◌∷◌, ℕ, Some};
+ghost use Rattle.std.specs.Prelude.{◌≡◌, ◌∷◌, ℕ, List};
 ghost use Rattle.ace_event.specs.declared.event.Event.TheVariants.{Ac};
 ghost use Rattle.ace_event.specs.declared.header.Header.{Header};
 ghost use Rattle.ace_event.specs.declared.line.Line.{Line};
 ghost use Rattle.ace_model.specs.Trace.{Trace};
 ghost use Rattle.ace_portck.specs.declared.target.Target.{Target};
 ghost use Rattle.ace_lineck.specs.declared.record.Holder.{Holder};
-ghost use Rattle.std.specs.Prelude.{List};
 ghost use Rattle.ace_lineck.specs.Grants.{GrantStands, IsGrantStep};
 ghost use Rattle.ace_lineck.specs.PlainSnoops.{may_be_snooped_plainly};
 
@@ -40,7 +39,7 @@ fn hear_snoop(grant: &mut Option<Grant>, port: u8)
 }
 
 impl LineCheck {
-    ghost use Rattle.std.specs.Prelude.{◌&&◌, true, not, is_none};
+    ghost use Rattle.std.specs.Prelude.{◌&&◌, not, is_none};
     ghost use Rattle.ace_model.specs.Accepted.{least_of};
     ghost use Rattle.ace_model.specs.Grants.{granted};
     ghost use Rattle.ace_model.specs.Shares.{line_rules};
