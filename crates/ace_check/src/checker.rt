@@ -93,19 +93,19 @@ impl Checker {
         ensures sound { (h : Header) (past : Trace) → Stands self.old h past None → result ≡ Ok Step.Fine → IsSound h (event.now ∷ past) }
     {
         by_kind!(self, event, {
-            Ar { port, id, addr, snoop, dom, bar, lock } => feed_kind,
+            Ar { port, id, addr, snoop, dom, bar, lock } => feed_plain,
             R { port, id, resp, last, word } => feed_plain,
             Rk { port, st } => feed_kind,
             Aw { port, id, addr, snoop, dom, bar } => feed_kind,
-            W { port, strb, last, word } => feed_kind,
+            W { port, strb, last, word } => feed_plain,
             B { port, id, resp } => feed_kind,
             Wk { port, st } => feed_kind,
-            Ac { port, addr, snoop } => feed_kind,
+            Ac { port, addr, snoop } => feed_plain,
             Cr { port, resp, st } => feed_kind,
             Cd { port, last, word } => feed_kind,
-            G { port, chan, id } => feed_kind,
+            G { port, chan, id } => feed_plain,
             M { port, chan, id, line } => feed_kind,
-            L { port, addr, w, x, word } => feed_kind,
+            L { port, addr, w, x, word } => feed_plain,
             D { port, addr, strobe, x, line } => feed_kind,
         })
     }

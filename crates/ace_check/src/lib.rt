@@ -2,13 +2,13 @@
 #![tactic(auto)]
 
 mod checker;
+mod plain;
+mod plain_addresses;
+mod plain_beats;
 mod plain_grants;
 mod plain_loads;
-mod plain_writes;
 mod plain_snoops;
-mod plain_addresses;
-mod plain;
-mod plain_beats;
+mod plain_writes;
 mod shares;
 
 pub use checker::{CheckErr, Checker, Step};

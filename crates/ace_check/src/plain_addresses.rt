@@ -1,5 +1,6 @@
 //! The short way of an AR: it issues a line read with lock 0 on a line that is known.
 
+use crate::plain::PlainKind;
 use crate::shares::Shares;
 use ace_portck::{event_kinds, plain_kind};
 
@@ -15,7 +16,7 @@ impl Shares {
     /// Takes an AR of a line read with lock 0, if a transaction has named its line and it breaks no rule. If it isn't taken, nothing
     /// has changed.
     #[inline(always)]
-    pub(crate) fn take_read_address(&mut self, address: &event_kinds::Ar) -> bool
+    fn take_read_address(&mut self, address: &event_kinds::Ar) -> bool
         ensures taken { (h : Header) (past : Trace) → SharesTell self.old h past → length past < 2 ^ 64 - 1 → result ≡ true
             → (least_broken h past (Ar address.now.port address.now.id address.now.addr address.now.snoop address.now.dom address.now.bar address.now.lock) ≡ None)
             × SharesTell self.new h (Ar address.now.port address.now.id address.now.addr address.now.snoop address.now.dom address.now.bar address.now.lock ∷ past) }
@@ -36,5 +37,12 @@ impl Shares {
         self.ports.apply(address);
         self.system.begin_read(address.port, address.id);
         true
+    }
+}
+
+impl PlainKind for event_kinds::Ar {
+    #[inline(always)]
+    fn take(&self, shares: &mut Shares) -> bool {
+        shares.take_read_address(self)
     }
 }

@@ -1,5 +1,6 @@
 //! The short way of a G: it grants a plain transaction, and only K12 and K35 can break.
 
+use crate::plain::PlainKind;
 use crate::shares::Shares;
 use ace_portck::event_kinds;
 
@@ -13,7 +14,7 @@ impl Shares {
 
     /// Takes a G, if it grants a transaction with lock 0 and breaks no rule. If it isn't taken, nothing has changed.
     #[inline(always)]
-    pub(crate) fn take_grant(&mut self, grant: &event_kinds::G) -> bool
+    fn take_grant(&mut self, grant: &event_kinds::G) -> bool
         ensures taken { (h : Header) (past : Trace) → SharesTell self.old h past → length past < 2 ^ 64 - 1 → result ≡ true
             → (least_broken h past (G grant.now.port grant.now.chan grant.now.id) ≡ None)
             × SharesTell self.new h (G grant.now.port grant.now.chan grant.now.id ∷ past) }
@@ -36,5 +37,12 @@ impl Shares {
         self.ports.apply(grant);
         self.lines.hear_grant(&x, place);
         true
+    }
+}
+
+impl PlainKind for event_kinds::G {
+    #[inline(always)]
+    fn take(&self, shares: &mut Shares) -> bool {
+        shares.take_grant(self)
     }
 }

@@ -7,6 +7,7 @@ ghost use Rattle.ace_model.specs.Accepted.{least_broken};
 ghost use Rattle.ace_model.specs.Trace.{Trace};
 ghost use Rattle.ace_check.specs.Shares.{SharesTell};
 
+use crate::plain::PlainKind;
 use crate::shares::Shares;
 use ace_portck::event_kinds;
 
@@ -22,7 +23,7 @@ impl Shares {
 
     /// Takes an L that breaks no rule. If it isn't taken, nothing has changed.
     #[inline(always)]
-    pub(crate) fn take_load(&mut self, load: &event_kinds::L) -> bool
+    fn take_load(&mut self, load: &event_kinds::L) -> bool
         ensures taken { (h : Header) (past : Trace) → SharesTell self.old h past → length past < 2 ^ 64 - 1 → result ≡ true
             → (least_broken h past (L load.now.port load.now.addr load.now.w load.now.x load.now.word) ≡ None)
             × SharesTell self.new h (L load.now.port load.now.addr load.now.w load.now.x load.now.word ∷ past) }
@@ -34,5 +35,12 @@ impl Shares {
         self.ports.apply(load);
         self.system.load(load);
         true
+    }
+}
+
+impl PlainKind for event_kinds::L {
+    #[inline(always)]
+    fn take(&self, shares: &mut Shares) -> bool {
+        shares.take_load(self)
     }
 }

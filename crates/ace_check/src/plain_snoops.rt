@@ -9,6 +9,7 @@ ghost use Rattle.ace_model.specs.Trace.{Trace};
 ghost use Rattle.ace_lineck.specs.Stands.{place_on};
 ghost use Rattle.ace_check.specs.Shares.{SharesTell};
 
+use crate::plain::PlainKind;
 use crate::shares::Shares;
 use ace_portck::event_kinds;
 use ace_portck::kinds::snoops_a_line;
@@ -35,7 +36,7 @@ impl Shares {
     /// Takes an AC that snoops a line under the grant of a transaction with lock 0, if it breaks no rule and there is room for it. If it
     /// isn't taken, nothing has changed.
     #[inline(always)]
-    pub(crate) fn take_snoop(&mut self, snoop: &event_kinds::Ac) -> bool
+    fn take_snoop(&mut self, snoop: &event_kinds::Ac) -> bool
         ensures taken { (h : Header) (past : Trace) → SharesTell self.old h past → length past < 2 ^ 64 - 1 → result ≡ true
             → (least_broken h past (Ac snoop.now.port snoop.now.addr snoop.now.snoop) ≡ None)
             × SharesTell self.new h (Ac snoop.now.port snoop.now.addr snoop.now.snoop ∷ past) }
@@ -54,5 +55,12 @@ impl Shares {
         self.ports.apply(snoop);
         self.lines.hear_snoop(place, snoop.port);
         true
+    }
+}
+
+impl PlainKind for event_kinds::Ac {
+    #[inline(always)]
+    fn take(&self, shares: &mut Shares) -> bool {
+        shares.take_snoop(self)
     }
 }

@@ -7,6 +7,7 @@ ghost use Rattle.ace_model.specs.Accepted.{least_broken};
 ghost use Rattle.ace_model.specs.Trace.{Trace};
 ghost use Rattle.ace_check.specs.Shares.{SharesTell};
 
+use crate::plain::PlainKind;
 use crate::shares::Shares;
 use ace_portck::event_kinds;
 
@@ -25,7 +26,7 @@ impl Shares {
 
     /// Takes a W that breaks no rule. If it isn't taken, nothing has changed.
     #[inline(always)]
-    pub(crate) fn take_write_beat(&mut self, beat: &event_kinds::W) -> bool
+    fn take_write_beat(&mut self, beat: &event_kinds::W) -> bool
         ensures taken { (h : Header) (past : Trace) → SharesTell self.old h past → length past < 2 ^ 64 - 1 → result ≡ true
             → (least_broken h past (W beat.now.port beat.now.strb beat.now.last beat.now.word) ≡ None)
             × SharesTell self.new h (W beat.now.port beat.now.strb beat.now.last beat.now.word ∷ past) }
@@ -36,5 +37,12 @@ impl Shares {
         }
         self.ports.apply(beat);
         true
+    }
+}
+
+impl PlainKind for event_kinds::W {
+    #[inline(always)]
+    fn take(&self, shares: &mut Shares) -> bool {
+        shares.take_write_beat(self)
     }
 }
