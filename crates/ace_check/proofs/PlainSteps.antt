@@ -1,6 +1,6 @@
 -- An event breaks no rule where none of the three shares says so.
-use Rattle.std.proofs.Common.{◌≡◌, ◌<◌, ◌-◌, ◌^◌, ℕ, Bool, true, false, ◌&&◌, nat_lt, ◌∷◌, length, if◌then◌else◌, Option, Some, None, is_none, option_map, refl, sym, ap, subst, ◌∙◌, inl, inr}
-use Rattle.std.proofs.lemmas.Bool.{and_right, cases_Bool}
+use Rattle.std.proofs.Common.{◌≡◌, ◌<◌, ◌-◌, ◌^◌, ℕ, Bool, true, false, ◌&&◌, nat_lt, ◌∷◌, length, if◌then◌else◌, Option, Some, None, is_none, option_map, refl, ap, ◌∙◌}
+use Rattle.std.proofs.lemmas.Bool.{and_right}
 use Rattle.ace_codes.specs.declared.kind.ArKind.{ArKind}
 use Rattle.ace_event.specs.declared.event.Channel.TheVariants.{Read}
 use Rattle.ace_event.specs.declared.event.Event.{Event}
@@ -14,7 +14,7 @@ use Rattle.ace_model.specs.Transactions.{outstanding}
 use Rattle.ace_model.proofs.Rules.Shares.{least_of_shares}
 use Rattle.ace_portck.specs.Plain.{plain_read}
 use Rattle.ace_portck.specs.Stands as ports
-use Rattle.ace_portck.specs.Targets.{Recording, after, progress_of}
+use Rattle.ace_portck.specs.Targets.{progress_of}
 use Rattle.ace_portck.specs.declared.target.Progress.{Progress}
 use Rattle.ace_lineck.specs.Stands as lines
 use Rattle.ace_sysck.proofs.PlainAnswers.{system_unmoved_by_beat}
