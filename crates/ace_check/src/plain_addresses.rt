@@ -27,7 +27,10 @@ impl Shares {
         let Some(kind) = plain_kind(address.snoop, address.dom, address.bar, address.lock) else {
             return false;
         };
-        if !self.ports.keeps_read_address(address.port, address.id, address.addr, kind) {
+        if !self
+            .ports
+            .keeps_read_address(address.port, address.id, address.addr, kind)
+        {
             return false;
         }
         let place = self.lines.place(Some(address.addr));

@@ -1,17 +1,16 @@
 -- What the AR of a plain read asks of its line; where the line is known, nothing of it moves.
-use Rattle.std.proofs.Common.{◌≡◌, ℕ, Bool, true, false, not, ◌&&◌, ◌||◌, nat_eq, if◌then◌else◌, ◌∷◌, List, length, Option, Some, None, is_none, refl, sym, ap, ◌∙◌, inl, inr}
+use Rattle.std.proofs.Common.{◌≡◌, ℕ, Bool, true, false, ◌&&◌, ◌||◌, nat_eq, if◌then◌else◌, ◌∷◌, List, length, Option, Some, None, is_none, refl, sym, ap, ◌∙◌, inl, inr}
 use Rattle.std.proofs.lemmas.Bool.{and_parts, cases_Bool, eqb-true, not-true}
 use Rattle.ace_codes.specs.Reads.{ar_kind_of}
 use Rattle.ace_codes.specs.declared.kind.ArKind.{ArKind}
-use Rattle.ace_codes.specs.declared.state.LineState.{LineState}
 use Rattle.ace_event.specs.declared.event.Event.TheVariants.{Ar}
-use Rattle.ace_tables.specs.StartStates.{starts_read, starts_write}
+use Rattle.ace_tables.specs.StartStates.{starts_read}
 use Rattle.ace_model.specs.Accepted.{least_broken, least_of}
 use Rattle.ace_model.specs.Kinds.{is_no_snoop_read}
-use Rattle.ace_model.specs.Lines.{add_line, is_known, known_lines, names_new_line}
+use Rattle.ace_model.specs.Lines.{add_line, is_known, known_lines}
 use Rattle.ace_model.specs.Shares.{line_rules}
 use Rattle.ace_model.specs.declared.transactions.Transaction.{Transaction}
-use Rattle.ace_model.proofs.Terms.{Event, Header, Trace, IsAccepted, implies, is_none_or, is_some_and, is_line, is_on, is_no_snoop, is_used_alike, each_issued, state_of, k6, k8}
+use Rattle.ace_model.proofs.Terms.{Header, Trace, IsAccepted, implies, is_none_or, is_some_and, is_line, is_on, is_no_snoop, is_used_alike, each_issued, state_of, k6, k8}
 use Rattle.ace_model.proofs.General.Booleans.{implies-at}
 use Rattle.ace_model.proofs.Rules.Keeps.{accepted_keeps}
 use Rattle.ace_portck.specs.PlainAddresses.{plain_kind}
@@ -29,7 +28,6 @@ use Rattle.ace_lineck.specs.Stands.{Stands, record_of}
 use Rattle.ace_lineck.specs.Uses.{use_by, newest_use, use_of, goes_with, is_unknown}
 use Rattle.ace_lineck.proofs.GrantFrame.{none-stays}
 use Rattle.ace_lineck.proofs.GrantSteps.{calm-stays, stays-unended}
-use Rattle.ace_lineck.proofs.Judging.{least-address}
 use Rattle.ace_lineck.proofs.KnownLines.{known-used}
 use Rattle.ace_lineck.proofs.RuleLaws.{uses-law}
 
@@ -103,9 +101,9 @@ newest-same x l u same =
       | inr off ↦ rw off refl
     ]
 
-use-begun : (h : Header) (past : Trace) (e : Event) (x : Transaction) (l : ℕ) → IsAccepted h past → implies (is_line x) (each_issued past (is_used_alike x)) ≡ true
+use-begun : (h : Header) (past : Trace) (x : Transaction) (l : ℕ) → IsAccepted h past → implies (is_line x) (each_issued past (is_used_alike x)) ≡ true
     → is_known past x.addr ≡ true → is_on x l ≡ true → use_by x ≡ use_of past l
-use-begun h past e x l a alike known on =
+use-begun h past x l a alike known on =
     let parts = and_parts (is_line x) (nat_eq x.addr l) on in
     let goes : goes_with (use_of past x.addr) (is_no_snoop x) ≡ true = uses-law h past a x ∙ implies-at (is_line x) _ alike parts.0 in
     let used : is_unknown (use_of past x.addr) ≡ false = not-true (is_unknown (use_of past x.addr)) (sym (known-used past x.addr) ∙ known) in
@@ -130,9 +128,9 @@ line-begun : (h : Header) (past : Trace) (p i addr snoop dom bar : ℕ) (lock : 
     → is_known past addr ≡ true → LineStands h past l x → LineStands h (Ar p i addr snoop dom bar lock ∷ past) l x
 line-begun h past p i addr snoop dom bar lock l x a known s = record {
   used = s.used
-  ∙ sym (newest-same (read_of (length past) p i addr snoop dom bar lock) l (use_of past l)
-  (use-begun h past (Ar p i addr snoop dom bar lock) (read_of (length past) p i addr snoop dom bar lock) l a.0
-  (accepted_keeps h past (Ar p i addr snoop dom bar lock) a).rule_8 known));
+      ∙ sym (newest-same (read_of (length past) p i addr snoop dom bar lock) l (use_of past l)
+      (use-begun h past (read_of (length past) p i addr snoop dom bar lock) l a.0
+      (accepted_keeps h past (Ar p i addr snoop dom bar lock) a).rule_8 known));
   memory = record { memory = s.memory.memory };
   grant = grant-begun h past p i addr snoop dom bar lock l x.grant a s.grant;
   holders = record { state = s.holders.state; copy = s.holders.copy; sent = s.holders.sent };

@@ -1,5 +1,5 @@
 -- Which rules about one port look at the AR of a plain read.
-use Rattle.std.proofs.Common.{◌≡◌, ◌%◌, ℕ, Bool, true, false, not, ◌&&◌, ◌||◌, ◌==◌, nat_lt, if◌then◌else◌, Option, Some, None, is_none, option_and_then, refl, ap, subst, ◌∙◌}
+use Rattle.std.proofs.Common.{◌≡◌, ◌%◌, ℕ, Bool, true, false, not, ◌&&◌, ◌==◌, nat_lt, Some, is_none, refl}
 use Rattle.ace_codes.specs.declared.kind.ArKind.{ArKind}
 use Rattle.ace_codes.specs.Reads.{ar_kind_of}
 use Rattle.ace_event.specs.declared.event.Channel.TheVariants.{Read}
@@ -7,7 +7,6 @@ use Rattle.ace_event.specs.declared.event.Event.TheVariants.{Ar}
 use Rattle.ace_event.specs.declared.header.Header.{Header}
 use Rattle.ace_model.specs.Accepted.{least_of}
 use Rattle.ace_model.specs.AddressRules.{may_issue_read}
-use Rattle.ace_model.specs.Kinds.{is_line_read}
 use Rattle.ace_model.specs.Shares.{port_rules}
 use Rattle.ace_model.specs.Trace.{Trace}
 use Rattle.ace_model.specs.Transactions.{has_outstanding_on, outstanding}

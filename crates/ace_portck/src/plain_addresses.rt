@@ -26,7 +26,7 @@ pub fn plain_kind(snoop: u8, dom: u8, bar: u8, lock: bool) -> Option<ArKind>
     }
 }
 
-/// K1 and K2, of an AR: the port is in the header, and may issue a read of this kind (Arm IHI 0022E, C11).
+/// K1 and K2, of an AR: the port is in the header, and may issue a read of this kind (Arm IHI 0022E, C3.1.3 and C11).
 #[inline(always)]
 fn may_issue_read(header: &Header, port: u8, kind: ArKind) -> bool
     ensures { result ≡ (nat_lt port header.now.ports && may_issue_read header.now port kind) }

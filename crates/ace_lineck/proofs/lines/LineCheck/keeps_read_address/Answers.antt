@@ -1,4 +1,4 @@
-use Rattle.std.proofs.Common.{Some, not, ◌&&◌, is_none, sym, ap, ◌∙◌}
+use Rattle.std.proofs.Common.{Some, not, ◌&&◌, sym, ap, ◌∙◌}
 use Rattle.ace_tables.specs.StartStates.{starts_read}
 use Rattle.ace_model.specs.Kinds.{is_no_snoop_read}
 use Rattle.ace_model.specs.Lines.{is_known}

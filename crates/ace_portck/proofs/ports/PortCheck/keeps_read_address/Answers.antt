@@ -1,7 +1,6 @@
 use Rattle.std.proofs.Common.{◌≡◌, ◌%◌, ◌==◌, ◌&&◌, nat_lt, true, false, sym, ap, ◌∙◌, refl}
 use Rattle.ace_event.specs.declared.header.Header.{Header}
 use Rattle.ace_model.specs.AddressRules.{may_issue_read}
-use Rattle.ace_portck.specs.Port.{PortStands}
 use Rattle.ace_portck.proofs.PlainAddresses.{address_rules}
 use Rattle.ace_portck.proofs.ports.PortCheck.keeps_read_address.Goals as goal
 
