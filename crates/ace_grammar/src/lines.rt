@@ -121,19 +121,19 @@ pub fn read_event<S: Source>(
     if count == MOST_EVENTS {
         return read_end(lines, line);
     }
-    match lines.next(line) {
-        Ok(LineEnd::Whole) => match read_into(line.bytes(), version, event) {
+    match lines.next_in_place(line) {
+        Ok((LineEnd::Whole, lent)) => match read_into(lines.line_at(lent, line), version, event) {
             Ok(()) => Ok(Some(())),
             Err(reason) => Err(ReadErr::Malformed {
                 line: count + FIRST_EVENT_LINE,
                 reason,
             }),
         },
-        Ok(LineEnd::NoLf) => Err(ReadErr::Malformed {
+        Ok((LineEnd::NoLf, _)) => Err(ReadErr::Malformed {
             line: count + FIRST_EVENT_LINE,
             reason: Reason::F1,
         }),
-        Ok(LineEnd::End) => Ok(None),
+        Ok((LineEnd::End, _)) => Ok(None),
         Err(_) => Err(ReadErr::ReadFault),
     }
 }

@@ -1,5 +1,5 @@
 -- How a stream of bytes is cut into lines. The bytes may not be told: then nothing is said of them.
-use Rattle.std.specs.Prelude.{◌≡◌, ◌≢◌, ◌<◌, ◌≤◌, ℕ, List, [], ◌∷◌, ◌++◌, length, All, Option, None, Some}
+use Rattle.std.specs.Prelude.{◌≡◌, ◌≢◌, ◌<◌, ◌≤◌, ◌+◌, ℕ, List, [], ◌∷◌, ◌++◌, length, take, All, Option, None, Some}
 use Rattle.std.specs.Option.{option_map}
 use Rattle.std.specs.Io.KnownBytes.{Consumes, IsAtEnd}
 use Rattle.ace_io.specs.declared.line_buf.LineEnd.{LineEnd}
@@ -19,6 +19,13 @@ CutsLine old line End new = (line ≡ []) × IsAtEnd new × Consumes old new lin
 -- What was taken before a failure, and not given, is less than a line.
 abbrev pub IsPending : Option (List ℕ) → Option (List ℕ) → Type 0
 IsPending old new = (taken : List ℕ) × HasNoLf taken × (length taken < 256) × Consumes old new taken
+
+-- A line without a line feed, of fewer than 256 bytes, and then a line feed stand in front of the bytes in hand.
+pub record IsHeldLine (line held : List ℕ) : Type 0 where
+  pub no_lf : HasNoLf line
+  pub short : length line < 256
+  pub within : length line < length held
+  pub front : take (length line + 1) held ≡ line ++ 10 ∷ []
 
 -- the bytes in hand, before those that are known to be left
 abbrev pub in_front : List ℕ → Option (List ℕ) → Option (List ℕ)

@@ -3,9 +3,6 @@ ghost use Rattle.std.specs.Prelude.{◌≡◌, ◌≤◌, ◌+◌, ◌++◌, [],
 
 use std::marker::Model;
 
-/// How many bytes are copied at once.
-const LOAD: usize = 64;
-
 /// A line without its line feed: up to 256 bytes.
 #[derive(Drop)]
 pub struct LineBuf {
@@ -63,22 +60,6 @@ impl LineBuf {
         let end = self.len + piece.len();
         self.bytes[self.len..end].copy_from_slice(piece);
         self.len = end;
-    }
-
-    /// Adds the front of a piece, so many bytes that there is room for, at the end.
-    #[inline(always)]
-    pub(crate) fn append_front(&mut self, piece: &[u8], count: usize)
-        requires within { count ≤ length piece.now }
-        requires room { length self.old + count ≤ 256 }
-        ensures { self.new ≡ self.old ++ take count piece.now }
-    {
-        if self.len == 0 && count <= LOAD && piece.len() >= LOAD {
-            // A copy of a length that the compiler knows needs no call; what is behind the count isn't of the line.
-            self.bytes[..LOAD].copy_from_slice(&piece[..LOAD]);
-            self.len = count;
-        } else {
-            self.append(&piece[..count]);
-        }
     }
 }
 

@@ -3,7 +3,7 @@ ghost use Rattle.std.specs.Prelude.{◌≡◌, ◌<◌, ◌≤◌, [], List, ℕ
 ghost use Rattle.std.specs.Io.KnownBytes.{Consumes, IsAtEnd};
 ghost use Rattle.ace_io.specs.Faults.{HasCause};
 ghost use Rattle.ace_io.specs.Lanes.{first_set};
-ghost use Rattle.ace_io.specs.Line.{HasNoLf, CutsHeld, CutsPiece, CutsLine, IsPending};
+ghost use Rattle.ace_io.specs.Line.{HasNoLf, IsHeldLine, CutsHeld, CutsPiece, CutsLine, IsPending};
 
 use crate::{Failed, LineBuf, LineEnd, NoMemory, Source};
 use std::alloc::Global;
@@ -97,7 +97,7 @@ pub struct LineReader<'a, S: Source> {
 }
 
 impl<'a, S: Source> LineReader<'a, S> {
-    ghost use Rattle.ace_io.specs.Reader.{source_of, waiting, held};
+    ghost use Rattle.ace_io.specs.Reader.{source_of, waiting, held, passed, line_at};
 
     /// A reader before the first byte that the source has left. Its buffer is a part of it, so there is always memory.
     pub fn start(_alloc: Global, source: &'a mut S) -> Result<LineReader<'a, S>, NoMemory>
@@ -149,6 +149,32 @@ impl<'a, S: Source> LineReader<'a, S> {
         }
     }
 
+    /// The next line, without its line feed, where all of it is held.
+    #[inline(always)]
+    fn held_line(&self) -> Option<&[u8]>
+        ensures { MatchOption result (HasNoLf (take 256 (held self.now))) (λ line. IsHeldLine line.now (held self.now)) }
+    {
+        let held = &self.buffer[self.start..self.end];
+        let most = LINE_LIMIT.min(held.len());
+        match find_lf(&held[..most]) {
+            Some(at) => Some(&held[..at]),
+            None => None,
+        }
+    }
+
+    /// Passes so many of the bytes that are held.
+    #[inline(always)]
+    fn pass(&mut self, count: usize)
+        requires { count ≤ length (held self.old) }
+        ensures same_source { self.new.source.ghost_name ≡ self.old.source.ghost_name }
+        ensures source { self.new.source.now ≡ self.old.source.now }
+        ensures buffer { self.new.buffer ≡ self.old.buffer }
+        ensures start { self.new.start ≡ self.old.start + count }
+        ensures passed { Consumes (waiting S.left self.old) (waiting S.left self.new) (take count (held self.old)) }
+    {
+        self.start += count;
+    }
+
     /// Moves the front of what is held into the line, up to its line feed or its limit.
     #[inline(always)]
     #[tactic(auto, using(crate::proofs::Held::held_steps))]
@@ -168,7 +194,7 @@ impl<'a, S: Source> LineReader<'a, S> {
         let piece = &held[..most];
         match find_lf(piece) {
             Some(at) => {
-                into.append_front(piece, at);
+                into.append(&piece[..at]);
                 self.start += at + 1;
                 Some(LineEnd::Whole)
             }
@@ -225,6 +251,46 @@ impl<'a, S: Source> LineReader<'a, S> {
             if let Some(end) = self.advance(into)? {
                 return Ok(end);
             }
+        }
+    }
+
+    /// Cuts the next line as `next` does, but one that is held whole isn't copied: it is lent by `line_at`. The number beside its end
+    /// is how many bytes it has with its line feed where it is lent, and 0 where it is copied.
+    ///
+    /// # Errors
+    ///
+    /// Those of `next`.
+    #[inline(always)]
+    pub fn next_in_place(&mut self, copy: &mut LineBuf) -> Result<(LineEnd, usize), Failed>
+        ensures same_source { (source_of self.new).ghost_name ≡ (source_of self.old).ghost_name }
+        ensures behind { IfOk result (λ cut. cut.1 ≤ passed self.new) }
+        ensures no_lf { IfOk result (λ cut. HasNoLf (line_at self.new cut.1 copy.new)) }
+        ensures line { IfOk result (λ cut. CutsLine (waiting S.left self.old) (line_at self.new cut.1 copy.new) cut.0 (waiting S.left self.new)) }
+        ensures pending { OnErr result (IsPending (waiting S.left self.old) (S.left (source_of self.new).now)) }
+        ensures cause { HasCause (S.faults (source_of self.old).now) (S.faults (source_of self.new).now) result }
+    {
+        if let Some(line) = self.held_line() {
+            let lent = line.len() + 1;
+            self.pass(lent);
+            return Ok((LineEnd::Whole, lent));
+        }
+        match self.next(copy) {
+            Ok(end) => Ok((end, 0)),
+            Err(failed) => Err(failed),
+        }
+    }
+
+    /// The line that `next_in_place` cut last, without its line feed, by the number that it answered and the copy that it made.
+    #[inline(always)]
+    pub fn line_at<'b>(&'b self, lent: usize, copy: &'b LineBuf) -> &'b [u8]
+        requires { lent ≤ passed self.now }
+        ensures { result.now ≡ line_at self.now lent copy.now }
+    {
+        if lent == 0 {
+            copy.bytes()
+        } else {
+            let start = self.start - lent;
+            &self.buffer[start..start + (lent - 1)]
         }
     }
 }

@@ -129,6 +129,44 @@ fn cuts_long_lines(rt: HostRuntime) {
     );
 }
 
+/// Whether the next line of a reader, lent or copied, is this, and ends so.
+fn is_next<S: Source>(
+    reader: &mut LineReader<S>,
+    copy: &mut LineBuf,
+    line: &[u8],
+    end: LineEnd,
+) -> bool {
+    match reader.next_in_place(copy) {
+        Ok((cut, lent)) => cut == end && reader.line_at(lent, copy) == line,
+        Err(_) => false,
+    }
+}
+
+/// Whether the lines of a source, some of them lent and some copied, are as they have to be.
+fn lends<S: Source>(alloc: Global, source: &mut S) -> bool {
+    match LineReader::start(alloc, source) {
+        Ok(mut reader) => {
+            let mut copy = LineBuf::empty();
+            is_next(&mut reader, &mut copy, b"ab", LineEnd::Whole)
+                && is_next(&mut reader, &mut copy, b"cde", LineEnd::Whole)
+                && is_next(&mut reader, &mut copy, b"", LineEnd::Whole)
+                && is_next(&mut reader, &mut copy, b"fg", LineEnd::Whole)
+                && is_next(&mut reader, &mut copy, b"h", LineEnd::NoLf)
+                && is_next(&mut reader, &mut copy, b"", LineEnd::End)
+        }
+        Err(_) => false,
+    }
+}
+
+#[test]
+fn lends_lines(rt: HostRuntime) {
+    let alloc = rt.alloc();
+    match MemSource::new(alloc, b"ab\ncde\n\nfg\nh", &[9], &[]) {
+        Ok(mut source) => assert!(rt; lends(alloc, &mut source)),
+        Err(_) => assert!(rt; false),
+    }
+}
+
 /// Whether a source whose take of this number fails has these lines before it, and those of the bytes that were not
 /// taken after it.
 fn stops(alloc: Global, failing: u32, before: &[u8], after: &[u8]) -> bool {
