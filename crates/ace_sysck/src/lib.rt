@@ -10,7 +10,7 @@ mod monitors;
 mod plain_addresses;
 mod plain_answers;
 mod plain_grants;
-mod plain_load;
+mod plain_loads;
 mod plain_snoops;
 mod registrations;
 mod results;
