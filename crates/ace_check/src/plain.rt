@@ -10,10 +10,10 @@ ghost use Rattle.ace_check.specs.Shares.{SharesTell};
 use crate::shares::Shares;
 use ace_portck::EventKind;
 
-/// An event of a kind of which most are plain: their transaction is a line transaction with lock 0. A short way takes these, which asks
-/// only the rules that such an event can break.
+/// An event of a kind that has a short way: only the rules that such an event can break are asked, of what is kept where it stands, and no
+/// target is built. Of some kinds the short way takes only the events of plain transactions, line transactions with lock 0.
 pub(crate) trait PlainKind: EventKind {
-    /// Takes the event, if it is a plain one that breaks no rule. If it isn't taken, nothing has changed.
+    /// Takes the event, if the short way is one for it and it breaks no rule. If it isn't taken, nothing has changed.
     fn take(&self, shares: &mut Shares) -> bool
         ensures taken { (h : Header) (past : Trace) → SharesTell shares.old h past → length past < 2 ^ 64 - 1 → result ≡ true
             → (least_broken h past (Self.event self.now) ≡ None) × SharesTell shares.new h (Self.event self.now ∷ past) }

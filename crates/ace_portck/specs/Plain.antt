@@ -1,14 +1,10 @@
--- Plain transactions: line transactions that no rule on exclusives looks at.
+-- Plain reads, line reads with lock 0, and their transfers.
 use Rattle.std.specs.Prelude.{ℕ, ◌+◌, Bool, not, ◌&&◌, ◌==◌, nat_lt, if◌then◌else◌, Option, Some, None, option_and_then}
 use Rattle.ace_codes.specs.declared.kind.ArKind.{ArKind}
 use Rattle.ace_tables.specs.Answers.{same_test}
 use Rattle.ace_model.specs.Kinds.{beats_of, is_line_read}
-use Rattle.ace_model.specs.Transactions.{is_line, read_kind}
+use Rattle.ace_model.specs.Transactions.{read_kind}
 use Rattle.ace_model.specs.declared.transactions.Transaction.{Transaction}
-
--- a line transaction with lock 0
-abbrev pub is_plain : Transaction → Bool
-is_plain x = is_line x && not x.lock
 
 -- the kind of a line read with lock 0
 abbrev pub plain_read : Transaction → Option ArKind

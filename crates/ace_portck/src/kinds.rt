@@ -7,7 +7,7 @@ ghost use Rattle.ace_model.specs.Barriers.{is_barrier_half};
 ghost use Rattle.ace_model.specs.AddressRules.{gives_up};
 ghost use Rattle.ace_model.specs.Progress.{evicts, updates_memory};
 ghost use Rattle.ace_model.specs.Snoops.{snoops_a_line};
-ghost use Rattle.ace_portck.specs.Plain.{is_plain, plain_read};
+ghost use Rattle.ace_portck.specs.Plain.{plain_read};
 
 use ace_codes::{ArKind, AwKind, SnoopKind, read_ac, read_ar, read_aw};
 use ace_event::{Channel, Header, PortKind, kind_of};
@@ -62,14 +62,6 @@ pub fn is_on(transaction: &Transaction, line: u32) -> bool
     ensures { result ≡ is_on transaction.now line }
 {
     transaction.addr == line && is_line(transaction)
-}
-
-/// A line transaction with lock 0: no rule on barriers' answers, DVM messages or exclusives looks at it.
-#[inline(always)]
-pub fn is_plain(transaction: &Transaction) -> bool
-    ensures { result ≡ is_plain transaction.now }
-{
-    !transaction.lock && is_line(transaction)
 }
 
 /// The kind of a line read with lock 0.
