@@ -74,6 +74,9 @@ impl Shares {
 impl PlainKind for event_kinds::R {
     #[inline(always)]
     fn take(&self, shares: &mut Shares) -> bool {
-        shares.take_beat(self)
+        if shares.take_beat(self) {
+            return true;
+        }
+        shares.take_message_beat(self)
     }
 }

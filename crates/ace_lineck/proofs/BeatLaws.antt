@@ -41,8 +41,17 @@ plain x k is = by (read_kind x) refl
         let parts = and_parts (is_line_read j) (not x.lock) s.0 in
         record { kind = some ∙ ap (λ v. Some v) s.1; line = ap is_line_read (sym s.1) ∙ parts.0; unlocked = not-true x.lock parts.1 }
 
+-- the read of a transfer
+pub read-served : (h : Header) (past : Trace) (p i : ℕ) (x : Progress) → option_map (progress_of h past) (outstanding h past p Read i) ≡ Some x
+    → outstanding h past p Read i ≡ Some x.transaction
+read-served h past p i x out = by (outstanding h past p Read i) out
+  where
+    by : (o : Option Transaction) → option_map (progress_of h past) o ≡ Some x → o ≡ Some x.transaction
+    by None is = cc
+    by (Some y) is = ap (λ (v : Progress). Some v.transaction) (Some-injective (progress_of h past y) x is)
+
 -- three rules that are asked in order, where the later ones need the first
-three-rules : (a b c k m n : Bool) → a ≡ k → (k ≡ true → b ≡ m) → (k ≡ true → c ≡ n)
+pub three-rules : (a b c k m n : Bool) → a ≡ k → (k ≡ true → b ≡ m) → (k ≡ true → c ≡ n)
     → ((a && b) && c) ≡ is_none {T = ℕ} (if k then if m then if n then None else Some 20 else Some 19 else Some 18)
 three-rules a b c false m n is bits reply = rw is refl
 three-rules a b c true m n is bits reply =
@@ -59,11 +68,7 @@ module _ (h : Header) (past : Trace) (p i resp : ℕ) (last : Bool) (word : ℕ)
     (own : IsPlainRead x.transaction k) where
   -- the read of the transfer
   pub read-out : outstanding h past p Read i ≡ Some x.transaction
-  read-out = by (outstanding h past p Read i) out
-    where
-      by : (o : Option Transaction) → option_map (progress_of h past) o ≡ Some x → o ≡ Some x.transaction
-      by None is = cc
-      by (Some y) is = ap (λ (v : Progress). Some v.transaction) (Some-injective (progress_of h past y) x is)
+  read-out = read-served h past p i x out
 
   pub read-on : is_line x.transaction ≡ true
   read-on = kind-line x.transaction k own.kind own.line

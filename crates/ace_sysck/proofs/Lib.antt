@@ -26,6 +26,7 @@ pub mod Unmoved
 pub mod PlainGrants
 -- What an answer to a plain transaction leaves, and the rules that look at it.
 pub mod PlainAnswers
+pub mod MessageBeats
 pub mod SnoopLaws
 -- What the AR of a plain read moves.
 pub mod PlainAddresses

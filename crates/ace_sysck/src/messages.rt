@@ -157,7 +157,7 @@ impl Messages {
     }
 
     /// The port's transaction at the place is complete. It is looked at only where the port has issued a Sync.
-    fn complete(&mut self, port: u8, place: usize)
+    pub(crate) fn complete(&mut self, port: u8, place: usize)
         ensures { self.new.ports.items ≡ slice_set self.old.ports.items port (part_completed (slice_index_or self.old.ports.items port silent) place) }
     {
         let p = port as usize;

@@ -24,7 +24,7 @@ pub struct SysCheck {
     pub(crate) monitors: Monitors,
     pub(crate) results: Results,
     registrations: Registrations,
-    messages: Messages,
+    pub(crate) messages: Messages,
     pub(crate) inboxes: Inboxes,
     syncs: Syncs,
 }

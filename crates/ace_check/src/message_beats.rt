@@ -1,0 +1,75 @@
+//! Transfers of DVM reads, taken by the short way: they have no line and no data.
+
+ghost use Rattle.std.specs.Prelude.{◌≡◌, ◌<◌, ◌-◌, ◌^◌, ◌∷◌, true, false, None, Some, is_none, length, option_map};
+ghost use Rattle.ace_event.specs.declared.event.Channel.TheVariants.{Read};
+ghost use Rattle.ace_event.specs.declared.event.Event.TheVariants.{R};
+ghost use Rattle.ace_event.specs.declared.header.Header.{Header};
+ghost use Rattle.ace_model.specs.Accepted.{least_broken};
+ghost use Rattle.ace_model.specs.Trace.{Trace};
+ghost use Rattle.ace_model.specs.Transactions.{outstanding};
+ghost use Rattle.ace_portck.specs.Plain.{dvm_read};
+ghost use Rattle.ace_portck.specs.Stands.{Stands as PortsTell};
+ghost use Rattle.ace_portck.specs.Targets.{Recording, progress_of};
+ghost use Rattle.ace_lineck.specs.Stands.{Stands as LinesTell};
+ghost use Rattle.ace_sysck.specs.Stands.{Stands as SystemTells};
+ghost use Rattle.ace_check.specs.Shares.{SharesTell};
+
+use crate::shares::Shares;
+use ace_codes::ArKind;
+use ace_event::Channel;
+use ace_lineck::LineCheck;
+use ace_portck::kinds::dvm_read;
+use ace_portck::{PortCheck, Progress, event_kinds};
+use ace_sysck::SysCheck;
+
+/// The R of the DVM read is the last, and breaks no rule.
+#[inline(always)]
+fn keeps_message_beat(
+    ports: &PortCheck,
+    lines: &LineCheck,
+    system: &SysCheck,
+    beat: &event_kinds::R,
+    x: &Progress,
+    kind: ArKind,
+) -> bool
+    ensures last { result ≡ true → beat.now.last ≡ true }
+    ensures fine { (r : Recording) → PortsTell ports.now r → LinesTell lines.now r → SystemTells system.now r
+        → option_map (progress_of r.header r.past) (outstanding r.header r.past beat.now.port Read beat.now.id) ≡ Some x.now
+        → dvm_read x.now.transaction ≡ Some kind → result ≡ true
+        → is_none (least_broken r.header r.past (R beat.now.port beat.now.id beat.now.resp beat.now.last beat.now.word)) ≡ true }
+{
+    if !beat.last {
+        return false;
+    }
+    if !ports.keeps_beat(beat.port, x, kind, beat.resp, beat.last) {
+        return false;
+    }
+    if !system.keeps_message_beat(&x.transaction, beat.resp) {
+        return false;
+    }
+    lines.keeps_message_beat(x, beat.resp, beat.word)
+}
+
+impl Shares {
+    /// Takes the last R of a DVM read that breaks no rule. If it isn't taken, nothing has changed.
+    #[inline(always)]
+    pub(crate) fn take_message_beat(&mut self, beat: &event_kinds::R) -> bool
+        ensures taken { (h : Header) (past : Trace) → SharesTell self.old h past → length past < 2 ^ 64 - 1 → result ≡ true
+            → (least_broken h past (R beat.now.port beat.now.id beat.now.resp beat.now.last beat.now.word) ≡ None)
+            × SharesTell self.new h (R beat.now.port beat.now.id beat.now.resp beat.now.last beat.now.word ∷ past) }
+        ensures stays { result ≡ false → self.new ≡ self.old }
+    {
+        let Some(x) = self.ports.outstanding(beat.port, Channel::Read, beat.id) else {
+            return false;
+        };
+        let Some(kind) = dvm_read(&x.transaction) else {
+            return false;
+        };
+        if !keeps_message_beat(&self.ports, &self.lines, &self.system, beat, x, kind) {
+            return false;
+        }
+        self.system.complete_message(&x.transaction);
+        self.ports.apply(beat);
+        true
+    }
+}

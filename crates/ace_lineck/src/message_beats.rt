@@ -1,0 +1,42 @@
+//! The read transfers of DVM reads: these have no line, and their transfers no data.
+
+ghost use Rattle.std.specs.Prelude.{◌≡◌, ◌==◌, ◌&&◌, not};
+ghost use Rattle.ace_codes.specs.Responses.{is_shared, passes_dirty};
+ghost use Rattle.ace_lineck.specs.Beats.{is_dataless};
+
+use crate::LineCheck;
+use ace_codes::{is_shared, passes_dirty};
+use ace_portck::Progress;
+
+/// The transfer is the first of its read, has neither PassDirty nor IsShared, and the word 0.
+#[inline(always)]
+fn is_dataless(x: &Progress, resp: u8, word: u128) -> bool
+    ensures { result ≡ is_dataless x.now resp word }
+{
+    x.transfers == 0 && !passes_dirty(resp) && !is_shared(resp) && word == 0
+}
+
+impl LineCheck {
+    ghost use Rattle.std.specs.Prelude.{ℕ, Bool, true, Some, is_none, option_map};
+    ghost use Rattle.ace_codes.specs.declared.kind.ArKind.{ArKind};
+    ghost use Rattle.ace_event.specs.declared.event.Channel.TheVariants.{Read};
+    ghost use Rattle.ace_event.specs.declared.event.Event.TheVariants.{R};
+    ghost use Rattle.ace_model.specs.Accepted.{least_of};
+    ghost use Rattle.ace_model.specs.AddressRules.{k1};
+    ghost use Rattle.ace_model.specs.Shares.{line_rules};
+    ghost use Rattle.ace_model.specs.Transactions.{outstanding};
+    ghost use Rattle.ace_portck.specs.Plain.{dvm_read};
+    ghost use Rattle.ace_portck.specs.Targets.{Recording, progress_of};
+    ghost use Rattle.ace_lineck.specs.Stands.{Stands};
+
+    /// An R of the DVM read that is its first and has no data keeps the rules of the share: K19 and K20 (Arm IHI 0022E, C3.2.1).
+    #[inline(always)]
+    pub fn keeps_message_beat(&self, x: &Progress, resp: u8, word: u128) -> bool
+        ensures { (r : Recording) (port id : ℕ) (last : Bool) (k : ArKind) → Stands self.now r
+            → option_map (progress_of r.header r.past) (outstanding r.header r.past port Read id) ≡ Some x.now
+            → dvm_read x.now.transaction ≡ Some k → k1 r.header r.past (R port id resp last word) ≡ true → result ≡ true
+            → is_none (least_of line_rules r.header r.past (R port id resp last word)) ≡ true }
+    {
+        is_dataless(x, resp, word)
+    }
+}
