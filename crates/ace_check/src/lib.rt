@@ -2,6 +2,7 @@
 #![tactic(auto)]
 
 mod checker;
+mod message_addresses;
 mod message_beats;
 mod plain;
 mod plain_addresses;

@@ -7,7 +7,7 @@ ghost use Rattle.ace_event.specs.declared.header.Header.{Header};
 ghost use Rattle.ace_model.specs.Accepted.{least_broken};
 ghost use Rattle.ace_model.specs.Trace.{Trace};
 ghost use Rattle.ace_model.specs.Transactions.{outstanding};
-ghost use Rattle.ace_portck.specs.Plain.{dvm_read};
+ghost use Rattle.ace_portck.specs.DvmReads.{dvm_read};
 ghost use Rattle.ace_portck.specs.Stands.{Stands as PortsTell};
 ghost use Rattle.ace_portck.specs.Targets.{Recording, progress_of};
 ghost use Rattle.ace_lineck.specs.Stands.{Stands as LinesTell};
@@ -18,8 +18,7 @@ use crate::shares::Shares;
 use ace_codes::ArKind;
 use ace_event::Channel;
 use ace_lineck::LineCheck;
-use ace_portck::kinds::dvm_read;
-use ace_portck::{PortCheck, Progress, event_kinds};
+use ace_portck::{PortCheck, Progress, dvm_read, event_kinds};
 use ace_sysck::SysCheck;
 
 /// The R of the DVM read is the last, and breaks no rule.

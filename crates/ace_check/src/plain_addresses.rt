@@ -46,6 +46,9 @@ impl Shares {
 impl PlainKind for event_kinds::Ar {
     #[inline(always)]
     fn take(&self, shares: &mut Shares) -> bool {
-        shares.take_read_address(self)
+        if shares.take_read_address(self) {
+            return true;
+        }
+        shares.take_completion(self)
     }
 }

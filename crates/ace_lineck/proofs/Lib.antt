@@ -39,6 +39,7 @@ pub mod Judging
 -- The transfers of plain reads: what their rules say, and what they leave.
 pub mod BeatLaws
 pub mod MessageBeats
+pub mod MessageAddresses
 pub mod BeatSteps
 -- What the AR of a plain read asks of its line, which it leaves as it is.
 pub mod PlainAddresses

@@ -10,10 +10,10 @@ use Rattle.ace_model.specs.AddressRules.{k1}
 use Rattle.ace_model.specs.Lines.{has_failed_on}
 use Rattle.ace_model.specs.Shares.{line_rules, k18_line}
 use Rattle.ace_model.proofs.Terms.{Header, Trace, R, Read, IsAccepted, is_none_or, is_ace, outstanding, read_kind, k19, k20}
-use Rattle.ace_portck.specs.Plain.{dvm_read, is_dvm_read}
+use Rattle.ace_portck.specs.DvmReads.{dvm_read, is_dvm_read}
 use Rattle.ace_portck.specs.Targets.{Recording, after, line_in, line_of, progress_of, target_of}
 use Rattle.ace_portck.specs.declared.target.Progress.{Progress}
-use Rattle.ace_portck.proofs.Plain.{IsDvmRead, dvm_read-is, dvm_read-no_line}
+use Rattle.ace_portck.proofs.DvmReads.{IsDvmRead, dvm_read-is, dvm_read-no_line}
 use Rattle.ace_lineck.specs.declared.lines.LineCheck.{LineCheck}
 use Rattle.ace_lineck.specs.declared.record.LineRecord.{LineRecord}
 use Rattle.ace_lineck.specs.Records.{IsNext}

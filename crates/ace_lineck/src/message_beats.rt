@@ -25,7 +25,7 @@ impl LineCheck {
     ghost use Rattle.ace_model.specs.AddressRules.{k1};
     ghost use Rattle.ace_model.specs.Shares.{line_rules};
     ghost use Rattle.ace_model.specs.Transactions.{outstanding};
-    ghost use Rattle.ace_portck.specs.Plain.{dvm_read};
+    ghost use Rattle.ace_portck.specs.DvmReads.{dvm_read};
     ghost use Rattle.ace_portck.specs.Targets.{Recording, progress_of};
     ghost use Rattle.ace_lineck.specs.Stands.{Stands};
 

@@ -1,5 +1,5 @@
--- What a plain read is, and a DVM read, and which rules about one port look at an R.
-use Rattle.std.proofs.Common.{◌≡◌, ℕ, Bool, true, false, not, ◌&&◌, ◌||◌, nat_lt, if◌then◌else◌, Option, Some, None, is_none, option_map, option_and_then, refl, ap, subst, ◌∙◌}
+-- What a plain read is, and which rules about one port look at an R.
+use Rattle.std.proofs.Common.{◌≡◌, ℕ, Bool, true, false, not, ◌&&◌, nat_lt, if◌then◌else◌, Option, Some, None, is_none, option_map, option_and_then, refl, ap, subst, ◌∙◌}
 use Rattle.ace_codes.specs.declared.kind.ArKind.{ArKind}
 use Rattle.ace_codes.specs.declared.kind.ArKind.TheVariants as read
 use Rattle.ace_codes.specs.Reads.{ar_kind_of}
@@ -9,13 +9,13 @@ use Rattle.ace_event.specs.declared.event.Event.TheVariants.{R}
 use Rattle.ace_event.specs.declared.header.Header.{Header}
 use Rattle.ace_model.specs.Accepted.{least_of}
 use Rattle.ace_model.specs.Barriers.{is_barrier_half}
-use Rattle.ace_model.specs.Kinds.{is_dvm_complete, is_dvm_message, is_line_read, is_read_barrier}
+use Rattle.ace_model.specs.Kinds.{is_dvm_message, is_line_read, is_read_barrier}
 use Rattle.ace_model.specs.Messages.{is_message_part}
 use Rattle.ace_model.specs.Shares.{k18_transfer, port_rules}
 use Rattle.ace_model.specs.Trace.{Trace}
 use Rattle.ace_model.specs.Transactions.{is_line, is_read, outstanding, read_kind, write_kind}
 use Rattle.ace_model.specs.declared.transactions.Transaction.{Transaction}
-use Rattle.ace_portck.specs.Plain.{dvm_read, is_dvm_read, is_next_beat, plain_read}
+use Rattle.ace_portck.specs.Plain.{is_next_beat, plain_read}
 use Rattle.ace_portck.specs.Targets.{progress_of}
 use Rattle.ace_portck.specs.declared.target.Progress.{Progress}
 
@@ -26,7 +26,7 @@ pub record IsPlainRead (x : Transaction) (k : ArKind) : Type 0 where
   pub line : is_line_read k ≡ true
   pub unlocked : x.lock ≡ false
 
-from_test : (b lock : Bool) (j k : ArKind) → (if b && not lock then Some j else None) ≡ Some k → (b ≡ true) × (lock ≡ false) × (j ≡ k)
+pub from_test : (b lock : Bool) (j k : ArKind) → (if b && not lock then Some j else None) ≡ Some k → (b ≡ true) × (lock ≡ false) × (j ≡ k)
 from_test true false j k is = (refl, refl, cc)
 from_test true true j k is = cc
 from_test false lock j k is = cc
@@ -38,7 +38,7 @@ from_kind (Some j) lock k is =
     let t = from_test (is_line_read j) lock j k is in
     (ap Some t.2, subst (λ v. is_line_read v ≡ true) t.2 t.0, t.1)
 
-on_reads : (b : Bool) (o : Option ArKind) (k : ArKind) → (if b then o else None) ≡ Some k → b ≡ true
+pub on_reads : (b : Bool) (o : Option ArKind) (k : ArKind) → (if b then o else None) ≡ Some k → b ≡ true
 on_reads true o k is = refl
 on_reads false o k is = cc
 
@@ -68,44 +68,6 @@ plain_read-no_message x k p = rw (p.kind, line-no_message k p.line) refl
 
 pub plain_read-line : (x : Transaction) (k : ArKind) → IsPlainRead x k → is_line x ≡ true
 plain_read-line x k p = rw (p.kind, p.line) refl
-
--- The transaction is a DVM read of the kind, with lock 0.
-pub record IsDvmRead (x : Transaction) (k : ArKind) : Type 0 where
-  pub chan : is_read x.chan ≡ true
-  pub kind : read_kind x ≡ Some k
-  pub dvm : is_dvm_read k ≡ true
-  pub unlocked : x.lock ≡ false
-
-from_dvm : (o : Option ArKind) (lock : Bool) (k : ArKind) → option_and_then (λ j. if is_dvm_read j && not lock then Some j else None) o ≡ Some k
-    → (o ≡ Some k) × (is_dvm_read k ≡ true) × (lock ≡ false)
-from_dvm None lock k is = cc
-from_dvm (Some j) lock k is =
-    let t = from_test (is_dvm_read j) lock j k is in
-    (ap Some t.2, subst (λ v. is_dvm_read v ≡ true) t.2 t.0, t.1)
-
-pub dvm_read-is : (x : Transaction) (k : ArKind) → dvm_read x ≡ Some k → IsDvmRead x k
-dvm_read-is x k is =
-    let t = from_dvm (read_kind x) x.lock k is in
-    record { chan = on_reads (is_read x.chan) (ar_kind_of x.snoop x.dom x.bar) k t.0; kind = t.0; dvm = t.1; unlocked = t.2 }
-
-dvm_read-writes_none : (x : Transaction) (k : ArKind) → IsDvmRead x k → write_kind x ≡ None
-dvm_read-writes_none x k d = rw d.chan refl
-
-dvm-no_barrier : (k : ArKind) → is_dvm_read k ≡ true → is_read_barrier k ≡ false
-dvm-no_barrier read.Barrier dvm = cc
-dvm-no_barrier k dvm = refl
-
-dvm-no_line : (k : ArKind) → is_dvm_read k ≡ true → is_line_read k ≡ false
-dvm-no_line read.DvmMessage dvm = refl
-dvm-no_line read.DvmComplete dvm = refl
-dvm-no_line k dvm = cc
-
--- it is neither half of a barrier nor a line transaction
-pub dvm_read-no_half : (x : Transaction) (k : ArKind) → IsDvmRead x k → is_barrier_half x ≡ false
-dvm_read-no_half x k d = rw (d.kind, dvm_read-writes_none x k d, dvm-no_barrier k d.dvm) refl
-
-pub dvm_read-no_line : (x : Transaction) (k : ArKind) → IsDvmRead x k → is_line x ≡ false
-dvm_read-no_line x k d = rw (d.kind, dvm_read-writes_none x k d, dvm-no_line k d.dvm) refl
 
 -- of K18, how many transfers came, and whether the next is the last
 pub beat_transfer : (h : Header) (past : Trace) (p id resp : ℕ) (last : Bool) (word : ℕ) (x : Progress) (k : ArKind)

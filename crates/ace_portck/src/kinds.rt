@@ -7,7 +7,7 @@ ghost use Rattle.ace_model.specs.Barriers.{is_barrier_half};
 ghost use Rattle.ace_model.specs.AddressRules.{gives_up};
 ghost use Rattle.ace_model.specs.Progress.{evicts, updates_memory};
 ghost use Rattle.ace_model.specs.Snoops.{snoops_a_line};
-ghost use Rattle.ace_portck.specs.Plain.{dvm_read, is_dvm_read, plain_read};
+ghost use Rattle.ace_portck.specs.Plain.{plain_read};
 
 use ace_codes::{ArKind, AwKind, SnoopKind, read_ac, read_ar, read_aw};
 use ace_event::{Channel, Header, PortKind, kind_of};
@@ -71,23 +71,6 @@ pub fn plain_read(transaction: &Transaction) -> Option<ArKind>
 {
     match read_kind(transaction) {
         Some(kind) if is_line_read(kind) && !transaction.lock => Some(kind),
-        _ => None,
-    }
-}
-
-fn is_dvm_read(kind: ArKind) -> bool
-    ensures { result ≡ is_dvm_read kind }
-{
-    matches!(kind, ArKind::DvmMessage | ArKind::DvmComplete)
-}
-
-/// The kind of a DVM Message or DVM Complete with lock 0.
-#[inline(always)]
-pub fn dvm_read(transaction: &Transaction) -> Option<ArKind>
-    ensures { result ≡ dvm_read transaction.now }
-{
-    match read_kind(transaction) {
-        Some(kind) if is_dvm_read(kind) && !transaction.lock => Some(kind),
         _ => None,
     }
 }

@@ -1,6 +1,7 @@
 //! The rules that look at one port, and what an event belongs to.
 #![tactic(auto)]
 
+mod dvm_reads;
 pub mod event_kinds;
 pub mod kinds;
 mod no_memory;
@@ -22,6 +23,7 @@ mod targets;
 mod transactions;
 mod write_data;
 
+pub use dvm_reads::{dvm_read, is_completion};
 pub use event_kinds::EventKind;
 pub use no_memory::NoMemory;
 pub use one_port::OnePort;

@@ -30,5 +30,6 @@ pub mod MessageBeats
 pub mod SnoopLaws
 -- What the AR of a plain read moves.
 pub mod PlainAddresses
+pub mod MessageAddresses
 pub mod Judging
 pub mod MessageCodes

@@ -7,9 +7,9 @@ use Rattle.ace_model.specs.declared.transactions.Transaction.{Transaction}
 use Rattle.ace_model.specs.Accepted.{least_broken, least_of}
 use Rattle.ace_model.specs.Shares.{system_rules}
 use Rattle.ace_model.proofs.Terms.{Event, R, Header, Trace, is_answered_by_all, is_message_part, outstanding}
-use Rattle.ace_portck.specs.Plain.{dvm_read}
+use Rattle.ace_portck.specs.DvmReads.{dvm_read}
 use Rattle.ace_portck.specs.Targets.{Recording, after, target_of}
-use Rattle.ace_portck.proofs.Plain.{IsDvmRead, dvm_read-is, dvm_read-no_half}
+use Rattle.ace_portck.proofs.DvmReads.{IsDvmRead, dvm_read-is, dvm_read-no_half}
 use Rattle.ace_sysck.specs.declared.messages.Messages.{Messages}
 use Rattle.ace_sysck.specs.declared.system.SysCheck.{SysCheck}
 use Rattle.ace_sysck.specs.Messages.{part_completed, silent}

@@ -5,6 +5,7 @@ mod barriers;
 mod events;
 mod inboxes;
 mod kinds;
+mod message_addresses;
 mod message_beats;
 mod messages;
 mod monitors;

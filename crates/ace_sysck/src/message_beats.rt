@@ -16,7 +16,7 @@ impl SysCheck {
     ghost use Rattle.ace_model.specs.OrderRules.{is_answered_by_all};
     ghost use Rattle.ace_model.specs.Shares.{system_rules};
     ghost use Rattle.ace_model.specs.Transactions.{outstanding};
-    ghost use Rattle.ace_portck.specs.Plain.{dvm_read};
+    ghost use Rattle.ace_portck.specs.DvmReads.{dvm_read};
     ghost use Rattle.ace_portck.specs.Targets.{Recording, after};
     ghost use Rattle.ace_sysck.specs.Stands.{Stands};
 

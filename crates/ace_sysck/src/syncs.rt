@@ -82,12 +82,12 @@ fn one_completed(kept: PortSyncs) -> PortSyncs
 }
 
 impl Syncs {
-    ghost use Rattle.std.specs.Prelude.{◌≡◌, [], ◌==◌, IfOk, slice_set, slice_index_or, nat_le};
+    ghost use Rattle.std.specs.Prelude.{◌≡◌, [], ◌==◌, IfOk, slice_set, slice_index_or, nat_le, nat_lt};
     ghost use Rattle.ace_event.specs.declared.header.Header.{Header};
     ghost use Rattle.ace_model.specs.Trace.{implies};
     ghost use Rattle.ace_model.specs.OrderRules.{owes_completion};
     ghost use Rattle.ace_portck.specs.Targets.{Recording, after};
-    ghost use Rattle.ace_sysck.specs.Syncs.{SyncsStand, MayHearSyncs, MayIssueCompletion, ReachesAll, completes_all, untold};
+    ghost use Rattle.ace_sysck.specs.Syncs.{SyncsStand, MayHearSyncs, MayIssueCompletion, ReachesAll, completes_all, one_completed, untold};
 
     /// What is kept after the empty trace, of so many ports.
     pub fn new(alloc: Global, ports: u8) -> Result<Syncs, AllocError>
@@ -130,13 +130,28 @@ impl Syncs {
         }
     }
 
+    /// The port has answered more Syncs than it has issued DVM Completes.
+    pub(crate) fn owes_completion(&self, port: u8) -> bool
+        ensures { result ≡ nat_lt (slice_index_or self.now.ports.items port untold).completes (slice_index_or self.now.ports.items port untold).answered }
+    {
+        let kept = self.of(port);
+        kept.completes < kept.answered
+    }
+
+    /// The port has issued a DVM Complete.
+    pub(crate) fn complete(&mut self, port: u8)
+        ensures { self.new.ports.items ≡ slice_set self.old.ports.items port (one_completed (slice_index_or self.old.ports.items port untold)) }
+    {
+        let more = one_completed(self.of(port));
+        self.set(port, more);
+    }
+
     /// K38, where the event issues the transaction: the port of a DVM Complete has answered more Syncs than it has issued DVM
     /// Completes.
     pub fn keeps_k38(&self, x: &Transaction) -> bool
         ensures { (r : Recording) → MayIssueCompletion r self.now x.now → result ≡ owes_completion r.past x.now }
     {
-        let kept = self.of(x.port);
-        !is_dvm_completion(x) || kept.completes < kept.answered
+        !is_dvm_completion(x) || self.owes_completion(x.port)
     }
 
     /// Every other ACE port has issued its DVM Complete for the port's last Sync.
@@ -182,8 +197,7 @@ impl Syncs {
                     self.reach_all(x.port);
                 }
             } else if is_dvm_completion(&x) {
-                let more = one_completed(self.of(x.port));
-                self.set(x.port, more);
+                self.complete(x.port);
             }
         } else if let Event::Cr { port, .. } = *event {
             if answers_message(target) {

@@ -27,9 +27,8 @@ returns-then-is_dvm_completion c = λ r q.
     let s = c.args.self.now in
     let x = c.in-Some.x in
     let begun : begun_in c.args.event.now c.args.target.now ≡ Some x = sym c.begun_in.ensures ∙ c.in-Some.is in
-    syncs_completion r s c.set.new.self c.args.event.now c.args.target.now x q.step begun (sym c.is_message_part.ensures ∙ c.if-is_message_part.false)
-    (sym c.is_dvm_completion.ensures ∙ c.if-is_dvm_completion.true) q.stands
-    (c.set.ensures ∙ ap (slice_set s.ports.items x.port) (c.one_completed-more.ensures ∙ ap one_completed c.of.ensures))
+    syncs_completion r s c.complete.new.self c.args.event.now c.args.target.now x q.step begun (sym c.is_message_part.ensures ∙ c.if-is_message_part.false)
+    (sym c.is_dvm_completion.ensures ∙ c.if-is_dvm_completion.true) q.stands c.complete.ensures
 
 pub returns-else-is_dvm_completion : goal.returns-else-is_dvm_completion
 returns-else-is_dvm_completion c = λ r q.
