@@ -1,0 +1,19 @@
+use Rattle.std.proofs.Common.{◌≡◌, ◌∙◌, true, Some, is_none, sym}
+use Rattle.ace_event.specs.declared.event.Event.TheVariants.{R}
+use Rattle.ace_model.specs.Accepted.{least_of}
+use Rattle.ace_model.specs.Shares.{port_rules, system_rules}
+use Rattle.ace_portck.proofs.DvmReads.{dvm_read-is}
+use Rattle.ace_sysck.proofs.Steps.{progress_from}
+use Rattle.ace_check.proofs.PlainSteps.{lines_decide, ports_keep_1}
+use Rattle.ace_check.proofs.message_beats.keeps_message_beat.Goals as goal
+
+pub returns-clause-fine : goal.returns-clause-fine
+returns-clause-fine c = λ r p l s out own yes.
+    let b = c.args.beat.now in
+    let x = c.args.x.now.transaction in
+    let k = c.args.kind in
+    let e = R b.port b.id b.resp b.last b.word in
+    let served = progress_from r.header r.past _ c.args.x.now out in
+    let ports : is_none (least_of port_rules r.header r.past e) ≡ true = sym (c.keeps_beat.ensures r b.id b.word p out (dvm_read-is x k own).kind) ∙ c.if-not-keeps_beat.false in
+    let system : is_none (least_of system_rules r.header r.past e) ≡ true = sym (c.keeps_message_beat.ensures r b.port b.id b.last b.word k s served own) ∙ c.if-not-keeps_message_beat.false in
+    lines_decide r.header r.past e ports system ∙ c.keeps_message_beat-2.ensures r b.port b.id b.last k l out own (ports_keep_1 r.header r.past e ports) yes
