@@ -1,5 +1,5 @@
 -- The AR of a DVM Complete has no line: no rule of the share looks at it, and all lines stay as they are.
-use Rattle.std.proofs.Common.{◌≡◌, ℕ, Bool, true, length, None, refl}
+use Rattle.std.proofs.Common.{◌≡◌, ℕ, Bool, true, false, length, None, refl}
 use Rattle.ace_event.specs.declared.event.Event.TheVariants.{Ar}
 use Rattle.ace_model.specs.Accepted.{least_broken, least_of}
 use Rattle.ace_model.specs.Shares.{line_rules}

@@ -29,14 +29,14 @@ record IsDataless (x : Progress) (resp word : ℕ) : Type 0 where
   first : (x.transfers == 0) ≡ true
   dirty : passes_dirty resp ≡ false
   shared : is_shared resp ≡ false
-  word : (word == 0) ≡ true
+  zero : (word == 0) ≡ true
 
 dataless-is : (x : Progress) (resp word : ℕ) → is_dataless x resp word ≡ true → IsDataless x resp word
 dataless-is x resp word t =
     let last = and_parts _ (word == 0) t in
     let shared = and_parts _ (not (is_shared resp)) last.0 in
     let dirty = and_parts (x.transfers == 0) (not (passes_dirty resp)) shared.0 in
-    record { first = dirty.0; dirty = not-true (passes_dirty resp) dirty.1; shared = not-true (is_shared resp) shared.1; word = last.1 }
+    record { first = dirty.0; dirty = not-true (passes_dirty resp) dirty.1; shared = not-true (is_shared resp) shared.1; zero = last.1 }
 
 -- its upper bits and its word are those of a DVM read
 bits-fit : (h : Header) (passed shared : Bool) (resp word : ℕ) (x : Progress) (k : ArKind) → read_kind x.transaction ≡ Some k → is_dvm_read k ≡ true → IsDataless x resp word
@@ -55,8 +55,8 @@ word-fits : (kept : LineRecord) (resp word : ℕ) (x : Progress) (k : ArKind) �
 word-fits kept resp word x k kind dvm d = by k dvm kind
   where
     by : (j : ArKind) → is_dvm_read j ≡ true → read_kind x.transaction ≡ Some j → fits_reply kept.grant kept.memory word x ≡ true
-    by read.DvmMessage dvm own = rw own d.word
-    by read.DvmComplete dvm own = rw own d.word
+    by read.DvmMessage dvm own = rw own d.zero
+    by read.DvmComplete dvm own = rw own d.zero
     by j dvm own = cc
 
 module _ (h : Header) (past : Trace) (p i resp : ℕ) (last : Bool) (word : ℕ) (x : Progress) (k : ArKind) (out : option_map (progress_of h past) (outstanding h past p Read i) ≡ Some x)

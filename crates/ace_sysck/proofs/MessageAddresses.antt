@@ -1,11 +1,10 @@
--- The AR of a DVM Complete: the rules of the share that look at it, and what it moves.
-use Rattle.std.proofs.Common.{◌≡◌, ◌<◌, ◌-◌, ◌^◌, ℕ, Bool, true, false, ◌&&◌, nat_eq, nat_lt, ◌∷◌, length, get_or, slice_set, None, is_none, refl}
+-- What the AR of a DVM Complete moves of the system: the results, and the Syncs of its port.
+use Rattle.std.proofs.Common.{◌≡◌, ◌<◌, ◌-◌, ◌^◌, ℕ, Bool, true, false, ◌∷◌, length, get_or, slice_set, None, refl}
 use Rattle.ace_codes.specs.declared.kind.ArKind.TheVariants as read
 use Rattle.ace_event.specs.declared.event.Event.TheVariants.{Ar}
-use Rattle.ace_model.specs.Accepted.{IsAccepted, least_broken, least_of}
+use Rattle.ace_model.specs.Accepted.{IsAccepted, least_broken}
 use Rattle.ace_model.specs.Barriers.{is_barrier_half}
-use Rattle.ace_model.specs.Messages.{answered_syncs, dvm_completes, is_dvm_completion, is_message_part}
-use Rattle.ace_model.specs.Shares.{system_rules}
+use Rattle.ace_model.specs.Messages.{is_dvm_completion, is_message_part}
 use Rattle.ace_model.specs.declared.transactions.Transaction.{Transaction}
 use Rattle.ace_model.proofs.Terms.{Event, Header, Trace}
 use Rattle.ace_portck.specs.DvmReads.{is_completion}
@@ -44,17 +43,6 @@ module _ (h : Header) (past : Trace) (p i addr snoop dom bar : ℕ) (lock : Bool
   completes : is_dvm_completion begun ≡ true
   completes = rw fields.kind refl
 
-  -- K9 asks for address 0, and K38 for a Sync that the port has answered
-  pub completion_rules : is_none (least_of system_rules h past (Ar p i addr snoop dom bar lock)) ≡ (nat_eq addr 0 && nat_lt (dvm_completes past p) (answered_syncs past p))
-  completion_rules = by (nat_eq addr 0) (nat_lt (dvm_completes past p) (answered_syncs past p)) refl refl
-    where
-      by : (a b : Bool) → nat_eq addr 0 ≡ a → nat_lt (dvm_completes past p) (answered_syncs past p) ≡ b
-          → is_none (least_of system_rules h past (Ar p i addr snoop dom bar lock)) ≡ (a && b)
-      by false b zero owes = rw (fields.kind, zero) refl
-      by true false zero owes = rw (fields.kind, zero, owes) refl
-      by true true zero owes = rw (fields.kind, zero, owes) refl
-
--- it moves the results and the Syncs of its port
 pub completion-stands : (s : SysCheck) (n : Results) (m : Syncs) (r : Recording) (p i addr snoop dom bar : ℕ) (lock : Bool) → Stands s r → is_completion snoop dom bar lock ≡ true
     → least_broken r.header r.past (Ar p i addr snoop dom bar lock) ≡ None → length r.past < 2 ^ 64 - 1 → i < 256
     → n.passed.items ≡ slice_set s.results.passed.items (slot_of p i) None → m.ports.items ≡ slice_set s.syncs.ports.items p (one_completed (get_or s.syncs.ports.items p untold))

@@ -1,15 +1,13 @@
--- The transfers of DVM reads: the rules of the share that look at one, and what it leaves.
-use Rattle.std.proofs.Common.{◌≡◌, ◌<◌, ◌-◌, ◌^◌, ◌&&◌, ◌||◌, not, ℕ, Bool, true, false, nat_eq, length, get_or, slice_set, Some, None, is_none, refl, ap, ◌∙◌}
-use Rattle.ace_codes.specs.Responses.{low_bits}
+-- What the last transfer of a DVM read leaves of the system.
+use Rattle.std.proofs.Common.{◌≡◌, ◌<◌, ◌-◌, ◌^◌, ℕ, true, length, get_or, slice_set, Some, None, refl, ◌∙◌}
 use Rattle.ace_codes.specs.declared.kind.ArKind.{ArKind}
 use Rattle.ace_event.specs.declared.event.Channel.TheVariants.{Read}
 use Rattle.ace_model.specs.declared.transactions.Transaction.{Transaction}
-use Rattle.ace_model.specs.Accepted.{least_broken, least_of}
-use Rattle.ace_model.specs.Shares.{system_rules}
-use Rattle.ace_model.proofs.Terms.{Event, R, Header, Trace, is_answered_by_all, is_message_part, outstanding}
+use Rattle.ace_model.specs.Accepted.{least_broken}
+use Rattle.ace_model.proofs.Terms.{Event, R, outstanding}
 use Rattle.ace_portck.specs.DvmReads.{dvm_read}
 use Rattle.ace_portck.specs.Targets.{Recording, after, target_of}
-use Rattle.ace_portck.proofs.DvmReads.{IsDvmRead, dvm_read-is, dvm_read-no_half}
+use Rattle.ace_portck.proofs.DvmReads.{dvm_read-is, dvm_read-no_half}
 use Rattle.ace_sysck.specs.declared.messages.Messages.{Messages}
 use Rattle.ace_sysck.specs.declared.system.SysCheck.{SysCheck}
 use Rattle.ace_sysck.specs.Messages.{part_completed, silent}
@@ -20,23 +18,7 @@ use Rattle.ace_sysck.proofs.MessageSteps.{messages_completed}
 use Rattle.ace_sysck.proofs.PlainAnswers.{barriers_unanswered}
 use Rattle.ace_sysck.proofs.Unmoved.{monitors_still, results_still, registrations_still, inboxes_still, syncs_still}
 
--- K21 asks for OKAY, and K37 of a part of a message that all have answered it
-pub message_rules : (h : Header) (past : Trace) (p id resp : ℕ) (last : Bool) (word : ℕ) (x : Transaction) (k : ArKind) → outstanding h past p Read id ≡ Some x → dvm_read x ≡ Some k
-    → is_none (least_of system_rules h past (R p id resp last word)) ≡ (nat_eq (low_bits resp) 0 && (not (is_message_part x) || is_answered_by_all h past x))
-message_rules h past p id resp last word x k out own =
-    by (nat_eq (low_bits resp) 0) (is_message_part x) (is_answered_by_all h past x) refl refl refl
-  where
-    is : IsDvmRead x k
-    is = dvm_read-is x k own
-
-    by : (a b c : Bool) → nat_eq (low_bits resp) 0 ≡ a → is_message_part x ≡ b → is_answered_by_all h past x ≡ c
-        → is_none (least_of system_rules h past (R p id resp last word)) ≡ (a && (not b || c))
-    by false b c okay part all = rw (out, is.unlocked, okay) refl
-    by true false c okay part all = rw (out, is.unlocked, okay, dvm_read-no_half x k is, part) refl
-    by true true false okay part all = rw (out, is.unlocked, okay, dvm_read-no_half x k is, part, all) refl
-    by true true true okay part all = rw (out, is.unlocked, okay, dvm_read-no_half x k is, part, all) refl
-
--- an accepted last one leaves all but the messages of its port, of which a Sync may be complete
+-- all but the messages of its port, of which the last Sync may be complete
 pub message_completed : (s : SysCheck) (n : Messages) (r : Recording) (p id resp word : ℕ) (x : Transaction) (k : ArKind) → Stands s r → outstanding r.header r.past p Read id ≡ Some x
     → dvm_read x ≡ Some k → least_broken r.header r.past (R p id resp true word) ≡ None → length r.past < 2 ^ 64 - 1
     → n.ports.items ≡ slice_set s.messages.ports.items x.port (part_completed (get_or s.messages.ports.items x.port silent) x.place)

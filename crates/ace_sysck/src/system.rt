@@ -19,7 +19,7 @@ use std::alloc::Global;
 /// The checker of the rules on barriers, DVM messages and exclusive transactions: what is kept of each after a trace.
 #[derive(Drop)]
 pub struct SysCheck {
-    header: Header,
+    pub(crate) header: Header,
     pub(crate) barriers: Barriers,
     pub(crate) monitors: Monitors,
     pub(crate) results: Results,

@@ -4,7 +4,7 @@ use Rattle.ace_model.proofs.Terms.{Event, Cr}
 use Rattle.ace_portck.specs.Targets.{after}
 use Rattle.ace_sysck.specs.Steps.{IsStep}
 use Rattle.ace_sysck.specs.Events.{begun_in}
-use Rattle.ace_sysck.specs.Syncs.{SyncsStand, one_answered, one_completed}
+use Rattle.ace_sysck.specs.Syncs.{SyncsStand, one_answered}
 use Rattle.ace_sysck.proofs.SyncSteps.{syncs_sync, syncs_part, syncs_completion, syncs_plain, syncs_quiet, syncs_answer, syncs_no_message, syncs_no_sync}
 use Rattle.ace_sysck.proofs.syncs.Syncs.hear.Goals as goal
 
@@ -42,10 +42,10 @@ returns-then-answers_sync c = λ r q.
     let s = c.args.self.now in
     let i = c.in-Cr in
     let step : IsStep r (Cr i.port i.resp i.st) c.args.target.now = subst (λ (v : Event). IsStep r v c.args.target.now) i.is q.step in
-    subst (λ (v : Event). SyncsStand (after r v) c.set-then-answers_sync.new.self) (sym i.is)
-    (syncs_answer r s c.set-then-answers_sync.new.self c.args.target.now i.port i.resp i.st c.args.inboxes.now c.answers_sync.result step (sym c.answers_message.ensures ∙ c.if-answers_message.true) c.if-answers_sync.true
+    subst (λ (v : Event). SyncsStand (after r v) c.set.new.self) (sym i.is)
+    (syncs_answer r s c.set.new.self c.args.target.now i.port i.resp i.st c.args.inboxes.now c.answers_sync.result step (sym c.answers_message.ensures ∙ c.if-answers_message.true) c.if-answers_sync.true
     q.inboxes c.answers_sync.ensures q.stands
-    (c.set-then-answers_sync.ensures ∙ ap (slice_set s.ports.items i.port) (c.one_answered-more.ensures ∙ ap one_answered c.of-then-answers_sync.ensures)))
+    (c.set.ensures ∙ ap (slice_set s.ports.items i.port) (c.one_answered-more.ensures ∙ ap one_answered c.of.ensures)))
 
 pub returns-else-answers_sync : goal.returns-else-answers_sync
 returns-else-answers_sync c = λ r q.
