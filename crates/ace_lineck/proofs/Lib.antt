@@ -41,3 +41,4 @@ pub mod BeatLaws
 pub mod BeatSteps
 -- What the AR of a plain read asks of its line, which it leaves as it is.
 pub mod PlainAddresses
+pub mod PlainWriteAddresses
