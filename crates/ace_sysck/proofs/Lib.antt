@@ -29,5 +29,7 @@ pub mod PlainAnswers
 pub mod SnoopLaws
 -- What the AR of a plain read moves.
 pub mod PlainAddresses
+-- What the AW of a line write asks and leaves.
+pub mod PlainWriteAddresses
 pub mod Judging
 pub mod MessageCodes
