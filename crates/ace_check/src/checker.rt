@@ -96,7 +96,7 @@ impl Checker {
             Ar { port, id, addr, snoop, dom, bar, lock } => feed_plain,
             R { port, id, resp, last, word } => feed_plain,
             Rk { port, st } => feed_kind,
-            Aw { port, id, addr, snoop, dom, bar } => feed_kind,
+            Aw { port, id, addr, snoop, dom, bar } => feed_plain,
             W { port, strb, last, word } => feed_plain,
             B { port, id, resp } => feed_kind,
             Wk { port, st } => feed_kind,

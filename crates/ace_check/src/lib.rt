@@ -10,6 +10,7 @@ mod plain_beats;
 mod plain_grants;
 mod plain_loads;
 mod plain_snoops;
+mod plain_write_addresses;
 mod plain_writes;
 mod shares;
 

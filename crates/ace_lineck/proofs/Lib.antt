@@ -43,3 +43,4 @@ pub mod MessageAddresses
 pub mod BeatSteps
 -- What the AR of a plain read asks of its line, which it leaves as it is.
 pub mod PlainAddresses
+pub mod PlainWriteAddresses

@@ -1,18 +1,19 @@
--- What the AR of a plain read asks of its line; where the line is known, nothing of it moves.
+-- What the AR of a plain read asks of its line; where the line is known, no transaction that begins moves anything of it.
 use Rattle.std.proofs.Common.{◌≡◌, ℕ, Bool, true, false, ◌&&◌, ◌||◌, nat_eq, if◌then◌else◌, ◌∷◌, List, length, Option, Some, None, is_none, refl, sym, ap, ◌∙◌, inl, inr}
 use Rattle.std.proofs.lemmas.Bool.{and_parts, cases_Bool, eqb-true, not-true}
 use Rattle.ace_codes.specs.Reads.{ar_kind_of}
 use Rattle.ace_codes.specs.declared.kind.ArKind.{ArKind}
-use Rattle.ace_event.specs.declared.event.Event.TheVariants.{Ar}
+use Rattle.ace_event.specs.declared.event.Event.TheVariants.{Ar, Aw}
 use Rattle.ace_tables.specs.StartStates.{starts_read}
 use Rattle.ace_model.specs.Accepted.{least_broken, least_of}
 use Rattle.ace_model.specs.Kinds.{is_no_snoop_read}
 use Rattle.ace_model.specs.Lines.{add_line, is_known, known_lines}
 use Rattle.ace_model.specs.Shares.{line_rules}
 use Rattle.ace_model.specs.declared.transactions.Transaction.{Transaction}
-use Rattle.ace_model.proofs.Terms.{Header, Trace, IsAccepted, implies, is_none_or, is_some_and, is_line, is_on, is_no_snoop, is_used_alike, each_issued, state_of, k6, k8}
+use Rattle.ace_model.proofs.Terms.{Event, Header, Trace, IsAccepted, issued, implies, is_none_or, is_some_and, is_line, is_on, is_no_snoop, is_used_alike, each_issued, state_of, k6, k8}
 use Rattle.ace_model.proofs.General.Booleans.{implies-at}
 use Rattle.ace_model.proofs.Rules.Keeps.{accepted_keeps}
+use Rattle.ace_model.proofs.Trace.Outstanding.{write_issued}
 use Rattle.ace_portck.specs.PlainAddresses.{plain_kind}
 use Rattle.ace_portck.specs.Targets.{Recording, after}
 use Rattle.ace_portck.proofs.Plain.{IsPlainRead, plain_read-line}
@@ -31,7 +32,7 @@ use Rattle.ace_lineck.proofs.GrantSteps.{calm-stays, stays-unended}
 use Rattle.ace_lineck.proofs.KnownLines.{known-used}
 use Rattle.ace_lineck.proofs.RuleLaws.{uses-law}
 
-under : (b c : Bool) → b ≡ true → implies b c ≡ c
+pub under : (b c : Bool) → b ≡ true → implies b c ≡ c
 under true c t = refl
 under false c t = cc
 
@@ -43,7 +44,7 @@ or-false : (b : Bool) → (b || false) ≡ b
 or-false true = refl
 or-false false = refl
 
-two-rules : (a b : Bool) → is_none {T = ℕ} (if a then if b then None else Some 8 else Some 6) ≡ (b && a)
+pub two-rules : (a b : Bool) → is_none {T = ℕ} (if a then if b then None else Some 8 else Some 6) ≡ (b && a)
 two-rules true true = refl
 two-rules true false = refl
 two-rules false true = refl
@@ -117,35 +118,59 @@ known-same-at past x lines known = by (is_line x) refl
     by true t = rw (t, known) refl
     by false f = rw f refl
 
-grant-begun : (h : Header) (past : Trace) (p i addr snoop dom bar : ℕ) (lock : Bool) (l : ℕ) (g : Option Grant) → IsAccepted h (Ar p i addr snoop dom bar lock ∷ past)
-    → GrantStands h past l g → GrantStands h (Ar p i addr snoop dom bar lock ∷ past) l g
-grant-begun h past p i addr snoop dom bar lock l None a none = none-stays h past (Ar p i addr snoop dom bar lock) l refl none
-grant-begun h past p i addr snoop dom bar lock l (Some g) a f =
+-- the event issues a transaction on a line that is known
+abbrev pub begins_on_known : Trace → Event → Bool
+begins_on_known past e = is_some_and (issued (length past) e) (λ x. is_known past x.addr)
+
+grant-begun : (h : Header) (past : Trace) (e : Event) (l : ℕ) (g : Option Grant) → begins_on_known past e ≡ true → IsAccepted h (e ∷ past)
+    → GrantStands h past l g → GrantStands h (e ∷ past) l g
+grant-begun h past (Ar p i addr snoop dom bar lock) l None known a none = none-stays h past (Ar p i addr snoop dom bar lock) l refl none
+grant-begun h past (Aw p i addr snoop dom bar) l None known a none = none-stays h past (Aw p i addr snoop dom bar) l refl none
+grant-begun h past (Ar p i addr snoop dom bar lock) l (Some g) known a f =
     calm-stays h past l g f (Ar p i addr snoop dom bar lock) a refl refl (stays-unended h past l g f (Ar p i addr snoop dom bar lock) a refl)
+grant-begun h past (Aw p i addr snoop dom bar) l (Some g) known a f =
+    calm-stays h past l g f (Aw p i addr snoop dom bar) a refl refl (stays-unended h past l g f (Aw p i addr snoop dom bar) a refl)
+grant-begun h past e l g known a f = cc
 
 -- what is kept of a line stays
-line-begun : (h : Header) (past : Trace) (p i addr snoop dom bar : ℕ) (lock : Bool) (l : ℕ) (x : LineRecord) → IsAccepted h (Ar p i addr snoop dom bar lock ∷ past)
-    → is_known past addr ≡ true → LineStands h past l x → LineStands h (Ar p i addr snoop dom bar lock ∷ past) l x
-line-begun h past p i addr snoop dom bar lock l x a known s = record {
+line-begun : (h : Header) (past : Trace) (e : Event) (l : ℕ) (x : LineRecord) → begins_on_known past e ≡ true → IsAccepted h (e ∷ past)
+    → LineStands h past l x → LineStands h (e ∷ past) l x
+line-begun h past (Ar p i addr snoop dom bar lock) l x known a s = record {
   used = s.used
       ∙ sym (newest-same (read_of (length past) p i addr snoop dom bar lock) l (use_of past l)
       (use-begun h past (read_of (length past) p i addr snoop dom bar lock) l a.0
       (accepted_keeps h past (Ar p i addr snoop dom bar lock) a).rule_8 known));
   memory = record { memory = s.memory.memory };
-  grant = grant-begun h past p i addr snoop dom bar lock l x.grant a s.grant;
+  grant = grant-begun h past (Ar p i addr snoop dom bar lock) l x.grant known a s.grant;
   holders = record { state = s.holders.state; copy = s.holders.copy; sent = s.holders.sent };
 }
+line-begun h past (Aw p i addr snoop dom bar) l x known a s = record {
+  used = s.used
+      ∙ sym (newest-same (write_issued past p i addr snoop dom bar) l (use_of past l)
+      (use-begun h past (write_issued past p i addr snoop dom bar) l a.0
+      (accepted_keeps h past (Aw p i addr snoop dom bar) a).rule_8 known));
+  memory = record { memory = s.memory.memory };
+  grant = grant-begun h past (Aw p i addr snoop dom bar) l x.grant known a s.grant;
+  holders = record { state = s.holders.state; copy = s.holders.copy; sent = s.holders.sent };
+}
+line-begun h past e l x known a s = cc
+
+known-same : (past : Trace) (e : Event) → begins_on_known past e ≡ true → length (known_lines (e ∷ past)) ≡ length (known_lines past)
+known-same past e known = by (issued (length past) e) known
+  where
+    by : (o : Option Transaction) → is_some_and o (λ x. is_known past x.addr) ≡ true → length (add_line past o (known_lines past)) ≡ length (known_lines past)
+    by None known = refl
+    by (Some x) known = known-same-at past x (known_lines past) known
 
 -- and so do all of them
-pub lines-begun : (s : LineCheck) (r : Recording) (p i addr snoop dom bar : ℕ) (lock : Bool) → Stands s r → is_known r.past addr ≡ true
-    → least_broken r.header r.past (Ar p i addr snoop dom bar lock) ≡ None → Stands s (after r (Ar p i addr snoop dom bar lock))
-lines-begun s r p i addr snoop dom bar lock st known fine = record {
+pub lines-begun : (s : LineCheck) (r : Recording) (e : Event) → Stands s r → begins_on_known r.past e ≡ true → least_broken r.header r.past e ≡ None → Stands s (after r e)
+lines-begun s r e st known fine = record {
   header = st.header;
   ports = st.ports;
   accepted = (st.accepted, fine);
   empty = st.empty;
-  lines = λ l. line-begun r.header r.past p i addr snoop dom bar lock l (record_of s l) (st.accepted, fine) known (st.lines l);
+  lines = λ l. line-begun r.header r.past e l (record_of s l) known (st.accepted, fine) (st.lines l);
   holders = st.holders;
-  known = st.known ∙ sym (known-same-at r.past (read_of (length r.past) p i addr snoop dom bar lock) (known_lines r.past) known);
+  known = st.known ∙ sym (known-same r.past e known);
   spare = st.spare;
 }

@@ -19,7 +19,7 @@ pub fn is_no_snoop_read(kind: ArKind) -> bool
 }
 
 #[inline(always)]
-fn is_no_snoop_write(kind: AwKind) -> bool
+pub fn is_no_snoop_write(kind: AwKind) -> bool
     ensures { result ≡ is_no_snoop_write kind }
 {
     matches!(kind, AwKind::WriteNoSnoop)

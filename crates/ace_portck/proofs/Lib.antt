@@ -19,3 +19,4 @@ pub mod Plain
 pub mod PlainEvents
 pub mod PlainAddresses
 pub mod DvmReads
+pub mod PlainWriteAddresses

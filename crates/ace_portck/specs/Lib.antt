@@ -15,3 +15,4 @@ pub mod LineMaps
 pub mod Plain
 pub mod PlainAddresses
 pub mod DvmReads
+pub mod PlainWriteAddresses

@@ -17,6 +17,7 @@ use crate::NoMemory;
 use crate::kinds::{evicts, gives_up, is_line, is_on, is_unique_write, updates_memory, write_kind};
 use crate::pending::Pending;
 use crate::target::Progress;
+use ace_codes::AwKind;
 use ace_event::{Channel, Event, Header};
 use ace_model::Transaction;
 use std::alloc::Global;
@@ -293,11 +294,17 @@ impl Transactions {
     {
         match write_kind(x) {
             None => true,
-            Some(kind) => {
-                (!gives_up(kind) || !self.has_unique_write())
-                    && (!is_unique_write(kind) || !self.has_giving_up())
-            }
+            Some(kind) => self.keeps_kind_apart(kind),
         }
+    }
+
+    /// The same, of a new write of the kind.
+    #[inline(always)]
+    pub fn keeps_kind_apart(&self, kind: AwKind) -> bool
+        ensures { (h : Header) (past : Trace) (p : ℕ) → TransactionsStand h past p self.now → result ≡ keeps_apart h past p kind }
+    {
+        (!gives_up(kind) || !self.has_unique_write())
+            && (!is_unique_write(kind) || !self.has_giving_up())
     }
 
     /// Hears an event of the port that keeps the rules, with `place` events before it. It takes no memory.

@@ -31,5 +31,7 @@ pub mod SnoopLaws
 -- What the AR of a plain read moves.
 pub mod PlainAddresses
 pub mod MessageAddresses
+-- What the AW of a line write asks and leaves.
+pub mod PlainWriteAddresses
 pub mod Judging
 pub mod MessageCodes

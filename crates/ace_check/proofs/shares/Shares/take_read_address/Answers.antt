@@ -27,7 +27,7 @@ returns-clause-taken c = λ h past s few t.
       fine,
       record {
         ports = c.apply.ensures.stands r (record { stands = s.ports; room = λ p k own at. tt; keeps = fine; few = few });
-        lines = lines-begun c.args.self.now.lines r a.port a.id a.addr a.snoop a.dom a.bar a.lock s.lines parts.0 fine;
+        lines = lines-begun c.args.self.now.lines r e s.lines parts.0 fine;
         system = c.begin_read.ensures r a.addr a.snoop a.dom a.bar a.lock kind s.system plain fine few;
       },
     )
@@ -41,4 +41,4 @@ returns-clause-few_lines c = λ h past s t.
     let plain : plain_kind a.snoop a.dom a.bar a.lock ≡ Some kind = sym c.plain_kind.ensures ∙ c.in-Some.is in
     let both : (is_known past a.addr && is_none (least_of line_rules h past e)) ≡ true =
     sym (c.keeps_read_address-2.ensures r a.id a.addr a.snoop a.dom a.bar a.lock s.lines c.place-place.ensures plain) ∙ c.if-not-keeps_read_address-2.false in
-    over-known h past a.port a.id a.addr a.snoop a.dom a.bar a.lock (and_parts (is_known past a.addr) (is_none (least_of line_rules h past e)) both).0
+    over-known past e (and_parts (is_known past a.addr) (is_none (least_of line_rules h past e)) both).0

@@ -1,0 +1,46 @@
+use Rattle.std.proofs.Common.{◌≡◌, ◌&&◌, true, Some, is_none, sym, ◌∙◌}
+use Rattle.std.proofs.lemmas.Bool.{and_parts}
+use Rattle.ace_event.specs.declared.event.Event.{Event}
+use Rattle.ace_event.specs.declared.event.Event.TheVariants.{Aw}
+use Rattle.ace_model.specs.Accepted.{least_of}
+use Rattle.ace_model.specs.Lines.{is_known}
+use Rattle.ace_model.specs.Shares.{port_rules, line_rules}
+use Rattle.ace_portck.specs.PlainWriteAddresses.{plain_write_kind}
+use Rattle.ace_portck.specs.Targets.{Recording}
+use Rattle.ace_lineck.proofs.PlainAddresses.{lines-begun}
+use Rattle.ace_sysck.proofs.PlainWriteAddresses.{system-begun}
+use Rattle.ace_check.proofs.PlainAddresses.{over-known}
+use Rattle.ace_check.proofs.PlainWriteAddresses.{keeps-all}
+use Rattle.ace_check.proofs.shares.Shares.take_write_address.Goals as goal
+
+pub returns-clause-taken : goal.returns-clause-taken
+returns-clause-taken c = λ h past s few t.
+    let a = c.args.address.now in
+    let k = c.in-Some.kind in
+    let e : Event = Aw a.port a.id a.addr a.snoop a.dom a.bar in
+    let r : Recording = record { header = h; past = past } in
+    let kind : plain_write_kind a.snoop a.dom a.bar ≡ Some k = sym c.plain_write_kind.ensures ∙ c.in-Some.is in
+    let ports : is_none (least_of port_rules h past e) ≡ true =
+    sym (c.keeps_write_address.ensures r a.snoop a.dom a.bar s.ports kind) ∙ c.if-not-keeps_write_address.false in
+    let both : (is_known past a.addr && is_none (least_of line_rules h past e)) ≡ true =
+    sym (c.keeps_write_address-2.ensures r a.id a.addr a.snoop a.dom a.bar s.lines c.place-place.ensures kind) ∙ c.if-not-keeps_write_address-2.false in
+    let parts = and_parts (is_known past a.addr) (is_none (least_of line_rules h past e)) both in
+    let fine = keeps-all h past a.port a.id a.addr a.snoop a.dom a.bar k kind ports parts.1 in
+    let new = c.apply.ensures.stands r (record { stands = s.ports; room = λ p k own at. tt; keeps = fine; few = few }) in (
+      fine,
+      record {
+        ports = new;
+        lines = lines-begun c.args.self.now.lines r e s.lines parts.0 fine;
+        system = system-begun c.args.self.now.system r a.port a.id a.addr a.snoop a.dom a.bar k s.system kind fine few new.bytes.0;
+      },
+    )
+
+pub returns-clause-few_lines : goal.returns-clause-few_lines
+returns-clause-few_lines c = λ h past s t.
+    let a = c.args.address.now in
+    let e : Event = Aw a.port a.id a.addr a.snoop a.dom a.bar in
+    let r : Recording = record { header = h; past = past } in
+    let kind : plain_write_kind a.snoop a.dom a.bar ≡ Some c.in-Some.kind = sym c.plain_write_kind.ensures ∙ c.in-Some.is in
+    let both : (is_known past a.addr && is_none (least_of line_rules h past e)) ≡ true =
+    sym (c.keeps_write_address-2.ensures r a.id a.addr a.snoop a.dom a.bar s.lines c.place-place.ensures kind) ∙ c.if-not-keeps_write_address-2.false in
+    over-known past e (and_parts (is_known past a.addr) (is_none (least_of line_rules h past e)) both).0

@@ -1,0 +1,49 @@
+//! The short way of an AW: it issues a line write on a line that is known.
+
+use crate::plain::PlainKind;
+use crate::shares::Shares;
+use ace_portck::{event_kinds, plain_write_kind};
+
+impl Shares {
+    ghost use Rattle.std.specs.Prelude.{◌≡◌, ◌<◌, ◌-◌, ◌^◌, ◌∷◌, true, false, None, length};
+    ghost use Rattle.ace_event.specs.declared.event.Event.TheVariants.{Aw};
+    ghost use Rattle.ace_event.specs.declared.header.Header.{Header};
+    ghost use Rattle.ace_model.specs.Accepted.{least_broken};
+    ghost use Rattle.ace_model.specs.Trace.{Trace};
+    ghost use Rattle.ace_check.specs.Run.{goes_over};
+    ghost use Rattle.ace_check.specs.Shares.{SharesTell};
+
+    /// Takes an AW of a line write, if a transaction has named its line and it breaks no rule. If it isn't taken, nothing has changed.
+    #[inline(always)]
+    fn take_write_address(&mut self, address: &event_kinds::Aw) -> bool
+        ensures taken { (h : Header) (past : Trace) → SharesTell self.old h past → length past < 2 ^ 64 - 1 → result ≡ true
+            → (least_broken h past (Aw address.now.port address.now.id address.now.addr address.now.snoop address.now.dom address.now.bar) ≡ None)
+            × SharesTell self.new h (Aw address.now.port address.now.id address.now.addr address.now.snoop address.now.dom address.now.bar ∷ past) }
+        ensures few_lines { (h : Header) (past : Trace) → SharesTell self.old h past → result ≡ true
+            → goes_over past (Aw address.now.port address.now.id address.now.addr address.now.snoop address.now.dom address.now.bar) ≡ false }
+        ensures stays { result ≡ false → self.new ≡ self.old }
+    {
+        let Some(kind) = plain_write_kind(address.snoop, address.dom, address.bar) else {
+            return false;
+        };
+        if !self
+            .ports
+            .keeps_write_address(address.port, address.id, address.addr, kind)
+        {
+            return false;
+        }
+        let place = self.lines.place(Some(address.addr));
+        if !self.lines.keeps_write_address(address.port, kind, place) {
+            return false;
+        }
+        self.ports.apply(address);
+        true
+    }
+}
+
+impl PlainKind for event_kinds::Aw {
+    #[inline(always)]
+    fn take(&self, shares: &mut Shares) -> bool {
+        shares.take_write_address(self)
+    }
+}

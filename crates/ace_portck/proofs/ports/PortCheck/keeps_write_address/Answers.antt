@@ -1,0 +1,20 @@
+use Rattle.std.proofs.Common.{◌≡◌, ◌%◌, ◌==◌, ◌&&◌, nat_lt, true, false, sym, ap, ◌∙◌, refl}
+use Rattle.ace_event.specs.declared.header.Header.{Header}
+use Rattle.ace_model.specs.AddressRules.{may_issue_write}
+use Rattle.ace_portck.proofs.PlainWriteAddresses.{address_rules}
+use Rattle.ace_portck.proofs.ports.PortCheck.keeps_write_address.Goals as goal
+
+pub returns-then-may_begin : goal.returns-then-may_begin
+returns-then-may_begin c = λ r snoop dom bar s kind.
+    let a = c.args in
+    let may : ((nat_lt a.port r.header.ports && may_issue_write r.header a.port a.kind) && (a.addr % 64 == 0)) ≡ true =
+    ap (λ (h : Header). (nat_lt a.port h.ports && may_issue_write h a.port a.kind) && (a.addr % 64 == 0)) (sym s.header) ∙ sym c.may_begin.ensures ∙ c.if-may_begin.true in
+    c.has_free_write.ensures r.header r.past a.port (rw (c.record_of.ensures, c.deref.ensures.value) (s.ports a.port))
+    ∙ sym (address_rules r.header r.past a.port a.id a.addr snoop dom bar a.kind kind ∙ rw may refl)
+
+pub returns-else-may_begin : goal.returns-else-may_begin
+returns-else-may_begin c = λ r snoop dom bar s kind.
+    let a = c.args in
+    let may : ((nat_lt a.port r.header.ports && may_issue_write r.header a.port a.kind) && (a.addr % 64 == 0)) ≡ false =
+    ap (λ (h : Header). (nat_lt a.port h.ports && may_issue_write h a.port a.kind) && (a.addr % 64 == 0)) (sym s.header) ∙ sym c.may_begin.ensures ∙ c.if-may_begin.false in
+    c.if-may_begin.false ∙ sym (address_rules r.header r.past a.port a.id a.addr snoop dom bar a.kind kind ∙ rw may refl)
