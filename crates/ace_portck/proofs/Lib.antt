@@ -19,3 +19,4 @@ pub mod Plain
 pub mod PlainEvents
 pub mod PlainAddresses
 pub mod PlainRetirements
+pub mod PlainSilentChanges

@@ -334,6 +334,22 @@ impl EventKind for D {
     }
 }
 
+/// An S, with the fields that [`Event::S`] has.
+#[derive(Clone, Copy, Debug, PartialEq, Eq)]
+pub struct S {
+    pub port: u8,
+    pub addr: u32,
+    pub st: LineState,
+}
+
+impl EventKind for S {
+    ghost event = { λ e. event.S e.port e.addr e.st };
+
+    fn event(&self) -> Event {
+        with_fields!(self, S { port, addr, st })
+    }
+}
+
 /// An OP, with the fields that [`Event::Op`] has.
 #[derive(Clone, Copy, Debug, PartialEq, Eq)]
 pub struct Op {

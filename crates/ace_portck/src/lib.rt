@@ -10,6 +10,7 @@ mod pending;
 mod plain_addresses;
 mod plain_loads;
 mod plain_retirements;
+mod plain_silent_changes;
 mod plain_snoops;
 mod plain_writes;
 mod port;
