@@ -8,6 +8,7 @@ mod plain_beats;
 mod plain_grants;
 mod plain_loads;
 mod plain_retirements;
+mod plain_silent_changes;
 mod plain_snoops;
 mod plain_writes;
 mod shares;
