@@ -44,3 +44,8 @@ may-apply s h past e stands fine few other = record { stands = stands; room = λ
 pub and-true : (b : Bool) → b ≡ (true && b && true)
 and-true true = refl
 and-true false = refl
+
+-- one that lines and system say nothing of
+pub ports-alone : (b : Bool) → b ≡ (b && true && true)
+ports-alone true = refl
+ports-alone false = refl

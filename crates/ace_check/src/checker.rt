@@ -107,6 +107,8 @@ impl Checker {
             M { port, chan, id, line } => feed_kind,
             L { port, addr, w, x, word } => feed_plain,
             D { port, addr, strobe, x, line } => feed_kind,
+            S { port, addr, st } => feed_plain,
+            Op { port, k, res } => feed_plain,
         })
     }
 

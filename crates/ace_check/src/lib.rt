@@ -9,6 +9,8 @@ mod plain_addresses;
 mod plain_beats;
 mod plain_grants;
 mod plain_loads;
+mod plain_retirements;
+mod plain_silent_changes;
 mod plain_snoops;
 mod plain_write_addresses;
 mod plain_writes;

@@ -44,3 +44,5 @@ pub mod BeatSteps
 -- What the AR of a plain read asks of its line, which it leaves as it is.
 pub mod PlainAddresses
 pub mod PlainWriteAddresses
+-- What an S asks of its line, and what it leaves of it.
+pub mod PlainSilentChanges

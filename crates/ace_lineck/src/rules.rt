@@ -214,15 +214,23 @@ pub fn keeps_write_end(kept: &LineRecord, target: &Target, port: u8, st: LineSta
 pub fn keeps_silence(kept: &LineRecord, target: &Target, port: u8, st: LineState) -> bool
     ensures { (h : Header) (past : Trace) (addr : ℕ) → IsNext h past (S port addr st) target.now kept.now → result ≡ k29 h past (S port addr st) }
 {
-    may_move(kept.state(port), st, &target.own)
+    may_move(kept.state(port), st, drops_update(st, &target.own))
 }
 
-/// A silent transition from the held state to the next, which isn't I while a memory update of the port is outstanding.
+/// The next state is I, while a memory update of the port is outstanding.
 #[inline(always)]
-fn may_move(held: LineState, next: LineState, own: &Option<Progress>) -> bool
-    ensures { result ≡ (is_silent_move held next && not (is_invalid next && is_some_and own.now (λ x. updates_memory x.transaction))) }
+fn drops_update(next: LineState, own: &Option<Progress>) -> bool
+    ensures { result ≡ (is_invalid next && is_some_and own.now (λ x. updates_memory x.transaction)) }
 {
-    silent_ok(held, next) && !(is_invalid(next) && has_update(own))
+    is_invalid(next) && has_update(own)
+}
+
+/// A silent transition from the held state to the next, which drops no memory update of the port.
+#[inline(always)]
+pub fn may_move(held: LineState, next: LineState, drops: bool) -> bool
+    ensures { result ≡ (is_silent_move held next && not drops) }
+{
+    silent_ok(held, next) && !drops
 }
 
 /// K30, of an L.

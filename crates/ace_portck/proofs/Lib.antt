@@ -20,3 +20,5 @@ pub mod PlainEvents
 pub mod PlainAddresses
 pub mod DvmReads
 pub mod PlainWriteAddresses
+pub mod PlainRetirements
+pub mod PlainSilentChanges

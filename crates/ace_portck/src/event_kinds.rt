@@ -5,7 +5,7 @@ ghost use Rattle.ace_event.specs.declared.event.Event.{Event};
 ghost use Rattle.ace_event.specs.declared.event.Event.TheVariants as event;
 
 use ace_codes::LineState;
-use ace_event::{Channel, Event, Line};
+use ace_event::{Channel, Event, Line, Outcome};
 
 /// The event of this kind with the fields of a value.
 macro_rules! with_fields {
@@ -331,5 +331,37 @@ impl EventKind for D {
                 line
             }
         )
+    }
+}
+
+/// An S, with the fields that [`Event::S`] has.
+#[derive(Clone, Copy, Debug, PartialEq, Eq)]
+pub struct S {
+    pub port: u8,
+    pub addr: u32,
+    pub st: LineState,
+}
+
+impl EventKind for S {
+    ghost event = { λ e. event.S e.port e.addr e.st };
+
+    fn event(&self) -> Event {
+        with_fields!(self, S { port, addr, st })
+    }
+}
+
+/// An OP, with the fields that [`Event::Op`] has.
+#[derive(Clone, Copy, Debug, PartialEq, Eq)]
+pub struct Op {
+    pub port: u8,
+    pub k: u16,
+    pub res: Outcome,
+}
+
+impl EventKind for Op {
+    ghost event = { λ e. event.Op e.port e.k e.res };
+
+    fn event(&self) -> Event {
+        with_fields!(self, Op { port, k, res })
     }
 }

@@ -10,6 +10,8 @@ mod opening;
 mod pending;
 mod plain_addresses;
 mod plain_loads;
+mod plain_retirements;
+mod plain_silent_changes;
 mod plain_snoops;
 mod plain_write_addresses;
 mod plain_writes;

@@ -13,6 +13,7 @@ mod plain_addresses;
 mod plain_answers;
 mod plain_grants;
 mod plain_loads;
+mod plain_silent_changes;
 mod plain_snoops;
 mod registrations;
 mod results;

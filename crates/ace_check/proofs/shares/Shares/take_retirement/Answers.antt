@@ -1,0 +1,22 @@
+use Rattle.std.proofs.Common.{refl, sym, ◌∙◌}
+use Rattle.ace_event.specs.declared.event.Event.TheVariants.{Op}
+use Rattle.ace_portck.specs.Targets.{Recording}
+use Rattle.ace_lineck.proofs.StillLines.{lines-still}
+use Rattle.ace_sysck.proofs.Unmoved.{system_still}
+use Rattle.ace_check.proofs.PlainEvents.{none-is, may-apply}
+use Rattle.ace_check.proofs.shares.Shares.take_retirement.Goals as goal
+
+pub returns-clause-taken : goal.returns-clause-taken
+returns-clause-taken c = λ h past s few taken.
+    let o = c.args.op.now in
+    let e = Op o.port o.k o.res in
+    let r : Recording = record { header = h; past = past } in
+    let k = c.args.self.now in
+    let fine = none-is _ (sym (c.keeps_retirement.ensures h past s) ∙ c.if-not-keeps_retirement.false) in (
+      fine,
+      record {
+        ports = c.apply.ensures.stands r (may-apply k.ports h past e s.ports fine few (λ p addr snoop is. cc));
+        lines = lines-still k.lines r e refl s.lines fine;
+        system = system_still k.system r e refl s.system fine few;
+      },
+    )

@@ -1,0 +1,47 @@
+use Rattle.std.proofs.Common.{◌≡◌, ◌∷◌, Some, nat_eq, true, false, slice_get, refl, sym, ◌∙◌}
+use Rattle.ace_event.specs.declared.event.Event.TheVariants.{S}
+use Rattle.indexmap.specs.IndexMap.{get, values}
+use Rattle.ace_portck.specs.Targets.{target_of}
+use Rattle.ace_lineck.specs.Records.{LineStands}
+use Rattle.ace_lineck.specs.Uses.{is_unknown}
+use Rattle.ace_lineck.proofs.AllLines.{unplaced, placed, line-step, applied-else}
+use Rattle.ace_lineck.proofs.Places.{get-at, place-taken, written-here, written-there}
+use Rattle.ace_lineck.proofs.PlainGrants.{none-known}
+use Rattle.ace_lineck.proofs.PlainSilentChanges.{grant-changed, may-hear_change}
+use Rattle.ace_lineck.proofs.lines.LineCheck.hear_change.Goals as goal
+
+pub returns-in_default : goal.returns-in_default
+returns-in_default c r s at fine few =
+    let self = c.args.self.now in
+    let a = c.args.change.now in
+    let e = S a.port a.addr a.st in
+    unplaced self r e (target_of r.header r.past e) c.args.place (may-hear_change self r a.port a.addr a.st c.args.place s at fine few) c.in_default.is
+
+pub returns-in_default-get_index_mut : goal.returns-in_default-get_index_mut
+returns-in_default-get_index_mut c r s at fine few =
+    let within = place-taken c.args.self.now (Some c.args.change.now.addr) c.in-Some.place (sym at ∙ c.in-Some.is) in
+    let bad : false ≡ true = c.in_default-get_index_mut.ensures.found.1 within in cc
+
+pub returns : goal.returns
+returns c r s at fine few =
+    let self = c.args.self.now in
+    let a = c.args.change.now in
+    let e = S a.port a.addr a.st in
+    let t = target_of r.header r.past e in
+    let n = c.in-Some.place in
+    let was = c.in-Some-get_index_mut.kept.now in
+    let m = may-hear_change self r a.port a.addr a.st c.args.place s at fine few in
+    let on = placed self r e t c.args.place m n c.in-Some.is in
+    let value : slice_get (values self.lines) n ≡ Some was = sym c.in-Some-get_index_mut.ensures.value in
+    let unique = c.get_index_mut.ensures.unique in
+    let here : get nat_eq self.lines on.0 ≡ Some was = get-at self on.0 n on.2 ∙ value in
+    let step = line-step self r e t c.args.place m on.0 on.1 was here in
+    let holders = c.move_to.ensures.stand r.header r.past on.0 a.addr t (record { step = step.step; room = step.room; whole = λ p port. refl; stand = step.stands.holders }) in
+    let new : LineStands r.header (e ∷ r.past) on.0 (record was { holders = c.move_to.new.holders }) = record {
+      used = step.stands.used;
+      memory = record { memory = step.stands.memory.memory };
+      grant = grant-changed r.header r.past a.port a.addr a.st on.0 was.grant step.step.accepted step.stands.grant;
+      holders = holders;
+    } in
+    applied-else self _ r e t c.args.place m on.0 on.1 was (record was { holders = c.move_to.new.holders }) step new c.move_to.ensures.room (none-known (is_unknown was.used))
+    (record { header = refl; empty = refl; here = written-here self on.0 n on.2 unique was _ value; others = written-there self on.0 n on.2 unique was _ value }) refl s.spare

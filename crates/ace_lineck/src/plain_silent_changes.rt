@@ -1,0 +1,65 @@
+//! An S, by what is kept of its line where it stands.
+
+ghost use Rattle.std.specs.Prelude.{◌≡◌, ◌∷◌, ℕ, None, length};
+ghost use Rattle.ace_event.specs.declared.event.Event.TheVariants.{S as SilentChange};
+ghost use Rattle.ace_event.specs.declared.header.Header.{Header};
+ghost use Rattle.ace_model.specs.Trace.{Trace};
+ghost use Rattle.ace_portck.specs.declared.target.Target.{Target};
+ghost use Rattle.ace_lineck.specs.Holders.{HoldersStand, IsHoldersStep};
+
+use crate::LineCheck;
+use crate::record::Holder;
+use crate::rules::may_move;
+use ace_codes::LineState;
+use ace_portck::event_kinds::S;
+
+/// The port has the line in this state.
+#[inline(always)]
+fn move_to(holders: &mut Vec<Holder>, port: u8, st: LineState)
+    ensures stand { (h : Header) (past : Trace) (l addr : ℕ) (t : Target) → IsHoldersStep h past l (SilentChange port addr st) t None holders.old.items
+        → HoldersStand h (SilentChange port addr st ∷ past) l holders.new.items }
+    ensures room { length holders.new.items ≡ length holders.old.items }
+{
+    let port = port as usize;
+    if port < holders.len() {
+        holders[port].state = st;
+    }
+}
+
+impl LineCheck {
+    ghost use Rattle.std.specs.Prelude.{◌<◌, ◌-◌, ◌^◌, ◌&&◌, Some, is_none};
+    ghost use Rattle.ace_tables.specs.States.{is_invalid};
+    ghost use Rattle.ace_model.specs.Accepted.{least_broken, least_of};
+    ghost use Rattle.ace_model.specs.Progress.{has_update};
+    ghost use Rattle.ace_model.specs.Shares.{line_rules};
+    ghost use Rattle.ace_portck.specs.Targets.{Recording, after};
+    ghost use Rattle.ace_lineck.specs.Stands.{Stands, place_on};
+
+    /// K29, of an S: its port may move silently from the state that it has the line in, and drops no update (Arm IHI 0022E, C4).
+    /// `place` is that of its line. `drops` says whether it leaves its port without the line, while a memory update of the port on the
+    /// line is outstanding.
+    #[inline(always)]
+    pub fn keeps_change(&self, change: &S, place: Option<usize>, drops: bool) -> bool
+        ensures { (r : Recording) → Stands self.now r → place ≡ place_on self.now (Some change.now.addr)
+            → drops ≡ (is_invalid change.now.st && has_update r.header r.past change.now.port change.now.addr)
+            → result ≡ is_none (least_of line_rules r.header r.past (SilentChange change.now.port change.now.addr change.now.st)) }
+    {
+        may_move(self.record(place).state(change.port), change.st, drops)
+    }
+
+    /// Takes an S that breaks no rule: its port has the line in the new state. `place` is that of its line.
+    #[inline(always)]
+    pub fn hear_change(&mut self, change: &S, place: Option<usize>)
+        ensures { (r : Recording) → Stands self.old r → place ≡ place_on self.old (Some change.now.addr)
+            → least_broken r.header r.past (SilentChange change.now.port change.now.addr change.now.st) ≡ None → length r.past < 2 ^ 64 - 1
+            → Stands self.new (after r (SilentChange change.now.port change.now.addr change.now.st)) }
+    {
+        let Some(place) = place else {
+            return;
+        };
+        let Some(kept) = self.lines.get_index_mut(place) else {
+            return;
+        };
+        move_to(&mut kept.holders, change.port, change.st);
+    }
+}
