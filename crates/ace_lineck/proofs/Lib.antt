@@ -41,3 +41,5 @@ pub mod BeatLaws
 pub mod BeatSteps
 -- What the AR of a plain read asks of its line, which it leaves as it is.
 pub mod PlainAddresses
+-- A CR: what is asked of it, and what it leaves of the line of its snoop.
+pub mod SnoopAnswers

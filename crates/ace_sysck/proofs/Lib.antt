@@ -31,3 +31,5 @@ pub mod SnoopLaws
 pub mod PlainAddresses
 pub mod Judging
 pub mod MessageCodes
+-- What a CR leaves.
+pub mod SnoopAnswers

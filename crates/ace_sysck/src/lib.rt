@@ -11,6 +11,7 @@ mod plain_addresses;
 mod plain_answers;
 mod plain_grants;
 mod plain_loads;
+mod plain_snoop_answers;
 mod plain_snoops;
 mod registrations;
 mod results;

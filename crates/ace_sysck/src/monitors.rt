@@ -90,7 +90,8 @@ impl Monitors {
     }
 
     /// The port is left in this state of the line.
-    fn leave(&mut self, port: u8, line: Option<u32>, state: LineState)
+    #[inline(always)]
+    pub fn leave(&mut self, port: u8, line: Option<u32>, state: LineState)
         ensures { self.new.lines.items ≡ slice_set self.old.lines.items port (kept_after (slice_index_or self.old.lines.items port None) line state) }
     {
         let kept = kept_after(self.line_of(port), line, state);

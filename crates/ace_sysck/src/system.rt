@@ -26,7 +26,7 @@ pub struct SysCheck {
     registrations: Registrations,
     messages: Messages,
     pub(crate) inboxes: Inboxes,
-    syncs: Syncs,
+    pub(crate) syncs: Syncs,
 }
 
 /// The number of a rule that isn't kept, else what the rules after it say.
