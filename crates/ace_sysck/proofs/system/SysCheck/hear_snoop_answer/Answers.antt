@@ -16,7 +16,7 @@ returns-then-is_message c = λ r x s is at fine few.
     let message : answers_message t ≡ true = answers-kind r a.port a.resp a.st x c.args.kind is ∙ sym c.is_message.ensures ∙ c.if-is_message.true in
     system-answer r a.port a.resp a.st k _ s fine few refl
     (monitors-answer r a.port a.resp a.st k.monitors c.leave.new.self x c.args.kind c.args.line step is at s.monitors c.leave.ensures)
-    (inboxes_answer r k.inboxes c.answer-2.new.self a.port a.resp a.st t step.accepted refl message s.inboxes c.answer-2.ensures)
+    (inboxes_answer r k.inboxes c.answer-then-is_message.new.self a.port a.resp a.st t step.accepted refl message s.inboxes c.answer-then-is_message.ensures)
     (c.answer.ensures r a.resp a.st t step message s.inboxes s.syncs)
 
 pub returns-else-is_message : goal.returns-else-is_message
