@@ -101,7 +101,7 @@ impl Checker {
             B { port, id, resp } => feed_kind,
             Wk { port, st } => feed_kind,
             Ac { port, addr, snoop } => feed_plain,
-            Cr { port, resp, st } => feed_kind,
+            Cr { port, resp, st } => feed_plain,
             Cd { port, last, word } => feed_kind,
             G { port, chan, id } => feed_plain,
             M { port, chan, id, line } => feed_kind,

@@ -46,3 +46,5 @@ pub mod PlainAddresses
 pub mod PlainWriteAddresses
 -- What an S asks of its line, and what it leaves of it.
 pub mod PlainSilentChanges
+-- A CR: what is asked of it, and what it leaves of the line of its snoop.
+pub mod SnoopAnswers

@@ -139,7 +139,7 @@ uses-law h past a y = by (use_of past y.addr) (use-is past y.addr)
     by NoSnoop f = same-true (is_no_snoop y) ∙ sym (each-same h past a y true f)
 
 -- a row of a snoop that isn't of a line asks for no state and for no memory update
-row-apart : (k : SnoopKind) (held other : LineState) (update also : Bool) (resp : ℕ) (st : LineState) → is_line_snoop k ≡ false
+pub row-apart : (k : SnoopKind) (held other : LineState) (update also : Bool) (resp : ℕ) (st : LineState) → is_line_snoop k ≡ false
     → is_snoop_row k held update resp st ≡ is_snoop_row k other also resp st
 row-apart snoop.DvmComplete held other update also resp st f = refl
 row-apart snoop.DvmMessage held other update also resp st f = refl

@@ -84,7 +84,7 @@ impl Grant {
 
     /// A port answers a snoop of the line.
     #[inline(always)]
-    fn hear_answer(&mut self, port: u8, resp: u8, copy: &Line)
+    pub fn hear_answer(&mut self, port: u8, resp: u8, copy: &Line)
         ensures stages { IsMoved self.old.stages self.new.stages port (if transfers_data resp then Sending else Done) }
         ensures rest { self.new ≡ record self.old {
           stages = self.new.stages;

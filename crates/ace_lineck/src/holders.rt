@@ -1,9 +1,11 @@
 //! What is kept of the ports of a line, after an event of the line.
 
-ghost use Rattle.std.specs.Prelude.{◌≡◌, ℕ, ◌∷◌, length, None, Some};
+ghost use Rattle.std.specs.Prelude.{◌≡◌, ℕ, ◌∷◌, length, Option, None, Some};
+ghost use Rattle.ace_event.specs.declared.event.Event.TheVariants.{Cr};
 ghost use Rattle.ace_event.specs.declared.header.Header.{Header};
 ghost use Rattle.ace_event.specs.declared.line.Line.{Line};
 ghost use Rattle.ace_model.specs.Trace.{Trace, port_of, is_some_and};
+ghost use Rattle.ace_portck.specs.declared.target.Target.{Target};
 ghost use Rattle.ace_lineck.specs.Holders.{HolderStands, HoldersStand, IsHolderStep, IsHoldersStep, awaits_store};
 
 use crate::kinds::is_make_unique;
@@ -49,6 +51,18 @@ pub fn awaits_store(own: &Option<Progress>) -> bool
     }
 }
 
+/// What is kept of a port, after its answer to a snoop of the line.
+#[inline(always)]
+pub fn hear_answer(holder: &mut Holder, resp: u8, st: LineState)
+    ensures { (h : Header) (past : Trace) (p q l : ℕ) (t : Target) (whole : Option Line) → IsHolderStep h past p l (Cr q resp st) t whole holder.old
+        → HolderStands h (Cr q resp st ∷ past) p l holder.new }
+{
+    if transfers_data(resp) {
+        holder.sent = holder.copy;
+    }
+    holder.state = st;
+}
+
 /// What is kept of the port of the event. `whole` is the line that the port has received whole with it.
 #[inline(always)]
 fn hear(holder: &mut Holder, event: &Event, target: &Target, whole: Option<Line>)
@@ -58,12 +72,7 @@ fn hear(holder: &mut Holder, event: &Event, target: &Target, whole: Option<Line>
         Event::Rk { st, .. } => holder.state = st,
         Event::Wk { st, .. } => holder.state = st,
         Event::S { st, .. } => holder.state = st,
-        Event::Cr { resp, st, .. } => {
-            if transfers_data(resp) {
-                holder.sent = holder.copy;
-            }
-            holder.state = st;
-        }
+        Event::Cr { resp, st, .. } => hear_answer(holder, resp, st),
         Event::D { strobe, line, .. } => {
             holder.copy = merge(holder.copy, strobe, line);
             if !awaits_store(&target.own) {

@@ -1,14 +1,21 @@
--- What a line snoop asks of its port, in the words of what is kept.
-use Rattle.std.proofs.Common.{◌≡◌, ℕ, Bool, true, false, not, ◌&&◌, ◌==◌, List, map, refl, sym, ap, ◌∙◌}
+-- What a line snoop and its answer ask of their port, in the words of what is kept.
+use Rattle.std.proofs.Common.{◌≡◌, ℕ, Bool, true, false, not, ◌&&◌, ◌==◌, List, map, nat_lt, Some, is_none, refl, sym, ap, ◌∙◌}
 use Rattle.std.specs.List.{list_any}
+use Rattle.ace_codes.specs.Responses.{has_error}
+use Rattle.ace_codes.specs.declared.state.LineState.{LineState}
 use Rattle.ace_event.specs.declared.event.Channel.{Channel}
 use Rattle.ace_event.specs.declared.event.Channel.TheVariants.{Read, Write}
+use Rattle.ace_event.specs.declared.event.Event.TheVariants.{Cr}
 use Rattle.ace_event.specs.declared.header.Header.{Header}
+use Rattle.ace_model.specs.declared.snoops.Snoop.{Snoop}
 use Rattle.ace_model.specs.declared.transactions.Transaction.{Transaction}
-use Rattle.ace_model.specs.Progress.{transactions}
+use Rattle.ace_model.specs.Progress.{has_update, is_update_on, transactions, updates_memory}
+use Rattle.ace_model.specs.Accepted.{least_of}
+use Rattle.ace_model.specs.Shares.{port_rules}
+use Rattle.ace_model.specs.Snoops.{answered}
 use Rattle.ace_model.specs.States.{owes_wack, awaits_wack}
 use Rattle.ace_model.specs.Trace.{Trace}
-use Rattle.ace_model.specs.Transactions.{is_complete, is_on, is_outstanding, is_read, same_channel}
+use Rattle.ace_model.specs.Transactions.{is_ace, is_complete, is_on, is_outstanding, is_read, same_channel}
 use Rattle.ace_model.proofs.Outstanding.Issued.{some_issued-any}
 use Rattle.ace_model.proofs.Outstanding.Lists.{any_kept}
 use Rattle.ace_portck.specs.declared.target.Progress.{Progress}
@@ -37,3 +44,43 @@ owes_wack_is h past p l writes are =
 
     same : (x : Transaction) → awaits_wack h past p l x ≡ (is_pending h past p Write x && (is_on x l && is_complete past x.port x.chan x.id))
     same x = turned x.chan (x.port == p) (is_on x l) (is_outstanding h past x) (is_complete past x.port x.chan x.id)
+
+-- a memory update of the line is one of the list of writes
+pub has_update_is : (h : Header) (past : Trace) (p l : ℕ) (writes : List Progress) → writes ≡ map (progress_of h past) (pending_of h past p Write)
+    → list_any (λ (v : Progress). is_on v.transaction l && updates_memory v.transaction) writes ≡ has_update h past p l
+has_update_is h past p l writes are =
+    ap (list_any (λ (v : Progress). is_on v.transaction l && updates_memory v.transaction)) are
+    ∙ any_kept (progress_of h past) (is_pending h past p Write) (λ v. is_on v.transaction l && updates_memory v.transaction) (is_update_on h past p l) (transactions past) same
+    ∙ sym (some_issued-any past (is_update_on h past p l))
+  where
+    turned : (port write on out updates : Bool) → updates ≡ (write && updates) → (((port && updates) && on) && out) ≡ (((port && write) && out) && (on && updates))
+    turned false write on out updates is = refl
+    turned true true true true true is = refl
+    turned true true true false true is = refl
+    turned true true false true true is = refl
+    turned true true false false true is = refl
+    turned true true true true false is = refl
+    turned true true true false false is = refl
+    turned true true false true false is = refl
+    turned true true false false false is = refl
+    turned true false on out true is = cc
+    turned true false on out false is = refl
+
+    -- a read is none
+    writes-update : (x : Transaction) (c : Channel) → x.chan ≡ c → updates_memory x ≡ (same_channel c Write && updates_memory x)
+    writes-update x Read is = rw is refl
+    writes-update x Write is = refl
+
+    same : (x : Transaction) → is_update_on h past p l x ≡ (is_pending h past p Write x && (is_on x l && updates_memory x))
+    same x = turned (x.port == p) (same_channel x.chan Write) (is_on x l) (is_outstanding h past x) (updates_memory x) (writes-update x x.chan refl)
+
+-- of a CR that answers a snoop K1 and K2 are all that is asked
+pub answer_rules : (h : Header) (past : Trace) (p resp : ℕ) (st : LineState) (x : Snoop) → answered past p ≡ Some x
+    → is_none (least_of port_rules h past (Cr p resp st)) ≡ ((nat_lt p h.ports && is_ace h p) && not (has_error resp))
+answer_rules h past p resp st x is = by (nat_lt p h.ports) (is_ace h p) (has_error resp) refl refl refl
+  where
+    by : (a b c : Bool) → nat_lt p h.ports ≡ a → is_ace h p ≡ b → has_error resp ≡ c → is_none (least_of port_rules h past (Cr p resp st)) ≡ ((a && b) && not c)
+    by false b c port ace error = rw port refl
+    by true false c port ace error = rw (ace, port) refl
+    by true true true port ace error = rw (ace, port, error) refl
+    by true true false port ace error = rw (ace, port, error, is) refl

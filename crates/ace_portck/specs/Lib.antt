@@ -16,3 +16,4 @@ pub mod Plain
 pub mod PlainAddresses
 pub mod DvmReads
 pub mod PlainWriteAddresses
+pub mod SnoopAnswers

@@ -221,7 +221,7 @@ pub fn is_make_unique(kind: ArKind) -> bool
     matches!(kind, ArKind::MakeUnique)
 }
 
-fn is_line_snoop(kind: SnoopKind) -> bool
+pub(crate) fn is_line_snoop(kind: SnoopKind) -> bool
     ensures { result ≡ is_line_snoop kind }
 {
     !matches!(kind, SnoopKind::DvmComplete | SnoopKind::DvmMessage)

@@ -1,6 +1,7 @@
 //! The snoops of one port that are under way.
 
 ghost use Rattle.std.specs.Prelude.{◌≡◌, ◌≤◌, slice_get};
+ghost use Rattle.std.specs.Option.{option_copied};
 
 use ace_codes::transfers_data;
 use ace_event::Event;
@@ -23,6 +24,14 @@ fn first(queue: &VecDeque<Snoop>) -> Option<Snoop>
     ensures { result ≡ slice_get queue.now.items 0 }
 {
     queue.front().copied()
+}
+
+/// The same, where it stands.
+#[inline(always)]
+fn oldest(queue: &VecDeque<Snoop>) -> Option<&Snoop>
+    ensures { option_copied result ≡ slice_get queue.now.items 0 }
+{
+    queue.front()
 }
 
 impl SnoopQueues {
@@ -60,6 +69,14 @@ impl SnoopQueues {
         ensures { (past : Trace) (p : ℕ) → SnoopsStand past p self.now → result ≡ answered past p }
     {
         first(&self.waiting)
+    }
+
+    /// The same, where it stands.
+    #[inline(always)]
+    pub fn unanswered(&self) -> Option<&Snoop>
+        ensures { (past : Trace) (p : ℕ) → SnoopsStand past p self.now → option_copied result ≡ answered past p }
+    {
+        oldest(&self.waiting)
     }
 
     /// The snoop that the port's next CD sends data for.

@@ -35,3 +35,5 @@ pub mod MessageAddresses
 pub mod PlainWriteAddresses
 pub mod Judging
 pub mod MessageCodes
+-- What a CR leaves.
+pub mod SnoopAnswers

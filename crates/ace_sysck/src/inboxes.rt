@@ -299,7 +299,8 @@ impl Inboxes {
     }
 
     /// The port answers the first of its parts.
-    fn answer(&mut self, port: u8)
+    #[inline(always)]
+    pub fn answer(&mut self, port: u8)
         ensures { AnswersFirst port self.old self.new }
     {
         let p = port as usize;

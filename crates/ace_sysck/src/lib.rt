@@ -14,6 +14,7 @@ mod plain_answers;
 mod plain_grants;
 mod plain_loads;
 mod plain_silent_changes;
+mod plain_snoop_answers;
 mod plain_snoops;
 mod registrations;
 mod results;

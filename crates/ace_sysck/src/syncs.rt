@@ -82,11 +82,16 @@ fn one_completed(kept: PortSyncs) -> PortSyncs
 }
 
 impl Syncs {
-    ghost use Rattle.std.specs.Prelude.{◌≡◌, [], ◌==◌, IfOk, slice_set, slice_index_or, nat_le, nat_lt};
+    ghost use Rattle.std.specs.Prelude.{◌≡◌, ℕ, [], ◌==◌, true, IfOk, slice_set, slice_index_or, nat_le, nat_lt};
+    ghost use Rattle.ace_codes.specs.declared.state.LineState.{LineState};
+    ghost use Rattle.ace_event.specs.declared.event.Event.TheVariants.{Cr};
     ghost use Rattle.ace_event.specs.declared.header.Header.{Header};
     ghost use Rattle.ace_model.specs.Trace.{implies};
     ghost use Rattle.ace_model.specs.OrderRules.{owes_completion};
+    ghost use Rattle.ace_portck.specs.declared.target.Target.{Target};
     ghost use Rattle.ace_portck.specs.Targets.{Recording, after};
+    ghost use Rattle.ace_sysck.specs.Inboxes.{InboxesStand, answers_message};
+    ghost use Rattle.ace_sysck.specs.Steps.{IsStep};
     ghost use Rattle.ace_sysck.specs.Syncs.{SyncsStand, MayHearSyncs, MayIssueCompletion, ReachesAll, completes_all, one_completed, untold};
 
     /// What is kept after the empty trace, of so many ports.
@@ -185,6 +190,18 @@ impl Syncs {
         }
     }
 
+    /// The port answers an AC DVM Message. The inboxes are those before it.
+    #[inline(always)]
+    pub fn answer(&mut self, port: u8, inboxes: &Inboxes)
+        ensures { (r : Recording) (resp : ℕ) (st : LineState) (t : Target) → IsStep r (Cr port resp st) t → answers_message t ≡ true
+            → InboxesStand r inboxes.now → SyncsStand r self.old → SyncsStand (after r (Cr port resp st)) self.new }
+    {
+        if inboxes.answers_sync(port) {
+            let more = one_answered(self.of(port));
+            self.set(port, more);
+        }
+    }
+
     /// What is kept after the event. The messages and the inboxes are those before it.
     #[inline(always)]
     pub fn hear(&mut self, event: &Event, target: &Target, messages: &Messages, inboxes: &Inboxes)
@@ -201,10 +218,7 @@ impl Syncs {
             }
         } else if let Event::Cr { port, .. } = *event {
             if answers_message(target) {
-                if inboxes.answers_sync(port) {
-                    let more = one_answered(self.of(port));
-                    self.set(port, more);
-                }
+                self.answer(port, inboxes);
             }
         }
     }

@@ -1,8 +1,14 @@
 use Rattle.std.proofs.Common.{◌∷◌, ◌∙◌, sym, subst}
-use Rattle.ace_model.proofs.Terms.{D, UD}
+use Rattle.ace_model.proofs.Terms.{Cr, D, UD}
 use Rattle.ace_lineck.specs.Holders.{HolderStands}
 use Rattle.ace_lineck.proofs.HolderSteps.{at-event, d-dirties, d-keeps}
 use Rattle.ace_lineck.proofs.holders.hear.Goals as goal
+
+pub returns-in-Cr : goal.returns-in-Cr
+returns-in-Cr c h past p l =
+    let e = c.in-Cr in
+    at-event h past p l c.args.target.now c.args.whole c.args.holder.now c.hear_answer.new.holder c.args.event.now (Cr e.port e.resp e.st) e.is
+    (λ s. c.hear_answer.ensures h past p e.port l c.args.target.now c.args.whole s)
 
 pub returns-then-not-awaits_store : goal.returns-then-not-awaits_store
 returns-then-not-awaits_store c h past p l =

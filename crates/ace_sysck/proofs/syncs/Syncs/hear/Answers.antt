@@ -4,8 +4,8 @@ use Rattle.ace_model.proofs.Terms.{Event, Cr}
 use Rattle.ace_portck.specs.Targets.{after}
 use Rattle.ace_sysck.specs.Steps.{IsStep}
 use Rattle.ace_sysck.specs.Events.{begun_in}
-use Rattle.ace_sysck.specs.Syncs.{SyncsStand, one_answered}
-use Rattle.ace_sysck.proofs.SyncSteps.{syncs_sync, syncs_part, syncs_completion, syncs_plain, syncs_quiet, syncs_answer, syncs_no_message, syncs_no_sync}
+use Rattle.ace_sysck.specs.Syncs.{SyncsStand}
+use Rattle.ace_sysck.proofs.SyncSteps.{syncs_sync, syncs_part, syncs_completion, syncs_plain, syncs_quiet, syncs_no_message}
 use Rattle.ace_sysck.proofs.syncs.Syncs.hear.Goals as goal
 
 pub returns-then-is_new_sync : goal.returns-then-is_new_sync
@@ -37,23 +37,12 @@ returns-else-is_dvm_completion c = λ r q.
     syncs_plain r c.args.self.now c.args.event.now c.args.target.now x q.step begun (sym c.is_message_part.ensures ∙ c.if-is_message_part.false)
     (sym c.is_dvm_completion.ensures ∙ c.if-is_dvm_completion.false) q.stands
 
-pub returns-then-answers_sync : goal.returns-then-answers_sync
-returns-then-answers_sync c = λ r q.
-    let s = c.args.self.now in
+pub returns-then-answers_message : goal.returns-then-answers_message
+returns-then-answers_message c = λ r q.
     let i = c.in-Cr in
     let step : IsStep r (Cr i.port i.resp i.st) c.args.target.now = subst (λ (v : Event). IsStep r v c.args.target.now) i.is q.step in
-    subst (λ (v : Event). SyncsStand (after r v) c.set.new.self) (sym i.is)
-    (syncs_answer r s c.set.new.self c.args.target.now i.port i.resp i.st c.args.inboxes.now c.answers_sync.result step (sym c.answers_message.ensures ∙ c.if-answers_message.true) c.if-answers_sync.true
-    q.inboxes c.answers_sync.ensures q.stands
-    (c.set.ensures ∙ ap (slice_set s.ports.items i.port) (c.one_answered-more.ensures ∙ ap one_answered c.of.ensures)))
-
-pub returns-else-answers_sync : goal.returns-else-answers_sync
-returns-else-answers_sync c = λ r q.
-    let i = c.in-Cr in
-    let step : IsStep r (Cr i.port i.resp i.st) c.args.target.now = subst (λ (v : Event). IsStep r v c.args.target.now) i.is q.step in
-    subst (λ (v : Event). SyncsStand (after r v) c.args.self.now) (sym i.is)
-    (syncs_no_sync r c.args.self.now c.args.target.now i.port i.resp i.st c.args.inboxes.now c.answers_sync.result step (sym c.answers_message.ensures ∙ c.if-answers_message.true) c.if-answers_sync.false
-    q.inboxes c.answers_sync.ensures q.stands)
+    subst (λ (v : Event). SyncsStand (after r v) c.answer.new.self) (sym i.is)
+    (c.answer.ensures r i.resp i.st c.args.target.now step (sym c.answers_message.ensures ∙ c.if-answers_message.true) q.inboxes q.stands)
 
 pub returns-else-answers_message : goal.returns-else-answers_message
 returns-else-answers_message c = λ r q.

@@ -1,0 +1,45 @@
+use Rattle.std.proofs.Common.{◌≡◌, ◌∷◌, Some, true, false, nat_eq, slice_get, refl, sym, subst, ◌∙◌}
+use Rattle.indexmap.specs.IndexMap.{get, values}
+use Rattle.ace_model.proofs.Terms.{Cr}
+use Rattle.ace_portck.specs.Targets.{target_of}
+use Rattle.ace_lineck.proofs.AllLines.{unplaced, placed, line-step, applied-else}
+use Rattle.ace_lineck.proofs.BeatSteps.{still-used}
+use Rattle.ace_lineck.proofs.Places.{get-at, place-taken, written-here, written-there}
+use Rattle.ace_lineck.proofs.SnoopAnswers.{may-hear_answer}
+use Rattle.ace_lineck.proofs.lines.LineCheck.hear_snoop_answer.Goals as goal
+
+pub returns-in_default : goal.returns-in_default
+returns-in_default c = λ r x k s is at fine few.
+    let self = c.args.self.now in
+    let a = c.args.answer.now in
+    let e = Cr a.port a.resp a.st in
+    unplaced self r e (target_of r.header r.past e) c.args.place (may-hear_answer self r a.port a.resp a.st x k c.args.place s is at fine few) c.in_default.is
+
+pub returns-in_default-get_index_mut : goal.returns-in_default-get_index_mut
+returns-in_default-get_index_mut c = λ r x k s is at fine few.
+    let self = c.args.self.now in
+    let a = c.args.answer.now in
+    let e = Cr a.port a.resp a.st in
+    let n = c.in-Some.place in
+    let on = placed self r e (target_of r.header r.past e) c.args.place (may-hear_answer self r a.port a.resp a.st x k c.args.place s is at fine few) n c.in-Some.is in
+    let within = place-taken self (Some on.0) n on.2 in
+    let bad : false ≡ true = c.in_default-get_index_mut.ensures.found.1 within in cc
+
+pub returns : goal.returns
+returns c = λ r x k s is at fine few.
+    let self = c.args.self.now in
+    let a = c.args.answer.now in
+    let e = Cr a.port a.resp a.st in
+    let t = target_of r.header r.past e in
+    let m = may-hear_answer self r a.port a.resp a.st x k c.args.place s is at fine few in
+    let n = c.in-Some.place in
+    let was = c.in-Some-get_index_mut.kept.now in
+    let kept = c.hear_in_record.new.kept in
+    let on = placed self r e t c.args.place m n c.in-Some.is in
+    let value : slice_get (values self.lines) n ≡ Some was = sym c.in-Some-get_index_mut.ensures.value in
+    let unique = c.get_index_mut.ensures.unique in
+    let here : get nat_eq self.lines on.0 ≡ Some was = get-at self on.0 n on.2 ∙ value in
+    let step = line-step self r e t c.args.place m on.0 on.1 was here in
+    let new = c.hear_in_record.ensures.stands r.header r.past on.0 t step in
+    applied-else self _ r e t c.args.place m on.0 on.1 was kept step new c.hear_in_record.ensures.room (still-used was.used kept.used c.hear_in_record.ensures.used)
+    (record { header = refl; empty = refl; here = written-here self on.0 n on.2 unique was kept value; others = written-there self on.0 n on.2 unique was kept value }) refl s.spare
