@@ -1,5 +1,5 @@
 -- The AR of a plain read: it breaks no rule of the share, and moves the results alone. What moves them at most.
-use Rattle.std.proofs.Common.{◌≡◌, ◌<◌, ◌-◌, ◌^◌, ℕ, Bool, true, false, ◌&&◌, if◌then◌else◌, ◌∷◌, length, Option, Some, None, slice_set, refl}
+use Rattle.std.proofs.Common.{◌≡◌, ◌<◌, ◌-◌, ◌^◌, ℕ, Bool, true, false, ◌&&◌, if◌then◌else◌, length, Option, Some, None, slice_set, refl}
 use Rattle.ace_codes.specs.declared.kind.ArKind.{ArKind}
 use Rattle.ace_codes.specs.declared.kind.ArKind.TheVariants as read
 use Rattle.ace_event.specs.declared.event.Event.TheVariants.{Ar}
