@@ -41,3 +41,9 @@ pub mod BeatLaws
 pub mod BeatSteps
 -- What the AR of a plain read asks of its line, which it leaves as it is.
 pub mod PlainAddresses
+-- A B of a line write: what it asks of its line, and what it leaves.
+pub mod WriteEnds
+-- A D: what it asks of its line, and what it leaves.
+pub mod Stores
+-- A CD: what it asks of its line, and what it leaves.
+pub mod SnoopData

@@ -35,7 +35,7 @@ line-of_write h past p strb last word z is m at = by (is_line z) (rw is at at)
     by true line = Some-injective z.addr m line
     by false line = cc
 
-one_rule : (n : ℕ) (kept : Bool) → kept ≡ is_none (if kept then None else Some n)
+pub one_rule : (n : ℕ) (kept : Bool) → kept ≡ is_none (if kept then None else Some n)
 one_rule n true = refl
 one_rule n false = refl
 
