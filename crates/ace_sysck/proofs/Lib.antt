@@ -31,3 +31,5 @@ pub mod SnoopLaws
 pub mod PlainAddresses
 pub mod Judging
 pub mod MessageCodes
+-- Which rules of the share look at a D.
+pub mod Stores

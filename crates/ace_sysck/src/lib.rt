@@ -12,6 +12,7 @@ mod plain_answers;
 mod plain_grants;
 mod plain_loads;
 mod plain_snoops;
+mod plain_stores;
 mod registrations;
 mod results;
 mod rules;
