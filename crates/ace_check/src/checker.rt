@@ -98,15 +98,15 @@ impl Checker {
             Rk { port, st } => feed_kind,
             Aw { port, id, addr, snoop, dom, bar } => feed_kind,
             W { port, strb, last, word } => feed_plain,
-            B { port, id, resp } => feed_kind,
+            B { port, id, resp } => feed_plain,
             Wk { port, st } => feed_kind,
             Ac { port, addr, snoop } => feed_plain,
             Cr { port, resp, st } => feed_kind,
-            Cd { port, last, word } => feed_kind,
+            Cd { port, last, word } => feed_plain,
             G { port, chan, id } => feed_plain,
             M { port, chan, id, line } => feed_kind,
             L { port, addr, w, x, word } => feed_plain,
-            D { port, addr, strobe, x, line } => feed_kind,
+            D { port, addr, strobe, x, line } => feed_plain,
         })
     }
 

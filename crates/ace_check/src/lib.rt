@@ -7,7 +7,10 @@ mod plain_addresses;
 mod plain_beats;
 mod plain_grants;
 mod plain_loads;
+mod plain_snoop_data;
 mod plain_snoops;
+mod plain_stores;
+mod plain_write_ends;
 mod plain_writes;
 mod shares;
 
