@@ -14,7 +14,7 @@ use Rattle.ace_model.specs.Kinds.{is_line_write, is_write_barrier}
 use Rattle.ace_model.specs.Messages.{is_message_part}
 use Rattle.ace_model.specs.Shares.{k26_response, port_rules}
 use Rattle.ace_model.specs.Trace.{Trace}
-use Rattle.ace_model.specs.Transactions.{is_line, is_read, outstanding, read_kind, write_kind}
+use Rattle.ace_model.specs.Transactions.{is_line, is_read, outstanding, write_kind}
 use Rattle.ace_model.specs.declared.transactions.Transaction.{Transaction}
 use Rattle.ace_model.proofs.General.Options.{none_if-is, some_if-is}
 use Rattle.ace_portck.specs.Targets.{progress_of}
