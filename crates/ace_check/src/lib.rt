@@ -14,6 +14,10 @@ mod plain_silent_changes;
 mod plain_snoop_answers;
 mod plain_snoops;
 mod plain_write_addresses;
+mod plain_snoop_data;
+mod plain_snoops;
+mod plain_stores;
+mod plain_write_ends;
 mod plain_writes;
 mod shares;
 

@@ -48,3 +48,9 @@ pub mod PlainWriteAddresses
 pub mod PlainSilentChanges
 -- A CR: what is asked of it, and what it leaves of the line of its snoop.
 pub mod SnoopAnswers
+-- A B of a line write: what it asks of its line, and what it leaves.
+pub mod WriteEnds
+-- A D: what it asks of its line, and what it leaves.
+pub mod Stores
+-- A CD: what it asks of its line, and what it leaves.
+pub mod SnoopData

@@ -42,7 +42,7 @@ fn port_of(event: &Event) -> Option<u8>
 
 /// The port's own transaction is a MakeUnique that is complete: its next store to the line belongs to it.
 #[inline(always)]
-pub fn awaits_store(own: &Option<Progress>) -> bool
+fn awaits_store(own: &Option<Progress>) -> bool
     ensures { result ≡ is_some_and own.now awaits_store }
 {
     match own {

@@ -28,8 +28,7 @@ ghost use Rattle.ace_lineck.specs.declared.record.LineRecord.{LineRecord};
 ghost use Rattle.ace_lineck.specs.Holders.{awaits_store};
 ghost use Rattle.ace_lineck.specs.Records.{IsNext};
 
-use crate::holders::awaits_store;
-use crate::kinds::is_no_snoop;
+use crate::kinds::{is_make_unique, is_no_snoop};
 use crate::record::{LineRecord, Use};
 use crate::uses::goes_with;
 use ace_codes::{LineState, read_ac};
@@ -249,14 +248,26 @@ pub fn keeps_load(kept: &LineRecord, port: u8, w: u8, word: u128) -> bool
     word == kept.copied_word(port, w)
 }
 
-/// The port's own transaction is a complete MakeUnique that has had no store.
+/// The store is the one of the MakeUnique, which is complete and has had none: a store of the whole line with x 0.
 #[inline(always)]
-fn wants_store(own: &Option<Progress>) -> bool
-    ensures { result ≡ is_some_and own.now (λ x. awaits_store x && not x.stored) }
+pub fn is_own_store(own: &Progress, strobe: u64, x: bool) -> bool
+    ensures { result ≡ ((awaits_store own.now && not own.now.stored) && not x && (strobe == full_line)) }
+{
+    is_make_unique(&own.transaction)
+        && own.complete
+        && !own.stored
+        && !x
+        && strobe == u64::MAX
+}
+
+/// The same, of the port's own transaction, if it has one.
+#[inline(always)]
+fn is_store_of(own: &Option<Progress>, strobe: u64, x: bool) -> bool
+    ensures { result ≡ (is_some_and own.now (λ y. awaits_store y && not y.stored) && not x && (strobe == full_line)) }
 {
     match own {
         None => false,
-        Some(x) => awaits_store(own) && !x.stored,
+        Some(y) => is_own_store(y, strobe, x),
     }
 }
 
@@ -265,7 +276,7 @@ fn wants_store(own: &Option<Progress>) -> bool
 fn may_store(held: LineState, own: &Option<Progress>, strobe: u64, x: bool) -> bool
     ensures { result ≡ ((is_unique held && not (is_some own.now)) || (is_some_and own.now (λ y. awaits_store y && not y.stored) && not x && (strobe == full_line))) }
 {
-    is_unique(held) && own.is_none() || wants_store(own) && !x && strobe == u64::MAX
+    is_unique(held) && own.is_none() || is_store_of(own, strobe, x)
 }
 
 /// K32, of a D.

@@ -22,3 +22,4 @@ pub mod DvmReads
 pub mod PlainWriteAddresses
 pub mod PlainRetirements
 pub mod PlainSilentChanges
+pub mod WriteEnds

@@ -1,11 +1,11 @@
--- Which of the rules that look at one port a W and an L may break.
+-- Which of the rules that look at one port a W, an L and a CD may break.
 use Rattle.std.proofs.Common.{◌≡◌, ℕ, Bool, true, false, is_none, refl, sym, ap, ◌∙◌}
 use Rattle.ace_event.specs.declared.event.Event.{Event}
-use Rattle.ace_event.specs.declared.event.Event.TheVariants.{W, L}
+use Rattle.ace_event.specs.declared.event.Event.TheVariants.{W, L, Cd}
 use Rattle.ace_event.specs.declared.header.Header.{Header}
 use Rattle.ace_model.specs.Accepted.{least_of}
 use Rattle.ace_model.specs.AddressRules.{k1, k3}
-use Rattle.ace_model.specs.Shares.{port_rules, k11_burst}
+use Rattle.ace_model.specs.Shares.{port_rules, k11_burst, k17_burst}
 use Rattle.ace_model.specs.Trace.{Trace}
 use Rattle.ace_portck.specs.declared.ports.PortCheck.{PortCheck}
 use Rattle.ace_portck.specs.Stands.{Stands}
@@ -36,3 +36,13 @@ module _ (h : Header) (past : Trace) (p addr w : ℕ) (x : Bool) (word : ℕ) wh
       → aligned ≡ is_none (least_of port_rules h past (L p addr w x word))
   load-keeps true first line = rw (first, line) refl
   load-keeps false first line = rw (first, line) refl
+
+-- of a CD K1 and the ports' part of K17
+module _ (h : Header) (past : Trace) (p : ℕ) (last : Bool) (word : ℕ) where
+  pub sent-outside : k1 h past (Cd p last word) ≡ false → false ≡ is_none (least_of port_rules h past (Cd p last word))
+  sent-outside first = rw first refl
+
+  pub sent-keeps : (kept : Bool) → k1 h past (Cd p last word) ≡ true → k17_burst h past (Cd p last word) ≡ kept
+      → kept ≡ is_none (least_of port_rules h past (Cd p last word))
+  sent-keeps true first burst = rw (first, burst) refl
+  sent-keeps false first burst = rw (first, burst) refl

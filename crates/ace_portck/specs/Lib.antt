@@ -17,3 +17,4 @@ pub mod PlainAddresses
 pub mod DvmReads
 pub mod PlainWriteAddresses
 pub mod SnoopAnswers
+pub mod WriteEnds

@@ -1,7 +1,8 @@
 //! The snoops of one port that are under way.
 
-ghost use Rattle.std.specs.Prelude.{◌≡◌, ◌≤◌, slice_get};
+ghost use Rattle.std.specs.Prelude.{◌≡◌, ◌≤◌, ◌==◌, slice_get};
 ghost use Rattle.std.specs.Option.{option_copied};
+ghost use Rattle.ace_tables.specs.Answers.{same_test};
 
 use ace_codes::transfers_data;
 use ace_event::Event;
@@ -34,11 +35,20 @@ fn oldest(queue: &VecDeque<Snoop>) -> Option<&Snoop>
     queue.front()
 }
 
+/// The beat of this number, from 0, is the last of its burst exactly where it says so.
+#[inline(always)]
+fn says_last(last: bool, beat: u8) -> bool
+    ensures { result ≡ same_test last (beat == 3) }
+{
+    last == (beat == 3)
+}
+
 impl SnoopQueues {
-    ghost use Rattle.std.specs.Prelude.{ℕ, Bool, true, length, ◌∷◌, IfOk, IsOk, OnOk, OnErr, Some, []};
+    ghost use Rattle.std.specs.Prelude.{ℕ, Bool, true, length, ◌∷◌, IfOk, IsOk, OnOk, OnErr, Some, [], is_some};
     ghost use Rattle.ace_codes.specs.declared.state.LineState.{LineState};
     ghost use Rattle.ace_event.specs.declared.event.Event.TheVariants.{Ac, Cd, Cr};
     ghost use Rattle.ace_event.specs.declared.header.Header.{Header};
+    ghost use Rattle.ace_model.specs.declared.snoops.Snoop.{Snoop as Snooped};
     ghost use Rattle.ace_model.specs.Accepted.{IsAccepted};
     ghost use Rattle.ace_model.specs.Replies.{next_sent_beat};
     ghost use Rattle.ace_model.specs.Shares.{k17_burst};
@@ -110,8 +120,30 @@ impl SnoopQueues {
             → result ≡ k17_burst h past event.now }
     {
         match *event {
-            Event::Cd { last, .. } => self.sending().is_some() && last == (self.beat() == 3),
+            Event::Cd { last, .. } => self.sent_by(last).is_some(),
             _ => true,
+        }
+    }
+
+    /// The snoop that the port's next CD sends data for, and which beat of its burst that is, from 0: where there is such a snoop, and
+    /// that is the last beat exactly where it says so.
+    #[inline(always)]
+    pub fn sent_by(&self, last: bool) -> Option<(Snoop, u8)>
+        ensures kept { (h : Header) (past : Trace) (p word : ℕ) → SnoopsStand past p self.now
+            → is_some result ≡ k17_burst h past (Cd p last word) }
+        ensures snoop { (past : Trace) (p : ℕ) (s : Snooped) (n : ℕ) → SnoopsStand past p self.now → result ≡ Some (s, n)
+            → (sending past p ≡ Some s) × (n ≡ next_sent_beat past p) }
+    {
+        match self.sending() {
+            None => None,
+            Some(snoop) => {
+                let beat = self.beat();
+                if says_last(last, beat) {
+                    Some((snoop, beat))
+                } else {
+                    None
+                }
+            }
         }
     }
 

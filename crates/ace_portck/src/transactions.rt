@@ -217,9 +217,18 @@ impl Transactions {
         ensures { (h : Header) (past : Trace) (p : ℕ) → TransactionsStand h past p self.now
             → result ≡ option_map (progress_of h past) (own_of h past p line) }
     {
+        self.own_on(line).copied()
+    }
+
+    /// The same, where it stands.
+    #[inline(always)]
+    pub fn own_on(&self, line: u32) -> Option<&Progress>
+        ensures { (h : Header) (past : Trace) (p : ℕ) → TransactionsStand h past p self.now
+            → option_copied result ≡ option_map (progress_of h past) (own_of h past p line) }
+    {
         match find_on(self.reads.list(), line) {
-            Some(x) => Some(*x),
-            None => find_on(self.writes.list(), line).copied(),
+            Some(x) => Some(x),
+            None => find_on(self.writes.list(), line),
         }
     }
 

@@ -37,3 +37,5 @@ pub mod Judging
 pub mod MessageCodes
 -- What a CR leaves.
 pub mod SnoopAnswers
+-- Which rules of the share look at a D.
+pub mod Stores

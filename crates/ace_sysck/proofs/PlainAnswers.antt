@@ -3,7 +3,8 @@ use Rattle.std.proofs.Common.{◌≡◌, ◌<◌, ◌-◌, ◌^◌, ℕ, Bool, t
 use Rattle.std.proofs.lemmas.Bool.{and_right, ne_eqb}
 use Rattle.ace_codes.specs.Responses.{low_bits}
 use Rattle.ace_codes.specs.declared.kind.ArKind.{ArKind}
-use Rattle.ace_event.specs.declared.event.Channel.TheVariants.{Read}
+use Rattle.ace_codes.specs.declared.kind.AwKind.{AwKind}
+use Rattle.ace_event.specs.declared.event.Channel.TheVariants.{Read, Write}
 use Rattle.ace_model.specs.declared.transactions.Transaction.{Transaction}
 use Rattle.ace_model.specs.Accepted.{least_broken, least_of}
 use Rattle.ace_model.specs.Shares.{system_rules}
@@ -13,6 +14,8 @@ use Rattle.ace_model.proofs.General.Options.{Some-injective}
 use Rattle.ace_model.proofs.Trace.Issued.{issued_at}
 use Rattle.ace_portck.specs.Plain.{plain_read}
 use Rattle.ace_portck.specs.Targets.{Recording, after, target_of}
+use Rattle.ace_portck.specs.WriteEnds.{line_write}
+use Rattle.ace_portck.proofs.WriteEnds.{line_write-is, line_write-no_half, line_write-no_message}
 use Rattle.ace_portck.proofs.Plain.{IsPlainRead, plain_read-is, plain_read-no_half, plain_read-no_message}
 use Rattle.ace_sysck.specs.declared.barriers.Barrier.TheVariants.{Idle}
 use Rattle.ace_sysck.specs.declared.barriers.Barriers.{Barriers}
@@ -110,3 +113,15 @@ beat_rules h past p id resp last word x k out plain = by (nat_eq (low_bits resp)
     by : (b : Bool) → nat_eq (low_bits resp) 0 ≡ b → is_none (least_of system_rules h past (R p id resp last word)) ≡ nat_eq (low_bits resp) 0
     by true t = rw (out, is.unlocked, plain_read-no_half x k is, plain_read-no_message x k is, t) refl
     by false f = rw (out, is.unlocked, f) refl
+
+-- a B of a line write leaves all of it
+pub system_unmoved_by_response : (s : SysCheck) (r : Recording) (p id resp : ℕ) (x : Transaction) (k : AwKind) → Stands s r → outstanding r.header r.past p Write id ≡ Some x
+    → line_write x ≡ Some k → least_broken r.header r.past (B p id resp) ≡ None → length r.past < 2 ^ 64 - 1 → Stands s (after r (B p id resp))
+system_unmoved_by_response s r p id resp x k stands out line kept few =
+    let is = line_write-is x k line in
+    system_unanswered s r (B p id resp) x stands kept few out (line_write-no_half x k is) (line_write-no_message x k is)
+
+-- it breaks no rule of the share
+pub response_rules : (h : Header) (past : Trace) (p id resp : ℕ) (x : Transaction) (k : AwKind) → outstanding h past p Write id ≡ Some x → line_write x ≡ Some k
+    → is_none (least_of system_rules h past (B p id resp)) ≡ true
+response_rules h past p id resp x k out line = let half = line_write-no_half x k (line_write-is x k line) in rw (out, half) refl

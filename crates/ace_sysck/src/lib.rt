@@ -16,6 +16,7 @@ mod plain_loads;
 mod plain_silent_changes;
 mod plain_snoop_answers;
 mod plain_snoops;
+mod plain_stores;
 mod registrations;
 mod results;
 mod rules;

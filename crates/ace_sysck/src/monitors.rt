@@ -41,7 +41,8 @@ fn left_state(event: &Event) -> Option<(u8, LineState)>
 
 impl Monitors {
     ghost use Rattle.std.specs.Prelude.{◌≡◌, ◌∷◌, ℕ, [], IfOk, None, slice_set, slice_index_or};
-    ghost use Rattle.ace_event.specs.declared.event.Event.TheVariants.{L};
+    ghost use Rattle.ace_event.specs.declared.event.Event.TheVariants.{L, D};
+    ghost use Rattle.ace_event.specs.declared.line.Line.{Line};
     ghost use Rattle.ace_event.specs.declared.header.Header.{Header};
     ghost use Rattle.ace_model.specs.Accepted.{IsAccepted};
     ghost use Rattle.ace_model.specs.CacheRules.{k33};
@@ -109,6 +110,17 @@ impl Monitors {
         }
     }
 
+    /// The monitors after a D: where it is exclusive, that of its port is no longer set.
+    #[inline(always)]
+    pub fn store(&mut self, port: u8, x: bool)
+        ensures { (r : Recording) (addr strobe : ℕ) (line : Line) → IsAccepted r.header (D port addr strobe x line ∷ r.past) → MonitorsStand r self.old
+            → MonitorsStand (after r (D port addr strobe x line)) self.new }
+    {
+        if x {
+            self.set(port, None);
+        }
+    }
+
     /// The monitors after the event.
     #[inline(always)]
     pub fn hear(&mut self, event: &Event, target: &Target)
@@ -116,11 +128,7 @@ impl Monitors {
     {
         match *event {
             Event::L { port, addr, x, .. } => self.load(port, addr, x),
-            Event::D { port, x, .. } => {
-                if x {
-                    self.set(port, None);
-                }
-            }
+            Event::D { port, x, .. } => self.store(port, x),
             _ => {
                 if let Some((port, state)) = left_state(event) {
                     self.leave(port, target.line, state);

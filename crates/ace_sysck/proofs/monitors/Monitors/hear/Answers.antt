@@ -1,11 +1,11 @@
-use Rattle.std.proofs.Common.{◌≡◌, ◌∷◌, true, false, None, refl, sym, ap, subst, ◌∙◌, arith}
+use Rattle.std.proofs.Common.{◌≡◌, ◌∷◌, None, sym, ap, subst, arith}
 use Rattle.std.proofs.lemmas.Grind.{common_steps}
 use Rattle.ace_model.proofs.Terms.{Event, L, D, IsAccepted}
 use Rattle.ace_portck.specs.declared.target.Target.{Target}
 use Rattle.ace_sysck.specs.Monitors.{MonitorsStand, left_state}
 use Rattle.ace_portck.specs.Targets.{after}
 use Rattle.ace_sysck.proofs.Steps.{port_within}
-use Rattle.ace_sysck.proofs.MonitorSteps.{monitors_store, monitors_exclusive_store, monitors_leave, monitors_other, left_at}
+use Rattle.ace_sysck.proofs.MonitorSteps.{monitors_leave, monitors_other, left_at}
 use Rattle.ace_sysck.proofs.monitors.Monitors.hear.Goals as goal
 
 pub returns-in-L : goal.returns-in-L
@@ -15,21 +15,12 @@ returns-in-L c = λ r q.
     let accepted : IsAccepted r.header (e ∷ r.past) = subst (λ (v : Event). IsAccepted r.header (v ∷ r.past)) i.is q.step.accepted in
     subst (λ (v : Event). MonitorsStand (after r v) c.load.new.self) (sym i.is) (c.load.ensures r i.w i.word accepted q.stands)
 
-pub returns-then-x : goal.returns-then-x
-returns-then-x c = λ r q.
+pub returns-in-D : goal.returns-in-D
+returns-in-D c = λ r q.
     let i = c.in-D in
-    let e : Event = D i.port i.addr i.strobe true i.line in
-    let is : c.args.event.now ≡ e = i.is ∙ ap (λ b. D i.port i.addr i.strobe b i.line) c.if-x.true in
-    let accepted : IsAccepted r.header (e ∷ r.past) = subst (λ (v : Event). IsAccepted r.header (v ∷ r.past)) is q.step.accepted in
-    subst (λ (v : Event). MonitorsStand (after r v) c.set.new.self) (sym is)
-    (monitors_exclusive_store r c.args.self.now c.set.new.self i.port i.addr i.strobe i.line q.stands
-    (port_within r.header r.past e i.port accepted refl) c.set.ensures)
-
-pub returns-else-x : goal.returns-else-x
-returns-else-x c = λ r q.
-    let i = c.in-D in
-    let is : c.args.event.now ≡ D i.port i.addr i.strobe false i.line = i.is ∙ ap (λ b. D i.port i.addr i.strobe b i.line) c.if-x.false in
-    subst (λ (v : Event). MonitorsStand (after r v) c.args.self.now) (sym is) (monitors_store r c.args.self.now i.port i.addr i.strobe i.line q.stands)
+    let e : Event = D i.port i.addr i.strobe i.x i.line in
+    let accepted : IsAccepted r.header (e ∷ r.past) = subst (λ (v : Event). IsAccepted r.header (v ∷ r.past)) i.is q.step.accepted in
+    subst (λ (v : Event). MonitorsStand (after r v) c.store.new.self) (sym i.is) (c.store.ensures r i.addr i.strobe i.line accepted q.stands)
 
 pub returns-in-Some : goal.returns-in-Some
 returns-in-Some c = λ r q.

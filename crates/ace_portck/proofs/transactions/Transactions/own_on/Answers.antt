@@ -4,7 +4,7 @@ use Rattle.std.specs.List.{find}
 use Rattle.ace_model.specs.Transactions.{is_on}
 use Rattle.ace_portck.specs.declared.target.Progress.{Progress}
 use Rattle.ace_portck.proofs.Found.{own_is_found}
-use Rattle.ace_portck.proofs.transactions.Transactions.own.Goals as goal
+use Rattle.ace_portck.proofs.transactions.Transactions.own_on.Goals as goal
 
 pub returns-in-Some : goal.returns-in-Some
 returns-in-Some c = λ h past p s.
@@ -22,5 +22,5 @@ returns-in-None c = λ h past p s.
     let r : option_copied c.find_on.result ≡ find (λ (v : Progress). is_on v.transaction c.args.line) reads = search rules in
     let w : option_copied c.find_on-in-None.result ≡ find (λ (v : Progress). is_on v.transaction c.args.line) writes = search rules in
     let none : find (λ (v : Progress). is_on v.transaction c.args.line) reads ≡ None = sym r ∙ ap option_copied c.in-None.is in
-    c.copied.ensures ∙ w ∙ sym (ap (λ o. option_or o (find (λ (v : Progress). is_on v.transaction c.args.line) writes)) none)
+    w ∙ sym (ap (λ o. option_or o (find (λ (v : Progress). is_on v.transaction c.args.line) writes)) none)
     ∙ own_is_found h past p s.accepted reads writes s.reads.lists.list_is s.writes.lists.list_is c.args.line
