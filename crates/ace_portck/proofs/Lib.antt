@@ -18,3 +18,4 @@ pub mod BarrierBars
 pub mod Plain
 pub mod PlainEvents
 pub mod PlainAddresses
+pub mod Acknowledges

@@ -14,3 +14,4 @@ pub mod Stands
 pub mod LineMaps
 pub mod Plain
 pub mod PlainAddresses
+pub mod Acknowledges
