@@ -41,3 +41,6 @@ pub mod BeatLaws
 pub mod BeatSteps
 -- What the AR of a plain read asks of its line, which it leaves as it is.
 pub mod PlainAddresses
+-- What an RK or WK asks of its line, and what it leaves.
+pub mod AcknowledgeLaws
+pub mod AcknowledgeSteps

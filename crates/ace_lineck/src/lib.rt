@@ -13,6 +13,7 @@ mod lines;
 mod looks;
 mod memory;
 mod memory_writes;
+mod plain_acknowledges;
 mod plain_addresses;
 mod plain_beats;
 mod plain_grants;
