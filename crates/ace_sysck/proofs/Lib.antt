@@ -27,6 +27,8 @@ pub mod PlainGrants
 -- What an answer to a plain transaction leaves, and the rules that look at it.
 pub mod PlainAnswers
 pub mod SnoopLaws
+-- What an RK or WK moves.
+pub mod PlainAcknowledges
 -- What the AR of a plain read moves.
 pub mod PlainAddresses
 pub mod Judging

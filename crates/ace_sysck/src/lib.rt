@@ -7,6 +7,7 @@ mod inboxes;
 mod kinds;
 mod messages;
 mod monitors;
+mod plain_acknowledges;
 mod plain_addresses;
 mod plain_answers;
 mod plain_grants;
