@@ -3,6 +3,7 @@
 
 mod checker;
 mod plain;
+mod plain_acknowledges;
 mod plain_addresses;
 mod plain_beats;
 mod plain_grants;
