@@ -95,11 +95,11 @@ impl Checker {
         by_kind!(self, event, {
             Ar { port, id, addr, snoop, dom, bar, lock } => feed_plain,
             R { port, id, resp, last, word } => feed_plain,
-            Rk { port, st } => feed_kind,
+            Rk { port, st } => feed_plain,
             Aw { port, id, addr, snoop, dom, bar } => feed_plain,
             W { port, strb, last, word } => feed_plain,
             B { port, id, resp } => feed_plain,
-            Wk { port, st } => feed_kind,
+            Wk { port, st } => feed_plain,
             Ac { port, addr, snoop } => feed_plain,
             Cr { port, resp, st } => feed_plain,
             Cd { port, last, word } => feed_plain,

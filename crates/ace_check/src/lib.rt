@@ -5,6 +5,7 @@ mod checker;
 mod message_addresses;
 mod message_beats;
 mod plain;
+mod plain_acknowledges;
 mod plain_addresses;
 mod plain_beats;
 mod plain_grants;

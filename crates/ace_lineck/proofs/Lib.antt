@@ -54,3 +54,6 @@ pub mod WriteEnds
 pub mod Stores
 -- A CD: what it asks of its line, and what it leaves.
 pub mod SnoopData
+-- What an RK or WK asks of its line, and what it leaves.
+pub mod AcknowledgeLaws
+pub mod AcknowledgeSteps

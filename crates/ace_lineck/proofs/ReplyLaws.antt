@@ -230,8 +230,26 @@ module _ (h : Header) (past : Trace) (t : Target) (x : LineRecord) (p : ℕ) (st
       let k = is_some_and-is (read_kind y) is_clean_unique (and_parts y.lock (is_some_and (read_kind y) is_clean_unique) store).1 in
       let line = kind-line y k.0 k.1 (clean_unique-line k.0 k.2) in cc)
 
-  pub k23-law : (failed : Bool) → IsFailure h past t failed → is_none_or t.transaction (ends_kept failed (holder_at x.holders.items p).state st) ≡ k23 h past (Rk p st)
-  k23-law failed fails =
+  -- the line of the read
+  rk-line : (y : Transaction) → acknowledged past p Read ≡ Some y → is_line y ≡ true → t.line ≡ Some y.addr
+  rk-line y is line =
+      let ace = rk-ace in
+      let there : line_in h past (Rk p st) ≡ Some y.addr = rw ace (line-transaction h past (acknowledged past p Read) y.addr (rw is (and_from _ _ line (eq-eqb y.addr y.addr refl)))) in
+      ap (λ (v : Target). v.line) s.target ∙ there
+
+  -- the read is granted its line
+  rk-granted : (y : Transaction) → acknowledged past p Read ≡ Some y → is_line y ≡ true → granted h past y.addr ≡ Some y
+  rk-granted y is line =
+      let n = acknowledged_is past p Read y is in
+      let e = ends h past p st (accepted_holds h past s.accepted) s.port (ap is_some n.next) in
+      let one : e.ended_one ≡ y = Some-injective e.ended_one y (sym e.is ∙ is) in
+      let out : outstanding h past p Read e.id ≡ Some y = e.out ∙ ap (λ v. Some v) one in
+      under_way h past s.accepted p e.id y out line (full_some past p e.id e.ended_one e.full)
+
+  -- where it is known whether the read is an exclusive store that failed
+  pub k23-of : (failed : Bool) → ((y : Transaction) → acknowledged past p Read ≡ Some y → is_line y ≡ true → failed ≡ has_failed past y)
+      → is_none_or t.transaction (ends_kept failed (holder_at x.holders.items p).state st) ≡ k23 h past (Rk p st)
+  k23-of failed fails =
       let ace = rk-ace in
       ap (λ (v : Target). is_none_or v.transaction (ends_kept failed (holder_at x.holders.items p).state st)) s.target
       ∙ ap (λ b. is_none_or (option_map (progress_of h past) (if b then acknowledged past p Read else None)) (ends_kept failed (holder_at x.holders.items p).state st)) ace
@@ -246,20 +264,13 @@ module _ (h : Header) (past : Trace) (t : Target) (x : LineRecord) (p : ℕ) (st
           let one : e.ended_one ≡ y = Some-injective e.ended_one y (sym e.is ∙ is) in
           let port : y.port ≡ p = ap (λ (v : Transaction). v.port) (sym one) ∙ e.port in
           let reads = (read_writes_none y k kind).1 in
-          let out : outstanding h past p Read e.id ≡ Some y = e.out ∙ ap (λ v. Some v) one in
-          let some = full_some past p e.id e.ended_one e.full in
           let held : (if is_line y then (holder_at x.holders.items p).state else I) ≡ held_of h past y = elim (cases_Bool (is_line y)) [
             | inr f ↦ rw f refl
-            | inl line ↦
-                let on : t.line ≡ Some y.addr = on_line y is line in
-                rw line ((s.line y.addr on).holders.state p ∙ ap (λ v. state_of h past v y.addr) (sym port))
+            | inl line ↦ rw line ((s.line y.addr (rk-line y is line)).holders.state p ∙ ap (λ v. state_of h past v y.addr) (sym port))
           ] in
           let failed_is : (is_line y && failed) ≡ has_failed past y = elim (cases_Bool (is_line y)) [
             | inr f ↦ rw f (sym (failed-line y f))
-            | inl line ↦
-                let on : t.line ≡ Some y.addr = on_line y is line in
-                let stands = under_way h past s.accepted p e.id y out line some in
-                rw line (fails y.addr on ∙ ap (λ o. is_some_and o (has_failed past)) stands)
+            | inl line ↦ rw line (fails y is line)
           ] in
           let response : (progress_of h past y).response ≡ unwrap_or (first_resp past y.port y.id) 0 = rw reads refl in
           let stored : (progress_of h past y).stored ≡ has_store h past y.port y.id = rw reads refl in
@@ -270,12 +281,6 @@ module _ (h : Header) (past : Trace) (t : Target) (x : LineRecord) (p : ℕ) (st
           (ap passes_dirty response ∙ passes-first (first_resp past y.port y.id))
           ∙ ap (λ v. ends_read k (held_of h past y) (is_some_and (first_resp past y.port y.id) is_shared) (is_some_and (first_resp past y.port y.id) passes_dirty) v st && implies (is_make_unique k) (progress_of h past y).stored) failed_is
           ∙ ap (λ v. ends_read k (held_of h past y) (is_some_and (first_resp past y.port y.id) is_shared) (is_some_and (first_resp past y.port y.id) passes_dirty) (has_failed past y) st && implies (is_make_unique k) v) stored
-        where
-          on_line : (y : Transaction) → acknowledged past p Read ≡ Some y → is_line y ≡ true → t.line ≡ Some y.addr
-          on_line y is line =
-              let ace = rk-ace in
-              let there : line_in h past (Rk p st) ≡ Some y.addr = rw ace (line-transaction h past (acknowledged past p Read) y.addr (rw is (and_from _ _ line (eq-eqb y.addr y.addr refl)))) in
-              ap (λ (v : Target). v.line) s.target ∙ there
 
       kinds : (y : Transaction) → acknowledged past p Read ≡ Some y → (o : Option ArKind) → read_kind y ≡ o
           → is_none_or o (λ k. ends_read k (if is_line y then (holder_at x.holders.items p).state else I) (is_shared (progress_of h past y).response) (passes_dirty (progress_of h past y).response) (is_line y && failed) st
@@ -286,3 +291,6 @@ module _ (h : Header) (past : Trace) (t : Target) (x : LineRecord) (p : ℕ) (st
       by : (o : Option Transaction) → acknowledged past p Read ≡ o → is_none_or (option_map (progress_of h past) o) (ends_kept failed (holder_at x.holders.items p).state st) ≡ is_none_or o (ends_well h past st)
       by None is = refl
       by (Some y) is = kinds y is (read_kind y) refl
+
+  pub k23-law : (failed : Bool) → IsFailure h past t failed → is_none_or t.transaction (ends_kept failed (holder_at x.holders.items p).state st) ≡ k23 h past (Rk p st)
+  k23-law failed fails = k23-of failed (λ y is line. fails y.addr (rk-line y is line) ∙ ap (λ o. is_some_and o (has_failed past)) (rk-granted y is line))

@@ -14,6 +14,7 @@ mod looks;
 mod memory;
 mod memory_writes;
 mod message_beats;
+mod plain_acknowledges;
 mod plain_addresses;
 mod plain_beats;
 mod plain_grants;

@@ -6,6 +6,7 @@ ghost use Rattle.ace_codes.specs.declared.state.LineState.{LineState};
 ghost use Rattle.ace_event.specs.declared.event.Event.TheVariants.{R, Rk};
 ghost use Rattle.ace_event.specs.declared.header.Header.{Header};
 ghost use Rattle.ace_model.specs.Trace.{Trace, implies, is_none_or, is_some_and};
+ghost use Rattle.ace_tables.specs.EndStates.{ends_read};
 ghost use Rattle.ace_model.specs.Kinds.{may_be_shared, is_read_not_shared_dirty, is_make_unique, takes_passed_data};
 ghost use Rattle.ace_model.specs.Copies.{word_of, is_line_read_transaction};
 ghost use Rattle.ace_model.specs.Transactions.{is_ace, read_kind};
@@ -224,6 +225,16 @@ pub fn keeps_bits(kept: &LineRecord, header: &Header, target: &Target, resp: u8)
     has_bits(kept, header, target, resp)
 }
 
+/// The state is an end state of a read of this kind, at whose end its port holds `held` of its line, and a MakeUnique has had its D.
+#[inline(always)]
+pub fn ends_as(kind: ArKind, held: LineState, failed: bool, st: LineState, x: &Progress) -> bool
+    ensures { result ≡ (ends_read kind held (is_shared x.now.response) (passes_dirty x.now.response) failed st && implies (is_make_unique kind) x.now.stored) }
+{
+    let shared = is_shared(x.response);
+    let pass = passes_dirty(x.response);
+    end_read(kind, held, shared, pass, failed).has(st) && (!is_make_unique(kind) || x.stored)
+}
+
 /// The state is an end state of the read, and a MakeUnique has had its D.
 #[inline(always)]
 fn ends_kept(failed: bool, held: LineState, st: LineState, x: &Progress) -> bool
@@ -233,11 +244,7 @@ fn ends_kept(failed: bool, held: LineState, st: LineState, x: &Progress) -> bool
         None => true,
         Some(kind) => {
             let line = is_line(&x.transaction);
-            let own = held_if(line, held);
-            let shared = is_shared(x.response);
-            let pass = passes_dirty(x.response);
-            let ends = end_read(kind, own, shared, pass, line && failed);
-            ends.has(st) && (!is_make_unique(kind) || x.stored)
+            ends_as(kind, held_if(line, held), line && failed, st, x)
         }
     }
 }

@@ -31,7 +31,7 @@ ghost use Rattle.ace_lineck.specs.Records.{IsNext};
 use crate::kinds::{is_make_unique, is_no_snoop};
 use crate::record::{LineRecord, Use};
 use crate::uses::goes_with;
-use ace_codes::{LineState, read_ac};
+use ace_codes::{AwKind, LineState, read_ac};
 use ace_model::{Snoop, Transaction};
 use ace_portck::kinds::{has_write_data, is_line, read_kind, updates_memory, write_kind};
 use ace_portck::{Progress, Target};
@@ -186,6 +186,14 @@ fn held_of(x: &Transaction, held: LineState) -> LineState
     if is_line(x) { held } else { LineState::I }
 }
 
+/// The state is an end state of a write of this kind, at whose end its port holds `held` of its line.
+#[inline(always)]
+pub fn ends_write(kind: AwKind, held: LineState, st: LineState) -> bool
+    ensures { result ≡ ends_write kind held st }
+{
+    end_write(kind, held).has(st)
+}
+
 /// The state is an end state of the write, by the state that its port holds of its line.
 #[inline(always)]
 fn may_end(x: &Option<Progress>, held: LineState, st: LineState) -> bool
@@ -195,7 +203,7 @@ fn may_end(x: &Option<Progress>, held: LineState, st: LineState) -> bool
         None => true,
         Some(y) => match write_kind(&y.transaction) {
             None => true,
-            Some(kind) => end_write(kind, held_of(&y.transaction, held)).has(st),
+            Some(kind) => ends_write(kind, held_of(&y.transaction, held), st),
         },
     }
 }

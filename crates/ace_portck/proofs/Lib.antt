@@ -23,3 +23,4 @@ pub mod PlainWriteAddresses
 pub mod PlainRetirements
 pub mod PlainSilentChanges
 pub mod WriteEnds
+pub mod Acknowledges

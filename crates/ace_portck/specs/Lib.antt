@@ -18,3 +18,4 @@ pub mod DvmReads
 pub mod PlainWriteAddresses
 pub mod SnoopAnswers
 pub mod WriteEnds
+pub mod Acknowledges

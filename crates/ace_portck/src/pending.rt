@@ -284,6 +284,7 @@ impl Pending {
     }
 
     /// The identifier of the complete transaction that the port's next RK or WK belongs to, at an ACE port.
+    #[inline(always)]
     pub fn next_complete(&self) -> Option<u8>
         ensures items { result ≡ slice_get self.now.waiting.items 0 }
         ensures next { (h : Header) (past : Trace) (p : ℕ) (c : Channel) → PendingStands h past p c self.now → is_ace h p ≡ true

@@ -93,6 +93,7 @@ pub fn of_line(line: u32) -> Target
 }
 
 impl PortRecord {
+    ghost use Rattle.std.specs.Option.{option_copied};
     ghost use Rattle.std.specs.Prelude.{ℕ, Bool, None, Some, length, if◌then◌else◌};
     ghost use Rattle.ace_event.specs.declared.event.Event.TheVariants.{Cd, M, W};
     ghost use Rattle.ace_model.specs.Trace.{port_of};
@@ -108,8 +109,17 @@ impl PortRecord {
         ensures { (past : Trace) → PortStands header.now past port self.now
             → result ≡ option_map (progress_of header.now past) (if is_ace header.now port then acknowledged past port chan else None) }
     {
+        self.next_acknowledged(header, port, chan).copied()
+    }
+
+    /// The same, where it stands.
+    #[inline(always)]
+    pub fn next_acknowledged(&self, header: &Header, port: u8, chan: Channel) -> Option<&Progress>
+        ensures { (past : Trace) → PortStands header.now past port self.now
+            → option_copied result ≡ option_map (progress_of header.now past) (if is_ace header.now port then acknowledged past port chan else None) }
+    {
         if is_ace(header, port) {
-            self.transactions.acknowledged(chan)
+            self.transactions.next_acknowledged(chan)
         } else {
             None
         }

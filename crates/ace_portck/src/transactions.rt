@@ -150,6 +150,7 @@ impl Transactions {
     }
 
     /// Those of the channel.
+    #[inline(always)]
     fn channel(&self, chan: Channel) -> &Pending
         ensures { (h : Header) (past : Trace) (p : ℕ) → TransactionsStand h past p self.now → PendingStands h past p chan result.now }
     {
@@ -177,6 +178,7 @@ impl Transactions {
     }
 
     /// The identifier of the complete transaction that the next RK or WK of the port belongs to, which is an ACE port.
+    #[inline(always)]
     pub fn next_complete(&self, chan: Channel) -> Option<u8>
         ensures { (h : Header) (past : Trace) (p : ℕ) → TransactionsStand h past p self.now → is_ace h p ≡ true
             → result ≡ next_complete past p chan }
@@ -205,9 +207,18 @@ impl Transactions {
         ensures { (h : Header) (past : Trace) (p : ℕ) → TransactionsStand h past p self.now → is_ace h p ≡ true
             → result ≡ option_map (progress_of h past) (acknowledged past p chan) }
     {
+        self.next_acknowledged(chan).copied()
+    }
+
+    /// The same, where it stands.
+    #[inline(always)]
+    pub fn next_acknowledged(&self, chan: Channel) -> Option<&Progress>
+        ensures { (h : Header) (past : Trace) (p : ℕ) → TransactionsStand h past p self.now → is_ace h p ≡ true
+            → option_copied result ≡ option_map (progress_of h past) (acknowledged past p chan) }
+    {
         match self.next_complete(chan) {
             None => None,
-            Some(id) => self.named(chan, id),
+            Some(id) => self.outstanding(chan, id),
         }
     }
 

@@ -28,6 +28,8 @@ pub mod PlainGrants
 pub mod PlainAnswers
 pub mod MessageBeats
 pub mod SnoopLaws
+-- What an RK or WK moves.
+pub mod PlainAcknowledges
 -- What the AR of a plain read moves.
 pub mod PlainAddresses
 pub mod MessageAddresses

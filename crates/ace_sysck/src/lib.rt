@@ -9,6 +9,7 @@ mod message_addresses;
 mod message_beats;
 mod messages;
 mod monitors;
+mod plain_acknowledges;
 mod plain_addresses;
 mod plain_answers;
 mod plain_grants;

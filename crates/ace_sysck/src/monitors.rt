@@ -16,6 +16,7 @@ pub struct Monitors {
 }
 
 /// The line that a monitor is set for, once its port is left in a state of a line: in I the monitor is no longer set for it.
+#[inline(always)]
 fn kept_after(kept: Option<u32>, line: Option<u32>, state: LineState) -> Option<u32>
     ensures { result ≡ kept_after kept line state }
 {
@@ -60,6 +61,7 @@ impl Monitors {
         Ok(Monitors { lines })
     }
 
+    #[inline(always)]
     fn line_of(&self, port: u8) -> Option<u32>
         ensures { result ≡ slice_index_or self.now.lines.items port None }
     {
@@ -71,6 +73,7 @@ impl Monitors {
         }
     }
 
+    #[inline(always)]
     fn set(&mut self, port: u8, line: Option<u32>)
         ensures { self.new.lines.items ≡ slice_set self.old.lines.items port line }
     {

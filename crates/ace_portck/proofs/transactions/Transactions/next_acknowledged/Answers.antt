@@ -1,11 +1,12 @@
 use Rattle.std.proofs.Common.{◌≡◌, ◌∙◌, ap, sym, Some, option_map}
+use Rattle.std.specs.Option.{option_copied}
 use Rattle.ace_model.specs.Transactions.{outstanding, next_complete}
 use Rattle.ace_portck.specs.Targets.{progress_of}
 use Rattle.ace_portck.proofs.Found.{acknowledged_named}
-use Rattle.ace_portck.proofs.transactions.Transactions.acknowledged.Goals as goal
+use Rattle.ace_portck.proofs.transactions.Transactions.next_acknowledged.Goals as goal
 
 pub returns-in-Some : goal.returns-in-Some
 returns-in-Some c = λ h past p s ace.
     let next : next_complete past p c.args.chan ≡ Some c.in-Some.id = sym (c.next_complete.ensures h past p s ace) ∙ c.in-Some.is in
-    let named : c.named.result ≡ option_map (progress_of h past) (outstanding h past p c.args.chan c.in-Some.id) = c.named.ensures h past p s in
+    let named : option_copied c.outstanding.result ≡ option_map (progress_of h past) (outstanding h past p c.args.chan c.in-Some.id) = c.outstanding.ensures h past p s in
     named ∙ ap (option_map (progress_of h past)) (acknowledged_named h past p c.args.chan c.in-Some.id s.accepted ace next)
