@@ -9,6 +9,7 @@ mod opening;
 mod pending;
 mod plain_addresses;
 mod plain_loads;
+mod plain_memory_writes;
 mod plain_snoops;
 mod plain_writes;
 mod port;
