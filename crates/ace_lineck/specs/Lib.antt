@@ -6,3 +6,4 @@ pub mod Kept
 pub mod Stands
 pub mod Beats
 pub mod PlainSnoops
+pub mod PlainMemoryWrites
