@@ -7,6 +7,7 @@ mod plain_addresses;
 mod plain_beats;
 mod plain_grants;
 mod plain_loads;
+mod plain_memory_writes;
 mod plain_snoops;
 mod plain_writes;
 mod shares;
