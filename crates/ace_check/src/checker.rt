@@ -104,7 +104,7 @@ impl Checker {
             Cr { port, resp, st } => feed_plain,
             Cd { port, last, word } => feed_plain,
             G { port, chan, id } => feed_plain,
-            M { port, chan, id, line } => feed_kind,
+            M { port, chan, id, line } => feed_plain,
             L { port, addr, w, x, word } => feed_plain,
             D { port, addr, strobe, x, line } => feed_plain,
             S { port, addr, st } => feed_plain,

@@ -7,7 +7,7 @@ use Rattle.ace_model.specs.Accepted.{least_of}
 use Rattle.ace_model.specs.AddressRules.{k1}
 use Rattle.ace_model.specs.Lines.{has_failed_on}
 use Rattle.ace_model.specs.Shares.{line_rules, k18_line}
-use Rattle.ace_model.proofs.Terms.{Header, Trace, R, Read, IsAccepted, implies, is_some_and, is_none_or, is_line, is_line_read, read_kind, outstanding, granted, has_failed, k19, k20}
+use Rattle.ace_model.proofs.Terms.{Header, Trace, Channel, R, Read, IsAccepted, implies, is_some_and, is_none_or, is_line, is_line_read, read_kind, outstanding, granted, has_failed, k19, k20}
 use Rattle.ace_model.proofs.General.Options.{Some-injective, some_if-is}
 use Rattle.ace_portck.specs.Plain.{plain_read}
 use Rattle.ace_portck.specs.Targets.{line_in, line_of, progress_of, target_of}
@@ -41,14 +41,17 @@ plain x k is = by (read_kind x) refl
         let parts = and_parts (is_line_read j) (not x.lock) s.0 in
         record { kind = some ∙ ap (λ v. Some v) s.1; line = ap is_line_read (sym s.1) ∙ parts.0; unlocked = not-true x.lock parts.1 }
 
--- the read of a transfer
-pub read-served : (h : Header) (past : Trace) (p i : ℕ) (x : Progress) → option_map (progress_of h past) (outstanding h past p Read i) ≡ Some x
-    → outstanding h past p Read i ≡ Some x.transaction
-read-served h past p i x out = by (outstanding h past p Read i) out
-  where
-    by : (o : Option Transaction) → option_map (progress_of h past) o ≡ Some x → o ≡ Some x.transaction
-    by None is = cc
-    by (Some y) is = ap (λ (v : Progress). Some v.transaction) (Some-injective (progress_of h past y) x is)
+-- the transaction whose progress this is
+pub progress-from : (h : Header) (past : Trace) (o : Option Transaction) (x : Progress) → option_map (progress_of h past) o ≡ Some x → o ≡ Some x.transaction
+progress-from h past None x is = cc
+progress-from h past (Some y) x is = ap (λ (v : Progress). Some v.transaction) (Some-injective (progress_of h past y) x is)
+
+-- what is kept of the grant of the line of an outstanding transaction is of it where the place is
+pub granted-of_place : (h : Header) (past : Trace) (p : ℕ) (c : Channel) (i : ℕ) (x : Transaction) (g : Option Grant) → IsAccepted h past → outstanding h past p c i ≡ Some x
+    → GrantStands h past x.addr g → IsOfPlace g x
+granted-of_place h past p c i x o a out s g is same =
+    let f : GrantStands h past x.addr (Some g) = subst (GrantStands h past x.addr) is s in
+    its-is h past a x.addr g f p c i x out refl same
 
 -- three rules that are asked in order, where the later ones need the first
 pub three-rules : (a b c k m n : Bool) → a ≡ k → (k ≡ true → b ≡ m) → (k ≡ true → c ≡ n)
@@ -68,7 +71,7 @@ module _ (h : Header) (past : Trace) (p i resp : ℕ) (last : Bool) (word : ℕ)
     (own : IsPlainRead x.transaction k) where
   -- the read of the transfer
   pub read-out : outstanding h past p Read i ≡ Some x.transaction
-  read-out = read-served h past p i x out
+  read-out = progress-from h past (outstanding h past p Read i) x out
 
   pub read-on : is_line x.transaction ≡ true
   read-on = kind-line x.transaction k own.kind own.line
@@ -79,9 +82,7 @@ module _ (h : Header) (past : Trace) (p i resp : ℕ) (last : Bool) (word : ℕ)
 
   module _ (kept : LineRecord) (a : IsAccepted h past) (s : LineStands h past x.transaction.addr kept) where
     pub of-place : IsOfPlace kept.grant x.transaction
-    of-place g is same =
-        let f : GrantStands h past x.transaction.addr (Some g) = subst (GrantStands h past x.transaction.addr) is s.grant in
-        its-is h past a x.transaction.addr g f p Read i x.transaction read-out refl same
+    of-place = granted-of_place h past p Read i x.transaction kept.grant a read-out s.grant
 
     -- where the read is granted, it is no exclusive store that failed
     unfailed : may_have_beat h (has_failed_on h past x.transaction.addr) kept.grant kept.holders.items x resp ≡ may_have_beat h false kept.grant kept.holders.items x resp

@@ -34,6 +34,8 @@ pub mod PlainEvents
 pub mod LineLooks
 -- What a G grants, by what is kept of the line.
 pub mod PlainGrants
+-- What an M asks of its line, and what it leaves.
+pub mod PlainMemoryWrites
 -- The least rule that an event breaks.
 pub mod Judging
 -- The transfers of plain reads: what their rules say, and what they leave.

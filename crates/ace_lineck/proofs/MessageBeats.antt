@@ -21,7 +21,7 @@ use Rattle.ace_lineck.specs.Kept.{fits_bits, fits_reply, has_passed_for, is_shar
 use Rattle.ace_lineck.specs.Beats.{is_dataless}
 use Rattle.ace_lineck.specs.Stands.{Stands}
 use Rattle.ace_lineck.proofs.AllLines.{unchanged}
-use Rattle.ace_lineck.proofs.BeatLaws.{read-served, three-rules}
+use Rattle.ace_lineck.proofs.BeatLaws.{progress-from, three-rules}
 use Rattle.ace_lineck.proofs.ReplyLaws.{k19-law, k20-law}
 
 -- What a dataless transfer is.
@@ -80,7 +80,7 @@ module _ (h : Header) (past : Trace) (p i resp : ℕ) (last : Bool) (word : ℕ)
         target = refl;
         line = λ l on. let bad : None ≡ Some l = sym beat-off ∙ on in cc;
       } in
-      let served = read-served h past p i x out in
+      let served = progress-from h past (outstanding h past p Read i) x out in
       let off = dvm_read-no_line x.transaction k is in
       let free : k18_line h past e ≡ true = rw (served, off) refl in
       sym (three-rules true true true (k18_line h past e) (k19 h past e) (k20 h past e) (sym free)

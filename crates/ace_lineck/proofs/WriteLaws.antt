@@ -78,7 +78,7 @@ written-law h past y passed memory passed_is memory_is write.WriteNoSnoop = rw m
 written-law h past y passed memory passed_is memory_is k = refl
 
 module _ (h : Header) (past : Trace) (a : IsAccepted h past) (p : ℕ) (c : Channel) (i : ℕ) (y : Transaction) (o : outstanding h past p c i ≡ Some y) where
-  granted-line : is_granted h past y ≡ true → is_line y ≡ true
+  pub granted-line : is_granted h past y ≡ true → is_line y ≡ true
   granted-line g = (and_parts (is_line y) _ ((accepted_holds h past a).grants y.addr y (granted_at h past a p c i y o g)).1).0
 
   -- what may write memory has a line

@@ -7,3 +7,4 @@ pub mod Stands
 pub mod Beats
 pub mod PlainSnoops
 pub mod Acknowledges
+pub mod PlainMemoryWrites

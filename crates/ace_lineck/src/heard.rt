@@ -114,7 +114,7 @@ impl Grant {
 
     /// A transaction of the line has its M.
     #[inline(always)]
-    fn hear_write(&mut self, own: bool)
+    pub fn hear_write(&mut self, own: bool)
         ensures { self.new ≡ record self.old {
           written = self.old.written || own;
           begun = self.old.begun || (own && not (is_read self.old.transaction.chan));

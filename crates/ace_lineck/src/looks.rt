@@ -86,10 +86,9 @@ impl LineCheck {
             → data_of_write r.past x.now ≡ Some burst.now → Some result ≡ data_of r.header r.past x.now }
     {
         let kept = self.record(place);
-        let passed = passed_kept(&kept.grant);
         match write_kind(x) {
             None => burst.line,
-            Some(kind) => written_kept(&passed, &kept.memory, burst, kind),
+            Some(kind) => written_kept(&kept.grant, &kept.memory, burst, kind),
         }
     }
 }

@@ -1,6 +1,7 @@
 //! The rules of the writes to memory, K24 and K25.
 
 ghost use Rattle.std.specs.Prelude.{◌≡◌, ◌==◌, ◌&&◌, ◌||◌, ℕ, true, not, Option, is_some, unwrap_or, if◌then◌else◌};
+ghost use Rattle.std.specs.Option.{option_copied};
 ghost use Rattle.ace_event.specs.declared.event.Channel.{Channel};
 ghost use Rattle.ace_event.specs.declared.event.Event.TheVariants.{M};
 ghost use Rattle.ace_event.specs.declared.header.Header.{Header};
@@ -31,7 +32,7 @@ fn is_read(x: &Transaction) -> bool
 
 /// The granted read has passed data that are whole.
 #[inline(always)]
-fn has_whole(grant: &Option<Grant>, x: &Transaction) -> bool
+pub fn has_whole(grant: &Option<Grant>, x: &Transaction) -> bool
     ensures { result ≡ is_some_and grant.now (λ g. is_its g x.now && has_passed g && is_passed_whole g) }
 {
     match grant {
@@ -51,16 +52,23 @@ fn is_write_due(kept: &LineRecord, header: &Header, failed: bool, x: &Transactio
     }
 }
 
+/// No passed data are on their way.
+#[inline(always)]
+pub fn has_none_passed(grant: &Option<Grant>) -> bool
+    ensures { result ≡ is_none_or grant.now (λ g. not (has_passed g)) }
+{
+    match grant {
+        None => true,
+        Some(g) => !has_passed(g),
+    }
+}
+
 /// It is a memory update, and no passed data are on their way.
 #[inline(always)]
 fn is_update_due(grant: &Option<Grant>, x: &Transaction) -> bool
     ensures { result ≡ (updates_memory x.now && is_none_or grant.now (λ g. not (has_passed g))) }
 {
-    updates_memory(x)
-        && match grant {
-            None => true,
-            Some(g) => !has_passed(g),
-        }
+    updates_memory(x) && has_none_passed(grant)
 }
 
 /// The transaction may write memory.
@@ -105,18 +113,18 @@ pub fn keeps_write(kept: &LineRecord, header: &Header, target: &Target, failed: 
     is_due(kept, header, target, failed)
 }
 
-/// The passed data of the line.
+/// The passed data of the line, where they stand.
 #[inline(always)]
-pub fn passed_kept(grant: &Option<Grant>) -> Option<Line>
-    ensures { result ≡ passed_kept grant.now }
+fn passed(grant: &Option<Grant>) -> Option<&Line>
+    ensures { option_copied result ≡ passed_kept grant.now }
 {
     match grant {
         None => None,
         Some(g) => {
             if has_passed(g) {
-                match g.passed {
+                match &g.passed {
                     None => None,
-                    Some(passed) => Some(passed.line),
+                    Some(own) => Some(&own.line),
                 }
             } else {
                 None
@@ -125,24 +133,32 @@ pub fn passed_kept(grant: &Option<Grant>) -> Option<Line>
     }
 }
 
-/// The first one, where there is one, else the other.
+/// The passed data of the line.
 #[inline(always)]
-fn line_or(passed: &Option<Line>, memory: &Line) -> Line
-    ensures { result ≡ unwrap_or passed.now memory.now }
+pub fn passed_kept(grant: &Option<Grant>) -> Option<Line>
+    ensures { result ≡ passed_kept grant.now }
 {
-    match passed {
-        None => *memory,
-        Some(line) => *line,
+    passed(grant).copied()
+}
+
+/// The passed data of the line, where there are any, else memory.
+#[inline(always)]
+fn newest<'a>(grant: &'a Option<Grant>, memory: &'a Line) -> &'a Line
+    ensures { result.now ≡ unwrap_or (passed_kept grant.now) memory.now }
+{
+    match passed(grant) {
+        None => memory,
+        Some(line) => line,
     }
 }
 
 /// What a write of this kind writes.
 #[inline(always)]
-pub fn written_kept(passed: &Option<Line>, memory: &Line, burst: &WriteData, kind: AwKind) -> Line
-    ensures { result ≡ written_kept passed.now memory.now burst.now kind }
+pub fn written_kept(grant: &Option<Grant>, memory: &Line, burst: &WriteData, kind: AwKind) -> Line
+    ensures { result ≡ written_kept (passed_kept grant.now) memory.now burst.now kind }
 {
     match kind {
-        AwKind::WriteUnique => merge(line_or(passed, memory), burst.strobe, burst.line),
+        AwKind::WriteUnique => merge(*newest(grant, memory), burst.strobe, burst.line),
         AwKind::WriteNoSnoop => merge(*memory, burst.strobe, burst.line),
         _ => burst.line,
     }
@@ -157,52 +173,64 @@ fn same_line(a: &Line, b: &Line) -> bool
     a0 == b0 && a1 == b1 && a2 == b2 && a3 == b3
 }
 
+/// The line is that of the passed data, where there are any.
 #[inline(always)]
-fn same_passed(passed: &Option<Line>, line: &Line) -> bool
-    ensures { result ≡ is_none_or passed.now (same_line line.now) }
+pub fn is_passed(grant: &Option<Grant>, line: &Line) -> bool
+    ensures { result ≡ is_none_or (passed_kept grant.now) (same_line line.now) }
 {
-    match passed {
+    match passed(grant) {
         None => true,
         Some(own) => same_line(line, own),
     }
 }
 
+/// The line is the one that a write of this kind writes.
+#[inline(always)]
+pub fn is_written(
+    grant: &Option<Grant>,
+    memory: &Line,
+    burst: &WriteData,
+    line: &Line,
+    kind: AwKind,
+) -> bool
+    ensures { result ≡ same_line line.now (written_kept (passed_kept grant.now) memory.now burst.now kind) }
+{
+    same_line(line, &written_kept(grant, memory, burst, kind))
+}
+
 #[inline(always)]
 fn fits_burst(
-    passed: &Option<Line>,
+    grant: &Option<Grant>,
     memory: &Line,
     burst: &WriteData,
     line: &Line,
     x: &Transaction,
 ) -> bool
-    ensures { result ≡ is_none_or (write_kind x.now) (λ k. same_line line.now (written_kept passed.now memory.now burst.now k)) }
+    ensures { result ≡ is_none_or (write_kind x.now) (λ k. same_line line.now (written_kept (passed_kept grant.now) memory.now burst.now k)) }
 {
     match write_kind(x) {
         None => true,
-        Some(kind) => {
-            let own = written_kept(passed, memory, burst, kind);
-            same_line(line, &own)
-        }
+        Some(kind) => is_written(grant, memory, burst, line, kind),
     }
 }
 
 /// The line is the one that the transaction writes.
 #[inline(always)]
 fn fits_data(
-    passed: &Option<Line>,
+    grant: &Option<Grant>,
     memory: &Line,
     burst: &Option<WriteData>,
     line: &Line,
     x: &Transaction,
 ) -> bool
-    ensures { result ≡ fits_data passed.now memory.now burst.now line.now x.now }
+    ensures { result ≡ fits_data (passed_kept grant.now) memory.now burst.now line.now x.now }
 {
     if is_read(x) {
-        same_passed(passed, line)
+        is_passed(grant, line)
     } else {
         match burst {
             None => true,
-            Some(b) => fits_burst(passed, memory, b, line, x),
+            Some(b) => fits_burst(grant, memory, b, line, x),
         }
     }
 }
@@ -213,10 +241,13 @@ fn has_data(kept: &LineRecord, target: &Target, line: &Line) -> bool
 {
     match &target.transaction {
         None => true,
-        Some(x) => {
-            let passed = passed_kept(&kept.grant);
-            fits_data(&passed, &kept.memory, &target.data, line, &x.transaction)
-        }
+        Some(x) => fits_data(
+            &kept.grant,
+            &kept.memory,
+            &target.data,
+            line,
+            &x.transaction,
+        ),
     }
 }
 

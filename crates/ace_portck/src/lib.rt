@@ -14,6 +14,7 @@ mod plain_loads;
 mod plain_retirements;
 mod plain_silent_changes;
 mod plain_snoop_answers;
+mod plain_memory_writes;
 mod plain_snoops;
 mod plain_write_addresses;
 mod plain_snoop_data;

@@ -84,11 +84,12 @@ fn find_burst(bursts: &[Burst], id: u8) -> Option<&Burst>
 }
 
 /// What it sent.
-fn sent(bursts: &[Burst], id: u8) -> Option<WriteData>
-    ensures { result ≡ option_map (λ b. b.sent) (find (λ b. b.id == id) bursts.now) }
+#[inline(always)]
+fn sent(bursts: &[Burst], id: u8) -> Option<&WriteData>
+    ensures { option_copied result ≡ option_map (λ b. b.sent) (find (λ b. b.id == id) bursts.now) }
 {
     match find_burst(bursts, id) {
-        Some(burst) => Some(burst.sent),
+        Some(burst) => Some(&burst.sent),
         None => None,
     }
 }
@@ -182,6 +183,15 @@ impl WriteBursts {
     pub fn data_of(&self, chan: Channel, id: u8) -> Option<WriteData>
         ensures { (h : Header) (past : Trace) (p : ℕ) (line : Line) → WritesStand h past p self.now
             → result ≡ data_in h past (M p chan id line) }
+    {
+        self.burst(chan, id).copied()
+    }
+
+    /// The same, where it stands.
+    #[inline(always)]
+    pub fn burst(&self, chan: Channel, id: u8) -> Option<&WriteData>
+        ensures { (h : Header) (past : Trace) (p : ℕ) (line : Line) → WritesStand h past p self.now
+            → option_copied result ≡ data_in h past (M p chan id line) }
     {
         match chan {
             Channel::Read => None,

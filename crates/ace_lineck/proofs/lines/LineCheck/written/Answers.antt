@@ -15,8 +15,8 @@ returns-in-Some c r s q whole =
     let x = c.args.x.now in
     let kept = c.record-kept.ensures (Some x.addr) q in
     let stands = s.lines x.addr in
-    let passed : c.passed_kept-passed.result ≡ passed_data r.header r.past x.addr =
-    c.passed_kept-passed.ensures ∙ ap (λ (v : LineRecord). passed_kept v.grant) kept ∙ passed-data-law r.header r.past s.accepted x.addr _ stands.grant in
+    let passed : passed_kept c.record-kept.result.now.grant ≡ passed_data r.header r.past x.addr =
+    ap (λ (v : LineRecord). passed_kept v.grant) kept ∙ passed-data-law r.header r.past s.accepted x.addr _ stands.grant in
     let memory : c.record-kept.result.now.memory ≡ memory_of r.past x.addr = ap (λ (v : LineRecord). v.memory) kept ∙ stands.memory.memory in
     ap Some c.written_kept.ensures
-    ∙ written-look r.header r.past x c.args.burst.now c.passed_kept-passed.result c.record-kept.result.now.memory c.in-Some.kind whole passed memory (sym c.write_kind.ensures ∙ c.in-Some.is)
+    ∙ written-look r.header r.past x c.args.burst.now (passed_kept c.record-kept.result.now.grant) c.record-kept.result.now.memory c.in-Some.kind whole passed memory (sym c.write_kind.ensures ∙ c.in-Some.is)

@@ -1,0 +1,204 @@
+//! The M of an outstanding transaction, by what is kept of its line where it stands: the rules that it may break, and what it leaves.
+
+ghost use Rattle.std.specs.Prelude.{◌≡◌, ◌∷◌, ◌&&◌, ◌||◌, ◌==◌, ℕ, List, Option, Some, false, not, length};
+ghost use Rattle.std.specs.Option.{option_copied};
+ghost use Rattle.ace_event.specs.declared.event.Channel.{Channel};
+ghost use Rattle.ace_event.specs.declared.event.Event.TheVariants.{M};
+ghost use Rattle.ace_event.specs.declared.header.Header.{Header};
+ghost use Rattle.ace_event.specs.declared.line.Line.{Line};
+ghost use Rattle.ace_tables.specs.SnoopKinds.{snoop_of_write};
+ghost use Rattle.ace_model.specs.Kinds.{is_update};
+ghost use Rattle.ace_model.specs.Trace.{Trace, is_none_or, is_some_and};
+ghost use Rattle.ace_model.specs.Transactions.{snoop_of};
+ghost use Rattle.ace_portck.specs.declared.target.Target.{Target};
+ghost use Rattle.ace_lineck.specs.declared.record.Holder.{Holder};
+ghost use Rattle.ace_lineck.specs.Beats.{IsOfPlace};
+ghost use Rattle.ace_lineck.specs.Grants.{GrantStands, IsGrantStep, is_of};
+ghost use Rattle.ace_lineck.specs.Kept.{are_done, has_passed, is_its};
+ghost use Rattle.ace_lineck.specs.PlainMemoryWrites.{keeps_memory_write, writes_burst, writes_passed};
+ghost use Rattle.ace_lineck.specs.Records.{IsRecordStep, LineStands};
+
+use crate::LineCheck;
+use crate::grant::Grant;
+use crate::grant_rules::{is_each_done, is_its};
+use crate::memory_writes::{has_none_passed, has_whole, is_passed, is_written};
+use crate::record::LineRecord;
+use ace_codes::AwKind;
+use ace_event::{Channel, Header, Line};
+use ace_model::Transaction;
+use ace_portck::kinds::{is_update, write_kind};
+use ace_portck::{Progress, WriteData};
+use ace_tables::snoop_of_write;
+
+/// The snoops under the grant of a write of this kind are done.
+#[inline(always)]
+fn are_done(kept: &LineRecord, g: &Grant, header: &Header, kind: AwKind) -> bool
+    ensures { snoop_of g.now.transaction ≡ snoop_of_write kind → result ≡ are_done header.now false g.now kept.now.holders.items }
+{
+    snoop_of_write(kind).is_none() || is_each_done(kept, g, header)
+}
+
+/// The grant is that of the write of this kind, and the snoops under it are done.
+#[inline(always)]
+fn is_due_under(
+    kept: &LineRecord,
+    g: &Grant,
+    header: &Header,
+    x: &Transaction,
+    kind: AwKind,
+) -> bool
+    ensures { snoop_of x.now ≡ snoop_of_write kind → IsOfPlace (Some g.now) x.now
+        → result ≡ (is_its g.now x.now && are_done header.now false g.now kept.now.holders.items) }
+{
+    is_its(g, x) && are_done(kept, g, header, kind)
+}
+
+/// The write of this kind is granted, and its snoops are done.
+#[inline(always)]
+fn is_due(kept: &LineRecord, header: &Header, x: &Transaction, kind: AwKind) -> bool
+    ensures { snoop_of x.now ≡ snoop_of_write kind → IsOfPlace kept.now.grant x.now
+        → result ≡ is_some_and kept.now.grant (λ g. is_its g x.now && are_done header.now false g kept.now.holders.items) }
+{
+    match &kept.grant {
+        None => false,
+        Some(g) => is_due_under(kept, g, header, x, kind),
+    }
+}
+
+/// It is a memory update, and no passed data are on their way.
+#[inline(always)]
+fn is_update_due(kept: &LineRecord, kind: AwKind) -> bool
+    ensures { result ≡ (is_update kind && is_none_or kept.now.grant (λ g. not (has_passed g))) }
+{
+    is_update(kind) && has_none_passed(&kept.grant)
+}
+
+/// The write of this kind may write memory, and the line is what it writes.
+#[inline(always)]
+fn writes_burst(
+    kept: &LineRecord,
+    header: &Header,
+    x: &Transaction,
+    kind: AwKind,
+    burst: &WriteData,
+    line: &Line,
+) -> bool
+    ensures { snoop_of x.now ≡ snoop_of_write kind → IsOfPlace kept.now.grant x.now
+        → result ≡ writes_burst header.now kept.now x.now burst.now line.now kind }
+{
+    (is_due(kept, header, x, kind) || is_update_due(kept, kind))
+        && is_written(&kept.grant, &kept.memory, burst, line, kind)
+}
+
+/// The read may write memory, and the line is that of its passed data.
+#[inline(always)]
+fn writes_passed(kept: &LineRecord, x: &Progress, line: &Line) -> bool
+    ensures { result ≡ writes_passed kept.now.grant x.now line.now }
+{
+    has_whole(&kept.grant, &x.transaction) && x.transfers == 0 && is_passed(&kept.grant, line)
+}
+
+/// The transaction may write memory, and the line is what it writes. `burst` is that of a write.
+#[inline(always)]
+fn keeps_rules(
+    kept: &LineRecord,
+    header: &Header,
+    x: &Progress,
+    burst: Option<&WriteData>,
+    line: &Line,
+) -> bool
+    ensures { IsOfPlace kept.now.grant x.now.transaction
+        → result ≡ keeps_memory_write header.now kept.now x.now (option_copied burst.entry) line.now }
+{
+    match x.transaction.chan {
+        Channel::Read => writes_passed(kept, x, line),
+        Channel::Write => match burst {
+            None => false,
+            Some(burst) => match write_kind(&x.transaction) {
+                None => false,
+                Some(kind) => writes_burst(kept, header, &x.transaction, kind, burst, line),
+            },
+        },
+    }
+}
+
+/// The granted transaction is this one.
+#[inline(always)]
+fn is_own(g: &Grant, x: &Progress) -> bool
+    ensures { result ≡ is_of (Some x.now) g.now.transaction }
+{
+    x.transaction.place == g.transaction.place
+}
+
+/// What the M of the transaction leaves of the grant of its line.
+#[inline(always)]
+fn hear(grant: &mut Option<Grant>, x: &Progress)
+    ensures { (h : Header) (past : Trace) (l p : ℕ) (c : Channel) (i : ℕ) (line : Line) (t : Target) (xs : List Holder) (memory : Line)
+        → IsGrantStep h past l (M p c i line) t grant.old xs memory → t.transaction ≡ Some x.now
+        → GrantStands h (M p c i line ∷ past) l grant.new }
+{
+    match grant {
+        None => {}
+        Some(g) => {
+            let own = is_own(g, x);
+            g.hear_write(own);
+        }
+    }
+}
+
+/// What the M of the transaction leaves of what is kept of its line: memory is what it writes.
+#[inline(always)]
+fn advance(kept: &mut LineRecord, x: &Progress, line: &Line)
+    ensures stands { (h : Header) (past : Trace) (l p : ℕ) (c : Channel) (i : ℕ) (t : Target) → IsRecordStep h past l (M p c i line.now) t kept.old
+        → t.transaction ≡ Some x.now → LineStands h (M p c i line.now ∷ past) l kept.new }
+    ensures room { length kept.new.holders.items ≡ length kept.old.holders.items }
+    ensures used { kept.new.used ≡ kept.old.used }
+{
+    hear(&mut kept.grant, x);
+    kept.memory = *line;
+}
+
+impl LineCheck {
+    ghost use Rattle.std.specs.Prelude.{◌<◌, ◌-◌, ◌^◌, true, None, is_none, option_map};
+    ghost use Rattle.ace_model.specs.Accepted.{least_broken, least_of};
+    ghost use Rattle.ace_model.specs.AddressRules.{k1};
+    ghost use Rattle.ace_model.specs.Shares.{line_rules};
+    ghost use Rattle.ace_model.specs.Transactions.{outstanding};
+    ghost use Rattle.ace_portck.specs.Targets.{Recording, after, data_in, progress_of};
+    ghost use Rattle.ace_lineck.specs.Stands.{Stands, place_on};
+
+    /// An M of the outstanding transaction keeps the rules of the share: it may write memory (K24), and the line is what it writes (K25;
+    /// Arm IHI 0022E, C6). `burst` is that of a write, and `place` that of the line.
+    #[inline(always)]
+    pub fn keeps_memory_write(
+        &self,
+        x: &Progress,
+        burst: Option<&WriteData>,
+        place: Option<usize>,
+        line: &Line,
+    ) -> bool
+        ensures { (r : Recording) (p : ℕ) (c : Channel) (i : ℕ) → Stands self.now r
+            → option_map (progress_of r.header r.past) (outstanding r.header r.past p c i) ≡ Some x.now
+            → option_copied burst.entry ≡ data_in r.header r.past (M p c i line.now) → place ≡ place_on self.now (Some x.now.transaction.addr)
+            → k1 r.header r.past (M p c i line.now) ≡ true → result ≡ is_none (least_of line_rules r.header r.past (M p c i line.now)) }
+    {
+        keeps_rules(self.record(place), &self.header, x, burst, line)
+    }
+
+    /// Takes an M of the outstanding transaction that breaks no rule. `place` is that of its line.
+    #[inline(always)]
+    pub fn hear_memory_write(&mut self, x: &Progress, place: Option<usize>, line: &Line)
+        ensures { (r : Recording) (p : ℕ) (c : Channel) (i : ℕ) → Stands self.old r
+            → option_map (progress_of r.header r.past) (outstanding r.header r.past p c i) ≡ Some x.now
+            → place ≡ place_on self.old (Some x.now.transaction.addr) → least_broken r.header r.past (M p c i line.now) ≡ None
+            → length r.past < 2 ^ 64 - 1 → Stands self.new (after r (M p c i line.now)) }
+    {
+        let Some(place) = place else {
+            return;
+        };
+        let Some(kept) = self.lines.get_index_mut(place) else {
+            return;
+        };
+        advance(kept, x, line);
+    }
+}
