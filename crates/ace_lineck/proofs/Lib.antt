@@ -19,8 +19,6 @@ pub mod Received
 pub mod KnownLines
 pub mod Places
 pub mod AllLines
--- Events that move nothing of any line.
-pub mod StillLines
 pub mod Rooms
 -- What the rules say, in the words of what is kept.
 pub mod RuleLaws
@@ -28,34 +26,9 @@ pub mod GrantLaws
 pub mod SnoopLaws
 pub mod ReplyLaws
 pub mod WriteLaws
--- What a W and an L ask of a line.
-pub mod PlainEvents
 -- What the interconnect looks up of a line.
 pub mod LineLooks
--- What a G grants, by what is kept of the line.
-pub mod PlainGrants
--- What an M asks of its line, and what it leaves.
-pub mod PlainMemoryWrites
 -- The least rule that an event breaks.
 pub mod Judging
--- The transfers of plain reads: what their rules say, and what they leave.
-pub mod BeatLaws
-pub mod MessageBeats
-pub mod MessageAddresses
-pub mod BeatSteps
--- What the AR of a plain read asks of its line, which it leaves as it is.
-pub mod PlainAddresses
-pub mod PlainWriteAddresses
--- What an S asks of its line, and what it leaves of it.
-pub mod PlainSilentChanges
--- A CR: what is asked of it, and what it leaves of the line of its snoop.
-pub mod SnoopAnswers
--- A B of a line write: what it asks of its line, and what it leaves.
-pub mod WriteEnds
--- A D: what it asks of its line, and what it leaves.
-pub mod Stores
--- A CD: what it asks of its line, and what it leaves.
-pub mod SnoopData
--- What an RK or WK asks of its line, and what it leaves.
-pub mod AcknowledgeLaws
-pub mod AcknowledgeSteps
+-- What the short ways of the checker ask and leave.
+pub mod ShortWays

@@ -15,12 +15,5 @@ pub mod AllPorts
 pub mod Rooms
 pub mod LineMaps
 pub mod BarrierBars
-pub mod Plain
-pub mod PlainEvents
-pub mod PlainAddresses
-pub mod DvmReads
-pub mod PlainWriteAddresses
-pub mod PlainRetirements
-pub mod PlainSilentChanges
-pub mod WriteEnds
-pub mod Acknowledges
+-- What the short ways of the checker ask and leave.
+pub mod ShortWays

@@ -27,8 +27,7 @@ impl SysCheck {
             → is_message_part part.now ≡ true → result ≡ is_answered_by_all r.header r.past part.now }
     {
         let waiting = is_at(self.messages.of(part.port).first, part.place);
-        self.inboxes
-            .is_answered_by_all(&self.header, part, waiting)
+        self.inboxes.is_answered_by_all(&self.header, part, waiting)
     }
 
     /// An R of the DVM read keeps the rules of the share: the low two bits of its response are OKAY (K21), and every other ACE port has

@@ -2,9 +2,9 @@ use Rattle.std.proofs.Common.{◌≡◌, ◌∙◌, true, Some, is_none, sym}
 use Rattle.ace_event.specs.declared.event.Event.TheVariants.{R}
 use Rattle.ace_model.specs.Accepted.{least_of}
 use Rattle.ace_model.specs.Shares.{port_rules, system_rules}
-use Rattle.ace_portck.proofs.DvmReads.{dvm_read-is}
+use Rattle.ace_portck.proofs.ShortWays.DvmReads.{dvm_read-is}
 use Rattle.ace_sysck.proofs.Steps.{progress_from}
-use Rattle.ace_check.proofs.PlainSteps.{lines_decide, ports_keep_1}
+use Rattle.ace_check.proofs.ShortWays.PlainSteps.{lines_decide, ports_keep_1}
 use Rattle.ace_check.proofs.message_beats.keeps_message_beat.Goals as goal
 
 pub returns-clause-fine : goal.returns-clause-fine

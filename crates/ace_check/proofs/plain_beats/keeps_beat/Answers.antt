@@ -3,9 +3,9 @@ use Rattle.std.proofs.lemmas.Grind.{common_steps}
 use Rattle.ace_event.specs.declared.event.Event.TheVariants.{R}
 use Rattle.ace_model.specs.Accepted.{least_of}
 use Rattle.ace_model.specs.Shares.{port_rules, system_rules}
-use Rattle.ace_portck.proofs.Plain.{plain_read-is}
+use Rattle.ace_portck.proofs.ShortWays.Plain.{plain_read-is}
 use Rattle.ace_sysck.proofs.Steps.{progress_from}
-use Rattle.ace_check.proofs.PlainSteps.{broken_by_ports, broken_by_system, lines_decide, ports_keep_1}
+use Rattle.ace_check.proofs.ShortWays.PlainSteps.{broken_by_ports, broken_by_system, lines_decide, ports_keep_1}
 use Rattle.ace_check.proofs.plain_beats.keeps_beat.Goals as goal
 
 pub returns-then-not-keeps_beat : goal.returns-then-not-keeps_beat

@@ -1,6 +1,6 @@
 use Rattle.std.proofs.Common.{sym, ◌∙◌}
 use Rattle.ace_sysck.proofs.Steps.{progress_from}
-use Rattle.ace_check.proofs.PlainMemoryWrites.{port-keeps, line-decides}
+use Rattle.ace_check.proofs.ShortWays.PlainMemoryWrites.{port-keeps, line-decides}
 use Rattle.ace_check.proofs.plain_memory_writes.keeps_memory_write.Goals as goal
 
 pub returns : goal.returns

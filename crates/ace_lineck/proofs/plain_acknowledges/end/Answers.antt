@@ -1,5 +1,5 @@
 use Rattle.std.proofs.Common.{refl}
-use Rattle.ace_lineck.proofs.AcknowledgeSteps.{acknowledged-record, none-received}
+use Rattle.ace_lineck.proofs.ShortWays.AcknowledgeSteps.{acknowledged-record, none-received}
 use Rattle.ace_lineck.proofs.plain_acknowledges.end.Goals as goal
 
 pub returns-clause-stands : goal.returns-clause-stands

@@ -1,7 +1,7 @@
 use Rattle.std.proofs.Common.{◌≡◌, ◌<◌, length, Some, slice_get, arith, sym, ap, ◌∙◌}
 use Rattle.std.proofs.lemmas.Grind.{common_steps}
 use Rattle.std.proofs.lemmas.Option.{slice_get-get_or}
-use Rattle.ace_lineck.proofs.AcknowledgeSteps.{has-holder, settles}
+use Rattle.ace_lineck.proofs.ShortWays.AcknowledgeSteps.{has-holder, settles}
 use Rattle.ace_lineck.proofs.plain_acknowledges.settle.Goals as goal
 
 pub returns-then-port-len-clause-stand : goal.returns-then-port-len-clause-stand

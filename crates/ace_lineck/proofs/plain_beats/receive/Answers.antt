@@ -3,7 +3,7 @@ use Rattle.std.proofs.lemmas.Grind.{common_steps}
 use Rattle.std.proofs.lemmas.Option.{slice_get-get_or}
 use Rattle.ace_event.specs.declared.event.Event.TheVariants.{R}
 use Rattle.ace_lineck.specs.Holders.{IsHoldersStep}
-use Rattle.ace_lineck.proofs.BeatSteps.{has-holder, received-whole, unreceived}
+use Rattle.ace_lineck.proofs.ShortWays.BeatSteps.{has-holder, received-whole, unreceived}
 use Rattle.ace_lineck.proofs.plain_beats.receive.Goals as goal
 
 pub returns-then-port-len-clause-stand : goal.returns-then-port-len-clause-stand

@@ -1,7 +1,7 @@
 use Rattle.std.proofs.Common.{◌≡◌, length, true, false, Some, sym, ◌∙◌}
 use Rattle.ace_event.specs.declared.line.Line.{Line}
 use Rattle.ace_lineck.specs.Records.{has_three}
-use Rattle.ace_lineck.proofs.BeatSteps.{whole-some, whole-none}
+use Rattle.ace_lineck.proofs.ShortWays.BeatSteps.{whole-some, whole-none}
 use Rattle.ace_lineck.proofs.plain_beats.received.Goals as goal
 
 pub returns-then-is_fourth : goal.returns-then-is_fourth

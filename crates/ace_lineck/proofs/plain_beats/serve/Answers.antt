@@ -1,7 +1,7 @@
 use Rattle.std.proofs.Common.{◌∷◌, sym, subst, ◌∙◌}
 use Rattle.ace_event.specs.declared.event.Event.TheVariants.{R}
 use Rattle.ace_lineck.specs.Grants.{GrantStands, IsGrantStep}
-use Rattle.ace_lineck.proofs.BeatSteps.{ungranted, over, goes-on}
+use Rattle.ace_lineck.proofs.ShortWays.BeatSteps.{ungranted, over, goes-on}
 use Rattle.ace_lineck.proofs.plain_beats.serve.Goals as goal
 
 pub returns-in-None : goal.returns-in-None

@@ -1,7 +1,7 @@
 use Rattle.std.proofs.Common.{◌∷◌, sym, subst}
 use Rattle.ace_model.proofs.Terms.{M}
 use Rattle.ace_lineck.specs.Grants.{GrantStands, IsGrantStep}
-use Rattle.ace_lineck.proofs.PlainMemoryWrites.{ungranted, stays-granted}
+use Rattle.ace_lineck.proofs.ShortWays.PlainMemoryWrites.{ungranted, stays-granted}
 use Rattle.ace_lineck.proofs.plain_memory_writes.hear.Goals as goal
 
 pub returns-in-None : goal.returns-in-None

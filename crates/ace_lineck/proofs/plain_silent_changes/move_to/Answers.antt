@@ -1,7 +1,7 @@
 use Rattle.std.proofs.Common.{◌≡◌, ◌<◌, length, Some, slice_get, arith, sym, ap, ◌∙◌}
 use Rattle.std.proofs.lemmas.Grind.{common_steps}
 use Rattle.std.proofs.lemmas.Option.{slice_get-get_or}
-use Rattle.ace_lineck.proofs.PlainSilentChanges.{has-holder, moved}
+use Rattle.ace_lineck.proofs.ShortWays.PlainSilentChanges.{has-holder, moved}
 use Rattle.ace_lineck.proofs.plain_silent_changes.move_to.Goals as goal
 
 pub returns-then-port-len-clause-stand : goal.returns-then-port-len-clause-stand

@@ -3,7 +3,7 @@ use Rattle.std.proofs.lemmas.Grind.{common_steps}
 use Rattle.std.proofs.lemmas.Option.{slice_get-get_or}
 use Rattle.ace_lineck.specs.declared.record.Holder.{Holder}
 use Rattle.ace_lineck.specs.Holders.{empty_holder, holder_at}
-use Rattle.ace_lineck.proofs.SnoopAnswers.{answered-holders, has-answerer}
+use Rattle.ace_lineck.proofs.ShortWays.SnoopAnswers.{answered-holders, has-answerer}
 use Rattle.ace_lineck.proofs.plain_snoop_answers.hear_in_record.Goals as goal
 
 pub returns-then-port-len-clause-stands : goal.returns-then-port-len-clause-stands

@@ -1,7 +1,7 @@
 use Rattle.std.proofs.Common.{◌∷◌, sym, subst, ◌∙◌}
 use Rattle.ace_event.specs.declared.event.Event.TheVariants.{B}
 use Rattle.ace_lineck.specs.Grants.{GrantStands, IsGrantStep}
-use Rattle.ace_lineck.proofs.WriteEnds.{ungranted-after, own-ends, other-stays}
+use Rattle.ace_lineck.proofs.ShortWays.WriteEnds.{ungranted-after, own-ends, other-stays}
 use Rattle.ace_lineck.proofs.plain_write_ends.end_grant.Goals as goal
 
 pub returns-in-None : goal.returns-in-None

@@ -1,5 +1,5 @@
 use Rattle.std.proofs.Common.{◌∙◌}
-use Rattle.ace_lineck.proofs.WriteEnds.{response-law}
+use Rattle.ace_lineck.proofs.ShortWays.WriteEnds.{response-law}
 use Rattle.ace_lineck.proofs.plain_write_ends.keeps_written_response.Goals as goal
 
 pub returns : goal.returns

@@ -1,6 +1,6 @@
 use Rattle.std.proofs.Common.{◌≡◌, true, false, refl, sym, ◌∙◌}
 use Rattle.ace_model.specs.Transactions.{is_line}
-use Rattle.ace_portck.proofs.Acknowledges.{read-line}
+use Rattle.ace_portck.proofs.ShortWays.Acknowledges.{read-line}
 use Rattle.ace_portck.proofs.plain_acknowledges.line_of_read.Goals as goal
 
 pub returns-then-is_line_read : goal.returns-then-is_line_read

@@ -1,5 +1,5 @@
 use Rattle.std.proofs.Common.{nat_eq, sym, ap, ◌∙◌}
-use Rattle.ace_sysck.proofs.PlainAnswers.{beat_rules}
+use Rattle.ace_sysck.proofs.ShortWays.PlainAnswers.{beat_rules}
 use Rattle.ace_sysck.proofs.plain_answers.keeps_plain_beat.Goals as goal
 
 pub returns : goal.returns

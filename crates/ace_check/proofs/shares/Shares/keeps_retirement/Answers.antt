@@ -1,7 +1,7 @@
 use Rattle.std.proofs.Common.{true, refl, ◌∙◌}
 use Rattle.ace_event.specs.declared.event.Event.TheVariants.{Op}
 use Rattle.ace_portck.specs.Targets.{Recording}
-use Rattle.ace_check.proofs.PlainEvents.{keeps-all, ports-alone}
+use Rattle.ace_check.proofs.ShortWays.PlainEvents.{keeps-all, ports-alone}
 use Rattle.ace_check.proofs.shares.Shares.keeps_retirement.Goals as goal
 
 pub returns : goal.returns

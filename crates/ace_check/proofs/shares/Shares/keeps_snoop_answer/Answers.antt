@@ -1,7 +1,7 @@
 use Rattle.std.proofs.Common.{◌≡◌, Some, refl, sym, ap, ◌∙◌}
 use Rattle.ace_portck.specs.Targets.{Recording, line_of_snoop}
 use Rattle.ace_lineck.specs.Stands.{place_on}
-use Rattle.ace_check.proofs.SnoopAnswers.{lines-tell, ports-break}
+use Rattle.ace_check.proofs.ShortWays.SnoopAnswers.{lines-tell, ports-break}
 use Rattle.ace_check.proofs.shares.Shares.keeps_snoop_answer.Goals as goal
 
 pub returns-then-not-keeps_snoop_answer : goal.returns-then-not-keeps_snoop_answer

@@ -3,7 +3,7 @@ use Rattle.ace_event.specs.declared.event.Event.TheVariants.{W}
 use Rattle.ace_model.specs.Accepted.{least_of}
 use Rattle.ace_model.specs.Shares.{line_rules, system_rules}
 use Rattle.ace_portck.specs.Targets.{Recording}
-use Rattle.ace_check.proofs.PlainEvents.{and-true, keeps-all}
+use Rattle.ace_check.proofs.ShortWays.PlainEvents.{and-true, keeps-all}
 use Rattle.ace_check.proofs.shares.Shares.keeps_write_beat.Goals as goal
 
 pub returns-in-None : goal.returns-in-None

@@ -8,7 +8,7 @@ use Rattle.ace_model.specs.Transactions.{outstanding}
 use Rattle.ace_portck.specs.Plain.{plain_read}
 use Rattle.ace_portck.specs.Targets.{Recording, progress_of}
 use Rattle.ace_check.specs.declared.shares.Shares.{Shares}
-use Rattle.ace_check.proofs.PlainSteps.{beat_taken, none-is}
+use Rattle.ace_check.proofs.ShortWays.PlainSteps.{beat_taken, none-is}
 use Rattle.ace_check.proofs.shares.Shares.take_beat.Goals as goal
 
 pub returns-clause-taken : goal.returns-clause-taken

@@ -1,7 +1,7 @@
 use Rattle.std.proofs.Common.{sym, ◌∙◌}
 use Rattle.ace_event.specs.declared.event.Event.TheVariants.{S}
 use Rattle.ace_portck.specs.Targets.{Recording}
-use Rattle.ace_check.proofs.PlainEvents.{none-is, may-apply}
+use Rattle.ace_check.proofs.ShortWays.PlainEvents.{none-is, may-apply}
 use Rattle.ace_check.proofs.shares.Shares.take_change.Goals as goal
 
 pub returns-clause-taken : goal.returns-clause-taken

@@ -5,8 +5,8 @@ use Rattle.ace_model.specs.Accepted.{least_of}
 use Rattle.ace_model.specs.Shares.{port_rules, system_rules}
 use Rattle.ace_portck.specs.DvmReads.{is_completion}
 use Rattle.ace_portck.specs.Targets.{Recording}
-use Rattle.ace_lineck.proofs.MessageAddresses.{lines-unmoved}
-use Rattle.ace_check.proofs.MessageAddresses.{keeps-all, names-no_line, port_there}
+use Rattle.ace_lineck.proofs.ShortWays.MessageAddresses.{lines-unmoved}
+use Rattle.ace_check.proofs.ShortWays.MessageAddresses.{keeps-all, names-no_line, port_there}
 use Rattle.ace_check.proofs.shares.Shares.take_completion.Goals as goal
 
 pub returns-clause-taken : goal.returns-clause-taken

@@ -2,9 +2,9 @@ use Rattle.std.proofs.Common.{◌≡◌, Some, option_map, sym, ap, ◌∙◌}
 use Rattle.std.specs.Option.{option_copied}
 use Rattle.ace_model.specs.Transactions.{outstanding}
 use Rattle.ace_portck.specs.Targets.{Recording, progress_of}
-use Rattle.ace_sysck.proofs.PlainGrants.{still-at_grant}
+use Rattle.ace_sysck.proofs.ShortWays.PlainGrants.{still-at_grant}
 use Rattle.ace_sysck.proofs.Steps.{progress_from}
-use Rattle.ace_check.proofs.PlainGrants.{keeps-all}
+use Rattle.ace_check.proofs.ShortWays.PlainGrants.{keeps-all}
 use Rattle.ace_check.proofs.shares.Shares.take_grant.Goals as goal
 
 pub returns-clause-taken : goal.returns-clause-taken

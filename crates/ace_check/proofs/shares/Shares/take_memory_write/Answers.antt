@@ -4,7 +4,7 @@ use Rattle.ace_event.specs.declared.event.Event.TheVariants.{M}
 use Rattle.ace_model.specs.Transactions.{outstanding}
 use Rattle.ace_portck.specs.Targets.{Recording, progress_of}
 use Rattle.ace_sysck.proofs.Unmoved.{system_still}
-use Rattle.ace_check.proofs.PlainEvents.{none-is, may-apply}
+use Rattle.ace_check.proofs.ShortWays.PlainEvents.{none-is, may-apply}
 use Rattle.ace_check.proofs.shares.Shares.take_memory_write.Goals as goal
 
 pub returns-clause-taken : goal.returns-clause-taken

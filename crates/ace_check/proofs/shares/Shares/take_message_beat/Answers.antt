@@ -6,10 +6,10 @@ use Rattle.ace_model.specs.Accepted.{least_broken}
 use Rattle.ace_model.specs.Transactions.{outstanding}
 use Rattle.ace_portck.specs.DvmReads.{dvm_read}
 use Rattle.ace_portck.specs.Targets.{Recording, after, progress_of}
-use Rattle.ace_lineck.proofs.MessageBeats.{lines-unmoved}
+use Rattle.ace_lineck.proofs.ShortWays.MessageBeats.{lines-unmoved}
 use Rattle.ace_sysck.specs.Stands.{Stands}
 use Rattle.ace_sysck.proofs.Steps.{progress_from}
-use Rattle.ace_check.proofs.PlainSteps.{none-is}
+use Rattle.ace_check.proofs.ShortWays.PlainSteps.{none-is}
 use Rattle.ace_check.proofs.shares.Shares.take_message_beat.Goals as goal
 
 pub returns-clause-taken : goal.returns-clause-taken

@@ -7,8 +7,8 @@ use Rattle.ace_model.specs.Lines.{is_known}
 use Rattle.ace_model.specs.Shares.{port_rules, line_rules}
 use Rattle.ace_portck.specs.PlainAddresses.{plain_kind}
 use Rattle.ace_portck.specs.Targets.{Recording}
-use Rattle.ace_lineck.proofs.PlainAddresses.{lines-begun}
-use Rattle.ace_check.proofs.PlainAddresses.{keeps-all, over-known}
+use Rattle.ace_lineck.proofs.ShortWays.PlainAddresses.{lines-begun}
+use Rattle.ace_check.proofs.ShortWays.PlainAddresses.{keeps-all, over-known}
 use Rattle.ace_check.proofs.shares.Shares.take_read_address.Goals as goal
 
 pub returns-clause-taken : goal.returns-clause-taken

@@ -7,7 +7,7 @@ use Rattle.ace_model.specs.Shares.{line_rules}
 use Rattle.ace_model.specs.Transactions.{read_kind}
 use Rattle.ace_portck.specs.Targets.{Recording, line_in, line_of, transaction_in}
 use Rattle.ace_lineck.specs.Stands.{place_on}
-use Rattle.ace_check.proofs.PlainAcknowledges.{acknowledge-fine}
+use Rattle.ace_check.proofs.ShortWays.PlainAcknowledges.{acknowledge-fine}
 use Rattle.ace_check.proofs.shares.Shares.take_read_end.Goals as goal
 
 pub returns-clause-taken : goal.returns-clause-taken

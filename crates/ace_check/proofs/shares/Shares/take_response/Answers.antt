@@ -4,9 +4,9 @@ use Rattle.ace_event.specs.declared.event.Channel.TheVariants.{Write}
 use Rattle.ace_model.specs.Transactions.{outstanding}
 use Rattle.ace_portck.specs.Targets.{Recording, progress_of}
 use Rattle.ace_portck.specs.WriteEnds.{line_write}
-use Rattle.ace_sysck.proofs.PlainAnswers.{system_unmoved_by_response}
+use Rattle.ace_sysck.proofs.ShortWays.PlainAnswers.{system_unmoved_by_response}
 use Rattle.ace_sysck.proofs.Steps.{progress_from}
-use Rattle.ace_check.proofs.WriteEnds.{keeps-response}
+use Rattle.ace_check.proofs.ShortWays.WriteEnds.{keeps-response}
 use Rattle.ace_check.proofs.shares.Shares.take_response.Goals as goal
 
 pub returns-clause-taken : goal.returns-clause-taken

@@ -1,9 +1,9 @@
 use Rattle.std.proofs.Common.{refl, sym, ◌∙◌}
 use Rattle.ace_event.specs.declared.event.Event.TheVariants.{Op}
 use Rattle.ace_portck.specs.Targets.{Recording}
-use Rattle.ace_lineck.proofs.StillLines.{lines-still}
+use Rattle.ace_lineck.proofs.ShortWays.StillLines.{lines-still}
 use Rattle.ace_sysck.proofs.Unmoved.{system_still}
-use Rattle.ace_check.proofs.PlainEvents.{none-is, may-apply}
+use Rattle.ace_check.proofs.ShortWays.PlainEvents.{none-is, may-apply}
 use Rattle.ace_check.proofs.shares.Shares.take_retirement.Goals as goal
 
 pub returns-clause-taken : goal.returns-clause-taken

@@ -1,7 +1,7 @@
 use Rattle.std.proofs.Common.{◌≡◌, true, sym, ◌∙◌}
 use Rattle.ace_model.specs.Snoops.{snoops_a_line}
 use Rattle.ace_portck.specs.Targets.{Recording}
-use Rattle.ace_sysck.proofs.SnoopLaws.{system_still}
+use Rattle.ace_sysck.proofs.ShortWays.SnoopLaws.{system_still}
 use Rattle.ace_check.proofs.shares.Shares.take_snoop.Goals as goal
 
 pub returns-clause-taken : goal.returns-clause-taken

@@ -5,7 +5,7 @@ use Rattle.ace_event.specs.declared.event.Event.TheVariants.{Cr}
 use Rattle.ace_lineck.specs.Stands.{place_on}
 use Rattle.ace_portck.specs.SnoopAnswers.{IsAnswered}
 use Rattle.ace_portck.specs.Targets.{Recording}
-use Rattle.ace_check.proofs.PlainEvents.{none-is, may-apply}
+use Rattle.ace_check.proofs.ShortWays.PlainEvents.{none-is, may-apply}
 use Rattle.ace_check.proofs.shares.Shares.take_snoop_answer.Goals as goal
 
 pub returns-clause-taken : goal.returns-clause-taken

@@ -5,7 +5,7 @@ use Rattle.ace_model.specs.Shares.{port_rules, line_rules}
 use Rattle.ace_model.proofs.General.Options.{none_is}
 use Rattle.ace_portck.specs.Targets.{Recording}
 use Rattle.ace_sysck.proofs.Unmoved.{system_still}
-use Rattle.ace_check.proofs.PlainEvents.{may-apply}
+use Rattle.ace_check.proofs.ShortWays.PlainEvents.{may-apply}
 use Rattle.ace_check.proofs.Steps.{least_with}
 use Rattle.ace_check.proofs.shares.Shares.take_snoop_beat.Goals as goal
 

@@ -6,7 +6,7 @@ use Rattle.ace_model.specs.Trace.{is_some_and}
 use Rattle.ace_model.proofs.General.Options.{none_is}
 use Rattle.ace_portck.specs.Targets.{Recording}
 use Rattle.ace_lineck.specs.Holders.{awaits_store}
-use Rattle.ace_check.proofs.PlainEvents.{may-apply}
+use Rattle.ace_check.proofs.ShortWays.PlainEvents.{may-apply}
 use Rattle.ace_check.proofs.Steps.{k1_kept, least_with}
 use Rattle.ace_check.proofs.shares.Shares.take_store.Goals as goal
 

@@ -7,10 +7,10 @@ use Rattle.ace_model.specs.Lines.{is_known}
 use Rattle.ace_model.specs.Shares.{port_rules, line_rules}
 use Rattle.ace_portck.specs.PlainWriteAddresses.{plain_write_kind}
 use Rattle.ace_portck.specs.Targets.{Recording}
-use Rattle.ace_lineck.proofs.PlainAddresses.{lines-begun}
-use Rattle.ace_sysck.proofs.PlainWriteAddresses.{system-begun}
-use Rattle.ace_check.proofs.PlainAddresses.{over-known}
-use Rattle.ace_check.proofs.PlainWriteAddresses.{keeps-all}
+use Rattle.ace_lineck.proofs.ShortWays.PlainAddresses.{lines-begun}
+use Rattle.ace_sysck.proofs.ShortWays.PlainWriteAddresses.{system-begun}
+use Rattle.ace_check.proofs.ShortWays.PlainAddresses.{over-known}
+use Rattle.ace_check.proofs.ShortWays.PlainWriteAddresses.{keeps-all}
 use Rattle.ace_check.proofs.shares.Shares.take_write_address.Goals as goal
 
 pub returns-clause-taken : goal.returns-clause-taken

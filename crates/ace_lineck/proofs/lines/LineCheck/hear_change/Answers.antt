@@ -6,8 +6,8 @@ use Rattle.ace_lineck.specs.Records.{LineStands}
 use Rattle.ace_lineck.specs.Uses.{is_unknown}
 use Rattle.ace_lineck.proofs.AllLines.{unplaced, placed, line-step, applied-else}
 use Rattle.ace_lineck.proofs.Places.{get-at, place-taken, written-here, written-there}
-use Rattle.ace_lineck.proofs.PlainGrants.{none-known}
-use Rattle.ace_lineck.proofs.PlainSilentChanges.{grant-changed, may-hear_change}
+use Rattle.ace_lineck.proofs.ShortWays.PlainGrants.{none-known}
+use Rattle.ace_lineck.proofs.ShortWays.PlainSilentChanges.{grant-changed, may-hear_change}
 use Rattle.ace_lineck.proofs.lines.LineCheck.hear_change.Goals as goal
 
 pub returns-in_default : goal.returns-in_default

@@ -3,9 +3,9 @@ use Rattle.indexmap.specs.IndexMap.{get, values}
 use Rattle.ace_model.proofs.Terms.{Cr}
 use Rattle.ace_portck.specs.Targets.{target_of}
 use Rattle.ace_lineck.proofs.AllLines.{unplaced, placed, line-step, applied-else}
-use Rattle.ace_lineck.proofs.BeatSteps.{still-used}
+use Rattle.ace_lineck.proofs.ShortWays.BeatSteps.{still-used}
 use Rattle.ace_lineck.proofs.Places.{get-at, place-taken, written-here, written-there}
-use Rattle.ace_lineck.proofs.SnoopAnswers.{may-hear_answer}
+use Rattle.ace_lineck.proofs.ShortWays.SnoopAnswers.{may-hear_answer}
 use Rattle.ace_lineck.proofs.lines.LineCheck.hear_snoop_answer.Goals as goal
 
 pub returns-in_default : goal.returns-in_default

@@ -1,7 +1,7 @@
 use Rattle.std.proofs.Common.{Some, sym, ap, subst, ◌∙◌}
 use Rattle.ace_lineck.specs.Beats.{keeps_beat}
 use Rattle.ace_lineck.specs.Records.{LineStands}
-use Rattle.ace_lineck.proofs.BeatLaws.{plain, of-place, beat-law}
+use Rattle.ace_lineck.proofs.ShortWays.BeatLaws.{plain, of-place, beat-law}
 use Rattle.ace_lineck.proofs.lines.LineCheck.keeps_beat.Goals as goal
 
 pub returns : goal.returns

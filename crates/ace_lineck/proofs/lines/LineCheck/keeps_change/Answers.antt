@@ -1,7 +1,7 @@
 use Rattle.std.proofs.Common.{Some, ap, ◌∙◌}
 use Rattle.ace_lineck.specs.declared.record.LineRecord.{LineRecord}
 use Rattle.ace_lineck.specs.Holders.{holder_at}
-use Rattle.ace_lineck.proofs.PlainSilentChanges.{change-kept}
+use Rattle.ace_lineck.proofs.ShortWays.PlainSilentChanges.{change-kept}
 use Rattle.ace_lineck.proofs.lines.LineCheck.keeps_change.Goals as goal
 
 pub returns : goal.returns

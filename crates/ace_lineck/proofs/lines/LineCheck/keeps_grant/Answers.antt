@@ -3,7 +3,7 @@ use Rattle.ace_lineck.specs.declared.record.LineRecord.{LineRecord}
 use Rattle.ace_lineck.specs.Grants.{GrantStands}
 use Rattle.ace_lineck.specs.Stands.{record_of}
 use Rattle.ace_lineck.proofs.GrantLaws.{flip-none}
-use Rattle.ace_lineck.proofs.PlainGrants.{keeps-grant}
+use Rattle.ace_lineck.proofs.ShortWays.PlainGrants.{keeps-grant}
 use Rattle.ace_lineck.proofs.lines.LineCheck.keeps_grant.Goals as goal
 
 pub returns-then-takes_grant : goal.returns-then-takes_grant

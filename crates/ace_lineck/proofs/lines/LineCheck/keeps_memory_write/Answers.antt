@@ -2,7 +2,7 @@ use Rattle.std.proofs.Common.{Some, sym, ap, subst, ◌∙◌}
 use Rattle.std.specs.Option.{option_copied}
 use Rattle.ace_lineck.specs.PlainMemoryWrites.{keeps_memory_write}
 use Rattle.ace_lineck.specs.Records.{LineStands}
-use Rattle.ace_lineck.proofs.PlainMemoryWrites.{of-place, memory_write-law}
+use Rattle.ace_lineck.proofs.ShortWays.PlainMemoryWrites.{of-place, memory_write-law}
 use Rattle.ace_lineck.proofs.lines.LineCheck.keeps_memory_write.Goals as goal
 
 pub returns : goal.returns

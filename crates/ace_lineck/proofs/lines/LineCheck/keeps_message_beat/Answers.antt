@@ -1,5 +1,5 @@
 use Rattle.std.proofs.Common.{sym, ◌∙◌}
-use Rattle.ace_lineck.proofs.MessageBeats.{dataless-keeps}
+use Rattle.ace_lineck.proofs.ShortWays.MessageBeats.{dataless-keeps}
 use Rattle.ace_lineck.proofs.lines.LineCheck.keeps_message_beat.Goals as goal
 
 pub returns : goal.returns

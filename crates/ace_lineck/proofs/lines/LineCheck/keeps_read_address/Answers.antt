@@ -8,7 +8,7 @@ use Rattle.ace_lineck.specs.Holders.{holder_at}
 use Rattle.ace_lineck.specs.Stands.{record_of}
 use Rattle.ace_lineck.specs.Uses.{goes_with, is_unknown, use_of}
 use Rattle.ace_lineck.proofs.KnownLines.{known-used}
-use Rattle.ace_lineck.proofs.PlainAddresses.{address_rules}
+use Rattle.ace_lineck.proofs.ShortWays.PlainAddresses.{address_rules}
 use Rattle.ace_lineck.proofs.lines.LineCheck.keeps_read_address.Goals as goal
 
 pub returns : goal.returns

@@ -4,7 +4,7 @@ use Rattle.ace_model.proofs.Terms.{Rk, ends_read, implies, is_make_unique}
 use Rattle.ace_portck.specs.Targets.{line_in}
 use Rattle.ace_lineck.specs.declared.record.LineRecord.{LineRecord}
 use Rattle.ace_lineck.specs.Holders.{holder_at}
-use Rattle.ace_lineck.proofs.AcknowledgeLaws.{rk-law}
+use Rattle.ace_lineck.proofs.ShortWays.AcknowledgeLaws.{rk-law}
 use Rattle.ace_lineck.proofs.lines.LineCheck.keeps_read_end.Goals as goal
 
 pub returns : goal.returns

@@ -4,7 +4,7 @@ use Rattle.ace_lineck.specs.declared.record.LineRecord.{LineRecord}
 use Rattle.ace_lineck.specs.Holders.{holder_at}
 use Rattle.ace_lineck.specs.Stands.{record_on}
 use Rattle.ace_portck.specs.Targets.{line_of_snoop}
-use Rattle.ace_lineck.proofs.SnoopAnswers.{answer-law}
+use Rattle.ace_lineck.proofs.ShortWays.SnoopAnswers.{answer-law}
 use Rattle.ace_lineck.proofs.lines.LineCheck.keeps_snoop_answer.Goals as goal
 
 pub returns : goal.returns

@@ -4,7 +4,7 @@ use Rattle.std.specs.Option.{option_copied}
 use Rattle.ace_model.proofs.Terms.{full_line, is_unique, is_some_and}
 use Rattle.ace_lineck.specs.Holders.{awaits_store, holder_at}
 use Rattle.ace_lineck.specs.Stands.{record_of}
-use Rattle.ace_lineck.proofs.Stores.{alone-may, own-may, store-kept}
+use Rattle.ace_lineck.proofs.ShortWays.Stores.{alone-may, own-may, store-kept}
 use Rattle.ace_lineck.proofs.lines.LineCheck.keeps_store.Goals as goal
 
 pub returns-in-None-clause-keeps : goal.returns-in-None-clause-keeps

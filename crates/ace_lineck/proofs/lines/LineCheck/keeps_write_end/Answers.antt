@@ -3,7 +3,7 @@ use Rattle.ace_model.proofs.Terms.{Wk, ends_write}
 use Rattle.ace_portck.specs.Targets.{line_in}
 use Rattle.ace_lineck.specs.declared.record.LineRecord.{LineRecord}
 use Rattle.ace_lineck.specs.Holders.{holder_at}
-use Rattle.ace_lineck.proofs.AcknowledgeLaws.{wk-law}
+use Rattle.ace_lineck.proofs.ShortWays.AcknowledgeLaws.{wk-law}
 use Rattle.ace_lineck.proofs.lines.LineCheck.keeps_write_end.Goals as goal
 
 pub returns : goal.returns

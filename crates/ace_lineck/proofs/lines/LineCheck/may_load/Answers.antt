@@ -3,7 +3,7 @@ use Rattle.ace_event.specs.declared.event.Event.TheVariants.{L}
 use Rattle.ace_model.proofs.Terms.{k31}
 use Rattle.ace_model.proofs.General.Options.{Some-injective}
 use Rattle.ace_portck.specs.Targets.{target_of}
-use Rattle.ace_lineck.proofs.PlainEvents.{load-kept, next-on}
+use Rattle.ace_lineck.proofs.ShortWays.PlainEvents.{load-kept, next-on}
 use Rattle.ace_lineck.proofs.lines.LineCheck.may_load.Goals as goal
 
 pub returns-then-keeps_hold : goal.returns-then-keeps_hold

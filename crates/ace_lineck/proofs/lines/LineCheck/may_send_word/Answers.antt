@@ -1,5 +1,5 @@
 use Rattle.std.proofs.Common.{◌==◌, Some, ap, ◌∙◌}
-use Rattle.ace_lineck.proofs.SnoopData.{sent-kept}
+use Rattle.ace_lineck.proofs.ShortWays.SnoopData.{sent-kept}
 use Rattle.ace_lineck.proofs.lines.LineCheck.may_send_word.Goals as goal
 
 pub returns : goal.returns

@@ -4,7 +4,7 @@ use Rattle.ace_model.proofs.Terms.{implies, updates_memory}
 use Rattle.ace_model.proofs.Lines.Known.{data_write-issued}
 use Rattle.ace_lineck.specs.Holders.{holder_at}
 use Rattle.ace_lineck.specs.Stands.{record_of}
-use Rattle.ace_lineck.proofs.PlainEvents.{word-kept}
+use Rattle.ace_lineck.proofs.ShortWays.PlainEvents.{word-kept}
 use Rattle.ace_lineck.proofs.lines.LineCheck.may_write_word.Goals as goal
 
 pub returns-then-not-updates_memory : goal.returns-then-not-updates_memory

@@ -1,6 +1,6 @@
 use Rattle.std.proofs.Common.{◌&&◌, sym, ap, ◌∙◌}
 use Rattle.ace_model.specs.Progress.{has_update}
-use Rattle.ace_portck.proofs.PlainSilentChanges.{has_update_is}
+use Rattle.ace_portck.proofs.ShortWays.PlainSilentChanges.{has_update_is}
 use Rattle.ace_portck.proofs.ports.PortCheck.drops_update.Goals as goal
 
 pub returns-then-is_invalid : goal.returns-then-is_invalid

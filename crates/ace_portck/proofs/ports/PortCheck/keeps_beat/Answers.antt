@@ -1,7 +1,7 @@
 use Rattle.std.proofs.Common.{◌≡◌, ◌&&◌, nat_lt, true, false, refl, sym, ap, ◌∙◌}
 use Rattle.ace_codes.specs.Responses.{low_bits}
 use Rattle.ace_event.specs.declared.header.Header.{Header}
-use Rattle.ace_portck.proofs.Plain.{beat_rules}
+use Rattle.ace_portck.proofs.ShortWays.Plain.{beat_rules}
 use Rattle.ace_portck.proofs.ports.PortCheck.keeps_beat.Goals as goal
 
 pub returns-then-may_come : goal.returns-then-may_come

@@ -2,7 +2,7 @@ use Rattle.std.proofs.Common.{◌≡◌, ◌&&◌, nat_lt, true, false, sym, ap,
 use Rattle.ace_event.specs.declared.header.Header.{Header}
 use Rattle.ace_model.specs.Transactions.{is_ace}
 use Rattle.ace_portck.specs.Port.{PortStands}
-use Rattle.ace_portck.proofs.DvmReads.{completion_rules}
+use Rattle.ace_portck.proofs.ShortWays.DvmReads.{completion_rules}
 use Rattle.ace_portck.proofs.ports.PortCheck.keeps_completion.Goals as goal
 
 pub returns-then-may_complete : goal.returns-then-may_complete

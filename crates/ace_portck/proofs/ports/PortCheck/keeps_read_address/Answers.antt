@@ -1,7 +1,7 @@
 use Rattle.std.proofs.Common.{◌≡◌, ◌%◌, ◌==◌, ◌&&◌, nat_lt, true, false, sym, ap, ◌∙◌, refl}
 use Rattle.ace_event.specs.declared.header.Header.{Header}
 use Rattle.ace_model.specs.AddressRules.{may_issue_read}
-use Rattle.ace_portck.proofs.PlainAddresses.{address_rules}
+use Rattle.ace_portck.proofs.ShortWays.PlainAddresses.{address_rules}
 use Rattle.ace_portck.proofs.ports.PortCheck.keeps_read_address.Goals as goal
 
 pub returns-then-may_begin : goal.returns-then-may_begin

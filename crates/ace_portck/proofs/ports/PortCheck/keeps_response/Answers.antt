@@ -1,6 +1,6 @@
 use Rattle.std.proofs.Common.{◌==◌, ◌&&◌, not, nat_lt, sym, ap, ◌∙◌}
 use Rattle.ace_event.specs.declared.header.Header.{Header}
-use Rattle.ace_portck.proofs.WriteEnds.{response_rules}
+use Rattle.ace_portck.proofs.ShortWays.WriteEnds.{response_rules}
 use Rattle.ace_portck.proofs.ports.PortCheck.keeps_response.Goals as goal
 
 pub returns : goal.returns

@@ -2,8 +2,8 @@ use Rattle.std.proofs.Common.{sym, ap, ◌∙◌}
 use Rattle.ace_event.specs.declared.header.Header.{Header}
 use Rattle.ace_event.specs.declared.event.Event.TheVariants.{S}
 use Rattle.ace_model.specs.AddressRules.{k3}
-use Rattle.ace_portck.proofs.PlainEvents.{port-at}
-use Rattle.ace_portck.proofs.PlainSilentChanges.{change-outside, change-keeps}
+use Rattle.ace_portck.proofs.ShortWays.PlainEvents.{port-at}
+use Rattle.ace_portck.proofs.ShortWays.PlainSilentChanges.{change-outside, change-keeps}
 use Rattle.ace_portck.proofs.ports.PortCheck.may_change.Goals as goal
 
 pub returns-then-keeps_port : goal.returns-then-keeps_port

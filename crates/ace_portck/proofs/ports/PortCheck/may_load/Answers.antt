@@ -2,7 +2,7 @@ use Rattle.std.proofs.Common.{sym, ap, ◌∙◌}
 use Rattle.ace_event.specs.declared.header.Header.{Header}
 use Rattle.ace_event.specs.declared.event.Event.TheVariants.{L}
 use Rattle.ace_model.specs.AddressRules.{k3}
-use Rattle.ace_portck.proofs.PlainEvents.{port-at, load-outside, load-keeps}
+use Rattle.ace_portck.proofs.ShortWays.PlainEvents.{port-at, load-outside, load-keeps}
 use Rattle.ace_portck.proofs.ports.PortCheck.may_load.Goals as goal
 
 pub returns-then-keeps_port-clause-keeps : goal.returns-then-keeps_port-clause-keeps

@@ -4,8 +4,8 @@ use Rattle.ace_model.specs.Trace.{port_of}
 use Rattle.ace_portck.specs.declared.port.PortRecord.{PortRecord}
 use Rattle.ace_portck.specs.Port.{PortStands}
 use Rattle.ace_portck.specs.Stands.{record_at}
-use Rattle.ace_portck.proofs.PlainEvents.{port-at}
-use Rattle.ace_portck.proofs.PlainRetirements.{retirement-outside, retirement-keeps}
+use Rattle.ace_portck.proofs.ShortWays.PlainEvents.{port-at}
+use Rattle.ace_portck.proofs.ShortWays.PlainRetirements.{retirement-outside, retirement-keeps}
 use Rattle.ace_portck.proofs.ports.PortCheck.may_retire.Goals as goal
 
 pub returns-then-not-keeps_port : goal.returns-then-not-keeps_port

@@ -2,7 +2,7 @@ use Rattle.std.proofs.Common.{sym, ap, ◌∙◌, subst}
 use Rattle.ace_portck.specs.declared.port.PortRecord.{PortRecord}
 use Rattle.ace_portck.specs.Port.{PortStands}
 use Rattle.ace_portck.specs.Stands.{record_at}
-use Rattle.ace_portck.proofs.PlainEvents.{port-at, sent-outside, sent-keeps}
+use Rattle.ace_portck.proofs.ShortWays.PlainEvents.{port-at, sent-outside, sent-keeps}
 use Rattle.ace_portck.proofs.ports.PortCheck.sent_by.Goals as goal
 
 pub returns-then-not-keeps_port-clause-keeps : goal.returns-then-not-keeps_port-clause-keeps

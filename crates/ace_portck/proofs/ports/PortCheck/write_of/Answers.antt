@@ -4,7 +4,7 @@ use Rattle.ace_model.specs.Trace.{port_of}
 use Rattle.ace_portck.specs.declared.port.PortRecord.{PortRecord}
 use Rattle.ace_portck.specs.Port.{PortStands}
 use Rattle.ace_portck.specs.Stands.{record_at}
-use Rattle.ace_portck.proofs.PlainEvents.{port-at, write-outside, write-unfit, write-fits}
+use Rattle.ace_portck.proofs.ShortWays.PlainEvents.{port-at, write-outside, write-unfit, write-fits}
 use Rattle.ace_portck.proofs.ports.PortCheck.write_of.Goals as goal
 
 pub returns-then-not-keeps_port-clause-keeps : goal.returns-then-not-keeps_port-clause-keeps

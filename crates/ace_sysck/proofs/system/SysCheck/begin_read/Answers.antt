@@ -1,5 +1,5 @@
 use Rattle.std.proofs.Common.{◌<◌, arith}
-use Rattle.ace_sysck.proofs.PlainAddresses.{begun-stands}
+use Rattle.ace_sysck.proofs.ShortWays.PlainAddresses.{begun-stands}
 use Rattle.ace_sysck.proofs.system.SysCheck.begin_read.Goals as goal
 
 pub returns : goal.returns

@@ -1,4 +1,4 @@
-use Rattle.ace_sysck.proofs.MessageBeats.{message_completed}
+use Rattle.ace_sysck.proofs.ShortWays.MessageBeats.{message_completed}
 use Rattle.ace_sysck.proofs.system.SysCheck.complete_message.Goals as goal
 
 pub returns : goal.returns

@@ -1,5 +1,5 @@
 use Rattle.std.proofs.Common.{◌∙◌}
-use Rattle.ace_sysck.proofs.PlainGrants.{keeps-grant}
+use Rattle.ace_sysck.proofs.ShortWays.PlainGrants.{keeps-grant}
 use Rattle.ace_sysck.proofs.system.SysCheck.keeps_grant.Goals as goal
 
 pub returns : goal.returns

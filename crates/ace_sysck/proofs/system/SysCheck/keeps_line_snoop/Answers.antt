@@ -1,5 +1,5 @@
 use Rattle.std.proofs.Common.{not, ap, ◌∙◌}
-use Rattle.ace_sysck.proofs.SnoopLaws.{line_snoop-law}
+use Rattle.ace_sysck.proofs.ShortWays.SnoopLaws.{line_snoop-law}
 use Rattle.ace_sysck.proofs.system.SysCheck.keeps_line_snoop.Goals as goal
 
 pub returns : goal.returns

@@ -1,6 +1,6 @@
 use Rattle.std.proofs.Common.{ap, ◌∙◌}
 use Rattle.ace_model.proofs.Terms.{k33}
-use Rattle.ace_sysck.proofs.Stores.{store_rules}
+use Rattle.ace_sysck.proofs.ShortWays.Stores.{store_rules}
 use Rattle.ace_sysck.proofs.system.SysCheck.may_store.Goals as goal
 
 pub returns : goal.returns

@@ -1,0 +1,19 @@
+-- The short ways of the checker: an event breaks no rule where it breaks none of each share, and the shares tell of the longer trace.
+-- What a G asks of each share.
+pub mod PlainGrants
+pub mod PlainEvents
+-- What the AR of a plain read on a known line asks and leaves.
+pub mod PlainAddresses
+-- What the AW of a line write on a known line asks.
+pub mod PlainWriteAddresses
+pub mod PlainSteps
+-- The ARs of DVM Completes.
+pub mod MessageAddresses
+-- Which rules a CR may break.
+pub mod SnoopAnswers
+-- What a B of a line write asks and leaves.
+pub mod WriteEnds
+-- What an RK or WK asks of each share.
+pub mod PlainAcknowledges
+-- An M of an outstanding transaction keeps all rules that do not look at its line.
+pub mod PlainMemoryWrites

@@ -1,0 +1,95 @@
+-- What the rules about lines say of a transfer of a DVM read, and what it leaves.
+use Rattle.std.proofs.Common.{◌≡◌, ◌==◌, ◌∷◌, ℕ, true, false, Bool, not, ◌&&◌, if◌then◌else◌, Option, Some, None, is_none, option_map, refl, sym, ap, subst, ◌∙◌}
+use Rattle.std.proofs.lemmas.Bool.{and_parts, not-true}
+use Rattle.ace_codes.specs.Responses.{is_shared, passes_dirty}
+use Rattle.ace_codes.specs.declared.kind.ArKind.{ArKind}
+use Rattle.ace_codes.specs.declared.kind.ArKind.TheVariants as read
+use Rattle.ace_event.specs.declared.line.Line.{Line}
+use Rattle.ace_model.specs.Accepted.{least_broken, least_of}
+use Rattle.ace_model.specs.AddressRules.{k1}
+use Rattle.ace_model.specs.Lines.{has_failed_on}
+use Rattle.ace_model.specs.Shares.{line_rules, k18_line}
+use Rattle.ace_model.proofs.Terms.{Header, Trace, R, Read, IsAccepted, is_none_or, is_ace, outstanding, read_kind, k19, k20}
+use Rattle.ace_portck.specs.DvmReads.{dvm_read, is_dvm_read}
+use Rattle.ace_portck.specs.Targets.{Recording, after, line_in, line_of, progress_of, target_of}
+use Rattle.ace_portck.specs.declared.target.Progress.{Progress}
+use Rattle.ace_portck.proofs.ShortWays.DvmReads.{IsDvmRead, dvm_read-is, dvm_read-no_line}
+use Rattle.ace_lineck.specs.declared.lines.LineCheck.{LineCheck}
+use Rattle.ace_lineck.specs.declared.record.LineRecord.{LineRecord}
+use Rattle.ace_lineck.specs.Records.{IsNext}
+use Rattle.ace_lineck.specs.Kept.{fits_bits, fits_reply, has_passed_for, is_shared_under}
+use Rattle.ace_lineck.specs.Beats.{is_dataless}
+use Rattle.ace_lineck.specs.Stands.{Stands}
+use Rattle.ace_lineck.proofs.AllLines.{unchanged}
+use Rattle.ace_lineck.proofs.ShortWays.BeatLaws.{progress-from, three-rules}
+use Rattle.ace_lineck.proofs.ReplyLaws.{k19-law, k20-law}
+
+-- What a dataless transfer is.
+record IsDataless (x : Progress) (resp word : ℕ) : Type 0 where
+  first : (x.transfers == 0) ≡ true
+  dirty : passes_dirty resp ≡ false
+  shared : is_shared resp ≡ false
+  zero : (word == 0) ≡ true
+
+dataless-is : (x : Progress) (resp word : ℕ) → is_dataless x resp word ≡ true → IsDataless x resp word
+dataless-is x resp word t =
+    let last = and_parts _ (word == 0) t in
+    let shared = and_parts _ (not (is_shared resp)) last.0 in
+    let dirty = and_parts (x.transfers == 0) (not (passes_dirty resp)) shared.0 in
+    record { first = dirty.0; dirty = not-true (passes_dirty resp) dirty.1; shared = not-true (is_shared resp) shared.1; zero = last.1 }
+
+-- its upper bits and its word are those of a DVM read
+bits-fit : (h : Header) (passed shared : Bool) (resp word : ℕ) (x : Progress) (k : ArKind) → read_kind x.transaction ≡ Some k → is_dvm_read k ≡ true → IsDataless x resp word
+    → fits_bits h passed shared resp x ≡ true
+bits-fit h passed shared resp word x k kind dvm d = by k dvm kind (is_ace h x.transaction.port) refl
+  where
+    by : (j : ArKind) → is_dvm_read j ≡ true → read_kind x.transaction ≡ Some j → (b : Bool) → is_ace h x.transaction.port ≡ b → fits_bits h passed shared resp x ≡ true
+    by read.DvmMessage dvm own true ace = let first = d.first in let dirty = d.dirty in let none = d.shared in rw (own, dirty, none, first, ace) refl
+    by read.DvmMessage dvm own false ace = let first = d.first in let dirty = d.dirty in let none = d.shared in rw (own, dirty, none, first, ace) refl
+    by read.DvmComplete dvm own true ace = let first = d.first in let dirty = d.dirty in let none = d.shared in rw (own, dirty, none, first, ace) refl
+    by read.DvmComplete dvm own false ace = let first = d.first in let dirty = d.dirty in let none = d.shared in rw (own, dirty, none, first, ace) refl
+    by j dvm own b ace = cc
+
+word-fits : (kept : LineRecord) (resp word : ℕ) (x : Progress) (k : ArKind) → read_kind x.transaction ≡ Some k → is_dvm_read k ≡ true → IsDataless x resp word
+    → fits_reply kept.grant kept.memory word x ≡ true
+word-fits kept resp word x k kind dvm d = by k dvm kind
+  where
+    by : (j : ArKind) → is_dvm_read j ≡ true → read_kind x.transaction ≡ Some j → fits_reply kept.grant kept.memory word x ≡ true
+    by read.DvmMessage dvm own = rw own d.zero
+    by read.DvmComplete dvm own = rw own d.zero
+    by j dvm own = cc
+
+module _ (h : Header) (past : Trace) (p i resp : ℕ) (last : Bool) (word : ℕ) (x : Progress) (k : ArKind) (out : option_map (progress_of h past) (outstanding h past p Read i) ≡ Some x)
+    (own : dvm_read x.transaction ≡ Some k) where
+  is : IsDvmRead x.transaction k
+  is = dvm_read-is x.transaction k own
+
+  -- it has no line
+  pub beat-off : line_in h past (R p i resp last word) ≡ None
+  beat-off = ap line_of out ∙ (let off = dvm_read-no_line x.transaction k is in rw off refl)
+
+  -- no rule of the share is broken by a dataless one
+  pub dataless-keeps : (kept : LineRecord) → IsAccepted h past → k1 h past (R p i resp last word) ≡ true → is_dataless x resp word ≡ true
+      → is_none (least_of line_rules h past (R p i resp last word)) ≡ true
+  dataless-keeps kept accepted port t =
+      let e = R p i resp last word in
+      let d = dataless-is x resp word t in
+      let next : IsNext h past e (target_of h past e) kept = record {
+        accepted = accepted;
+        port = port;
+        target = refl;
+        line = λ l on. let bad : None ≡ Some l = sym beat-off ∙ on in cc;
+      } in
+      let served = progress-from h past (outstanding h past p Read i) x out in
+      let off = dvm_read-no_line x.transaction k is in
+      let free : k18_line h past e ≡ true = rw (served, off) refl in
+      sym (three-rules true true true (k18_line h past e) (k19 h past e) (k20 h past e) (sym free)
+      (λ q. sym (bits-fit h (has_passed_for kept.grant x.transaction) (is_shared_under kept.grant) resp word x k is.kind is.dvm d)
+      ∙ sym (ap (λ o. is_none_or o (λ y. fits_bits h (has_passed_for kept.grant y.transaction) (is_shared_under kept.grant) resp y)) out) ∙ k19-law h past (target_of h past e) kept p i resp last word next q)
+      (λ q. sym (word-fits kept resp word x k is.kind is.dvm d) ∙ sym (ap (λ o. is_none_or o (fits_reply kept.grant kept.memory word)) out) ∙ k20-law h past (target_of h past e) kept p i resp last word next q))
+
+-- and all lines stay as they are
+pub lines-unmoved : (s : LineCheck) (r : Recording) (p i resp : ℕ) (last : Bool) (word : ℕ) (x : Progress) (k : ArKind) → Stands s r
+    → option_map (progress_of r.header r.past) (outstanding r.header r.past p Read i) ≡ Some x → dvm_read x.transaction ≡ Some k
+    → least_broken r.header r.past (R p i resp last word) ≡ None → Stands s (after r (R p i resp last word))
+lines-unmoved s r p i resp last word x k st out own fine = unchanged s r (R p i resp last word) st fine (beat-off r.header r.past p i resp last word x k out own)

@@ -1,0 +1,17 @@
+-- What the short ways of the checker ask of what is kept of the system, and what an event of each kind leaves of it.
+pub mod PlainGrants
+-- What an answer to a plain transaction leaves, and the rules that look at it.
+pub mod PlainAnswers
+pub mod MessageBeats
+pub mod SnoopLaws
+-- What an RK or WK moves.
+pub mod PlainAcknowledges
+-- What the AR of a plain read moves.
+pub mod PlainAddresses
+pub mod MessageAddresses
+-- What the AW of a line write asks and leaves.
+pub mod PlainWriteAddresses
+-- What a CR leaves.
+pub mod SnoopAnswers
+-- Which rules of the share look at a D.
+pub mod Stores
