@@ -24,7 +24,7 @@ use Rattle.ace_model.proofs.Dvm.Forwarding.{answered-first}
 use Rattle.ace_model.proofs.Dvm.Parts.{IsBelow, parts-placed}
 use Rattle.ace_model.proofs.General.Lists.{count_by-agree, slice_get-at_end, slice_get-more, slice_get-start, start-all, start-length}
 use Rattle.ace_model.proofs.General.Options.{Some-injective, is_some_and-is}
-use Rattle.ace_sysck.proofs.Inboxes.InboxHears.{answered-more, answered-now, idle-answered, no_more}
+use Rattle.ace_sysck.proofs.Forwarding.InboxHears.{answered-more, answered-now, idle-answered, no_more}
 use Rattle.ace_sysck.proofs.PartLaws.{forwarded-length, forwards-at}
 use Rattle.ace_runs.specs.Segments.{is_at_port}
 use Rattle.ace_master_state.proofs.LinesHeard.{issued-port}

@@ -14,7 +14,7 @@ pub mod BarrierSteps
 pub mod MessageSteps
 pub mod Unanswered
 pub mod PartLaws
-pub mod Inboxes
+pub mod Forwarding
 pub mod SyncSteps
 pub mod ExclusiveLaws
 pub mod RuleLaws

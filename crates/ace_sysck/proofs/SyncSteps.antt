@@ -32,7 +32,7 @@ use Rattle.ace_sysck.proofs.Tables.{set_at}
 use Rattle.ace_sysck.proofs.Steps.{port_within}
 use Rattle.ace_sysck.proofs.BarrierSteps.{issuing-port}
 use Rattle.ace_sysck.proofs.EventLaws.{begun-is}
-use Rattle.ace_sysck.proofs.Inboxes.InboxHears.{idle-answered, answered-now, answered-more, snoop_there, no_more}
+use Rattle.ace_sysck.proofs.Forwarding.InboxHears.{idle-answered, answered-now, answered-more, snoop_there, no_more}
 use Rattle.std.specs.Option.{option_map, option_to_list}
 use Rattle.std.proofs.lemmas.List.Elements.{All-drop}
 use Rattle.ace_model.specs.declared.snoops.Snoop.{Snoop}
@@ -40,7 +40,7 @@ use Rattle.ace_model.proofs.General.Lists.{slice_get-at_end, slice_get-start, sl
 use Rattle.ace_sysck.specs.declared.inboxes.Inboxes.{Inboxes}
 use Rattle.ace_sysck.specs.Inboxes.{InboxesStand, part_of, first_is_sync, is_sync_part, answers_message}
 use Rattle.ace_sysck.proofs.PartLaws.{Forwards, forwards-at}
-use Rattle.ace_sysck.proofs.Inboxes.InboxRules.{unanswered, inbox_of, slice_get-map, all_ports-same}
+use Rattle.ace_sysck.proofs.Forwarding.InboxRules.{unanswered, inbox_of, slice_get-map, all_ports-same}
 use Rattle.ace_sysck.proofs.PartLaws.{waits-is, waits-old}
 
 -- what is kept after the empty trace

@@ -28,7 +28,7 @@ use Rattle.ace_sysck.proofs.MonitorSteps.{monitors_other}
 use Rattle.ace_sysck.proofs.ResultSteps.{results_stay_at}
 use Rattle.ace_sysck.proofs.RegistrationSteps.{registrations_stay}
 use Rattle.ace_sysck.proofs.MessageSteps.{messages_stay}
-use Rattle.ace_sysck.proofs.Inboxes.InboxHears.{inboxes_other}
+use Rattle.ace_sysck.proofs.Forwarding.InboxHears.{inboxes_other}
 use Rattle.ace_sysck.proofs.SyncSteps.{syncs_quiet}
 
 abbrev pub moves_barriers : Event → Bool

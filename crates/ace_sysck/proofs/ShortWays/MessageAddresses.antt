@@ -20,7 +20,7 @@ use Rattle.ace_sysck.specs.Stands.{Stands}
 use Rattle.ace_sysck.specs.Steps.{IsStep}
 use Rattle.ace_sysck.specs.Syncs.{one_completed, untold}
 use Rattle.ace_sysck.proofs.BarrierSteps.{barriers_plain}
-use Rattle.ace_sysck.proofs.Inboxes.InboxHears.{inboxes_plain}
+use Rattle.ace_sysck.proofs.Forwarding.InboxHears.{inboxes_plain}
 use Rattle.ace_sysck.proofs.MessageSteps.{messages_plain}
 use Rattle.ace_sysck.proofs.ResultSteps.{results_ar}
 use Rattle.ace_sysck.proofs.Steps.{port_within}

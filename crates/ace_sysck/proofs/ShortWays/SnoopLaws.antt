@@ -14,8 +14,8 @@ use Rattle.ace_sysck.specs.declared.system.SysCheck.{SysCheck}
 use Rattle.ace_sysck.specs.Inboxes.{forwards_in, next_in}
 use Rattle.ace_sysck.specs.Stands.{Stands}
 use Rattle.ace_sysck.specs.Steps.{IsAsked, IsStep}
-use Rattle.ace_sysck.proofs.Inboxes.InboxHears.{inboxes_other_ac}
-use Rattle.ace_sysck.proofs.Inboxes.InboxRules.{k36-is}
+use Rattle.ace_sysck.proofs.Forwarding.InboxHears.{inboxes_other_ac}
+use Rattle.ace_sysck.proofs.Forwarding.InboxRules.{k36-is}
 use Rattle.ace_sysck.proofs.MessageSteps.{messages_untold}
 use Rattle.ace_sysck.proofs.Unmoved.{barriers_still, monitors_still, registrations_still, results_still, syncs_still}
 

@@ -4,7 +4,7 @@ use Rattle.ace_model.proofs.Terms.{Header, implies, list_all, ports_below, is_ot
 use Rattle.ace_sysck.specs.Messages.{is_at}
 use Rattle.ace_sysck.specs.Inboxes.{awaits}
 use Rattle.ace_sysck.proofs.EventLaws.{responding, responded-is, responds-at}
-use Rattle.ace_sysck.proofs.Inboxes.InboxRules.{answered_by_all-is}
+use Rattle.ace_sysck.proofs.Forwarding.InboxRules.{answered_by_all-is}
 use Rattle.ace_sysck.proofs.rules.keeps_k37.Goals as goal
 
 pub returns-else-not-is_message_part : goal.returns-else-not-is_message_part

@@ -4,7 +4,7 @@ use Rattle.std.proofs.lemmas.Option.{slice_get-get_or}
 use Rattle.std.specs.Vec.{with_item}
 use Rattle.ace_sysck.specs.declared.inboxes.Inbox.{Inbox}
 use Rattle.ace_sysck.specs.declared.inboxes.Inboxes.{Inboxes}
-use Rattle.ace_sysck.proofs.Inboxes.InboxSteps.{answers_outside, answers_one}
+use Rattle.ace_sysck.proofs.Forwarding.InboxSteps.{answers_outside, answers_one}
 use Rattle.ace_sysck.proofs.inboxes.Inboxes.answer.Goals as goal
 
 pub returns-then-p-len : goal.returns-then-p-len

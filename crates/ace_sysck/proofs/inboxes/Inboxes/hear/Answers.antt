@@ -4,7 +4,7 @@ use Rattle.ace_model.proofs.Terms.{Event, Ac, Cr, IsAccepted}
 use Rattle.ace_portck.specs.Targets.{after, target_of}
 use Rattle.ace_sysck.specs.Events.{begun_in}
 use Rattle.ace_sysck.specs.Inboxes.{InboxesStand, SendsAll}
-use Rattle.ace_sysck.proofs.Inboxes.InboxHears.{inboxes_sent, inboxes_plain, inboxes_forward, inboxes_other_ac, inboxes_answer, inboxes_other_cr, inboxes_other}
+use Rattle.ace_sysck.proofs.Forwarding.InboxHears.{inboxes_sent, inboxes_plain, inboxes_forward, inboxes_other_ac, inboxes_answer, inboxes_other_cr, inboxes_other}
 use Rattle.ace_sysck.proofs.inboxes.Inboxes.hear.Goals as goal
 
 pub returns-then-is_message_part : goal.returns-then-is_message_part

@@ -3,7 +3,7 @@ use Rattle.ace_event.specs.declared.event.Event.{Event}
 use Rattle.ace_event.specs.declared.event.Event.TheVariants.{Ac}
 use Rattle.ace_model.specs.OrderRules.{k36}
 use Rattle.ace_sysck.specs.Inboxes.{MayAskInboxes, forwards_in}
-use Rattle.ace_sysck.proofs.Inboxes.InboxRules.{k36-is}
+use Rattle.ace_sysck.proofs.Forwarding.InboxRules.{k36-is}
 use Rattle.ace_sysck.proofs.inboxes.Inboxes.keeps_k36.Goals as goal
 
 pub returns-in-Some : goal.returns-in-Some

@@ -1,7 +1,7 @@
 use Rattle.std.proofs.Common.{◌≡◌, ◌+◌, ◌++◌, [], ◌∷◌, length, slice_get, arith, refl, sym, ap, ◌∙◌, length-append}
 use Rattle.std.proofs.lemmas.Grind.{common_steps}
 use Rattle.ace_sysck.specs.declared.inboxes.Inbox.{Inbox}
-use Rattle.ace_sysck.proofs.Inboxes.InboxSteps.{inboxes_fresh, fresh_more}
+use Rattle.ace_sysck.proofs.Forwarding.InboxSteps.{inboxes_fresh, fresh_more}
 use Rattle.ace_sysck.proofs.inboxes.Inboxes.new.Goals as goal
 
 pub returns : goal.returns

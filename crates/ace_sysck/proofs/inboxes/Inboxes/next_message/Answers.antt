@@ -1,6 +1,6 @@
 use Rattle.std.proofs.Common.{ap, ◌∙◌}
 use Rattle.ace_sysck.specs.Inboxes.{message_of}
-use Rattle.ace_sysck.proofs.Inboxes.InboxRules.{inbox_of, next-message-is}
+use Rattle.ace_sysck.proofs.Forwarding.InboxRules.{inbox_of, next-message-is}
 use Rattle.ace_sysck.proofs.inboxes.Inboxes.next_message.Goals as goal
 
 pub returns : goal.returns

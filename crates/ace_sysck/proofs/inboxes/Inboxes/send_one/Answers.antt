@@ -4,7 +4,7 @@ use Rattle.std.proofs.lemmas.Option.{slice_get-get_or}
 use Rattle.std.specs.Vec.{with_item}
 use Rattle.ace_sysck.specs.declared.inboxes.Inboxes.{Inboxes}
 use Rattle.ace_sysck.specs.Inboxes.{sent_list}
-use Rattle.ace_sysck.proofs.Inboxes.InboxSteps.{sends_own, sends_one, sends_outside}
+use Rattle.ace_sysck.proofs.Forwarding.InboxSteps.{sends_own, sends_one, sends_outside}
 use Rattle.ace_sysck.proofs.inboxes.Inboxes.send_one.Goals as goal
 
 pub returns-then-q-sender : goal.returns-then-q-sender

@@ -2,7 +2,7 @@ use Rattle.std.proofs.Common.{◌≡◌, true, false, refl, sym, ◌∙◌}
 use Rattle.ace_model.proofs.Terms.{Cr}
 use Rattle.ace_portck.specs.Targets.{target_of}
 use Rattle.ace_sysck.specs.Inboxes.{answers_message}
-use Rattle.ace_sysck.proofs.Inboxes.InboxHears.{inboxes_answer, inboxes_other_cr}
+use Rattle.ace_sysck.proofs.Forwarding.InboxHears.{inboxes_answer, inboxes_other_cr}
 use Rattle.ace_sysck.proofs.ShortWays.SnoopAnswers.{answer-step, answers-kind, monitors-answer, system-answer}
 use Rattle.ace_sysck.proofs.SyncSteps.{syncs_no_message}
 use Rattle.ace_sysck.proofs.system.SysCheck.hear_snoop_answer.Goals as goal

@@ -3,7 +3,7 @@ use Rattle.ace_model.proofs.Terms.{Header, R, implies, list_all, ports_below, is
 use Rattle.ace_sysck.specs.Messages.{is_at}
 use Rattle.ace_sysck.specs.Inboxes.{awaits}
 use Rattle.ace_sysck.proofs.EventLaws.{responds-at}
-use Rattle.ace_sysck.proofs.Inboxes.InboxRules.{answered_by_all-is}
+use Rattle.ace_sysck.proofs.Forwarding.InboxRules.{answered_by_all-is}
 use Rattle.ace_sysck.proofs.system.SysCheck.is_answered.Goals as goal
 
 pub returns : goal.returns

@@ -25,7 +25,7 @@ use Rattle.ace_sysck.proofs.Steps.{port_within}
 use Rattle.ace_sysck.proofs.BarrierSteps.{issuing-port}
 use Rattle.ace_sysck.proofs.Unanswered.{still-outstanding}
 use Rattle.ace_sysck.proofs.PartLaws.{Waits, waits-is, waits-old, parts-apart}
-use Rattle.ace_sysck.proofs.Inboxes.InboxRules.{unanswered, not_answered}
+use Rattle.ace_sysck.proofs.Forwarding.InboxRules.{unanswered, not_answered}
 
 -- A part for a port was issued by another port.
 pub record IsPartFor (past : Trace) (q : ℕ) (z : Transaction) : Type 0 where

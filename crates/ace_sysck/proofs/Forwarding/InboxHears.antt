@@ -28,8 +28,8 @@ use Rattle.ace_sysck.specs.Messages.{PortMessagesStand}
 use Rattle.ace_sysck.specs.Inboxes.{InboxesStand, InboxStands, Receives, SendsAll, ForwardsTo, AnswersFirst, sent_to, part_of, parts_sent, answers_message}
 use Rattle.ace_sysck.proofs.EventLaws.{begun-is}
 use Rattle.ace_sysck.proofs.PartLaws.{forwards-at, forwards-kind, forwarded-length}
-use Rattle.ace_sysck.proofs.Inboxes.InboxRules.{unanswered, inbox_at}
-use Rattle.ace_sysck.proofs.Inboxes.InboxMoves.{map-old, sent-is, few-unanswered}
+use Rattle.ace_sysck.proofs.Forwarding.InboxRules.{unanswered, inbox_at}
+use Rattle.ace_sysck.proofs.Forwarding.InboxMoves.{map-old, sent-is, few-unanswered}
 
 -- the parts that are not answered are not known otherwise after one more event
 unanswered-old : (e : Event) (past : Trace) (q : ℕ) → map (part_of (e ∷ past)) (unanswered past q) ≡ map (part_of past) (unanswered past q)
