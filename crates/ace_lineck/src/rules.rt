@@ -245,11 +245,7 @@ pub fn keeps_load(kept: &LineRecord, port: u8, w: u8, word: u128) -> bool
 pub fn is_own_store(own: &Progress, strobe: u64, x: bool) -> bool
     ensures { result ≡ ((awaits_store own.now && not own.now.stored) && not x && (strobe == full_line)) }
 {
-    is_make_unique(&own.transaction)
-        && own.complete
-        && !own.stored
-        && !x
-        && strobe == u64::MAX
+    is_make_unique(&own.transaction) && own.complete && !own.stored && !x && strobe == u64::MAX
 }
 
 /// The same, of the port's own transaction, if it has one.
