@@ -1,5 +1,5 @@
 -- A CD: what it asks of its line, and what it leaves.
-use Rattle.std.proofs.Common.{◌≡◌, ◌<◌, ◌≤◌, ◌-◌, ◌^◌, ℕ, Bool, true, ◌==◌, ◌∷◌, if◌then◌else◌, length, Option, Some, None, is_none, refl, sym, ap, subst, ◌∙◌, inl, inr}
+use Rattle.std.proofs.Common.{◌≡◌, ◌<◌, ◌≤◌, ◌-◌, ◌^◌, ℕ, Bool, true, ◌==◌, ◌∷◌, if◌then◌else◌, length, Option, Some, None, is_none, refl, sym, ap, ◌∙◌, inl, inr}
 use Rattle.std.proofs.lemmas.Bool.{cases_eq}
 use Rattle.ace_model.specs.declared.snoops.Snoop.{Snoop}
 use Rattle.ace_model.specs.Accepted.{least_broken, least_of}

@@ -1,12 +1,12 @@
 -- A B of a line write: what it asks of its line, and what it leaves.
-use Rattle.std.proofs.Common.{◌≡◌, ◌<◌, ◌-◌, ◌^◌, ℕ, Bool, true, false, not, ◌&&◌, ◌∷◌, List, length, Option, Some, None, is_none, option_map, refl, sym, ap, subst, ◌∙◌}
+use Rattle.std.proofs.Common.{◌≡◌, ◌<◌, ◌-◌, ◌^◌, ℕ, true, false, not, ◌&&◌, ◌∷◌, List, length, Option, Some, None, is_none, option_map, refl, sym, ap, ◌∙◌}
 use Rattle.ace_codes.specs.declared.kind.AwKind.{AwKind}
 use Rattle.ace_event.specs.declared.line.Line.{Line}
 use Rattle.ace_model.specs.declared.transactions.Transaction.{Transaction}
 use Rattle.ace_model.specs.Accepted.{least_broken, least_of}
 use Rattle.ace_model.specs.Kinds.{has_write_data}
 use Rattle.ace_model.specs.Shares.{line_rules, k26_memory}
-use Rattle.ace_model.proofs.Terms.{B, Header, Trace, Write, IsAccepted, implies, is_ace, is_line, is_transaction, ended, outstanding, transaction_of}
+use Rattle.ace_model.proofs.Terms.{B, Header, Trace, Write, IsAccepted, implies, is_ace, is_transaction, ended, outstanding}
 use Rattle.ace_model.proofs.General.Options.{Some-injective}
 use Rattle.ace_model.proofs.Trace.Issued.{outstanding-name}
 use Rattle.ace_portck.specs.Targets.{Recording, after, line_in, line_of, progress_of, target_of}

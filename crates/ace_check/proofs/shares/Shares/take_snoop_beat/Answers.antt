@@ -1,6 +1,6 @@
 use Rattle.std.proofs.Common.{◌≡◌, None, is_some, refl, sym, ap, ◌∙◌}
 use Rattle.ace_event.specs.declared.event.Event.TheVariants.{Cd}
-use Rattle.ace_model.specs.Accepted.{least_broken, least_of}
+use Rattle.ace_model.specs.Accepted.{least_of}
 use Rattle.ace_model.specs.Shares.{port_rules, line_rules}
 use Rattle.ace_model.proofs.General.Options.{none_is}
 use Rattle.ace_portck.specs.Targets.{Recording}

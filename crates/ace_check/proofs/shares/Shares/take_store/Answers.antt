@@ -1,6 +1,6 @@
 use Rattle.std.proofs.Common.{◌≡◌, None, refl, sym, ap, ◌∙◌}
 use Rattle.ace_event.specs.declared.event.Event.TheVariants.{D}
-use Rattle.ace_model.specs.Accepted.{least_broken, least_of}
+use Rattle.ace_model.specs.Accepted.{least_of}
 use Rattle.ace_model.specs.Shares.{port_rules, line_rules, system_rules}
 use Rattle.ace_model.specs.Trace.{is_some_and}
 use Rattle.ace_model.proofs.General.Options.{none_is}

@@ -1,7 +1,7 @@
 use Rattle.std.proofs.Common.{◌≡◌, ◌&&◌, ◌==◌, not, true, Some, None, refl, sym, ap, ◌∙◌}
 use Rattle.std.proofs.lemmas.Bool.{and_parts}
 use Rattle.std.specs.Option.{option_copied}
-use Rattle.ace_model.proofs.Terms.{full_line, is_unique, is_some_and}
+use Rattle.ace_model.proofs.Terms.{full_line, is_unique}
 use Rattle.ace_lineck.specs.Holders.{awaits_store, holder_at}
 use Rattle.ace_lineck.specs.Stands.{record_of}
 use Rattle.ace_lineck.proofs.ShortWays.Stores.{alone-may, own-may, store-kept}
