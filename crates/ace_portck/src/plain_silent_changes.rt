@@ -16,8 +16,7 @@ use ace_tables::is_invalid;
 fn has_update_on(list: &[Progress], line: u32) -> bool
     ensures { result ≡ list_any (λ x. is_on x.transaction line && updates_memory x.transaction) list.now }
 {
-    list.iter()
-        .any(|x| is_on(&x.transaction, line) && updates_memory(&x.transaction))
+    list.iter().any(|x| is_on(&x.transaction, line) && updates_memory(&x.transaction))
 }
 
 impl PortCheck {

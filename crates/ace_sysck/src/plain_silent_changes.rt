@@ -19,6 +19,7 @@ impl SysCheck {
             → length r.past < 2 ^ 64 - 1
             → Stands self.new (after r (SilentChange change.now.port change.now.addr change.now.st)) }
     {
-        self.monitors.leave(change.port, Some(change.addr), change.st);
+        self.monitors
+            .leave(change.port, Some(change.addr), change.st);
     }
 }
