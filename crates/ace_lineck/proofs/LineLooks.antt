@@ -1,6 +1,6 @@
 -- What is kept of a line, looked up for the transaction that is granted on it.
-use Rattle.std.proofs.Common.{◌≡◌, ℕ, true, false, Bool, not, ◌&&◌, if◌then◌else◌, Option, Some, None, option_map, refl, sym, ap, ◌∙◌}
-use Rattle.std.proofs.lemmas.Bool.{cases_Bool, and_parts}
+use Rattle.std.proofs.Common.{◌≡◌, ℕ, true, false, not, ◌&&◌, if◌then◌else◌, Option, Some, None, option_map, refl, sym, ap, ◌∙◌}
+use Rattle.std.proofs.lemmas.Bool.{and_parts}
 use Rattle.ace_codes.specs.declared.kind.AwKind.{AwKind}
 use Rattle.ace_event.specs.declared.event.Channel.{Channel}
 use Rattle.ace_event.specs.declared.event.Channel.TheVariants.{Read, Write}
@@ -14,7 +14,7 @@ use Rattle.ace_portck.specs.Targets.{data_of_write}
 use Rattle.ace_portck.specs.declared.target.WriteData.{WriteData}
 use Rattle.ace_lineck.specs.declared.grant.Grant.{Grant}
 use Rattle.ace_lineck.specs.Grants.{GrantStands}
-use Rattle.ace_lineck.specs.Kept.{has_passed, is_shared_under, reply_kept, passed_kept, written_kept}
+use Rattle.ace_lineck.specs.Kept.{has_passed, is_shared_under, reply_kept, written_kept}
 use Rattle.ace_lineck.proofs.GrantLaws.{passed-law}
 use Rattle.ace_lineck.proofs.ReplyLaws.{reply-law}
 use Rattle.ace_lineck.proofs.WriteLaws.{the_burst, written-law}

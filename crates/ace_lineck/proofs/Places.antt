@@ -4,7 +4,7 @@ use Rattle.std.proofs.lemmas.Bool.{eqb-true, ne_eqb}
 use Rattle.std.specs.List.{position_or_len}
 use Rattle.std.specs.Cmp.{nat_eq_equiv}
 use Rattle.std.specs.Map.{keys_of, values_of}
-use Rattle.indexmap.specs.IndexMap.{get, index_of, values, with_value_at, IsUnique}
+use Rattle.indexmap.specs.IndexMap.{get, values, with_value_at, IsUnique}
 use Rattle.indexmap.proofs.CallerLemmas.{updates-with_value_at}
 use Rattle.indexmap.proofs.MapLemmas.{Found-position, index-first, some_index}
 use Rattle.indexmap.proofs.RemoveLemmas.{own_first}

@@ -1,5 +1,5 @@
 -- What leaves the room that there is for lines.
-use Rattle.std.proofs.Common.{◌≡◌, ℕ, zero, suc, ◌+◌, ◌≤◌, ◌<◌, Bool, nat_eq, if◌then◌else◌, true, false, ◌∷◌, length, Option, Some, None, is_some, IsSome, unwrap_or, refl, sym, ap, subst, ◌∙◌, arith}
+use Rattle.std.proofs.Common.{◌≡◌, ℕ, zero, suc, ◌+◌, ◌≤◌, ◌<◌, nat_eq, if◌then◌else◌, true, false, ◌∷◌, length, Option, Some, None, is_some, unwrap_or, refl, sym, ap, subst, ◌∙◌, arith}
 use Rattle.std.specs.List.{All, IsDistinct, list_any}
 use Rattle.std.specs.Map.{lookup}
 use Rattle.std.proofs.lemmas.Bool.{and_from, eq-eqb, or_left}
@@ -10,13 +10,13 @@ use Rattle.ace_event.specs.declared.event.Event.{Event}
 use Rattle.ace_event.specs.declared.event.Event.TheVariants.{Ar, Aw}
 use Rattle.ace_event.specs.declared.event.Channel.TheVariants.{Read, Write}
 use Rattle.ace_model.specs.declared.transactions.Transaction.{Transaction}
-use Rattle.ace_model.specs.Lines.{is_known, known_lines}
+use Rattle.ace_model.specs.Lines.{is_known}
 use Rattle.ace_model.specs.Trace.{port_of}
 use Rattle.ace_model.proofs.Terms.{Header, Trace, is_line, is_on, issued, is_some_and}
 use Rattle.ace_model.proofs.General.Options.{some_if-is}
 use Rattle.ace_portck.specs.LineMaps.{HasRoomForLines}
 use Rattle.ace_portck.specs.Targets.{Recording, line_in}
-use Rattle.ace_portck.proofs.LineMaps.{room-for-line, room-same, room-stays}
+use Rattle.ace_portck.proofs.LineMaps.{room-same, room-stays}
 use Rattle.ace_lineck.specs.declared.lines.LineCheck.{LineCheck}
 use Rattle.ace_lineck.specs.declared.record.LineRecord.{LineRecord}
 use Rattle.ace_lineck.specs.Records.{IsFresh, LineStands}

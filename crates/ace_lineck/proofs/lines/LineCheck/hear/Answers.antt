@@ -1,4 +1,4 @@
-use Rattle.std.proofs.Common.{◌≡◌, ◌<◌, ◌∷◌, None, Some, ℕ, Bool, true, false, nat_eq, slice_get, length, refl, sym, subst, ◌∙◌}
+use Rattle.std.proofs.Common.{◌≡◌, ◌∷◌, Some, true, false, nat_eq, slice_get, refl, sym, subst, ◌∙◌}
 use Rattle.indexmap.specs.IndexMap.{get, values}
 use Rattle.ace_lineck.specs.Records.{LineStands, IsRecordStep}
 use Rattle.ace_lineck.proofs.AllLines.{unplaced, placed, line-step, applied-then, applied-else}

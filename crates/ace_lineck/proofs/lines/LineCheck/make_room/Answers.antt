@@ -1,9 +1,8 @@
-use Rattle.std.proofs.Common.{◌≡◌, ◌≤◌, ◌+◌, ℕ, false, true, length, Option, Some, None, is_some, IsSome, if◌then◌else◌, nat_eq, refl, sym, ap, subst, ◌∙◌, arith}
+use Rattle.std.proofs.Common.{◌≡◌, ◌+◌, ℕ, false, true, length, Some, is_some, if◌then◌else◌, nat_eq, refl, sym, ap, subst, ◌∙◌, arith}
 use Rattle.std.specs.List.{All}
 use Rattle.std.proofs.lemmas.Grind.{common_steps}
 use Rattle.indexmap.specs.IndexMap.{get, index_map_len, spare}
 use Rattle.ace_event.specs.declared.header.Header.{Header}
-use Rattle.ace_model.specs.Lines.{is_known}
 use Rattle.ace_portck.proofs.LineMaps.{room-for-line, room-with}
 use Rattle.ace_lineck.specs.Records.{IsFresh}
 use Rattle.ace_lineck.specs.Stands.{IsAbsent, IsKnown, place_on}

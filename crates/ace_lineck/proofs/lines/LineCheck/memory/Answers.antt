@@ -1,4 +1,4 @@
-use Rattle.std.proofs.Common.{Some, refl, ap, ◌∙◌}
+use Rattle.std.proofs.Common.{Some, ap, ◌∙◌}
 use Rattle.ace_lineck.specs.declared.record.LineRecord.{LineRecord}
 use Rattle.ace_lineck.proofs.lines.LineCheck.memory.Goals as goal
 
