@@ -57,18 +57,6 @@ fn reached_by(kept: PortSyncs, sender: u8, own: bool) -> PortSyncs
     }
 }
 
-fn one_answered(kept: PortSyncs) -> PortSyncs
-    ensures { result ≡ one_answered kept }
-{
-    let numbers = kept.numbers;
-    PortSyncs {
-        reached: kept.reached,
-        answered: next_count(kept.answered),
-        completes: kept.completes,
-        numbers,
-    }
-}
-
 fn one_completed(kept: PortSyncs) -> PortSyncs
     ensures { result ≡ one_completed kept }
 {
@@ -190,6 +178,18 @@ impl Syncs {
         }
     }
 
+    /// The port has answered one more Sync.
+    #[inline(always)]
+    fn count_answer(&mut self, port: u8)
+        ensures { self.new.ports.items ≡ slice_set self.old.ports.items port (one_answered (slice_index_or self.old.ports.items port untold)) }
+    {
+        let p = port as usize;
+        if p < self.ports.len() {
+            let kept = &mut self.ports[p];
+            kept.answered = next_count(kept.answered);
+        }
+    }
+
     /// The port answers an AC DVM Message. The inboxes are those before it.
     #[inline(always)]
     pub fn answer(&mut self, port: u8, inboxes: &Inboxes)
@@ -197,8 +197,7 @@ impl Syncs {
             → InboxesStand r inboxes.now → SyncsStand r self.old → SyncsStand (after r (Cr port resp st)) self.new }
     {
         if inboxes.answers_sync(port) {
-            let more = one_answered(self.of(port));
-            self.set(port, more);
+            self.count_answer(port);
         }
     }
 

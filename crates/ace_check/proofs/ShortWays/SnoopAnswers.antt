@@ -1,5 +1,5 @@
 -- A CR: it breaks no rule where it breaks none of the ports and none of the lines.
-use Rattle.std.proofs.Common.{◌≡◌, ℕ, Bool, true, false, not, ◌&&◌, if◌then◌else◌, Option, Some, None, is_none, refl, sym, ap, ◌∙◌}
+use Rattle.std.proofs.Common.{◌≡◌, ℕ, Bool, true, false, is_none, refl, ◌∙◌}
 use Rattle.ace_codes.specs.declared.state.LineState.{LineState}
 use Rattle.ace_event.specs.declared.event.Event.TheVariants.{Cr}
 use Rattle.ace_event.specs.declared.header.Header.{Header}

@@ -1,15 +1,13 @@
 -- A CR: what is asked of it by what is kept of the line of its snoop, and what it leaves of that.
-use Rattle.std.proofs.Common.{◌≡◌, ◌<◌, ◌-◌, ◌^◌, ℕ, Bool, true, false, not, ◌&&◌, ◌||◌, nat_lt, if◌then◌else◌, List, ◌∷◌, length, Option, Some, None, is_none, slice_get, slice_set, unwrap_or, refl, sym, ap, subst, ◌∙◌, inl, inr}
+use Rattle.std.proofs.Common.{◌≡◌, ◌<◌, ◌-◌, ◌^◌, ℕ, Bool, true, false, not, ◌&&◌, ◌||◌, nat_lt, if◌then◌else◌, ◌∷◌, length, Option, Some, None, is_none, slice_get, slice_set, refl, sym, ap, subst, ◌∙◌, inl, inr}
 use Rattle.std.proofs.lemmas.Bool.{and_parts, cases_Bool, ltb-true}
-use Rattle.ace_codes.specs.Snoops.{ac_kind_of}
 use Rattle.ace_codes.specs.declared.kind.SnoopKind.TheVariants as snoop
-use Rattle.ace_event.specs.declared.line.Line.{Line}
 use Rattle.ace_tables.specs.Answers.{fits_answer, fits_update, is_snoop_row, states_after}
 use Rattle.ace_tables.specs.States.{is_among}
 use Rattle.ace_model.specs.declared.snoops.Snoop.{Snoop}
 use Rattle.ace_model.specs.Accepted.{least_broken, least_of}
 use Rattle.ace_model.specs.Shares.{line_rules}
-use Rattle.ace_model.proofs.Terms.{Header, Trace, Cr, SnoopKind, LineState, I, answered, answers_beside_update, answers_by_row, has_update, implies, is_line_snoop, is_none_or, is_some_and, k15, k16, snoops_a_line, state_of}
+use Rattle.ace_model.proofs.Terms.{Header, Trace, Cr, SnoopKind, LineState, I, answers_beside_update, answers_by_row, has_update, implies, is_line_snoop, is_none_or, is_some_and, k15, k16, snoops_a_line, state_of}
 use Rattle.ace_model.proofs.Rules.Keeps.{accepted_keeps}
 use Rattle.ace_portck.specs.SnoopAnswers.{IsAnswered}
 use Rattle.ace_portck.specs.Targets.{Recording, line_in, line_of_snoop, target_of}

@@ -1,5 +1,5 @@
 -- A CR: what it answers, and what it leaves of the system.
-use Rattle.std.proofs.Common.{◌≡◌, ◌<◌, ◌-◌, ◌^◌, ℕ, Bool, true, false, ◌∷◌, length, Option, Some, None, get_or, slice_set, refl, sym, ap, subst, ◌∙◌}
+use Rattle.std.proofs.Common.{◌≡◌, ◌<◌, ◌-◌, ◌^◌, ℕ, length, Option, Some, None, get_or, slice_set, refl, sym, ap, subst, ◌∙◌}
 use Rattle.ace_codes.specs.declared.kind.SnoopKind.{SnoopKind}
 use Rattle.ace_codes.specs.declared.state.LineState.{LineState}
 use Rattle.ace_model.specs.declared.snoops.Snoop.{Snoop}
@@ -7,9 +7,7 @@ use Rattle.ace_model.specs.Accepted.{least_broken}
 use Rattle.ace_model.proofs.Terms.{Cr, ac_kind_of, is_message_snoop, is_some_and}
 use Rattle.ace_portck.specs.SnoopAnswers.{IsAnswered}
 use Rattle.ace_portck.specs.Targets.{Recording, after, line_in, line_of_snoop, target_of}
-use Rattle.ace_sysck.specs.declared.inboxes.Inboxes.{Inboxes}
 use Rattle.ace_sysck.specs.declared.monitors.Monitors.{Monitors}
-use Rattle.ace_sysck.specs.declared.syncs.Syncs.{Syncs}
 use Rattle.ace_sysck.specs.declared.system.SysCheck.{SysCheck}
 use Rattle.ace_sysck.specs.Inboxes.{InboxesStand, answers_message}
 use Rattle.ace_sysck.specs.Monitors.{MonitorsStand, kept_after}

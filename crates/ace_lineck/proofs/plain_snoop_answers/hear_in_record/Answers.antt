@@ -1,8 +1,7 @@
 use Rattle.std.proofs.Common.{◌≡◌, ◌<◌, length, None, Some, slice_get, unwrap_or, arith, sym, ap, ◌∙◌}
 use Rattle.std.proofs.lemmas.Grind.{common_steps}
 use Rattle.std.proofs.lemmas.Option.{slice_get-get_or}
-use Rattle.ace_lineck.specs.declared.record.Holder.{Holder}
-use Rattle.ace_lineck.specs.Holders.{empty_holder, holder_at}
+use Rattle.ace_lineck.specs.Holders.{empty_holder}
 use Rattle.ace_lineck.proofs.ShortWays.SnoopAnswers.{answered-holders, has-answerer}
 use Rattle.ace_lineck.proofs.plain_snoop_answers.hear_in_record.Goals as goal
 

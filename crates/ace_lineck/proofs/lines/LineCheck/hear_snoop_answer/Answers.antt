@@ -1,4 +1,4 @@
-use Rattle.std.proofs.Common.{◌≡◌, ◌∷◌, Some, true, false, nat_eq, slice_get, refl, sym, subst, ◌∙◌}
+use Rattle.std.proofs.Common.{◌≡◌, Some, true, false, nat_eq, slice_get, refl, sym, ◌∙◌}
 use Rattle.indexmap.specs.IndexMap.{get, values}
 use Rattle.ace_model.proofs.Terms.{Cr}
 use Rattle.ace_portck.specs.Targets.{target_of}

@@ -1,4 +1,4 @@
-use Rattle.std.proofs.Common.{◌≡◌, ◌&&◌, nat_lt, not, sym, ap, ◌∙◌}
+use Rattle.std.proofs.Common.{◌&&◌, nat_lt, not, sym, ap, ◌∙◌}
 use Rattle.ace_codes.specs.Responses.{has_error}
 use Rattle.ace_event.specs.declared.header.Header.{Header}
 use Rattle.ace_model.specs.Transactions.{is_ace}

@@ -1,13 +1,10 @@
-use Rattle.std.proofs.Common.{ap, ◌∙◌, slice_set}
-use Rattle.ace_sysck.specs.Syncs.{one_answered}
 use Rattle.ace_sysck.proofs.SyncSteps.{syncs_answer, syncs_no_sync}
 use Rattle.ace_sysck.proofs.syncs.Syncs.answer.Goals as goal
 
 pub returns-then-answers_sync : goal.returns-then-answers_sync
 returns-then-answers_sync c = λ r resp st t step message boxes stands.
-    let s = c.args.self.now in
-    syncs_answer r s c.set.new.self t c.args.port resp st c.args.inboxes.now c.answers_sync.result step message c.if-answers_sync.true boxes c.answers_sync.ensures stands
-    (c.set.ensures ∙ ap (slice_set s.ports.items c.args.port) (c.one_answered-more.ensures ∙ ap one_answered c.of.ensures))
+    syncs_answer r c.args.self.now c.count_answer.new.self t c.args.port resp st c.args.inboxes.now c.answers_sync.result step message c.if-answers_sync.true boxes
+    c.answers_sync.ensures stands c.count_answer.ensures
 
 pub returns-else-answers_sync : goal.returns-else-answers_sync
 returns-else-answers_sync c = λ r resp st t step message boxes stands.
