@@ -7,17 +7,6 @@ use ace_portck::{EventKind, Target, event_kinds};
 use std::alloc::Global;
 use thiserror::Error;
 
-/// Feeds a checker an event of one of these kinds, by the function that stands with it, as a value of the type that tells its kind, and any
-/// other as it is.
-macro_rules! by_kind {
-    ($checker:ident, $event:ident, { $($kind:ident { $($field:ident),* } => $feed:ident,)* }) => {
-        match *$event {
-            $(Event::$kind { $($field),* } => $checker.$feed(&event_kinds::$kind { $($field),* }),)*
-            _ => $checker.feed_kind($event),
-        }
-    };
-}
-
 /// What the checker says of an event.
 #[derive(Clone, Copy, Debug, PartialEq, Eq)]
 pub enum Step {
@@ -92,24 +81,25 @@ impl Checker {
             → (result ≡ Ok (Step.Broken b.index b.rule)) × Stands self.new h past (Some b) }
         ensures sound { (h : Header) (past : Trace) → Stands self.old h past None → result ≡ Ok Step.Fine → IsSound h (event.now ∷ past) }
     {
-        by_kind!(self, event, {
-            Ar { port, id, addr, snoop, dom, bar, lock } => feed_plain,
-            R { port, id, resp, last, word } => feed_plain,
-            Rk { port, st } => feed_plain,
-            Aw { port, id, addr, snoop, dom, bar } => feed_plain,
-            W { port, strb, last, word } => feed_plain,
-            B { port, id, resp } => feed_plain,
-            Wk { port, st } => feed_plain,
-            Ac { port, addr, snoop } => feed_plain,
-            Cr { port, resp, st } => feed_plain,
-            Cd { port, last, word } => feed_plain,
-            G { port, chan, id } => feed_plain,
-            M { port, chan, id, line } => feed_plain,
-            L { port, addr, w, x, word } => feed_plain,
-            D { port, addr, strobe, x, line } => feed_plain,
-            S { port, addr, st } => feed_plain,
-            Op { port, k, res } => feed_plain,
-        })
+        match *event {
+            Event::Ar { .. } => self.feed_as::<event_kinds::Ar>(event),
+            Event::R { .. } => self.feed_as::<event_kinds::R>(event),
+            Event::Rk { .. } => self.feed_as::<event_kinds::Rk>(event),
+            Event::Aw { .. } => self.feed_as::<event_kinds::Aw>(event),
+            Event::W { .. } => self.feed_as::<event_kinds::W>(event),
+            Event::B { .. } => self.feed_as::<event_kinds::B>(event),
+            Event::Wk { .. } => self.feed_as::<event_kinds::Wk>(event),
+            Event::Ac { .. } => self.feed_as::<event_kinds::Ac>(event),
+            Event::Cr { .. } => self.feed_as::<event_kinds::Cr>(event),
+            Event::Cd { .. } => self.feed_as::<event_kinds::Cd>(event),
+            Event::G { .. } => self.feed_as::<event_kinds::G>(event),
+            Event::M { .. } => self.feed_as::<event_kinds::M>(event),
+            Event::L { .. } => self.feed_as::<event_kinds::L>(event),
+            Event::D { .. } => self.feed_as::<event_kinds::D>(event),
+            Event::S { .. } => self.feed_as::<event_kinds::S>(event),
+            Event::Op { .. } => self.feed_as::<event_kinds::Op>(event),
+            Event::Mem { .. } => self.feed_kind(event),
+        }
     }
 
     /// What the next event belongs to: its transaction with how far that has come, its snoop, its line.
@@ -153,7 +143,28 @@ impl Checker {
     ghost use Rattle.ace_check.specs.Shares.{MayTake};
     ghost use Rattle.std.specs.Prelude.{Option};
 
-    /// Looks at an event of a kind of which most are plain, as `feed` does.
+    /// Looks at an event, as `feed` does, by way of a value of the type that tells its kind.
+    #[inline(always)]
+    fn feed_as<E: PlainKind + Drop>(&mut self, event: &Event) -> Result<Step, CheckErr>
+        ensures answer { (h : Header) (past : Trace) → Stands self.old h past None → IfOk result (IsAnswer h past event.now) }
+        ensures stands { (h : Header) (past : Trace) → Stands self.old h past None → length past < 2 ^ 64 - 2
+            → IfOk result (λ s. Stands self.new h (past_after past event.now s) (break_after s)) }
+        ensures stays { (h : Header) (past : Trace) → Stands self.old h past None → OnErr result (Stands self.new h past None) }
+        ensures too_many { (h : Header) (past : Trace) → Stands self.old h past None → result ≡ Err CheckErr.TooManyLines
+            → (least_broken h past event.now ≡ None) × (goes_over past event.now ≡ true) }
+        ensures no_memory { (h : Header) (past : Trace) → Stands self.old h past None → result ≡ Err CheckErr.NoMemory
+            → MayLackMemory h past event.now }
+        ensures broken { (h : Header) (past : Trace) (b : Break) → Stands self.old h past (Some b)
+            → (result ≡ Ok (Step.Broken b.index b.rule)) × Stands self.new h past (Some b) }
+        ensures sound { (h : Header) (past : Trace) → Stands self.old h past None → result ≡ Ok Step.Fine → IsSound h (event.now ∷ past) }
+    {
+        match E::of(event) {
+            Some(kind) => self.feed_plain(&kind),
+            None => self.feed_kind(event),
+        }
+    }
+
+    /// Looks at an event whose kind has a short way, as `feed` does.
     #[inline(always)]
     fn feed_plain<E: PlainKind>(&mut self, event: &E) -> Result<Step, CheckErr>
         ensures answer { (h : Header) (past : Trace) → Stands self.old h past None → IfOk result (IsAnswer h past (E.event event.now)) }

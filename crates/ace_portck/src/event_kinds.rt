@@ -1,6 +1,6 @@
 //! Events of one kind each, as types of their own: what is done with such an event is compiled for its kind.
 
-ghost use Rattle.std.specs.Prelude.{◌≡◌};
+ghost use Rattle.std.specs.Prelude.{◌≡◌, IfSome};
 ghost use Rattle.ace_event.specs.declared.event.Event.{Event};
 ghost use Rattle.ace_event.specs.declared.event.Event.TheVariants as event;
 
@@ -14,6 +14,16 @@ macro_rules! with_fields {
     };
 }
 
+/// The event as a value of this kind, if it is one.
+macro_rules! of_kind {
+    ($given:ident, $kind:ident { $($field:ident),* }) => {
+        match *$given {
+            Event::$kind { $($field),* } => Some($kind { $($field),* }),
+            _ => None,
+        }
+    };
+}
+
 /// An event, of a type that may tell its kind.
 pub trait EventKind {
     /// The event.
@@ -22,6 +32,10 @@ pub trait EventKind {
     /// The event.
     fn event(&self) -> Event
         ensures { result ≡ event self.now };
+
+    /// The event as a value of this type, if it is of its kind.
+    fn of(given: &Event) -> Option<Self>
+        ensures { IfSome result (λ k. event k ≡ given.now) };
 }
 
 /// An event of any kind.
@@ -30,6 +44,11 @@ impl EventKind for Event {
 
     fn event(&self) -> Event {
         *self
+    }
+
+    #[inline(always)]
+    fn of(given: &Event) -> Option<Event> {
+        Some(*given)
     }
 }
 
@@ -51,6 +70,22 @@ impl EventKind for Ar {
     fn event(&self) -> Event {
         with_fields!(
             self,
+            Ar {
+                port,
+                id,
+                addr,
+                snoop,
+                dom,
+                bar,
+                lock
+            }
+        )
+    }
+
+    #[inline(always)]
+    fn of(given: &Event) -> Option<Ar> {
+        of_kind!(
+            given,
             Ar {
                 port,
                 id,
@@ -89,6 +124,20 @@ impl EventKind for R {
             }
         )
     }
+
+    #[inline(always)]
+    fn of(given: &Event) -> Option<R> {
+        of_kind!(
+            given,
+            R {
+                port,
+                id,
+                resp,
+                last,
+                word
+            }
+        )
+    }
 }
 
 /// An RK, with the fields that [`Event::Rk`] has.
@@ -103,6 +152,11 @@ impl EventKind for Rk {
 
     fn event(&self) -> Event {
         with_fields!(self, Rk { port, st })
+    }
+
+    #[inline(always)]
+    fn of(given: &Event) -> Option<Rk> {
+        of_kind!(given, Rk { port, st })
     }
 }
 
@@ -123,6 +177,21 @@ impl EventKind for Aw {
     fn event(&self) -> Event {
         with_fields!(
             self,
+            Aw {
+                port,
+                id,
+                addr,
+                snoop,
+                dom,
+                bar
+            }
+        )
+    }
+
+    #[inline(always)]
+    fn of(given: &Event) -> Option<Aw> {
+        of_kind!(
+            given,
             Aw {
                 port,
                 id,
@@ -158,6 +227,19 @@ impl EventKind for W {
             }
         )
     }
+
+    #[inline(always)]
+    fn of(given: &Event) -> Option<W> {
+        of_kind!(
+            given,
+            W {
+                port,
+                strb,
+                last,
+                word
+            }
+        )
+    }
 }
 
 /// A B, with the fields that [`Event::B`] has.
@@ -174,6 +256,11 @@ impl EventKind for B {
     fn event(&self) -> Event {
         with_fields!(self, B { port, id, resp })
     }
+
+    #[inline(always)]
+    fn of(given: &Event) -> Option<B> {
+        of_kind!(given, B { port, id, resp })
+    }
 }
 
 /// A WK, with the fields that [`Event::Wk`] has.
@@ -188,6 +275,11 @@ impl EventKind for Wk {
 
     fn event(&self) -> Event {
         with_fields!(self, Wk { port, st })
+    }
+
+    #[inline(always)]
+    fn of(given: &Event) -> Option<Wk> {
+        of_kind!(given, Wk { port, st })
     }
 }
 
@@ -205,6 +297,11 @@ impl EventKind for Ac {
     fn event(&self) -> Event {
         with_fields!(self, Ac { port, addr, snoop })
     }
+
+    #[inline(always)]
+    fn of(given: &Event) -> Option<Ac> {
+        of_kind!(given, Ac { port, addr, snoop })
+    }
 }
 
 /// A CR, with the fields that [`Event::Cr`] has.
@@ -220,6 +317,11 @@ impl EventKind for Cr {
 
     fn event(&self) -> Event {
         with_fields!(self, Cr { port, resp, st })
+    }
+
+    #[inline(always)]
+    fn of(given: &Event) -> Option<Cr> {
+        of_kind!(given, Cr { port, resp, st })
     }
 }
 
@@ -237,6 +339,11 @@ impl EventKind for Cd {
     fn event(&self) -> Event {
         with_fields!(self, Cd { port, last, word })
     }
+
+    #[inline(always)]
+    fn of(given: &Event) -> Option<Cd> {
+        of_kind!(given, Cd { port, last, word })
+    }
 }
 
 /// A G, with the fields that [`Event::G`] has.
@@ -252,6 +359,11 @@ impl EventKind for G {
 
     fn event(&self) -> Event {
         with_fields!(self, G { port, chan, id })
+    }
+
+    #[inline(always)]
+    fn of(given: &Event) -> Option<G> {
+        of_kind!(given, G { port, chan, id })
     }
 }
 
@@ -278,6 +390,19 @@ impl EventKind for M {
             }
         )
     }
+
+    #[inline(always)]
+    fn of(given: &Event) -> Option<M> {
+        of_kind!(
+            given,
+            M {
+                port,
+                chan,
+                id,
+                line
+            }
+        )
+    }
 }
 
 /// An L, with the fields that [`Event::L`] has.
@@ -296,6 +421,20 @@ impl EventKind for L {
     fn event(&self) -> Event {
         with_fields!(
             self,
+            L {
+                port,
+                addr,
+                w,
+                x,
+                word
+            }
+        )
+    }
+
+    #[inline(always)]
+    fn of(given: &Event) -> Option<L> {
+        of_kind!(
+            given,
             L {
                 port,
                 addr,
@@ -332,6 +471,20 @@ impl EventKind for D {
             }
         )
     }
+
+    #[inline(always)]
+    fn of(given: &Event) -> Option<D> {
+        of_kind!(
+            given,
+            D {
+                port,
+                addr,
+                strobe,
+                x,
+                line
+            }
+        )
+    }
 }
 
 /// An S, with the fields that [`Event::S`] has.
@@ -348,6 +501,11 @@ impl EventKind for S {
     fn event(&self) -> Event {
         with_fields!(self, S { port, addr, st })
     }
+
+    #[inline(always)]
+    fn of(given: &Event) -> Option<S> {
+        of_kind!(given, S { port, addr, st })
+    }
 }
 
 /// An OP, with the fields that [`Event::Op`] has.
@@ -363,5 +521,10 @@ impl EventKind for Op {
 
     fn event(&self) -> Event {
         with_fields!(self, Op { port, k, res })
+    }
+
+    #[inline(always)]
+    fn of(given: &Event) -> Option<Op> {
+        of_kind!(given, Op { port, k, res })
     }
 }
