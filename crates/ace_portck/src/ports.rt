@@ -311,7 +311,6 @@ impl PortCheck {
     }
 
     /// Hears the next event of the trace, which keeps the rules.
-    #[inline(always)]
     pub fn apply<E: EventKind>(&mut self, event: &E)
         ensures stands { (r : Recording) → MayApply self.old r (E.event event.now) → Stands self.new (after r (E.event event.now)) }
         ensures room { (snoops : ℕ) → IsRoomy snoops self.old → IsRoomy snoops self.new }
