@@ -1,15 +1,12 @@
 -- The AR of a DVM Complete: it breaks no rule where it breaks none of the ports and none of the system, and names no line.
-use Rattle.std.proofs.Common.{◌≡◌, ◌<◌, ℕ, Bool, true, false, ◌&&◌, nat_lt, length, None, is_none, refl, sym}
+use Rattle.std.proofs.Common.{◌≡◌, ◌<◌, ℕ, Bool, true, false, nat_lt, length, None, is_none, refl, sym}
 use Rattle.std.proofs.lemmas.Bool.{and_parts, ltb-true}
 use Rattle.ace_codes.specs.declared.kind.ArKind.TheVariants as read
 use Rattle.ace_event.specs.declared.event.Event.TheVariants.{Ar}
 use Rattle.ace_event.specs.declared.header.Header.{Header}
 use Rattle.ace_model.specs.Accepted.{least_broken, least_of}
-use Rattle.ace_model.specs.AddressRules.{may_have}
 use Rattle.ace_model.specs.Shares.{port_rules, system_rules}
 use Rattle.ace_model.specs.Trace.{Trace}
-use Rattle.ace_model.specs.Transactions.{is_line}
-use Rattle.ace_model.proofs.General.Options.{is_none_or-at}
 use Rattle.ace_portck.specs.DvmReads.{is_completion}
 use Rattle.ace_portck.proofs.ShortWays.DvmReads.{completion-read, dvm_read-no_line}
 use Rattle.ace_portck.proofs.ShortWays.PlainAddresses.{read_of}

@@ -1,13 +1,11 @@
 -- What the rules about lines say of a transfer of a DVM read, and what it leaves.
-use Rattle.std.proofs.Common.{◌≡◌, ◌==◌, ◌∷◌, ℕ, true, false, Bool, not, ◌&&◌, if◌then◌else◌, Option, Some, None, is_none, option_map, refl, sym, ap, subst, ◌∙◌}
+use Rattle.std.proofs.Common.{◌≡◌, ◌==◌, ℕ, true, false, Bool, not, Some, None, is_none, option_map, refl, sym, ap, ◌∙◌}
 use Rattle.std.proofs.lemmas.Bool.{and_parts, not-true}
 use Rattle.ace_codes.specs.Responses.{is_shared, passes_dirty}
 use Rattle.ace_codes.specs.declared.kind.ArKind.{ArKind}
 use Rattle.ace_codes.specs.declared.kind.ArKind.TheVariants as read
-use Rattle.ace_event.specs.declared.line.Line.{Line}
 use Rattle.ace_model.specs.Accepted.{least_broken, least_of}
 use Rattle.ace_model.specs.AddressRules.{k1}
-use Rattle.ace_model.specs.Lines.{has_failed_on}
 use Rattle.ace_model.specs.Shares.{line_rules, k18_line}
 use Rattle.ace_model.proofs.Terms.{Header, Trace, R, Read, IsAccepted, is_none_or, is_ace, outstanding, read_kind, k19, k20}
 use Rattle.ace_portck.specs.DvmReads.{dvm_read, is_dvm_read}

@@ -1,4 +1,4 @@
-use Rattle.std.proofs.Common.{◌≡◌, ◌∙◌, true, None, is_none, sym}
+use Rattle.std.proofs.Common.{◌≡◌, ◌∙◌, true, is_none, sym}
 use Rattle.ace_event.specs.declared.event.Event.{Event}
 use Rattle.ace_event.specs.declared.event.Event.TheVariants.{Ar}
 use Rattle.ace_model.specs.Accepted.{least_of}
