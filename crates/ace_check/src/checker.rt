@@ -205,7 +205,9 @@ impl Checker {
         true
     }
 
-    /// Looks at an event whose kind its type tells, as `feed` does.
+    /// Looks at an event whose kind its type tells, as `feed` does: the general way, which few events take.
+    #[cold]
+    #[inline(never)]
     fn feed_kind<E: EventKind>(&mut self, event: &E) -> Result<Step, CheckErr>
         ensures answer { (h : Header) (past : Trace) → Stands self.old h past None → IfOk result (IsAnswer h past (E.event event.now)) }
         ensures stands { (h : Header) (past : Trace) → Stands self.old h past None → length past < 2 ^ 64 - 2
