@@ -1,5 +1,5 @@
 -- What a reader of a trace has read, and what it has before it.
-use Rattle.std.specs.Prelude.{◌≡◌, ◌≤◌, ℕ, ◌+◌, List, [], ◌∷◌, ◌++◌, length, Option, None, Some, Result, Ok, Err}
+use Rattle.std.specs.Prelude.{◌≡◌, ◌≤◌, ℕ, Bool, true, false, ◌+◌, List, [], ◌∷◌, ◌++◌, length, Option, None, Some, Result, Ok, Err}
 use Rattle.std.specs.Borrow.{MutBor}
 use Rattle.std.specs.Io.KnownBytes.{Consumes}
 use Rattle.std.specs.List.{AllByRecursion}
@@ -12,8 +12,8 @@ use Rattle.ace_io.specs.declared.outside.Source.{Ghosts}
 use Rattle.ace_grammar.specs.declared.error.ReadErr.{ReadErr}
 use Rattle.ace_grammar.specs.declared.error.ReadErr.TheVariants.{Malformed, TooManyEvents, ReadFault, NoMemory}
 use Rattle.ace_grammar.specs.declared.reader.Reader.{Reader}
-use Rattle.ace_grammar.specs.declared.reader.Stage.{Stage}
-use Rattle.ace_grammar.specs.declared.reader.Stage.TheVariants.{Reading, Ended, Failed}
+use Rattle.ace_grammar.specs.declared.stage.Stage.{Stage}
+use Rattle.ace_grammar.specs.declared.stage.Stage.TheVariants.{Reading, Ended, Failed}
 use Rattle.ace_grammar.specs.Reading.{Reads, Whole, Full, Bad, IsReadable, IsReadableHeader, most_events}
 
 -- the source that it takes bytes from
@@ -46,6 +46,13 @@ abbrev pub lasting : Result (Option Event) ReadErr → Option (Result (Option Ev
 lasting (Ok (Some event)) = None
 lasting (Ok None) = Some (Ok None)
 lasting (Err error) = Some (Err error)
+
+-- The answer of a reader that says alone whether it gave an event, by that, the event that stands in the place then, and the
+-- answer that it gives for good: where it gave none, that answer.
+abbrev pub given : Bool → Event → Option (Result (Option Event) ReadErr) → Result (Option Event) ReadErr
+given true event last = Ok (Some event)
+given false event None = Ok None
+given false event (Some answer) = answer
 
 -- how many events were given after an answer
 abbrev pub count_after : ℕ → Result (Option Event) ReadErr → ℕ

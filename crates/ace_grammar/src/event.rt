@@ -129,6 +129,8 @@ fn read_line(line: &[u8], version: u8, event: &mut Event) -> Option<()>
 }
 
 /// The reason of a line that isn't read as an event.
+#[cold]
+#[inline(never)]
 fn reason_of(line: &[u8], version: u8) -> Reason
     requires { event_at version line.now ≡ None }
     ensures { HasReason version line.now result }

@@ -243,26 +243,23 @@ pub fn take_channel(bytes: &[u8]) -> Option<(Channel, &[u8])>
     take_letter(take_space(bytes)?)
 }
 
+#[inline(always)]
 pub fn state_of(bytes: &[u8]) -> Option<LineState>
     ensures { result ≡ state_of bytes.now }
 {
-    if bytes == b"I".as_slice() {
-        Some(LineState::I)
-    } else if bytes == b"UC".as_slice() {
-        Some(LineState::UC)
-    } else if bytes == b"UD".as_slice() {
-        Some(LineState::UD)
-    } else if bytes == b"SC".as_slice() {
-        Some(LineState::SC)
-    } else if bytes == b"SD".as_slice() {
-        Some(LineState::SD)
-    } else {
-        None
+    match bytes {
+        [b'I'] => Some(LineState::I),
+        [b'U', b'C'] => Some(LineState::UC),
+        [b'U', b'D'] => Some(LineState::UD),
+        [b'S', b'C'] => Some(LineState::SC),
+        [b'S', b'D'] => Some(LineState::SD),
+        _ => None,
     }
 }
 
 /// A state, which is the last field of its line.
 #[tactic(auto, unfolding(crate::specs::Fields::state_at))]
+#[inline(always)]
 pub fn take_state(bytes: &[u8]) -> Option<LineState>
     ensures { result ≡ state_at bytes.now }
 {
@@ -272,14 +269,11 @@ pub fn take_state(bytes: &[u8]) -> Option<LineState>
 pub fn outcome_of(bytes: &[u8]) -> Option<Outcome>
     ensures { result ≡ outcome_of bytes.now }
 {
-    if bytes == b"ok".as_slice() {
-        Some(Outcome::Ok)
-    } else if bytes == b"skip".as_slice() {
-        Some(Outcome::Skip)
-    } else if bytes == b"fail".as_slice() {
-        Some(Outcome::Fail)
-    } else {
-        None
+    match bytes {
+        [b'o', b'k'] => Some(Outcome::Ok),
+        [b's', b'k', b'i', b'p'] => Some(Outcome::Skip),
+        [b'f', b'a', b'i', b'l'] => Some(Outcome::Fail),
+        _ => None,
     }
 }
 

@@ -13,6 +13,7 @@ mod reader;
 mod reason;
 mod records;
 mod shapes;
+mod stage;
 
 pub use error::ReadErr;
 pub use event::{NO_EVENT, parse_event};

@@ -6,20 +6,19 @@ ghost use Rattle.ace_io.specs.Line.{HasNoLf, IsPending};
 ghost use Rattle.ace_io.specs.Reader.{source_of, waiting};
 ghost use Rattle.ace_event.specs.declared.event.Event.{Event};
 ghost use Rattle.ace_event.specs.Text.{line_text, header_text};
-ghost use Rattle.ace_grammar.specs.Errors.{HasNoHeader, HasFaultCause, StandsNext, TakesFront, with_event};
+ghost use Rattle.ace_grammar.specs.Errors.{HasNoHeader, HasFaultCause, StandsNext, TakesFront};
 ghost use Rattle.ace_grammar.specs.Lines.{HasNoLine};
+ghost use Rattle.ace_grammar.specs.Reader.{answer_at, given, lasting};
 ghost use Rattle.ace_grammar.specs.Reading.{IsReadableHeader, IfTold, most_events};
 
 use crate::event::read_into;
+use crate::stage::Stage;
 use crate::{ReadErr, Reason, parse_ports, parse_version};
 use ace_event::{Event, Header};
 use ace_io::{Failed, LineBuf, LineEnd, LineReader, Source};
 
 /// The most events of a trace.
 const MOST_EVENTS: u64 = 1_048_576;
-
-/// The number of the line of the first event, behind those of the header.
-const FIRST_EVENT_LINE: u64 = 3;
 
 /// Takes the next line with its line feed, and says whether there is one.
 #[tactic(auto, using(crate::proofs::Readings::Taken::cut_front))]
@@ -86,54 +85,55 @@ pub fn read_header<S: Source>(
     }
 }
 
-/// What stands after as many events as a trace may have: the end of the input, or more.
+/// Reads what stands after as many events as a trace may have: the end of the input, or more.
 #[tactic(auto, using(crate::proofs::Readings::Taken::cut_end))]
-fn read_end<S: Source>(lines: &mut LineReader<S>, line: &mut LineBuf) -> Result<Option<()>, ReadErr>
+#[cold]
+#[inline(never)]
+fn read_end<S: Source>(lines: &mut LineReader<S>, line: &mut LineBuf, stage: &mut Stage)
     ensures same_source { (source_of lines.new).ghost_name ≡ (source_of lines.old).ghost_name }
-    ensures next { (version : ℕ) (event : Event) → StandsNext version (with_event event result) most_events (waiting S.left lines.old) (waiting S.left lines.new) (S.left (source_of lines.new).now) }
-    ensures none { IfOk result (λ next. next ≡ None) }
-    ensures cause { (event : Event) → HasFaultCause (with_event event result) (S.faults (source_of lines.old).now) (S.faults (source_of lines.new).now) }
+    ensures next { (version : ℕ) (event : Event) → StandsNext version (given false event (answer_at stage.new)) most_events (waiting S.left lines.old) (waiting S.left lines.new) (S.left (source_of lines.new).now) }
+    ensures last { (event : Event) → answer_at stage.new ≡ lasting (given false event (answer_at stage.new)) }
+    ensures cause { (event : Event) → HasFaultCause (given false event (answer_at stage.new)) (S.faults (source_of lines.old).now) (S.faults (source_of lines.new).now) }
 {
-    match lines.next(line) {
-        Ok(LineEnd::End) => Ok(None),
-        Ok(_) => Err(ReadErr::TooManyEvents),
-        Err(_) => Err(ReadErr::ReadFault),
-    }
+    *stage = match lines.next(line) {
+        Ok(LineEnd::End) => Stage::Ended,
+        Ok(_) => Stage::Failed(ReadErr::TooManyEvents),
+        Err(_) => Stage::Failed(ReadErr::ReadFault),
+    };
 }
 
-/// Reads the next event of a trace of a version, after so many, into its place, or None at the end of the input after a whole line:
-/// then the place stays, as after an error. After an error read no more. `line` is room for a line.
+/// Reads the next event of a trace of a version, after so many, into its place, and says whether there was one. Where there was none,
+/// the place stays, and the stage tells why: then read no more. `line` is room for a line.
 #[tactic(auto, using(crate::proofs::Readings::Taken::cut_end))]
+#[inline(always)]
 pub fn read_event<S: Source>(
     lines: &mut LineReader<S>,
     line: &mut LineBuf,
     count: u64,
     version: u8,
     event: &mut Event,
-) -> Result<Option<()>, ReadErr>
-    requires { count ≤ most_events }
+    stage: &mut Stage,
+) -> bool
+    requires few { count ≤ most_events }
+    requires reads_on { answer_at stage.old ≡ None }
     ensures same_source { (source_of lines.new).ghost_name ≡ (source_of lines.old).ghost_name }
-    ensures next { StandsNext version (with_event event.new result) count (waiting S.left lines.old) (waiting S.left lines.new) (S.left (source_of lines.new).now) }
-    ensures stays { IfOk result (λ next. IfNone next (event.new ≡ event.old)) }
-    ensures stays_behind { OnErr result (event.new ≡ event.old) }
-    ensures cause { HasFaultCause (with_event event.new result) (S.faults (source_of lines.old).now) (S.faults (source_of lines.new).now) }
+    ensures next { StandsNext version (given result event.new (answer_at stage.new)) count (waiting S.left lines.old) (waiting S.left lines.new) (S.left (source_of lines.new).now) }
+    ensures last { answer_at stage.new ≡ lasting (given result event.new (answer_at stage.new)) }
+    ensures stays { result ≡ false → event.new ≡ event.old }
+    ensures cause { HasFaultCause (given result event.new (answer_at stage.new)) (S.faults (source_of lines.old).now) (S.faults (source_of lines.new).now) }
 {
     if count == MOST_EVENTS {
-        return read_end(lines, line);
+        read_end(lines, line, stage);
+        return false;
     }
     match lines.next_in_place(line) {
         Ok((LineEnd::Whole, lent)) => match read_into(lines.line_at(lent, line), version, event) {
-            Ok(()) => Ok(Some(())),
-            Err(reason) => Err(ReadErr::Malformed {
-                line: count + FIRST_EVENT_LINE,
-                reason,
-            }),
+            Ok(()) => return true,
+            Err(reason) => stage.meet_malformed(count, reason),
         },
-        Ok((LineEnd::NoLf, _)) => Err(ReadErr::Malformed {
-            line: count + FIRST_EVENT_LINE,
-            reason: Reason::F1,
-        }),
-        Ok((LineEnd::End, _)) => Ok(None),
-        Err(_) => Err(ReadErr::ReadFault),
+        Ok((LineEnd::NoLf, _)) => stage.meet_malformed(count, Reason::F1),
+        Ok((LineEnd::End, _)) => stage.end(),
+        Err(_) => stage.meet_fault(),
     }
+    false
 }

@@ -1,5 +1,5 @@
 // A trace is read from a source: its header at once, and then event by event.
-ghost use Rattle.std.specs.Prelude.{◌≡◌, ◌≤◌, ℕ, List, [], Option, None, Some, Result, IfOk, IfErr, IfNone, IfSome, OnErr};
+ghost use Rattle.std.specs.Prelude.{◌≡◌, ◌≤◌, ℕ, List, [], Option, None, Some, Result, IfOk, IfErr, IfNone, IfSome, OnErr, false};
 ghost use Rattle.std.specs.Io.KnownBytes.{Consumes};
 ghost use Rattle.ace_event.specs.declared.event.Event.{Event};
 ghost use Rattle.ace_event.specs.Text.{header_text};
@@ -8,21 +8,11 @@ ghost use Rattle.ace_grammar.specs.Errors.{HasNoHeader, HasFaultCause, StandsNex
 ghost use Rattle.ace_grammar.specs.Reading.{IsReadableHeader};
 
 use crate::lines::{read_event, read_header};
+use crate::stage::Stage;
 use crate::{NO_EVENT, ReadErr};
 use ace_event::{Event, Header};
 use ace_io::{LineBuf, LineReader, NoMemory, Source};
 use std::alloc::Global;
-
-/// How far a reader has come.
-#[derive(Clone, Copy)]
-enum Stage {
-    /// It reads on.
-    Reading,
-    /// It has read the whole trace.
-    Ended,
-    /// It has met this error.
-    Failed(ReadErr),
-}
 
 /// Why there is no reader, and the source that was lent to it.
 #[derive(Drop)]
@@ -43,7 +33,7 @@ pub struct Reader<'a, S: Source> {
 }
 
 impl<'a, S: Source> Reader<'a, S> {
-    ghost use Rattle.ace_grammar.specs.Reader.{source_of, unread, header_of, count_of, last_answer, lasting, count_after, HasRead, IsReading};
+    ghost use Rattle.ace_grammar.specs.Reader.{source_of, unread, header_of, count_of, last_answer, lasting, given, count_after, HasRead, IsReading};
 
     /// Reads the two header lines.
     ///
@@ -130,7 +120,6 @@ impl<'a, S: Source> Reader<'a, S> {
     /// # Errors
     ///
     /// Those of `next`.
-    #[tactic(auto, using(crate::proofs::Readings::Progress::reading_next))]
     pub fn next_into(&mut self, event: &mut Event) -> Result<Option<()>, ReadErr>
         ensures same_source { (source_of self.new).ghost_name ≡ (source_of self.old).ghost_name }
         ensures same_header { header_of self.new ≡ header_of self.old }
@@ -147,18 +136,52 @@ impl<'a, S: Source> Reader<'a, S> {
         ensures cause { last_answer self.old ≡ None
             → HasFaultCause (with_event event.new result) (S.faults (source_of self.old).now) (S.faults (source_of self.new).now) }
     {
+        if self.gives(event) {
+            return Ok(Some(()));
+        }
+        match self.stage {
+            Stage::Reading => unreachable!(),
+            Stage::Ended => Ok(None),
+            Stage::Failed(error) => Err(error),
+        }
+    }
+
+    /// The same, but it says alone whether there was an event. Where there was none, the reader keeps the answer, which `next`
+    /// and `next_into` give from then on.
+    #[tactic(auto, using(crate::proofs::Readings::Progress::reading_next))]
+    #[inline(always)]
+    pub fn gives(&mut self, event: &mut Event) -> bool
+        ensures same_source { (source_of self.new).ghost_name ≡ (source_of self.old).ghost_name }
+        ensures same_header { header_of self.new ≡ header_of self.old }
+        ensures next { last_answer self.old ≡ None → StandsNext (header_of self.old).version (given result event.new (last_answer self.new))
+            (count_of self.old) (unread S.left self.old) (unread S.left self.new) (S.left (source_of self.new).now) }
+        ensures reads { last_answer self.old ≡ None → (bytes : List ℕ) (events : List Event)
+            → HasRead S.left bytes events self.old
+            → IsReading S.left bytes events self.old self.new (given result event.new (last_answer self.new)) }
+        ensures count { count_of self.new ≡ count_after (count_of self.old) (given result event.new (last_answer self.new)) }
+        ensures last { last_answer self.new ≡ lasting (given result event.new (last_answer self.new)) }
+        ensures again { (answer : Result (Option Event) ReadErr) → last_answer self.old ≡ Some answer
+            → (result ≡ false) × (self.new ≡ self.old) }
+        ensures stays { result ≡ false → event.new ≡ event.old }
+        ensures cause { last_answer self.old ≡ None → HasFaultCause (given result event.new (last_answer self.new))
+            (S.faults (source_of self.old).now) (S.faults (source_of self.new).now) }
+    {
         match self.stage {
             Stage::Reading => {}
-            Stage::Ended => return Ok(None),
-            Stage::Failed(error) => return Err(error),
+            Stage::Ended | Stage::Failed(_) => return false,
         }
         let version = self.header.version;
-        let answer = read_event(&mut self.lines, &mut self.line, self.count, version, event);
-        match answer {
-            Ok(Some(())) => self.count += 1,
-            Ok(None) => self.stage = Stage::Ended,
-            Err(error) => self.stage = Stage::Failed(error),
+        if read_event(
+            &mut self.lines,
+            &mut self.line,
+            self.count,
+            version,
+            event,
+            &mut self.stage,
+        ) {
+            self.count += 1;
+            return true;
         }
-        answer
+        false
     }
 }
