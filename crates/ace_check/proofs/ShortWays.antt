@@ -9,6 +9,8 @@ pub mod PlainWriteAddresses
 pub mod PlainSteps
 -- The ARs of DVM Completes.
 pub mod MessageAddresses
+-- The ACs of DVM.
+pub mod MessageSnoops
 -- Which rules a CR may break.
 pub mod SnoopAnswers
 -- What a B of a line write asks and leaves.

@@ -81,24 +81,41 @@ impl Checker {
             → (result ≡ Ok (Step.Broken b.index b.rule)) × Stands self.new h past (Some b) }
         ensures sound { (h : Header) (past : Trace) → Stands self.old h past None → result ≡ Ok Step.Fine → IsSound h (event.now ∷ past) }
     {
+        if self.takes(event) {
+            return Ok(Step::Fine);
+        }
+        self.feed_generally(event)
+    }
+
+    /// Takes the next event of the trace, of fewer than 2^64 - 1, by the short way of its kind, where there is one for it and it breaks no rule:
+    /// what `feed` answers `Fine`. Where it isn't taken nothing has changed, and `feed` tells what there is to say of it.
+    #[inline(always)]
+    pub fn takes(&mut self, event: &Event) -> bool
+        ensures fine { (h : Header) (past : Trace) (b : Option Break) → Stands self.old h past b → result ≡ true
+            → (b ≡ None) × (least_broken h past event.now ≡ None) × (goes_over past event.now ≡ false) }
+        ensures stands { (h : Header) (past : Trace) → Stands self.old h past None → result ≡ true
+            → length past < 2 ^ 64 - 2 → Stands self.new h (event.now ∷ past) None }
+        ensures sound { (h : Header) (past : Trace) → Stands self.old h past None → result ≡ true → IsSound h (event.now ∷ past) }
+        ensures stays { result ≡ false → self.new ≡ self.old }
+    {
         match *event {
-            Event::Ar { .. } => self.feed_as::<event_kinds::Ar>(event),
-            Event::R { .. } => self.feed_as::<event_kinds::R>(event),
-            Event::Rk { .. } => self.feed_as::<event_kinds::Rk>(event),
-            Event::Aw { .. } => self.feed_as::<event_kinds::Aw>(event),
-            Event::W { .. } => self.feed_as::<event_kinds::W>(event),
-            Event::B { .. } => self.feed_as::<event_kinds::B>(event),
-            Event::Wk { .. } => self.feed_as::<event_kinds::Wk>(event),
-            Event::Ac { .. } => self.feed_as::<event_kinds::Ac>(event),
-            Event::Cr { .. } => self.feed_as::<event_kinds::Cr>(event),
-            Event::Cd { .. } => self.feed_as::<event_kinds::Cd>(event),
-            Event::G { .. } => self.feed_as::<event_kinds::G>(event),
-            Event::M { .. } => self.feed_as::<event_kinds::M>(event),
-            Event::L { .. } => self.feed_as::<event_kinds::L>(event),
-            Event::D { .. } => self.feed_as::<event_kinds::D>(event),
-            Event::S { .. } => self.feed_as::<event_kinds::S>(event),
-            Event::Op { .. } => self.feed_as::<event_kinds::Op>(event),
-            Event::Mem { .. } => self.feed_kind(event),
+            Event::Ar { .. } => self.takes_as::<event_kinds::Ar>(event),
+            Event::R { .. } => self.takes_as::<event_kinds::R>(event),
+            Event::Rk { .. } => self.takes_as::<event_kinds::Rk>(event),
+            Event::Aw { .. } => self.takes_as::<event_kinds::Aw>(event),
+            Event::W { .. } => self.takes_as::<event_kinds::W>(event),
+            Event::B { .. } => self.takes_as::<event_kinds::B>(event),
+            Event::Wk { .. } => self.takes_as::<event_kinds::Wk>(event),
+            Event::Ac { .. } => self.takes_as::<event_kinds::Ac>(event),
+            Event::Cr { .. } => self.takes_as::<event_kinds::Cr>(event),
+            Event::Cd { .. } => self.takes_as::<event_kinds::Cd>(event),
+            Event::G { .. } => self.takes_as::<event_kinds::G>(event),
+            Event::M { .. } => self.takes_as::<event_kinds::M>(event),
+            Event::L { .. } => self.takes_as::<event_kinds::L>(event),
+            Event::D { .. } => self.takes_as::<event_kinds::D>(event),
+            Event::S { .. } => self.takes_as::<event_kinds::S>(event),
+            Event::Op { .. } => self.takes_as::<event_kinds::Op>(event),
+            Event::Mem { .. } => false,
         }
     }
 
@@ -139,51 +156,24 @@ impl Checker {
     ghost use Rattle.ace_lineck.specs.Kept.{IsFailure};
     ghost use Rattle.ace_lineck.specs.Stands.{place_on};
     ghost use Rattle.ace_event.specs.Range.{FitsFields};
-    ghost use Rattle.ace_check.specs.Run.{Stands, IsAnswer, IsSound, goes_over, past_after, break_after, MayLackMemory};
+    ghost use Rattle.ace_check.specs.Run.{Stands, IsAnswer, IsSound, goes_over, past_after, break_after, MayLackMemory, Feeds};
     ghost use Rattle.ace_check.specs.Shares.{MayTake};
     ghost use Rattle.std.specs.Prelude.{Option};
 
-    /// Looks at an event, as `feed` does, by way of a value of the type that tells its kind.
+    /// Takes an event, as `takes` does, by way of a value of the type that tells its kind.
     #[inline(always)]
-    fn feed_as<E: PlainKind + Drop>(&mut self, event: &Event) -> Result<Step, CheckErr>
-        ensures answer { (h : Header) (past : Trace) → Stands self.old h past None → IfOk result (IsAnswer h past event.now) }
-        ensures stands { (h : Header) (past : Trace) → Stands self.old h past None → length past < 2 ^ 64 - 2
-            → IfOk result (λ s. Stands self.new h (past_after past event.now s) (break_after s)) }
-        ensures stays { (h : Header) (past : Trace) → Stands self.old h past None → OnErr result (Stands self.new h past None) }
-        ensures too_many { (h : Header) (past : Trace) → Stands self.old h past None → result ≡ Err CheckErr.TooManyLines
-            → (least_broken h past event.now ≡ None) × (goes_over past event.now ≡ true) }
-        ensures no_memory { (h : Header) (past : Trace) → Stands self.old h past None → result ≡ Err CheckErr.NoMemory
-            → MayLackMemory h past event.now }
-        ensures broken { (h : Header) (past : Trace) (b : Break) → Stands self.old h past (Some b)
-            → (result ≡ Ok (Step.Broken b.index b.rule)) × Stands self.new h past (Some b) }
-        ensures sound { (h : Header) (past : Trace) → Stands self.old h past None → result ≡ Ok Step.Fine → IsSound h (event.now ∷ past) }
+    fn takes_as<E: PlainKind + Drop>(&mut self, event: &Event) -> bool
+        ensures fine { (h : Header) (past : Trace) (b : Option Break) → Stands self.old h past b → result ≡ true
+            → (b ≡ None) × (least_broken h past event.now ≡ None) × (goes_over past event.now ≡ false) }
+        ensures stands { (h : Header) (past : Trace) → Stands self.old h past None → result ≡ true
+            → length past < 2 ^ 64 - 2 → Stands self.new h (event.now ∷ past) None }
+        ensures sound { (h : Header) (past : Trace) → Stands self.old h past None → result ≡ true → IsSound h (event.now ∷ past) }
+        ensures stays { result ≡ false → self.new ≡ self.old }
     {
         match E::of(event) {
-            Some(kind) => self.feed_plain(&kind),
-            None => self.feed_kind(event),
+            Some(kind) => self.take_plain(&kind),
+            None => false,
         }
-    }
-
-    /// Looks at an event whose kind has a short way, as `feed` does.
-    #[inline(always)]
-    fn feed_plain<E: PlainKind>(&mut self, event: &E) -> Result<Step, CheckErr>
-        ensures answer { (h : Header) (past : Trace) → Stands self.old h past None → IfOk result (IsAnswer h past (E.event event.now)) }
-        ensures stands { (h : Header) (past : Trace) → Stands self.old h past None → length past < 2 ^ 64 - 2
-            → IfOk result (λ s. Stands self.new h (past_after past (E.event event.now) s) (break_after s)) }
-        ensures stays { (h : Header) (past : Trace) → Stands self.old h past None → OnErr result (Stands self.new h past None) }
-        ensures too_many { (h : Header) (past : Trace) → Stands self.old h past None → result ≡ Err CheckErr.TooManyLines
-            → (least_broken h past (E.event event.now) ≡ None) × (goes_over past (E.event event.now) ≡ true) }
-        ensures no_memory { (h : Header) (past : Trace) → Stands self.old h past None → result ≡ Err CheckErr.NoMemory
-            → MayLackMemory h past (E.event event.now) }
-        ensures broken { (h : Header) (past : Trace) (b : Break) → Stands self.old h past (Some b)
-            → (result ≡ Ok (Step.Broken b.index b.rule)) × Stands self.new h past (Some b) }
-        ensures sound { (h : Header) (past : Trace) → Stands self.old h past None → result ≡ Ok Step.Fine → IsSound h ((E.event event.now) ∷ past) }
-    {
-        every_event_fits(event.event());
-        if self.take_plain(event) {
-            return Ok(Step::Fine);
-        }
-        self.feed_kind(event)
     }
 
     /// Takes the event by the short way, if no event broke a rule. If it isn't taken, nothing has changed.
@@ -191,10 +181,12 @@ impl Checker {
     fn take_plain<E: PlainKind>(&mut self, event: &E) -> bool
         ensures fine { (h : Header) (past : Trace) (b : Option Break) → Stands self.old h past b → result ≡ true
             → (b ≡ None) × (least_broken h past (E.event event.now) ≡ None) × (goes_over past (E.event event.now) ≡ false) }
-        ensures stands { (h : Header) (past : Trace) → Stands self.old h past None → result ≡ true → FitsFields (E.event event.now)
+        ensures stands { (h : Header) (past : Trace) → Stands self.old h past None → result ≡ true
             → length past < 2 ^ 64 - 2 → Stands self.new h ((E.event event.now) ∷ past) None }
+        ensures sound { (h : Header) (past : Trace) → Stands self.old h past None → result ≡ true → IsSound h (E.event event.now ∷ past) }
         ensures stays { result ≡ false → self.new ≡ self.old }
     {
+        every_event_fits(event.event());
         if self.broken.is_some() {
             return false;
         }
@@ -205,8 +197,45 @@ impl Checker {
         true
     }
 
-    /// Looks at an event whose kind its type tells, as `feed` does: the general way, which few events take.
+    /// Looks at an event, as `feed` does, by the general way, which few events take.
     #[cold]
+    #[inline(never)]
+    fn feed_generally(&mut self, event: &Event) -> Result<Step, CheckErr>
+        ensures { Feeds self.old self.new event.now result }
+    {
+        match *event {
+            Event::Ar { .. } => self.feed_as::<event_kinds::Ar>(event),
+            Event::R { .. } => self.feed_as::<event_kinds::R>(event),
+            Event::Rk { .. } => self.feed_as::<event_kinds::Rk>(event),
+            Event::Aw { .. } => self.feed_as::<event_kinds::Aw>(event),
+            Event::W { .. } => self.feed_as::<event_kinds::W>(event),
+            Event::B { .. } => self.feed_as::<event_kinds::B>(event),
+            Event::Wk { .. } => self.feed_as::<event_kinds::Wk>(event),
+            Event::Ac { .. } => self.feed_as::<event_kinds::Ac>(event),
+            Event::Cr { .. } => self.feed_as::<event_kinds::Cr>(event),
+            Event::Cd { .. } => self.feed_as::<event_kinds::Cd>(event),
+            Event::G { .. } => self.feed_as::<event_kinds::G>(event),
+            Event::M { .. } => self.feed_as::<event_kinds::M>(event),
+            Event::L { .. } => self.feed_as::<event_kinds::L>(event),
+            Event::D { .. } => self.feed_as::<event_kinds::D>(event),
+            Event::S { .. } => self.feed_as::<event_kinds::S>(event),
+            Event::Op { .. } => self.feed_as::<event_kinds::Op>(event),
+            Event::Mem { .. } => self.feed_as::<Event>(event),
+        }
+    }
+
+    /// The same, by way of a value of the type that tells its kind.
+    #[inline(always)]
+    fn feed_as<E: EventKind + Drop>(&mut self, event: &Event) -> Result<Step, CheckErr>
+        ensures { Feeds self.old self.new event.now result }
+    {
+        match E::of(event) {
+            Some(kind) => self.feed_kind(&kind),
+            None => self.feed_kind(event),
+        }
+    }
+
+    /// The same, of an event whose kind its type tells.
     #[inline(never)]
     fn feed_kind<E: EventKind>(&mut self, event: &E) -> Result<Step, CheckErr>
         ensures answer { (h : Header) (past : Trace) → Stands self.old h past None → IfOk result (IsAnswer h past (E.event event.now)) }

@@ -4,6 +4,7 @@
 mod checker;
 mod message_addresses;
 mod message_beats;
+mod message_snoops;
 mod plain;
 mod plain_acknowledges;
 mod plain_addresses;

@@ -1,7 +1,7 @@
-//! ARs of DVM Completes, taken by the short way.
+//! ARs of DVM Messages and DVM Completes, taken by the short way.
 
 use crate::shares::Shares;
-use ace_portck::{event_kinds, is_completion};
+use ace_portck::{event_kinds, is_completion, is_message};
 
 impl Shares {
     ghost use Rattle.std.specs.Prelude.{◌≡◌, ◌<◌, ◌-◌, ◌^◌, ◌∷◌, true, false, None, length};
@@ -11,6 +11,34 @@ impl Shares {
     ghost use Rattle.ace_model.specs.Trace.{Trace};
     ghost use Rattle.ace_check.specs.Run.{goes_over};
     ghost use Rattle.ace_check.specs.Shares.{SharesTell};
+
+    /// Takes an AR of a DVM Message with lock 0 that breaks no rule. If it isn't taken, nothing has changed.
+    #[inline(always)]
+    pub(crate) fn take_message(&mut self, address: &event_kinds::Ar) -> bool
+        ensures taken { (h : Header) (past : Trace) → SharesTell self.old h past → length past < 2 ^ 64 - 1 → result ≡ true
+            → (least_broken h past (Ar address.now.port address.now.id address.now.addr address.now.snoop address.now.dom address.now.bar address.now.lock) ≡ None)
+            × SharesTell self.new h (Ar address.now.port address.now.id address.now.addr address.now.snoop address.now.dom address.now.bar address.now.lock ∷ past) }
+        ensures few_lines { (h : Header) (past : Trace) → SharesTell self.old h past → result ≡ true
+            → goes_over past (Ar address.now.port address.now.id address.now.addr address.now.snoop address.now.dom address.now.bar address.now.lock) ≡ false }
+        ensures stays { result ≡ false → self.new ≡ self.old }
+    {
+        if !is_message(address.snoop, address.dom, address.bar, address.lock) {
+            return false;
+        }
+        if !self.ports.keeps_dvm_address(address.port, address.id) {
+            return false;
+        }
+        if !self
+            .system
+            .keeps_message(address.port, address.addr, address.dom, address.bar)
+        {
+            return false;
+        }
+        let place = self.ports.place();
+        self.ports.apply(address);
+        self.system.begin_message(address, place);
+        true
+    }
 
     /// Takes an AR of a DVM Complete with lock 0 that breaks no rule. If it isn't taken, nothing has changed.
     #[inline(always)]

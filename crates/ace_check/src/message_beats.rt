@@ -21,7 +21,7 @@ use ace_lineck::LineCheck;
 use ace_portck::{PortCheck, Progress, dvm_read, event_kinds};
 use ace_sysck::SysCheck;
 
-/// The R of the DVM read is the last, and breaks no rule.
+/// The R of the DVM read breaks no rule; then it is the last, since such a read has one transfer (the ports' part of K18).
 #[inline(always)]
 fn keeps_message_beat(
     ports: &PortCheck,
@@ -31,22 +31,21 @@ fn keeps_message_beat(
     x: &Progress,
     kind: ArKind,
 ) -> bool
-    ensures last { result ≡ true → beat.now.last ≡ true }
+    ensures last { (r : Recording) → PortsTell ports.now r
+        → option_map (progress_of r.header r.past) (outstanding r.header r.past beat.now.port Read beat.now.id) ≡ Some x.now
+        → dvm_read x.now.transaction ≡ Some kind → result ≡ true → beat.now.last ≡ true }
     ensures fine { (r : Recording) → PortsTell ports.now r → LinesTell lines.now r → SystemTells system.now r
         → option_map (progress_of r.header r.past) (outstanding r.header r.past beat.now.port Read beat.now.id) ≡ Some x.now
         → dvm_read x.now.transaction ≡ Some kind → result ≡ true
         → is_none (least_broken r.header r.past (R beat.now.port beat.now.id beat.now.resp beat.now.last beat.now.word)) ≡ true }
 {
-    if !beat.last {
-        return false;
-    }
     if !ports.keeps_beat(beat.port, x, kind, beat.resp, beat.last) {
         return false;
     }
     if !system.keeps_message_beat(&x.transaction, beat.resp) {
         return false;
     }
-    lines.keeps_message_beat(x, beat.resp, beat.word)
+    lines.keeps_message_beat(beat.resp, beat.word)
 }
 
 impl Shares {

@@ -11,7 +11,7 @@ use crate::shares::Shares;
 use ace_portck::EventKind;
 
 /// An event of a kind that has a short way: only the rules that such an event can break are asked, of what is kept where it stands, and no
-/// target is built. Of some kinds the short way takes only the events of plain transactions, line transactions with lock 0.
+/// target is built. Of some kinds the short way takes only the events of some transactions, as those that are no exclusive stores.
 pub(crate) trait PlainKind: EventKind {
     /// Takes the event, if the short way is one for it and it breaks no rule. If it isn't taken, nothing has changed.
     fn take(&self, shares: &mut Shares) -> bool

@@ -1,4 +1,4 @@
-//! RK and WK, taken by the short way: those of transactions with lock 0.
+//! RK and WK, taken by the short way: those of transactions that are no exclusive stores.
 
 ghost use Rattle.std.specs.Prelude.{◌≡◌, ◌<◌, ◌-◌, ◌^◌, ◌∷◌, true, false, None, length};
 ghost use Rattle.ace_event.specs.declared.event.Event.TheVariants.{Rk, Wk};
@@ -10,11 +10,11 @@ ghost use Rattle.ace_check.specs.Shares.{SharesTell};
 use crate::plain::PlainKind;
 use crate::shares::Shares;
 use ace_event::Channel;
-use ace_portck::kinds::{read_kind, write_kind};
+use ace_portck::kinds::{is_exclusive_store, read_kind, write_kind};
 use ace_portck::{event_kinds, line_of_read, line_of_write};
 
 impl Shares {
-    /// Takes an RK of a read with lock 0, if it breaks no rule. If it isn't taken, nothing has changed.
+    /// Takes an RK of a read that is no exclusive store, if it breaks no rule. If it isn't taken, nothing has changed.
     #[inline(always)]
     fn take_read_end(&mut self, end: &event_kinds::Rk) -> bool
         ensures taken { (h : Header) (past : Trace) → SharesTell self.old h past → length past < 2 ^ 64 - 1 → result ≡ true
@@ -24,7 +24,7 @@ impl Shares {
         let Some(x) = self.ports.acknowledged(end.port, Channel::Read) else {
             return false;
         };
-        if x.transaction.lock {
+        if is_exclusive_store(&x.transaction) {
             return false;
         }
         let Some(kind) = read_kind(&x.transaction) else {

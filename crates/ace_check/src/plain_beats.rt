@@ -1,4 +1,4 @@
-//! Transfers of plain reads, taken by the short way.
+//! Transfers of plain reads, taken by the short way: those of line reads that are no exclusive stores.
 
 ghost use Rattle.std.specs.Prelude.{◌≡◌, ◌<◌, ◌-◌, ◌^◌, ◌∷◌, true, false, None, Some, is_none, length, option_map};
 ghost use Rattle.ace_event.specs.declared.event.Channel.TheVariants.{Read};
@@ -40,7 +40,7 @@ fn keeps_beat(
     if !ports.keeps_beat(beat.port, x, kind, beat.resp, beat.last) {
         return false;
     }
-    if !keeps_plain_beat(beat.resp) {
+    if !keeps_plain_beat(&x.transaction, beat.resp) {
         return false;
     }
     lines.keeps_beat(x, kind, place, beat.resp, beat.word)

@@ -1,4 +1,4 @@
-//! The short way of a G: it grants a plain transaction, and only K12 and K35 can break.
+//! The short way of a G: only K12 and K35 can break.
 
 use crate::plain::PlainKind;
 use crate::shares::Shares;
@@ -12,7 +12,8 @@ impl Shares {
     ghost use Rattle.ace_model.specs.Trace.{Trace};
     ghost use Rattle.ace_check.specs.Shares.{SharesTell};
 
-    /// Takes a G, if it grants a transaction with lock 0 and breaks no rule. If it isn't taken, nothing has changed.
+    /// Takes a G that breaks no rule, if it grants a transaction with lock 0, or a line that one with lock 1 was granted before. If it isn't
+    /// taken, nothing has changed.
     #[inline(always)]
     fn take_grant(&mut self, grant: &event_kinds::G) -> bool
         ensures taken { (h : Header) (past : Trace) → SharesTell self.old h past → length past < 2 ^ 64 - 1 → result ≡ true
@@ -24,14 +25,14 @@ impl Shares {
             return false;
         };
         let x = progress.transaction;
-        if x.lock {
-            return false;
-        }
         let place = self.lines.place(Some(x.addr));
         if !self.lines.keeps_grant(&x, place) {
             return false;
         }
         if !self.system.keeps_grant(&x) {
+            return false;
+        }
+        if !self.system.hear_grant(&progress.transaction) {
             return false;
         }
         self.ports.apply(grant);

@@ -61,6 +61,9 @@ impl Shares {
 impl PlainKind for event_kinds::Ac {
     #[inline(always)]
     fn take(&self, shares: &mut Shares) -> bool {
-        shares.take_snoop(self)
+        if shares.take_snoop(self) {
+            return true;
+        }
+        shares.take_message_snoop(self)
     }
 }

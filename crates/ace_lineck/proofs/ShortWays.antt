@@ -11,6 +11,8 @@ pub mod PlainMemoryWrites
 pub mod BeatLaws
 pub mod MessageBeats
 pub mod MessageAddresses
+-- The ACs of DVM.
+pub mod MessageSnoops
 pub mod BeatSteps
 -- What the AR of a plain read asks of its line, which it leaves as it is.
 pub mod PlainAddresses

@@ -1,4 +1,4 @@
--- The transfers of reads with lock 0, asked of what is kept of their line.
+-- The transfers of reads that are no exclusive stores, asked of what is kept of their line.
 use Rattle.std.specs.Prelude.{ℕ, ◌≡◌, ◌==◌, Bool, true, false, not, ◌&&◌, Option, Some}
 use Rattle.ace_codes.specs.Responses.{is_shared, passes_dirty}
 use Rattle.ace_event.specs.declared.header.Header.{Header}
@@ -19,6 +19,6 @@ keeps_beat h kept x resp word =
 abbrev pub IsOfPlace : Option Grant → Transaction → Type 0
 IsOfPlace grant x = (g : Grant) → grant ≡ Some g → is_its g x ≡ true → g.transaction ≡ x
 
--- the transfer is the first of its read, has neither PassDirty nor IsShared, and the word 0
-abbrev pub is_dataless : Progress → ℕ → ℕ → Bool
-is_dataless x resp word = (x.transfers == 0) && not (passes_dirty resp) && not (is_shared resp) && (word == 0)
+-- the transfer has neither PassDirty nor IsShared, and the word 0
+abbrev pub is_dataless : ℕ → ℕ → Bool
+is_dataless resp word = not (passes_dirty resp) && not (is_shared resp) && (word == 0)

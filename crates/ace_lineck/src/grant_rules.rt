@@ -1,6 +1,6 @@
 //! The rules of grants, of snoops and of read transfers, K12, K13 and the part of K18 that looks at the line.
 
-ghost use Rattle.std.specs.Prelude.{◌≡◌, ℕ, Bool, true, false, not, ◌&&◌, ◌||◌, ◌==◌, List, Option, Some, is_some, is_none, if◌then◌else◌};
+ghost use Rattle.std.specs.Prelude.{◌≡◌, ◌<◌, ◌≤◌, ℕ, Bool, true, false, not, ◌&&◌, ◌||◌, ◌==◌, List, length, Option, Some, is_some, is_none, if◌then◌else◌};
 ghost use Rattle.ace_codes.specs.Responses.{passes_dirty};
 ghost use Rattle.ace_event.specs.declared.event.Event.{Event};
 ghost use Rattle.ace_event.specs.declared.event.Event.TheVariants.{G, Ac, R};
@@ -26,9 +26,9 @@ ghost use Rattle.ace_lineck.specs.Kept.{is_unsnooped, is_sending, may_be_snooped
 
 use crate::grant::Grant;
 use crate::granting::{has_snoop_code, snoop_of, takes_grant, takes_passed_data};
-use crate::record::LineRecord;
+use crate::record::{Holder, LineRecord};
 use crate::stages::{Stage, stage_at};
-use ace_codes::passes_dirty;
+use ace_codes::{LineState, passes_dirty};
 use ace_event::Header;
 use ace_model::Transaction;
 use ace_portck::kinds::{is_ace, snoops_a_line};
@@ -180,20 +180,56 @@ fn is_settled(stage: Stage, spared: bool) -> bool
     )
 }
 
-/// The snoops of the port under the grant are done: it owes nothing, and was snooped unless it need not be.
+/// The snoops under the grant of a port at this stage, which has the line in this state, are done: it owes nothing, and was snooped
+/// unless it need not be.
 #[inline(always)]
-fn is_done_at(kept: &LineRecord, g: &Grant, header: &Header, port: u8) -> bool
-    ensures { result ≡ is_done_at header.now g.now kept.now.holders.items port }
+fn is_done_with(g: &Grant, header: &Header, port: u8, stage: Stage, state: LineState) -> bool
+    ensures { result ≡ is_settled stage ((port == g.now.transaction.port) || not (is_ace header.now port) || is_invalid state) }
 {
-    let stage = stage_at(&g.stages, port);
     let spared = either(
         either(port == g.transaction.port, !is_ace(header, port)),
-        is_invalid(kept.state(port)),
+        is_invalid(state),
     );
     is_settled(stage, spared)
 }
 
-pub fn is_each_done(kept: &LineRecord, g: &Grant, header: &Header) -> bool
+/// The same of the port, by what is kept of it.
+#[inline(always)]
+fn is_done_at(kept: &LineRecord, g: &Grant, header: &Header, port: u8) -> bool
+    ensures { result ≡ is_done_at header.now g.now kept.now.holders.items port }
+{
+    is_done_with(g, header, port, stage_at(&g.stages, port), kept.state(port))
+}
+
+/// The same, by the port's own stage and holder.
+#[inline(always)]
+fn is_held_done_at(holders: &[Holder], g: &Grant, header: &Header, port: u8) -> bool
+    requires stage { port < 32 }
+    requires holder { port < length holders.now }
+    ensures { result ≡ is_done_at header.now g.now holders.now port }
+{
+    let stage = g.stages[usize::from(port)];
+    let state = holders[usize::from(port)].state;
+    is_done_with(g, header, port, stage, state)
+}
+
+/// The snoops of each port are done, where a stage and a holder are kept of each: no look at one asks for its bounds.
+#[inline(always)]
+fn is_each_held_done(holders: &[Holder], g: &Grant, header: &Header) -> bool
+    requires stages { header.now.ports ≤ 32 }
+    requires holders { header.now.ports ≤ length holders.now }
+    ensures { result ≡ list_all (is_done_at header.now g.now holders.now) (ports_below header.now.ports) }
+{
+    let mut all = true;
+    for port in 0..header.ports {
+        all = both(is_held_done_at(holders, g, header, port), all);
+    }
+    all
+}
+
+/// The snoops of each port are done.
+#[cold]
+fn is_each_kept_done(kept: &LineRecord, g: &Grant, header: &Header) -> bool
     ensures { result ≡ list_all (is_done_at header.now g.now kept.now.holders.items) (ports_below header.now.ports) }
 {
     let mut all = true;
@@ -201,6 +237,17 @@ pub fn is_each_done(kept: &LineRecord, g: &Grant, header: &Header) -> bool
         all = both(is_done_at(kept, g, header, port), all);
     }
     all
+}
+
+/// The snoops of each port are done. A header has no more than 32 ports, and what is kept of its lines has a holder for each.
+pub fn is_each_done(kept: &LineRecord, g: &Grant, header: &Header) -> bool
+    ensures { result ≡ list_all (is_done_at header.now g.now kept.now.holders.items) (ports_below header.now.ports) }
+{
+    let holders = kept.holders.as_slice();
+    if header.ports <= 32 && usize::from(header.ports) <= holders.len() {
+        return is_each_held_done(holders, g, header);
+    }
+    is_each_kept_done(kept, g, header)
 }
 
 /// The snoops under the grant are done.

@@ -1,10 +1,12 @@
 //! What is kept of the ports of a line, after an event of the line.
 
 ghost use Rattle.std.specs.Prelude.{◌≡◌, ℕ, ◌∷◌, length, Option, None, Some};
-ghost use Rattle.ace_event.specs.declared.event.Event.TheVariants.{Cr};
+ghost use Rattle.ace_event.specs.declared.event.Channel.{Channel};
+ghost use Rattle.ace_event.specs.declared.event.Event.TheVariants.{Cr, S as SilentChange};
 ghost use Rattle.ace_event.specs.declared.header.Header.{Header};
 ghost use Rattle.ace_event.specs.declared.line.Line.{Line};
 ghost use Rattle.ace_model.specs.Trace.{Trace, port_of, is_some_and};
+ghost use Rattle.ace_portck.specs.Acknowledges.{acknowledge};
 ghost use Rattle.ace_portck.specs.declared.target.Target.{Target};
 ghost use Rattle.ace_lineck.specs.Holders.{HolderStands, HoldersStand, IsHolderStep, IsHoldersStep, awaits_store};
 
@@ -61,6 +63,21 @@ pub fn hear_answer(holder: &mut Holder, resp: u8, st: LineState)
         holder.sent = holder.copy;
     }
     holder.state = st;
+}
+
+/// The port has the line in this state: by its RK or WK, or by an S.
+#[inline(always)]
+pub fn move_to(holders: &mut Vec<Holder>, port: u8, st: LineState)
+    ensures ended { (h : Header) (past : Trace) (l : ℕ) (c : Channel) (t : Target) → IsHoldersStep h past l (acknowledge c port st) t None holders.old.items
+        → HoldersStand h (acknowledge c port st ∷ past) l holders.new.items }
+    ensures moved { (h : Header) (past : Trace) (l addr : ℕ) (t : Target) → IsHoldersStep h past l (SilentChange port addr st) t None holders.old.items
+        → HoldersStand h (SilentChange port addr st ∷ past) l holders.new.items }
+    ensures room { length holders.new.items ≡ length holders.old.items }
+{
+    let port = port as usize;
+    if port < holders.len() {
+        holders[port].state = st;
+    }
 }
 
 /// What is kept of the port of the event. `whole` is the line that the port has received whole with it.

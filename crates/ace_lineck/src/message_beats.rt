@@ -6,14 +6,13 @@ ghost use Rattle.ace_lineck.specs.Beats.{is_dataless};
 
 use crate::LineCheck;
 use ace_codes::{is_shared, passes_dirty};
-use ace_portck::Progress;
 
-/// The transfer is the first of its read, has neither PassDirty nor IsShared, and the word 0.
+/// The transfer has neither PassDirty nor IsShared, and the word 0.
 #[inline(always)]
-fn is_dataless(x: &Progress, resp: u8, word: u128) -> bool
-    ensures { result ≡ is_dataless x.now resp word }
+fn is_dataless(resp: u8, word: u128) -> bool
+    ensures { result ≡ is_dataless resp word }
 {
-    x.transfers == 0 && !passes_dirty(resp) && !is_shared(resp) && word == 0
+    !passes_dirty(resp) && !is_shared(resp) && word == 0
 }
 
 impl LineCheck {
@@ -27,16 +26,17 @@ impl LineCheck {
     ghost use Rattle.ace_model.specs.Transactions.{outstanding};
     ghost use Rattle.ace_portck.specs.DvmReads.{dvm_read};
     ghost use Rattle.ace_portck.specs.Targets.{Recording, progress_of};
+    ghost use Rattle.ace_portck.specs.declared.target.Progress.{Progress};
     ghost use Rattle.ace_lineck.specs.Stands.{Stands};
 
-    /// An R of the DVM read that is its first and has no data keeps the rules of the share: K19 and K20 (Arm IHI 0022E, C3.2.1).
+    /// The first R of a DVM read keeps the rules of the share: it has no data (K19 and K20; Arm IHI 0022E, C3.2.1).
     #[inline(always)]
-    pub fn keeps_message_beat(&self, x: &Progress, resp: u8, word: u128) -> bool
-        ensures { (r : Recording) (port id : ℕ) (last : Bool) (k : ArKind) → Stands self.now r
-            → option_map (progress_of r.header r.past) (outstanding r.header r.past port Read id) ≡ Some x.now
-            → dvm_read x.now.transaction ≡ Some k → k1 r.header r.past (R port id resp last word) ≡ true → result ≡ true
-            → is_none (least_of line_rules r.header r.past (R port id resp last word)) ≡ true }
+    pub fn keeps_message_beat(&self, resp: u8, word: u128) -> bool
+        ensures { (r : Recording) (port id : ℕ) (last : Bool) (x : Progress) (k : ArKind) → Stands self.now r
+            → option_map (progress_of r.header r.past) (outstanding r.header r.past port Read id) ≡ Some x
+            → dvm_read x.transaction ≡ Some k → k1 r.header r.past (R port id resp last word) ≡ true → x.transfers ≡ 0
+            → result ≡ is_none (least_of line_rules r.header r.past (R port id resp last word)) }
     {
-        is_dataless(x, resp, word)
+        is_dataless(resp, word)
     }
 }

@@ -12,12 +12,12 @@ ghost use Rattle.ace_portck.specs.declared.target.Target.{Target};
 ghost use Rattle.ace_lineck.specs.Acknowledges.{IsOf};
 ghost use Rattle.ace_lineck.specs.declared.record.Holder.{Holder};
 ghost use Rattle.ace_lineck.specs.Grants.{GrantStands, IsGrantStep};
-ghost use Rattle.ace_lineck.specs.Holders.{HoldersStand, IsHoldersStep};
 ghost use Rattle.ace_lineck.specs.Records.{LineStands, IsRecordStep};
 
 use crate::LineCheck;
 use crate::grant::Grant;
-use crate::record::{Holder, LineRecord};
+use crate::holders::move_to;
+use crate::record::LineRecord;
 use crate::replies::ends_as;
 use crate::rules::ends_write;
 use ace_codes::{ArKind, AwKind, LineState};
@@ -48,19 +48,6 @@ fn release(grant: &mut Option<Grant>, x: &Transaction)
     }
 }
 
-/// The port has the line in this state.
-#[inline(always)]
-fn settle(holders: &mut Vec<Holder>, port: u8, st: LineState)
-    ensures stand { (h : Header) (past : Trace) (l : ℕ) (c : Channel) (t : Target) → IsHoldersStep h past l (acknowledge c port st) t None holders.old.items
-        → HoldersStand h (acknowledge c port st ∷ past) l holders.new.items }
-    ensures room { length holders.new.items ≡ length holders.old.items }
-{
-    let port = port as usize;
-    if port < holders.len() {
-        holders[port].state = st;
-    }
-}
-
 /// What the RK or WK of the transaction leaves of what is kept of its line.
 #[inline(always)]
 fn end(kept: &mut LineRecord, x: &Transaction, port: u8, st: LineState)
@@ -69,7 +56,7 @@ fn end(kept: &mut LineRecord, x: &Transaction, port: u8, st: LineState)
     ensures room { length kept.new.holders.items ≡ length kept.old.holders.items }
     ensures used { kept.new.used ≡ kept.old.used }
 {
-    settle(&mut kept.holders, port, st);
+    move_to(&mut kept.holders, port, st);
     release(&mut kept.grant, x);
 }
 
@@ -78,11 +65,11 @@ impl LineCheck {
     ghost use Rattle.ace_event.specs.declared.event.Event.TheVariants.{Rk, Wk};
     ghost use Rattle.ace_model.specs.Accepted.{least_broken, least_of};
     ghost use Rattle.ace_model.specs.Shares.{line_rules};
-    ghost use Rattle.ace_model.specs.Transactions.{read_kind, write_kind};
+    ghost use Rattle.ace_model.specs.Transactions.{is_exclusive_store, read_kind, write_kind};
     ghost use Rattle.ace_portck.specs.Targets.{Recording, after, line_in, transaction_in};
     ghost use Rattle.ace_lineck.specs.Stands.{Stands, place_on};
 
-    /// An RK of the read, which has lock 0, keeps the rules of the share: its state is an end state of the read, and a MakeUnique has
+    /// An RK of the read, which is no exclusive store, keeps the rules of the share: its state is an end state of the read, and a MakeUnique has
     /// had its D (K23; Arm IHI 0022E, C4). `kind` is that of the read, and `place` that of its line.
     #[inline(always)]
     pub fn keeps_read_end(
@@ -93,7 +80,7 @@ impl LineCheck {
         port: u8,
         st: LineState,
     ) -> bool
-        ensures { (r : Recording) → Stands self.now r → transaction_in r.header r.past (Rk port st) ≡ Some x.now → x.now.transaction.lock ≡ false
+        ensures { (r : Recording) → Stands self.now r → transaction_in r.header r.past (Rk port st) ≡ Some x.now → is_exclusive_store x.now.transaction ≡ false
             → read_kind x.now.transaction ≡ Some kind → place ≡ place_on self.now (line_in r.header r.past (Rk port st))
             → result ≡ is_none (least_of line_rules r.header r.past (Rk port st)) }
     {

@@ -1,6 +1,6 @@
-//! The read transfers of plain reads, line reads with lock 0: the rules that they may break, and what they leave.
+//! The read transfers of plain reads, line reads that are no exclusive stores: the rules that they may break, and what they leave.
 
-ghost use Rattle.std.specs.Prelude.{◌≡◌, ◌<◌, ◌-◌, ◌^◌, ℕ, Bool, true, false, not, ◌&&◌, List, ◌∷◌, length, Option, Some, None, is_none, option_map};
+ghost use Rattle.std.specs.Prelude.{◌≡◌, ◌<◌, ◌-◌, ◌^◌, ℕ, Bool, true, false, not, ◌&&◌, List, ◌∷◌, length, Option, Some, None, is_none, option_copied, option_map};
 ghost use Rattle.ace_event.specs.declared.event.Channel.TheVariants.{Read};
 ghost use Rattle.ace_event.specs.declared.event.Event.TheVariants.{R};
 ghost use Rattle.ace_event.specs.declared.header.Header.{Header};
@@ -16,6 +16,7 @@ ghost use Rattle.ace_portck.specs.Plain.{plain_read};
 ghost use Rattle.ace_portck.specs.Targets.{Recording, after, progress_of};
 ghost use Rattle.ace_portck.specs.declared.target.Target.{Target};
 ghost use Rattle.ace_lineck.specs.declared.record.Holder.{Holder};
+ghost use Rattle.ace_lineck.specs.declared.record.LineRecord.{LineRecord};
 ghost use Rattle.ace_lineck.specs.Grants.{GrantStands, IsGrantStep};
 ghost use Rattle.ace_lineck.specs.Holders.{HoldersStand, IsHoldersStep};
 ghost use Rattle.ace_lineck.specs.Kept.{are_done, fits_bits, fits_reply, has_passed_for, is_its, is_shared_under, may_have_beat, takes_data};
@@ -30,7 +31,7 @@ use crate::kinds::reads_a_line;
 use crate::lines::LineCheck;
 use crate::record::{Holder, LineRecord};
 use crate::replies::{fits_shared, reply_in, same_upper_bits, word_at};
-use crate::step::reply_of;
+use crate::step::settled_in;
 use ace_codes::{ArKind, is_shared, passes_dirty};
 use ace_event::{Header, Line};
 use ace_portck::Progress;
@@ -126,14 +127,16 @@ fn is_fourth(x: &Progress, kind: ArKind) -> bool
     x.transfers == 3 && reads_a_line(kind)
 }
 
-/// The line that the port of the read has received whole with the transfer: the reply, at the fourth of a read of the line.
+/// The line that the port of the read has received whole with the transfer: the reply where it stands, at the fourth of a read of
+/// the line.
 #[inline(always)]
-fn received(kept: &LineRecord, x: &Progress, kind: ArKind) -> Option<Line>
-    ensures { (h : Header) (past : Trace) (l port id resp word : ℕ) (last : Bool) (t : Target) → IsRecordStep h past l (R port id resp last word) t kept.now
-        → t.transaction ≡ Some x.now → read_kind x.now.transaction ≡ Some kind → result ≡ received past (R port id resp last word) port l }
+fn received<'a>(grant: &'a Option<Grant>, x: &Progress, kind: ArKind) -> Option<&'a Line>
+    ensures { (h : Header) (past : Trace) (l port id resp word : ℕ) (last : Bool) (t : Target) (kept : LineRecord) → kept.grant ≡ grant.now
+        → IsRecordStep h past l (R port id resp last word) t kept → t.transaction ≡ Some x.now → read_kind x.now.transaction ≡ Some kind
+        → option_copied result ≡ received past (R port id resp last word) port l }
 {
     if is_fourth(x, kind) {
-        reply_of(&kept.grant)
+        settled_in(grant)
     } else {
         None
     }
@@ -141,15 +144,16 @@ fn received(kept: &LineRecord, x: &Progress, kind: ArKind) -> Option<Line>
 
 /// The port has received the line whole.
 #[inline(always)]
-fn receive(holders: &mut Vec<Holder>, port: u8, whole: Option<Line>)
-    ensures stand { (h : Header) (past : Trace) (l id resp word : ℕ) (last : Bool) (t : Target) → IsHoldersStep h past l (R port id resp last word) t whole holders.old.items
+fn receive(holders: &mut Vec<Holder>, port: u8, whole: Option<&Line>)
+    ensures stand { (h : Header) (past : Trace) (l id resp word : ℕ) (last : Bool) (t : Target)
+        → IsHoldersStep h past l (R port id resp last word) t (option_copied whole.entry) holders.old.items
         → HoldersStand h (R port id resp last word ∷ past) l holders.new.items }
     ensures room { length holders.new.items ≡ length holders.old.items }
 {
     if let Some(line) = whole {
         let port = port as usize;
         if port < holders.len() {
-            holders[port].copy = line;
+            holders[port].copy = *line;
         }
     }
 }
@@ -189,7 +193,7 @@ fn advance(kept: &mut LineRecord, header: &Header, x: &Progress, kind: ArKind, l
     ensures used { kept.new.used ≡ kept.old.used }
 {
     let port = x.transaction.port;
-    let whole = received(kept, x, kind);
+    let whole = received(&kept.grant, x, kind);
     let over = ends_read(header, port, last);
     receive(&mut kept.holders, port, whole);
     serve(&mut kept.grant, &kept.memory, over);

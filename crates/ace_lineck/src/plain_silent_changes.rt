@@ -1,30 +1,12 @@
 //! An S, by what is kept of its line where it stands.
 
-ghost use Rattle.std.specs.Prelude.{◌≡◌, ◌∷◌, ℕ, None, length};
+ghost use Rattle.std.specs.Prelude.{◌≡◌, None, length};
 ghost use Rattle.ace_event.specs.declared.event.Event.TheVariants.{S as SilentChange};
-ghost use Rattle.ace_event.specs.declared.header.Header.{Header};
-ghost use Rattle.ace_model.specs.Trace.{Trace};
-ghost use Rattle.ace_portck.specs.declared.target.Target.{Target};
-ghost use Rattle.ace_lineck.specs.Holders.{HoldersStand, IsHoldersStep};
 
 use crate::LineCheck;
-use crate::record::Holder;
+use crate::holders::move_to;
 use crate::rules::may_move;
-use ace_codes::LineState;
 use ace_portck::event_kinds::S;
-
-/// The port has the line in this state.
-#[inline(always)]
-fn move_to(holders: &mut Vec<Holder>, port: u8, st: LineState)
-    ensures stand { (h : Header) (past : Trace) (l addr : ℕ) (t : Target) → IsHoldersStep h past l (SilentChange port addr st) t None holders.old.items
-        → HoldersStand h (SilentChange port addr st ∷ past) l holders.new.items }
-    ensures room { length holders.new.items ≡ length holders.old.items }
-{
-    let port = port as usize;
-    if port < holders.len() {
-        holders[port].state = st;
-    }
-}
 
 impl LineCheck {
     ghost use Rattle.std.specs.Prelude.{◌<◌, ◌-◌, ◌^◌, ◌&&◌, Some, is_none};

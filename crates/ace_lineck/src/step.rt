@@ -1,7 +1,8 @@
 //! What is kept of a line, after an event of the line.
 
-ghost use Rattle.std.specs.Prelude.{◌≡◌, ℕ, ◌∷◌, ◌&&◌, not, length, Some, option_and_then};
+ghost use Rattle.std.specs.Prelude.{◌≡◌, ℕ, ◌∷◌, ◌&&◌, not, length, Some, option_and_then, option_copied};
 ghost use Rattle.ace_event.specs.declared.header.Header.{Header};
+ghost use Rattle.ace_event.specs.declared.line.Line.{Line};
 ghost use Rattle.ace_model.specs.Trace.{Trace, port_of};
 ghost use Rattle.ace_model.specs.Copies.{received};
 ghost use Rattle.ace_lineck.specs.Records.{LineStands, IsRecordStep, has_three};
@@ -30,12 +31,30 @@ fn has_three(x: &Option<Progress>) -> bool
 
 /// The reply of the granted read, once it is settled.
 #[inline(always)]
-pub fn reply_of(grant: &Option<Grant>) -> Option<Line>
+fn reply_of(grant: &Option<Grant>) -> Option<Line>
     ensures { result ≡ option_and_then (λ g. g.reply) grant.now }
 {
     match grant {
         None => None,
         Some(g) => g.reply,
+    }
+}
+
+/// The same, where it stands: a line of four words.
+#[inline(always)]
+pub fn settled_in(grant: &Option<Grant>) -> Option<&Line>
+    ensures reply { option_copied result ≡ option_and_then (λ g. g.reply) grant.now }
+    ensures words { (line : Line) → option_copied result ≡ Some line → length line.words ≡ 4 }
+{
+    match grant {
+        None => None,
+        Some(g) => match &g.reply {
+            None => None,
+            Some(line) => {
+                let _first = line.words[0];
+                Some(line)
+            }
+        },
     }
 }
 

@@ -17,7 +17,9 @@ use Rattle.ace_model.proofs.General.Options.{some_is, Some-injective}
 use Rattle.ace_model.proofs.Rules.Keeps.{accepted_keeps}
 use Rattle.ace_model.proofs.Trace.Issued.{outstanding-named, outstanding-name}
 use Rattle.ace_model.proofs.Outstanding.Names.{named_is}
-use Rattle.ace_portck.specs.Pending.{completed_by, ending_of, waiting_after}
+use Rattle.ace_model.proofs.Outstanding.Lists.{kept_all}
+use Rattle.ace_portck.specs.declared.target.Progress.{Progress}
+use Rattle.ace_portck.specs.Pending.{completed_by, ending_of, waiting_after, without_id}
 
 -- the acknowledges of an accepted trace are no more than what is complete
 pub acknowledgements-within : (h : Header) (past : Trace) (p : ℕ) (c : Channel) → IsAccepted h past → acknowledgements past p c ≤ length (completed past p c)
@@ -185,3 +187,7 @@ ends_is h past e p c waiting x a own is out = by e a own
               ]
         ]
     by _ a own = elim (cases_Bool (is_ace h p)) [ inl ace ↦ rw ace refl | inr lite ↦ rw lite refl ]
+
+-- where nothing ends, all stay
+pub all_stay : (list : List Progress) (ended : Option ℕ) → ended ≡ None → list ≡ without_id ended list
+all_stay list ended none = rw none (sym (kept_all list))

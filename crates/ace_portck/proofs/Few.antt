@@ -1,8 +1,8 @@
 -- A port has at most 256 outstanding transactions on a channel, since their identifiers are apart and each is a byte. So has it at
 -- most 256 complete ones that wait.
 use Rattle.std.specs.List.{All, AllPairs, AllByRecursion, filter}
-use Rattle.std.proofs.Common.{◌≡◌, ◌≢◌, ℕ, ◌+◌, ◌-◌, ◌≤◌, ◌<◌, Bool, true, not, ◌&&◌, nat_eq, List, [], ◌∷◌, ◌++◌, length, drop, Option, Some, None, slice_get, get_or, refl, sym, ap, subst, ◌∙◌, inl, inr, arith, length-drop}
-use Rattle.std.proofs.lemmas.Bool.{cases_Bool}
+use Rattle.std.proofs.Common.{◌≡◌, ◌≢◌, ℕ, suc, ◌+◌, ◌-◌, ◌≤◌, ◌<◌, Bool, true, false, not, ◌&&◌, ◌==◌, nat_eq, List, [], ◌∷◌, ◌++◌, map, length, drop, Option, Some, None, slice_get, get_or, refl, sym, ap, subst, ◌∙◌, inl, inr, arith, length-drop}
+use Rattle.std.proofs.lemmas.Bool.{and_parts, cases_Bool, eqb-true, ne_eqb}
 use Rattle.std.proofs.lemmas.List.{append-nil, get_or-drop}
 use Rattle.std.proofs.lemmas.List.Elements.{All-from_recursion, filter-append}
 use Rattle.std.proofs.lemmas.List.Quantifiers.{all_pairs_push}
@@ -16,7 +16,7 @@ use Rattle.ace_model.specs.declared.transactions.Transaction.{Transaction}
 use Rattle.ace_model.specs.Trace.{Trace, more}
 use Rattle.ace_model.specs.Accepted.{IsAccepted}
 use Rattle.ace_model.specs.Progress.{transactions}
-use Rattle.ace_model.specs.Transactions.{is_ace, is_read, issued, outstanding, acknowledgements, completed, completes}
+use Rattle.ace_model.specs.Transactions.{is_ace, is_read, same_channel, issued, outstanding, is_outstanding, acknowledgements, completed, completes}
 use Rattle.ace_model.proofs.General.Lists.{slice_get-more}
 use Rattle.ace_model.proofs.General.Options.{Some-injective}
 use Rattle.ace_model.proofs.General.Pigeonhole.{few_apart}
@@ -27,7 +27,10 @@ use Rattle.ace_model.proofs.Trace.WriteQueue.{write_queue}
 use Rattle.ace_model.proofs.Outstanding.Issued.{transactions-issued}
 use Rattle.ace_model.proofs.Outstanding.Lists.{all_implies}
 use Rattle.ace_model.proofs.Outstanding.Only.{outstanding_at-is}
-use Rattle.ace_portck.specs.Pending.{HasByteId, is_pending, pending_of}
+use Rattle.ace_model.proofs.Trace.Looks.{same_channel-is}
+use Rattle.ace_portck.specs.declared.target.Progress.{Progress}
+use Rattle.ace_portck.specs.Targets.{progress_of}
+use Rattle.ace_portck.specs.Pending.{HasByteId, is_pending, pending_of, AreApart}
 
 new-below : (n : ℕ) (e : Event) (x : Transaction) → HasByteId e → issued n e ≡ Some x → x.id < 256
 new-below n (Ar p i addr snoop dom bar lock) x r s = subst (λ (v : Transaction). v.id < 256) (Some-injective _ x s) r
@@ -95,6 +98,32 @@ module _ (h : Header) (past : Trace) (p : ℕ) (c : Channel) where
       (kept-all (λ x. x.id < 256) (is_pending h past p c) (transactions past)
       (all_implies (IsIssued past) (λ x. is_pending h past p c x ≡ true → x.id < 256) (transactions past)
       (λ x i pending. issued-below past x bytes i) (transactions-issued past))))
+
+  -- as a program keeps them
+  others_apart : (j : ℕ) (list : List Transaction) → ((k : ℕ) (d : Transaction) → k < length list → (get_or list k d).id ≢ j)
+      → AllByRecursion (λ v. (v.transaction.id == j) ≡ false) (map (progress_of h past) list)
+  others_apart j [] other = tt
+  others_apart j (x ∷ rest) other =
+      (ne_eqb x.id j (other 0 x (omega arith)), others_apart j rest (λ k d lt. other (suc k) d (omega (arith, lt))))
+
+  all_apart : (list : List Transaction) → AllPairs (λ (x y : Transaction). x.id ≢ y.id) list → AllByRecursion (λ x. is_pending h past p c x ≡ true) list
+      → AreApart p c (map (progress_of h past) list)
+  all_apart [] pairs all = tt
+  all_apart (x ∷ rest) pairs all =
+      let a = and_parts ((x.port == p) && same_channel x.chan c) (is_outstanding h past x) all.0 in
+      let b = and_parts (x.port == p) (same_channel x.chan c) a.0 in (
+        eqb-true x.port p b.0,
+        same_channel-is x.chan c b.1,
+        others_apart x.id rest (λ k d lt same. pairs 0 (suc k) d (omega arith) (omega (arith, lt)) (sym same)),
+        all_apart rest (λ i j d low within. pairs (suc i) (suc j) d (omega (arith, low)) (omega (arith, within))) all.1,
+      )
+
+  pub are_apart : (list : List Progress) → list ≡ map (progress_of h past) (pending_of h past p c) → AreApart p c list
+  are_apart list is =
+      subst (AreApart p c) (sym is) (all_apart (pending_of h past p c) (apart past (λ x i. i))
+      (kept-all (λ x. is_pending h past p c x ≡ true) (is_pending h past p c) (transactions past)
+      (all_implies (IsIssued past) (λ x. is_pending h past p c x ≡ true → is_pending h past p c x ≡ true) (transactions past)
+      (λ x i t. t) (transactions-issued past))))
 
 completes-below : (e : Event) (p : ℕ) (c : Channel) (i : ℕ) → HasByteId e → completes e p c ≡ Some i → i < 256
 completes-below (R q j resp last word) p c i b is =

@@ -1,6 +1,7 @@
 pub mod Renewed
 pub mod Ending
 pub mod Few
+pub mod Named
 pub mod Heard
 pub mod Stays
 pub mod Found

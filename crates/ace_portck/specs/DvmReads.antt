@@ -15,6 +15,14 @@ is_dvm_read k = is_dvm_message k || is_dvm_complete k
 abbrev pub dvm_read : Transaction → Option ArKind
 dvm_read x = option_and_then (λ k. if is_dvm_read k && not x.lock then Some k else None) (read_kind x)
 
+-- the fields are those of the AR of a DVM read with lock 0
+abbrev pub is_dvm_address : ℕ → ℕ → ℕ → Bool → Bool
+is_dvm_address snoop dom bar lock = is_some_and (ar_kind_of snoop dom bar) is_dvm_read && not lock
+
+-- the fields are those of the AR of a DVM Message with lock 0
+abbrev pub is_message : ℕ → ℕ → ℕ → Bool → Bool
+is_message snoop dom bar lock = is_some_and (ar_kind_of snoop dom bar) is_dvm_message && not lock
+
 -- the fields are those of the AR of a DVM Complete with lock 0
 abbrev pub is_completion : ℕ → ℕ → ℕ → Bool → Bool
 is_completion snoop dom bar lock = is_some_and (ar_kind_of snoop dom bar) is_dvm_complete && not lock

@@ -1,5 +1,6 @@
 -- What the outstanding transactions of a port on one channel say of a trace.
-use Rattle.std.specs.Prelude.{ℕ, ◌≡◌, ◌≤◌, ◌<◌, ◌+◌, ◌%◌, Bool, true, false, not, ◌&&◌, ◌||◌, ◌==◌, if◌then◌else◌, List, drop, map, filter, slice_get, vec_capacity, Option, Some, None, ⊤}
+use Rattle.std.specs.Prelude.{ℕ, ◌≡◌, ◌≤◌, ◌<◌, ◌+◌, ◌%◌, Bool, true, false, not, ◌&&◌, ◌||◌, ◌==◌, if◌then◌else◌, List, [], ◌∷◌, drop, map, filter, slice_get, vec_capacity, Option, Some, None, ⊤}
+use Rattle.std.specs.List.{AllByRecursion}
 use Rattle.std.specs.VecDeque.{deque_capacity}
 use Rattle.ace_event.specs.declared.event.Channel.{Channel}
 use Rattle.ace_event.specs.declared.event.Channel.TheVariants.{Read, Write}
@@ -62,6 +63,38 @@ renewed (M p c i line) x = if has_name x.transaction p c i then record x { writt
 renewed (D p addr strobe x' line) x =
     if (x.transaction.port == p) && is_make_unique_on x.transaction addr && x.complete then record x { stored = true } else x
 renewed _ x = x
+
+-- how far a transaction has come after an event that names it
+abbrev pub advanced : Event → Progress → Progress
+advanced (R p i resp last word) x = transferred resp last x
+advanced (B p i resp) x = record x { complete = true }
+advanced (G p c i) x = record x { granted = true }
+advanced (M p c i line) x = record x { written = true }
+advanced _ x = x
+
+-- the identifier by which an event names a transaction on the channel
+abbrev pub named_by : Event → Channel → Option ℕ
+named_by (R p i resp last word) c = if is_read c then Some i else None
+named_by (B p i resp) c = if is_read c then None else Some i
+named_by (G p d i) c = if same_channel c d then Some i else None
+named_by (M p d i line) c = if same_channel c d then Some i else None
+named_by _ c = None
+
+-- the event is a D
+abbrev pub is_store : Event → Bool
+is_store (D p addr strobe x line) = true
+is_store _ = false
+
+-- the list with its first transaction under the identifier changed
+abbrev pub change_first : (Progress → Progress) → ℕ → List Progress → List Progress
+change_first f i [] = []
+change_first f i (x ∷ xs) = if x.transaction.id == i then f x ∷ xs else x ∷ change_first f i xs
+
+-- the transactions are the port's, on the channel, each under an identifier of its own
+abbrev pub AreApart : ℕ → Channel → List Progress → Type 0
+AreApart p c [] = ⊤
+AreApart p c (x ∷ xs) =
+    (x.transaction.port ≡ p) × (x.transaction.chan ≡ c) × AllByRecursion (λ y. (y.transaction.id == x.transaction.id) ≡ false) xs × AreApart p c xs
 
 -- the event is an RK, or a WK for the write channel
 abbrev pub is_acknowledge : Event → Channel → Bool

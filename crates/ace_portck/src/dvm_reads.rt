@@ -1,16 +1,22 @@
-//! The reads of DVM, and what the AR of a DVM Complete asks of its port (Arm IHI 0022E, C12).
+//! The reads of DVM, and what the AR of one asks of its port (Arm IHI 0022E, C12).
 
 ghost use Rattle.std.specs.Prelude.{◌≡◌, ◌&&◌, nat_lt};
 ghost use Rattle.ace_event.specs.declared.header.Header.{Header};
-ghost use Rattle.ace_model.specs.Kinds.{is_dvm_complete};
+ghost use Rattle.ace_model.specs.Kinds.{is_dvm_complete, is_dvm_message};
 ghost use Rattle.ace_model.specs.Transactions.{is_ace};
-ghost use Rattle.ace_portck.specs.DvmReads.{dvm_read, is_completion, is_dvm_read};
+ghost use Rattle.ace_portck.specs.DvmReads.{dvm_read, is_completion, is_dvm_read, is_message};
 
 use crate::kinds::{is_ace, read_kind};
 use crate::ports::{PortCheck, record_of};
 use ace_codes::{ArKind, read_ar};
 use ace_event::{Channel, Header};
 use ace_model::Transaction;
+
+fn is_dvm_message(kind: ArKind) -> bool
+    ensures { result ≡ is_dvm_message kind }
+{
+    matches!(kind, ArKind::DvmMessage)
+}
 
 fn is_dvm_complete(kind: ArKind) -> bool
     ensures { result ≡ is_dvm_complete kind }
@@ -35,6 +41,14 @@ pub fn dvm_read(transaction: &Transaction) -> Option<ArKind>
     }
 }
 
+/// The fields are those of the AR of a DVM Message with lock 0: a part of a message.
+#[inline(always)]
+pub fn is_message(snoop: u8, dom: u8, bar: u8, lock: bool) -> bool
+    ensures { result ≡ is_message snoop dom bar lock }
+{
+    read_ar(snoop, dom, bar).is_some_and(is_dvm_message) && !lock
+}
+
 /// The fields are those of the AR of a DVM Complete with lock 0.
 #[inline(always)]
 pub fn is_completion(snoop: u8, dom: u8, bar: u8, lock: bool) -> bool
@@ -43,21 +57,42 @@ pub fn is_completion(snoop: u8, dom: u8, bar: u8, lock: bool) -> bool
     read_ar(snoop, dom, bar).is_some_and(is_dvm_complete) && !lock
 }
 
-/// The port is an ACE port of the header: only such a one issues a DVM Complete (K1 and K2).
+/// The port is an ACE port of the header: only such a one issues a DVM read (K1 and K2).
 #[inline(always)]
-fn may_complete(header: &Header, port: u8) -> bool
+fn may_issue_dvm(header: &Header, port: u8) -> bool
     ensures { result ≡ (nat_lt port header.now.ports && is_ace header.now port) }
 {
     port < header.ports && is_ace(header, port)
 }
 
 impl PortCheck {
-    ghost use Rattle.std.specs.Prelude.{ℕ, Bool, true, is_none};
+    ghost use Rattle.std.specs.Prelude.{ℕ, Bool, true, is_none, length};
     ghost use Rattle.ace_event.specs.declared.event.Event.TheVariants.{Ar};
     ghost use Rattle.ace_model.specs.Accepted.{least_of};
     ghost use Rattle.ace_model.specs.Shares.{port_rules};
+    ghost use Rattle.ace_portck.specs.DvmReads.{is_dvm_address};
     ghost use Rattle.ace_portck.specs.Stands.{Stands};
     ghost use Rattle.ace_portck.specs.Targets.{Recording};
+
+    /// How many events came: the place of a transaction that the next one issues.
+    #[inline(always)]
+    pub fn place(&self) -> usize
+        ensures { (r : Recording) → Stands self.now r → result ≡ length r.past }
+    {
+        self.count
+    }
+
+    /// An AR of a DVM Message or a DVM Complete with lock 0 keeps the rules that look at one port: K1, K2 and K4.
+    #[inline(always)]
+    pub fn keeps_dvm_address(&self, port: u8, id: u8) -> bool
+        ensures { (r : Recording) (addr snoop dom bar : ℕ) (lock : Bool) → Stands self.now r → is_dvm_address snoop dom bar lock ≡ true
+            → result ≡ is_none (least_of port_rules r.header r.past (Ar port id addr snoop dom bar lock)) }
+    {
+        may_issue_dvm(&self.header, port)
+            && record_of(&self.ports, &self.outside, port)
+                .transactions
+                .is_name_free(Channel::Read, id)
+    }
 
     /// An AR of a DVM Complete with lock 0 keeps the rules that look at one port: K1, K2 and K4.
     #[inline(always)]
@@ -65,9 +100,6 @@ impl PortCheck {
         ensures { (r : Recording) (addr snoop dom bar : ℕ) (lock : Bool) → Stands self.now r → is_completion snoop dom bar lock ≡ true
             → result ≡ is_none (least_of port_rules r.header r.past (Ar port id addr snoop dom bar lock)) }
     {
-        may_complete(&self.header, port)
-            && record_of(&self.ports, &self.outside, port)
-                .transactions
-                .is_name_free(Channel::Read, id)
+        self.keeps_dvm_address(port, id)
     }
 }

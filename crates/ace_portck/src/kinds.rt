@@ -2,7 +2,7 @@
 
 ghost use Rattle.std.specs.Prelude.{◌≡◌};
 ghost use Rattle.ace_model.specs.Kinds.{has_write_data, is_line_snoop, is_line_read, is_line_write, beats_of, is_update, is_evict, is_unique_write, is_lite_read, is_lite_write, may_be_exclusive, is_make_unique, is_read_barrier, is_write_barrier};
-ghost use Rattle.ace_model.specs.Transactions.{is_ace, has_name, read_kind, write_kind, is_line, is_on};
+ghost use Rattle.ace_model.specs.Transactions.{is_ace, has_name, read_kind, write_kind, is_line, is_on, is_exclusive_store};
 ghost use Rattle.ace_model.specs.Barriers.{is_barrier_half};
 ghost use Rattle.ace_model.specs.AddressRules.{gives_up};
 ghost use Rattle.ace_model.specs.Progress.{evicts, updates_memory};
@@ -64,13 +64,21 @@ pub fn is_on(transaction: &Transaction, line: u32) -> bool
     transaction.addr == line && is_line(transaction)
 }
 
-/// The kind of a line read with lock 0.
+/// An exclusive store: a CleanUnique with lock 1 (Arm IHI 0022E, C9).
+#[inline(always)]
+pub fn is_exclusive_store(x: &Transaction) -> bool
+    ensures { result ≡ is_exclusive_store x.now }
+{
+    x.lock && matches!(read_kind(x), Some(ArKind::CleanUnique))
+}
+
+/// The kind of a line read that is no exclusive store: it is a load, or has lock 0 (Arm IHI 0022E, C9).
 #[inline(always)]
 pub fn plain_read(transaction: &Transaction) -> Option<ArKind>
     ensures { result ≡ plain_read transaction.now }
 {
     match read_kind(transaction) {
-        Some(kind) if is_line_read(kind) && !transaction.lock => Some(kind),
+        Some(kind) if is_line_read(kind) && !is_exclusive_store(transaction) => Some(kind),
         _ => None,
     }
 }
@@ -221,7 +229,7 @@ pub fn is_make_unique(kind: ArKind) -> bool
     matches!(kind, ArKind::MakeUnique)
 }
 
-pub(crate) fn is_line_snoop(kind: SnoopKind) -> bool
+pub fn is_line_snoop(kind: SnoopKind) -> bool
     ensures { result ≡ is_line_snoop kind }
 {
     !matches!(kind, SnoopKind::DvmComplete | SnoopKind::DvmMessage)

@@ -4,6 +4,7 @@
 mod dvm_reads;
 pub mod event_kinds;
 pub mod kinds;
+mod message_snoops;
 mod no_memory;
 mod one_port;
 mod opening;
@@ -32,7 +33,7 @@ mod targets;
 mod transactions;
 mod write_data;
 
-pub use dvm_reads::{dvm_read, is_completion};
+pub use dvm_reads::{dvm_read, is_completion, is_message};
 pub use event_kinds::EventKind;
 pub use no_memory::NoMemory;
 pub use one_port::OnePort;

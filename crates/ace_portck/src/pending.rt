@@ -1,15 +1,15 @@
 //! The outstanding transactions of a port on one channel.
 
-ghost use Rattle.std.specs.Prelude.{◌≡◌, ◌==◌, ◌<◌, ◌≤◌, None, find, length, map, vec_capacity, option_map};
+ghost use Rattle.std.specs.Prelude.{◌≡◌, ◌==◌, ◌<◌, ◌≤◌, ℕ, true, None, Some, find, length, map, vec_capacity, option_map};
 ghost use Rattle.std.specs.Option.{option_copied};
 ghost use Rattle.std.specs.VecDeque.{deque_capacity};
-ghost use Rattle.ace_model.specs.Trace.{more};
+ghost use Rattle.ace_model.specs.Trace.{more, port_of};
 ghost use Rattle.ace_model.specs.Transactions.{issued, is_make_unique_on};
-ghost use Rattle.ace_portck.specs.Pending.{transferred, renewed, is_acknowledge, completed_by, waiting_after, on_channel, without_id};
+ghost use Rattle.ace_portck.specs.Pending.{transferred, renewed, advanced, named_by, change_first, is_store, AreApart, is_acknowledge, completed_by, on_channel, without_id};
 ghost use Rattle.ace_portck.specs.Targets.{begun};
 
 use crate::NoMemory;
-use crate::kinds::{has_name, is_ace, is_make_unique, read_kind};
+use crate::kinds::{is_ace, is_make_unique, read_kind};
 use crate::target::Progress;
 use ace_event::{Channel, Event, Header};
 use ace_model::Transaction;
@@ -97,7 +97,8 @@ fn is_make_unique_on(transaction: &Transaction, line: u32) -> bool
     read_kind(transaction).is_some_and(is_make_unique) && transaction.addr == line
 }
 
-/// The read has had one more transfer.
+/// The read has had one more transfer. Only what changes is written.
+#[inline(always)]
 fn transfer(x: &mut Progress, resp: u8, last: bool)
     ensures { x.new ≡ transferred resp last x.old }
 {
@@ -105,58 +106,102 @@ fn transfer(x: &mut Progress, resp: u8, last: bool)
         x.response = resp;
     }
     x.transfers = x.transfers.wrapping_add(1);
-    x.complete = x.complete || last;
+    if last {
+        x.complete = true;
+    }
 }
 
-/// Advances a transaction by the event. Only what changes is written.
+/// Advances a transaction by an event that names it.
 #[inline(always)]
 fn advance(x: &mut Progress, event: &Event)
-    ensures { x.new ≡ renewed event.now x.old }
+    ensures { x.new ≡ advanced event.now x.old }
 {
     match *event {
-        Event::R {
-            port,
-            id,
-            resp,
-            last,
-            ..
-        } if has_name(&x.transaction, port, Channel::Read, id) => transfer(x, resp, last),
-        Event::B { port, id, .. } if has_name(&x.transaction, port, Channel::Write, id) => {
-            x.complete = true;
-        }
-        Event::G { port, chan, id } if has_name(&x.transaction, port, chan, id) => {
-            x.granted = true;
-        }
-        Event::M { port, chan, id, .. } if has_name(&x.transaction, port, chan, id) => {
-            x.written = true;
-        }
-        Event::D { port, addr, .. }
-            if x.complete
-                && x.transaction.port == port
-                && is_make_unique_on(&x.transaction, addr) => {
-            x.stored = true;
-        }
+        Event::R { resp, last, .. } => transfer(x, resp, last),
+        Event::B { .. } => x.complete = true,
+        Event::G { .. } => x.granted = true,
+        Event::M { .. } => x.written = true,
         _ => {}
     }
 }
 
-/// Brings each transaction up to date.
+/// The identifier by which the event names a transaction on the channel.
 #[inline(always)]
-fn renew(list: &mut [Progress], event: &Event)
-    ensures { list.new ≡ map (renewed event.now) list.old }
+fn named_by(event: &Event, chan: Channel) -> Option<u8>
+    ensures { result ≡ named_by event.now chan }
+{
+    match *event {
+        Event::R { id, .. } if chan == Channel::Read => Some(id),
+        Event::B { id, .. } if chan == Channel::Write => Some(id),
+        Event::G { chan: own, id, .. } | Event::M { chan: own, id, .. } if chan == own => Some(id),
+        _ => None,
+    }
+}
+
+/// Advances the first transaction of the list under the identifier.
+#[inline(always)]
+fn advance_first(list: &mut [Progress], id: u8, event: &Event)
+    ensures { list.new ≡ change_first (advanced event.now) id list.old }
 {
     for x in list.iter_mut() {
-        advance(x, event);
+        if x.transaction.id == id {
+            advance(x, event);
+            return;
+        }
+    }
+}
+
+/// The complete MakeUnique of the line, if this is one, has had its D.
+#[inline(always)]
+fn store(x: &mut Progress, event: &Event)
+    ensures { is_store event.now ≡ true → x.new ≡ renewed event.now x.old }
+{
+    if let Event::D { port, addr, .. } = *event {
+        if x.complete && x.transaction.port == port && is_make_unique_on(&x.transaction, addr) {
+            x.stored = true;
+        }
+    }
+}
+
+/// Brings the complete MakeUniques of a D's line up to date.
+#[inline(always)]
+fn store_all(list: &mut [Progress], event: &Event)
+    ensures { is_store event.now ≡ true → list.new ≡ map (renewed event.now) list.old }
+{
+    for x in list.iter_mut() {
+        store(x, event);
+    }
+}
+
+/// The event is a D.
+#[inline(always)]
+fn is_store(event: &Event) -> bool
+    ensures { result ≡ is_store event.now }
+{
+    matches!(*event, Event::D { .. })
+}
+
+/// Brings the transactions of a port on the channel up to date. An event names one of them at most: only a D asks each.
+#[inline(always)]
+#[tactic(auto, using(crate::proofs::Named::none_named, crate::proofs::Named::first_named))]
+fn renew(list: &mut [Progress], chan: Channel, event: &Event)
+    ensures { (p : ℕ) → port_of event.now ≡ Some p → AreApart p chan list.old → list.new ≡ map (renewed event.now) list.old }
+{
+    if is_store(event) {
+        store_all(list, event);
+    } else if let Some(id) = named_by(event, chan) {
+        advance_first(list, id, event);
     }
 }
 
 /// The same, of a list with its room.
 #[inline(always)]
-fn renew_all(list: &mut Vec<Progress>, event: &Event)
-    ensures items { list.new.items ≡ map (renewed event.now) list.old.items }
+fn renew_all(list: &mut Vec<Progress>, chan: Channel, event: &Event)
+    ensures items { (p : ℕ) → port_of event.now ≡ Some p → AreApart p chan list.old.items
+        → list.new.items ≡ map (renewed event.now) list.old.items }
     ensures capacity { vec_capacity list.new ≡ vec_capacity list.old }
 {
-    renew(list, event);
+    renew(list, chan, event);
 }
 
 /// The first transaction of the list under the identifier.
@@ -222,32 +267,15 @@ fn is_acknowledge(event: &Event, chan: Channel) -> bool
     }
 }
 
-/// The complete ones that wait after an event of the port.
-#[inline(always)]
-fn wait(waiting: &mut VecDeque<u8>, ace: bool, chan: Channel, event: &Event)
-    ensures waiting { length waiting.old.items < deque_capacity waiting.old
-        → waiting.new.items ≡ waiting_after waiting.old.items ace chan event.now }
-    ensures idle { completed_by event.now chan ≡ None → waiting.new.items ≡ waiting_after waiting.old.items ace chan event.now }
-    ensures capacity { deque_capacity waiting.old ≤ deque_capacity waiting.new }
-{
-    if is_acknowledge(event, chan) {
-        let _first = waiting.pop_front();
-    } else if ace {
-        if let Some(id) = completed_by(event, chan) {
-            let _full = waiting.push_back(id);
-        }
-    }
-}
-
 impl Pending {
-    ghost use Rattle.std.specs.Prelude.{ℕ, true, [], ◌∷◌, slice_get, IfOk};
+    ghost use Rattle.std.specs.Prelude.{[], ◌∷◌, slice_get, IfOk};
     ghost use Rattle.ace_event.specs.declared.event.Channel.{Channel};
     ghost use Rattle.ace_event.specs.declared.header.Header.{Header};
     ghost use Rattle.std.specs.List.{AllByRecursion};
     ghost use Rattle.ace_model.specs.Trace.{Trace};
     ghost use Rattle.ace_model.specs.Transactions.{is_ace, outstanding, next_complete};
     ghost use Rattle.ace_portck.specs.Heard.{IsHeard};
-    ghost use Rattle.ace_portck.specs.Pending.{HasByteId, PendingStands, ending_of};
+    ghost use Rattle.ace_portck.specs.Pending.{HasByteId, PendingStands, ending_of, waiting_after};
     ghost use Rattle.ace_portck.specs.Targets.{progress_of};
 
     /// The outstanding transactions of a port without events: none.
@@ -293,18 +321,29 @@ impl Pending {
         self.waiting.front().copied()
     }
 
-    /// The identifier of the transaction that an event of the port ends: at an ACE port an RK or WK the one that waits first, at an
-    /// ACE-Lite port the last R or the B its own.
+    /// What is complete after an event of the port waits for its acknowledge at an ACE port, and ends at an ACE-Lite port; an RK or WK
+    /// ends the one that waits first. Only these events ask which kind of port it is.
     #[inline(always)]
-    fn ending(&self, ace: bool, chan: Channel, event: &Event) -> Option<u8>
-        ensures { result ≡ ending_of self.now.waiting.items ace chan event.now }
+    #[tactic(auto, using(crate::proofs::Ending::all_stay))]
+    fn settle(&mut self, header: &Header, port: u8, chan: Channel, event: &Event)
+        ensures list { self.new.list.items
+            ≡ without_id (ending_of self.old.waiting.items (is_ace header.now port) chan event.now) self.old.list.items }
+        ensures room { vec_capacity self.new.list ≡ vec_capacity self.old.list }
+        ensures waiting { length self.old.waiting.items < deque_capacity self.old.waiting
+            → self.new.waiting.items ≡ waiting_after self.old.waiting.items (is_ace header.now port) chan event.now }
+        ensures idle { completed_by event.now chan ≡ None
+            → self.new.waiting.items ≡ waiting_after self.old.waiting.items (is_ace header.now port) chan event.now }
+        ensures capacity { deque_capacity self.old.waiting ≤ deque_capacity self.new.waiting }
     {
         if is_acknowledge(event, chan) {
-            self.next_complete()
-        } else if ace {
-            None
-        } else {
-            completed_by(event, chan)
+            let ended = self.waiting.pop_front();
+            take_out(&mut self.list, ended);
+        } else if let Some(id) = completed_by(event, chan) {
+            if is_ace(header, port) {
+                let _full = self.waiting.push_back(id);
+            } else {
+                take_out(&mut self.list, Some(id));
+            }
         }
     }
 
@@ -314,11 +353,8 @@ impl Pending {
         ensures { (past : Trace) → IsHeard header.now past place event.now port → AllByRecursion HasByteId (event.now ∷ past)
             → PendingStands header.now past port chan self.old → PendingStands header.now (event.now ∷ past) port chan self.new }
     {
-        let ace = is_ace(header, port);
-        let ended = self.ending(ace, chan, event);
-        wait(&mut self.waiting, ace, chan, event);
-        renew_all(&mut self.list, event);
-        take_out(&mut self.list, ended);
+        renew_all(&mut self.list, chan, event);
+        self.settle(header, port, chan, event);
         put_in(&mut self.list, on_channel(chan, issued(place, event)));
     }
 }

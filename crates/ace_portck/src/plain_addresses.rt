@@ -1,15 +1,16 @@
-//! An AR of a line read with lock 0: whether it keeps the rules that look at one port.
+//! An AR of a line read: whether it keeps the rules that look at one port.
 
 ghost use Rattle.std.specs.Prelude.{◌≡◌, ◌==◌, ◌%◌, ℕ, ◌&&◌, ◌||◌, not, is_none, nat_lt};
 ghost use Rattle.ace_event.specs.declared.event.Channel.TheVariants.{Read};
 ghost use Rattle.ace_event.specs.declared.header.Header.{Header};
 ghost use Rattle.ace_model.specs.AddressRules.{may_issue_read};
 ghost use Rattle.ace_model.specs.Trace.{Trace};
-ghost use Rattle.ace_model.specs.Transactions.{has_outstanding_on, outstanding};
+ghost use Rattle.ace_model.specs.Kinds.{may_be_exclusive};
+ghost use Rattle.ace_model.specs.Transactions.{has_outstanding_on, is_ace, outstanding};
 ghost use Rattle.ace_portck.specs.PlainAddresses.{plain_kind};
 ghost use Rattle.ace_portck.specs.Port.{PortStands};
 
-use crate::kinds::{is_ace, is_line_read, is_lite_read};
+use crate::kinds::{is_ace, is_line_read, is_lite_read, may_be_exclusive};
 use crate::port::PortRecord;
 use crate::ports::{PortCheck, record_of};
 use ace_codes::{ArKind, read_ar};
@@ -51,8 +52,16 @@ fn has_free_read(kept: &PortRecord, id: u8, addr: u32) -> bool
     kept.transactions.is_name_free(Channel::Read, id) && kept.transactions.is_line_free(addr)
 }
 
+/// K7, of an AR with lock 1: the port is an ACE port, and the kind is one of exclusive transactions (Arm IHI 0022E, C9).
+#[inline(always)]
+fn may_lock(header: &Header, port: u8, kind: ArKind) -> bool
+    ensures { result ≡ (is_ace header.now port && may_be_exclusive kind) }
+{
+    is_ace(header, port) && may_be_exclusive(kind)
+}
+
 impl PortCheck {
-    ghost use Rattle.std.specs.Prelude.{Bool, Some};
+    ghost use Rattle.std.specs.Prelude.{Bool, true, false, Some};
     ghost use Rattle.ace_event.specs.declared.event.Event.TheVariants.{Ar};
     ghost use Rattle.ace_model.specs.Accepted.{least_of};
     ghost use Rattle.ace_model.specs.Shares.{port_rules};
@@ -67,5 +76,13 @@ impl PortCheck {
     {
         may_begin(&self.header, port, addr, kind)
             && has_free_read(record_of(&self.ports, &self.outside, port), id, addr)
+    }
+    /// An AR of a line read of the kind with lock 1 keeps the rules that look at one port: K1 to K5 and K7.
+    #[inline(always)]
+    pub fn keeps_exclusive_address(&self, port: u8, id: u8, addr: u32, kind: ArKind) -> bool
+        ensures { (r : Recording) (snoop dom bar : ℕ) (lock : Bool) → Stands self.now r → plain_kind snoop dom bar false ≡ Some kind → lock ≡ true
+            → result ≡ is_none (least_of port_rules r.header r.past (Ar port id addr snoop dom bar lock)) }
+    {
+        self.keeps_read_address(port, id, addr, kind) && may_lock(&self.header, port, kind)
     }
 }

@@ -4,6 +4,8 @@ pub mod PlainGrants
 pub mod PlainAnswers
 pub mod MessageBeats
 pub mod SnoopLaws
+-- What an AC of DVM asks and leaves.
+pub mod MessageSnoops
 -- What an RK or WK moves.
 pub mod PlainAcknowledges
 -- What the AR of a plain read moves.

@@ -55,6 +55,10 @@ part_completed m place = record {
   sync_completed = m.sync_completed;
 }
 
+-- the last Sync is complete and has had no AC DVM Complete
+abbrev pub awaits_complete : PortMessages → Bool
+awaits_complete m = is_some m.sync && m.sync_done && not m.sync_completed
+
 -- once the Sync has had its AC DVM Complete
 abbrev pub told_complete : PortMessages → PortMessages
 told_complete m = record { first = m.first; sync = m.sync; sync_done = m.sync_done; sync_completed = true }

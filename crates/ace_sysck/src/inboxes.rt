@@ -153,11 +153,12 @@ fn next_message_in(inbox: &Inbox) -> Option<Message>
 }
 
 /// An AC of the kind forwards the next part, and no other AC comes before a second part.
-fn forwards_in(next: Option<Part>, addr: u32, kind: SnoopKind) -> bool
-    ensures { result ≡ forwards_in next addr kind }
+#[inline(always)]
+fn forwards_in(inbox: &Inbox, addr: u32, kind: SnoopKind) -> bool
+    ensures { result ≡ forwards_in (slice_get inbox.now.parts.items inbox.now.forwarded) addr kind }
 {
     let is_message = matches!(kind, SnoopKind::DvmMessage);
-    match next {
+    match inbox.parts.get(inbox.forwarded) {
         None => !is_message,
         Some(part) => {
             !(is_message || part.second) || (is_message && part.transaction.addr == addr)
@@ -238,6 +239,17 @@ impl Inboxes {
         }
     }
 
+    /// An AC of the kind forwards the next part to the port, and no other AC of the port comes before a second part.
+    #[inline(always)]
+    pub(crate) fn forwards(&self, port: u8, addr: u32, kind: SnoopKind) -> bool
+        ensures { result ≡ forwards_in (next_in (slice_get self.now.ports.items port)) addr kind }
+    {
+        match self.ports.get(port as usize) {
+            None => !matches!(kind, SnoopKind::DvmMessage),
+            Some(inbox) => forwards_in(inbox, addr, kind),
+        }
+    }
+
     /// K36: an AC DVM Message forwards the next part, and no other AC comes before a second part.
     pub fn keeps_k36(&self, event: &Event) -> bool
         ensures { (r : Recording) (t : Target) → MayAskInboxes r self.now event.now t → result ≡ k36 r.header r.past event.now }
@@ -245,7 +257,7 @@ impl Inboxes {
         match *event {
             Event::Ac { port, addr, snoop } => match read_ac(snoop) {
                 None => true,
-                Some(kind) => forwards_in(self.next_of(port), addr, kind),
+                Some(kind) => self.forwards(port, addr, kind),
             },
             _ => true,
         }
@@ -273,6 +285,17 @@ impl Inboxes {
         }
     }
 
+    /// The port of a part issues it: where that ends a message, its parts are sent to each other port. `kept` is what is kept of the
+    /// messages of the port before it.
+    #[inline(always)]
+    pub(crate) fn send_with(&mut self, kept: &PortMessages, x: Transaction)
+        ensures size { length self.new.ports.items ≡ length self.old.ports.items }
+        ensures all { SendsAll x.port (parts_sent kept.now x) self.old self.new }
+    {
+        let sent = parts_sent(kept, x);
+        self.send(x.port, &sent);
+    }
+
     /// Sends the parts to the port, unless it is the sender.
     fn send_one(&mut self, q: usize, sender: u8, sent: &Sent)
         ensures { SendsOne q sender (sent_list sent.now) self.old self.new }
@@ -286,7 +309,8 @@ impl Inboxes {
     }
 
     /// An AC DVM Message forwards the next part to the port.
-    fn forward(&mut self, port: u8)
+    #[inline(always)]
+    pub(crate) fn forward(&mut self, port: u8)
         ensures { ForwardsTo port self.old self.new }
     {
         let p = port as usize;
@@ -331,9 +355,7 @@ impl Inboxes {
     {
         if let Some(x) = begun_in(event, target) {
             if is_message_part(&x) {
-                let kept = messages.of(x.port);
-                let sent = parts_sent(&kept, x);
-                self.send(x.port, &sent);
+                self.send_with(&messages.of(x.port), x);
             }
         } else {
             match *event {

@@ -4,20 +4,11 @@ ghost use Rattle.std.specs.Prelude.{◌≡◌};
 ghost use Rattle.ace_model.specs.Trace.{is_some_and};
 ghost use Rattle.ace_codes.specs.Snoops.{ac_kind_of};
 ghost use Rattle.ace_model.specs.Kinds.{is_message_snoop, is_complete_snoop};
-ghost use Rattle.ace_model.specs.Transactions.{is_exclusive_store};
 ghost use Rattle.ace_model.specs.Messages.{is_message_part, is_dvm_completion};
 
 use ace_codes::{ArKind, SnoopKind, read_ac};
 use ace_model::Transaction;
 use ace_portck::kinds::read_kind;
-
-/// An exclusive store: a CleanUnique with lock 1 (Arm IHI 0022E, C9).
-#[inline(always)]
-pub fn is_exclusive_store(x: &Transaction) -> bool
-    ensures { result ≡ is_exclusive_store x.now }
-{
-    x.lock && matches!(read_kind(x), Some(ArKind::CleanUnique))
-}
 
 /// A part of a DVM message (Arm IHI 0022E, C12). Few transactions have its code, so most need no look at the rest.
 #[inline(always)]

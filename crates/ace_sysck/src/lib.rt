@@ -7,6 +7,7 @@ mod inboxes;
 mod kinds;
 mod message_addresses;
 mod message_beats;
+mod message_snoops;
 mod messages;
 mod monitors;
 mod plain_acknowledges;

@@ -1,8 +1,9 @@
 //! The DVM messages that the ports issue.
 
 ghost use Rattle.std.specs.Prelude.{◌≡◌, Some};
-ghost use Rattle.ace_sysck.specs.Messages.{is_new_sync, part_issued, part_completed, told_complete, is_in_order, is_at};
+ghost use Rattle.ace_sysck.specs.Messages.{is_new_sync, part_issued, part_completed, told_complete, awaits_complete, is_in_order, is_at};
 ghost use Rattle.ace_model.specs.Messages.{waits_after};
+ghost use Rattle.ace_model.specs.declared.transactions.Transaction.{Transaction};
 
 use crate::events::{begun_in, completed_in};
 use crate::kinds::{is_complete_snoop, is_message_part};
@@ -79,33 +80,21 @@ pub fn is_at(x: Option<Transaction>, place: usize) -> bool
     }
 }
 
-/// What is kept once the Sync has had its AC DVM Complete.
-fn told_complete(kept: PortMessages) -> PortMessages
-    ensures { result ≡ told_complete kept }
-{
-    PortMessages {
-        first: kept.first,
-        sync: kept.sync,
-        sync_done: kept.sync_done,
-        sync_completed: true,
-    }
-}
-
-/// The port may issue the part.
-fn is_in_order(kept: &PortMessages, x: &Transaction) -> bool
-    ensures { result ≡ is_in_order kept.now x.now }
+/// The port may issue a part with these fields.
+fn is_in_order(kept: &PortMessages, addr: u32, dom: u8, bar: u8) -> bool
+    ensures { (x : Transaction) → x.addr ≡ addr → x.dom ≡ dom → x.bar ≡ bar → result ≡ is_in_order kept.now x }
 {
     match kept.first {
-        Some(first) => x.dom == first.dom && x.bar == first.bar,
+        Some(first) => dom == first.dom && bar == first.bar,
         None => {
-            is_message_word(x.addr)
-                && (!(is_sync_word(x.addr) && kept.sync.is_some()) || kept.sync_completed)
+            is_message_word(addr)
+                && (!(is_sync_word(addr) && kept.sync.is_some()) || kept.sync_completed)
         }
     }
 }
 
 impl Messages {
-    ghost use Rattle.std.specs.Prelude.{◌≡◌, [], IfOk, slice_set, slice_index_or, length, Some};
+    ghost use Rattle.std.specs.Prelude.{◌≡◌, ◌<◌, [], IfOk, slice_set, slice_index_or, length, Some};
     ghost use Rattle.ace_event.specs.declared.header.Header.{Header};
     ghost use Rattle.ace_model.specs.Trace.{implies};
     ghost use Rattle.ace_model.specs.AddressRules.{is_part_in_order};
@@ -168,12 +157,58 @@ impl Messages {
         }
     }
 
+    /// The port has a Sync that is complete and has had no AC DVM Complete.
+    #[inline(always)]
+    pub(crate) fn awaits_complete(&self, port: u8) -> bool
+        ensures { result ≡ awaits_complete (slice_index_or self.now.ports.items port silent) }
+    {
+        let p = port as usize;
+        if p < self.ports.len() {
+            let kept = &self.ports[p];
+            kept.sync.is_some() && kept.sync_done && !kept.sync_completed
+        } else {
+            false
+        }
+    }
+
+    /// The port's last Sync has had its AC DVM Complete.
+    #[inline(always)]
+    pub(crate) fn tell_complete(&mut self, port: u8)
+        ensures { self.new.ports.items ≡ slice_set self.old.ports.items port (told_complete (slice_index_or self.old.ports.items port silent)) }
+    {
+        let p = port as usize;
+        if p < self.ports.len() {
+            self.ports[p].sync_completed = true;
+        }
+    }
+
     /// Of K9, where the event issues the transaction: a part of a message follows the part that the port issued before it.
     #[inline(always)]
     pub fn keeps_k9(&self, x: &Transaction) -> bool
         ensures { (r : Recording) → MessagesStand r self.now → result ≡ implies (is_message_part x.now) (is_part_in_order r.past x.now (first_waiting r.past x.now.port)) }
     {
-        !is_message_part(x) || is_in_order(&self.of(x.port), x)
+        !is_message_part(x) || is_in_order(&self.of(x.port), x.addr, x.dom, x.bar)
+    }
+
+    /// The same, of a part with these fields that the port, one of the header, issues.
+    #[inline(always)]
+    pub(crate) fn lets_begin(&self, port: u8, addr: u32, dom: u8, bar: u8) -> bool
+        ensures { (r : Recording) (x : Transaction) → MessagesStand r self.now → port < r.header.ports → x.addr ≡ addr → x.dom ≡ dom → x.bar ≡ bar
+            → x.port ≡ port → result ≡ is_part_in_order r.past x (first_waiting r.past x.port) }
+    {
+        match self.ports.get(usize::from(port)) {
+            None => false,
+            Some(kept) => is_in_order(kept, addr, dom, bar),
+        }
+    }
+
+    /// A port issues the part.
+    #[inline(always)]
+    pub(crate) fn issue(&mut self, x: Transaction)
+        ensures { self.new.ports.items ≡ slice_set self.old.ports.items x.port (part_issued (slice_index_or self.old.ports.items x.port silent) x) }
+    {
+        let kept = part_issued(self.of(x.port), x);
+        self.set(x.port, kept);
     }
 
     /// What is kept after the event.
@@ -183,15 +218,13 @@ impl Messages {
     {
         if let Some(x) = begun_in(event, target) {
             if is_message_part(&x) {
-                let kept = part_issued(self.of(x.port), x);
-                self.set(x.port, kept);
+                self.issue(x);
             }
         } else if let Some(x) = completed_in(event, target) {
             self.complete(x.port, x.place);
         } else if let Event::Ac { port, snoop, .. } = *event {
             if is_complete_snoop(snoop) {
-                let kept = told_complete(self.of(port));
-                self.set(port, kept);
+                self.tell_complete(port);
             }
         }
     }

@@ -4,11 +4,10 @@ ghost use Rattle.std.specs.Prelude.{◌≡◌, ◌<◌, ◌==◌, ◌||◌, ℕ}
 ghost use Rattle.std.specs.Int.{bit_at};
 ghost use Rattle.ace_sysck.specs.Registrations.{locked_in, kept_bits};
 
-use crate::kinds::is_exclusive_store;
 use ace_event::Event;
 use ace_model::Transaction;
 use ace_portck::Target;
-use ace_portck::kinds::is_line;
+use ace_portck::kinds::{is_exclusive_store, is_line};
 use indexmap::IndexMap;
 use std::alloc::{AllocError, Global};
 
@@ -57,14 +56,18 @@ fn locked_in(event: &Event, target: &Target) -> Option<Transaction>
 }
 
 impl Registrations {
-    ghost use Rattle.std.specs.Prelude.{◌≡◌, ◌≤◌, [], IfOk, IsOk, OnOk, OnErr, length, nat_eq};
+    ghost use Rattle.std.specs.Prelude.{◌≡◌, ◌≤◌, [], true, false, Some, IfOk, IsOk, OnOk, OnErr, is_some, length, nat_eq};
+    ghost use Rattle.indexmap.specs.IndexMap.{get};
+    ghost use Rattle.ace_event.specs.declared.event.Event.{Event};
     ghost use Rattle.ace_event.specs.declared.header.Header.{Header};
     ghost use Rattle.ace_model.specs.Exclusives.{is_registered};
     ghost use Rattle.ace_model.specs.Lines.{known_lines};
     ghost use Rattle.ace_model.specs.Trace.{Trace};
+    ghost use Rattle.ace_portck.specs.declared.target.Target.{Target};
     ghost use Rattle.ace_portck.specs.LineMaps.{HasRoomForLines};
     ghost use Rattle.ace_portck.specs.Targets.{Recording, after, target_of};
-    ghost use Rattle.ace_sysck.specs.Registrations.{RegistrationsStand, MayMakeLineRoom, MayHearRegistrations, HasLineRoom, IsNewLock, registered_bits};
+    ghost use Rattle.ace_sysck.specs.Registrations.{RegistrationsStand, MayMakeLineRoom, MayHearRegistrations, HasLineRoom, IsNewLock, locked_in, registered_bits};
+    ghost use Rattle.ace_sysck.specs.Steps.{IsStep};
 
     /// The registrations of the empty trace.
     pub fn new(alloc: Global) -> Registrations
@@ -122,6 +125,25 @@ impl Registrations {
         Ok(())
     }
 
+    /// Registers the port of the transaction with lock 1, which is granted its line, if the line has a place; says whether it has. If it
+    /// has none, nothing has changed.
+    pub fn register(&mut self, x: &Transaction) -> bool
+        ensures stands { (r : Recording) (e : Event) (t : Target) → IsStep r e t → locked_in e t ≡ Some x.now → RegistrationsStand r self.old → result ≡ true
+            → RegistrationsStand (after r e) self.new }
+        ensures found { result ≡ is_some (get nat_eq self.old.lines x.now.addr) }
+        ensures stays { result ≡ false → self.new ≡ self.old }
+        ensures roomy { (n : ℕ) (past : Trace) → HasRoomForLines n past self.old.lines → HasRoomForLines n past self.new.lines }
+    {
+        let kept = kept_bits(x, self.bits_of(x.addr));
+        match self.lines.get_mut(&x.addr) {
+            None => false,
+            Some(line) => {
+                *line = with_port(kept, x.port);
+                true
+            }
+        }
+    }
+
     /// The registrations after the event.
     #[inline(always)]
     pub fn hear(&mut self, event: &Event, target: &Target)
@@ -129,10 +151,7 @@ impl Registrations {
         ensures roomy { (n : ℕ) (past : Trace) → HasRoomForLines n past self.old.lines → HasRoomForLines n past self.new.lines }
     {
         if let Some(x) = locked_in(event, target) {
-            let kept = kept_bits(&x, self.bits_of(x.addr));
-            if let Some(line) = self.lines.get_mut(&x.addr) {
-                *line = with_port(kept, x.port);
-            }
+            self.register(&x);
         }
     }
 }

@@ -1,8 +1,8 @@
 //! What became of the exclusive stores.
 
-use crate::kinds::is_exclusive_store;
 use ace_event::Event;
 use ace_portck::Target;
+use ace_portck::kinds::is_exclusive_store;
 use std::alloc::{AllocError, Global};
 
 /// For each port and identifier: whether the exclusive store that the port issued last under it passed at its G. None where
@@ -44,7 +44,7 @@ impl Results {
         }
     }
 
-    fn set(&mut self, port: u8, id: u8, passed: Option<bool>)
+    pub fn set(&mut self, port: u8, id: u8, passed: Option<bool>)
         ensures { self.new.passed.items ≡ slice_set self.old.passed.items (slot_of port id) passed }
     {
         let slot = port as usize * 256 + id as usize;

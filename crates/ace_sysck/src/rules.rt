@@ -13,7 +13,7 @@ ghost use Rattle.ace_portck.specs.declared.target.Target.{Target};
 use crate::barriers::Barriers;
 use crate::events::{begun_in, responded_in};
 use crate::inboxes::Inboxes;
-use crate::kinds::{is_complete_snoop, is_dvm_completion, is_exclusive_store, is_message_part};
+use crate::kinds::{is_complete_snoop, is_dvm_completion, is_message_part};
 use crate::messages::{Messages, is_at};
 use crate::results::Results;
 use crate::syncs::Syncs;
@@ -21,6 +21,7 @@ use ace_codes::low_bits;
 use ace_event::{Event, Header};
 use ace_model::Transaction;
 use ace_portck::Target;
+use ace_portck::kinds::is_exclusive_store;
 
 /// A barrier half, a part of a message and a DVM Complete may begin now.
 #[inline(always)]
@@ -58,7 +59,8 @@ fn is_kept_okay(x: &Transaction, results: &Results) -> bool
 }
 
 /// EXOKAY, or OKAY.
-fn low_bits_of(okay: bool) -> u8
+#[inline(always)]
+pub(crate) fn low_bits_of(okay: bool) -> u8
     ensures { result ≡ (if okay then 1 else 0) }
 {
     if okay { 1 } else { 0 }
@@ -135,13 +137,15 @@ pub fn keeps_k39(header: &Header, messages: &Messages, syncs: &Syncs, event: &Ev
 }
 
 /// The port's last Sync may have its AC DVM Complete with the address.
-fn may_complete(header: &Header, messages: &Messages, syncs: &Syncs, port: u8, addr: u32) -> bool
+#[inline(always)]
+pub fn may_complete(
+    header: &Header,
+    messages: &Messages,
+    syncs: &Syncs,
+    port: u8,
+    addr: u32,
+) -> bool
     ensures { result ≡ completes_now header.now messages.now syncs.now port addr }
 {
-    let kept = messages.of(port);
-    addr == 0
-        && kept.sync.is_some()
-        && kept.sync_done
-        && !kept.sync_completed
-        && syncs.completes_all(header, port)
+    addr == 0 && messages.awaits_complete(port) && syncs.completes_all(header, port)
 }

@@ -6,7 +6,7 @@ ghost use Rattle.ace_sysck.specs.Syncs.{next_count, reached_by, one_answered, on
 use crate::events::begun_in;
 use crate::inboxes::{Inboxes, answers_message};
 use crate::kinds::{is_dvm_completion, is_message_part};
-use crate::messages::{Messages, is_new_sync};
+use crate::messages::{Messages, PortMessages, is_new_sync};
 use ace_event::{Event, Header};
 use ace_model::Transaction;
 use ace_portck::Target;
@@ -70,15 +70,19 @@ fn one_completed(kept: PortSyncs) -> PortSyncs
 }
 
 impl Syncs {
-    ghost use Rattle.std.specs.Prelude.{◌≡◌, ℕ, [], ◌==◌, true, IfOk, slice_set, slice_index_or, nat_le, nat_lt};
+    ghost use Rattle.std.specs.Prelude.{◌≡◌, ℕ, [], ◌==◌, true, Some, IfOk, slice_set, slice_index_or, nat_le, nat_lt};
     ghost use Rattle.ace_codes.specs.declared.state.LineState.{LineState};
+    ghost use Rattle.ace_event.specs.declared.event.Event.{Event};
     ghost use Rattle.ace_event.specs.declared.event.Event.TheVariants.{Cr};
     ghost use Rattle.ace_event.specs.declared.header.Header.{Header};
     ghost use Rattle.ace_model.specs.Trace.{implies};
     ghost use Rattle.ace_model.specs.OrderRules.{owes_completion};
     ghost use Rattle.ace_portck.specs.declared.target.Target.{Target};
     ghost use Rattle.ace_portck.specs.Targets.{Recording, after};
+    ghost use Rattle.ace_model.specs.Messages.{is_message_part};
+    ghost use Rattle.ace_sysck.specs.Events.{begun_in};
     ghost use Rattle.ace_sysck.specs.Inboxes.{InboxesStand, answers_message};
+    ghost use Rattle.ace_sysck.specs.Messages.{PortMessagesStand};
     ghost use Rattle.ace_sysck.specs.Steps.{IsStep};
     ghost use Rattle.ace_sysck.specs.Syncs.{SyncsStand, MayHearSyncs, MayIssueCompletion, ReachesAll, completes_all, one_completed, untold};
 
@@ -201,6 +205,17 @@ impl Syncs {
         }
     }
 
+    /// A port issues the part. `kept` is what is kept of the messages of the port before it.
+    #[inline(always)]
+    pub(crate) fn issue(&mut self, kept: &PortMessages, x: &Transaction)
+        ensures { (r : Recording) (e : Event) (t : Target) → IsStep r e t → begun_in e t ≡ Some x.now → is_message_part x.now ≡ true
+            → PortMessagesStand r.past x.now.port kept.now → SyncsStand r self.old → SyncsStand (after r e) self.new }
+    {
+        if is_new_sync(kept, x) {
+            self.reach_all(x.port);
+        }
+    }
+
     /// What is kept after the event. The messages and the inboxes are those before it.
     #[inline(always)]
     pub fn hear(&mut self, event: &Event, target: &Target, messages: &Messages, inboxes: &Inboxes)
@@ -208,10 +223,7 @@ impl Syncs {
     {
         if let Some(x) = begun_in(event, target) {
             if is_message_part(&x) {
-                let kept = messages.of(x.port);
-                if is_new_sync(&kept, &x) {
-                    self.reach_all(x.port);
-                }
+                self.issue(&messages.of(x.port), &x);
             } else if is_dvm_completion(&x) {
                 self.complete(x.port);
             }

@@ -23,7 +23,7 @@ pub struct SysCheck {
     pub(crate) barriers: Barriers,
     pub(crate) monitors: Monitors,
     pub(crate) results: Results,
-    registrations: Registrations,
+    pub(crate) registrations: Registrations,
     pub(crate) messages: Messages,
     pub(crate) inboxes: Inboxes,
     pub(crate) syncs: Syncs,

@@ -1,16 +1,14 @@
--- The AR of a DVM Complete: it breaks no rule where it breaks none of the ports and none of the system, and names no line.
+-- The AR of a DVM Message or a DVM Complete: it breaks no rule where it breaks none of the ports and none of the system, and names no line.
 use Rattle.std.proofs.Common.{◌≡◌, ◌<◌, ℕ, Bool, true, false, nat_lt, length, None, is_none, refl, sym}
 use Rattle.std.proofs.lemmas.Bool.{and_parts, ltb-true}
-use Rattle.ace_codes.specs.declared.kind.ArKind.TheVariants as read
 use Rattle.ace_event.specs.declared.event.Event.TheVariants.{Ar}
 use Rattle.ace_event.specs.declared.header.Header.{Header}
 use Rattle.ace_model.specs.Accepted.{least_broken, least_of}
 use Rattle.ace_model.specs.Shares.{port_rules, system_rules}
 use Rattle.ace_model.specs.Trace.{Trace}
-use Rattle.ace_portck.specs.DvmReads.{is_completion}
-use Rattle.ace_portck.proofs.ShortWays.DvmReads.{completion-read, dvm_read-no_line}
-use Rattle.ace_portck.proofs.ShortWays.PlainAddresses.{read_of}
-use Rattle.ace_lineck.proofs.ShortWays.MessageAddresses.{completion-keeps}
+use Rattle.ace_portck.specs.DvmReads.{is_dvm_address}
+use Rattle.ace_portck.proofs.ShortWays.DvmReads.{dvm_address-no_line}
+use Rattle.ace_lineck.proofs.ShortWays.MessageAddresses.{dvm_address-keeps}
 use Rattle.ace_check.specs.Run.{goes_over}
 use Rattle.ace_check.proofs.ShortWays.PlainSteps.{none-is, ports_keep_1}
 use Rattle.ace_check.proofs.Steps.{least_with}
@@ -20,12 +18,12 @@ module _ (h : Header) (past : Trace) (p i addr snoop dom bar : ℕ) (lock : Bool
   pub port_there : is_none (least_of port_rules h past (Ar p i addr snoop dom bar lock)) ≡ true → p < h.ports
   port_there ports = ltb-true p h.ports (and_parts (nat_lt p h.ports) _ (ports_keep_1 h past (Ar p i addr snoop dom bar lock) ports)).0
 
-  pub names-no_line : is_completion snoop dom bar lock ≡ true → goes_over past (Ar p i addr snoop dom bar lock) ≡ false
+  pub names-no_line : is_dvm_address snoop dom bar lock ≡ true → goes_over past (Ar p i addr snoop dom bar lock) ≡ false
   names-no_line is =
-      let off = dvm_read-no_line (read_of (length past) p i addr snoop dom bar lock) read.DvmComplete (completion-read (length past) p i addr snoop dom bar lock is) in
+      let off = dvm_address-no_line (length past) p i addr snoop dom bar lock is in
       rw off refl
 
-  pub keeps-all : is_completion snoop dom bar lock ≡ true → is_none (least_of port_rules h past (Ar p i addr snoop dom bar lock)) ≡ true
+  pub keeps-all : is_dvm_address snoop dom bar lock ≡ true → is_none (least_of port_rules h past (Ar p i addr snoop dom bar lock)) ≡ true
       → is_none (least_of system_rules h past (Ar p i addr snoop dom bar lock)) ≡ true → least_broken h past (Ar p i addr snoop dom bar lock) ≡ None
   keeps-all is ports system =
-      sym (least_with h past (Ar p i addr snoop dom bar lock) None None None (sym (none-is _ ports)) (sym (completion-keeps h past p i addr snoop dom bar lock is)) (sym (none-is _ system)))
+      sym (least_with h past (Ar p i addr snoop dom bar lock) None None None (sym (none-is _ ports)) (sym (dvm_address-keeps h past p i addr snoop dom bar lock is)) (sym (none-is _ system)))

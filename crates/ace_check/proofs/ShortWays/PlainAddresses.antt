@@ -1,4 +1,4 @@
--- The AR of a plain read on a known line: it breaks no rule where it breaks none of the ports and none of the lines, and names no new line.
+-- The AR of a line read on a known line: it breaks no rule where it breaks none of the ports and none of the lines, and names no new line.
 use Rattle.std.proofs.Common.{◌≡◌, ℕ, Bool, true, false, not, ◌&&◌, nat_le, length, Option, Some, None, is_none, refl, sym}
 use Rattle.ace_codes.specs.declared.kind.ArKind.{ArKind}
 use Rattle.ace_event.specs.declared.event.Event.{Event}
@@ -33,7 +33,7 @@ over-known past e known = by (issued (length past) e) known
     by None known = refl
     by (Some x) known = known-over (is_line x) (is_known past x.addr) (nat_le 4096 (length (known_lines past))) known
 
-pub keeps-all : (h : Header) (past : Trace) (p i addr snoop dom bar : ℕ) (lock : Bool) (k : ArKind) → plain_kind snoop dom bar lock ≡ Some k
+pub keeps-all : (h : Header) (past : Trace) (p i addr snoop dom bar : ℕ) (lock : Bool) (k : ArKind) → plain_kind snoop dom bar false ≡ Some k
     → is_none (least_of port_rules h past (Ar p i addr snoop dom bar lock)) ≡ true → is_none (least_of line_rules h past (Ar p i addr snoop dom bar lock)) ≡ true
     → least_broken h past (Ar p i addr snoop dom bar lock) ≡ None
 keeps-all h past p i addr snoop dom bar lock k plain ports lines =

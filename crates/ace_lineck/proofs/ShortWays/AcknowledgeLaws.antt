@@ -3,7 +3,7 @@ use Rattle.std.proofs.Common.{◌≡◌, ℕ, true, false, Bool, ◌&&◌, if◌
 use Rattle.ace_codes.specs.Responses.{passes_dirty, is_shared}
 use Rattle.ace_model.specs.AddressRules.{k1}
 use Rattle.ace_model.specs.declared.transactions.Transaction.{Transaction}
-use Rattle.ace_model.proofs.Terms.{ArKind, AwKind, Event, I, LineState, Read, Rk, Trace, Wk, Write, ends_read, ends_write, has_failed, implies, is_line, is_make_unique, is_none_or, k23, k28, least_of, line_rules, read_kind, write_kind}
+use Rattle.ace_model.proofs.Terms.{ArKind, AwKind, Event, I, LineState, Read, Rk, Trace, Wk, Write, ends_read, ends_write, has_failed, implies, is_exclusive_store, is_line, is_make_unique, is_none_or, k23, k28, least_of, line_rules, read_kind, write_kind}
 use Rattle.ace_model.proofs.General.Options.{Some-injective}
 use Rattle.ace_portck.specs.Targets.{Recording, line_in, line_of, target_of, transaction_in}
 use Rattle.ace_portck.specs.declared.target.Progress.{Progress}
@@ -16,9 +16,9 @@ use Rattle.ace_lineck.specs.Stands.{Stands, record_on}
 use Rattle.ace_lineck.proofs.ReplyLaws.{k23-of}
 use Rattle.ace_lineck.proofs.RuleLaws.{k28-law}
 
--- a transaction with lock 0 is no exclusive store
-unfailed : (past : Trace) (y : Transaction) → y.lock ≡ false → false ≡ has_failed past y
-unfailed past y unlocked = rw unlocked refl
+-- what is no exclusive store has not failed
+unfailed : (past : Trace) (y : Transaction) → is_exclusive_store y ≡ false → false ≡ has_failed past y
+unfailed past y none = rw none refl
 
 never : (b : Bool) → (b && false) ≡ false
 never true = refl
@@ -48,20 +48,20 @@ module _ (s : LineCheck) (r : Recording) (p : ℕ) (st : LineState) (stands : St
     line = λ l is. subst (λ o. LineStands r.header r.past l (record_on s o)) (sym is) (stands.lines l);
   }
 
-  -- K23, of an RK of a read with lock 0
+  -- K23, of an RK of a read that is no exclusive store
   abbrev ends : ArKind → LineState → Bool → Bool
   ends k own failed = ends_read k own (is_shared x.response) (passes_dirty x.response) failed st && implies (is_make_unique k) x.stored
 
-  pub rk-law : (k : ArKind) → transaction_in r.header r.past (Rk p st) ≡ Some x → x.transaction.lock ≡ false → read_kind x.transaction ≡ Some k
+  pub rk-law : (k : ArKind) → transaction_in r.header r.past (Rk p st) ≡ Some x → is_exclusive_store x.transaction ≡ false → read_kind x.transaction ≡ Some k
       → ends k (held (line_in r.header r.past (Rk p st))) false ≡ is_none (least_of line_rules r.header r.past (Rk p st))
-  rk-law k own unlocked kind =
+  rk-law k own none kind =
       let h = r.header in
       let e : Event = Rk p st in
       let o : Option ℕ = line_in h r.past e in
       let b : Bool = is_line x.transaction in
       let whole : is_none_or (transaction_in h r.past e) (ends_kept false (held o) st) ≡ k23 h r.past e =
       k23-of h r.past (target_of h r.past e) (record_on s o) p st (next-at e (acknowledge-first h r.past p st x Read own)) false
-      (λ y is line. unfailed r.past y (ap (λ (v : Transaction). v.lock) (sym (Some-injective x.transaction y (sym (acknowledge-one h r.past p st x Read own) ∙ is))) ∙ unlocked)) in
+      (λ y is line. unfailed r.past y (ap is_exclusive_store (sym (Some-injective x.transaction y (sym (acknowledge-one h r.past p st x Read own) ∙ is))) ∙ none)) in
       let one : is_none_or (transaction_in h r.past e) (ends_kept false (held o) st) ≡ ends_kept false (held o) st x = ap (λ v. is_none_or v (ends_kept false (held o) st)) own in
       let kinds : ends_kept false (held o) st x ≡ ends k (if b then held o else I) (b && false) = ap (λ v. is_none_or v (λ j. ends j (if b then held o else I) (b && false))) kind in
       let mine : ends k (if b then held o else I) (b && false) ≡ ends k (held o) false =

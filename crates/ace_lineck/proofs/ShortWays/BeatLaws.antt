@@ -1,17 +1,17 @@
 -- What the rules of a transfer say of a plain read, in the words of what is kept of its line.
-use Rattle.std.proofs.Common.{◌≡◌, ℕ, true, false, Bool, not, ◌&&◌, if◌then◌else◌, Option, Some, None, is_none, option_map, option_and_then, refl, sym, ap, subst, ◌∙◌, inl, inr}
-use Rattle.std.proofs.lemmas.Bool.{and_parts, cases_Bool, not-true}
+use Rattle.std.proofs.Common.{◌≡◌, ℕ, true, false, Bool, ◌&&◌, if◌then◌else◌, Option, Some, None, is_none, option_map, refl, sym, ap, subst, ◌∙◌, inl, inr}
+use Rattle.std.proofs.lemmas.Bool.{cases_Bool}
 use Rattle.ace_codes.specs.declared.kind.ArKind.{ArKind}
 use Rattle.ace_model.specs.declared.transactions.Transaction.{Transaction}
 use Rattle.ace_model.specs.Accepted.{least_of}
 use Rattle.ace_model.specs.AddressRules.{k1}
 use Rattle.ace_model.specs.Lines.{has_failed_on}
 use Rattle.ace_model.specs.Shares.{line_rules, k18_line}
-use Rattle.ace_model.proofs.Terms.{Header, Trace, Channel, R, Read, IsAccepted, implies, is_some_and, is_none_or, is_line, is_line_read, read_kind, outstanding, granted, has_failed, k19, k20}
-use Rattle.ace_model.proofs.General.Options.{Some-injective, some_if-is}
-use Rattle.ace_portck.specs.Plain.{plain_read}
+use Rattle.ace_model.proofs.Terms.{Header, Trace, Channel, R, Read, IsAccepted, implies, is_some_and, is_none_or, is_line, outstanding, granted, has_failed, k19, k20}
+use Rattle.ace_model.proofs.General.Options.{Some-injective}
 use Rattle.ace_portck.specs.Targets.{line_in, line_of, progress_of, target_of}
 use Rattle.ace_portck.specs.declared.target.Progress.{Progress}
+use Rattle.ace_portck.proofs.ShortWays.Plain.{IsPlainRead}
 use Rattle.ace_lineck.specs.declared.record.LineRecord.{LineRecord}
 use Rattle.ace_lineck.specs.declared.grant.Grant.{Grant}
 use Rattle.ace_lineck.specs.Grants.{GrantFits, GrantStands}
@@ -20,26 +20,6 @@ use Rattle.ace_lineck.specs.Kept.{may_have_beat, fits_bits, fits_reply, has_pass
 use Rattle.ace_lineck.specs.Beats.{keeps_beat, IsOfPlace}
 use Rattle.ace_lineck.proofs.GrantLaws.{its-is, k18-law}
 use Rattle.ace_lineck.proofs.ReplyLaws.{kind-line, k19-law, k20-law}
-
--- What a plain read of this kind is.
-pub record IsPlainRead (x : Transaction) (k : ArKind) : Type 0 where
-  pub kind : read_kind x ≡ Some k
-  pub line : is_line_read k ≡ true
-  pub unlocked : x.lock ≡ false
-
-pub plain : (x : Transaction) (k : ArKind) → plain_read x ≡ Some k → IsPlainRead x k
-plain x k is = by (read_kind x) refl
-  where
-    own : ArKind → Option ArKind
-    own j = if is_line_read j && not x.lock then Some j else None
-
-    by : (o : Option ArKind) → read_kind x ≡ o → IsPlainRead x k
-    by None none = let bad : None ≡ Some k = sym (ap (option_and_then own) none) ∙ is in cc
-    by (Some j) some =
-        let here : own j ≡ Some k = sym (ap (option_and_then own) some) ∙ is in
-        let s = some_if-is (is_line_read j && not x.lock) j k here in
-        let parts = and_parts (is_line_read j) (not x.lock) s.0 in
-        record { kind = some ∙ ap (λ v. Some v) s.1; line = ap is_line_read (sym s.1) ∙ parts.0; unlocked = not-true x.lock parts.1 }
 
 -- the transaction whose progress this is
 pub progress-from : (h : Header) (past : Trace) (o : Option Transaction) (x : Progress) → option_map (progress_of h past) o ≡ Some x → o ≡ Some x.transaction
@@ -96,8 +76,8 @@ module _ (h : Header) (past : Trace) (p i resp : ℕ) (last : Bool) (word : ℕ)
               | inl same ↦
                   let f : GrantFits h past x.transaction.addr g = subst (GrantStands h past x.transaction.addr) is s.grant in
                   let stands : granted h past x.transaction.addr ≡ Some x.transaction = f.granted ∙ ap (λ v. Some v) (of-place g is same) in
-                  let unlocked = own.unlocked in
-                  let fine : has_failed past x.transaction ≡ false = rw unlocked refl in
+                  let unfailing = own.unfailing in
+                  let fine : has_failed past x.transaction ≡ false = rw unfailing refl in
                   let failed : has_failed_on h past x.transaction.addr ≡ false = ap (λ o. is_some_and o (has_failed past)) stands ∙ fine in
                   ap (λ b. may_have_beat h b (Some g) kept.holders.items x resp) failed
             ]

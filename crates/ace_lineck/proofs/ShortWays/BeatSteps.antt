@@ -16,6 +16,7 @@ use Rattle.ace_model.proofs.Grants.Granted.{granted_at}
 use Rattle.ace_portck.specs.Targets.{Recording, line_in, progress_of, target_of}
 use Rattle.ace_portck.specs.declared.target.Progress.{Progress}
 use Rattle.ace_portck.specs.declared.target.Target.{Target}
+use Rattle.ace_portck.proofs.ShortWays.Plain.{IsPlainRead}
 use Rattle.ace_lineck.specs.declared.lines.LineCheck.{LineCheck}
 use Rattle.ace_lineck.specs.declared.record.Holder.{Holder}
 use Rattle.ace_lineck.specs.declared.record.LineRecord.{LineRecord}
@@ -30,7 +31,7 @@ use Rattle.ace_lineck.proofs.OnLine.{on-transaction}
 use Rattle.ace_lineck.proofs.GrantHear.{beat_heard, ends_heard, none_heard, over_heard}
 use Rattle.ace_lineck.proofs.HolderSteps.{holders-hear, holder-step}
 use Rattle.ace_lineck.proofs.Received.{received-some, received-none}
-use Rattle.ace_lineck.proofs.ShortWays.BeatLaws.{IsPlainRead, beat-line}
+use Rattle.ace_lineck.proofs.ShortWays.BeatLaws.{beat-line}
 
 module _ (h : Header) (past : Trace) (l p i resp : ℕ) (last : Bool) (word : ℕ) (t : Target) where
   -- the read whose transfer the event is has the grant of its line

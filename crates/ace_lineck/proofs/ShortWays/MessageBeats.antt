@@ -1,6 +1,5 @@
 -- What the rules about lines say of a transfer of a DVM read, and what it leaves.
-use Rattle.std.proofs.Common.{◌≡◌, ◌==◌, ℕ, true, false, Bool, not, Some, None, is_none, option_map, refl, sym, ap, ◌∙◌}
-use Rattle.std.proofs.lemmas.Bool.{and_parts, not-true}
+use Rattle.std.proofs.Common.{◌≡◌, ◌==◌, ◌&&◌, ℕ, true, false, Bool, not, Some, None, is_none, option_map, refl, sym, ap, ◌∙◌}
 use Rattle.ace_codes.specs.Responses.{is_shared, passes_dirty}
 use Rattle.ace_codes.specs.declared.kind.ArKind.{ArKind}
 use Rattle.ace_codes.specs.declared.kind.ArKind.TheVariants as read
@@ -22,39 +21,29 @@ use Rattle.ace_lineck.proofs.AllLines.{unchanged}
 use Rattle.ace_lineck.proofs.ShortWays.BeatLaws.{progress-from, three-rules}
 use Rattle.ace_lineck.proofs.ReplyLaws.{k19-law, k20-law}
 
--- What a dataless transfer is.
-record IsDataless (x : Progress) (resp word : ℕ) : Type 0 where
-  first : (x.transfers == 0) ≡ true
-  dirty : passes_dirty resp ≡ false
-  shared : is_shared resp ≡ false
-  zero : (word == 0) ≡ true
-
-dataless-is : (x : Progress) (resp word : ℕ) → is_dataless x resp word ≡ true → IsDataless x resp word
-dataless-is x resp word t =
-    let last = and_parts _ (word == 0) t in
-    let shared = and_parts _ (not (is_shared resp)) last.0 in
-    let dirty = and_parts (x.transfers == 0) (not (passes_dirty resp)) shared.0 in
-    record { first = dirty.0; dirty = not-true (passes_dirty resp) dirty.1; shared = not-true (is_shared resp) shared.1; zero = last.1 }
-
--- its upper bits and its word are those of a DVM read
-bits-fit : (h : Header) (passed shared : Bool) (resp word : ℕ) (x : Progress) (k : ArKind) → read_kind x.transaction ≡ Some k → is_dvm_read k ≡ true → IsDataless x resp word
-    → fits_bits h passed shared resp x ≡ true
-bits-fit h passed shared resp word x k kind dvm d = by k dvm kind (is_ace h x.transaction.port) refl
+-- its first transfer may have neither PassDirty nor IsShared
+bits-are : (h : Header) (passed shared : Bool) (resp : ℕ) (x : Progress) (k : ArKind) → read_kind x.transaction ≡ Some k → is_dvm_read k ≡ true → x.transfers ≡ 0 → passed ≡ false
+    → (not (passes_dirty resp) && not (is_shared resp)) ≡ fits_bits h passed shared resp x
+bits-are h passed shared resp x k kind dvm first none = by k dvm kind (is_ace h x.transaction.port) (passes_dirty resp) (is_shared resp) refl refl refl
   where
-    by : (j : ArKind) → is_dvm_read j ≡ true → read_kind x.transaction ≡ Some j → (b : Bool) → is_ace h x.transaction.port ≡ b → fits_bits h passed shared resp x ≡ true
-    by read.DvmMessage dvm own true ace = let first = d.first in let dirty = d.dirty in let none = d.shared in rw (own, dirty, none, first, ace) refl
-    by read.DvmMessage dvm own false ace = let first = d.first in let dirty = d.dirty in let none = d.shared in rw (own, dirty, none, first, ace) refl
-    by read.DvmComplete dvm own true ace = let first = d.first in let dirty = d.dirty in let none = d.shared in rw (own, dirty, none, first, ace) refl
-    by read.DvmComplete dvm own false ace = let first = d.first in let dirty = d.dirty in let none = d.shared in rw (own, dirty, none, first, ace) refl
-    by j dvm own b ace = cc
+    by : (j : ArKind) → is_dvm_read j ≡ true → read_kind x.transaction ≡ Some j → (a d s : Bool) → is_ace h x.transaction.port ≡ a → passes_dirty resp ≡ d → is_shared resp ≡ s
+        → (not (passes_dirty resp) && not (is_shared resp)) ≡ fits_bits h passed shared resp x
+    by j dvm own a true s ace dirty told = rw (dirty, none) refl
+    by read.DvmMessage dvm own a false true ace dirty told = rw (own, dirty, told) refl
+    by read.DvmMessage dvm own true false false ace dirty told = rw (own, dirty, told, first, ace) refl
+    by read.DvmMessage dvm own false false false ace dirty told = rw (own, dirty, told, first, ace) refl
+    by read.DvmComplete dvm own a false true ace dirty told = rw (own, dirty, told) refl
+    by read.DvmComplete dvm own true false false ace dirty told = rw (own, dirty, told, first, ace) refl
+    by read.DvmComplete dvm own false false false ace dirty told = rw (own, dirty, told, first, ace) refl
+    by j dvm own a false s ace dirty told = cc
 
-word-fits : (kept : LineRecord) (resp word : ℕ) (x : Progress) (k : ArKind) → read_kind x.transaction ≡ Some k → is_dvm_read k ≡ true → IsDataless x resp word
-    → fits_reply kept.grant kept.memory word x ≡ true
-word-fits kept resp word x k kind dvm d = by k dvm kind
+-- and has the word 0
+word-is : (kept : LineRecord) (word : ℕ) (x : Progress) (k : ArKind) → read_kind x.transaction ≡ Some k → is_dvm_read k ≡ true → (word == 0) ≡ fits_reply kept.grant kept.memory word x
+word-is kept word x k kind dvm = by k dvm kind
   where
-    by : (j : ArKind) → is_dvm_read j ≡ true → read_kind x.transaction ≡ Some j → fits_reply kept.grant kept.memory word x ≡ true
-    by read.DvmMessage dvm own = rw own d.zero
-    by read.DvmComplete dvm own = rw own d.zero
+    by : (j : ArKind) → is_dvm_read j ≡ true → read_kind x.transaction ≡ Some j → (word == 0) ≡ fits_reply kept.grant kept.memory word x
+    by read.DvmMessage dvm own = rw own refl
+    by read.DvmComplete dvm own = rw own refl
     by j dvm own = cc
 
 module _ (h : Header) (past : Trace) (p i resp : ℕ) (last : Bool) (word : ℕ) (x : Progress) (k : ArKind) (out : option_map (progress_of h past) (outstanding h past p Read i) ≡ Some x)
@@ -66,12 +55,11 @@ module _ (h : Header) (past : Trace) (p i resp : ℕ) (last : Bool) (word : ℕ)
   pub beat-off : line_in h past (R p i resp last word) ≡ None
   beat-off = ap line_of out ∙ (let off = dvm_read-no_line x.transaction k is in rw off refl)
 
-  -- no rule of the share is broken by a dataless one
-  pub dataless-keeps : (kept : LineRecord) → IsAccepted h past → k1 h past (R p i resp last word) ≡ true → is_dataless x resp word ≡ true
-      → is_none (least_of line_rules h past (R p i resp last word)) ≡ true
-  dataless-keeps kept accepted port t =
+  -- its first transfer breaks no rule of the share where it is dataless
+  pub message-beat-law : (kept : LineRecord) → IsAccepted h past → k1 h past (R p i resp last word) ≡ true → x.transfers ≡ 0
+      → is_dataless resp word ≡ is_none (least_of line_rules h past (R p i resp last word))
+  message-beat-law kept accepted port first =
       let e = R p i resp last word in
-      let d = dataless-is x resp word t in
       let next : IsNext h past e (target_of h past e) kept = record {
         accepted = accepted;
         port = port;
@@ -81,10 +69,11 @@ module _ (h : Header) (past : Trace) (p i resp : ℕ) (last : Bool) (word : ℕ)
       let served = progress-from h past (outstanding h past p Read i) x out in
       let off = dvm_read-no_line x.transaction k is in
       let free : k18_line h past e ≡ true = rw (served, off) refl in
-      sym (three-rules true true true (k18_line h past e) (k19 h past e) (k20 h past e) (sym free)
-      (λ q. sym (bits-fit h (has_passed_for kept.grant x.transaction) (is_shared_under kept.grant) resp word x k is.kind is.dvm d)
+      let none : has_passed_for kept.grant x.transaction ≡ false = rw off refl in
+      three-rules true (not (passes_dirty resp) && not (is_shared resp)) (word == 0) (k18_line h past e) (k19 h past e) (k20 h past e) (sym free)
+      (λ q. bits-are h (has_passed_for kept.grant x.transaction) (is_shared_under kept.grant) resp x k is.kind is.dvm first none
       ∙ sym (ap (λ o. is_none_or o (λ y. fits_bits h (has_passed_for kept.grant y.transaction) (is_shared_under kept.grant) resp y)) out) ∙ k19-law h past (target_of h past e) kept p i resp last word next q)
-      (λ q. sym (word-fits kept resp word x k is.kind is.dvm d) ∙ sym (ap (λ o. is_none_or o (fits_reply kept.grant kept.memory word)) out) ∙ k20-law h past (target_of h past e) kept p i resp last word next q))
+      (λ q. word-is kept word x k is.kind is.dvm ∙ sym (ap (λ o. is_none_or o (fits_reply kept.grant kept.memory word)) out) ∙ k20-law h past (target_of h past e) kept p i resp last word next q)
 
 -- and all lines stay as they are
 pub lines-unmoved : (s : LineCheck) (r : Recording) (p i resp : ℕ) (last : Bool) (word : ℕ) (x : Progress) (k : ArKind) → Stands s r

@@ -1,4 +1,4 @@
--- What a DVM read is, and which rules about one port look at the AR of a DVM Complete.
+-- What a DVM read is, and which rules about one port look at its AR.
 use Rattle.std.proofs.Common.{◌≡◌, ℕ, Bool, true, false, not, ◌&&◌, nat_lt, if◌then◌else◌, Option, Some, None, is_none, option_and_then, refl, ap, subst}
 use Rattle.std.proofs.lemmas.Bool.{and_parts, not-true}
 use Rattle.ace_codes.specs.declared.kind.ArKind.{ArKind}
@@ -9,12 +9,13 @@ use Rattle.ace_event.specs.declared.event.Event.TheVariants.{Ar}
 use Rattle.ace_event.specs.declared.header.Header.{Header}
 use Rattle.ace_model.specs.Accepted.{least_of}
 use Rattle.ace_model.specs.Barriers.{is_barrier_half}
-use Rattle.ace_model.specs.Kinds.{is_dvm_complete, is_line_read, is_read_barrier}
+use Rattle.ace_model.specs.Kinds.{is_dvm_complete, is_dvm_message, is_line_read, is_lite_read, is_read_barrier}
 use Rattle.ace_model.specs.Shares.{port_rules}
 use Rattle.ace_model.specs.Trace.{Trace, is_some_and}
 use Rattle.ace_model.specs.Transactions.{is_ace, is_line, is_read, outstanding, read_kind, write_kind}
 use Rattle.ace_model.specs.declared.transactions.Transaction.{Transaction}
-use Rattle.ace_portck.specs.DvmReads.{dvm_read, is_completion, is_dvm_read}
+use Rattle.ace_model.proofs.General.Options.{is_some_and-is}
+use Rattle.ace_portck.specs.DvmReads.{dvm_read, is_completion, is_dvm_address, is_dvm_read, is_message}
 use Rattle.ace_portck.proofs.ShortWays.Plain.{from_test, on_reads}
 use Rattle.ace_portck.proofs.ShortWays.PlainAddresses.{read_of}
 
@@ -49,6 +50,11 @@ dvm-no_line read.DvmMessage dvm = refl
 dvm-no_line read.DvmComplete dvm = refl
 dvm-no_line k dvm = cc
 
+dvm-no_lite : (k : ArKind) → is_dvm_read k ≡ true → is_lite_read k ≡ false
+dvm-no_lite read.DvmMessage dvm = refl
+dvm-no_lite read.DvmComplete dvm = refl
+dvm-no_lite k dvm = cc
+
 -- it is neither half of a barrier nor a line transaction
 pub dvm_read-no_half : (x : Transaction) (k : ArKind) → IsDvmRead x k → is_barrier_half x ≡ false
 dvm_read-no_half x k d = rw (d.kind, dvm_read-writes_none x k d, dvm-no_barrier k d.dvm) refl
@@ -56,39 +62,78 @@ dvm_read-no_half x k d = rw (d.kind, dvm_read-writes_none x k d, dvm-no_barrier 
 pub dvm_read-no_line : (x : Transaction) (k : ArKind) → IsDvmRead x k → is_line x ≡ false
 dvm_read-no_line x k d = rw (d.kind, dvm_read-writes_none x k d, dvm-no_line k d.dvm) refl
 
--- What the fields of a DVM Complete with lock 0 say.
-pub record IsCompletion (snoop dom bar : ℕ) (lock : Bool) : Type 0 where
-  pub kind : ar_kind_of snoop dom bar ≡ Some read.DvmComplete
+-- What the fields of the AR of a read of the kind with lock 0 say.
+pub record AreFields (snoop dom bar : ℕ) (lock : Bool) (k : ArKind) : Type 0 where
+  pub kind : ar_kind_of snoop dom bar ≡ Some k
   pub unlocked : lock ≡ false
 
-completes : (o : Option ArKind) → is_some_and o is_dvm_complete ≡ true → o ≡ Some read.DvmComplete
-completes (Some read.DvmComplete) t = refl
-completes None t = cc
-completes (Some k) t = cc
+fields-where : (snoop dom bar : ℕ) (lock : Bool) (test : ArKind → Bool) → (is_some_and (ar_kind_of snoop dom bar) test && not lock) ≡ true
+    → (k : ArKind) × AreFields snoop dom bar lock k × (test k ≡ true)
+fields-where snoop dom bar lock test t =
+    let parts = and_parts (is_some_and (ar_kind_of snoop dom bar) test) (not lock) t in
+    let k = is_some_and-is (ar_kind_of snoop dom bar) test parts.0 in
+    (k.0, record { kind = k.1; unlocked = not-true lock parts.1 }, k.2)
 
-pub completion-is : (snoop dom bar : ℕ) (lock : Bool) → is_completion snoop dom bar lock ≡ true → IsCompletion snoop dom bar lock
+one-message : (k : ArKind) → is_dvm_message k ≡ true → k ≡ read.DvmMessage
+one-message read.DvmMessage t = refl
+one-message k t = cc
+
+one-completion : (k : ArKind) → is_dvm_complete k ≡ true → k ≡ read.DvmComplete
+one-completion read.DvmComplete t = refl
+one-completion k t = cc
+
+pub message-is : (snoop dom bar : ℕ) (lock : Bool) → is_message snoop dom bar lock ≡ true → AreFields snoop dom bar lock read.DvmMessage
+message-is snoop dom bar lock t =
+    let f = fields-where snoop dom bar lock is_dvm_message t in
+    subst (AreFields snoop dom bar lock) (one-message f.0 f.2) f.1
+
+pub completion-is : (snoop dom bar : ℕ) (lock : Bool) → is_completion snoop dom bar lock ≡ true → AreFields snoop dom bar lock read.DvmComplete
 completion-is snoop dom bar lock t =
-    let parts = and_parts (is_some_and (ar_kind_of snoop dom bar) is_dvm_complete) (not lock) t in
-    record { kind = completes (ar_kind_of snoop dom bar) parts.0; unlocked = not-true lock parts.1 }
+    let f = fields-where snoop dom bar lock is_dvm_complete t in
+    subst (AreFields snoop dom bar lock) (one-completion f.0 f.2) f.1
 
--- the read that it issues
-pub completion-read : (place p i addr snoop dom bar : ℕ) (lock : Bool) → is_completion snoop dom bar lock ≡ true → IsDvmRead (read_of place p i addr snoop dom bar lock) read.DvmComplete
-completion-read place p i addr snoop dom bar lock t =
-    let c = completion-is snoop dom bar lock t in
-    record { chan = refl; kind = c.kind; dvm = refl; unlocked = c.unlocked }
+-- both are DVM reads
+pub message-dvm : (snoop dom bar : ℕ) (lock : Bool) → is_message snoop dom bar lock ≡ true → is_dvm_address snoop dom bar lock ≡ true
+message-dvm snoop dom bar lock t = let f = message-is snoop dom bar lock t in rw (f.kind, f.unlocked) refl
+
+pub completion-dvm : (snoop dom bar : ℕ) (lock : Bool) → is_completion snoop dom bar lock ≡ true → is_dvm_address snoop dom bar lock ≡ true
+completion-dvm snoop dom bar lock t = let f = completion-is snoop dom bar lock t in rw (f.kind, f.unlocked) refl
+
+-- the read that such an AR issues
+pub dvm_address-read : (place p i addr snoop dom bar : ℕ) (lock : Bool) → is_dvm_address snoop dom bar lock ≡ true
+    → (k : ArKind) × IsDvmRead (read_of place p i addr snoop dom bar lock) k
+dvm_address-read place p i addr snoop dom bar lock t =
+    let f = fields-where snoop dom bar lock is_dvm_read t in
+    (f.0, record { chan = refl; kind = f.1.kind; dvm = f.2; unlocked = f.1.unlocked })
+
+-- it is neither half of a barrier nor a line transaction
+pub dvm_address-no_half : (place p i addr snoop dom bar : ℕ) (lock : Bool) → is_dvm_address snoop dom bar lock ≡ true
+    → is_barrier_half (read_of place p i addr snoop dom bar lock) ≡ false
+dvm_address-no_half place p i addr snoop dom bar lock t =
+    let d = dvm_address-read place p i addr snoop dom bar lock t in
+    dvm_read-no_half (read_of place p i addr snoop dom bar lock) d.0 d.1
+
+pub dvm_address-no_line : (place p i addr snoop dom bar : ℕ) (lock : Bool) → is_dvm_address snoop dom bar lock ≡ true
+    → is_line (read_of place p i addr snoop dom bar lock) ≡ false
+dvm_address-no_line place p i addr snoop dom bar lock t =
+    let d = dvm_address-read place p i addr snoop dom bar lock t in
+    dvm_read-no_line (read_of place p i addr snoop dom bar lock) d.0 d.1
 
 -- K1, K2 and K4 are all that is asked of it
-pub completion_rules : (h : Header) (past : Trace) (p i addr snoop dom bar : ℕ) (lock : Bool) → is_completion snoop dom bar lock ≡ true
+kind_rules : (h : Header) (past : Trace) (p i addr snoop dom bar : ℕ) (lock : Bool) (k : ArKind) → AreFields snoop dom bar lock k → is_dvm_read k ≡ true
     → is_none (least_of port_rules h past (Ar p i addr snoop dom bar lock)) ≡ ((nat_lt p h.ports && is_ace h p) && is_none (outstanding h past p Read i))
-completion_rules h past p i addr snoop dom bar lock t =
+kind_rules h past p i addr snoop dom bar lock k is dvm =
     by (nat_lt p h.ports) (is_ace h p) (is_none (outstanding h past p Read i)) refl refl refl
   where
-    is : IsCompletion snoop dom bar lock
-    is = completion-is snoop dom bar lock t
-
     by : (a b c : Bool) → nat_lt p h.ports ≡ a → is_ace h p ≡ b → is_none (outstanding h past p Read i) ≡ c
         → is_none (least_of port_rules h past (Ar p i addr snoop dom bar lock)) ≡ ((a && b) && c)
     by false b c port ace name = rw port refl
-    by true false c port ace name = rw (port, is.kind, ace) refl
-    by true true false port ace name = rw (port, is.kind, ace, name) refl
-    by true true true port ace name = rw (port, is.kind, ace, name, is.unlocked) refl
+    by true false c port ace name = rw (port, is.kind, ace, dvm-no_lite k dvm) refl
+    by true true false port ace name = rw (port, is.kind, ace, dvm-no_line k dvm, name) refl
+    by true true true port ace name = rw (port, is.kind, ace, dvm-no_line k dvm, name, is.unlocked) refl
+
+pub dvm_address_rules : (h : Header) (past : Trace) (p i addr snoop dom bar : ℕ) (lock : Bool) → is_dvm_address snoop dom bar lock ≡ true
+    → is_none (least_of port_rules h past (Ar p i addr snoop dom bar lock)) ≡ ((nat_lt p h.ports && is_ace h p) && is_none (outstanding h past p Read i))
+dvm_address_rules h past p i addr snoop dom bar lock t =
+    let f = fields-where snoop dom bar lock is_dvm_read t in
+    kind_rules h past p i addr snoop dom bar lock f.0 f.1 f.2

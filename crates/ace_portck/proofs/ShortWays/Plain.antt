@@ -13,29 +13,29 @@ use Rattle.ace_model.specs.Kinds.{is_dvm_message, is_line_read, is_read_barrier}
 use Rattle.ace_model.specs.Messages.{is_message_part}
 use Rattle.ace_model.specs.Shares.{k18_transfer, port_rules}
 use Rattle.ace_model.specs.Trace.{Trace}
-use Rattle.ace_model.specs.Transactions.{is_line, is_read, outstanding, read_kind, write_kind}
+use Rattle.ace_model.specs.Transactions.{is_exclusive_store, is_line, is_read, outstanding, read_kind, write_kind}
 use Rattle.ace_model.specs.declared.transactions.Transaction.{Transaction}
 use Rattle.ace_portck.specs.Plain.{is_next_beat, plain_read}
 use Rattle.ace_portck.specs.Targets.{progress_of}
 use Rattle.ace_portck.specs.declared.target.Progress.{Progress}
 
--- The transaction is a line read of the kind, with lock 0.
+-- The transaction is a line read of the kind, and no exclusive store.
 pub record IsPlainRead (x : Transaction) (k : ArKind) : Type 0 where
   pub chan : is_read x.chan ≡ true
   pub kind : read_kind x ≡ Some k
   pub line : is_line_read k ≡ true
-  pub unlocked : x.lock ≡ false
+  pub unfailing : is_exclusive_store x ≡ false
 
-pub from_test : (b lock : Bool) (j k : ArKind) → (if b && not lock then Some j else None) ≡ Some k → (b ≡ true) × (lock ≡ false) × (j ≡ k)
+pub from_test : (b barred : Bool) (j k : ArKind) → (if b && not barred then Some j else None) ≡ Some k → (b ≡ true) × (barred ≡ false) × (j ≡ k)
 from_test true false j k is = (refl, refl, cc)
 from_test true true j k is = cc
-from_test false lock j k is = cc
+from_test false barred j k is = cc
 
-from_kind : (o : Option ArKind) (lock : Bool) (k : ArKind) → option_and_then (λ j. if is_line_read j && not lock then Some j else None) o ≡ Some k
-    → (o ≡ Some k) × (is_line_read k ≡ true) × (lock ≡ false)
-from_kind None lock k is = cc
-from_kind (Some j) lock k is =
-    let t = from_test (is_line_read j) lock j k is in
+pub from_kind : (o : Option ArKind) (barred : Bool) (k : ArKind) → option_and_then (λ j. if is_line_read j && not barred then Some j else None) o ≡ Some k
+    → (o ≡ Some k) × (is_line_read k ≡ true) × (barred ≡ false)
+from_kind None barred k is = cc
+from_kind (Some j) barred k is =
+    let t = from_test (is_line_read j) barred j k is in
     (ap Some t.2, subst (λ v. is_line_read v ≡ true) t.2 t.0, t.1)
 
 pub on_reads : (b : Bool) (o : Option ArKind) (k : ArKind) → (if b then o else None) ≡ Some k → b ≡ true
@@ -44,8 +44,8 @@ on_reads false o k is = cc
 
 pub plain_read-is : (x : Transaction) (k : ArKind) → plain_read x ≡ Some k → IsPlainRead x k
 plain_read-is x k is =
-    let t = from_kind (read_kind x) x.lock k is in
-    record { chan = on_reads (is_read x.chan) (ar_kind_of x.snoop x.dom x.bar) k t.0; kind = t.0; line = t.1; unlocked = t.2 }
+    let t = from_kind (read_kind x) (is_exclusive_store x) k is in
+    record { chan = on_reads (is_read x.chan) (ar_kind_of x.snoop x.dom x.bar) k t.0; kind = t.0; line = t.1; unfailing = t.2 }
 
 -- it is no write
 pub plain_read-writes_none : (x : Transaction) (k : ArKind) → IsPlainRead x k → write_kind x ≡ None

@@ -1,47 +1,94 @@
--- What the AR of a DVM Complete moves of the system: the results, and the Syncs of its port.
-use Rattle.std.proofs.Common.{◌≡◌, ◌<◌, ◌-◌, ◌^◌, ℕ, Bool, true, false, ◌∷◌, length, get_or, slice_set, None, refl}
+-- What the AR of a DVM Message and of a DVM Complete ask of the system, and what they move: the results, the Syncs, and of a DVM Message the
+-- inboxes and the messages of its port.
+use Rattle.std.proofs.Common.{◌≡◌, ◌∙◌, ◌<◌, ◌-◌, ◌^◌, ℕ, Bool, true, false, ◌&&◌, ◌∷◌, length, get_or, slice_set, Some, None, is_none, refl, sym, ap, subst}
 use Rattle.ace_codes.specs.declared.kind.ArKind.TheVariants as read
 use Rattle.ace_event.specs.declared.event.Event.TheVariants.{Ar}
-use Rattle.ace_model.specs.Accepted.{IsAccepted, least_broken}
+use Rattle.ace_model.specs.Accepted.{IsAccepted, least_broken, least_of}
+use Rattle.ace_model.specs.AddressRules.{is_part_in_order, k9}
 use Rattle.ace_model.specs.Barriers.{is_barrier_half}
-use Rattle.ace_model.specs.Messages.{is_dvm_completion, is_message_part}
+use Rattle.ace_model.specs.Messages.{first_waiting, is_dvm_completion, is_message_part}
+use Rattle.ace_model.specs.OrderRules.{k38}
+use Rattle.ace_model.specs.Shares.{system_rules}
+use Rattle.ace_model.specs.Trace.{implies}
+use Rattle.ace_model.specs.Transactions.{issued}
 use Rattle.ace_model.specs.declared.transactions.Transaction.{Transaction}
+use Rattle.ace_model.proofs.General.Options.{Some-injective}
 use Rattle.ace_model.proofs.Terms.{Event, Header, Trace}
-use Rattle.ace_portck.specs.DvmReads.{is_completion}
+use Rattle.ace_portck.specs.DvmReads.{is_completion, is_message}
 use Rattle.ace_portck.specs.Targets.{Recording, after, target_of}
 use Rattle.ace_portck.specs.declared.target.Target.{Target}
-use Rattle.ace_portck.proofs.ShortWays.DvmReads.{IsCompletion, completion-is, completion-read, dvm_read-no_half}
+use Rattle.ace_portck.proofs.ShortWays.DvmReads.{AreFields, completion-dvm, completion-is, dvm_address-no_half, message-dvm, message-is}
 use Rattle.ace_portck.proofs.ShortWays.PlainAddresses.{read_of}
+use Rattle.ace_sysck.specs.declared.inboxes.Inboxes.{Inboxes}
+use Rattle.ace_sysck.specs.declared.messages.Messages.{Messages}
+use Rattle.ace_sysck.specs.declared.messages.PortMessages.{PortMessages}
 use Rattle.ace_sysck.specs.declared.results.Results.{Results}
 use Rattle.ace_sysck.specs.declared.syncs.Syncs.{Syncs}
 use Rattle.ace_sysck.specs.declared.system.SysCheck.{SysCheck}
+use Rattle.ace_sysck.specs.Events.{begun_in}
+use Rattle.ace_sysck.specs.Inboxes.{SendsAll, parts_sent}
+use Rattle.ace_sysck.specs.Messages.{PortMessagesStand, part_issued, silent}
 use Rattle.ace_sysck.specs.Results.{slot_of}
 use Rattle.ace_sysck.specs.Stands.{Stands}
 use Rattle.ace_sysck.specs.Steps.{IsStep}
-use Rattle.ace_sysck.specs.Syncs.{one_completed, untold}
+use Rattle.ace_sysck.specs.Syncs.{SyncsStand, one_completed, untold}
 use Rattle.ace_sysck.proofs.BarrierSteps.{barriers_plain}
-use Rattle.ace_sysck.proofs.Forwarding.InboxHears.{inboxes_plain}
-use Rattle.ace_sysck.proofs.MessageSteps.{messages_plain}
+use Rattle.ace_sysck.proofs.Forwarding.InboxHears.{inboxes_plain, inboxes_sent}
+use Rattle.ace_sysck.proofs.MessageSteps.{messages_part, messages_plain}
 use Rattle.ace_sysck.proofs.ResultSteps.{results_ar}
+use Rattle.ace_sysck.proofs.ShortWays.PlainAddresses.{idle, least_of_two}
 use Rattle.ace_sysck.proofs.Steps.{port_within}
 use Rattle.ace_sysck.proofs.SyncSteps.{syncs_completion}
 use Rattle.ace_sysck.proofs.Unmoved.{monitors_still, registrations_still}
 
-module _ (h : Header) (past : Trace) (p i addr snoop dom bar : ℕ) (lock : Bool) (is : is_completion snoop dom bar lock ≡ true) where
-  fields : IsCompletion snoop dom bar lock
-  fields = completion-is snoop dom bar lock is
+-- of three things that must hold under tests, the second is left where its test alone passes
+only-second : (a b c x y z : Bool) → a ≡ false → b ≡ true → c ≡ false → (implies a x && implies b y && implies c z) ≡ y
+only-second false true false x true z off on out = refl
+only-second false true false x false z off on out = refl
+only-second true b c x y z off on out = cc
+only-second false false c x y z off on out = cc
+only-second false true true x y z off on out = cc
 
+first-rule : (a b : Bool) → b ≡ true → is_none (least_of_two a b) ≡ a
+first-rule true true kept = refl
+first-rule false b kept = refl
+first-rule true false kept = cc
+
+module _ (h : Header) (past : Trace) (p i addr snoop dom bar : ℕ) (lock : Bool) where
   abbrev begun : Transaction
   begun = read_of (length past) p i addr snoop dom bar lock
 
-  no_half : is_barrier_half begun ≡ false
-  no_half = dvm_read-no_half begun read.DvmComplete (completion-read (length past) p i addr snoop dom bar lock is)
+  module _ (is : is_message snoop dom bar lock ≡ true) where
+    fields : AreFields snoop dom bar lock read.DvmMessage
+    fields = message-is snoop dom bar lock is
 
-  no_part : is_message_part begun ≡ false
-  no_part = rw fields.kind refl
+    message-no_half : is_barrier_half begun ≡ false
+    message-no_half = dvm_address-no_half (length past) p i addr snoop dom bar lock (message-dvm snoop dom bar lock is)
 
-  completes : is_dvm_completion begun ≡ true
-  completes = rw fields.kind refl
+    message-part : is_message_part begun ≡ true
+    message-part = rw fields.kind refl
+
+    message-no_completion : is_dvm_completion begun ≡ false
+    message-no_completion = rw fields.kind refl
+
+    -- the order of the parts is all that is asked of a DVM Message
+    pub message-rules : is_none (least_of system_rules h past (Ar p i addr snoop dom bar lock)) ≡ is_part_in_order past begun (first_waiting past p)
+    message-rules =
+        first-rule (k9 h past (Ar p i addr snoop dom bar lock)) (k38 h past (Ar p i addr snoop dom bar lock)) (idle (is_dvm_completion begun) _ message-no_completion)
+        ∙ only-second (is_barrier_half begun) (is_message_part begun) (is_dvm_completion begun) _ _ _ message-no_half message-part message-no_completion
+
+  module _ (is : is_completion snoop dom bar lock ≡ true) where
+    completion-fields : AreFields snoop dom bar lock read.DvmComplete
+    completion-fields = completion-is snoop dom bar lock is
+
+    completion-no_half : is_barrier_half begun ≡ false
+    completion-no_half = dvm_address-no_half (length past) p i addr snoop dom bar lock (completion-dvm snoop dom bar lock is)
+
+    completion-no_part : is_message_part begun ≡ false
+    completion-no_part = rw completion-fields.kind refl
+
+    completes : is_dvm_completion begun ≡ true
+    completes = rw completion-fields.kind refl
 
 pub completion-stands : (s : SysCheck) (n : Results) (m : Syncs) (r : Recording) (p i addr snoop dom bar : ℕ) (lock : Bool) → Stands s r → is_completion snoop dom bar lock ≡ true
     → least_broken r.header r.past (Ar p i addr snoop dom bar lock) ≡ None → length r.past < 2 ^ 64 - 1 → i < 256
@@ -51,13 +98,13 @@ completion-stands s n m r p i addr snoop dom bar lock st is fine few low items p
   header = st.header;
   ports = st.ports;
   accepted = accepted;
-  barriers = barriers_plain r s.barriers e t x refl refl (no_half r.header r.past p i addr snoop dom bar lock is) st.barriers;
+  barriers = barriers_plain r s.barriers e t x refl refl (completion-no_half r.header r.past p i addr snoop dom bar lock is) st.barriers;
   monitors = monitors_still r s.monitors e refl st.monitors;
   results = results_ar r s.results n p i addr snoop dom bar lock st.results (port_within r.header r.past e p accepted refl) low items;
   registrations = registrations_still r s.registrations e t step refl st.registrations;
-  messages = messages_plain r s.messages e t x refl refl (no_part r.header r.past p i addr snoop dom bar lock is) st.messages;
-  inboxes = inboxes_plain r s.inboxes e t x refl refl low (no_part r.header r.past p i addr snoop dom bar lock is) st.inboxes;
-  syncs = syncs_completion r s.syncs m e t x step refl (no_part r.header r.past p i addr snoop dom bar lock is) (completes r.header r.past p i addr snoop dom bar lock is) st.syncs ports;
+  messages = messages_plain r s.messages e t x refl refl (completion-no_part r.header r.past p i addr snoop dom bar lock is) st.messages;
+  inboxes = inboxes_plain r s.inboxes e t x refl refl low (completion-no_part r.header r.past p i addr snoop dom bar lock is) st.inboxes;
+  syncs = syncs_completion r s.syncs m e t x step refl (completion-no_part r.header r.past p i addr snoop dom bar lock is) (completes r.header r.past p i addr snoop dom bar lock is) st.syncs ports;
 }
   where
     e : Event
@@ -68,6 +115,53 @@ completion-stands s n m r p i addr snoop dom bar lock st is fine few low items p
 
     x : Transaction
     x = read_of (length r.past) p i addr snoop dom bar lock
+
+    accepted : IsAccepted r.header (e ∷ r.past)
+    accepted = (st.accepted, fine)
+
+    step : IsStep r e t
+    step = record { header = st.ports; accepted = accepted; target = refl; few = few }
+
+pub message-stands : (s : SysCheck) (n : Results) (y : Syncs) (b : Inboxes) (m : Messages) (kept : PortMessages) (r : Recording) (p i addr snoop dom bar : ℕ) (lock : Bool) (x : Transaction)
+    → Stands s r → is_message snoop dom bar lock ≡ true → least_broken r.header r.past (Ar p i addr snoop dom bar lock) ≡ None → length r.past < 2 ^ 64 - 1
+    → issued (length r.past) (Ar p i addr snoop dom bar lock) ≡ Some x → x.id < 256 → PortMessagesStand r.past x.port kept
+    → n.passed.items ≡ slice_set s.results.passed.items (slot_of x.port x.id) None
+    → ((t : Target) → IsStep r (Ar p i addr snoop dom bar lock) t → begun_in (Ar p i addr snoop dom bar lock) t ≡ Some x → is_message_part x ≡ true
+    → SyncsStand (after r (Ar p i addr snoop dom bar lock)) y)
+    → length b.ports.items ≡ length s.inboxes.ports.items → SendsAll x.port (parts_sent kept x) s.inboxes b
+    → m.ports.items ≡ slice_set s.messages.ports.items x.port (part_issued (get_or s.messages.ports.items x.port silent) x)
+    → Stands (record s { results = n; syncs = y; inboxes = b; messages = m }) (after r (Ar p i addr snoop dom bar lock))
+message-stands s n y b m kept r p i addr snoop dom bar lock x st is fine few new low stands items syncs size sends sets = record {
+  header = st.header;
+  ports = st.ports;
+  accepted = accepted;
+  barriers = barriers_plain r s.barriers e t x refl new half st.barriers;
+  monitors = monitors_still r s.monitors e refl st.monitors;
+  results = results_ar r s.results n p i addr snoop dom bar lock st.results (port_within r.header r.past e p accepted refl) small
+      (items ∙ ap (λ (z : Transaction). slice_set s.results.passed.items (slot_of z.port z.id) None) (sym same));
+  registrations = registrations_still r s.registrations e t step refl st.registrations;
+  messages = messages_part r s.messages m e t x accepted refl new part st.messages sets;
+  inboxes = inboxes_sent r s.inboxes b e t x kept accepted refl new low part stands st.inboxes size sends;
+  syncs = syncs t step new part;
+}
+  where
+    e : Event
+    e = Ar p i addr snoop dom bar lock
+
+    t : Target
+    t = target_of r.header r.past e
+
+    same : read_of (length r.past) p i addr snoop dom bar lock ≡ x
+    same = Some-injective (read_of (length r.past) p i addr snoop dom bar lock) x new
+
+    small : i < 256
+    small = subst (λ (z : Transaction). z.id < 256) (sym same) low
+
+    half : is_barrier_half x ≡ false
+    half = subst (λ z. is_barrier_half z ≡ false) same (message-no_half r.header r.past p i addr snoop dom bar lock is)
+
+    part : is_message_part x ≡ true
+    part = subst (λ z. is_message_part z ≡ true) same (message-part r.header r.past p i addr snoop dom bar lock is)
 
     accepted : IsAccepted r.header (e ∷ r.past)
     accepted = (st.accepted, fine)

@@ -1,4 +1,4 @@
--- The AR of a plain read: it breaks no rule of the share, and moves the results alone. What moves them at most.
+-- The AR of a line read, whatever its lock is: it breaks no rule of the share, and moves the results alone. What moves them at most.
 use Rattle.std.proofs.Common.{◌≡◌, ◌<◌, ◌-◌, ◌^◌, ℕ, Bool, true, false, ◌&&◌, if◌then◌else◌, length, Option, Some, None, slice_set, refl}
 use Rattle.ace_codes.specs.declared.kind.ArKind.{ArKind}
 use Rattle.ace_codes.specs.declared.kind.ArKind.TheVariants as read
@@ -58,21 +58,24 @@ two-rules true true is also = refl
 two-rules false b is also = cc
 two-rules true false is also = cc
 
-module _ (h : Header) (past : Trace) (p i addr snoop dom bar : ℕ) (lock : Bool) (k : ArKind) (is : plain_kind snoop dom bar lock ≡ Some k) where
+module _ (h : Header) (past : Trace) (p i addr snoop dom bar : ℕ) (lock : Bool) (k : ArKind) (is : plain_kind snoop dom bar false ≡ Some k) where
   abbrev begun : Transaction
   begun = read_of (length past) p i addr snoop dom bar lock
 
-  plain : IsPlainRead begun k
-  plain = plain_kind-is (length past) p i addr snoop dom bar lock k is
+  abbrev unlocked : Transaction
+  unlocked = read_of (length past) p i addr snoop dom bar false
+
+  plain : IsPlainRead unlocked k
+  plain = plain_kind-is (length past) p i addr snoop dom bar false k is
 
   pub no_half : is_barrier_half begun ≡ false
-  no_half = plain_read-no_half begun k plain
+  no_half = plain_read-no_half unlocked k plain
 
   pub no_part : is_message_part begun ≡ false
-  no_part = plain_read-no_message begun k plain
+  no_part = plain_read-no_message unlocked k plain
 
   pub no_completion : is_dvm_completion begun ≡ false
-  no_completion = plain_read-no_completion begun k plain
+  no_completion = plain_read-no_completion unlocked k plain
 
   k9-kept : k9 h past (Ar p i addr snoop dom bar lock) ≡ true
   k9-kept = all-three _ _ _ (idle (is_barrier_half begun) _ no_half) (idle (is_message_part begun) _ no_part) (idle (is_dvm_completion begun) _ no_completion)
@@ -107,8 +110,8 @@ issue-stands s n r e x st is begins half part completion low fine few results = 
     step : IsStep r e t
     step = record { header = st.ports; accepted = (st.accepted, fine); target = refl; few = few }
 
--- a plain read moves the results alone
-pub begun-stands : (s : SysCheck) (n : Results) (r : Recording) (p i addr snoop dom bar : ℕ) (lock : Bool) (k : ArKind) → Stands s r → plain_kind snoop dom bar lock ≡ Some k
+-- a line read moves the results alone
+pub begun-stands : (s : SysCheck) (n : Results) (r : Recording) (p i addr snoop dom bar : ℕ) (lock : Bool) (k : ArKind) → Stands s r → plain_kind snoop dom bar false ≡ Some k
     → least_broken r.header r.past (Ar p i addr snoop dom bar lock) ≡ None → length r.past < 2 ^ 64 - 1 → i < 256
     → n.passed.items ≡ slice_set s.results.passed.items (slot_of p i) None → Stands (record s { results = n }) (after r (Ar p i addr snoop dom bar lock))
 begun-stands s n r p i addr snoop dom bar lock k st is fine few low items =

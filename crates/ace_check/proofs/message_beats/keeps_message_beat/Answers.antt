@@ -4,7 +4,7 @@ use Rattle.ace_model.specs.Accepted.{least_of}
 use Rattle.ace_model.specs.Shares.{port_rules, system_rules}
 use Rattle.ace_portck.proofs.ShortWays.DvmReads.{dvm_read-is}
 use Rattle.ace_sysck.proofs.Steps.{progress_from}
-use Rattle.ace_check.proofs.ShortWays.PlainSteps.{lines_decide, ports_keep_1}
+use Rattle.ace_check.proofs.ShortWays.PlainSteps.{lines_decide, message_beat-only, ports_keep_1}
 use Rattle.ace_check.proofs.message_beats.keeps_message_beat.Goals as goal
 
 pub returns-clause-fine : goal.returns-clause-fine
@@ -16,4 +16,15 @@ returns-clause-fine c = λ r p l s out own yes.
     let served = progress_from r.header r.past _ c.args.x.now out in
     let ports : is_none (least_of port_rules r.header r.past e) ≡ true = sym (c.keeps_beat.ensures r b.id b.word p out (dvm_read-is x k own).kind) ∙ c.if-not-keeps_beat.false in
     let system : is_none (least_of system_rules r.header r.past e) ≡ true = sym (c.keeps_message_beat.ensures r b.port b.id b.last b.word k s served own) ∙ c.if-not-keeps_message_beat.false in
-    lines_decide r.header r.past e ports system ∙ c.keeps_message_beat-2.ensures r b.port b.id b.last k l out own (ports_keep_1 r.header r.past e ports) yes
+    let only = message_beat-only r.header r.past b.port b.id b.resp b.last b.word c.args.x.now k out own ports in
+    lines_decide r.header r.past e ports system
+    ∙ sym (c.keeps_message_beat-2.ensures r b.port b.id b.last c.args.x.now k l out own (ports_keep_1 r.header r.past e ports) only.0) ∙ yes
+
+pub returns-clause-last : goal.returns-clause-last
+returns-clause-last c = λ r p out own yes.
+    let b = c.args.beat.now in
+    let x = c.args.x.now in
+    let k = c.args.kind in
+    let ports : is_none (least_of port_rules r.header r.past (R b.port b.id b.resp b.last b.word)) ≡ true =
+    sym (c.keeps_beat.ensures r b.id b.word p out (dvm_read-is x.transaction k own).kind) ∙ c.if-not-keeps_beat.false in
+    (message_beat-only r.header r.past b.port b.id b.resp b.last b.word x k out own ports).1

@@ -20,7 +20,7 @@ returns-then-not-keeps_plain_beat c = λ r p l out plain at.
     let kept : c.keeps_plain_beat.result ≡ false = grind (arith, common_steps) in
     let served = progress_from r.header r.past _ c.args.x.now out in
     sym (broken_by_system r.header r.past (R b.port b.id b.resp b.last b.word)
-    (sym (c.keeps_plain_beat.ensures r b.port b.id b.last b.word c.args.x.now.transaction c.args.kind served plain) ∙ kept))
+    (sym (c.keeps_plain_beat.ensures r b.port b.id b.last b.word c.args.kind served plain) ∙ kept))
 
 pub returns : goal.returns
 returns c = λ r p l out plain at.
@@ -31,5 +31,5 @@ returns c = λ r p l out plain at.
     let served = progress_from r.header r.past _ c.args.x.now out in
     let ports : is_none (least_of port_rules r.header r.past e) ≡ true = sym (c.keeps_beat.ensures r b.id b.word p out (plain_read-is c.args.x.now.transaction c.args.kind plain).kind) ∙ port_kept in
     let system : is_none (least_of system_rules r.header r.past e) ≡ true =
-    sym (c.keeps_plain_beat.ensures r b.port b.id b.last b.word c.args.x.now.transaction c.args.kind served plain) ∙ system_kept in
+    sym (c.keeps_plain_beat.ensures r b.port b.id b.last b.word c.args.kind served plain) ∙ system_kept in
     c.keeps_beat-2.ensures r b.port b.id b.last l out plain at (ports_keep_1 r.header r.past e ports) ∙ sym (lines_decide r.header r.past e ports system)

@@ -5,6 +5,7 @@ use Rattle.ace_model.specs.Accepted.{least_of}
 use Rattle.ace_model.specs.Shares.{port_rules, system_rules}
 use Rattle.ace_portck.specs.DvmReads.{is_completion}
 use Rattle.ace_portck.specs.Targets.{Recording}
+use Rattle.ace_portck.proofs.ShortWays.DvmReads.{completion-dvm}
 use Rattle.ace_lineck.proofs.ShortWays.MessageAddresses.{lines-unmoved}
 use Rattle.ace_check.proofs.ShortWays.MessageAddresses.{keeps-all, names-no_line, port_there}
 use Rattle.ace_check.proofs.shares.Shares.take_completion.Goals as goal
@@ -16,13 +17,14 @@ returns-clause-taken c = λ h past s few yes.
     let r : Recording = record { header = h; past = past } in
     let is : is_completion a.snoop a.dom a.bar a.lock ≡ true = sym c.is_completion.ensures ∙ c.if-not-is_completion.false in
     let ports : is_none (least_of port_rules h past e) ≡ true = sym (c.keeps_completion.ensures r a.addr a.snoop a.dom a.bar a.lock s.ports is) ∙ c.if-not-keeps_completion.false in
+    let dvm = completion-dvm a.snoop a.dom a.bar a.lock is in
     let low = port_there h past a.port a.id a.addr a.snoop a.dom a.bar a.lock ports in
     let system : is_none (least_of system_rules h past e) ≡ true = sym (c.keeps_completion-2.ensures r a.id a.snoop a.dom a.bar a.lock s.system is low) ∙ c.if-not-keeps_completion-2.false in
-    let fine = keeps-all h past a.port a.id a.addr a.snoop a.dom a.bar a.lock is ports system in (
+    let fine = keeps-all h past a.port a.id a.addr a.snoop a.dom a.bar a.lock dvm ports system in (
       fine,
       record {
         ports = c.apply.ensures.stands r (record { stands = s.ports; room = λ p k own at. tt; keeps = fine; few = few });
-        lines = lines-unmoved c.args.self.now.lines r a.port a.id a.addr a.snoop a.dom a.bar a.lock s.lines is fine;
+        lines = lines-unmoved c.args.self.now.lines r a.port a.id a.addr a.snoop a.dom a.bar a.lock s.lines dvm fine;
         system = c.begin_completion.ensures r a.addr a.snoop a.dom a.bar a.lock s.system is fine few;
       },
     )
@@ -30,4 +32,4 @@ returns-clause-taken c = λ h past s few yes.
 pub returns-clause-few_lines : goal.returns-clause-few_lines
 returns-clause-few_lines c = λ h past s yes.
     let a = c.args.address.now in
-    names-no_line h past a.port a.id a.addr a.snoop a.dom a.bar a.lock (sym c.is_completion.ensures ∙ c.if-not-is_completion.false)
+    names-no_line h past a.port a.id a.addr a.snoop a.dom a.bar a.lock (completion-dvm a.snoop a.dom a.bar a.lock (sym c.is_completion.ensures ∙ c.if-not-is_completion.false))

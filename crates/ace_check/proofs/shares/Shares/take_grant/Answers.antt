@@ -2,7 +2,6 @@ use Rattle.std.proofs.Common.{◌≡◌, Some, option_map, sym, ap, ◌∙◌}
 use Rattle.std.specs.Option.{option_copied}
 use Rattle.ace_model.specs.Transactions.{outstanding}
 use Rattle.ace_portck.specs.Targets.{Recording, progress_of}
-use Rattle.ace_sysck.proofs.ShortWays.PlainGrants.{still-at_grant}
 use Rattle.ace_sysck.proofs.Steps.{progress_from}
 use Rattle.ace_check.proofs.ShortWays.PlainGrants.{keeps-all}
 use Rattle.ace_check.proofs.shares.Shares.take_grant.Goals as goal
@@ -21,7 +20,7 @@ returns-clause-taken c = λ h past s few taken.
       fine,
       record {
         ports = c.apply.ensures.stands r (record { stands = s.ports; room = λ p k own there. tt; keeps = fine; few = few });
-        lines = c.hear_grant.ensures r g.port g.chan g.id s.lines out at fine few;
-        system = still-at_grant c.args.self.now.system r g.port g.chan g.id y.transaction s.system out c.if-x.false fine few;
+        lines = c.hear_grant-2.ensures r g.port g.chan g.id s.lines out at fine few;
+        system = c.hear_grant.ensures.stands r g.port g.chan g.id s.system out fine few c.if-not-hear_grant.false;
       },
     )

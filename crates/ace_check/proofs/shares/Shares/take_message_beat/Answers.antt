@@ -24,7 +24,7 @@ returns-clause-taken c = λ h past s few yes.
     let served = progress_from h past _ x there in
     let kept : is_none (least_broken h past (R b.port b.id b.resp b.last b.word)) ≡ true = c.keeps_message_beat.ensures.fine r s.ports s.lines s.system there own c.if-not-keeps_message_beat.false in
     let fine = none-is (least_broken h past (R b.port b.id b.resp b.last b.word)) kept in
-    let last : b.last ≡ true = c.keeps_message_beat.ensures.last c.if-not-keeps_message_beat.false in
+    let last : b.last ≡ true = c.keeps_message_beat.ensures.last r s.ports there own c.if-not-keeps_message_beat.false in
     let ended : least_broken h past (R b.port b.id b.resp true b.word) ≡ None = subst (λ v. least_broken h past (R b.port b.id b.resp v b.word) ≡ None) last fine in (
       fine,
       record {

@@ -7,6 +7,7 @@ use Rattle.ace_model.specs.Lines.{is_known}
 use Rattle.ace_model.specs.Shares.{port_rules, line_rules}
 use Rattle.ace_portck.specs.PlainAddresses.{plain_kind}
 use Rattle.ace_portck.specs.Targets.{Recording}
+use Rattle.ace_portck.proofs.ShortWays.PlainAddresses.{kind_unlocked}
 use Rattle.ace_lineck.proofs.ShortWays.PlainAddresses.{lines-begun}
 use Rattle.ace_check.proofs.ShortWays.PlainAddresses.{keeps-all, over-known}
 use Rattle.ace_check.proofs.shares.Shares.take_read_address.Goals as goal
@@ -23,7 +24,7 @@ returns-clause-taken c = λ h past s few t.
     let both : (is_known past a.addr && is_none (least_of line_rules h past e)) ≡ true =
     sym (c.keeps_read_address-2.ensures r a.id a.addr a.snoop a.dom a.bar a.lock s.lines c.place-place.ensures plain) ∙ c.if-not-keeps_read_address-2.false in
     let parts = and_parts (is_known past a.addr) (is_none (least_of line_rules h past e)) both in
-    let fine = keeps-all h past a.port a.id a.addr a.snoop a.dom a.bar a.lock kind plain ports parts.1 in (
+    let fine = keeps-all h past a.port a.id a.addr a.snoop a.dom a.bar a.lock kind (kind_unlocked a.snoop a.dom a.bar a.lock kind plain) ports parts.1 in (
       fine,
       record {
         ports = c.apply.ensures.stands r (record { stands = s.ports; room = λ p k own at. tt; keeps = fine; few = few });

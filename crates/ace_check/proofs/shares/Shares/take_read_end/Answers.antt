@@ -1,10 +1,10 @@
-use Rattle.std.proofs.Common.{◌≡◌, ◌∙◌, true, Some, is_none, sym, ap}
+use Rattle.std.proofs.Common.{◌≡◌, ◌∙◌, true, false, Some, is_none, sym, ap}
 use Rattle.std.specs.Option.{option_copied}
 use Rattle.ace_event.specs.declared.event.Channel.TheVariants.{Read}
 use Rattle.ace_event.specs.declared.event.Event.TheVariants.{Rk}
 use Rattle.ace_model.specs.Accepted.{least_of}
 use Rattle.ace_model.specs.Shares.{line_rules}
-use Rattle.ace_model.specs.Transactions.{read_kind}
+use Rattle.ace_model.specs.Transactions.{is_exclusive_store, read_kind}
 use Rattle.ace_portck.specs.Targets.{Recording, line_in, line_of, transaction_in}
 use Rattle.ace_lineck.specs.Stands.{place_on}
 use Rattle.ace_check.proofs.ShortWays.PlainAcknowledges.{acknowledge-fine}
@@ -20,7 +20,8 @@ returns-clause-taken c = λ h past s few taken.
     let kind : read_kind x.transaction ≡ Some k = sym c.read_kind.ensures ∙ c.in-Some-read_kind.is in
     let line : c.line_of_read-line.result ≡ line_in h past (Rk a.port a.st) = c.line_of_read-line.ensures kind ∙ ap line_of (sym own) in
     let at : c.place-place.result ≡ place_on c.args.self.now.lines (line_in h past (Rk a.port a.st)) = c.place-place.ensures ∙ ap (place_on c.args.self.now.lines) line in
-    let kept : is_none (least_of line_rules h past (Rk a.port a.st)) ≡ true = sym (c.keeps_read_end.ensures r s.lines own c.if-x.false kind at) ∙ c.if-not-keeps_read_end.false in
+    let none : is_exclusive_store x.transaction ≡ false = sym c.is_exclusive_store.ensures ∙ c.if-is_exclusive_store.false in
+    let kept : is_none (least_of line_rules h past (Rk a.port a.st)) ≡ true = sym (c.keeps_read_end.ensures r s.lines own none kind at) ∙ c.if-not-keeps_read_end.false in
     let fine = acknowledge-fine h past Read a.port a.st x s.ports.accepted own kept in (
       fine,
       record {

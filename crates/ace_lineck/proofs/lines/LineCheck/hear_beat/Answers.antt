@@ -2,9 +2,9 @@ use Rattle.std.proofs.Common.{◌≡◌, ◌∷◌, Some, true, false, nat_eq, s
 use Rattle.indexmap.specs.IndexMap.{get, values}
 use Rattle.ace_model.proofs.Terms.{R}
 use Rattle.ace_portck.specs.Targets.{target_of}
+use Rattle.ace_portck.proofs.ShortWays.Plain.{plain_read-is}
 use Rattle.ace_lineck.specs.Records.{LineStands, IsRecordStep}
 use Rattle.ace_lineck.proofs.AllLines.{unplaced, placed, line-step, applied-else}
-use Rattle.ace_lineck.proofs.ShortWays.BeatLaws.{plain}
 use Rattle.ace_lineck.proofs.ShortWays.BeatSteps.{beat-may, beat-port, still-used}
 use Rattle.ace_lineck.proofs.Places.{get-at, place-taken, written-here, written-there}
 use Rattle.ace_lineck.proofs.Rooms.{written-records, written-roomy}
@@ -14,14 +14,14 @@ pub returns-in_default-clause-stands : goal.returns-in_default-clause-stands
 returns-in_default-clause-stands c r p i resp word st out reads at fine few =
     let a = c.args in
     let e = R p i resp a.last word in
-    let m = beat-may a.self.now r p i resp a.last word a.x.now a.kind a.place st out (plain a.x.now.transaction a.kind reads) at fine few in
+    let m = beat-may a.self.now r p i resp a.last word a.x.now a.kind a.place st out (plain_read-is a.x.now.transaction a.kind reads) at fine few in
     unplaced a.self.now r e (target_of r.header r.past e) a.place m c.in_default.is
 
 pub returns-in_default-get_index_mut-clause-stands : goal.returns-in_default-get_index_mut-clause-stands
 returns-in_default-get_index_mut-clause-stands c r p i resp word st out reads at fine few =
     let a = c.args in
     let e = R p i resp a.last word in
-    let m = beat-may a.self.now r p i resp a.last word a.x.now a.kind a.place st out (plain a.x.now.transaction a.kind reads) at fine few in
+    let m = beat-may a.self.now r p i resp a.last word a.x.now a.kind a.place st out (plain_read-is a.x.now.transaction a.kind reads) at fine few in
     let n = c.in-Some.place in
     let on = placed a.self.now r e (target_of r.header r.past e) a.place m n c.in-Some.is in
     let within = place-taken a.self.now (Some on.0) n on.2 in
@@ -34,7 +34,7 @@ returns-clause-stands c r p i resp word st out reads at fine few =
     let x = a.x.now in
     let e = R p i resp a.last word in
     let t = target_of r.header r.past e in
-    let own = plain x.transaction a.kind reads in
+    let own = plain_read-is x.transaction a.kind reads in
     let m = beat-may self r p i resp a.last word x a.kind a.place st out own at fine few in
     let n = c.in-Some.place in
     let was = c.in-Some-get_index_mut.kept.now in

@@ -36,7 +36,7 @@ returns c r s at fine few =
     let unique = c.get_index_mut.ensures.unique in
     let here : get nat_eq self.lines on.0 ≡ Some was = get-at self on.0 n on.2 ∙ value in
     let step = line-step self r e t c.args.place m on.0 on.1 was here in
-    let holders = c.move_to.ensures.stand r.header r.past on.0 a.addr t (record { step = step.step; room = step.room; whole = λ p port. refl; stand = step.stands.holders }) in
+    let holders = c.move_to.ensures.moved r.header r.past on.0 a.addr t (record { step = step.step; room = step.room; whole = λ p port. refl; stand = step.stands.holders }) in
     let new : LineStands r.header (e ∷ r.past) on.0 (record was { holders = c.move_to.new.holders }) = record {
       used = step.stands.used;
       memory = record { memory = step.stands.memory.memory };

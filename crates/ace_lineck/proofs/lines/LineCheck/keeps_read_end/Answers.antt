@@ -8,11 +8,11 @@ use Rattle.ace_lineck.proofs.ShortWays.AcknowledgeLaws.{rk-law}
 use Rattle.ace_lineck.proofs.lines.LineCheck.keeps_read_end.Goals as goal
 
 pub returns : goal.returns
-returns c = λ r s own unlocked kind at.
+returns c = λ r s own none kind at.
     let a = c.args in
     let x = a.x.now in
     let kept = c.record.ensures (line_in r.header r.past (Rk a.port a.st)) at in
     c.ends_as.ensures
     ∙ ap (λ v. ends_read a.kind v (is_shared x.response) (passes_dirty x.response) false a.st && implies (is_make_unique a.kind) x.stored)
     (c.state.ensures ∙ ap (λ (v : LineRecord). (holder_at v.holders.items a.port).state) kept)
-    ∙ rk-law a.self.now r a.port a.st s x a.kind own unlocked kind
+    ∙ rk-law a.self.now r a.port a.st s x a.kind own none kind

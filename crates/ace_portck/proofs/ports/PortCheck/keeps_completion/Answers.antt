@@ -1,22 +1,6 @@
-use Rattle.std.proofs.Common.{◌≡◌, ◌&&◌, nat_lt, true, false, sym, ap, ◌∙◌, refl}
-use Rattle.ace_event.specs.declared.header.Header.{Header}
-use Rattle.ace_model.specs.Transactions.{is_ace}
-use Rattle.ace_portck.specs.Port.{PortStands}
-use Rattle.ace_portck.proofs.ShortWays.DvmReads.{completion_rules}
+use Rattle.ace_portck.proofs.ShortWays.DvmReads.{completion-dvm}
 use Rattle.ace_portck.proofs.ports.PortCheck.keeps_completion.Goals as goal
 
-pub returns-then-may_complete : goal.returns-then-may_complete
-returns-then-may_complete c = λ r addr snoop dom bar lock s is.
-    let a = c.args in
-    let may : (nat_lt a.port r.header.ports && is_ace r.header a.port) ≡ true =
-    ap (λ (h : Header). nat_lt a.port h.ports && is_ace h a.port) (sym s.header) ∙ sym c.may_complete.ensures ∙ c.if-may_complete.true in
-    let kept : PortStands r.header r.past a.port c.record_of.result.now = rw (c.record_of.ensures, c.deref.ensures.value) (s.ports a.port) in
-    c.is_name_free.ensures r.header r.past a.port kept.transactions
-    ∙ sym (completion_rules r.header r.past a.port a.id addr snoop dom bar lock is ∙ rw may refl)
-
-pub returns-else-may_complete : goal.returns-else-may_complete
-returns-else-may_complete c = λ r addr snoop dom bar lock s is.
-    let a = c.args in
-    let may : (nat_lt a.port r.header.ports && is_ace r.header a.port) ≡ false =
-    ap (λ (h : Header). nat_lt a.port h.ports && is_ace h a.port) (sym s.header) ∙ sym c.may_complete.ensures ∙ c.if-may_complete.false in
-    c.if-may_complete.false ∙ sym (completion_rules r.header r.past a.port a.id addr snoop dom bar lock is ∙ rw may refl)
+pub returns : goal.returns
+returns c = λ r addr snoop dom bar lock s is.
+    c.keeps_dvm_address.ensures r addr snoop dom bar lock s (completion-dvm snoop dom bar lock is)

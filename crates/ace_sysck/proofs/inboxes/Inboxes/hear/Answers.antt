@@ -3,7 +3,7 @@ use Rattle.std.proofs.lemmas.Grind.{common_steps}
 use Rattle.ace_model.proofs.Terms.{Event, Ac, Cr, IsAccepted}
 use Rattle.ace_portck.specs.Targets.{after, target_of}
 use Rattle.ace_sysck.specs.Events.{begun_in}
-use Rattle.ace_sysck.specs.Inboxes.{InboxesStand, SendsAll}
+use Rattle.ace_sysck.specs.Inboxes.{InboxesStand}
 use Rattle.ace_sysck.proofs.Forwarding.InboxHears.{inboxes_sent, inboxes_plain, inboxes_forward, inboxes_other_ac, inboxes_answer, inboxes_other_cr, inboxes_other}
 use Rattle.ace_sysck.proofs.inboxes.Inboxes.hear.Goals as goal
 
@@ -13,9 +13,8 @@ returns-then-is_message_part c = λ r q.
     let x = c.in-Some.x in
     let begun : begun_in c.args.event.now c.args.target.now ≡ Some x = sym c.begun_in.ensures ∙ c.in-Some.is in
     let low : x.id < 256 = omega arith in
-    inboxes_sent r s c.send.new.self c.args.event.now c.args.target.now x c.of-kept.result q.step.accepted q.step.target begun low
-    (sym c.is_message_part.ensures ∙ c.if-is_message_part.true) (c.of-kept.ensures.stands r q.messages) q.stands c.send.ensures.size
-    (subst (λ l. SendsAll x.port l s c.send.new.self) c.parts_sent-sent.ensures c.send.ensures.all)
+    inboxes_sent r s c.send_with.new.self c.args.event.now c.args.target.now x c.of.result q.step.accepted q.step.target begun low
+    (sym c.is_message_part.ensures ∙ c.if-is_message_part.true) (c.of.ensures.stands r q.messages) q.stands c.send_with.ensures.size c.send_with.ensures.all
 
 pub returns-else-is_message_part : goal.returns-else-is_message_part
 returns-else-is_message_part c = λ r q.

@@ -1,9 +1,9 @@
-use Rattle.std.proofs.Common.{◌≡◌, ◌∷◌, None, Some, sym, ap, subst, ◌∙◌, arith, slice_set}
+use Rattle.std.proofs.Common.{◌≡◌, ◌∷◌, None, Some, sym, subst, ◌∙◌, arith}
 use Rattle.std.proofs.lemmas.Grind.{common_steps}
 use Rattle.ace_model.proofs.Terms.{Event, Ac, IsAccepted}
 use Rattle.ace_portck.specs.Targets.{after}
 use Rattle.ace_sysck.specs.Events.{begun_in, completed_in}
-use Rattle.ace_sysck.specs.Messages.{MessagesStand, part_issued, told_complete}
+use Rattle.ace_sysck.specs.Messages.{MessagesStand}
 use Rattle.ace_sysck.proofs.MessageSteps.{messages_part, messages_plain, messages_completed, messages_told, messages_untold, messages_stay}
 use Rattle.ace_sysck.proofs.messages.Messages.hear.Goals as goal
 
@@ -12,9 +12,8 @@ returns-then-is_message_part c = λ r q.
     let s = c.args.self.now in
     let x = c.in-Some.x in
     let begun : begun_in c.args.event.now c.args.target.now ≡ Some x = sym c.begun_in.ensures ∙ c.in-Some.is in
-    let items = c.set.ensures ∙ ap (slice_set s.ports.items x.port) (c.part_issued-kept.ensures ∙ ap (λ v. part_issued v x) c.of.ensures.kept) in
-    messages_part r s c.set.new.self c.args.event.now c.args.target.now x q.step.accepted q.step.target begun
-    (sym c.is_message_part.ensures ∙ c.if-is_message_part.true) q.stands items
+    messages_part r s c.issue.new.self c.args.event.now c.args.target.now x q.step.accepted q.step.target begun
+    (sym c.is_message_part.ensures ∙ c.if-is_message_part.true) q.stands c.issue.ensures
 
 pub returns-else-is_message_part : goal.returns-else-is_message_part
 returns-else-is_message_part c = λ r q.
@@ -34,9 +33,8 @@ returns-then-is_complete_snoop c = λ r q.
     let s = c.args.self.now in
     let i = c.in-Ac in
     let accepted : IsAccepted r.header (Ac i.port i.addr i.snoop ∷ r.past) = subst (λ (v : Event). IsAccepted r.header (v ∷ r.past)) i.is q.step.accepted in
-    let items = c.set-then-is_complete_snoop.ensures ∙ ap (slice_set s.ports.items i.port) (c.told_complete-kept.ensures ∙ ap told_complete c.of-then-is_complete_snoop.ensures.kept) in
-    subst (λ (v : Event). MessagesStand (after r v) c.set-then-is_complete_snoop.new.self) (sym i.is)
-    (messages_told r s c.set-then-is_complete_snoop.new.self i.port i.addr i.snoop accepted (sym c.is_complete_snoop.ensures ∙ c.if-is_complete_snoop.true) q.stands items)
+    subst (λ (v : Event). MessagesStand (after r v) c.tell_complete.new.self) (sym i.is)
+    (messages_told r s c.tell_complete.new.self i.port i.addr i.snoop accepted (sym c.is_complete_snoop.ensures ∙ c.if-is_complete_snoop.true) q.stands c.tell_complete.ensures)
 
 pub returns-else-is_complete_snoop : goal.returns-else-is_complete_snoop
 returns-else-is_complete_snoop c = λ r q.

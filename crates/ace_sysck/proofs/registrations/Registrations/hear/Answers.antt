@@ -1,20 +1,13 @@
-use Rattle.std.proofs.Common.{◌≡◌, ℕ, None, Some, nat_eq, sym, arith}
+use Rattle.std.proofs.Common.{◌≡◌, None, sym, arith, ◌∙◌}
 use Rattle.std.proofs.lemmas.Grind.{common_steps}
-use Rattle.indexmap.specs.IndexMap.{get}
-use Rattle.ace_sysck.specs.Registrations.{locked_in, registered_bits, kept_bits}
-use Rattle.ace_sysck.proofs.RegistrationSteps.{registrations_stay, registrations_lock}
+use Rattle.ace_sysck.specs.Registrations.{locked_in}
+use Rattle.ace_sysck.proofs.RegistrationSteps.{registrations_stay}
 use Rattle.ace_sysck.proofs.registrations.Registrations.hear.Goals as goal
 
-pub returns-in-Some-get_mut-clause-stands : goal.returns-in-Some-get_mut-clause-stands
-returns-in-Some-get_mut-clause-stands c = λ r q.
-    let s = c.args.self.now in
+pub returns-in-Some-clause-stands : goal.returns-in-Some-clause-stands
+returns-in-Some-clause-stands c = λ r q.
     let x = c.in-Some.x in
-    let m = c.get_mut.follows.lender c.with_port.result in
-    let here : get nat_eq m x.addr ≡ Some c.with_port.result = grind (arith, common_steps) in
-    let there : (l : ℕ) → (l ≡ x.addr → ⊥) → get nat_eq m l ≡ get nat_eq s.lines l = λ l n. grind (arith, common_steps) in
-    let kept : c.kept_bits-kept.result ≡ kept_bits x (registered_bits s x.addr) = grind (arith, common_steps) in
-    registrations_lock r s (record { lines = m }) c.args.event.now c.args.target.now x c.kept_bits-kept.result c.with_port.result q.step.accepted q.step.header.most_ports
-    q.step.target (sym c.in-Some.ensures) q.stands kept c.with_port.ensures here there
+    c.register.ensures.stands r c.args.event.now c.args.target.now q.step (sym c.in-Some.ensures) q.stands (c.register.ensures.found ∙ q.room x (sym c.in-Some.ensures))
 
 pub returns-in_default-clause-stands : goal.returns-in_default-clause-stands
 returns-in_default-clause-stands c = λ r q.

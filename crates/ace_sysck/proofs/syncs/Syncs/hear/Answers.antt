@@ -5,22 +5,13 @@ use Rattle.ace_portck.specs.Targets.{after}
 use Rattle.ace_sysck.specs.Steps.{IsStep}
 use Rattle.ace_sysck.specs.Events.{begun_in}
 use Rattle.ace_sysck.specs.Syncs.{SyncsStand}
-use Rattle.ace_sysck.proofs.SyncSteps.{syncs_sync, syncs_part, syncs_completion, syncs_plain, syncs_quiet, syncs_no_message}
+use Rattle.ace_sysck.proofs.SyncSteps.{syncs_completion, syncs_plain, syncs_quiet, syncs_no_message}
 use Rattle.ace_sysck.proofs.syncs.Syncs.hear.Goals as goal
 
-pub returns-then-is_new_sync : goal.returns-then-is_new_sync
-returns-then-is_new_sync c = λ r q.
-    let x = c.in-Some.x in
-    let begun : begun_in c.args.event.now c.args.target.now ≡ Some x = sym c.begun_in.ensures ∙ c.in-Some.is in
-    syncs_sync r c.args.self.now c.reach_all.new.self c.args.event.now c.args.target.now x c.of-kept.result q.step begun (sym c.is_message_part.ensures ∙ c.if-is_message_part.true)
-    (sym c.is_new_sync.ensures ∙ c.if-is_new_sync.true) (c.of-kept.ensures.stands r q.messages) q.stands c.reach_all.ensures
-
-pub returns-else-is_new_sync : goal.returns-else-is_new_sync
-returns-else-is_new_sync c = λ r q.
-    let x = c.in-Some.x in
-    let begun : begun_in c.args.event.now c.args.target.now ≡ Some x = sym c.begun_in.ensures ∙ c.in-Some.is in
-    syncs_part r c.args.self.now c.args.event.now c.args.target.now x c.of-kept.result q.step begun (sym c.is_message_part.ensures ∙ c.if-is_message_part.true)
-    (sym c.is_new_sync.ensures ∙ c.if-is_new_sync.false) (c.of-kept.ensures.stands r q.messages) q.stands
+pub returns-then-is_message_part : goal.returns-then-is_message_part
+returns-then-is_message_part c = λ r q.
+    let begun : begun_in c.args.event.now c.args.target.now ≡ Some c.in-Some.x = sym c.begun_in.ensures ∙ c.in-Some.is in
+    c.issue.ensures r c.args.event.now c.args.target.now q.step begun (sym c.is_message_part.ensures ∙ c.if-is_message_part.true) (c.of.ensures.stands r q.messages) q.stands
 
 pub returns-then-is_dvm_completion : goal.returns-then-is_dvm_completion
 returns-then-is_dvm_completion c = λ r q.

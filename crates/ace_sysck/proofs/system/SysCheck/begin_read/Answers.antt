@@ -1,8 +1,6 @@
-use Rattle.std.proofs.Common.{◌<◌, arith}
-use Rattle.ace_sysck.proofs.ShortWays.PlainAddresses.{begun-stands}
+use Rattle.ace_portck.proofs.ShortWays.PlainAddresses.{kind_unlocked}
 use Rattle.ace_sysck.proofs.system.SysCheck.begin_read.Goals as goal
 
 pub returns : goal.returns
 returns c = λ r addr snoop dom bar lock k s plain fine few.
-    let low : c.args.id < 256 = omega arith in
-    begun-stands c.args.self.now c.begin.new.self r c.args.port c.args.id addr snoop dom bar lock k s plain fine few low c.begin.ensures
+    c.begin_line_read.ensures r addr snoop dom bar lock k s (kind_unlocked snoop dom bar lock k plain) fine few

@@ -1,0 +1,35 @@
+use Rattle.std.proofs.Common.{◌≡◌, ◌∙◌, true, is_none, sym}
+use Rattle.ace_event.specs.declared.event.Event.{Event}
+use Rattle.ace_event.specs.declared.event.Event.TheVariants.{Ar}
+use Rattle.ace_model.specs.Accepted.{least_of}
+use Rattle.ace_model.specs.Shares.{port_rules, system_rules}
+use Rattle.ace_portck.specs.DvmReads.{is_message}
+use Rattle.ace_portck.specs.Targets.{Recording}
+use Rattle.ace_portck.proofs.ShortWays.DvmReads.{message-dvm}
+use Rattle.ace_lineck.proofs.ShortWays.MessageAddresses.{lines-unmoved}
+use Rattle.ace_check.proofs.ShortWays.MessageAddresses.{keeps-all, names-no_line, port_there}
+use Rattle.ace_check.proofs.shares.Shares.take_message.Goals as goal
+
+pub returns-clause-taken : goal.returns-clause-taken
+returns-clause-taken c = λ h past s few yes.
+    let a = c.args.address.now in
+    let e : Event = Ar a.port a.id a.addr a.snoop a.dom a.bar a.lock in
+    let r : Recording = record { header = h; past = past } in
+    let is : is_message a.snoop a.dom a.bar a.lock ≡ true = sym c.is_message.ensures ∙ c.if-not-is_message.false in
+    let dvm = message-dvm a.snoop a.dom a.bar a.lock is in
+    let ports : is_none (least_of port_rules h past e) ≡ true = sym (c.keeps_dvm_address.ensures r a.addr a.snoop a.dom a.bar a.lock s.ports dvm) ∙ c.if-not-keeps_dvm_address.false in
+    let low = port_there h past a.port a.id a.addr a.snoop a.dom a.bar a.lock ports in
+    let system : is_none (least_of system_rules h past e) ≡ true = sym (c.keeps_message.ensures r a.id a.snoop a.lock s.system is low) ∙ c.if-not-keeps_message.false in
+    let fine = keeps-all h past a.port a.id a.addr a.snoop a.dom a.bar a.lock dvm ports system in (
+      fine,
+      record {
+        ports = c.apply.ensures.stands r (record { stands = s.ports; room = λ p k own at. tt; keeps = fine; few = few });
+        lines = lines-unmoved c.args.self.now.lines r a.port a.id a.addr a.snoop a.dom a.bar a.lock s.lines dvm fine;
+        system = c.begin_message.ensures r s.system is (c.place-place.ensures r s.ports) fine few;
+      },
+    )
+
+pub returns-clause-few_lines : goal.returns-clause-few_lines
+returns-clause-few_lines c = λ h past s yes.
+    let a = c.args.address.now in
+    names-no_line h past a.port a.id a.addr a.snoop a.dom a.bar a.lock (message-dvm a.snoop a.dom a.bar a.lock (sym c.is_message.ensures ∙ c.if-not-is_message.false))

@@ -1,6 +1,0 @@
-use Rattle.std.proofs.Common.{arith}
-use Rattle.std.proofs.lemmas.Grind.{common_steps}
-use Rattle.ace_portck.proofs.pending.renew_all.Goals as goal
-
-pub returns-clause-items : goal.returns-clause-items
-returns-clause-items c = grind (arith, common_steps)

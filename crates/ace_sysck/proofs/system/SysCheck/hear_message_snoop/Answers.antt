@@ -1,0 +1,33 @@
+use Rattle.std.proofs.Common.{true, false, refl, ap}
+use Rattle.ace_model.specs.Kinds.{is_complete_snoop, is_message_snoop}
+use Rattle.ace_sysck.proofs.Forwarding.InboxHears.{inboxes_forward, inboxes_other_ac}
+use Rattle.ace_sysck.proofs.MessageSteps.{messages_told, messages_untold}
+use Rattle.ace_sysck.proofs.ShortWays.MessageSnoops.{of-kind, other-kind, snoop-stands}
+use Rattle.ace_sysck.proofs.system.SysCheck.hear_message_snoop.Goals as goal
+
+pub returns-in-DvmMessage : goal.returns-in-DvmMessage
+returns-in-DvmMessage c = λ r addr snoop s kind fine few.
+    let k = c.args.self.now in
+    let p = c.args.port in
+    let is = c.in-DvmMessage.is in
+    snoop-stands r p addr snoop c.args.kind kind k s _ fine few refl
+    (messages_untold r k.messages p addr snoop (of-kind r p addr snoop c.args.kind kind is_complete_snoop false (ap is_complete_snoop is)) s.messages)
+    (inboxes_forward r k.inboxes c.forward.new.self p addr snoop (s.accepted, fine) (of-kind r p addr snoop c.args.kind kind is_message_snoop true (ap is_message_snoop is)) s.inboxes c.forward.ensures)
+
+pub returns-in-DvmComplete : goal.returns-in-DvmComplete
+returns-in-DvmComplete c = λ r addr snoop s kind fine few.
+    let k = c.args.self.now in
+    let p = c.args.port in
+    let is = c.in-DvmComplete.is in
+    snoop-stands r p addr snoop c.args.kind kind k s _ fine few refl
+    (messages_told r k.messages c.tell_complete.new.self p addr snoop (s.accepted, fine) (of-kind r p addr snoop c.args.kind kind is_complete_snoop true (ap is_complete_snoop is)) s.messages c.tell_complete.ensures)
+    (inboxes_other_ac r k.inboxes p addr snoop (s.accepted, fine) (of-kind r p addr snoop c.args.kind kind is_message_snoop false (ap is_message_snoop is)) s.inboxes)
+
+pub returns-in_default : goal.returns-in_default
+returns-in_default c = λ r addr snoop s kind fine few.
+    let k = c.args.self.now in
+    let p = c.args.port in
+    let other = other-kind c.args.kind c.in_default.not-DvmMessage c.in_default.not-DvmComplete in
+    snoop-stands r p addr snoop c.args.kind kind k s k fine few refl
+    (messages_untold r k.messages p addr snoop (of-kind r p addr snoop c.args.kind kind is_complete_snoop false other.1) s.messages)
+    (inboxes_other_ac r k.inboxes p addr snoop (s.accepted, fine) (of-kind r p addr snoop c.args.kind kind is_message_snoop false other.0) s.inboxes)
