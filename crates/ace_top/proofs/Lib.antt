@@ -12,6 +12,7 @@ pub mod OneRun
 pub mod ParseLemmas
 pub mod Parts
 pub mod ProgressLemmas
+pub mod ReaderEnds
 pub mod ReportLemmas
 pub mod RunLemmas
 pub mod RunTexts

@@ -1,5 +1,6 @@
 -- One more event, and the verdict.
-use Rattle.std.proofs.Common.{◌≡◌, ◌≢◌, ◌≤◌, ◌+◌, ◌++◌, ℕ, List, [], ◌∷◌, Option, Some, None, IfSome, length, reverse, sym, ap, subst, ◌∙◌, append-nil, arith, inr, refl}
+use Rattle.std.proofs.Common.{◌≡◌, ◌≢◌, ◌≤◌, ◌+◌, ◌++◌, ℕ, List, [], ◌∷◌, Option, Some, None, Result, Ok, Err, IfSome, IfErr, OnOk, length, reverse, sym, ap, subst, ◌∙◌, append-nil, arith, inr, refl}
+use Rattle.std.specs.Prelude.{⊤}
 use Rattle.std.specs.List.{AllByRecursion}
 use Rattle.std.specs.Io.KnownBytes.{Consumes, IsAtEnd}
 use Rattle.std.proofs.KnownBytes.{Consumes-trans, Consumes-nil}
@@ -121,17 +122,19 @@ comes_further f f' count count' h h' start left left' is one (past, follows, sam
       λ told s. stands_further told h past next.0 left left' (subst (λ (k : Header). TakesEvent k past next.0 left left') is next.2) (stands told s),
     )
 
--- to the end of the bytes
-pub comes_to_end : (told : Option (List ℕ)) (f f' : Follower) (count : ℕ) (h : Header) (start left : Option (List ℕ)) → f' ≡ f → count ≤ most_events → IsAtEnd left
-    → HasCome f count h start left → StandsAt told h [] start → HasFollowed told f'
-comes_to_end told f f' count h start left is few end (past, follows, same, stands) s =
+-- to the end of the bytes, where the reading ends there
+pub comes_to_end : (told : Option (List ℕ)) (f f' : Follower) (count : ℕ) (h : Header) (start left : Option (List ℕ)) (end : Result ⊤ Answer) → OnOk end (f' ≡ f) → count ≤ most_events
+    → OnOk end (IsAtEnd left) → HasCome f count h start left → StandsAt told h [] start → OnOk end (HasFollowed told f')
+comes_to_end told f f' count h start left (Ok done) is few end (past, follows, same, stands) s =
     followed_at_end told h past left f' (subst (λ n. n ≤ most_events) same few) end (stands told s) (subst (λ (k : Follower). Follows k h past) (sym is) follows)
+comes_to_end told f f' count h start left (Err answer) is few end come s = tt
 
--- and to a verdict
-pub comes_to_verdict : (told : Option (List ℕ)) (f : Follower) (count : ℕ) (h h' : Header) (start left left' : Option (List ℕ)) (answer : Answer) → h' ≡ h
-    → HasCome f count h start left → ((past : List Event) → Follows f h' past → count ≡ length past → IsNextVerdict h' past left left' answer)
-    → StandsAt told h [] start → IfSome told (λ bytes. IsVerdict bytes answer)
-comes_to_verdict told f count h h' start left left' answer is (past, follows, same, stands) next s =
+-- and to a verdict, where an answer ends it
+pub comes_to_verdict : (told : Option (List ℕ)) (f : Follower) (count : ℕ) (h h' : Header) (start left left' : Option (List ℕ)) (end : Result ⊤ Answer) → h' ≡ h
+    → HasCome f count h start left → ((past : List Event) → Follows f h' past → count ≡ length past → IfErr end (IsNextVerdict h' past left left'))
+    → StandsAt told h [] start → IfErr end (λ answer. IfSome told (λ bytes. IsVerdict bytes answer))
+comes_to_verdict told f count h h' start left left' (Ok done) is come next s = tt
+comes_to_verdict told f count h h' start left left' (Err answer) is (past, follows, same, stands) next s =
     verdict_next told h past left left' answer
     (subst (λ (k : Header). IsNextVerdict k past left left' answer) is (next past (subst (λ (k : Header). Follows f k past) (sym is) follows) same)) (stands told s)
 

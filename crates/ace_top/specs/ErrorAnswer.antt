@@ -1,4 +1,6 @@
 -- The answer where a trace, or a script, could not be read on.
+use Rattle.std.specs.Prelude.{⊤, Option, Result, Ok, Err}
+use Rattle.ace_event.specs.declared.event.Event.{Event}
 use Rattle.ace_grammar.specs.declared.error.ReadErr.{ReadErr}
 use Rattle.ace_grammar.specs.declared.error.ReadErr.TheVariants.{Malformed, TooManyEvents, ReadFault, NoMemory}
 use Rattle.ace_script.specs.declared.error.PlanErr.{PlanErr}
@@ -17,3 +19,8 @@ plan_answer (plan.Malformed line reason) = answer.MalformedScript line reason
 plan_answer plan.TooManyOps = answer.LimitOperations
 plan_answer plan.ReadFault = answer.ReadFault
 plan_answer plan.NoMemory = answer.NoMemory
+
+-- how the reading of a trace ends with such an answer of its reader: at the end of the trace, or by an error
+abbrev pub ends_so : Result (Option Event) ReadErr → Result ⊤ Answer
+ends_so (Ok next) = Ok tt
+ends_so (Err error) = Err (error_answer error)

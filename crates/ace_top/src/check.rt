@@ -1,12 +1,13 @@
 // Checks a trace, event by event, as it is read, and reports it where that is asked for.
-ghost use Rattle.std.specs.Prelude.{◌≡◌, ◌<◌, ◌+◌, ℕ, List, [], ◌∷◌, Option, None, Ok, true, false, is_some, length, IfSome, IfOk, IfErr, OnOk};
+ghost use Rattle.std.specs.Prelude.{◌≡◌, ◌<◌, ◌+◌, ℕ, List, [], ◌∷◌, Option, None, true, false, is_some, length, IfSome, IfOk, IfErr, OnOk};
 ghost use Rattle.std.specs.Io.KnownBytes.{IsAtEnd};
 ghost use Rattle.ace_event.specs.declared.event.Event.{Event};
 ghost use Rattle.ace_grammar.specs.Errors.{LeavesNothing, TakesFront};
-ghost use Rattle.ace_grammar.specs.Reader.{source_of, unread, header_of, count_of, last_answer};
+ghost use Rattle.ace_grammar.specs.Reader.{source_of, unread, header_of, count_of, last_answer, lasting, given};
 ghost use Rattle.ace_grammar.specs.Reading.{most_events};
 ghost use Rattle.ace_model.specs.Trace.{Trace};
 ghost use Rattle.ace_top.specs.Answer.{CarriesOut, HasStatusCause};
+ghost use Rattle.ace_top.specs.ErrorAnswer.{ends_so};
 ghost use Rattle.ace_top.specs.Follow.{Follows, HasFollowed};
 ghost use Rattle.ace_top.specs.Progress.{EndsInput, HasReadCause, IsNextVerdict, IsRefusal, IsVerdictAnswer, TakesEvent, StandsAt};
 ghost use Rattle.ace_top.specs.Verdict.{IsVerdict, ReadsSound};
@@ -140,48 +141,67 @@ fn check_events<S: Source>(follower: &mut Follower, reader: &mut Reader<S>) -> R
     ensures cause { IfErr result (HasReadCause (S.faults (source_of reader.old).now) (S.faults (source_of reader.new).now)) }
 {
     let mut event = NO_EVENT;
-    'events: loop {
-        match check_next(follower, reader, &mut event) {
-            Ok(true) => {}
-            Ok(false) => return Ok(()),
-            Err(answer) => return Err(answer),
-        }
-    }
+    let mut end = Ok(());
+    'events: while check_next(follower, reader, &mut event, &mut end) {}
+    end
 }
 
-/// Reads one event into its place and follows it; false at the end of the trace. An answer ends the reading.
-#[tactic(auto, using(crate::proofs::ErrorLemmas::errors))]
+/// Reads one event into its place and follows it. Where the reading ends instead, at the end of the trace or by an answer, it says how in `end`.
+#[inline(always)]
+#[tactic(auto, using(crate::proofs::ErrorLemmas::errors, crate::proofs::ReaderEnds::none_given))]
 fn check_next<S: Source>(
     follower: &mut Follower,
     reader: &mut Reader<S>,
     event: &mut Event,
-) -> Result<bool, Answer>
+    end: &mut Result<(), Answer>,
+) -> bool
     requires reads_on { last_answer reader.old ≡ None }
     ensures same_source { (source_of reader.new).ghost_name ≡ (source_of reader.old).ghost_name }
     ensures same_header { header_of reader.new ≡ header_of reader.old }
     ensures same_reports { is_some follower.new.report ≡ is_some follower.old.report }
-    ensures reads_on { result ≡ Ok true → last_answer reader.new ≡ None }
-    ensures room { result ≡ Ok true → count_of reader.old < most_events }
-    ensures count { result ≡ Ok true → count_of reader.new ≡ count_of reader.old + 1 }
-    ensures front { result ≡ Ok true → TakesFront (unread S.left reader.old) (unread S.left reader.new) }
-    ensures takes { (past : Trace) → Follows follower.old (header_of reader.old) past → count_of reader.old ≡ length past → result ≡ Ok true
+    ensures reads_on { result ≡ true → last_answer reader.new ≡ None }
+    ensures room { result ≡ true → count_of reader.old < most_events }
+    ensures count { result ≡ true → count_of reader.new ≡ count_of reader.old + 1 }
+    ensures front { result ≡ true → TakesFront (unread S.left reader.old) (unread S.left reader.new) }
+    ensures takes { (past : Trace) → Follows follower.old (header_of reader.old) past → count_of reader.old ≡ length past → result ≡ true
         → Follows follower.new (header_of reader.old) (event.new ∷ past)
         × TakesEvent (header_of reader.old) past event.new (unread S.left reader.old) (unread S.left reader.new) }
-    ensures ended { result ≡ Ok false → IsAtEnd (unread S.left reader.old) }
-    ensures stays { result ≡ Ok false → follower.new ≡ follower.old }
-    ensures end { result ≡ Ok false → LeavesNothing (unread S.left reader.old) (S.left (source_of reader.new).now) }
-    ensures verdict { (past : Trace) → Follows follower.old (header_of reader.old) past → count_of reader.old ≡ length past
-        → IfErr result (IsNextVerdict (header_of reader.old) past (unread S.left reader.old) (unread S.left reader.new)) }
-    ensures refusal { IfErr result IsRefusal }
-    ensures steady { OnOk result (S.faults (source_of reader.new).now ≡ S.faults (source_of reader.old).now) }
-    ensures cause { IfErr result (HasReadCause (S.faults (source_of reader.old).now) (S.faults (source_of reader.new).now)) }
+    ensures ended { result ≡ false → OnOk end.new (IsAtEnd (unread S.left reader.old)) }
+    ensures stays { result ≡ false → OnOk end.new (follower.new ≡ follower.old) }
+    ensures end { result ≡ false → OnOk end.new (LeavesNothing (unread S.left reader.old) (S.left (source_of reader.new).now)) }
+    ensures verdict { (past : Trace) → Follows follower.old (header_of reader.old) past → count_of reader.old ≡ length past → result ≡ false
+        → IfErr end.new (IsNextVerdict (header_of reader.old) past (unread S.left reader.old) (unread S.left reader.new)) }
+    ensures refusal { result ≡ false → IfErr end.new IsRefusal }
+    ensures steady { result ≡ true → S.faults (source_of reader.new).now ≡ S.faults (source_of reader.old).now }
+    ensures steady_end { result ≡ false → OnOk end.new (S.faults (source_of reader.new).now ≡ S.faults (source_of reader.old).now) }
+    ensures cause { result ≡ false → IfErr end.new (HasReadCause (S.faults (source_of reader.old).now) (S.faults (source_of reader.new).now)) }
 {
-    match reader.next_into(event) {
-        Ok(Some(())) => match follower.take(event) {
-            None => Ok(true),
-            Some(answer) => Err(answer),
-        },
-        Ok(None) => Ok(false),
-        Err(error) => Err(error_answer(error)),
+    if !reader.gives(event) {
+        ending(reader, event, end);
+        return false;
     }
+    if follower.takes(event) {
+        return true;
+    }
+    match follower.take(event) {
+        None => true,
+        Some(answer) => {
+            *end = Err(answer);
+            false
+        }
+    }
+}
+
+/// Says how the reading of a trace has ended: at its end, or by an error.
+#[cold]
+#[inline(never)]
+fn ending<S: Source>(reader: &mut Reader<S>, event: &mut Event, end: &mut Result<(), Answer>)
+    requires kept { last_answer reader.old ≡ lasting (given false event.old (last_answer reader.old)) }
+    ensures same { reader.new ≡ reader.old }
+    ensures end { end.new ≡ ends_so (given false event.old (last_answer reader.old)) }
+{
+    *end = match reader.next_into(event) {
+        Ok(_) => Ok(()),
+        Err(error) => Err(error_answer(error)),
+    };
 }

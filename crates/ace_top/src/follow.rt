@@ -123,6 +123,23 @@ impl Follower {
         }
     }
 
+    /// Follows one more event of the trace, of fewer than 2^64 - 1, where no report is asked for and the checker has a short way for it. Where it
+    /// isn't followed nothing has changed, and `take` tells what there is to say of it.
+    #[inline(always)]
+    pub fn takes(&mut self, event: &Event) -> bool
+        ensures fine { (h : Header) (past : Trace) → Follows self.old h past → result ≡ true
+            → (least_broken h past event.now ≡ None) × (goes_over past event.now ≡ false) }
+        ensures follows { (h : Header) (past : Trace) → Follows self.old h past → length past < 2 ^ 64 - 2 → result ≡ true
+            → Follows self.new h (event.now ∷ past) }
+        ensures stays { result ≡ false → self.new ≡ self.old }
+        ensures reports { is_some self.new.report ≡ is_some self.old.report }
+    {
+        match self.report {
+            Some(_) => false,
+            None => self.checker.takes(event),
+        }
+    }
+
     /// How many events were followed.
     pub fn count(&self) -> u64
         ensures { (h : Header) (past : Trace) → Follows self.now h past → result ≡ length past }
