@@ -1,7 +1,7 @@
 //! ARs of DVM Messages and DVM Completes, taken by the short way.
 
 use crate::shares::Shares;
-use ace_portck::{event_kinds, is_completion, is_message};
+use ace_portck::event_kinds;
 
 impl Shares {
     ghost use Rattle.std.specs.Prelude.{◌≡◌, ◌<◌, ◌-◌, ◌^◌, ◌∷◌, true, false, None, length};
@@ -9,22 +9,22 @@ impl Shares {
     ghost use Rattle.ace_event.specs.declared.header.Header.{Header};
     ghost use Rattle.ace_model.specs.Accepted.{least_broken};
     ghost use Rattle.ace_model.specs.Trace.{Trace};
+    ghost use Rattle.ace_portck.specs.DvmReads.{is_completion, is_message};
     ghost use Rattle.ace_check.specs.Run.{goes_over};
     ghost use Rattle.ace_check.specs.Shares.{SharesTell};
 
     /// Takes an AR of a DVM Message with lock 0 that breaks no rule. If it isn't taken, nothing has changed.
     #[inline(always)]
     pub(crate) fn take_message(&mut self, address: &event_kinds::Ar) -> bool
-        ensures taken { (h : Header) (past : Trace) → SharesTell self.old h past → length past < 2 ^ 64 - 1 → result ≡ true
+        ensures taken { (h : Header) (past : Trace) → SharesTell self.old h past → length past < 2 ^ 64 - 1
+            → is_message address.now.snoop address.now.dom address.now.bar address.now.lock ≡ true → result ≡ true
             → (least_broken h past (Ar address.now.port address.now.id address.now.addr address.now.snoop address.now.dom address.now.bar address.now.lock) ≡ None)
             × SharesTell self.new h (Ar address.now.port address.now.id address.now.addr address.now.snoop address.now.dom address.now.bar address.now.lock ∷ past) }
-        ensures few_lines { (h : Header) (past : Trace) → SharesTell self.old h past → result ≡ true
+        ensures few_lines { (h : Header) (past : Trace) → SharesTell self.old h past
+            → is_message address.now.snoop address.now.dom address.now.bar address.now.lock ≡ true → result ≡ true
             → goes_over past (Ar address.now.port address.now.id address.now.addr address.now.snoop address.now.dom address.now.bar address.now.lock) ≡ false }
         ensures stays { result ≡ false → self.new ≡ self.old }
     {
-        if !is_message(address.snoop, address.dom, address.bar, address.lock) {
-            return false;
-        }
         if !self.ports.keeps_dvm_address(address.port, address.id) {
             return false;
         }
@@ -43,17 +43,16 @@ impl Shares {
     /// Takes an AR of a DVM Complete with lock 0 that breaks no rule. If it isn't taken, nothing has changed.
     #[inline(always)]
     pub(crate) fn take_completion(&mut self, address: &event_kinds::Ar) -> bool
-        ensures taken { (h : Header) (past : Trace) → SharesTell self.old h past → length past < 2 ^ 64 - 1 → result ≡ true
+        ensures taken { (h : Header) (past : Trace) → SharesTell self.old h past → length past < 2 ^ 64 - 1
+            → is_completion address.now.snoop address.now.dom address.now.bar address.now.lock ≡ true → result ≡ true
             → (least_broken h past (Ar address.now.port address.now.id address.now.addr address.now.snoop address.now.dom address.now.bar address.now.lock) ≡ None)
             × SharesTell self.new h (Ar address.now.port address.now.id address.now.addr address.now.snoop address.now.dom address.now.bar address.now.lock ∷ past) }
-        ensures few_lines { (h : Header) (past : Trace) → SharesTell self.old h past → result ≡ true
+        ensures few_lines { (h : Header) (past : Trace) → SharesTell self.old h past
+            → is_completion address.now.snoop address.now.dom address.now.bar address.now.lock ≡ true → result ≡ true
             → goes_over past (Ar address.now.port address.now.id address.now.addr address.now.snoop address.now.dom address.now.bar address.now.lock) ≡ false }
         ensures stays { result ≡ false → self.new ≡ self.old }
     {
-        if !is_completion(address.snoop, address.dom, address.bar, address.lock) {
-            return false;
-        }
-        if !self.ports.keeps_completion(address.port, address.id) {
+        if !self.ports.keeps_dvm_address(address.port, address.id) {
             return false;
         }
         if !self.system.keeps_completion(address.port, address.addr) {

@@ -1,4 +1,4 @@
-//! An AR of a line read with lock 0, by what is kept of its line where it stands.
+//! An AR of a line read, by what is kept of its line where it stands.
 
 ghost use Rattle.std.specs.Prelude.{◌≡◌, ◌&&◌, not};
 ghost use Rattle.ace_model.specs.Kinds.{is_no_snoop_read};
@@ -25,21 +25,22 @@ fn may_begin(kept: &LineRecord, port: u8, kind: ArKind) -> bool
 }
 
 impl LineCheck {
-    ghost use Rattle.std.specs.Prelude.{ℕ, Bool, Some, is_none};
+    ghost use Rattle.std.specs.Prelude.{ℕ, Bool, true, Some, is_none};
+    ghost use Rattle.ace_codes.specs.Reads.{ar_kind_of};
     ghost use Rattle.ace_event.specs.declared.event.Event.TheVariants.{Ar};
     ghost use Rattle.ace_model.specs.Accepted.{least_of};
+    ghost use Rattle.ace_model.specs.Kinds.{is_line_read};
     ghost use Rattle.ace_model.specs.Lines.{is_known};
     ghost use Rattle.ace_model.specs.Shares.{line_rules};
-    ghost use Rattle.ace_portck.specs.PlainAddresses.{plain_kind};
     ghost use Rattle.ace_portck.specs.Targets.{Recording};
     ghost use Rattle.ace_lineck.specs.Stands.{Stands, place_on};
 
-    /// A transaction has named the line, and an AR of it of the kind, with lock 0, keeps the rules of the share: K6 and K8 (Arm IHI
-    /// 0022E, C4). `place` is that of the line.
+    /// A transaction has named the line, and an AR of it of the kind, whatever its lock is, keeps the rules of the share: K6 and K8 (Arm
+    /// IHI 0022E, C4). `place` is that of the line.
     #[inline(always)]
     pub fn keeps_read_address(&self, port: u8, kind: ArKind, place: Option<usize>) -> bool
         ensures { (r : Recording) (id addr snoop dom bar : ℕ) (lock : Bool) → Stands self.now r → place ≡ place_on self.now (Some addr)
-            → plain_kind snoop dom bar lock ≡ Some kind
+            → ar_kind_of snoop dom bar ≡ Some kind → is_line_read kind ≡ true
             → result ≡ (is_known r.past addr && is_none (least_of line_rules r.header r.past (Ar port id addr snoop dom bar lock))) }
     {
         may_begin(self.record(place), port, kind)

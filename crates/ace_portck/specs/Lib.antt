@@ -13,7 +13,6 @@ pub mod OnePort
 pub mod Stands
 pub mod LineMaps
 pub mod Plain
-pub mod PlainAddresses
 pub mod DvmReads
 pub mod PlainWriteAddresses
 pub mod SnoopAnswers

@@ -2,27 +2,14 @@
 
 ghost use Rattle.std.specs.Prelude.{◌≡◌, ◌&&◌, nat_lt};
 ghost use Rattle.ace_event.specs.declared.header.Header.{Header};
-ghost use Rattle.ace_model.specs.Kinds.{is_dvm_complete, is_dvm_message};
 ghost use Rattle.ace_model.specs.Transactions.{is_ace};
-ghost use Rattle.ace_portck.specs.DvmReads.{dvm_read, is_completion, is_dvm_read, is_message};
+ghost use Rattle.ace_portck.specs.DvmReads.{dvm_read, is_dvm_read};
 
 use crate::kinds::{is_ace, read_kind};
 use crate::ports::{PortCheck, record_of};
-use ace_codes::{ArKind, read_ar};
+use ace_codes::ArKind;
 use ace_event::{Channel, Header};
 use ace_model::Transaction;
-
-fn is_dvm_message(kind: ArKind) -> bool
-    ensures { result ≡ is_dvm_message kind }
-{
-    matches!(kind, ArKind::DvmMessage)
-}
-
-fn is_dvm_complete(kind: ArKind) -> bool
-    ensures { result ≡ is_dvm_complete kind }
-{
-    matches!(kind, ArKind::DvmComplete)
-}
 
 fn is_dvm_read(kind: ArKind) -> bool
     ensures { result ≡ is_dvm_read kind }
@@ -39,22 +26,6 @@ pub fn dvm_read(transaction: &Transaction) -> Option<ArKind>
         Some(kind) if is_dvm_read(kind) && !transaction.lock => Some(kind),
         _ => None,
     }
-}
-
-/// The fields are those of the AR of a DVM Message with lock 0: a part of a message.
-#[inline(always)]
-pub fn is_message(snoop: u8, dom: u8, bar: u8, lock: bool) -> bool
-    ensures { result ≡ is_message snoop dom bar lock }
-{
-    read_ar(snoop, dom, bar).is_some_and(is_dvm_message) && !lock
-}
-
-/// The fields are those of the AR of a DVM Complete with lock 0.
-#[inline(always)]
-pub fn is_completion(snoop: u8, dom: u8, bar: u8, lock: bool) -> bool
-    ensures { result ≡ is_completion snoop dom bar lock }
-{
-    read_ar(snoop, dom, bar).is_some_and(is_dvm_complete) && !lock
 }
 
 /// The port is an ACE port of the header: only such a one issues a DVM read (K1 and K2).
@@ -92,14 +63,5 @@ impl PortCheck {
             && record_of(&self.ports, &self.outside, port)
                 .transactions
                 .is_name_free(Channel::Read, id)
-    }
-
-    /// An AR of a DVM Complete with lock 0 keeps the rules that look at one port: K1, K2 and K4.
-    #[inline(always)]
-    pub fn keeps_completion(&self, port: u8, id: u8) -> bool
-        ensures { (r : Recording) (addr snoop dom bar : ℕ) (lock : Bool) → Stands self.now r → is_completion snoop dom bar lock ≡ true
-            → result ≡ is_none (least_of port_rules r.header r.past (Ar port id addr snoop dom bar lock)) }
-    {
-        self.keeps_dvm_address(port, id)
     }
 }

@@ -33,13 +33,12 @@ mod targets;
 mod transactions;
 mod write_data;
 
-pub use dvm_reads::{dvm_read, is_completion, is_message};
+pub use dvm_reads::dvm_read;
 pub use event_kinds::EventKind;
 pub use no_memory::NoMemory;
 pub use one_port::OnePort;
 pub use pending::issued;
 pub use plain_acknowledges::{line_of_read, line_of_write};
-pub use plain_addresses::plain_kind;
 pub use plain_snoop_answers::snooped_line;
 pub use plain_write_addresses::plain_write_kind;
 pub use plain_write_ends::line_write;

@@ -1,4 +1,4 @@
--- What the AR of a plain read asks of its line; where the line is known, no transaction that begins moves anything of it.
+-- What the AR of a line read asks of its line; where the line is known, no transaction that begins moves anything of it.
 use Rattle.std.proofs.Common.{◌≡◌, ℕ, Bool, true, false, ◌&&◌, ◌||◌, nat_eq, if◌then◌else◌, ◌∷◌, List, length, Option, Some, None, is_none, refl, sym, ap, ◌∙◌, inl, inr}
 use Rattle.std.proofs.lemmas.Bool.{and_parts, cases_Bool, eqb-true, not-true}
 use Rattle.ace_codes.specs.Reads.{ar_kind_of}
@@ -6,7 +6,7 @@ use Rattle.ace_codes.specs.declared.kind.ArKind.{ArKind}
 use Rattle.ace_event.specs.declared.event.Event.TheVariants.{Ar, Aw}
 use Rattle.ace_tables.specs.StartStates.{starts_read}
 use Rattle.ace_model.specs.Accepted.{least_broken, least_of}
-use Rattle.ace_model.specs.Kinds.{is_no_snoop_read}
+use Rattle.ace_model.specs.Kinds.{is_line_read, is_no_snoop_read}
 use Rattle.ace_model.specs.Lines.{add_line, is_known, known_lines}
 use Rattle.ace_model.specs.Shares.{line_rules}
 use Rattle.ace_model.specs.declared.transactions.Transaction.{Transaction}
@@ -14,10 +14,8 @@ use Rattle.ace_model.proofs.Terms.{Event, Header, Trace, IsAccepted, issued, imp
 use Rattle.ace_model.proofs.General.Booleans.{implies-at}
 use Rattle.ace_model.proofs.Rules.Keeps.{accepted_keeps}
 use Rattle.ace_model.proofs.Trace.Outstanding.{write_issued}
-use Rattle.ace_portck.specs.PlainAddresses.{plain_kind}
 use Rattle.ace_portck.specs.Targets.{Recording, after}
-use Rattle.ace_portck.proofs.ShortWays.Plain.{IsPlainRead, plain_read-line}
-use Rattle.ace_portck.proofs.ShortWays.PlainAddresses.{read_of, plain_kind-is}
+use Rattle.ace_portck.proofs.ShortWays.PlainAddresses.{read_of}
 use Rattle.ace_lineck.specs.declared.grant.Grant.{Grant}
 use Rattle.ace_lineck.specs.declared.lines.LineCheck.{LineCheck}
 use Rattle.ace_lineck.specs.declared.record.LineRecord.{LineRecord}
@@ -50,18 +48,12 @@ two-rules true false = refl
 two-rules false true = refl
 two-rules false false = refl
 
-module _ (h : Header) (past : Trace) (p i addr snoop dom bar : ℕ) (lock : Bool) (k : ArKind) (is : plain_kind snoop dom bar lock ≡ Some k) where
+module _ (h : Header) (past : Trace) (p i addr snoop dom bar : ℕ) (lock : Bool) (k : ArKind) (kind : ar_kind_of snoop dom bar ≡ Some k) (on : is_line_read k ≡ true) where
   abbrev begun : Transaction
   begun = read_of (length past) p i addr snoop dom bar lock
 
-  plain : IsPlainRead begun k
-  plain = plain_kind-is (length past) p i addr snoop dom bar lock k is
-
-  kind : ar_kind_of snoop dom bar ≡ Some k
-  kind = plain.kind
-
   line : is_line begun ≡ true
-  line = plain_read-line begun k plain
+  line = rw (kind, on) refl
 
   -- K6 asks whether the kind starts from the state of the port
   starts : k6 h past (Ar p i addr snoop dom bar lock) ≡ starts_read k (state_of h past p addr)

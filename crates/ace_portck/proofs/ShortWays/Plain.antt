@@ -13,7 +13,7 @@ use Rattle.ace_model.specs.Kinds.{is_dvm_message, is_line_read, is_read_barrier}
 use Rattle.ace_model.specs.Messages.{is_message_part}
 use Rattle.ace_model.specs.Shares.{k18_transfer, port_rules}
 use Rattle.ace_model.specs.Trace.{Trace}
-use Rattle.ace_model.specs.Transactions.{is_exclusive_store, is_line, is_read, outstanding, read_kind, write_kind}
+use Rattle.ace_model.specs.Transactions.{is_exclusive_store, is_read, outstanding, read_kind, write_kind}
 use Rattle.ace_model.specs.declared.transactions.Transaction.{Transaction}
 use Rattle.ace_portck.specs.Plain.{is_next_beat, plain_read}
 use Rattle.ace_portck.specs.Targets.{progress_of}
@@ -31,7 +31,7 @@ from_test true false j k is = (refl, refl, cc)
 from_test true true j k is = cc
 from_test false barred j k is = cc
 
-pub from_kind : (o : Option ArKind) (barred : Bool) (k : ArKind) → option_and_then (λ j. if is_line_read j && not barred then Some j else None) o ≡ Some k
+from_kind : (o : Option ArKind) (barred : Bool) (k : ArKind) → option_and_then (λ j. if is_line_read j && not barred then Some j else None) o ≡ Some k
     → (o ≡ Some k) × (is_line_read k ≡ true) × (barred ≡ false)
 from_kind None barred k is = cc
 from_kind (Some j) barred k is =
@@ -65,9 +65,6 @@ plain_read-no_half x k p = rw (p.kind, plain_read-writes_none x k p, line-no_bar
 
 pub plain_read-no_message : (x : Transaction) (k : ArKind) → IsPlainRead x k → is_message_part x ≡ false
 plain_read-no_message x k p = rw (p.kind, line-no_message k p.line) refl
-
-pub plain_read-line : (x : Transaction) (k : ArKind) → IsPlainRead x k → is_line x ≡ true
-plain_read-line x k p = rw (p.kind, p.line) refl
 
 -- of K18, how many transfers came, and whether the next is the last
 pub beat_transfer : (h : Header) (past : Trace) (p id resp : ℕ) (last : Bool) (word : ℕ) (x : Progress) (k : ArKind)

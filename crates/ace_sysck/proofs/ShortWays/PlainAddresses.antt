@@ -2,6 +2,7 @@
 use Rattle.std.proofs.Common.{◌≡◌, ◌<◌, ◌-◌, ◌^◌, ℕ, Bool, true, false, ◌&&◌, if◌then◌else◌, length, Option, Some, None, slice_set, refl}
 use Rattle.ace_codes.specs.declared.kind.ArKind.{ArKind}
 use Rattle.ace_codes.specs.declared.kind.ArKind.TheVariants as read
+use Rattle.ace_codes.specs.Reads.{ar_kind_of}
 use Rattle.ace_event.specs.declared.event.Event.TheVariants.{Ar}
 use Rattle.ace_model.specs.Accepted.{least_broken, least_of}
 use Rattle.ace_model.specs.AddressRules.{k9}
@@ -13,11 +14,10 @@ use Rattle.ace_model.specs.Shares.{system_rules}
 use Rattle.ace_model.specs.Trace.{implies}
 use Rattle.ace_model.specs.declared.transactions.Transaction.{Transaction}
 use Rattle.ace_model.proofs.Terms.{Event, Header, Trace}
-use Rattle.ace_portck.specs.PlainAddresses.{plain_kind}
 use Rattle.ace_portck.specs.Targets.{Recording, after, target_of}
 use Rattle.ace_portck.specs.declared.target.Target.{Target}
 use Rattle.ace_portck.proofs.ShortWays.Plain.{IsPlainRead, plain_read-no_half, plain_read-no_message}
-use Rattle.ace_portck.proofs.ShortWays.PlainAddresses.{plain_kind-is, read_of}
+use Rattle.ace_portck.proofs.ShortWays.PlainAddresses.{read_of, unlocked-plain}
 use Rattle.ace_sysck.specs.declared.results.Results.{Results}
 use Rattle.ace_sysck.specs.declared.system.SysCheck.{SysCheck}
 use Rattle.ace_sysck.specs.Events.{begun_in, is_issue}
@@ -58,7 +58,7 @@ two-rules true true is also = refl
 two-rules false b is also = cc
 two-rules true false is also = cc
 
-module _ (h : Header) (past : Trace) (p i addr snoop dom bar : ℕ) (lock : Bool) (k : ArKind) (is : plain_kind snoop dom bar false ≡ Some k) where
+module _ (h : Header) (past : Trace) (p i addr snoop dom bar : ℕ) (lock : Bool) (k : ArKind) (kind : ar_kind_of snoop dom bar ≡ Some k) (line : is_line_read k ≡ true) where
   abbrev begun : Transaction
   begun = read_of (length past) p i addr snoop dom bar lock
 
@@ -66,7 +66,7 @@ module _ (h : Header) (past : Trace) (p i addr snoop dom bar : ℕ) (lock : Bool
   unlocked = read_of (length past) p i addr snoop dom bar false
 
   plain : IsPlainRead unlocked k
-  plain = plain_kind-is (length past) p i addr snoop dom bar false k is
+  plain = unlocked-plain (length past) p i addr snoop dom bar k kind line
 
   pub no_half : is_barrier_half begun ≡ false
   no_half = plain_read-no_half unlocked k plain
@@ -111,11 +111,11 @@ issue-stands s n r e x st is begins half part completion low fine few results = 
     step = record { header = st.ports; accepted = (st.accepted, fine); target = refl; few = few }
 
 -- a line read moves the results alone
-pub begun-stands : (s : SysCheck) (n : Results) (r : Recording) (p i addr snoop dom bar : ℕ) (lock : Bool) (k : ArKind) → Stands s r → plain_kind snoop dom bar false ≡ Some k
-    → least_broken r.header r.past (Ar p i addr snoop dom bar lock) ≡ None → length r.past < 2 ^ 64 - 1 → i < 256
+pub begun-stands : (s : SysCheck) (n : Results) (r : Recording) (p i addr snoop dom bar : ℕ) (lock : Bool) (k : ArKind) → Stands s r
+    → ar_kind_of snoop dom bar ≡ Some k → is_line_read k ≡ true → least_broken r.header r.past (Ar p i addr snoop dom bar lock) ≡ None → length r.past < 2 ^ 64 - 1 → i < 256
     → n.passed.items ≡ slice_set s.results.passed.items (slot_of p i) None → Stands (record s { results = n }) (after r (Ar p i addr snoop dom bar lock))
-begun-stands s n r p i addr snoop dom bar lock k st is fine few low items =
+begun-stands s n r p i addr snoop dom bar lock k st kind line fine few low items =
     issue-stands s n r (Ar p i addr snoop dom bar lock) (read_of (length r.past) p i addr snoop dom bar lock) st refl refl
-    (no_half r.header r.past p i addr snoop dom bar lock k is) (no_part r.header r.past p i addr snoop dom bar lock k is)
-    (no_completion r.header r.past p i addr snoop dom bar lock k is) low fine few
+    (no_half r.header r.past p i addr snoop dom bar lock k kind line) (no_part r.header r.past p i addr snoop dom bar lock k kind line)
+    (no_completion r.header r.past p i addr snoop dom bar lock k kind line) low fine few
     (results_ar r s.results n p i addr snoop dom bar lock st.results (port_within r.header r.past (Ar p i addr snoop dom bar lock) p (st.accepted, fine) refl) low items)

@@ -3,7 +3,6 @@ use Rattle.ace_event.specs.declared.event.Event.{Event}
 use Rattle.ace_event.specs.declared.event.Event.TheVariants.{Ar}
 use Rattle.ace_model.specs.Accepted.{least_of}
 use Rattle.ace_model.specs.Shares.{port_rules, system_rules}
-use Rattle.ace_portck.specs.DvmReads.{is_completion}
 use Rattle.ace_portck.specs.Targets.{Recording}
 use Rattle.ace_portck.proofs.ShortWays.DvmReads.{completion-dvm}
 use Rattle.ace_lineck.proofs.ShortWays.MessageAddresses.{lines-unmoved}
@@ -11,15 +10,14 @@ use Rattle.ace_check.proofs.ShortWays.MessageAddresses.{keeps-all, names-no_line
 use Rattle.ace_check.proofs.shares.Shares.take_completion.Goals as goal
 
 pub returns-clause-taken : goal.returns-clause-taken
-returns-clause-taken c = λ h past s few yes.
+returns-clause-taken c = λ h past s few is yes.
     let a = c.args.address.now in
     let e : Event = Ar a.port a.id a.addr a.snoop a.dom a.bar a.lock in
     let r : Recording = record { header = h; past = past } in
-    let is : is_completion a.snoop a.dom a.bar a.lock ≡ true = sym c.is_completion.ensures ∙ c.if-not-is_completion.false in
-    let ports : is_none (least_of port_rules h past e) ≡ true = sym (c.keeps_completion.ensures r a.addr a.snoop a.dom a.bar a.lock s.ports is) ∙ c.if-not-keeps_completion.false in
     let dvm = completion-dvm a.snoop a.dom a.bar a.lock is in
+    let ports : is_none (least_of port_rules h past e) ≡ true = sym (c.keeps_dvm_address.ensures r a.addr a.snoop a.dom a.bar a.lock s.ports dvm) ∙ c.if-not-keeps_dvm_address.false in
     let low = port_there h past a.port a.id a.addr a.snoop a.dom a.bar a.lock ports in
-    let system : is_none (least_of system_rules h past e) ≡ true = sym (c.keeps_completion-2.ensures r a.id a.snoop a.dom a.bar a.lock s.system is low) ∙ c.if-not-keeps_completion-2.false in
+    let system : is_none (least_of system_rules h past e) ≡ true = sym (c.keeps_completion.ensures r a.id a.snoop a.dom a.bar a.lock s.system is low) ∙ c.if-not-keeps_completion.false in
     let fine = keeps-all h past a.port a.id a.addr a.snoop a.dom a.bar a.lock dvm ports system in (
       fine,
       record {
@@ -30,6 +28,6 @@ returns-clause-taken c = λ h past s few yes.
     )
 
 pub returns-clause-few_lines : goal.returns-clause-few_lines
-returns-clause-few_lines c = λ h past s yes.
+returns-clause-few_lines c = λ h past s is yes.
     let a = c.args.address.now in
-    names-no_line h past a.port a.id a.addr a.snoop a.dom a.bar a.lock (completion-dvm a.snoop a.dom a.bar a.lock (sym c.is_completion.ensures ∙ c.if-not-is_completion.false))
+    names-no_line h past a.port a.id a.addr a.snoop a.dom a.bar a.lock (completion-dvm a.snoop a.dom a.bar a.lock is)

@@ -1,45 +1,39 @@
-use Rattle.std.proofs.Common.{◌≡◌, ◌&&◌, true, Some, is_none, sym, ◌∙◌}
+use Rattle.std.proofs.Common.{◌≡◌, ◌&&◌, true, is_none, sym, ◌∙◌}
 use Rattle.std.proofs.lemmas.Bool.{and_parts}
 use Rattle.ace_event.specs.declared.event.Event.{Event}
 use Rattle.ace_event.specs.declared.event.Event.TheVariants.{Ar}
 use Rattle.ace_model.specs.Accepted.{least_of}
 use Rattle.ace_model.specs.Lines.{is_known}
 use Rattle.ace_model.specs.Shares.{port_rules, line_rules}
-use Rattle.ace_portck.specs.PlainAddresses.{plain_kind}
 use Rattle.ace_portck.specs.Targets.{Recording}
-use Rattle.ace_portck.proofs.ShortWays.PlainAddresses.{kind_unlocked}
 use Rattle.ace_lineck.proofs.ShortWays.PlainAddresses.{lines-begun}
 use Rattle.ace_check.proofs.ShortWays.PlainAddresses.{keeps-all, over-known}
 use Rattle.ace_check.proofs.shares.Shares.take_read_address.Goals as goal
 
 pub returns-clause-taken : goal.returns-clause-taken
-returns-clause-taken c = λ h past s few t.
+returns-clause-taken c = λ h past s few kind line t.
     let a = c.args.address.now in
-    let kind = c.in-Some.kind in
     let e : Event = Ar a.port a.id a.addr a.snoop a.dom a.bar a.lock in
     let r : Recording = record { header = h; past = past } in
-    let plain : plain_kind a.snoop a.dom a.bar a.lock ≡ Some kind = sym c.plain_kind.ensures ∙ c.in-Some.is in
     let ports : is_none (least_of port_rules h past e) ≡ true =
-    sym (c.keeps_read_address.ensures r a.snoop a.dom a.bar a.lock s.ports plain) ∙ c.if-not-keeps_read_address.false in
+    sym (c.keeps_read_address.ensures r a.snoop a.dom a.bar s.ports kind line) ∙ c.if-not-keeps_read_address.false in
     let both : (is_known past a.addr && is_none (least_of line_rules h past e)) ≡ true =
-    sym (c.keeps_read_address-2.ensures r a.id a.addr a.snoop a.dom a.bar a.lock s.lines c.place-place.ensures plain) ∙ c.if-not-keeps_read_address-2.false in
+    sym (c.keeps_read_address-2.ensures r a.id a.addr a.snoop a.dom a.bar a.lock s.lines c.place-place.ensures kind line) ∙ c.if-not-keeps_read_address-2.false in
     let parts = and_parts (is_known past a.addr) (is_none (least_of line_rules h past e)) both in
-    let fine = keeps-all h past a.port a.id a.addr a.snoop a.dom a.bar a.lock kind (kind_unlocked a.snoop a.dom a.bar a.lock kind plain) ports parts.1 in (
+    let fine = keeps-all h past a.port a.id a.addr a.snoop a.dom a.bar a.lock c.args.kind kind line ports parts.1 in (
       fine,
       record {
         ports = c.apply.ensures.stands r (record { stands = s.ports; room = λ p k own at. tt; keeps = fine; few = few });
         lines = lines-begun c.args.self.now.lines r e s.lines parts.0 fine;
-        system = c.begin_read.ensures r a.addr a.snoop a.dom a.bar a.lock kind s.system plain fine few;
+        system = c.begin_line_read.ensures r a.addr a.snoop a.dom a.bar a.lock c.args.kind s.system kind line fine few;
       },
     )
 
 pub returns-clause-few_lines : goal.returns-clause-few_lines
-returns-clause-few_lines c = λ h past s t.
+returns-clause-few_lines c = λ h past s kind line t.
     let a = c.args.address.now in
-    let kind = c.in-Some.kind in
     let e : Event = Ar a.port a.id a.addr a.snoop a.dom a.bar a.lock in
     let r : Recording = record { header = h; past = past } in
-    let plain : plain_kind a.snoop a.dom a.bar a.lock ≡ Some kind = sym c.plain_kind.ensures ∙ c.in-Some.is in
     let both : (is_known past a.addr && is_none (least_of line_rules h past e)) ≡ true =
-    sym (c.keeps_read_address-2.ensures r a.id a.addr a.snoop a.dom a.bar a.lock s.lines c.place-place.ensures plain) ∙ c.if-not-keeps_read_address-2.false in
+    sym (c.keeps_read_address-2.ensures r a.id a.addr a.snoop a.dom a.bar a.lock s.lines c.place-place.ensures kind line) ∙ c.if-not-keeps_read_address-2.false in
     over-known past e (and_parts (is_known past a.addr) (is_none (least_of line_rules h past e)) both).0

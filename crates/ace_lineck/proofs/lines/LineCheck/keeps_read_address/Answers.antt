@@ -12,7 +12,7 @@ use Rattle.ace_lineck.proofs.ShortWays.PlainAddresses.{address_rules}
 use Rattle.ace_lineck.proofs.lines.LineCheck.keeps_read_address.Goals as goal
 
 pub returns : goal.returns
-returns c = λ r id addr snoop dom bar lock s at plain.
+returns c = λ r id addr snoop dom bar lock s at kind line.
     let k = c.args.kind in
     let p = c.args.port in
     let kept = s.lines addr in
@@ -21,4 +21,4 @@ returns c = λ r id addr snoop dom bar lock s at plain.
     ∙ ap (λ u. not (is_unknown u) && (goes_with u (is_no_snoop_read k) && starts_read k (holder_at (record_of c.args.self.now addr).holders.items p).state)) kept.used
     ∙ ap (λ w. not (is_unknown (use_of r.past addr)) && (goes_with (use_of r.past addr) (is_no_snoop_read k) && starts_read k w)) (kept.holders.state p)
     ∙ ap (λ b. b && (goes_with (use_of r.past addr) (is_no_snoop_read k) && starts_read k (state_of r.header r.past p addr))) (sym (known-used r.past addr))
-    ∙ ap (λ b. is_known r.past addr && b) (sym (address_rules r.header r.past p id addr snoop dom bar lock k plain s.accepted))
+    ∙ ap (λ b. is_known r.past addr && b) (sym (address_rules r.header r.past p id addr snoop dom bar lock k kind line s.accepted))

@@ -3,6 +3,6 @@ use Rattle.ace_sysck.proofs.ShortWays.PlainAddresses.{begun-stands}
 use Rattle.ace_sysck.proofs.system.SysCheck.begin_line_read.Goals as goal
 
 pub returns : goal.returns
-returns c = λ r addr snoop dom bar lock k s plain fine few.
+returns c = λ r addr snoop dom bar lock k s kind line fine few.
     let low : c.args.id < 256 = omega arith in
-    begun-stands c.args.self.now c.begin.new.self r c.args.port c.args.id addr snoop dom bar lock k s plain fine few low c.begin.ensures
+    begun-stands c.args.self.now c.begin.new.self r c.args.port c.args.id addr snoop dom bar lock k s kind line fine few low c.begin.ensures
