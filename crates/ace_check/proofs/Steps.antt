@@ -9,7 +9,7 @@ use Rattle.ace_event.specs.declared.event.Event.{Event}
 use Rattle.ace_event.specs.declared.event.Event.TheVariants.{Ar, Aw}
 use Rattle.ace_event.specs.declared.header.Header.{Header}
 use Rattle.ace_model.specs.declared.transactions.Transaction.{Transaction}
-use Rattle.ace_model.specs.Trace.{Trace}
+use Rattle.ace_model.specs.Trace.{Trace, is_some_and}
 use Rattle.ace_model.specs.Transactions.{is_line, outstanding}
 use Rattle.ace_model.specs.Accepted.{IsAccepted, least_broken, least_of}
 use Rattle.ace_model.specs.AddressRules.{k1}
@@ -112,6 +112,14 @@ failed_none h past l is = by (granted h past l) refl
     by : (o : Option Transaction) → granted h past l ≡ o → false ≡ has_failed_on h past l
     by None n = rw n refl
     by (Some x) s = let bad : Some (name_of x) ≡ None = rw s at is in cc
+
+-- only a transaction with lock 1 is an exclusive store that failed
+pub unlocked_stands : (h : Header) (past : Trace) (l : ℕ) → is_some_and (granted h past l) (λ x. x.lock) ≡ false → false ≡ has_failed_on h past l
+unlocked_stands h past l = by (granted h past l) refl
+  where
+    by : (o : Option Transaction) → granted h past l ≡ o → is_some_and o (λ x. x.lock) ≡ false → false ≡ has_failed_on h past l
+    by None n unlocked = rw n refl
+    by (Some x) s unlocked = rw (s, unlocked) refl
 
 pub over_is : (h : Header) (past : Trace) (e : Event) (l : ℕ) → line_in h past e ≡ Some l
     → (begins e && (not (is_known past l) && nat_le 4096 (length (known_lines past)))) ≡ goes_over past e

@@ -1,9 +1,10 @@
-//! Line snoops under the grants of plain transactions, taken by the short way.
+//! Line snoops, taken by the short way.
 
-ghost use Rattle.std.specs.Prelude.{◌≡◌, ◌<◌, ◌-◌, ◌^◌, ◌∷◌, true, false, None, Some, length};
+ghost use Rattle.std.specs.Prelude.{◌≡◌, ◌<◌, ◌-◌, ◌^◌, ◌∷◌, ℕ, true, false, None, Some, is_none, length};
 ghost use Rattle.ace_event.specs.declared.event.Event.TheVariants.{Ac};
 ghost use Rattle.ace_event.specs.declared.header.Header.{Header};
 ghost use Rattle.ace_model.specs.Accepted.{least_broken};
+ghost use Rattle.ace_model.specs.Lines.{has_failed_on};
 ghost use Rattle.ace_model.specs.Snoops.{snoops_a_line};
 ghost use Rattle.ace_model.specs.Trace.{Trace};
 ghost use Rattle.ace_lineck.specs.Stands.{place_on};
@@ -15,12 +16,22 @@ use ace_portck::event_kinds;
 use ace_portck::kinds::snoops_a_line;
 
 impl Shares {
-    /// The line snoop, whose line's record stands at the place, is one under the grant of a transaction with lock 0, and breaks no rule.
+    /// The granted transaction of the line, whose record stands at the place, is an exclusive store that failed. Only one with lock 1 is
+    /// looked up.
+    #[inline(always)]
+    fn has_failed_exclusively(&self, place: Option<usize>) -> bool
+        ensures { (h : Header) (past : Trace) (line : ℕ) → SharesTell self.now h past → place ≡ place_on self.now.lines (Some line)
+            → result ≡ has_failed_on h past line }
+    {
+        self.lines.is_granted_exclusively(place) && self.has_failed_at(place)
+    }
+
+    /// The line snoop, whose line's record stands at the place, breaks no rule.
     #[inline(always)]
     fn keeps_snoop(&self, snoop: &event_kinds::Ac, place: Option<usize>) -> bool
         ensures { (h : Header) (past : Trace) → SharesTell self.now h past → snoops_a_line snoop.now.snoop ≡ true
-            → place ≡ place_on self.now.lines (Some snoop.now.addr) → result ≡ true
-            → least_broken h past (Ac snoop.now.port snoop.now.addr snoop.now.snoop) ≡ None }
+            → place ≡ place_on self.now.lines (Some snoop.now.addr)
+            → result ≡ is_none (least_broken h past (Ac snoop.now.port snoop.now.addr snoop.now.snoop)) }
     {
         if !self.ports.keeps_line_snoop(snoop.port, snoop.addr) {
             return false;
@@ -29,12 +40,12 @@ impl Shares {
             return false;
         }
         let owes = self.ports.owes_wack(snoop.port, snoop.addr);
+        let failed = self.has_failed_exclusively(place);
         self.lines
-            .keeps_plain_snoop(place, snoop.port, snoop.snoop, owes)
+            .keeps_line_snoop(place, snoop.port, snoop.snoop, owes, failed)
     }
 
-    /// Takes an AC that snoops a line under the grant of a transaction with lock 0, if it breaks no rule and there is room for it. If it
-    /// isn't taken, nothing has changed.
+    /// Takes an AC that snoops a line, if it breaks no rule and there is room for it. If it isn't taken, nothing has changed.
     #[inline(always)]
     fn take_snoop(&mut self, snoop: &event_kinds::Ac) -> bool
         ensures taken { (h : Header) (past : Trace) → SharesTell self.old h past → length past < 2 ^ 64 - 1 → result ≡ true

@@ -5,7 +5,8 @@ use Rattle.std.specs.Bool.{OnTrue}
 use Rattle.std.specs.List.{All}
 use Rattle.indexmap.specs.IndexMap.{get}
 use Rattle.ace_model.specs.Lines.{known_lines}
-use Rattle.ace_model.proofs.Terms.{Event, Header, Trace, IsAccepted, granted}
+use Rattle.ace_model.specs.declared.transactions.Transaction.{Transaction}
+use Rattle.ace_model.proofs.Terms.{Event, Header, Trace, IsAccepted, granted, is_some_and}
 use Rattle.ace_model.specs.Accepted.{least_broken}
 use Rattle.ace_portck.specs.Targets.{Recording, after, line_in}
 use Rattle.ace_portck.specs.declared.target.Target.{Target}
@@ -38,6 +39,11 @@ line-stays h past e a l x off s = record {
 pub name-granted : (h : Header) (past : Trace) (l : ℕ) (g : Option Grant) → GrantStands h past l g → option_map (λ (v : Grant). name_of v.transaction) g ≡ option_map name_of (granted h past l)
 name-granted h past l None none = sym (ap (option_map name_of) none)
 name-granted h past l (Some g) f = sym (ap (option_map name_of) f.granted)
+
+-- whether the granted transaction has lock 1
+pub lock-granted : (h : Header) (past : Trace) (l : ℕ) (g : Option Grant) → GrantStands h past l g → is_some_and g (λ (v : Grant). v.transaction.lock) ≡ is_some_and (granted h past l) (λ x. x.lock)
+lock-granted h past l None none = sym (ap (λ o. is_some_and o (λ (x : Transaction). x.lock)) none)
+lock-granted h past l (Some g) f = sym (ap (λ o. is_some_and o (λ (x : Transaction). x.lock)) f.granted)
 
 -- The record of the event's line is a new one, and each other is as it was.
 pub record IsChanged (s t : LineCheck) (line : ℕ) (x : LineRecord) : Type 0 where

@@ -1,4 +1,4 @@
--- Line snoops under the grant of a transaction with lock 0: K13, and what they leave.
+-- Line snoops: K13, and what they leave.
 use Rattle.std.proofs.Common.{◌≡◌, ℕ, true, false, Bool, not, ◌&&◌, if◌then◌else◌, ◌∷◌, Option, Some, None, is_none, refl, sym, ap, ◌∙◌, inl, inr}
 use Rattle.std.proofs.lemmas.Bool.{cases_Bool, eq-eqb}
 use Rattle.ace_model.specs.declared.transactions.Transaction.{Transaction}
@@ -6,13 +6,11 @@ use Rattle.ace_model.specs.Accepted.{least_of}
 use Rattle.ace_model.specs.Shares.{line_rules}
 use Rattle.ace_model.specs.SnoopRules.{may_snoop}
 use Rattle.ace_model.specs.States.{owes_wack}
-use Rattle.ace_model.proofs.Terms.{Header, Trace, Ac, IsAccepted, implies, is_some_and, granted, has_failed, k13, snoops_a_line}
+use Rattle.ace_model.proofs.Terms.{Header, Trace, Ac, IsAccepted, implies, is_some_and, has_failed, has_failed_on, k13, snoops_a_line}
 use Rattle.ace_lineck.specs.declared.grant.Grant.{Grant}
 use Rattle.ace_lineck.specs.Grants.{GrantStands}
 use Rattle.ace_lineck.specs.Kept.{may_be_snooped}
-use Rattle.ace_lineck.specs.PlainSnoops.{may_be_snooped_plainly}
 use Rattle.ace_lineck.proofs.GrantLaws.{snooped-law}
-use Rattle.ace_model.proofs.General.Options.{Some-injective}
 use Rattle.ace_portck.specs.Targets.{Recording, line_in, target_of}
 use Rattle.ace_lineck.specs.declared.lines.LineCheck.{LineCheck}
 use Rattle.ace_lineck.specs.declared.record.LineRecord.{LineRecord}
@@ -23,40 +21,20 @@ use Rattle.ace_lineck.specs.Records.{LineStands}
 use Rattle.ace_lineck.specs.Stands.{MayApply, place_on}
 use Rattle.ace_lineck.specs.Uses.{is_unknown}
 
--- a transaction with lock 0 is no exclusive store
-no_failure : (past : Trace) (y : Transaction) → y.lock ≡ false → false ≡ has_failed past y
-no_failure past y unlocked = rw unlocked refl
-
-never : (b : Bool) → (not b && false) ≡ false
-never true = refl
-never false = refl
-
 turned : (owes may k : Bool) → k ≡ (may && not owes) → (not owes && may) ≡ is_none {T = ℕ} (if k then None else Some 13)
 turned true true k is = rw is refl
 turned true false k is = rw is refl
 turned false true k is = rw is refl
 turned false false k is = rw is refl
 
-pub plain_snoop-law : (h : Header) (past : Trace) → IsAccepted h past → (addr p snoop : ℕ) (owes : Bool) (g : Option Grant) → snoops_a_line snoop ≡ true
-    → owes ≡ owes_wack h past p addr → GrantStands h past addr g
-    → (not owes && may_be_snooped_plainly g p snoop) ≡ (is_some_and (granted h past addr) (λ x. not x.lock) && is_none (least_of line_rules h past (Ac p addr snoop)))
-plain_snoop-law h past a addr p snoop owes None line is f = never owes ∙ sym (ap (λ o. is_some_and o (λ (x : Transaction). not x.lock) && is_none (least_of line_rules h past (Ac p addr snoop))) f)
-plain_snoop-law h past a addr p snoop owes (Some g) line is f =
-    elim (cases_Bool g.transaction.lock) [
-      | inl t ↦
-          ap (λ b. not owes && (not b && may_be_snooped false (Some g) p snoop)) t ∙ never owes
-          ∙ sym (ap (λ o. is_some_and o (λ (x : Transaction). not x.lock) && is_none (least_of line_rules h past (Ac p addr snoop))) f.granted
-          ∙ ap (λ b. not b && is_none (least_of line_rules h past (Ac p addr snoop))) t)
-      | inr n ↦
-          let may = snooped-law h past a addr p snoop false (Some g)
-          (λ y there. no_failure past y (sym (ap (λ (v : Transaction). v.lock) (Some-injective g.transaction y (sym f.granted ∙ there))) ∙ n)) f in
-          let rule : k13 h past (Ac p addr snoop) ≡ (may_be_snooped false (Some g) p snoop && not owes) =
-          ap (λ b. implies b (may_snoop h past p addr snoop)) line ∙ ap (λ b. b && not (owes_wack h past p addr)) (sym may) ∙ ap (λ b. may_be_snooped false (Some g) p snoop && not b) (sym is) in
-          ap (λ b. not owes && (not b && may_be_snooped false (Some g) p snoop)) n
-          ∙ turned owes (may_be_snooped false (Some g) p snoop) (k13 h past (Ac p addr snoop)) rule
-          ∙ sym (ap (λ o. is_some_and o (λ (x : Transaction). not x.lock) && is_none (least_of line_rules h past (Ac p addr snoop))) f.granted
-          ∙ ap (λ b. not b && is_none (least_of line_rules h past (Ac p addr snoop))) n)
-    ]
+pub line_snoop-law : (h : Header) (past : Trace) → IsAccepted h past → (addr p snoop : ℕ) (owes failed : Bool) (g : Option Grant) → snoops_a_line snoop ≡ true
+    → owes ≡ owes_wack h past p addr → failed ≡ has_failed_on h past addr → GrantStands h past addr g
+    → (not owes && may_be_snooped failed g p snoop) ≡ is_none (least_of line_rules h past (Ac p addr snoop))
+line_snoop-law h past a addr p snoop owes failed g line is fails f =
+    let may = snooped-law h past a addr p snoop failed g (λ y there. fails ∙ ap (λ o. is_some_and o (has_failed past)) there) f in
+    let rule : k13 h past (Ac p addr snoop) ≡ (may_be_snooped failed g p snoop && not owes) =
+    ap (λ b. implies b (may_snoop h past p addr snoop)) line ∙ ap (λ b. b && not (owes_wack h past p addr)) (sym may) ∙ ap (λ b. may_be_snooped failed g p snoop && not b) (sym is) in
+    turned owes (may_be_snooped failed g p snoop) (k13 h past (Ac p addr snoop)) rule
 
 -- the line of a line snoop
 pub snoop_line : (h : Header) (past : Trace) (p addr snoop : ℕ) → snoops_a_line snoop ≡ true → line_in h past (Ac p addr snoop) ≡ Some addr

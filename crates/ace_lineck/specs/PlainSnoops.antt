@@ -1,19 +1,12 @@
--- Line snoops under the grant of a transaction with lock 0.
-use Rattle.std.specs.Prelude.{ℕ, ◌≡◌, ◌<◌, ◌-◌, ◌^◌, Bool, true, false, not, ◌&&◌, length, Option, Some, None}
+-- Line snoops.
+use Rattle.std.specs.Prelude.{ℕ, ◌≡◌, ◌<◌, ◌-◌, ◌^◌, Bool, true, length, Option, Some, None}
 use Rattle.ace_event.specs.declared.event.Event.TheVariants.{Ac}
 use Rattle.ace_model.specs.Accepted.{least_broken}
 use Rattle.ace_model.specs.Snoops.{snoops_a_line}
 use Rattle.ace_model.specs.States.{owes_wack}
 use Rattle.ace_portck.specs.Targets.{Recording}
-use Rattle.ace_lineck.specs.declared.grant.Grant.{Grant}
 use Rattle.ace_lineck.specs.declared.lines.LineCheck.{LineCheck}
-use Rattle.ace_lineck.specs.Kept.{may_be_snooped}
 use Rattle.ace_lineck.specs.Stands.{Stands, place_on}
-
--- the granted transaction has lock 0, and under its grant the port may be snooped with this code
-abbrev pub may_be_snooped_plainly : Option Grant → ℕ → ℕ → Bool
-may_be_snooped_plainly None p snoop = false
-may_be_snooped_plainly (Some g) p snoop = not g.transaction.lock && may_be_snooped false (Some g) p snoop
 
 -- the port may be asked for a snoop of the line, as the next event: the place is that of the line
 pub record MaySnoop (s : LineCheck) (r : Recording) (p addr snoop : ℕ) (place : Option ℕ) (owes : Bool) : Type 0 where

@@ -3,6 +3,7 @@
 ghost use Rattle.std.specs.Prelude.{◌≡◌, ◌+◌, ◌<◌, ◌≤◌, length, IfOk, IsOk, option_map};
 ghost use Rattle.std.specs.List.{All};
 ghost use Rattle.ace_model.specs.Copies.{word_of};
+ghost use Rattle.ace_model.specs.Trace.{is_some_and};
 ghost use Rattle.ace_lineck.specs.Holders.{holder_at, HasNothing};
 ghost use Rattle.ace_lineck.specs.Records.{IsFresh, name_of};
 ghost use Rattle.ace_lineck.specs.Uses.{is_unknown};
@@ -164,6 +165,17 @@ impl LineRecord {
                 let x = &g.transaction;
                 Some((x.port, x.chan, x.id))
             }
+        }
+    }
+
+    /// The granted transaction, if there is one, has lock 1.
+    #[inline(always)]
+    pub fn is_granted_exclusively(&self) -> bool
+        ensures { result ≡ is_some_and self.now.grant (λ g. g.transaction.lock) }
+    {
+        match &self.grant {
+            None => false,
+            Some(g) => g.transaction.lock,
         }
     }
 

@@ -1,5 +1,6 @@
 use Rattle.std.proofs.Common.{◌≡◌, true, sym, ◌∙◌}
 use Rattle.ace_model.specs.Snoops.{snoops_a_line}
+use Rattle.ace_model.proofs.General.Options.{none_is}
 use Rattle.ace_portck.specs.Targets.{Recording}
 use Rattle.ace_sysck.proofs.ShortWays.SnoopLaws.{system_still}
 use Rattle.ace_check.proofs.shares.Shares.take_snoop.Goals as goal
@@ -10,7 +11,7 @@ returns-clause-taken c = λ h past s few taken.
     let r : Recording = record { header = h; past = past } in
     let line : snoops_a_line x.snoop ≡ true = sym c.snoops_a_line.ensures ∙ c.if-not-snoops_a_line.false in
     let at = c.place-place.ensures in
-    let fine = c.keeps_snoop.ensures h past s line at c.if-not-keeps_snoop.false in
+    let fine = none_is _ (sym (c.keeps_snoop.ensures h past s line at) ∙ c.if-not-keeps_snoop.false) in
     let room = c.has_room_for_snoop.ensures x.addr x.snoop c.if-not-has_room_for_snoop.false in (
       fine,
       record {
