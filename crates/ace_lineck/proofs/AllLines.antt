@@ -1,10 +1,14 @@
 -- What is kept of all lines, after an event and after room was made.
-use Rattle.std.proofs.Common.{rules, ◌≡◌, ◌⊎◌, ◌+◌, ◌%◌, ℕ, nat_eq, true, false, Bool, not, ◌&&◌, if◌then◌else◌, ◌∷◌, length, Option, Some, None, option_map, IsSome, refl, sym, ap, subst, ◌∙◌, inl, inr, unwrap_or, arith}
+use Rattle.std.proofs.Common.{rules, ◌≡◌, ◌⊎◌, ◌+◌, ◌%◌, ℕ, nat_eq, true, false, Bool, not, ◌&&◌, if◌then◌else◌, List, [], ◌∷◌, length, Option, Some, None, option_map, IsSome, refl, sym, ap, subst, ◌∙◌, inl, inr, unwrap_or, arith}
 use Rattle.std.proofs.lemmas.Bool.{cases_eq}
 use Rattle.std.specs.Bool.{OnTrue}
 use Rattle.std.specs.List.{All}
+use Rattle.std.specs.Map.{lookup}
 use Rattle.indexmap.specs.IndexMap.{get}
+use Rattle.indexmap.specs.IndexMap as map
 use Rattle.ace_model.specs.Lines.{known_lines}
+use Rattle.ace_codes.specs.declared.state.LineState.TheVariants.{I}
+use Rattle.ace_event.specs.Ports.{IsHeader}
 use Rattle.ace_model.specs.declared.transactions.Transaction.{Transaction}
 use Rattle.ace_model.proofs.Terms.{Event, Header, Trace, IsAccepted, granted, is_some_and}
 use Rattle.ace_model.specs.Accepted.{least_broken}
@@ -17,12 +21,14 @@ use Rattle.ace_lineck.specs.declared.grant.Grant.{Grant}
 use Rattle.ace_lineck.specs.declared.record.Use.TheVariants.{Unknown}
 use Rattle.ace_lineck.specs.Holders.{MemoryStands, holder_at}
 use Rattle.ace_lineck.specs.Grants.{GrantStands}
+use Rattle.ace_lineck.specs.States.{StatesStand, state_at}
 use Rattle.ace_lineck.specs.Uses.{use_of, is_unknown}
 use Rattle.ace_lineck.specs.Records.{LineStands, IsRecordStep, IsFresh, name_of}
 use Rattle.ace_lineck.specs.Stands.{Stands, IsEmpty, IsAbsent, IsNewLine, HasRecord, MayApply, begins_line, place_on, record_of}
 use Rattle.ace_lineck.proofs.Places.{get-none}
 use Rattle.ace_lineck.proofs.OnLine.{IsOff}
-use Rattle.ace_lineck.proofs.OffLine.{holders-stay, memory-stays}
+use Rattle.ace_lineck.proofs.OffLine.{holders-stay, memory-stays, states-stay}
+use Rattle.ace_lineck.proofs.StateSteps.{all-same}
 use Rattle.ace_lineck.proofs.GrantFrame.{grant_stays}
 use Rattle.ace_lineck.proofs.KnownLines.{use-stays, known-used, known-counts, known-same, few-known, line-known}
 
@@ -32,8 +38,47 @@ line-stays h past e a l x off s = record {
   used = s.used ∙ sym (use-stays h past e l off);
   memory = memory-stays h past e a l x.memory off s.memory;
   grant = grant_stays h past e a l x.grant off s.grant;
+  states = states-stay h past e a l x.states off s.states;
   holders = holders-stay h past e a l x.holders.items off s.holders;
 }
+
+-- what is kept in an empty record is what there is of a line after no event
+pub empty-stands : (h : Header) (l : ℕ) (x : LineRecord) → IsEmpty x → LineStands h [] l x
+empty-stands h l x e = record {
+  used = e.used;
+  memory = record { memory = e.memory };
+  states = record { state = λ p. ap (λ xs. state_at xs p) e.states ∙ all-same I 32 p };
+  grant = subst (GrantStands h [] l) (sym e.grant) refl;
+  holders = record { copy = λ p. ap (λ xs. (holder_at xs p).copy) e.holders; sent = λ p. ap (λ xs. (holder_at xs p).sent) e.holders };
+}
+
+-- a record for no port is empty
+pub fresh-empty : (x : LineRecord) → IsFresh 0 x → IsEmpty x
+fresh-empty x f = record { used = f.used; states = f.states; memory = f.memory; grant = f.grant; holders = by x.holders.items f.count }
+  where
+    by : (xs : List Holder) → length xs ≡ 0 → xs ≡ []
+    by [] none = refl
+    by (y ∷ xs) none = cc
+
+-- what is kept of no line is what there is of all lines after no event
+pub begins : (s : LineCheck) (h : Header) → s.header ≡ h → IsHeader h → IsFresh 0 s.empty → map.IsEmpty s.lines → s.known ≡ 0
+    → All (IsFresh h.ports) s.spare.items → Stands s (record { header = h; past = [] })
+begins s h same is f clear known spare = record {
+  header = same;
+  ports = is;
+  accepted = tt;
+  empty = empty;
+  lines = λ l. subst (LineStands h [] l) (sym (ap (λ v. unwrap_or v s.empty) (none l))) (empty-stands h l s.empty empty);
+  holders = λ l x at. let bad : None ≡ Some x = sym (none l) ∙ at in cc;
+  known = known;
+  spare = spare;
+}
+  where
+    empty : IsEmpty s.empty
+    empty = fresh-empty s.empty f
+
+    none : (l : ℕ) → get nat_eq s.lines l ≡ None
+    none l = ap (lookup (nat_eq l)) clear
 
 -- the name of the granted transaction
 pub name-granted : (h : Header) (past : Trace) (l : ℕ) (g : Option Grant) → GrantStands h past l g → option_map (λ (v : Grant). name_of v.transaction) g ≡ option_map name_of (granted h past l)
@@ -104,8 +149,8 @@ fresh-stands h past l x y e f s = record {
   used = f.used ∙ sym e.used ∙ s.used;
   memory = subst (MemoryStands past l) (e.memory ∙ sym f.memory) s.memory;
   grant = subst (GrantStands h past l) (e.grant ∙ sym f.grant) s.grant;
+  states = subst (StatesStand h past l) (e.states ∙ sym f.states) s.states;
   holders = record {
-    state = λ p. ap (λ (v : Holder). v.state) (same p) ∙ s.holders.state p;
     copy = λ p. ap (λ (v : Holder). v.copy) (same p) ∙ s.holders.copy p;
     sent = λ p. ap (λ (v : Holder). v.sent) (same p) ∙ s.holders.sent p;
   };

@@ -1,6 +1,8 @@
 -- What the rules of a grant say, in the words of what is kept of the line.
-use Rattle.std.proofs.Common.{◌≡◌, ℕ, zero, suc, true, false, Bool, not, ◌&&◌, ◌||◌, ◌==◌, List, length, Option, Some, None, is_some, is_none, option_map, refl, sym, ap, ◌∙◌, inl, inr}
-use Rattle.std.proofs.lemmas.Bool.{and_from, cases_Bool, eq-eqb}
+use Rattle.std.proofs.Common.{◌≡◌, ◌≤◌, arith, ℕ, zero, suc, true, false, Bool, not, ◌&&◌, ◌||◌, ◌==◌, List, length, Option, Some, None, is_some, is_none, option_map, refl, sym, ap, ◌∙◌, inl, inr}
+use Rattle.std.proofs.lemmas.Bool.{and_from, cases_Bool, cases_eq, eq-eqb}
+use Rattle.std.proofs.lemmas.Option.{slice_get_past}
+use Rattle.std.proofs.Math.Bool.{or-true}
 use Rattle.ace_codes.specs.Responses.{passes_dirty}
 use Rattle.ace_model.specs.declared.snoops.Answer.{Answer}
 use Rattle.ace_model.specs.declared.transactions.Transaction.{Transaction}
@@ -19,10 +21,10 @@ use Rattle.ace_model.proofs.Grants.Pending.{snoops}
 use Rattle.ace_model.proofs.GrantLooks.Had.{may_grant, grants_by_line, takes-on}
 use Rattle.ace_portck.specs.Targets.{line_in, own_of, own_on, progress_of}
 use Rattle.ace_portck.specs.declared.target.Target.{Target}
-use Rattle.ace_lineck.specs.declared.record.Holder.{Holder}
+use Rattle.ace_codes.specs.declared.state.LineState.{LineState}
 use Rattle.ace_lineck.specs.declared.record.LineRecord.{LineRecord}
 use Rattle.ace_lineck.specs.declared.grant.Grant.{Grant}
-use Rattle.ace_lineck.specs.Holders.{HoldersStand, holder_at}
+use Rattle.ace_lineck.specs.States.{StatesStand, state_at}
 use Rattle.ace_lineck.specs.Grants.{GrantFits, GrantStands, stage_at, stage_by, stage_of}
 use Rattle.ace_lineck.specs.Records.{IsNext}
 use Rattle.ace_lineck.specs.Kept.{is_unsnooped, is_sending, is_settled, may_be_snooped, has_passed, is_passed_whole, is_done_at, are_done, is_its, takes_data, may_have_beat, IsFailure}
@@ -126,17 +128,36 @@ module _ (h : Header) (past : Trace) (a : IsAccepted h past) (l : ℕ) (g : Gran
       by (Some p) = ap (λ s. not (is_sending s)) (f.stages p) ∙ ap not (sending-is h past a p l)
 
   -- its snoops
-  pub done-law : (failed : Bool) (xs : List Holder) → failed ≡ has_failed past g.transaction → HoldersStand h past l xs → are_done h failed g xs ≡ are_snoops_done h past g.transaction
+  pub done-law : (failed : Bool) (xs : List LineState) → failed ≡ has_failed past g.transaction → StatesStand h past l xs → are_done h failed g xs ≡ are_snoops_done h past g.transaction
   done-law failed xs is held =
       ap (λ b. (is_none (snoop_of g.transaction) || b) || list_all (is_done_at h g xs) (ports_below h.ports)) is
       ∙ ap (λ b. (is_none (snoop_of g.transaction) || has_failed past g.transaction) || b) (each_port-agree h.ports (is_done_at h g xs) (is_port_done h past g.transaction) port)
     where
       port : (q : ℕ) → is_done_at h g xs q ≡ is_port_done h past g.transaction q
       port q =
-          ap (λ s. is_settled s (((q == g.transaction.port) || not (is_ace h q)) || is_invalid (holder_at xs q).state)) (f.stages q)
-          ∙ settled-is h past a q l (((q == g.transaction.port) || not (is_ace h q)) || is_invalid (holder_at xs q).state)
+          ap (λ s. is_settled s (((q == g.transaction.port) || not (is_ace h q)) || is_invalid (state_at xs q))) (f.stages q)
+          ∙ settled-is h past a q l (((q == g.transaction.port) || not (is_ace h q)) || is_invalid (state_at xs q))
           ∙ ap (λ st. not (owes_answer past q l) && not (owes_data past q l) && ((((q == g.transaction.port) || not (is_ace h q)) || is_invalid st) || was_snooped past q l)) (held.state q)
           ∙ ap (λ v. not (owes_answer past q v) && not (owes_data past q v) && ((((q == g.transaction.port) || not (is_ace h q)) || is_invalid (state_of h past q v)) || was_snooped past q v)) (sym addr-of)
+
+-- Ports that are all let through count for nothing.
+pub all-below : (test : ℕ → Bool) (k : ℕ) → ((q : ℕ) → k ≤ q → test q ≡ true) → (n : ℕ) → k ≤ n → list_all test (ports_below k) ≡ list_all test (ports_below n)
+all-below test k through zero low = let none : k ≡ zero = omega arith in ap (λ v. list_all test (ports_below v)) none
+all-below test k through (suc n) low =
+    elim (cases_eq k (suc n)) [
+      | inl same ↦ ap (λ v. list_all test (ports_below v)) same
+      | inr other ↦
+          let less : k ≤ n = omega arith in
+          let one = through n less in
+          rw one (all-below test k through n less)
+    ]
+
+-- a port that has no place in what is kept is done
+pub done-beyond : (h : Header) (g : Grant) (xs : List LineState) (q : ℕ) → length g.stages ≤ q → length xs ≤ q → is_done_at h g xs q ≡ true
+done-beyond h g xs q stages states =
+    let unsnooped = slice_get_past g.stages q stages in
+    let invalid = slice_get_past xs q states in
+    rw (unsnooped, invalid) (or-true ((q == g.transaction.port) || not (is_ace h q)))
 
 -- K13: whether the port may be snooped under the grant
 pub snooped-law : (h : Header) (past : Trace) → IsAccepted h past → (addr p snoop : ℕ) (failed : Bool) (g : Option Grant)
@@ -211,13 +232,13 @@ module _ (h : Header) (past : Trace) (t : Target) (x : LineRecord) where
     read-count y o = let reads = ap is_read (outstanding-name h past p Read i y o).chan in rw reads refl
 
     may-law : (failed : Bool) → IsFailure h past t failed → (y : Transaction) → outstanding h past p Read i ≡ Some y → is_line y ≡ true
-        → may_have_beat h failed x.grant x.holders.items (progress_of h past y) resp ≡ may_transfer h past y resp
+        → may_have_beat h failed x.grant x.states (progress_of h past y) resp ≡ may_transfer h past y resp
     may-law failed fails y o line = by x.grant (s.line y.addr (read-line y o line)).grant
       where
-        held : HoldersStand h past y.addr x.holders.items
-        held = (s.line y.addr (read-line y o line)).holders
+        held : StatesStand h past y.addr x.states
+        held = (s.line y.addr (read-line y o line)).states
 
-        by : (g : Option Grant) → GrantStands h past y.addr g → may_have_beat h failed g x.holders.items (progress_of h past y) resp ≡ may_transfer h past y resp
+        by : (g : Option Grant) → GrantStands h past y.addr g → may_have_beat h failed g x.states (progress_of h past y) resp ≡ may_transfer h past y resp
         by None f = let none : is_granted h past y ≡ false = ap (λ v. is_transaction v y) f in rw none refl
         by (Some g) f =
             elim (cases_Bool (is_its g y)) [
@@ -226,27 +247,27 @@ module _ (h : Header) (past : Trace) (t : Target) (x : LineRecord) where
                   let one = its-is h past s.accepted y.addr g f p Read i y o refl own in
                   let yes : is_granted h past y ≡ true = its-granted h past s.accepted y.addr g f y refl ∙ own in
                   let failed_is : failed ≡ has_failed past g.transaction = fails y.addr (read-line y o line) ∙ ap (λ v. is_some_and v (has_failed past)) f.granted in
-                  let done : are_done h failed g x.holders.items ≡ are_snoops_done h past y = done-law h past s.accepted y.addr g f failed x.holders.items failed_is held ∙ ap (are_snoops_done h past) one in
+                  let done : are_done h failed g x.states ≡ are_snoops_done h past y = done-law h past s.accepted y.addr g f failed x.states failed_is held ∙ ap (are_snoops_done h past) one in
                   let passed : has_passed g ≡ has_passed_data h past y = passed-law h past s.accepted y.addr g f ∙ ap (has_passed_data h past) one in
                   let whole : is_passed_whole g ≡ are_passed_data_whole h past y = whole-law h past s.accepted y.addr g f ∙ ap (are_passed_data_whole h past) one in
-                  let first : implies ((progress_of h past y).transfers == 0) (are_done h failed g x.holders.items) ≡ implies (transfers past y.port y.id == 0) (are_snoops_done h past y) =
-                  ap (λ n. implies (n == 0) (are_done h failed g x.holders.items)) (read-count y o) ∙ ap (implies (transfers past y.port y.id == 0)) done in
+                  let first : implies ((progress_of h past y).transfers == 0) (are_done h failed g x.states) ≡ implies (transfers past y.port y.id == 0) (are_snoops_done h past y) =
+                  ap (λ n. implies (n == 0) (are_done h failed g x.states)) (read-count y o) ∙ ap (implies (transfers past y.port y.id == 0)) done in
                   let takes : implies (has_passed g) (takes_data g y resp) ≡ implies (has_passed_data h past y) (takes_passed h past y resp) =
                   ap (λ b. implies b (takes_data g y resp)) passed
                   ∙ ap (λ b. implies (has_passed_data h past y) ((is_some_and (read_kind y) takes_passed_data && b) && passes_dirty resp)) whole in
-                  ap (λ b. (b && implies ((progress_of h past y).transfers == 0) (are_done h failed g x.holders.items)) && implies (has_passed g) (takes_data g y resp)) (own ∙ sym yes)
+                  ap (λ b. (b && implies ((progress_of h past y).transfers == 0) (are_done h failed g x.states)) && implies (has_passed g) (takes_data g y resp)) (own ∙ sym yes)
                   ∙ ap (λ b. (is_granted h past y && b) && implies (has_passed g) (takes_data g y resp)) first
                   ∙ ap (λ b. (is_granted h past y && implies (transfers past y.port y.id == 0) (are_snoops_done h past y)) && b) takes
             ]
 
     pub k18-law : (failed : Bool) → IsFailure h past t failed
-        → is_none_or t.transaction (λ y. implies (is_line y.transaction) (may_have_beat h failed x.grant x.holders.items y resp)) ≡ k18_line h past (R p i resp last word)
+        → is_none_or t.transaction (λ y. implies (is_line y.transaction) (may_have_beat h failed x.grant x.states y resp)) ≡ k18_line h past (R p i resp last word)
     k18-law failed fails =
-        ap (λ (v : Target). is_none_or v.transaction (λ y. implies (is_line y.transaction) (may_have_beat h failed x.grant x.holders.items y resp))) s.target
+        ap (λ (v : Target). is_none_or v.transaction (λ y. implies (is_line y.transaction) (may_have_beat h failed x.grant x.states y resp))) s.target
         ∙ by (outstanding h past p Read i) refl
       where
         by : (o : Option Transaction) → outstanding h past p Read i ≡ o
-            → is_none_or (option_map (progress_of h past) o) (λ y. implies (is_line y.transaction) (may_have_beat h failed x.grant x.holders.items y resp))
+            → is_none_or (option_map (progress_of h past) o) (λ y. implies (is_line y.transaction) (may_have_beat h failed x.grant x.states y resp))
             ≡ is_none_or o (λ y. implies (is_line y) (may_transfer h past y resp))
         by None is = refl
         by (Some y) is =

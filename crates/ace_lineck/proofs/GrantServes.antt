@@ -1,5 +1,5 @@
 -- What is kept of a grant after a G, after a transfer or an M of a transaction on its line, and where its transaction ends.
-use Rattle.std.proofs.Common.{arith, ◌+◌, ◌≡◌, ◌≢◌, ℕ, zero, suc, true, false, Bool, not, ◌&&◌, ◌||◌, ◌==◌, nat_eq, ◌∷◌, replicate, Option, Some, None, option_and_then, option_map, refl, sym, ap, subst, ◌∙◌, inl, inr}
+use Rattle.std.proofs.Common.{arith, ◌+◌, ◌≡◌, ◌≢◌, ℕ, zero, suc, true, false, Bool, not, ◌&&◌, ◌||◌, ◌==◌, nat_eq, ◌∷◌, Option, Some, None, option_and_then, option_map, refl, sym, ap, subst, ◌∙◌, inl, inr}
 use Rattle.std.proofs.lemmas.Bool.{false_from_ne_true, and_parts, and_from, cases_Bool, cases_eq, eqb-true, eq-eqb, ne_eqb}
 use Rattle.ace_event.specs.declared.line.Line.{Line}
 use Rattle.ace_model.specs.declared.transactions.Transaction.{Transaction}
@@ -18,15 +18,11 @@ use Rattle.ace_model.proofs.GrantLooks.Progress.{first_beat-stays, written-now, 
 use Rattle.ace_portck.specs.Targets.{line_in}
 use Rattle.ace_lineck.specs.declared.stages.Stage.TheVariants.{Unsnooped}
 use Rattle.ace_lineck.specs.declared.grant.Grant.{Grant}
-use Rattle.ace_lineck.specs.Grants.{GrantFits, fresh_grant, stage_at, fetched, settled_reply}
+use Rattle.ace_lineck.specs.Grants.{GrantFits, fresh_grant, fetched, settled_reply}
 use Rattle.ace_lineck.proofs.OnLine.{on-transaction}
+use Rattle.ace_lineck.proofs.StateSteps.{all-same}
 use Rattle.ace_lineck.proofs.GrantFrame.{fetched-same, passed-stays}
 use Rattle.ace_lineck.proofs.GrantSteps.{unfetched, quiet-calm, stages-calm}
-
-all-unsnooped : (n p : ℕ) → stage_at (replicate n Unsnooped) p ≡ Unsnooped
-all-unsnooped zero p = refl
-all-unsnooped (suc n) zero = refl
-all-unsnooped (suc n) (suc p) = all-unsnooped n p
 
 no_port : (n : ℕ) (test : ℕ → Bool) → ((p : ℕ) → test p ≡ false) → (list_any test (ports_below n) ≡ false) × (find test (ports_below n) ≡ None)
 no_port zero test none = (refl, refl)
@@ -40,7 +36,7 @@ module _ (h : Header) (past : Trace) (l : ℕ) where
     granted = stands;
     begun = sym fresh.unbegun;
     written = sym fresh.written;
-    stages = λ p. all-unsnooped 32 p ∙ sym (rw gives refl);
+    stages = λ p. all-same Unsnooped 32 p ∙ sym (rw gives refl);
     shared = sym (no_port h.ports (shares (G q c j ∷ past) l) (λ p. rw gives refl)).0;
     passed = sym (ap (option_map _) (no_port h.ports (passes (G q c j ∷ past) l) (λ p. rw gives refl)).1);
     reply = sym (none_sent ∙ unfetched (G q c j ∷ past) x fresh.unbegun);

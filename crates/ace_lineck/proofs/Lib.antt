@@ -3,8 +3,9 @@ pub mod OnLine
 pub mod OffLine
 -- A port's own transaction on a line (K5), and what the rules ask of it.
 pub mod Own
--- Holders and memory, at an event of their line.
+-- The data and the states of the ports, and memory, at an event of their line.
 pub mod HolderSteps
+pub mod StateSteps
 -- The bursts that answer snoops: whose they are, and the line that they send.
 pub mod Bursts
 pub mod Sent

@@ -10,6 +10,7 @@ use Rattle.ace_model.proofs.General.Options.{is_some_and-is}
 use Rattle.ace_portck.specs.Targets.{line_in}
 use Rattle.ace_lineck.specs.declared.record.Holder.{Holder}
 use Rattle.ace_lineck.specs.Holders.{HolderStands, HoldersStand, MemoryStands, sent_on}
+use Rattle.ace_lineck.specs.States.{StatesStand}
 use Rattle.ace_lineck.proofs.OnLine.{IsOff, line-transaction, line-snoop, outstanding-of}
 
 module _ (h : Header) (past : Trace) where
@@ -119,17 +120,18 @@ module _ (h : Header) (past : Trace) where
   off-sent _ p l n = refl
 
   -- what is kept of a port stays
-  pub holder-stays : (e : Event) → IsAccepted h (e ∷ past) → (p l : ℕ) (x : Holder) → IsApart e p l → HolderStands h past p l x → HolderStands h (e ∷ past) p l x
+  pub holder-stays : (e : Event) → IsAccepted h (e ∷ past) → (p l : ℕ) (x : Holder) → IsApart e p l → HolderStands past p l x → HolderStands (e ∷ past) p l x
   holder-stays e a p l x n s = record {
-    state = s.state ∙ sym (off-state e a p l n);
     copy = s.copy ∙ sym (off-copy e a p l n);
     sent = s.sent ∙ sym (off-sent e p l n);
   }
 
   -- at an event of another line what is kept of all ports stays
-  pub holders-stay : (e : Event) → IsAccepted h (e ∷ past) → (l : ℕ) (xs : _) → IsOff h past e l → HoldersStand h past l xs → HoldersStand h (e ∷ past) l xs
+  pub states-stay : (e : Event) → IsAccepted h (e ∷ past) → (l : ℕ) (xs : _) → IsOff h past e l → StatesStand h past l xs → StatesStand h (e ∷ past) l xs
+  states-stay e a l xs n s = record { state = λ p. s.state p ∙ sym (off-state e a p l (λ q. n)) }
+
+  pub holders-stay : (e : Event) → IsAccepted h (e ∷ past) → (l : ℕ) (xs : _) → IsOff h past e l → HoldersStand past l xs → HoldersStand (e ∷ past) l xs
   holders-stay e a l xs n s = record {
-    state = λ p. s.state p ∙ sym (off-state e a p l (λ q. n));
     copy = λ p. s.copy p ∙ sym (off-copy e a p l (λ q. n));
     sent = λ p. s.sent p ∙ sym (off-sent e p l (λ q. n));
   }

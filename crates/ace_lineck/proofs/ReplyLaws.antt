@@ -27,12 +27,12 @@ use Rattle.ace_portck.specs.Targets.{line_in, progress_of}
 use Rattle.ace_portck.specs.declared.target.Target.{Target}
 use Rattle.ace_lineck.specs.declared.record.LineRecord.{LineRecord}
 use Rattle.ace_lineck.specs.declared.grant.Grant.{Grant}
-use Rattle.ace_lineck.specs.Holders.{holder_at}
 use Rattle.ace_lineck.specs.Grants.{GrantFits, GrantStands, fetched}
 use Rattle.ace_lineck.specs.Records.{IsNext}
 use Rattle.ace_lineck.specs.Kept.{reply_kept, fits_reply, fits_shared, fits_bits, has_passed, has_passed_for, is_shared_under, is_its, ends_kept, IsFailure}
 use Rattle.ace_lineck.proofs.OnLine.{line-transaction}
 use Rattle.ace_lineck.proofs.GrantLaws.{passed-law, read-line, read-count}
+use Rattle.ace_lineck.specs.States.{state_at}
 
 -- the reply of the granted read
 pub reply-law : (h : Header) (past : Trace) → IsAccepted h past → (l : ℕ) (g : Grant) → GrantFits h past l g → is_read g.transaction.chan ≡ true → (memory : Line) → memory ≡ memory_of past l
@@ -248,15 +248,15 @@ module _ (h : Header) (past : Trace) (t : Target) (x : LineRecord) (p : ℕ) (st
 
   -- where it is known whether the read is an exclusive store that failed
   pub k23-of : (failed : Bool) → ((y : Transaction) → acknowledged past p Read ≡ Some y → is_line y ≡ true → failed ≡ has_failed past y)
-      → is_none_or t.transaction (ends_kept failed (holder_at x.holders.items p).state st) ≡ k23 h past (Rk p st)
+      → is_none_or t.transaction (ends_kept failed (state_at x.states p) st) ≡ k23 h past (Rk p st)
   k23-of failed fails =
       let ace = rk-ace in
-      ap (λ (v : Target). is_none_or v.transaction (ends_kept failed (holder_at x.holders.items p).state st)) s.target
-      ∙ ap (λ b. is_none_or (option_map (progress_of h past) (if b then acknowledged past p Read else None)) (ends_kept failed (holder_at x.holders.items p).state st)) ace
+      ap (λ (v : Target). is_none_or v.transaction (ends_kept failed (state_at x.states p) st)) s.target
+      ∙ ap (λ b. is_none_or (option_map (progress_of h past) (if b then acknowledged past p Read else None)) (ends_kept failed (state_at x.states p) st)) ace
       ∙ by (acknowledged past p Read) refl
     where
       end : (y : Transaction) → acknowledged past p Read ≡ Some y → (k : ArKind) → read_kind y ≡ Some k
-          → (ends_read k (if is_line y then (holder_at x.holders.items p).state else I) (is_shared (progress_of h past y).response) (passes_dirty (progress_of h past y).response) (is_line y && failed) st
+          → (ends_read k (if is_line y then (state_at x.states p) else I) (is_shared (progress_of h past y).response) (passes_dirty (progress_of h past y).response) (is_line y && failed) st
           && implies (is_make_unique k) (progress_of h past y).stored) ≡ is_end h past y st k
       end y is k kind =
           let n = acknowledged_is past p Read y is in
@@ -264,9 +264,9 @@ module _ (h : Header) (past : Trace) (t : Target) (x : LineRecord) (p : ℕ) (st
           let one : e.ended_one ≡ y = Some-injective e.ended_one y (sym e.is ∙ is) in
           let port : y.port ≡ p = ap (λ (v : Transaction). v.port) (sym one) ∙ e.port in
           let reads = (read_writes_none y k kind).1 in
-          let held : (if is_line y then (holder_at x.holders.items p).state else I) ≡ held_of h past y = elim (cases_Bool (is_line y)) [
+          let held : (if is_line y then (state_at x.states p) else I) ≡ held_of h past y = elim (cases_Bool (is_line y)) [
             | inr f ↦ rw f refl
-            | inl line ↦ rw line ((s.line y.addr (rk-line y is line)).holders.state p ∙ ap (λ v. state_of h past v y.addr) (sym port))
+            | inl line ↦ rw line ((s.line y.addr (rk-line y is line)).states.state p ∙ ap (λ v. state_of h past v y.addr) (sym port))
           ] in
           let failed_is : (is_line y && failed) ≡ has_failed past y = elim (cases_Bool (is_line y)) [
             | inr f ↦ rw f (sym (failed-line y f))
@@ -283,14 +283,14 @@ module _ (h : Header) (past : Trace) (t : Target) (x : LineRecord) (p : ℕ) (st
           ∙ ap (λ v. ends_read k (held_of h past y) (is_some_and (first_resp past y.port y.id) is_shared) (is_some_and (first_resp past y.port y.id) passes_dirty) (has_failed past y) st && implies (is_make_unique k) v) stored
 
       kinds : (y : Transaction) → acknowledged past p Read ≡ Some y → (o : Option ArKind) → read_kind y ≡ o
-          → is_none_or o (λ k. ends_read k (if is_line y then (holder_at x.holders.items p).state else I) (is_shared (progress_of h past y).response) (passes_dirty (progress_of h past y).response) (is_line y && failed) st
+          → is_none_or o (λ k. ends_read k (if is_line y then (state_at x.states p) else I) (is_shared (progress_of h past y).response) (passes_dirty (progress_of h past y).response) (is_line y && failed) st
           && implies (is_make_unique k) (progress_of h past y).stored) ≡ is_none_or o (is_end h past y st)
       kinds y is None kind = refl
       kinds y is (Some k) kind = end y is k kind
 
-      by : (o : Option Transaction) → acknowledged past p Read ≡ o → is_none_or (option_map (progress_of h past) o) (ends_kept failed (holder_at x.holders.items p).state st) ≡ is_none_or o (ends_well h past st)
+      by : (o : Option Transaction) → acknowledged past p Read ≡ o → is_none_or (option_map (progress_of h past) o) (ends_kept failed (state_at x.states p) st) ≡ is_none_or o (ends_well h past st)
       by None is = refl
       by (Some y) is = kinds y is (read_kind y) refl
 
-  pub k23-law : (failed : Bool) → IsFailure h past t failed → is_none_or t.transaction (ends_kept failed (holder_at x.holders.items p).state st) ≡ k23 h past (Rk p st)
+  pub k23-law : (failed : Bool) → IsFailure h past t failed → is_none_or t.transaction (ends_kept failed (state_at x.states p) st) ≡ k23 h past (Rk p st)
   k23-law failed fails = k23-of failed (λ y is line. fails y.addr (rk-line y is line) ∙ ap (λ o. is_some_and o (has_failed past)) (rk-granted y is line))

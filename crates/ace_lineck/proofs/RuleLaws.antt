@@ -32,6 +32,7 @@ use Rattle.ace_lineck.specs.Uses.{use_by, use_of, newest_use, goes_with}
 use Rattle.ace_lineck.specs.Records.{LineStands, IsNext}
 use Rattle.ace_lineck.proofs.Own.{has_update-own, has_outstanding-own, wants_store-own, awaits_own_store}
 use Rattle.ace_lineck.proofs.Sent.{next-sent, none-sent, sends-a_line}
+use Rattle.ace_lineck.specs.States.{state_at}
 
 -- the state is a start state of the kind of a line transaction
 abbrev pub may_start_of : Transaction → LineState → Bool
@@ -170,11 +171,11 @@ module _ (h : Header) (past : Trace) (t : Target) (x : LineRecord) where
   stands : (e : Event) → IsNext h past e t x → (l : ℕ) → line_in h past e ≡ Some l → LineStands h past l x
   stands e s l on = s.line l (ap (λ (v : Target). v.line) s.target ∙ on)
 
-  state : (e : Event) → IsNext h past e t x → (p l : ℕ) → line_in h past e ≡ Some l → (holder_at x.holders.items p).state ≡ state_of h past p l
-  state e s p l on = (stands e s l on).holders.state p
+  state : (e : Event) → IsNext h past e t x → (p l : ℕ) → line_in h past e ≡ Some l → state_at x.states p ≡ state_of h past p l
+  state e s p l on = (stands e s l on).states.state p
 
   pub k6-law : (e : Event) → IsNext h past e t x → (y : Transaction) → issued (length past) e ≡ Some y
-      → implies (is_line y) (is_none_or (read_kind y) (λ k. starts_read k (holder_at x.holders.items y.port).state) && is_none_or (write_kind y) (λ k. starts_write k (holder_at x.holders.items y.port).state))
+      → implies (is_line y) (is_none_or (read_kind y) (λ k. starts_read k (state_at x.states y.port)) && is_none_or (write_kind y) (λ k. starts_write k (state_at x.states y.port)))
       ≡ k6 h past e
   k6-law e s y new =
       elim (cases_Bool (is_line y)) [
@@ -260,32 +261,32 @@ module _ (h : Header) (past : Trace) (t : Target) (x : LineRecord) where
 
     -- the rows of a snoop of the line are by the state that is kept
     rows : (update : Bool) (q : Snoop) → answered past p ≡ Some q
-        → is_none_or (ac_kind_of q.snoop) (λ k. is_snoop_row k (holder_at x.holders.items p).state update resp st) ≡ is_none_or (ac_kind_of q.snoop) (λ k. is_snoop_row k (state_of h past p q.addr) update resp st)
+        → is_none_or (ac_kind_of q.snoop) (λ k. is_snoop_row k (state_at x.states p) update resp st) ≡ is_none_or (ac_kind_of q.snoop) (λ k. is_snoop_row k (state_of h past p q.addr) update resp st)
     rows update q is =
         elim (cases_Bool (snoops_a_line q.snoop)) [
-          | inr f ↦ rows-apart (ac_kind_of q.snoop) (holder_at x.holders.items p).state (state_of h past p q.addr) update update resp st f
+          | inr f ↦ rows-apart (ac_kind_of q.snoop) (state_at x.states p) (state_of h past p q.addr) update update resp st f
           | inl line ↦
               let on : line_in h past (Cr p resp st) ≡ Some q.addr = rw (is, line) refl in
               let held = state (Cr p resp st) s p q.addr on in
               rw held refl
         ]
 
-    pub k15-law : is_none_or t.snoop (λ q. is_none_or (ac_kind_of q.snoop) (λ k. is_snoop_row k (holder_at x.holders.items p).state false resp st)) ≡ k15 h past (Cr p resp st)
+    pub k15-law : is_none_or t.snoop (λ q. is_none_or (ac_kind_of q.snoop) (λ k. is_snoop_row k (state_at x.states p) false resp st)) ≡ k15 h past (Cr p resp st)
     k15-law = rw asked (by (answered past p) refl)
       where
         by : (o : Option Snoop) → answered past p ≡ o
-            → is_none_or o (λ q. is_none_or (ac_kind_of q.snoop) (λ k. is_snoop_row k (holder_at x.holders.items p).state false resp st))
+            → is_none_or o (λ q. is_none_or (ac_kind_of q.snoop) (λ k. is_snoop_row k (state_at x.states p) false resp st))
             ≡ is_none_or o (λ q. is_none_or (ac_kind_of q.snoop) (λ k. is_snoop_row k (state_of h past p q.addr) false resp st))
         by None is = refl
         by (Some q) is = rows false q is
 
     pub k16-law : k15 h past (Cr p resp st) ≡ true
-        → implies (is_some_and t.own (λ y. updates_memory y.transaction)) (is_none_or t.snoop (λ q. is_none_or (ac_kind_of q.snoop) (λ k. is_snoop_row k (holder_at x.holders.items p).state true resp st)))
+        → implies (is_some_and t.own (λ y. updates_memory y.transaction)) (is_none_or t.snoop (λ q. is_none_or (ac_kind_of q.snoop) (λ k. is_snoop_row k (state_at x.states p) true resp st)))
         ≡ k16 h past (Cr p resp st)
     k16-law kept = rw asked (by (answered past p) refl)
       where
         by : (o : Option Snoop) → answered past p ≡ o
-            → implies (is_some_and t.own (λ y. updates_memory y.transaction)) (is_none_or o (λ q. is_none_or (ac_kind_of q.snoop) (λ k. is_snoop_row k (holder_at x.holders.items p).state true resp st)))
+            → implies (is_some_and t.own (λ y. updates_memory y.transaction)) (is_none_or o (λ q. is_none_or (ac_kind_of q.snoop) (λ k. is_snoop_row k (state_at x.states p) true resp st)))
             ≡ is_none_or o (answers_beside_update h past p resp st)
         by None is = implies-true (is_some_and t.own (λ y. updates_memory y.transaction)) true refl
         by (Some q) is =
@@ -298,7 +299,7 @@ module _ (h : Header) (past : Trace) (t : Target) (x : LineRecord) where
                   rw own (sym (implies-true (has_update h past p q.addr) _ also))
               | inl line ↦
                   let own : t.own ≡ option_map (progress_of h past) (own_of h past p q.addr) = rw (is, line) at (ap (λ (v : Target). v.own) s.target) in
-                  ap (λ b. implies b (is_none_or (ac_kind_of q.snoop) (λ k. is_snoop_row k (holder_at x.holders.items p).state true resp st))) (own-updates p q.addr t.own own s.accepted)
+                  ap (λ b. implies b (is_none_or (ac_kind_of q.snoop) (λ k. is_snoop_row k (state_at x.states p) true resp st))) (own-updates p q.addr t.own own s.accepted)
                   ∙ ap (implies (has_update h past p q.addr)) (rows true q is)
             ]
 
@@ -321,14 +322,14 @@ module _ (h : Header) (past : Trace) (t : Target) (x : LineRecord) where
           rw (next, sent) refl
 
   pub k28-law : (p : ℕ) (st : LineState) → IsNext h past (Wk p st) t x
-      → is_none_or t.transaction (λ y. is_none_or (write_kind y.transaction) (λ k. ends_write k (if is_line y.transaction then (holder_at x.holders.items p).state else I) st)) ≡ k28 h past (Wk p st)
+      → is_none_or t.transaction (λ y. is_none_or (write_kind y.transaction) (λ k. ends_write k (if is_line y.transaction then (state_at x.states p) else I) st)) ≡ k28 h past (Wk p st)
   k28-law p st s =
       let ace : is_ace h p ≡ true = (and_parts _ (is_ace h p) s.port).1 in
       let trans : t.transaction ≡ option_map (progress_of h past) (acknowledged past p Write) = rw ace at (ap (λ (v : Target). v.transaction) s.target) in
       rw trans (by ace (acknowledged past p Write) refl)
     where
       by : is_ace h p ≡ true → (o : Option Transaction) → acknowledged past p Write ≡ o
-          → is_none_or (option_map (progress_of h past) o) (λ y. is_none_or (write_kind y.transaction) (λ k. ends_write k (if is_line y.transaction then (holder_at x.holders.items p).state else I) st))
+          → is_none_or (option_map (progress_of h past) o) (λ y. is_none_or (write_kind y.transaction) (λ k. ends_write k (if is_line y.transaction then (state_at x.states p) else I) st))
           ≡ is_none_or o (λ z. is_none_or (write_kind z) (λ k. ends_write k (held_of h past z) st))
       by ace None is = refl
       by ace (Some z) is =
@@ -338,19 +339,19 @@ module _ (h : Header) (past : Trace) (t : Target) (x : LineRecord) where
                 let on : line_in h past (Wk p st) ≡ Some z.addr = rw (ace, is, line) refl in
                 let n = acknowledged_is past p Write z is in
                 let port : z.port ≡ p = (transaction_of-name past p Write n.id z n.named).port in
-                let held : (holder_at x.holders.items p).state ≡ state_of h past z.port z.addr = state (Wk p st) s p z.addr on ∙ ap (λ v. state_of h past v z.addr) (sym port) in
+                let held : state_at x.states p ≡ state_of h past z.port z.addr = state (Wk p st) s p z.addr on ∙ ap (λ v. state_of h past v z.addr) (sym port) in
                 rw (line, held) refl
           ]
 
   pub k29-law : (p addr : ℕ) (st : LineState) → IsNext h past (S p addr st) t x
-      → (is_silent_move (holder_at x.holders.items p).state st && not (is_invalid st && is_some_and t.own (λ y. updates_memory y.transaction))) ≡ k29 h past (S p addr st)
+      → (is_silent_move (state_at x.states p) st && not (is_invalid st && is_some_and t.own (λ y. updates_memory y.transaction))) ≡ k29 h past (S p addr st)
   k29-law p addr st s =
       let held = state (S p addr st) s p addr refl in
       let own : t.own ≡ option_map (progress_of h past) (own_of h past p addr) = ap (λ (v : Target). v.own) s.target in
       let update = own-updates p addr t.own own s.accepted in
       rw (held, update) refl
 
-  pub k30-law : (p addr w : ℕ) (b : Bool) (word : ℕ) → IsNext h past (L p addr w b word) t x → not (is_invalid (holder_at x.holders.items p).state) ≡ k30 h past (L p addr w b word)
+  pub k30-law : (p addr w : ℕ) (b : Bool) (word : ℕ) → IsNext h past (L p addr w b word) t x → not (is_invalid (state_at x.states p)) ≡ k30 h past (L p addr w b word)
   k30-law p addr w b word s = let held = state (L p addr w b word) s p addr refl in rw held refl
 
   pub k31-law : (p addr w : ℕ) (b : Bool) (word : ℕ) → IsNext h past (L p addr w b word) t x
@@ -358,7 +359,7 @@ module _ (h : Header) (past : Trace) (t : Target) (x : LineRecord) where
   k31-law p addr w b word s = let copy = (stands (L p addr w b word) s addr refl).holders.copy p in rw copy refl
 
   pub k32-law : (p addr strobe : ℕ) (b : Bool) (line : Line) → IsNext h past (D p addr strobe b line) t x
-      → ((is_unique (holder_at x.holders.items p).state && not (is_some t.own)) || (is_some_and t.own (λ y. awaits_store y && not y.stored) && not b && (strobe == full_line)))
+      → ((is_unique (state_at x.states p) && not (is_some t.own)) || (is_some_and t.own (λ y. awaits_store y && not y.stored) && not b && (strobe == full_line)))
       ≡ k32 h past (D p addr strobe b line)
   k32-law p addr strobe b line s =
       let held = state (D p addr strobe b line) s p addr refl in

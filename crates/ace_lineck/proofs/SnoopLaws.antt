@@ -58,7 +58,8 @@ snooped_record h past l p addr snoop x g s grant = record {
   used = s.used;
   memory = record { memory = s.memory.memory };
   grant = grant;
-  holders = record { state = s.holders.state; copy = s.holders.copy; sent = s.holders.sent };
+  states = record { state = s.states.state };
+  holders = record { copy = s.holders.copy; sent = s.holders.sent };
 }
 
 pub stays_known : (u : Use) → (is_unknown u && not (is_unknown u)) ≡ false

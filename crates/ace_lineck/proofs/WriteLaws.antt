@@ -7,7 +7,7 @@ use Rattle.ace_event.specs.declared.line.Line.{Line}
 use Rattle.ace_model.specs.declared.snoops.Answer.{Answer}
 use Rattle.ace_model.specs.declared.transactions.Transaction.{Transaction}
 use Rattle.ace_model.specs.Copies.{zero_line}
-use Rattle.ace_model.proofs.Terms.{Header, Trace, Channel, M, IsAccepted, is_some_and, is_none_or, is_read, is_line, is_line_read, is_line_write, is_update, is_transaction, read_kind, write_kind, has_write_data, updates_memory, outstanding, transfers, granted, is_granted, answer_of}
+use Rattle.ace_model.proofs.Terms.{Header, Trace, Channel, M, IsAccepted, is_some_and, is_none_or, is_read, is_line, is_line_read, is_line_write, is_update, is_transaction, read_kind, write_kind, has_write_data, updates_memory, outstanding, transfers, granted, is_granted, answer_of, LineState}
 use Rattle.ace_model.proofs.Terms.{has_passed_data, are_passed_data_whole, are_snoops_done, passer, passes, copy_of, at_point, copy_at_answer, passed_data, passes_dirty, has_failed, has_memory_write, is_burst_whole, may_write_memory, may_write_passed, may_write_data, is_write_due, is_update_due, has_data, same_line, memory_of, k24, k25}
 use Rattle.ace_model.proofs.General.Options.{is_some_and-is, is_some_and-at}
 use Rattle.ace_model.proofs.General.Booleans.{then_of}
@@ -22,10 +22,9 @@ use Rattle.ace_model.specs.Writes.{burst_of}
 use Rattle.ace_portck.specs.Targets.{progress_of, data_of_write}
 use Rattle.ace_portck.specs.declared.target.WriteData.{WriteData}
 use Rattle.ace_portck.specs.declared.target.Target.{Target}
-use Rattle.ace_lineck.specs.declared.record.Holder.{Holder}
 use Rattle.ace_lineck.specs.declared.record.LineRecord.{LineRecord}
 use Rattle.ace_lineck.specs.declared.grant.Grant.{Grant}
-use Rattle.ace_lineck.specs.Holders.{HoldersStand}
+use Rattle.ace_lineck.specs.States.{StatesStand}
 use Rattle.ace_lineck.specs.Grants.{GrantStands}
 use Rattle.ace_lineck.specs.Records.{IsNext}
 use Rattle.ace_lineck.specs.Kept.{has_passed, is_passed_whole, are_done, is_its, may_write_kept, passed_kept, written_kept, fits_data, IsFailure}
@@ -121,7 +120,7 @@ module _ (h : Header) (past : Trace) (a : IsAccepted h past) (p : ℕ) (c : Chan
             ]
 
     -- a granted write with its snoops done
-    due-for : (failed : Bool) (xs : List Holder) → failed ≡ is_some_and (granted h past y.addr) (has_failed past) → HoldersStand h past y.addr xs
+    due-for : (failed : Bool) (xs : List LineState) → failed ≡ is_some_and (granted h past y.addr) (has_failed past) → StatesStand h past y.addr xs
         → is_some_and g (λ v. is_its v y && are_done h failed v xs) ≡ is_write_due h past y
     due-for failed xs is held = by g f
       where
@@ -172,7 +171,7 @@ module _ (h : Header) (past : Trace) (t : Target) (x : LineRecord) (p : ℕ) (c 
       none false = refl
 
   may-for : (failed : Bool) → IsFailure h past t failed → (y : Transaction) → outstanding h past p c i ≡ Some y
-      → may_write_kept h failed x.grant x.holders.items (data_of_write past y) (progress_of h past y) ≡ may_write_memory h past y
+      → may_write_kept h failed x.grant x.states (data_of_write past y) (progress_of h past y) ≡ may_write_memory h past y
   may-for failed fails y o =
       elim (cases_Bool (is_line y)) [
         | inr n ↦
@@ -187,10 +186,10 @@ module _ (h : Header) (past : Trace) (t : Target) (x : LineRecord) (p : ℕ) (c 
           | inr writes ↦
               let stands = s.line y.addr (line-for y o l) in
               on (is_line y) _ l ∙ otherwise_of (is_read y.chan) _ _ writes
-              ∙ ap (λ b. b && (is_some_and x.grant (λ g. is_its g y && are_done h failed g x.holders.items) || (updates_memory y && is_none_or x.grant (λ g. not (has_passed g)))))
+              ∙ ap (λ b. b && (is_some_and x.grant (λ g. is_its g y && are_done h failed g x.states) || (updates_memory y && is_none_or x.grant (λ g. not (has_passed g)))))
               (some-if ((is_some_and (write_kind y) has_write_data && is_burst_whole past y) && not (has_memory_write past y.port y.chan y.id)) (the_burst past y))
               ∙ ap (λ b. ((is_some_and (write_kind y) has_write_data && is_burst_whole past y) && not (has_memory_write past y.port y.chan y.id)) && (b || (updates_memory y && is_none_or x.grant (λ g. not (has_passed g)))))
-              (due-for h past s.accepted p c i y o x.grant stands.grant failed x.holders.items (fails y.addr (line-for y o l)) stands.holders)
+              (due-for h past s.accepted p c i y o x.grant stands.grant failed x.states (fails y.addr (line-for y o l)) stands.states)
               ∙ ap (λ b. ((is_some_and (write_kind y) has_write_data && is_burst_whole past y) && not (has_memory_write past y.port y.chan y.id)) && (is_write_due h past y || b))
               (update-for h past s.accepted p c i y o x.grant stands.grant)
               ∙ same-burst (is_some_and (write_kind y) has_write_data) (is_burst_whole past y) (not (has_memory_write past y.port y.chan y.id)) (is_write_due h past y || is_update_due h past y)
@@ -208,14 +207,14 @@ module _ (h : Header) (past : Trace) (t : Target) (x : LineRecord) (p : ℕ) (c 
       on false d e = cc
 
   -- K24
-  pub k24-law : (failed : Bool) → IsFailure h past t failed → is_some_and t.transaction (may_write_kept h failed x.grant x.holders.items t.«data») ≡ k24 h past (M p c i line)
+  pub k24-law : (failed : Bool) → IsFailure h past t failed → is_some_and t.transaction (may_write_kept h failed x.grant x.states t.«data») ≡ k24 h past (M p c i line)
   k24-law failed fails =
-      ap (λ (v : Target). is_some_and v.transaction (may_write_kept h failed x.grant x.holders.items t.«data»)) s.target ∙ by (outstanding h past p c i) refl
+      ap (λ (v : Target). is_some_and v.transaction (may_write_kept h failed x.grant x.states t.«data»)) s.target ∙ by (outstanding h past p c i) refl
     where
       by : (o : Option Transaction) → outstanding h past p c i ≡ o
-          → is_some_and (option_map (progress_of h past) o) (may_write_kept h failed x.grant x.holders.items t.«data») ≡ is_some_and o (may_write_memory h past)
+          → is_some_and (option_map (progress_of h past) o) (may_write_kept h failed x.grant x.states t.«data») ≡ is_some_and o (may_write_memory h past)
       by None is = refl
-      by (Some y) is = ap (λ d. may_write_kept h failed x.grant x.holders.items d (progress_of h past y)) (burst-for y is) ∙ may-for failed fails y is
+      by (Some y) is = ap (λ d. may_write_kept h failed x.grant x.states d (progress_of h past y)) (burst-for y is) ∙ may-for failed fails y is
 
   -- K25
   pub k25-law : k24 h past (M p c i line) ≡ true → is_none_or t.transaction (λ y. fits_data (passed_kept x.grant) x.memory t.«data» line y.transaction) ≡ k25 h past (M p c i line)

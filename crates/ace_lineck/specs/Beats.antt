@@ -11,7 +11,7 @@ use Rattle.ace_lineck.specs.Kept.{may_have_beat, fits_bits, fits_reply, has_pass
 -- the rules of a transfer, K18 to K20, of a read that is no exclusive store
 abbrev pub keeps_beat : Header → LineRecord → Progress → ℕ → ℕ → Bool
 keeps_beat h kept x resp word =
-    may_have_beat h false kept.grant kept.holders.items x resp
+    may_have_beat h false kept.grant kept.states x resp
     && fits_bits h (has_passed_for kept.grant x.transaction) (is_shared_under kept.grant) resp x
     && fits_reply kept.grant kept.memory word x
 

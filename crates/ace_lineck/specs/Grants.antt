@@ -98,5 +98,5 @@ IsMoved old new q stage = (p : ℕ) → stage_at new p ≡ (if (p == q) && nat_l
 pub record IsGrantStep (h : Header) (past : Trace) (l : ℕ) (e : Event) (t : Target) (g : Option Grant) (xs : List Holder) (line : Line) : Type 0 where
   pub step : IsLineStep h past l e t
   pub grant : GrantStands h past l g
-  pub holders : HoldersStand h past l xs
+  pub holders : HoldersStand past l xs
   pub memory : MemoryStands past l line

@@ -1,6 +1,5 @@
--- What is kept of the ports that may hold a line, and of its memory, says what there is to say of the line after a trace.
+-- What is kept of the data that the ports and memory have of a line says what they are after a trace.
 use Rattle.std.specs.Prelude.{ℕ, ◌≡◌, Bool, false, ◌&&◌, ◌==◌, if◌then◌else◌, List, [], ◌∷◌, length, slice_get, Option, Some, unwrap_or}
-use Rattle.ace_codes.specs.declared.state.LineState.TheVariants.{I}
 use Rattle.ace_codes.specs.Responses.{transfers_data}
 use Rattle.ace_event.specs.declared.event.Event.{Event}
 use Rattle.ace_event.specs.declared.event.Event.TheVariants.{Cr}
@@ -11,7 +10,6 @@ use Rattle.ace_model.specs.Kinds.{is_make_unique}
 use Rattle.ace_model.specs.Trace.{Trace, port_of, is_some_and}
 use Rattle.ace_model.specs.Transactions.{read_kind}
 use Rattle.ace_model.specs.Snoops.{answers_line}
-use Rattle.ace_model.specs.States.{state_of}
 use Rattle.ace_model.specs.Copies.{zero_line, received, copy_of, memory_of}
 use Rattle.ace_model.specs.Accepted.{IsAccepted}
 use Rattle.ace_portck.specs.Targets.{target_of}
@@ -21,7 +19,7 @@ use Rattle.ace_lineck.specs.declared.record.Holder.{Holder}
 
 -- a port that has had nothing of the line
 abbrev pub empty_holder : Holder
-empty_holder = record { state = I; copy = zero_line; sent = zero_line }
+empty_holder = record { copy = zero_line; sent = zero_line }
 
 -- what is kept of the port: a port for which nothing is kept has had nothing of the line
 abbrev pub holder_at : List Holder → ℕ → Holder
@@ -37,15 +35,13 @@ abbrev pub sent_on : Trace → ℕ → ℕ → Line
 sent_on [] p l = zero_line
 sent_on (e ∷ past) p l = if sends_line past e p l then copy_of past p l else sent_on past p l
 
--- what is kept of the port is what it has of the line
-pub record HolderStands (h : Header) (past : Trace) (p l : ℕ) (x : Holder) : Type 0 where
-  pub state : x.state ≡ state_of h past p l
+-- what is kept of the port is what it has of the line's data
+pub record HolderStands (past : Trace) (p l : ℕ) (x : Holder) : Type 0 where
   pub copy : x.copy ≡ copy_of past p l
   pub sent : x.sent ≡ sent_on past p l
 
 -- the same of every port
-pub record HoldersStand (h : Header) (past : Trace) (l : ℕ) (holders : List Holder) : Type 0 where
-  pub state : (p : ℕ) → (holder_at holders p).state ≡ state_of h past p l
+pub record HoldersStand (past : Trace) (l : ℕ) (holders : List Holder) : Type 0 where
   pub copy : (p : ℕ) → (holder_at holders p).copy ≡ copy_of past p l
   pub sent : (p : ℕ) → (holder_at holders p).sent ≡ sent_on past p l
 
@@ -69,14 +65,14 @@ pub record IsHolderStep (h : Header) (past : Trace) (p l : ℕ) (e : Event) (t :
   pub step : IsLineStep h past l e t
   pub port : port_of e ≡ Some p
   pub whole : line ≡ received past e p l
-  pub stands : HolderStands h past p l x
+  pub stands : HolderStands past p l x
 
 -- The same of every port, where something is kept of each port of the header.
 pub record IsHoldersStep (h : Header) (past : Trace) (l : ℕ) (e : Event) (t : Target) (line : Option Line) (xs : List Holder) : Type 0 where
   pub step : IsLineStep h past l e t
   pub room : length xs ≡ h.ports
   pub whole : (p : ℕ) → port_of e ≡ Some p → line ≡ received past e p l
-  pub stand : HoldersStand h past l xs
+  pub stand : HoldersStand past l xs
 
 -- so many ports, none of which has had anything of the line
 pub record HasNothing (ports : ℕ) (xs : List Holder) : Type 0 where

@@ -25,11 +25,10 @@ use Rattle.ace_model.specs.SnoopRules.{has_snoop_code}
 use Rattle.ace_portck.specs.declared.target.Progress.{Progress}
 use Rattle.ace_portck.specs.declared.target.Target.{Target}
 use Rattle.ace_portck.specs.declared.target.WriteData.{WriteData}
-use Rattle.ace_lineck.specs.declared.record.Holder.{Holder}
 use Rattle.ace_lineck.specs.declared.stages.Stage.{Stage}
 use Rattle.ace_lineck.specs.declared.stages.Stage.TheVariants.{Unsnooped, Sending, Done}
 use Rattle.ace_lineck.specs.declared.grant.Grant.{Grant}
-use Rattle.ace_lineck.specs.Holders.{holder_at}
+use Rattle.ace_lineck.specs.States.{state_at}
 use Rattle.ace_lineck.specs.Grants.{stage_at}
 
 abbrev pub is_unsnooped : Stage → Bool
@@ -60,12 +59,12 @@ abbrev pub is_passed_whole : Grant → Bool
 is_passed_whole g = is_some_and g.passed (λ p. not (is_sending (stage_at g.stages p.port)))
 
 -- the snoops under the grant are done: the port's, and all
-abbrev pub is_done_at : Header → Grant → List Holder → ℕ → Bool
-is_done_at h g holders q =
-    is_settled (stage_at g.stages q) ((q == g.transaction.port) || not (is_ace h q) || is_invalid (holder_at holders q).state)
+abbrev pub is_done_at : Header → Grant → List LineState → ℕ → Bool
+is_done_at h g states q =
+    is_settled (stage_at g.stages q) ((q == g.transaction.port) || not (is_ace h q) || is_invalid (state_at states q))
 
-abbrev pub are_done : Header → Bool → Grant → List Holder → Bool
-are_done h failed g holders = is_none (snoop_of g.transaction) || failed || list_all (is_done_at h g holders) (ports_below h.ports)
+abbrev pub are_done : Header → Bool → Grant → List LineState → Bool
+are_done h failed g states = is_none (snoop_of g.transaction) || failed || list_all (is_done_at h g states) (ports_below h.ports)
 
 -- the grant is that of the transaction
 abbrev pub is_its : Grant → Transaction → Bool
@@ -75,10 +74,10 @@ is_its g x = g.transaction.place == x.place
 abbrev pub takes_data : Grant → Transaction → ℕ → Bool
 takes_data g x resp = is_some_and (read_kind x) takes_passed_data && is_passed_whole g && passes_dirty resp
 
-abbrev pub may_have_beat : Header → Bool → Option Grant → List Holder → Progress → ℕ → Bool
-may_have_beat h failed None holders x resp = false
-may_have_beat h failed (Some g) holders x resp =
-    is_its g x.transaction && implies (x.transfers == 0) (are_done h failed g holders)
+abbrev pub may_have_beat : Header → Bool → Option Grant → List LineState → Progress → ℕ → Bool
+may_have_beat h failed None states x resp = false
+may_have_beat h failed (Some g) states x resp =
+    is_its g x.transaction && implies (x.transfers == 0) (are_done h failed g states)
     && implies (has_passed g) (takes_data g x.transaction resp)
 
 -- the line's granted transaction is an exclusive store that failed, where the event has a line
@@ -122,13 +121,13 @@ ends_kept failed held st x =
     && implies (is_make_unique k) x.stored)
 
 -- K24: the transaction may write memory: a granted read its passed data, a granted write or a memory update its burst
-abbrev pub may_write_kept : Header → Bool → Option Grant → List Holder → Option WriteData → Progress → Bool
-may_write_kept h failed grant holders burst x =
+abbrev pub may_write_kept : Header → Bool → Option Grant → List LineState → Option WriteData → Progress → Bool
+may_write_kept h failed grant states burst x =
     is_line x.transaction
     && (if is_read x.transaction.chan
     then is_some_and grant (λ g. is_its g x.transaction && has_passed g && is_passed_whole g) && (x.transfers == 0)
     else is_some burst
-    && (is_some_and grant (λ g. is_its g x.transaction && are_done h failed g holders)
+    && (is_some_and grant (λ g. is_its g x.transaction && are_done h failed g states)
     || (updates_memory x.transaction && is_none_or grant (λ g. not (has_passed g)))))
 
 -- the passed data of the line

@@ -1,4 +1,5 @@
 pub mod Holders
+pub mod States
 pub mod Uses
 pub mod Grants
 pub mod Records

@@ -24,7 +24,7 @@ writes_passed grant x line =
 -- what it writes
 abbrev pub writes_burst : Header → LineRecord → Transaction → WriteData → Line → AwKind → Bool
 writes_burst h kept x burst line k =
-    (is_some_and kept.grant (λ g. is_its g x && are_done h false g kept.holders.items)
+    (is_some_and kept.grant (λ g. is_its g x && are_done h false g kept.states)
     || (is_update k && is_none_or kept.grant (λ g. not (has_passed g))))
     && same_line line (written_kept (passed_kept kept.grant) kept.memory burst k)
 

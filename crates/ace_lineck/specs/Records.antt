@@ -1,5 +1,6 @@
 -- What is kept of a line says what there is to say of it after a trace.
-use Rattle.std.specs.Prelude.{ℕ, ◌≡◌, ◌==◌, ◌&&◌, Bool, true, false, length, Option, Some, None}
+use Rattle.std.specs.Prelude.{ℕ, ◌≡◌, ◌==◌, ◌&&◌, Bool, true, false, length, replicate, Option, Some, None}
+use Rattle.ace_codes.specs.declared.state.LineState.TheVariants.{I}
 use Rattle.ace_event.specs.declared.event.Channel.{Channel}
 use Rattle.ace_event.specs.declared.event.Event.{Event}
 use Rattle.ace_event.specs.declared.event.Event.TheVariants.{Ar, Aw}
@@ -15,6 +16,7 @@ use Rattle.ace_portck.specs.declared.target.Target.{Target}
 use Rattle.ace_lineck.specs.declared.record.LineRecord.{LineRecord}
 use Rattle.ace_lineck.specs.declared.record.Use.TheVariants.{Unknown}
 use Rattle.ace_lineck.specs.Holders.{HoldersStand, MemoryStands, IsLineStep, holder_at, empty_holder}
+use Rattle.ace_lineck.specs.States.{StatesStand}
 use Rattle.ace_lineck.specs.Uses.{use_of}
 use Rattle.ace_lineck.specs.Grants.{GrantStands}
 
@@ -22,8 +24,9 @@ use Rattle.ace_lineck.specs.Grants.{GrantStands}
 pub record LineStands (h : Header) (past : Trace) (l : ℕ) (x : LineRecord) : Type 0 where
   pub used : x.used ≡ use_of past l
   pub memory : MemoryStands past l x.memory
+  pub states : StatesStand h past l x.states
   pub grant : GrantStands h past l x.grant
-  pub holders : HoldersStand h past l x.holders.items
+  pub holders : HoldersStand past l x.holders.items
 
 -- The event comes next after an accepted trace, from a port that may have it; the target is its own; and this is what is kept of its
 -- line, if it has one.
@@ -42,6 +45,7 @@ pub record IsRecordStep (h : Header) (past : Trace) (l : ℕ) (e : Event) (t : T
 -- nothing is kept in it yet, for so many ports
 pub record IsFresh (ports : ℕ) (x : LineRecord) : Type 0 where
   pub used : x.used ≡ Unknown
+  pub states : x.states ≡ replicate 32 I
   pub memory : x.memory ≡ zero_line
   pub grant : x.grant ≡ None
   pub count : length x.holders.items ≡ ports

@@ -1,8 +1,9 @@
 -- What is kept of all lines says what there is to say of them after a recording.
-use Rattle.std.specs.Prelude.{ℕ, ◌≡◌, ◌<◌, ◌≤◌, ◌+◌, ◌-◌, ◌^◌, Bool, true, false, [], length, Option, Some, None, nat_eq, unwrap_or, is_some, IsSome, ⊤}
+use Rattle.std.specs.Prelude.{ℕ, ◌≡◌, ◌<◌, ◌≤◌, ◌+◌, ◌-◌, ◌^◌, Bool, true, false, [], length, replicate, Option, Some, None, nat_eq, unwrap_or, is_some, IsSome, ⊤}
 use Rattle.std.specs.Bool.{OnTrue}
 use Rattle.std.specs.List.{All}
 use Rattle.indexmap.specs.IndexMap.{get, index_of, index_map_len}
+use Rattle.ace_codes.specs.declared.state.LineState.TheVariants.{I}
 use Rattle.ace_event.specs.declared.event.Event.{Event}
 use Rattle.ace_event.specs.declared.event.Event.TheVariants.{Ar, Aw, Mem}
 use Rattle.ace_event.specs.Ports.{IsHeader}
@@ -36,6 +37,7 @@ place_on s (Some l) = index_of nat_eq s.lines l
 -- nothing is kept in it
 pub record IsEmpty (x : LineRecord) : Type 0 where
   pub used : x.used ≡ Unknown
+  pub states : x.states ≡ replicate 32 I
   pub memory : x.memory ≡ zero_line
   pub grant : x.grant ≡ None
   pub holders : x.holders.items ≡ []

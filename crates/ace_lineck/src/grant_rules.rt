@@ -1,6 +1,6 @@
 //! The rules of grants, of snoops and of read transfers, K12, K13 and the part of K18 that looks at the line.
 
-ghost use Rattle.std.specs.Prelude.{◌≡◌, ◌<◌, ◌≤◌, ℕ, Bool, true, false, not, ◌&&◌, ◌||◌, ◌==◌, List, length, Option, Some, is_some, is_none, if◌then◌else◌};
+ghost use Rattle.std.specs.Prelude.{◌≡◌, ◌<◌, ◌≤◌, ℕ, Bool, true, false, not, ◌&&◌, ◌||◌, ◌==◌, Option, Some, is_some, is_none, if◌then◌else◌};
 ghost use Rattle.ace_codes.specs.Responses.{passes_dirty};
 ghost use Rattle.ace_event.specs.declared.event.Event.{Event};
 ghost use Rattle.ace_event.specs.declared.event.Event.TheVariants.{G, Ac, R};
@@ -18,15 +18,13 @@ ghost use Rattle.ace_model.specs.Lines.{has_failed_on};
 ghost use Rattle.ace_portck.specs.declared.target.Progress.{Progress};
 ghost use Rattle.ace_portck.specs.declared.target.Target.{Target};
 ghost use Rattle.ace_portck.specs.Targets.{line_of};
-ghost use Rattle.ace_lineck.specs.declared.record.Holder.{Holder};
-ghost use Rattle.ace_lineck.specs.Holders.{holder_at};
 ghost use Rattle.ace_lineck.specs.Records.{IsNext};
 ghost use Rattle.ace_lineck.specs.Grants.{stage_at};
 ghost use Rattle.ace_lineck.specs.Kept.{is_unsnooped, is_sending, may_be_snooped, has_passed, is_passed_whole, is_settled, is_done_at, are_done, is_its, takes_data, may_have_beat, IsFailure};
 
 use crate::grant::Grant;
 use crate::granting::{has_snoop_code, snoop_of, takes_grant, takes_passed_data};
-use crate::record::{Holder, LineRecord};
+use crate::record::LineRecord;
 use crate::stages::{Stage, stage_at};
 use ace_codes::{LineState, passes_dirty};
 use ace_event::Header;
@@ -193,67 +191,43 @@ fn is_done_with(g: &Grant, header: &Header, port: u8, stage: Stage, state: LineS
     is_settled(stage, spared)
 }
 
-/// The same of the port, by what is kept of it.
+/// The same of the port, by the stage and the state that are kept of it.
 #[inline(always)]
-fn is_done_at(kept: &LineRecord, g: &Grant, header: &Header, port: u8) -> bool
-    ensures { result ≡ is_done_at header.now g.now kept.now.holders.items port }
-{
-    is_done_with(g, header, port, stage_at(&g.stages, port), kept.state(port))
-}
-
-/// The same, by the port's own stage and holder.
-#[inline(always)]
-fn is_held_done_at(holders: &[Holder], g: &Grant, header: &Header, port: u8) -> bool
-    requires stage { port < 32 }
-    requires holder { port < length holders.now }
-    ensures { result ≡ is_done_at header.now g.now holders.now port }
+fn is_done_at(states: &[LineState; 32], g: &Grant, header: &Header, port: u8) -> bool
+    requires { port < 32 }
+    ensures { result ≡ is_done_at header.now g.now states.now port }
 {
     let stage = g.stages[usize::from(port)];
-    let state = holders[usize::from(port)].state;
+    let state = states[usize::from(port)];
     is_done_with(g, header, port, stage, state)
 }
 
-/// The snoops of each port are done, where a stage and a holder are kept of each: no look at one asks for its bounds.
+/// Of how many ports of the header a stage and a state are kept: of all, as a header has no more than 32.
 #[inline(always)]
-fn is_each_held_done(holders: &[Holder], g: &Grant, header: &Header) -> bool
-    requires stages { header.now.ports ≤ 32 }
-    requires holders { header.now.ports ≤ length holders.now }
-    ensures { result ≡ list_all (is_done_at header.now g.now holders.now) (ports_below header.now.ports) }
+fn kept_ports(header: &Header) -> u8
+    ensures most { result ≤ 32 }
+    ensures all { header.now.ports ≤ 32 → result ≡ header.now.ports }
+    ensures some { 32 < header.now.ports → result ≡ 32 }
 {
-    let mut all = true;
-    for port in 0..header.ports {
-        all = both(is_held_done_at(holders, g, header, port), all);
-    }
-    all
+    if header.ports <= 32 { header.ports } else { 32 }
 }
 
-/// The snoops of each port are done.
-#[cold]
-fn is_each_kept_done(kept: &LineRecord, g: &Grant, header: &Header) -> bool
-    ensures { result ≡ list_all (is_done_at header.now g.now kept.now.holders.items) (ports_below header.now.ports) }
-{
-    let mut all = true;
-    for port in 0..header.ports {
-        all = both(is_done_at(kept, g, header, port), all);
-    }
-    all
-}
-
-/// The snoops of each port are done. A header has no more than 32 ports, and what is kept of its lines has a holder for each.
+/// The snoops of each port are done. So are those of a port beyond the 32 of which a stage and a state are kept: it wasn't snooped, and
+/// doesn't have the line.
 pub fn is_each_done(kept: &LineRecord, g: &Grant, header: &Header) -> bool
-    ensures { result ≡ list_all (is_done_at header.now g.now kept.now.holders.items) (ports_below header.now.ports) }
+    ensures { result ≡ list_all (is_done_at header.now g.now kept.now.states) (ports_below header.now.ports) }
 {
-    let holders = kept.holders.as_slice();
-    if header.ports <= 32 && usize::from(header.ports) <= holders.len() {
-        return is_each_held_done(holders, g, header);
+    let mut all = true;
+    for port in 0..kept_ports(header) {
+        all = both(is_done_at(&kept.states, g, header, port), all);
     }
-    is_each_kept_done(kept, g, header)
+    all
 }
 
 /// The snoops under the grant are done.
 #[inline(always)]
 pub fn are_done(kept: &LineRecord, g: &Grant, header: &Header, failed: bool) -> bool
-    ensures { result ≡ are_done header.now failed g.now kept.now.holders.items }
+    ensures { result ≡ are_done header.now failed g.now kept.now.states }
 {
     snoop_of(&g.transaction).is_none() || failed || is_each_done(kept, g, header)
 }
@@ -277,7 +251,7 @@ fn takes_data(g: &Grant, x: &Transaction, resp: u8) -> bool
 /// The transfer is one that the grant of the line lets through.
 #[inline(always)]
 fn may_have_beat(kept: &LineRecord, header: &Header, failed: bool, x: &Progress, resp: u8) -> bool
-    ensures { result ≡ may_have_beat header.now failed kept.now.grant kept.now.holders.items x.now resp }
+    ensures { result ≡ may_have_beat header.now failed kept.now.grant kept.now.states x.now resp }
 {
     match &kept.grant {
         None => false,
@@ -293,7 +267,7 @@ fn may_have_beat(kept: &LineRecord, header: &Header, failed: bool, x: &Progress,
 #[inline(always)]
 fn may_transfer(kept: &LineRecord, header: &Header, target: &Target, failed: bool, resp: u8) -> bool
     ensures { target.now.line ≡ line_of target.now.transaction
-        → result ≡ is_none_or target.now.transaction (λ x. implies (is_line x.transaction) (may_have_beat header.now failed kept.now.grant kept.now.holders.items x resp)) }
+        → result ≡ is_none_or target.now.transaction (λ x. implies (is_line x.transaction) (may_have_beat header.now failed kept.now.grant kept.now.states x resp)) }
 {
     match &target.transaction {
         None => true,

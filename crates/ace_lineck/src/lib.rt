@@ -32,6 +32,7 @@ mod record;
 mod replies;
 mod rules;
 mod stages;
+mod states;
 mod step;
 mod uses;
 

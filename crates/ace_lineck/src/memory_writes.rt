@@ -44,7 +44,7 @@ pub fn has_whole(grant: &Option<Grant>, x: &Transaction) -> bool
 /// The granted write has its snoops done.
 #[inline(always)]
 fn is_write_due(kept: &LineRecord, header: &Header, failed: bool, x: &Transaction) -> bool
-    ensures { result ≡ is_some_and kept.now.grant (λ g. is_its g x.now && are_done header.now failed g kept.now.holders.items) }
+    ensures { result ≡ is_some_and kept.now.grant (λ g. is_its g x.now && are_done header.now failed g kept.now.states) }
 {
     match &kept.grant {
         None => false,
@@ -80,7 +80,7 @@ fn may_write(
     burst: &Option<WriteData>,
     x: &Progress,
 ) -> bool
-    ensures { result ≡ may_write_kept header.now failed kept.now.grant kept.now.holders.items burst.now x.now }
+    ensures { result ≡ may_write_kept header.now failed kept.now.grant kept.now.states burst.now x.now }
 {
     if !is_line(&x.transaction) {
         return false;
@@ -96,7 +96,7 @@ fn may_write(
 
 #[inline(always)]
 fn is_due(kept: &LineRecord, header: &Header, target: &Target, failed: bool) -> bool
-    ensures { result ≡ is_some_and target.now.transaction (may_write_kept header.now failed kept.now.grant kept.now.holders.items target.now.«data») }
+    ensures { result ≡ is_some_and target.now.transaction (may_write_kept header.now failed kept.now.grant kept.now.states target.now.«data») }
 {
     match &target.transaction {
         None => false,

@@ -16,10 +16,10 @@ ghost use Rattle.ace_lineck.specs.Records.{LineStands, IsRecordStep};
 
 use crate::LineCheck;
 use crate::grant::Grant;
-use crate::holders::move_to;
 use crate::record::LineRecord;
 use crate::replies::ends_as;
 use crate::rules::ends_write;
+use crate::states::set_state;
 use ace_codes::{ArKind, AwKind, LineState};
 use ace_model::Transaction;
 use ace_portck::Progress;
@@ -56,7 +56,7 @@ fn end(kept: &mut LineRecord, x: &Transaction, port: u8, st: LineState)
     ensures room { length kept.new.holders.items ≡ length kept.old.holders.items }
     ensures used { kept.new.used ≡ kept.old.used }
 {
-    move_to(&mut kept.holders, port, st);
+    set_state(&mut kept.states, port, st);
     release(&mut kept.grant, x);
 }
 

@@ -41,7 +41,7 @@ use ace_tables::snoop_of_read;
 /// The snoops under the grant of a read of this kind are done.
 #[inline(always)]
 fn are_done(kept: &LineRecord, g: &Grant, header: &Header, kind: ArKind) -> bool
-    ensures { read_kind g.now.transaction ≡ Some kind → result ≡ are_done header.now false g.now kept.now.holders.items }
+    ensures { read_kind g.now.transaction ≡ Some kind → result ≡ are_done header.now false g.now kept.now.states }
 {
     snoop_of_read(kind).is_none() || is_each_done(kept, g, header)
 }
@@ -65,7 +65,7 @@ fn may_have_beat(
     resp: u8,
 ) -> bool
     ensures { read_kind x.now.transaction ≡ Some kind → IsOfPlace (Some g.now) x.now.transaction
-        → result ≡ may_have_beat header.now false (Some g.now) kept.now.holders.items x.now resp }
+        → result ≡ may_have_beat header.now false (Some g.now) kept.now.states x.now resp }
 {
     is_its(g, &x.transaction)
         && (x.transfers != 0 || are_done(kept, g, header, kind))
@@ -147,7 +147,7 @@ fn received<'a>(grant: &'a Option<Grant>, x: &Progress, kind: ArKind) -> Option<
 fn receive(holders: &mut Vec<Holder>, port: u8, whole: Option<&Line>)
     ensures stand { (h : Header) (past : Trace) (l id resp word : ℕ) (last : Bool) (t : Target)
         → IsHoldersStep h past l (R port id resp last word) t (option_copied whole.entry) holders.old.items
-        → HoldersStand h (R port id resp last word ∷ past) l holders.new.items }
+        → HoldersStand (R port id resp last word ∷ past) l holders.new.items }
     ensures room { length holders.new.items ≡ length holders.old.items }
 {
     if let Some(line) = whole {

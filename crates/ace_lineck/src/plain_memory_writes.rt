@@ -33,7 +33,7 @@ use ace_tables::snoop_of_write;
 /// The snoops under the grant of a write of this kind are done.
 #[inline(always)]
 fn are_done(kept: &LineRecord, g: &Grant, header: &Header, kind: AwKind) -> bool
-    ensures { snoop_of g.now.transaction ≡ snoop_of_write kind → result ≡ are_done header.now false g.now kept.now.holders.items }
+    ensures { snoop_of g.now.transaction ≡ snoop_of_write kind → result ≡ are_done header.now false g.now kept.now.states }
 {
     snoop_of_write(kind).is_none() || is_each_done(kept, g, header)
 }
@@ -48,7 +48,7 @@ fn is_due_under(
     kind: AwKind,
 ) -> bool
     ensures { snoop_of x.now ≡ snoop_of_write kind → IsOfPlace (Some g.now) x.now
-        → result ≡ (is_its g.now x.now && are_done header.now false g.now kept.now.holders.items) }
+        → result ≡ (is_its g.now x.now && are_done header.now false g.now kept.now.states) }
 {
     is_its(g, x) && are_done(kept, g, header, kind)
 }
@@ -57,7 +57,7 @@ fn is_due_under(
 #[inline(always)]
 fn is_due(kept: &LineRecord, header: &Header, x: &Transaction, kind: AwKind) -> bool
     ensures { snoop_of x.now ≡ snoop_of_write kind → IsOfPlace kept.now.grant x.now
-        → result ≡ is_some_and kept.now.grant (λ g. is_its g x.now && are_done header.now false g kept.now.holders.items) }
+        → result ≡ is_some_and kept.now.grant (λ g. is_its g x.now && are_done header.now false g kept.now.states) }
 {
     match &kept.grant {
         None => false,

@@ -4,8 +4,8 @@ ghost use Rattle.std.specs.Prelude.{◌≡◌, None, length};
 ghost use Rattle.ace_event.specs.declared.event.Event.TheVariants.{S as SilentChange};
 
 use crate::LineCheck;
-use crate::holders::move_to;
 use crate::rules::may_move;
+use crate::states::set_state;
 use ace_portck::event_kinds::S;
 
 impl LineCheck {
@@ -42,6 +42,6 @@ impl LineCheck {
         let Some(kept) = self.lines.get_index_mut(place) else {
             return;
         };
-        move_to(&mut kept.holders, change.port, change.st);
+        set_state(&mut kept.states, change.port, change.st);
     }
 }

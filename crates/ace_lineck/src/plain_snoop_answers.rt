@@ -14,6 +14,7 @@ ghost use Rattle.ace_lineck.specs.Records.{IsRecordStep, LineStands};
 
 use crate::grant::Grant;
 use crate::record::LineRecord;
+use crate::states::set_state;
 use crate::{LineCheck, holders};
 use ace_codes::SnoopKind;
 use ace_event::Line;
@@ -41,6 +42,7 @@ fn hear_in_record(kept: &mut LineRecord, answer: &Cr)
     ensures room { length kept.new.holders.items ≡ length kept.old.holders.items }
     ensures used { kept.new.used ≡ kept.old.used }
 {
+    set_state(&mut kept.states, answer.port, answer.st);
     let port = answer.port as usize;
     if port < kept.holders.len() {
         hear_in_grant(
@@ -49,7 +51,7 @@ fn hear_in_record(kept: &mut LineRecord, answer: &Cr)
             answer.resp,
             &kept.holders[port].copy,
         );
-        holders::hear_answer(&mut kept.holders[port], answer.resp, answer.st);
+        holders::hear_answer(&mut kept.holders[port], answer.resp);
     }
 }
 

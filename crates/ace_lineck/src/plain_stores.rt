@@ -1,46 +1,56 @@
 //! A D: the rule of the share that it may break, and what it leaves of what is kept of its line.
 
-ghost use Rattle.std.specs.Prelude.{◌≡◌, ℕ, ◌∷◌, None, length, if◌then◌else◌};
-ghost use Rattle.ace_codes.specs.declared.state.LineState.TheVariants.{UD};
+ghost use Rattle.std.specs.Prelude.{◌≡◌, ℕ, ◌∷◌, None, length};
 ghost use Rattle.ace_event.specs.Bytes.{merged};
 ghost use Rattle.ace_event.specs.declared.event.Event.TheVariants.{D as Store};
 ghost use Rattle.ace_event.specs.declared.header.Header.{Header};
 ghost use Rattle.ace_model.specs.Trace.{Trace, is_some_and};
 ghost use Rattle.ace_portck.specs.declared.target.Target.{Target};
 ghost use Rattle.ace_lineck.specs.Holders.{HoldersStand, IsHoldersStep, awaits_store};
+ghost use Rattle.ace_lineck.specs.States.{IsStatesStep, StatesStand};
 
 use crate::LineCheck;
 use crate::record::Holder;
 use crate::rules::is_own_store;
+use crate::states::set_state;
 use ace_codes::LineState;
 use ace_event::{Line, merge};
 use ace_portck::Progress;
 use ace_portck::event_kinds::D;
 use ace_tables::is_unique;
 
-/// What a store leaves of what is kept of its port. A store that isn't that of a MakeUnique leaves the line unique and dirty.
+/// The states in which the ports have the line, after the D: it is unique and dirty at its port, unless it is the store of a MakeUnique.
 #[inline(always)]
-fn store_into(holder: &mut Holder, strobe: u64, line: &Line, own: bool)
-    ensures { holder.new ≡ record holder.old { state = (if own then holder.old.state else UD); copy = merged holder.old.copy strobe line.now } }
+fn dirty(states: &mut [LineState; 32], store: &D, own: bool)
+    ensures { (h : Header) (past : Trace) (l : ℕ) (t : Target)
+        → IsStatesStep h past l (Store store.now.port store.now.addr store.now.strobe store.now.x store.now.line) t states.old
+        → own ≡ is_some_and t.own awaits_store
+        → StatesStand h (Store store.now.port store.now.addr store.now.strobe store.now.x store.now.line ∷ past) l states.new }
 {
-    holder.copy = merge(holder.copy, strobe, *line);
     if !own {
-        holder.state = LineState::UD;
+        set_state(states, store.port, LineState::UD);
     }
 }
 
-/// What the D leaves of what is kept of the ports. `own` says whether it is the store of a MakeUnique.
+/// What a store leaves of what is kept of the data of its port.
 #[inline(always)]
-fn store_at(holders: &mut Vec<Holder>, store: &D, own: bool)
+fn store_into(holder: &mut Holder, strobe: u64, line: &Line)
+    ensures { holder.new ≡ record holder.old { copy = merged holder.old.copy strobe line.now } }
+{
+    holder.copy = merge(holder.copy, strobe, *line);
+}
+
+/// The same of the port of the D.
+#[inline(always)]
+fn store_at(holders: &mut Vec<Holder>, store: &D)
     ensures stand { (h : Header) (past : Trace) (l : ℕ) (t : Target)
         → IsHoldersStep h past l (Store store.now.port store.now.addr store.now.strobe store.now.x store.now.line) t None holders.old.items
-        → own ≡ is_some_and t.own awaits_store
-        → HoldersStand h (Store store.now.port store.now.addr store.now.strobe store.now.x store.now.line ∷ past) l holders.new.items }
+        → HoldersStand (Store store.now.port store.now.addr store.now.strobe store.now.x store.now.line ∷ past) l holders.new.items }
     ensures room { length holders.new.items ≡ length holders.old.items }
 {
     let port = store.port as usize;
     if port < holders.len() {
-        store_into(&mut holders[port], store.strobe, &store.line, own);
+        store_into(&mut holders[port], store.strobe, &store.line);
     }
 }
 
@@ -84,6 +94,7 @@ impl LineCheck {
         let Some(kept) = self.lines.get_index_mut(place) else {
             return;
         };
-        store_at(&mut kept.holders, store, own);
+        dirty(&mut kept.states, store, own);
+        store_at(&mut kept.holders, store);
     }
 }

@@ -3,7 +3,7 @@
 ghost use Rattle.std.specs.Prelude.{◌≡◌, ◌&&◌, not};
 ghost use Rattle.ace_model.specs.Kinds.{is_no_snoop_write};
 ghost use Rattle.ace_tables.specs.StartStates.{starts_write};
-ghost use Rattle.ace_lineck.specs.Holders.{holder_at};
+ghost use Rattle.ace_lineck.specs.States.{state_at};
 ghost use Rattle.ace_lineck.specs.Uses.{goes_with, is_unknown};
 
 use crate::LineCheck;
@@ -18,7 +18,7 @@ use ace_tables::start_write_ok;
 #[inline(always)]
 fn may_begin(kept: &LineRecord, port: u8, kind: AwKind) -> bool
     ensures { result ≡ (not (is_unknown kept.now.used)
-        && (goes_with kept.now.used (is_no_snoop_write kind) && starts_write kind (holder_at kept.now.holders.items port).state)) }
+        && (goes_with kept.now.used (is_no_snoop_write kind) && starts_write kind (state_at kept.now.states port))) }
 {
     !kept.is_unknown()
         && (goes_with(kept.used, is_no_snoop_write(kind)) && start_write_ok(kind, kept.state(port)))

@@ -6,9 +6,11 @@ ghost use Rattle.ace_model.specs.Copies.{word_of};
 ghost use Rattle.ace_model.specs.Trace.{is_some_and};
 ghost use Rattle.ace_lineck.specs.Holders.{holder_at, HasNothing};
 ghost use Rattle.ace_lineck.specs.Records.{IsFresh, name_of};
+ghost use Rattle.ace_lineck.specs.States.{state_at};
 ghost use Rattle.ace_lineck.specs.Uses.{is_unknown};
 
 use crate::grant::Grant;
+use crate::states::state_at;
 use ace_codes::LineState;
 use ace_event::{Channel, Line};
 use std::alloc::Global;
@@ -30,11 +32,9 @@ pub enum Use {
     NoSnoop,
 }
 
-/// What is kept of a port and a line.
+/// What is kept of the data that a port has of a line.
 #[derive(Clone, Copy, Debug, PartialEq, Eq)]
 pub struct Holder {
-    /// The state in which the port has the line.
-    pub state: LineState,
     /// The port's copy of the line.
     pub copy: Line,
     /// The copy at the port's last answer with DataTransfer to a snoop of the line, which its CD events send.
@@ -45,15 +45,17 @@ pub struct Holder {
 #[derive(Drop)]
 pub struct LineRecord {
     pub used: Use,
-    pub memory: Line,
+    /// The state in which each port has the line, by the port's number.
+    pub states: [LineState; 32],
     pub grant: Option<Grant>,
-    /// Of each port of the header, by its number. A port that isn't there has had nothing of the line.
+    pub memory: Line,
+    /// What each port of the header has of the line's data, by its number. A port that isn't there has had nothing of it.
     pub holders: Vec<Holder>,
 }
 
 const ZERO_LINE: Line = Line { words: [0; 4] };
 
-/// Of so many ports, that they have had nothing of a line.
+/// Of so many ports, that they have had nothing of a line's data.
 fn no_holders(alloc: Global, ports: u8) -> Result<Vec<Holder>, NoMemory>
     ensures { IfOk result (λ v. HasNothing ports v.items) }
 {
@@ -62,7 +64,6 @@ fn no_holders(alloc: Global, ports: u8) -> Result<Vec<Holder>, NoMemory>
     };
     for port in 0..ports {
         let nothing = Holder {
-            state: LineState::I,
             copy: ZERO_LINE,
             sent: ZERO_LINE,
         };
@@ -82,8 +83,9 @@ pub fn new_record(alloc: Global, ports: u8) -> Result<LineRecord, NoMemory>
     };
     Ok(LineRecord {
         used: Use::Unknown,
-        memory: ZERO_LINE,
+        states: [LineState::I; 32],
         grant: None,
+        memory: ZERO_LINE,
         holders,
     })
 }
@@ -128,8 +130,9 @@ pub fn empty_record(alloc: Global) -> LineRecord
 {
     LineRecord {
         used: Use::Unknown,
-        memory: ZERO_LINE,
+        states: [LineState::I; 32],
         grant: None,
+        memory: ZERO_LINE,
         holders: Vec::new(alloc),
     }
 }
@@ -182,12 +185,9 @@ impl LineRecord {
     /// The state in which the port has the line.
     #[inline(always)]
     pub fn state(&self, port: u8) -> LineState
-        ensures { result ≡ (holder_at self.now.holders.items port).state }
+        ensures { result ≡ state_at self.now.states port }
     {
-        match self.holders.get(usize::from(port)) {
-            None => LineState::I,
-            Some(holder) => holder.state,
-        }
+        state_at(&self.states, port)
     }
 
     /// Word k of the port's copy.

@@ -12,7 +12,6 @@ ghost use Rattle.ace_model.specs.Copies.{word_of, is_line_read_transaction};
 ghost use Rattle.ace_model.specs.Transactions.{is_ace, read_kind};
 ghost use Rattle.ace_model.specs.ReadRules.{same_upper_bits, k19, k20, k23};
 ghost use Rattle.ace_model.specs.Shares.{k18_line};
-ghost use Rattle.ace_lineck.specs.Holders.{holder_at};
 ghost use Rattle.ace_lineck.specs.Records.{IsNext};
 ghost use Rattle.ace_lineck.specs.Kept.{reply_kept, fits_reply, fits_shared, fits_bits, has_passed_for, is_shared_under, ends_kept, IsFailure};
 

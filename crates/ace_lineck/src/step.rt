@@ -14,6 +14,7 @@ use crate::holders::hear_holders;
 use crate::kinds::is_line_read_transaction;
 use crate::memory::hear_memory;
 use crate::record::LineRecord;
+use crate::states::hear_states;
 use crate::uses::hear_use;
 use ace_event::{Event, Header, Line};
 use ace_portck::{Progress, Target};
@@ -92,7 +93,8 @@ pub fn advance(kept: &mut LineRecord, event: &Event, target: &Target, header: &H
         &kept.holders,
         &kept.memory,
     );
-    hear_holders(&mut kept.holders, event, target, whole);
+    hear_states(&mut kept.states, event, target);
+    hear_holders(&mut kept.holders, event, whole);
     hear_memory(&mut kept.memory, event);
     hear_use(&mut kept.used, event, target);
     was_unknown && !kept.is_unknown()

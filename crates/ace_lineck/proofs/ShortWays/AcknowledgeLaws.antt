@@ -9,12 +9,13 @@ use Rattle.ace_portck.specs.Targets.{Recording, line_in, line_of, target_of, tra
 use Rattle.ace_portck.specs.declared.target.Progress.{Progress}
 use Rattle.ace_portck.proofs.ShortWays.Acknowledges.{acknowledge-first, acknowledge-one}
 use Rattle.ace_lineck.specs.declared.lines.LineCheck.{LineCheck}
-use Rattle.ace_lineck.specs.Holders.{holder_at}
 use Rattle.ace_lineck.specs.Kept.{ends_kept}
 use Rattle.ace_lineck.specs.Records.{IsNext, LineStands}
 use Rattle.ace_lineck.specs.Stands.{Stands, record_on}
+use Rattle.ace_lineck.proofs.StateSteps.{all-same}
 use Rattle.ace_lineck.proofs.ReplyLaws.{k23-of}
 use Rattle.ace_lineck.proofs.RuleLaws.{k28-law}
+use Rattle.ace_lineck.specs.States.{state_at}
 
 -- what is no exclusive store has not failed
 unfailed : (past : Trace) (y : Transaction) → is_exclusive_store y ≡ false → false ≡ has_failed past y
@@ -31,10 +32,10 @@ one-rule n false = refl
 module _ (s : LineCheck) (r : Recording) (p : ℕ) (st : LineState) (stands : Stands s r) (x : Progress) where
   -- the state in which the port has the line, by the record of that; of no line that is I
   abbrev held : Option ℕ → LineState
-  held o = (holder_at (record_on s o).holders.items p).state
+  held o = state_at (record_on s o).states p
 
   held-none : held None ≡ I
-  held-none = ap (λ xs. (holder_at xs p).state) stands.empty.holders
+  held-none = ap (λ xs. state_at xs p) stands.empty.states ∙ all-same I 32 p
 
   held-at : (o : Option ℕ) (b : Bool) → o ≡ (if b then Some x.transaction.addr else None) → (if b then held o else I) ≡ held o
   held-at o true is = refl

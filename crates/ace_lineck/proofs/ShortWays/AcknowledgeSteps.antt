@@ -1,13 +1,9 @@
 -- What an RK or WK leaves of what is kept of its line.
-use Rattle.std.proofs.Common.{◌≡◌, ◌<◌, ◌-◌, ◌^◌, ℕ, true, false, ◌==◌, nat_lt, List, ◌∷◌, length, Option, Some, None, option_map, slice_set, slice_get, refl, sym, ap, subst, ◌∙◌}
-use Rattle.std.proofs.lemmas.Bool.{and_parts, eq-eqb, ltb-true}
+use Rattle.std.proofs.Common.{◌≡◌, ◌<◌, ◌-◌, ◌^◌, ℕ, true, false, ◌==◌, List, ◌∷◌, length, Option, Some, None, option_map, refl, sym, ap, subst, ◌∙◌}
 use Rattle.ace_model.specs.Accepted.{least_broken}
-use Rattle.ace_model.specs.Copies.{received}
-use Rattle.ace_model.specs.Trace.{port_of}
 use Rattle.ace_model.specs.declared.transactions.Transaction.{Transaction}
-use Rattle.ace_model.proofs.Terms.{Channel, Event, Header, IsAccepted, Line, LineState, Read, Rk, Trace, Wk, Write, acknowledged, ended, is_some_on, is_transaction}
+use Rattle.ace_model.proofs.Terms.{Channel, Header, Line, LineState, Read, Trace, Write, ended, is_transaction}
 use Rattle.ace_model.proofs.General.Options.{Some-injective}
-use Rattle.ace_model.proofs.Rules.Keeps.{accepted_keeps}
 use Rattle.ace_portck.specs.Acknowledges.{acknowledge}
 use Rattle.ace_portck.specs.Targets.{Recording, line_in, target_of}
 use Rattle.ace_portck.specs.declared.target.Progress.{Progress}
@@ -18,13 +14,11 @@ use Rattle.ace_lineck.specs.declared.record.Holder.{Holder}
 use Rattle.ace_lineck.specs.declared.record.LineRecord.{LineRecord}
 use Rattle.ace_lineck.specs.Acknowledges.{IsOf, transaction_at}
 use Rattle.ace_lineck.specs.Grants.{GrantStands, IsGrantStep, is_of, is_over}
-use Rattle.ace_lineck.specs.Holders.{HolderStands, HoldersStand, IsHoldersStep, IsLineStep}
+use Rattle.ace_lineck.specs.Holders.{HoldersStand}
 use Rattle.ace_lineck.specs.Records.{LineStands}
 use Rattle.ace_lineck.specs.Stands.{MayApply, Stands, place_on}
 use Rattle.ace_lineck.proofs.GrantHear.{ends_heard, is_grant, is_heard, none_heard, other_heard, over_heard}
-use Rattle.ace_lineck.proofs.HolderSteps.{holder-step, holders-hear}
-use Rattle.ace_lineck.proofs.OffLine.{ace-of_rk, ace-of_wk}
-use Rattle.ace_lineck.proofs.OnLine.{on-transaction}
+use Rattle.ace_lineck.specs.States.{StatesStand}
 
 is-of : (o : Option Progress) (x y : Transaction) → option_map transaction_at o ≡ Some x → is_of o y ≡ (x.place == y.place)
 is-of None x y is = cc
@@ -58,49 +52,22 @@ module _ (h : Header) (past : Trace) (l p : ℕ) (st : LineState) (t : Target) w
         → GrantStands h (acknowledge c p st ∷ past) l (Some g)
     still-granted c s other = other_heard h past l t g xs memory (acknowledge c p st) (unheard c) s (ends-own c s ∙ other)
 
-  -- its line is that of the transaction that it acknowledges
-  line-of : (e : Event) → IsLineStep h past l e t → line_in h past e ≡ Some l
-  line-of e s = ap (λ (v : Target). v.line) (sym s.target) ∙ s.line
+  -- what it leaves of the data of the ports
+  pub still-held : (c : Channel) (xs : List Holder) → HoldersStand past l xs → HoldersStand (acknowledge c p st ∷ past) l xs
+  still-held Read xs s = record { copy = s.copy; sent = s.sent }
+  still-held Write xs s = record { copy = s.copy; sent = s.sent }
 
-  settled : (c : Channel) (x : Holder) → IsLineStep h past l (acknowledge c p st) t → HolderStands h past p l x → HolderStands h (acknowledge c p st ∷ past) p l (record x { state = st })
-  settled Read x s was =
-      let ace = ace-of_rk h past p st s.accepted in
-      let on : is_some_on (acknowledged past p Read) l ≡ true = on-transaction h past (acknowledged past p Read) l (rw ace at (line-of (Rk p st) s)) in
-      record { state = rw (eq-eqb p p refl, on) refl; copy = was.copy; sent = was.sent }
-  settled Write x s was =
-      let ace = ace-of_wk h past p st s.accepted in
-      let on : is_some_on (acknowledged past p Write) l ≡ true = on-transaction h past (acknowledged past p Write) l (rw ace at (line-of (Wk p st) s)) in
-      record { state = rw (eq-eqb p p refl, on) refl; copy = was.copy; sent = was.sent }
-
-  own-port : (c : Channel) → port_of (acknowledge c p st) ≡ Some p
-  own-port Read = refl
-  own-port Write = refl
-
-  -- the port has the line in the state
-  pub settles : (c : Channel) (xs : List Holder) (x : Holder) → IsHoldersStep h past l (acknowledge c p st) t None xs → slice_get xs p ≡ Some x → p < length xs
-      → HoldersStand h (acknowledge c p st ∷ past) l (slice_set xs p (record x { state = st }))
-  settles c xs x s at low =
-      let step = holder-step h past l (acknowledge c p st) t None xs p x s (own-port c) at in
-      holders-hear h past l (acknowledge c p st) t None xs p (record x { state = st }) s (own-port c) low (settled c x s.step step.stands)
-
-  -- each port of the header has a holder
-  within : (c : Channel) → IsAccepted h (acknowledge c p st ∷ past) → p < h.ports
-  within Read a = ltb-true p h.ports (and_parts (nat_lt p h.ports) _ (accepted_keeps h past (Rk p st) a).rule_1).0
-  within Write a = ltb-true p h.ports (and_parts (nat_lt p h.ports) _ (accepted_keeps h past (Wk p st) a).rule_1).0
-
-  pub has-holder : (c : Channel) (xs : List Holder) → IsHoldersStep h past l (acknowledge c p st) t None xs → p < length xs
-  has-holder c xs s = subst (λ n. p < n) (sym s.room) (within c s.step.accepted)
-
-  -- it receives no line
-  pub none-received : (c : Channel) (q : ℕ) → None ≡ received past (acknowledge c p st) q l
-  none-received Read q = refl
-  none-received Write q = refl
-
-  -- what is kept of the line, with the new grant and holders
+  -- what is kept of the line, with the new grant and states
   pub acknowledged-record : (c : Channel) (x y : LineRecord) → LineStands h past l x → y.used ≡ x.used → y.memory ≡ x.memory → GrantStands h (acknowledge c p st ∷ past) l y.grant
-      → HoldersStand h (acknowledge c p st ∷ past) l y.holders.items → LineStands h (acknowledge c p st ∷ past) l y
-  acknowledged-record Read x y s used memory grant holders = record { used = used ∙ s.used; memory = record { memory = memory ∙ s.memory.memory }; grant = grant; holders = holders }
-  acknowledged-record Write x y s used memory grant holders = record { used = used ∙ s.used; memory = record { memory = memory ∙ s.memory.memory }; grant = grant; holders = holders }
+      → StatesStand h (acknowledge c p st ∷ past) l y.states → y.holders.items ≡ x.holders.items → LineStands h (acknowledge c p st ∷ past) l y
+  acknowledged-record c x y s used memory grant states holders = by c grant states
+    where
+      still : (c : Channel) → HoldersStand (acknowledge c p st ∷ past) l y.holders.items
+      still c = subst (HoldersStand (acknowledge c p st ∷ past) l) (sym holders) (still-held c x.holders.items s.holders)
+
+      by : (c : Channel) → GrantStands h (acknowledge c p st ∷ past) l y.grant → StatesStand h (acknowledge c p st ∷ past) l y.states → LineStands h (acknowledge c p st ∷ past) l y
+      by Read grant states = record { used = used ∙ s.used; memory = record { memory = memory ∙ s.memory.memory }; states = states; grant = grant; holders = still Read }
+      by Write grant states = record { used = used ∙ s.used; memory = record { memory = memory ∙ s.memory.memory }; states = states; grant = grant; holders = still Write }
 
 -- it may be heard
 pub acknowledge-may : (s : LineCheck) (r : Recording) (p : ℕ) (st : LineState) (c : Channel) (place : Option ℕ) → Stands s r → place ≡ place_on s (line_in r.header r.past (acknowledge c p st))

@@ -65,10 +65,10 @@ module _ (h : Header) (past : Trace) (p i resp : ℕ) (last : Bool) (word : ℕ)
     of-place = granted-of_place h past p Read i x.transaction kept.grant a read-out s.grant
 
     -- where the read is granted, it is no exclusive store that failed
-    unfailed : may_have_beat h (has_failed_on h past x.transaction.addr) kept.grant kept.holders.items x resp ≡ may_have_beat h false kept.grant kept.holders.items x resp
+    unfailed : may_have_beat h (has_failed_on h past x.transaction.addr) kept.grant kept.states x resp ≡ may_have_beat h false kept.grant kept.states x resp
     unfailed = by kept.grant refl
       where
-        by : (o : Option Grant) → kept.grant ≡ o → may_have_beat h (has_failed_on h past x.transaction.addr) o kept.holders.items x resp ≡ may_have_beat h false o kept.holders.items x resp
+        by : (o : Option Grant) → kept.grant ≡ o → may_have_beat h (has_failed_on h past x.transaction.addr) o kept.states x resp ≡ may_have_beat h false o kept.states x resp
         by None is = refl
         by (Some g) is =
             elim (cases_Bool (is_its g x.transaction)) [
@@ -79,7 +79,7 @@ module _ (h : Header) (past : Trace) (p i resp : ℕ) (last : Bool) (word : ℕ)
                   let unfailing = own.unfailing in
                   let fine : has_failed past x.transaction ≡ false = rw unfailing refl in
                   let failed : has_failed_on h past x.transaction.addr ≡ false = ap (λ o. is_some_and o (has_failed past)) stands ∙ fine in
-                  ap (λ b. may_have_beat h b (Some g) kept.holders.items x resp) failed
+                  ap (λ b. may_have_beat h b (Some g) kept.states x resp) failed
             ]
 
     pub beat-law : k1 h past (R p i resp last word) ≡ true → keeps_beat h kept x resp word ≡ is_none (least_of line_rules h past (R p i resp last word))
@@ -95,10 +95,10 @@ module _ (h : Header) (past : Trace) (p i resp : ℕ) (last : Bool) (word : ℕ)
         } in
         let fails : IsFailure h past t failed = λ l is. ap (has_failed_on h past) (Some-injective x.transaction.addr l (sym beat-line ∙ is)) in
         let on = read-on in
-        let first : is_none_or t.transaction (λ y. implies (is_line y.transaction) (may_have_beat h failed kept.grant kept.holders.items y resp))
-        ≡ may_have_beat h failed kept.grant kept.holders.items x resp =
-        ap (λ o. is_none_or o (λ y. implies (is_line y.transaction) (may_have_beat h failed kept.grant kept.holders.items y resp))) out ∙ (rw on refl) in
-        let due : may_have_beat h false kept.grant kept.holders.items x resp ≡ k18_line h past e =
+        let first : is_none_or t.transaction (λ y. implies (is_line y.transaction) (may_have_beat h failed kept.grant kept.states y resp))
+        ≡ may_have_beat h failed kept.grant kept.states x resp =
+        ap (λ o. is_none_or o (λ y. implies (is_line y.transaction) (may_have_beat h failed kept.grant kept.states y resp))) out ∙ (rw on refl) in
+        let due : may_have_beat h false kept.grant kept.states x resp ≡ k18_line h past e =
         sym unfailed ∙ sym first ∙ k18-law h past t kept p i resp last word next failed fails in
         three-rules _ _ _ (k18_line h past e) (k19 h past e) (k20 h past e) due
         (λ is. sym (ap (λ o. is_none_or o (λ y. fits_bits h (has_passed_for kept.grant y.transaction) (is_shared_under kept.grant) resp y)) out) ∙ k19-law h past t kept p i resp last word next is)

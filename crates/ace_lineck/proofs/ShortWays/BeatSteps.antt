@@ -1,6 +1,6 @@
 -- What a transfer of a plain read leaves of what is kept of its line.
-use Rattle.std.proofs.Common.{◌≡◌, ◌⊎◌, ◌<◌, ◌-◌, ◌^◌, ℕ, true, false, Bool, not, ◌&&◌, nat_lt, List, ◌∷◌, length, Option, Some, None, option_map, option_and_then, slice_set, slice_get, unwrap_or, refl, sym, ap, subst, ◌∙◌, inl, inr}
-use Rattle.std.proofs.lemmas.Bool.{and_parts, cases_eq, eq-eqb, ltb-true, ne_eqb}
+use Rattle.std.proofs.Common.{◌≡◌, ◌⊎◌, ◌<◌, ◌-◌, ◌^◌, ℕ, true, false, Bool, not, ◌&&◌, List, ◌∷◌, length, Option, Some, None, option_map, option_and_then, slice_set, slice_get, unwrap_or, refl, sym, ap, subst, ◌∙◌, inl, inr}
+use Rattle.std.proofs.lemmas.Bool.{and_parts, cases_eq, eq-eqb, ne_eqb}
 use Rattle.ace_codes.specs.declared.kind.ArKind.{ArKind}
 use Rattle.ace_event.specs.declared.line.Line.{Line}
 use Rattle.ace_model.specs.declared.transactions.Transaction.{Transaction}
@@ -8,7 +8,6 @@ use Rattle.ace_model.specs.Accepted.{least_broken}
 use Rattle.ace_model.specs.Copies.{received}
 use Rattle.ace_model.proofs.Terms.{Header, Trace, R, Read, newer, is_ace, is_line, is_transaction, ended, outstanding, granted, copy_of}
 use Rattle.ace_model.proofs.General.Options.{Some-injective}
-use Rattle.ace_model.proofs.Rules.Keeps.{accepted_keeps}
 use Rattle.ace_model.proofs.Trace.Issued.{outstanding-name}
 use Rattle.ace_model.proofs.Trace.Looks.{is_on-addr}
 use Rattle.ace_model.proofs.Grants.Begins.{may_of, line_due}
@@ -71,8 +70,8 @@ module _ (h : Header) (past : Trace) (l p i resp : ℕ) (last : Bool) (word : �
       (beat_heard h past l t g xs memory p i resp last word s (ends-last g xs memory s ∙ ends))
 
   -- without the line whole, its port has what it had
-  pub unreceived : (xs : List Holder) → IsHoldersStep h past l (R p i resp last word) t None xs → HoldersStand h (R p i resp last word ∷ past) l xs
-  unreceived xs s = record { state = s.stand.state; copy = λ q. s.stand.copy q ∙ sym (same q (cases_eq q p)); sent = s.stand.sent }
+  pub unreceived : (xs : List Holder) → IsHoldersStep h past l (R p i resp last word) t None xs → HoldersStand (R p i resp last word ∷ past) l xs
+  unreceived xs s = record { copy = λ q. s.stand.copy q ∙ sym (same q (cases_eq q p)); sent = s.stand.sent }
     where
       none : (q : ℕ) → (q ≡ p) ⊎ (q ≡ p → ⊥) → received past (R p i resp last word) q l ≡ None
       none q (inl is) = ap (λ v. received past (R p i resp last word) v l) is ∙ sym (s.whole p refl)
@@ -83,21 +82,14 @@ module _ (h : Header) (past : Trace) (l p i resp : ℕ) (last : Bool) (word : �
 
   -- and with it, its copy is the line
   pub received-whole : (xs : List Holder) (line : Line) (x : Holder) → IsHoldersStep h past l (R p i resp last word) t (Some line) xs → slice_get xs p ≡ Some x → p < length xs
-      → HoldersStand h (R p i resp last word ∷ past) l (slice_set xs p (record x { copy = line }))
+      → HoldersStand (R p i resp last word ∷ past) l (slice_set xs p (record x { copy = line }))
   received-whole xs line x s at low =
       let e = R p i resp last word in
       let step = holder-step h past l e t (Some line) xs p x s refl at in
       holders-hear h past l e t (Some line) xs p (record x { copy = line }) s refl low (record {
-        state = step.stands.state;
         copy = ap (λ o. unwrap_or o (copy_of past p l)) step.whole;
         sent = step.stands.sent;
       })
-
-  -- each port of the header has a holder
-  pub has-holder : (w : Option Line) (xs : List Holder) → IsHoldersStep h past l (R p i resp last word) t w xs → p < length xs
-  has-holder w xs s =
-      let may = (accepted_keeps h past (R p i resp last word) s.step.accepted).rule_1 in
-      subst (λ n. p < n) (sym s.room) (ltb-true p h.ports (and_parts (nat_lt p h.ports) _ may).0)
 
   module _ (x : Progress) (at : t.transaction ≡ Some x) where
     -- the transfer is that of a read of its port

@@ -134,7 +134,8 @@ line-begun h past (Ar p i addr snoop dom bar lock) l x known a s = record {
       (accepted_keeps h past (Ar p i addr snoop dom bar lock) a).rule_8 known));
   memory = record { memory = s.memory.memory };
   grant = grant-begun h past (Ar p i addr snoop dom bar lock) l x.grant known a s.grant;
-  holders = record { state = s.holders.state; copy = s.holders.copy; sent = s.holders.sent };
+  states = record { state = s.states.state };
+  holders = record { copy = s.holders.copy; sent = s.holders.sent };
 }
 line-begun h past (Aw p i addr snoop dom bar) l x known a s = record {
   used = s.used
@@ -143,7 +144,8 @@ line-begun h past (Aw p i addr snoop dom bar) l x known a s = record {
       (accepted_keeps h past (Aw p i addr snoop dom bar) a).rule_8 known));
   memory = record { memory = s.memory.memory };
   grant = grant-begun h past (Aw p i addr snoop dom bar) l x.grant known a s.grant;
-  holders = record { state = s.holders.state; copy = s.holders.copy; sent = s.holders.sent };
+  states = record { state = s.states.state };
+  holders = record { copy = s.holders.copy; sent = s.holders.sent };
 }
 line-begun h past e l x known a s = cc
 

@@ -60,7 +60,8 @@ granted-record h past l p c i x k out s = record {
   used = s.stands.used;
   memory = record { memory = s.stands.memory.memory };
   grant = given_heard h past l p c i (target_of h past (G p c i)) s.step (progress_of h past x) (ap (option_map (progress_of h past)) out);
-  holders = record { state = s.stands.holders.state; copy = s.stands.holders.copy; sent = s.stands.holders.sent };
+  states = record { state = s.stands.states.state };
+  holders = record { copy = s.stands.holders.copy; sent = s.stands.holders.sent };
 }
 
 -- a use that stays makes no line known

@@ -129,12 +129,12 @@ module _ (h : Header) (past : Trace) (p : ℕ) (c : Channel) (i : ℕ) (line : L
         granted-line h past a p c i x.transaction out (its-granted h past a x.transaction.addr g.0 f x.transaction refl ∙ own.0)
 
     -- where a write is granted, it is no exclusive store that failed
-    due-unfailed : is_read x.transaction.chan ≡ false → is_some_and kept.grant (λ g. is_its g x.transaction && are_done h (has_failed_on h past x.transaction.addr) g kept.holders.items)
-        ≡ is_some_and kept.grant (λ g. is_its g x.transaction && are_done h false g kept.holders.items)
+    due-unfailed : is_read x.transaction.chan ≡ false → is_some_and kept.grant (λ g. is_its g x.transaction && are_done h (has_failed_on h past x.transaction.addr) g kept.states)
+        ≡ is_some_and kept.grant (λ g. is_its g x.transaction && are_done h false g kept.states)
     due-unfailed writes = by kept.grant refl
       where
-        by : (o : Option Grant) → kept.grant ≡ o → is_some_and o (λ g. is_its g x.transaction && are_done h (has_failed_on h past x.transaction.addr) g kept.holders.items)
-            ≡ is_some_and o (λ g. is_its g x.transaction && are_done h false g kept.holders.items)
+        by : (o : Option Grant) → kept.grant ≡ o → is_some_and o (λ g. is_its g x.transaction && are_done h (has_failed_on h past x.transaction.addr) g kept.states)
+            ≡ is_some_and o (λ g. is_its g x.transaction && are_done h false g kept.states)
         by None is = refl
         by (Some g) is =
             elim (cases_Bool (is_its g x.transaction)) [
@@ -143,11 +143,11 @@ module _ (h : Header) (past : Trace) (p : ℕ) (c : Channel) (i : ℕ) (line : L
                   let f : GrantFits h past x.transaction.addr g = subst (GrantStands h past x.transaction.addr) is s.grant in
                   let stands : granted h past x.transaction.addr ≡ Some x.transaction = f.granted ∙ ap (λ v. Some v) (of-place g is same) in
                   let failed : has_failed_on h past x.transaction.addr ≡ false = ap (λ o. is_some_and o (has_failed past)) stands ∙ unfailing past x.transaction writes in
-                  ap (λ b. is_its g x.transaction && are_done h b g kept.holders.items) failed
+                  ap (λ b. is_its g x.transaction && are_done h b g kept.states) failed
             ]
 
     module _ (burst : Option WriteData) (sends : burst ≡ data_in h past (M p c i line)) where
-      unfailed : may_write_kept h (has_failed_on h past x.transaction.addr) kept.grant kept.holders.items burst x ≡ may_write_kept h false kept.grant kept.holders.items burst x
+      unfailed : may_write_kept h (has_failed_on h past x.transaction.addr) kept.grant kept.states burst x ≡ may_write_kept h false kept.grant kept.states burst x
       unfailed =
           ap (λ b. is_line x.transaction && b)
           (of-writes (is_read x.transaction.chan)
@@ -156,12 +156,12 @@ module _ (h : Header) (past : Trace) (p : ℕ) (c : Channel) (i : ℕ) (line : L
 
       -- both rules, as they are asked
       both : keeps_memory_write h kept x burst line
-          ≡ (may_write_kept h false kept.grant kept.holders.items burst x && fits_data (passed_kept kept.grant) kept.memory burst line x.transaction)
+          ≡ (may_write_kept h false kept.grant kept.states burst x && fits_data (passed_kept kept.grant) kept.memory burst line x.transaction)
       both =
           by-channel (is_read x.transaction.chan) _ _ (is_line x.transaction) _ _ _ _
           (λ reads. first-says (is_line x.transaction) (is_some_and kept.grant (λ g. is_its g x.transaction && has_passed g && is_passed_whole g)) (x.transfers == 0)
           (is_none_or (passed_kept kept.grant) (same_line line)) whole-line)
-          (λ writes. burst-says (is_line x.transaction) (write_kind x.transaction) (is_some_and kept.grant (λ g. is_its g x.transaction && are_done h false g kept.holders.items))
+          (λ writes. burst-says (is_line x.transaction) (write_kind x.transaction) (is_some_and kept.grant (λ g. is_its g x.transaction && are_done h false g kept.states))
           (is_none_or kept.grant (λ g. not (has_passed g))) (λ b k. same_line line (written_kept (passed_kept kept.grant) kept.memory b k)) burst (burst-line burst sends))
 
       pub memory_write-law : k1 h past (M p c i line) ≡ true → keeps_memory_write h kept x burst line ≡ is_none (least_of line_rules h past (M p c i line))
@@ -176,9 +176,9 @@ module _ (h : Header) (past : Trace) (p : ℕ) (c : Channel) (i : ℕ) (line : L
             line = λ l is. subst (λ v. LineStands h past v kept) (one-line l is) s;
           } in
           let fails : IsFailure h past t failed = λ l is. ap (has_failed_on h past) (one-line l is) in
-          let due : may_write_kept h false kept.grant kept.holders.items burst x ≡ k24 h past e =
-          sym unfailed ∙ ap (λ d. may_write_kept h failed kept.grant kept.holders.items d x) sends
-          ∙ sym (ap (λ o. is_some_and o (may_write_kept h failed kept.grant kept.holders.items (data_in h past e))) served)
+          let due : may_write_kept h false kept.grant kept.states burst x ≡ k24 h past e =
+          sym unfailed ∙ ap (λ d. may_write_kept h failed kept.grant kept.states d x) sends
+          ∙ sym (ap (λ o. is_some_and o (may_write_kept h failed kept.grant kept.states (data_in h past e))) served)
           ∙ k24-law h past t kept p c i line next failed fails in
           both ∙ two-rules _ _ (k24 h past e) (k25 h past e) due
           (λ kept24. ap (λ d. fits_data (passed_kept kept.grant) kept.memory d line x.transaction) sends

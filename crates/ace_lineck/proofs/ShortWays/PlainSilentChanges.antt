@@ -1,22 +1,15 @@
 -- What an S asks of its line, and what it leaves of it.
-use Rattle.std.proofs.Common.{◌≡◌, ◌<◌, ◌-◌, ◌^◌, ℕ, Bool, not, ◌&&◌, nat_eq, nat_lt, true, List, ◌∷◌, length, Option, Some, None, is_none, slice_get, slice_set, refl, sym, ap, subst, ◌∙◌}
-use Rattle.std.proofs.lemmas.Bool.{and_parts, eq-eqb, ltb-true}
+use Rattle.std.proofs.Common.{◌≡◌, ◌<◌, ◌-◌, ◌^◌, ℕ, Bool, not, ◌&&◌, ◌∷◌, length, Option, Some, None, is_none, refl, ap, ◌∙◌}
 use Rattle.ace_model.specs.Accepted.{least_broken, least_of}
 use Rattle.ace_model.specs.Shares.{line_rules}
 use Rattle.ace_model.proofs.Terms.{Header, Trace, S, LineState, IsAccepted, has_update, is_invalid, is_silent_move, k29, state_of}
-use Rattle.ace_model.proofs.General.Options.{Some-injective}
-use Rattle.ace_model.proofs.Rules.Keeps.{accepted_keeps}
 use Rattle.ace_portck.specs.Targets.{Recording, target_of}
-use Rattle.ace_portck.specs.declared.target.Target.{Target}
 use Rattle.ace_lineck.specs.declared.grant.Grant.{Grant}
 use Rattle.ace_lineck.specs.declared.lines.LineCheck.{LineCheck}
-use Rattle.ace_lineck.specs.declared.record.Holder.{Holder}
 use Rattle.ace_lineck.specs.Grants.{GrantStands}
-use Rattle.ace_lineck.specs.Holders.{HoldersStand, IsHoldersStep}
 use Rattle.ace_lineck.specs.Stands.{MayApply, Stands, place_on}
 use Rattle.ace_lineck.proofs.GrantFrame.{none-stays}
 use Rattle.ace_lineck.proofs.GrantSteps.{calm-stays, stays-unended}
-use Rattle.ace_lineck.proofs.HolderSteps.{holders-hear, holder-step}
 use Rattle.ace_lineck.proofs.ShortWays.PlainEvents.{one_rule}
 
 -- K29 is all that the share asks of an S
@@ -24,24 +17,6 @@ pub change-kept : (h : Header) (past : Trace) (p addr : ℕ) (st held : LineStat
     → (is_silent_move held st && not drops) ≡ is_none (least_of line_rules h past (S p addr st))
 change-kept h past p addr st held drops is drop =
     ap (λ v. is_silent_move v st && not drops) is ∙ ap (λ b. is_silent_move (state_of h past p addr) st && not b) drop ∙ one_rule 29 (k29 h past (S p addr st))
-
-module _ (h : Header) (past : Trace) (l p addr : ℕ) (st : LineState) (t : Target) (xs : List Holder) where
-  -- each port of the header has a holder
-  pub has-holder : IsHoldersStep h past l (S p addr st) t None xs → p < length xs
-  has-holder s =
-      let may = (accepted_keeps h past (S p addr st) s.step.accepted).rule_1 in
-      subst (λ n. p < n) (sym s.room) (ltb-true p h.ports (and_parts (nat_lt p h.ports) _ may).0)
-
-  -- with the new state in that of its port they stand
-  pub moved : (x : Holder) → IsHoldersStep h past l (S p addr st) t None xs → slice_get xs p ≡ Some x → p < length xs
-      → HoldersStand h (S p addr st ∷ past) l (slice_set xs p (record x { state = st }))
-  moved x s at low =
-      let e = S p addr st in
-      let step = holder-step h past l e t None xs p x s refl at in
-      let port : nat_eq p p ≡ true = eq-eqb p p refl in
-      let on : Some addr ≡ Some l = ap (λ (v : Target). v.line) (sym s.step.target) ∙ s.step.line in
-      let line : nat_eq l addr ≡ true = eq-eqb l addr (sym (Some-injective addr l on)) in
-      holders-hear h past l e t None xs p (record x { state = st }) s refl low (record { state = rw (port, line) refl; copy = step.stands.copy; sent = step.stands.sent })
 
 -- the grant of a line stays
 pub grant-changed : (h : Header) (past : Trace) (p addr : ℕ) (st : LineState) (l : ℕ) (g : Option Grant) → IsAccepted h (S p addr st ∷ past) → GrantStands h past l g

@@ -1,6 +1,6 @@
 -- A CR: what is asked of it by what is kept of the line of its snoop, and what it leaves of that.
-use Rattle.std.proofs.Common.{◌≡◌, ◌<◌, ◌-◌, ◌^◌, ℕ, Bool, true, false, not, ◌&&◌, ◌||◌, nat_lt, if◌then◌else◌, ◌∷◌, length, Option, Some, None, is_none, slice_get, slice_set, refl, sym, ap, subst, ◌∙◌, inl, inr}
-use Rattle.std.proofs.lemmas.Bool.{and_parts, cases_Bool, ltb-true}
+use Rattle.std.proofs.Common.{◌≡◌, ◌<◌, ◌-◌, ◌^◌, ℕ, Bool, true, false, not, ◌&&◌, ◌||◌, if◌then◌else◌, ◌∷◌, length, Option, Some, None, is_none, slice_get, slice_set, refl, sym, ap, ◌∙◌, inl, inr}
+use Rattle.std.proofs.lemmas.Bool.{cases_Bool}
 use Rattle.ace_codes.specs.declared.kind.SnoopKind.TheVariants as snoop
 use Rattle.ace_tables.specs.Answers.{fits_answer, fits_update, is_snoop_row, states_after}
 use Rattle.ace_tables.specs.States.{is_among}
@@ -8,7 +8,6 @@ use Rattle.ace_model.specs.declared.snoops.Snoop.{Snoop}
 use Rattle.ace_model.specs.Accepted.{least_broken, least_of}
 use Rattle.ace_model.specs.Shares.{line_rules}
 use Rattle.ace_model.proofs.Terms.{Header, Trace, Cr, SnoopKind, LineState, I, answers_beside_update, answers_by_row, has_update, implies, is_line_snoop, is_none_or, is_some_and, k15, k16, snoops_a_line, state_of}
-use Rattle.ace_model.proofs.Rules.Keeps.{accepted_keeps}
 use Rattle.ace_portck.specs.SnoopAnswers.{IsAnswered}
 use Rattle.ace_portck.specs.Targets.{Recording, line_in, line_of_snoop, target_of}
 use Rattle.ace_portck.specs.declared.target.Target.{Target}
@@ -94,17 +93,16 @@ may-hear_answer s r p resp st x k place stands is at fine few = record {
   few = few;
 }
 
--- each port of the header has a holder
-pub has-answerer : (h : Header) (past : Trace) (l p resp : ℕ) (st : LineState) (t : Target) (x : LineRecord) → IsRecordStep h past l (Cr p resp st) t x → p < length x.holders.items
-has-answerer h past l p resp st t x s =
-    let may = (accepted_keeps h past (Cr p resp st) s.step.accepted).rule_1 in
-    subst (λ n. p < n) (sym s.room) (ltb-true p h.ports (and_parts (nat_lt p h.ports) _ may).0)
+-- the data of the ports before the answer
+pub answer-holders : (h : Header) (past : Trace) (l p resp : ℕ) (st : LineState) (t : Target) (x : LineRecord) → IsRecordStep h past l (Cr p resp st) t x
+    → IsHoldersStep h past l (Cr p resp st) t None x.holders.items
+answer-holders h past l p resp st t x s = record { step = s.step; room = s.room; whole = λ q port. refl; stand = s.stands.holders }
 
--- what its answer leaves of one holder, it leaves of all
+-- what its answer leaves of the data of one port, it leaves of all
 pub answered-holders : (h : Header) (past : Trace) (l p resp : ℕ) (st : LineState) (t : Target) (x : LineRecord) (old new : Holder) → IsRecordStep h past l (Cr p resp st) t x
     → slice_get x.holders.items p ≡ Some old → p < length x.holders.items
-    → (IsHolderStep h past p l (Cr p resp st) t None old → HolderStands h (Cr p resp st ∷ past) p l new)
-    → HoldersStand h (Cr p resp st ∷ past) l (slice_set x.holders.items p new)
+    → (IsHolderStep h past p l (Cr p resp st) t None old → HolderStands (Cr p resp st ∷ past) p l new)
+    → HoldersStand (Cr p resp st ∷ past) l (slice_set x.holders.items p new)
 answered-holders h past l p resp st t x old new s at low hears =
-    let all : IsHoldersStep h past l (Cr p resp st) t None x.holders.items = record { step = s.step; room = s.room; whole = λ q port. refl; stand = s.stands.holders } in
+    let all = answer-holders h past l p resp st t x s in
     holders-hear h past l (Cr p resp st) t None x.holders.items p new all refl low (hears (holder-step h past l (Cr p resp st) t None x.holders.items p old all refl at))

@@ -77,7 +77,8 @@ earlier-still s r p last word earlier st fine = record {
           used = kept.used;
           memory = record { memory = kept.memory.memory };
           grant = earlier-granted r.header r.past p last word l (record_of s l).grant st.ports.most_ports accepted on earlier kept.grant;
-          holders = record { state = kept.holders.state; copy = kept.holders.copy; sent = kept.holders.sent };
+          states = record { state = kept.states.state };
+          holders = record { copy = kept.holders.copy; sent = kept.holders.sent };
         }
 
     by : (l : ℕ) (o : Option ℕ) → line_in r.header r.past (Cd p last word) ≡ o → LineStands r.header (Cd p last word ∷ r.past) l (record_of s l)
@@ -107,5 +108,6 @@ sent_record h past l p last word x g s grant = record {
   used = s.used;
   memory = record { memory = s.memory.memory };
   grant = grant;
-  holders = record { state = s.holders.state; copy = s.holders.copy; sent = s.holders.sent };
+  states = record { state = s.states.state };
+  holders = record { copy = s.holders.copy; sent = s.holders.sent };
 }

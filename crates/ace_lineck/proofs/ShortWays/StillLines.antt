@@ -36,19 +36,22 @@ line-still h past (W p strb last word) l x still a s = record {
   used = s.used;
   memory = record { memory = s.memory.memory };
   grant = grant-still h past (W p strb last word) l x.grant still a s.grant;
-  holders = record { state = s.holders.state; copy = s.holders.copy; sent = s.holders.sent };
+  states = record { state = s.states.state };
+  holders = record { copy = s.holders.copy; sent = s.holders.sent };
 }
 line-still h past (L p addr w b word) l x still a s = record {
   used = s.used;
   memory = record { memory = s.memory.memory };
   grant = grant-still h past (L p addr w b word) l x.grant still a s.grant;
-  holders = record { state = s.holders.state; copy = s.holders.copy; sent = s.holders.sent };
+  states = record { state = s.states.state };
+  holders = record { copy = s.holders.copy; sent = s.holders.sent };
 }
 line-still h past (Op p k res) l x still a s = record {
   used = s.used;
   memory = record { memory = s.memory.memory };
   grant = grant-still h past (Op p k res) l x.grant still a s.grant;
-  holders = record { state = s.holders.state; copy = s.holders.copy; sent = s.holders.sent };
+  states = record { state = s.states.state };
+  holders = record { copy = s.holders.copy; sent = s.holders.sent };
 }
 line-still h past e l x still a s = cc
 

@@ -67,7 +67,8 @@ ace_response-still s r p i resp ace st fine = record {
         used = kept.used;
         memory = record { memory = kept.memory.memory };
         grant = grant-still r.header r.past p i resp l (record_of s l).grant ace (st.accepted, fine) kept.grant;
-        holders = record { state = kept.holders.state; copy = kept.holders.copy; sent = kept.holders.sent };
+        states = record { state = kept.states.state };
+        holders = record { copy = kept.holders.copy; sent = kept.holders.sent };
       };
   holders = st.holders;
   known = st.known;
@@ -123,5 +124,6 @@ answered_record h past l p i resp x g s grant = record {
   used = s.used;
   memory = record { memory = s.memory.memory };
   grant = grant;
-  holders = record { state = s.holders.state; copy = s.holders.copy; sent = s.holders.sent };
+  states = record { state = s.states.state };
+  holders = record { copy = s.holders.copy; sent = s.holders.sent };
 }

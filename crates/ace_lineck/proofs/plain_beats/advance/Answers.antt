@@ -15,6 +15,7 @@ returns-clause-stands c past l i resp word t s at kind =
       memory = record { memory = s.stands.memory.memory };
       grant = c.serve.ensures h past l p i resp word c.args.last t xs
           (record { step = s.step; grant = s.stands.grant; holders = s.stands.holders; memory = s.stands.memory }) c.ends_read-over.ensures;
+      states = record { state = s.stands.states.state };
       holders = c.receive.ensures.stand h past l i resp word c.args.last t (record {
         step = s.step;
         room = s.room;

@@ -14,5 +14,6 @@ returns-clause-stands c h past l p ch i t s at =
       memory = m-hears h past p ch i line l s.step.accepted on;
       grant = c.hear.ensures h past l p ch i line t c.args.kept.now.holders.items c.args.kept.now.memory
           (record { step = s.step; grant = s.stands.grant; holders = s.stands.holders; memory = s.stands.memory }) at;
-      holders = record { state = s.stands.holders.state; copy = s.stands.holders.copy; sent = s.stands.holders.sent };
+      states = record { state = s.stands.states.state };
+      holders = record { copy = s.stands.holders.copy; sent = s.stands.holders.sent };
     }

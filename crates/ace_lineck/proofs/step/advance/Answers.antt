@@ -9,10 +9,11 @@ returns-then-was_unknown-clause-stands c past l s = record {
   grant = c.hear.ensures past l (record {
     step = s.step;
     grant = s.stands.grant;
-    holders = subst (HoldersStand c.args.header.now past l) (sym c.deref.ensures.value) s.stands.holders;
+    holders = subst (HoldersStand past l) (sym c.deref.ensures.value) s.stands.holders;
     memory = s.stands.memory;
   });
-  holders = c.hear_holders.ensures.stand c.args.header.now past l (record {
+  states = c.hear_states.ensures c.args.header.now past l (record { step = s.step; stand = s.stands.states });
+  holders = c.hear_holders.ensures.stand c.args.header.now past l c.args.target.now (record {
     step = s.step;
     room = s.room;
     whole = λ p port. c.received-whole.ensures c.args.header.now past l p s port;
@@ -27,10 +28,11 @@ returns-else-was_unknown-clause-stands c past l s = record {
   grant = c.hear.ensures past l (record {
     step = s.step;
     grant = s.stands.grant;
-    holders = subst (HoldersStand c.args.header.now past l) (sym c.deref.ensures.value) s.stands.holders;
+    holders = subst (HoldersStand past l) (sym c.deref.ensures.value) s.stands.holders;
     memory = s.stands.memory;
   });
-  holders = c.hear_holders.ensures.stand c.args.header.now past l (record {
+  states = c.hear_states.ensures c.args.header.now past l (record { step = s.step; stand = s.stands.states });
+  holders = c.hear_holders.ensures.stand c.args.header.now past l c.args.target.now (record {
     step = s.step;
     room = s.room;
     whole = λ p port. c.received-whole.ensures c.args.header.now past l p s port;

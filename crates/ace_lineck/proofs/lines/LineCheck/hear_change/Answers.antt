@@ -5,6 +5,7 @@ use Rattle.ace_portck.specs.Targets.{target_of}
 use Rattle.ace_lineck.specs.Records.{LineStands}
 use Rattle.ace_lineck.specs.Uses.{is_unknown}
 use Rattle.ace_lineck.proofs.AllLines.{unplaced, placed, line-step, applied-else}
+use Rattle.ace_lineck.proofs.StateSteps.{changed-states}
 use Rattle.ace_lineck.proofs.Places.{get-at, place-taken, written-here, written-there}
 use Rattle.ace_lineck.proofs.ShortWays.PlainGrants.{none-known}
 use Rattle.ace_lineck.proofs.ShortWays.PlainSilentChanges.{grant-changed, may-hear_change}
@@ -36,12 +37,13 @@ returns c r s at fine few =
     let unique = c.get_index_mut.ensures.unique in
     let here : get nat_eq self.lines on.0 ≡ Some was = get-at self on.0 n on.2 ∙ value in
     let step = line-step self r e t c.args.place m on.0 on.1 was here in
-    let holders = c.move_to.ensures.moved r.header r.past on.0 a.addr t (record { step = step.step; room = step.room; whole = λ p port. refl; stand = step.stands.holders }) in
-    let new : LineStands r.header (e ∷ r.past) on.0 (record was { holders = c.move_to.new.holders }) = record {
+    let states = changed-states r.header r.past on.0 t was.states c.set_state.new.states a.port a.addr a.st c.set_state.ensures (record { step = step.step; stand = step.stands.states }) in
+    let new : LineStands r.header (e ∷ r.past) on.0 (record was { states = c.set_state.new.states }) = record {
       used = step.stands.used;
       memory = record { memory = step.stands.memory.memory };
       grant = grant-changed r.header r.past a.port a.addr a.st on.0 was.grant step.step.accepted step.stands.grant;
-      holders = holders;
+      states = states;
+      holders = record { copy = step.stands.holders.copy; sent = step.stands.holders.sent };
     } in
-    applied-else self _ r e t c.args.place m on.0 on.1 was (record was { holders = c.move_to.new.holders }) step new c.move_to.ensures.room (none-known (is_unknown was.used))
+    applied-else self _ r e t c.args.place m on.0 on.1 was (record was { states = c.set_state.new.states }) step new refl (none-known (is_unknown was.used))
     (record { header = refl; empty = refl; here = written-here self on.0 n on.2 unique was _ value; others = written-there self on.0 n on.2 unique was _ value }) refl s.spare

@@ -36,13 +36,14 @@ returns c = λ r s at own fine few.
     let unique = c.get_index_mut.ensures.unique in
     let here : get nat_eq self.lines on.0 ≡ Some was = get-at self on.0 n on.2 ∙ value in
     let step = line-step self r e t c.args.place m on.0 on.1 was here in
-    let kept : LineRecord = record was { holders = c.store_at.new.holders } in
+    let kept : LineRecord = record was { states = c.dirty.new.states; holders = c.store_at.new.holders } in
     let new : LineStands r.header (e ∷ r.past) on.0 kept =
     record {
       used = step.stands.used;
       memory = record { memory = step.stands.memory.memory };
+      states = c.dirty.ensures r.header r.past on.0 t (record { step = step.step; stand = step.stands.states }) own;
       grant = store-granted r.header r.past d.port d.addr d.strobe d.x d.line on.0 was.grant step.step.accepted step.stands.grant;
-      holders = c.store_at.ensures.stand r.header r.past on.0 t (record { step = step.step; room = step.room; whole = λ q port. refl; stand = step.stands.holders }) own;
+      holders = c.store_at.ensures.stand r.header r.past on.0 t (record { step = step.step; room = step.room; whole = λ q port. refl; stand = step.stands.holders });
     } in
     applied-else self _ r e t c.args.place m on.0 on.1 was kept step new c.store_at.ensures.room (stays_known was.used)
     (record { header = refl; empty = refl; here = written-here self on.0 n on.2 unique was kept value; others = written-there self on.0 n on.2 unique was kept value }) refl s.spare

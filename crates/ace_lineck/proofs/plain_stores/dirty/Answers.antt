@@ -1,0 +1,15 @@
+use Rattle.std.proofs.Common.{sym, ◌∙◌}
+use Rattle.ace_lineck.proofs.StateSteps.{dirtied-states, stored-states}
+use Rattle.ace_lineck.proofs.plain_stores.dirty.Goals as goal
+
+pub returns-then-not-own : goal.returns-then-not-own
+returns-then-not-own c h past l t s own =
+    let a = c.args in
+    let d = a.store.now in
+    dirtied-states h past l t a.states.now c.set_state.new.states d.port d.addr d.strobe d.x d.line c.set_state.ensures (sym own ∙ c.if-not-own.true) s
+
+pub returns-else-not-own : goal.returns-else-not-own
+returns-else-not-own c h past l t s own =
+    let a = c.args in
+    let d = a.store.now in
+    stored-states h past l t a.states.now d.port d.addr d.strobe d.x d.line (sym own ∙ c.if-not-own.false) s
