@@ -13,7 +13,7 @@ pub mod MessageAddresses
 pub mod MessageSnoops
 -- Which rules a CR may break.
 pub mod SnoopAnswers
--- What a B of a line write asks and leaves.
+-- Which rules a B may break.
 pub mod WriteEnds
 -- What an RK or WK asks of each share.
 pub mod PlainAcknowledges

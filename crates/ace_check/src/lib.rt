@@ -1,9 +1,10 @@
 //! The checker of a trace, which is fed one event at a time, and the three shares of the rules that it stands on.
 #![tactic(auto)]
 
+mod barrier_responses;
 mod checker;
+mod lineless_beats;
 mod message_addresses;
-mod message_beats;
 mod message_snoops;
 mod plain;
 mod plain_acknowledges;

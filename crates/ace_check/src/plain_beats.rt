@@ -77,6 +77,6 @@ impl PlainKind for event_kinds::R {
         if shares.take_beat(self) {
             return true;
         }
-        shares.take_message_beat(self)
+        shares.take_lineless_beat(self)
     }
 }

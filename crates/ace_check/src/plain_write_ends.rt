@@ -1,4 +1,4 @@
-//! The short way of a B: it answers a line write.
+//! The short ways of a B: it answers a line write, or half of a barrier.
 
 use crate::plain::PlainKind;
 use crate::shares::Shares;
@@ -46,6 +46,9 @@ impl Shares {
 impl PlainKind for event_kinds::B {
     #[inline(always)]
     fn take(&self, shares: &mut Shares) -> bool {
-        shares.take_response(self)
+        if shares.take_response(self) {
+            return true;
+        }
+        shares.take_barrier_response(self)
     }
 }

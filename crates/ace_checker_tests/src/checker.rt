@@ -541,6 +541,104 @@ const GETS_A_HELD_LINE: &[Case] = &[
     ),
 ];
 
+/// The halves of a barrier by port 0, under identifier 1.
+macro_rules! read_half {
+    ($bar:expr) => { ar!(0, 1, 0, 0, 1, $bar, false) };
+}
+
+macro_rules! write_half {
+    ($bar:expr) => { Event::Aw { port: 0, id: 1, addr: 0, snoop: 0, dom: 1, bar: $bar } };
+}
+
+macro_rules! b {
+    ($port:expr, $id:expr, $resp:expr) => { Event::B { port: $port, id: $id, resp: $resp } };
+}
+
+/// The answers to barriers, with nothing before them and after a read that isn't ordered or isn't complete.
+const BARRIERS: &[Case] = &[
+    alone!(
+        TwoAce,
+        [
+            read_half!(1),
+            write_half!(1),
+            r!(0, 1, 0, true),
+            b!(0, 1, 0),
+            rk!(0, I),
+            Event::Wk { port: 0, st: I },
+            write_half!(3),
+            read_half!(3),
+            b!(0, 1, 0),
+            r!(0, 1, 0, true)
+        ],
+        None
+    ),
+    alone!(TwoAce, [read_half!(1), r!(0, 1, 0, true)], Some((2, 34))),
+    alone!(TwoAce, [write_half!(1), b!(0, 1, 0)], Some((2, 34))),
+    alone!(
+        TwoAce,
+        [read_half!(1), write_half!(1), r!(0, 1, 1, true)],
+        Some((3, 21))
+    ),
+    alone!(
+        TwoAce,
+        [read_half!(1), write_half!(1), r!(0, 1, 0, false)],
+        Some((3, 18))
+    ),
+    alone!(
+        TwoAce,
+        [read_half!(1), write_half!(1), b!(0, 1, 1)],
+        Some((3, 26))
+    ),
+    alone!(
+        TwoAce,
+        [
+            read!(0, 0, 64),
+            read_half!(1),
+            write_half!(1),
+            r!(0, 1, 0, true)
+        ],
+        Some((4, 34))
+    ),
+    alone!(
+        TwoAce,
+        [read!(0, 0, 64), read_half!(1), write_half!(1), b!(0, 1, 0)],
+        Some((4, 34))
+    ),
+    alone!(
+        TwoAce,
+        [
+            read!(0, 0, 64),
+            read_half!(1),
+            write_half!(1),
+            g!(0, Read, 0),
+            r!(0, 1, 0, true),
+            b!(0, 1, 0)
+        ],
+        None
+    ),
+    alone!(
+        TwoAce,
+        [
+            read!(0, 0, 64),
+            read_half!(3),
+            write_half!(3),
+            g!(0, Read, 0),
+            b!(0, 1, 0)
+        ],
+        Some((5, 34))
+    ),
+    after_get!(
+        AceAndLite,
+        [
+            read_half!(3),
+            write_half!(3),
+            b!(0, 1, 0),
+            r!(0, 1, 0, true)
+        ],
+        None
+    ),
+];
+
 fn checker_for(alloc: Global, ports: Ports) -> Result<Checker, CheckErr> {
     match ports {
         TwoAce => Checker::new(alloc, TWO_ACE),
@@ -596,6 +694,7 @@ fn first_breaks(rt: HostRuntime) -> Result<(), Fail> {
         LARGE_IDENTIFIERS,
         RECORDS_OF_NOTHING,
         GETS_A_HELD_LINE,
+        BARRIERS,
     ] {
         for (number, case) in cases.iter().enumerate() {
             let (breaks, taken) = answer(rt.alloc(), case)?;

@@ -9,7 +9,7 @@ pub mod PlainGrants
 pub mod PlainMemoryWrites
 -- The transfers of plain reads: what their rules say, and what they leave.
 pub mod BeatLaws
-pub mod MessageBeats
+pub mod LinelessBeats
 pub mod MessageAddresses
 -- The ACs of DVM.
 pub mod MessageSnoops
@@ -23,6 +23,7 @@ pub mod PlainSilentChanges
 pub mod SnoopAnswers
 -- A B of a line write: what it asks of its line, and what it leaves.
 pub mod WriteEnds
+pub mod BarrierResponses
 -- A D: what it asks of its line, and what it leaves.
 pub mod Stores
 -- A CD: what it asks of its line, and what it leaves.

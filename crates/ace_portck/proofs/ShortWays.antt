@@ -4,8 +4,10 @@ pub mod Plain
 pub mod PlainEvents
 pub mod PlainAddresses
 pub mod DvmReads
+pub mod LinelessReads
 pub mod PlainWriteAddresses
 pub mod PlainRetirements
 pub mod PlainSilentChanges
 pub mod WriteEnds
+pub mod BarrierResponses
 pub mod Acknowledges

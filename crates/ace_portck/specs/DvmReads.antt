@@ -1,19 +1,13 @@
 -- The reads of DVM.
-use Rattle.std.specs.Prelude.{ℕ, Bool, not, ◌&&◌, ◌||◌, if◌then◌else◌, Option, Some, None, option_and_then}
+use Rattle.std.specs.Prelude.{ℕ, Bool, not, ◌&&◌, ◌||◌}
 use Rattle.ace_codes.specs.Reads.{ar_kind_of}
 use Rattle.ace_codes.specs.declared.kind.ArKind.{ArKind}
 use Rattle.ace_model.specs.Kinds.{is_dvm_complete, is_dvm_message}
 use Rattle.ace_model.specs.Trace.{is_some_and}
-use Rattle.ace_model.specs.Transactions.{read_kind}
-use Rattle.ace_model.specs.declared.transactions.Transaction.{Transaction}
 
 -- a DVM Message or a DVM Complete
 abbrev pub is_dvm_read : ArKind → Bool
 is_dvm_read k = is_dvm_message k || is_dvm_complete k
-
--- the kind of a DVM read with lock 0
-abbrev pub dvm_read : Transaction → Option ArKind
-dvm_read x = option_and_then (λ k. if is_dvm_read k && not x.lock then Some k else None) (read_kind x)
 
 -- the fields are those of the AR of a DVM read with lock 0
 abbrev pub is_dvm_address : ℕ → ℕ → ℕ → Bool → Bool

@@ -14,6 +14,7 @@ pub mod Stands
 pub mod LineMaps
 pub mod Plain
 pub mod DvmReads
+pub mod LinelessReads
 pub mod PlainWriteAddresses
 pub mod SnoopAnswers
 pub mod WriteEnds

@@ -3,30 +3,10 @@
 ghost use Rattle.std.specs.Prelude.{◌≡◌, ◌&&◌, nat_lt};
 ghost use Rattle.ace_event.specs.declared.header.Header.{Header};
 ghost use Rattle.ace_model.specs.Transactions.{is_ace};
-ghost use Rattle.ace_portck.specs.DvmReads.{dvm_read, is_dvm_read};
 
-use crate::kinds::{is_ace, read_kind};
+use crate::kinds::is_ace;
 use crate::ports::{PortCheck, record_of};
-use ace_codes::ArKind;
 use ace_event::{Channel, Header};
-use ace_model::Transaction;
-
-fn is_dvm_read(kind: ArKind) -> bool
-    ensures { result ≡ is_dvm_read kind }
-{
-    matches!(kind, ArKind::DvmMessage | ArKind::DvmComplete)
-}
-
-/// The kind of a DVM read, a DVM Message or a DVM Complete, with lock 0.
-#[inline(always)]
-pub fn dvm_read(transaction: &Transaction) -> Option<ArKind>
-    ensures { result ≡ dvm_read transaction.now }
-{
-    match read_kind(transaction) {
-        Some(kind) if is_dvm_read(kind) && !transaction.lock => Some(kind),
-        _ => None,
-    }
-}
 
 /// The port is an ACE port of the header: only such a one issues a DVM read (K1 and K2).
 #[inline(always)]

@@ -1,9 +1,11 @@
 //! The rules that look at one port, and what an event belongs to.
 #![tactic(auto)]
 
+mod barrier_responses;
 mod dvm_reads;
 pub mod event_kinds;
 pub mod kinds;
+mod lineless_reads;
 mod message_snoops;
 mod no_memory;
 mod one_port;
@@ -33,8 +35,8 @@ mod targets;
 mod transactions;
 mod write_data;
 
-pub use dvm_reads::dvm_read;
 pub use event_kinds::EventKind;
+pub use lineless_reads::lineless_read;
 pub use no_memory::NoMemory;
 pub use one_port::OnePort;
 pub use pending::issued;

@@ -1,5 +1,5 @@
 -- Whether a barrier half may be answered, where the barriers of its port stand.
-use Rattle.std.proofs.Common.{◌≡◌, ◌⊎◌, ℕ, zero, suc, ◌-◌, ◌<◌, Bool, true, false, not, ◌&&◌, ◌||◌, nat_eq, List, [], ◌∷◌, ◌++◌, length, map, slice_get, Some, None, refl, sym, ap, subst, ◌∙◌, arith, inl, inr}
+use Rattle.std.proofs.Common.{◌≡◌, ◌⊎◌, ℕ, zero, suc, ◌-◌, ◌<◌, Bool, true, false, not, ◌&&◌, ◌||◌, nat_eq, List, [], ◌∷◌, ◌++◌, length, map, slice_get, Option, Some, None, refl, sym, ap, subst, ◌∙◌, arith, inl, inr}
 use Rattle.std.specs.Option.{option_map}
 use Rattle.std.proofs.lemmas.Bool.{cases_Bool, eq-eqb, ne_eqb}
 use Rattle.std.proofs.lemmas.List.{append-nil, length-map}
@@ -13,7 +13,6 @@ use Rattle.ace_model.proofs.Trace.Places.{at_point-last}
 use Rattle.ace_model.proofs.Trace.Looks.{same_channel-self}
 use Rattle.ace_model.proofs.General.Options.{Some-injective}
 use Rattle.ace_model.proofs.General.Lists.{slice_get-at_end, slice_get-grown, slice_get-append, slice_get-all, slice_get-more}
-use Rattle.ace_portck.specs.declared.target.Target.{Target}
 use Rattle.ace_portck.specs.Targets.{first_unordered, first_incomplete, is_ordered_by_barriers}
 use Rattle.ace_sysck.specs.declared.barriers.OpenPair.{OpenPair}
 use Rattle.ace_sysck.specs.declared.barriers.Barrier.{Barrier}
@@ -90,16 +89,16 @@ only y zero z e = (refl, Some-injective y z e)
 only y (suc k) z e = cc
 
 -- what is before an open pair has come far enough exactly where the first that hasn't isn't before it
-pub come-is : (past : Trace) (p : ℕ) (o : OpenPair) (t : Target) → t.unordered ≡ first_unordered past p → t.incomplete ≡ first_incomplete past p
-    → may_answer past p (pair_in o) ≡ comes_far_enough o t
-come-is past p o t unordered incomplete =
+pub come-is : (past : Trace) (p : ℕ) (o : OpenPair) (u n : Option ℕ) → u ≡ first_unordered past p → n ≡ first_incomplete past p
+    → may_answer past p (pair_in o) ≡ comes_far_enough o u n
+come-is past p o u n unordered incomplete =
     elim (cases_Bool (nat_eq o.read.bar 3)) [
       | inl sync ↦ rw (sync, incomplete) (each-before past (is_ordered_by_barriers p) (is_completed past) (place_of (pair_in o)))
       | inr other ↦ rw (other, unordered) (each-before past (is_ordered_by_barriers p) (is_ordered past) (place_of (pair_in o)))
     ]
 
-module _ (past : Trace) (x : Transaction) (t : Target) (i : IsIssued past x) (half : is_barrier_half x ≡ true)
-    (unordered : t.unordered ≡ first_unordered past x.port) (incomplete : t.incomplete ≡ first_incomplete past x.port) where
+module _ (past : Trace) (x : Transaction) (u n : Option ℕ) (i : IsIssued past x) (half : is_barrier_half x ≡ true)
+    (unordered : u ≡ first_unordered past x.port) (incomplete : n ≡ first_incomplete past x.port) where
   -- a half of a pair that is done may be answered
   done-may : (b : Barrier) (s : BarrierStands past x.port b) → number_of past x < length s.done → is_some_and (pair_of past x) (may_answer past x.port) ≡ true
   done-may b s low =
@@ -117,10 +116,10 @@ module _ (past : Trace) (x : Transaction) (t : Target) (i : IsIssued past x) (ha
   alone-may b s at none = ap (λ o. is_some_and o (may_answer past x.port)) (ap (λ l. slice_get l (number_of past x)) (none ∙ append-nil s.done) ∙ past_end s.done (number_of past x) (omega arith))
 
   -- where it is a half of the open pair
-  open-may : (o : OpenPair) (s : BarrierStands past x.port (Open o)) → number_of past x ≡ length s.done → is_some_and (pair_of past x) (may_answer past x.port) ≡ comes_far_enough o t
+  open-may : (o : OpenPair) (s : BarrierStands past x.port (Open o)) → number_of past x ≡ length s.done → is_some_and (pair_of past x) (may_answer past x.port) ≡ comes_far_enough o u n
   open-may o s at =
       ap (λ v. is_some_and v (may_answer past x.port)) (ap (λ l. slice_get l (number_of past x)) (pairs-of past x.port (Open o) s) ∙ slice_get-at_end s.done (number_of past x) (pair_in o) at)
-      ∙ come-is past x.port o t unordered incomplete
+      ∙ come-is past x.port o u n unordered incomplete
 
   -- where the half is, of the halves of its channel
   where-is : (b : Barrier) (s : BarrierStands past x.port b) → (number_of past x < length s.done) ⊎ (slice_get (halves_on x.chan b) (number_of past x - length s.done) ≡ Some x)
@@ -131,13 +130,13 @@ module _ (past : Trace) (x : Transaction) (t : Target) (i : IsIssued past x) (ha
         | inr at ↦ inr (ap (λ n. slice_get (halves_on x.chan b) (number_of past x - n)) (sym m) ∙ at)
       ]
 
-  pub answer-is : (b : Barrier) → BarrierStands past x.port b → is_some_and (pair_of past x) (may_answer past x.port) ≡ may_answer_after b t x
+  pub answer-is : (b : Barrier) → BarrierStands past x.port b → is_some_and (pair_of past x) (may_answer past x.port) ≡ may_answer_after b u n x
   answer-is b s = elim (where-is b s) [
     | inl low ↦ done-may b s low ∙ sym (off b s low)
     | inr at ↦ on x.chan refl b s at
   ]
     where
-      off : (b : Barrier) (s : BarrierStands past x.port b) → number_of past x < length s.done → may_answer_after b t x ≡ true
+      off : (b : Barrier) (s : BarrierStands past x.port b) → number_of past x < length s.done → may_answer_after b u n x ≡ true
       off Idle s low = refl
       off (ReadHalf y) s low = rw (apart past x.port (ReadHalf y) s x i refl low Read y refl) refl
       off (WriteHalf y) s low = rw (apart past x.port (WriteHalf y) s x i refl low Write y refl) refl
@@ -154,7 +153,7 @@ module _ (past : Trace) (x : Transaction) (t : Target) (i : IsIssued past x) (ha
       same y one = eq-eqb x.place y.place (ap (λ (z : Transaction). z.place) (sym one))
 
       on : (c : Channel) → x.chan ≡ c → (b : Barrier) (s : BarrierStands past x.port b) → slice_get (halves_on x.chan b) (number_of past x - length s.done) ≡ Some x
-          → is_some_and (pair_of past x) (may_answer past x.port) ≡ may_answer_after b t x
+          → is_some_and (pair_of past x) (may_answer past x.port) ≡ may_answer_after b u n x
       on Read chan Idle s at = let bad : None ≡ Some x = ap (λ c. slice_get (halves_on c Idle) (number_of past x - length s.done)) (sym chan) ∙ at in cc
       on Write chan Idle s at = let bad : None ≡ Some x = ap (λ c. slice_get (halves_on c Idle) (number_of past x - length s.done)) (sym chan) ∙ at in cc
       on Read chan (ReadHalf y) s at =
@@ -170,9 +169,9 @@ module _ (past : Trace) (x : Transaction) (t : Target) (i : IsIssued past x) (ha
           open-may b s (number (Open b) s Read b.read refl o.1) ∙ rw (same b.read o.1) refl
       on Write chan (Open b) s at =
           let o = only b.write (number_of past x - length s.done) x (ap (λ c. slice_get (halves_on c (Open b)) (number_of past x - length s.done)) (sym chan) ∙ at) in
-          open-may b s (number (Open b) s Write b.write refl o.1) ∙ rw (same b.write o.1) (second (nat_eq x.place b.read.place) (comes_far_enough b t))
+          open-may b s (number (Open b) s Write b.write refl o.1) ∙ rw (same b.write o.1) (second (nat_eq x.place b.read.place) (comes_far_enough b u n))
         where
-          second : (u v : Bool) → v ≡ ((not u && false) || v)
+          second : (a v : Bool) → v ≡ ((not a && false) || v)
           second true v = refl
           second false v = refl
 

@@ -263,14 +263,14 @@ module _ (h : Header) (past : Trace) (e : Event) (t : Target) (x : Transaction) 
       barrier_stays past e p b (unissued p) (λ c y is. hit-is y ∙ ne_eqb x.place y.place (λ at. other (same-half past p b s c y x is there at).2)) s
 
   -- the half that is answered might be
-  may-be : (b : Barrier) → BarrierStands past x.port b → is_barrier_half x ≡ true → may_answer_after b t x ≡ true
+  may-be : (b : Barrier) → BarrierStands past x.port b → is_barrier_half x ≡ true → may_answer_after b t.unordered t.incomplete x ≡ true
   may-be b s half =
       let k = is_none_or-at (responding h past e) (may_answer_half past) x (sym (k34-is h past e) ∙ (accepted_keeps h past e d.accepted).rule_34) d.completes.answers in
       let a = awaits-at h past e t x d.own d.completes.answers half in
-      sym (answer-is past x t there half a.unordered a.incomplete b s) ∙ implies-at (is_barrier_half x) _ k half
+      sym (answer-is past x t.unordered t.incomplete there half a.unordered a.incomplete b s) ∙ implies-at (is_barrier_half x) _ k half
 
   -- a half alone isn't answered
-  alone : (b : Barrier) (s : BarrierStands past x.port b) (c : Channel) (y : Transaction) → halves_on c b ≡ y ∷ [] → may_answer_after b t x ≡ not (nat_eq x.place y.place)
+  alone : (b : Barrier) (s : BarrierStands past x.port b) (c : Channel) (y : Transaction) → halves_on c b ≡ y ∷ [] → may_answer_after b t.unordered t.incomplete x ≡ not (nat_eq x.place y.place)
       → hits past e y ≡ false
   alone b s c y is may =
       hit-is y ∙ (elim (cases_eq x.place y.place) [
@@ -311,7 +311,7 @@ module _ (h : Header) (past : Trace) (e : Event) (t : Target) (x : Transaction) 
       come : is_barrier_half x ≡ true → ((not (nat_eq x.place o.read.place) && not (nat_eq x.place o.write.place)) ≡ false) → may_answer past x.port (pair_in o) ≡ true
       come half near =
           let a = awaits-at h past e t x d.own d.completes.answers half in
-          come-is past x.port o t a.unordered a.incomplete ∙ (rw near at (may-be (Open o) s half))
+          come-is past x.port o t.unordered t.incomplete a.unordered a.incomplete ∙ (rw near at (may-be (Open o) s half))
 
       may : (nat_eq x.place o.read.place ≡ true) ⊎ (nat_eq x.place o.write.place ≡ true) → may_answer past x.port (pair_in o) ≡ true
       may (inl at) = come (same-half past x.port (Open o) s Read o.read x refl there (eqb-true x.place o.read.place at)).1 (rw at refl)

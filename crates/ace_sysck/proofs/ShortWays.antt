@@ -2,7 +2,7 @@
 pub mod PlainGrants
 -- What an answer to a plain transaction leaves, and the rules that look at it.
 pub mod PlainAnswers
-pub mod MessageBeats
+pub mod BarrierResponses
 pub mod SnoopLaws
 -- What an AC of DVM asks and leaves.
 pub mod MessageSnoops

@@ -205,3 +205,19 @@ system_still s r e nothing st fine few =
       inboxes = inboxes_still r s.inboxes e t step n.0.inboxes st.inboxes;
       syncs = syncs_still r s.syncs e t step n.0.syncs st.syncs;
     }
+
+-- an R or B moves the barriers and the messages at most
+pub system_responded : (s : SysCheck) (b : Barriers) (n : Messages) (r : Recording) (e : Event) (t : Target) → Stands s r → IsStep r e t → is_response e ≡ true
+    → BarriersStand (after r e) b → MessagesStand (after r e) n → Stands (record s { barriers = b; messages = n }) (after r e)
+system_responded s b n r e t st step is barriers messages = record {
+  header = st.header;
+  ports = st.ports;
+  accepted = step.accepted;
+  barriers = barriers;
+  monitors = monitors_still r s.monitors e (by_response moves_monitors (λ p i resp last word. refl) (λ p i resp. refl) e is) st.monitors;
+  results = results_still r s.results e (by_response moves_results (λ p i resp last word. refl) (λ p i resp. refl) e is) st.results;
+  registrations = registrations_still r s.registrations e t step (by_response moves_registrations (λ p i resp last word. refl) (λ p i resp. refl) e is) st.registrations;
+  messages = messages;
+  inboxes = inboxes_still r s.inboxes e t step (by_response moves_inboxes (λ p i resp last word. refl) (λ p i resp. refl) e is) st.inboxes;
+  syncs = syncs_still r s.syncs e t step (by_response moves_syncs (λ p i resp last word. refl) (λ p i resp. refl) e is) st.syncs;
+}

@@ -132,18 +132,17 @@ abbrev pub is_awaited_by : ℕ → Option ℕ → Bool
 is_awaited_by place None = true
 is_awaited_by place (Some first) = nat_le place first
 
--- what is before the pair has come far enough, by the first transactions of the target that have not
-abbrev pub comes_far_enough : OpenPair → Target → Bool
-comes_far_enough b t =
-    if b.read.bar == 3 then is_awaited_by (max b.read.place b.write.place) t.incomplete
-    else is_awaited_by (max b.read.place b.write.place) t.unordered
+-- what is before the pair has come far enough, by the first transaction without its order point and the first that isn't complete
+abbrev pub comes_far_enough : OpenPair → Option ℕ → Option ℕ → Bool
+comes_far_enough b unordered incomplete =
+    is_awaited_by (max b.read.place b.write.place) (if b.read.bar == 3 then incomplete else unordered)
 
 -- the half may be answered
-abbrev pub may_answer_after : Barrier → Target → Transaction → Bool
-may_answer_after Idle t x = true
-may_answer_after (ReadHalf y) t x = not (x.place == y.place)
-may_answer_after (WriteHalf y) t x = not (x.place == y.place)
-may_answer_after (Open b) t x = (not (x.place == b.read.place) && not (x.place == b.write.place)) || comes_far_enough b t
+abbrev pub may_answer_after : Barrier → Option ℕ → Option ℕ → Transaction → Bool
+may_answer_after Idle u n x = true
+may_answer_after (ReadHalf y) u n x = not (x.place == y.place)
+may_answer_after (WriteHalf y) u n x = not (x.place == y.place)
+may_answer_after (Open b) u n x = (not (x.place == b.read.place) && not (x.place == b.write.place)) || comes_far_enough b u n
 
 -- no pair that isn't complete is before the transaction, where barriers order it
 abbrev pub is_past : Barrier → Transaction → Bool

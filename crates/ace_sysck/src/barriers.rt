@@ -126,19 +126,25 @@ fn is_awaited_by(place: usize, awaited: Option<usize>) -> bool
 }
 
 /// What is before the pair has come far enough: to its order point, or for a synchronisation barrier to its end.
-fn comes_far_enough(pair: &OpenPair, target: &Target) -> bool
-    ensures { result ≡ comes_far_enough pair.now target.now }
+fn comes_far_enough(pair: &OpenPair, unordered: Option<usize>, incomplete: Option<usize>) -> bool
+    ensures { result ≡ comes_far_enough pair.now unordered incomplete }
 {
-    if pair.read.bar == 3 {
-        is_awaited_by(place_of(pair), target.incomplete)
+    let first = if pair.read.bar == 3 {
+        incomplete
     } else {
-        is_awaited_by(place_of(pair), target.unordered)
-    }
+        unordered
+    };
+    is_awaited_by(place_of(pair), first)
 }
 
 /// The half may be answered: it is of a complete pair, or of one before which everything has come far enough.
-fn may_answer_after(barrier: &Barrier, target: &Target, x: &Transaction) -> bool
-    ensures { result ≡ may_answer_after barrier.now target.now x.now }
+fn may_answer_after(
+    barrier: &Barrier,
+    unordered: Option<usize>,
+    incomplete: Option<usize>,
+    x: &Transaction,
+) -> bool
+    ensures { result ≡ may_answer_after barrier.now unordered incomplete x.now }
 {
     match barrier {
         Barrier::Idle => true,
@@ -146,7 +152,7 @@ fn may_answer_after(barrier: &Barrier, target: &Target, x: &Transaction) -> bool
         Barrier::WriteHalf(y) => x.place != y.place,
         Barrier::Open(pair) => {
             (x.place != pair.read.place && x.place != pair.write.place)
-                || comes_far_enough(pair, target)
+                || comes_far_enough(pair, unordered, incomplete)
         }
     }
 }
@@ -217,7 +223,7 @@ impl Barriers {
     }
 
     /// The port's transaction at the place is complete. Only an open pair is moved by that.
-    fn answer(&mut self, port: u8, place: usize)
+    pub(crate) fn answer(&mut self, port: u8, place: usize)
         ensures { self.new.ports.items ≡ slice_set self.old.ports.items port (answered (slice_index_or self.old.ports.items port Idle) place) }
     {
         let p = port as usize;
@@ -237,6 +243,22 @@ impl Barriers {
         !is_barrier_half(x) || (x.addr == 0 && begins_after(&self.barrier_of(x.port), x))
     }
 
+    /// The transaction may be answered, as far as the barriers of its port tell. `unordered` is the place of the port's first transaction
+    /// without its order point, and `incomplete` that of the first that isn't complete.
+    pub(crate) fn may_answer(
+        &self,
+        x: &Transaction,
+        unordered: Option<usize>,
+        incomplete: Option<usize>,
+    ) -> bool
+        ensures { result ≡ may_answer_after (slice_index_or self.now.ports.items x.now.port Idle) unordered incomplete x.now }
+    {
+        match self.ports.get(usize::from(x.port)) {
+            None => true,
+            Some(barrier) => may_answer_after(barrier, unordered, incomplete, x),
+        }
+    }
+
     /// K34: a barrier is answered once both halves were issued and what is before it has come far enough.
     #[inline(always)]
     pub fn keeps_k34(&self, event: &Event, target: &Target) -> bool
@@ -245,7 +267,7 @@ impl Barriers {
         match responded_in(event, target) {
             None => true,
             Some(x) => {
-                !is_barrier_half(&x) || may_answer_after(&self.barrier_of(x.port), target, &x)
+                !is_barrier_half(&x) || self.may_answer(&x, target.unordered, target.incomplete)
             }
         }
     }

@@ -1,12 +1,13 @@
 //! The rules that look at the system as a whole: barriers, DVM messages and exclusive transactions.
 #![tactic(auto)]
 
+mod barrier_responses;
 mod barriers;
 mod events;
 mod inboxes;
 mod kinds;
+mod lineless_beats;
 mod message_addresses;
-mod message_beats;
 mod message_snoops;
 mod messages;
 mod monitors;

@@ -9,18 +9,18 @@ use Rattle.ace_event.specs.declared.event.Event.TheVariants.{R}
 use Rattle.ace_event.specs.declared.header.Header.{Header}
 use Rattle.ace_model.specs.Accepted.{least_broken, least_of}
 use Rattle.ace_model.specs.AddressRules.{k1}
-use Rattle.ace_model.specs.Kinds.{beats_of}
+use Rattle.ace_model.specs.Kinds.{beats_of, is_line_read}
 use Rattle.ace_model.specs.Shares.{lesser, port_rules, line_rules, system_rules}
 use Rattle.ace_model.specs.Trace.{Trace}
 use Rattle.ace_model.specs.Transactions.{outstanding}
 use Rattle.ace_model.proofs.Rules.Shares.{least_of_shares}
 use Rattle.ace_tables.specs.Answers.{same_test}
-use Rattle.ace_portck.specs.DvmReads.{dvm_read, is_dvm_read}
+use Rattle.ace_portck.specs.LinelessReads.{lineless_read}
 use Rattle.ace_portck.specs.Plain.{is_next_beat, plain_read}
 use Rattle.ace_portck.specs.Stands as ports
 use Rattle.ace_portck.specs.Targets.{progress_of}
 use Rattle.ace_portck.specs.declared.target.Progress.{Progress}
-use Rattle.ace_portck.proofs.ShortWays.DvmReads.{dvm_read-is}
+use Rattle.ace_portck.proofs.ShortWays.LinelessReads.{lineless_read-is}
 use Rattle.ace_portck.proofs.ShortWays.Plain.{beat_rules}
 use Rattle.ace_lineck.specs.Stands as lines
 use Rattle.ace_sysck.proofs.ShortWays.PlainAnswers.{system_unmoved_by_beat}
@@ -70,15 +70,16 @@ ports_keep_1 h past e t = by (k1 h past e) refl
     by true k = k
     by false k = let bad : false ≡ true = rw k at t in cc
 
--- a DVM read has one transfer
-one-transfer : (k : ArKind) → is_dvm_read k ≡ true → beats_of k ≡ 1
-one-transfer read.DvmMessage dvm = refl
-one-transfer read.DvmComplete dvm = refl
-one-transfer k dvm = cc
+-- a read without a line has one transfer
+one-transfer : (k : ArKind) → is_line_read k ≡ false → beats_of k ≡ 1
+one-transfer read.Barrier lineless = refl
+one-transfer read.DvmMessage lineless = refl
+one-transfer read.DvmComplete lineless = refl
+one-transfer k lineless = cc
 
-only-transfer : (n : ℕ) (last : Bool) (k : ArKind) → is_dvm_read k ≡ true → is_next_beat n last k ≡ true → (n ≡ 0) × (last ≡ true)
-only-transfer n last k dvm t =
-    let one = one-transfer k dvm in
+only-transfer : (n : ℕ) (last : Bool) (k : ArKind) → is_line_read k ≡ false → is_next_beat n last k ≡ true → (n ≡ 0) × (last ≡ true)
+only-transfer n last k lineless t =
+    let one = one-transfer k lineless in
     let parts = and_parts (nat_lt n (beats_of k)) (same_test last (n + 1 == beats_of k)) t in
     let low : n < 1 = ltb-true n 1 (subst (λ b. nat_lt n b ≡ true) one parts.0) in
     let first : n ≡ 0 = omega (arith, low) in
@@ -89,13 +90,13 @@ only-transfer n last k dvm t =
     by true s = refl
     by false s = cc
 
--- where the ports say nothing to an R of a DVM read, it is the first and the last
-pub message_beat-only : (h : Header) (past : Trace) (p id resp : ℕ) (last : Bool) (word : ℕ) (x : Progress) (k : ArKind)
-    → option_map (progress_of h past) (outstanding h past p Read id) ≡ Some x → dvm_read x.transaction ≡ Some k
+-- where the ports say nothing to an R of a read without a line, it is the first and the last
+pub lineless_beat-only : (h : Header) (past : Trace) (p id resp : ℕ) (last : Bool) (word : ℕ) (x : Progress) (k : ArKind)
+    → option_map (progress_of h past) (outstanding h past p Read id) ≡ Some x → lineless_read x.transaction ≡ Some k
     → is_none (least_of port_rules h past (R p id resp last word)) ≡ true → (x.transfers ≡ 0) × (last ≡ true)
-message_beat-only h past p id resp last word x k out own t =
-    let d = dvm_read-is x.transaction k own in
-    only-transfer x.transfers last k d.dvm (and_parts _ (is_next_beat x.transfers last k) (sym (beat_rules h past p id resp last word x k out d.kind) ∙ t)).1
+lineless_beat-only h past p id resp last word x k out own t =
+    let d = lineless_read-is x.transaction k own in
+    only-transfer x.transfers last k d.lineless (and_parts _ (is_next_beat x.transfers last k) (sym (beat_rules h past p id resp last word x k out d.kind) ∙ t)).1
 
 pub none-is : {A : Type 0} → (o : Option A) → is_none o ≡ true → o ≡ None
 none-is None t = refl

@@ -1,5 +1,5 @@
 -- What a DVM read is, and which rules about one port look at its AR.
-use Rattle.std.proofs.Common.{◌≡◌, ℕ, Bool, true, false, not, ◌&&◌, nat_lt, if◌then◌else◌, Option, Some, None, is_none, option_and_then, refl, ap, subst}
+use Rattle.std.proofs.Common.{◌≡◌, ℕ, Bool, true, false, not, ◌&&◌, nat_lt, Some, None, is_none, refl, subst}
 use Rattle.std.proofs.lemmas.Bool.{and_parts, not-true}
 use Rattle.ace_codes.specs.declared.kind.ArKind.{ArKind}
 use Rattle.ace_codes.specs.declared.kind.ArKind.TheVariants as read
@@ -15,8 +15,7 @@ use Rattle.ace_model.specs.Trace.{Trace, is_some_and}
 use Rattle.ace_model.specs.Transactions.{is_ace, is_line, is_read, outstanding, read_kind, write_kind}
 use Rattle.ace_model.specs.declared.transactions.Transaction.{Transaction}
 use Rattle.ace_model.proofs.General.Options.{is_some_and-is}
-use Rattle.ace_portck.specs.DvmReads.{dvm_read, is_completion, is_dvm_address, is_dvm_read, is_message}
-use Rattle.ace_portck.proofs.ShortWays.Plain.{from_test, on_reads}
+use Rattle.ace_portck.specs.DvmReads.{is_completion, is_dvm_address, is_dvm_read, is_message}
 use Rattle.ace_portck.proofs.ShortWays.PlainAddresses.{read_of}
 
 -- The transaction is a DVM read of the kind, with lock 0.
@@ -25,18 +24,6 @@ pub record IsDvmRead (x : Transaction) (k : ArKind) : Type 0 where
   pub kind : read_kind x ≡ Some k
   pub dvm : is_dvm_read k ≡ true
   pub unlocked : x.lock ≡ false
-
-from_dvm : (o : Option ArKind) (lock : Bool) (k : ArKind) → option_and_then (λ j. if is_dvm_read j && not lock then Some j else None) o ≡ Some k
-    → (o ≡ Some k) × (is_dvm_read k ≡ true) × (lock ≡ false)
-from_dvm None lock k is = cc
-from_dvm (Some j) lock k is =
-    let t = from_test (is_dvm_read j) lock j k is in
-    (ap Some t.2, subst (λ v. is_dvm_read v ≡ true) t.2 t.0, t.1)
-
-pub dvm_read-is : (x : Transaction) (k : ArKind) → dvm_read x ≡ Some k → IsDvmRead x k
-dvm_read-is x k is =
-    let t = from_dvm (read_kind x) x.lock k is in
-    record { chan = on_reads (is_read x.chan) (ar_kind_of x.snoop x.dom x.bar) k t.0; kind = t.0; dvm = t.1; unlocked = t.2 }
 
 dvm_read-writes_none : (x : Transaction) (k : ArKind) → IsDvmRead x k → write_kind x ≡ None
 dvm_read-writes_none x k d = rw d.chan refl

@@ -34,7 +34,7 @@ use Rattle.ace_sysck.specs.Steps.{IsStep}
 use Rattle.ace_sysck.proofs.BarrierSteps.{answers-unissued, barrier_stays, hits, same-half}
 use Rattle.ace_sysck.proofs.EventLaws.{responding, responds-at}
 use Rattle.ace_sysck.proofs.MessageSteps.{answers-no_ac, stays}
-use Rattle.ace_sysck.proofs.Unmoved.{moves_monitors, moves_results, moves_registrations, moves_inboxes, moves_syncs, monitors_still, results_still, registrations_still, inboxes_still, syncs_still, by_response}
+use Rattle.ace_sysck.proofs.Unmoved.{system_responded}
 
 -- it completes no transaction that was issued elsewhere
 misses : (h : Header) (past : Trace) (e : Event) (x y : Transaction) → responding h past e ≡ Some x → (x.place ≡ y.place → ⊥) → hits past e y ≡ false
@@ -86,18 +86,7 @@ system_unanswered s r e x k kept few answers no_half no_message =
     let is = answers-response r.header r.past e x answers in
     let t = target_of r.header r.past e in
     let step : IsStep r e t = record { header = k.ports; accepted = (k.accepted, kept); target = refl; few = few } in
-    record {
-      header = k.header;
-      ports = k.ports;
-      accepted = step.accepted;
-      barriers = barriers_unanswered r s.barriers e x answers no_half k.barriers;
-      monitors = monitors_still r s.monitors e (by_response moves_monitors (λ p i resp last word. refl) (λ p i resp. refl) e is) k.monitors;
-      results = results_still r s.results e (by_response moves_results (λ p i resp last word. refl) (λ p i resp. refl) e is) k.results;
-      registrations = registrations_still r s.registrations e t step (by_response moves_registrations (λ p i resp last word. refl) (λ p i resp. refl) e is) k.registrations;
-      messages = messages_unanswered r s.messages e x answers no_message k.messages;
-      inboxes = inboxes_still r s.inboxes e t step (by_response moves_inboxes (λ p i resp last word. refl) (λ p i resp. refl) e is) k.inboxes;
-      syncs = syncs_still r s.syncs e t step (by_response moves_syncs (λ p i resp last word. refl) (λ p i resp. refl) e is) k.syncs;
-    }
+    system_responded s s.barriers s.messages r e t k step is (barriers_unanswered r s.barriers e x answers no_half k.barriers) (messages_unanswered r s.messages e x answers no_message k.messages)
 
 -- an R of a plain read leaves all of it
 pub system_unmoved_by_beat : (s : SysCheck) (r : Recording) (p id resp : ℕ) (last : Bool) (word : ℕ) (x : Transaction) (k : ArKind) → Stands s r

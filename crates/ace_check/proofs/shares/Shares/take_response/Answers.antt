@@ -4,7 +4,7 @@ use Rattle.ace_event.specs.declared.event.Channel.TheVariants.{Write}
 use Rattle.ace_model.specs.Transactions.{outstanding}
 use Rattle.ace_portck.specs.Targets.{Recording, progress_of}
 use Rattle.ace_portck.specs.WriteEnds.{line_write}
-use Rattle.ace_sysck.proofs.ShortWays.PlainAnswers.{system_unmoved_by_response}
+use Rattle.ace_sysck.proofs.ShortWays.PlainAnswers.{response_rules, system_unmoved_by_response}
 use Rattle.ace_sysck.proofs.Steps.{progress_from}
 use Rattle.ace_check.proofs.ShortWays.WriteEnds.{keeps-response}
 use Rattle.ace_check.proofs.shares.Shares.take_response.Goals as goal
@@ -20,7 +20,7 @@ returns-clause-taken c = λ h past s few taken.
     let line : line_write x.transaction ≡ Some k = sym c.line_write.ensures ∙ c.in-Some-line_write.is in
     let ports = sym (c.keeps_response.ensures r b.id s.ports served) ∙ c.if-not-keeps_response.false in
     let lines = sym (c.keeps_written_response.ensures r b.port b.id b.resp served line) ∙ c.if-not-keeps_written_response.false in
-    let fine = keeps-response h past b.port b.id b.resp x.transaction k out line ports lines in (
+    let fine = keeps-response h past b.port b.id b.resp ports lines (response_rules h past b.port b.id b.resp x.transaction k out line) in (
       fine,
       record {
         ports = c.apply.ensures.stands r (record { stands = s.ports; room = λ p kept own at. tt; keeps = fine; few = few });

@@ -20,6 +20,6 @@ returns-else-not-is_barrier_half c = λ r q.
     let half : is_barrier_half x ≡ true = sym c.is_barrier_half.ensures ∙ c.if-not-is_barrier_half.false in
     let responds : responding h past e ≡ Some x = sym (responded-is h past e t q.asked.target) ∙ sym c.responded_in.ensures ∙ c.in-Some.is in
     let a = awaits-at h past e t x q.asked.target responds half in
-    let is = answer-is past x t (responds-at h past e x responds).there half a.unordered a.incomplete b (q.stands.ports x.port) in
-    let may : may_answer_half past x ≡ may_answer_after b t x = ap (λ v. implies v (is_some_and (pair_of past x) (may_answer past x.port))) half ∙ is in
-    c.may_answer_after.ensures ∙ ap (λ v. may_answer_after v t x) c.barrier_of.ensures ∙ sym may ∙ sym (ap (λ o. is_none_or o (may_answer_half past)) responds) ∙ sym (k34-is h past e)
+    let is = answer-is past x t.unordered t.incomplete (responds-at h past e x responds).there half a.unordered a.incomplete b (q.stands.ports x.port) in
+    let may : may_answer_half past x ≡ may_answer_after b t.unordered t.incomplete x = ap (λ v. implies v (is_some_and (pair_of past x) (may_answer past x.port))) half ∙ is in
+    c.may_answer.ensures ∙ sym may ∙ sym (ap (λ o. is_none_or o (may_answer_half past)) responds) ∙ sym (k34-is h past e)
