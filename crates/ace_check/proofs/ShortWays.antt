@@ -9,6 +9,8 @@ pub mod PlainWriteAddresses
 pub mod PlainSteps
 -- The ARs of DVM Completes.
 pub mod MessageAddresses
+-- The AR or AW that issues half of a barrier.
+pub mod BarrierAddresses
 -- The ACs of DVM.
 pub mod MessageSnoops
 -- Which rules a CR may break.

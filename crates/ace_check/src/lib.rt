@@ -1,6 +1,7 @@
 //! The checker of a trace, which is fed one event at a time, and the three shares of the rules that it stands on.
 #![tactic(auto)]
 
+mod barrier_addresses;
 mod barrier_responses;
 mod checker;
 mod lineless_beats;

@@ -1,4 +1,4 @@
-//! The short ways of an AR: it issues a line read on a line that is known, or a DVM read with lock 0.
+//! The short ways of an AR: it issues a line read on a line that is known, a DVM read with lock 0, or half of a barrier.
 
 use crate::plain::PlainKind;
 use crate::shares::Shares;
@@ -53,7 +53,7 @@ impl PlainKind for event_kinds::Ar {
             Some(kind) if is_line_read(kind) => shares.take_read_address(self, kind),
             Some(ArKind::DvmMessage) if !self.lock => shares.take_message(self),
             Some(ArKind::DvmComplete) if !self.lock => shares.take_completion(self),
-            _ => false,
+            _ => shares.take_barrier(self),
         }
     }
 }

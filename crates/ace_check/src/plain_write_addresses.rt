@@ -1,4 +1,4 @@
-//! The short way of an AW: it issues a line write on a line that is known.
+//! The short way of an AW: it issues a line write on a line that is known, or half of a barrier.
 
 use crate::plain::PlainKind;
 use crate::shares::Shares;
@@ -44,6 +44,9 @@ impl Shares {
 impl PlainKind for event_kinds::Aw {
     #[inline(always)]
     fn take(&self, shares: &mut Shares) -> bool {
-        shares.take_write_address(self)
+        if shares.take_write_address(self) {
+            return true;
+        }
+        shares.take_barrier(self)
     }
 }

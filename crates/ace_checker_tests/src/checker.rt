@@ -52,6 +52,12 @@ macro_rules! ar {
     };
 }
 
+macro_rules! aw {
+    ($port:expr, $id:expr, $addr:expr, $snoop:expr, $dom:expr, $bar:expr) => {
+        Event::Aw { port: $port, id: $id, addr: $addr, snoop: $snoop, dom: $dom, bar: $bar }
+    };
+}
+
 /// The AR of a ReadUnique.
 macro_rules! read {
     ($port:expr, $id:expr, $addr:expr) => { ar!($port, $id, $addr, 7, 1, 0, false) };
@@ -541,21 +547,71 @@ const GETS_A_HELD_LINE: &[Case] = &[
     ),
 ];
 
+macro_rules! b {
+    ($port:expr, $id:expr, $resp:expr) => { Event::B { port: $port, id: $id, resp: $resp } };
+}
+
+/// Halves of barriers: a pair that completes before the next begins, one of an ACE-Lite port, and what breaks a rule.
+const BARRIER_ADDRESSES: &[Case] = &[
+    alone!(
+        TwoAce,
+        [
+            ar!(0, 0, 0, 0, 1, 1, false),
+            aw!(0, 0, 0, 0, 1, 1),
+            r!(0, 0, 0, true),
+            rk!(0, I),
+            b!(0, 0, 0),
+            Event::Wk { port: 0, st: I },
+            aw!(0, 0, 0, 0, 0, 3),
+            ar!(0, 0, 0, 0, 0, 3, false)
+        ],
+        None
+    ),
+    alone!(
+        AceAndLite,
+        [aw!(1, 0, 0, 0, 1, 1), ar!(1, 0, 0, 0, 1, 1, false)],
+        None
+    ),
+    alone!(TwoAce, [aw!(2, 0, 0, 0, 1, 1)], Some((1, 1))),
+    alone!(
+        TwoAce,
+        [read!(0, 0, 64), ar!(0, 0, 0, 0, 1, 1, false)],
+        Some((2, 4))
+    ),
+    alone!(TwoAce, [ar!(0, 0, 0, 0, 1, 1, true)], Some((1, 7))),
+    alone!(TwoAce, [aw!(0, 0, 64, 0, 1, 1)], Some((1, 9))),
+    alone!(
+        TwoAce,
+        [ar!(0, 0, 0, 0, 1, 1, false), aw!(0, 0, 0, 0, 1, 3)],
+        Some((2, 9))
+    ),
+    alone!(
+        TwoAce,
+        [
+            ar!(0, 0, 0, 0, 1, 1, false),
+            aw!(0, 0, 0, 0, 1, 1),
+            ar!(0, 1, 0, 0, 1, 1, false)
+        ],
+        Some((3, 9))
+    ),
+    alone!(
+        TwoAce,
+        [ar!(0, 0, 0, 0, 1, 1, false), r!(0, 0, 0, true)],
+        Some((2, 34))
+    ),
+];
+
 /// The halves of a barrier by port 0, under identifier 1.
 macro_rules! read_half {
     ($bar:expr) => { ar!(0, 1, 0, 0, 1, $bar, false) };
 }
 
 macro_rules! write_half {
-    ($bar:expr) => { Event::Aw { port: 0, id: 1, addr: 0, snoop: 0, dom: 1, bar: $bar } };
-}
-
-macro_rules! b {
-    ($port:expr, $id:expr, $resp:expr) => { Event::B { port: $port, id: $id, resp: $resp } };
+    ($bar:expr) => { aw!(0, 1, 0, 0, 1, $bar) };
 }
 
 /// The answers to barriers, with nothing before them and after a read that isn't ordered or isn't complete.
-const BARRIERS: &[Case] = &[
+const BARRIER_ANSWERS: &[Case] = &[
     alone!(
         TwoAce,
         [
@@ -694,7 +750,8 @@ fn first_breaks(rt: HostRuntime) -> Result<(), Fail> {
         LARGE_IDENTIFIERS,
         RECORDS_OF_NOTHING,
         GETS_A_HELD_LINE,
-        BARRIERS,
+        BARRIER_ADDRESSES,
+        BARRIER_ANSWERS,
     ] {
         for (number, case) in cases.iter().enumerate() {
             let (breaks, taken) = answer(rt.alloc(), case)?;

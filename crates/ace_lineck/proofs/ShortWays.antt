@@ -11,6 +11,8 @@ pub mod PlainMemoryWrites
 pub mod BeatLaws
 pub mod LinelessBeats
 pub mod MessageAddresses
+-- The AR or AW that issues half of a barrier.
+pub mod BarrierAddresses
 -- The ACs of DVM.
 pub mod MessageSnoops
 pub mod BeatSteps

@@ -5,6 +5,7 @@ pub mod PlainEvents
 pub mod PlainAddresses
 pub mod DvmReads
 pub mod LinelessReads
+pub mod BarrierAddresses
 pub mod PlainWriteAddresses
 pub mod PlainRetirements
 pub mod PlainSilentChanges

@@ -15,6 +15,7 @@ pub mod LineMaps
 pub mod Plain
 pub mod DvmReads
 pub mod LinelessReads
+pub mod BarrierAddresses
 pub mod PlainWriteAddresses
 pub mod SnoopAnswers
 pub mod WriteEnds

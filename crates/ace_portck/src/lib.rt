@@ -1,6 +1,7 @@
 //! The rules that look at one port, and what an event belongs to.
 #![tactic(auto)]
 
+mod barrier_addresses;
 mod barrier_responses;
 mod dvm_reads;
 pub mod event_kinds;

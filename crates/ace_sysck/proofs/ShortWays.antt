@@ -11,6 +11,8 @@ pub mod PlainAcknowledges
 -- What the AR of a plain read moves.
 pub mod PlainAddresses
 pub mod MessageAddresses
+-- The AR or AW that issues half of a barrier.
+pub mod BarrierAddresses
 -- What the AW of a line write asks and leaves.
 pub mod PlainWriteAddresses
 -- What a CR leaves.

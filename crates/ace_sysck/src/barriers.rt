@@ -168,7 +168,7 @@ fn is_past(barrier: &Barrier, x: &Transaction) -> bool
 }
 
 impl Barriers {
-    ghost use Rattle.std.specs.Prelude.{◌≡◌, [], IfOk, slice_set, slice_index_or, length, Some, is_some};
+    ghost use Rattle.std.specs.Prelude.{◌≡◌, [], true, IfOk, slice_set, slice_index_or, length, Some, is_some};
     ghost use Rattle.ace_event.specs.declared.header.Header.{Header};
     ghost use Rattle.ace_model.specs.Trace.{is_none_or, implies};
     ghost use Rattle.ace_model.specs.Transactions.{issued};
@@ -240,7 +240,14 @@ impl Barriers {
     pub fn keeps_k9(&self, x: &Transaction) -> bool
         ensures { (r : Recording) → MayBegin r self.now x.now → result ≡ implies (is_barrier_half x.now) (begins_barrier r.past x.now) }
     {
-        !is_barrier_half(x) || (x.addr == 0 && begins_after(&self.barrier_of(x.port), x))
+        !is_barrier_half(x) || self.lets_begin(x)
+    }
+
+    /// The same, of a barrier half.
+    pub fn lets_begin(&self, x: &Transaction) -> bool
+        ensures { (r : Recording) → MayBegin r self.now x.now → is_barrier_half x.now ≡ true → result ≡ begins_barrier r.past x.now }
+    {
+        x.addr == 0 && begins_after(&self.barrier_of(x.port), x)
     }
 
     /// The transaction may be answered, as far as the barriers of its port tell. `unordered` is the place of the port's first transaction
@@ -294,6 +301,14 @@ impl Barriers {
         }
     }
 
+    /// The port issues the barrier half.
+    pub fn begin(&mut self, x: &Transaction)
+        ensures { self.new.ports.items ≡ slice_set self.old.ports.items x.now.port (joined (slice_index_or self.old.ports.items x.now.port Idle) x.now) }
+    {
+        let barrier = joined(self.barrier_of(x.port), *x);
+        self.set(x.port, barrier);
+    }
+
     /// The barriers after the event.
     #[inline(always)]
     pub fn hear(&mut self, event: &Event, target: &Target)
@@ -301,8 +316,7 @@ impl Barriers {
     {
         if let Some(x) = begun_in(event, target) {
             if is_barrier_half(&x) {
-                let barrier = joined(self.barrier_of(x.port), x);
-                self.set(x.port, barrier);
+                self.begin(&x);
             }
         } else if let Some(x) = completed_in(event, target) {
             self.answer(x.port, x.place);

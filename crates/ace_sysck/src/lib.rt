@@ -1,6 +1,7 @@
 //! The rules that look at the system as a whole: barriers, DVM messages and exclusive transactions.
 #![tactic(auto)]
 
+mod barrier_addresses;
 mod barrier_responses;
 mod barriers;
 mod events;

@@ -49,7 +49,7 @@ only-second true b c x y z off on out = cc
 only-second false false c x y z off on out = cc
 only-second false true true x y z off on out = cc
 
-first-rule : (a b : Bool) → b ≡ true → is_none (least_of_two a b) ≡ a
+pub first-rule : (a b : Bool) → b ≡ true → is_none (least_of_two a b) ≡ a
 first-rule true true kept = refl
 first-rule false b kept = refl
 first-rule true false kept = cc

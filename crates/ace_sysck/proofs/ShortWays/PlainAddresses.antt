@@ -18,8 +18,10 @@ use Rattle.ace_portck.specs.Targets.{Recording, after, target_of}
 use Rattle.ace_portck.specs.declared.target.Target.{Target}
 use Rattle.ace_portck.proofs.ShortWays.Plain.{IsPlainRead, plain_read-no_half, plain_read-no_message}
 use Rattle.ace_portck.proofs.ShortWays.PlainAddresses.{read_of, unlocked-plain}
+use Rattle.ace_sysck.specs.declared.barriers.Barriers.{Barriers}
 use Rattle.ace_sysck.specs.declared.results.Results.{Results}
 use Rattle.ace_sysck.specs.declared.system.SysCheck.{SysCheck}
+use Rattle.ace_sysck.specs.Barriers.{BarriersStand}
 use Rattle.ace_sysck.specs.Events.{begun_in, is_issue}
 use Rattle.ace_sysck.specs.Results.{ResultsStand, slot_of}
 use Rattle.ace_sysck.specs.Stands.{Stands}
@@ -87,15 +89,16 @@ module _ (h : Header) (past : Trace) (p i addr snoop dom bar : ℕ) (lock : Bool
   pub system-keeps : least_of system_rules h past (Ar p i addr snoop dom bar lock) ≡ None
   system-keeps = two-rules (k9 h past (Ar p i addr snoop dom bar lock)) (k38 h past (Ar p i addr snoop dom bar lock)) k9-kept k38-kept
 
--- an event that issues a transaction which is part neither of a barrier nor of a message, and completes none, moves the results at most
-pub issue-stands : (s : SysCheck) (n : Results) (r : Recording) (e : Event) (x : Transaction) → Stands s r → is_issue e ≡ true → begun_in e (target_of r.header r.past e) ≡ Some x
-    → is_barrier_half x ≡ false → is_message_part x ≡ false → is_dvm_completion x ≡ false → x.id < 256
-    → least_broken r.header r.past e ≡ None → length r.past < 2 ^ 64 - 1 → ResultsStand (after r e) n → Stands (record s { results = n }) (after r e)
-issue-stands s n r e x st is begins half part completion low fine few results = record {
+-- an event that issues a transaction which is no part of a message, and completes none, moves the barriers and the results at most
+pub begin-stands : (s : SysCheck) (b : Barriers) (n : Results) (r : Recording) (e : Event) (x : Transaction) → Stands s r → is_issue e ≡ true
+    → begun_in e (target_of r.header r.past e) ≡ Some x → is_message_part x ≡ false → is_dvm_completion x ≡ false → x.id < 256
+    → least_broken r.header r.past e ≡ None → length r.past < 2 ^ 64 - 1 → BarriersStand (after r e) b → ResultsStand (after r e) n
+    → Stands (record s { barriers = b; results = n }) (after r e)
+begin-stands s b n r e x st is begins part completion low fine few barriers results = record {
   header = st.header;
   ports = st.ports;
   accepted = step.accepted;
-  barriers = barriers_plain r s.barriers e t x refl begins half st.barriers;
+  barriers = barriers;
   monitors = monitors_still r s.monitors e (by_issue moves_monitors (λ p i addr snoop dom bar lock. refl) (λ p i addr snoop dom bar. refl) e is) st.monitors;
   results = results;
   registrations = registrations_still r s.registrations e t step (by_issue moves_registrations (λ p i addr snoop dom bar lock. refl) (λ p i addr snoop dom bar. refl) e is) st.registrations;
@@ -109,6 +112,14 @@ issue-stands s n r e x st is begins half part completion low fine few results = 
 
     step : IsStep r e t
     step = record { header = st.ports; accepted = (st.accepted, fine); target = refl; few = few }
+
+-- one that is no half of a barrier either moves the results at most
+pub issue-stands : (s : SysCheck) (n : Results) (r : Recording) (e : Event) (x : Transaction) → Stands s r → is_issue e ≡ true → begun_in e (target_of r.header r.past e) ≡ Some x
+    → is_barrier_half x ≡ false → is_message_part x ≡ false → is_dvm_completion x ≡ false → x.id < 256
+    → least_broken r.header r.past e ≡ None → length r.past < 2 ^ 64 - 1 → ResultsStand (after r e) n → Stands (record s { results = n }) (after r e)
+issue-stands s n r e x st is begins half part completion low fine few results =
+    begin-stands s s.barriers n r e x st is begins part completion low fine few
+    (barriers_plain r s.barriers e (target_of r.header r.past e) x refl begins half st.barriers) results
 
 -- a line read moves the results alone
 pub begun-stands : (s : SysCheck) (n : Results) (r : Recording) (p i addr snoop dom bar : ℕ) (lock : Bool) (k : ArKind) → Stands s r

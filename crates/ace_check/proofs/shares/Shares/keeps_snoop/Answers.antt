@@ -1,4 +1,4 @@
-use Rattle.std.proofs.Common.{◌≡◌, None, is_none, true, false, refl, sym, ◌∙◌}
+use Rattle.std.proofs.Common.{None, is_none, true, false, refl, sym, ◌∙◌}
 use Rattle.ace_event.specs.declared.event.Event.TheVariants.{Ac}
 use Rattle.ace_model.specs.Accepted.{least_of}
 use Rattle.ace_model.specs.Shares.{line_rules, system_rules}

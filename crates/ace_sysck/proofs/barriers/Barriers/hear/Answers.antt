@@ -1,7 +1,6 @@
-use Rattle.std.proofs.Common.{◌≡◌, None, Some, sym, ap, ◌∙◌, arith, slice_set}
+use Rattle.std.proofs.Common.{◌≡◌, None, Some, sym, ◌∙◌, arith}
 use Rattle.std.proofs.lemmas.Grind.{common_steps}
 use Rattle.ace_sysck.specs.Events.{begun_in, completed_in}
-use Rattle.ace_sysck.specs.Barriers.{joined}
 use Rattle.ace_sysck.proofs.BarrierSteps.{barriers_begun, barriers_plain, barriers_completed, barriers_stay}
 use Rattle.ace_sysck.proofs.barriers.Barriers.hear.Goals as goal
 
@@ -10,9 +9,8 @@ returns-then-is_barrier_half c = λ r q.
     let s = c.args.self.now in
     let x = c.in-Some.x in
     let begun : begun_in c.args.event.now c.args.target.now ≡ Some x = sym c.begun_in.ensures ∙ c.in-Some.is in
-    let items = c.set.ensures ∙ ap (slice_set s.ports.items x.port) (c.joined-barrier.ensures ∙ ap (λ v. joined v x) c.barrier_of.ensures) in
-    barriers_begun r s c.set.new.self c.args.event.now c.args.target.now x q.step.accepted q.step.target begun
-    (sym c.is_barrier_half.ensures ∙ c.if-is_barrier_half.true) q.stands items
+    barriers_begun r s c.begin.new.self c.args.event.now c.args.target.now x q.step.accepted q.step.target begun
+    (sym c.is_barrier_half.ensures ∙ c.if-is_barrier_half.true) q.stands c.begin.ensures
 
 pub returns-else-is_barrier_half : goal.returns-else-is_barrier_half
 returns-else-is_barrier_half c = λ r q.

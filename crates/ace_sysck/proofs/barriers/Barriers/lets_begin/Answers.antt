@@ -1,17 +1,14 @@
-use Rattle.std.proofs.Common.{◌≡◌, ◌&&◌, true, sym, ap, ◌∙◌, arith, get_or}
-use Rattle.std.proofs.lemmas.Grind.{common_steps}
+use Rattle.std.proofs.Common.{◌≡◌, ◌&&◌, sym, ap, ◌∙◌, get_or}
 use Rattle.std.proofs.lemmas.Bool.{eq-eqb}
-use Rattle.ace_model.specs.Barriers.{is_barrier_half}
 use Rattle.ace_sysck.specs.declared.barriers.Barrier.TheVariants.{Idle}
 use Rattle.ace_sysck.specs.Barriers.{begins_after}
 use Rattle.ace_sysck.proofs.BarrierRules.{begins-is}
-use Rattle.ace_sysck.proofs.barriers.Barriers.keeps_k9.Goals as goal
+use Rattle.ace_sysck.proofs.barriers.Barriers.lets_begin.Goals as goal
 
 pub returns-then-x-eq0 : goal.returns-then-x-eq0
-returns-then-x-eq0 c = λ r q.
+returns-then-x-eq0 c = λ r q half.
     let x = c.args.x.now in
-    let half : is_barrier_half x ≡ true = grind (arith, common_steps) in
     let b = get_or c.args.self.now.ports.items x.port Idle in
     let begins : c.begins_after.result ≡ begins_after b x = c.begins_after.ensures ∙ ap (λ v. begins_after v x) c.barrier_of.ensures in
     let is = begins-is r.past x b (q.stands.ports x.port) q.place in
-    rw half (begins ∙ ap (λ v. v && begins_after b x) (sym (eq-eqb x.addr 0 c.if-x-eq0.true)) ∙ sym is)
+    begins ∙ ap (λ v. v && begins_after b x) (sym (eq-eqb x.addr 0 c.if-x-eq0.true)) ∙ sym is

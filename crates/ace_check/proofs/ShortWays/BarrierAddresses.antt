@@ -1,0 +1,28 @@
+-- The AR or AW that issues half of a barrier breaks no rule where it breaks none of the ports and none of the system.
+use Rattle.std.proofs.Common.{◌≡◌, ◌&&◌, ◌∙◌, ℕ, Bool, true, false, Some, None, is_none, length, refl, sym, ap}
+use Rattle.ace_event.specs.declared.event.Event.{Event}
+use Rattle.ace_event.specs.declared.event.Event.TheVariants.{Ac}
+use Rattle.ace_event.specs.declared.header.Header.{Header}
+use Rattle.ace_model.specs.Accepted.{least_broken, least_of}
+use Rattle.ace_model.specs.Shares.{port_rules, system_rules}
+use Rattle.ace_model.specs.Trace.{Trace}
+use Rattle.ace_model.specs.Transactions.{issued}
+use Rattle.ace_model.specs.declared.transactions.Transaction.{Transaction}
+use Rattle.ace_portck.specs.BarrierAddresses.{IssuesHalf}
+use Rattle.ace_lineck.proofs.ShortWays.BarrierAddresses.{half-keeps}
+use Rattle.ace_check.proofs.ShortWays.PlainEvents.{keeps-all}
+
+-- the lines say nothing of it
+pub half-decided : (h : Header) (past : Trace) (e : Event) (x : Transaction) → IssuesHalf past e x
+    → (is_none (least_of port_rules h past e) && is_none (least_of system_rules h past e)) ≡ is_none (least_broken h past e)
+half-decided h past e x is =
+    without (is_none (least_of port_rules h past e)) (is_none (least_of system_rules h past e))
+    ∙ keeps-all h past e (is_none (least_of port_rules h past e)) true (is_none (least_of system_rules h past e)) refl (ap is_none (sym (half-keeps h past e x is))) refl
+  where
+    without : (a b : Bool) → (a && b) ≡ (a && true && b)
+    without true b = refl
+    without false b = refl
+
+-- it is no AC
+pub half-no_snoop : (past : Trace) (e : Event) (x : Transaction) → IssuesHalf past e x → (p addr snoop : ℕ) → e ≡ Ac p addr snoop → ⊥
+half-no_snoop past e x is p addr snoop same = let bad : None ≡ Some x = sym (ap (issued (length past)) same) ∙ is.issues in cc
