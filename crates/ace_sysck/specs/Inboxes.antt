@@ -6,6 +6,7 @@ use Rattle.std.specs.VecDeque.{deque_capacity}
 use Rattle.ace_codes.specs.Snoops.{ac_kind_of}
 use Rattle.ace_codes.specs.declared.kind.SnoopKind.{SnoopKind}
 use Rattle.ace_event.specs.declared.event.Event.{Event}
+use Rattle.ace_event.specs.declared.header.Header.{Header}
 use Rattle.ace_model.specs.declared.transactions.Transaction.{Transaction}
 use Rattle.ace_model.specs.Trace.{Trace, implies, is_some_and}
 use Rattle.ace_model.specs.Kinds.{is_message_snoop}
@@ -24,11 +25,11 @@ use Rattle.ace_sysck.specs.declared.inboxes.Inboxes.{Inboxes}
 use Rattle.ace_sysck.specs.Steps.{IsStep, IsAsked}
 use Rattle.ace_sysck.specs.Messages.{MessagesStand}
 
--- an empty inbox, with room for a part under each identifier of so many ports
-pub record IsEmptyInbox (ports : ℕ) (b : Inbox) : Type 0 where
+-- the empty inbox of the port: that of an ACE port has room for a part under each identifier of each port
+pub record IsEmptyInbox (h : Header) (q : ℕ) (b : Inbox) : Type 0 where
   pub empty : b.parts.items ≡ []
   pub count : b.forwarded ≡ 0
-  pub room : ports * 256 ≤ deque_capacity b.parts
+  pub room : is_ace h q ≡ true → h.ports * 256 ≤ deque_capacity b.parts
 
 -- a part of the trace, and what is known of it
 abbrev pub part_of : Trace → Transaction → Part
@@ -41,7 +42,7 @@ pub record InboxStands (past : Trace) (q : ℕ) (parts : List Part) (count : ℕ
 
 pub record InboxesStand (r : Recording) (s : Inboxes) : Type 0 where
   pub size : length s.ports.items ≡ r.header.ports
-  pub room : (q : ℕ) (b : Inbox) → slice_get s.ports.items q ≡ Some b → r.header.ports * 256 ≤ deque_capacity b.parts
+  pub room : (q : ℕ) (b : Inbox) → slice_get s.ports.items q ≡ Some b → is_ace r.header q ≡ true → r.header.ports * 256 ≤ deque_capacity b.parts
   pub ports : (q : ℕ) (b : Inbox) → slice_get s.ports.items q ≡ Some b → is_ace r.header q ≡ true → InboxStands r.past q b.parts.items b.forwarded
   pub ids : (x : Transaction) → IsTransaction r.past x → x.id < 256
 
@@ -58,11 +59,11 @@ parts_sent m x = after_first m.first
 abbrev pub sent_list : Sent → List Part
 sent_list s = option_to_list s.first ++ option_to_list s.last
 
--- the inbox, once it has received the parts, for which it has room
+-- the inbox, once it has received the parts, for which it has room; it has no more room than before
 pub record Receives (sent : List Part) (b c : Inbox) : Type 0 where
   pub items : length b.parts.items + length sent ≤ deque_capacity b.parts → c.parts.items ≡ b.parts.items ++ sent
   pub count : c.forwarded ≡ b.forwarded
-  pub room : deque_capacity b.parts ≤ deque_capacity c.parts
+  pub room : deque_capacity c.parts ≡ deque_capacity b.parts
 
 -- what an inbox receives where a port sends
 abbrev pub sent_to : ℕ → ℕ → List Part → List Part

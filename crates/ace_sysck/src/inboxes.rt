@@ -3,7 +3,7 @@
 ghost use Rattle.std.specs.Prelude.{◌≡◌, ◌<◌, ◌≤◌, ◌+◌, ◌++◌, ◌∷◌, [], length, slice_get, IfOk};
 ghost use Rattle.std.specs.Option.{option_map, option_to_list};
 ghost use Rattle.std.specs.VecDeque.{deque_capacity};
-ghost use Rattle.ace_sysck.specs.Inboxes.{parts_sent, sent_list, Receives, forwards_in, has_place, answers_message, own_transaction, next_message_in};
+ghost use Rattle.ace_sysck.specs.Inboxes.{IsEmptyInbox, parts_sent, sent_list, Receives, forwards_in, has_place, answers_message, own_transaction, next_message_in};
 
 use crate::events::begun_in;
 use crate::kinds::{is_message_part, is_message_snoop};
@@ -35,7 +35,7 @@ pub struct Inbox {
     pub forwarded: usize,
 }
 
-/// For each port of the header, its inbox. Those of ACE-Lite ports say nothing.
+/// For each port of the header, its inbox. Nothing is forwarded to an ACE-Lite port: its inbox has no room.
 #[derive(Drop)]
 pub struct Inboxes {
     ports: Vec<Inbox>,
@@ -92,12 +92,30 @@ fn parts_sent(kept: &PortMessages, x: Transaction) -> Sent
     }
 }
 
-/// Puts the part at the end, where there is room.
+/// The empty inbox of the port: that of an ACE port has room for a part under each identifier of each port, that of an ACE-Lite port
+/// has none.
+fn empty_inbox(alloc: Global, header: &Header, port: u8) -> Result<Inbox, AllocError>
+    ensures { IfOk result (IsEmptyInbox header.now port) }
+{
+    let parts = if is_ace(header, port) {
+        VecDeque::with_capacity(alloc, usize::from(header.ports) * 256)?
+    } else {
+        VecDeque::new(alloc)
+    };
+    Ok(Inbox {
+        parts,
+        forwarded: 0,
+    })
+}
+
+/// Puts the part at the end, where there is room. It takes no memory.
 fn push(inbox: &mut Inbox, part: Option<Part>)
     ensures { Receives (option_to_list part) inbox.old inbox.new }
 {
     if let Some(x) = part {
-        let _full = inbox.parts.push_back(x);
+        if inbox.parts.len() < inbox.parts.capacity() {
+            inbox.parts.push_back_reserved(x);
+        }
     }
 }
 
@@ -181,17 +199,13 @@ impl Inboxes {
     ghost use Rattle.ace_portck.specs.Targets.{Recording, after};
     ghost use Rattle.ace_sysck.specs.Inboxes.{InboxesStand, MayAskInboxes, MayHearInboxes, SendsAll, SendsOne, ForwardsTo, AnswersFirst, first_is_sync, sent_list, awaits, message_of, next_in, next_message, part_of};
 
-    /// The inboxes of the empty trace, of so many ports. Each has room for a part under each identifier of each port.
-    pub fn new(alloc: Global, ports: u8) -> Result<Inboxes, AllocError>
-        ensures { IfOk result (λ s. (h : Header) → h.ports ≡ ports → InboxesStand (record { header = h; past = [] }) s) }
+    /// The inboxes of the empty trace under the header.
+    pub fn new(alloc: Global, header: &Header) -> Result<Inboxes, AllocError>
+        ensures { IfOk result (InboxesStand (record { header = header.now; past = [] })) }
     {
         let mut all = Vec::new(alloc);
-        for _port in 0..ports {
-            let parts = VecDeque::with_capacity(alloc, ports as usize * 256)?;
-            match all.push(Inbox {
-                parts,
-                forwarded: 0,
-            }) {
+        for port in 0..header.ports {
+            match all.push(empty_inbox(alloc, header, port)?) {
                 Ok(()) => {}
                 Err(_) => return Err(AllocError),
             }

@@ -100,7 +100,7 @@ impl SysCheck {
         let Ok(messages) = Messages::new(alloc, header.ports) else {
             return Err(NoMemory);
         };
-        let Ok(inboxes) = Inboxes::new(alloc, header.ports) else {
+        let Ok(inboxes) = Inboxes::new(alloc, &header) else {
             return Err(NoMemory);
         };
         let Ok(syncs) = Syncs::new(alloc, header.ports) else {

@@ -230,7 +230,7 @@ inboxes_from : (r : Recording) (s n : Inboxes) (e : Event) → InboxesStand r s 
     → ((x : Transaction) → IsTransaction (e ∷ r.past) x → x.id < 256) → InboxesStand (after r e) n
 inboxes_from r s n e stands size each ids = record {
   size = size ∙ stands.size;
-  room = λ q c at. let k = each q c at in let was = stands.room q k.0 k.1 in let more_by = k.2 in omega (arith, was, more_by);
+  room = λ q c at ace. let k = each q c at in let was = stands.room q k.0 k.1 ace in let more_by = k.2 in omega (arith, was, more_by);
   ports = λ q c at ace. let k = each q c at in k.3 ace (stands.ports q k.0 k.1 ace);
   ids = ids;
 }
@@ -285,9 +285,9 @@ inboxes_sent r s n e t x m accepted own begun low part kept stands size sends =
     own-none : parts_in r.past (issued (length r.past) e) x.port ≡ []
     own-none = rw (new, part, eq-eqb x.port x.port refl) refl
 
-    step : (q : ℕ) (b c : Inbox) → deque_capacity b.parts ≤ deque_capacity c.parts → r.header.ports * 256 ≤ deque_capacity b.parts → Receives (sent_to q x.port (parts_sent m x)) b c
+    step : (q : ℕ) (b c : Inbox) → (is_ace r.header q ≡ true → r.header.ports * 256 ≤ deque_capacity b.parts) → Receives (sent_to q x.port (parts_sent m x)) b c
         → is_ace r.header q ≡ true → InboxStands r.past q b.parts.items b.forwarded → InboxStands (e ∷ r.past) q c.parts.items c.forwarded
-    step q b c more_by room k ace s = elim (cases_eq q x.port) [
+    step q b c roomy k ace s = elim (cases_eq q x.port) [
       | inl same ↦
           let items : c.parts.items ≡ b.parts.items = k.items (rw (eq-eqb q x.port same) (grown b)) ∙ rw (eq-eqb q x.port same) (append-nil b.parts.items) in
           let none : parts_in r.past (issued (length r.past) e) q ≡ [] = ap (parts_in r.past (issued (length r.past) e)) same ∙ own-none in
@@ -297,6 +297,7 @@ inboxes_sent r s n e t x m accepted own begun low part kept stands size sends =
           let few = few-unanswered r.header (e ∷ r.past) q accepted ace issued-ids in
           let long : length (b.parts.items ++ parts_sent m x) ≡ length (unanswered (e ∷ r.past) q) = ap length wide.parts_are ∙ length-map (unanswered (e ∷ r.past) q) (part_of (e ∷ r.past)) in
           let both = length-append b.parts.items (parts_sent m x) in
+          let room = roomy ace in
           let items : c.parts.items ≡ b.parts.items ++ parts_sent m x = k.items (rw (ne_eqb q x.port off) (omega (arith, few, long, both, room))) ∙ rw (ne_eqb q x.port off) refl in
           rw (items, k.count) wide
     ]
@@ -311,7 +312,8 @@ inboxes_sent r s n e t x m accepted own begun low part kept stands size sends =
         let k = sends q b.0 b.1 in
         let one : k.0 ≡ c = Some-injective k.0 c (sym k.1 ∙ at) in
         let receives : Receives (sent_to q x.port (parts_sent m x)) b.0 c = subst (Receives (sent_to q x.port (parts_sent m x)) b.0) one k.2 in
-        (b.0, b.1, receives.room, step q b.0 c receives.room (stands.room q b.0 b.1) receives)
+        let kept_room = receives.room in
+        (b.0, b.1, omega (arith, kept_room), step q b.0 c (stands.room q b.0 b.1) receives)
 
 -- a transaction that is no part
 pub inboxes_plain : (r : Recording) (s : Inboxes) (e : Event) (t : Target) (x : Transaction) → t ≡ target_of r.header r.past e

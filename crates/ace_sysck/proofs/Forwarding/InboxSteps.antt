@@ -14,29 +14,29 @@ use Rattle.ace_sysck.specs.Inboxes.{InboxesStand, IsEmptyInbox, Receives, SendsO
 use Rattle.ace_sysck.proofs.Tables.{slice_get-set_same, slice_get-set_other}
 
 -- the inboxes of the empty trace
-pub inboxes_fresh : (h : Header) (s : Inboxes) (ports : ℕ) → h.ports ≡ ports → length s.ports.items ≡ h.ports
-    → ((q : ℕ) (b : Inbox) → slice_get s.ports.items q ≡ Some b → IsEmptyInbox ports b) → InboxesStand (record { header = h; past = [] }) s
-inboxes_fresh h s ports count size fresh = record {
+pub inboxes_fresh : (h : Header) (s : Inboxes) → length s.ports.items ≡ h.ports
+    → ((q : ℕ) (b : Inbox) → slice_get s.ports.items q ≡ Some b → IsEmptyInbox h q b) → InboxesStand (record { header = h; past = [] }) s
+inboxes_fresh h s size fresh = record {
   size = size;
-  room = λ q b at. let f = (fresh q b at).room in omega (arith, f, count);
+  room = λ q b at. (fresh q b at).room;
   ports = λ q b at ace. let f = fresh q b at in record { parts_are = f.empty; count_is = let n = f.count in omega arith };
   ids = λ x there. cc;
 }
 
 -- with one more
-pub fresh_more : (xs : List Inbox) (ports : ℕ) (n : Inbox) → ((q : ℕ) (b : Inbox) → slice_get xs q ≡ Some b → IsEmptyInbox ports b) → IsEmptyInbox ports n
-    → (q : ℕ) (b : Inbox) → slice_get (xs ++ n ∷ []) q ≡ Some b → IsEmptyInbox ports b
-fresh_more xs ports n all new q b at =
+pub fresh_more : (h : Header) (xs : List Inbox) (n : Inbox) → ((q : ℕ) (b : Inbox) → slice_get xs q ≡ Some b → IsEmptyInbox h q b) → IsEmptyInbox h (length xs) n
+    → (q : ℕ) (b : Inbox) → slice_get (xs ++ n ∷ []) q ≡ Some b → IsEmptyInbox h q b
+fresh_more h xs n all new q b at =
     elim (slice_get-more xs (Some n) q b at) [
       | inl old ↦ all q b old
-      | inr here ↦ subst (IsEmptyInbox ports) (Some-injective n b here.1) new
+      | inr here ↦ subst (IsEmptyInbox h q) (Some-injective n b here.1) (subst (λ k. IsEmptyInbox h k n) (sym here.0) new)
     ]
 
 -- what is sent to the sender, to another port, and to a port that isn't there
 pub sends_own : (s : Inboxes) (q sender : ℕ) (sent : List Part) → q ≡ sender → SendsOne q sender sent s s
 sends_own s q sender sent own = record {
   size = refl;
-  one = λ b at. (b, at, rw (eq-eqb q sender own) (record { items = λ fits. sym (append-nil b.parts.items); count = refl; room = omega arith }));
+  one = λ b at. (b, at, rw (eq-eqb q sender own) (record { items = λ fits. sym (append-nil b.parts.items); count = refl; room = refl }));
   others = λ k off. refl;
 }
 

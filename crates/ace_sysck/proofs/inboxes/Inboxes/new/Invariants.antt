@@ -5,6 +5,6 @@ use Rattle.ace_sysck.proofs.inboxes.Inboxes.new.Given as goal
 
 abbrev pub invariant-loop-port : goal.invariant-loop-port
 invariant-loop-port l = record {
-  len : length l.all.items ≡ l._port;
-  fresh : (q : ℕ) (b : Inbox) → slice_get l.all.items q ≡ Some b → IsEmptyInbox l.ports b;
+  len : length l.all.items ≡ l.port;
+  fresh : (q : ℕ) (b : Inbox) → slice_get l.all.items q ≡ Some b → IsEmptyInbox l.header q b;
 }

@@ -11,6 +11,6 @@ returns-clause-stands c = λ registrations is_header. record {
   results = c.in-Ok-new-2.ensures c.args.header refl;
   registrations = registrations;
   messages = c.in-Ok-new-3.ensures c.args.header refl;
-  inboxes = c.in-Ok-new-4.ensures c.args.header refl;
+  inboxes = c.in-Ok-new-4.ensures;
   syncs = c.in-Ok-new-5.ensures c.args.header refl;
 }
