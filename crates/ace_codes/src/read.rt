@@ -34,43 +34,161 @@ pub fn read_bar(code: u8) -> Option<Bar>
     }
 }
 
-/// The kind of a normal read in domain 1 or 2.
-#[tactic(auto, unfolding(crate::specs::Reads::ar_kind_of))]
-fn shareable_read(snoop: u8) -> Option<ArKind>
-    ensures { result ≡ ar_kind_of snoop 1 0 }
-{
-    match snoop {
-        0 => Some(ArKind::ReadOnce),
-        1 => Some(ArKind::ReadShared),
-        2 => Some(ArKind::ReadClean),
-        3 => Some(ArKind::ReadNotSharedDirty),
-        7 => Some(ArKind::ReadUnique),
-        8 => Some(ArKind::CleanShared),
-        9 => Some(ArKind::CleanInvalid),
-        11 => Some(ArKind::CleanUnique),
-        12 => Some(ArKind::MakeUnique),
-        13 => Some(ArKind::MakeInvalid),
-        14 => Some(ArKind::DvmComplete),
-        15 => Some(ArKind::DvmMessage),
-        _ => None,
-    }
-}
+/// The normal reads of domains 1 and 2, by ARSNOOP.
+const SHAREABLE_READS: [Option<ArKind>; 16] = [
+    Some(ArKind::ReadOnce),
+    Some(ArKind::ReadShared),
+    Some(ArKind::ReadClean),
+    Some(ArKind::ReadNotSharedDirty),
+    None,
+    None,
+    None,
+    Some(ArKind::ReadUnique),
+    Some(ArKind::CleanShared),
+    Some(ArKind::CleanInvalid),
+    None,
+    Some(ArKind::CleanUnique),
+    Some(ArKind::MakeUnique),
+    Some(ArKind::MakeInvalid),
+    Some(ArKind::DvmComplete),
+    Some(ArKind::DvmMessage),
+];
 
-/// The kind of a normal write in domain 1 or 2.
-#[tactic(auto, unfolding(crate::specs::Writes::aw_kind_of))]
-fn shareable_write(snoop: u8) -> Option<AwKind>
-    ensures { result ≡ aw_kind_of snoop 1 0 }
-{
-    match snoop {
-        0 => Some(AwKind::WriteUnique),
-        1 => Some(AwKind::WriteLineUnique),
-        2 => Some(AwKind::WriteClean),
-        3 => Some(AwKind::WriteBack),
-        4 => Some(AwKind::Evict),
-        5 => Some(AwKind::WriteEvict),
-        _ => None,
-    }
-}
+/// The normal reads of domains 0 and 3, by ARSNOOP.
+const UNSHARED_READS: [Option<ArKind>; 16] = [
+    Some(ArKind::ReadNoSnoop),
+    None,
+    None,
+    None,
+    None,
+    None,
+    None,
+    None,
+    None,
+    None,
+    None,
+    None,
+    None,
+    None,
+    None,
+    None,
+];
+
+/// The halves of barriers on the read address channel, by ARSNOOP.
+const READ_BARRIERS: [Option<ArKind>; 16] = [
+    Some(ArKind::Barrier),
+    None,
+    None,
+    None,
+    None,
+    None,
+    None,
+    None,
+    None,
+    None,
+    None,
+    None,
+    None,
+    None,
+    None,
+    None,
+];
+
+/// The kinds of the read address channel, by ARBAR and ARDOMAIN, then by ARSNOOP.
+static READS: [[Option<ArKind>; 16]; 16] = [
+    UNSHARED_READS,
+    SHAREABLE_READS,
+    SHAREABLE_READS,
+    UNSHARED_READS,
+    READ_BARRIERS,
+    READ_BARRIERS,
+    READ_BARRIERS,
+    READ_BARRIERS,
+    UNSHARED_READS,
+    SHAREABLE_READS,
+    SHAREABLE_READS,
+    UNSHARED_READS,
+    READ_BARRIERS,
+    READ_BARRIERS,
+    READ_BARRIERS,
+    READ_BARRIERS,
+];
+
+/// The normal writes of domains 1 and 2, by AWSNOOP.
+const SHAREABLE_WRITES: [Option<AwKind>; 8] = [
+    Some(AwKind::WriteUnique),
+    Some(AwKind::WriteLineUnique),
+    Some(AwKind::WriteClean),
+    Some(AwKind::WriteBack),
+    Some(AwKind::Evict),
+    Some(AwKind::WriteEvict),
+    None,
+    None,
+];
+
+/// The normal writes of domains 0 and 3, by AWSNOOP.
+const UNSHARED_WRITES: [Option<AwKind>; 8] = [
+    Some(AwKind::WriteNoSnoop),
+    None,
+    None,
+    None,
+    None,
+    None,
+    None,
+    None,
+];
+
+/// The halves of barriers on the write address channel, by AWSNOOP.
+const WRITE_BARRIERS: [Option<AwKind>; 8] = [
+    Some(AwKind::Barrier),
+    None,
+    None,
+    None,
+    None,
+    None,
+    None,
+    None,
+];
+
+/// The kinds of the write address channel, by AWBAR and AWDOMAIN, then by AWSNOOP.
+static WRITES: [[Option<AwKind>; 8]; 16] = [
+    UNSHARED_WRITES,
+    SHAREABLE_WRITES,
+    SHAREABLE_WRITES,
+    UNSHARED_WRITES,
+    WRITE_BARRIERS,
+    WRITE_BARRIERS,
+    WRITE_BARRIERS,
+    WRITE_BARRIERS,
+    UNSHARED_WRITES,
+    SHAREABLE_WRITES,
+    SHAREABLE_WRITES,
+    UNSHARED_WRITES,
+    WRITE_BARRIERS,
+    WRITE_BARRIERS,
+    WRITE_BARRIERS,
+    WRITE_BARRIERS,
+];
+
+/// The kinds of snoops, by ACSNOOP.
+static SNOOPS: [Option<SnoopKind>; 16] = [
+    Some(SnoopKind::ReadOnce),
+    Some(SnoopKind::ReadShared),
+    Some(SnoopKind::ReadClean),
+    Some(SnoopKind::ReadNotSharedDirty),
+    None,
+    None,
+    None,
+    Some(SnoopKind::ReadUnique),
+    Some(SnoopKind::CleanShared),
+    Some(SnoopKind::CleanInvalid),
+    None,
+    None,
+    None,
+    Some(SnoopKind::MakeInvalid),
+    Some(SnoopKind::DvmComplete),
+    Some(SnoopKind::DvmMessage),
+];
 
 /// The kind of a transaction on the read address channel, by its ARSNOOP, ARDOMAIN and ARBAR. None exactly where no kind
 /// stands at these numbers (Arm IHI 0022E, C3.1.3).
@@ -78,12 +196,10 @@ fn shareable_write(snoop: u8) -> Option<AwKind>
 pub fn read_ar(snoop: u8, domain: u8, bar: u8) -> Option<ArKind>
     ensures { result ≡ ar_kind_of snoop domain bar }
 {
-    match (bar, domain) {
-        (0 | 2, 1 | 2) => shareable_read(snoop),
-        (0 | 2, 0 | 3) if snoop == 0 => Some(ArKind::ReadNoSnoop),
-        (1 | 3, 0 | 1 | 2 | 3) if snoop == 0 => Some(ArKind::Barrier),
-        _ => None,
+    if snoop > 15 || domain > 3 || bar > 3 {
+        return None;
     }
+    READS[usize::from(bar * 4 + domain)][usize::from(snoop)]
 }
 
 /// The kind of a transaction on the write address channel, by its AWSNOOP, AWDOMAIN and AWBAR. None exactly where no kind
@@ -92,12 +208,10 @@ pub fn read_ar(snoop: u8, domain: u8, bar: u8) -> Option<ArKind>
 pub fn read_aw(snoop: u8, domain: u8, bar: u8) -> Option<AwKind>
     ensures { result ≡ aw_kind_of snoop domain bar }
 {
-    match (bar, domain) {
-        (0 | 2, 1 | 2) => shareable_write(snoop),
-        (0 | 2, 0 | 3) if snoop == 0 => Some(AwKind::WriteNoSnoop),
-        (1 | 3, 0 | 1 | 2 | 3) if snoop == 0 => Some(AwKind::Barrier),
-        _ => None,
+    if snoop > 7 || domain > 3 || bar > 3 {
+        return None;
     }
+    WRITES[usize::from(bar * 4 + domain)][usize::from(snoop)]
 }
 
 /// The kind of a snoop, by its ACSNOOP. None exactly where no kind has this code (Arm IHI 0022E, C3.6.1).
@@ -105,19 +219,10 @@ pub fn read_aw(snoop: u8, domain: u8, bar: u8) -> Option<AwKind>
 pub fn read_ac(snoop: u8) -> Option<SnoopKind>
     ensures { result ≡ ac_kind_of snoop }
 {
-    match snoop {
-        0 => Some(SnoopKind::ReadOnce),
-        1 => Some(SnoopKind::ReadShared),
-        2 => Some(SnoopKind::ReadClean),
-        3 => Some(SnoopKind::ReadNotSharedDirty),
-        7 => Some(SnoopKind::ReadUnique),
-        8 => Some(SnoopKind::CleanShared),
-        9 => Some(SnoopKind::CleanInvalid),
-        13 => Some(SnoopKind::MakeInvalid),
-        14 => Some(SnoopKind::DvmComplete),
-        15 => Some(SnoopKind::DvmMessage),
-        _ => None,
+    if snoop > 15 {
+        return None;
     }
+    SNOOPS[usize::from(snoop)]
 }
 
 /// The ARSNOOP of a kind, 0 to 15.
