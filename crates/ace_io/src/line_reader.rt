@@ -13,7 +13,7 @@ use std::simd::prelude::*;
 const LINE_LIMIT: usize = 256;
 
 /// How many bytes are asked of the source at once.
-const BUFFER_SIZE: usize = 4096;
+const BUFFER_SIZE: usize = 16384;
 
 /// How many bytes are looked at together.
 const LANES: usize = 64;
@@ -85,7 +85,7 @@ fn find_lf(piece: &[u8]) -> Option<usize>
     find_lf_after(piece, at)
 }
 
-/// Cuts the bytes of a source into lines. It asks for up to 4096 bytes at once, and keeps what no line has yet.
+/// Cuts the bytes of a source into lines. It asks for up to 16,384 bytes at once, and keeps what no line has yet.
 #[derive(Drop)]
 pub struct LineReader<'a, S: Source> {
     source: &'a mut S,
@@ -93,7 +93,7 @@ pub struct LineReader<'a, S: Source> {
     start: usize,
     end: usize,
     ghost start_in_range: { start ≤ end },
-    ghost end_in_range: { end ≤ 4096 },
+    ghost end_in_range: { end ≤ 16384 },
 }
 
 impl<'a, S: Source> LineReader<'a, S> {
@@ -162,9 +162,17 @@ impl<'a, S: Source> LineReader<'a, S> {
         }
     }
 
+    /// The bytes that are held: the front of those that no line has.
+    #[inline(always)]
+    pub fn front(&self) -> &[u8]
+        ensures { result.now ≡ held self.now }
+    {
+        &self.buffer[self.start..self.end]
+    }
+
     /// Passes so many of the bytes that are held.
     #[inline(always)]
-    fn pass(&mut self, count: usize)
+    pub fn pass(&mut self, count: usize)
         requires { count ≤ length (held self.old) }
         ensures same_source { self.new.source.ghost_name ≡ self.old.source.ghost_name }
         ensures source { self.new.source.now ≡ self.old.source.now }

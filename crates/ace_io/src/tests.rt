@@ -72,7 +72,7 @@ fn is_cut(alloc: Global, text: &[u8], marked: &[u8]) -> bool {
         && is_cut_in_pieces(alloc, text, 3, marked)
         && is_cut_in_pieces(alloc, text, 7, marked)
         && is_cut_in_pieces(alloc, text, 64, marked)
-        && is_cut_in_pieces(alloc, text, 4096, marked)
+        && is_cut_in_pieces(alloc, text, 16384, marked)
 }
 
 /// Lines about as long as what is looked at together.
