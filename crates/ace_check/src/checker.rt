@@ -119,6 +119,22 @@ impl Checker {
         }
     }
 
+    /// Takes the next event of the trace, as `takes` does, where it is of the kind that the type tells: what is done is compiled for that kind.
+    #[inline(always)]
+    pub fn takes_as<E: PlainKind + Drop>(&mut self, event: &Event) -> bool
+        ensures fine { (h : Header) (past : Trace) (b : Option Break) → Stands self.old h past b → result ≡ true
+            → (b ≡ None) × (least_broken h past event.now ≡ None) × (goes_over past event.now ≡ false) }
+        ensures stands { (h : Header) (past : Trace) → Stands self.old h past None → result ≡ true
+            → length past < 2 ^ 64 - 2 → Stands self.new h (event.now ∷ past) None }
+        ensures sound { (h : Header) (past : Trace) → Stands self.old h past None → result ≡ true → IsSound h (event.now ∷ past) }
+        ensures stays { result ≡ false → self.new ≡ self.old }
+    {
+        match E::of(event) {
+            Some(kind) => self.take_plain(&kind),
+            None => false,
+        }
+    }
+
     /// What the next event belongs to: its transaction with how far that has come, its snoop, its line.
     pub fn target(&self, event: &Event) -> Target
         ensures { (h : Header) (past : Trace) (b : Option Break) → Stands self.now h past b → result ≡ target_of h past event.now }
@@ -159,22 +175,6 @@ impl Checker {
     ghost use Rattle.ace_check.specs.Run.{Stands, IsAnswer, IsSound, goes_over, past_after, break_after, MayLackMemory, Feeds};
     ghost use Rattle.ace_check.specs.Shares.{MayTake};
     ghost use Rattle.std.specs.Prelude.{Option};
-
-    /// Takes an event, as `takes` does, by way of a value of the type that tells its kind.
-    #[inline(always)]
-    fn takes_as<E: PlainKind + Drop>(&mut self, event: &Event) -> bool
-        ensures fine { (h : Header) (past : Trace) (b : Option Break) → Stands self.old h past b → result ≡ true
-            → (b ≡ None) × (least_broken h past event.now ≡ None) × (goes_over past event.now ≡ false) }
-        ensures stands { (h : Header) (past : Trace) → Stands self.old h past None → result ≡ true
-            → length past < 2 ^ 64 - 2 → Stands self.new h (event.now ∷ past) None }
-        ensures sound { (h : Header) (past : Trace) → Stands self.old h past None → result ≡ true → IsSound h (event.now ∷ past) }
-        ensures stays { result ≡ false → self.new ≡ self.old }
-    {
-        match E::of(event) {
-            Some(kind) => self.take_plain(&kind),
-            None => false,
-        }
-    }
 
     /// Takes the event by the short way, if no event broke a rule. If it isn't taken, nothing has changed.
     #[inline(always)]

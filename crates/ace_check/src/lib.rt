@@ -26,4 +26,5 @@ mod plain_writes;
 mod shares;
 
 pub use checker::{CheckErr, Checker, Step};
+pub use plain::PlainKind;
 pub use shares::Shares;

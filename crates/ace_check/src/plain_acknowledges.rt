@@ -67,14 +67,14 @@ impl Shares {
 }
 
 impl PlainKind for event_kinds::Rk {
-    #[inline(always)]
+    #[inline(never)]
     fn take(&self, shares: &mut Shares) -> bool {
         shares.take_read_end(self)
     }
 }
 
 impl PlainKind for event_kinds::Wk {
-    #[inline(always)]
+    #[inline(never)]
     fn take(&self, shares: &mut Shares) -> bool {
         shares.take_write_end(self)
     }

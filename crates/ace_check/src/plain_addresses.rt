@@ -47,7 +47,7 @@ impl Shares {
 }
 
 impl PlainKind for event_kinds::Ar {
-    #[inline(always)]
+    #[inline(never)]
     fn take(&self, shares: &mut Shares) -> bool {
         match read_ar(self.snoop, self.dom, self.bar) {
             Some(kind) if is_line_read(kind) => shares.take_read_address(self, kind),

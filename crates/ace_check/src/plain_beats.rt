@@ -72,7 +72,7 @@ impl Shares {
 }
 
 impl PlainKind for event_kinds::R {
-    #[inline(always)]
+    #[inline(never)]
     fn take(&self, shares: &mut Shares) -> bool {
         if shares.take_beat(self) {
             return true;

@@ -42,7 +42,7 @@ impl Shares {
 }
 
 impl PlainKind for event_kinds::G {
-    #[inline(always)]
+    #[inline(never)]
     fn take(&self, shares: &mut Shares) -> bool {
         shares.take_grant(self)
     }

@@ -39,7 +39,7 @@ impl Shares {
 }
 
 impl PlainKind for event_kinds::L {
-    #[inline(always)]
+    #[inline(never)]
     fn take(&self, shares: &mut Shares) -> bool {
         shares.take_load(self)
     }

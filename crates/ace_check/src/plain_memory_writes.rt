@@ -57,7 +57,7 @@ impl Shares {
 }
 
 impl PlainKind for event_kinds::M {
-    #[inline(always)]
+    #[inline(never)]
     fn take(&self, shares: &mut Shares) -> bool {
         shares.take_memory_write(self)
     }

@@ -38,7 +38,7 @@ impl Shares {
 }
 
 impl PlainKind for event_kinds::Op {
-    #[inline(always)]
+    #[inline(never)]
     fn take(&self, shares: &mut Shares) -> bool {
         shares.take_retirement(self)
     }

@@ -47,7 +47,7 @@ impl Shares {
 }
 
 impl PlainKind for event_kinds::S {
-    #[inline(always)]
+    #[inline(never)]
     fn take(&self, shares: &mut Shares) -> bool {
         shares.take_change(self)
     }

@@ -75,7 +75,7 @@ impl Shares {
 }
 
 impl PlainKind for event_kinds::Cr {
-    #[inline(always)]
+    #[inline(never)]
     fn take(&self, shares: &mut Shares) -> bool {
         shares.take_snoop_answer(self)
     }

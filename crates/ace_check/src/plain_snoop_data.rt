@@ -37,7 +37,7 @@ impl Shares {
 }
 
 impl PlainKind for event_kinds::Cd {
-    #[inline(always)]
+    #[inline(never)]
     fn take(&self, shares: &mut Shares) -> bool {
         shares.take_snoop_beat(self)
     }

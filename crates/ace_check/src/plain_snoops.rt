@@ -70,7 +70,7 @@ impl Shares {
 }
 
 impl PlainKind for event_kinds::Ac {
-    #[inline(always)]
+    #[inline(never)]
     fn take(&self, shares: &mut Shares) -> bool {
         if shares.take_snoop(self) {
             return true;

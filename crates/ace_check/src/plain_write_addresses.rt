@@ -42,7 +42,7 @@ impl Shares {
 }
 
 impl PlainKind for event_kinds::Aw {
-    #[inline(always)]
+    #[inline(never)]
     fn take(&self, shares: &mut Shares) -> bool {
         if shares.take_write_address(self) {
             return true;

@@ -44,7 +44,7 @@ impl Shares {
 }
 
 impl PlainKind for event_kinds::B {
-    #[inline(always)]
+    #[inline(never)]
     fn take(&self, shares: &mut Shares) -> bool {
         if shares.take_response(self) {
             return true;

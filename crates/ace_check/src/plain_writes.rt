@@ -41,7 +41,7 @@ impl Shares {
 }
 
 impl PlainKind for event_kinds::W {
-    #[inline(always)]
+    #[inline(never)]
     fn take(&self, shares: &mut Shares) -> bool {
         shares.take_write_beat(self)
     }

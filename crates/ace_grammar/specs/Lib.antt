@@ -1,5 +1,6 @@
 pub mod Errors
 pub mod Fields
+pub mod Front
 pub mod Lanes
 pub mod Letters
 pub mod Lines

@@ -7,12 +7,11 @@ ghost use Rattle.ace_grammar.specs.Reading.{IsReadable};
 ghost use Rattle.ace_grammar.specs.Reasons.{HasReason};
 
 use crate::Reason;
-use crate::lengths::{
-    ac_by_length, ar_by_length, aw_by_length, b_by_length, cd_by_length, d_by_length, g_by_length,
-    l_by_length, m_by_length, r_by_length, w_by_length,
-};
 use crate::line_reason::line_reason;
-use crate::records::{read_cr, read_mem, read_op, read_rk, read_s, read_wk};
+use crate::records::{
+    read_ac, read_ar, read_aw, read_b, read_cd, read_cr, read_d, read_g, read_l, read_m, read_mem,
+    read_op, read_r, read_rk, read_s, read_w, read_wk,
+};
 use ace_codes::LineState;
 use ace_event::Event;
 
@@ -23,9 +22,9 @@ fn read_a(bytes: &[u8], version: u8, event: &mut Event) -> Option<()>
     ensures stays { result ≡ None → event.new ≡ event.old }
 {
     match bytes {
-        [b'C', rest @ ..] => ac_by_length(rest, version, event),
-        [b'R', rest @ ..] => ar_by_length(rest, version, event),
-        [b'W', rest @ ..] => aw_by_length(rest, version, event),
+        [b'C', rest @ ..] => read_ac(rest, version, event),
+        [b'R', rest @ ..] => read_ar(rest, version, event),
+        [b'W', rest @ ..] => read_aw(rest, version, event),
         _ => None,
     }
 }
@@ -37,7 +36,7 @@ fn read_c(bytes: &[u8], version: u8, event: &mut Event) -> Option<()>
     ensures stays { result ≡ None → event.new ≡ event.old }
 {
     match bytes {
-        [b'D', rest @ ..] => cd_by_length(rest, version, event),
+        [b'D', rest @ ..] => read_cd(rest, version, event),
         [b'R', rest @ ..] => read_cr(rest, version, event),
         _ => None,
     }
@@ -66,7 +65,7 @@ fn read_m_or_mem(bytes: &[u8], version: u8, event: &mut Event) -> Option<()>
 {
     match bytes {
         [b'E', rest @ ..] => read_e(rest, version, event),
-        _ => m_by_length(bytes, version, event),
+        _ => read_m(bytes, version, event),
     }
 }
 
@@ -90,7 +89,7 @@ fn read_r_or_rk(bytes: &[u8], version: u8, event: &mut Event) -> Option<()>
 {
     match bytes {
         [b'K', rest @ ..] => read_rk(rest, version, event),
-        _ => r_by_length(bytes, version, event),
+        _ => read_r(bytes, version, event),
     }
 }
 
@@ -102,23 +101,24 @@ fn read_w_or_wk(bytes: &[u8], version: u8, event: &mut Event) -> Option<()>
 {
     match bytes {
         [b'K', rest @ ..] => read_wk(rest, version, event),
-        _ => w_by_length(bytes, version, event),
+        _ => read_w(bytes, version, event),
     }
 }
 
 /// The event of a line, in a trace of a version.
 #[tactic(auto, unfolding(crate::specs::Records::event_at))]
+#[inline(never)]
 fn read_line(line: &[u8], version: u8, event: &mut Event) -> Option<()>
     ensures event { option_map (λ _. event.new) result ≡ event_at version line.now }
     ensures stays { result ≡ None → event.new ≡ event.old }
 {
     match line {
         [b'A', rest @ ..] => read_a(rest, version, event),
-        [b'B', rest @ ..] => b_by_length(rest, version, event),
+        [b'B', rest @ ..] => read_b(rest, version, event),
         [b'C', rest @ ..] => read_c(rest, version, event),
-        [b'D', rest @ ..] => d_by_length(rest, version, event),
-        [b'G', rest @ ..] => g_by_length(rest, version, event),
-        [b'L', rest @ ..] => l_by_length(rest, version, event),
+        [b'D', rest @ ..] => read_d(rest, version, event),
+        [b'G', rest @ ..] => read_g(rest, version, event),
+        [b'L', rest @ ..] => read_l(rest, version, event),
         [b'M', rest @ ..] => read_m_or_mem(rest, version, event),
         [b'O', rest @ ..] => read_o(rest, version, event),
         [b'R', rest @ ..] => read_r_or_rk(rest, version, event),

@@ -4,9 +4,9 @@
 mod error;
 mod event;
 mod fields;
+mod front;
 mod header;
 pub mod laws;
-mod lengths;
 mod line_reason;
 mod lines;
 mod reader;
@@ -14,6 +14,7 @@ mod reason;
 mod records;
 mod shapes;
 mod stage;
+mod taker;
 
 pub use error::ReadErr;
 pub use event::{NO_EVENT, parse_event};
@@ -24,3 +25,4 @@ pub use lines::take_line;
 pub use reader::{Reader, StartErr};
 pub use reason::Reason;
 pub use shapes::Shape;
+pub use taker::Taker;

@@ -18,7 +18,7 @@ use ace_event::{Event, Header};
 use ace_io::{Failed, LineBuf, LineEnd, LineReader, Source};
 
 /// The most events of a trace.
-const MOST_EVENTS: u64 = 1_048_576;
+pub const MOST_EVENTS: u64 = 1_048_576;
 
 /// Takes the next line with its line feed, and says whether there is one.
 #[tactic(auto, using(crate::proofs::Readings::Taken::cut_front))]

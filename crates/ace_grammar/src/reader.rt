@@ -7,8 +7,10 @@ ghost use Rattle.ace_grammar.specs.declared.error.ReadErr.{ReadErr};
 ghost use Rattle.ace_grammar.specs.Errors.{HasNoHeader, HasFaultCause, StandsNext, with_event};
 ghost use Rattle.ace_grammar.specs.Reading.{IsReadableHeader};
 
-use crate::lines::{read_event, read_header};
+use crate::front::event_in_front;
+use crate::lines::{MOST_EVENTS, read_event, read_header};
 use crate::stage::Stage;
+use crate::taker::Taker;
 use crate::{NO_EVENT, ReadErr};
 use ace_event::{Event, Header};
 use ace_io::{LineBuf, LineReader, NoMemory, Source};
@@ -21,7 +23,7 @@ pub struct StartErr<'a, S: Source> {
     pub source: &'a mut S,
 }
 
-/// Reads a trace from a source. It takes up to 4096 bytes at once, and no memory for an event.
+/// Reads a trace from a source. It takes up to 16,384 bytes at once, and no memory for an event.
 #[derive(Drop)]
 pub struct Reader<'a, S: Source> {
     lines: LineReader<'a, S>,
@@ -33,6 +35,9 @@ pub struct Reader<'a, S: Source> {
 }
 
 impl<'a, S: Source> Reader<'a, S> {
+    ghost use Rattle.std.specs.Prelude.{◌+◌, ◌<◌, true};
+    ghost use Rattle.ace_grammar.specs.Front.{HandsOver};
+    ghost use Rattle.ace_grammar.specs.Reading.{most_events};
     ghost use Rattle.ace_grammar.specs.Reader.{source_of, unread, header_of, count_of, last_answer, lasting, given, count_after, HasRead, IsReading};
 
     /// Reads the two header lines.
@@ -146,10 +151,39 @@ impl<'a, S: Source> Reader<'a, S> {
         }
     }
 
-    /// The same, but it says alone whether there was an event. Where there was none, the reader keeps the answer, which `next`
+    /// Lets a taker have the next event at once, and says whether it took it. Where it didn't, nothing has changed, and `gives` reads
+    /// the event: the taker doesn't take each event, or the line isn't held whole, or there is none, or the trace is of version 2.
+    #[inline(always)]
+    pub fn hands_over<T: Taker>(&mut self, taker: &mut T) -> bool
+        ensures same_source { (source_of self.new).ghost_name ≡ (source_of self.old).ghost_name }
+        ensures source { (source_of self.new).now ≡ (source_of self.old).now }
+        ensures same_header { header_of self.new ≡ header_of self.old }
+        ensures reads_on { result ≡ true → (last_answer self.old ≡ None) × (last_answer self.new ≡ None) }
+        ensures room { result ≡ true → count_of self.old < most_events }
+        ensures count { result ≡ true → count_of self.new ≡ count_of self.old + 1 }
+        ensures taken { result ≡ true → HandsOver (header_of self.old).version (λ event. T.took taker.old event taker.new)
+            (unread S.left self.old) (unread S.left self.new) }
+        ensures stays { result ≡ false → (self.new ≡ self.old) × (taker.new ≡ taker.old) }
+    {
+        if self.header.version != 1
+            || self.count == MOST_EVENTS
+            || !matches!(self.stage, Stage::Reading)
+        {
+            return false;
+        }
+        let mut event = NO_EVENT;
+        let Some(count) = event_in_front(self.lines.front(), &mut event, taker) else {
+            return false;
+        };
+        self.lines.pass(count + 1);
+        self.count += 1;
+        true
+    }
+
+    /// As `next_into`, but it says alone whether there was an event. Where there was none, the reader keeps the answer, which `next`
     /// and `next_into` give from then on.
     #[tactic(auto, using(crate::proofs::Readings::Progress::reading_next))]
-    #[inline(always)]
+    #[inline(never)]
     pub fn gives(&mut self, event: &mut Event) -> bool
         ensures same_source { (source_of self.new).ghost_name ≡ (source_of self.old).ghost_name }
         ensures same_header { header_of self.new ≡ header_of self.old }
@@ -166,6 +200,9 @@ impl<'a, S: Source> Reader<'a, S> {
         ensures cause { last_answer self.old ≡ None → HasFaultCause (given result event.new (last_answer self.new))
             (S.faults (source_of self.old).now) (S.faults (source_of self.new).now) }
     {
+        if self.hands_over(event) {
+            return true;
+        }
         match self.stage {
             Stage::Reading => {}
             Stage::Ended | Stage::Failed(_) => return false,

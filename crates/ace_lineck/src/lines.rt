@@ -86,7 +86,7 @@ impl LineCheck {
     }
 
     /// The same, of a line.
-    #[inline(never)]
+    #[inline(always)]
     fn place_of(&self, line: u32) -> Option<usize>
         ensures { result ≡ place_on self.now (Some line) }
     {

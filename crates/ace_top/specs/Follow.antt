@@ -1,9 +1,11 @@
 -- What follows a trace event by event.
-use Rattle.std.specs.Prelude.{◌≡◌, ℕ, List, Option, None, IfSome, [], length, reverse}
+use Rattle.std.specs.Prelude.{◌≡◌, ◌<◌, ◌-◌, ◌^◌, ◌∷◌, false, is_some, ℕ, List, Option, None, IfSome, [], length, reverse}
+use Rattle.ace_event.specs.declared.event.Event.{Event}
 use Rattle.ace_event.specs.declared.header.Header.{Header}
 use Rattle.ace_grammar.specs.Reading.{Reads, Whole}
 use Rattle.ace_model.specs.Trace.{Trace}
-use Rattle.ace_model.specs.Accepted.{IsAccepted}
+use Rattle.ace_model.specs.Accepted.{IsAccepted, least_broken}
+use Rattle.ace_check.specs.Run.{goes_over}
 use Rattle.ace_check.specs.Run as check
 use Rattle.ace_report.specs.Stands as report
 use Rattle.ace_top.specs.declared.follow.Follower.{Follower}
@@ -15,6 +17,12 @@ pub record Follows (f : Follower) (h : Header) (past : Trace) : Type 0 where
   pub checker : check.Stands f.checker h past None
   pub report : IfSome f.report (λ r. report.Stands r h past)
   pub accepted : IsAccepted h past
+
+-- The follower has followed one event more, and that is fine.
+pub record HasTaken (old : Follower) (event : Event) (new : Follower) : Type 0 where
+  pub fine : (h : Header) (past : Trace) → Follows old h past → (least_broken h past event ≡ None) × (goes_over past event ≡ false)
+  pub follows : (h : Header) (past : Trace) → Follows old h past → length past < 2 ^ 64 - 2 → Follows new h (event ∷ past)
+  pub same_reports : is_some new.report ≡ is_some old.report
 
 -- Since nothing but a header was read, so many events were read and followed, each of them fine.
 abbrev pub HasCome : Follower → ℕ → Header → Option (List ℕ) → Option (List ℕ) → Type 0

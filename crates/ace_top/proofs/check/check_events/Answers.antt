@@ -13,7 +13,7 @@ events-preserved g c =
       same_header = next.same_header ∙ before.same_header;
       same_source = next.same_source ∙ before.same_source;
       same_reports = next.same_reports ∙ before.same_reports;
-      comes = λ follows. comes_further _ _ _ _ _ _ _ _ _ before.same_header (next.count more) (before.comes follows) (λ past f same. let t = next.takes past f same more in (_, t.0, t.1));
+      comes = λ follows. comes_further _ _ _ _ _ _ _ _ _ before.same_header (next.count more) (before.comes follows) (λ past f same. next.takes past f same more);
       front = front_further _ _ _ before.front (next.front more);
       faults = next.steady more ∙ before.faults;
     }

@@ -1,0 +1,2 @@
+pub mod FirstLetters
+pub mod Handed
