@@ -19,6 +19,7 @@ use Rattle.ace_portck.specs.Unfinished.{RisesAt}
 use Rattle.ace_lineck.specs.Stands.{BeginsLine}
 use Rattle.ace_sysck.specs.Registrations.{IsNewLock}
 use Rattle.ace_check.specs.Shares.{SharesTell, most_lines}
+use Rattle.ace_check.specs.declared.shares.Shares.{Shares}
 use Rattle.ace_check.specs.declared.checker.Checker.{Checker}
 use Rattle.ace_check.specs.declared.checker.CheckErr.{CheckErr}
 use Rattle.ace_check.specs.declared.checker.CheckErr.TheVariants.{TooManyLines, NoMemory}
@@ -38,6 +39,14 @@ begins _ = false
 -- the event is an AR or AW that names one line more than a trace may have
 abbrev pub goes_over : Trace → Event → Bool
 goes_over past e = is_some_and (issued (length past) e) (names_new_line past) && nat_le most_lines (length (known_lines past))
+
+-- What the shares tell after an event that a short way may take: where it is taken, it breaks no rule and names no line too many, and they
+-- tell the longer trace; else nothing has changed.
+pub record IsTaken (old : Shares) (e : Event) (new : Shares) (taken : Bool) : Type 0 where
+  pub fine : (h : Header) (past : Trace) → SharesTell old h past → length past < 2 ^ 64 - 1 → taken ≡ true
+      → (least_broken h past e ≡ None) × SharesTell new h (e ∷ past)
+  pub few_lines : (h : Header) (past : Trace) → SharesTell old h past → taken ≡ true → goes_over past e ≡ false
+  pub stays : taken ≡ false → new ≡ old
 
 -- The checker stands for a trace under its header: for each share it keeps what there is to keep of the trace, which is accepted.
 -- The last number is the break that was answered after it, if any was.

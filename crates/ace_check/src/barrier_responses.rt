@@ -45,7 +45,7 @@ impl Shares {
     ghost use Rattle.ace_check.specs.Shares.{SharesTell};
 
     /// Takes a B of half of a barrier that breaks no rule. If it isn't taken, nothing has changed.
-    #[inline(always)]
+    #[inline(never)]
     pub(crate) fn take_barrier_response(&mut self, response: &event_kinds::B) -> bool
         ensures taken { (h : Header) (past : Trace) → SharesTell self.old h past → length past < 2 ^ 64 - 1 → result ≡ true
             → (least_broken h past (B response.now.port response.now.id response.now.resp) ≡ None)

@@ -54,7 +54,7 @@ fn keeps_lineless_beat(
 
 impl Shares {
     /// Takes the last R of a read without a line that breaks no rule. If it isn't taken, nothing has changed.
-    #[inline(always)]
+    #[inline(never)]
     pub(crate) fn take_lineless_beat(&mut self, beat: &event_kinds::R) -> bool
         ensures taken { (h : Header) (past : Trace) → SharesTell self.old h past → length past < 2 ^ 64 - 1 → result ≡ true
             → (least_broken h past (R beat.now.port beat.now.id beat.now.resp beat.now.last beat.now.word) ≡ None)

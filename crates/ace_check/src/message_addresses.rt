@@ -14,7 +14,7 @@ impl Shares {
     ghost use Rattle.ace_check.specs.Shares.{SharesTell};
 
     /// Takes an AR of a DVM Message with lock 0 that breaks no rule. If it isn't taken, nothing has changed.
-    #[inline(always)]
+    #[inline(never)]
     pub(crate) fn take_message(&mut self, address: &event_kinds::Ar) -> bool
         ensures taken { (h : Header) (past : Trace) → SharesTell self.old h past → length past < 2 ^ 64 - 1
             → is_message address.now.snoop address.now.dom address.now.bar address.now.lock ≡ true → result ≡ true
@@ -41,7 +41,7 @@ impl Shares {
     }
 
     /// Takes an AR of a DVM Complete with lock 0 that breaks no rule. If it isn't taken, nothing has changed.
-    #[inline(always)]
+    #[inline(never)]
     pub(crate) fn take_completion(&mut self, address: &event_kinds::Ar) -> bool
         ensures taken { (h : Header) (past : Trace) → SharesTell self.old h past → length past < 2 ^ 64 - 1
             → is_completion address.now.snoop address.now.dom address.now.bar address.now.lock ≡ true → result ≡ true

@@ -29,7 +29,7 @@ impl Shares {
     }
 
     /// Takes an AC of DVM that breaks no rule, if there is room for it. If it isn't taken, nothing has changed.
-    #[inline(always)]
+    #[inline(never)]
     pub(crate) fn take_message_snoop(&mut self, snoop: &event_kinds::Ac) -> bool
         ensures taken { (h : Header) (past : Trace) → SharesTell self.old h past → length past < 2 ^ 64 - 1 → result ≡ true
             → (least_broken h past (Ac snoop.now.port snoop.now.addr snoop.now.snoop) ≡ None)

@@ -5,10 +5,12 @@ ghost use Rattle.ace_event.specs.declared.event.Event.TheVariants.{Rk, Wk};
 ghost use Rattle.ace_event.specs.declared.header.Header.{Header};
 ghost use Rattle.ace_model.specs.Accepted.{least_broken};
 ghost use Rattle.ace_model.specs.Trace.{Trace};
+ghost use Rattle.ace_check.specs.Run.{IsTaken};
 ghost use Rattle.ace_check.specs.Shares.{SharesTell};
 
 use crate::plain::PlainKind;
 use crate::shares::Shares;
+use ace_codes::LineState;
 use ace_event::Channel;
 use ace_portck::kinds::{is_exclusive_store, read_kind, write_kind};
 use ace_portck::{event_kinds, line_of_read, line_of_write};
@@ -64,12 +66,21 @@ impl Shares {
         self.ports.apply(end);
         true
     }
+
+    /// Takes an RK that breaks no rule, given by its fields: so they come in registers. If it isn't taken, nothing has changed.
+    #[inline(never)]
+    fn take_rk(&mut self, port: u8, st: LineState) -> bool
+        ensures { IsTaken self.old (Rk port st) self.new result }
+    {
+        let end = event_kinds::Rk { port, st };
+        self.take_read_end(&end)
+    }
 }
 
 impl PlainKind for event_kinds::Rk {
-    #[inline(never)]
+    #[inline(always)]
     fn take(&self, shares: &mut Shares) -> bool {
-        shares.take_read_end(self)
+        shares.take_rk(self.port, self.st)
     }
 }
 

@@ -14,7 +14,7 @@ impl Shares {
     ghost use Rattle.ace_model.specs.Accepted.{least_broken};
     ghost use Rattle.ace_model.specs.Kinds.{is_line_read};
     ghost use Rattle.ace_model.specs.Trace.{Trace};
-    ghost use Rattle.ace_check.specs.Run.{goes_over};
+    ghost use Rattle.ace_check.specs.Run.{IsTaken, goes_over};
     ghost use Rattle.ace_check.specs.Shares.{SharesTell};
 
     /// Takes an AR of a line read of the kind, if a transaction has named its line and it breaks no rule. If it isn't taken, nothing has
@@ -44,16 +44,44 @@ impl Shares {
         self.system.begin_line_read(address.port, address.id);
         true
     }
+
+    /// Takes an AR that breaks no rule, given by its fields: so they come in registers. If it isn't taken, nothing has changed.
+    #[inline(never)]
+    fn take_ar(
+        &mut self,
+        port: u8,
+        id: u8,
+        addr: u32,
+        snoop: u8,
+        dom: u8,
+        bar: u8,
+        lock: bool,
+    ) -> bool
+        ensures { IsTaken self.old (Ar port id addr snoop dom bar lock) self.new result }
+    {
+        let read = event_kinds::Ar {
+            port,
+            id,
+            addr,
+            snoop,
+            dom,
+            bar,
+            lock,
+        };
+        match read_ar(snoop, dom, bar) {
+            Some(kind) if is_line_read(kind) => self.take_read_address(&read, kind),
+            Some(ArKind::DvmMessage) if !lock => self.take_message(&read),
+            Some(ArKind::DvmComplete) if !lock => self.take_completion(&read),
+            _ => self.take_barrier(&read),
+        }
+    }
 }
 
 impl PlainKind for event_kinds::Ar {
-    #[inline(never)]
+    #[inline(always)]
     fn take(&self, shares: &mut Shares) -> bool {
-        match read_ar(self.snoop, self.dom, self.bar) {
-            Some(kind) if is_line_read(kind) => shares.take_read_address(self, kind),
-            Some(ArKind::DvmMessage) if !self.lock => shares.take_message(self),
-            Some(ArKind::DvmComplete) if !self.lock => shares.take_completion(self),
-            _ => shares.take_barrier(self),
-        }
+        shares.take_ar(
+            self.port, self.id, self.addr, self.snoop, self.dom, self.bar, self.lock,
+        )
     }
 }

@@ -11,6 +11,7 @@ ghost use Rattle.ace_portck.specs.Plain.{plain_read};
 ghost use Rattle.ace_portck.specs.Stands.{Stands as PortsTell};
 ghost use Rattle.ace_portck.specs.Targets.{Recording, progress_of};
 ghost use Rattle.ace_lineck.specs.Stands.{Stands as LinesTell, place_on};
+ghost use Rattle.ace_check.specs.Run.{IsTaken};
 ghost use Rattle.ace_check.specs.Shares.{SharesTell};
 
 use crate::plain::PlainKind;
@@ -69,14 +70,29 @@ impl Shares {
         self.ports.apply(beat);
         true
     }
+
+    /// Takes an R that breaks no rule, given by its fields: so they come in registers. If it isn't taken, nothing has changed.
+    #[inline(never)]
+    fn take_r(&mut self, port: u8, id: u8, resp: u8, last: bool, word: u128) -> bool
+        ensures { IsTaken self.old (R port id resp last word) self.new result }
+    {
+        let beat = event_kinds::R {
+            port,
+            id,
+            resp,
+            last,
+            word,
+        };
+        if self.take_beat(&beat) {
+            return true;
+        }
+        self.take_lineless_beat(&beat)
+    }
 }
 
 impl PlainKind for event_kinds::R {
-    #[inline(never)]
+    #[inline(always)]
     fn take(&self, shares: &mut Shares) -> bool {
-        if shares.take_beat(self) {
-            return true;
-        }
-        shares.take_lineless_beat(self)
+        shares.take_r(self.port, self.id, self.resp, self.last, self.word)
     }
 }

@@ -2,6 +2,7 @@
 
 use crate::plain::PlainKind;
 use crate::shares::Shares;
+use ace_event::Channel;
 use ace_portck::event_kinds;
 
 impl Shares {
@@ -10,6 +11,7 @@ impl Shares {
     ghost use Rattle.ace_event.specs.declared.header.Header.{Header};
     ghost use Rattle.ace_model.specs.Accepted.{least_broken};
     ghost use Rattle.ace_model.specs.Trace.{Trace};
+    ghost use Rattle.ace_check.specs.Run.{IsTaken};
     ghost use Rattle.ace_check.specs.Shares.{SharesTell};
 
     /// Takes a G that breaks no rule, if it grants a transaction with lock 0, or a line that one with lock 1 was granted before. If it isn't
@@ -39,11 +41,20 @@ impl Shares {
         self.lines.hear_grant(&x, place);
         true
     }
+
+    /// Takes a G that breaks no rule, given by its fields: so they come in registers. If it isn't taken, nothing has changed.
+    #[inline(never)]
+    fn take_g(&mut self, port: u8, chan: Channel, id: u8) -> bool
+        ensures { IsTaken self.old (G port chan id) self.new result }
+    {
+        let grant = event_kinds::G { port, chan, id };
+        self.take_grant(&grant)
+    }
 }
 
 impl PlainKind for event_kinds::G {
-    #[inline(never)]
+    #[inline(always)]
     fn take(&self, shares: &mut Shares) -> bool {
-        shares.take_grant(self)
+        shares.take_g(self.port, self.chan, self.id)
     }
 }

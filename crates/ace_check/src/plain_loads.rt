@@ -5,6 +5,7 @@ ghost use Rattle.ace_event.specs.declared.event.Event.TheVariants.{L};
 ghost use Rattle.ace_event.specs.declared.header.Header.{Header};
 ghost use Rattle.ace_model.specs.Accepted.{least_broken};
 ghost use Rattle.ace_model.specs.Trace.{Trace};
+ghost use Rattle.ace_check.specs.Run.{IsTaken};
 ghost use Rattle.ace_check.specs.Shares.{SharesTell};
 
 use crate::plain::PlainKind;
@@ -36,11 +37,26 @@ impl Shares {
         self.system.load(load);
         true
     }
+
+    /// Takes an L that breaks no rule, given by its fields: so they come in registers. If it isn't taken, nothing has changed.
+    #[inline(never)]
+    fn take_l(&mut self, port: u8, addr: u32, w: u8, x: bool, word: u128) -> bool
+        ensures { IsTaken self.old (L port addr w x word) self.new result }
+    {
+        let load = event_kinds::L {
+            port,
+            addr,
+            w,
+            x,
+            word,
+        };
+        self.take_load(&load)
+    }
 }
 
 impl PlainKind for event_kinds::L {
-    #[inline(never)]
+    #[inline(always)]
     fn take(&self, shares: &mut Shares) -> bool {
-        shares.take_load(self)
+        shares.take_l(self.port, self.addr, self.w, self.x, self.word)
     }
 }

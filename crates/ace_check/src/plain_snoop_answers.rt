@@ -10,11 +10,12 @@ ghost use Rattle.ace_model.specs.Trace.{Trace};
 ghost use Rattle.ace_portck.specs.SnoopAnswers.{IsAnswered};
 ghost use Rattle.ace_portck.specs.Targets.{line_of_snoop};
 ghost use Rattle.ace_lineck.specs.Stands.{place_on};
+ghost use Rattle.ace_check.specs.Run.{IsTaken};
 ghost use Rattle.ace_check.specs.Shares.{SharesTell};
 
 use crate::plain::PlainKind;
 use crate::shares::Shares;
-use ace_codes::{SnoopKind, read_ac};
+use ace_codes::{LineState, SnoopKind, read_ac};
 use ace_portck::{event_kinds, snooped_line};
 
 impl Shares {
@@ -72,11 +73,20 @@ impl Shares {
         self.system.hear_snoop_answer(answer, kind, line);
         true
     }
+
+    /// Takes a CR that breaks no rule, given by its fields: so they come in registers. If it isn't taken, nothing has changed.
+    #[inline(never)]
+    fn take_cr(&mut self, port: u8, resp: u8, st: LineState) -> bool
+        ensures { IsTaken self.old (Cr port resp st) self.new result }
+    {
+        let answer = event_kinds::Cr { port, resp, st };
+        self.take_snoop_answer(&answer)
+    }
 }
 
 impl PlainKind for event_kinds::Cr {
-    #[inline(never)]
+    #[inline(always)]
     fn take(&self, shares: &mut Shares) -> bool {
-        shares.take_snoop_answer(self)
+        shares.take_cr(self.port, self.resp, self.st)
     }
 }

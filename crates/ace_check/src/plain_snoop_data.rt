@@ -5,6 +5,7 @@ ghost use Rattle.ace_event.specs.declared.event.Event.TheVariants.{Cd};
 ghost use Rattle.ace_event.specs.declared.header.Header.{Header};
 ghost use Rattle.ace_model.specs.Accepted.{least_broken};
 ghost use Rattle.ace_model.specs.Trace.{Trace};
+ghost use Rattle.ace_check.specs.Run.{IsTaken};
 ghost use Rattle.ace_check.specs.Shares.{SharesTell};
 
 use crate::plain::PlainKind;
@@ -34,11 +35,20 @@ impl Shares {
         self.lines.hear_sent(place, beat.port, number);
         true
     }
+
+    /// Takes a CD that breaks no rule, given by its fields: so they come in registers. If it isn't taken, nothing has changed.
+    #[inline(never)]
+    fn take_cd(&mut self, port: u8, last: bool, word: u128) -> bool
+        ensures { IsTaken self.old (Cd port last word) self.new result }
+    {
+        let beat = event_kinds::Cd { port, last, word };
+        self.take_snoop_beat(&beat)
+    }
 }
 
 impl PlainKind for event_kinds::Cd {
-    #[inline(never)]
+    #[inline(always)]
     fn take(&self, shares: &mut Shares) -> bool {
-        shares.take_snoop_beat(self)
+        shares.take_cd(self.port, self.last, self.word)
     }
 }

@@ -8,6 +8,7 @@ ghost use Rattle.ace_model.specs.Lines.{has_failed_on};
 ghost use Rattle.ace_model.specs.Snoops.{snoops_a_line};
 ghost use Rattle.ace_model.specs.Trace.{Trace};
 ghost use Rattle.ace_lineck.specs.Stands.{place_on};
+ghost use Rattle.ace_check.specs.Run.{IsTaken};
 ghost use Rattle.ace_check.specs.Shares.{SharesTell};
 
 use crate::plain::PlainKind;
@@ -67,14 +68,23 @@ impl Shares {
         self.lines.hear_snoop(place, snoop.port);
         true
     }
+
+    /// Takes an AC that breaks no rule, given by its fields: so they come in registers. If it isn't taken, nothing has changed.
+    #[inline(never)]
+    fn take_ac(&mut self, port: u8, addr: u32, snoop: u8) -> bool
+        ensures { IsTaken self.old (Ac port addr snoop) self.new result }
+    {
+        let snoop = event_kinds::Ac { port, addr, snoop };
+        if self.take_snoop(&snoop) {
+            return true;
+        }
+        self.take_message_snoop(&snoop)
+    }
 }
 
 impl PlainKind for event_kinds::Ac {
-    #[inline(never)]
+    #[inline(always)]
     fn take(&self, shares: &mut Shares) -> bool {
-        if shares.take_snoop(self) {
-            return true;
-        }
-        shares.take_message_snoop(self)
+        shares.take_ac(self.port, self.addr, self.snoop)
     }
 }

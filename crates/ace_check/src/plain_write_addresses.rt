@@ -10,7 +10,7 @@ impl Shares {
     ghost use Rattle.ace_event.specs.declared.header.Header.{Header};
     ghost use Rattle.ace_model.specs.Accepted.{least_broken};
     ghost use Rattle.ace_model.specs.Trace.{Trace};
-    ghost use Rattle.ace_check.specs.Run.{goes_over};
+    ghost use Rattle.ace_check.specs.Run.{IsTaken, goes_over};
     ghost use Rattle.ace_check.specs.Shares.{SharesTell};
 
     /// Takes an AW of a line write, if a transaction has named its line and it breaks no rule. If it isn't taken, nothing has changed.
@@ -39,14 +39,32 @@ impl Shares {
         self.ports.apply(address);
         true
     }
+
+    /// Takes an AW that breaks no rule, given by its fields: so they come in registers. If it isn't taken, nothing has changed.
+    #[inline(never)]
+    fn take_aw(&mut self, port: u8, id: u8, addr: u32, snoop: u8, dom: u8, bar: u8) -> bool
+        ensures { IsTaken self.old (Aw port id addr snoop dom bar) self.new result }
+    {
+        let write = event_kinds::Aw {
+            port,
+            id,
+            addr,
+            snoop,
+            dom,
+            bar,
+        };
+        if self.take_write_address(&write) {
+            return true;
+        }
+        self.take_barrier(&write)
+    }
 }
 
 impl PlainKind for event_kinds::Aw {
-    #[inline(never)]
+    #[inline(always)]
     fn take(&self, shares: &mut Shares) -> bool {
-        if shares.take_write_address(self) {
-            return true;
-        }
-        shares.take_barrier(self)
+        shares.take_aw(
+            self.port, self.id, self.addr, self.snoop, self.dom, self.bar,
+        )
     }
 }

@@ -12,6 +12,7 @@ impl Shares {
     ghost use Rattle.ace_event.specs.declared.header.Header.{Header};
     ghost use Rattle.ace_model.specs.Accepted.{least_broken};
     ghost use Rattle.ace_model.specs.Trace.{Trace};
+    ghost use Rattle.ace_check.specs.Run.{IsTaken};
     ghost use Rattle.ace_check.specs.Shares.{SharesTell};
 
     /// Takes a B of a line write that breaks no rule. If it isn't taken, nothing has changed.
@@ -41,14 +42,23 @@ impl Shares {
         self.ports.apply(response);
         true
     }
+
+    /// Takes a B that breaks no rule, given by its fields: so they come in registers. If it isn't taken, nothing has changed.
+    #[inline(never)]
+    fn take_b(&mut self, port: u8, id: u8, resp: u8) -> bool
+        ensures { IsTaken self.old (B port id resp) self.new result }
+    {
+        let response = event_kinds::B { port, id, resp };
+        if self.take_response(&response) {
+            return true;
+        }
+        self.take_barrier_response(&response)
+    }
 }
 
 impl PlainKind for event_kinds::B {
-    #[inline(never)]
+    #[inline(always)]
     fn take(&self, shares: &mut Shares) -> bool {
-        if shares.take_response(self) {
-            return true;
-        }
-        shares.take_barrier_response(self)
+        shares.take_b(self.port, self.id, self.resp)
     }
 }

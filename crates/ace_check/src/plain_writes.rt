@@ -5,6 +5,7 @@ ghost use Rattle.ace_event.specs.declared.event.Event.TheVariants.{W};
 ghost use Rattle.ace_event.specs.declared.header.Header.{Header};
 ghost use Rattle.ace_model.specs.Accepted.{least_broken};
 ghost use Rattle.ace_model.specs.Trace.{Trace};
+ghost use Rattle.ace_check.specs.Run.{IsTaken};
 ghost use Rattle.ace_check.specs.Shares.{SharesTell};
 
 use crate::plain::PlainKind;
@@ -38,11 +39,25 @@ impl Shares {
         self.ports.apply(beat);
         true
     }
+
+    /// Takes a W that breaks no rule, given by its fields: so they come in registers. If it isn't taken, nothing has changed.
+    #[inline(never)]
+    fn take_w(&mut self, port: u8, strb: u16, last: bool, word: u128) -> bool
+        ensures { IsTaken self.old (W port strb last word) self.new result }
+    {
+        let beat = event_kinds::W {
+            port,
+            strb,
+            last,
+            word,
+        };
+        self.take_write_beat(&beat)
+    }
 }
 
 impl PlainKind for event_kinds::W {
-    #[inline(never)]
+    #[inline(always)]
     fn take(&self, shares: &mut Shares) -> bool {
-        shares.take_write_beat(self)
+        shares.take_w(self.port, self.strb, self.last, self.word)
     }
 }

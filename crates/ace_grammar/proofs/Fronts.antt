@@ -1,2 +1,3 @@
+pub mod AllHanded
 pub mod FirstLetters
 pub mod Handed

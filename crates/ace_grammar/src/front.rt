@@ -1,8 +1,9 @@
 // The event whose line stands at the front of some bytes. In version 1 a record has one length, or one for each state or outcome that
 // ends it: where a line feed stands behind so many bytes, the fields are read where they stand, and no line feed is looked for. The
 // event is handed to a taker there, where its kind is known.
-ghost use Rattle.std.specs.Prelude.{◌≡◌, ◌<◌, true, false, None, IfSome, length, take, slice_index};
-ghost use Rattle.ace_grammar.specs.Front.{IsInFront};
+ghost use Rattle.std.specs.Prelude.{◌≡◌, ◌<◌, ◌≤◌, true, false, None, IfSome, List, length, take, drop, slice_index};
+ghost use Rattle.ace_event.specs.declared.event.Event.{Event};
+ghost use Rattle.ace_grammar.specs.Front.{IsInFront, StoodInFront};
 ghost use Rattle.std.specs.Option.{option_map};
 ghost use Rattle.ace_grammar.specs.Records.{a_at, c_at, event_at, m_at, o_at, r_at, s_event, s_fields, w_at};
 
@@ -270,5 +271,38 @@ pub fn event_in_front<T: Taker>(bytes: &[u8], event: &mut Event, taker: &mut T) 
         [b'S', rest @ ..] => Some(s_in_front(rest, event, taker)? + 1),
         [b'W', rest @ ..] => Some(w_in_front(rest, event, taker)? + 1),
         _ => None,
+    }
+}
+
+/// How much of some bytes was handed over: so many bytes, the lines of so many events.
+#[derive(Clone, Copy, Debug, PartialEq, Eq)]
+pub struct Handed {
+    pub bytes: usize,
+    pub events: u64,
+}
+
+/// Lets the taker have the events whose lines stand one after another at the front of the bytes of a trace of version 1, at most so
+/// many, up to the first that `event_in_front` doesn't hand over. What is left of the bytes is kept at hand, so that nothing is looked
+/// up again from event to event.
+#[inline(always)]
+pub fn events_in_front<T: Taker>(bytes: &[u8], most: u64, taker: &mut T) -> Handed
+    ensures within { result.bytes ≤ length bytes.now }
+    ensures few { result.events ≤ most }
+    ensures handed { (events : List Event) × (length events ≡ result.events)
+        × StoodInFront T.took bytes.now (drop result.bytes bytes.now) events taker.old taker.new }
+{
+    let mut rest = bytes;
+    let mut room = most;
+    'events: while room > 0 {
+        let mut event = NO_EVENT;
+        let Some(count) = event_in_front(rest, &mut event, taker) else {
+            break;
+        };
+        rest = &rest[count + 1..];
+        room -= 1;
+    }
+    Handed {
+        bytes: bytes.len() - rest.len(),
+        events: most - room,
     }
 }

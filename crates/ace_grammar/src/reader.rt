@@ -7,7 +7,7 @@ ghost use Rattle.ace_grammar.specs.declared.error.ReadErr.{ReadErr};
 ghost use Rattle.ace_grammar.specs.Errors.{HasNoHeader, HasFaultCause, StandsNext, with_event};
 ghost use Rattle.ace_grammar.specs.Reading.{IsReadableHeader};
 
-use crate::front::event_in_front;
+use crate::front::{event_in_front, events_in_front};
 use crate::lines::{MOST_EVENTS, read_event, read_header};
 use crate::stage::Stage;
 use crate::taker::Taker;
@@ -35,8 +35,8 @@ pub struct Reader<'a, S: Source> {
 }
 
 impl<'a, S: Source> Reader<'a, S> {
-    ghost use Rattle.std.specs.Prelude.{◌+◌, ◌<◌, true};
-    ghost use Rattle.ace_grammar.specs.Front.{HandsOver};
+    ghost use Rattle.std.specs.Prelude.{◌+◌, ◌-◌, ◌<◌, ◌≤◌, true, is_some};
+    ghost use Rattle.ace_grammar.specs.Front.{HandsAllOver, HandsOver};
     ghost use Rattle.ace_grammar.specs.Reading.{most_events};
     ghost use Rattle.ace_grammar.specs.Reader.{source_of, unread, header_of, count_of, last_answer, lasting, given, count_after, HasRead, IsReading};
 
@@ -178,6 +178,31 @@ impl<'a, S: Source> Reader<'a, S> {
         self.lines.pass(count + 1);
         self.count += 1;
         true
+    }
+
+    /// Lets a taker have the next events at once, one after another, as long as their lines are held whole and it takes them. Where the
+    /// reader doesn't read on, or the trace is of version 2, it has none.
+    #[inline(always)]
+    pub fn hands_all_over<T: Taker>(&mut self, taker: &mut T)
+        ensures same_source { (source_of self.new).ghost_name ≡ (source_of self.old).ghost_name }
+        ensures source { (source_of self.new).now ≡ (source_of self.old).now }
+        ensures same_header { header_of self.new ≡ header_of self.old }
+        ensures same_answer { last_answer self.new ≡ last_answer self.old }
+        ensures further { count_of self.old ≤ count_of self.new }
+        ensures few { count_of self.old ≤ most_events → count_of self.new ≤ most_events }
+        ensures taken { HandsAllOver (header_of self.old).version T.took (count_of self.new - count_of self.old) taker.old taker.new
+            (unread S.left self.old) (unread S.left self.new) }
+        ensures stays { is_some (last_answer self.old) ≡ true → (self.new ≡ self.old) × (taker.new ≡ taker.old) }
+    {
+        if self.header.version != 1
+            || self.count >= MOST_EVENTS
+            || !matches!(self.stage, Stage::Reading)
+        {
+            return;
+        }
+        let handed = events_in_front(self.lines.front(), MOST_EVENTS - self.count, taker);
+        self.lines.pass(handed.bytes);
+        self.count += handed.events;
     }
 
     /// As `next_into`, but it says alone whether there was an event. Where there was none, the reader keeps the answer, which `next`

@@ -24,6 +24,8 @@ use Rattle.ace_portck.specs.declared.target.Target.{Target}
 use Rattle.ace_codes.specs.declared.state.LineState.{LineState}
 use Rattle.ace_lineck.specs.declared.record.LineRecord.{LineRecord}
 use Rattle.ace_lineck.specs.declared.grant.Grant.{Grant}
+use Rattle.ace_lineck.specs.declared.stages.Stage.{Stage}
+use Rattle.ace_lineck.specs.declared.stages.Stage.TheVariants.{Unsnooped, Unanswered, Sending, Done}
 use Rattle.ace_lineck.specs.States.{StatesStand, state_at}
 use Rattle.ace_lineck.specs.Grants.{GrantFits, GrantStands, stage_at, stage_by, stage_of}
 use Rattle.ace_lineck.specs.Records.{IsNext}
@@ -158,6 +160,17 @@ done-beyond h g xs q stages states =
     let unsnooped = slice_get_past g.stages q stages in
     let invalid = slice_get_past xs q states in
     rw (unsnooped, invalid) (or-true ((q == g.transaction.port) || not (is_ace h q)))
+
+-- where each port is quiet, each is done
+pub quiet_done : (h : Header) (g : Grant) (xs : List LineState) (n : ℕ) → ((q : ℕ) → is_settled (stage_at g.stages q) (is_invalid (state_at xs q)) ≡ true)
+    → true ≡ list_all (is_done_at h g xs) (ports_below n)
+quiet_done h g xs n quiet = all-below (is_done_at h g xs) 0 (λ q low. spared (stage_at g.stages q) _ _ (quiet q)) n (omega arith)
+  where
+    spared : (stage : Stage) (a b : Bool) → is_settled stage b ≡ true → is_settled stage (a || b) ≡ true
+    spared Unsnooped a b is = rw is (or-true a)
+    spared Done a b is = refl
+    spared Unanswered a b is = is
+    spared Sending a b is = is
 
 -- K13: whether the port may be snooped under the grant
 pub snooped-law : (h : Header) (past : Trace) → IsAccepted h past → (addr p snoop : ℕ) (failed : Bool) (g : Option Grant)

@@ -20,6 +20,7 @@ ghost use Rattle.ace_portck.specs.declared.target.Target.{Target};
 ghost use Rattle.ace_portck.specs.Targets.{line_of};
 ghost use Rattle.ace_lineck.specs.Records.{IsNext};
 ghost use Rattle.ace_lineck.specs.Grants.{stage_at};
+ghost use Rattle.ace_lineck.specs.States.{state_at};
 ghost use Rattle.ace_lineck.specs.Kept.{is_unsnooped, is_sending, may_be_snooped, has_passed, is_passed_whole, is_settled, is_done_at, are_done, is_its, takes_data, may_have_beat, IsFailure};
 
 use crate::grant::Grant;
@@ -212,9 +213,30 @@ fn kept_ports(header: &Header) -> u8
     if header.ports <= 32 { header.ports } else { 32 }
 }
 
-/// The snoops of each port are done. So are those of a port beyond the 32 of which a stage and a state are kept: it wasn't snooped, and
-/// doesn't have the line.
-pub fn is_each_done(kept: &LineRecord, g: &Grant, header: &Header) -> bool
+/// Whichever port it is, a port at this stage, which has the line in this state, owes nothing and need not be snooped: it has answered
+/// whole, or it wasn't snooped and doesn't have the line.
+#[inline(always)]
+fn is_quiet(stage: Stage, state: LineState) -> bool
+    ensures { result ≡ is_settled stage (is_invalid state) }
+{
+    is_settled(stage, is_invalid(state))
+}
+
+/// Each port is quiet, which is asked of all at once, as no port's answer depends on another's or on the header.
+#[inline(always)]
+fn is_each_quiet(stages: &[Stage; 32], states: &[LineState; 32]) -> bool
+    ensures { result ≡ true → (q : ℕ) → is_settled (stage_at stages.now q) (is_invalid (state_at states.now q)) ≡ true }
+{
+    let mut all = true;
+    for port in 0..32 {
+        all = both(is_quiet(stages[port], states[port]), all);
+    }
+    all
+}
+
+/// The snoops of each port are done, port by port. So are those of a port beyond the 32 of which a stage and a state are kept: it wasn't
+/// snooped, and doesn't have the line.
+fn is_one_by_one_done(kept: &LineRecord, g: &Grant, header: &Header) -> bool
     ensures { result ≡ list_all (is_done_at header.now g.now kept.now.states) (ports_below header.now.ports) }
 {
     let mut all = true;
@@ -222,6 +244,14 @@ pub fn is_each_done(kept: &LineRecord, g: &Grant, header: &Header) -> bool
         all = both(is_done_at(&kept.states, g, header, port), all);
     }
     all
+}
+
+/// The snoops of each port are done. Mostly each is quiet, so that is asked first.
+#[tactic(auto, using(crate::proofs::GrantLaws::quiet_done))]
+pub fn is_each_done(kept: &LineRecord, g: &Grant, header: &Header) -> bool
+    ensures { result ≡ list_all (is_done_at header.now g.now kept.now.states) (ports_below header.now.ports) }
+{
+    is_each_quiet(&g.stages, &kept.states) || is_one_by_one_done(kept, g, header)
 }
 
 /// The snoops under the grant are done.

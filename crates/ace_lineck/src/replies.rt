@@ -130,7 +130,7 @@ fn is_make_unique(kind: ArKind) -> bool
 pub fn must_be_shared(header: &Header, shared: bool, x: &Transaction, kind: ArKind) -> bool
     ensures { result ≡ (is_ace header.now x.now.port && may_be_shared kind && shared) }
 {
-    is_ace(header, x.port) && may_be_shared(kind) && shared
+    shared && may_be_shared(kind) && is_ace(header, x.port)
 }
 
 /// A read of this kind can take passed data, beside an answer with IsShared or without: its response may say PassDirty.

@@ -5,6 +5,7 @@ pub mod Followed
 pub mod Following
 pub mod FrontGiven
 pub mod GenerateLemmas
+pub mod Handed
 pub mod Hyphens
 pub mod Numbers
 pub mod OneAnswer

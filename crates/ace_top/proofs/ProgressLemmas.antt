@@ -1,5 +1,5 @@
 -- One more event, and the verdict.
-use Rattle.std.proofs.Common.{◌≡◌, ◌≢◌, ◌≤◌, ◌<◌, ◌+◌, ◌++◌, ℕ, List, [], ◌∷◌, Option, Some, None, Result, Ok, Err, IfSome, IfErr, OnOk, length, reverse, sym, ap, subst, ◌∙◌, append-nil, arith, inr, refl}
+use Rattle.std.proofs.Common.{◌≡◌, ◌≢◌, ◌≤◌, ◌+◌, ◌++◌, ℕ, List, [], ◌∷◌, Option, Some, None, Result, Ok, Err, IfSome, IfErr, OnOk, length, reverse, sym, ap, subst, ◌∙◌, append-nil, arith, inr, refl}
 use Rattle.std.specs.Prelude.{⊤}
 use Rattle.std.specs.List.{AllByRecursion}
 use Rattle.std.specs.Io.KnownBytes.{Consumes, IsAtEnd}
@@ -11,12 +11,11 @@ use Rattle.ace_event.specs.Text.{trace_text, header_text}
 use Rattle.ace_grammar.proofs.Readings.OneMore.{readable-more, trace_text-more}
 use Rattle.ace_grammar.proofs.Readings.Taken.{split, reads_to, at_end}
 use Rattle.ace_grammar.specs.Errors.{TakesFront, LeavesNothing}
-use Rattle.ace_grammar.specs.Front.{HandsOver}
 use Rattle.ace_grammar.specs.Reading.{Reads, Ending, Ends, Whole, Full, Bad, IsReadable, IsReadableHeader, HasBadLine, IfTold, most_events}
 use Rattle.ace_top.specs.declared.answer.Answer.{Answer}
 use Rattle.ace_top.specs.declared.answer.Answer.TheVariants.{Refused, Malformed, ReadFault, LimitEvents, LimitLines, NoMemory}
 use Rattle.ace_top.specs.declared.follow.Follower.{Follower}
-use Rattle.ace_top.specs.Follow.{Follows, HasCome, HasFollowed, HasTaken}
+use Rattle.ace_top.specs.Follow.{Follows, HasCome, HasFollowed}
 use Rattle.ace_top.specs.Progress.{IsFine, StandsAt, TakesEvent, TakesStop, StopsAt, IsNextVerdict}
 use Rattle.ace_top.specs.Verdict.{Stop, Breaks, GoesOver, IsVerdict, ReadsUnbroken, BeginsStopped, first_stop}
 use Rattle.ace_top.proofs.Stops.{no_stop, next_breaks, next_goes_over}
@@ -157,21 +156,5 @@ front_further old mid new front more =
 
 pub no_front : (old : Option (List ℕ)) → TakesFront old old
 no_front old = record { taken = []; consumed = Consumes-nil old }
-
--- an event that was handed over, and taken, was read and found fine
-pub handed_takes : (h : Header) (past : List Event) (f f' : Follower) (left left' : Option (List ℕ)) → length past < most_events → Follows f h past
-    → HandsOver h.version (λ event. HasTaken f event f') left left' → (event : Event) × Follows f' h (event ∷ past) × TakesEvent h past event left left'
-handed_takes h past f f' left left' room follows handed =
-    let fine = handed.taken.fine h past follows in (
-      handed.event,
-      handed.taken.follows h past follows (omega (arith, room)),
-      record { readable = handed.readable; taken = handed.text; kept = fine.0; within = fine.1 },
-    )
-
--- its line was in front
-pub handed_front : (version : ℕ) (f f' : Follower) (left left' : Option (List ℕ)) → HandsOver version (λ event. HasTaken f event f') left left' → TakesFront left left'
-handed_front version f f' left left' handed = record { taken = _; consumed = handed.text }
-
-pub ruleset handed = (handed_takes, handed_front)
 
 pub ruleset progress = (stands_at_start, comes_at_start, leaves_nothing_before, leaves_nothing_further, no_front)

@@ -3,13 +3,12 @@ ghost use Rattle.std.specs.Prelude.{◌≡◌, ◌<◌, ◌+◌, ℕ, List, [], 
 ghost use Rattle.std.specs.Io.KnownBytes.{IsAtEnd};
 ghost use Rattle.ace_event.specs.declared.event.Event.{Event};
 ghost use Rattle.ace_grammar.specs.Errors.{LeavesNothing, TakesFront};
-ghost use Rattle.ace_grammar.specs.Front.{HandsOver};
 ghost use Rattle.ace_grammar.specs.Reader.{source_of, unread, header_of, count_of, last_answer, lasting, given};
 ghost use Rattle.ace_grammar.specs.Reading.{most_events};
 ghost use Rattle.ace_model.specs.Trace.{Trace};
 ghost use Rattle.ace_top.specs.Answer.{CarriesOut, HasStatusCause};
 ghost use Rattle.ace_top.specs.ErrorAnswer.{ends_so};
-ghost use Rattle.ace_top.specs.Follow.{Follows, HasFollowed, HasTaken};
+ghost use Rattle.ace_top.specs.Follow.{Follows, HasCome, HasFollowed};
 ghost use Rattle.ace_top.specs.Progress.{EndsInput, HasReadCause, IsNextVerdict, IsRefusal, IsVerdictAnswer, TakesEvent, StandsAt};
 ghost use Rattle.ace_top.specs.Verdict.{IsVerdict, ReadsSound};
 ghost use Rattle.ace_top.specs.declared.words.Command.TheVariants as command;
@@ -143,31 +142,37 @@ fn check_events<S: Source>(follower: &mut Follower, reader: &mut Reader<S>) -> R
 {
     let mut event = NO_EVENT;
     let mut end = Ok(());
-    'events: while check_next(follower, reader, &mut event, &mut end) {}
+    'events: while check_next(follower, reader, &mut event, &mut end) {
+        follow_at_once(follower, reader);
+    }
     end
 }
 
-/// Follows the next event while it is read, where that can be and no report is asked for, and says whether it did. Where it didn't,
-/// nothing has changed.
+/// Follows the next events while they are read, as far as that can be, if no report is asked for.
 #[inline(always)]
-fn follows_at_once<S: Source>(follower: &mut Follower, reader: &mut Reader<S>) -> bool
+#[tactic(auto, using(crate::proofs::Handed::handed))]
+fn follow_at_once<S: Source>(follower: &mut Follower, reader: &mut Reader<S>)
     ensures same_source { (source_of reader.new).ghost_name ≡ (source_of reader.old).ghost_name }
     ensures source { (source_of reader.new).now ≡ (source_of reader.old).now }
     ensures same_header { header_of reader.new ≡ header_of reader.old }
-    ensures reads_on { result ≡ true → last_answer reader.new ≡ None }
-    ensures room { result ≡ true → count_of reader.old < most_events }
-    ensures count { result ≡ true → count_of reader.new ≡ count_of reader.old + 1 }
-    ensures taken { result ≡ true → HandsOver (header_of reader.old).version (λ event. HasTaken follower.old event follower.new)
-        (unread S.left reader.old) (unread S.left reader.new) }
-    ensures stays { result ≡ false → (reader.new ≡ reader.old) × (follower.new ≡ follower.old) }
+    ensures same_reports { is_some follower.new.report ≡ is_some follower.old.report }
+    ensures same_answer { last_answer reader.new ≡ last_answer reader.old }
+    ensures further { count_of reader.old ≤ count_of reader.new }
+    ensures few { count_of reader.old ≤ most_events → count_of reader.new ≤ most_events }
+    ensures front { TakesFront (unread S.left reader.old) (unread S.left reader.new) }
+    ensures comes { (start : Option (List ℕ)) → count_of reader.old ≤ most_events
+        → HasCome follower.old (count_of reader.old) (header_of reader.old) start (unread S.left reader.old)
+        → HasCome follower.new (count_of reader.new) (header_of reader.old) start (unread S.left reader.new) }
 {
-    follower.is_brief() && reader.hands_over(follower)
+    if follower.is_brief() {
+        reader.hands_all_over(follower);
+    }
 }
 
-/// Follows the next event, at once where it is read, or else from its place. Where the reading ends instead, at the end of the trace or
-/// by an answer, it says how in `end`.
+/// Reads one event into its place and follows it. Where the reading ends instead, at the end of the trace or by an answer, it says how
+/// in `end`.
 #[inline(always)]
-#[tactic(auto, using(crate::proofs::ErrorLemmas::errors, crate::proofs::ReaderEnds::none_given, crate::proofs::ProgressLemmas::handed))]
+#[tactic(auto, using(crate::proofs::ErrorLemmas::errors, crate::proofs::ReaderEnds::none_given))]
 fn check_next<S: Source>(
     follower: &mut Follower,
     reader: &mut Reader<S>,
@@ -183,8 +188,8 @@ fn check_next<S: Source>(
     ensures count { result ≡ true → count_of reader.new ≡ count_of reader.old + 1 }
     ensures front { result ≡ true → TakesFront (unread S.left reader.old) (unread S.left reader.new) }
     ensures takes { (past : Trace) → Follows follower.old (header_of reader.old) past → count_of reader.old ≡ length past → result ≡ true
-        → (e : Event) × Follows follower.new (header_of reader.old) (e ∷ past)
-        × TakesEvent (header_of reader.old) past e (unread S.left reader.old) (unread S.left reader.new) }
+        → Follows follower.new (header_of reader.old) (event.new ∷ past)
+        × TakesEvent (header_of reader.old) past event.new (unread S.left reader.old) (unread S.left reader.new) }
     ensures ended { result ≡ false → OnOk end.new (IsAtEnd (unread S.left reader.old)) }
     ensures stays { result ≡ false → OnOk end.new (follower.new ≡ follower.old) }
     ensures end { result ≡ false → OnOk end.new (LeavesNothing (unread S.left reader.old) (S.left (source_of reader.new).now)) }
@@ -195,9 +200,6 @@ fn check_next<S: Source>(
     ensures steady_end { result ≡ false → OnOk end.new (S.faults (source_of reader.new).now ≡ S.faults (source_of reader.old).now) }
     ensures cause { result ≡ false → IfErr end.new (HasReadCause (S.faults (source_of reader.old).now) (S.faults (source_of reader.new).now)) }
 {
-    if follows_at_once(follower, reader) {
-        return true;
-    }
     if !reader.gives(event) {
         ending(reader, event, end);
         return false;

@@ -21,3 +21,9 @@ events_text-more version events e =
 pub trace_text-more : (h : Header) (events : List Event) (e : Event) → trace_text h (events ++ e ∷ []) ≡ trace_text h events ++ line_text (event_text h.version e)
 trace_text-more h events e =
     ap (λ t. header_text h ++ t) (events_text-more h.version events e) ∙ sym (append_assoc (header_text h) (events_text h.version events) (line_text (event_text h.version e)))
+
+-- the text of a trace and of more events
+pub trace_text-append : (h : Header) (events more : List Event) → trace_text h (events ++ more) ≡ trace_text h events ++ events_text h.version more
+trace_text-append h events more =
+    ap (λ t. header_text h ++ t) (flat_map-append (λ event. line_text (event_text h.version event)) events more)
+    ∙ sym (append_assoc (header_text h) (events_text h.version events) (events_text h.version more))

@@ -1,4 +1,6 @@
-use Rattle.std.proofs.Common.{◌∙◌, arith}
+use Rattle.std.proofs.Common.{◌∙◌, sym, ap, subst, arith}
+use Rattle.ace_event.specs.declared.header.Header.{Header}
+use Rattle.ace_top.specs.Follow.{HasCome}
 use Rattle.ace_top.proofs.ProgressLemmas.{comes_further, comes_to_end, comes_to_verdict, front_further}
 use Rattle.ace_top.proofs.check.check_events.Goals as goal
 
@@ -6,16 +8,21 @@ pub events-preserved : goal.events-preserved
 events-preserved g c =
     let more = c.events-test.true in
     let next = c.check_next.ensures in
+    let then = c.follow_at_once.ensures in
     let before = c.events.invariant in
+    let few = omega (arith, next.count more, next.room more) in
     record {
-      reads_on = next.reads_on more;
-      few = omega (arith, next.count more, next.room more);
-      same_header = next.same_header ∙ before.same_header;
-      same_source = next.same_source ∙ before.same_source;
-      same_reports = next.same_reports ∙ before.same_reports;
-      comes = λ follows. comes_further _ _ _ _ _ _ _ _ _ before.same_header (next.count more) (before.comes follows) (λ past f same. next.takes past f same more);
-      front = front_further _ _ _ before.front (next.front more);
-      faults = next.steady more ∙ before.faults;
+      reads_on = then.same_answer ∙ next.reads_on more;
+      few = then.few few;
+      same_header = then.same_header ∙ next.same_header ∙ before.same_header;
+      same_source = then.same_source ∙ next.same_source ∙ before.same_source;
+      same_reports = then.same_reports ∙ next.same_reports ∙ before.same_reports;
+      comes = λ follows. subst (λ (h : Header). HasCome _ _ h _ _) (next.same_header ∙ before.same_header) (then.comes _ few
+          (subst (λ (h : Header). HasCome _ _ h _ _) (sym (next.same_header ∙ before.same_header))
+          (comes_further _ _ _ _ _ _ _ _ _ before.same_header (next.count more) (before.comes follows)
+          (λ past f same. let t = next.takes past f same more in (_, t.0, t.1)))));
+      front = front_further _ _ _ (front_further _ _ _ before.front (next.front more)) then.front;
+      faults = ap g.S.Source.faults then.source ∙ next.steady more ∙ before.faults;
     }
 
 pub returns-clause-accepted : goal.returns-clause-accepted

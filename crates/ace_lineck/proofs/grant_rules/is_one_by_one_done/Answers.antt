@@ -5,7 +5,7 @@ use Rattle.std.specs.List.{list_all}
 use Rattle.ace_model.specs.Grants.{ports_below}
 use Rattle.ace_lineck.specs.Kept.{is_done_at}
 use Rattle.ace_lineck.proofs.GrantLaws.{all-below, done-beyond}
-use Rattle.ace_lineck.proofs.grant_rules.is_each_done.Goals as goal
+use Rattle.ace_lineck.proofs.grant_rules.is_one_by_one_done.Goals as goal
 
 pub returns : goal.returns
 returns c =
