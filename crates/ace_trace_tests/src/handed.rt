@@ -37,6 +37,23 @@ fn are_handed(alloc: Global, text: &[u8], size: usize, count: u8, last: &Event) 
     }
 }
 
+/// Whether one call hands all of the text's events over to the place of an event, of which a source gives so many bytes at once, and
+/// leaves this one there.
+fn are_all_handed(alloc: Global, text: &[u8], size: usize, last: &Event) -> bool
+    requires { 0 < size }
+{
+    let Ok(mut source) = MemSource::new(alloc, text, &[size], &[]) else {
+        return false;
+    };
+    let Ok(mut reader) = Reader::start(alloc, &mut source) else {
+        return false;
+    };
+    let mut event = NO_EVENT;
+    let mut more = NO_EVENT;
+    reader.hands_all_over(&mut event);
+    event == *last && !reader.hands_over(&mut more)
+}
+
 #[test]
 fn hands_events_over(rt: HostRuntime) {
     let alloc = rt.alloc();
@@ -51,5 +68,30 @@ fn hands_events_over(rt: HostRuntime) {
             && are_handed(alloc, b"ACE 1\nPORTS AA\n", 64, 0, &NO_EVENT)
             && are_handed(alloc, b"ACE 1\nPORTS AA\nRK 1 UD\n", 1, 0, &NO_EVENT)
             && are_handed(alloc, b"ACE 2\nPORTS AA\nRK 01 UD\n", 64, 0, &NO_EVENT)
+    );
+}
+
+#[test]
+fn hands_all_events_over(rt: HostRuntime) {
+    let alloc = rt.alloc();
+    let last = Event::Rk {
+        port: 1,
+        st: LineState::UD,
+    };
+    assert!(rt;
+        are_all_handed(
+            alloc,
+            b"ACE 1\nPORTS AA\nRK 0 SC\nRK 1 UC\nRK 1 UD\n",
+            64,
+            &last
+        ) && are_all_handed(alloc, b"ACE 1\nPORTS AA\nRK 1 UD\nRK 0 SC", 64, &last)
+            && are_all_handed(
+                alloc,
+                b"ACE 1\nPORTS AA\nRK 0 SC\nRK 1 UD\nRK 0 XC\n",
+                64,
+                &last
+            )
+            && are_all_handed(alloc, b"ACE 1\nPORTS AA\n", 64, &NO_EVENT)
+            && are_all_handed(alloc, b"ACE 2\nPORTS AA\nRK 01 UD\n", 64, &NO_EVENT)
     );
 }
