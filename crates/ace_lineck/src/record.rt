@@ -41,16 +41,16 @@ pub struct Holder {
     pub sent: Line,
 }
 
-/// What is kept of a line.
+/// What is kept of a line. What most events look at stands first, so that few lines of a processor's cache hold it.
 #[derive(Drop)]
 pub struct LineRecord {
+    /// What each port of the header has of the line's data, by its number. A port that isn't there has had nothing of it.
+    pub holders: Vec<Holder>,
     pub used: Use,
     /// The state in which each port has the line, by the port's number.
     pub states: [LineState; 32],
     pub grant: Option<Grant>,
     pub memory: Line,
-    /// What each port of the header has of the line's data, by its number. A port that isn't there has had nothing of it.
-    pub holders: Vec<Holder>,
 }
 
 const ZERO_LINE: Line = Line { words: [0; 4] };
