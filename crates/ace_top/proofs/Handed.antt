@@ -1,9 +1,9 @@
 -- Events that were handed over, and taken, were read and found fine.
-use Rattle.std.proofs.Common.{◌≡◌, ◌≤◌, ◌<◌, ◌+◌, ◌-◌, ◌++◌, ℕ, List, [], ◌∷◌, Option, length, reverse, sym, ap, subst, ◌∙◌, arith, refl}
+use Rattle.std.proofs.Common.{◌≡◌, ◌≤◌, ◌+◌, ◌-◌, ◌++◌, ℕ, List, [], ◌∷◌, Option, length, reverse, sym, ap, subst, ◌∙◌, arith}
 use Rattle.std.specs.Prelude.{is_some}
 use Rattle.std.specs.List.{AllByRecursion}
 use Rattle.std.specs.Io.KnownBytes.{Consumes}
-use Rattle.std.proofs.KnownBytes.{Consumes-trans, Consumes-nil}
+use Rattle.std.proofs.KnownBytes.{Consumes-trans}
 use Rattle.std.proofs.lemmas.List.{length-append, reverse-append}
 use Rattle.ace_event.specs.declared.event.Event.{Event}
 use Rattle.ace_event.specs.declared.header.Header.{Header}
@@ -15,7 +15,7 @@ use Rattle.ace_grammar.specs.Front.{HandsAllOver, HasTakenAll}
 use Rattle.ace_grammar.specs.Reading.{IsReadable, most_events}
 use Rattle.ace_top.specs.declared.follow.Follower.{Follower}
 use Rattle.ace_top.specs.Follow.{Follows, HasCome, HasTaken}
-use Rattle.ace_top.specs.Progress.{IsFine, StandsAt}
+use Rattle.ace_top.specs.Progress.{IsFine}
 
 -- the follower has followed them, and they are fine
 follows_all : (h : Header) (past events : List Event) (f f' : Follower) → length events + length past ≤ most_events → Follows f h past → HasTakenAll HasTaken events f f'
@@ -63,4 +63,8 @@ pub all_reports : (version count : ℕ) (f f' : Follower) (left left' : Option (
     → is_some f'.report ≡ is_some f.report
 all_reports version count f f' left left' handed = reports_all handed.events f f' handed.taken
 
-pub ruleset handed = (all_come, all_front, all_reports)
+-- a follower that comes further under a header does so under one that is the same
+pub comes_on : (f f' : Follower) (count count' : ℕ) (h h' : Header) (start left left' : Option (List ℕ)) → h' ≡ h
+    → (HasCome f count h' start left → HasCome f' count' h' start left') → HasCome f count h start left → HasCome f' count' h start left'
+comes_on f f' count count' h h' start left left' is on come =
+    subst (λ (k : Header). HasCome f' count' k start left') is (on (subst (λ (k : Header). HasCome f count k start left) (sym is) come))

@@ -1,5 +1,5 @@
 // Checks a trace, event by event, as it is read, and reports it where that is asked for.
-ghost use Rattle.std.specs.Prelude.{◌≡◌, ◌<◌, ◌+◌, ℕ, List, [], ◌∷◌, Option, None, true, false, is_some, length, IfSome, IfOk, IfErr, OnOk};
+ghost use Rattle.std.specs.Prelude.{◌≡◌, ◌<◌, ◌≤◌, ◌+◌, ℕ, List, [], ◌∷◌, Option, None, true, false, is_some, length, IfSome, IfOk, IfErr, OnOk};
 ghost use Rattle.std.specs.Io.KnownBytes.{IsAtEnd};
 ghost use Rattle.ace_event.specs.declared.event.Event.{Event};
 ghost use Rattle.ace_grammar.specs.Errors.{LeavesNothing, TakesFront};
@@ -150,7 +150,7 @@ fn check_events<S: Source>(follower: &mut Follower, reader: &mut Reader<S>) -> R
 
 /// Follows the next events while they are read, as far as that can be, if no report is asked for.
 #[inline(always)]
-#[tactic(auto, using(crate::proofs::Handed::handed))]
+#[tactic(auto, using(crate::proofs::Handed::all_front, crate::proofs::ProgressLemmas::no_front))]
 fn follow_at_once<S: Source>(follower: &mut Follower, reader: &mut Reader<S>)
     ensures same_source { (source_of reader.new).ghost_name ≡ (source_of reader.old).ghost_name }
     ensures source { (source_of reader.new).now ≡ (source_of reader.old).now }

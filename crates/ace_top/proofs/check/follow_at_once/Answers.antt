@@ -1,0 +1,9 @@
+use Rattle.ace_top.proofs.Handed.{all_come, all_reports}
+use Rattle.ace_top.proofs.check.follow_at_once.Goals as goal
+
+pub returns-then-is_brief-clause-same_reports : goal.returns-then-is_brief-clause-same_reports
+returns-then-is_brief-clause-same_reports g c = all_reports _ _ _ _ _ _ c.hands_all_over.ensures.taken
+
+pub returns-then-is_brief-clause-comes : goal.returns-then-is_brief-clause-comes
+returns-then-is_brief-clause-comes g c start few come =
+    let handed = c.hands_all_over.ensures in all_come _ _ _ _ _ start _ _ handed.further (handed.few few) handed.taken come
