@@ -3,8 +3,6 @@
 
 pub mod laws;
 mod line_cache;
-#[cfg(test)]
-mod tests;
 mod way;
 mod ways;
 

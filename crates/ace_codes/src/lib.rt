@@ -8,8 +8,6 @@ pub mod laws;
 mod read;
 mod response;
 mod state;
-#[cfg(test)]
-mod tests;
 
 pub use bits::{has_error, is_shared, low_bits, passes_dirty, transfers_data, was_unique};
 pub use channel::{Bar, Domain};

@@ -4,8 +4,6 @@
 mod burst;
 mod engine;
 pub mod laws;
-#[cfg(test)]
-mod tests;
 
 pub use burst::Burst;
 pub use engine::Engine;

@@ -91,55 +91,58 @@ fn reading(kept: &mut Kept) {
     hear(kept, &[r(3, 9, false, 3), r(3, 9, true, 4)]);
 }
 
-/// A line that is fetched is held from its RK on, with the words that came; an exclusive load sets the monitor, and the next operation begins anew.
-#[test]
-fn fetches_a_line(rt: HostRuntime) -> Result<(), Fail> {
-    let mut kept = start(rt.alloc())?;
-    reading(&mut kept);
-    assert!(rt; kept.lines.state(64) == I && kept.lines.has_room());
-    assert!(rt; kept.segment.issued().len() == 1 && kept.segment.acts() == 0);
-    hear(&mut kept, &[rk(SC), load(64, true)]);
+/// A line that is fetched is held from its RK on, with the words that came.
+fn holds_what_came(kept: &mut Kept) -> bool {
+    reading(kept);
+    let waits = kept.lines.state(64) == I && kept.lines.has_room();
+    let issued = kept.segment.issued().len() == 1 && kept.segment.acts() == 0;
+    hear(kept, &[rk(SC), load(64, true)]);
     let words = Line {
         words: [1, 2, 3, 4],
     };
-    assert!(rt; kept.lines.state(64) == SC && kept.lines.copy(64) == words);
-    assert!(rt; kept.monitor.is_set(64) && !kept.monitor.is_set(128));
-    assert!(rt; kept.segment.acts() == 1);
-    hear(&mut kept, &[retires()]);
-    assert!(rt; kept.segment.issued().len() == 0 && kept.segment.acts() == 0);
+    waits && issued && kept.lines.state(64) == SC && kept.lines.copy(64) == words
+}
+
+/// An exclusive load sets the monitor, and the next operation begins anew.
+fn begins_anew(kept: &mut Kept) -> bool {
+    let acted = kept.segment.acts() == 1;
+    hear(kept, &[retires()]);
+    let is_set = kept.monitor.is_set(64) && !kept.monitor.is_set(128);
+    acted && is_set && kept.segment.issued().len() == 0 && kept.segment.acts() == 0
+}
+
+#[test]
+fn fetches_a_line(rt: HostRuntime) -> Result<(), Fail> {
+    let mut kept = start(rt.alloc())?;
+    assert!(rt; holds_what_came(&mut kept) && begins_anew(&mut kept));
     Ok(())
+}
+
+/// The state of line 64, and whether the monitor is set for it.
+fn state_and_monitor(kept: &Kept) -> (LineState, bool) {
+    (kept.lines.state(64), kept.monitor.is_set(64))
 }
 
 /// A snoop takes the line, and the monitor with it; events of another port change nothing.
+fn loses_the_line(kept: &mut Kept) -> bool {
+    reading(kept);
+    hear(kept, &[rk(SC), load(64, true), retires()]);
+    let other = Event::Rk { port: 1, st: UC };
+    hear(kept, &[other, snooped(64, 7)]);
+    let before = state_and_monitor(kept);
+    hear(kept, &[answers()]);
+    before == (SC, true) && state_and_monitor(kept) == (I, false)
+}
+
 #[test]
 fn loses_a_line(rt: HostRuntime) -> Result<(), Fail> {
     let mut kept = start(rt.alloc())?;
-    reading(&mut kept);
-    hear(&mut kept, &[rk(SC), load(64, true), retires()]);
-    let other = Event::Rk { port: 1, st: UC };
-    let snoop = Event::Ac {
-        port: 0,
-        addr: 64,
-        snoop: 7,
-    };
-    hear(&mut kept, &[other, snoop]);
-    assert!(rt; kept.lines.state(64) == SC && kept.monitor.is_set(64));
-    let answer = Event::Cr {
-        port: 0,
-        resp: 0,
-        st: I,
-    };
-    hear(&mut kept, &[answer]);
-    assert!(rt; kept.lines.state(64) == I && !kept.monitor.is_set(64));
+    assert!(rt; loses_the_line(&mut kept));
     Ok(())
 }
 
-/// A MakeUnique leaves what is stored in it; two lines fill two ways.
-#[test]
-fn makes_a_line(rt: HostRuntime) -> Result<(), Fail> {
-    let mut kept = start(rt.alloc())?;
-    reading(&mut kept);
-    hear(&mut kept, &[rk(SC), load(64, false), retires()]);
+/// A MakeUnique leaves what is stored in it.
+fn makes_and_stores(kept: &mut Kept) -> bool {
     let stored = Line {
         words: [5, 6, 7, 8],
     };
@@ -150,17 +153,29 @@ fn makes_a_line(rt: HostRuntime) -> Result<(), Fail> {
         x: false,
         line: stored,
     };
-    hear(&mut kept, &[ar(0, 128, 12, false), granted(0)]);
-    hear(&mut kept, &[r(0, 0, true, 0), store, rk(UD)]);
-    assert!(rt; kept.lines.state(128) == UD && kept.lines.copy(128) == stored);
-    assert!(rt; kept.lines.state(64) == SC && !kept.lines.has_room());
+    hear(kept, &[ar(0, 128, 12, false), granted(0)]);
+    hear(kept, &[r(0, 0, true, 0), store, rk(UD)]);
+    kept.lines.state(128) == UD && kept.lines.copy(128) == stored
+}
+
+/// Two lines fill two ways, until one is given up.
+fn fills_two_ways(kept: &mut Kept) -> bool {
+    let full = kept.lines.state(64) == SC && !kept.lines.has_room();
     let dropped = Event::S {
         port: 0,
         addr: 64,
         st: I,
     };
-    hear(&mut kept, &[dropped]);
-    assert!(rt; kept.lines.state(64) == I && kept.lines.has_room());
+    hear(kept, &[dropped]);
+    full && kept.lines.state(64) == I && kept.lines.has_room()
+}
+
+#[test]
+fn makes_a_line(rt: HostRuntime) -> Result<(), Fail> {
+    let mut kept = start(rt.alloc())?;
+    reading(&mut kept);
+    hear(&mut kept, &[rk(SC), load(64, false), retires()]);
+    assert!(rt; makes_and_stores(&mut kept) && fills_two_ways(&mut kept));
     Ok(())
 }
 
@@ -181,23 +196,25 @@ fn answers() -> Event {
 }
 
 /// A port owes a DVM Complete for each Sync that it has answered; the second part of a message is none, whatever its word is.
-#[test]
-fn owes_a_completion(rt: HostRuntime) -> Result<(), Fail> {
-    let mut port = OnePort::new(rt.alloc(), HEADER, 0, 8)?;
+fn owes_for_the_second(port: &mut OnePort) -> bool {
     let mut completions = Completions::new(0);
     let first = [snooped(0x1001, 15), snooped(0xc000, 15)];
     let rest = [answers(), answers(), snooped(0xc000, 15)];
     for event in first.iter().chain(rest.iter()) {
-        completions.hear(&port, event);
+        completions.hear(port, event);
         port.hear(event);
     }
-    assert!(rt; !completions.owes());
-    let completes = ar(0, 0, 14, false);
-    let last = [answers(), completes];
-    completions.hear(&port, &last[0]);
-    assert!(rt; completions.owes());
-    completions.hear(&port, &last[1]);
-    assert!(rt; !completions.owes());
+    let early = completions.owes();
+    completions.hear(port, &answers());
+    let owed = completions.owes();
+    completions.hear(port, &ar(0, 0, 14, false));
+    !early && owed && !completions.owes()
+}
+
+#[test]
+fn owes_a_completion(rt: HostRuntime) -> Result<(), Fail> {
+    let mut port = OnePort::new(rt.alloc(), HEADER, 0, 8)?;
+    assert!(rt; owes_for_the_second(&mut port));
     Ok(())
 }
 
@@ -205,15 +222,18 @@ fn op(k: u16, res: Outcome) -> Event {
     Event::Op { port: 0, k, res }
 }
 
+/// What ends the operation is this.
+fn ends_by(kept: &Kept, operation: Op, refused: bool, closing: Closing) -> bool {
+    kept.closing_of(operation, refused) == closing
+}
+
 /// A load waits for its line, is made once the line is there, and ends the operation.
-#[test]
-fn ends_a_load(rt: HostRuntime) -> Result<(), Fail> {
-    let mut kept = start(rt.alloc())?;
+fn loads_and_ends(kept: &mut Kept) -> bool {
     let ld = Op::Ld { addr: 64, w: 1 };
-    assert!(rt; kept.closing_of(ld, false) == Closing::Nothing && !kept.is_waiting(ld));
-    reading(&mut kept);
-    assert!(rt; kept.is_waiting(ld) && !kept.awaits_update());
-    hear(&mut kept, &[rk(SC)]);
+    let idle = ends_by(kept, ld, false, Closing::Nothing) && !kept.is_waiting(ld);
+    reading(kept);
+    let waits = kept.is_waiting(ld) && !kept.awaits_update();
+    hear(kept, &[rk(SC)]);
     let load = Event::L {
         port: 0,
         addr: 64,
@@ -222,64 +242,95 @@ fn ends_a_load(rt: HostRuntime) -> Result<(), Fail> {
         word: 2,
     };
     let ends = op(0, Outcome::Ok);
-    assert!(rt; kept.closing_of(ld, false) == Closing::Accesses(load, ends));
-    hear(&mut kept, &[load]);
-    assert!(rt; kept.closing_of(ld, false) == Closing::Retires(ends));
+    let accesses = ends_by(kept, ld, false, Closing::Accesses(load, ends));
+    hear(kept, &[load]);
+    idle && waits && accesses && ends_by(kept, ld, false, Closing::Retires(ends))
+}
+
+#[test]
+fn ends_a_load(rt: HostRuntime) -> Result<(), Fail> {
+    let mut kept = start(rt.alloc())?;
+    assert!(rt; loads_and_ends(&mut kept));
     Ok(())
 }
 
-/// A store is made in a unique line alone; what finds nothing to do is skipped, and an exclusive store that was refused fails.
+const STORE: Op = Op::St {
+    addr: 64,
+    w: 1,
+    word: 9,
+};
+
+const EXCLUSIVE_STORE: Op = Op::Stx {
+    addr: 64,
+    w: 1,
+    word: 9,
+};
+
+/// The port holds line 64 shared, which it has loaded exclusively.
+fn shares(kept: &mut Kept) {
+    reading(kept);
+    hear(kept, &[rk(SC), load(64, true), retires()]);
+}
+
+/// What finds nothing to do is skipped, and an exclusive store that was refused fails.
+fn skips_and_fails(kept: &mut Kept) -> bool {
+    shares(kept);
+    let fails = Closing::Retires(op(1, Outcome::Fail));
+    let skips = Closing::Retires(op(1, Outcome::Skip));
+    ends_by(kept, EXCLUSIVE_STORE, false, Closing::Nothing)
+        && ends_by(kept, EXCLUSIVE_STORE, true, fails)
+        && ends_by(kept, Op::Wb { addr: 64 }, false, skips)
+        && !kept.may_retire(Op::Ev { addr: 64 }, Outcome::Skip, false)
+}
+
 #[test]
 fn ends_other_operations(rt: HostRuntime) -> Result<(), Fail> {
     let mut kept = start(rt.alloc())?;
-    reading(&mut kept);
-    let word = 9;
-    let st = Op::St {
-        addr: 64,
-        w: 1,
-        word,
-    };
-    let stx = Op::Stx {
-        addr: 64,
-        w: 1,
-        word,
-    };
-    hear(&mut kept, &[rk(SC), load(64, true), retires()]);
-    assert!(rt; kept.closing_of(st, false) == Closing::Nothing);
-    assert!(rt; kept.closing_of(stx, false) == Closing::Nothing);
-    let fails = op(1, Outcome::Fail);
-    assert!(rt; kept.closing_of(stx, true) == Closing::Retires(fails));
-    let skips = op(1, Outcome::Skip);
-    assert!(rt; kept.closing_of(Op::Wb { addr: 64 }, false) == Closing::Retires(skips));
-    assert!(rt; !kept.may_retire(Op::Ev { addr: 64 }, Outcome::Skip, false));
-    hear(&mut kept, &[ar(0, 64, 11, false), granted(0)]);
-    hear(&mut kept, &[r(0, 0, true, 0), rk(UC)]);
-    let line = Line {
-        words: [0, 9, 0, 0],
-    };
+    assert!(rt; skips_and_fails(&mut kept));
+    Ok(())
+}
+
+/// A store is made in a unique line alone.
+fn stores_once_unique(kept: &mut Kept) -> bool {
+    shares(kept);
+    let shared = ends_by(kept, STORE, false, Closing::Nothing);
+    hear(kept, &[ar(0, 64, 11, false), granted(0)]);
+    hear(kept, &[r(0, 0, true, 0), rk(UC)]);
     let store = Event::D {
         port: 0,
         addr: 64,
         strobe: 0xffff_0000,
         x: false,
-        line,
+        line: Line {
+            words: [0, 9, 0, 0],
+        },
     };
     let ends = op(1, Outcome::Ok);
-    assert!(rt; kept.closing_of(st, false) == Closing::Accesses(store, ends));
+    shared && ends_by(kept, STORE, false, Closing::Accesses(store, ends))
+}
+
+#[test]
+fn ends_a_store(rt: HostRuntime) -> Result<(), Fail> {
+    let mut kept = start(rt.alloc())?;
+    assert!(rt; stores_once_unique(&mut kept));
     Ok(())
 }
 
 /// A Sync ends once its port has answered the AC DVM Complete.
+fn ends_once_answered(kept: &mut Kept) -> bool {
+    let sync = Op::Sync { word: 0xc000 };
+    hear(kept, &[ar(0, 0xc000, 15, false), r(0, 0, true, 0)]);
+    let early = ends_by(kept, sync, false, Closing::Nothing);
+    hear(kept, &[snooped(0, 14)]);
+    let still_early = ends_by(kept, sync, false, Closing::Nothing);
+    hear(kept, &[answers()]);
+    let ends = Closing::Retires(op(0, Outcome::Ok));
+    early && still_early && ends_by(kept, sync, false, ends)
+}
+
 #[test]
 fn ends_a_sync(rt: HostRuntime) -> Result<(), Fail> {
     let mut kept = start(rt.alloc())?;
-    let sync = Op::Sync { word: 0xc000 };
-    hear(&mut kept, &[ar(0, 0xc000, 15, false), r(0, 0, true, 0)]);
-    assert!(rt; kept.closing_of(sync, false) == Closing::Nothing);
-    hear(&mut kept, &[snooped(0, 14)]);
-    assert!(rt; kept.closing_of(sync, false) == Closing::Nothing);
-    hear(&mut kept, &[answers()]);
-    let ends = op(0, Outcome::Ok);
-    assert!(rt; kept.closing_of(sync, false) == Closing::Retires(ends));
+    assert!(rt; ends_once_answered(&mut kept));
     Ok(())
 }

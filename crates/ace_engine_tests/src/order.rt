@@ -10,6 +10,7 @@ ghost use Rattle.ace_engine.specs.Engines.{IsLegal};
 ghost use Rattle.ace_order.specs.Order.{OrderStands};
 ghost use Rattle.ace_engine_tests.specs.Order.{are_others, barrier_events, message_events, plan_of, sync_answered, sync_done, sync_issued};
 
+use crate::bursts::has_events;
 use ace_codes::LineState;
 use ace_engine::{Burst, Engine};
 use ace_event::{Event, Header};
@@ -203,11 +204,9 @@ fn answers_a_barrier(rt: HostRuntime) -> Result<(), Fail> {
         id: 0,
         resp: 0,
     };
-    assert!(rt; out.len() == 2);
-    assert!(rt; out.get(0) == r(0) && out.get(1) == response);
     let mut none = Burst::empty();
-    assert!(rt; !order.turn(0, &mut none));
-    assert!(rt; none.len() == 0);
+    let again = order.turn(0, &mut none);
+    assert!(rt; has_events(&out, &[r(0), response]) && !again && none.len() == 0);
     Ok(())
 }
 

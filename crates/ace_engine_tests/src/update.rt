@@ -13,6 +13,7 @@ ghost use Rattle.ace_engine.specs.Engines.{IsLegal};
 ghost use Rattle.ace_update.specs.Update.{UpdateStands};
 ghost use Rattle.ace_engine_tests.specs.Update.{are_others, evict_events, evict_plan, plan_of, stored, update_events, update_plan};
 
+use crate::bursts::has_events;
 use ace_codes::ArKind;
 use ace_codes::LineState::{self, UC, UD};
 use ace_engine::{Burst, Engine};
@@ -198,7 +199,6 @@ fn writes_memory(rt: HostRuntime) -> Result<(), Fail> {
     let mut update = writing_back(rt.alloc())?;
     let mut out = Burst::empty();
     assert!(rt; update.turn(0, &mut out));
-    assert!(rt; out.len() == 2);
     let written = Event::M {
         port: 0,
         chan: Channel::Write,
@@ -210,10 +210,9 @@ fn writes_memory(rt: HostRuntime) -> Result<(), Fail> {
         id: 0,
         resp: 0,
     };
-    assert!(rt; out.get(0) == written && out.get(1) == response);
     let mut none = Burst::empty();
-    assert!(rt; !update.turn(0, &mut none));
-    assert!(rt; none.len() == 0);
+    let again = update.turn(0, &mut none);
+    assert!(rt; has_events(&out, &[written, response]) && !again && none.len() == 0);
     Ok(())
 }
 
@@ -223,15 +222,13 @@ fn responds(rt: HostRuntime) -> Result<(), Fail> {
     let mut update = giving_up(rt.alloc())?;
     let mut out = Burst::empty();
     assert!(rt; update.turn(0, &mut out));
-    assert!(rt; out.len() == 1);
     let response = Event::B {
         port: 0,
         id: 0,
         resp: 0,
     };
-    assert!(rt; out.get(0) == response);
     let mut none = Burst::empty();
-    assert!(rt; !update.turn(0, &mut none));
-    assert!(rt; none.len() == 0);
+    let again = update.turn(0, &mut none);
+    assert!(rt; has_events(&out, &[response]) && !again && none.len() == 0);
     Ok(())
 }

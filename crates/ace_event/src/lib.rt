@@ -9,6 +9,3 @@ mod line;
 pub use event::{Channel, Event, Outcome};
 pub use header::{Header, PortKind, kind_of};
 pub use line::{Line, merge};
-
-#[cfg(test)]
-mod tests;

@@ -12,5 +12,3 @@ pub mod Hearing
 pub mod Kept
 -- The next transfer of a read.
 pub mod Transfers
--- Worked traces.
-pub mod Worked

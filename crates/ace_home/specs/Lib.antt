@@ -2,5 +2,3 @@
 pub mod EngineLaws
 pub mod Home
 pub mod Services
--- Worked traces.
-pub mod Worked

@@ -6,7 +6,5 @@ mod candidates;
 mod home;
 mod queues;
 mod service;
-#[cfg(test)]
-mod tests;
 
 pub use home::Home;

@@ -13,8 +13,6 @@ mod open_sink;
 mod outside;
 mod std_sink;
 mod std_source;
-#[cfg(test)]
-mod tests;
 
 pub use give::give_all;
 pub use honest_source::HonestSource;

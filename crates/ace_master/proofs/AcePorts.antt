@@ -4,8 +4,6 @@ pub mod Heard
 pub mod Bursts
 -- A step of an ACE port, and what its master keeps then.
 pub mod Turns
--- The worked plan is right.
-pub mod Worked
 -- What ends the next operation of an ACE port is a step.
 pub mod Ends
 -- The transaction whose acknowledge is due.

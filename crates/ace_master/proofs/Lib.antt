@@ -36,8 +36,6 @@ pub mod LiteOwn
 pub mod LiteWaits
 -- What the port has issued for its next operation, where it has one more operation.
 pub mod LitePushed
--- The worked traces are ones for which its master may stand.
-pub mod LiteWorked
 -- The answers of a port to its snoops.
 pub mod AnsweredSnoops
 -- The write data that a port sends.

@@ -13,8 +13,6 @@ pub mod LiteRequests
 -- What the master of an ACE-Lite port keeps, and what the trait of engines asks of it.
 pub mod Lite
 pub mod LiteLaws
--- Worked traces of an ACE-Lite port.
-pub mod LiteWorked
 -- The burst of write data that a port sends next.
 pub mod Sending
 -- The answer of a port to a snoop.
@@ -28,5 +26,3 @@ pub mod AcePort
 -- What the master of an ACE port keeps, and what the trait of engines asks of it.
 pub mod Ace
 pub mod AceLaws
--- A worked plan of one ACE port.
-pub mod AceWorked

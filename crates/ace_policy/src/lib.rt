@@ -7,8 +7,6 @@ mod keep;
 mod listed;
 mod mixed;
 mod policy;
-#[cfg(test)]
-mod tests;
 
 pub use chosen::Chosen;
 pub use eager::Eager;

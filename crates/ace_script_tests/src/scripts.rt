@@ -57,22 +57,24 @@ const CHARACTERS: &[u8] = b"0 ld 0000004A 0\n|g mb\n|0 pf 00000040 x\n|0 pf 0000
 const VALUES: &[u8] =
     b"2 ld 00000040 0\n|0 ld 00000041 0\n|0 ld 00000040 4\n|0 dvm 00001001\n|0 sync 00004000\n|0 dvm2 00001000 00000000\n";
 
+const WRITES_BACK: &[u8] = b"0 rn 00000040\n1 rn 00000040\n0 wb 00000040\n";
+
 #[test]
 fn tells_each_reason(rt: HostRuntime) {
-    let alloc = rt.alloc();
-    assert_eq!(rt; refused(alloc, b"0 mb", 5, Reason::P1), 1);
-    assert_eq!(rt; refused(alloc, NO_OPERATION, 5, Reason::P2), 5);
-    assert_eq!(rt; refused(alloc, FIELDS, 5, Reason::P3), 4);
-    assert_eq!(rt; refused(alloc, LENGTHS, 5, Reason::P4), 3);
-    assert_eq!(rt; refused(alloc, CHARACTERS, 5, Reason::P5), 4);
-    assert_eq!(rt; refused(alloc, VALUES, 5, Reason::P6), 6);
-    assert_eq!(rt; refused(alloc, b"1 ld 00000040 0\n", 5, Reason::P8), 1);
-    assert_eq!(rt;
-        refused(alloc, b"0 ld 00000040 0\n0 rn 00000040\n", 6, Reason::P8),
-        1
-    );
-    let writes_back: &[u8] = b"0 rn 00000040\n1 rn 00000040\n0 wb 00000040\n";
-    assert_eq!(rt; refused(alloc, writes_back, 7, Reason::P8), 1);
+    let cases: [(&[u8], u64, Reason, usize); 9] = [
+        (b"0 mb", 5, Reason::P1, 1),
+        (NO_OPERATION, 5, Reason::P2, 5),
+        (FIELDS, 5, Reason::P3, 4),
+        (LENGTHS, 5, Reason::P4, 3),
+        (CHARACTERS, 5, Reason::P5, 4),
+        (VALUES, 5, Reason::P6, 6),
+        (b"1 ld 00000040 0\n", 5, Reason::P8, 1),
+        (b"0 ld 00000040 0\n0 rn 00000040\n", 6, Reason::P8, 1),
+        (WRITES_BACK, 7, Reason::P8, 1),
+    ];
+    for (texts, line, reason, count) in cases {
+        assert_eq!(rt; refused(rt.alloc(), texts, line, reason), count);
+    }
 }
 
 const CACHES: &[u8] =
@@ -84,17 +86,18 @@ const CUT_POLICY: &[u8] = b"ACE SCRIPT 1\nPORTS A\nCACHE 32\nPOLICY keep";
 
 #[test]
 fn refuses_headers(rt: HostRuntime) {
-    let alloc = rt.alloc();
-    assert_eq!(rt; headless(alloc, b"|ACE SCRIPT 1", 1, Reason::P1), 2);
-    assert_eq!(rt; headless(alloc, b"ACE SCRIPT 2\n", 1, Reason::P7), 1);
-    assert_eq!(rt; headless(alloc, b"ACE SCRIPT 1\n", 2, Reason::P1), 1);
-    assert_eq!(rt;
-        headless(alloc, b"ACE SCRIPT 1\nPORTS AAAAAAAAA\n", 2, Reason::P7),
-        1
-    );
-    assert_eq!(rt; headless(alloc, CACHES, 3, Reason::P7), 3);
-    assert_eq!(rt; headless(alloc, WRONG_SEED, 4, Reason::P7), 1);
-    assert_eq!(rt; headless(alloc, CUT_POLICY, 4, Reason::P1), 1);
+    let cases: [(&[u8], u64, Reason, usize); 7] = [
+        (b"|ACE SCRIPT 1", 1, Reason::P1, 2),
+        (b"ACE SCRIPT 2\n", 1, Reason::P7, 1),
+        (b"ACE SCRIPT 1\n", 2, Reason::P1, 1),
+        (b"ACE SCRIPT 1\nPORTS AAAAAAAAA\n", 2, Reason::P7, 1),
+        (CACHES, 3, Reason::P7, 3),
+        (WRONG_SEED, 4, Reason::P7, 1),
+        (CUT_POLICY, 4, Reason::P1, 1),
+    ];
+    for (texts, line, reason, count) in cases {
+        assert_eq!(rt; headless(rt.alloc(), texts, line, reason), count);
+    }
 }
 
 /// A script of so many operations, and these bytes behind it.
@@ -113,16 +116,20 @@ fn barriers(alloc: Global, count: usize, behind: &[u8]) -> Result<Result<u16, Pl
 /// A script ends at 4,096 operations, whatever stands behind them.
 #[test]
 fn counts_operations(rt: HostRuntime) -> Result<(), Fail> {
-    let alloc = rt.alloc();
-    assert_eq!(rt; barriers(alloc, 0, b"")?, Ok(0));
-    assert_eq!(rt; barriers(alloc, 4096, b"")?, Ok(4096));
-    assert_eq!(rt; barriers(alloc, 4097, b"")?, Err(PlanErr::TooManyOps));
-    assert_eq!(rt; barriers(alloc, 4096, b"x")?, Err(PlanErr::TooManyOps));
     let last = PlanErr::Malformed {
         line: 4100,
         reason: Reason::P2,
     };
-    assert_eq!(rt; barriers(alloc, 4095, b"x\n")?, Err(last));
+    let cases: [(usize, &[u8], Result<u16, PlanErr>); 5] = [
+        (0, b"", Ok(0)),
+        (4096, b"", Ok(4096)),
+        (4097, b"", Err(PlanErr::TooManyOps)),
+        (4096, b"x", Err(PlanErr::TooManyOps)),
+        (4095, b"x\n", Err(last)),
+    ];
+    for (count, behind, wanted) in cases {
+        assert!(rt; barriers(rt.alloc(), count, behind)? == wanted);
+    }
     Ok(())
 }
 

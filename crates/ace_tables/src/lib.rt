@@ -10,8 +10,6 @@ mod silent;
 mod snoops;
 mod starts;
 mod states;
-#[cfg(test)]
-mod tests;
 
 pub use answers::{is_snoop_row, snoop_rows};
 pub use ends::{end_read, end_write};

@@ -1,0 +1,2 @@
+-- Worked traces.
+pub mod Worked
