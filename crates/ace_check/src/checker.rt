@@ -121,7 +121,7 @@ impl Checker {
 
     /// Takes the next event of the trace, as `takes` does, where it is of the kind that the type tells: what is done is compiled for that kind.
     #[inline(always)]
-    pub fn takes_as<E: PlainKind + Drop>(&mut self, event: &Event) -> bool
+    fn takes_as<E: PlainKind + Drop>(&mut self, event: &Event) -> bool
         ensures fine { (h : Header) (past : Trace) (b : Option Break) → Stands self.old h past b → result ≡ true
             → (b ≡ None) × (least_broken h past event.now ≡ None) × (goes_over past event.now ≡ false) }
         ensures stands { (h : Header) (past : Trace) → Stands self.old h past None → result ≡ true

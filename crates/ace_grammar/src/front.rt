@@ -5,7 +5,7 @@ ghost use Rattle.std.specs.Prelude.{◌≡◌, ◌<◌, ◌≤◌, true, false, 
 ghost use Rattle.ace_event.specs.declared.event.Event.{Event};
 ghost use Rattle.ace_grammar.specs.Front.{IsInFront, StoodInFront};
 ghost use Rattle.std.specs.Option.{option_map};
-ghost use Rattle.ace_grammar.specs.Records.{a_at, c_at, event_at, m_at, o_at, r_at, s_event, s_fields, w_at};
+ghost use Rattle.ace_grammar.specs.Records.{a_at, b_event, b_fields, c_at, d_event, d_fields, event_at, g_event, g_fields, l_event, l_fields, m_at, o_at, r_at, s_event, s_fields, w_at};
 
 use crate::NO_EVENT;
 use crate::records::{
@@ -59,21 +59,21 @@ fn a_in_front<T: Taker>(bytes: &[u8], event: &mut Event, taker: &mut T) -> Optio
         [b'C', rest @ ..] => {
             let mut read = NO_EVENT;
             read_ac(ended_after(rest, 13)?, 1, &mut read)?;
-            only_if(taker.takes_ac(&read))?;
+            only_if(taker.takes(&read))?;
             *event = read;
             Some(14)
         }
         [b'R', rest @ ..] => {
             let mut read = NO_EVENT;
             read_ar(ended_after(rest, 21)?, 1, &mut read)?;
-            only_if(taker.takes_ar(&read))?;
+            only_if(taker.takes(&read))?;
             *event = read;
             Some(22)
         }
         [b'W', rest @ ..] => {
             let mut read = NO_EVENT;
             read_aw(ended_after(rest, 19)?, 1, &mut read)?;
-            only_if(taker.takes_aw(&read))?;
+            only_if(taker.takes(&read))?;
             *event = read;
             Some(20)
         }
@@ -93,7 +93,7 @@ fn c_in_front<T: Taker>(bytes: &[u8], event: &mut Event, taker: &mut T) -> Optio
         [b'D', rest @ ..] => {
             let mut read = NO_EVENT;
             read_cd(ended_after(rest, 37)?, 1, &mut read)?;
-            only_if(taker.takes_cd(&read))?;
+            only_if(taker.takes(&read))?;
             *event = read;
             Some(38)
         }
@@ -102,7 +102,7 @@ fn c_in_front<T: Taker>(bytes: &[u8], event: &mut Event, taker: &mut T) -> Optio
             let count = line.len();
             let mut read = NO_EVENT;
             read_cr(line, 1, &mut read)?;
-            only_if(taker.takes_cr(&read))?;
+            only_if(taker.takes(&read))?;
             *event = read;
             Some(count + 1)
         }
@@ -124,7 +124,7 @@ fn o_in_front<T: Taker>(bytes: &[u8], event: &mut Event, taker: &mut T) -> Optio
             let count = line.len();
             let mut read = NO_EVENT;
             read_op(line, 1, &mut read)?;
-            only_if(taker.takes_op(&read))?;
+            only_if(taker.takes(&read))?;
             *event = read;
             Some(count + 1)
         }
@@ -146,14 +146,14 @@ fn r_in_front<T: Taker>(bytes: &[u8], event: &mut Event, taker: &mut T) -> Optio
             let count = line.len();
             let mut read = NO_EVENT;
             read_rk(line, 1, &mut read)?;
-            only_if(taker.takes_rk(&read))?;
+            only_if(taker.takes(&read))?;
             *event = read;
             Some(count + 1)
         }
         _ => {
             let mut read = NO_EVENT;
             read_r(ended_after(bytes, 41)?, 1, &mut read)?;
-            only_if(taker.takes_r(&read))?;
+            only_if(taker.takes(&read))?;
             *event = read;
             Some(41)
         }
@@ -174,18 +174,74 @@ fn w_in_front<T: Taker>(bytes: &[u8], event: &mut Event, taker: &mut T) -> Optio
             let count = line.len();
             let mut read = NO_EVENT;
             read_wk(line, 1, &mut read)?;
-            only_if(taker.takes_wk(&read))?;
+            only_if(taker.takes(&read))?;
             *event = read;
             Some(count + 1)
         }
         _ => {
             let mut read = NO_EVENT;
             read_w(ended_after(bytes, 42)?, 1, &mut read)?;
-            only_if(taker.takes_w(&read))?;
+            only_if(taker.takes(&read))?;
             *event = read;
             Some(42)
         }
     }
+}
+
+/// That with B.
+#[inline(always)]
+fn b_in_front<T: Taker>(bytes: &[u8], event: &mut Event, taker: &mut T) -> Option<usize>
+    ensures event { IfSome result (IsInFront (λ line. option_map b_event (b_fields 1 line)) bytes.now event.new) }
+    ensures took { IfSome result (λ _. T.took taker.old event.new taker.new) }
+    ensures stays { result ≡ None → taker.new ≡ taker.old }
+{
+    let mut read = NO_EVENT;
+    read_b(ended_after(bytes, 6)?, 1, &mut read)?;
+    only_if(taker.takes(&read))?;
+    *event = read;
+    Some(6)
+}
+
+/// That with D.
+#[inline(always)]
+fn d_in_front<T: Taker>(bytes: &[u8], event: &mut Event, taker: &mut T) -> Option<usize>
+    ensures event { IfSome result (IsInFront (λ line. option_map d_event (d_fields 1 line)) bytes.now event.new) }
+    ensures took { IfSome result (λ _. T.took taker.old event.new taker.new) }
+    ensures stays { result ≡ None → taker.new ≡ taker.old }
+{
+    let mut read = NO_EVENT;
+    read_d(ended_after(bytes, 159)?, 1, &mut read)?;
+    only_if(taker.takes(&read))?;
+    *event = read;
+    Some(159)
+}
+
+/// That with G.
+#[inline(always)]
+fn g_in_front<T: Taker>(bytes: &[u8], event: &mut Event, taker: &mut T) -> Option<usize>
+    ensures event { IfSome result (IsInFront (λ line. option_map g_event (g_fields 1 line)) bytes.now event.new) }
+    ensures took { IfSome result (λ _. T.took taker.old event.new taker.new) }
+    ensures stays { result ≡ None → taker.new ≡ taker.old }
+{
+    let mut read = NO_EVENT;
+    read_g(ended_after(bytes, 6)?, 1, &mut read)?;
+    only_if(taker.takes(&read))?;
+    *event = read;
+    Some(6)
+}
+
+/// That with L.
+#[inline(always)]
+fn l_in_front<T: Taker>(bytes: &[u8], event: &mut Event, taker: &mut T) -> Option<usize>
+    ensures event { IfSome result (IsInFront (λ line. option_map l_event (l_fields 1 line)) bytes.now event.new) }
+    ensures took { IfSome result (λ _. T.took taker.old event.new taker.new) }
+    ensures stays { result ≡ None → taker.new ≡ taker.old }
+{
+    let mut read = NO_EVENT;
+    read_l(ended_after(bytes, 48)?, 1, &mut read)?;
+    only_if(taker.takes(&read))?;
+    *event = read;
+    Some(48)
 }
 
 /// That with S.
@@ -199,7 +255,7 @@ fn s_in_front<T: Taker>(bytes: &[u8], event: &mut Event, taker: &mut T) -> Optio
     let count = line.len();
     let mut read = NO_EVENT;
     read_s(line, 1, &mut read)?;
-    only_if(taker.takes_s(&read))?;
+    only_if(taker.takes(&read))?;
     *event = read;
     Some(count)
 }
@@ -217,7 +273,7 @@ fn m_in_front<T: Taker>(bytes: &[u8], event: &mut Event, taker: &mut T) -> Optio
         _ => {
             let mut read = NO_EVENT;
             read_m(ended_after(bytes, 135)?, 1, &mut read)?;
-            only_if(taker.takes_m(&read))?;
+            only_if(taker.takes(&read))?;
             *event = read;
             Some(135)
         }
@@ -227,7 +283,6 @@ fn m_in_front<T: Taker>(bytes: &[u8], event: &mut Event, taker: &mut T) -> Optio
 /// Reads the event whose line stands at the front of the bytes of a trace of version 1, lets the taker have it, and says how many bytes
 /// the line has without its line feed. None where that isn't the line of an event, or isn't there whole, or the taker doesn't take
 /// the event. Where it does, `event` is that event: it is written last, so that its fields need no place before.
-#[tactic(auto, unfolding(crate::specs::Records::event_at))]
 #[inline(always)]
 pub fn event_in_front<T: Taker>(bytes: &[u8], event: &mut Event, taker: &mut T) -> Option<usize>
     ensures event { IfSome result (IsInFront (event_at 1) bytes.now event.new) }
@@ -236,35 +291,11 @@ pub fn event_in_front<T: Taker>(bytes: &[u8], event: &mut Event, taker: &mut T) 
 {
     match bytes {
         [b'A', rest @ ..] => Some(a_in_front(rest, event, taker)? + 1),
-        [b'B', rest @ ..] => {
-            let mut read = NO_EVENT;
-            read_b(ended_after(rest, 6)?, 1, &mut read)?;
-            only_if(taker.takes_b(&read))?;
-            *event = read;
-            Some(7)
-        }
+        [b'B', rest @ ..] => Some(b_in_front(rest, event, taker)? + 1),
         [b'C', rest @ ..] => Some(c_in_front(rest, event, taker)? + 1),
-        [b'D', rest @ ..] => {
-            let mut read = NO_EVENT;
-            read_d(ended_after(rest, 159)?, 1, &mut read)?;
-            only_if(taker.takes_d(&read))?;
-            *event = read;
-            Some(160)
-        }
-        [b'G', rest @ ..] => {
-            let mut read = NO_EVENT;
-            read_g(ended_after(rest, 6)?, 1, &mut read)?;
-            only_if(taker.takes_g(&read))?;
-            *event = read;
-            Some(7)
-        }
-        [b'L', rest @ ..] => {
-            let mut read = NO_EVENT;
-            read_l(ended_after(rest, 48)?, 1, &mut read)?;
-            only_if(taker.takes_l(&read))?;
-            *event = read;
-            Some(49)
-        }
+        [b'D', rest @ ..] => Some(d_in_front(rest, event, taker)? + 1),
+        [b'G', rest @ ..] => Some(g_in_front(rest, event, taker)? + 1),
+        [b'L', rest @ ..] => Some(l_in_front(rest, event, taker)? + 1),
         [b'M', rest @ ..] => Some(m_in_front(rest, event, taker)? + 1),
         [b'O', rest @ ..] => Some(o_in_front(rest, event, taker)? + 1),
         [b'R', rest @ ..] => Some(r_in_front(rest, event, taker)? + 1),

@@ -17,11 +17,10 @@ ghost use Rattle.ace_top.specs.Output.{AppendsPart};
 ghost use Rattle.ace_top.specs.Progress.{IsStop, StopsAt};
 
 use crate::answer::Answer;
-use ace_check::{CheckErr, Checker, PlainKind, Step};
+use ace_check::{CheckErr, Checker, Step};
 use ace_event::{Event, Header, Line};
 use ace_grammar::Taker;
 use ace_io::{Failed, Sink};
-use ace_portck::event_kinds;
 use ace_report::Report;
 use std::alloc::Global;
 
@@ -155,102 +154,16 @@ impl Follower {
     }
 }
 
-impl Follower {
-    /// Follows one more event of the trace, where it is of the kind that the type tells, no report is asked for, and the checker has a short
-    /// way for it. Where it isn't followed nothing has changed, and `take` tells what there is to say of it.
-    #[inline(always)]
-    fn takes_as<E: PlainKind + Drop>(&mut self, event: &Event) -> bool
-        ensures taken { result ≡ true → HasTaken self.old event.now self.new }
-        ensures stays { result ≡ false → self.new ≡ self.old }
-    {
-        match self.report {
-            Some(_) => false,
-            None => self.checker.takes_as::<E>(event),
-        }
-    }
-}
-
 impl Taker for Follower {
     ghost took = { HasTaken };
 
+    /// Follows one more event of the trace, where no report is asked for and the checker has a short way for it.
     #[inline(always)]
-    fn takes_ar(&mut self, event: &Event) -> bool {
-        self.takes_as::<event_kinds::Ar>(event)
-    }
-
-    #[inline(always)]
-    fn takes_r(&mut self, event: &Event) -> bool {
-        self.takes_as::<event_kinds::R>(event)
-    }
-
-    #[inline(always)]
-    fn takes_rk(&mut self, event: &Event) -> bool {
-        self.takes_as::<event_kinds::Rk>(event)
-    }
-
-    #[inline(always)]
-    fn takes_aw(&mut self, event: &Event) -> bool {
-        self.takes_as::<event_kinds::Aw>(event)
-    }
-
-    #[inline(always)]
-    fn takes_w(&mut self, event: &Event) -> bool {
-        self.takes_as::<event_kinds::W>(event)
-    }
-
-    #[inline(always)]
-    fn takes_b(&mut self, event: &Event) -> bool {
-        self.takes_as::<event_kinds::B>(event)
-    }
-
-    #[inline(always)]
-    fn takes_wk(&mut self, event: &Event) -> bool {
-        self.takes_as::<event_kinds::Wk>(event)
-    }
-
-    #[inline(always)]
-    fn takes_ac(&mut self, event: &Event) -> bool {
-        self.takes_as::<event_kinds::Ac>(event)
-    }
-
-    #[inline(always)]
-    fn takes_cr(&mut self, event: &Event) -> bool {
-        self.takes_as::<event_kinds::Cr>(event)
-    }
-
-    #[inline(always)]
-    fn takes_cd(&mut self, event: &Event) -> bool {
-        self.takes_as::<event_kinds::Cd>(event)
-    }
-
-    #[inline(always)]
-    fn takes_g(&mut self, event: &Event) -> bool {
-        self.takes_as::<event_kinds::G>(event)
-    }
-
-    #[inline(always)]
-    fn takes_m(&mut self, event: &Event) -> bool {
-        self.takes_as::<event_kinds::M>(event)
-    }
-
-    #[inline(always)]
-    fn takes_s(&mut self, event: &Event) -> bool {
-        self.takes_as::<event_kinds::S>(event)
-    }
-
-    #[inline(always)]
-    fn takes_l(&mut self, event: &Event) -> bool {
-        self.takes_as::<event_kinds::L>(event)
-    }
-
-    #[inline(always)]
-    fn takes_d(&mut self, event: &Event) -> bool {
-        self.takes_as::<event_kinds::D>(event)
-    }
-
-    #[inline(always)]
-    fn takes_op(&mut self, event: &Event) -> bool {
-        self.takes_as::<event_kinds::Op>(event)
+    fn takes(&mut self, event: &Event) -> bool {
+        match self.report {
+            Some(_) => false,
+            None => self.checker.takes(event),
+        }
     }
 }
 

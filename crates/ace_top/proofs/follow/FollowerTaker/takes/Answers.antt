@@ -1,9 +1,9 @@
 use Rattle.std.proofs.Common.{None, refl}
-use Rattle.ace_top.proofs.follow.Follower.takes_as.Goals as goal
+use Rattle.ace_top.proofs.follow.FollowerTaker.takes.Goals as goal
 
 pub returns-in-None-clause-taken : goal.returns-in-None-clause-taken
 returns-in-None-clause-taken g c is =
-    let takes = c.takes_as.ensures in
+    let takes = c.takes.ensures in
     record {
       fine = λ h past f. let t = takes.fine h past None f.checker is in (t.1, t.2);
       follows = λ h past f few. let t = takes.fine h past None f.checker is in record {
