@@ -1,7 +1,9 @@
 // The shapes of the fields of a record.
 ghost use Rattle.std.specs.Prelude.{◌≡◌};
 ghost use Rattle.std.specs.Option.{option_map};
-ghost use Rattle.ace_grammar.specs.Shapes.{shapes_of};
+ghost use Rattle.std.specs.Map.{lookup};
+ghost use Rattle.std.specs.Str.{bytes_eq};
+ghost use Rattle.ace_grammar.specs.Shapes.{own_records, shapes_of, snoop_records, write_records};
 
 /// What a field of a record may be.
 #[derive(Clone, Copy, Debug, PartialEq, Eq)]
@@ -111,35 +113,11 @@ static OP: [Shape; 3] = [Shape::Port, Shape::Digits { count: 4 }, Shape::Outcome
 
 static MEM: [Shape; 2] = [Shape::Digits { count: 8 }, Shape::Digits { count: 128 }];
 
-/// The shapes of the fields behind this word, where it is a record word of version 1.
-fn first_shapes_of(word: &[u8]) -> Option<&'static [Shape]>
-    ensures { option_map (λ shapes. shapes.now) result ≡ shapes_of 1 word.now }
+/// The shapes of the fields behind this word, where it is that of a record of what a port does on its own.
+fn own_shapes_of(word: &[u8]) -> Option<&'static [Shape]>
+    ensures { option_map (λ shapes. shapes.now) result ≡ lookup (bytes_eq word.now) own_records }
 {
-    if word == b"AR".as_slice() {
-        Some(&AR)
-    } else if word == b"R".as_slice() {
-        Some(&R)
-    } else if word == b"RK".as_slice() {
-        Some(&RK)
-    } else if word == b"AW".as_slice() {
-        Some(&AW)
-    } else if word == b"W".as_slice() {
-        Some(&W)
-    } else if word == b"B".as_slice() {
-        Some(&B)
-    } else if word == b"WK".as_slice() {
-        Some(&WK)
-    } else if word == b"AC".as_slice() {
-        Some(&AC)
-    } else if word == b"CR".as_slice() {
-        Some(&CR)
-    } else if word == b"CD".as_slice() {
-        Some(&CD)
-    } else if word == b"G".as_slice() {
-        Some(&G)
-    } else if word == b"M".as_slice() {
-        Some(&M)
-    } else if word == b"S".as_slice() {
+    if word == b"S".as_slice() {
         Some(&S)
     } else if word == b"L".as_slice() {
         Some(&L)
@@ -149,6 +127,57 @@ fn first_shapes_of(word: &[u8]) -> Option<&'static [Shape]>
         Some(&OP)
     } else {
         None
+    }
+}
+
+/// The same of these, of the snoop channels and of the interconnect.
+fn snoop_shapes_of(word: &[u8]) -> Option<&'static [Shape]>
+    ensures { option_map (λ shapes. shapes.now) result ≡ lookup (bytes_eq word.now) snoop_records }
+{
+    if word == b"AC".as_slice() {
+        Some(&AC)
+    } else if word == b"CR".as_slice() {
+        Some(&CR)
+    } else if word == b"CD".as_slice() {
+        Some(&CD)
+    } else if word == b"G".as_slice() {
+        Some(&G)
+    } else if word == b"M".as_slice() {
+        Some(&M)
+    } else {
+        own_shapes_of(word)
+    }
+}
+
+/// The same of these and of the write channels.
+fn write_shapes_of(word: &[u8]) -> Option<&'static [Shape]>
+    ensures { option_map (λ shapes. shapes.now) result ≡ lookup (bytes_eq word.now) write_records }
+{
+    if word == b"AW".as_slice() {
+        Some(&AW)
+    } else if word == b"W".as_slice() {
+        Some(&W)
+    } else if word == b"B".as_slice() {
+        Some(&B)
+    } else if word == b"WK".as_slice() {
+        Some(&WK)
+    } else {
+        snoop_shapes_of(word)
+    }
+}
+
+/// The same of all records of version 1.
+fn first_shapes_of(word: &[u8]) -> Option<&'static [Shape]>
+    ensures { option_map (λ shapes. shapes.now) result ≡ shapes_of 1 word.now }
+{
+    if word == b"AR".as_slice() {
+        Some(&AR)
+    } else if word == b"R".as_slice() {
+        Some(&R)
+    } else if word == b"RK".as_slice() {
+        Some(&RK)
+    } else {
+        write_shapes_of(word)
     }
 }
 

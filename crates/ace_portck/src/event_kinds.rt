@@ -53,7 +53,7 @@ impl EventKind for Event {
 }
 
 /// An AR, with the fields that [`Event::Ar`] has.
-#[derive(Clone, Copy, Debug, PartialEq, Eq)]
+#[derive(Clone, Copy)]
 pub struct Ar {
     pub port: u8,
     pub id: u8,
@@ -100,7 +100,7 @@ impl EventKind for Ar {
 }
 
 /// An R, with the fields that [`Event::R`] has.
-#[derive(Clone, Copy, Debug, PartialEq, Eq)]
+#[derive(Clone, Copy)]
 pub struct R {
     pub port: u8,
     pub id: u8,
@@ -141,7 +141,7 @@ impl EventKind for R {
 }
 
 /// An RK, with the fields that [`Event::Rk`] has.
-#[derive(Clone, Copy, Debug, PartialEq, Eq)]
+#[derive(Clone, Copy)]
 pub struct Rk {
     pub port: u8,
     pub st: LineState,
@@ -161,7 +161,7 @@ impl EventKind for Rk {
 }
 
 /// An AW, with the fields that [`Event::Aw`] has.
-#[derive(Clone, Copy, Debug, PartialEq, Eq)]
+#[derive(Clone, Copy)]
 pub struct Aw {
     pub port: u8,
     pub id: u8,
@@ -205,7 +205,7 @@ impl EventKind for Aw {
 }
 
 /// A W, with the fields that [`Event::W`] has.
-#[derive(Clone, Copy, Debug, PartialEq, Eq)]
+#[derive(Clone, Copy)]
 pub struct W {
     pub port: u8,
     pub strb: u16,
@@ -243,7 +243,7 @@ impl EventKind for W {
 }
 
 /// A B, with the fields that [`Event::B`] has.
-#[derive(Clone, Copy, Debug, PartialEq, Eq)]
+#[derive(Clone, Copy)]
 pub struct B {
     pub port: u8,
     pub id: u8,
@@ -264,7 +264,7 @@ impl EventKind for B {
 }
 
 /// A WK, with the fields that [`Event::Wk`] has.
-#[derive(Clone, Copy, Debug, PartialEq, Eq)]
+#[derive(Clone, Copy)]
 pub struct Wk {
     pub port: u8,
     pub st: LineState,
@@ -284,7 +284,7 @@ impl EventKind for Wk {
 }
 
 /// An AC, with the fields that [`Event::Ac`] has.
-#[derive(Clone, Copy, Debug, PartialEq, Eq)]
+#[derive(Clone, Copy)]
 pub struct Ac {
     pub port: u8,
     pub addr: u32,
@@ -305,7 +305,7 @@ impl EventKind for Ac {
 }
 
 /// A CR, with the fields that [`Event::Cr`] has.
-#[derive(Clone, Copy, Debug, PartialEq, Eq)]
+#[derive(Clone, Copy)]
 pub struct Cr {
     pub port: u8,
     pub resp: u8,
@@ -326,7 +326,7 @@ impl EventKind for Cr {
 }
 
 /// A CD, with the fields that [`Event::Cd`] has.
-#[derive(Clone, Copy, Debug, PartialEq, Eq)]
+#[derive(Clone, Copy)]
 pub struct Cd {
     pub port: u8,
     pub last: bool,
@@ -347,7 +347,7 @@ impl EventKind for Cd {
 }
 
 /// A G, with the fields that [`Event::G`] has.
-#[derive(Clone, Copy, Debug, PartialEq, Eq)]
+#[derive(Clone, Copy)]
 pub struct G {
     pub port: u8,
     pub chan: Channel,
@@ -368,7 +368,7 @@ impl EventKind for G {
 }
 
 /// An M, with the fields that [`Event::M`] has.
-#[derive(Clone, Copy, Debug, PartialEq, Eq)]
+#[derive(Clone, Copy)]
 pub struct M {
     pub port: u8,
     pub chan: Channel,
@@ -406,7 +406,7 @@ impl EventKind for M {
 }
 
 /// An L, with the fields that [`Event::L`] has.
-#[derive(Clone, Copy, Debug, PartialEq, Eq)]
+#[derive(Clone, Copy)]
 pub struct L {
     pub port: u8,
     pub addr: u32,
@@ -447,7 +447,7 @@ impl EventKind for L {
 }
 
 /// A D, with the fields that [`Event::D`] has.
-#[derive(Clone, Copy, Debug, PartialEq, Eq)]
+#[derive(Clone, Copy)]
 pub struct D {
     pub port: u8,
     pub addr: u32,
@@ -488,7 +488,7 @@ impl EventKind for D {
 }
 
 /// An S, with the fields that [`Event::S`] has.
-#[derive(Clone, Copy, Debug, PartialEq, Eq)]
+#[derive(Clone, Copy)]
 pub struct S {
     pub port: u8,
     pub addr: u32,
@@ -509,7 +509,7 @@ impl EventKind for S {
 }
 
 /// An OP, with the fields that [`Event::Op`] has.
-#[derive(Clone, Copy, Debug, PartialEq, Eq)]
+#[derive(Clone, Copy)]
 pub struct Op {
     pub port: u8,
     pub k: u16,

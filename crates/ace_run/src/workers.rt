@@ -58,6 +58,7 @@ fn of_plan(alloc: Global, plan: &Plan, system: System) -> Result<System, NoMemor
     if system.plan().same(plan) {
         return Ok(system);
     }
+    drop(system);
     System::start(alloc, plan)
 }
 
