@@ -6,6 +6,7 @@ pub mod PlainEvents
 pub mod PlainAddresses
 -- What the AW of a line write on a known line asks.
 pub mod PlainWriteAddresses
+pub mod PortRules
 pub mod PlainSteps
 -- The ARs of DVM Completes.
 pub mod MessageAddresses

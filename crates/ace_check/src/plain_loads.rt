@@ -19,7 +19,10 @@ impl Shares {
         ensures { (h : Header) (past : Trace) → SharesTell self.now h past
             → result ≡ is_none (least_broken h past (L load.now.port load.now.addr load.now.w load.now.x load.now.word)) }
     {
-        self.ports.may_load(load) && self.lines.may_load(load)
+        if self.ports.rule_of_l(load.port, load.addr).is_some() {
+            return false;
+        }
+        self.lines.may_load(load)
     }
 
     /// Takes an L that breaks no rule. If it isn't taken, nothing has changed.

@@ -20,7 +20,7 @@ impl Shares {
         ensures { (h : Header) (past : Trace) → SharesTell self.now h past → place ≡ place_on self.now.lines (Some change.now.addr)
             → result ≡ is_none (least_broken h past (S change.now.port change.now.addr change.now.st)) }
     {
-        if !self.ports.may_change(change) {
+        if self.ports.rule_of_s(change.port, change.addr).is_some() {
             return false;
         }
         let drops = self.ports.drops_update(change);

@@ -22,7 +22,7 @@ impl Shares {
             × SharesTell self.new h (D store.now.port store.now.addr store.now.strobe store.now.x store.now.line ∷ past) }
         ensures stays { result ≡ false → self.new ≡ self.old }
     {
-        if !self.ports.may_store(store) {
+        if self.ports.rule_of_d(store.port, store.addr).is_some() {
             return false;
         }
         let own = self.ports.own(store.port, store.addr);

@@ -8,7 +8,6 @@ pub mod LinelessReads
 pub mod BarrierAddresses
 pub mod PlainWriteAddresses
 pub mod PlainRetirements
-pub mod PlainSilentChanges
 pub mod WriteEnds
 pub mod BarrierResponses
 pub mod Acknowledges

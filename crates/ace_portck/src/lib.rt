@@ -3,6 +3,7 @@
 
 mod barrier_addresses;
 mod barrier_responses;
+mod cache_rules;
 mod dvm_reads;
 pub mod event_kinds;
 pub mod kinds;
@@ -14,14 +15,11 @@ mod opening;
 mod pending;
 mod plain_acknowledges;
 mod plain_addresses;
-mod plain_loads;
 mod plain_memory_writes;
 mod plain_retirements;
-mod plain_silent_changes;
 mod plain_snoop_answers;
 mod plain_snoop_data;
 mod plain_snoops;
-mod plain_stores;
 mod plain_write_addresses;
 mod plain_write_ends;
 mod plain_writes;

@@ -1,9 +1,10 @@
 //! The rules that look at the header and at the event alone.
 
-ghost use Rattle.std.specs.Prelude.{◌≡◌, ◌==◌, ◌&&◌, nat_lt};
+ghost use Rattle.std.specs.Prelude.{◌≡◌, ◌==◌, ◌%◌, ◌&&◌, nat_lt};
 ghost use Rattle.ace_codes.specs.Responses.{low_bits};
 ghost use Rattle.ace_model.specs.AddressRules.{k1, has_known_codes, k2, may_lock};
 ghost use Rattle.ace_model.specs.Trace.{Trace, is_some_and, port_of};
+ghost use Rattle.ace_model.specs.Transactions.{is_ace};
 
 use crate::kinds::{is_ace, is_lite_read, is_lite_write, may_be_exclusive, read_kind};
 use ace_codes::{has_error, low_bits, read_ac, read_ar, read_aw};
@@ -44,6 +45,30 @@ pub fn is_at(event: &Event, port: u8) -> bool
         Some(own) => own == port,
         None => false,
     }
+}
+
+/// The port is in the header.
+#[inline(always)]
+pub fn has_port(header: &Header, port: u8) -> bool
+    ensures { result ≡ nat_lt port header.now.ports }
+{
+    port < header.ports
+}
+
+/// The port is an ACE port of the header.
+#[inline(always)]
+pub fn has_ace_port(header: &Header, port: u8) -> bool
+    ensures { result ≡ (nat_lt port header.now.ports && is_ace header.now port) }
+{
+    port < header.ports && is_ace(header, port)
+}
+
+/// The address is that of a line: a multiple of 64.
+#[inline(always)]
+pub fn is_line_address(addr: u32) -> bool
+    ensures { result ≡ (addr % 64 == 0) }
+{
+    addr % 64 == 0
 }
 
 /// K1: the port is in the header, and it is an ACE port for what only a master with a cache has (Arm IHI 0022E, C11).

@@ -1,10 +1,10 @@
--- Which of the rules that look at one port a W, an L and a CD may break.
+-- Which of the rules that look at one port a W and a CD may break.
 use Rattle.std.proofs.Common.{◌≡◌, ℕ, Bool, true, false, is_none, refl, sym, ap, ◌∙◌}
 use Rattle.ace_event.specs.declared.event.Event.{Event}
-use Rattle.ace_event.specs.declared.event.Event.TheVariants.{W, L, Cd}
+use Rattle.ace_event.specs.declared.event.Event.TheVariants.{W, Cd}
 use Rattle.ace_event.specs.declared.header.Header.{Header}
 use Rattle.ace_model.specs.Accepted.{least_of}
-use Rattle.ace_model.specs.AddressRules.{k1, k3}
+use Rattle.ace_model.specs.AddressRules.{k1}
 use Rattle.ace_model.specs.Shares.{port_rules, k11_burst, k17_burst}
 use Rattle.ace_model.specs.Trace.{Trace}
 use Rattle.ace_portck.specs.declared.ports.PortCheck.{PortCheck}
@@ -26,16 +26,6 @@ module _ (h : Header) (past : Trace) (p strb : ℕ) (last : Bool) (word : ℕ) w
 
   pub write-fits : k1 h past (W p strb last word) ≡ true → k11_burst h past (W p strb last word) ≡ true → true ≡ is_none (least_of port_rules h past (W p strb last word))
   write-fits first burst = rw (first, burst) refl
-
--- of an L K1 and K3
-module _ (h : Header) (past : Trace) (p addr w : ℕ) (x : Bool) (word : ℕ) where
-  pub load-outside : k1 h past (L p addr w x word) ≡ false → false ≡ is_none (least_of port_rules h past (L p addr w x word))
-  load-outside first = rw first refl
-
-  pub load-keeps : (aligned : Bool) → k1 h past (L p addr w x word) ≡ true → k3 h past (L p addr w x word) ≡ aligned
-      → aligned ≡ is_none (least_of port_rules h past (L p addr w x word))
-  load-keeps true first line = rw (first, line) refl
-  load-keeps false first line = rw (first, line) refl
 
 -- of a CD K1 and the ports' part of K17
 module _ (h : Header) (past : Trace) (p : ℕ) (last : Bool) (word : ℕ) where

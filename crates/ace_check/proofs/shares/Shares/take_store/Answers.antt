@@ -7,6 +7,7 @@ use Rattle.ace_model.proofs.General.Options.{none_is}
 use Rattle.ace_portck.specs.Targets.{Recording}
 use Rattle.ace_lineck.specs.Holders.{awaits_store}
 use Rattle.ace_check.proofs.ShortWays.PlainEvents.{may-apply}
+use Rattle.ace_check.proofs.ShortWays.PortRules.{names-none}
 use Rattle.ace_check.proofs.Steps.{k1_kept, least_with}
 use Rattle.ace_check.proofs.shares.Shares.take_store.Goals as goal
 
@@ -18,10 +19,11 @@ returns-clause-taken c = λ h past s few taken.
     let k = c.args.self.now in
     let at = c.place-place.ensures in
     let own = c.own-own.ensures r s.ports in
-    let ports : least_of port_rules h past e ≡ None = none_is _ (sym (c.may_store.ensures r s.ports) ∙ c.if-not-may_store.false) in
+    let ports : least_of port_rules h past e ≡ None =
+    none_is _ (names-none _ _ _ c.is_some.ensures (c.rule_of_d.ensures r d.strobe d.x d.line s.ports) c.if-is_some.false) in
     let first = k1_kept h past e None (sym ports) refl in
     let lines : least_of line_rules h past e ≡ None = none_is _ (sym (c.keeps_store.ensures.keeps r s.lines at first own) ∙ c.if-not-keeps_store.false) in
-    let system : least_of system_rules h past e ≡ None = none_is _ (sym (c.may_store-2.ensures r s.system) ∙ c.if-not-may_store-2.false) in
+    let system : least_of system_rules h past e ≡ None = none_is _ (sym (c.may_store.ensures r s.system) ∙ c.if-not-may_store.false) in
     let fine = sym (least_with h past e None None None (sym ports) (sym lines) (sym system)) in
     let owned = c.is_some-owned.ensures ∙ c.keeps_store.ensures.own c.if-not-keeps_store.false ∙ ap (λ o. is_some_and o awaits_store) own in (
       fine,
