@@ -61,7 +61,8 @@ impl Shares {
         if !is_barrier_half(&x.transaction) {
             return false;
         }
-        if !self.ports.keeps_response(response.port, x, response.resp) {
+        let rule = self.ports.rule_of_b(response.port, x, response.resp);
+        if rule.is_some() {
             return false;
         }
         if !may_answer_half(&self.ports, &self.system, &x.transaction) {

@@ -40,7 +40,8 @@ fn keeps_lineless_beat(
         → lineless_read x.now.transaction ≡ Some kind → result ≡ true
         → is_none (least_broken r.header r.past (R beat.now.port beat.now.id beat.now.resp beat.now.last beat.now.word)) ≡ true }
 {
-    if !ports.keeps_beat(beat.port, x, kind, beat.resp, beat.last) {
+    let rule = ports.rule_of_r(beat.port, x, kind, beat.resp, beat.last);
+    if rule.is_some() {
         return false;
     }
     if !may_answer(ports, system, &x.transaction) {

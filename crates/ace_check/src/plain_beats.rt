@@ -38,7 +38,8 @@ fn keeps_beat(
         → plain_read x.now.transaction ≡ Some kind → place ≡ place_on lines.now (Some x.now.transaction.addr)
         → result ≡ is_none (least_broken r.header r.past (R beat.now.port beat.now.id beat.now.resp beat.now.last beat.now.word)) }
 {
-    if !ports.keeps_beat(beat.port, x, kind, beat.resp, beat.last) {
+    let rule = ports.rule_of_r(beat.port, x, kind, beat.resp, beat.last);
+    if rule.is_some() {
         return false;
     }
     if !keeps_plain_beat(&x.transaction, beat.resp) {

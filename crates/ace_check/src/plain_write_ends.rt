@@ -32,7 +32,8 @@ impl Shares {
         let Some(kind) = line_write(&x.transaction) else {
             return false;
         };
-        if !self.ports.keeps_response(response.port, x, response.resp) {
+        let rule = self.ports.rule_of_b(response.port, x, response.resp);
+        if rule.is_some() {
             return false;
         }
         if !keeps_written_response(x, kind) {

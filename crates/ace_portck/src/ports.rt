@@ -16,11 +16,9 @@ use crate::NoMemory;
 use crate::event_kinds::EventKind;
 use crate::opening::OpeningMemory;
 use crate::port::PortRecord;
-use crate::port_rules::is_next_beat;
-use crate::rules::{keeps_codes, keeps_port, may_come, port_of};
+use crate::rules::{keeps_codes, keeps_port, port_of};
 use crate::target::{Progress, Target};
 use crate::targets::of_line;
-use ace_codes::ArKind;
 use ace_event::{Channel, Event, Header};
 use std::alloc::Global;
 
@@ -135,9 +133,7 @@ impl PortCheck {
     ghost use Rattle.ace_model.specs.AddressRules.{k1};
     ghost use Rattle.ace_event.specs.Ports.{IsHeader};
     ghost use Rattle.std.specs.Option.{option_copied};
-    ghost use Rattle.std.specs.Prelude.{is_none};
-    ghost use Rattle.ace_event.specs.declared.event.Event.TheVariants.{R};
-    ghost use Rattle.ace_model.specs.Transactions.{outstanding, read_kind};
+    ghost use Rattle.ace_model.specs.Transactions.{outstanding};
     ghost use Rattle.ace_model.specs.Accepted.{least_of};
     ghost use Rattle.ace_model.specs.Shares.{port_rules};
     ghost use Rattle.ace_portck.specs.Stands.{Stands, HasRoom as HasRoomFor, IsRoomy, MayTest, MayApply};
@@ -207,18 +203,6 @@ impl PortCheck {
         record_of(&self.ports, &self.outside, port)
             .transactions
             .outstanding(chan, id)
-    }
-
-    /// An R of the outstanding read keeps the rules that look at one port: K1, K2 and, of K18, that transfers are left and that it is the
-    /// last exactly where it says so. `kind` is that of the read.
-    #[inline(always)]
-    pub fn keeps_beat(&self, port: u8, x: &Progress, kind: ArKind, resp: u8, last: bool) -> bool
-        ensures { (r : Recording) (id word : ℕ) → Stands self.now r
-            → option_map (progress_of r.header r.past) (outstanding r.header r.past port Read id) ≡ Some x.now
-            → read_kind x.now.transaction ≡ Some kind
-            → result ≡ is_none (least_of port_rules r.header r.past (R port id resp last word)) }
-    {
-        may_come(&self.header, port, resp) && is_next_beat(x.transfers, last, kind)
     }
 
     /// The outstanding reads of the port, in the order of issue, and how far each has come.

@@ -1,7 +1,6 @@
 //! The rules that look at the header and at the event alone.
 
 ghost use Rattle.std.specs.Prelude.{◌≡◌, ◌==◌, ◌%◌, ◌&&◌, nat_lt};
-ghost use Rattle.ace_codes.specs.Responses.{low_bits};
 ghost use Rattle.ace_model.specs.AddressRules.{k1, has_known_codes, k2, may_lock};
 ghost use Rattle.ace_model.specs.Trace.{Trace, is_some_and, port_of};
 ghost use Rattle.ace_model.specs.Transactions.{is_ace};
@@ -131,14 +130,6 @@ pub fn keeps_codes(header: &Header, event: &Event) -> bool
     ensures { (past : Trace) → result ≡ k2 header.now past event.now }
 {
     has_known_codes(header, event)
-}
-
-/// K1 and K2, of an R or a B: the port is in the header, and the response is no error.
-#[inline(always)]
-pub fn may_come(header: &Header, port: u8, resp: u8) -> bool
-    ensures { result ≡ (nat_lt port header.now.ports && nat_lt (low_bits resp) 2) }
-{
-    port < header.ports && low_bits(resp) < 2
 }
 
 /// K7, of a new transaction: it has lock 0, or is of a kind that may be exclusive, at an ACE port (Arm IHI 0022E, C9).

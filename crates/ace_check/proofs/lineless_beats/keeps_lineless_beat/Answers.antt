@@ -7,6 +7,7 @@ use Rattle.ace_model.specs.Shares.{port_rules, system_rules}
 use Rattle.ace_portck.proofs.ShortWays.LinelessReads.{lineless_read-is}
 use Rattle.ace_sysck.proofs.Steps.{progress_from}
 use Rattle.ace_check.proofs.ShortWays.PlainSteps.{lines_decide, lineless_beat-only, ports_keep_1}
+use Rattle.ace_check.proofs.ShortWays.PortRules.{names-none}
 use Rattle.ace_check.proofs.lineless_beats.keeps_lineless_beat.Goals as goal
 
 pub returns-clause-fine : goal.returns-clause-fine
@@ -16,7 +17,7 @@ returns-clause-fine c = λ r p l s out own yes.
     let k = c.args.kind in
     let e = R b.port b.id b.resp b.last b.word in
     let served = progress_from r.header r.past _ c.args.x.now out in
-    let ports : is_none (least_of port_rules r.header r.past e) ≡ true = sym (c.keeps_beat.ensures r b.id b.word p out (lineless_read-is x k own).kind) ∙ c.if-not-keeps_beat.false in
+    let ports : is_none (least_of port_rules r.header r.past e) ≡ true = names-none _ _ _ c.is_some.ensures (c.rule_of_r-rule.ensures r b.id b.word p out (lineless_read-is x k own).kind) c.if-is_some.false in
     let may : may_answer_half r.past x ≡ true = sym (c.may_answer.ensures r b.port b.id Read p s served) ∙ c.if-not-may_answer.false in
     let system : is_none (least_of system_rules r.header r.past e) ≡ true = sym (c.keeps_lineless_beat.ensures r b.port b.id b.last b.word k s served own may) ∙ c.if-not-keeps_lineless_beat.false in
     let only = lineless_beat-only r.header r.past b.port b.id b.resp b.last b.word c.args.x.now k out own ports in
@@ -29,5 +30,5 @@ returns-clause-last c = λ r p out own yes.
     let x = c.args.x.now in
     let k = c.args.kind in
     let ports : is_none (least_of port_rules r.header r.past (R b.port b.id b.resp b.last b.word)) ≡ true =
-    sym (c.keeps_beat.ensures r b.id b.word p out (lineless_read-is x.transaction k own).kind) ∙ c.if-not-keeps_beat.false in
+    names-none _ _ _ c.is_some.ensures (c.rule_of_r-rule.ensures r b.id b.word p out (lineless_read-is x.transaction k own).kind) c.if-is_some.false in
     (lineless_beat-only r.header r.past b.port b.id b.resp b.last b.word x k out own ports).1

@@ -7,6 +7,7 @@ use Rattle.ace_portck.specs.Targets.{Recording, progress_of}
 use Rattle.ace_lineck.proofs.ShortWays.BarrierResponses.{barrier_response-law, lines_unmoved_by_response}
 use Rattle.ace_sysck.proofs.ShortWays.BarrierResponses.{response_by_34}
 use Rattle.ace_sysck.proofs.Steps.{progress_from}
+use Rattle.ace_check.proofs.ShortWays.PortRules.{names-none}
 use Rattle.ace_check.proofs.ShortWays.WriteEnds.{keeps-response}
 use Rattle.ace_check.proofs.shares.Shares.take_barrier_response.Goals as goal
 
@@ -18,7 +19,7 @@ returns-clause-taken c = λ h past s few taken.
     let served : option_map (progress_of h past) (outstanding h past b.port Write b.id) ≡ Some x = sym (c.outstanding-write.ensures r s.ports) ∙ ap option_copied c.in-Some.is in
     let out = progress_from h past (outstanding h past b.port Write b.id) x served in
     let half : is_barrier_half x.transaction ≡ true = sym c.is_barrier_half.ensures ∙ c.if-not-is_barrier_half.false in
-    let ports = sym (c.keeps_response.ensures r b.id s.ports served) ∙ c.if-not-keeps_response.false in
+    let ports = names-none _ _ _ c.is_some.ensures (c.rule_of_b-rule.ensures r b.id s.ports served) c.if-is_some.false in
     let lines = barrier_response-law h past b.port b.id b.resp x.transaction out half in
     let system = response_by_34 h past b.port b.id b.resp x.transaction out ∙ sym (c.may_answer_half.ensures r b.port b.id Write s.ports s.system out half) ∙ c.if-not-may_answer_half.false in
     let fine = keeps-response h past b.port b.id b.resp ports lines system in (

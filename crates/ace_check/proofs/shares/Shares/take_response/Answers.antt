@@ -6,6 +6,7 @@ use Rattle.ace_portck.specs.Targets.{Recording, progress_of}
 use Rattle.ace_portck.specs.WriteEnds.{line_write}
 use Rattle.ace_sysck.proofs.ShortWays.PlainAnswers.{response_rules, system_unmoved_by_response}
 use Rattle.ace_sysck.proofs.Steps.{progress_from}
+use Rattle.ace_check.proofs.ShortWays.PortRules.{names-none}
 use Rattle.ace_check.proofs.ShortWays.WriteEnds.{keeps-response}
 use Rattle.ace_check.proofs.shares.Shares.take_response.Goals as goal
 
@@ -18,7 +19,7 @@ returns-clause-taken c = λ h past s few taken.
     let served : option_map (progress_of h past) (outstanding h past b.port Write b.id) ≡ Some x = sym (c.outstanding-write.ensures r s.ports) ∙ ap option_copied c.in-Some.is in
     let out = progress_from h past (outstanding h past b.port Write b.id) x served in
     let line : line_write x.transaction ≡ Some k = sym c.line_write.ensures ∙ c.in-Some-line_write.is in
-    let ports = sym (c.keeps_response.ensures r b.id s.ports served) ∙ c.if-not-keeps_response.false in
+    let ports = names-none _ _ _ c.is_some.ensures (c.rule_of_b-rule.ensures r b.id s.ports served) c.if-is_some.false in
     let lines = sym (c.keeps_written_response.ensures r b.port b.id b.resp served line) ∙ c.if-not-keeps_written_response.false in
     let fine = keeps-response h past b.port b.id b.resp ports lines (response_rules h past b.port b.id b.resp x.transaction k out line) in (
       fine,
