@@ -1,6 +1,7 @@
 //! The rules that look at one port, and what an event belongs to.
 #![tactic(auto)]
 
+mod acknowledge_rules;
 mod barrier_addresses;
 mod barrier_responses;
 mod cache_rules;
