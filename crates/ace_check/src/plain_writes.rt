@@ -19,9 +19,14 @@ impl Shares {
         ensures { (h : Header) (past : Trace) → SharesTell self.now h past
             → result ≡ is_none (least_broken h past (W beat.now.port beat.now.strb beat.now.last beat.now.word)) }
     {
-        match self.ports.write_of(beat) {
+        let rule = self.ports.rule_of_w(beat.port, beat.strb, beat.last);
+        if rule.is_some() {
+            return false;
+        }
+        let number = self.ports.next_write_beat(beat.port);
+        match self.ports.next_write(beat.port) {
             None => false,
-            Some((write, number)) => self.lines.may_write_word(&write, number, beat.word),
+            Some(write) => self.lines.may_write_word(&write, number, beat.word),
         }
     }
 

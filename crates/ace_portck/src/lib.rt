@@ -22,7 +22,6 @@ mod plain_snoop_answers;
 mod plain_snoop_data;
 mod plain_snoops;
 mod plain_write_addresses;
-mod plain_writes;
 mod port;
 mod port_rules;
 mod ports;
@@ -34,6 +33,7 @@ mod target;
 mod targets;
 mod transactions;
 mod write_data;
+mod write_rules;
 
 pub use event_kinds::EventKind;
 pub use lineless_reads::lineless_read;

@@ -207,11 +207,20 @@ impl WriteBursts {
             → result ≡ k11_burst h past event.now }
     {
         match *event {
-            Event::W { strb, last, .. } => match self.next_write() {
-                Some(write) => fits_burst(self.beat(), strb, last, &write),
-                None => false,
-            },
+            Event::W { strb, last, .. } => self.may_have_beat(strb, last),
             _ => true,
+        }
+    }
+
+    /// The same, of a W with this strobe, which says whether it is the last beat.
+    #[inline(always)]
+    pub fn may_have_beat(&self, strobe: u16, last: bool) -> bool
+        ensures { (h : Header) (past : Trace) (p word : ℕ) → WritesStand h past p self.now
+            → result ≡ k11_burst h past (W p strobe last word) }
+    {
+        match self.next_write() {
+            Some(write) => fits_burst(self.beat(), strobe, last, &write),
+            None => false,
         }
     }
 

@@ -1,11 +1,11 @@
--- Which of the rules that look at one port a W and a CD may break.
+-- Which of the rules that look at one port a CD may break.
 use Rattle.std.proofs.Common.{◌≡◌, ℕ, Bool, true, false, is_none, refl, sym, ap, ◌∙◌}
 use Rattle.ace_event.specs.declared.event.Event.{Event}
-use Rattle.ace_event.specs.declared.event.Event.TheVariants.{W, Cd}
+use Rattle.ace_event.specs.declared.event.Event.TheVariants.{Cd}
 use Rattle.ace_event.specs.declared.header.Header.{Header}
 use Rattle.ace_model.specs.Accepted.{least_of}
 use Rattle.ace_model.specs.AddressRules.{k1}
-use Rattle.ace_model.specs.Shares.{port_rules, k11_burst, k17_burst}
+use Rattle.ace_model.specs.Shares.{port_rules, k17_burst}
 use Rattle.ace_model.specs.Trace.{Trace}
 use Rattle.ace_portck.specs.declared.ports.PortCheck.{PortCheck}
 use Rattle.ace_portck.specs.Stands.{Stands}
@@ -15,17 +15,6 @@ use Rattle.ace_portck.specs.Targets.{Recording}
 pub port-at : (s : PortCheck) (r : Recording) (d e : Event) (answer kept : Bool) → Stands s r → d ≡ e → answer ≡ k1 s.header r.past d → answer ≡ kept → k1 r.header r.past e ≡ kept
 port-at s r d e answer kept stands is says answered =
     ap (λ (h : Header). k1 h r.past e) (sym stands.header) ∙ ap (k1 s.header r.past) (sym is) ∙ sym says ∙ answered
-
--- of a W K1 and the ports' part of K11
-module _ (h : Header) (past : Trace) (p strb : ℕ) (last : Bool) (word : ℕ) where
-  pub write-outside : k1 h past (W p strb last word) ≡ false → false ≡ is_none (least_of port_rules h past (W p strb last word))
-  write-outside first = rw first refl
-
-  pub write-unfit : k1 h past (W p strb last word) ≡ true → k11_burst h past (W p strb last word) ≡ false → false ≡ is_none (least_of port_rules h past (W p strb last word))
-  write-unfit first burst = rw (first, burst) refl
-
-  pub write-fits : k1 h past (W p strb last word) ≡ true → k11_burst h past (W p strb last word) ≡ true → true ≡ is_none (least_of port_rules h past (W p strb last word))
-  write-fits first burst = rw (first, burst) refl
 
 -- of a CD K1 and the ports' part of K17
 module _ (h : Header) (past : Trace) (p : ℕ) (last : Bool) (word : ℕ) where
