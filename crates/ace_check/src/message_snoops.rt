@@ -21,7 +21,8 @@ impl Shares {
         ensures { (h : Header) (past : Trace) → SharesTell self.now h past → ac_kind_of snoop.now.snoop ≡ Some kind → is_line_snoop kind ≡ false
             → result ≡ is_none (least_broken h past (Ac snoop.now.port snoop.now.addr snoop.now.snoop)) }
     {
-        if !self.ports.keeps_message_snoop(snoop.port) {
+        let rule = self.ports.rule_of_ac(snoop.port, snoop.addr, Some(kind));
+        if rule.is_some() {
             return false;
         }
         self.system

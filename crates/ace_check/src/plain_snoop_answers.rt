@@ -42,7 +42,7 @@ impl Shares {
         ensures { (h : Header) (past : Trace) (x : Snoop) → SharesTell self.now h past → IsAnswered past answer.now.port x kind → line ≡ line_of_snoop (Some x)
             → place ≡ place_on self.now.lines line → result ≡ is_none (least_broken h past (Cr answer.now.port answer.now.resp answer.now.st)) }
     {
-        if !self.ports.keeps_snoop_answer(answer.port, answer.resp) {
+        if self.ports.rule_of_cr(answer.port, answer.resp).is_some() {
             return false;
         }
         let update = self.has_update(answer.port, line);

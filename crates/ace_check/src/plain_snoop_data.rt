@@ -21,9 +21,13 @@ impl Shares {
             × SharesTell self.new h (Cd beat.now.port beat.now.last beat.now.word ∷ past) }
         ensures stays { result ≡ false → self.new ≡ self.old }
     {
-        let Some((snoop, number)) = self.ports.sent_by(beat) else {
+        if self.ports.rule_of_cd(beat.port, beat.last).is_some() {
+            return false;
+        }
+        let Some(snoop) = self.ports.sending(beat.port) else {
             return false;
         };
+        let number = self.ports.next_sent_beat(beat.port);
         let place = self.lines.place(Some(snoop.addr));
         if !self
             .lines

@@ -13,6 +13,7 @@ ghost use Rattle.ace_check.specs.Shares.{SharesTell};
 
 use crate::plain::PlainKind;
 use crate::shares::Shares;
+use ace_codes::read_ac;
 use ace_portck::event_kinds;
 use ace_portck::kinds::snoops_a_line;
 
@@ -34,7 +35,9 @@ impl Shares {
             → place ≡ place_on self.now.lines (Some snoop.now.addr)
             → result ≡ is_none (least_broken h past (Ac snoop.now.port snoop.now.addr snoop.now.snoop)) }
     {
-        if !self.ports.keeps_line_snoop(snoop.port, snoop.addr) {
+        let kind = read_ac(snoop.snoop);
+        let rule = self.ports.rule_of_ac(snoop.port, snoop.addr, kind);
+        if rule.is_some() {
             return false;
         }
         if !self.system.keeps_line_snoop(snoop.port) {

@@ -1,21 +1,14 @@
 -- What a line snoop and its answer ask of their port, in the words of what is kept.
-use Rattle.std.proofs.Common.{◌≡◌, ℕ, Bool, true, false, not, ◌&&◌, ◌==◌, List, map, nat_lt, Some, is_none, refl, sym, ap, ◌∙◌}
+use Rattle.std.proofs.Common.{◌≡◌, ℕ, Bool, true, false, not, ◌&&◌, ◌==◌, List, map, refl, sym, ap, ◌∙◌}
 use Rattle.std.specs.List.{list_any}
-use Rattle.ace_codes.specs.Responses.{has_error}
-use Rattle.ace_codes.specs.declared.state.LineState.{LineState}
 use Rattle.ace_event.specs.declared.event.Channel.{Channel}
 use Rattle.ace_event.specs.declared.event.Channel.TheVariants.{Read, Write}
-use Rattle.ace_event.specs.declared.event.Event.TheVariants.{Cr}
 use Rattle.ace_event.specs.declared.header.Header.{Header}
-use Rattle.ace_model.specs.declared.snoops.Snoop.{Snoop}
 use Rattle.ace_model.specs.declared.transactions.Transaction.{Transaction}
 use Rattle.ace_model.specs.Progress.{has_update, is_update_on, transactions, updates_memory}
-use Rattle.ace_model.specs.Accepted.{least_of}
-use Rattle.ace_model.specs.Shares.{port_rules}
-use Rattle.ace_model.specs.Snoops.{answered}
 use Rattle.ace_model.specs.States.{owes_wack, awaits_wack}
 use Rattle.ace_model.specs.Trace.{Trace}
-use Rattle.ace_model.specs.Transactions.{is_ace, is_complete, is_on, is_outstanding, is_read, same_channel}
+use Rattle.ace_model.specs.Transactions.{is_complete, is_on, is_outstanding, is_read, same_channel}
 use Rattle.ace_model.proofs.Outstanding.Issued.{some_issued-any}
 use Rattle.ace_model.proofs.Outstanding.Lists.{any_kept}
 use Rattle.ace_portck.specs.declared.target.Progress.{Progress}
@@ -73,14 +66,3 @@ has_update_is h past p l writes are =
 
     same : (x : Transaction) → is_update_on h past p l x ≡ (is_pending h past p Write x && (is_on x l && updates_memory x))
     same x = turned (x.port == p) (same_channel x.chan Write) (is_on x l) (is_outstanding h past x) (updates_memory x) (writes-update x x.chan refl)
-
--- of a CR that answers a snoop K1 and K2 are all that is asked
-pub answer_rules : (h : Header) (past : Trace) (p resp : ℕ) (st : LineState) (x : Snoop) → answered past p ≡ Some x
-    → is_none (least_of port_rules h past (Cr p resp st)) ≡ ((nat_lt p h.ports && is_ace h p) && not (has_error resp))
-answer_rules h past p resp st x is = by (nat_lt p h.ports) (is_ace h p) (has_error resp) refl refl refl
-  where
-    by : (a b c : Bool) → nat_lt p h.ports ≡ a → is_ace h p ≡ b → has_error resp ≡ c → is_none (least_of port_rules h past (Cr p resp st)) ≡ ((a && b) && not c)
-    by false b c port ace error = rw port refl
-    by true false c port ace error = rw (ace, port) refl
-    by true true true port ace error = rw (ace, port, error) refl
-    by true true false port ace error = rw (ace, port, error, is) refl

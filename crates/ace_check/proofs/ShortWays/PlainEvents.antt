@@ -45,10 +45,6 @@ pub and-true : (b : Bool) → b ≡ (true && b && true)
 and-true true = refl
 and-true false = refl
 
-pub and-false : (b : Bool) → (b && false) ≡ false
-and-false true = refl
-and-false false = refl
-
 -- one that lines and system say nothing of
 pub ports-alone : (b : Bool) → b ≡ (b && true && true)
 ports-alone true = refl
