@@ -93,7 +93,7 @@ impl OpeningMemory {
     ghost use Rattle.std.specs.Prelude.{◌∷◌, [], length};
     ghost use Rattle.ace_event.specs.declared.header.Header.{Header};
     ghost use Rattle.ace_model.specs.Accepted.{IsAccepted};
-    ghost use Rattle.ace_model.specs.AddressRules.{k3};
+    ghost use Rattle.ace_model.specs.AddressRules.{k3, opens_memory};
     ghost use Rattle.ace_model.specs.Trace.{Trace};
     ghost use Rattle.ace_portck.specs.Opening.{OpeningStands, opens_above};
 
@@ -122,10 +122,19 @@ impl OpeningMemory {
         ensures { (past : Trace) → OpeningStands past self.now → place ≡ length past → result ≡ k3 header.now past event.now }
     {
         let may = match *event {
-            Event::Mem { addr, .. } => header.version == 2 && self.opens(addr) && place < MOST,
+            Event::Mem { addr, .. } => self.may_open_at(header, addr, place),
             _ => true,
         };
         is_aligned(event) && may
+    }
+
+    /// Of K3, all but that the line is at a multiple of 64: a MEM may come at this address, with `place` events before it.
+    #[inline(always)]
+    pub fn may_open_at(&self, header: &Header, addr: u32, place: usize) -> bool
+        ensures { (past : Trace) → OpeningStands past self.now → place ≡ length past
+            → result ≡ opens_memory header.now past addr }
+    {
+        header.version == 2 && self.opens(addr) && place < MOST
     }
 
     /// Hears an event that keeps the rules.
