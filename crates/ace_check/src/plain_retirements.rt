@@ -18,7 +18,7 @@ impl Shares {
         ensures { (h : Header) (past : Trace) → SharesTell self.now h past
             → result ≡ is_none (least_broken h past (Op op.now.port op.now.k op.now.res)) }
     {
-        self.ports.may_retire(op)
+        self.ports.rule_of_op(op.port, op.k).is_none()
     }
 
     /// Takes an OP that breaks no rule. If it isn't taken, nothing has changed.
