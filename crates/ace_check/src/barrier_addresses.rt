@@ -5,7 +5,8 @@ ghost use Rattle.ace_model.specs.Trace.{Trace};
 ghost use Rattle.ace_portck.specs.BarrierAddresses.{IssuesHalf};
 
 use crate::shares::Shares;
-use ace_event::Event;
+use ace_codes::{ArKind, AwKind};
+use ace_event::{Channel, Event};
 use ace_model::Transaction;
 use ace_portck::kinds::is_barrier_half;
 use ace_portck::{EventKind, issued};
@@ -25,16 +26,39 @@ impl Shares {
     ghost use Rattle.std.specs.Prelude.{◌<◌, ◌-◌, ◌^◌, ◌∷◌, true, false, None, is_none};
     ghost use Rattle.ace_event.specs.declared.event.Event.{Event};
     ghost use Rattle.ace_event.specs.declared.header.Header.{Header};
-    ghost use Rattle.ace_model.specs.Accepted.{least_broken};
+    ghost use Rattle.ace_model.specs.Accepted.{least_broken, least_of};
+    ghost use Rattle.ace_model.specs.Shares.{port_rules};
     ghost use Rattle.ace_check.specs.Run.{goes_over};
     ghost use Rattle.ace_check.specs.Shares.{SharesTell};
+
+    /// The least rule about its port that an AR or AW that issues the half of a barrier breaks.
+    #[inline(always)]
+    fn port_rule_of_half(&self, half: &Transaction) -> Option<u8>
+        ensures { (h : Header) (past : Trace) (e : Event) → SharesTell self.now h past → IssuesHalf past e half.now
+            → result ≡ least_of port_rules h past e }
+    {
+        match half.chan {
+            Channel::Read => {
+                let kind = Some(ArKind::Barrier);
+                self.ports
+                    .rule_of_ar(half.port, half.id, half.addr, kind, false)
+            }
+            Channel::Write => {
+                let kind = Some(AwKind::Barrier);
+                self.ports.rule_of_aw(half.port, half.id, half.addr, kind)
+            }
+        }
+    }
 
     /// An AR or AW that issues the half of a barrier breaks no rule.
     fn keeps_barrier(&self, half: &Transaction) -> bool
         ensures { (h : Header) (past : Trace) (e : Event) → SharesTell self.now h past → IssuesHalf past e half.now
             → result ≡ is_none (least_broken h past e) }
     {
-        self.ports.keeps_barrier_address(half) && self.system.keeps_barrier(half)
+        if self.port_rule_of_half(half).is_some() {
+            return false;
+        }
+        self.system.keeps_barrier(half)
     }
 
     /// Takes an AR or AW that issues half of a barrier, with lock 0, and breaks no rule. If it isn't taken, nothing has changed.

@@ -1,6 +1,7 @@
 //! ARs of DVM Messages and DVM Completes, taken by the short way.
 
 use crate::shares::Shares;
+use ace_codes::ArKind;
 use ace_portck::event_kinds;
 
 impl Shares {
@@ -25,7 +26,14 @@ impl Shares {
             → goes_over past (Ar address.now.port address.now.id address.now.addr address.now.snoop address.now.dom address.now.bar address.now.lock) ≡ false }
         ensures stays { result ≡ false → self.new ≡ self.old }
     {
-        if !self.ports.keeps_dvm_address(address.port, address.id) {
+        let rule = self.ports.rule_of_ar(
+            address.port,
+            address.id,
+            address.addr,
+            Some(ArKind::DvmMessage),
+            address.lock,
+        );
+        if rule.is_some() {
             return false;
         }
         if !self
@@ -52,7 +60,14 @@ impl Shares {
             → goes_over past (Ar address.now.port address.now.id address.now.addr address.now.snoop address.now.dom address.now.bar address.now.lock) ≡ false }
         ensures stays { result ≡ false → self.new ≡ self.old }
     {
-        if !self.ports.keeps_dvm_address(address.port, address.id) {
+        let rule = self.ports.rule_of_ar(
+            address.port,
+            address.id,
+            address.addr,
+            Some(ArKind::DvmComplete),
+            address.lock,
+        );
+        if rule.is_some() {
             return false;
         }
         if !self.system.keeps_completion(address.port, address.addr) {

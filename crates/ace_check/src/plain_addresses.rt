@@ -30,10 +30,14 @@ impl Shares {
             → goes_over past (Ar address.now.port address.now.id address.now.addr address.now.snoop address.now.dom address.now.bar address.now.lock) ≡ false }
         ensures stays { result ≡ false → self.new ≡ self.old }
     {
-        if !self
-            .ports
-            .keeps_read_address(address.port, address.id, address.addr, kind, address.lock)
-        {
+        let rule = self.ports.rule_of_ar(
+            address.port,
+            address.id,
+            address.addr,
+            Some(kind),
+            address.lock,
+        );
+        if rule.is_some() {
             return false;
         }
         let place = self.lines.place(Some(address.addr));

@@ -26,10 +26,10 @@ impl Shares {
         let Some(kind) = plain_write_kind(address.snoop, address.dom, address.bar) else {
             return false;
         };
-        if !self
+        let rule = self
             .ports
-            .keeps_write_address(address.port, address.id, address.addr, kind)
-        {
+            .rule_of_aw(address.port, address.id, address.addr, Some(kind));
+        if rule.is_some() {
             return false;
         }
         let place = self.lines.place(Some(address.addr));

@@ -1,5 +1,4 @@
--- What the short ways of the checker ask of what is kept of the ports: which rules an event of a kind can break, and that what is asked says
--- exactly whether it breaks one of them.
+-- What the transactions are that the short ways of the checker take, by their kinds, and what such a way needs to know of an R, an RK and a WK.
 pub mod Plain
 pub mod PlainAddresses
 pub mod DvmReads

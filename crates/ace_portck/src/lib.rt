@@ -2,10 +2,9 @@
 #![tactic(auto)]
 
 mod acknowledge_rules;
-mod barrier_addresses;
+mod address_rules;
 mod barrier_responses;
 mod cache_rules;
-mod dvm_reads;
 pub mod event_kinds;
 pub mod kinds;
 mod lineless_reads;
@@ -15,8 +14,6 @@ mod one_port;
 mod opening;
 mod pending;
 mod plain_acknowledges;
-mod plain_addresses;
-mod plain_write_addresses;
 mod port;
 mod port_rules;
 mod ports;
@@ -32,13 +29,13 @@ mod transactions;
 mod write_data;
 mod write_rules;
 
+pub use address_rules::plain_write_kind;
 pub use event_kinds::EventKind;
 pub use lineless_reads::lineless_read;
 pub use no_memory::NoMemory;
 pub use one_port::OnePort;
 pub use pending::issued;
 pub use plain_acknowledges::{line_of_read, line_of_write};
-pub use plain_write_addresses::plain_write_kind;
 pub use ports::PortCheck;
 pub use response_rules::line_write;
 pub use rules::is_at;

@@ -205,6 +205,14 @@ impl PortCheck {
             .outstanding(chan, id)
     }
 
+    /// How many events came: the place of a transaction that the next one issues.
+    #[inline(always)]
+    pub fn place(&self) -> usize
+        ensures { (r : Recording) → Stands self.now r → result ≡ length r.past }
+    {
+        self.count
+    }
+
     /// The outstanding reads of the port, in the order of issue, and how far each has come.
     pub fn reads(&self, port: u8) -> &[Progress]
         ensures { (r : Recording) → Stands self.now r → result.now ≡ map (progress_of r.header r.past) (pending_of r.header r.past port Read) }

@@ -1,5 +1,5 @@
--- What half of a barrier is, and which rules about one port look at the AR or AW that issues it.
-use Rattle.std.proofs.Common.{◌≡◌, ℕ, Bool, true, false, ◌&&◌, nat_lt, Some, None, is_none, length, refl, sym, ap, subst, ◌∙◌, inl, inr}
+-- What half of a barrier is, by the AR or AW that issues it.
+use Rattle.std.proofs.Common.{◌≡◌, ℕ, Bool, true, false, Some, None, length, refl, sym, ap, subst, ◌∙◌, inl, inr}
 use Rattle.std.proofs.lemmas.Bool.{or_cases}
 use Rattle.ace_codes.specs.declared.kind.ArKind.{ArKind}
 use Rattle.ace_codes.specs.declared.kind.ArKind.TheVariants as read
@@ -7,16 +7,12 @@ use Rattle.ace_codes.specs.declared.kind.AwKind.{AwKind}
 use Rattle.ace_codes.specs.declared.kind.AwKind.TheVariants as write
 use Rattle.ace_codes.specs.Reads.{ar_kind_of}
 use Rattle.ace_codes.specs.Writes.{aw_kind_of}
-use Rattle.ace_event.specs.declared.event.Channel.TheVariants.{Read, Write}
 use Rattle.ace_event.specs.declared.event.Event.{Event}
 use Rattle.ace_event.specs.declared.event.Event.TheVariants.{Ar, Aw}
 use Rattle.ace_event.specs.declared.header.Header.{Header}
-use Rattle.ace_model.specs.Accepted.{least_of}
 use Rattle.ace_model.specs.Barriers.{is_barrier_half}
 use Rattle.ace_model.specs.Kinds.{is_read_barrier, is_write_barrier}
-use Rattle.ace_model.specs.Shares.{port_rules}
 use Rattle.ace_model.specs.Trace.{Trace, is_some_and}
-use Rattle.ace_model.specs.Transactions.{is_ace, outstanding}
 use Rattle.ace_model.specs.declared.transactions.Transaction.{Transaction}
 use Rattle.ace_model.proofs.General.Options.{Some-injective, is_some_and-is}
 use Rattle.ace_model.proofs.Trace.Outstanding.{write_issued}
@@ -66,36 +62,3 @@ each-half P past reads writes e x is = let bad : None ≡ Some x = is.issues in 
 pub half-no_line : (h : Header) (past : Trace) (e : Event) (x : Transaction) → IssuesHalf past e x → line_in h past e ≡ None
 half-no_line h past =
     each-half (λ e x. line_in h past e ≡ None) past (λ p i addr snoop dom bar lock kind unlocked. rw kind refl) (λ p i addr snoop dom bar kind. rw kind refl)
-
--- K1, K2 and K4 are all that is asked of it
-read_half_rules : (h : Header) (past : Trace) (p i addr snoop dom bar : ℕ) (lock : Bool) → ar_kind_of snoop dom bar ≡ Some read.Barrier → lock ≡ false
-    → is_none (least_of port_rules h past (Ar p i addr snoop dom bar lock)) ≡ (nat_lt p h.ports && is_none (outstanding h past p Read i))
-read_half_rules h past p i addr snoop dom bar lock kind unlocked =
-    by (nat_lt p h.ports) (is_ace h p) (is_none (outstanding h past p Read i)) refl refl refl
-  where
-    by : (a b c : Bool) → nat_lt p h.ports ≡ a → is_ace h p ≡ b → is_none (outstanding h past p Read i) ≡ c
-        → is_none (least_of port_rules h past (Ar p i addr snoop dom bar lock)) ≡ (a && c)
-    by false b c port ace name = rw port refl
-    by true true false port ace name = rw (port, kind, ace, name) refl
-    by true false false port ace name = rw (port, kind, ace, name) refl
-    by true true true port ace name = rw (port, kind, ace, name, unlocked) refl
-    by true false true port ace name = rw (port, kind, ace, name, unlocked) refl
-
-write_half_rules : (h : Header) (past : Trace) (p i addr snoop dom bar : ℕ) → aw_kind_of snoop dom bar ≡ Some write.Barrier
-    → is_none (least_of port_rules h past (Aw p i addr snoop dom bar)) ≡ (nat_lt p h.ports && is_none (outstanding h past p Write i))
-write_half_rules h past p i addr snoop dom bar kind =
-    by (nat_lt p h.ports) (is_ace h p) (is_none (outstanding h past p Write i)) refl refl refl
-  where
-    by : (a b c : Bool) → nat_lt p h.ports ≡ a → is_ace h p ≡ b → is_none (outstanding h past p Write i) ≡ c
-        → is_none (least_of port_rules h past (Aw p i addr snoop dom bar)) ≡ (a && c)
-    by false b c port ace name = rw port refl
-    by true true true port ace name = rw (port, kind, ace, name) refl
-    by true true false port ace name = rw (port, kind, ace, name) refl
-    by true false true port ace name = rw (port, kind, ace, name) refl
-    by true false false port ace name = rw (port, kind, ace, name) refl
-
-pub half_rules : (h : Header) (past : Trace) (e : Event) (x : Transaction) → IssuesHalf past e x
-    → is_none (least_of port_rules h past e) ≡ (nat_lt x.port h.ports && is_none (outstanding h past x.port x.chan x.id))
-half_rules h past =
-    each-half (λ e x. is_none (least_of port_rules h past e) ≡ (nat_lt x.port h.ports && is_none (outstanding h past x.port x.chan x.id))) past
-    (read_half_rules h past) (write_half_rules h past)

@@ -1,18 +1,13 @@
--- What a DVM read is, and which rules about one port look at its AR.
-use Rattle.std.proofs.Common.{◌≡◌, ℕ, Bool, true, false, not, ◌&&◌, nat_lt, Some, None, is_none, refl, subst}
+-- What a DVM read is.
+use Rattle.std.proofs.Common.{◌≡◌, ℕ, Bool, true, false, not, ◌&&◌, Some, None, refl, subst}
 use Rattle.std.proofs.lemmas.Bool.{and_parts, not-true}
 use Rattle.ace_codes.specs.declared.kind.ArKind.{ArKind}
 use Rattle.ace_codes.specs.declared.kind.ArKind.TheVariants as read
 use Rattle.ace_codes.specs.Reads.{ar_kind_of}
-use Rattle.ace_event.specs.declared.event.Channel.TheVariants.{Read}
-use Rattle.ace_event.specs.declared.event.Event.TheVariants.{Ar}
-use Rattle.ace_event.specs.declared.header.Header.{Header}
-use Rattle.ace_model.specs.Accepted.{least_of}
 use Rattle.ace_model.specs.Barriers.{is_barrier_half}
-use Rattle.ace_model.specs.Kinds.{is_dvm_complete, is_dvm_message, is_line_read, is_lite_read, is_read_barrier}
-use Rattle.ace_model.specs.Shares.{port_rules}
-use Rattle.ace_model.specs.Trace.{Trace, is_some_and}
-use Rattle.ace_model.specs.Transactions.{is_ace, is_line, is_read, outstanding, read_kind, write_kind}
+use Rattle.ace_model.specs.Kinds.{is_dvm_complete, is_dvm_message, is_line_read, is_read_barrier}
+use Rattle.ace_model.specs.Trace.{is_some_and}
+use Rattle.ace_model.specs.Transactions.{is_line, is_read, read_kind, write_kind}
 use Rattle.ace_model.specs.declared.transactions.Transaction.{Transaction}
 use Rattle.ace_model.proofs.General.Options.{is_some_and-is}
 use Rattle.ace_portck.specs.DvmReads.{is_completion, is_dvm_address, is_dvm_read, is_message}
@@ -36,11 +31,6 @@ dvm-no_line : (k : ArKind) → is_dvm_read k ≡ true → is_line_read k ≡ fal
 dvm-no_line read.DvmMessage dvm = refl
 dvm-no_line read.DvmComplete dvm = refl
 dvm-no_line k dvm = cc
-
-dvm-no_lite : (k : ArKind) → is_dvm_read k ≡ true → is_lite_read k ≡ false
-dvm-no_lite read.DvmMessage dvm = refl
-dvm-no_lite read.DvmComplete dvm = refl
-dvm-no_lite k dvm = cc
 
 -- it is neither half of a barrier nor a line transaction
 pub dvm_read-no_half : (x : Transaction) (k : ArKind) → IsDvmRead x k → is_barrier_half x ≡ false
@@ -105,22 +95,3 @@ pub dvm_address-no_line : (place p i addr snoop dom bar : ℕ) (lock : Bool) →
 dvm_address-no_line place p i addr snoop dom bar lock t =
     let d = dvm_address-read place p i addr snoop dom bar lock t in
     dvm_read-no_line (read_of place p i addr snoop dom bar lock) d.0 d.1
-
--- K1, K2 and K4 are all that is asked of it
-kind_rules : (h : Header) (past : Trace) (p i addr snoop dom bar : ℕ) (lock : Bool) (k : ArKind) → AreFields snoop dom bar lock k → is_dvm_read k ≡ true
-    → is_none (least_of port_rules h past (Ar p i addr snoop dom bar lock)) ≡ ((nat_lt p h.ports && is_ace h p) && is_none (outstanding h past p Read i))
-kind_rules h past p i addr snoop dom bar lock k is dvm =
-    by (nat_lt p h.ports) (is_ace h p) (is_none (outstanding h past p Read i)) refl refl refl
-  where
-    by : (a b c : Bool) → nat_lt p h.ports ≡ a → is_ace h p ≡ b → is_none (outstanding h past p Read i) ≡ c
-        → is_none (least_of port_rules h past (Ar p i addr snoop dom bar lock)) ≡ ((a && b) && c)
-    by false b c port ace name = rw port refl
-    by true false c port ace name = rw (port, is.kind, ace, dvm-no_lite k dvm) refl
-    by true true false port ace name = rw (port, is.kind, ace, dvm-no_line k dvm, name) refl
-    by true true true port ace name = rw (port, is.kind, ace, dvm-no_line k dvm, name, is.unlocked) refl
-
-pub dvm_address_rules : (h : Header) (past : Trace) (p i addr snoop dom bar : ℕ) (lock : Bool) → is_dvm_address snoop dom bar lock ≡ true
-    → is_none (least_of port_rules h past (Ar p i addr snoop dom bar lock)) ≡ ((nat_lt p h.ports && is_ace h p) && is_none (outstanding h past p Read i))
-dvm_address_rules h past p i addr snoop dom bar lock t =
-    let f = fields-where snoop dom bar lock is_dvm_read t in
-    kind_rules h past p i addr snoop dom bar lock f.0 f.1 f.2

@@ -8,6 +8,7 @@ use Rattle.ace_model.specs.Shares.{port_rules, line_rules}
 use Rattle.ace_portck.specs.Targets.{Recording}
 use Rattle.ace_lineck.proofs.ShortWays.PlainAddresses.{lines-begun}
 use Rattle.ace_check.proofs.ShortWays.PlainAddresses.{keeps-all, over-known}
+use Rattle.ace_check.proofs.ShortWays.PortRules.{names-none}
 use Rattle.ace_check.proofs.shares.Shares.take_read_address.Goals as goal
 
 pub returns-clause-taken : goal.returns-clause-taken
@@ -16,9 +17,9 @@ returns-clause-taken c = λ h past s few kind line t.
     let e : Event = Ar a.port a.id a.addr a.snoop a.dom a.bar a.lock in
     let r : Recording = record { header = h; past = past } in
     let ports : is_none (least_of port_rules h past e) ≡ true =
-    sym (c.keeps_read_address.ensures r a.snoop a.dom a.bar s.ports kind line) ∙ c.if-not-keeps_read_address.false in
+    names-none _ _ _ c.is_some.ensures (c.rule_of_ar-rule.ensures r a.snoop a.dom a.bar s.ports (sym kind)) c.if-is_some.false in
     let both : (is_known past a.addr && is_none (least_of line_rules h past e)) ≡ true =
-    sym (c.keeps_read_address-2.ensures r a.id a.addr a.snoop a.dom a.bar a.lock s.lines c.place-place.ensures kind line) ∙ c.if-not-keeps_read_address-2.false in
+    sym (c.keeps_read_address.ensures r a.id a.addr a.snoop a.dom a.bar a.lock s.lines c.place-place.ensures kind line) ∙ c.if-not-keeps_read_address.false in
     let parts = and_parts (is_known past a.addr) (is_none (least_of line_rules h past e)) both in
     let fine = keeps-all h past a.port a.id a.addr a.snoop a.dom a.bar a.lock c.args.kind kind line ports parts.1 in (
       fine,
@@ -35,5 +36,5 @@ returns-clause-few_lines c = λ h past s kind line t.
     let e : Event = Ar a.port a.id a.addr a.snoop a.dom a.bar a.lock in
     let r : Recording = record { header = h; past = past } in
     let both : (is_known past a.addr && is_none (least_of line_rules h past e)) ≡ true =
-    sym (c.keeps_read_address-2.ensures r a.id a.addr a.snoop a.dom a.bar a.lock s.lines c.place-place.ensures kind line) ∙ c.if-not-keeps_read_address-2.false in
+    sym (c.keeps_read_address.ensures r a.id a.addr a.snoop a.dom a.bar a.lock s.lines c.place-place.ensures kind line) ∙ c.if-not-keeps_read_address.false in
     over-known past e (and_parts (is_known past a.addr) (is_none (least_of line_rules h past e)) both).0

@@ -7,10 +7,12 @@ use Rattle.ace_model.specs.Lines.{is_known}
 use Rattle.ace_model.specs.Shares.{port_rules, line_rules}
 use Rattle.ace_portck.specs.PlainWriteAddresses.{plain_write_kind}
 use Rattle.ace_portck.specs.Targets.{Recording}
+use Rattle.ace_portck.proofs.ShortWays.PlainWriteAddresses.{write-kind}
 use Rattle.ace_lineck.proofs.ShortWays.PlainAddresses.{lines-begun}
 use Rattle.ace_sysck.proofs.ShortWays.PlainWriteAddresses.{system-begun}
 use Rattle.ace_check.proofs.ShortWays.PlainAddresses.{over-known}
 use Rattle.ace_check.proofs.ShortWays.PlainWriteAddresses.{keeps-all}
+use Rattle.ace_check.proofs.ShortWays.PortRules.{names-none}
 use Rattle.ace_check.proofs.shares.Shares.take_write_address.Goals as goal
 
 pub returns-clause-taken : goal.returns-clause-taken
@@ -21,9 +23,9 @@ returns-clause-taken c = λ h past s few t.
     let r : Recording = record { header = h; past = past } in
     let kind : plain_write_kind a.snoop a.dom a.bar ≡ Some k = sym c.plain_write_kind.ensures ∙ c.in-Some.is in
     let ports : is_none (least_of port_rules h past e) ≡ true =
-    sym (c.keeps_write_address.ensures r a.snoop a.dom a.bar s.ports kind) ∙ c.if-not-keeps_write_address.false in
+    names-none _ _ _ c.is_some.ensures (c.rule_of_aw-rule.ensures r a.snoop a.dom a.bar s.ports (sym (write-kind past a.port a.id a.addr a.snoop a.dom a.bar k kind))) c.if-is_some.false in
     let both : (is_known past a.addr && is_none (least_of line_rules h past e)) ≡ true =
-    sym (c.keeps_write_address-2.ensures r a.id a.addr a.snoop a.dom a.bar s.lines c.place-place.ensures kind) ∙ c.if-not-keeps_write_address-2.false in
+    sym (c.keeps_write_address.ensures r a.id a.addr a.snoop a.dom a.bar s.lines c.place-place.ensures kind) ∙ c.if-not-keeps_write_address.false in
     let parts = and_parts (is_known past a.addr) (is_none (least_of line_rules h past e)) both in
     let fine = keeps-all h past a.port a.id a.addr a.snoop a.dom a.bar k kind ports parts.1 in
     let new = c.apply.ensures.stands r (record { stands = s.ports; room = λ p k own at. tt; keeps = fine; few = few }) in (
@@ -42,5 +44,5 @@ returns-clause-few_lines c = λ h past s t.
     let r : Recording = record { header = h; past = past } in
     let kind : plain_write_kind a.snoop a.dom a.bar ≡ Some c.in-Some.kind = sym c.plain_write_kind.ensures ∙ c.in-Some.is in
     let both : (is_known past a.addr && is_none (least_of line_rules h past e)) ≡ true =
-    sym (c.keeps_write_address-2.ensures r a.id a.addr a.snoop a.dom a.bar s.lines c.place-place.ensures kind) ∙ c.if-not-keeps_write_address-2.false in
+    sym (c.keeps_write_address.ensures r a.id a.addr a.snoop a.dom a.bar s.lines c.place-place.ensures kind) ∙ c.if-not-keeps_write_address.false in
     over-known past e (and_parts (is_known past a.addr) (is_none (least_of line_rules h past e)) both).0
