@@ -2,21 +2,26 @@
 
 ghost use Rattle.std.specs.Prelude.{◌≡◌, ◌≢◌, ◌<◌, ◌≤◌, ◌*◌, ℕ, true, false, List, [], IfOk, length, reverse};
 ghost use Rattle.ace_event.specs.declared.event.Event.{Event};
-ghost use Rattle.ace_model.specs.Plans.{IsRightAfter};
+ghost use Rattle.ace_model.specs.Plans.{IsRight, IsRightAfter};
 ghost use Rattle.ace_model.specs.Trace.{Trace};
 ghost use Rattle.ace_runs.specs.Bursts.{onto};
 ghost use Rattle.ace_runs.specs.Follows.{Done, is_done};
 ghost use Rattle.ace_runs.specs.Steps.{AreSteps, Enabled, IsStep, is_enabled};
 ghost use Rattle.ace_engine.specs.Engines.{IsLegal};
+ghost use Rattle.ace_home.specs.Home.{HomeStands};
+ghost use Rattle.ace_update.specs.Update.{UpdateStands};
+ghost use Rattle.ace_order.specs.Order.{OrderStands};
+ghost use Rattle.ace_fabric.specs.Parts.{AreEngines};
 ghost use Rattle.ace_fabric.specs.Runs.{AreTurnsBy, continued, grown};
 ghost use Rattle.ace_fabric.specs.System.{MayPick, is_mixed, plan_of, starting};
 
 use crate::masters::{ScriptMaster, masters};
 use crate::{Fabric, Turn};
+use ace_engine::Engine;
 use ace_event::Event;
 use ace_home::Home;
 use ace_io::NoMemory;
-use ace_model::Op;
+use ace_model::{Op, PlanView};
 use ace_order::Order;
 use ace_script::Plan;
 use ace_update::Update;
@@ -37,6 +42,58 @@ impl Model for System {
     ghost view = { λ s. s.run };
 }
 
+/// The engines of the interconnect.
+#[derive(Drop)]
+struct Interconnect {
+    home: Home,
+    update: Update,
+    order: Order,
+}
+
+/// The engines of the interconnect for the plan and the empty trace.
+fn engines_for(alloc: Global, plan: &PlanView) -> Result<Interconnect, NoMemory>
+    requires { IsRight plan.now.plan }
+    ensures home { IfOk result (λ s. HomeStands s.home plan.now.plan []) }
+    ensures update { IfOk result (λ s. UpdateStands s.update plan.now.plan []) }
+    ensures order { IfOk result (λ s. OrderStands s.order plan.now.plan []) }
+{
+    let home = Home::new(alloc, plan)?;
+    let Ok(update) = Update::new(alloc, plan) else {
+        drop(home);
+        return Err(NoMemory);
+    };
+    let Ok(order) = Order::new(alloc, plan) else {
+        drop(home);
+        drop(update);
+        return Err(NoMemory);
+    };
+    Ok(Interconnect {
+        home,
+        update,
+        order,
+    })
+}
+
+/// The run of the plan with these engines, which stand for it and the empty trace.
+fn run_with(
+    alloc: Global,
+    plan: Plan,
+    engines: Interconnect,
+    masters: Vec<ScriptMaster>,
+) -> Result<System, NoMemory>
+    requires { AreEngines ⟦<Home as Engine>⟧ ⟦<Update as Engine>⟧ ⟦<Order as Engine>⟧ ⟦<ScriptMaster as Engine>⟧ plan.plan []
+        engines.home engines.update engines.order masters.items }
+    ensures { IfOk result (λ s. s ≡ starting plan) }
+{
+    let Interconnect {
+        home,
+        update,
+        order,
+    } = engines;
+    let run = Fabric::new(alloc, plan, home, update, order, masters)?;
+    Ok(System { run })
+}
+
 /// The run of the plan, before its first step. The masters of ACE ports answer snoops by these numbers, where there are some, else as the policy
 /// of the plan says.
 fn begin(alloc: Global, plan: &Plan, picks: &[u8]) -> Result<System, NoMemory>
@@ -44,12 +101,16 @@ fn begin(alloc: Global, plan: &Plan, picks: &[u8]) -> Result<System, NoMemory>
     ensures { IfOk result (λ s. s ≡ starting plan.now) }
 {
     let plan = plan.copy(alloc)?;
-    let home = Home::new(alloc, plan.view())?;
-    let update = Update::new(alloc, plan.view())?;
-    let order = Order::new(alloc, plan.view())?;
-    let masters = masters(alloc, plan.view(), picks)?;
-    let run = Fabric::new(alloc, plan, home, update, order, masters)?;
-    Ok(System { run })
+    let Ok(engines) = engines_for(alloc, plan.view()) else {
+        drop(plan);
+        return Err(NoMemory);
+    };
+    let Ok(masters) = masters(alloc, plan.view(), picks) else {
+        drop(engines);
+        drop(plan);
+        return Err(NoMemory);
+    };
+    run_with(alloc, plan, engines, masters)
 }
 
 impl System {

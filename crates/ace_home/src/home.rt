@@ -108,7 +108,7 @@ impl Home {
     }
 
     /// Hears the next event of the trace.
-    pub(crate) fn note(&mut self, event: &Event)
+    pub fn note(&mut self, event: &Event)
         ensures { (plan : Plan) (past : Trace) → HomeStands self.old plan past → IsLegal plan (event.now ∷ past)
             → HomeStands self.new plan (event.now ∷ past) }
     {

@@ -21,7 +21,7 @@ use crate::output::{break_off, conclude};
 use crate::range::are_in_range;
 use ace_event::{Event, Header};
 use ace_fabric::System;
-use ace_io::{Gate, Sink, Source};
+use ace_io::{Gate, NoMemory, Sink, Source};
 use ace_run::run_threads;
 use ace_script::{Plan, PlanErr};
 use ace_writer::{WriteErr, Writer};
@@ -123,7 +123,9 @@ fn put_run<K: Sink>(system: System, out: &mut K) -> Result<(), WriteErr>
     ensures part { OnErr result (AppendsPart (K.held out.old) (K.held out.new) (trace_text system.plan.header (reverse system.past))) }
     ensures cause { HasCause (K.faults out.old) (K.faults out.new) result }
 {
-    write_run(&system, out)
+    let written = write_run(&system, out);
+    drop(system);
+    written
 }
 
 /// The run of the script that the input gives, once it is done.
@@ -141,10 +143,21 @@ fn run<R: Threads + Wait + Sync, S: Source, G: Gate + Sync>(
     ensures none { IfErr result (λ error. HasNoPlan error (S.left input.old) (S.faults input.old) (S.faults input.new)) }
 {
     match Plan::read(alloc, input) {
-        Ok(plan) => match run_threads(rt, alloc, &plan, gate) {
-            Ok(system) if is_writable(&system) => Ok(system),
-            _ => Err(PlanErr::NoMemory),
-        },
+        Ok(plan) => {
+            let ran = run_threads(rt, alloc, &plan, gate);
+            drop(plan);
+            match ran {
+                Ok(system) => {
+                    if is_writable(&system) {
+                        Ok(system)
+                    } else {
+                        drop(system);
+                        Err(PlanErr::NoMemory)
+                    }
+                }
+                Err(NoMemory) => Err(PlanErr::NoMemory),
+            }
+        }
         Err(error) => Err(error),
     }
 }

@@ -23,8 +23,8 @@ turn-requires-clause-stands g c =
     )
 
 -- after the first turn the engine stands for the trace with its burst
-pub turn-requires-2-clause-stands : goal.turn-requires-2-clause-stands
-turn-requires-2-clause-stands g c =
+pub turn-again-requires-clause-stands : goal.turn-again-requires-clause-stands
+turn-again-requires-clause-stands g c =
     let both : c.ar.result ∷ c.aw.result ∷ [] ≡ barrier_events = rw (c.ar.ensures, c.aw.ensures) refl in
     let stands = subst (λ (es : List Event). IsLegal plan (onto es []) → are_others [] es ≡ true → OrderStands c.hear_all.new.order plan (onto es []))
     both (c.hear_all.ensures plan [] c.in_ok-order.ensures) barrier-legal refl in
