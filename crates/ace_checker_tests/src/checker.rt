@@ -729,12 +729,19 @@ fn feed_all(checker: &mut Checker, events: &[Event]) -> Result<Option<(u64, u8)>
     Ok(last)
 }
 
-/// The break that is answered last for the events of the case, and how many events the checker took.
+/// The break that the checker answers last for the events of the case, and how many events it took.
+fn answered_by(checker: &mut Checker, case: &Case) -> Result<(Option<(u64, u8)>, u64), CheckErr> {
+    feed_all(checker, case.front)?;
+    let breaks = feed_all(checker, case.events)?;
+    Ok((breaks, checker.count()))
+}
+
+/// The same of a new checker.
 fn answer(alloc: Global, case: &Case) -> Result<(Option<(u64, u8)>, u64), CheckErr> {
     let mut checker = checker_for(alloc, case.ports)?;
-    feed_all(&mut checker, case.front)?;
-    let breaks = feed_all(&mut checker, case.events)?;
-    Ok((breaks, checker.count()))
+    let answered = answered_by(&mut checker, case);
+    drop(checker);
+    answered
 }
 
 #[test]
@@ -767,27 +774,47 @@ fn first_breaks(rt: HostRuntime) -> Result<(), Fail> {
 }
 
 /// After the first break each answer is that break.
+fn is_lasting(checker: &mut Checker) -> Result<bool, CheckErr> {
+    let first = feed_all(checker, &[rk!(0, UC)])?;
+    let last = feed_all(checker, GET)?;
+    Ok(first == Some((1, 22)) && last == first && checker.count() == 0)
+}
+
 #[test]
 fn stays_broken(rt: HostRuntime) -> Result<(), Fail> {
     let mut checker = Checker::new(rt.alloc(), TWO_ACE)?;
-    assert!(rt; feed_all(&mut checker, &[rk!(0, UC)])? == Some((1, 22)));
-    assert!(rt; feed_all(&mut checker, GET)? == Some((1, 22)));
-    assert!(rt; checker.count() == 0);
+    let lasting = is_lasting(&mut checker);
+    drop(checker);
+    assert!(rt; lasting?);
     Ok(())
 }
 
+/// The shares tell that each of the events may come next, and hear it.
+fn hear_all(shares: &mut Shares, events: &[Event]) -> bool {
+    let mut fine = true;
+    for event in events {
+        fine &= shares.keeps(event);
+        shares.hear(event);
+    }
+    fine
+}
+
 /// The shares with room for a run tell which events may come next.
+fn tell_of_a_run(shares: &mut Shares) -> bool {
+    let early = shares.keeps(&g!(0, Read, 0));
+    let fine = hear_all(shares, GET);
+    fine && !early
+        && !shares.keeps(&g!(0, Read, 0))
+        && shares.ports().reads(0).is_empty()
+        && shares.lines().lines() == 1
+        && shares.system().open_pair(0).is_none()
+}
+
 #[test]
 fn shares_of_a_run(rt: HostRuntime) -> Result<(), Fail> {
     let mut shares = Shares::new(rt.alloc(), TWO_ACE)?;
-    assert!(rt; !shares.keeps(&g!(0, Read, 0)));
-    for event in GET {
-        assert!(rt; shares.keeps(event));
-        shares.hear(event);
-    }
-    assert!(rt; !shares.keeps(&g!(0, Read, 0)));
-    assert!(rt; shares.ports().reads(0).is_empty());
-    assert!(rt; shares.lines().lines() == 1);
-    assert!(rt; shares.system().open_pair(0).is_none());
+    let holds = tell_of_a_run(&mut shares);
+    drop(shares);
+    assert!(rt; holds);
     Ok(())
 }

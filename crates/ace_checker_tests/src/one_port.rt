@@ -3,6 +3,7 @@
 use ace_event::{Channel, Event, Header, Outcome};
 use ace_portck::OnePort;
 use std::alloc::Global;
+use std::test::Fail;
 
 const HEADER: Header = Header {
     version: 1,
@@ -61,8 +62,54 @@ fn after(alloc: Global, events: &[Event]) -> Option<OnePort> {
     Some(port)
 }
 
+/// The port has both transactions of its own, and no other.
+fn has_its_own(port: &OnePort) -> bool {
+    port.reads().len() == 1
+        && port.writes().len() == 1
+        && port.named(Channel::Read, 3).is_none()
+        && port.named(Channel::Read, 2).is_some()
+        && port.is_line_free(0x40)
+        && !port.is_line_free(0x80)
+        && port.own(0xc0).is_some()
+}
+
+/// The write of the port waits for its burst.
+fn awaits_its_burst(port: &OnePort) -> bool {
+    port.has_unique_write()
+        && !port.has_giving_up()
+        && port.next_write().is_some()
+        && port.next_write_beat() == 1
+        && port.answered().is_none()
+        && port.acknowledged(Channel::Write).is_none()
+        && port.retired() == 1
+}
+
+/// The write of the port ends with its burst and its response.
+fn ends_its_write(port: &mut OnePort) -> bool {
+    for last in [false, false, true] {
+        port.hear(&w(last));
+    }
+    let sent = port.next_write().is_none() && port.next_write_beat() == 0;
+    port.hear(&Event::B {
+        port: 1,
+        id: 5,
+        resp: 0,
+    });
+    sent && port.writes().len() == 0 && port.is_line_free(0x80)
+}
+
+/// What is kept of port 1 after these events.
+fn is_kept(port: &mut OnePort) -> bool {
+    port.port() == 1
+        && port.header() == HEADER
+        && port.count() == 5
+        && has_its_own(port)
+        && awaits_its_burst(port)
+        && ends_its_write(port)
+}
+
 #[test]
-fn keeps_one_port(rt: HostRuntime) {
+fn keeps_one_port(rt: HostRuntime) -> Result<(), Fail> {
     let heard = [
         ar(0, 3, 0x40),
         aw(1, 5, 0x80),
@@ -70,30 +117,11 @@ fn keeps_one_port(rt: HostRuntime) {
         ar(1, 2, 0xc0),
         w(false),
     ];
-    let made = after(rt.alloc(), &heard);
-    assert!(rt; made.is_some());
-    if let Some(mut port) = made {
-        assert!(rt; port.port() == 1 && port.header() == HEADER && port.count() == 5);
-        assert!(rt; port.reads().len() == 1 && port.writes().len() == 1);
-        assert!(rt;
-            port.named(Channel::Read, 3).is_none() && port.named(Channel::Read, 2).is_some()
-        );
-        assert!(rt;
-            port.is_line_free(0x40) && !port.is_line_free(0x80) && port.own(0xc0).is_some()
-        );
-        assert!(rt; port.has_unique_write() && !port.has_giving_up());
-        assert!(rt; port.next_write().is_some() && port.next_write_beat() == 1);
-        assert!(rt; port.answered().is_none() && port.acknowledged(Channel::Write).is_none());
-        assert!(rt; port.retired() == 1);
-        for last in [false, false, true] {
-            port.hear(&w(last));
-        }
-        assert!(rt; port.next_write().is_none() && port.next_write_beat() == 0);
-        port.hear(&Event::B {
-            port: 1,
-            id: 5,
-            resp: 0,
-        });
-        assert!(rt; port.writes().len() == 0 && port.is_line_free(0x80));
-    }
+    let Some(mut port) = after(rt.alloc(), &heard) else {
+        return Err(Fail::new("no memory"));
+    };
+    let kept = is_kept(&mut port);
+    drop(port);
+    assert!(rt; kept);
+    Ok(())
 }

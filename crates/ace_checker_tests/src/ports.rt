@@ -4,6 +4,7 @@ use ace_codes::LineState;
 use ace_event::{Channel, Event, Header, Line, Outcome};
 use ace_portck::PortCheck;
 use std::alloc::Global;
+use std::test::Fail;
 
 const HEADER: Header = Header {
     version: 1,
@@ -41,40 +42,56 @@ macro_rules! op {
     ($k:expr) => { Event::Op { port: 0, k: $k, res: Outcome::Ok } };
 }
 
+/// The checker hears these events, where there is room for them.
+fn hear_all(check: &mut PortCheck, events: &[Event]) -> bool {
+    for event in events {
+        if check.ready(event).is_err() {
+            return false;
+        }
+        check.apply(event);
+    }
+    true
+}
+
 /// A checker that has heard these events.
 fn after(alloc: Global, events: &[Event]) -> Option<PortCheck> {
     let Ok(mut check) = PortCheck::new(alloc, HEADER) else {
         return None;
     };
-    for event in events {
-        if check.ready(event).is_err() {
-            return None;
-        }
-        check.apply(event);
+    if hear_all(&mut check, events) {
+        Some(check)
+    } else {
+        drop(check);
+        None
     }
-    Some(check)
 }
 
 /// The rule that the event breaks after these.
 fn broken(alloc: Global, events: &[Event], event: Event) -> Option<Option<u8>> {
     let check = after(alloc, events)?;
     let target = check.target(&event);
-    Some(check.test(&event, &target))
+    let rule = check.test(&event, &target);
+    drop(check);
+    Some(rule)
+}
+
+/// There is room for a snoop and for a transaction.
+fn has_room(check: &mut PortCheck) -> bool {
+    let snoop = Event::Ac {
+        port: 0,
+        addr: 0x40,
+        snoop: 7,
+    };
+    check.ready(&snoop) == Ok(()) && check.ready(&ar!(0, 1, 0x40, 7, false)) == Ok(())
 }
 
 #[test]
-fn makes_room(rt: HostRuntime) {
-    let made = PortCheck::new(rt.alloc(), HEADER);
-    assert!(rt; made.is_ok());
-    if let Ok(mut check) = made {
-        let snoop = Event::Ac {
-            port: 0,
-            addr: 0x40,
-            snoop: 7,
-        };
-        assert_eq!(rt; check.ready(&snoop), Ok(()));
-        assert_eq!(rt; check.ready(&ar!(0, 1, 0x40, 7, false)), Ok(()));
-    }
+fn makes_room(rt: HostRuntime) -> Result<(), Fail> {
+    let mut check = PortCheck::new(rt.alloc(), HEADER)?;
+    let holds = has_room(&mut check);
+    drop(check);
+    assert!(rt; holds);
+    Ok(())
 }
 
 /// A ReadUnique of line 0x40 and a WriteUnique of line 0x80.

@@ -170,8 +170,9 @@ fn puts_each_line(rt: HostRuntime) -> Result<(), Fail> {
     let alloc = rt.alloc();
     let report = report(alloc)?;
     let mut sink = MemSink::new(alloc, 1000, &[])?;
-    assert_eq!(rt; report.put(&mut sink), Ok(()));
-    assert!(rt; sink.bytes() == TEXT);
+    let put = report.put(&mut sink);
+    drop(report);
+    assert!(rt; put == Ok(()) && sink.bytes() == TEXT);
     Ok(())
 }
 
@@ -180,10 +181,11 @@ fn puts_a_front_where_the_sink_fails(rt: HostRuntime) -> Result<(), Fail> {
     let alloc = rt.alloc();
     let report = report(alloc)?;
     let mut full = MemSink::new(alloc, 100, &[])?;
-    assert_eq!(rt; report.put(&mut full), Err(Failed));
-    assert!(rt; full.bytes() == &TEXT[..100]);
     let mut failing = MemSink::new(alloc, 1000, &[0])?;
-    assert_eq!(rt; report.put(&mut failing), Err(Failed));
-    assert!(rt; failing.bytes().is_empty());
+    let cut = report.put(&mut full);
+    let failed = report.put(&mut failing);
+    drop(report);
+    assert!(rt; cut == Err(Failed) && full.bytes() == &TEXT[..100]);
+    assert!(rt; failed == Err(Failed) && failing.bytes().is_empty());
     Ok(())
 }

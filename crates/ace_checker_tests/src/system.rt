@@ -107,18 +107,28 @@ fn of(x: Transaction) -> Target {
     }
 }
 
+/// The checker hears these events, where there is room for them.
+fn hear_all(check: &mut SysCheck, events: &[(Event, Target)]) -> bool {
+    for (event, target) in events {
+        if check.ready(event, target).is_err() {
+            return false;
+        }
+        check.apply(event, target);
+    }
+    true
+}
+
 /// A checker that has heard these events.
 fn after(alloc: Global, events: &[(Event, Target)]) -> Option<SysCheck> {
     let Ok(mut check) = SysCheck::new(alloc, HEADER) else {
         return None;
     };
-    for (event, target) in events {
-        if check.ready(event, target).is_err() {
-            return None;
-        }
-        check.apply(event, target);
+    if hear_all(&mut check, events) {
+        Some(check)
+    } else {
+        drop(check);
+        None
     }
-    Some(check)
 }
 
 /// The rule that the event breaks after these.
@@ -129,7 +139,9 @@ fn broken(
     target: Target,
 ) -> Option<Option<u8>> {
     let check = after(alloc, events)?;
-    Some(check.test(&event, &target))
+    let rule = check.test(&event, &target);
+    drop(check);
+    Some(rule)
 }
 
 #[test]

@@ -114,7 +114,9 @@ fn begins_anew(kept: &mut Kept) -> bool {
 #[test]
 fn fetches_a_line(rt: HostRuntime) -> Result<(), Fail> {
     let mut kept = start(rt.alloc())?;
-    assert!(rt; holds_what_came(&mut kept) && begins_anew(&mut kept));
+    let holds = holds_what_came(&mut kept) && begins_anew(&mut kept);
+    drop(kept);
+    assert!(rt; holds);
     Ok(())
 }
 
@@ -137,7 +139,9 @@ fn loses_the_line(kept: &mut Kept) -> bool {
 #[test]
 fn loses_a_line(rt: HostRuntime) -> Result<(), Fail> {
     let mut kept = start(rt.alloc())?;
-    assert!(rt; loses_the_line(&mut kept));
+    let holds = loses_the_line(&mut kept);
+    drop(kept);
+    assert!(rt; holds);
     Ok(())
 }
 
@@ -175,7 +179,9 @@ fn makes_a_line(rt: HostRuntime) -> Result<(), Fail> {
     let mut kept = start(rt.alloc())?;
     reading(&mut kept);
     hear(&mut kept, &[rk(SC), load(64, false), retires()]);
-    assert!(rt; makes_and_stores(&mut kept) && fills_two_ways(&mut kept));
+    let holds = makes_and_stores(&mut kept) && fills_two_ways(&mut kept);
+    drop(kept);
+    assert!(rt; holds);
     Ok(())
 }
 
@@ -214,7 +220,9 @@ fn owes_for_the_second(port: &mut OnePort) -> bool {
 #[test]
 fn owes_a_completion(rt: HostRuntime) -> Result<(), Fail> {
     let mut port = OnePort::new(rt.alloc(), HEADER, 0, 8)?;
-    assert!(rt; owes_for_the_second(&mut port));
+    let holds = owes_for_the_second(&mut port);
+    drop(port);
+    assert!(rt; holds);
     Ok(())
 }
 
@@ -250,7 +258,9 @@ fn loads_and_ends(kept: &mut Kept) -> bool {
 #[test]
 fn ends_a_load(rt: HostRuntime) -> Result<(), Fail> {
     let mut kept = start(rt.alloc())?;
-    assert!(rt; loads_and_ends(&mut kept));
+    let holds = loads_and_ends(&mut kept);
+    drop(kept);
+    assert!(rt; holds);
     Ok(())
 }
 
@@ -286,7 +296,9 @@ fn skips_and_fails(kept: &mut Kept) -> bool {
 #[test]
 fn ends_other_operations(rt: HostRuntime) -> Result<(), Fail> {
     let mut kept = start(rt.alloc())?;
-    assert!(rt; skips_and_fails(&mut kept));
+    let holds = skips_and_fails(&mut kept);
+    drop(kept);
+    assert!(rt; holds);
     Ok(())
 }
 
@@ -312,7 +324,9 @@ fn stores_once_unique(kept: &mut Kept) -> bool {
 #[test]
 fn ends_a_store(rt: HostRuntime) -> Result<(), Fail> {
     let mut kept = start(rt.alloc())?;
-    assert!(rt; stores_once_unique(&mut kept));
+    let holds = stores_once_unique(&mut kept);
+    drop(kept);
+    assert!(rt; holds);
     Ok(())
 }
 
@@ -331,6 +345,8 @@ fn ends_once_answered(kept: &mut Kept) -> bool {
 #[test]
 fn ends_a_sync(rt: HostRuntime) -> Result<(), Fail> {
     let mut kept = start(rt.alloc())?;
-    assert!(rt; ends_once_answered(&mut kept));
+    let holds = ends_once_answered(&mut kept);
+    drop(kept);
+    assert!(rt; holds);
     Ok(())
 }

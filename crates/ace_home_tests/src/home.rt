@@ -320,7 +320,9 @@ fn has_events(burst: &Burst, events: &[Event]) -> bool {
 fn leaves_other_ports(rt: HostRuntime) -> Result<(), Fail> {
     let mut home = asked(rt.alloc())?;
     let mut out = Burst::empty();
-    assert!(rt; !home.turn(1, &mut out) && out.len() == 0);
+    let holds = !home.turn(1, &mut out) && out.len() == 0;
+    drop(home);
+    assert!(rt; holds);
     Ok(())
 }
 
@@ -329,7 +331,9 @@ fn leaves_other_ports(rt: HostRuntime) -> Result<(), Fail> {
 fn grants(rt: HostRuntime) -> Result<(), Fail> {
     let mut home = asked(rt.alloc())?;
     let mut out = Burst::empty();
-    assert!(rt; home.turn(0, &mut out) && has_events(&out, &[g(0, Read)]));
+    let holds = home.turn(0, &mut out) && has_events(&out, &[g(0, Read)]);
+    drop(home);
+    assert!(rt; holds);
     Ok(())
 }
 
@@ -338,7 +342,9 @@ fn grants(rt: HostRuntime) -> Result<(), Fail> {
 fn snoops(rt: HostRuntime) -> Result<(), Fail> {
     let mut home = granted(rt.alloc())?;
     let mut out = Burst::empty();
-    assert!(rt; home.turn(0, &mut out) && has_events(&out, &[ac(1, 7)]));
+    let holds = home.turn(0, &mut out) && has_events(&out, &[ac(1, 7)]);
+    drop(home);
+    assert!(rt; holds);
     Ok(())
 }
 
@@ -347,7 +353,9 @@ fn snoops(rt: HostRuntime) -> Result<(), Fail> {
 fn transfers(rt: HostRuntime) -> Result<(), Fail> {
     let mut home = shared(rt.alloc())?;
     let mut out = Burst::empty();
-    assert!(rt; home.turn(0, &mut out) && has_events(&out, &[r(0, 8, false)]));
+    let holds = home.turn(0, &mut out) && has_events(&out, &[r(0, 8, false)]);
+    drop(home);
+    assert!(rt; holds);
     Ok(())
 }
 
@@ -389,6 +397,8 @@ fn writes(rt: HostRuntime) -> Result<(), Fail> {
         id: 0,
         resp: 0,
     };
-    assert!(rt; moved && has_events(&out, &[memory, response]) && home.memory(64) == STORED);
+    let holds = moved && has_events(&out, &[memory, response]) && home.memory(64) == STORED;
+    drop(home);
+    assert!(rt; holds);
     Ok(())
 }

@@ -58,7 +58,9 @@ const CLEAN: Event = Event::Ar {
 #[test]
 fn begins_with_the_first(rt: HostRuntime) -> Result<(), Fail> {
     let port = port(rt.alloc())?;
-    assert!(rt; port.retired() == 0 && port.next() == Some(CLEANS));
+    let holds = port.retired() == 0 && port.next() == Some(CLEANS);
+    drop(port);
+    assert!(rt; holds);
     Ok(())
 }
 
@@ -69,7 +71,10 @@ fn asks_for_the_first(rt: HostRuntime) -> Result<(), Fail> {
     let mut master = AceMaster::new(rt.alloc(), &plan, 0, Keep)?;
     let mut burst = Burst::empty();
     let begins = master.retired() == 0 && master.turn(0, &mut burst);
-    assert!(rt; begins && has_events(&burst, &[CLEAN]));
+    let holds = begins && has_events(&burst, &[CLEAN]);
+    drop(master);
+    drop(plan);
+    assert!(rt; holds);
     Ok(())
 }
 
@@ -84,7 +89,9 @@ fn takes_another(rt: HostRuntime) -> Result<(), Fail> {
         k: 0,
         res: Outcome::Ok,
     });
-    assert!(rt; first == Some(CLEANS) && port.next() == Some(Op::Mb));
+    let holds = first == Some(CLEANS) && port.next() == Some(Op::Mb);
+    drop(port);
+    assert!(rt; holds);
     Ok(())
 }
 
@@ -122,7 +129,9 @@ fn says_so_once(port: &mut AcePort) -> bool {
 #[test]
 fn answers_once(rt: HostRuntime) -> Result<(), Fail> {
     let mut port = port(rt.alloc())?;
-    assert!(rt; says_so_once(&mut port));
+    let holds = says_so_once(&mut port);
+    drop(port);
+    assert!(rt; holds);
     Ok(())
 }
 
@@ -153,7 +162,9 @@ fn completes(port: &mut AcePort) -> bool {
 #[test]
 fn completes_a_sync(rt: HostRuntime) -> Result<(), Fail> {
     let mut port = port(rt.alloc())?;
-    assert!(rt; completes(&mut port));
+    let holds = completes(&mut port);
+    drop(port);
+    assert!(rt; holds);
     Ok(())
 }
 
@@ -162,9 +173,9 @@ fn completes_a_sync(rt: HostRuntime) -> Result<(), Fail> {
 fn asks(rt: HostRuntime) -> Result<(), Fail> {
     let mut port = port(rt.alloc())?;
     let mut none = Burst::empty();
-    assert!(rt;
-        !port.end(CLEANS, &mut none) && port.asking_for(CLEANS) == Some(Asking::One(CLEAN))
-    );
+    let holds = !port.end(CLEANS, &mut none) && port.asking_for(CLEANS) == Some(Asking::One(CLEAN));
+    drop(port);
+    assert!(rt; holds);
     Ok(())
 }
 
@@ -178,7 +189,9 @@ fn ends_without_asking(rt: HostRuntime) -> Result<(), Fail> {
         res: Outcome::Skip,
     };
     let mut burst = Burst::empty();
-    assert!(rt; port.end(Op::Wb { addr: 64 }, &mut burst) && has_events(&burst, &[skips]));
+    let holds = port.end(Op::Wb { addr: 64 }, &mut burst) && has_events(&burst, &[skips]);
+    drop(port);
+    assert!(rt; holds);
     Ok(())
 }
 
@@ -260,6 +273,8 @@ fn sends_what_it_holds(port: &mut AcePort) -> bool {
 #[test]
 fn sends_its_copy(rt: HostRuntime) -> Result<(), Fail> {
     let mut port = port(rt.alloc())?;
-    assert!(rt; sends_what_it_holds(&mut port));
+    let holds = sends_what_it_holds(&mut port);
+    drop(port);
+    assert!(rt; holds);
     Ok(())
 }

@@ -141,7 +141,9 @@ fn loads_the_word(port: &mut AcePort) -> bool {
 #[test]
 fn loads_what_it_read(rt: HostRuntime) -> Result<(), Fail> {
     let mut port = port(rt.alloc(), &[Op::Ld { addr: 64, w: 2 }])?;
-    assert!(rt; loads_the_word(&mut port));
+    let holds = loads_the_word(&mut port);
+    drop(port);
+    assert!(rt; holds);
     Ok(())
 }
 
@@ -159,7 +161,9 @@ fn fills_before_the_end(rt: HostRuntime) -> Result<(), Fail> {
         line: LINE,
     };
     let mut port = port(rt.alloc(), &[fill])?;
-    assert!(rt; fills_the_line(&mut port));
+    let holds = fills_the_line(&mut port);
+    drop(port);
+    assert!(rt; holds);
     Ok(())
 }
 
@@ -209,7 +213,9 @@ fn gives_the_line_up(port: &mut AcePort) -> bool {
 #[test]
 fn gives_up_what_it_wrote(rt: HostRuntime) -> Result<(), Fail> {
     let mut port = port(rt.alloc(), &[Op::Wb { addr: 64 }])?;
-    assert!(rt; gives_the_line_up(&mut port));
+    let holds = gives_the_line_up(&mut port);
+    drop(port);
+    assert!(rt; holds);
     Ok(())
 }
 

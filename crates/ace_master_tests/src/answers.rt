@@ -162,7 +162,9 @@ fn follows_the_policy(kept: &mut Kept) -> bool {
 #[test]
 fn answers_by_the_policy(rt: HostRuntime) -> Result<(), Fail> {
     let mut kept = holding(rt.alloc())?;
-    assert!(rt; follows_the_policy(&mut kept));
+    let holds = follows_the_policy(&mut kept);
+    drop(kept);
+    assert!(rt; holds);
     Ok(())
 }
 
@@ -184,7 +186,9 @@ fn answers_both_messages(kept: &mut Kept) -> bool {
 #[test]
 fn answers_messages(rt: HostRuntime) -> Result<(), Fail> {
     let mut kept = holding(rt.alloc())?;
-    assert!(rt; answers_both_messages(&mut kept));
+    let holds = answers_both_messages(&mut kept);
+    drop(kept);
+    assert!(rt; holds);
     Ok(())
 }
 
@@ -207,7 +211,9 @@ fn sends_the_copy(kept: &mut Kept) -> bool {
 #[test]
 fn writes_a_line_back(rt: HostRuntime) -> Result<(), Fail> {
     let mut kept = holding(rt.alloc())?;
-    assert!(rt; sends_the_copy(&mut kept));
+    let holds = sends_the_copy(&mut kept);
+    drop(kept);
+    assert!(rt; holds);
     Ok(())
 }
 
@@ -232,6 +238,8 @@ fn sends_its_data(kept: &mut Kept) -> bool {
 #[test]
 fn sends_the_data_of_an_operation(rt: HostRuntime) -> Result<(), Fail> {
     let mut kept = holding(rt.alloc())?;
-    assert!(rt; sends_its_data(&mut kept));
+    let holds = sends_its_data(&mut kept);
+    drop(kept);
+    assert!(rt; holds);
     Ok(())
 }

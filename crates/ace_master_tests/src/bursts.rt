@@ -144,7 +144,9 @@ fn barrier_write(id: u8) -> Event {
 #[test]
 fn asks_with_free_identifiers(rt: HostRuntime) -> Result<(), Fail> {
     let mut kept = start(rt.alloc())?;
-    assert!(rt; takes_free_identifiers(&mut kept));
+    let holds = takes_free_identifiers(&mut kept);
+    drop(kept);
+    assert!(rt; holds);
     Ok(())
 }
 
@@ -162,7 +164,9 @@ fn waits_for_an_evict(kept: &mut Kept) -> bool {
 #[test]
 fn keeps_writes_apart(rt: HostRuntime) -> Result<(), Fail> {
     let mut kept = start(rt.alloc())?;
-    assert!(rt; waits_for_an_evict(&mut kept));
+    let holds = waits_for_an_evict(&mut kept);
+    drop(kept);
+    assert!(rt; holds);
     Ok(())
 }
 
@@ -199,7 +203,9 @@ fn writes_a_dirty_line_back(kept: &mut Kept) -> bool {
 #[test]
 fn makes_room(rt: HostRuntime) -> Result<(), Fail> {
     let mut kept = start(rt.alloc())?;
-    assert!(rt; drops_a_clean_line(&mut kept) && writes_a_dirty_line_back(&mut kept));
+    let holds = drops_a_clean_line(&mut kept) && writes_a_dirty_line_back(&mut kept);
+    drop(kept);
+    assert!(rt; holds);
     Ok(())
 }
 
@@ -229,6 +235,8 @@ fn completes(port: &mut OnePort) -> bool {
 #[test]
 fn completes_a_sync(rt: HostRuntime) -> Result<(), Fail> {
     let mut port = OnePort::new(rt.alloc(), HEADER, 0, 8)?;
-    assert!(rt; completes(&mut port));
+    let holds = completes(&mut port);
+    drop(port);
+    assert!(rt; holds);
     Ok(())
 }

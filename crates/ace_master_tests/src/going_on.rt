@@ -151,7 +151,9 @@ fn loads_and_stores(rt: HostRuntime) -> Result<(), Fail> {
         word: 9,
     };
     let mut port = port(rt.alloc(), &[load, store])?;
-    assert!(rt; loads_and_then_stores(&mut port));
+    let holds = loads_and_then_stores(&mut port);
+    drop(port);
+    assert!(rt; holds);
     Ok(())
 }
 
@@ -180,7 +182,9 @@ fn makes_it_unique(port: &mut AcePort) -> bool {
 #[test]
 fn owns_a_shared_line(rt: HostRuntime) -> Result<(), Fail> {
     let mut port = port(rt.alloc(), &[LOADS, STORES])?;
-    assert!(rt; makes_it_unique(&mut port));
+    let holds = makes_it_unique(&mut port);
+    drop(port);
+    assert!(rt; holds);
     Ok(())
 }
 
@@ -228,7 +232,9 @@ fn makes_room(rt: HostRuntime) -> Result<(), Fail> {
     };
     let load = Op::Ld { addr: 128, w: 0 };
     let mut port = port(rt.alloc(), &[fill, load])?;
-    assert!(rt; fills(&mut port) && writes_back_and_reads(&mut port));
+    let holds = fills(&mut port) && writes_back_and_reads(&mut port);
+    drop(port);
+    assert!(rt; holds);
     Ok(())
 }
 
@@ -259,7 +265,9 @@ fn sends_a_message(port: &mut AcePort) -> bool {
 #[test]
 fn orders(rt: HostRuntime) -> Result<(), Fail> {
     let mut port = port(rt.alloc(), &[Op::Mb, Op::Dvm { word: 0x1000 }])?;
-    assert!(rt; passes_a_barrier(&mut port) && sends_a_message(&mut port));
+    let holds = passes_a_barrier(&mut port) && sends_a_message(&mut port);
+    drop(port);
+    assert!(rt; holds);
     Ok(())
 }
 
@@ -304,6 +312,8 @@ fn fails_a_lost_store(rt: HostRuntime) -> Result<(), Fail> {
         word: 9,
     };
     let mut port = port(rt.alloc(), &[load, store])?;
-    assert!(rt; loads_exclusively(&mut port) && loses_the_line(&mut port));
+    let holds = loads_exclusively(&mut port) && loses_the_line(&mut port);
+    drop(port);
+    assert!(rt; holds);
     Ok(())
 }

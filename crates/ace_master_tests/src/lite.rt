@@ -129,7 +129,9 @@ fn writes_a_line(rt: HostRuntime) -> Result<(), Fail> {
         w(0, false, 7),
         w(0xffff, true, 8),
     ];
-    assert!(rt; retired == 1 && has_events(&issued, &[asks, op()]) && has_events(&sent, &data));
+    let holds = retired == 1 && has_events(&issued, &[asks, op()]) && has_events(&sent, &data);
+    drop(master);
+    assert!(rt; holds);
     Ok(())
 }
 
@@ -151,7 +153,9 @@ fn cleans_a_line(rt: HostRuntime) -> Result<(), Fail> {
     });
     let before = master.retired();
     let retires = step(&mut master)?;
-    assert!(rt; before == 0 && has_events(&retires, &[op()]) && master.retired() == 1);
+    let holds = before == 0 && has_events(&retires, &[op()]) && master.retired() == 1;
+    drop(master);
+    assert!(rt; holds);
     Ok(())
 }
 
@@ -177,6 +181,8 @@ fn issues_a_barrier(rt: HostRuntime) -> Result<(), Fail> {
         bar: 1,
     };
     let halves = step(&mut master)?;
-    assert!(rt; has_events(&halves, &[read, write]));
+    let holds = has_events(&halves, &[read, write]);
+    drop(master);
+    assert!(rt; holds);
     Ok(())
 }

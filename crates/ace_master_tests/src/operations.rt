@@ -51,7 +51,9 @@ fn are_operations(operations: &PortOperations, of: &[Op]) -> bool {
 #[test]
 fn has_its_own(rt: HostRuntime) -> Result<(), Fail> {
     let both = operations(rt.alloc(), HEADER, &[Op::Mb, Op::Sb])?;
-    assert!(rt; are_operations(&both, &[Op::Mb, Op::Sb]));
+    let holds = are_operations(&both, &[Op::Mb, Op::Sb]);
+    drop(both);
+    assert!(rt; holds);
     Ok(())
 }
 
@@ -64,6 +66,8 @@ fn has_none_of_another(rt: HostRuntime) -> Result<(), Fail> {
         op: Op::Mb,
     })?;
     let none = PortOperations::new(rt.alloc(), &plan, 1)?;
-    assert!(rt; are_operations(&none, &[]));
+    let holds = are_operations(&none, &[]);
+    drop(none);
+    assert!(rt; holds);
     Ok(())
 }

@@ -238,15 +238,22 @@ fn goes_by(alloc: Global, trace: &[Event], words: &[u32]) -> Result<bool, Fail> 
     Ok(true)
 }
 
-/// Whether each event is fine.
-fn is_fine(alloc: Global, system: &System) -> Result<bool, Fail> {
-    let mut checker = Checker::new(alloc, system.plan().view().header())?;
-    for event in system.trace() {
+/// Whether the checker finds each event fine.
+fn finds_fine(checker: &mut Checker, events: &[Event]) -> Result<bool, Fail> {
+    for event in events {
         if checker.feed(event)? != Step::Fine {
             return Ok(false);
         }
     }
     Ok(true)
+}
+
+/// Whether each event of the run is fine.
+fn is_fine(alloc: Global, system: &System) -> Result<bool, Fail> {
+    let mut checker = Checker::new(alloc, system.plan().view().header())?;
+    let fine = finds_fine(&mut checker, system.trace());
+    drop(checker);
+    fine
 }
 
 /// The next so many words.
@@ -261,7 +268,9 @@ fn next_words(alloc: Global, generator: &mut Lcg64Xsh32, count: u32) -> Result<V
 /// The run of the plan of n.
 fn drained(alloc: Global, n: u64) -> Result<System, Fail> {
     let plan = Plan::generate(alloc, n)?;
-    let mut system = System::start(alloc, &plan)?;
+    let started = System::start(alloc, &plan);
+    drop(plan);
+    let mut system = started?;
     system.drain();
     Ok(system)
 }
@@ -270,7 +279,9 @@ fn drained(alloc: Global, n: u64) -> Result<System, Fail> {
 fn is_as_drawn(alloc: Global, n: u64) -> Result<bool, Fail> {
     let words = next_words(alloc, &mut Lcg64Xsh32::new(n, 1), 65536)?;
     let system = drained(alloc, n)?;
-    goes_by(alloc, system.trace(), &words)
+    let same = goes_by(alloc, system.trace(), &words);
+    drop(system);
+    same
 }
 
 /// The masters of a plan with `POLICY mixed` each draw from a generator of their own.
@@ -292,7 +303,9 @@ fn low_bytes(alloc: Global, generator: &mut Lcg64Xsh32, count: u32) -> Result<Ve
 /// The run of the plan of n with these answers and turns, if the plan lets the caller choose.
 fn chosen_run(alloc: Global, n: u64, picks: &[u8], turns: &[u8]) -> Result<Option<System>, Fail> {
     let plan = Plan::generate(alloc, n)?;
-    let mut run = start_chosen(alloc, &plan, picks)?;
+    let started = start_chosen(alloc, &plan, picks);
+    drop(plan);
+    let mut run = started?;
     if let Some(system) = &mut run {
         system.drain_by(turns);
     }
@@ -315,10 +328,13 @@ fn is_picked_run(alloc: Global, system: &System, picks: &[u8]) -> Result<bool, F
 
 /// Whether the run with these answers and turns is accepted, and has these answers.
 fn is_as_picked(alloc: Global, n: u64, picks: &[u8], turns: &[u8]) -> Result<bool, Fail> {
-    match chosen_run(alloc, n, picks, turns)? {
-        Some(system) => is_picked_run(alloc, &system, picks),
+    let run = chosen_run(alloc, n, picks, turns)?;
+    let same = match &run {
+        Some(system) => is_picked_run(alloc, system, picks),
         None => Ok(false),
-    }
+    };
+    drop(run);
+    same
 }
 
 /// Whether a run of the plan of n with chosen answers and turns is accepted, and has these answers.

@@ -205,7 +205,9 @@ const LOADED: Event = l!(1, STORED);
 /// The run of the script, before its first step.
 fn start(alloc: Global, script: &[u8]) -> Result<System, Fail> {
     let plan = Plan::read(alloc, &mut HonestSource::new(script))?;
-    Ok(System::start(alloc, &plan)?)
+    let system = System::start(alloc, &plan);
+    drop(plan);
+    Ok(system?)
 }
 
 /// Whether a turn of the port, if there is such a port, puts a step.
@@ -230,7 +232,9 @@ fn ends_with(system: &System, count: usize, end: &[Event]) -> bool {
 /// Whether the turns of the case put what it says.
 fn is_as_turned(alloc: Global, case: &Turns) -> Result<bool, Fail> {
     let mut system = start(alloc, case.script)?;
-    Ok(answers(&mut system, case.turns) && ends_with(&system, case.count, case.end))
+    let same = answers(&mut system, case.turns) && ends_with(&system, case.count, case.end);
+    drop(system);
+    Ok(same)
 }
 
 #[test]
@@ -245,7 +249,9 @@ fn takes_turns(rt: HostRuntime) -> Result<(), Fail> {
 fn is_as_drained(alloc: Global, case: &Drained) -> Result<bool, Fail> {
     let mut system = start(alloc, case.script)?;
     system.drain();
-    Ok(system.done() && system.trace() == case.events)
+    let same = system.done() && system.trace() == case.events;
+    drop(system);
+    Ok(same)
 }
 
 #[test]
@@ -264,7 +270,9 @@ fn chosen_run(
     turns: &[u8],
 ) -> Result<Option<System>, Fail> {
     let plan = Plan::read(alloc, &mut HonestSource::new(script))?;
-    let mut run = start_chosen(alloc, &plan, picks)?;
+    let started = start_chosen(alloc, &plan, picks);
+    drop(plan);
+    let mut run = started?;
     if let Some(system) = &mut run {
         system.drain_by(turns);
     }
@@ -283,7 +291,9 @@ fn is_as_picked(system: &System) -> bool {
 #[test]
 fn takes_chosen_answers_and_turns(rt: HostRuntime) -> Result<(), Fail> {
     let run = chosen_run(rt.alloc(), MIXED, &[7], &[255])?;
-    assert!(rt; run.as_ref().is_some_and(|system| is_as_picked(system)));
+    let holds = run.as_ref().is_some_and(|system| is_as_picked(system));
+    drop(run);
+    assert!(rt; holds);
     Ok(())
 }
 
@@ -312,11 +322,11 @@ fn grown(alloc: Global) -> Result<System, Fail> {
 #[test]
 fn grows(rt: HostRuntime) -> Result<(), Fail> {
     let system = grown(rt.alloc())?;
-    assert!(rt;
-        system.done()
-            && system.trace() == DRAINED[0].events
-            && system.plan().room() == 0
-            && system.plan().view().count() == 3
-    );
+    let holds = system.done()
+        && system.trace() == DRAINED[0].events
+        && system.plan().room() == 0
+        && system.plan().view().count() == 3;
+    drop(system);
+    assert!(rt; holds);
     Ok(())
 }

@@ -47,12 +47,13 @@ fn ends<R: Threads + Wait + Sync, G: Gate + Sync>(
 ) -> Result<bool, Fail> {
     let plan = Plan::read(alloc, &mut HonestSource::new(SCRIPT))?;
     let system = run_threads(rt, alloc, &plan, gate)?;
-    Ok(
-        system.done()
-            && system.plan().same(&plan)
-            && has_retired(system.trace(), 0, 0)
-            && has_retired(system.trace(), 1, 0),
-    )
+    let ended = system.done()
+        && system.plan().same(&plan)
+        && has_retired(system.trace(), 0, 0)
+        && has_retired(system.trace(), 1, 0);
+    drop(system);
+    drop(plan);
+    Ok(ended)
 }
 
 #[test]

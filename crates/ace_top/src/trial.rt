@@ -19,7 +19,9 @@ use std::alloc::Global;
 fn events_of(system: System) -> u64
     ensures { result ≡ length system.past }
 {
-    system.trace().len() as u64
+    let events = system.trace().len() as u64;
+    drop(system);
+    events
 }
 
 /// Runs the script that is made from this number, without threads: how many events the trace of the run has.
