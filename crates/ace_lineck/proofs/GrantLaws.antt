@@ -31,7 +31,7 @@ use Rattle.ace_lineck.specs.Grants.{GrantFits, GrantStands, stage_at, stage_by, 
 use Rattle.ace_lineck.specs.Records.{IsNext}
 use Rattle.ace_lineck.specs.Kept.{is_unsnooped, is_sending, is_settled, may_be_snooped, has_passed, is_passed_whole, is_done_at, are_done, is_its, takes_data, may_have_beat, IsFailure}
 use Rattle.ace_lineck.proofs.OnLine.{line-transaction, line-snoop}
-use Rattle.ace_lineck.proofs.Own.{owes_wack-own}
+use Rattle.ace_portck.proofs.Own.{owes_wack-own}
 use Rattle.ace_lineck.proofs.GrantFrame.{passed_at}
 
 -- nothing is kept exactly where nothing is granted

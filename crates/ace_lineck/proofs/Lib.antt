@@ -1,8 +1,6 @@
 -- The line of an event, and what an event of another line leaves as it is.
 pub mod OnLine
 pub mod OffLine
--- A port's own transaction on a line (K5), and what the rules ask of it.
-pub mod Own
 -- The data and the states of the ports, and memory, at an event of their line.
 pub mod HolderSteps
 pub mod StateSteps

@@ -30,7 +30,7 @@ use Rattle.ace_lineck.specs.declared.record.LineRecord.{LineRecord}
 use Rattle.ace_lineck.specs.Holders.{holder_at, awaits_store, sent_on}
 use Rattle.ace_lineck.specs.Uses.{use_by, use_of, newest_use, goes_with}
 use Rattle.ace_lineck.specs.Records.{LineStands, IsNext}
-use Rattle.ace_lineck.proofs.Own.{has_update-own, has_outstanding-own, wants_store-own, awaits_own_store}
+use Rattle.ace_portck.proofs.Own.{has_update-own, has_outstanding-own, wants_store-own, awaits_own_store}
 use Rattle.ace_lineck.proofs.Sent.{next-sent, none-sent, sends-a_line}
 use Rattle.ace_lineck.specs.States.{state_at}
 

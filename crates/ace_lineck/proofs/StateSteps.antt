@@ -14,7 +14,7 @@ use Rattle.ace_lineck.specs.Holders.{IsLineStep, awaits_store}
 use Rattle.ace_lineck.specs.States.{IsInState, IsStatesStep, StatesStand, state_at}
 use Rattle.ace_lineck.proofs.OffLine.{ace-of_rk, ace-of_wk, off-state}
 use Rattle.ace_lineck.proofs.OnLine.{on-snoop, on-transaction}
-use Rattle.ace_lineck.proofs.Own.{awaits_own_store, in_make_unique-own}
+use Rattle.ace_portck.proofs.Own.{awaits_own_store, in_make_unique-own}
 
 -- in a list of one thing alone that thing stands at each place, and beyond its end
 pub all-same : {A : Type 0} (x : A) (n p : ℕ) → unwrap_or (slice_get (replicate n x) p) x ≡ x

@@ -16,5 +16,7 @@ pub mod AllPorts
 pub mod Rooms
 pub mod LineMaps
 pub mod BarrierBars
+-- A port's own transaction on a line (K5), and what the rules ask of it.
+pub mod Own
 -- What the short ways of the checker ask and leave.
 pub mod ShortWays

@@ -7,7 +7,7 @@ use Rattle.ace_model.specs.Trace.{Trace, is_some_and}
 use Rattle.ace_model.proofs.General.Options.{Some-injective}
 use Rattle.ace_portck.specs.declared.target.Progress.{Progress}
 use Rattle.ace_portck.specs.Targets.{own_of, progress_of}
-use Rattle.ace_lineck.proofs.Own.{has_update-own}
+use Rattle.ace_portck.proofs.Own.{has_update-own}
 use Rattle.ace_master.proofs.answering.has_update.Goals as goal
 
 told : (h : Header) (past : Trace) (o : Option Transaction) (y : Progress) → Some y ≡ option_map (progress_of h past) o → updates_memory y.transaction ≡ is_some_and o updates_memory
