@@ -1,8 +1,8 @@
 use Rattle.std.proofs.Common.{None, refl}
 use Rattle.ace_top.proofs.follow.FollowerTaker.takes.Goals as goal
 
-pub returns-in-None-clause-taken : goal.returns-in-None-clause-taken
-returns-in-None-clause-taken g c is =
+pub returns-in-None-clause-took : goal.returns-in-None-clause-took
+returns-in-None-clause-took c is =
     let takes = c.takes.ensures in
     record {
       fine = λ h past f. let t = takes.fine h past None f.checker is in (t.1, t.2);
