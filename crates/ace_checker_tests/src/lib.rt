@@ -3,13 +3,21 @@
 #![tactic(auto)]
 
 #[cfg(test)]
+mod barrier_cases;
+#[cfg(test)]
+mod cases;
+#[cfg(test)]
 mod checker;
+#[cfg(test)]
+mod line_cases;
 #[cfg(test)]
 mod lines;
 #[cfg(test)]
 mod one_port;
 #[cfg(test)]
 mod ports;
+#[cfg(test)]
+mod record_cases;
 #[cfg(test)]
 mod report;
 #[cfg(test)]
