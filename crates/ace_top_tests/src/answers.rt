@@ -187,23 +187,45 @@ const MIGRATED: [Row; 7] = [
     ("", 3, "", "malformed line 1: F1\n"),
 ];
 
-/// Calls `ace` with so much room on its outputs: the status, and what these then hold.
+/// What a call answered: its status, and its outputs with what they then hold.
+#[derive(Drop)]
+struct Answered {
+    status: u8,
+    out: MemSink,
+    notes: MemSink,
+}
+
+impl Answered {
+    /// Whether it is this status, and the outputs hold these texts.
+    fn is(&self, status: u8, out: &[u8], notes: &str) -> bool {
+        self.status == status && self.out.bytes() == out && self.notes.bytes() == notes.as_bytes()
+    }
+}
+
+/// The words as a program has them.
+fn owned(alloc: Global, words: &[&str]) -> Result<Vec<String>, Fail> {
+    let mut owned = Vec::new(alloc);
+    for word in words {
+        owned.push(String::from_str(alloc, word)?)?;
+    }
+    Ok(owned)
+}
+
+/// Calls `ace` with so much room on its outputs.
 fn answer<R: Threads + Wait + Sync, S: Source>(
     rt: &R,
     alloc: Global,
     words: &[&str],
     input: &mut S,
     rooms: (usize, usize),
-) -> Result<(u8, MemSink, MemSink), Fail> {
-    let mut owned = Vec::new(alloc);
-    for word in words {
-        owned.push(String::from_str(alloc, word)?)?;
-    }
+) -> Result<Answered, Fail> {
     let mut out = MemSink::new(alloc, rooms.0, &[])?;
     let mut notes = MemSink::new(alloc, rooms.1, &[])?;
-    let words = owned.as_slice();
-    let status = ace(rt, alloc, words, input, &mut out, &mut notes, &Free);
-    Ok((status, out, notes))
+    let words = owned(alloc, words)?;
+    let given = words.as_slice();
+    let status = ace(rt, alloc, given, input, &mut out, &mut notes, &Free);
+    drop(words);
+    Ok(Answered { status, out, notes })
 }
 
 /// Whether a call over an input in pieces of so many bytes, of which these takes fail, and over outputs with so much room, has this
@@ -217,8 +239,12 @@ fn answers<R: Threads + Wait + Sync>(
     wanted: (u8, &[u8], &str),
 ) -> Result<bool, Fail> {
     let mut source = MemSource::new(alloc, input.0, &[input.1.max(1)], input.2)?;
-    let (status, out, notes) = answer(rt, alloc, words, &mut source, rooms)?;
-    Ok(status == wanted.0 && out.bytes() == wanted.1 && notes.bytes() == wanted.2.as_bytes())
+    let answered = answer(rt, alloc, words, &mut source, rooms);
+    drop(source);
+    let answered = answered?;
+    let holds = answered.is(wanted.0, wanted.1, wanted.2);
+    drop(answered);
+    Ok(holds)
 }
 
 /// Whether the command has the status and leaves the texts of the row, in pieces of 1 to 64 bytes.
@@ -422,9 +448,11 @@ fn answer_untouched<R: Threads + Wait + Sync>(
     alloc: Global,
     words: &[&str],
     rooms: (usize, usize),
-) -> Result<(u8, MemSink, MemSink), Fail> {
+) -> Result<Answered, Fail> {
     let mut input = MemSource::new(alloc, EMPTY.as_bytes(), &[8], &[0])?;
-    answer(rt, alloc, words, &mut input, rooms)
+    let answered = answer(rt, alloc, words, &mut input, rooms);
+    drop(input);
+    answered
 }
 
 /// A number, the bytes of its script, and the front and the end of it.
@@ -467,46 +495,67 @@ fn is_script(text: &[u8], length: usize, front: &str, end: &str) -> bool {
 #[test]
 fn scripts_of_numbers(rt: HostRuntime) -> Result<(), Fail> {
     for (number, length, front, end) in SCRIPTS {
-        let (status, out, notes) = answer_untouched(
-            &rt,
-            rt.alloc(),
-            &["gen", number],
-            (30000, 99),
-        )?;
-        assert!(rt; status == 0 && notes.bytes().is_empty(), "{number}");
-        assert!(rt; is_script(out.bytes(), length, front, end), "{number}");
+        let words = ["gen", number];
+        let given = answer_untouched(&rt, rt.alloc(), &words, (30000, 99))?;
+        let holds = given.status == 0
+            && given.notes.bytes().is_empty()
+            && is_script(given.out.bytes(), length, front, end);
+        drop(given);
+        assert!(rt; holds, "{number}");
     }
     Ok(())
 }
 
+/// Whether the script of 42 breaks off where so much room is left, after a front of the whole, and the notes hold what is told.
+fn breaks_off_at<R: Threads + Wait + Sync>(
+    rt: &R,
+    alloc: Global,
+    whole: &Answered,
+    room: usize,
+    told: &str,
+) -> Result<bool, Fail> {
+    let given = answer_untouched(rt, alloc, &["gen", "42"], (room, told.len()))?;
+    let out = given.out.bytes();
+    let holds = given.is(5, out, told) && out.len() == room && whole.out.bytes().starts_with(out);
+    drop(given);
+    Ok(holds)
+}
+
+/// Rooms below that of the script, and what is told there.
+const ROOMS: [(usize, &str); 11] = [
+    (0, "write fault\n"),
+    (1, "write fault\n"),
+    (12, "write fault\n"),
+    (13, "write fault\n"),
+    (14, "write fault\n"),
+    (4095, "write fault\n"),
+    (4096, "write fault\n"),
+    (4097, "write fault\n"),
+    (12000, "write fault\n"),
+    (21788, "write fault\n"),
+    (5, "write"),
+];
+
+/// Whether it breaks off at each of the rooms.
+fn breaks_off_at_all<R: Threads + Wait + Sync>(
+    rt: &R,
+    alloc: Global,
+    whole: &Answered,
+) -> Result<bool, Fail> {
+    for (room, told) in ROOMS {
+        if !breaks_off_at(rt, alloc, whole, room, told)? {
+            return Ok(false);
+        }
+    }
+    Ok(whole.is(0, whole.out.bytes(), "") && whole.out.bytes().len() == 21789)
+}
+
 #[test]
 fn scripts_broken_off(rt: HostRuntime) -> Result<(), Fail> {
-    let alloc = rt.alloc();
-    let (status, whole, notes) = answer_untouched(&rt, alloc, &["gen", "42"], (21789, 0))?;
-    assert!(rt; status == 0 && whole.bytes().len() == 21789 && notes.bytes().is_empty());
-    for (room, told) in [
-        (0, "write fault\n"),
-        (1, "write fault\n"),
-        (12, "write fault\n"),
-        (13, "write fault\n"),
-        (14, "write fault\n"),
-        (4095, "write fault\n"),
-        (4096, "write fault\n"),
-        (4097, "write fault\n"),
-        (12000, "write fault\n"),
-        (21788, "write fault\n"),
-        (5, "write"),
-    ] {
-        let (status, out, notes) = answer_untouched(
-            &rt,
-            alloc,
-            &["gen", "42"],
-            (room, told.len()),
-        )?;
-        assert!(rt; status == 5 && out.bytes().len() == room, "room {room}");
-        assert!(rt; whole.bytes().starts_with(out.bytes()), "room {room}");
-        assert_eq!(rt; notes.bytes(), told.as_bytes());
-    }
+    let whole = answer_untouched(&rt, rt.alloc(), &["gen", "42"], (21789, 0))?;
+    let holds = breaks_off_at_all(&rt, rt.alloc(), &whole);
+    drop(whole);
+    assert!(rt; holds?);
     Ok(())
 }
 
@@ -552,20 +601,33 @@ const NO_COMMANDS: [&[&str]; 35] = [
 #[test]
 fn words_of_no_command(rt: HostRuntime) -> Result<(), Fail> {
     for words in NO_COMMANDS {
-        let (status, out, notes) = answer_untouched(&rt, rt.alloc(), words, (30000, 99))?;
-        assert!(rt; status == 2 && out.bytes().is_empty(), "{words:?}");
-        assert_eq!(rt; notes.bytes(), USAGE.as_bytes(), "{words:?}");
+        let given = answer_untouched(&rt, rt.alloc(), words, (30000, 99))?;
+        let holds = given.is(2, b"", USAGE);
+        drop(given);
+        assert!(rt; holds, "{words:?}");
     }
     Ok(())
+}
+
+/// Whether notes with so much room are told that there was no memory for the words, with this status.
+fn tells_no_memory(alloc: Global, room: usize, status: u8, told: &str) -> Result<bool, Fail> {
+    let mut out = MemSink::new(alloc, 99, &[])?;
+    let mut notes = MemSink::new(alloc, room, &[])?;
+    let answered = tell_no_memory(&mut out, &mut notes);
+    let given = Answered {
+        status: answered,
+        out,
+        notes,
+    };
+    let holds = given.is(status, b"", told);
+    drop(given);
+    Ok(holds)
 }
 
 #[test]
 fn no_memory_for_words(rt: HostRuntime) -> Result<(), Fail> {
     for (room, status, told) in [(99, 7, "out of memory\n"), (3, 5, "out")] {
-        let mut out = MemSink::new(rt.alloc(), 99, &[])?;
-        let mut notes = MemSink::new(rt.alloc(), room, &[])?;
-        assert_eq!(rt; tell_no_memory(&mut out, &mut notes), status);
-        assert!(rt; out.bytes().is_empty() && notes.bytes() == told.as_bytes());
+        assert!(rt; tells_no_memory(rt.alloc(), room, status, told)?);
     }
     Ok(())
 }

@@ -1,5 +1,6 @@
 // Workers that take their turns beside each other.
 
+use super::{Answered, owned};
 use ace_io::{Gate, HonestSource, MemSink};
 use ace_top::ace;
 use crossbeam_utils::CachePadded;
@@ -101,22 +102,15 @@ fn run_through<R: Threads + Wait + Sync, G: Gate + Sync>(
     rt: &R,
     alloc: Global,
     gate: &G,
-) -> Result<MemSink, Fail> {
-    let mut words = Vec::new(alloc);
-    words.push(String::from_str(alloc, "run")?)?;
+) -> Result<Answered, Fail> {
     let mut input = HonestSource::new(TWO_READS.as_bytes());
     let mut out = MemSink::new(alloc, 9999, &[])?;
     let mut notes = MemSink::new(alloc, 99, &[])?;
-    ace(
-        rt,
-        alloc,
-        words.as_slice(),
-        &mut input,
-        &mut out,
-        &mut notes,
-        gate,
-    );
-    Ok(out)
+    let words = owned(alloc, &["run"])?;
+    let given = words.as_slice();
+    let status = ace(rt, alloc, given, &mut input, &mut out, &mut notes, gate);
+    drop(words);
+    Ok(Answered { status, out, notes })
 }
 
 /// The digit of the port of the first OP.
@@ -141,8 +135,10 @@ fn gate_meets(rt: HostRuntime) -> Result<(), Fail> {
             met: flag(),
         },
     };
-    run_through(&rt, rt.alloc(), &gate)?;
-    assert!(rt; is_up(&gate.first.met) && is_up(&gate.second.met));
+    let run = run_through(&rt, rt.alloc(), &gate)?;
+    let status = run.status;
+    drop(run);
+    assert!(rt; status == 0 && is_up(&gate.first.met) && is_up(&gate.second.met));
     Ok(())
 }
 
@@ -154,8 +150,10 @@ fn gate_orders(rt: HostRuntime) -> Result<(), Fail> {
             ended: flag(),
             in_time: flag(),
         };
-        let trace = run_through(&rt, rt.alloc(), &gate)?;
-        assert_eq!(rt; first_to_retire(trace.bytes()), Some(first));
+        let run = run_through(&rt, rt.alloc(), &gate)?;
+        let retired = first_to_retire(run.out.bytes());
+        drop(run);
+        assert_eq!(rt; retired, Some(first));
         assert!(rt; is_up(&gate.in_time));
     }
     Ok(())

@@ -1,7 +1,7 @@
 // Runs of scripts, and what is told of the traces that they write.
 
-use super::answer;
-use ace_io::{HonestSource, MemSink};
+use super::{Answered, answer};
+use ace_io::HonestSource;
 use std::alloc::Global;
 use std::sync::Wait;
 use std::test::Fail;
@@ -42,23 +42,22 @@ const MANY: &str = "ACE SCRIPT 1\nPORTS AAAL\nCACHE 2\nPOLICY mixed 000000000000
     3 wlu 00004000 77777777777777777777777777777777777777777777777777777777777777777777777777777777777777777777777777777777777777777777777777777777\n\
     3 sb\n3 ro 00002040\n1 ld 00004000 0\n0 mb\n";
 
-/// The trace of a run of the script, or what is told where there is none.
-fn run_of<R: Threads + Wait + Sync>(rt: &R, alloc: Global, script: &[u8]) -> Result<MemSink, Fail> {
-    let mut input = HonestSource::new(script);
-    let (status, out, notes) = answer(rt, alloc, &["run"], &mut input, (4_000_000, 99))?;
-    Ok(if status == 0 { out } else { notes })
-}
-
-/// What `check`, `report` and the like tell of it.
-fn told<R: Threads + Wait + Sync>(
+/// A run of the script: its trace.
+fn run_of<R: Threads + Wait + Sync>(
     rt: &R,
     alloc: Global,
-    command: &str,
-    trace: &MemSink,
-) -> Result<MemSink, Fail> {
-    let mut input = HonestSource::new(trace.bytes());
-    let (_, out, _) = answer(rt, alloc, &[command], &mut input, (99_999, 99))?;
-    Ok(out)
+    script: &[u8],
+) -> Result<Answered, Fail> {
+    let mut input = HonestSource::new(script);
+    answer(rt, alloc, &["run"], &mut input, (4_000_000, 99))
+}
+
+/// What is wanted of a text: the whole of it, its front, or parts of it.
+#[derive(Clone, Copy)]
+enum Wanted {
+    Text(&'static str),
+    Front(&'static str),
+    Parts(&'static [&'static str]),
 }
 
 /// Whether these bytes stand in the text.
@@ -67,126 +66,202 @@ fn has(text: &[u8], part: &str) -> bool {
         .any(|window| window == part.as_bytes())
 }
 
-/// Whether a run of the script is accepted, and its report has each of these parts.
-fn reports<R: Threads + Wait + Sync>(
+/// Whether the text is as it is wanted.
+fn is_wanted(text: &[u8], wanted: Wanted) -> bool {
+    match wanted {
+        Wanted::Text(whole) => text == whole.as_bytes(),
+        Wanted::Front(front) => text.starts_with(front.as_bytes()),
+        Wanted::Parts(parts) => {
+            let mut all = true;
+            for part in parts {
+                all &= has(text, part);
+            }
+            all
+        }
+    }
+}
+
+/// Whether the command tells of the trace what is wanted.
+fn tells<R: Threads + Wait + Sync>(
+    rt: &R,
+    alloc: Global,
+    command: &str,
+    trace: &[u8],
+    wanted: Wanted,
+) -> Result<bool, Fail> {
+    let mut input = HonestSource::new(trace);
+    let told = answer(rt, alloc, &[command], &mut input, (99_999, 99))?;
+    let holds = told.status == 0 && is_wanted(told.out.bytes(), wanted);
+    drop(told);
+    Ok(holds)
+}
+
+/// A script, and what is wanted of the trace of its run, of the verdict on it, and of its report.
+#[derive(Clone, Copy)]
+struct Row {
+    script: &'static str,
+    trace: Wanted,
+    verdict: Wanted,
+    report: Wanted,
+}
+
+/// Whether the verdict and the report that are told of the trace are as the row wants them.
+fn are_told<R: Threads + Wait + Sync>(
+    rt: &R,
+    alloc: Global,
+    trace: &[u8],
+    row: &Row,
+) -> Result<bool, Fail> {
+    Ok(
+        tells(rt, alloc, "check", trace, row.verdict)?
+            && tells(rt, alloc, "report", trace, row.report)?,
+    )
+}
+
+/// Whether a run of the script writes such a trace, of which such a verdict and report are told.
+fn is_row<R: Threads + Wait + Sync>(
     rt: &R,
     alloc: Global,
     script: &[u8],
-    parts: &[&str],
+    row: &Row,
 ) -> Result<bool, Fail> {
-    let trace = run_of(rt, alloc, script)?;
-    let accepted = told(rt, alloc, "check", &trace)?
-        .bytes()
-        .starts_with(b"accepted ");
-    let report = told(rt, alloc, "report", &trace)?;
-    for part in parts {
-        if !has(report.bytes(), part) {
-            return Ok(false);
-        }
-    }
-    Ok(accepted)
+    let run = run_of(rt, alloc, script)?;
+    let trace = run.out.bytes();
+    let written = run.status == 0 && is_wanted(trace, row.trace);
+    let told = are_told(rt, alloc, trace, row);
+    drop(run);
+    let told = told?;
+    Ok(written && told)
 }
+
+const ANY_TRACE: Wanted = Wanted::Front("ACE 1\n");
+
+const ACCEPTED: Wanted = Wanted::Front("accepted ");
+
+const ROWS: [Row; 5] = [
+    Row {
+        script: LOAD_AND_STORE,
+        trace: Wanted::Text(LOADED_AND_STORED),
+        verdict: Wanted::Text("accepted 12\n"),
+        report: Wanted::Text(LOAD_AND_STORE_REPORT),
+    },
+    Row {
+        script: WRITE_AND_READ,
+        trace: ANY_TRACE,
+        verdict: Wanted::Text("accepted 16\n"),
+        report: Wanted::Front(
+            "port 0 loads 0 stores 0 reads 1 writes 1\nline 00000040 stores 1 value 2222",
+        ),
+    },
+    Row {
+        script: "ACE SCRIPT 1\nPORTS A\nCACHE 1\nPOLICY keep\n0 mb\n",
+        trace: ANY_TRACE,
+        verdict: ACCEPTED,
+        report: Wanted::Parts(&["port 0 loads 0 stores 0 reads 1 writes 1\n"]),
+    },
+    Row {
+        script: GIVEN_UP,
+        trace: ANY_TRACE,
+        verdict: ACCEPTED,
+        report: Wanted::Parts(&["line 00000040 stores 2 value "]),
+    },
+    Row {
+        script: MANY,
+        trace: ANY_TRACE,
+        verdict: ACCEPTED,
+        report: Wanted::Parts(&[
+            "line 00002000 stores 1 value a1a1",
+            "line 00002040 stores 1 value a2a2",
+            "line 00003000 stores 1 value 00000000000000000000000000000000f1f1f1f1f1f1f1f1f1f1f1f1f1f1f1f10000",
+            "line 00004000 stores 1 value 7777",
+            "port 1 loads 4 ",
+        ]),
+    },
+];
 
 #[test]
-fn run_of_one_port(rt: HostRuntime) -> Result<(), Fail> {
-    let alloc = rt.alloc();
-    let trace = run_of(&rt, alloc, LOAD_AND_STORE.as_bytes())?;
-    assert_eq!(rt; trace.bytes(), LOADED_AND_STORED.as_bytes());
-    assert_eq!(rt;
-        told(&rt, alloc, "check", &trace)?.bytes(),
-        b"accepted 12\n".as_slice()
-    );
-    assert_eq!(rt;
-        told(&rt, alloc, "report", &trace)?.bytes(),
-        LOAD_AND_STORE_REPORT.as_bytes()
-    );
-    Ok(())
-}
-
-#[test]
-fn run_of_a_lite_port(rt: HostRuntime) -> Result<(), Fail> {
-    let alloc = rt.alloc();
-    let trace = run_of(&rt, alloc, WRITE_AND_READ.as_bytes())?;
-    assert_eq!(rt;
-        told(&rt, alloc, "check", &trace)?.bytes(),
-        b"accepted 16\n".as_slice()
-    );
-    let report = "port 0 loads 0 stores 0 reads 1 writes 1\nline 00000040 stores 1 value 2222";
-    assert!(rt;
-        told(&rt, alloc, "report", &trace)?
-            .bytes()
-            .starts_with(report.as_bytes())
-    );
-    Ok(())
-}
-
-#[test]
-fn runs_of_some_ports(rt: HostRuntime) -> Result<(), Fail> {
-    let alloc = rt.alloc();
-    let barrier = b"ACE SCRIPT 1\nPORTS A\nCACHE 1\nPOLICY keep\n0 mb\n";
-    assert!(rt;
-        reports(
-            &rt,
-            alloc,
-            barrier,
-            &["port 0 loads 0 stores 0 reads 1 writes 1\n"]
-        )?
-    );
-    assert!(rt;
-        reports(
-            &rt,
-            alloc,
-            GIVEN_UP.as_bytes(),
-            &["line 00000040 stores 2 value "]
-        )?
-    );
-    let parts = [
-        "line 00002000 stores 1 value a1a1",
-        "line 00002040 stores 1 value a2a2",
-        "line 00003000 stores 1 value 00000000000000000000000000000000f1f1f1f1f1f1f1f1f1f1f1f1f1f1f1f10000",
-        "line 00004000 stores 1 value 7777",
-        "port 1 loads 4 ",
-    ];
-    assert!(rt; reports(&rt, alloc, MANY.as_bytes(), &parts)?);
-    Ok(())
-}
-
-/// The script that is made from this number.
-fn generated<R: Threads + Wait + Sync>(
-    rt: &R,
-    alloc: Global,
-    number: &str,
-) -> Result<MemSink, Fail> {
-    let mut input = HonestSource::new(b"");
-    let (_, out, _) = answer(rt, alloc, &["gen", number], &mut input, (99_999, 99))?;
-    Ok(out)
-}
-
-#[test]
-fn runs_of_numbers(rt: HostRuntime) -> Result<(), Fail> {
-    let alloc = rt.alloc();
-    for number in ["42"] {
-        let script = generated(&rt, alloc, number)?;
+fn runs_of_scripts(rt: HostRuntime) -> Result<(), Fail> {
+    for row in ROWS {
         assert!(rt;
-            reports(&rt, alloc, script.bytes(), &["port 3 "])?,
-            "{number}"
+            is_row(&rt, rt.alloc(), row.script.as_bytes(), &row)?,
+            "{}",
+            row.script
         );
     }
     Ok(())
 }
 
+/// Whether a run of the script that is made from this number is accepted.
+fn runs_number<R: Threads + Wait + Sync>(
+    rt: &R,
+    alloc: Global,
+    number: &str,
+) -> Result<bool, Fail> {
+    let mut input = HonestSource::new(b"");
+    let made = answer(rt, alloc, &["gen", number], &mut input, (99_999, 99))?;
+    let row = Row {
+        script: "",
+        trace: ANY_TRACE,
+        verdict: ACCEPTED,
+        report: Wanted::Parts(&["port 3 "]),
+    };
+    let holds = is_row(rt, alloc, made.out.bytes(), &row);
+    drop(made);
+    holds
+}
+
+#[test]
+fn runs_of_numbers(rt: HostRuntime) -> Result<(), Fail> {
+    assert!(rt; runs_number(&rt, rt.alloc(), "42")?);
+    Ok(())
+}
+
+/// What `trial 42` answers, with such rooms.
+fn trial<R: Threads + Wait + Sync>(
+    rt: &R,
+    alloc: Global,
+    rooms: (usize, usize),
+) -> Result<Answered, Fail> {
+    let mut input = HonestSource::new(b"");
+    answer(rt, alloc, &["trial", "42"], &mut input, rooms)
+}
+
+/// Whether the answer is that of a trial whose run was accepted.
+fn is_accepted_trial(given: &Answered) -> bool {
+    let text = given.out.bytes();
+    given.status == 0
+        && text.starts_with(b"trial 42: 512 operations, ")
+        && text.ends_with(b" events, accepted\n")
+}
+
+/// Whether a trial answers as this one did.
+fn is_answered_again<R: Threads + Wait + Sync>(
+    rt: &R,
+    alloc: Global,
+    first: &Answered,
+) -> Result<bool, Fail> {
+    let second = trial(rt, alloc, (99, 0))?;
+    let holds = second.is(0, first.out.bytes(), "");
+    drop(second);
+    Ok(holds)
+}
+
 #[test]
 fn trials(rt: HostRuntime) -> Result<(), Fail> {
-    let alloc = rt.alloc();
-    let mut input = HonestSource::new(b"");
-    let (status, first, _) = answer(&rt, alloc, &["trial", "42"], &mut input, (99, 0))?;
-    let (again, second, _) = answer(&rt, alloc, &["trial", "42"], &mut input, (99, 0))?;
-    assert_eq!(rt; (status, again), (0, 0));
-    assert_eq!(rt; first.bytes(), second.bytes());
-    assert!(rt; first.bytes().starts_with(b"trial 42: 512 operations, "));
-    assert!(rt; first.bytes().ends_with(b" events, accepted\n"));
-    let (status, part, notes) = answer(&rt, alloc, &["trial", "42"], &mut input, (5, 99))?;
-    assert_eq!(rt; (status, part.bytes()), (5, b"trial".as_slice()));
-    assert_eq!(rt; notes.bytes(), b"write fault\n".as_slice());
+    let first = trial(&rt, rt.alloc(), (99, 0))?;
+    let accepted = is_accepted_trial(&first);
+    let again = is_answered_again(&rt, rt.alloc(), &first);
+    drop(first);
+    let again = again?;
+    assert!(rt; accepted && again);
+    Ok(())
+}
+
+#[test]
+fn trial_broken_off(rt: HostRuntime) -> Result<(), Fail> {
+    let given = trial(&rt, rt.alloc(), (5, 99))?;
+    let holds = given.is(5, b"trial", "write fault\n");
+    drop(given);
+    assert!(rt; holds);
     Ok(())
 }
