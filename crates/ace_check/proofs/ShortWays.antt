@@ -21,4 +21,4 @@ pub mod WriteEnds
 -- What an RK or WK asks of each share.
 pub mod PlainAcknowledges
 -- An M of an outstanding transaction keeps all rules that do not look at its line.
-pub mod PlainMemoryWrites
+pub mod MemoryWrites

@@ -1,5 +1,5 @@
 -- What the parts of a checker say together.
-use Rattle.std.proofs.Common.{◌≡◌, ℕ, Bool, true, false, not, ◌&&◌, nat_le, if◌then◌else◌, Option, Some, None, length, is_some, is_none, option_map, Result, Ok, Err, is_err, IfOk, IsOk, OnOk, OnErr, refl, sym, ap, subst, ◌∙◌, inl, inr}
+use Rattle.std.proofs.Common.{◌≡◌, ℕ, Bool, true, false, not, ◌&&◌, nat_le, if◌then◌else◌, Option, Some, None, length, is_some, is_none, option_map, Result, Ok, Err, is_err, IsOk, OnOk, OnErr, refl, sym, ap, subst, ◌∙◌, inl, inr}
 use Rattle.std.proofs.lemmas.Bool.{cases_Bool, eqb-true}
 use Rattle.std.specs.List.{AllByRecursion}
 use Rattle.ace_event.specs.Range.{FitsFields}
@@ -24,9 +24,6 @@ use Rattle.ace_model.proofs.Exclusives.Law.{accepted_exclusive_holds}
 use Rattle.ace_model.proofs.Dvm.Law.{accepted_dvm_holds}
 use Rattle.ace_model.proofs.Holders.Law.{accepted_holds}
 use Rattle.ace_portck.specs.Targets.{line_in}
-use Rattle.ace_check.specs.declared.checker.CheckErr.{CheckErr}
-use Rattle.ace_check.specs.declared.checker.Step.{Step}
-use Rattle.ace_check.specs.declared.checker.Step.TheVariants.{Fine}
 use Rattle.ace_check.specs.Run.{IsSound, begins, is_first, goes_over}
 
 -- an accepted trace whose events fit their fields is sound
@@ -156,21 +153,6 @@ k1_kept h past e rule is f =
 pub least_with : (h : Header) (past : Trace) (e : Event) (a b c : Option ℕ) → a ≡ least_of port_rules h past e → b ≡ least_of line_rules h past e → c ≡ least_of system_rules h past e
     → lesser a (lesser b c) ≡ least_broken h past e
 least_with h past e a b c p l s = rw (p, l, s) (sym (least_of_shares h past e))
-
-pub ok_then : (P : Step → Type 0) (r : Result Step CheckErr) → OnOk r (r ≡ Ok Fine) → OnOk r (P Fine) → IfOk r P
-ok_then P (Ok step) fine p = let same : step ≡ Fine = cc in subst P (sym same) p
-ok_then P (Err e) fine p = tt
-
-pub to_ok : {A E P : Type 0} → (r : Result A E) → P → OnOk r P
-to_ok (Ok x) p = p
-to_ok (Err e) p = tt
-
-pub err_then : {A E P : Type 0} → (r : Result A E) (e : E) → r ≡ Err e → OnErr r P → P
-err_then r e is p = from_err r (ap is_err is) p
-
-pub from_is_ok : {A E P : Type 0} → (r : Result A E) → IsOk r → OnOk r P → P
-from_is_ok (Ok x) ok p = p
-from_is_ok (Err e) ok p = cc
 
 pub err_is_no_ok : {A E : Type 0} → (r : Result A E) → is_err r ≡ true → IsOk r → ⊥
 err_is_no_ok (Ok x) b ok = cc

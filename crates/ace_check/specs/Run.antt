@@ -1,5 +1,5 @@
 -- What a checker stands for, and what it answers to an event.
-use Rattle.std.specs.Prelude.{◌+◌, ◌≡◌, ◌<◌, ◌-◌, ◌^◌, ◌∷◌, ◌⊎◌, ◌&&◌, ◌==◌, ℕ, Bool, true, false, nat_le, Option, Some, None, Result, Ok, Err, IfOk, OnErr, length}
+use Rattle.std.specs.Prelude.{◌+◌, ◌≡◌, ◌<◌, ◌-◌, ◌^◌, ◌∷◌, ◌⊎◌, ◌&&◌, ◌==◌, ℕ, Bool, true, false, nat_le, Option, Some, None, length}
 use Rattle.std.specs.List.{AllByRecursion}
 use Rattle.ace_event.specs.Range.{FitsFields}
 use Rattle.ace_event.specs.declared.event.Event.{Event}
@@ -21,8 +21,6 @@ use Rattle.ace_sysck.specs.Registrations.{IsNewLock}
 use Rattle.ace_check.specs.Shares.{SharesTell, most_lines}
 use Rattle.ace_check.specs.declared.shares.Shares.{Shares}
 use Rattle.ace_check.specs.declared.checker.Checker.{Checker}
-use Rattle.ace_check.specs.declared.checker.CheckErr.{CheckErr}
-use Rattle.ace_check.specs.declared.checker.CheckErr.TheVariants.{TooManyLines, NoMemory}
 use Rattle.ace_check.specs.declared.checker.Step.{Step}
 use Rattle.ace_check.specs.declared.checker.Step.TheVariants.{Fine, Broken}
 
@@ -84,16 +82,3 @@ pub record IsSound (h : Header) (past : Trace) : Type 0 where
   pub exclusive : ExclusiveHolds past
   pub barrier : BarrierHolds past
   pub dvm : DvmHolds h past
-
--- What a checker answers to the next event, and what it stands for then.
-pub record Feeds (old new : Checker) (e : Event) (result : Result Step CheckErr) : Type 0 where
-  pub answer : (h : Header) (past : Trace) → Stands old h past None → IfOk result (IsAnswer h past e)
-  pub stands : (h : Header) (past : Trace) → Stands old h past None → length past < 2 ^ 64 - 2
-      → IfOk result (λ s. Stands new h (past_after past e s) (break_after s))
-  pub stays : (h : Header) (past : Trace) → Stands old h past None → OnErr result (Stands new h past None)
-  pub too_many : (h : Header) (past : Trace) → Stands old h past None → result ≡ Err TooManyLines
-      → (least_broken h past e ≡ None) × (goes_over past e ≡ true)
-  pub no_memory : (h : Header) (past : Trace) → Stands old h past None → result ≡ Err NoMemory → MayLackMemory h past e
-  pub broken : (h : Header) (past : Trace) (b : Break) → Stands old h past (Some b)
-      → (result ≡ Ok (Broken b.index b.rule)) × Stands new h past (Some b)
-  pub sound : (h : Header) (past : Trace) → Stands old h past None → result ≡ Ok Fine → IsSound h (e ∷ past)

@@ -58,7 +58,7 @@ impl Shares {
         if self.port_rule_of_half(half).is_some() {
             return false;
         }
-        self.system.keeps_barrier(half)
+        self.system.rule_of_half(half).is_none()
     }
 
     /// Takes an AR or AW that issues half of a barrier, with lock 0, and breaks no rule. If it isn't taken, nothing has changed.

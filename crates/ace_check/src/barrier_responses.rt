@@ -1,43 +1,12 @@
-//! The responses to barriers by the short ways: when half of one may be answered, and the B that answers one.
-
-ghost use Rattle.std.specs.Prelude.{◌≡◌, ℕ, true, Some};
-ghost use Rattle.ace_event.specs.declared.event.Channel.{Channel};
-ghost use Rattle.ace_model.specs.Barriers.{is_barrier_half};
-ghost use Rattle.ace_model.specs.OrderRules.{may_answer_half};
-ghost use Rattle.ace_model.specs.Transactions.{outstanding};
-ghost use Rattle.ace_portck.specs.Stands.{Stands as PortsTell};
-ghost use Rattle.ace_portck.specs.Targets.{Recording};
-ghost use Rattle.ace_sysck.specs.Stands.{Stands as SystemTells};
+//! The B of half of a barrier, taken by the short way.
 
 use crate::shares::Shares;
 use ace_event::Channel;
-use ace_model::Transaction;
+use ace_portck::event_kinds;
 use ace_portck::kinds::is_barrier_half;
-use ace_portck::{PortCheck, event_kinds};
-use ace_sysck::SysCheck;
-
-/// K34: the transaction may be answered, if it is half of a barrier (Arm IHI 0022E, C8).
-#[inline(always)]
-pub(crate) fn may_answer(ports: &PortCheck, system: &SysCheck, x: &Transaction) -> bool
-    ensures { (r : Recording) (port id : ℕ) (chan : Channel) → PortsTell ports.now r → SystemTells system.now r
-        → outstanding r.header r.past port chan id ≡ Some x.now → result ≡ may_answer_half r.past x.now }
-{
-    !is_barrier_half(x) || may_answer_half(ports, system, x)
-}
-
-/// The same, of half of a barrier. It stands apart in the program, since few transactions are.
-#[inline(never)]
-fn may_answer_half(ports: &PortCheck, system: &SysCheck, x: &Transaction) -> bool
-    ensures { (r : Recording) (port id : ℕ) (chan : Channel) → PortsTell ports.now r → SystemTells system.now r
-        → outstanding r.header r.past port chan id ≡ Some x.now → is_barrier_half x.now ≡ true → result ≡ may_answer_half r.past x.now }
-{
-    let unordered = ports.first_unordered(x.port);
-    let incomplete = ports.first_incomplete(x.port);
-    system.may_answer(x, unordered, incomplete)
-}
 
 impl Shares {
-    ghost use Rattle.std.specs.Prelude.{◌<◌, ◌-◌, ◌^◌, ◌∷◌, false, None, length};
+    ghost use Rattle.std.specs.Prelude.{◌≡◌, ◌<◌, ◌-◌, ◌^◌, ◌∷◌, true, false, None, length};
     ghost use Rattle.ace_event.specs.declared.event.Event.TheVariants.{B};
     ghost use Rattle.ace_event.specs.declared.header.Header.{Header};
     ghost use Rattle.ace_model.specs.Accepted.{least_broken};
@@ -65,7 +34,11 @@ impl Shares {
         if rule.is_some() {
             return false;
         }
-        if !may_answer_half(&self.ports, &self.system, &x.transaction) {
+        let half = &x.transaction;
+        let unordered = self.ports.first_unordered(half.port);
+        let incomplete = self.ports.first_incomplete(half.port);
+        let rule = self.system.rule_of_half_b(half, unordered, incomplete);
+        if rule.is_some() {
             return false;
         }
         self.system.complete_transaction(&x.transaction);

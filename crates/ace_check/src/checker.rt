@@ -1,9 +1,10 @@
+use crate::heard::Heard;
 use crate::plain::PlainKind;
 use crate::shares::Shares;
 use ace_event::laws::every_event_fits;
 use ace_event::{Event, Header, Line};
 use ace_model::Break;
-use ace_portck::{EventKind, Target, event_kinds};
+use ace_portck::{Target, event_kinds};
 use std::alloc::Global;
 use thiserror::Error;
 
@@ -84,7 +85,7 @@ impl Checker {
         if self.takes(event) {
             return Ok(Step::Fine);
         }
-        self.feed_generally(event)
+        self.answer(event)
     }
 
     /// Takes the next event of the trace, of fewer than 2^64 - 1, by the short way of its kind, where there is one for it and it breaks no rule:
@@ -158,22 +159,12 @@ impl Checker {
 }
 
 impl Checker {
-    ghost use Rattle.std.specs.Prelude.{◌≡◌, ◌<◌, ◌-◌, ◌^◌, ◌∷◌, ℕ, true, false, None, Some, Ok, Err, IfOk, OnOk, OnErr, length};
-    ghost use Rattle.ace_event.specs.declared.event.Event.{Event};
+    ghost use Rattle.std.specs.Prelude.{◌≡◌, ◌<◌, ◌-◌, ◌^◌, ◌∷◌, ℕ, true, false, None, Some, Ok, Err, IfOk, OnErr, length};
     ghost use Rattle.ace_event.specs.declared.header.Header.{Header};
     ghost use Rattle.ace_model.specs.declared.breaks.Break.{Break};
     ghost use Rattle.ace_model.specs.Trace.{Trace};
     ghost use Rattle.ace_model.specs.Accepted.{least_broken};
-    ghost use Rattle.ace_model.specs.Lines.{has_failed_on};
-    ghost use Rattle.ace_model.specs.Exclusives.{has_failed};
-    ghost use Rattle.ace_model.specs.Transactions.{outstanding};
-    ghost use Rattle.ace_model.specs.declared.transactions.Transaction.{Transaction};
-    ghost use Rattle.ace_portck.specs.Targets.{target_of};
-    ghost use Rattle.ace_lineck.specs.Kept.{IsFailure};
-    ghost use Rattle.ace_lineck.specs.Stands.{place_on};
-    ghost use Rattle.ace_event.specs.Range.{FitsFields};
-    ghost use Rattle.ace_check.specs.Run.{Stands, IsAnswer, IsSound, goes_over, past_after, break_after, MayLackMemory, Feeds};
-    ghost use Rattle.ace_check.specs.Shares.{MayTake};
+    ghost use Rattle.ace_check.specs.Run.{Stands, IsAnswer, IsSound, goes_over, past_after, break_after, MayLackMemory};
     ghost use Rattle.std.specs.Prelude.{Option};
 
     /// Takes the event by the short way, if no event broke a rule. If it isn't taken, nothing has changed.
@@ -197,96 +188,43 @@ impl Checker {
         true
     }
 
-    /// Looks at an event, as `feed` does, by the general way, which few events take.
+    /// Looks at an event, as `feed` does, that `takes` didn't take.
     #[cold]
     #[inline(never)]
-    fn feed_generally(&mut self, event: &Event) -> Result<Step, CheckErr>
-        ensures { Feeds self.old self.new event.now result }
-    {
-        match *event {
-            Event::Ar { .. } => self.feed_as::<event_kinds::Ar>(event),
-            Event::R { .. } => self.feed_as::<event_kinds::R>(event),
-            Event::Rk { .. } => self.feed_as::<event_kinds::Rk>(event),
-            Event::Aw { .. } => self.feed_as::<event_kinds::Aw>(event),
-            Event::W { .. } => self.feed_as::<event_kinds::W>(event),
-            Event::B { .. } => self.feed_as::<event_kinds::B>(event),
-            Event::Wk { .. } => self.feed_as::<event_kinds::Wk>(event),
-            Event::Ac { .. } => self.feed_as::<event_kinds::Ac>(event),
-            Event::Cr { .. } => self.feed_as::<event_kinds::Cr>(event),
-            Event::Cd { .. } => self.feed_as::<event_kinds::Cd>(event),
-            Event::G { .. } => self.feed_as::<event_kinds::G>(event),
-            Event::M { .. } => self.feed_as::<event_kinds::M>(event),
-            Event::L { .. } => self.feed_as::<event_kinds::L>(event),
-            Event::D { .. } => self.feed_as::<event_kinds::D>(event),
-            Event::S { .. } => self.feed_as::<event_kinds::S>(event),
-            Event::Op { .. } => self.feed_as::<event_kinds::Op>(event),
-            Event::Mem { .. } => self.feed_as::<Event>(event),
-        }
-    }
-
-    /// The same, by way of a value of the type that tells its kind.
-    #[inline(always)]
-    fn feed_as<E: EventKind + Drop>(&mut self, event: &Event) -> Result<Step, CheckErr>
-        ensures { Feeds self.old self.new event.now result }
-    {
-        match E::of(event) {
-            Some(kind) => self.feed_kind(&kind),
-            None => self.feed_kind(event),
-        }
-    }
-
-    /// The same, of an event whose kind its type tells.
-    #[inline(never)]
-    fn feed_kind<E: EventKind>(&mut self, event: &E) -> Result<Step, CheckErr>
-        ensures answer { (h : Header) (past : Trace) → Stands self.old h past None → IfOk result (IsAnswer h past (E.event event.now)) }
-        ensures stands { (h : Header) (past : Trace) → Stands self.old h past None → length past < 2 ^ 64 - 2
-            → IfOk result (λ s. Stands self.new h (past_after past (E.event event.now) s) (break_after s)) }
-        ensures stays { (h : Header) (past : Trace) → Stands self.old h past None → OnErr result (Stands self.new h past None) }
-        ensures too_many { (h : Header) (past : Trace) → Stands self.old h past None → result ≡ Err CheckErr.TooManyLines
-            → (least_broken h past (E.event event.now) ≡ None) × (goes_over past (E.event event.now) ≡ true) }
-        ensures no_memory { (h : Header) (past : Trace) → Stands self.old h past None → result ≡ Err CheckErr.NoMemory
-            → MayLackMemory h past (E.event event.now) }
+    fn answer(&mut self, event: &Event) -> Result<Step, CheckErr>
+        ensures answer { (h : Header) (past : Trace) → Stands self.old h past None
+            → IfOk result (IsAnswer h past event.now) }
+        ensures stands { (h : Header) (past : Trace) → Stands self.old h past None
+            → length past < 2 ^ 64 - 2
+            → IfOk result (λ s. Stands self.new h (past_after past event.now s) (break_after s)) }
+        ensures stays { (h : Header) (past : Trace) → Stands self.old h past None
+            → OnErr result (Stands self.new h past None) }
+        ensures too_many { (h : Header) (past : Trace) → Stands self.old h past None
+            → result ≡ Err CheckErr.TooManyLines
+            → (least_broken h past event.now ≡ None) × (goes_over past event.now ≡ true) }
+        ensures no_memory { (h : Header) (past : Trace) → Stands self.old h past None
+            → result ≡ Err CheckErr.NoMemory → MayLackMemory h past event.now }
         ensures broken { (h : Header) (past : Trace) (b : Break) → Stands self.old h past (Some b)
             → (result ≡ Ok (Step.Broken b.index b.rule)) × Stands self.new h past (Some b) }
-        ensures sound { (h : Header) (past : Trace) → Stands self.old h past None → result ≡ Ok Step.Fine → IsSound h ((E.event event.now) ∷ past) }
+        ensures sound { (h : Header) (past : Trace) → Stands self.old h past None
+            → result ≡ Ok Step.Fine → IsSound h (event.now ∷ past) }
     {
         if let Some(Break { index, rule }) = self.broken {
             return Ok(Step::Broken { index, rule });
         }
-        every_event_fits(event.event());
-        let target = self.shares.ports.target(event);
-        let place = self.shares.lines.place(target.line);
-        let failed = self.shares.has_failed(&target, place);
-        if let Some(rule) = self.shares.least_broken(event, &target, place, failed) {
-            let index = self.count.wrapping_add(1);
-            self.broken = Some(Break { index, rule });
-            return Ok(Step::Broken { index, rule });
+        every_event_fits(*event);
+        match self.shares.hear_event(event) {
+            Heard::Fine => {
+                self.count = self.count.wrapping_add(1);
+                Ok(Step::Fine)
+            }
+            Heard::Broken(rule) => {
+                let index = self.count.wrapping_add(1);
+                self.broken = Some(Break { index, rule });
+                Ok(Step::Broken { index, rule })
+            }
+            Heard::TooManyLines => Err(CheckErr::TooManyLines),
+            Heard::NoMemory => Err(CheckErr::NoMemory),
         }
-        if self.shares.goes_over(event, &target, place) {
-            return Err(CheckErr::TooManyLines);
-        }
-        self.take(event, &target, place)
-    }
-
-    /// Takes an event that breaks no rule, once there is room for it in each share.
-    fn take<E: EventKind>(
-        &mut self,
-        event: &E,
-        target: &Target,
-        place: Option<usize>,
-    ) -> Result<Step, CheckErr>
-        ensures fine { OnOk result (result ≡ Ok Step.Fine) }
-        ensures err { OnErr result (result ≡ Err CheckErr.NoMemory) }
-        ensures stands { (h : Header) (past : Trace) → Stands self.old h past None → MayTake self.old.shares h past (E.event event.now) target.now place
-            → FitsFields (E.event event.now) → length past < 2 ^ 64 - 2
-            → OnOk result (Stands self.new h ((E.event event.now) ∷ past) None) }
-        ensures stays { (h : Header) (past : Trace) → Stands self.old h past None → MayTake self.old.shares h past (E.event event.now) target.now place → OnErr result (Stands self.new h past None) }
-        ensures cause { (h : Header) (past : Trace) → MayTake self.old.shares h past (E.event event.now) target.now place → OnErr result (MayLackMemory h past (E.event event.now)) }
-    {
-        if self.shares.take(event, target, place).is_err() {
-            return Err(CheckErr::NoMemory);
-        }
-        self.count = self.count.wrapping_add(1);
-        Ok(Step::Fine)
     }
 }

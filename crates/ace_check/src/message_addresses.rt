@@ -36,10 +36,10 @@ impl Shares {
         if rule.is_some() {
             return false;
         }
-        if !self
+        let rule = self
             .system
-            .keeps_message(address.port, address.addr, address.dom, address.bar)
-        {
+            .rule_of_message_ar(address.port, address.addr, address.dom, address.bar);
+        if rule.is_some() {
             return false;
         }
         let place = self.ports.place();
@@ -70,7 +70,10 @@ impl Shares {
         if rule.is_some() {
             return false;
         }
-        if !self.system.keeps_completion(address.port, address.addr) {
+        let rule = self
+            .system
+            .rule_of_completion_ar(address.port, address.addr);
+        if rule.is_some() {
             return false;
         }
         self.ports.apply(address);

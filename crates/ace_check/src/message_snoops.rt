@@ -25,8 +25,8 @@ impl Shares {
         if rule.is_some() {
             return false;
         }
-        self.system
-            .keeps_message_snoop(snoop.port, snoop.addr, kind)
+        let rule = self.system.rule_of_ac(snoop.port, snoop.addr, kind);
+        rule.is_none()
     }
 
     /// Takes an AC of DVM that breaks no rule, if there is room for it. If it isn't taken, nothing has changed.

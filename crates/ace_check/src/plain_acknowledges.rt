@@ -19,8 +19,10 @@ impl Shares {
     /// Takes an RK of a read that is no exclusive store, if it breaks no rule. If it isn't taken, nothing has changed.
     #[inline(always)]
     fn take_read_end(&mut self, end: &event_kinds::Rk) -> bool
-        ensures taken { (h : Header) (past : Trace) → SharesTell self.old h past → length past < 2 ^ 64 - 1 → result ≡ true
-            → (least_broken h past (Rk end.now.port end.now.st) ≡ None) × SharesTell self.new h (Rk end.now.port end.now.st ∷ past) }
+        ensures taken { (h : Header) (past : Trace) → SharesTell self.old h past
+            → length past < 2 ^ 64 - 1 → result ≡ true
+            → (least_broken h past (Rk end.now.port end.now.st) ≡ None)
+            × SharesTell self.new h (Rk end.now.port end.now.st ∷ past) }
         ensures stays { result ≡ false → self.new ≡ self.old }
     {
         let Some(x) = self.ports.acknowledged(end.port, Channel::Read) else {
@@ -34,7 +36,10 @@ impl Shares {
         };
         let line = line_of_read(x, kind);
         let place = self.lines.place(line);
-        if !self.lines.keeps_read_end(x, kind, place, end.port, end.st) {
+        let rule = self
+            .lines
+            .rule_of_rk(x, kind, false, place, end.port, end.st);
+        if rule.is_some() {
             return false;
         }
         self.lines.hear_acknowledge(x, place, end.port, end.st);
@@ -46,8 +51,10 @@ impl Shares {
     /// Takes a WK that breaks no rule. If it isn't taken, nothing has changed.
     #[inline(always)]
     fn take_write_end(&mut self, end: &event_kinds::Wk) -> bool
-        ensures taken { (h : Header) (past : Trace) → SharesTell self.old h past → length past < 2 ^ 64 - 1 → result ≡ true
-            → (least_broken h past (Wk end.now.port end.now.st) ≡ None) × SharesTell self.new h (Wk end.now.port end.now.st ∷ past) }
+        ensures taken { (h : Header) (past : Trace) → SharesTell self.old h past
+            → length past < 2 ^ 64 - 1 → result ≡ true
+            → (least_broken h past (Wk end.now.port end.now.st) ≡ None)
+            × SharesTell self.new h (Wk end.now.port end.now.st ∷ past) }
         ensures stays { result ≡ false → self.new ≡ self.old }
     {
         let Some(x) = self.ports.acknowledged(end.port, Channel::Write) else {
@@ -58,7 +65,8 @@ impl Shares {
         };
         let line = line_of_write(x, kind);
         let place = self.lines.place(line);
-        if !self.lines.keeps_write_end(kind, place, end.port, end.st) {
+        let rule = self.lines.rule_of_wk(kind, place, end.port, end.st);
+        if rule.is_some() {
             return false;
         }
         self.lines.hear_acknowledge(x, place, end.port, end.st);

@@ -41,7 +41,10 @@ impl Shares {
             return false;
         }
         let place = self.lines.place(Some(address.addr));
-        if !self.lines.keeps_read_address(address.port, kind, place) {
+        if !self.lines.knows(place) {
+            return false;
+        }
+        if self.lines.rule_of_ar(address.port, kind, place).is_some() {
             return false;
         }
         self.ports.apply(address);

@@ -11,6 +11,7 @@ ghost use Rattle.ace_portck.specs.Plain.{plain_read};
 ghost use Rattle.ace_portck.specs.Stands.{Stands as PortsTell};
 ghost use Rattle.ace_portck.specs.Targets.{Recording, progress_of};
 ghost use Rattle.ace_lineck.specs.Stands.{Stands as LinesTell, place_on};
+ghost use Rattle.ace_sysck.specs.Stands.{Stands as SystemTells};
 ghost use Rattle.ace_check.specs.Run.{IsTaken};
 ghost use Rattle.ace_check.specs.Shares.{SharesTell};
 
@@ -21,19 +22,20 @@ use ace_event::Channel;
 use ace_lineck::LineCheck;
 use ace_portck::kinds::plain_read;
 use ace_portck::{PortCheck, Progress, event_kinds};
-use ace_sysck::keeps_plain_beat;
+use ace_sysck::SysCheck;
 
 /// The R of the plain read, whose line's record stands at the place, breaks no rule.
 #[inline(always)]
 fn keeps_beat(
     ports: &PortCheck,
     lines: &LineCheck,
+    system: &SysCheck,
     beat: &event_kinds::R,
     x: &Progress,
     kind: ArKind,
     place: Option<usize>,
 ) -> bool
-    ensures { (r : Recording) → PortsTell ports.now r → LinesTell lines.now r
+    ensures { (r : Recording) → PortsTell ports.now r → LinesTell lines.now r → SystemTells system.now r
         → option_map (progress_of r.header r.past) (outstanding r.header r.past beat.now.port Read beat.now.id) ≡ Some x.now
         → plain_read x.now.transaction ≡ Some kind → place ≡ place_on lines.now (Some x.now.transaction.addr)
         → result ≡ is_none (least_broken r.header r.past (R beat.now.port beat.now.id beat.now.resp beat.now.last beat.now.word)) }
@@ -42,10 +44,12 @@ fn keeps_beat(
     if rule.is_some() {
         return false;
     }
-    if !keeps_plain_beat(&x.transaction, beat.resp) {
+    if system.rule_of_r(&x.transaction, beat.resp).is_some() {
         return false;
     }
-    lines.keeps_beat(x, kind, place, beat.resp, beat.word)
+    lines
+        .rule_of_r(x, kind, false, place, beat.resp, beat.word)
+        .is_none()
 }
 
 impl Shares {
@@ -64,7 +68,7 @@ impl Shares {
             return false;
         };
         let place = self.lines.place(Some(x.transaction.addr));
-        if !keeps_beat(&self.ports, &self.lines, beat, x, kind, place) {
+        if !keeps_beat(&self.ports, &self.lines, &self.system, beat, x, kind, place) {
             return false;
         }
         self.lines.hear_beat(x, kind, place, beat.last);

@@ -18,7 +18,8 @@ impl Shares {
     /// taken, nothing has changed.
     #[inline(always)]
     fn take_grant(&mut self, grant: &event_kinds::G) -> bool
-        ensures taken { (h : Header) (past : Trace) → SharesTell self.old h past → length past < 2 ^ 64 - 1 → result ≡ true
+        ensures taken { (h : Header) (past : Trace) → SharesTell self.old h past
+            → length past < 2 ^ 64 - 1 → result ≡ true
             → (least_broken h past (G grant.now.port grant.now.chan grant.now.id) ≡ None)
             × SharesTell self.new h (G grant.now.port grant.now.chan grant.now.id ∷ past) }
         ensures stays { result ≡ false → self.new ≡ self.old }
@@ -28,10 +29,10 @@ impl Shares {
         };
         let x = progress.transaction;
         let place = self.lines.place(Some(x.addr));
-        if !self.lines.keeps_grant(&x, place) {
+        if self.lines.rule_of_g(&x, place).is_some() {
             return false;
         }
-        if !self.system.keeps_grant(&x) {
+        if self.system.rule_of_g(&x).is_some() {
             return false;
         }
         if !self.system.hear_grant(&progress.transaction) {

@@ -22,7 +22,8 @@ impl Shares {
     /// A memory update of the port on the line is outstanding, if there is a line.
     #[inline(always)]
     fn has_update(&self, port: u8, line: Option<u32>) -> bool
-        ensures { (h : Header) (past : Trace) (l : ℕ) → SharesTell self.now h past → line ≡ Some l → result ≡ has_update h past port l }
+        ensures { (h : Header) (past : Trace) (l : ℕ) → SharesTell self.now h past
+            → line ≡ Some l → result ≡ has_update h past port l }
     {
         match line {
             None => false,
@@ -39,20 +40,26 @@ impl Shares {
         line: Option<u32>,
         place: Option<usize>,
     ) -> bool
-        ensures { (h : Header) (past : Trace) (x : Snoop) → SharesTell self.now h past → IsAnswered past answer.now.port x kind → line ≡ line_of_snoop (Some x)
-            → place ≡ place_on self.now.lines line → result ≡ is_none (least_broken h past (Cr answer.now.port answer.now.resp answer.now.st)) }
+        ensures { (h : Header) (past : Trace) (x : Snoop) → SharesTell self.now h past
+            → IsAnswered past answer.now.port x kind → line ≡ line_of_snoop (Some x)
+            → place ≡ place_on self.now.lines line
+            → result
+            ≡ is_none (least_broken h past (Cr answer.now.port answer.now.resp answer.now.st)) }
     {
         if self.ports.rule_of_cr(answer.port, answer.resp).is_some() {
             return false;
         }
         let update = self.has_update(answer.port, line);
-        self.lines.keeps_snoop_answer(answer, kind, place, update)
+        self.lines
+            .rule_of_cr(answer.port, answer.resp, answer.st, kind, place, update)
+            .is_none()
     }
 
     /// Takes a CR that answers a snoop and breaks no rule. If it isn't taken, nothing has changed.
     #[inline(always)]
     fn take_snoop_answer(&mut self, answer: &event_kinds::Cr) -> bool
-        ensures taken { (h : Header) (past : Trace) → SharesTell self.old h past → length past < 2 ^ 64 - 1 → result ≡ true
+        ensures taken { (h : Header) (past : Trace) → SharesTell self.old h past
+            → length past < 2 ^ 64 - 1 → result ≡ true
             → (least_broken h past (Cr answer.now.port answer.now.resp answer.now.st) ≡ None)
             × SharesTell self.new h (Cr answer.now.port answer.now.resp answer.now.st ∷ past) }
         ensures stays { result ≡ false → self.new ≡ self.old }

@@ -22,7 +22,8 @@ impl Shares {
     /// looked up.
     #[inline(always)]
     fn has_failed_exclusively(&self, place: Option<usize>) -> bool
-        ensures { (h : Header) (past : Trace) (line : ℕ) → SharesTell self.now h past → place ≡ place_on self.now.lines (Some line)
+        ensures { (h : Header) (past : Trace) (line : ℕ) → SharesTell self.now h past
+            → place ≡ place_on self.now.lines (Some line)
             → result ≡ has_failed_on h past line }
     {
         self.lines.is_granted_exclusively(place) && self.has_failed_at(place)
@@ -31,28 +32,35 @@ impl Shares {
     /// The line snoop, whose line's record stands at the place, breaks no rule.
     #[inline(always)]
     fn keeps_snoop(&self, snoop: &event_kinds::Ac, place: Option<usize>) -> bool
-        ensures { (h : Header) (past : Trace) → SharesTell self.now h past → snoops_a_line snoop.now.snoop ≡ true
+        ensures { (h : Header) (past : Trace) → SharesTell self.now h past
+            → snoops_a_line snoop.now.snoop ≡ true
             → place ≡ place_on self.now.lines (Some snoop.now.addr)
-            → result ≡ is_none (least_broken h past (Ac snoop.now.port snoop.now.addr snoop.now.snoop)) }
+            → result
+            ≡ is_none (least_broken h past (Ac snoop.now.port snoop.now.addr snoop.now.snoop)) }
     {
-        let kind = read_ac(snoop.snoop);
-        let rule = self.ports.rule_of_ac(snoop.port, snoop.addr, kind);
+        let Some(kind) = read_ac(snoop.snoop) else {
+            return false;
+        };
+        let rule = self.ports.rule_of_ac(snoop.port, snoop.addr, Some(kind));
         if rule.is_some() {
             return false;
         }
-        if !self.system.keeps_line_snoop(snoop.port) {
+        let rule = self.system.rule_of_ac(snoop.port, snoop.addr, kind);
+        if rule.is_some() {
             return false;
         }
         let owes = self.ports.owes_wack(snoop.port, snoop.addr);
         let failed = self.has_failed_exclusively(place);
         self.lines
-            .keeps_line_snoop(place, snoop.port, snoop.snoop, owes, failed)
+            .rule_of_ac(place, snoop.port, snoop.snoop, owes, failed)
+            .is_none()
     }
 
     /// Takes an AC that snoops a line, if it breaks no rule and there is room for it. If it isn't taken, nothing has changed.
     #[inline(always)]
     fn take_snoop(&mut self, snoop: &event_kinds::Ac) -> bool
-        ensures taken { (h : Header) (past : Trace) → SharesTell self.old h past → length past < 2 ^ 64 - 1 → result ≡ true
+        ensures taken { (h : Header) (past : Trace) → SharesTell self.old h past
+            → length past < 2 ^ 64 - 1 → result ≡ true
             → (least_broken h past (Ac snoop.now.port snoop.now.addr snoop.now.snoop) ≡ None)
             × SharesTell self.new h (Ac snoop.now.port snoop.now.addr snoop.now.snoop ∷ past) }
         ensures stays { result ≡ false → self.new ≡ self.old }

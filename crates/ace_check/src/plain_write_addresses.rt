@@ -33,7 +33,10 @@ impl Shares {
             return false;
         }
         let place = self.lines.place(Some(address.addr));
-        if !self.lines.keeps_write_address(address.port, kind, place) {
+        if !self.lines.knows(place) {
+            return false;
+        }
+        if self.lines.rule_of_aw(address.port, kind, place).is_some() {
             return false;
         }
         self.ports.apply(address);

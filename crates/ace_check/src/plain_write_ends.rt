@@ -3,7 +3,6 @@
 use crate::plain::PlainKind;
 use crate::shares::Shares;
 use ace_event::Channel;
-use ace_lineck::keeps_written_response;
 use ace_portck::{event_kinds, line_write};
 
 impl Shares {
@@ -18,7 +17,8 @@ impl Shares {
     /// Takes a B of a line write that breaks no rule. If it isn't taken, nothing has changed.
     #[inline(always)]
     fn take_response(&mut self, response: &event_kinds::B) -> bool
-        ensures taken { (h : Header) (past : Trace) → SharesTell self.old h past → length past < 2 ^ 64 - 1 → result ≡ true
+        ensures taken { (h : Header) (past : Trace) → SharesTell self.old h past
+            → length past < 2 ^ 64 - 1 → result ≡ true
             → (least_broken h past (B response.now.port response.now.id response.now.resp) ≡ None)
             × SharesTell self.new h (B response.now.port response.now.id response.now.resp ∷ past) }
         ensures stays { result ≡ false → self.new ≡ self.old }
@@ -36,7 +36,7 @@ impl Shares {
         if rule.is_some() {
             return false;
         }
-        if !keeps_written_response(x, kind) {
+        if self.lines.rule_of_b(x, kind).is_some() {
             return false;
         }
         self.lines.hear_response(x);

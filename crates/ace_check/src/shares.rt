@@ -88,9 +88,7 @@ impl Shares {
     pub fn hear(&mut self, event: &Event)
         ensures { (h : Header) (past : Trace) → SharesStand self.old h past → MayHear h past event.now → SharesStand self.new h (event.now ∷ past) }
     {
-        let target = self.ports.target(event);
-        let place = self.lines.place(target.line);
-        let _taken = self.take(event, &target, place);
+        let _heard = self.hear_event(event);
     }
 
     /// What is kept of each port.

@@ -27,6 +27,8 @@ pub mod ReplyLaws
 pub mod WriteLaws
 -- What the interconnect looks up of a line.
 pub mod LineLooks
+-- Which rule is told, where one is asked by itself, and where two are asked in order.
+pub mod Asked
 -- The least rule that an event breaks.
 pub mod Judging
 -- What the short ways of the checker ask and leave.

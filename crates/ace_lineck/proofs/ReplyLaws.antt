@@ -223,7 +223,7 @@ module _ (h : Header) (past : Trace) (t : Target) (x : LineRecord) (p : ℕ) (st
   passes-first (Some r) = refl
 
   -- an exclusive store has a line
-  failed-line : (y : Transaction) → is_line y ≡ false → has_failed past y ≡ false
+  pub failed-line : (y : Transaction) → is_line y ≡ false → has_failed past y ≡ false
   failed-line y n =
       false_from_ne_true (has_failed past y) (λ fails.
       let store = (and_parts (is_exclusive_store y) _ fails).0 in

@@ -151,7 +151,7 @@ rows-apart : (o : Option SnoopKind) (held other : LineState) (update also : Bool
 rows-apart None held other update also resp st f = refl
 rows-apart (Some k) held other update also resp st f = row-apart k held other update also resp st f
 
-implies-true : (b c : Bool) → c ≡ true → implies b c ≡ true
+pub implies-true : (b c : Bool) → c ≡ true → implies b c ≡ true
 implies-true true c e = e
 implies-true false c e = refl
 

@@ -6,8 +6,8 @@ pub mod PlainEvents
 -- What a G grants, by what is kept of the line.
 pub mod PlainGrants
 -- What an M asks of its line, and what it leaves.
-pub mod PlainMemoryWrites
--- The transfers of plain reads: what their rules say, and what they leave.
+pub mod MemoryWrites
+-- The transfers of reads: the least rule that they break, and what they leave.
 pub mod BeatLaws
 pub mod LinelessBeats
 pub mod MessageAddresses
@@ -16,14 +16,14 @@ pub mod BarrierAddresses
 -- The ACs of DVM.
 pub mod MessageSnoops
 pub mod BeatSteps
--- What the AR of a plain read asks of its line, which it leaves as it is.
+-- What the AR of a line read asks of its line, which it leaves as it is where the line is known.
 pub mod PlainAddresses
 pub mod PlainWriteAddresses
 -- What an S asks of its line, and what it leaves of it.
 pub mod PlainSilentChanges
 -- A CR: what is asked of it, and what it leaves of the line of its snoop.
 pub mod SnoopAnswers
--- A B of a line write: what it asks of its line, and what it leaves.
+-- A B: what it asks of its write, and what that of a line write leaves.
 pub mod WriteEnds
 pub mod BarrierResponses
 -- A D: what it asks of its line, and what it leaves.

@@ -1,8 +1,6 @@
 -- Line snoops: K13, and what they leave.
-use Rattle.std.proofs.Common.{◌≡◌, ℕ, true, false, Bool, not, ◌&&◌, if◌then◌else◌, ◌∷◌, Option, Some, None, is_none, refl, sym, ap, ◌∙◌}
+use Rattle.std.proofs.Common.{◌≡◌, ℕ, true, false, Bool, not, ◌&&◌, ◌∷◌, Option, Some, refl, sym, ap, ◌∙◌}
 use Rattle.std.proofs.lemmas.Bool.{eq-eqb}
-use Rattle.ace_model.specs.Accepted.{least_of}
-use Rattle.ace_model.specs.Shares.{line_rules}
 use Rattle.ace_model.specs.SnoopRules.{may_snoop}
 use Rattle.ace_model.specs.States.{owes_wack}
 use Rattle.ace_model.proofs.Terms.{Header, Trace, Ac, IsAccepted, implies, is_some_and, has_failed, has_failed_on, k13, snoops_a_line}
@@ -15,25 +13,26 @@ use Rattle.ace_lineck.specs.declared.lines.LineCheck.{LineCheck}
 use Rattle.ace_lineck.specs.declared.record.LineRecord.{LineRecord}
 use Rattle.ace_lineck.specs.declared.record.Use.{Use}
 use Rattle.ace_lineck.specs.declared.record.Use.TheVariants.{Unknown, Shareable, NoSnoop}
-use Rattle.ace_lineck.specs.PlainSnoops.{HearsSnoop}
+use Rattle.ace_lineck.specs.Snoops.{HearsSnoop}
 use Rattle.ace_lineck.specs.Records.{LineStands}
 use Rattle.ace_lineck.specs.Stands.{MayApply, place_on}
 use Rattle.ace_lineck.specs.Uses.{is_unknown}
 
-turned : (owes may k : Bool) → k ≡ (may && not owes) → (not owes && may) ≡ is_none {T = ℕ} (if k then None else Some 13)
-turned true true k is = rw is refl
-turned true false k is = rw is refl
-turned false true k is = rw is refl
-turned false false k is = rw is refl
+turned : (owes may : Bool) → (not owes && may) ≡ (may && not owes)
+turned true true = refl
+turned true false = refl
+turned false true = refl
+turned false false = refl
 
+-- K13, in the words of what is kept of the grant of the line
 pub line_snoop-law : (h : Header) (past : Trace) → IsAccepted h past → (addr p snoop : ℕ) (owes failed : Bool) (g : Option Grant) → snoops_a_line snoop ≡ true
     → owes ≡ owes_wack h past p addr → failed ≡ has_failed_on h past addr → GrantStands h past addr g
-    → (not owes && may_be_snooped failed g p snoop) ≡ is_none (least_of line_rules h past (Ac p addr snoop))
+    → (not owes && may_be_snooped failed g p snoop) ≡ k13 h past (Ac p addr snoop)
 line_snoop-law h past a addr p snoop owes failed g line is fails f =
     let may = snooped-law h past a addr p snoop failed g (λ y there. fails ∙ ap (λ o. is_some_and o (has_failed past)) there) f in
     let rule : k13 h past (Ac p addr snoop) ≡ (may_be_snooped failed g p snoop && not owes) =
     ap (λ b. implies b (may_snoop h past p addr snoop)) line ∙ ap (λ b. b && not (owes_wack h past p addr)) (sym may) ∙ ap (λ b. may_be_snooped failed g p snoop && not b) (sym is) in
-    turned owes (may_be_snooped failed g p snoop) (k13 h past (Ac p addr snoop)) rule
+    turned owes (may_be_snooped failed g p snoop) ∙ sym rule
 
 -- the line of a line snoop
 pub snoop_line : (h : Header) (past : Trace) (p addr snoop : ℕ) → snoops_a_line snoop ≡ true → line_in h past (Ac p addr snoop) ≡ Some addr

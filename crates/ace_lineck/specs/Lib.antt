@@ -6,6 +6,6 @@ pub mod Records
 pub mod Kept
 pub mod Stands
 pub mod Beats
-pub mod PlainSnoops
+pub mod Snoops
 pub mod Acknowledges
-pub mod PlainMemoryWrites
+pub mod MemoryRules

@@ -1,9 +1,11 @@
 -- What the short ways of the checker ask of what is kept of the system, and what an event of each kind leaves of it.
-pub mod PlainGrants
--- What an answer to a plain transaction leaves, and the rules that look at it.
+pub mod Grants
+-- What an answer to a plain transaction leaves.
 pub mod PlainAnswers
-pub mod BarrierResponses
-pub mod SnoopLaws
+-- Which rules an R or B may break, and what the completion of a transaction leaves.
+pub mod Responses
+-- What a line snoop leaves.
+pub mod LineSnoops
 -- What an AC of DVM asks and leaves.
 pub mod MessageSnoops
 -- What an RK or WK moves.
@@ -17,5 +19,3 @@ pub mod BarrierAddresses
 pub mod PlainWriteAddresses
 -- What a CR leaves.
 pub mod SnoopAnswers
--- Which rules of the share look at a D.
-pub mod Stores

@@ -213,19 +213,6 @@ impl Inboxes {
         Ok(Inboxes { ports: all })
     }
 
-    /// The part that is forwarded to the port next.
-    pub(crate) fn next_of(&self, port: u8) -> Option<Part>
-        ensures { result ≡ next_in (slice_get self.now.ports.items port) }
-    {
-        match self.ports.get(port as usize) {
-            None => None,
-            Some(inbox) => match inbox.parts.get(inbox.forwarded) {
-                None => None,
-                Some(part) => Some(*part),
-            },
-        }
-    }
-
     /// The message that the inbox of the port has next.
     fn message_of(&self, port: u8) -> Option<Message>
         ensures { result ≡ message_of (slice_get self.now.ports.items port) }
@@ -238,7 +225,8 @@ impl Inboxes {
 
     /// The message that is forwarded to the port next, which is an ACE port, from its next part on.
     pub fn next_message(&self, port: u8) -> Option<Message>
-        ensures { (r : Recording) → InboxesStand r self.now → is_ace r.header port ≡ true → result ≡ next_message r.past port }
+        ensures { (r : Recording) → InboxesStand r self.now → is_ace r.header port ≡ true
+            → result ≡ next_message r.past port }
     {
         self.message_of(port)
     }
@@ -266,7 +254,8 @@ impl Inboxes {
 
     /// K36: an AC DVM Message forwards the next part, and no other AC comes before a second part.
     pub fn keeps_k36(&self, event: &Event) -> bool
-        ensures { (r : Recording) (t : Target) → MayAskInboxes r self.now event.now t → result ≡ k36 r.header r.past event.now }
+        ensures { (r : Recording) (t : Target) → MayAskInboxes r self.now event.now t
+            → result ≡ k36 r.header r.past event.now }
     {
         match *event {
             Event::Ac { port, addr, snoop } => match read_ac(snoop) {
@@ -279,7 +268,9 @@ impl Inboxes {
 
     /// Every other ACE port has answered the part, which doesn't wait for its second.
     pub fn is_answered_by_all(&self, header: &Header, x: &Transaction, waiting: bool) -> bool
-        ensures { result ≡ list_all (λ q. implies (is_other_ace header.now x.now.port q) (not (waiting || awaits self.now q x.now.place))) (ports_below header.now.ports) }
+        ensures { result
+            ≡ list_all (λ q. implies (is_other_ace header.now x.now.port q)
+            (not (waiting || awaits self.now q x.now.place))) (ports_below header.now.ports) }
     {
         let mut all = true;
         for q in 0..header.ports {
@@ -365,7 +356,8 @@ impl Inboxes {
     /// The inboxes after the event. The messages are those before it.
     #[inline(always)]
     pub fn hear(&mut self, event: &Event, target: &Target, messages: &Messages)
-        ensures { (r : Recording) → MayHearInboxes r self.old event.now target.now messages.now → InboxesStand (after r event.now) self.new }
+        ensures { (r : Recording) → MayHearInboxes r self.old event.now target.now messages.now
+            → InboxesStand (after r event.now) self.new }
     {
         if let Some(x) = begun_in(event, target) {
             if is_message_part(&x) {

@@ -12,7 +12,8 @@ use ace_portck::event_kinds;
 /// The read that an AR issues, with `place` events before it.
 #[inline(always)]
 fn read_of(place: usize, address: &event_kinds::Ar) -> Transaction
-    ensures { issued place (Ar address.now.port address.now.id address.now.addr address.now.snoop address.now.dom address.now.bar address.now.lock) ≡ Some result }
+    ensures { issued place (Ar address.now.port address.now.id address.now.addr address.now.snoop
+        address.now.dom address.now.bar address.now.lock) ≡ Some result }
 {
     Transaction {
         place,
@@ -28,32 +29,43 @@ fn read_of(place: usize, address: &event_kinds::Ar) -> Transaction
 }
 
 impl SysCheck {
-    ghost use Rattle.std.specs.Prelude.{◌≡◌, ◌<◌, ◌-◌, ◌^◌, ℕ, Bool, true, None, is_none, length};
+    ghost use Rattle.std.specs.Prelude.{◌≡◌, ◌<◌, ◌-◌, ◌^◌, ℕ, Bool, true, None, Some, length};
+    ghost use Rattle.ace_codes.specs.Reads.{ar_kind_of};
+    ghost use Rattle.ace_codes.specs.declared.kind.ArKind.TheVariants.{DvmMessage, DvmComplete};
     ghost use Rattle.ace_event.specs.declared.event.Event.TheVariants.{Ar};
     ghost use Rattle.ace_model.specs.Accepted.{least_broken, least_of};
+    ghost use Rattle.ace_model.specs.AddressRules.{k1};
     ghost use Rattle.ace_model.specs.Shares.{system_rules};
     ghost use Rattle.ace_portck.specs.DvmReads.{is_completion, is_message};
     ghost use Rattle.ace_portck.specs.Targets.{Recording, after};
     ghost use Rattle.ace_sysck.specs.Stands.{Stands};
 
-    /// An AR of a DVM Message with lock 0, of a port of the header, keeps the rules of the share: it may follow what the port has issued
-    /// of messages (K9).
+    /// The least rule of the share that an AR of a DVM Message breaks: K9, where it may not follow what the port has issued of messages.
     #[inline(always)]
-    pub fn keeps_message(&self, port: u8, addr: u32, dom: u8, bar: u8) -> bool
-        ensures { (r : Recording) (id snoop : ℕ) (lock : Bool) → Stands self.now r → is_message snoop dom bar lock ≡ true
-            → port < r.header.ports → result ≡ is_none (least_of system_rules r.header r.past (Ar port id addr snoop dom bar lock)) }
+    pub fn rule_of_message_ar(&self, port: u8, addr: u32, dom: u8, bar: u8) -> Option<u8>
+        ensures { (r : Recording) (id snoop : ℕ) (lock : Bool) → Stands self.now r
+            → ar_kind_of snoop dom bar ≡ Some DvmMessage
+            → k1 r.header r.past (Ar port id addr snoop dom bar lock) ≡ true
+            → result ≡ least_of system_rules r.header r.past (Ar port id addr snoop dom bar lock) }
     {
-        self.messages.lets_begin(port, addr, dom, bar)
+        if self.messages.lets_begin(port, addr, dom, bar) {
+            None
+        } else {
+            Some(9)
+        }
     }
 
     /// Takes an AR of a DVM Message with lock 0 that breaks no rule, with `place` events before it. Where it ends a message, the inbox of
     /// every other port has room for that.
     pub fn begin_message(&mut self, address: &event_kinds::Ar, place: usize)
-        ensures { (r : Recording) → Stands self.old r → is_message address.now.snoop address.now.dom address.now.bar address.now.lock ≡ true
+        ensures { (r : Recording) → Stands self.old r
+            → is_message address.now.snoop address.now.dom address.now.bar address.now.lock ≡ true
             → place ≡ length r.past
-            → least_broken r.header r.past (Ar address.now.port address.now.id address.now.addr address.now.snoop address.now.dom address.now.bar address.now.lock) ≡ None
+            → least_broken r.header r.past (Ar address.now.port address.now.id address.now.addr
+            address.now.snoop address.now.dom address.now.bar address.now.lock) ≡ None
             → length r.past < 2 ^ 64 - 1
-            → Stands self.new (after r (Ar address.now.port address.now.id address.now.addr address.now.snoop address.now.dom address.now.bar address.now.lock)) }
+            → Stands self.new (after r (Ar address.now.port address.now.id address.now.addr
+            address.now.snoop address.now.dom address.now.bar address.now.lock)) }
     {
         let part = read_of(place, address);
         let kept = self.messages.of(part.port);
@@ -63,21 +75,32 @@ impl SysCheck {
         self.messages.issue(part);
     }
 
-    /// An AR of a DVM Complete with lock 0, of a port of the header, keeps the rules of the share: the address is 0 (K9), and the port has
-    /// answered more Syncs than it has issued DVM Completes (K38).
+    /// The least rule of the share that an AR of a DVM Complete breaks: K9, where the address isn't 0, or K38, where the port has answered
+    /// no more Syncs than it has issued DVM Completes.
     #[inline(always)]
-    pub fn keeps_completion(&self, port: u8, addr: u32) -> bool
-        ensures { (r : Recording) (id snoop dom bar : ℕ) (lock : Bool) → Stands self.now r → is_completion snoop dom bar lock ≡ true
-            → port < r.header.ports → result ≡ is_none (least_of system_rules r.header r.past (Ar port id addr snoop dom bar lock)) }
+    pub fn rule_of_completion_ar(&self, port: u8, addr: u32) -> Option<u8>
+        ensures { (r : Recording) (id snoop dom bar : ℕ) (lock : Bool) → Stands self.now r
+            → ar_kind_of snoop dom bar ≡ Some DvmComplete
+            → k1 r.header r.past (Ar port id addr snoop dom bar lock) ≡ true
+            → result ≡ least_of system_rules r.header r.past (Ar port id addr snoop dom bar lock) }
     {
-        addr == 0 && self.syncs.owes_completion(port)
+        if addr != 0 {
+            return Some(9);
+        }
+        if self.syncs.owes_completion(port) {
+            None
+        } else {
+            Some(38)
+        }
     }
 
     /// Takes an AR of a DVM Complete with lock 0 that breaks no rule.
     #[inline(always)]
     pub fn begin_completion(&mut self, port: u8, id: u8)
-        ensures { (r : Recording) (addr snoop dom bar : ℕ) (lock : Bool) → Stands self.old r → is_completion snoop dom bar lock ≡ true
-            → least_broken r.header r.past (Ar port id addr snoop dom bar lock) ≡ None → length r.past < 2 ^ 64 - 1
+        ensures { (r : Recording) (addr snoop dom bar : ℕ) (lock : Bool) → Stands self.old r
+            → is_completion snoop dom bar lock ≡ true
+            → least_broken r.header r.past (Ar port id addr snoop dom bar lock) ≡ None
+            → length r.past < 2 ^ 64 - 1
             → Stands self.new (after r (Ar port id addr snoop dom bar lock)) }
     {
         self.results.begin(port, id);

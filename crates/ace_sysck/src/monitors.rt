@@ -47,12 +47,15 @@ impl Monitors {
     ghost use Rattle.ace_event.specs.declared.header.Header.{Header};
     ghost use Rattle.ace_model.specs.Accepted.{IsAccepted};
     ghost use Rattle.ace_model.specs.CacheRules.{k33};
+    ghost use Rattle.ace_model.specs.Monitors.{is_monitored};
+    ghost use Rattle.ace_model.specs.Trace.{implies};
     ghost use Rattle.ace_portck.specs.Targets.{Recording, after};
     ghost use Rattle.ace_sysck.specs.Monitors.{MonitorsStand, MayHearMonitors, kept_after};
 
     /// The monitors of the empty trace, of so many ports.
     pub fn new(alloc: Global, ports: u8) -> Result<Monitors, AllocError>
-        ensures { IfOk result (λ s. (h : Header) → h.ports ≡ ports → MonitorsStand (record { header = h; past = [] }) s) }
+        ensures { IfOk result (λ s. (h : Header) → h.ports ≡ ports
+            → MonitorsStand (record { header = h; past = [] }) s) }
     {
         let mut lines = Vec::new(alloc);
         for _port in 0..ports {
@@ -83,12 +86,22 @@ impl Monitors {
         }
     }
 
+    /// K33, of a D: with x 1 the monitor of its port is set for the line.
+    #[inline(always)]
+    pub(crate) fn lets_store(&self, port: u8, addr: u32, x: bool) -> bool
+        ensures { (r : Recording) → MonitorsStand r self.now
+            → result ≡ implies x (is_monitored r.header r.past port addr) }
+    {
+        !x || self.line_of(port) == Some(addr)
+    }
+
     /// K33: at a D with x 1 the monitor of the port is set for the line.
     pub fn keeps_k33(&self, event: &Event) -> bool
-        ensures { (r : Recording) → MonitorsStand r self.now → result ≡ k33 r.header r.past event.now }
+        ensures { (r : Recording) → MonitorsStand r self.now
+            → result ≡ k33 r.header r.past event.now }
     {
         match *event {
-            Event::D { port, addr, x, .. } => !x || self.line_of(port) == Some(addr),
+            Event::D { port, addr, x, .. } => self.lets_store(port, addr, x),
             _ => true,
         }
     }
@@ -96,7 +109,9 @@ impl Monitors {
     /// The port is left in this state of the line.
     #[inline(always)]
     pub fn leave(&mut self, port: u8, line: Option<u32>, state: LineState)
-        ensures { self.new.lines.items ≡ slice_set self.old.lines.items port (kept_after (slice_index_or self.old.lines.items port None) line state) }
+        ensures { self.new.lines.items
+            ≡ slice_set self.old.lines.items port
+            (kept_after (slice_index_or self.old.lines.items port None) line state) }
     {
         let kept = kept_after(self.line_of(port), line, state);
         self.set(port, kept);
@@ -105,7 +120,8 @@ impl Monitors {
     /// The monitors after an L: where it is exclusive, that of its port is set for the line.
     #[inline(always)]
     pub fn load(&mut self, port: u8, addr: u32, x: bool)
-        ensures { (r : Recording) (w word : ℕ) → IsAccepted r.header (L port addr w x word ∷ r.past) → MonitorsStand r self.old
+        ensures { (r : Recording) (w word : ℕ) → IsAccepted r.header (L port addr w x word ∷ r.past)
+            → MonitorsStand r self.old
             → MonitorsStand (after r (L port addr w x word)) self.new }
     {
         if x {
@@ -116,7 +132,8 @@ impl Monitors {
     /// The monitors after a D: where it is exclusive, that of its port is no longer set.
     #[inline(always)]
     pub fn store(&mut self, port: u8, x: bool)
-        ensures { (r : Recording) (addr strobe : ℕ) (line : Line) → IsAccepted r.header (D port addr strobe x line ∷ r.past) → MonitorsStand r self.old
+        ensures { (r : Recording) (addr strobe : ℕ) (line : Line)
+            → IsAccepted r.header (D port addr strobe x line ∷ r.past) → MonitorsStand r self.old
             → MonitorsStand (after r (D port addr strobe x line)) self.new }
     {
         if x {
@@ -127,7 +144,8 @@ impl Monitors {
     /// The monitors after the event.
     #[inline(always)]
     pub fn hear(&mut self, event: &Event, target: &Target)
-        ensures { (r : Recording) → MayHearMonitors r self.old event.now target.now → MonitorsStand (after r event.now) self.new }
+        ensures { (r : Recording) → MayHearMonitors r self.old event.now target.now
+            → MonitorsStand (after r event.now) self.new }
     {
         match *event {
             Event::L { port, addr, x, .. } => self.load(port, addr, x),

@@ -89,21 +89,34 @@ impl SysCheck {
         ensures registrations { IfOk result (λ s. s.registrations ≡ registrations) }
     {
         let Ok(barriers) = Barriers::new(alloc, header.ports) else {
+            drop(registrations);
             return Err(NoMemory);
         };
         let Ok(monitors) = Monitors::new(alloc, header.ports) else {
+            drop((registrations, barriers));
             return Err(NoMemory);
         };
         let Ok(results) = Results::new(alloc, header.ports) else {
+            drop((registrations, barriers, monitors));
             return Err(NoMemory);
         };
         let Ok(messages) = Messages::new(alloc, header.ports) else {
+            drop((registrations, barriers, monitors, results));
             return Err(NoMemory);
         };
         let Ok(inboxes) = Inboxes::new(alloc, &header) else {
+            drop((registrations, barriers, monitors, results, messages));
             return Err(NoMemory);
         };
         let Ok(syncs) = Syncs::new(alloc, header.ports) else {
+            drop((
+                registrations,
+                barriers,
+                monitors,
+                results,
+                messages,
+                inboxes,
+            ));
             return Err(NoMemory);
         };
         Ok(SysCheck {

@@ -1,6 +1,5 @@
 -- The AR of a DVM Message or a DVM Complete: it breaks no rule where it breaks none of the ports and none of the system, and names no line.
-use Rattle.std.proofs.Common.{◌≡◌, ◌<◌, ℕ, Bool, true, false, nat_lt, length, None, is_none, refl, sym}
-use Rattle.std.proofs.lemmas.Bool.{and_parts, ltb-true}
+use Rattle.std.proofs.Common.{◌≡◌, ℕ, Bool, true, false, length, None, is_none, refl, sym}
 use Rattle.ace_event.specs.declared.event.Event.TheVariants.{Ar}
 use Rattle.ace_event.specs.declared.header.Header.{Header}
 use Rattle.ace_model.specs.Accepted.{least_broken, least_of}
@@ -10,14 +9,10 @@ use Rattle.ace_portck.specs.DvmReads.{is_dvm_address}
 use Rattle.ace_portck.proofs.ShortWays.DvmReads.{dvm_address-no_line}
 use Rattle.ace_lineck.proofs.ShortWays.MessageAddresses.{dvm_address-keeps}
 use Rattle.ace_check.specs.Run.{goes_over}
-use Rattle.ace_check.proofs.ShortWays.PlainSteps.{none-is, ports_keep_1}
+use Rattle.ace_check.proofs.ShortWays.PlainSteps.{none-is}
 use Rattle.ace_check.proofs.Steps.{least_with}
 
 module _ (h : Header) (past : Trace) (p i addr snoop dom bar : ℕ) (lock : Bool) where
-  -- its port is one of the header
-  pub port_there : is_none (least_of port_rules h past (Ar p i addr snoop dom bar lock)) ≡ true → p < h.ports
-  port_there ports = ltb-true p h.ports (and_parts (nat_lt p h.ports) _ (ports_keep_1 h past (Ar p i addr snoop dom bar lock) ports)).0
-
   pub names-no_line : is_dvm_address snoop dom bar lock ≡ true → goes_over past (Ar p i addr snoop dom bar lock) ≡ false
   names-no_line is =
       let off = dvm_address-no_line (length past) p i addr snoop dom bar lock is in

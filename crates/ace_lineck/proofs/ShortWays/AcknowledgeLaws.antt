@@ -1,9 +1,10 @@
 -- What the rules of an RK and of a WK say of its transaction, in the words of what is kept of its line.
-use Rattle.std.proofs.Common.{◌≡◌, ℕ, true, false, Bool, ◌&&◌, if◌then◌else◌, Option, Some, None, is_none, refl, sym, ap, subst, ◌∙◌}
+use Rattle.std.proofs.Common.{◌≡◌, ℕ, true, false, Bool, ◌&&◌, if◌then◌else◌, Option, Some, None, refl, sym, ap, subst, ◌∙◌, inl, inr}
+use Rattle.std.proofs.lemmas.Bool.{cases_Bool}
 use Rattle.ace_codes.specs.Responses.{passes_dirty, is_shared}
 use Rattle.ace_model.specs.AddressRules.{k1}
 use Rattle.ace_model.specs.declared.transactions.Transaction.{Transaction}
-use Rattle.ace_model.proofs.Terms.{ArKind, AwKind, Event, I, LineState, Read, Rk, Trace, Wk, Write, ends_read, ends_write, has_failed, implies, is_exclusive_store, is_line, is_make_unique, is_none_or, k23, k28, least_of, line_rules, read_kind, write_kind}
+use Rattle.ace_model.proofs.Terms.{ArKind, AwKind, Event, I, LineState, Read, Rk, Trace, Wk, Write, ends_read, ends_write, has_failed, implies, is_exclusive_store, is_line, is_make_unique, is_none_or, k23, k28, read_kind, write_kind}
 use Rattle.ace_model.proofs.General.Options.{Some-injective}
 use Rattle.ace_portck.specs.Targets.{Recording, line_in, line_of, target_of, transaction_in}
 use Rattle.ace_portck.specs.declared.target.Progress.{Progress}
@@ -13,21 +14,13 @@ use Rattle.ace_lineck.specs.Kept.{ends_kept}
 use Rattle.ace_lineck.specs.Records.{IsNext, LineStands}
 use Rattle.ace_lineck.specs.Stands.{Stands, record_on}
 use Rattle.ace_lineck.proofs.StateSteps.{all-same}
-use Rattle.ace_lineck.proofs.ReplyLaws.{k23-of}
+use Rattle.ace_lineck.proofs.ReplyLaws.{failed-line, k23-of}
 use Rattle.ace_lineck.proofs.RuleLaws.{k28-law}
 use Rattle.ace_lineck.specs.States.{state_at}
 
 -- what is no exclusive store has not failed
-unfailed : (past : Trace) (y : Transaction) → is_exclusive_store y ≡ false → false ≡ has_failed past y
+pub unfailed : (past : Trace) (y : Transaction) → is_exclusive_store y ≡ false → false ≡ has_failed past y
 unfailed past y none = rw none refl
-
-never : (b : Bool) → (b && false) ≡ false
-never true = refl
-never false = refl
-
-one-rule : (n : ℕ) (b : Bool) → b ≡ is_none {T = ℕ} (if b then None else Some n)
-one-rule n true = refl
-one-rule n false = refl
 
 module _ (s : LineCheck) (r : Recording) (p : ℕ) (st : LineState) (stands : Stands s r) (x : Progress) where
   -- the state in which the port has the line, by the record of that; of no line that is I
@@ -49,32 +42,42 @@ module _ (s : LineCheck) (r : Recording) (p : ℕ) (st : LineState) (stands : St
     line = λ l is. subst (λ o. LineStands r.header r.past l (record_on s o)) (sym is) (stands.lines l);
   }
 
-  -- K23, of an RK of a read that is no exclusive store
+  -- K23, of an RK of a read, by whether that is an exclusive store that failed, which has a line
   abbrev ends : ArKind → LineState → Bool → Bool
   ends k own failed = ends_read k own (is_shared x.response) (passes_dirty x.response) failed st && implies (is_make_unique k) x.stored
 
-  pub rk-law : (k : ArKind) → transaction_in r.header r.past (Rk p st) ≡ Some x → is_exclusive_store x.transaction ≡ false → read_kind x.transaction ≡ Some k
-      → ends k (held (line_in r.header r.past (Rk p st))) false ≡ is_none (least_of line_rules r.header r.past (Rk p st))
-  rk-law k own none kind =
+  failed-at : (failed : Bool) → failed ≡ has_failed r.past x.transaction → k1 r.header r.past (Rk p st) ≡ true → (is_line x.transaction && failed) ≡ failed
+  failed-at failed fails first =
+      elim (cases_Bool (is_line x.transaction)) [
+        | inl line ↦ rw line refl
+        | inr f ↦
+            let e : Event = Rk p st in
+            rw f (sym (fails ∙ failed-line r.header r.past (target_of r.header r.past e) (record_on s (line_in r.header r.past e)) p st (next-at e first) x.transaction f))
+      ]
+
+  pub rk-law : (k : ArKind) (failed : Bool) → transaction_in r.header r.past (Rk p st) ≡ Some x → read_kind x.transaction ≡ Some k → failed ≡ has_failed r.past x.transaction
+      → ends k (held (line_in r.header r.past (Rk p st))) failed ≡ k23 r.header r.past (Rk p st)
+  rk-law k failed own kind fails =
       let h = r.header in
       let e : Event = Rk p st in
       let o : Option ℕ = line_in h r.past e in
       let b : Bool = is_line x.transaction in
-      let whole : is_none_or (transaction_in h r.past e) (ends_kept false (held o) st) ≡ k23 h r.past e =
-      k23-of h r.past (target_of h r.past e) (record_on s o) p st (next-at e (acknowledge-first h r.past p st x Read own)) false
-      (λ y is line. unfailed r.past y (ap is_exclusive_store (sym (Some-injective x.transaction y (sym (acknowledge-one h r.past p st x Read own) ∙ is))) ∙ none)) in
-      let one : is_none_or (transaction_in h r.past e) (ends_kept false (held o) st) ≡ ends_kept false (held o) st x = ap (λ v. is_none_or v (ends_kept false (held o) st)) own in
-      let kinds : ends_kept false (held o) st x ≡ ends k (if b then held o else I) (b && false) = ap (λ v. is_none_or v (λ j. ends j (if b then held o else I) (b && false))) kind in
-      let mine : ends k (if b then held o else I) (b && false) ≡ ends k (held o) false =
-      ap (λ v. ends k v (b && false)) (held-at o b (ap line_of own)) ∙ ap (ends k (held o)) (never b) in
-      sym mine ∙ sym kinds ∙ sym one ∙ whole ∙ one-rule 23 (k23 h r.past e)
+      let first = acknowledge-first h r.past p st x Read own in
+      let whole : is_none_or (transaction_in h r.past e) (ends_kept failed (held o) st) ≡ k23 h r.past e =
+      k23-of h r.past (target_of h r.past e) (record_on s o) p st (next-at e first) failed
+      (λ y is line. fails ∙ ap (has_failed r.past) (Some-injective x.transaction y (sym (acknowledge-one h r.past p st x Read own) ∙ is))) in
+      let one : is_none_or (transaction_in h r.past e) (ends_kept failed (held o) st) ≡ ends_kept failed (held o) st x = ap (λ v. is_none_or v (ends_kept failed (held o) st)) own in
+      let kinds : ends_kept failed (held o) st x ≡ ends k (if b then held o else I) (b && failed) = ap (λ v. is_none_or v (λ j. ends j (if b then held o else I) (b && failed))) kind in
+      let mine : ends k (if b then held o else I) (b && failed) ≡ ends k (held o) failed =
+      ap (λ v. ends k v (b && failed)) (held-at o b (ap line_of own)) ∙ ap (ends k (held o)) (failed-at failed fails first) in
+      sym mine ∙ sym kinds ∙ sym one ∙ whole
 
   -- K28, of a WK
   abbrev ends_by : LineState → Progress → Bool
   ends_by own y = is_none_or (write_kind y.transaction) (λ k. ends_write k (if is_line y.transaction then own else I) st)
 
   pub wk-law : (k : AwKind) → transaction_in r.header r.past (Wk p st) ≡ Some x → write_kind x.transaction ≡ Some k
-      → ends_write k (held (line_in r.header r.past (Wk p st))) st ≡ is_none (least_of line_rules r.header r.past (Wk p st))
+      → ends_write k (held (line_in r.header r.past (Wk p st))) st ≡ k28 r.header r.past (Wk p st)
   wk-law k own kind =
       let h = r.header in
       let e : Event = Wk p st in
@@ -85,4 +88,4 @@ module _ (s : LineCheck) (r : Recording) (p : ℕ) (st : LineState) (stands : St
       let one : is_none_or (transaction_in h r.past e) (ends_by (held o)) ≡ ends_by (held o) x = ap (λ v. is_none_or v (ends_by (held o))) own in
       let kinds : ends_by (held o) x ≡ ends_write k (if b then held o else I) st = ap (λ v. is_none_or v (λ j. ends_write j (if b then held o else I) st)) kind in
       let mine : ends_write k (if b then held o else I) st ≡ ends_write k (held o) st = ap (λ v. ends_write k v st) (held-at o b (ap line_of own)) in
-      sym mine ∙ sym kinds ∙ sym one ∙ whole ∙ one-rule 28 (k28 h r.past e)
+      sym mine ∙ sym kinds ∙ sym one ∙ whole

@@ -1,4 +1,4 @@
--- What a transfer of a plain read leaves of what is kept of its line.
+-- What a transfer of a line read leaves of what is kept of its line.
 use Rattle.std.proofs.Common.{◌≡◌, ◌⊎◌, ◌<◌, ◌-◌, ◌^◌, ℕ, true, false, Bool, not, ◌&&◌, List, ◌∷◌, length, Option, Some, None, option_map, option_and_then, slice_set, slice_get, unwrap_or, refl, sym, ap, subst, ◌∙◌, inl, inr}
 use Rattle.std.proofs.lemmas.Bool.{and_parts, cases_eq, eq-eqb, ne_eqb}
 use Rattle.ace_codes.specs.declared.kind.ArKind.{ArKind}
@@ -6,6 +6,8 @@ use Rattle.ace_event.specs.declared.line.Line.{Line}
 use Rattle.ace_model.specs.declared.transactions.Transaction.{Transaction}
 use Rattle.ace_model.specs.Accepted.{least_broken}
 use Rattle.ace_model.specs.Copies.{received}
+use Rattle.ace_model.specs.Kinds.{is_line_read}
+use Rattle.ace_model.specs.Transactions.{read_kind}
 use Rattle.ace_model.proofs.Terms.{Header, Trace, R, Read, newer, is_ace, is_line, is_transaction, ended, outstanding, granted, copy_of}
 use Rattle.ace_model.proofs.General.Options.{Some-injective}
 use Rattle.ace_model.proofs.Trace.Issued.{outstanding-name}
@@ -15,7 +17,6 @@ use Rattle.ace_model.proofs.Grants.Granted.{granted_at}
 use Rattle.ace_portck.specs.Targets.{Recording, line_in, progress_of, target_of}
 use Rattle.ace_portck.specs.declared.target.Progress.{Progress}
 use Rattle.ace_portck.specs.declared.target.Target.{Target}
-use Rattle.ace_portck.proofs.ShortWays.Plain.{IsPlainRead}
 use Rattle.ace_lineck.specs.declared.lines.LineCheck.{LineCheck}
 use Rattle.ace_lineck.specs.declared.record.Holder.{Holder}
 use Rattle.ace_lineck.specs.declared.record.LineRecord.{LineRecord}
@@ -117,13 +118,14 @@ still-used u v is = rw is (by (is_unknown u))
 
 -- the transfer may be taken
 pub beat-may : (s : LineCheck) (r : Recording) (p i resp : ℕ) (last : Bool) (word : ℕ) (x : Progress) (k : ArKind) (place : Option ℕ) → Stands s r
-    → option_map (progress_of r.header r.past) (outstanding r.header r.past p Read i) ≡ Some x → IsPlainRead x.transaction k → place ≡ place_on s (Some x.transaction.addr)
+    → option_map (progress_of r.header r.past) (outstanding r.header r.past p Read i) ≡ Some x → read_kind x.transaction ≡ Some k → is_line_read k ≡ true
+    → place ≡ place_on s (Some x.transaction.addr)
     → least_broken r.header r.past (R p i resp last word) ≡ None → length r.past < 2 ^ 64 - 1
     → MayApply s r (R p i resp last word) (target_of r.header r.past (R p i resp last word)) place
-beat-may s r p i resp last word x k place st out own at fine few = record {
+beat-may s r p i resp last word x k place st out kind line at fine few = record {
   stands = st;
   target = refl;
-  room = record { made = tt; at = at ∙ ap (place_on s) (sym (beat-line r.header r.past p i resp last word x k out own)) };
+  room = record { made = tt; at = at ∙ ap (place_on s) (sym (beat-line r.header r.past p i resp last word x k out kind line)) };
   kept = fine;
   few = few;
 }

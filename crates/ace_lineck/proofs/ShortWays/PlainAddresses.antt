@@ -1,5 +1,5 @@
 -- What the AR of a line read asks of its line; where the line is known, no transaction that begins moves anything of it.
-use Rattle.std.proofs.Common.{◌≡◌, ℕ, Bool, true, false, ◌&&◌, ◌||◌, nat_eq, if◌then◌else◌, ◌∷◌, List, length, Option, Some, None, is_none, refl, sym, ap, ◌∙◌, inl, inr}
+use Rattle.std.proofs.Common.{◌≡◌, ℕ, Bool, true, false, ◌&&◌, ◌||◌, nat_eq, if◌then◌else◌, ◌∷◌, List, length, Option, Some, None, refl, sym, ap, ◌∙◌, inl, inr}
 use Rattle.std.proofs.lemmas.Bool.{and_parts, cases_Bool, eqb-true, not-true}
 use Rattle.ace_codes.specs.Reads.{ar_kind_of}
 use Rattle.ace_codes.specs.declared.kind.ArKind.{ArKind}
@@ -27,6 +27,7 @@ use Rattle.ace_lineck.specs.Stands.{Stands, record_of}
 use Rattle.ace_lineck.specs.Uses.{use_by, newest_use, use_of, goes_with, is_unknown}
 use Rattle.ace_lineck.proofs.GrantFrame.{none-stays}
 use Rattle.ace_lineck.proofs.GrantSteps.{calm-stays, stays-unended}
+use Rattle.ace_lineck.proofs.Judging.{ruled, least-address}
 use Rattle.ace_lineck.proofs.KnownLines.{known-used}
 use Rattle.ace_lineck.proofs.RuleLaws.{uses-law}
 
@@ -41,12 +42,6 @@ and-true false = refl
 or-false : (b : Bool) → (b || false) ≡ b
 or-false true = refl
 or-false false = refl
-
-pub two-rules : (a b : Bool) → is_none {T = ℕ} (if a then if b then None else Some 8 else Some 6) ≡ (b && a)
-two-rules true true = refl
-two-rules true false = refl
-two-rules false true = refl
-two-rules false false = refl
 
 module _ (h : Header) (past : Trace) (p i addr snoop dom bar : ℕ) (lock : Bool) (k : ArKind) (kind : ar_kind_of snoop dom bar ≡ Some k) (on : is_line_read k ≡ true) where
   abbrev begun : Transaction
@@ -72,12 +67,20 @@ module _ (h : Header) (past : Trace) (p i addr snoop dom bar : ℕ) (lock : Bool
       ∙ sym (uses-law h past a begun)
       ∙ ap (goes_with (use_of past addr)) snoops-none
 
-  pub address_rules : IsAccepted h past → is_none (least_of line_rules h past (Ar p i addr snoop dom bar lock))
-      ≡ (goes_with (use_of past addr) (is_no_snoop_read k) && starts_read k (state_of h past p addr))
-  address_rules a =
-      two-rules (k6 h past (Ar p i addr snoop dom bar lock)) (k8 h past (Ar p i addr snoop dom bar lock))
-      ∙ ap (λ b. k8 h past (Ar p i addr snoop dom bar lock) && b) starts
-      ∙ ap (λ b. b && starts_read k (state_of h past p addr)) (goes a)
+  pub address-rule : IsAccepted h past
+      → (if starts_read k (state_of h past p addr) then (if goes_with (use_of past addr) (is_no_snoop_read k) then None else Some 8) else Some 6)
+      ≡ least_of line_rules h past (Ar p i addr snoop dom bar lock)
+  address-rule a =
+      ruled (starts_read k (state_of h past p addr)) (k6 h past (Ar p i addr snoop dom bar lock)) 6
+      (if goes_with (use_of past addr) (is_no_snoop_read k) then None else Some 8) (if k8 h past (Ar p i addr snoop dom bar lock) then None else Some 8)
+      (sym starts)
+      (λ kept. ruled (goes_with (use_of past addr) (is_no_snoop_read k)) (k8 h past (Ar p i addr snoop dom bar lock)) 8 None None (sym (goes a)) (λ kept. refl))
+      ∙ sym (least-address h past (Ar p i addr snoop dom bar lock) refl)
+
+-- of a read without a line it asks nothing
+pub lineless-address-rule : (h : Header) (past : Trace) (p i addr snoop dom bar : ℕ) (lock : Bool) (k : ArKind) → ar_kind_of snoop dom bar ≡ Some k → is_line_read k ≡ false
+    → least_of line_rules h past (Ar p i addr snoop dom bar lock) ≡ None
+lineless-address-rule h past p i addr snoop dom bar lock k kind off = rw (kind, off) refl
 
 -- a transaction that goes with a known use leaves it
 same-use : (u : Use) (b : Bool) → is_unknown u ≡ false → goes_with u b ≡ true → (if b then NoSnoop else Shareable) ≡ u

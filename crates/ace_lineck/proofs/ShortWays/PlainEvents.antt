@@ -1,5 +1,5 @@
 -- What a W and an L ask of the line that they stand on.
-use Rattle.std.proofs.Common.{◌≡◌, ℕ, Bool, true, false, ◌&&◌, ◌==◌, if◌then◌else◌, Option, Some, None, is_none, option_map, refl, sym, ap, subst, ◌∙◌}
+use Rattle.std.proofs.Common.{◌≡◌, ℕ, Bool, true, false, ◌==◌, if◌then◌else◌, Option, Some, None, is_none, option_map, refl, sym, ap, subst, ◌∙◌}
 use Rattle.ace_model.specs.declared.transactions.Transaction.{Transaction}
 use Rattle.ace_model.specs.Accepted.{least_of}
 use Rattle.ace_model.specs.AddressRules.{k1}
@@ -39,22 +39,32 @@ pub one_rule : (n : ℕ) (kept : Bool) → kept ≡ is_none (if kept then None e
 one_rule n true = refl
 one_rule n false = refl
 
+-- the answer of one rule, which is kept
+pub kept-none : (n : ℕ) (a k : Bool) → a ≡ k → a ≡ true → None ≡ (if k then None else Some n)
+kept-none n a true is t = refl
+kept-none n a false is t = let bad : true ≡ false = sym t ∙ is in cc
+
+-- and where it isn't
+pub broken-some : (n : ℕ) (a k : Bool) → a ≡ k → a ≡ false → Some n ≡ (if k then None else Some n)
+broken-some n a true is f = let bad : false ≡ true = sym f ∙ is in cc
+broken-some n a false is f = refl
+
 -- of a W the data of K11
-pub word-kept : (s : LineCheck) (r : Recording) (p strb : ℕ) (last : Bool) (word : ℕ) (z : Transaction) (n : ℕ) (x : LineRecord) → Stands s r
+pub word-law : (s : LineCheck) (r : Recording) (p strb : ℕ) (last : Bool) (word : ℕ) (z : Transaction) (n : ℕ) (x : LineRecord) → Stands s r
     → k1 r.header r.past (W p strb last word) ≡ true → next_write r.past p ≡ Some z → n ≡ next_write_beat r.past p → x ≡ record_of s z.addr
-    → implies (updates_memory z) (word == word_of (holder_at x.holders.items p).copy n) ≡ is_none (least_of line_rules r.header r.past (W p strb last word))
-word-kept s r p strb last word z n x st first is beat at =
+    → implies (updates_memory z) (word == word_of (holder_at x.holders.items p).copy n) ≡ k11_data r.header r.past (W p strb last word)
+word-law s r p strb last word z n x st first is beat at =
     let e = W p strb last word in
     let next = next-on s r e z.addr x st first (line-of_write r.header r.past p strb last word z is) at in
     let law = k11-law r.header r.past (target_of r.header r.past e) x p strb last word next in
     let copy = (holder_at x.holders.items p).copy in
     ap (λ m. implies (updates_memory z) (word == word_of copy m)) beat
     ∙ ap (λ (o : Option Progress). is_none_or o (λ y. implies (updates_memory y.transaction) (word == word_of copy (next_write_beat r.past p)))) (ap (option_map (progress_of r.header r.past)) (sym is))
-    ∙ law ∙ one_rule 11 (k11_data r.header r.past e)
+    ∙ law
 
 -- of an L K30 and K31
-pub load-kept : (h : Header) (past : Trace) (p addr w : ℕ) (x : Bool) (word : ℕ) (hold same : Bool) → hold ≡ k30 h past (L p addr w x word) → same ≡ k31 h past (L p addr w x word)
-    → (hold && same) ≡ is_none (least_of line_rules h past (L p addr w x word))
-load-kept h past p addr w x word true true hold same = rw (sym hold, sym same) refl
-load-kept h past p addr w x word true false hold same = rw (sym hold, sym same) refl
-load-kept h past p addr w x word false b hold same = rw (sym hold) refl
+pub load-rule : (h : Header) (past : Trace) (p addr w : ℕ) (x : Bool) (word : ℕ) (hold same : Bool) → hold ≡ k30 h past (L p addr w x word) → same ≡ k31 h past (L p addr w x word)
+    → (if hold then (if same then None else Some 31) else Some 30) ≡ least_of line_rules h past (L p addr w x word)
+load-rule h past p addr w x word true true hold same = rw (sym hold, sym same) refl
+load-rule h past p addr w x word true false hold same = rw (sym hold, sym same) refl
+load-rule h past p addr w x word false b hold same = rw (sym hold) refl

@@ -1,8 +1,7 @@
 -- The G of an outstanding transaction, by what is kept of its line.
-use Rattle.std.proofs.Common.{◌≡◌, ◌<◌, ◌-◌, ◌^◌, ℕ, Bool, true, false, not, ◌&&◌, if◌then◌else◌, ◌∷◌, length, Option, Some, None, is_none, option_map, refl, sym, ap, ◌∙◌}
+use Rattle.std.proofs.Common.{◌≡◌, ◌<◌, ◌-◌, ◌^◌, ℕ, Bool, true, false, not, ◌&&◌, ◌∷◌, length, Option, Some, None, is_none, option_map, refl, sym, ap, ◌∙◌}
 use Rattle.std.proofs.lemmas.Bool.{and_parts}
-use Rattle.ace_model.specs.Accepted.{least_broken, least_of}
-use Rattle.ace_model.specs.Shares.{line_rules}
+use Rattle.ace_model.specs.Accepted.{least_broken}
 use Rattle.ace_model.specs.declared.transactions.Transaction.{Transaction}
 use Rattle.ace_model.proofs.Terms.{Channel, G, Header, Trace, IsAccepted, granted, is_some_and, k12, outstanding, takes_grant}
 use Rattle.ace_model.proofs.GrantLooks.Had.{may_grant, grants_by_line, takes-on}
@@ -18,18 +17,13 @@ use Rattle.ace_lineck.proofs.GrantHear.{given_heard}
 use Rattle.ace_lineck.proofs.GrantLaws.{none-is}
 use Rattle.ace_lineck.proofs.OnLine.{line-transaction}
 
--- K12 is all that the share asks of a G
-pub keeps-grant : (h : Header) (past : Trace) (p : ℕ) (c : Channel) (i : ℕ) (x : Transaction) (g : Option Grant) → IsAccepted h past → outstanding h past p c i ≡ Some x
-    → GrantStands h past x.addr g → (takes_grant x && is_none g) ≡ is_none (least_of line_rules h past (G p c i))
-keeps-grant h past p c i x g accepted out stands =
+-- K12, in the words of what is kept of the line
+pub grant-law : (h : Header) (past : Trace) (p : ℕ) (c : Channel) (i : ℕ) (x : Transaction) (g : Option Grant) → IsAccepted h past → outstanding h past p c i ≡ Some x
+    → GrantStands h past x.addr g → (takes_grant x && is_none g) ≡ k12 h past (G p c i)
+grant-law h past p c i x g accepted out stands =
     ap (λ b. takes_grant x && b) (none-is h past x.addr g stands)
     ∙ ap (λ o. is_some_and o (may_grant h past)) (sym out)
     ∙ sym (grants_by_line h past p c i accepted)
-    ∙ by (k12 h past (G p c i))
-  where
-    by : (b : Bool) → b ≡ is_none {T = ℕ} (if b then None else Some 12)
-    by true = refl
-    by false = refl
 
 -- the line of a G that breaks no rule is that of its transaction
 pub line-of_grant : (h : Header) (past : Trace) (p : ℕ) (c : Channel) (i : ℕ) (x : Transaction) → IsAccepted h past → outstanding h past p c i ≡ Some x

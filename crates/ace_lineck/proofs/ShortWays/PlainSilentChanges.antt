@@ -1,7 +1,6 @@
 -- What an S asks of its line, and what it leaves of it.
-use Rattle.std.proofs.Common.{◌≡◌, ◌<◌, ◌-◌, ◌^◌, ℕ, Bool, not, ◌&&◌, ◌∷◌, length, Option, Some, None, is_none, refl, ap, ◌∙◌}
-use Rattle.ace_model.specs.Accepted.{least_broken, least_of}
-use Rattle.ace_model.specs.Shares.{line_rules}
+use Rattle.std.proofs.Common.{◌≡◌, ◌<◌, ◌-◌, ◌^◌, ℕ, Bool, not, ◌&&◌, ◌∷◌, length, Option, Some, None, refl, ap, ◌∙◌}
+use Rattle.ace_model.specs.Accepted.{least_broken}
 use Rattle.ace_model.proofs.Terms.{Header, Trace, S, LineState, IsAccepted, has_update, is_invalid, is_silent_move, k29, state_of}
 use Rattle.ace_portck.specs.Targets.{Recording, target_of}
 use Rattle.ace_lineck.specs.declared.grant.Grant.{Grant}
@@ -10,13 +9,12 @@ use Rattle.ace_lineck.specs.Grants.{GrantStands}
 use Rattle.ace_lineck.specs.Stands.{MayApply, Stands, place_on}
 use Rattle.ace_lineck.proofs.GrantFrame.{none-stays}
 use Rattle.ace_lineck.proofs.GrantSteps.{calm-stays, stays-unended}
-use Rattle.ace_lineck.proofs.ShortWays.PlainEvents.{one_rule}
 
--- K29 is all that the share asks of an S
-pub change-kept : (h : Header) (past : Trace) (p addr : ℕ) (st held : LineState) (drops : Bool) → held ≡ state_of h past p addr → drops ≡ (is_invalid st && has_update h past p addr)
-    → (is_silent_move held st && not drops) ≡ is_none (least_of line_rules h past (S p addr st))
-change-kept h past p addr st held drops is drop =
-    ap (λ v. is_silent_move v st && not drops) is ∙ ap (λ b. is_silent_move (state_of h past p addr) st && not b) drop ∙ one_rule 29 (k29 h past (S p addr st))
+-- K29, which is all that the share asks of an S
+pub change-law : (h : Header) (past : Trace) (p addr : ℕ) (st held : LineState) (drops : Bool) → held ≡ state_of h past p addr → drops ≡ (is_invalid st && has_update h past p addr)
+    → (is_silent_move held st && not drops) ≡ k29 h past (S p addr st)
+change-law h past p addr st held drops is drop =
+    ap (λ v. is_silent_move v st && not drops) is ∙ ap (λ b. is_silent_move (state_of h past p addr) st && not b) drop
 
 -- the grant of a line stays
 pub grant-changed : (h : Header) (past : Trace) (p addr : ℕ) (st : LineState) (l : ℕ) (g : Option Grant) → IsAccepted h (S p addr st ∷ past) → GrantStands h past l g

@@ -1,13 +1,11 @@
 -- A CR: what is asked of it by what is kept of the line of its snoop, and what it leaves of that.
-use Rattle.std.proofs.Common.{◌≡◌, ◌<◌, ◌-◌, ◌^◌, ℕ, Bool, true, false, not, ◌&&◌, ◌||◌, if◌then◌else◌, ◌∷◌, length, Option, Some, None, is_none, slice_get, slice_set, refl, sym, ap, ◌∙◌, inl, inr}
+use Rattle.std.proofs.Common.{◌≡◌, ◌<◌, ◌-◌, ◌^◌, ℕ, Bool, true, false, ◌∷◌, length, Option, Some, None, slice_get, slice_set, refl, sym, ap, ◌∙◌, inl, inr}
 use Rattle.std.proofs.lemmas.Bool.{cases_Bool}
-use Rattle.ace_codes.specs.declared.kind.SnoopKind.TheVariants as snoop
-use Rattle.ace_tables.specs.Answers.{fits_answer, fits_update, is_snoop_row, states_after}
-use Rattle.ace_tables.specs.States.{is_among}
+use Rattle.ace_tables.specs.Answers.{is_snoop_row}
 use Rattle.ace_model.specs.declared.snoops.Snoop.{Snoop}
 use Rattle.ace_model.specs.Accepted.{least_broken, least_of}
 use Rattle.ace_model.specs.Shares.{line_rules}
-use Rattle.ace_model.proofs.Terms.{Header, Trace, Cr, SnoopKind, LineState, I, answers_beside_update, answers_by_row, has_update, implies, is_line_snoop, is_none_or, is_some_and, k15, k16, snoops_a_line, state_of}
+use Rattle.ace_model.proofs.Terms.{Header, Trace, Cr, SnoopKind, LineState, answers_beside_update, answers_by_row, has_update, implies, is_line_snoop, is_none_or, is_some_and, k15, k16, snoops_a_line, state_of}
 use Rattle.ace_portck.specs.SnoopAnswers.{IsAnswered}
 use Rattle.ace_portck.specs.Targets.{Recording, line_in, line_of_snoop, target_of}
 use Rattle.ace_portck.specs.declared.target.Target.{Target}
@@ -16,33 +14,12 @@ use Rattle.ace_lineck.specs.declared.record.Holder.{Holder}
 use Rattle.ace_lineck.specs.declared.record.LineRecord.{LineRecord}
 use Rattle.ace_lineck.specs.Holders.{HolderStands, HoldersStand, IsHolderStep, IsHoldersStep}
 use Rattle.ace_lineck.specs.Records.{IsRecordStep}
-use Rattle.ace_lineck.specs.Stands.{MayApply, Stands, place_on}
+use Rattle.ace_lineck.specs.Stands.{MayApply, Stands, place_on, record_on}
+use Rattle.ace_lineck.specs.States.{state_at}
+use Rattle.ace_lineck.proofs.Asked.{asked, asked_both}
 use Rattle.ace_lineck.proofs.HolderSteps.{holders-hear, holder-step}
-use Rattle.ace_lineck.proofs.RuleLaws.{row-apart}
-
--- a row that goes with a memory update is a row
-row-weaker : (k : SnoopKind) (held : LineState) (resp : ℕ) (st : LineState) → is_snoop_row k held true resp st ≡ true → is_snoop_row k held false resp st ≡ true
-row-weaker snoop.DvmComplete held resp st is = is
-row-weaker snoop.DvmMessage held resp st is = is
-row-weaker k I resp st is = is
-row-weaker k held resp st is = by (is_among st (states_after k held) && fits_answer k held st resp) (fits_update k st resp) is
-  where
-    by : (a b : Bool) → (a && (not true || b)) ≡ true → (a && (not false || b)) ≡ true
-    by true b is = refl
-    by false b is = is
-
-joined : (update row beside : Bool) → (beside ≡ true → row ≡ true) → (if update then beside else row) ≡ is_none {T = ℕ} (if row then if implies update beside then None else Some 16 else Some 15)
-joined true true true weaker = refl
-joined true true false weaker = refl
-joined true false true weaker = let bad = weaker refl in cc
-joined true false false weaker = refl
-joined false true beside weaker = refl
-joined false false beside weaker = refl
-
-by-update : (k : SnoopKind) (held : LineState) (update : Bool) (resp : ℕ) (st : LineState)
-    → is_snoop_row k held update resp st ≡ (if update then is_snoop_row k held true resp st else is_snoop_row k held false resp st)
-by-update k held true resp st = refl
-by-update k held false resp st = refl
+use Rattle.ace_lineck.proofs.Judging.{ruled}
+use Rattle.ace_lineck.proofs.RuleLaws.{implies-true, row-apart}
 
 module _ (h : Header) (past : Trace) (p resp : ℕ) (st : LineState) (x : Snoop) (k : SnoopKind) (is : IsAnswered past p x k) where
   -- K15 and K16, of the snoop that it answers
@@ -60,26 +37,45 @@ module _ (h : Header) (past : Trace) (p resp : ℕ) (st : LineState) (x : Snoop)
   line-kind : snoops_a_line x.snoop ≡ is_line_snoop k
   line-kind = ap (λ o. is_some_and o is_line_snoop) is.kind
 
+  -- both rules, by the state and the memory update that are known of the line of a line snoop
   pub answer-law : (held : LineState) (update : Bool) → (snoops_a_line x.snoop ≡ true → held ≡ state_of h past p x.addr)
-      → (snoops_a_line x.snoop ≡ true → update ≡ has_update h past p x.addr) → is_snoop_row k held update resp st ≡ is_none (least_of line_rules h past (Cr p resp st))
+      → (snoops_a_line x.snoop ≡ true → update ≡ has_update h past p x.addr)
+      → asked_both 15 16 (is_snoop_row k held false resp st) (implies update (is_snoop_row k held true resp st)) ≡ least_of line_rules h past (Cr p resp st)
   answer-law held update states updates =
-      same
-      ∙ by-update k (state_of h past p x.addr) (has_update h past p x.addr) resp st
-      ∙ joined (has_update h past p x.addr) (is_snoop_row k (state_of h past p x.addr) false resp st) (is_snoop_row k (state_of h past p x.addr) true resp st)
-      (row-weaker k (state_of h past p x.addr) resp st)
-      ∙ sym (ap (λ b. is_none {T = ℕ} (if b then if k16 h past (Cr p resp st) then None else Some 16 else Some 15)) by-row
-      ∙ ap (λ b. is_none {T = ℕ} (if is_snoop_row k (state_of h past p x.addr) false resp st then if b then None else Some 16 else Some 15)) beside)
+      ruled (is_snoop_row k held false resp st) (k15 h past (Cr p resp st)) 15 (asked 16 (implies update (is_snoop_row k held true resp st))) (asked 16 (k16 h past (Cr p resp st))) row
+      (λ kept. ap (asked 16) (goes kept))
     where
-      same : is_snoop_row k held update resp st ≡ is_snoop_row k (state_of h past p x.addr) (has_update h past p x.addr) resp st
-      same =
+      by-state : (b : Bool) → is_snoop_row k held b resp st ≡ is_snoop_row k (state_of h past p x.addr) b resp st
+      by-state b =
           elim (cases_Bool (snoops_a_line x.snoop)) [
-            | inl line ↦ ap (λ v. is_snoop_row k v update resp st) (states line) ∙ ap (λ b. is_snoop_row k (state_of h past p x.addr) b resp st) (updates line)
-            | inr f ↦ row-apart k held (state_of h past p x.addr) update (has_update h past p x.addr) resp st (sym line-kind ∙ f)
+            | inl line ↦ ap (λ v. is_snoop_row k v b resp st) (states line)
+            | inr f ↦ row-apart k held (state_of h past p x.addr) b b resp st (sym line-kind ∙ f)
+          ]
+
+      row : is_snoop_row k held false resp st ≡ k15 h past (Cr p resp st)
+      row = by-state false ∙ sym by-row
+
+      goes : k15 h past (Cr p resp st) ≡ true → implies update (is_snoop_row k held true resp st) ≡ k16 h past (Cr p resp st)
+      goes kept =
+          elim (cases_Bool (snoops_a_line x.snoop)) [
+            | inl line ↦ ap (λ b. implies b (is_snoop_row k held true resp st)) (updates line) ∙ ap (implies (has_update h past p x.addr)) (by-state true) ∙ sym beside
+            | inr f ↦
+                let own : is_snoop_row k held true resp st ≡ true = row-apart k held held true false resp st (sym line-kind ∙ f) ∙ row ∙ kept in
+                let same : is_snoop_row k (state_of h past p x.addr) true resp st ≡ true = sym (by-state true) ∙ own in
+                implies-true update (is_snoop_row k held true resp st) own
+                ∙ sym (implies-true (has_update h past p x.addr) (is_snoop_row k (state_of h past p x.addr) true resp st) same) ∙ sym beside
           ]
 
   -- its line is that of the snoop
   pub answered-line : line_in h past (Cr p resp st) ≡ line_of_snoop (Some x)
   answered-line = ap line_of_snoop is.next
+
+-- the state in which a port has the line of a line snoop
+pub held-on : (s : LineCheck) (r : Recording) (p : ℕ) (x : Snoop) (held : LineState) → Stands s r → held ≡ state_at (record_on s (line_of_snoop (Some x))).states p
+    → snoops_a_line x.snoop ≡ true → held ≡ state_of r.header r.past p x.addr
+held-on s r p x held st is line =
+    let on : line_of_snoop (Some x) ≡ Some x.addr = rw line refl in
+    is ∙ ap (λ o. state_at (record_on s o).states p) on ∙ (st.lines x.addr).states.state p
 
 -- a CR that breaks no rule may be heard
 pub may-hear_answer : (s : LineCheck) (r : Recording) (p resp : ℕ) (st : LineState) (x : Snoop) (k : SnoopKind) (place : Option ℕ) → Stands s r → IsAnswered r.past p x k

@@ -1,12 +1,12 @@
 -- A CD: what it asks of its line, and what it leaves.
-use Rattle.std.proofs.Common.{◌≡◌, ◌<◌, ◌≤◌, ◌-◌, ◌^◌, ℕ, Bool, true, ◌==◌, ◌∷◌, if◌then◌else◌, length, Option, Some, None, is_none, refl, sym, ap, ◌∙◌, inl, inr}
+use Rattle.std.proofs.Common.{◌≡◌, ◌<◌, ◌≤◌, ◌-◌, ◌^◌, ℕ, Bool, true, ◌==◌, ◌∷◌, if◌then◌else◌, length, Option, Some, None, refl, sym, ap, ◌∙◌, inl, inr}
 use Rattle.std.proofs.lemmas.Bool.{cases_eq}
 use Rattle.ace_model.specs.declared.snoops.Snoop.{Snoop}
-use Rattle.ace_model.specs.Accepted.{least_broken, least_of}
+use Rattle.ace_model.specs.Accepted.{least_broken}
 use Rattle.ace_model.specs.AddressRules.{k1}
 use Rattle.ace_model.specs.Copies.{word_of}
 use Rattle.ace_model.specs.Replies.{next_sent_beat}
-use Rattle.ace_model.specs.Shares.{line_rules, k17_data}
+use Rattle.ace_model.specs.Shares.{k17_data}
 use Rattle.ace_model.proofs.Terms.{Cd, Header, Trace, IsAccepted, is_none_or, snoops_a_line}
 use Rattle.ace_model.proofs.General.Options.{Some-injective, some_if-is}
 use Rattle.ace_portck.specs.Targets.{Recording, after, line_in, sending, target_of}
@@ -20,7 +20,7 @@ use Rattle.ace_lineck.specs.Stands.{Stands, MayApply, place_on, record_of}
 use Rattle.ace_lineck.proofs.AllLines.{line-stays}
 use Rattle.ace_lineck.proofs.GrantFrame.{none-stays}
 use Rattle.ace_lineck.proofs.GrantSteps.{earlier_step}
-use Rattle.ace_lineck.proofs.ShortWays.PlainEvents.{next-on, one_rule}
+use Rattle.ace_lineck.proofs.ShortWays.PlainEvents.{next-on}
 use Rattle.ace_lineck.proofs.RuleLaws.{k17-law}
 use Rattle.ace_lineck.proofs.Sent.{sends-a_line}
 
@@ -36,17 +36,16 @@ sent-line : (h : Header) (past : Trace) → IsAccepted h past → (p : ℕ) (las
 sent-line h past a p last word z is = let line = sends-a_line h past a p _ z is in rw (is, line) refl
 
 -- of a CD the data of K17
-pub sent-kept : (s : LineCheck) (r : Recording) (p : ℕ) (last : Bool) (word : ℕ) (z : Snoop) (n : ℕ) (x : LineRecord) → Stands s r
+pub sent-law : (s : LineCheck) (r : Recording) (p : ℕ) (last : Bool) (word : ℕ) (z : Snoop) (n : ℕ) (x : LineRecord) → Stands s r
     → k1 r.header r.past (Cd p last word) ≡ true → sending r.past p ≡ Some z → n ≡ next_sent_beat r.past p → x ≡ record_of s z.addr
-    → (word == word_of (holder_at x.holders.items p).sent n) ≡ is_none (least_of line_rules r.header r.past (Cd p last word))
-sent-kept s r p last word z n x st first is beat at =
+    → (word == word_of (holder_at x.holders.items p).sent n) ≡ k17_data r.header r.past (Cd p last word)
+sent-law s r p last word z n x st first is beat at =
     let e = Cd p last word in
     let next = next-on s r e z.addr x st first (line-of_sent r.header r.past p last word z is) at in
-    let law = k17-law r.header r.past (target_of r.header r.past e) x p last word next in
     let sent = (holder_at x.holders.items p).sent in
     ap (λ m. word == word_of sent m) beat
     ∙ ap (λ (o : Option Snoop). is_none_or o (λ q. word == word_of sent (next_sent_beat r.past p))) (sym is)
-    ∙ law ∙ one_rule 17 (k17_data r.header r.past e)
+    ∙ k17-law r.header r.past (target_of r.header r.past e) x p last word next
 
 -- before the fourth beat the grant of the line stays
 earlier-granted : (h : Header) (past : Trace) (p : ℕ) (last : Bool) (word l : ℕ) (g : Option Grant) → h.ports ≤ 32 → IsAccepted h (Cd p last word ∷ past)

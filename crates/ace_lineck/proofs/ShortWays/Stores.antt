@@ -1,10 +1,9 @@
 -- A D: what it asks of its line, and what it leaves.
-use Rattle.std.proofs.Common.{◌≡◌, ◌<◌, ◌-◌, ◌^◌, ℕ, Bool, true, false, not, ◌&&◌, ◌||◌, ◌==◌, List, ◌∷◌, length, slice_get, slice_set, Option, Some, None, is_none, is_some, refl, ap, ◌∙◌}
+use Rattle.std.proofs.Common.{◌≡◌, ◌<◌, ◌-◌, ◌^◌, ℕ, Bool, true, false, not, ◌&&◌, ◌||◌, ◌==◌, List, ◌∷◌, length, slice_get, slice_set, Option, Some, None, is_some, refl, ap, ◌∙◌}
 use Rattle.ace_event.specs.Bytes.{merged}
 use Rattle.ace_event.specs.declared.line.Line.{Line}
-use Rattle.ace_model.specs.Accepted.{least_broken, least_of}
+use Rattle.ace_model.specs.Accepted.{least_broken}
 use Rattle.ace_model.specs.AddressRules.{k1}
-use Rattle.ace_model.specs.Shares.{line_rules}
 use Rattle.ace_model.proofs.Terms.{D, Header, Trace, IsAccepted, full_line, is_some_and, is_unique, k32}
 use Rattle.ace_model.proofs.General.Options.{Some-injective}
 use Rattle.ace_portck.specs.Targets.{Recording, own_on, target_of}
@@ -20,7 +19,7 @@ use Rattle.ace_lineck.specs.Stands.{Stands, MayApply, place_on, record_of}
 use Rattle.ace_lineck.proofs.GrantFrame.{none-stays}
 use Rattle.ace_lineck.proofs.GrantSteps.{calm-stays, stays-unended}
 use Rattle.ace_lineck.proofs.HolderSteps.{d-stores, holder-step, holders-hear}
-use Rattle.ace_lineck.proofs.ShortWays.PlainEvents.{next-on, one_rule}
+use Rattle.ace_lineck.proofs.ShortWays.PlainEvents.{next-on}
 use Rattle.ace_lineck.proofs.RuleLaws.{k32-law}
 use Rattle.ace_lineck.specs.States.{state_at}
 
@@ -37,14 +36,14 @@ own-may true strobe b y = refl
 own-may false strobe b y = refl
 
 -- of a D K32
-pub store-kept : (s : LineCheck) (r : Recording) (p addr strobe : ℕ) (b : Bool) (line : Line) (x : LineRecord) (own : Option Progress) → Stands s r
+pub store-law : (s : LineCheck) (r : Recording) (p addr strobe : ℕ) (b : Bool) (line : Line) (x : LineRecord) (own : Option Progress) → Stands s r
     → k1 r.header r.past (D p addr strobe b line) ≡ true → own ≡ own_on r.header r.past p (Some addr) → x ≡ record_of s addr
-    → may_store_by (is_unique (state_at x.states p)) strobe b own ≡ is_none (least_of line_rules r.header r.past (D p addr strobe b line))
-store-kept s r p addr strobe b line x own st first is at =
+    → may_store_by (is_unique (state_at x.states p)) strobe b own ≡ k32 r.header r.past (D p addr strobe b line)
+store-law s r p addr strobe b line x own st first is at =
     let e = D p addr strobe b line in
     let next = next-on s r e addr x st first (λ m there. Some-injective addr m there) at in
     ap (may_store_by (is_unique (state_at x.states p)) strobe b) is
-    ∙ k32-law r.header r.past (target_of r.header r.past e) x p addr strobe b line next ∙ one_rule 32 (k32 r.header r.past e)
+    ∙ k32-law r.header r.past (target_of r.header r.past e) x p addr strobe b line next
 
 -- what it leaves of the data of its port
 pub stored-holders : (h : Header) (past : Trace) (l p addr strobe : ℕ) (b : Bool) (line : Line) (t : Target) (xs : List Holder) (x : Holder)

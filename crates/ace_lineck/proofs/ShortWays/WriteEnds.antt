@@ -1,12 +1,12 @@
--- A B of a line write: what it asks of its line, and what it leaves.
-use Rattle.std.proofs.Common.{◌≡◌, ◌<◌, ◌-◌, ◌^◌, ℕ, true, false, not, ◌&&◌, ◌∷◌, List, length, Option, Some, None, is_none, option_map, refl, sym, ap, ◌∙◌}
+-- A B: what it asks of its write, and what that of a line write leaves.
+use Rattle.std.proofs.Common.{◌≡◌, ◌<◌, ◌-◌, ◌^◌, ℕ, true, false, not, ◌&&◌, ◌∷◌, List, length, Option, Some, None, option_map, refl, sym, ap, ◌∙◌}
 use Rattle.ace_codes.specs.declared.kind.AwKind.{AwKind}
 use Rattle.ace_event.specs.declared.line.Line.{Line}
 use Rattle.ace_model.specs.declared.transactions.Transaction.{Transaction}
-use Rattle.ace_model.specs.Accepted.{least_broken, least_of}
+use Rattle.ace_model.specs.Accepted.{least_broken}
 use Rattle.ace_model.specs.Kinds.{has_write_data}
-use Rattle.ace_model.specs.Shares.{line_rules, k26_memory}
-use Rattle.ace_model.proofs.Terms.{B, Header, Trace, Write, IsAccepted, implies, is_ace, is_transaction, ended, outstanding}
+use Rattle.ace_model.specs.Shares.{k26_memory}
+use Rattle.ace_model.proofs.Terms.{B, Header, Trace, Write, IsAccepted, implies, is_ace, is_transaction, ended, outstanding, write_kind}
 use Rattle.ace_model.proofs.General.Options.{Some-injective}
 use Rattle.ace_model.proofs.Trace.Issued.{outstanding-name}
 use Rattle.ace_portck.specs.Targets.{Recording, after, line_in, line_of, progress_of, target_of}
@@ -25,26 +25,19 @@ use Rattle.ace_lineck.proofs.GrantFrame.{none-stays}
 use Rattle.ace_lineck.proofs.GrantHear.{ends_heard, none_heard, other_heard, over_heard}
 use Rattle.ace_lineck.proofs.GrantServes.{stays-other}
 use Rattle.ace_lineck.proofs.GrantSteps.{calm-stays}
-use Rattle.ace_lineck.proofs.ShortWays.PlainEvents.{one_rule}
 
--- the M of K26, of a B of the line write
-memory-is : (h : Header) (past : Trace) (p i resp : ℕ) (x : Progress) (k : AwKind) → option_map (progress_of h past) (outstanding h past p Write i) ≡ Some x
-    → line_write x.transaction ≡ Some k → implies (has_write_data k) x.written ≡ k26_memory h past (B p i resp)
-memory-is h past p i resp x k out line = by (outstanding h past p Write i) refl
+-- the M of K26
+pub memory-law : (h : Header) (past : Trace) (p i resp : ℕ) (x : Progress) (k : AwKind) → option_map (progress_of h past) (outstanding h past p Write i) ≡ Some x
+    → write_kind x.transaction ≡ Some k → implies (has_write_data k) x.written ≡ k26_memory h past (B p i resp)
+memory-law h past p i resp x k out kind = by (outstanding h past p Write i) refl
   where
     by : (o : Option Transaction) → outstanding h past p Write i ≡ o → implies (has_write_data k) x.written ≡ k26_memory h past (B p i resp)
     by None is = let bad : None ≡ Some x = rw is at out in cc
     by (Some y) is =
         let same : Some (progress_of h past y) ≡ Some x = rw is at out in
         let one : progress_of h past y ≡ x = cc in
-        let own : line_write y ≡ Some k = ap (λ (v : Progress). line_write v.transaction) one ∙ line in
-        let kind = (line_write-is y k own).kind in
-        rw (is, kind, ← one) refl
-
--- of the rules of the share a B breaks none but it
-pub response-law : (h : Header) (past : Trace) (p i resp : ℕ) (x : Progress) (k : AwKind) → option_map (progress_of h past) (outstanding h past p Write i) ≡ Some x
-    → line_write x.transaction ≡ Some k → implies (has_write_data k) x.written ≡ is_none (least_of line_rules h past (B p i resp))
-response-law h past p i resp x k out line = memory-is h past p i resp x k out line ∙ one_rule 26 (k26_memory h past (B p i resp))
+        let own : write_kind y ≡ Some k = ap (λ (v : Progress). write_kind v.transaction) one ∙ kind in
+        rw (is, own, ← one) refl
 
 -- at an ACE port it ends no transaction, so the grant of a line stays
 grant-still : (h : Header) (past : Trace) (p i resp l : ℕ) (g : Option Grant) → is_ace h p ≡ true → IsAccepted h (B p i resp ∷ past)

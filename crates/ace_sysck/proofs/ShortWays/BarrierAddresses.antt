@@ -1,21 +1,21 @@
 -- What the AR or AW that issues half of a barrier asks of the system, and what it moves: the barriers, and at an AR the results.
-use Rattle.std.proofs.Common.{◌≡◌, ◌∙◌, ◌<◌, ◌-◌, ◌^◌, Bool, true, false, ◌&&◌, ◌∷◌, length, get_or, slice_set, Some, None, is_none, refl}
+use Rattle.std.proofs.Common.{◌≡◌, ◌∙◌, ◌<◌, ◌-◌, ◌^◌, Bool, true, false, ◌&&◌, ◌∷◌, length, get_or, slice_set, Some, None, refl, ap}
 use Rattle.ace_event.specs.declared.event.Channel.TheVariants.{Read, Write}
 use Rattle.ace_event.specs.declared.event.Event.TheVariants.{Ar, Aw}
 use Rattle.ace_model.specs.Accepted.{IsAccepted, least_broken, least_of}
 use Rattle.ace_model.specs.AddressRules.{begins_barrier, begins_well}
 use Rattle.ace_model.specs.Barriers.{is_barrier_half}
+use Rattle.ace_model.specs.Kinds.{is_dvm_complete, is_dvm_message}
 use Rattle.ace_model.specs.Messages.{is_dvm_completion, is_message_part}
 use Rattle.ace_model.specs.OrderRules.{owes_completion}
 use Rattle.ace_model.specs.Shares.{system_rules}
 use Rattle.ace_model.specs.Trace.{implies}
+use Rattle.ace_model.specs.Transactions.{issued}
 use Rattle.ace_model.specs.declared.transactions.Transaction.{Transaction}
 use Rattle.ace_model.proofs.Terms.{Event, Header, Trace}
-use Rattle.ace_model.proofs.Trace.Outstanding.{write_issued}
 use Rattle.ace_portck.specs.BarrierAddresses.{IssuesHalf}
 use Rattle.ace_portck.specs.Targets.{Recording, after, target_of}
 use Rattle.ace_portck.proofs.ShortWays.BarrierAddresses.{each-half}
-use Rattle.ace_portck.proofs.ShortWays.PlainAddresses.{read_of}
 use Rattle.ace_sysck.specs.declared.barriers.Barrier.TheVariants.{Idle}
 use Rattle.ace_sysck.specs.declared.barriers.Barriers.{Barriers}
 use Rattle.ace_sysck.specs.declared.results.Results.{Results}
@@ -26,8 +26,8 @@ use Rattle.ace_sysck.specs.Results.{ResultsStand, slot_of}
 use Rattle.ace_sysck.specs.Stands.{Stands}
 use Rattle.ace_sysck.proofs.BarrierSteps.{barriers_begun}
 use Rattle.ace_sysck.proofs.ResultSteps.{results_ar}
-use Rattle.ace_sysck.proofs.ShortWays.MessageAddresses.{first-rule}
-use Rattle.ace_sysck.proofs.ShortWays.PlainAddresses.{begin-stands, idle, least_of_two}
+use Rattle.ace_sysck.proofs.ShortWays.PlainAddresses.{begin-stands, first-rule, idle, issue-rules, least_of_one}
+use Rattle.ace_sysck.proofs.ShortWays.Responses.{half-other}
 use Rattle.ace_sysck.proofs.Steps.{port_within}
 use Rattle.ace_sysck.proofs.Unmoved.{results_still}
 
@@ -53,18 +53,13 @@ half-begins h past =
     (λ p i addr snoop dom bar kind. record { issue = refl; begun = refl; part = refl; completion = refl })
 
 -- K9 of the half is all that is asked of it
-half-asked : (h : Header) (past : Trace) (e : Event) (x : Transaction) → is_none (least_of system_rules h past e) ≡ is_none (least_of_two (begins_well past x) (owes_completion past x))
-    → is_barrier_half x ≡ true → is_message_part x ≡ false → is_dvm_completion x ≡ false → is_none (least_of system_rules h past e) ≡ begins_barrier past x
-half-asked h past e x two half part completion =
-    two ∙ first-rule (begins_well past x) (owes_completion past x) (idle (is_dvm_completion x) _ completion)
-    ∙ only-first (is_barrier_half x) (is_message_part x) (is_dvm_completion x) _ _ _ half part completion
-
-pub half-rules : (h : Header) (past : Trace) (e : Event) (x : Transaction) → IssuesHalf past e x → is_none (least_of system_rules h past e) ≡ begins_barrier past x
-half-rules h past =
-    each-half (λ e x. is_none (least_of system_rules h past e) ≡ begins_barrier past x) past
-    (λ p i addr snoop dom bar lock kind unlocked.
-    half-asked h past (Ar p i addr snoop dom bar lock) (read_of (length past) p i addr snoop dom bar lock) refl (rw kind refl) (rw kind refl) (rw kind refl))
-    (λ p i addr snoop dom bar kind. half-asked h past (Aw p i addr snoop dom bar) (write_issued past p i addr snoop dom bar) refl (rw kind refl) refl refl)
+pub half-rule : (h : Header) (past : Trace) (e : Event) (x : Transaction) → issued (length past) e ≡ Some x → is_barrier_half x ≡ true
+    → least_of system_rules h past e ≡ least_of_one (begins_barrier past x)
+half-rule h past e x new half =
+    let part : is_message_part x ≡ false = half-other x is_dvm_message refl half in
+    let completion : is_dvm_completion x ≡ false = half-other x is_dvm_complete refl half in
+    issue-rules h past e x new ∙ first-rule (begins_well past x) (owes_completion past x) (idle (is_dvm_completion x) _ completion)
+    ∙ ap least_of_one (only-first (is_barrier_half x) (is_message_part x) (is_dvm_completion x) _ _ _ half part completion)
 
 -- the results after it: a half on the read channel is the last read of its name
 pub results-read : (r : Recording) (s n : Results) (e : Event) (x : Transaction) → IssuesHalf r.past e x → IsAccepted r.header (e ∷ r.past) → x.chan ≡ Read → x.id < 256 → ResultsStand r s

@@ -1,12 +1,14 @@
 -- What the AR of a DVM Message and of a DVM Complete ask of the system, and what they move: the results, the Syncs, and of a DVM Message the
 -- inboxes and the messages of its port.
-use Rattle.std.proofs.Common.{◌≡◌, ◌∙◌, ◌<◌, ◌-◌, ◌^◌, ℕ, Bool, true, false, ◌&&◌, ◌∷◌, length, get_or, slice_set, Some, None, is_none, refl, sym, ap, subst}
+use Rattle.std.proofs.Common.{◌≡◌, ◌∙◌, ◌<◌, ◌-◌, ◌^◌, ℕ, Bool, true, false, ◌&&◌, nat_eq, nat_lt, ◌∷◌, length, get_or, slice_set, Some, None, refl, sym, ap, subst}
+use Rattle.std.proofs.lemmas.Bool.{and_parts, ltb-true}
+use Rattle.ace_codes.specs.Reads.{ar_kind_of}
 use Rattle.ace_codes.specs.declared.kind.ArKind.TheVariants as read
 use Rattle.ace_event.specs.declared.event.Event.TheVariants.{Ar}
 use Rattle.ace_model.specs.Accepted.{IsAccepted, least_broken, least_of}
-use Rattle.ace_model.specs.AddressRules.{is_part_in_order, k9}
+use Rattle.ace_model.specs.AddressRules.{is_part_in_order, k1, k9}
 use Rattle.ace_model.specs.Barriers.{is_barrier_half}
-use Rattle.ace_model.specs.Messages.{first_waiting, is_dvm_completion, is_message_part}
+use Rattle.ace_model.specs.Messages.{answered_syncs, dvm_completes, first_waiting, is_dvm_completion, is_message_part}
 use Rattle.ace_model.specs.OrderRules.{k38}
 use Rattle.ace_model.specs.Shares.{system_rules}
 use Rattle.ace_model.specs.Trace.{implies}
@@ -17,7 +19,7 @@ use Rattle.ace_model.proofs.Terms.{Event, Header, Trace}
 use Rattle.ace_portck.specs.DvmReads.{is_completion, is_message}
 use Rattle.ace_portck.specs.Targets.{Recording, after, target_of}
 use Rattle.ace_portck.specs.declared.target.Target.{Target}
-use Rattle.ace_portck.proofs.ShortWays.DvmReads.{AreFields, completion-dvm, completion-is, dvm_address-no_half, message-dvm, message-is}
+use Rattle.ace_portck.proofs.ShortWays.DvmReads.{completion-is, message-is}
 use Rattle.ace_portck.proofs.ShortWays.PlainAddresses.{read_of}
 use Rattle.ace_sysck.specs.declared.inboxes.Inboxes.{Inboxes}
 use Rattle.ace_sysck.specs.declared.messages.Messages.{Messages}
@@ -36,7 +38,7 @@ use Rattle.ace_sysck.proofs.BarrierSteps.{barriers_plain}
 use Rattle.ace_sysck.proofs.Forwarding.InboxHears.{inboxes_plain, inboxes_sent}
 use Rattle.ace_sysck.proofs.MessageSteps.{messages_part, messages_plain}
 use Rattle.ace_sysck.proofs.ResultSteps.{results_ar}
-use Rattle.ace_sysck.proofs.ShortWays.PlainAddresses.{idle, least_of_two}
+use Rattle.ace_sysck.proofs.ShortWays.PlainAddresses.{first-rule, idle, least_of_one, least_of_two}
 use Rattle.ace_sysck.proofs.Steps.{port_within}
 use Rattle.ace_sysck.proofs.SyncSteps.{syncs_completion}
 use Rattle.ace_sysck.proofs.Unmoved.{monitors_still, registrations_still}
@@ -49,46 +51,53 @@ only-second true b c x y z off on out = cc
 only-second false false c x y z off on out = cc
 only-second false true true x y z off on out = cc
 
-pub first-rule : (a b : Bool) → b ≡ true → is_none (least_of_two a b) ≡ a
-first-rule true true kept = refl
-first-rule false b kept = refl
-first-rule true false kept = cc
+only-third : (a b c x y z : Bool) → a ≡ false → b ≡ false → c ≡ true → (implies a x && implies b y && implies c z) ≡ z
+only-third false false true x y z off out on = refl
+only-third true b c x y z off out on = cc
+only-third false true c x y z off out on = cc
+only-third false false false x y z off out on = cc
 
 module _ (h : Header) (past : Trace) (p i addr snoop dom bar : ℕ) (lock : Bool) where
   abbrev begun : Transaction
   begun = read_of (length past) p i addr snoop dom bar lock
 
-  module _ (is : is_message snoop dom bar lock ≡ true) where
-    fields : AreFields snoop dom bar lock read.DvmMessage
-    fields = message-is snoop dom bar lock is
+  -- where it keeps K1 its port is one of the header
+  pub ar-within : k1 h past (Ar p i addr snoop dom bar lock) ≡ true → p < h.ports
+  ar-within first = ltb-true p h.ports (and_parts (nat_lt p h.ports) _ first).0
 
+  module _ (kind : ar_kind_of snoop dom bar ≡ Some read.DvmMessage) where
     message-no_half : is_barrier_half begun ≡ false
-    message-no_half = dvm_address-no_half (length past) p i addr snoop dom bar lock (message-dvm snoop dom bar lock is)
+    message-no_half = rw kind refl
 
     message-part : is_message_part begun ≡ true
-    message-part = rw fields.kind refl
+    message-part = rw kind refl
 
     message-no_completion : is_dvm_completion begun ≡ false
-    message-no_completion = rw fields.kind refl
+    message-no_completion = rw kind refl
 
     -- the order of the parts is all that is asked of a DVM Message
-    pub message-rules : is_none (least_of system_rules h past (Ar p i addr snoop dom bar lock)) ≡ is_part_in_order past begun (first_waiting past p)
-    message-rules =
+    pub message-rule : least_of system_rules h past (Ar p i addr snoop dom bar lock) ≡ least_of_one (is_part_in_order past begun (first_waiting past p))
+    message-rule =
         first-rule (k9 h past (Ar p i addr snoop dom bar lock)) (k38 h past (Ar p i addr snoop dom bar lock)) (idle (is_dvm_completion begun) _ message-no_completion)
-        ∙ only-second (is_barrier_half begun) (is_message_part begun) (is_dvm_completion begun) _ _ _ message-no_half message-part message-no_completion
+        ∙ ap least_of_one (only-second (is_barrier_half begun) (is_message_part begun) (is_dvm_completion begun) _ _ _ message-no_half message-part message-no_completion)
 
-  module _ (is : is_completion snoop dom bar lock ≡ true) where
-    completion-fields : AreFields snoop dom bar lock read.DvmComplete
-    completion-fields = completion-is snoop dom bar lock is
-
+  module _ (kind : ar_kind_of snoop dom bar ≡ Some read.DvmComplete) where
     completion-no_half : is_barrier_half begun ≡ false
-    completion-no_half = dvm_address-no_half (length past) p i addr snoop dom bar lock (completion-dvm snoop dom bar lock is)
+    completion-no_half = rw kind refl
 
     completion-no_part : is_message_part begun ≡ false
-    completion-no_part = rw completion-fields.kind refl
+    completion-no_part = rw kind refl
 
     completes : is_dvm_completion begun ≡ true
-    completes = rw completion-fields.kind refl
+    completes = rw kind refl
+
+    -- of a DVM Complete the address, and that the port has answered a Sync for it
+    pub completion-rule : least_of system_rules h past (Ar p i addr snoop dom bar lock)
+        ≡ least_of_two (nat_eq addr 0) (nat_lt (dvm_completes past p) (answered_syncs past p))
+    completion-rule =
+        ap (λ b. least_of_two b (k38 h past (Ar p i addr snoop dom bar lock)))
+        (only-third (is_barrier_half begun) (is_message_part begun) (is_dvm_completion begun) _ _ _ completion-no_half completion-no_part completes)
+        ∙ ap (λ b. least_of_two (nat_eq addr 0) (implies b (nat_lt (dvm_completes past p) (answered_syncs past p)))) completes
 
 pub completion-stands : (s : SysCheck) (n : Results) (m : Syncs) (r : Recording) (p i addr snoop dom bar : ℕ) (lock : Bool) → Stands s r → is_completion snoop dom bar lock ≡ true
     → least_broken r.header r.past (Ar p i addr snoop dom bar lock) ≡ None → length r.past < 2 ^ 64 - 1 → i < 256
@@ -98,15 +107,18 @@ completion-stands s n m r p i addr snoop dom bar lock st is fine few low items p
   header = st.header;
   ports = st.ports;
   accepted = accepted;
-  barriers = barriers_plain r s.barriers e t x refl refl (completion-no_half r.header r.past p i addr snoop dom bar lock is) st.barriers;
+  barriers = barriers_plain r s.barriers e t x refl refl (completion-no_half r.header r.past p i addr snoop dom bar lock kind) st.barriers;
   monitors = monitors_still r s.monitors e refl st.monitors;
   results = results_ar r s.results n p i addr snoop dom bar lock st.results (port_within r.header r.past e p accepted refl) low items;
   registrations = registrations_still r s.registrations e t step refl st.registrations;
-  messages = messages_plain r s.messages e t x refl refl (completion-no_part r.header r.past p i addr snoop dom bar lock is) st.messages;
-  inboxes = inboxes_plain r s.inboxes e t x refl refl low (completion-no_part r.header r.past p i addr snoop dom bar lock is) st.inboxes;
-  syncs = syncs_completion r s.syncs m e t x step refl (completion-no_part r.header r.past p i addr snoop dom bar lock is) (completes r.header r.past p i addr snoop dom bar lock is) st.syncs ports;
+  messages = messages_plain r s.messages e t x refl refl (completion-no_part r.header r.past p i addr snoop dom bar lock kind) st.messages;
+  inboxes = inboxes_plain r s.inboxes e t x refl refl low (completion-no_part r.header r.past p i addr snoop dom bar lock kind) st.inboxes;
+  syncs = syncs_completion r s.syncs m e t x step refl (completion-no_part r.header r.past p i addr snoop dom bar lock kind) (completes r.header r.past p i addr snoop dom bar lock kind) st.syncs ports;
 }
   where
+    kind : ar_kind_of snoop dom bar ≡ Some read.DvmComplete
+    kind = (completion-is snoop dom bar lock is).kind
+
     e : Event
     e = Ar p i addr snoop dom bar lock
 
@@ -145,6 +157,9 @@ message-stands s n y b m kept r p i addr snoop dom bar lock x st is fine few new
   syncs = syncs t step new part;
 }
   where
+    kind : ar_kind_of snoop dom bar ≡ Some read.DvmMessage
+    kind = (message-is snoop dom bar lock is).kind
+
     e : Event
     e = Ar p i addr snoop dom bar lock
 
@@ -158,10 +173,10 @@ message-stands s n y b m kept r p i addr snoop dom bar lock x st is fine few new
     small = subst (λ (z : Transaction). z.id < 256) (sym same) low
 
     half : is_barrier_half x ≡ false
-    half = subst (λ z. is_barrier_half z ≡ false) same (message-no_half r.header r.past p i addr snoop dom bar lock is)
+    half = subst (λ z. is_barrier_half z ≡ false) same (message-no_half r.header r.past p i addr snoop dom bar lock kind)
 
     part : is_message_part x ≡ true
-    part = subst (λ z. is_message_part z ≡ true) same (message-part r.header r.past p i addr snoop dom bar lock is)
+    part = subst (λ z. is_message_part z ≡ true) same (message-part r.header r.past p i addr snoop dom bar lock kind)
 
     accepted : IsAccepted r.header (e ∷ r.past)
     accepted = (st.accepted, fine)

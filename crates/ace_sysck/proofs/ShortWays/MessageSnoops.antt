@@ -1,11 +1,10 @@
--- ACs of DVM: what the rules ask, and what they leave.
-use Rattle.std.proofs.Common.{◌≡◌, ℕ, Bool, true, false, not, ◌&&◌, ◌||◌, if◌then◌else◌, length, Some, None, is_none, slice_get, ◌<◌, ◌-◌, ◌^◌, refl, sym, ap, subst, ◌∙◌}
+-- ACs: what the rules ask of one of a kind, and what an AC of DVM leaves.
+use Rattle.std.proofs.Common.{◌≡◌, ℕ, Bool, true, false, not, ◌||◌, length, Some, None, slice_get, ◌<◌, ◌-◌, ◌^◌, refl, sym, ap, subst, ◌∙◌}
 use Rattle.ace_codes.specs.declared.kind.SnoopKind.{SnoopKind}
 use Rattle.ace_codes.specs.declared.kind.SnoopKind.TheVariants as snoop
-use Rattle.ace_model.specs.Accepted.{least_broken, least_of}
+use Rattle.ace_model.specs.Accepted.{least_broken}
 use Rattle.ace_model.specs.AddressRules.{k1}
 use Rattle.ace_model.specs.OrderRules.{completes_next, k39}
-use Rattle.ace_model.specs.Shares.{system_rules}
 use Rattle.ace_model.proofs.Terms.{Ac, ac_kind_of, is_complete_snoop, is_message_snoop, is_none_or, is_some_and, k36}
 use Rattle.ace_portck.specs.Targets.{Recording, after, target_of}
 use Rattle.ace_sysck.specs.declared.system.SysCheck.{SysCheck}
@@ -24,11 +23,6 @@ other-kind snoop.DvmMessage no_message no_complete = absurd (no_message refl)
 other-kind snoop.DvmComplete no_message no_complete = absurd (no_complete refl)
 other-kind k no_message no_complete = (refl, refl)
 
-both : (a b : Bool) → (a && b) ≡ is_none {T = ℕ} (if a then (if b then None else Some 39) else Some 36)
-both true true = refl
-both true false = refl
-both false b = refl
-
 module _ (r : Recording) (p addr code : ℕ) (k : SnoopKind) (kind : ac_kind_of code ≡ Some k) where
   -- a test of the kind
   pub of-kind : (test : SnoopKind → Bool) (b : Bool) → test k ≡ b → is_some_and (ac_kind_of code) test ≡ b
@@ -36,7 +30,7 @@ module _ (r : Recording) (p addr code : ℕ) (k : SnoopKind) (kind : ac_kind_of 
 
   module _ (s : SysCheck) (stands : Stands s r) where
     -- K39
-    completes : k1 r.header r.past (Ac p addr code) ≡ true → (b : Bool) → is_complete_snoop k ≡ b
+    pub completes : k1 r.header r.past (Ac p addr code) ≡ true → (b : Bool) → is_complete_snoop k ≡ b
         → k39 r.header r.past (Ac p addr code) ≡ (not b || completes_now s.header s.messages s.syncs p addr)
     completes first true is =
         k39-is r s.header s.messages s.syncs p addr code (target_of r.header r.past (Ac p addr code)) (record {
@@ -47,15 +41,11 @@ module _ (r : Recording) (p addr code : ℕ) (k : SnoopKind) (kind : ac_kind_of 
         }) (of-kind is_complete_snoop true is)
     completes first false is = ap (λ o. is_none_or o (completes_next r.header r.past p addr)) kind ∙ rw is refl
 
-    pub message_snoop-law : k1 r.header r.past (Ac p addr code) ≡ true
-        → (forwards_in (next_in (slice_get s.inboxes.ports.items p)) addr k && (not (is_complete_snoop k) || completes_now s.header s.messages s.syncs p addr))
-        ≡ is_none (least_of system_rules r.header r.past (Ac p addr code))
-    message_snoop-law first =
+    -- K36
+    pub forwards : k1 r.header r.past (Ac p addr code) ≡ true → k36 r.header r.past (Ac p addr code) ≡ forwards_in (next_in (slice_get s.inboxes.ports.items p)) addr k
+    forwards first =
         let asked : IsAsked r (Ac p addr code) (target_of r.header r.past (Ac p addr code)) = record { header = stands.ports; accepted = stands.accepted; first = first; target = refl } in
-        let forwards = k36-is r s.inboxes p addr code (target_of r.header r.past (Ac p addr code)) k (record { asked = asked; stands = stands.inboxes }) kind in
-        ap (λ b. b && (not (is_complete_snoop k) || completes_now s.header s.messages s.syncs p addr)) (sym forwards)
-        ∙ ap (λ b. k36 r.header r.past (Ac p addr code) && b) (sym (completes first (is_complete_snoop k) refl))
-        ∙ both (k36 r.header r.past (Ac p addr code)) (k39 r.header r.past (Ac p addr code))
+        k36-is r s.inboxes p addr code (target_of r.header r.past (Ac p addr code)) k (record { asked = asked; stands = stands.inboxes }) kind
 
     -- it moves messages and inboxes at most
     pub snoop-stands : (n : SysCheck) → least_broken r.header r.past (Ac p addr code) ≡ None → length r.past < 2 ^ 64 - 1

@@ -1,19 +1,22 @@
 -- The AR of a line read, whatever its lock is: it breaks no rule of the share, and moves the results alone. What moves them at most.
-use Rattle.std.proofs.Common.{◌≡◌, ◌<◌, ◌-◌, ◌^◌, ℕ, Bool, true, false, ◌&&◌, if◌then◌else◌, length, Option, Some, None, slice_set, refl}
+use Rattle.std.proofs.Common.{◌≡◌, ◌<◌, ◌-◌, ◌^◌, ℕ, Bool, true, false, ◌&&◌, if◌then◌else◌, length, Option, Some, None, slice_set, refl, ap}
 use Rattle.ace_codes.specs.declared.kind.ArKind.{ArKind}
 use Rattle.ace_codes.specs.declared.kind.ArKind.TheVariants as read
 use Rattle.ace_codes.specs.Reads.{ar_kind_of}
-use Rattle.ace_event.specs.declared.event.Event.TheVariants.{Ar}
+use Rattle.ace_event.specs.declared.event.Event.TheVariants.{Ar, Aw}
 use Rattle.ace_model.specs.Accepted.{least_broken, least_of}
-use Rattle.ace_model.specs.AddressRules.{k9}
+use Rattle.ace_model.specs.AddressRules.{begins_well, k9}
 use Rattle.ace_model.specs.Barriers.{is_barrier_half}
 use Rattle.ace_model.specs.Kinds.{is_dvm_complete, is_line_read}
 use Rattle.ace_model.specs.Messages.{is_dvm_completion, is_message_part}
-use Rattle.ace_model.specs.OrderRules.{k38}
+use Rattle.ace_model.specs.OrderRules.{k38, owes_completion}
 use Rattle.ace_model.specs.Shares.{system_rules}
 use Rattle.ace_model.specs.Trace.{implies}
+use Rattle.ace_model.specs.Transactions.{issued}
 use Rattle.ace_model.specs.declared.transactions.Transaction.{Transaction}
+use Rattle.ace_model.proofs.General.Options.{Some-injective}
 use Rattle.ace_model.proofs.Terms.{Event, Header, Trace}
+use Rattle.ace_model.proofs.Trace.Outstanding.{write_issued}
 use Rattle.ace_portck.specs.Targets.{Recording, after, target_of}
 use Rattle.ace_portck.specs.declared.target.Target.{Target}
 use Rattle.ace_portck.proofs.ShortWays.Plain.{IsPlainRead, plain_read-no_half, plain_read-no_message}
@@ -54,6 +57,24 @@ all-three true true false is also too = cc
 
 abbrev pub least_of_two : Bool → Bool → Option ℕ
 least_of_two a b = if a then if b then None else Some 38 else Some 9
+
+-- of an event that issues a transaction only K9 and K38 can be broken
+pub issue-rules : (h : Header) (past : Trace) (e : Event) (x : Transaction) → issued (length past) e ≡ Some x
+    → least_of system_rules h past e ≡ least_of_two (begins_well past x) (owes_completion past x)
+issue-rules h past (Ar p i addr snoop dom bar lock) x is =
+    ap (λ z. least_of_two (begins_well past z) (owes_completion past z)) (Some-injective (read_of (length past) p i addr snoop dom bar lock) x is)
+issue-rules h past (Aw p i addr snoop dom bar) x is =
+    ap (λ z. least_of_two (begins_well past z) (owes_completion past z)) (Some-injective (write_issued past p i addr snoop dom bar) x is)
+issue-rules h past e x is = let bad : None ≡ Some x = is in cc
+
+-- and K9 alone, where K38 is kept
+abbrev pub least_of_one : Bool → Option ℕ
+least_of_one a = if a then None else Some 9
+
+pub first-rule : (a b : Bool) → b ≡ true → least_of_two a b ≡ least_of_one a
+first-rule true true kept = refl
+first-rule false b kept = refl
+first-rule true false kept = cc
 
 pub two-rules : (a b : Bool) → a ≡ true → b ≡ true → least_of_two a b ≡ None
 two-rules true true is also = refl

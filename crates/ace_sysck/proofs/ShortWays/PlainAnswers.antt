@@ -1,18 +1,12 @@
 -- An answer to a transaction that is neither half of a barrier nor part of a DVM message leaves what is kept of the system as it is.
-use Rattle.std.proofs.Common.{◌≡◌, ◌<◌, ◌-◌, ◌^◌, ℕ, Bool, true, false, ◌&&◌, nat_eq, if◌then◌else◌, length, get_or, Some, None, is_none, refl, sym, ap, ◌∙◌}
+use Rattle.std.proofs.Common.{◌≡◌, ◌<◌, ◌-◌, ◌^◌, ℕ, Bool, true, false, length, get_or, Some, None, is_none, refl, sym, ap, ◌∙◌}
 use Rattle.std.proofs.lemmas.Bool.{and_right, ne_eqb}
-use Rattle.ace_codes.specs.Responses.{low_bits}
 use Rattle.ace_codes.specs.declared.kind.ArKind.{ArKind}
 use Rattle.ace_codes.specs.declared.kind.AwKind.{AwKind}
 use Rattle.ace_event.specs.declared.event.Channel.TheVariants.{Read, Write}
 use Rattle.ace_model.specs.declared.transactions.Transaction.{Transaction}
 use Rattle.ace_model.specs.Accepted.{least_broken, least_of}
-use Rattle.ace_model.specs.Exclusives.{has_passed}
-use Rattle.ace_model.specs.Kinds.{is_clean_unique}
-use Rattle.ace_model.specs.ReadRules.{is_exclusive_okay}
 use Rattle.ace_model.specs.Shares.{system_rules}
-use Rattle.ace_model.specs.Trace.{implies, is_some_and}
-use Rattle.ace_model.specs.Transactions.{is_exclusive_store, read_kind}
 use Rattle.ace_model.proofs.Terms.{Event, R, B, Header, Trace, is_barrier_half, is_barrier_of, is_completion_event, is_message_part, last_sync, option_filter, outstanding, part_in, sync_in}
 use Rattle.ace_model.proofs.Dvm.Syncs.{last_sync-is, sync-at}
 use Rattle.ace_model.proofs.General.Options.{Some-injective}
@@ -21,7 +15,7 @@ use Rattle.ace_portck.specs.Plain.{plain_read}
 use Rattle.ace_portck.specs.Targets.{Recording, after, target_of}
 use Rattle.ace_portck.specs.WriteEnds.{line_write}
 use Rattle.ace_portck.proofs.ShortWays.WriteEnds.{line_write-is, line_write-no_half, line_write-no_message}
-use Rattle.ace_portck.proofs.ShortWays.Plain.{IsPlainRead, plain_read-is, plain_read-no_half, plain_read-no_message}
+use Rattle.ace_portck.proofs.ShortWays.Plain.{plain_read-is, plain_read-no_half, plain_read-no_message}
 use Rattle.ace_sysck.specs.declared.barriers.Barrier.TheVariants.{Idle}
 use Rattle.ace_sysck.specs.declared.barriers.Barriers.{Barriers}
 use Rattle.ace_sysck.specs.declared.messages.Messages.{Messages}
@@ -95,31 +89,6 @@ pub system_unmoved_by_beat : (s : SysCheck) (r : Recording) (p id resp : ℕ) (l
 system_unmoved_by_beat s r p id resp last word x k stands out plain kept few =
     let is = plain_read-is x k plain in
     system_unanswered s r (R p id resp last word) x stands kept few out (plain_read-no_half x k is) (plain_read-no_message x k is)
-
--- a read that is no exclusive store is answered with EXOKAY exactly where it has lock 1
-plain-okay : (past : Trace) (x : Transaction) → is_exclusive_store x ≡ false → is_exclusive_okay past x ≡ x.lock
-plain-okay past x none = by x.lock (is_some_and (read_kind x) is_clean_unique) (has_passed past x) none
-  where
-    by : (lock clean passed : Bool) → (lock && clean) ≡ false → (lock && implies clean passed) ≡ lock
-    by false clean passed none = refl
-    by true false passed none = refl
-    by true true passed none = cc
-
--- of the rules of the share only K21 can be broken by it: its low bits are those of EXOKAY for an exclusive load, and else those of OKAY
-pub beat_rules : (h : Header) (past : Trace) (p id resp : ℕ) (last : Bool) (word : ℕ) (x : Transaction) (k : ArKind) → outstanding h past p Read id ≡ Some x → plain_read x ≡ Some k
-    → is_none (least_of system_rules h past (R p id resp last word)) ≡ nat_eq (low_bits resp) (if x.lock then 1 else 0)
-beat_rules h past p id resp last word x k out plain = by (nat_eq (low_bits resp) (if x.lock then 1 else 0)) refl
-  where
-    is : IsPlainRead x k
-    is = plain_read-is x k plain
-
-    okay : is_exclusive_okay past x ≡ x.lock
-    okay = plain-okay past x is.unfailing
-
-    by : (b : Bool) → nat_eq (low_bits resp) (if x.lock then 1 else 0) ≡ b
-        → is_none (least_of system_rules h past (R p id resp last word)) ≡ nat_eq (low_bits resp) (if x.lock then 1 else 0)
-    by true t = rw (out, okay, plain_read-no_half x k is, plain_read-no_message x k is, t) refl
-    by false f = rw (out, okay, f) refl
 
 -- a B of a line write leaves all of it
 pub system_unmoved_by_response : (s : SysCheck) (r : Recording) (p id resp : ℕ) (x : Transaction) (k : AwKind) → Stands s r → outstanding r.header r.past p Write id ≡ Some x

@@ -13,4 +13,4 @@ returns-then-takes-clause-broken c = λ h past b s.
 
 pub returns-clause-broken : goal.returns-clause-broken
 returns-clause-broken c = λ h past b s.
-    c.feed_generally.ensures.broken h past b (subst (λ (v : Checker). Stands v h past (Some b)) (sym (c.takes.ensures.stays c.if-takes.false)) s)
+    c.answer.ensures.broken h past b (subst (λ (v : Checker). Stands v h past (Some b)) (sym (c.takes.ensures.stays c.if-takes.false)) s)

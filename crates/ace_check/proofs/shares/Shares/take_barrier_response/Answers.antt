@@ -5,7 +5,6 @@ use Rattle.ace_model.specs.Barriers.{is_barrier_half}
 use Rattle.ace_model.specs.Transactions.{outstanding}
 use Rattle.ace_portck.specs.Targets.{Recording, progress_of}
 use Rattle.ace_lineck.proofs.ShortWays.BarrierResponses.{barrier_response-law, lines_unmoved_by_response}
-use Rattle.ace_sysck.proofs.ShortWays.BarrierResponses.{response_by_34}
 use Rattle.ace_sysck.proofs.Steps.{progress_from}
 use Rattle.ace_check.proofs.ShortWays.PortRules.{names-none}
 use Rattle.ace_check.proofs.ShortWays.WriteEnds.{keeps-response}
@@ -21,7 +20,9 @@ returns-clause-taken c = λ h past s few taken.
     let half : is_barrier_half x.transaction ≡ true = sym c.is_barrier_half.ensures ∙ c.if-not-is_barrier_half.false in
     let ports = names-none _ _ _ c.is_some.ensures (c.rule_of_b-rule.ensures r b.id s.ports served) c.if-is_some.false in
     let lines = barrier_response-law h past b.port b.id b.resp x.transaction out half in
-    let system = response_by_34 h past b.port b.id b.resp x.transaction out ∙ sym (c.may_answer_half.ensures r b.port b.id Write s.ports s.system out half) ∙ c.if-not-may_answer_half.false in
+    let rule =
+    c.rule_of_half_b-rule.ensures r b.port b.id b.resp s.system out half (c.first_unordered-unordered.ensures r s.ports) (c.first_incomplete-incomplete.ensures r s.ports) in
+    let system = names-none _ _ _ c.is_some-2.ensures rule c.if-is_some-2.false in
     let fine = keeps-response h past b.port b.id b.resp ports lines system in (
       fine,
       record {

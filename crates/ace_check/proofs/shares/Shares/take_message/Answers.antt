@@ -1,4 +1,4 @@
-use Rattle.std.proofs.Common.{◌≡◌, ◌∙◌, true, is_none, sym}
+use Rattle.std.proofs.Common.{◌≡◌, true, is_none, sym}
 use Rattle.ace_event.specs.declared.event.Event.{Event}
 use Rattle.ace_event.specs.declared.event.Event.TheVariants.{Ar}
 use Rattle.ace_model.specs.Accepted.{least_of}
@@ -6,7 +6,8 @@ use Rattle.ace_model.specs.Shares.{port_rules, system_rules}
 use Rattle.ace_portck.specs.Targets.{Recording}
 use Rattle.ace_portck.proofs.ShortWays.DvmReads.{message-dvm, message-is}
 use Rattle.ace_lineck.proofs.ShortWays.MessageAddresses.{lines-unmoved}
-use Rattle.ace_check.proofs.ShortWays.MessageAddresses.{keeps-all, names-no_line, port_there}
+use Rattle.ace_check.proofs.ShortWays.MessageAddresses.{keeps-all, names-no_line}
+use Rattle.ace_check.proofs.ShortWays.PlainSteps.{ports_keep_1}
 use Rattle.ace_check.proofs.ShortWays.PortRules.{names-none}
 use Rattle.ace_check.proofs.shares.Shares.take_message.Goals as goal
 
@@ -16,9 +17,11 @@ returns-clause-taken c = λ h past s few is yes.
     let e : Event = Ar a.port a.id a.addr a.snoop a.dom a.bar a.lock in
     let r : Recording = record { header = h; past = past } in
     let dvm = message-dvm a.snoop a.dom a.bar a.lock is in
-    let ports : is_none (least_of port_rules h past e) ≡ true = names-none _ _ _ c.is_some.ensures (c.rule_of_ar-rule.ensures r a.snoop a.dom a.bar s.ports (sym (message-is a.snoop a.dom a.bar a.lock is).kind)) c.if-is_some.false in
-    let low = port_there h past a.port a.id a.addr a.snoop a.dom a.bar a.lock ports in
-    let system : is_none (least_of system_rules h past e) ≡ true = sym (c.keeps_message.ensures r a.id a.snoop a.lock s.system is low) ∙ c.if-not-keeps_message.false in
+    let kind = (message-is a.snoop a.dom a.bar a.lock is).kind in
+    let ports : is_none (least_of port_rules h past e) ≡ true =
+    names-none _ _ _ c.is_some.ensures (c.rule_of_ar-rule.ensures r a.snoop a.dom a.bar s.ports (sym kind)) c.if-is_some.false in
+    let rule = c.rule_of_message_ar-rule.ensures r a.id a.snoop a.lock s.system kind (ports_keep_1 h past e ports) in
+    let system : is_none (least_of system_rules h past e) ≡ true = names-none _ _ _ c.is_some-2.ensures rule c.if-is_some-2.false in
     let fine = keeps-all h past a.port a.id a.addr a.snoop a.dom a.bar a.lock dvm ports system in (
       fine,
       record {

@@ -4,6 +4,7 @@ use Rattle.ace_event.specs.declared.event.Channel.TheVariants.{Write}
 use Rattle.ace_model.specs.Transactions.{outstanding}
 use Rattle.ace_portck.specs.Targets.{Recording, progress_of}
 use Rattle.ace_portck.specs.WriteEnds.{line_write}
+use Rattle.ace_portck.proofs.ShortWays.WriteEnds.{line_write-is}
 use Rattle.ace_sysck.proofs.ShortWays.PlainAnswers.{response_rules, system_unmoved_by_response}
 use Rattle.ace_sysck.proofs.Steps.{progress_from}
 use Rattle.ace_check.proofs.ShortWays.PortRules.{names-none}
@@ -20,12 +21,12 @@ returns-clause-taken c = λ h past s few taken.
     let out = progress_from h past (outstanding h past b.port Write b.id) x served in
     let line : line_write x.transaction ≡ Some k = sym c.line_write.ensures ∙ c.in-Some-line_write.is in
     let ports = names-none _ _ _ c.is_some.ensures (c.rule_of_b-rule.ensures r b.id s.ports served) c.if-is_some.false in
-    let lines = sym (c.keeps_written_response.ensures r b.port b.id b.resp served line) ∙ c.if-not-keeps_written_response.false in
+    let lines = names-none _ _ _ c.is_some-2.ensures (c.rule_of_b.ensures r b.port b.id b.resp served (line_write-is x.transaction k line).kind) c.if-is_some-2.false in
     let fine = keeps-response h past b.port b.id b.resp ports lines (response_rules h past b.port b.id b.resp x.transaction k out line) in (
       fine,
       record {
         ports = c.apply.ensures.stands r (record { stands = s.ports; room = λ p kept own at. tt; keeps = fine; few = few });
-        lines = c.hear_response.ensures r b.port b.id b.resp k s.lines served line fine few;
+        lines = c.hear_response.ensures.stands r b.port b.id b.resp k s.lines served line fine few;
         system = system_unmoved_by_response c.args.self.now.system r b.port b.id b.resp x.transaction k s.system out line fine few;
       },
     )

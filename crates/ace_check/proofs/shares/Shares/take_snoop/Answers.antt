@@ -2,7 +2,7 @@ use Rattle.std.proofs.Common.{◌≡◌, true, sym, ◌∙◌}
 use Rattle.ace_model.specs.Snoops.{snoops_a_line}
 use Rattle.ace_model.proofs.General.Options.{none_is}
 use Rattle.ace_portck.specs.Targets.{Recording}
-use Rattle.ace_sysck.proofs.ShortWays.SnoopLaws.{system_still}
+use Rattle.ace_sysck.proofs.ShortWays.LineSnoops.{system_still}
 use Rattle.ace_check.proofs.shares.Shares.take_snoop.Goals as goal
 
 pub returns-clause-taken : goal.returns-clause-taken
@@ -16,7 +16,7 @@ returns-clause-taken c = λ h past s few taken.
       fine,
       record {
         ports = c.apply.ensures.stands r (record { stands = s.ports; room = room; keeps = fine; few = few });
-        lines = c.hear_snoop.ensures r x.addr x.snoop (record { stands = s.lines; line = line; at = at; kept = fine; few = few });
+        lines = c.hear_snoop.ensures.stands r x.addr x.snoop (record { stands = s.lines; line = line; at = at; kept = fine; few = few });
         system = system_still r c.args.self.now.system x.port x.addr x.snoop s.system (s.system.accepted, fine) line few;
       },
     )

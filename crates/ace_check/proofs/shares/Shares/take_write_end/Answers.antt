@@ -8,6 +8,7 @@ use Rattle.ace_model.specs.Transactions.{write_kind}
 use Rattle.ace_portck.specs.Targets.{Recording, line_in, line_of, transaction_in}
 use Rattle.ace_lineck.specs.Stands.{place_on}
 use Rattle.ace_check.proofs.ShortWays.PlainAcknowledges.{acknowledge-fine}
+use Rattle.ace_check.proofs.ShortWays.PortRules.{names-none}
 use Rattle.ace_check.proofs.shares.Shares.take_write_end.Goals as goal
 
 pub returns-clause-taken : goal.returns-clause-taken
@@ -20,12 +21,12 @@ returns-clause-taken c = λ h past s few taken.
     let kind : write_kind x.transaction ≡ Some k = sym c.write_kind.ensures ∙ c.in-Some-write_kind.is in
     let line : c.line_of_write-line.result ≡ line_in h past (Wk a.port a.st) = c.line_of_write-line.ensures kind ∙ ap line_of (sym own) in
     let at : c.place-place.result ≡ place_on c.args.self.now.lines (line_in h past (Wk a.port a.st)) = c.place-place.ensures ∙ ap (place_on c.args.self.now.lines) line in
-    let kept : is_none (least_of line_rules h past (Wk a.port a.st)) ≡ true = sym (c.keeps_write_end.ensures r x s.lines own kind at) ∙ c.if-not-keeps_write_end.false in
+    let kept : is_none (least_of line_rules h past (Wk a.port a.st)) ≡ true = names-none _ _ _ c.is_some.ensures (c.rule_of_wk-rule.ensures r x s.lines own kind at) c.if-is_some.false in
     let fine = acknowledge-fine h past Write a.port a.st x s.ports.accepted own kept in (
       fine,
       record {
         ports = c.apply.ensures.stands r (record { stands = s.ports; room = λ p k own there. tt; keeps = fine; few = few });
-        lines = c.hear_acknowledge.ensures r Write s.lines own at fine few;
+        lines = c.hear_acknowledge.ensures.stands r Write s.lines own at fine few;
         system = c.acknowledge.ensures r Write s.system line fine few;
       },
     )

@@ -3,25 +3,27 @@ use Rattle.indexmap.specs.IndexMap.{get, values}
 use Rattle.ace_model.proofs.Terms.{B}
 use Rattle.ace_portck.specs.Targets.{target_of}
 use Rattle.ace_lineck.specs.Grants.{GrantStands}
+use Rattle.ace_lineck.specs.declared.record.LineRecord.{LineRecord}
 use Rattle.ace_lineck.proofs.AllLines.{unplaced, placed, line-step, applied-else}
 use Rattle.ace_lineck.proofs.Places.{get-at, place-taken, written-here, written-there}
+use Rattle.ace_lineck.proofs.Rooms.{written-records, written-roomy}
 use Rattle.ace_lineck.proofs.SnoopLaws.{stays_known}
 use Rattle.ace_lineck.proofs.ShortWays.WriteEnds.{response-may, answered_record}
 use Rattle.ace_lineck.proofs.lines.LineCheck.end_lite_write.Goals as goal
 
-pub returns-in_default : goal.returns-in_default
-returns-in_default c = λ r p i resp k s out line lite fine few.
+pub returns-in_default-clause-stands : goal.returns-in_default-clause-stands
+returns-in_default-clause-stands c = λ r p i resp k s out line lite fine few.
     let self = c.args.self.now in
     let m = response-may self r p i resp c.args.x.now k c.place.result s out line c.place.ensures fine few in
     unplaced self r (B p i resp) (target_of r.header r.past (B p i resp)) c.place.result m c.in_default.is
 
-pub returns-in_default-get_index_mut : goal.returns-in_default-get_index_mut
-returns-in_default-get_index_mut c = λ r p i resp k s out line lite fine few.
+pub returns-in_default-get_index_mut-clause-stands : goal.returns-in_default-get_index_mut-clause-stands
+returns-in_default-get_index_mut-clause-stands c = λ r p i resp k s out line lite fine few.
     let within = place-taken c.args.self.now (Some c.args.x.now.transaction.addr) c.in-Some.place (sym c.place.ensures ∙ c.in-Some.is) in
     let bad : false ≡ true = c.in_default-get_index_mut.ensures.found.1 within in cc
 
-pub returns : goal.returns
-returns c = λ r p i resp k s out line lite fine few.
+pub returns-clause-stands : goal.returns-clause-stands
+returns-clause-stands c = λ r p i resp k s out line lite fine few.
     let self = c.args.self.now in
     let e = B p i resp in
     let t = target_of r.header r.past e in
@@ -40,3 +42,8 @@ returns c = λ r p i resp k s out line lite fine few.
     let new = answered_record r.header r.past on.0 p i resp was c.end_grant.new.grant step.stands grant in
     applied-else self _ r e t c.place.result m on.0 on.1 was (record was { grant = c.end_grant.new.grant }) step new refl (stays_known was.used)
     (record { header = refl; empty = refl; here = written-here self on.0 n on.2 unique was _ value; others = written-there self on.0 n on.2 unique was _ value }) refl s.spare
+
+pub returns-clause-roomy : goal.returns-clause-roomy
+returns-clause-roomy c = λ n past room.
+    let kept : LineRecord = record c.in-Some-get_index_mut.kept.now { grant = c.end_grant.new.grant } in
+    record { map = written-roomy n past c.args.self.now c.in-Some.place kept room; records = written-records n past c.args.self.now c.in-Some.place kept room }

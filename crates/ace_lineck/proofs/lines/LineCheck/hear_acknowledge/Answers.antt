@@ -9,16 +9,17 @@ use Rattle.ace_lineck.proofs.ShortWays.AcknowledgeSteps.{acknowledge-may}
 use Rattle.ace_lineck.proofs.AllLines.{unplaced, placed, line-step, applied-else}
 use Rattle.ace_lineck.proofs.ShortWays.BeatSteps.{still-used}
 use Rattle.ace_lineck.proofs.Places.{get-at, place-taken, written-here, written-there}
+use Rattle.ace_lineck.proofs.Rooms.{written-records, written-roomy}
 use Rattle.ace_lineck.proofs.lines.LineCheck.hear_acknowledge.Goals as goal
 
-pub returns-in_default : goal.returns-in_default
-returns-in_default c r ch s own at fine few =
+pub returns-in_default-clause-stands : goal.returns-in_default-clause-stands
+returns-in_default-clause-stands c r ch s own at fine few =
     let a = c.args in
     let e = acknowledge ch a.port a.st in
     unplaced a.self.now r e (target_of r.header r.past e) a.place (acknowledge-may a.self.now r a.port a.st ch a.place s at fine few) c.in_default.is
 
-pub returns-in_default-get_index_mut : goal.returns-in_default-get_index_mut
-returns-in_default-get_index_mut c r ch s own at fine few =
+pub returns-in_default-get_index_mut-clause-stands : goal.returns-in_default-get_index_mut-clause-stands
+returns-in_default-get_index_mut-clause-stands c r ch s own at fine few =
     let a = c.args in
     let e = acknowledge ch a.port a.st in
     let n = c.in-Some.place in
@@ -26,8 +27,8 @@ returns-in_default-get_index_mut c r ch s own at fine few =
     let within = place-taken a.self.now (Some on.0) n on.2 in
     let bad : false ≡ true = c.in_default-get_index_mut.ensures.found.1 within in cc
 
-pub returns : goal.returns
-returns c r ch s own at fine few =
+pub returns-clause-stands : goal.returns-clause-stands
+returns-clause-stands c r ch s own at fine few =
     let a = c.args in
     let self = a.self.now in
     let e = acknowledge ch a.port a.st in
@@ -44,3 +45,7 @@ returns c r ch s own at fine few =
     let new : LineStands r.header (e ∷ r.past) on.0 kept = c.end.ensures.stands r.header r.past on.0 ch t step (ap (option_map transaction_at) own) in
     applied-else self _ r e t a.place m on.0 on.1 was kept step new c.end.ensures.room (still-used was.used kept.used c.end.ensures.used)
     (record { header = refl; empty = refl; here = written-here self on.0 n on.2 unique was kept value; others = written-there self on.0 n on.2 unique was kept value }) refl s.spare
+
+pub returns-clause-roomy : goal.returns-clause-roomy
+returns-clause-roomy c = λ n past room.
+    record { map = written-roomy n past c.args.self.now c.in-Some.place c.end.new.kept room; records = written-records n past c.args.self.now c.in-Some.place c.end.new.kept room }

@@ -2,7 +2,6 @@ use Rattle.std.proofs.Common.{◌≡◌, ◌∷◌, Some, true, false, nat_eq, s
 use Rattle.indexmap.specs.IndexMap.{get, values}
 use Rattle.ace_model.proofs.Terms.{R}
 use Rattle.ace_portck.specs.Targets.{target_of}
-use Rattle.ace_portck.proofs.ShortWays.Plain.{plain_read-is}
 use Rattle.ace_lineck.specs.Records.{LineStands, IsRecordStep}
 use Rattle.ace_lineck.proofs.AllLines.{unplaced, placed, line-step, applied-else}
 use Rattle.ace_lineck.proofs.ShortWays.BeatSteps.{beat-may, beat-port, still-used}
@@ -11,31 +10,30 @@ use Rattle.ace_lineck.proofs.Rooms.{written-records, written-roomy}
 use Rattle.ace_lineck.proofs.lines.LineCheck.hear_beat.Goals as goal
 
 pub returns-in_default-clause-stands : goal.returns-in_default-clause-stands
-returns-in_default-clause-stands c r p i resp word st out reads at fine few =
+returns-in_default-clause-stands c r p i resp word st out kind line at fine few =
     let a = c.args in
     let e = R p i resp a.last word in
-    let m = beat-may a.self.now r p i resp a.last word a.x.now a.kind a.place st out (plain_read-is a.x.now.transaction a.kind reads) at fine few in
+    let m = beat-may a.self.now r p i resp a.last word a.x.now a.kind a.place st out kind line at fine few in
     unplaced a.self.now r e (target_of r.header r.past e) a.place m c.in_default.is
 
 pub returns-in_default-get_index_mut-clause-stands : goal.returns-in_default-get_index_mut-clause-stands
-returns-in_default-get_index_mut-clause-stands c r p i resp word st out reads at fine few =
+returns-in_default-get_index_mut-clause-stands c r p i resp word st out kind line at fine few =
     let a = c.args in
     let e = R p i resp a.last word in
-    let m = beat-may a.self.now r p i resp a.last word a.x.now a.kind a.place st out (plain_read-is a.x.now.transaction a.kind reads) at fine few in
+    let m = beat-may a.self.now r p i resp a.last word a.x.now a.kind a.place st out kind line at fine few in
     let n = c.in-Some.place in
     let on = placed a.self.now r e (target_of r.header r.past e) a.place m n c.in-Some.is in
     let within = place-taken a.self.now (Some on.0) n on.2 in
     let bad : false ≡ true = c.in_default-get_index_mut.ensures.found.1 within in cc
 
 pub returns-clause-stands : goal.returns-clause-stands
-returns-clause-stands c r p i resp word st out reads at fine few =
+returns-clause-stands c r p i resp word st out kind line at fine few =
     let a = c.args in
     let self = a.self.now in
     let x = a.x.now in
     let e = R p i resp a.last word in
     let t = target_of r.header r.past e in
-    let own = plain_read-is x.transaction a.kind reads in
-    let m = beat-may self r p i resp a.last word x a.kind a.place st out own at fine few in
+    let m = beat-may self r p i resp a.last word x a.kind a.place st out kind line at fine few in
     let n = c.in-Some.place in
     let was = c.in-Some-get_index_mut.kept.now in
     let kept = c.advance.new.kept in
@@ -47,7 +45,7 @@ returns-clause-stands c r p i resp word st out reads at fine few =
     let port : x.transaction.port ≡ p = beat-port r.header r.past on.0 p i resp a.last word t x out step.step in
     let moved : IsRecordStep self.header r.past on.0 e t was → LineStands self.header (e ∷ r.past) on.0 kept =
     subst (λ q. IsRecordStep self.header r.past on.0 (R q i resp a.last word) t was → LineStands self.header (R q i resp a.last word ∷ r.past) on.0 kept) port
-    (λ s. c.advance.ensures.stands r.past on.0 i resp word t s out own.kind) in
+    (λ s. c.advance.ensures.stands r.past on.0 i resp word t s out kind) in
     let new : LineStands r.header (e ∷ r.past) on.0 kept =
     subst (λ v. LineStands v (e ∷ r.past) on.0 kept) st.header (moved (subst (λ v. IsRecordStep v r.past on.0 e t was) (sym st.header) step)) in
     applied-else self _ r e t a.place m on.0 on.1 was kept step new c.advance.ensures.room (still-used was.used kept.used c.advance.ensures.used)

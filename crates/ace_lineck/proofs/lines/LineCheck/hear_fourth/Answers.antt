@@ -3,25 +3,27 @@ use Rattle.indexmap.specs.IndexMap.{get, values}
 use Rattle.ace_model.proofs.Terms.{Cd}
 use Rattle.ace_portck.specs.Targets.{target_of}
 use Rattle.ace_lineck.specs.Grants.{GrantStands}
+use Rattle.ace_lineck.specs.declared.record.LineRecord.{LineRecord}
 use Rattle.ace_lineck.proofs.AllLines.{unplaced, placed, line-step, applied-else}
 use Rattle.ace_lineck.proofs.Places.{get-at, place-taken, written-here, written-there}
+use Rattle.ace_lineck.proofs.Rooms.{written-records, written-roomy}
 use Rattle.ace_lineck.proofs.SnoopLaws.{stays_known}
 use Rattle.ace_lineck.proofs.ShortWays.SnoopData.{sent-may, sent_record}
 use Rattle.ace_lineck.proofs.lines.LineCheck.hear_fourth.Goals as goal
 
-pub returns-in_default : goal.returns-in_default
-returns-in_default c = λ r z last word s is beat at fine few.
+pub returns-in_default-clause-stands : goal.returns-in_default-clause-stands
+returns-in_default-clause-stands c = λ r z last word s is beat at fine few.
     let self = c.args.self.now in
     let e = Cd c.args.port last word in
     unplaced self r e (target_of r.header r.past e) c.args.place (sent-may self r c.args.port last word z c.args.place s is at fine few) c.in_default.is
 
-pub returns-in_default-get_index_mut : goal.returns-in_default-get_index_mut
-returns-in_default-get_index_mut c = λ r z last word s is beat at fine few.
+pub returns-in_default-get_index_mut-clause-stands : goal.returns-in_default-get_index_mut-clause-stands
+returns-in_default-get_index_mut-clause-stands c = λ r z last word s is beat at fine few.
     let within = place-taken c.args.self.now (Some z.addr) c.in-Some.place (sym at ∙ c.in-Some.is) in
     let bad : false ≡ true = c.in_default-get_index_mut.ensures.found.1 within in cc
 
-pub returns : goal.returns
-returns c = λ r z last word s is beat at fine few.
+pub returns-clause-stands : goal.returns-clause-stands
+returns-clause-stands c = λ r z last word s is beat at fine few.
     let self = c.args.self.now in
     let p = c.args.port in
     let e = Cd p last word in
@@ -40,3 +42,8 @@ returns c = λ r z last word s is beat at fine few.
     let new = sent_record r.header r.past on.0 p last word was c.complete_data.new.grant step.stands grant in
     applied-else self _ r e t c.args.place m on.0 on.1 was (record was { grant = c.complete_data.new.grant }) step new refl (stays_known was.used)
     (record { header = refl; empty = refl; here = written-here self on.0 n on.2 unique was _ value; others = written-there self on.0 n on.2 unique was _ value }) refl s.spare
+
+pub returns-clause-roomy : goal.returns-clause-roomy
+returns-clause-roomy c = λ n past room.
+    let kept : LineRecord = record c.in-Some-get_index_mut.kept.now { grant = c.complete_data.new.grant } in
+    record { map = written-roomy n past c.args.self.now c.in-Some.place kept room; records = written-records n past c.args.self.now c.in-Some.place kept room }

@@ -4,14 +4,14 @@ use Rattle.ace_model.specs.Transactions.{is_ace}
 use Rattle.ace_lineck.proofs.ShortWays.WriteEnds.{ace_response-still, response-port}
 use Rattle.ace_lineck.proofs.lines.LineCheck.hear_response.Goals as goal
 
-pub returns-then-is_ace : goal.returns-then-is_ace
-returns-then-is_ace c = λ r p i resp k s out line fine few.
+pub returns-then-is_ace-clause-stands : goal.returns-then-is_ace-clause-stands
+returns-then-is_ace-clause-stands c = λ r p i resp k s out line fine few.
     let port = response-port r.header r.past p i c.args.x.now out in
     ace_response-still c.args.self.now r p i resp
     (ap (is_ace r.header) (sym port) ∙ ap (λ (h : Header). is_ace h c.args.x.now.transaction.port) (sym s.header) ∙ sym c.is_ace.ensures ∙ c.if-is_ace.true) s fine
 
-pub returns : goal.returns
-returns c = λ r p i resp k s out line fine few.
+pub returns-clause-stands : goal.returns-clause-stands
+returns-clause-stands c = λ r p i resp k s out line fine few.
     let port = response-port r.header r.past p i c.args.x.now out in
-    c.end_lite_write.ensures r p i resp k s out line
+    c.end_lite_write.ensures.stands r p i resp k s out line
     (ap (is_ace r.header) (sym port) ∙ ap (λ (h : Header). is_ace h c.args.x.now.transaction.port) (sym s.header) ∙ sym c.is_ace.ensures ∙ c.if-is_ace.false) fine few

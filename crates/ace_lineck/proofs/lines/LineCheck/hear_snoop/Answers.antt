@@ -3,23 +3,25 @@ use Rattle.indexmap.specs.IndexMap.{get, values}
 use Rattle.ace_model.proofs.Terms.{Ac}
 use Rattle.ace_portck.specs.Targets.{target_of}
 use Rattle.ace_lineck.specs.Grants.{GrantStands}
+use Rattle.ace_lineck.specs.declared.record.LineRecord.{LineRecord}
 use Rattle.ace_lineck.proofs.AllLines.{unplaced, placed, line-step, applied-else}
 use Rattle.ace_lineck.proofs.Places.{get-at, place-taken, written-here, written-there}
+use Rattle.ace_lineck.proofs.Rooms.{written-records, written-roomy}
 use Rattle.ace_lineck.proofs.SnoopLaws.{may_apply, snooped_record, stays_known}
 use Rattle.ace_lineck.proofs.lines.LineCheck.hear_snoop.Goals as goal
 
-pub returns-in_default : goal.returns-in_default
-returns-in_default c = λ r addr snoop m.
+pub returns-in_default-clause-stands : goal.returns-in_default-clause-stands
+returns-in_default-clause-stands c = λ r addr snoop m.
     unplaced c.args.self.now r (Ac c.args.port addr snoop) (target_of r.header r.past (Ac c.args.port addr snoop)) c.args.place (may_apply c.args.self.now r c.args.port addr snoop c.args.place m) c.in_default.is
 
-pub returns-in_default-get_index_mut : goal.returns-in_default-get_index_mut
-returns-in_default-get_index_mut c = λ r addr snoop m.
+pub returns-in_default-get_index_mut-clause-stands : goal.returns-in_default-get_index_mut-clause-stands
+returns-in_default-get_index_mut-clause-stands c = λ r addr snoop m.
     let i = c.in-Some.place in
     let within = place-taken c.args.self.now (Some addr) i (sym m.at ∙ c.in-Some.is) in
     let bad : false ≡ true = c.in_default-get_index_mut.ensures.found.1 within in cc
 
-pub returns : goal.returns
-returns c = λ r addr snoop m.
+pub returns-clause-stands : goal.returns-clause-stands
+returns-clause-stands c = λ r addr snoop m.
     let self = c.args.self.now in
     let e = Ac c.args.port addr snoop in
     let t = target_of r.header r.past e in
@@ -37,3 +39,8 @@ returns c = λ r addr snoop m.
     let new = snooped_record r.header r.past on.0 c.args.port addr snoop was c.hear_snoop.new.grant step.stands grant in
     applied-else self _ r e t c.args.place may on.0 on.1 was (record was { grant = c.hear_snoop.new.grant }) step new refl (stays_known was.used)
     (record { header = refl; empty = refl; here = written-here self on.0 i on.2 unique was _ value; others = written-there self on.0 i on.2 unique was _ value }) refl m.stands.spare
+
+pub returns-clause-roomy : goal.returns-clause-roomy
+returns-clause-roomy c = λ n past room.
+    let kept : LineRecord = record c.in-Some-get_index_mut.kept.now { grant = c.hear_snoop.new.grant } in
+    record { map = written-roomy n past c.args.self.now c.in-Some.place kept room; records = written-records n past c.args.self.now c.in-Some.place kept room }

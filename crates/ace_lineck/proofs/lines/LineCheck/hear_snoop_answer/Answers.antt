@@ -5,18 +5,19 @@ use Rattle.ace_portck.specs.Targets.{target_of}
 use Rattle.ace_lineck.proofs.AllLines.{unplaced, placed, line-step, applied-else}
 use Rattle.ace_lineck.proofs.ShortWays.BeatSteps.{still-used}
 use Rattle.ace_lineck.proofs.Places.{get-at, place-taken, written-here, written-there}
+use Rattle.ace_lineck.proofs.Rooms.{written-records, written-roomy}
 use Rattle.ace_lineck.proofs.ShortWays.SnoopAnswers.{may-hear_answer}
 use Rattle.ace_lineck.proofs.lines.LineCheck.hear_snoop_answer.Goals as goal
 
-pub returns-in_default : goal.returns-in_default
-returns-in_default c = λ r x k s is at fine few.
+pub returns-in_default-clause-stands : goal.returns-in_default-clause-stands
+returns-in_default-clause-stands c = λ r x k s is at fine few.
     let self = c.args.self.now in
     let a = c.args.answer.now in
     let e = Cr a.port a.resp a.st in
     unplaced self r e (target_of r.header r.past e) c.args.place (may-hear_answer self r a.port a.resp a.st x k c.args.place s is at fine few) c.in_default.is
 
-pub returns-in_default-get_index_mut : goal.returns-in_default-get_index_mut
-returns-in_default-get_index_mut c = λ r x k s is at fine few.
+pub returns-in_default-get_index_mut-clause-stands : goal.returns-in_default-get_index_mut-clause-stands
+returns-in_default-get_index_mut-clause-stands c = λ r x k s is at fine few.
     let self = c.args.self.now in
     let a = c.args.answer.now in
     let e = Cr a.port a.resp a.st in
@@ -25,8 +26,8 @@ returns-in_default-get_index_mut c = λ r x k s is at fine few.
     let within = place-taken self (Some on.0) n on.2 in
     let bad : false ≡ true = c.in_default-get_index_mut.ensures.found.1 within in cc
 
-pub returns : goal.returns
-returns c = λ r x k s is at fine few.
+pub returns-clause-stands : goal.returns-clause-stands
+returns-clause-stands c = λ r x k s is at fine few.
     let self = c.args.self.now in
     let a = c.args.answer.now in
     let e = Cr a.port a.resp a.st in
@@ -43,3 +44,7 @@ returns c = λ r x k s is at fine few.
     let new = c.hear_in_record.ensures.stands r.header r.past on.0 t step in
     applied-else self _ r e t c.args.place m on.0 on.1 was kept step new c.hear_in_record.ensures.room (still-used was.used kept.used c.hear_in_record.ensures.used)
     (record { header = refl; empty = refl; here = written-here self on.0 n on.2 unique was kept value; others = written-there self on.0 n on.2 unique was kept value }) refl s.spare
+
+pub returns-clause-roomy : goal.returns-clause-roomy
+returns-clause-roomy c = λ n past room.
+    record { map = written-roomy n past c.args.self.now c.in-Some.place c.hear_in_record.new.kept room; records = written-records n past c.args.self.now c.in-Some.place c.hear_in_record.new.kept room }

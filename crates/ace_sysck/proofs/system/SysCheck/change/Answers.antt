@@ -7,8 +7,8 @@ use Rattle.ace_sysck.proofs.Steps.{port_within}
 use Rattle.ace_sysck.proofs.Unmoved.{barriers_still, results_still, registrations_still, messages_still, inboxes_still, syncs_still}
 use Rattle.ace_sysck.proofs.system.SysCheck.change.Goals as goal
 
-pub returns : goal.returns
-returns c = λ r s fine few.
+pub returns-clause-stands : goal.returns-clause-stands
+returns-clause-stands c = λ r s fine few.
     let k = c.args.self.now in
     let a = c.args.change.now in
     let e = S a.port a.addr a.st in

@@ -3,7 +3,7 @@ use Rattle.ace_event.specs.declared.event.Event.TheVariants.{G}
 use Rattle.ace_portck.specs.Targets.{after, target_of}
 use Rattle.ace_sysck.specs.Registrations.{RegistrationsStand}
 use Rattle.ace_sysck.proofs.ResultSteps.{results_plain, results_store}
-use Rattle.ace_sysck.proofs.ShortWays.PlainGrants.{after_grant, grant-step, grants-one, locked-one}
+use Rattle.ace_sysck.proofs.ShortWays.Grants.{after_grant, grant-step, grants-one, locked-one}
 use Rattle.ace_sysck.proofs.system.SysCheck.hear_exclusive.Goals as goal
 
 pub returns-then-is_exclusive_store-clause-stands : goal.returns-then-is_exclusive_store-clause-stands

@@ -5,8 +5,8 @@ use Rattle.ace_sysck.specs.Steps.{IsStep}
 use Rattle.ace_sysck.proofs.Unmoved.{barriers_still, results_still, registrations_still, messages_still, inboxes_still, syncs_still}
 use Rattle.ace_sysck.proofs.system.SysCheck.load.Goals as goal
 
-pub returns : goal.returns
-returns c = λ r s fine few.
+pub returns-clause-stands : goal.returns-clause-stands
+returns-clause-stands c = λ r s fine few.
     let k = c.args.self.now in
     let a = c.args.load.now in
     let e = L a.port a.addr a.w a.x a.word in

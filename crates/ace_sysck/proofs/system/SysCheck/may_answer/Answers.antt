@@ -9,7 +9,7 @@ use Rattle.ace_sysck.proofs.system.SysCheck.may_answer.Goals as goal
 
 pub returns : goal.returns
 returns c = λ r port id chan s out half unordered incomplete.
-    let x = c.args.x.now in
+    let x = c.args.half.now in
     let past = r.past in
     let b = get_or c.args.self.now.barriers.ports.items x.port Idle in
     let issued = named-issued past port chan id x (outstanding-named r.header past port chan id x out) in

@@ -5,8 +5,8 @@ use Rattle.ace_sysck.specs.Steps.{IsStep}
 use Rattle.ace_sysck.proofs.Unmoved.{barriers_still, results_still, registrations_still, messages_still, inboxes_still, syncs_still}
 use Rattle.ace_sysck.proofs.system.SysCheck.store.Goals as goal
 
-pub returns : goal.returns
-returns c = λ r addr strobe line s fine few.
+pub returns-clause-stands : goal.returns-clause-stands
+returns-clause-stands c = λ r addr strobe line s fine few.
     let k = c.args.self.now in
     let e = D c.args.port addr strobe c.args.x line in
     let t = target_of r.header r.past e in

@@ -1,0 +1,134 @@
+-- What comes of an event that the shares hear.
+use Rattle.std.proofs.Common.{◌≡◌, ◌≤◌, ◌∷◌, ◌&&◌, ℕ, Bool, true, false, if◌then◌else◌, nat_le, nat_lt, Option, Some, None, length, option_map, refl, sym, ◌∙◌, arith, inl, inr}
+use Rattle.std.proofs.lemmas.Bool.{and_parts, cases_Bool, leb-true, ltb-true}
+use Rattle.ace_event.specs.declared.event.Event.{Event}
+use Rattle.ace_event.specs.declared.header.Header.{Header}
+use Rattle.ace_model.specs.declared.transactions.Transaction.{Transaction}
+use Rattle.ace_model.specs.Accepted.{least_broken, least_of}
+use Rattle.ace_model.specs.Lines.{add_line, known_lines, names_new_line}
+use Rattle.ace_model.specs.Shares.{lesser, port_rules, line_rules, system_rules}
+use Rattle.ace_model.specs.Trace.{Trace, is_some_and}
+use Rattle.ace_model.specs.Transactions.{issued}
+use Rattle.ace_portck.specs.Targets.{progress_of}
+use Rattle.ace_portck.proofs.LineMaps.{room-stays}
+use Rattle.ace_lineck.specs.Stands as lines
+use Rattle.ace_lineck.specs.declared.lines.LineCheck.{LineCheck}
+use Rattle.ace_sysck.specs.Stands as system
+use Rattle.ace_sysck.specs.declared.system.SysCheck.{SysCheck}
+use Rattle.ace_check.specs.Heard.{IsHeard, is_fine}
+use Rattle.ace_check.specs.Run.{goes_over}
+use Rattle.ace_check.specs.Shares.{SharesTell}
+use Rattle.ace_check.specs.declared.heard.Heard.{Heard}
+use Rattle.ace_check.specs.declared.heard.Heard.TheVariants.{Fine, Broken, TooManyLines}
+use Rattle.ace_check.specs.declared.shares.Shares.{Shares}
+use Rattle.ace_check.proofs.Steps.{least_with}
+
+-- where no progress of a transaction is found, it isn't outstanding
+pub no-progress : (h : Header) (past : Trace) (o : Option Transaction) → option_map (progress_of h past) o ≡ None → o ≡ None
+no-progress h past None is = refl
+no-progress h past (Some x) is = let bad : Some (progress_of h past x) ≡ None = is in cc
+
+pub fine-is : (what : Heard) → is_fine what ≡ true → what ≡ Fine
+fine-is Fine t = refl
+fine-is what t = cc
+
+-- the trace of a run with its next event names no line too many
+lines-fit : (past : Trace) (e : Event) → length (known_lines (e ∷ past)) ≤ 4096 → goes_over past e ≡ true → ⊥
+lines-fit past e = by (issued (length past) e)
+  where
+    by : (o : Option Transaction) → length (add_line past o (known_lines past)) ≤ 4096
+        → (is_some_and o (names_new_line past) && nat_le 4096 (length (known_lines past))) ≡ true → ⊥
+    by None few over = cc
+    by (Some x) few over =
+        let parts = and_parts (names_new_line past x) (nat_le 4096 (length (known_lines past))) over in
+        let more : length (x.addr ∷ known_lines past) ≤ 4096 = rw parts.0 at few in
+        let full = leb-true 4096 (length (known_lines past)) parts.1 in
+        omega (arith, more, full)
+
+module _ (s : Shares) (e : Event) where
+  -- an event that breaks a rule, where nothing has changed
+  pub heard-broken : (k : ℕ) → ((h : Header) (past : Trace) → SharesTell s h past → least_broken h past e ≡ Some k) → IsHeard s e s (Broken k)
+  heard-broken k least = record {
+    comes_to = λ h past tell few. (least h past tell, tell);
+    room = λ h past stand may. let bad : Some k ≡ None = sym (least h past stand.tell) ∙ may.fine in cc;
+  }
+
+  -- one that breaks none, and names one line too many
+  pub heard-over : ((h : Header) (past : Trace) → SharesTell s h past → (least_broken h past e ≡ None) × (goes_over past e ≡ true)) → IsHeard s e s TooManyLines
+  heard-over over = record {
+    comes_to = λ h past tell few. let o = over h past tell in (o.0, o.1, tell);
+    room = λ h past stand may. absurd (lines-fit past e may.lines (over h past stand.tell).1);
+  }
+
+lesser-none : (o : Option ℕ) → lesser o None ≡ o
+lesser-none None = refl
+lesser-none (Some k) = refl
+
+-- it is the lesser number, where the other is none or no less
+lesser-first : (k : ℕ) (o : Option ℕ) → ((m : ℕ) → o ≡ Some m → k ≤ m) → lesser (Some k) o ≡ Some k
+lesser-first k None most = refl
+lesser-first k (Some m) most =
+    elim (cases_Bool (nat_lt m k)) [
+      | inl t ↦ let less = ltb-true m k t in let more = most m refl in absurd (omega (arith, less, more))
+      | inr f ↦ rw f refl
+    ]
+
+lesser-most : (k : ℕ) (a b : Option ℕ) → ((m : ℕ) → a ≡ Some m → k ≤ m) → ((m : ℕ) → b ≡ Some m → k ≤ m) → (m : ℕ) → lesser a b ≡ Some m → k ≤ m
+lesser-most k None b left right m is = right m is
+lesser-most k (Some i) None left right m is = left m is
+lesser-most k (Some i) (Some j) left right m is =
+    elim (cases_Bool (nat_lt j i)) [
+      | inl t ↦ right m (rw t at is)
+      | inr f ↦ left m (rw f at is)
+    ]
+
+-- An event that keeps all rules of each share.
+pub keeps-each : (h : Header) (past : Trace) (e : Event) → None ≡ least_of port_rules h past e → None ≡ least_of line_rules h past e
+    → None ≡ least_of system_rules h past e → least_broken h past e ≡ None
+keeps-each h past e p l s = sym (least_with h past e None None None p l s)
+
+-- where lines and system say nothing, the ports say which rule is broken
+pub ports-decide : (h : Header) (past : Trace) (e : Event) (a : Option ℕ) → a ≡ least_of port_rules h past e → None ≡ least_of line_rules h past e
+    → None ≡ least_of system_rules h past e → least_broken h past e ≡ a
+ports-decide h past e a p l s = sym (least_with h past e a None None p l s) ∙ lesser-none a
+
+-- a rule about its port is the least, where those about its line and the system are no less
+pub ports-first : (h : Header) (past : Trace) (e : Event) (k : ℕ) → Some k ≡ least_of port_rules h past e
+    → ((m : ℕ) → least_of line_rules h past e ≡ Some m → k ≤ m) → ((m : ℕ) → least_of system_rules h past e ≡ Some m → k ≤ m)
+    → least_broken h past e ≡ Some k
+ports-first h past e k p lines system =
+    let line = least_of line_rules h past e in
+    let other = least_of system_rules h past e in
+    sym (least_with h past e (Some k) line other p refl refl) ∙ lesser-first k (lesser line other) (lesser-most k line other lines system)
+
+-- one about its line is, where the ports say nothing and those about the system are no less
+pub lines-next : (h : Header) (past : Trace) (e : Event) (k : ℕ) → None ≡ least_of port_rules h past e → Some k ≡ least_of line_rules h past e
+    → ((m : ℕ) → least_of system_rules h past e ≡ Some m → k ≤ m) → least_broken h past e ≡ Some k
+lines-next h past e k p l system =
+    let other = least_of system_rules h past e in
+    sym (least_with h past e None (Some k) other p l refl) ∙ lesser-first k other system
+
+-- one about the system is, where ports and lines say nothing
+pub system-last : (h : Header) (past : Trace) (e : Event) (k : ℕ) → None ≡ least_of port_rules h past e → None ≡ least_of line_rules h past e
+    → Some k ≡ least_of system_rules h past e → least_broken h past e ≡ Some k
+system-last h past e k p l s = sym (least_with h past e None None (Some k) p l s)
+
+-- the number of the first of some rules that isn't kept
+pub of-one : (n : ℕ) (a : Bool) (k : ℕ) → Some k ≡ (if a then None else Some n) → k ≡ n
+of-one n true k is = cc
+of-one n false k is = cc
+
+pub of-two : (j n : ℕ) (a b : Bool) (k : ℕ) → j ≤ n → Some k ≡ (if a then (if b then None else Some n) else Some j) → (j ≤ k) × (k ≤ n)
+of-two j n a b k le = by a b
+  where
+    by : (a b : Bool) → Some k ≡ (if a then (if b then None else Some n) else Some j) → (j ≤ k) × (k ≤ n)
+    by true true is = let bad : Some k ≡ None = is in cc
+    by true false is = let same : k ≡ n = cc in (omega (arith, le, same), omega (arith, same))
+    by false b is = let same : k ≡ j = cc in (omega (arith, same), omega (arith, le, same))
+
+-- the room for the lines of a trace is there for any that is longer
+pub lines-roomy : (e : Event) (past : Trace) (s : LineCheck) → lines.IsRoomy 4096 past s → lines.IsRoomy 4096 (e ∷ past) s
+lines-roomy e past s room = record { map = room-stays 4096 e past s.lines room.map; records = room.records }
+
+pub system-roomy : (e : Event) (past : Trace) (s : SysCheck) → system.IsRoomy 4096 past s → system.IsRoomy 4096 (e ∷ past) s
+system-roomy e past s room = room-stays 4096 e past s.registrations.lines room
