@@ -1,0 +1,5 @@
+pub mod Binary
+pub mod Fields
+pub mod Given
+pub mod Reading
+pub mod Records
