@@ -1,5 +1,5 @@
 -- The tag and the numbers of each event: they say which it is, and in range they fit the fields of the tag.
-use Rattle.std.proofs.Common.{◌≡◌, ◌≢◌, ℕ, zero, suc, ◌^◌, ◌<◌, ◌≤◌, Bool, true, false, cond, eqb, ltb, leb, List, [], ◌∷◌, length, get_or, drop, refl, sym, ap, subst, ◌∙◌, arith, inl, inr, lt-ltb, ltb-true, leb-true, le-leb, ne_eqb}
+use Rattle.std.proofs.Common.{◌≡◌, ◌≢◌, ℕ, zero, suc, ◌-◌, ◌^◌, ◌<◌, ◌≤◌, Bool, true, false, cond, eqb, ltb, leb, List, [], ◌∷◌, length, get_or, drop, refl, sym, ap, subst, ◌∙◌, arith, inl, inr, lt-ltb, ltb-true, leb-true, le-leb, ne_eqb}
 use Rattle.std.specs.List.{AllByRecursion}
 use Rattle.std.proofs.lemmas.Bool.{cases_Bool, and_parts, and_from}
 use Rattle.ace_codes.specs.declared.state.LineState.{LineState}
@@ -12,8 +12,8 @@ use Rattle.ace_event.specs.declared.event.Event.{Event}
 use Rattle.ace_event.specs.declared.event.Event.TheVariants.{Ar, R, Rk, Aw, W, B, Wk, Ac, Cr, Cd, G, M, S, L, D, Op, Mem}
 use Rattle.ace_event.specs.Range.{InRange, IsWord, IsPort}
 use Rattle.ace_event.specs.Text.{port_digits}
-use Rattle.ace_bin.specs.Fields.{number_at, numbers_at}
-use Rattle.ace_bin.specs.Records.{word_bytes, fields_of, is_tag, tag_of, numbers_of, flag_number, channel_number, state_number, outcome_number}
+use Rattle.ace_bin.specs.Fields.{Field, number_at, numbers_at, size_of_all}
+use Rattle.ace_bin.specs.Records.{word_bytes, records, fields_of, is_tag, tag_of, numbers_of, flag_number, channel_number, state_number, outcome_number}
 use Rattle.ace_bin.proofs.FieldBytes.{Fit, port_below}
 
 -- ---- numbers of one byte
@@ -400,3 +400,23 @@ made version (suc (suc (suc (suc (suc (suc (suc (suc (suc (suc (suc (suc (suc (s
 made version (suc (suc (suc (suc (suc (suc (suc (suc (suc (suc (suc (suc (suc (suc (suc (suc zero)))))))))))))))) bytes known fit = made_op version (number_at 1 0 bytes) (number_at 2 1 bytes) (number_at 1 3 bytes) fit
 made version (suc (suc (suc (suc (suc (suc (suc (suc (suc (suc (suc (suc (suc (suc (suc (suc (suc zero))))))))))))))))) bytes known fit = made_mem version (number_at 4 0 bytes) (number_at 16 4 bytes) (number_at 16 20 bytes) (number_at 16 36 bytes) (number_at 16 52 bytes) (not_first version known) fit
 made version (suc (suc (suc (suc (suc (suc (suc (suc (suc (suc (suc (suc (suc (suc (suc (suc (suc (suc tag)))))))))))))))))) bytes known fit = absurd (no_tag version (suc (suc (suc (suc (suc (suc (suc (suc (suc (suc (suc (suc (suc (suc (suc (suc (suc (suc tag)))))))))))))))))) (omega arith) known)
+
+-- ---- how many bytes
+
+-- none of these has more fields than the longest record
+AreShort : List (List Field) → Type 0
+AreShort [] = Unit {0}
+AreShort (fields ∷ more) = (size_of_all fields ≤ 78) × AreShort more
+
+short_at : (all : List (List Field)) (place : ℕ) → AreShort all → size_of_all (get_or all place []) ≤ 78
+unfolding AreShort
+short_at [] place h = omega arith
+short_at (fields ∷ more) zero h = h.0
+short_at (fields ∷ more) (suc place) h = short_at more place h.1
+
+are_short : AreShort records
+unfolding AreShort
+are_short = (omega arith, (omega arith, (omega arith, (omega arith, (omega arith, (omega arith, (omega arith, (omega arith, (omega arith, (omega arith, (omega arith, (omega arith, (omega arith, (omega arith, (omega arith, (omega arith, (omega arith, tt)))))))))))))))))
+
+pub fields_short : (tag : ℕ) → size_of_all (fields_of tag) ≤ 78
+fields_short tag = short_at records (tag - 1) are_short

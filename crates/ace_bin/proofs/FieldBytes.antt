@@ -1,7 +1,7 @@
 -- The bytes of fields, and the numbers that fields have in some bytes.
 use Rattle.std.proofs.Common.{◌≡◌, ℕ, ◌+◌, ◌^◌, ◌<◌, ◌≤◌, Bool, true, false, cond, List, [], ◌∷◌, ◌++◌, length, take, drop, refl, sym, ap, ◌∙◌, arith, append_assoc, length-append}
 use Rattle.std.proofs.lemmas.Bool.{and_parts, and_from}
-use Rattle.std.proofs.lemmas.List.{take_at, drop_at, take-append-drop, drop-drop, drop-take, take-take}
+use Rattle.std.proofs.lemmas.List.{take_at, drop_at, take-append-drop, drop-drop, drop-take, take-append-le, drop-append-le, take-take, length-drop}
 use Rattle.ace_bin.specs.Fields.{Field, number_bytes, number_onto, number_at, size_of, size_of_all, fits, all_fit, fields_bytes, numbers_at}
 use Rattle.ace_bin.specs.Reading.{AreBytes}
 use Rattle.ace_bin.proofs.Numbers.{bytes_length, number_again, at_below, at_bytes}
@@ -90,3 +90,18 @@ fit_of version [] place bytes are le all = tt
 fit_of version (field ∷ fields) place bytes are le all =
     let parts = and_parts (fits version field (number_at (size_of field) place bytes)) (all_fit version fields (numbers_at fields (place + size_of field) bytes)) all in
     (parts.0, at_below (size_of field) place bytes are (omega (arith, le)), fit_of version fields (place + size_of field) bytes are (omega (arith, le)) parts.1)
+
+-- ---- more bytes behind
+
+pub number_stays : (count place : ℕ) (bytes rest : List ℕ) → place + count ≤ length bytes → number_at count place (bytes ++ rest) ≡ number_at count place bytes
+unfolding number_at
+number_stays count place bytes rest le =
+    ap (λ (l : List ℕ). number_onto 0 (take count l)) (drop-append-le place bytes rest (omega (arith, le)))
+    ∙ ap (number_onto 0) (take-append-le count (drop place bytes) rest (omega (arith, le, length-drop place bytes)))
+
+pub numbers_stay : (fields : List Field) (place : ℕ) (bytes rest : List ℕ) → place + size_of_all fields ≤ length bytes
+    → numbers_at fields place (bytes ++ rest) ≡ numbers_at fields place bytes
+numbers_stay [] place bytes rest le = refl
+numbers_stay (field ∷ fields) place bytes rest le =
+    ap (λ n. n ∷ numbers_at fields (place + size_of field) (bytes ++ rest)) (number_stays (size_of field) place bytes rest (omega (arith, le)))
+    ∙ ap (λ (l : List ℕ). number_at (size_of field) place bytes ∷ l) (numbers_stay fields (place + size_of field) bytes rest (omega (arith, le)))

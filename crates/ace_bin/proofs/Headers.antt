@@ -1,18 +1,22 @@
 -- The header of a trace, as it is written and read.
-use Rattle.std.proofs.Common.{◌≡◌, ℕ, ◌%◌, ◌^◌, ◌<◌, ◌≤◌, true, false, eqb, List, [], ◌∷◌, ◌++◌, length, take, drop, refl, sym, ap, subst, ◌∙◌, arith, append-nil, inl, inr, ◌⊎◌}
-use Rattle.std.specs.List.{count_by}
+use Rattle.std.proofs.Common.{◌≡◌, ◌↔◌, ℕ, ◌+◌, ◌/◌, ◌%◌, ◌^◌, ◌<◌, ◌≤◌, true, false, cond, eqb, map, List, [], ◌∷◌, ◌++◌, length, take, drop, refl, sym, ap, subst, ◌∙◌, arith, append-nil, inl, inr, ◌⊎◌}
+use Rattle.std.specs.Int.{bit_at}
+use Rattle.std.specs.List.{count_by, range_with_len}
+use Rattle.std.proofs.Math.Nat.{div-lt_iff_lt-mul}
 use Rattle.std.specs.Str.{bytes_eq}
 use Rattle.std.proofs.lemmas.Bool.{cases_Bool, cases_eq, cases_lt}
-use Rattle.std.proofs.lemmas.List.{take_at, append_cancel_left}
-use Rattle.std.proofs.lemmas.Nat.{pow_below}
+use Rattle.std.proofs.lemmas.List.{take_at, append_cancel_left, take-append-le}
+use Rattle.std.proofs.lemmas.List.FromFn.{map-range_with_len_more}
+use Rattle.std.proofs.lemmas.List.Sums.{sum_by_push}
+use Rattle.std.proofs.lemmas.Nat.{pow_below, pow_pos}
 use Rattle.std.proofs.lemmas.Slice.Eq.{bytes_eq-Decides}
 use Rattle.ace_event.specs.declared.header.Header.{Header}
-use Rattle.ace_event.specs.Ports.{IsHeader, port_letters, most_letters}
+use Rattle.ace_event.specs.Ports.{IsHeader, port_letter, port_letters, most_letters}
 use Rattle.ace_bin.specs.Fields.{Bytes, number_bytes, number_onto, number_at}
 use Rattle.ace_bin.specs.Binary.{magic, header_bytes}
 use Rattle.ace_bin.specs.Reading.{AreBytes, header_at, IsRightHeader}
 use Rattle.ace_bin.proofs.Numbers.{bytes_length, number_again, at_below}
-use Rattle.ace_bin.proofs.FieldBytes.{pieces, fields_again}
+use Rattle.ace_bin.proofs.FieldBytes.{pieces, fields_again, number_stays}
 
 -- ---- written, and then read
 
@@ -138,3 +142,46 @@ right_or_not bytes =
             | inr not ↦ inr (λ h. not h.fits)
           ]
     ]
+
+-- ---- more bytes behind
+
+-- whether a header is right is said by its ten bytes
+pub right_stays : (bytes rest : List ℕ) → 10 ≤ length bytes → IsRightHeader (bytes ++ rest) → IsRightHeader bytes
+right_stays bytes rest le right =
+    let same : header_at (bytes ++ rest) ≡ header_at bytes =
+    ap (λ v. header_of v (number_at 1 5 (bytes ++ rest)) (number_at 4 6 (bytes ++ rest))) (number_stays 1 4 bytes rest (omega (arith, le)))
+    ∙ ap (λ p. header_of (number_at 1 4 bytes) p (number_at 4 6 (bytes ++ rest))) (number_stays 1 5 bytes rest (omega (arith, le)))
+    ∙ ap (λ a. header_of (number_at 1 4 bytes) (number_at 1 5 bytes) a) (number_stays 4 6 bytes rest (omega (arith, le))) in
+    record { begins = sym (take-append-le 4 bytes rest (omega (arith, le))) ∙ right.begins; fits = subst IsHeader same right.fits }
+
+-- ---- what the code counts
+
+-- how many of the first ports have this letter
+abbrev pub with_letter : ℕ → ℕ → ℕ → ℕ
+with_letter letter ace ports = count_by (λ other. eqb other letter) (map (port_letter ace) (range_with_len 0 ports))
+
+one_more : (letter ace port : ℕ) → with_letter letter ace (port + 1) ≡ with_letter letter ace port + cond (eqb (port_letter ace port) letter) 1 0
+one_more letter ace port =
+    ap (count_by (λ other. eqb other letter)) (map-range_with_len_more (port_letter ace) 0 port port (omega arith))
+    ∙ sum_by_push (λ other. cond (eqb other letter) 1 0) (map (port_letter ace) (range_with_len 0 port)) (port_letter ace port)
+
+-- an ACE port
+pub ace_counted : (ace port : ℕ) → true ≡ eqb (bit_at ace port) 1
+    → (with_letter 65 ace (port + 1) ≡ with_letter 65 ace port + 1) × (with_letter 76 ace (port + 1) ≡ with_letter 76 ace port)
+ace_counted ace port is = (
+  one_more 65 ace port ∙ ap (λ b. with_letter 65 ace port + cond (eqb (cond b 65 76) 65) 1 0) (sym is),
+  one_more 76 ace port ∙ ap (λ b. with_letter 76 ace port + cond (eqb (cond b 65 76) 76) 1 0) (sym is) ∙ omega arith,
+)
+
+-- an ACE-Lite port
+pub lite_counted : (ace port : ℕ) → false ≡ eqb (bit_at ace port) 1
+    → (with_letter 65 ace (port + 1) ≡ with_letter 65 ace port) × (with_letter 76 ace (port + 1) ≡ with_letter 76 ace port + 1)
+lite_counted ace port is = (
+  one_more 65 ace port ∙ ap (λ b. with_letter 65 ace port + cond (eqb (cond b 65 76) 65) 1 0) (sym is) ∙ omega arith,
+  one_more 76 ace port ∙ ap (λ b. with_letter 76 ace port + cond (eqb (cond b 65 76) 76) 1 0) (sym is),
+)
+
+pub no_bit_above : (ace ports : ℕ) → (ace / 2 ^ ports ≡ 0) ↔ (ace < 2 ^ ports)
+no_bit_above ace ports =
+    let below = div-lt_iff_lt-mul {k = 2 ^ ports} {x = ace} {y = 1} (pow_pos ports) in
+    (λ none. omega (arith, below.0 (omega (arith, none))), λ lt. omega (arith, below.1 (omega (arith, lt))))

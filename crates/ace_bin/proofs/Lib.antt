@@ -5,3 +5,6 @@ pub mod Events
 pub mod RecordBytes
 pub mod Headers
 pub mod Readings
+pub mod Windows
+pub mod Taken
+pub mod Progress

@@ -1,8 +1,8 @@
 -- Numbers and their bytes, the most significant first.
 use Rattle.std.proofs.Common.{◌≡◌, ℕ, zero, suc, ◌+◌, ◌*◌, ◌/◌, ◌%◌, ◌^◌, ◌<◌, ◌≤◌, List, [], ◌∷◌, ◌++◌, length, get_or, take, drop, refl, sym, ap, ◌∙◌, arith, add-one}
-use Rattle.std.specs.Int.{byte_at, bytes_high_first}
+use Rattle.std.specs.Int.{w16, w32, w64, w128, byte_at, bytes_high_first, from_be_bytes}
 use Rattle.std.proofs.Math.Nat.{div-div-eq-div-mul, pow-suc, mul_comm}
-use Rattle.std.proofs.lemmas.List.{take_more, get_or-drop, length-drop}
+use Rattle.std.proofs.lemmas.List.{take_all, take_more, get_or-drop, length-drop, length-take}
 use Rattle.ace_bin.specs.Fields.{number_bytes, number_onto, number_at}
 use Rattle.ace_bin.specs.Reading.{AreBytes}
 
@@ -99,3 +99,85 @@ pub at_bytes : (count place : ℕ) (bytes : List ℕ) → AreBytes bytes → pla
     → number_bytes count (number_at count place bytes) ≡ take count (drop place bytes)
 unfolding number_bytes number_at
 at_bytes count place bytes fits le = onto_bytes count (drop place bytes) (drop_bytes place bytes fits) (omega (arith, length-drop place bytes))
+
+-- ---- as the code reads them
+
+pub one_is : (place : ℕ) (bytes : List ℕ) → place + 1 ≤ length bytes → get_or bytes place 0 ≡ number_at 1 place bytes
+unfolding number_at
+one_is place bytes le =
+    let more = onto_more 0 (drop place bytes) (omega (arith, length-drop place bytes)) in
+    let first : get_or (drop place bytes) 0 0 ≡ get_or bytes place 0 = get_or-drop place bytes 0 0 ∙ ap (λ n. get_or bytes n 0) (omega arith) in
+    omega (arith, more, first, onto_none 0)
+
+-- some bytes, and those up to each of their places
+be_2 : (bytes : List ℕ) → length bytes ≡ 2 → from_be_bytes w16 bytes ≡ number_onto 0 bytes
+be_2 bytes len =
+    let all : number_onto 0 (take 2 bytes) ≡ number_onto 0 bytes = ap (number_onto 0) (take_all 2 bytes (omega arith)) in
+    omega (arith, all, onto_none 0, onto_more 0 bytes (omega arith), onto_more 1 bytes (omega arith))
+
+be_4 : (bytes : List ℕ) → length bytes ≡ 4 → from_be_bytes w32 bytes ≡ number_onto 0 bytes
+be_4 bytes len =
+    let all : number_onto 0 (take 4 bytes) ≡ number_onto 0 bytes = ap (number_onto 0) (take_all 4 bytes (omega arith)) in
+    omega (arith, all, onto_none 0, onto_more 0 bytes (omega arith), onto_more 1 bytes (omega arith), onto_more 2 bytes (omega arith), onto_more 3 bytes (omega arith))
+
+be_8 : (bytes : List ℕ) → length bytes ≡ 8 → from_be_bytes w64 bytes ≡ number_onto 0 bytes
+be_8 bytes len =
+    let all : number_onto 0 (take 8 bytes) ≡ number_onto 0 bytes = ap (number_onto 0) (take_all 8 bytes (omega arith)) in
+    omega (
+      arith,
+      all,
+      onto_none 0,
+      onto_more 0 bytes (omega arith),
+      onto_more 1 bytes (omega arith),
+      onto_more 2 bytes (omega arith),
+      onto_more 3 bytes (omega arith),
+      onto_more 4 bytes (omega arith),
+      onto_more 5 bytes (omega arith),
+      onto_more 6 bytes (omega arith),
+      onto_more 7 bytes (omega arith),
+    )
+
+be_16 : (bytes : List ℕ) → length bytes ≡ 16 → from_be_bytes w128 bytes ≡ number_onto 0 bytes
+be_16 bytes len =
+    let all : number_onto 0 (take 16 bytes) ≡ number_onto 0 bytes = ap (number_onto 0) (take_all 16 bytes (omega arith)) in
+    omega (
+      arith,
+      all,
+      onto_none 0,
+      onto_more 0 bytes (omega arith),
+      onto_more 1 bytes (omega arith),
+      onto_more 2 bytes (omega arith),
+      onto_more 3 bytes (omega arith),
+      onto_more 4 bytes (omega arith),
+      onto_more 5 bytes (omega arith),
+      onto_more 6 bytes (omega arith),
+      onto_more 7 bytes (omega arith),
+      onto_more 8 bytes (omega arith),
+      onto_more 9 bytes (omega arith),
+      onto_more 10 bytes (omega arith),
+      onto_more 11 bytes (omega arith),
+      onto_more 12 bytes (omega arith),
+      onto_more 13 bytes (omega arith),
+      onto_more 14 bytes (omega arith),
+      onto_more 15 bytes (omega arith),
+    )
+
+-- what is at a place has so many bytes
+front_length : (count place : ℕ) (bytes front : List ℕ) → place + count ≤ length bytes → front ≡ take count (drop place bytes) → length front ≡ count
+front_length count place bytes front le is = ap length is ∙ omega (arith, length-take count (drop place bytes), length-drop place bytes)
+
+pub two_is : (place : ℕ) (bytes front : List ℕ) → place + 2 ≤ length bytes → front ≡ take 2 (drop place bytes) → from_be_bytes w16 front ≡ number_at 2 place bytes
+unfolding number_at
+two_is place bytes front le is = be_2 front (front_length 2 place bytes front le is) ∙ ap (number_onto 0) is
+
+pub four_is : (place : ℕ) (bytes front : List ℕ) → place + 4 ≤ length bytes → front ≡ take 4 (drop place bytes) → from_be_bytes w32 front ≡ number_at 4 place bytes
+unfolding number_at
+four_is place bytes front le is = be_4 front (front_length 4 place bytes front le is) ∙ ap (number_onto 0) is
+
+pub eight_is : (place : ℕ) (bytes front : List ℕ) → place + 8 ≤ length bytes → front ≡ take 8 (drop place bytes) → from_be_bytes w64 front ≡ number_at 8 place bytes
+unfolding number_at
+eight_is place bytes front le is = be_8 front (front_length 8 place bytes front le is) ∙ ap (number_onto 0) is
+
+pub sixteen_is : (place : ℕ) (bytes front : List ℕ) → place + 16 ≤ length bytes → front ≡ take 16 (drop place bytes) → from_be_bytes w128 front ≡ number_at 16 place bytes
+unfolding number_at
+sixteen_is place bytes front le is = be_16 front (front_length 16 place bytes front le is) ∙ ap (number_onto 0) is

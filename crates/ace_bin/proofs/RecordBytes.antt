@@ -1,6 +1,7 @@
 -- The record of an event, as it is written and read.
-use Rattle.std.proofs.Common.{◌≡◌, ℕ, suc, ◌≤◌, Bool, true, false, cond, ltb, List, ◌∷◌, ◌++◌, length, take, drop, Option, Some, None, refl, sym, ap, ◌∙◌, arith, length-append, le-ltb, ltb-false}
-use Rattle.std.proofs.lemmas.List.{append_cancel_left, take-append-drop}
+use Rattle.std.proofs.Common.{◌≡◌, ◌≢◌, ℕ, suc, ◌+◌, ◌-◌, ◌<◌, ◌≤◌, Bool, true, false, cond, ltb, List, [], ◌∷◌, ◌++◌, length, get_or, take, drop, Option, Some, None, Ok, refl, sym, ap, subst, ◌∙◌, arith, length-append, add-one, lt-ltb, le-ltb, ltb-true, ltb-false}
+use Rattle.std.proofs.lemmas.Bool.{and_left, and_right}
+use Rattle.std.proofs.lemmas.List.{append_cancel_left, take-append-drop, length-take, take_rest}
 use Rattle.ace_event.specs.declared.event.Event.{Event}
 use Rattle.ace_event.specs.Range.{InRange}
 use Rattle.ace_bin.specs.declared.reason.BinReason.{BinReason}
@@ -8,8 +9,9 @@ use Rattle.ace_bin.specs.declared.reason.BinReason.TheVariants.{Z1, Z3, Z4}
 use Rattle.ace_bin.specs.Fields.{Field, size_of_all, all_fit, fields_bytes, numbers_at}
 use Rattle.ace_bin.specs.Records.{fields_of, is_tag, tag_of, numbers_of, event_bytes}
 use Rattle.ace_bin.specs.Reading.{AreBytes, fields_reason, record_reason}
-use Rattle.ace_bin.proofs.FieldBytes.{fit_all, fit_length, fit_of, numbers_again, fields_again}
-use Rattle.ace_bin.proofs.Events.{same_event, in_range_fits, in_range_tag, made}
+use Rattle.ace_bin.specs.Errors.{IsReadAs}
+use Rattle.ace_bin.proofs.FieldBytes.{fit_all, fit_length, fit_of, numbers_again, numbers_stay, fields_again}
+use Rattle.ace_bin.proofs.Events.{same_event, in_range_fits, in_range_tag, made, fields_short}
 
 -- ---- the reason of a record
 
@@ -22,8 +24,39 @@ test_none true false true e = (refl, refl, refl)
 test_none true false false e = absurd cc
 test_none false short right e = absurd cc
 
+test_cut : (known short right : Bool) → test known short right ≡ Some Z1 → (known ≡ true) × (short ≡ true)
+test_cut true true right e = (refl, refl)
+test_cut true false true e = absurd cc
+test_cut true false false e = absurd cc
+test_cut false short right e = absurd cc
+
 test_is : (known short right : Bool) → known ≡ true → short ≡ false → right ≡ true → test known short right ≡ None
 test_is known short right k s r = rw (k, s, r) refl
+
+-- only one of three tests can turn with more bytes
+test_stays : (known short short' right right' : Bool) (reason : BinReason) → test known short right ≡ Some reason → reason ≢ Z1
+    → (short ≡ false → short' ≡ false) → (short ≡ false → right' ≡ right) → test known short' right' ≡ Some reason
+test_stays true true short' right right' reason e other s r =
+    let is : reason ≡ Z1 = cc in
+    absurd (other is)
+test_stays true false short' right right' reason e other s r = rw (s refl, r refl) e
+test_stays false short short' right right' reason e other s r = e
+
+-- too few bytes
+pub cut_reason : (version : ℕ) (fields : List Field) (bytes : List ℕ) → length bytes < size_of_all fields → fields_reason version fields bytes ≡ Some Z1
+unfolding fields_reason
+cut_reason version fields bytes short = let is : ltb (length bytes) (size_of_all fields) ≡ true = lt-ltb _ _ short in rw is refl
+
+-- a field out of range
+pub range_reason : (version : ℕ) (fields : List Field) (bytes : List ℕ) → size_of_all fields ≤ length bytes → all_fit version fields (numbers_at fields 0 bytes) ≡ false
+    → fields_reason version fields bytes ≡ Some Z4
+unfolding fields_reason
+range_reason version fields bytes long wrong =
+    let is : ltb (length bytes) (size_of_all fields) ≡ false = le-ltb _ _ long in
+    rw (is, wrong) refl
+
+-- what the code finds where it reads no record
+pub ruleset reasons = (cut_reason, range_reason, and_left, and_right)
 
 -- a record in range has no reason
 pub record_again : (version : ℕ) (event : Event) (rest : List ℕ) → InRange version event → record_reason version (event_bytes event ++ rest) ≡ None
@@ -81,3 +114,60 @@ begins_with_record version tag bytes are none =
       ap (λ (l : List ℕ). tag ∷ l) (sym (take-append-drop size bytes) ∙ ap (λ (l : List ℕ). l ++ drop size bytes) (sym text))
           ∙ ap (λ t. t ∷ (fields_bytes (fields_of (tag_of event.0)) (numbers_of event.0) ++ drop size bytes)) (sym event.2),
     )
+
+-- ---- what the code reads
+
+-- a record that was read
+pub record_is : (version tag : ℕ) (bytes : List ℕ) (event : Event) (size : ℕ) → AreBytes bytes → IsReadAs version tag bytes event (Ok size)
+    → (size + 1 ≤ length (tag ∷ bytes)) × InRange version event × (take (size + 1) (tag ∷ bytes) ≡ event_bytes event)
+record_is version tag bytes event size are h =
+    let fields : List Field = fields_of tag in
+    let text : fields_bytes (fields_of (tag_of event)) (numbers_of event) ≡ take (size_of_all fields) bytes =
+    ap (λ t. fields_bytes (fields_of t) (numbers_of event)) h.3 ∙ ap (fields_bytes fields) h.4 ∙ fields_again fields 0 bytes are (omega (arith, h.1)) in (
+      omega (arith, h.0, h.1),
+      h.2,
+      ap (λ n. take n (tag ∷ bytes)) (add-one size)
+          ∙ ap (λ n. tag ∷ take n bytes) h.0
+          ∙ ap (λ (l : List ℕ). tag ∷ l) (sym text)
+          ∙ ap (λ t. t ∷ fields_bytes (fields_of (tag_of event)) (numbers_of event)) (sym h.3),
+    )
+
+-- bytes that end within a record are fewer than those of the longest record
+pub cut_is_short : (version : ℕ) (bytes : List ℕ) → record_reason version bytes ≡ Some Z1 → length bytes < 79
+unfolding fields_reason
+cut_is_short version [] cut = omega arith
+cut_is_short version (tag ∷ bytes) cut =
+    let tests = test_cut (is_tag version tag) (ltb (length bytes) (size_of_all (fields_of tag))) (all_fit version (fields_of tag) (numbers_at (fields_of tag) 0 bytes)) cut in
+    omega (arith, ltb-true _ _ tests.1, fields_short tag)
+
+-- a malformed record stays so, whatever comes behind it
+pub malformed_stays : (version : ℕ) (bytes rest : List ℕ) (reason : BinReason) → record_reason version bytes ≡ Some reason → reason ≢ Z1 → record_reason version (bytes ++ rest) ≡ Some reason
+unfolding fields_reason
+malformed_stays version [] rest reason h other = absurd cc
+malformed_stays version (tag ∷ bytes) rest reason h other =
+    let fields : List Field = fields_of tag in
+    test_stays (is_tag version tag) (ltb (length bytes) (size_of_all fields)) (ltb (length (bytes ++ rest)) (size_of_all fields))
+    (all_fit version fields (numbers_at fields 0 bytes)) (all_fit version fields (numbers_at fields 0 (bytes ++ rest))) reason h other
+    (λ long. le-ltb _ _ (omega (arith, ltb-false _ _ long, length-append bytes rest)))
+    (λ long. ap (all_fit version fields) (numbers_stay fields 0 bytes rest (omega (arith, ltb-false _ _ long))))
+
+-- how long the record of an event in range is
+pub record_length : (version : ℕ) (event : Event) → InRange version event → length (event_bytes event) ≤ 79
+record_length version event is =
+    omega (arith, fit_length version (fields_of (tag_of event)) (numbers_of event) (in_range_fits version event is), fields_short (tag_of event))
+
+-- the same of bytes that begin with the tag
+pub record_in : (version : ℕ) (bytes : List ℕ) (event : Event) (size : ℕ) → AreBytes bytes → 1 ≤ length bytes
+    → IsReadAs version (get_or bytes 0 0) (take (length bytes - 1) (drop 1 bytes)) event (Ok size)
+    → (size + 1 ≤ length bytes) × InRange version event × (take (size + 1) bytes ≡ event_bytes event)
+record_in version [] event size are some h = absurd (omega (arith, some))
+record_in version (tag ∷ bytes) event size are some h =
+    record_is version tag bytes event size (tail_bytes tag bytes are)
+    (subst (λ (l : List ℕ). IsReadAs version tag l event (Ok size)) (take_rest (tag ∷ bytes) 1) h)
+
+-- how many bytes a record that was read has
+pub record_size : (version : ℕ) (bytes : List ℕ) (event : Event) (size : ℕ) → (size ≤ length bytes) × InRange version event × (take size bytes ≡ event_bytes event)
+    → (size ≡ length (event_bytes event)) × (size ≤ 79)
+record_size version bytes event size h =
+    let len : size ≡ length (event_bytes event) = omega (arith, ap length h.2, length-take size bytes, h.0) in
+    (len, omega (arith, len, record_length version event h.1))

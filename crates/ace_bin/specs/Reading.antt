@@ -1,9 +1,9 @@
 -- How bytes read as a binary trace.
-use Rattle.std.specs.Prelude.{◌≡◌, ◌≢◌, ℕ, ◌<◌, ◌≤◌, if◌then◌else◌, nat_lt, List, [], ◌∷◌, ◌++◌, length, take, slice_index, Option, None, Some}
-use Rattle.std.specs.List.{AllByRecursion}
+use Rattle.std.specs.Prelude.{◌≡◌, ◌≢◌, ℕ, ◌<◌, ◌≤◌, ◌==◌, if◌then◌else◌, nat_lt, List, [], ◌∷◌, ◌++◌, length, take, slice_index, Option, None, Some}
+use Rattle.std.specs.List.{AllByRecursion, count_by}
 use Rattle.ace_event.specs.declared.header.Header.{Header}
 use Rattle.ace_event.specs.declared.event.Event.{Event}
-use Rattle.ace_event.specs.Ports.{IsHeader}
+use Rattle.ace_event.specs.Ports.{IsHeader, port_letters, most_letters}
 use Rattle.ace_event.specs.Range.{InRange}
 use Rattle.ace_bin.specs.declared.reason.BinReason.{BinReason}
 use Rattle.ace_bin.specs.declared.reason.BinReason.TheVariants.{Z1, Z2, Z3, Z4}
@@ -28,6 +28,12 @@ BeginsWith bytes front = (rest : List ℕ) × (bytes ≡ front ++ rest)
 -- the numbers that stand where a header has its own
 abbrev pub header_at : List ℕ → Header
 header_at bytes = record { version = number_at 1 4 bytes; ports = number_at 1 5 bytes; ace = number_at 4 6 bytes }
+
+-- the numbers of ports of each kind are within the limits of the version
+abbrev pub AreFew : Header → Type 0
+AreFew header =
+    (count_by (λ letter. letter == 65) (port_letters header) ≤ most_letters header.version)
+    × (count_by (λ letter. letter == 76) (port_letters header) ≤ most_letters header.version)
 
 -- The header is right: it begins as it has to, its version is 1 or 2, the numbers of its ports are within the limits of the
 -- version, and no bit of `ace` at or above the number of ports is 1.

@@ -1,0 +1,120 @@
+// The record at the front of some bytes, by its tag.
+ghost use Rattle.std.specs.Prelude.{◌≡◌, ◌≢◌, ◌<◌, ◌≤◌, length, IsTrue, OnErr};
+ghost use Rattle.ace_bin.specs.Errors.{IsReadAs, IsRecord};
+ghost use Rattle.ace_bin.specs.Records.{is_tag};
+
+use crate::BinReason;
+use crate::records::{
+    read_ac, read_ar, read_aw, read_b, read_cd, read_cr, read_d, read_g, read_l, read_m, read_mem,
+    read_op, read_r, read_rk, read_s, read_w, read_wk,
+};
+use ace_codes::LineState;
+use ace_event::Event;
+
+/// Some event, to stand in the place of those that are read until one is.
+pub const NO_EVENT: Event = Event::Rk {
+    port: 0,
+    st: LineState::I,
+};
+
+/// Whether a trace of the version has records with this tag.
+#[inline(always)]
+fn is_tag(version: u8, tag: u8) -> bool
+    ensures value { result ≡ is_tag version tag }
+    ensures some { IsTrue result → 1 ≤ tag }
+    ensures few { IsTrue result → tag ≤ 17 }
+    ensures mem { IsTrue result → tag ≡ 17 → version ≢ 1 }
+{
+    let last = if version == 1 { 0x10 } else { 0x11 };
+    1 <= tag && tag <= last
+}
+
+/// The records of the read channels and the first ones of the write channels.
+#[inline(always)]
+fn read_first(tag: u8, bytes: &[u8], version: u8, event: &mut Event) -> Result<usize, BinReason>
+    requires some { 1 ≤ tag }
+    requires few { tag ≤ 5 }
+    ensures event { IsReadAs version tag bytes.now event.new result }
+    ensures stays { OnErr result (event.new ≡ event.old) }
+{
+    match tag {
+        0x01 => read_ar(bytes, version, event),
+        0x02 => read_r(bytes, version, event),
+        0x03 => read_rk(bytes, version, event),
+        0x04 => read_aw(bytes, version, event),
+        _ => read_w(bytes, version, event),
+    }
+}
+
+/// The last ones of the write channels, and those of the snoop channels.
+#[inline(always)]
+fn read_second(tag: u8, bytes: &[u8], version: u8, event: &mut Event) -> Result<usize, BinReason>
+    requires some { 6 ≤ tag }
+    requires few { tag ≤ 10 }
+    ensures event { IsReadAs version tag bytes.now event.new result }
+    ensures stays { OnErr result (event.new ≡ event.old) }
+{
+    match tag {
+        0x06 => read_b(bytes, version, event),
+        0x07 => read_wk(bytes, version, event),
+        0x08 => read_ac(bytes, version, event),
+        0x09 => read_cr(bytes, version, event),
+        _ => read_cd(bytes, version, event),
+    }
+}
+
+/// Those of the interconnect, and of what a port does on its own.
+#[inline(always)]
+fn read_third(tag: u8, bytes: &[u8], version: u8, event: &mut Event) -> Result<usize, BinReason>
+    requires some { 11 ≤ tag }
+    requires few { tag ≤ 17 }
+    requires mem { tag ≡ 17 → version ≢ 1 }
+    ensures event { IsReadAs version tag bytes.now event.new result }
+    ensures stays { OnErr result (event.new ≡ event.old) }
+{
+    match tag {
+        0x0b => read_g(bytes, version, event),
+        0x0c => read_m(bytes, version, event),
+        0x0d => read_s(bytes, version, event),
+        0x0e => read_l(bytes, version, event),
+        0x0f => read_d(bytes, version, event),
+        0x10 => read_op(bytes, version, event),
+        _ => read_mem(bytes, event),
+    }
+}
+
+/// Reads the fields behind a tag of the version into their place, and says how many bytes they have.
+#[inline(always)]
+fn read_fields(tag: u8, bytes: &[u8], version: u8, event: &mut Event) -> Result<usize, BinReason>
+    requires some { 1 ≤ tag }
+    requires few { tag ≤ 17 }
+    requires mem { tag ≡ 17 → version ≢ 1 }
+    ensures event { IsReadAs version tag bytes.now event.new result }
+    ensures stays { OnErr result (event.new ≡ event.old) }
+{
+    if tag <= 0x05 {
+        read_first(tag, bytes, version, event)
+    } else if tag <= 0x0a {
+        read_second(tag, bytes, version, event)
+    } else {
+        read_third(tag, bytes, version, event)
+    }
+}
+
+/// Reads the record at the front of the bytes of a trace of a version into its place, and says how many bytes it has. Where there is
+/// none, the place stays, and the error is the least reason that applies.
+#[inline(always)]
+pub fn read_record(bytes: &[u8], version: u8, event: &mut Event) -> Result<usize, BinReason>
+    requires { 0 < length bytes.now }
+    ensures event { IsRecord version bytes.now event.new result }
+    ensures stays { OnErr result (event.new ≡ event.old) }
+{
+    let [tag, fields @ ..] = bytes else {
+        unreachable!();
+    };
+    if !is_tag(version, *tag) {
+        return Err(BinReason::Z3);
+    }
+    let size = read_fields(*tag, fields, version, event)?;
+    Ok(size + 1)
+}
