@@ -1,5 +1,5 @@
 -- The registrations, event by event.
-use Rattle.std.proofs.Common.{◌≡◌, ◌⊎◌, ℕ, ◌*◌, ◌%◌, ◌^◌, ◌<◌, ◌≤◌, true, false, not, ◌&&◌, ◌||◌, nat_eq, nat_lt, if◌then◌else◌, bit_or, [], ◌∷◌, Option, Some, None, IsSome, unwrap_or, refl, sym, ap, subst, ◌∙◌, arith, inl, inr, w32}
+use Rattle.std.proofs.Common.{◌≡◌, ℕ, ◌*◌, ◌%◌, ◌^◌, ◌<◌, ◌≤◌, true, false, not, ◌&&◌, ◌||◌, nat_eq, nat_lt, if◌then◌else◌, bit_or, [], ◌∷◌, Option, Some, None, IsSome, unwrap_or, refl, sym, ap, subst, ◌∙◌, arith, inl, inr, w32}
 use Rattle.std.specs.Int.{bit_at}
 use Rattle.std.proofs.lemmas.Bool.{cases_Bool, cases_eq, and_from, and_parts, eq-eqb, ne_eqb, le-ltb}
 use Rattle.std.proofs.lemmas.Nat.Bits.{bit_at_set_same, bit_at_set_other, bit_at_above, bit_at-zero}
@@ -169,16 +169,20 @@ registrations_lock r s n e t x kept new accepted few own is stands keeps sets he
               subst (λ o. IsSome o) (sym (there l off)) (stands.known l (rw other at was))
         ]
 
--- where a line has no place, its transaction is the first with lock 1 that is granted it
+-- a line without a place was granted to no transaction with lock 1
+pub never-locked : (r : Recording) (s : Registrations) (l : ℕ) → RegistrationsStand r s → get nat_eq s.lines l ≡ None → was_locked r.past l ≡ false
+never-locked r s l stands none =
+    elim (cases_Bool (was_locked r.past l)) [
+      | inl t ↦ let bad : false ≡ true = subst (λ o. IsSome o) none (stands.known l t) in cc
+      | inr f ↦ f
+    ]
+
+-- so its transaction is the first with lock 1 that is granted it
 pub new_lock : (r : Recording) (s : Registrations) (e : Event) (t : Target) (x : Transaction) → t ≡ target_of r.header r.past e → locked_in e t ≡ Some x
     → RegistrationsStand r s → get nat_eq s.lines x.addr ≡ None → IsNewLock r.past e
 new_lock r s e t x own is stands none =
     let k = locked-at r.header r.past e t x own is in
-    (x.addr, rw (k.grants, k.lock, k.line, eq-eqb x.addr x.addr refl) refl, unknown (cases_Bool (was_locked r.past x.addr)))
-  where
-    unknown : (was_locked r.past x.addr ≡ true) ⊎ (was_locked r.past x.addr ≡ false) → was_locked r.past x.addr ≡ false
-    unknown (inl t) = let bad : false ≡ true = subst (λ o. IsSome o) none (stands.known x.addr t) in cc
-    unknown (inr f) = f
+    (x.addr, rw (k.grants, k.lock, k.line, eq-eqb x.addr x.addr refl) refl, never-locked r s x.addr stands none)
 
 -- the registrations of the empty trace
 pub registrations_fresh : (h : Header) (s : Registrations) → ((l : ℕ) → get nat_eq s.lines l ≡ None) → RegistrationsStand (record { header = h; past = [] }) s

@@ -1,9 +1,11 @@
 -- What is kept of the system as a whole says what there is to say of it after a recording.
-use Rattle.std.specs.Prelude.{ℕ, ◌≡◌, ◌<◌, ◌-◌, ◌^◌, None, length}
+use Rattle.std.specs.Prelude.{ℕ, ◌≡◌, ◌<◌, ◌-◌, ◌^◌, true, None, IsSome, length, nat_eq}
+use Rattle.indexmap.specs.IndexMap.{get}
 use Rattle.ace_event.specs.Ports.{IsHeader}
 use Rattle.ace_event.specs.declared.event.Event.{Event}
 use Rattle.ace_model.specs.Accepted.{IsAccepted, least_broken}
 use Rattle.ace_model.specs.Trace.{Trace}
+use Rattle.ace_model.specs.declared.transactions.Transaction.{Transaction}
 use Rattle.ace_portck.specs.declared.target.Target.{Target}
 use Rattle.ace_portck.specs.LineMaps.{HasRoomForLines}
 use Rattle.ace_portck.specs.Targets.{Recording, target_of}
@@ -37,6 +39,10 @@ pub record MayTest (s : SysCheck) (r : Recording) (e : Event) (t : Target) : Typ
 -- there is room for what the event leaves: a place for the line that it grants to a transaction with lock 1
 abbrev pub HasRoom : SysCheck → Event → Target → Type 0
 HasRoom s e t = HasLineRoom s.registrations e t
+
+-- there is a place for the line of the transaction, if that has lock 1: room for what its G leaves
+abbrev pub HasLockRoom : SysCheck → Transaction → Type 0
+HasLockRoom s x = x.lock ≡ true → IsSome (get nat_eq s.registrations.lines x.addr)
 
 -- There is room for so many lines that are granted to transactions with lock 1, and each place is that of a line which a transaction of
 -- the trace names.

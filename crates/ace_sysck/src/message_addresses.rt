@@ -36,9 +36,10 @@ impl SysCheck {
     ghost use Rattle.ace_model.specs.Accepted.{least_broken, least_of};
     ghost use Rattle.ace_model.specs.AddressRules.{k1};
     ghost use Rattle.ace_model.specs.Shares.{system_rules};
+    ghost use Rattle.ace_model.specs.Trace.{Trace};
     ghost use Rattle.ace_portck.specs.DvmReads.{is_completion, is_message};
     ghost use Rattle.ace_portck.specs.Targets.{Recording, after};
-    ghost use Rattle.ace_sysck.specs.Stands.{Stands};
+    ghost use Rattle.ace_sysck.specs.Stands.{Stands, IsRoomy};
 
     /// The least rule of the share that an AR of a DVM Message breaks: K9, where it may not follow what the port has issued of messages.
     #[inline(always)]
@@ -58,7 +59,7 @@ impl SysCheck {
     /// Takes an AR of a DVM Message with lock 0 that breaks no rule, with `place` events before it. Where it ends a message, the inbox of
     /// every other port has room for that.
     pub fn begin_message(&mut self, address: &event_kinds::Ar, place: usize)
-        ensures { (r : Recording) → Stands self.old r
+        ensures stands { (r : Recording) → Stands self.old r
             → is_message address.now.snoop address.now.dom address.now.bar address.now.lock ≡ true
             → place ≡ length r.past
             → least_broken r.header r.past (Ar address.now.port address.now.id address.now.addr
@@ -66,6 +67,7 @@ impl SysCheck {
             → length r.past < 2 ^ 64 - 1
             → Stands self.new (after r (Ar address.now.port address.now.id address.now.addr
             address.now.snoop address.now.dom address.now.bar address.now.lock)) }
+        ensures roomy { (n : ℕ) (past : Trace) → IsRoomy n past self.old → IsRoomy n past self.new }
     {
         let part = read_of(place, address);
         let kept = self.messages.of(part.port);
@@ -97,11 +99,12 @@ impl SysCheck {
     /// Takes an AR of a DVM Complete with lock 0 that breaks no rule.
     #[inline(always)]
     pub fn begin_completion(&mut self, port: u8, id: u8)
-        ensures { (r : Recording) (addr snoop dom bar : ℕ) (lock : Bool) → Stands self.old r
+        ensures stands { (r : Recording) (addr snoop dom bar : ℕ) (lock : Bool) → Stands self.old r
             → is_completion snoop dom bar lock ≡ true
             → least_broken r.header r.past (Ar port id addr snoop dom bar lock) ≡ None
             → length r.past < 2 ^ 64 - 1
             → Stands self.new (after r (Ar port id addr snoop dom bar lock)) }
+        ensures roomy { (n : ℕ) (past : Trace) → IsRoomy n past self.old → IsRoomy n past self.new }
     {
         self.results.begin(port, id);
         self.syncs.complete(port);

@@ -15,9 +15,11 @@ impl SysCheck {
     #[inline(always)]
     pub fn load(&mut self, load: &L)
         ensures stands { (r : Recording) → Stands self.old r
-            → least_broken r.header r.past (Load load.now.port load.now.addr load.now.w load.now.x load.now.word) ≡ None
+            → least_broken r.header r.past
+            (Load load.now.port load.now.addr load.now.w load.now.x load.now.word) ≡ None
             → length r.past < 2 ^ 64 - 1
-            → Stands self.new (after r (Load load.now.port load.now.addr load.now.w load.now.x load.now.word)) }
+            → Stands self.new (after r
+            (Load load.now.port load.now.addr load.now.w load.now.x load.now.word)) }
         ensures roomy { (n : ℕ) (past : Trace) → IsRoomy n past self.old → IsRoomy n past self.new }
     {
         self.monitors.load(load.port, load.addr, load.x);

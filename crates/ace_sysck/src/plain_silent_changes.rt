@@ -16,9 +16,11 @@ impl SysCheck {
     #[inline(always)]
     pub fn change(&mut self, change: &S)
         ensures stands { (r : Recording) → Stands self.old r
-            → least_broken r.header r.past (SilentChange change.now.port change.now.addr change.now.st) ≡ None
+            → least_broken r.header r.past
+            (SilentChange change.now.port change.now.addr change.now.st) ≡ None
             → length r.past < 2 ^ 64 - 1
-            → Stands self.new (after r (SilentChange change.now.port change.now.addr change.now.st)) }
+            → Stands self.new (after r
+            (SilentChange change.now.port change.now.addr change.now.st)) }
         ensures roomy { (n : ℕ) (past : Trace) → IsRoomy n past self.old → IsRoomy n past self.new }
     {
         self.monitors

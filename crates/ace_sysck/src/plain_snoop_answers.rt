@@ -15,20 +15,24 @@ fn is_message(kind: SnoopKind) -> bool
 }
 
 impl SysCheck {
-    ghost use Rattle.std.specs.Prelude.{◌<◌, ◌-◌, ◌^◌, None, Some, length};
+    ghost use Rattle.std.specs.Prelude.{◌<◌, ◌-◌, ◌^◌, ℕ, None, Some, length};
     ghost use Rattle.ace_event.specs.declared.event.Event.TheVariants.{Cr as Answer};
+    ghost use Rattle.ace_model.specs.Trace.{Trace};
     ghost use Rattle.ace_model.specs.declared.snoops.Snoop.{Snoop};
     ghost use Rattle.ace_model.specs.Accepted.{least_broken};
     ghost use Rattle.ace_portck.specs.SnoopAnswers.{IsAnswered};
     ghost use Rattle.ace_portck.specs.Targets.{Recording, after, line_of_snoop};
-    ghost use Rattle.ace_sysck.specs.Stands.{Stands};
+    ghost use Rattle.ace_sysck.specs.Stands.{Stands, IsRoomy};
 
     /// Takes a CR that answers a snoop of the kind, of this line if it is a line snoop, and breaks no rule.
     #[inline(always)]
     pub fn hear_snoop_answer(&mut self, answer: &Cr, kind: SnoopKind, line: Option<u32>)
-        ensures { (r : Recording) (x : Snoop) → Stands self.old r → IsAnswered r.past answer.now.port x kind → line ≡ line_of_snoop (Some x)
-            → least_broken r.header r.past (Answer answer.now.port answer.now.resp answer.now.st) ≡ None → length r.past < 2 ^ 64 - 1
+        ensures stands { (r : Recording) (x : Snoop) → Stands self.old r
+            → IsAnswered r.past answer.now.port x kind → line ≡ line_of_snoop (Some x)
+            → least_broken r.header r.past (Answer answer.now.port answer.now.resp answer.now.st)
+            ≡ None → length r.past < 2 ^ 64 - 1
             → Stands self.new (after r (Answer answer.now.port answer.now.resp answer.now.st)) }
+        ensures roomy { (n : ℕ) (past : Trace) → IsRoomy n past self.old → IsRoomy n past self.new }
     {
         self.monitors.leave(answer.port, line, answer.st);
         if is_message(kind) {

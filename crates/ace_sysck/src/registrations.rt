@@ -56,12 +56,12 @@ fn locked_in(event: &Event, target: &Target) -> Option<Transaction>
 }
 
 impl Registrations {
-    ghost use Rattle.std.specs.Prelude.{◌≡◌, ◌≤◌, [], true, false, Some, IfOk, IsOk, OnOk, OnErr, is_some, length, nat_eq};
+    ghost use Rattle.std.specs.Prelude.{◌≡◌, ◌≤◌, [], true, false, None, Some, IfOk, IsOk, IsSome, OnOk, OnErr, is_some, length, nat_eq};
     ghost use Rattle.indexmap.specs.IndexMap.{get};
     ghost use Rattle.ace_event.specs.declared.event.Event.{Event};
     ghost use Rattle.ace_event.specs.declared.header.Header.{Header};
     ghost use Rattle.ace_model.specs.Exclusives.{is_registered};
-    ghost use Rattle.ace_model.specs.Lines.{known_lines};
+    ghost use Rattle.ace_model.specs.Lines.{is_known, known_lines};
     ghost use Rattle.ace_model.specs.Trace.{Trace};
     ghost use Rattle.ace_portck.specs.declared.target.Target.{Target};
     ghost use Rattle.ace_portck.specs.LineMaps.{HasRoomForLines};
@@ -80,7 +80,8 @@ impl Registrations {
 
     /// The same, with room for so many lines.
     pub fn with_room(alloc: Global, lines: usize) -> Result<Registrations, AllocError>
-        ensures stands { IfOk result (λ s. (h : Header) → RegistrationsStand (record { header = h; past = [] }) s) }
+        ensures stands { IfOk result (λ s. (h : Header)
+            → RegistrationsStand (record { header = h; past = [] }) s) }
         ensures room { IfOk result (λ s. HasRoomForLines lines [] s.lines) }
     {
         let lines = IndexMap::with_capacity(alloc, lines)?;
@@ -98,41 +99,65 @@ impl Registrations {
 
     /// Whether the port is registered for the line.
     pub fn is_registered(&self, port: u8, line: u32) -> bool
-        ensures { (r : Recording) → RegistrationsStand r self.now → result ≡ is_registered r.past port line }
+        ensures { (r : Recording) → RegistrationsStand r self.now
+            → result ≡ is_registered r.past port line }
     {
         has_port(self.bits_of(line), port)
+    }
+
+    /// Makes room for the line. There is no memory only where it has no place yet.
+    pub(crate) fn make_room(&mut self, line: u32) -> Result<(), AllocError>
+        ensures stands { (r : Recording) → RegistrationsStand r self.old
+            → RegistrationsStand r self.new }
+        ensures room { OnOk result (IsSome (get nat_eq self.new.lines line)) }
+        ensures cause { OnErr result (get nat_eq self.old.lines line ≡ None) }
+        ensures roomy { (n : ℕ) (past : Trace) → is_known past line ≡ true
+            → HasRoomForLines n past self.old.lines
+            → HasRoomForLines n past self.new.lines }
+        ensures succeeds { (n : ℕ) (past : Trace) → is_known past line ≡ true
+            → HasRoomForLines n past self.old.lines
+            → length (known_lines past) ≤ n → IsOk result }
+    {
+        if !self.lines.contains_key(&line) {
+            if self.lines.insert(line, 0).is_err() {
+                return Err(AllocError);
+            }
+        }
+        Ok(())
     }
 
     /// Makes room for the line that the event grants to a transaction with lock 1. There is no memory only where it is the first
     /// of its line.
     #[inline(always)]
     pub fn ready(&mut self, event: &Event, target: &Target) -> Result<(), AllocError>
-        ensures stands { (r : Recording) → RegistrationsStand r self.old → RegistrationsStand r self.new }
+        ensures stands { (r : Recording) → RegistrationsStand r self.old
+            → RegistrationsStand r self.new }
         ensures room { OnOk result (HasLineRoom self.new event.now target.now) }
-        ensures cause { OnErr result ((r : Recording) → MayMakeLineRoom r self.old event.now target.now → IsNewLock r.past event.now) }
-        ensures roomy { (n : ℕ) (r : Recording) → HasRoomForLines n r.past self.old.lines → target.now ≡ target_of r.header r.past event.now
+        ensures cause { OnErr result ((r : Recording)
+            → MayMakeLineRoom r self.old event.now target.now → IsNewLock r.past event.now) }
+        ensures roomy { (n : ℕ) (r : Recording) → HasRoomForLines n r.past self.old.lines
+            → target.now ≡ target_of r.header r.past event.now
             → HasRoomForLines n r.past self.new.lines }
-        ensures succeeds { (n : ℕ) (r : Recording) → HasRoomForLines n r.past self.old.lines → target.now ≡ target_of r.header r.past event.now
+        ensures succeeds { (n : ℕ) (r : Recording) → HasRoomForLines n r.past self.old.lines
+            → target.now ≡ target_of r.header r.past event.now
             → length (known_lines r.past) ≤ n → IsOk result }
     {
-        if let Some(x) = locked_in(event, target) {
-            if !self.lines.contains_key(&x.addr) {
-                if self.lines.insert(x.addr, 0).is_err() {
-                    return Err(AllocError);
-                }
-            }
+        match locked_in(event, target) {
+            None => Ok(()),
+            Some(x) => self.make_room(x.addr),
         }
-        Ok(())
     }
 
     /// Registers the port of the transaction with lock 1, which is granted its line, if the line has a place; says whether it has. If it
     /// has none, nothing has changed.
     pub fn register(&mut self, x: &Transaction) -> bool
-        ensures stands { (r : Recording) (e : Event) (t : Target) → IsStep r e t → locked_in e t ≡ Some x.now → RegistrationsStand r self.old → result ≡ true
+        ensures stands { (r : Recording) (e : Event) (t : Target) → IsStep r e t
+            → locked_in e t ≡ Some x.now → RegistrationsStand r self.old → result ≡ true
             → RegistrationsStand (after r e) self.new }
         ensures found { result ≡ is_some (get nat_eq self.old.lines x.now.addr) }
         ensures stays { result ≡ false → self.new ≡ self.old }
-        ensures roomy { (n : ℕ) (past : Trace) → HasRoomForLines n past self.old.lines → HasRoomForLines n past self.new.lines }
+        ensures roomy { (n : ℕ) (past : Trace) → HasRoomForLines n past self.old.lines
+            → HasRoomForLines n past self.new.lines }
     {
         let kept = kept_bits(x, self.bits_of(x.addr));
         match self.lines.get_mut(&x.addr) {
@@ -147,8 +172,10 @@ impl Registrations {
     /// The registrations after the event.
     #[inline(always)]
     pub fn hear(&mut self, event: &Event, target: &Target)
-        ensures stands { (r : Recording) → MayHearRegistrations r self.old event.now target.now → RegistrationsStand (after r event.now) self.new }
-        ensures roomy { (n : ℕ) (past : Trace) → HasRoomForLines n past self.old.lines → HasRoomForLines n past self.new.lines }
+        ensures stands { (r : Recording) → MayHearRegistrations r self.old event.now target.now
+            → RegistrationsStand (after r event.now) self.new }
+        ensures roomy { (n : ℕ) (past : Trace) → HasRoomForLines n past self.old.lines
+            → HasRoomForLines n past self.new.lines }
     {
         if let Some(x) = locked_in(event, target) {
             self.register(&x);

@@ -16,9 +16,10 @@ impl SysCheck {
     ghost use Rattle.ace_model.specs.Messages.{is_message_part};
     ghost use Rattle.ace_model.specs.OrderRules.{is_answered_by_all, may_answer_half};
     ghost use Rattle.ace_model.specs.Shares.{system_rules};
+    ghost use Rattle.ace_model.specs.Trace.{Trace};
     ghost use Rattle.ace_model.specs.Transactions.{outstanding};
     ghost use Rattle.ace_portck.specs.Targets.{Recording, after, first_incomplete, first_unordered};
-    ghost use Rattle.ace_sysck.specs.Stands.{Stands};
+    ghost use Rattle.ace_sysck.specs.Stands.{Stands, IsRoomy};
 
     /// K34: the half of a barrier may be answered, since both halves were issued and what is before them has come far enough. `unordered`
     /// is the place of its port's first line transaction with bar 0 without its order point, and `incomplete` that of the first that isn't
@@ -148,6 +149,7 @@ impl SysCheck {
             → outstanding r.header r.past port Write id ≡ Some x.now
             → least_broken r.header r.past (B port id resp) ≡ None → length r.past < 2 ^ 64 - 1
             → Stands self.new (after r (B port id resp)) }
+        ensures roomy { (n : ℕ) (past : Trace) → IsRoomy n past self.old → IsRoomy n past self.new }
     {
         self.barriers.answer(x.port, x.place);
         self.messages.complete(x.port, x.place);

@@ -22,8 +22,9 @@ impl SysCheck {
     ghost use Rattle.ace_model.specs.AddressRules.{k1};
     ghost use Rattle.ace_model.specs.OrderRules.{k39};
     ghost use Rattle.ace_model.specs.Shares.{system_rules};
+    ghost use Rattle.ace_model.specs.Trace.{Trace};
     ghost use Rattle.ace_portck.specs.Targets.{Recording, after};
-    ghost use Rattle.ace_sysck.specs.Stands.{Stands};
+    ghost use Rattle.ace_sysck.specs.Stands.{Stands, IsRoomy};
 
     /// K39, of an AC of the kind: an AC DVM Complete comes once the port's last Sync may have it.
     #[inline(always)]
@@ -58,10 +59,11 @@ impl SysCheck {
     /// Sync has had it.
     #[inline(always)]
     pub fn hear_message_snoop(&mut self, port: u8, kind: SnoopKind)
-        ensures { (r : Recording) (addr snoop : ℕ) → Stands self.old r
+        ensures stands { (r : Recording) (addr snoop : ℕ) → Stands self.old r
             → ac_kind_of snoop ≡ Some kind
             → least_broken r.header r.past (Ac port addr snoop) ≡ None → length r.past < 2 ^ 64 - 1
             → Stands self.new (after r (Ac port addr snoop)) }
+        ensures roomy { (n : ℕ) (past : Trace) → IsRoomy n past self.old → IsRoomy n past self.new }
     {
         match kind {
             SnoopKind::DvmMessage => self.inboxes.forward(port),

@@ -23,7 +23,7 @@ returns-clause-taken g c = λ h past s few yes.
       record {
         ports = c.apply.ensures.stands r (may-apply old.ports h past e s.ports fine few (half-no_snoop past e x is));
         lines = unchanged old.lines r e s.lines fine (half-no_line h past e x is);
-        system = c.begin_barrier.ensures r e s.system is fine few;
+        system = c.begin_barrier.ensures.stands r e s.system is fine few;
       },
     )
 

@@ -27,7 +27,7 @@ returns-clause-taken c = λ h past s few is yes.
       record {
         ports = c.apply.ensures.stands r (record { stands = s.ports; room = λ p k own at. tt; keeps = fine; few = few });
         lines = lines-unmoved c.args.self.now.lines r a.port a.id a.addr a.snoop a.dom a.bar a.lock s.lines dvm fine;
-        system = c.begin_completion.ensures r a.addr a.snoop a.dom a.bar a.lock s.system is fine few;
+        system = c.begin_completion.ensures.stands r a.addr a.snoop a.dom a.bar a.lock s.system is fine few;
       },
     )
 

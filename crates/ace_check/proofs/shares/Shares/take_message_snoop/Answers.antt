@@ -20,6 +20,6 @@ returns-clause-taken c = λ h past s few yes.
       record {
         ports = c.apply.ensures.stands r (record { stands = s.ports; room = room; keeps = fine; few = few });
         lines = lines-unmoved c.args.self.now.lines r x.port x.addr x.snoop s.lines (snoops-none x.snoop k kind off) fine;
-        system = c.hear_message_snoop.ensures r x.addr x.snoop s.system kind fine few;
+        system = c.hear_message_snoop.ensures.stands r x.addr x.snoop s.system kind fine few;
       },
     )

@@ -25,7 +25,7 @@ returns-clause-taken c = λ h past s few kind line t.
       record {
         ports = c.apply.ensures.stands r (record { stands = s.ports; room = λ p k own at. tt; keeps = fine; few = few });
         lines = lines-begun c.args.self.now.lines r e s.lines known fine;
-        system = c.begin_line_read.ensures r a.addr a.snoop a.dom a.bar a.lock c.args.kind s.system kind line fine few;
+        system = c.begin_line_read.ensures.stands r a.addr a.snoop a.dom a.bar a.lock c.args.kind s.system kind line fine few;
       },
     )
 

@@ -29,6 +29,6 @@ returns-clause-taken c = λ h past s few taken.
       record {
         ports = c.apply.ensures.stands r (record { stands = s.ports; room = λ p k own there. tt; keeps = fine; few = few });
         lines = c.hear_acknowledge.ensures.stands r Read s.lines own at fine few;
-        system = c.acknowledge.ensures r Read s.system line fine few;
+        system = c.acknowledge.ensures.stands r Read s.system line fine few;
       },
     )

@@ -24,6 +24,6 @@ returns-clause-taken c = λ h past s few taken.
       record {
         ports = c.apply.ensures.stands r (may-apply self.ports h past (Cr a.port a.resp a.st) s.ports fine few (λ p addr snoop is. cc));
         lines = c.hear_snoop_answer.ensures.stands r x k s.lines is at fine few;
-        system = c.hear_snoop_answer-2.ensures r x s.system is on fine few;
+        system = c.hear_snoop_answer-2.ensures.stands r x s.system is on fine few;
       },
     )

@@ -5,8 +5,8 @@ use Rattle.ace_model.specs.Transactions.{issued}
 use Rattle.ace_sysck.proofs.ShortWays.MessageAddresses.{message-stands}
 use Rattle.ace_sysck.proofs.system.SysCheck.begin_message.Goals as goal
 
-pub returns : goal.returns
-returns c = λ r s is at fine few.
+pub returns-clause-stands : goal.returns-clause-stands
+returns-clause-stands c = λ r s is at fine few.
     let a = c.args.address.now in
     let x = c.read_of-part.result in
     let e : Event = Ar a.port a.id a.addr a.snoop a.dom a.bar a.lock in

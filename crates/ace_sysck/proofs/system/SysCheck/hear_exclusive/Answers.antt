@@ -14,7 +14,7 @@ returns-then-is_exclusive_store-clause-stands c = λ r p ch i s out lock fine fe
     let g = grants-one self r p ch i x s out fine few in
     let low : x.id < 256 = omega arith in
     let registered : RegistrationsStand (after r e) c.register.new.self =
-    c.register.ensures.stands r e (target_of r.header r.past e) (grant-step self r p ch i s fine few) (locked-one self r p ch i x s out fine few lock) s.registrations c.if-not-register.false in
+    c.register.ensures.stands r e (target_of r.header r.past e) (grant-step self r p ch i s fine few) (locked-one self r p ch i x s out fine lock) s.registrations c.if-not-register.false in
     let result =
     results_store r self.results c.set.new.self e x c.is_registered-passes.result s.results g.port low g.issues_none g.grants
     (sym c.is_exclusive_store.ensures ∙ c.if-is_exclusive_store.true) (c.is_registered-passes.ensures r s.registrations) c.set.ensures in
@@ -27,6 +27,6 @@ returns-else-is_exclusive_store-clause-stands c = λ r p ch i s out lock fine fe
     let e = G p ch i in
     let g = grants-one self r p ch i x s out fine few in
     let registered : RegistrationsStand (after r e) c.register.new.self =
-    c.register.ensures.stands r e (target_of r.header r.past e) (grant-step self r p ch i s fine few) (locked-one self r p ch i x s out fine few lock) s.registrations c.if-not-register.false in
+    c.register.ensures.stands r e (target_of r.header r.past e) (grant-step self r p ch i s fine few) (locked-one self r p ch i x s out fine lock) s.registrations c.if-not-register.false in
     let result = results_plain r self.results e x g.issues_none g.grants (sym c.is_exclusive_store.ensures ∙ c.if-is_exclusive_store.false) s.results in
     after_grant self r p ch i self.results c.register.new.self s fine few result registered

@@ -7,8 +7,8 @@ use Rattle.ace_sysck.proofs.ShortWays.SnoopAnswers.{answer-step, answers-kind, m
 use Rattle.ace_sysck.proofs.SyncSteps.{syncs_no_message}
 use Rattle.ace_sysck.proofs.system.SysCheck.hear_snoop_answer.Goals as goal
 
-pub returns-then-is_message : goal.returns-then-is_message
-returns-then-is_message c = λ r x s is at fine few.
+pub returns-then-is_message-clause-stands : goal.returns-then-is_message-clause-stands
+returns-then-is_message-clause-stands c = λ r x s is at fine few.
     let k = c.args.self.now in
     let a = c.args.answer.now in
     let t = target_of r.header r.past (Cr a.port a.resp a.st) in
@@ -19,8 +19,8 @@ returns-then-is_message c = λ r x s is at fine few.
     (inboxes_answer r k.inboxes c.answer-then-is_message.new.self a.port a.resp a.st t step.accepted refl message s.inboxes c.answer-then-is_message.ensures)
     (c.answer.ensures r a.resp a.st t step message s.inboxes s.syncs)
 
-pub returns-else-is_message : goal.returns-else-is_message
-returns-else-is_message c = λ r x s is at fine few.
+pub returns-else-is_message-clause-stands : goal.returns-else-is_message-clause-stands
+returns-else-is_message-clause-stands c = λ r x s is at fine few.
     let k = c.args.self.now in
     let a = c.args.answer.now in
     let t = target_of r.header r.past (Cr a.port a.resp a.st) in
