@@ -37,20 +37,24 @@ HoldsNoRecord version bytes = (bytes ≡ []) ⊎ (record_reason version bytes �
 -- why there is none.
 abbrev pub IsReadAs : ℕ → ℕ → List ℕ → Event → Result ℕ BinReason → Type 0
 IsReadAs version tag bytes event (Ok size) =
-    (size ≡ size_of_all (fields_of tag)) × (size_of_all (fields_of tag) ≤ length bytes) × InRange version event × (tag_of event ≡ tag)
+    (size ≡ size_of_all (fields_of tag)) × (size_of_all (fields_of tag) ≤ length bytes)
+    × InRange version event × (tag_of event ≡ tag)
     × (numbers_of event ≡ numbers_at (fields_of tag) 0 bytes)
-IsReadAs version tag bytes event (Err reason) = fields_reason version (fields_of tag) bytes ≡ Some reason
+IsReadAs version tag bytes event (Err reason) =
+    fields_reason version (fields_of tag) bytes ≡ Some reason
 
 -- The same of a whole record.
 abbrev pub IsRecord : ℕ → List ℕ → Event → Result ℕ BinReason → Type 0
-IsRecord version bytes event (Ok size) = (size ≤ length bytes) × InRange version event × (take size bytes ≡ event_bytes event)
+IsRecord version bytes event (Ok size) =
+    (size ≤ length bytes) × InRange version event × (take size bytes ≡ event_bytes event)
 IsRecord version bytes event (Err reason) = record_reason version bytes ≡ Some reason
 
 -- What stands at the front of some bytes, by the event that stands in the place then. What is malformed stays so, whatever comes
 -- after the bytes.
 abbrev pub IsFront : ℕ → List ℕ → Event → Front → Type 0
 IsFront version bytes event (fronts.Record size) = IsRecord version bytes event (Ok size)
-IsFront version bytes event (fronts.Malformed reason) = (record_reason version bytes ≡ Some reason) × (reason ≢ Z1)
+IsFront version bytes event (fronts.Malformed reason) =
+    (record_reason version bytes ≡ Some reason) × (reason ≢ Z1)
 IsFront version bytes event fronts.Cut = HoldsNoRecord version bytes
 
 -- the answer of a function that puts the next event in a place, by the event that stands there then
@@ -63,21 +67,28 @@ with_event event (Err error) = Err error
 -- fault what was taken is less than a header.
 abbrev pub HasNoHeader : BinErr → Option (List ℕ) → ℕ → Option (List ℕ) → ℕ → Type 0
 HasNoHeader (Malformed byte reason) old faults new faults' =
-    IfTold old (λ bytes. HasBadHeader bytes byte reason) × TakesFront old new (λ taken. Unit {0}) × (faults' ≡ faults)
+    IfTold old (λ bytes. HasBadHeader bytes byte reason) × TakesFront old new (λ taken. Unit {0})
+    × (faults' ≡ faults)
 HasNoHeader TooManyEvents old faults new faults' = ⊥
-HasNoHeader ReadFault old faults new faults' = TakesFront old new (λ taken. length taken < header_size) × Rose faults faults'
+HasNoHeader ReadFault old faults new faults' =
+    TakesFront old new (λ taken. length taken < header_size) × Rose faults faults'
 
 -- What stands next in a trace of a version after so many events and so many bytes, by the bytes that were not read before and
 -- those that are not read after it, and those that the source has left then. At a fault what was taken and not read holds no
 -- whole record.
-abbrev pub StandsNext : ℕ → Result (Option Event) BinErr → ℕ → ℕ → Option (List ℕ) → Option (List ℕ) → Option (List ℕ) → Type 0
+abbrev pub StandsNext : ℕ → Result (Option Event) BinErr → ℕ → ℕ → Option (List ℕ)
+    → Option (List ℕ) → Option (List ℕ) → Type 0
 StandsNext version (Ok (Some event)) count place old new left =
     (count < most_events) × InRange version event × Consumes old new (event_bytes event)
-StandsNext version (Ok None) count place old new left = IsAtEnd old × LeavesNothing old new × LeavesNothing old left
+StandsNext version (Ok None) count place old new left =
+    IsAtEnd old × LeavesNothing old new × LeavesNothing old left
 StandsNext version (Err (Malformed byte reason)) count place old new left =
-    (count < most_events) × (byte ≡ place) × IfTold old (λ bytes. record_reason version bytes ≡ Some reason)
-StandsNext version (Err TooManyEvents) count place old new left = (count ≡ most_events) × IfTold old (λ bytes. bytes ≢ [])
-StandsNext version (Err ReadFault) count place old new left = TakesFront old left (HoldsNoRecord version)
+    (count < most_events) × (byte ≡ place)
+    × IfTold old (λ bytes. record_reason version bytes ≡ Some reason)
+StandsNext version (Err TooManyEvents) count place old new left =
+    (count ≡ most_events) × IfTold old (λ bytes. bytes ≢ [])
+StandsNext version (Err ReadFault) count place old new left =
+    TakesFront old left (HoldsNoRecord version)
 
 -- The source's count of faults rose where the answer is that it failed, and else it is the same.
 abbrev pub HasFaultCause : Result (Option Event) BinErr → ℕ → ℕ → Type 0

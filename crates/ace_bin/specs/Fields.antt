@@ -43,15 +43,18 @@ fits version (Bytes count) number = true
 abbrev pub all_fit : ℕ → List Field → List ℕ → Bool
 all_fit version [] numbers = true
 all_fit version (field ∷ fields) [] = false
-all_fit version (field ∷ fields) (number ∷ numbers) = fits version field number && all_fit version fields numbers
+all_fit version (field ∷ fields) (number ∷ numbers) =
+    fits version field number && all_fit version fields numbers
 
 -- written: the bytes of these fields, each with its number
 abbrev pub fields_bytes : List Field → List ℕ → List ℕ
 fields_bytes [] numbers = []
 fields_bytes (field ∷ fields) [] = []
-fields_bytes (field ∷ fields) (number ∷ numbers) = number_bytes (size_of field) number ++ fields_bytes fields numbers
+fields_bytes (field ∷ fields) (number ∷ numbers) =
+    number_bytes (size_of field) number ++ fields_bytes fields numbers
 
 -- read: the numbers that these fields have in the bytes, from a place on
 abbrev pub numbers_at : List Field → ℕ → List ℕ → List ℕ
 numbers_at [] place bytes = []
-numbers_at (field ∷ fields) place bytes = number_at (size_of field) place bytes ∷ numbers_at fields (place + size_of field) bytes
+numbers_at (field ∷ fields) place bytes =
+    number_at (size_of field) place bytes ∷ numbers_at fields (place + size_of field) bytes

@@ -24,7 +24,8 @@ abbrev pub source_of : {S : Type 0} {g : Ghosts S} → BinReader S g → MutBor 
 source_of reader = window.source_of reader.window
 
 -- the bytes that were read neither as a header nor as an event, where its source tells what it has left
-abbrev pub unread : {S : Type 0} {g : Ghosts S} → (S → Option (List ℕ)) → BinReader S g → Option (List ℕ)
+abbrev pub unread : {S : Type 0} {g : Ghosts S} → (S → Option (List ℕ)) → BinReader S g
+    → Option (List ℕ)
 unread left reader = window.waiting left reader.window
 
 -- the header that it read
@@ -45,7 +46,8 @@ answer_at Ended = Some (Ok None)
 answer_at (Failed error) = Some (Err error)
 
 -- the answer that it gives for good, where it has one
-abbrev pub last_answer : {S : Type 0} {g : Ghosts S} → BinReader S g → Option (Result (Option Event) BinErr)
+abbrev pub last_answer : {S : Type 0} {g : Ghosts S} → BinReader S g
+    → Option (Result (Option Event) BinErr)
 last_answer reader = answer_at reader.stage
 
 -- an answer stays for good where it is no event
@@ -67,7 +69,8 @@ place_after place (Ok None) = place
 place_after place (Err error) = place
 
 -- Of these bytes the reader has read its header and these events, oldest first, and no more.
-pub record HasRead {S : Type 0} {g : Ghosts S} (left : S → Option (List ℕ)) (bytes : List ℕ) (events : List Event) (reader : BinReader S g) : Type 0 where
+pub record HasRead {S : Type 0} {g : Ghosts S} (left : S → Option (List ℕ)) (bytes : List ℕ)
+    (events : List Event) (reader : BinReader S g) : Type 0 where
   pub header_is_right : IsHeader (header_of reader)
   pub events_in_range : AllByRecursion (InRange (header_of reader).version) events
   pub few : length events ≤ most_events
@@ -77,10 +80,14 @@ pub record HasRead {S : Type 0} {g : Ghosts S} (left : S → Option (List ℕ)) 
 
 -- The answer of a reader that had read these events of the bytes is that of their reading: one more event, or how they end. At
 -- a fault what was taken and not read holds no whole record.
-abbrev pub IsReading : {S : Type 0} {g : Ghosts S} → (S → Option (List ℕ)) → List ℕ → List Event → BinReader S g → BinReader S g → Result (Option Event) BinErr → Type 0
-IsReading left bytes events old new (Ok (Some event)) = HasRead left bytes (events ++ event ∷ []) new
+abbrev pub IsReading : {S : Type 0} {g : Ghosts S} → (S → Option (List ℕ)) → List ℕ → List Event
+    → BinReader S g → BinReader S g → Result (Option Event) BinErr → Type 0
+IsReading left bytes events old new (Ok (Some event)) =
+    HasRead left bytes (events ++ event ∷ []) new
 IsReading left bytes events old new (Ok None) = ReadsBinary bytes (header_of old) events Whole
-IsReading left bytes events old new (Err (Malformed byte reason)) = ReadsBinary bytes (header_of old) events (Bad byte reason)
-IsReading left bytes events old new (Err TooManyEvents) = ReadsBinary bytes (header_of old) events Full
+IsReading left bytes events old new (Err (Malformed byte reason)) =
+    ReadsBinary bytes (header_of old) events (Bad byte reason)
+IsReading left bytes events old new (Err TooManyEvents) =
+    ReadsBinary bytes (header_of old) events Full
 IsReading left bytes events old new (Err ReadFault) =
     TakesFront (unread left old) (left (source_of new).now) (HoldsNoRecord (header_of old).version)

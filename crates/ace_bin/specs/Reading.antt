@@ -27,7 +27,8 @@ BeginsWith bytes front = (rest : List ℕ) × (bytes ≡ front ++ rest)
 
 -- the numbers that stand where a header has its own
 abbrev pub header_at : List ℕ → Header
-header_at bytes = record { version = number_at 1 4 bytes; ports = number_at 1 5 bytes; ace = number_at 4 6 bytes }
+header_at bytes =
+    record { version = number_at 1 4 bytes; ports = number_at 1 5 bytes; ace = number_at 4 6 bytes }
 
 -- the numbers of ports of each kind are within the limits of the version
 abbrev pub AreFew : Header → Type 0
@@ -77,11 +78,14 @@ abbrev pub Ends : Header → Ending → List Event → List ℕ → Type 0
 Ends header Whole events rest = (length events ≤ most_events) × (rest ≡ [])
 Ends header Full events rest = (length events ≡ most_events) × (rest ≢ [])
 Ends header (Bad byte reason) events rest =
-    (length events < most_events) × (byte ≡ length (binary_of header events)) × (record_reason header.version rest ≡ Some reason)
+    (length events < most_events) × (byte ≡ length (binary_of header events))
+    × (record_reason header.version rest ≡ Some reason)
 
 -- The bytes are this header and the records of these events, oldest first, and then end so. Bytes with a malformed header have
 -- no such reading.
-pub record ReadsBinary (bytes : List ℕ) (header : Header) (events : List Event) (ending : Ending) : Type 0 where
+pub record ReadsBinary (bytes : List ℕ) (header : Header) (events : List Event)
+    (ending : Ending) : Type 0 where
   pub header_is_right : IsHeader header
   pub events_in_range : AllByRecursion (InRange header.version) events
-  pub parts : (rest : List ℕ) × (bytes ≡ binary_of header events ++ rest) × Ends header ending events rest
+  pub parts : (rest : List ℕ) × (bytes ≡ binary_of header events ++ rest)
+      × Ends header ending events rest

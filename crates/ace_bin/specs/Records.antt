@@ -69,7 +69,8 @@ records =
     -- L p addr w x word
     ∷ (Port ∷ address_bytes ∷ AtMost 3 ∷ flag_byte ∷ word_bytes ∷ [])
     -- D p addr strobe x line
-    ∷ (Port ∷ address_bytes ∷ Bytes 8 ∷ flag_byte ∷ word_bytes ∷ word_bytes ∷ word_bytes ∷ word_bytes ∷ [])
+    ∷ (Port ∷ address_bytes ∷ Bytes 8 ∷ flag_byte ∷ word_bytes ∷ word_bytes ∷ word_bytes
+    ∷ word_bytes ∷ [])
     -- OP p k res
     ∷ (Port ∷ Bytes 2 ∷ outcome_byte ∷ [])
     -- MEM addr line
@@ -126,7 +127,8 @@ outcome_number Fail = 2
 
 -- the numbers of the fields of an event
 abbrev pub numbers_of : Event → List ℕ
-numbers_of (Ar port id addr snoop dom bar lock) = port ∷ id ∷ addr ∷ snoop ∷ dom ∷ bar ∷ flag_number lock ∷ []
+numbers_of (Ar port id addr snoop dom bar lock) =
+    port ∷ id ∷ addr ∷ snoop ∷ dom ∷ bar ∷ flag_number lock ∷ []
 numbers_of (R port id resp last word) = port ∷ id ∷ resp ∷ flag_number last ∷ word ∷ []
 numbers_of (Rk port st) = port ∷ state_number st ∷ []
 numbers_of (Aw port id addr snoop dom bar) = port ∷ id ∷ addr ∷ snoop ∷ dom ∷ bar ∷ []

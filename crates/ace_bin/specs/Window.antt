@@ -14,5 +14,6 @@ abbrev pub held : {S : Type 0} {g : Ghosts S} → Window S g → List ℕ
 held window = take (window.end - window.start) (drop window.start window.buffer)
 
 -- the bytes that it holds, and those that its source has left, where that tells
-abbrev pub waiting : {S : Type 0} {g : Ghosts S} → (S → Option (List ℕ)) → Window S g → Option (List ℕ)
+abbrev pub waiting : {S : Type 0} {g : Ghosts S} → (S → Option (List ℕ)) → Window S g
+    → Option (List ℕ)
 waiting left window = in_front (held window) (left window.source.now)

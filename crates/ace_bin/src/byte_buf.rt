@@ -140,7 +140,9 @@ impl ByteBuf {
     /// The 64 bytes of a line.
     pub fn push_line(&mut self, line: &Line)
         requires room { length self.old + 64 ≤ 4096 }
-        ensures value { self.new ≡ self.old ++ fields_bytes (word_bytes ∷ word_bytes ∷ word_bytes ∷ word_bytes ∷ []) line.now.words }
+        ensures value { self.new
+            ≡ self.old ++ fields_bytes
+            (word_bytes ∷ word_bytes ∷ word_bytes ∷ word_bytes ∷ []) line.now.words }
         ensures len { length self.new ≡ length self.old + 64 }
     {
         let [first, second, third, fourth] = line.words;

@@ -87,7 +87,8 @@ pub fn word_at(bytes: &[u8], place: usize) -> u128
 #[inline(always)]
 pub fn line_at(bytes: &[u8], place: usize) -> Line
     requires { place + 64 ≤ length bytes.now }
-    ensures numbers { result.words ≡ number_at 16 place bytes.now ∷ number_at 16 (place + 16) bytes.now
+    ensures numbers { result.words
+        ≡ number_at 16 place bytes.now ∷ number_at 16 (place + 16) bytes.now
         ∷ number_at 16 (place + 32) bytes.now ∷ number_at 16 (place + 48) bytes.now ∷ [] }
     ensures range { IsLine result }
 {
@@ -106,7 +107,8 @@ pub fn line_at(bytes: &[u8], place: usize) -> Line
 pub fn most_at(bytes: &[u8], place: usize, most: u8) -> Result<u8, BinReason>
     requires { place + 1 ≤ length bytes.now }
     ensures ok { IfOk result (λ n. (n ≡ number_at 1 place bytes.now) × (n ≤ most)) }
-    ensures err { IfErr result (λ reason. (reason ≡ Z4) × (nat_le (number_at 1 place bytes.now) most ≡ false)) }
+    ensures err { IfErr result
+        (λ reason. (reason ≡ Z4) × (nat_le (number_at 1 place bytes.now) most ≡ false)) }
 {
     let n = one_at(bytes, place);
     if n > most {
@@ -120,7 +122,9 @@ pub fn most_at(bytes: &[u8], place: usize, most: u8) -> Result<u8, BinReason>
 pub fn port_at(bytes: &[u8], place: usize, version: u8) -> Result<u8, BinReason>
     requires { place + 1 ≤ length bytes.now }
     ensures ok { IfOk result (λ port. (port ≡ number_at 1 place bytes.now) × IsPort version port) }
-    ensures err { IfErr result (λ reason. (reason ≡ Z4) × (nat_lt (number_at 1 place bytes.now) (16 ^ port_digits version) ≡ false)) }
+    ensures err { IfErr result
+        (λ reason. (reason ≡ Z4)
+        × (nat_lt (number_at 1 place bytes.now) (16 ^ port_digits version) ≡ false)) }
 {
     let port = one_at(bytes, place);
     if version == 1 && port >= 16 {
@@ -134,7 +138,8 @@ pub fn port_at(bytes: &[u8], place: usize, version: u8) -> Result<u8, BinReason>
 pub fn flag_at(bytes: &[u8], place: usize) -> Result<bool, BinReason>
     requires { place + 1 ≤ length bytes.now }
     ensures ok { IfOk result (λ flag. flag_number flag ≡ number_at 1 place bytes.now) }
-    ensures err { IfErr result (λ reason. (reason ≡ Z4) × (nat_le (number_at 1 place bytes.now) 1 ≡ false)) }
+    ensures err { IfErr result
+        (λ reason. (reason ≡ Z4) × (nat_le (number_at 1 place bytes.now) 1 ≡ false)) }
 {
     match one_at(bytes, place) {
         0 => Ok(false),
@@ -148,7 +153,8 @@ pub fn flag_at(bytes: &[u8], place: usize) -> Result<bool, BinReason>
 pub fn channel_at(bytes: &[u8], place: usize) -> Result<Channel, BinReason>
     requires { place + 1 ≤ length bytes.now }
     ensures ok { IfOk result (λ channel. channel_number channel ≡ number_at 1 place bytes.now) }
-    ensures err { IfErr result (λ reason. (reason ≡ Z4) × (nat_le (number_at 1 place bytes.now) 1 ≡ false)) }
+    ensures err { IfErr result
+        (λ reason. (reason ≡ Z4) × (nat_le (number_at 1 place bytes.now) 1 ≡ false)) }
 {
     match one_at(bytes, place) {
         0 => Ok(Channel::Read),
@@ -162,7 +168,8 @@ pub fn channel_at(bytes: &[u8], place: usize) -> Result<Channel, BinReason>
 pub fn state_at(bytes: &[u8], place: usize) -> Result<LineState, BinReason>
     requires { place + 1 ≤ length bytes.now }
     ensures ok { IfOk result (λ state. state_number state ≡ number_at 1 place bytes.now) }
-    ensures err { IfErr result (λ reason. (reason ≡ Z4) × (nat_le (number_at 1 place bytes.now) 4 ≡ false)) }
+    ensures err { IfErr result
+        (λ reason. (reason ≡ Z4) × (nat_le (number_at 1 place bytes.now) 4 ≡ false)) }
 {
     match one_at(bytes, place) {
         0 => Ok(LineState::I),
@@ -179,7 +186,8 @@ pub fn state_at(bytes: &[u8], place: usize) -> Result<LineState, BinReason>
 pub fn outcome_at(bytes: &[u8], place: usize) -> Result<Outcome, BinReason>
     requires { place + 1 ≤ length bytes.now }
     ensures ok { IfOk result (λ outcome. outcome_number outcome ≡ number_at 1 place bytes.now) }
-    ensures err { IfErr result (λ reason. (reason ≡ Z4) × (nat_le (number_at 1 place bytes.now) 2 ≡ false)) }
+    ensures err { IfErr result
+        (λ reason. (reason ≡ Z4) × (nat_le (number_at 1 place bytes.now) 2 ≡ false)) }
 {
     match one_at(bytes, place) {
         0 => Ok(Outcome::Ok),

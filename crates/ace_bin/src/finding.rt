@@ -38,9 +38,14 @@ pub enum Front {
 pub fn read_header<S: Source>(window: &mut Window<S>) -> Result<Header, BinErr>
     ensures same_source { (source_of window.new).ghost_name ≡ (source_of window.old).ghost_name }
     ensures right { IfOk result (λ header. IsHeader header) }
-    ensures header { IfOk result (λ header. Consumes (waiting S.left window.old) (waiting S.left window.new) (header_bytes header)) }
-    ensures steady { OnOk result (S.faults (source_of window.new).now ≡ S.faults (source_of window.old).now) }
-    ensures none { IfErr result (λ error. HasNoHeader error (waiting S.left window.old) (S.faults (source_of window.old).now)
+    ensures header { IfOk result
+        (λ header. Consumes (waiting S.left window.old) (waiting S.left window.new)
+        (header_bytes header)) }
+    ensures steady { OnOk result
+        (S.faults (source_of window.new).now ≡ S.faults (source_of window.old).now) }
+    ensures none { IfErr result
+        (λ error. HasNoHeader error (waiting S.left window.old)
+        (S.faults (source_of window.old).now)
         (S.left (source_of window.new).now) (S.faults (source_of window.new).now)) }
 {
     match window.fill(HEADER_SIZE) {
@@ -91,7 +96,8 @@ fn find_record<S: Source>(
     ensures front { IfOk result (λ front. IsFront version (held window.new) event.new front) }
     ensures end { IfOk result (λ front. front ≡ Cut → IsAtEnd (S.left (source_of window.new).now)) }
     ensures err { OnErr result (HoldsNoRecord version (held window.new)) }
-    ensures cause { HasCause (S.faults (source_of window.old).now) (S.faults (source_of window.new).now) result }
+    ensures cause { HasCause (S.faults (source_of window.old).now)
+        (S.faults (source_of window.new).now) result }
 {
     'pieces: loop {
         match front_of(window.front(), version, event) {
@@ -111,10 +117,14 @@ fn find_record<S: Source>(
 #[inline(never)]
 fn read_end<S: Source>(window: &mut Window<S>) -> Result<Option<usize>, BinErr>
     ensures same_source { (source_of window.new).ghost_name ≡ (source_of window.old).ghost_name }
-    ensures next { (version place : ℕ) (event : Event) → StandsNext version (with_event event result) most_events place
-        (waiting S.left window.old) (waiting S.left window.new) (S.left (source_of window.new).now) }
+    ensures next { (version place : ℕ) (event : Event)
+        → StandsNext version (with_event event result) most_events place
+        (waiting S.left window.old) (waiting S.left window.new)
+        (S.left (source_of window.new).now) }
     ensures none { IfOk result (λ next. next ≡ None) }
-    ensures cause { (event : Event) → HasFaultCause (with_event event result) (S.faults (source_of window.old).now) (S.faults (source_of window.new).now) }
+    ensures cause { (event : Event)
+        → HasFaultCause (with_event event result) (S.faults (source_of window.old).now)
+        (S.faults (source_of window.new).now) }
 {
     match window.fill(1) {
         Ok(true) => Err(BinErr::TooManyEvents),
@@ -136,9 +146,12 @@ pub fn read_event<S: Source>(
     requires few { count ≤ most_events }
     ensures same_source { (source_of window.new).ghost_name ≡ (source_of window.old).ghost_name }
     ensures next { StandsNext version (with_event event.new result) count place
-        (waiting S.left window.old) (waiting S.left window.new) (S.left (source_of window.new).now) }
-    ensures size { IfOk result (λ next. IfSome next (λ size. (size ≡ length (event_bytes event.new)) × (size ≤ 79))) }
-    ensures cause { HasFaultCause (with_event event.new result) (S.faults (source_of window.old).now) (S.faults (source_of window.new).now) }
+        (waiting S.left window.old) (waiting S.left window.new)
+        (S.left (source_of window.new).now) }
+    ensures size { IfOk result
+        (λ next. IfSome next (λ size. (size ≡ length (event_bytes event.new)) × (size ≤ 79))) }
+    ensures cause { HasFaultCause (with_event event.new result)
+        (S.faults (source_of window.old).now) (S.faults (source_of window.new).now) }
 {
     if count == MOST_EVENTS {
         return read_end(window);

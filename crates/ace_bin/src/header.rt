@@ -77,7 +77,8 @@ fn is_header(header: &Header) -> bool
 /// The header at the front of the bytes, by its numbers. None where it isn't right.
 fn right_header(bytes: &[u8]) -> Option<Header>
     requires { 10 ≤ length bytes.now }
-    ensures { MatchOption result (¬ IsRightHeader bytes.now) (λ header. IsRightHeader bytes.now × (header ≡ header_at bytes.now)) }
+    ensures { MatchOption result (¬ IsRightHeader bytes.now)
+        (λ header. IsRightHeader bytes.now × (header ≡ header_at bytes.now)) }
 {
     if &bytes[..4] != b"ACEB".as_slice() {
         return None;
@@ -98,7 +99,8 @@ fn right_header(bytes: &[u8]) -> Option<Header>
 pub fn parse_header(bytes: &[u8]) -> Option<Header>
     requires { 10 ≤ length bytes.now }
     ensures none { IfNone result (¬ IsRightHeader bytes.now) }
-    ensures some { IfSome result (λ header. IsHeader header × (take 10 bytes.now ≡ header_bytes header)) }
+    ensures some { IfSome result
+        (λ header. IsHeader header × (take 10 bytes.now ≡ header_bytes header)) }
 {
     match right_header(bytes) {
         Some(header) => Some(header),

@@ -48,16 +48,21 @@ impl<'a, S: Source> BinReader<'a, S> {
     /// of faults rose in this call, and then what was taken from it is less than a header. The error hands the source back.
     #[tactic(auto, using(crate::proofs::Progress::read_header_alone))]
     pub fn start(source: &'a mut S) -> Result<BinReader<'a, S>, BinStartErr<'a, S>>
-        ensures same_source { IfOk result (λ r. (source_of r).ghost_name ≡ source.entry.ghost_name) }
+        ensures same_source { IfOk result
+            (λ r. (source_of r).ghost_name ≡ source.entry.ghost_name) }
         ensures right { IfOk result (λ r. IsHeader (header_of r)) }
-        ensures header { IfOk result (λ r. Consumes (S.left source.entry.now) (unread S.left r) (header_bytes (header_of r))) }
+        ensures header { IfOk result
+            (λ r. Consumes (S.left source.entry.now) (unread S.left r)
+            (header_bytes (header_of r))) }
         ensures steady { IfOk result (λ r. S.faults (source_of r).now ≡ S.faults source.entry.now) }
         ensures count { IfOk result (λ r. count_of r ≡ 0) }
         ensures place { IfOk result (λ r. place_of r ≡ 10) }
-        ensures reads { IfOk result (λ r. IfSome (S.left source.entry.now) (λ bytes. HasRead S.left bytes [] r)) }
+        ensures reads { IfOk result
+            (λ r. IfSome (S.left source.entry.now) (λ bytes. HasRead S.left bytes [] r)) }
         ensures reads_on { IfOk result (λ r. last_answer r ≡ None) }
         ensures handed_back { IfErr result (λ e. e.source.ghost_name ≡ source.entry.ghost_name) }
-        ensures none { IfErr result (λ e. HasNoHeader e.error (S.left source.entry.now) (S.faults source.entry.now)
+        ensures none { IfErr result
+            (λ e. HasNoHeader e.error (S.left source.entry.now) (S.faults source.entry.now)
             (S.left e.source.now) (S.faults e.source.now)) }
     {
         let mut window = Window::start(source);
@@ -96,17 +101,20 @@ impl<'a, S: Source> BinReader<'a, S> {
     pub fn next(&mut self) -> Result<Option<Event>, BinErr>
         ensures same_source { (source_of self.new).ghost_name ≡ (source_of self.old).ghost_name }
         ensures same_header { header_of self.new ≡ header_of self.old }
-        ensures next { last_answer self.old ≡ None → StandsNext (header_of self.old).version result (count_of self.old) (place_of self.old)
+        ensures next { last_answer self.old ≡ None
+            → StandsNext (header_of self.old).version result (count_of self.old) (place_of self.old)
             (unread S.left self.old) (unread S.left self.new) (S.left (source_of self.new).now) }
         ensures reads { last_answer self.old ≡ None → (bytes : List ℕ) (events : List Event)
-            → HasRead S.left bytes events self.old → IsReading S.left bytes events self.old self.new result }
+            → HasRead S.left bytes events self.old
+            → IsReading S.left bytes events self.old self.new result }
         ensures count { count_of self.new ≡ count_after (count_of self.old) result }
         ensures place { place_of self.new ≡ place_after (place_of self.old) result }
         ensures last { last_answer self.new ≡ lasting result }
         ensures again { (answer : Result (Option Event) BinErr) → last_answer self.old ≡ Some answer
             → (result ≡ answer) × (self.new ≡ self.old) }
         ensures cause { last_answer self.old ≡ None
-            → HasFaultCause result (S.faults (source_of self.old).now) (S.faults (source_of self.new).now) }
+            → HasFaultCause result (S.faults (source_of self.old).now)
+            (S.faults (source_of self.new).now) }
     {
         match self.stage {
             Stage::Reading => self.read_on(),
@@ -121,12 +129,14 @@ impl<'a, S: Source> BinReader<'a, S> {
         requires { last_answer self.old ≡ None }
         ensures same_source { (source_of self.new).ghost_name ≡ (source_of self.old).ghost_name }
         ensures same_header { header_of self.new ≡ header_of self.old }
-        ensures next { StandsNext (header_of self.old).version result (count_of self.old) (place_of self.old)
+        ensures next { StandsNext (header_of self.old).version result (count_of self.old)
+            (place_of self.old)
             (unread S.left self.old) (unread S.left self.new) (S.left (source_of self.new).now) }
         ensures count { count_of self.new ≡ count_after (count_of self.old) result }
         ensures place { place_of self.new ≡ place_after (place_of self.old) result }
         ensures last { last_answer self.new ≡ lasting result }
-        ensures cause { HasFaultCause result (S.faults (source_of self.old).now) (S.faults (source_of self.new).now) }
+        ensures cause { HasFaultCause result (S.faults (source_of self.old).now)
+            (S.faults (source_of self.new).now) }
     {
         let mut event = NO_EVENT;
         match read_event(

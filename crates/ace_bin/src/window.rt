@@ -80,7 +80,8 @@ impl<'a, S: Source> Window<'a, S> {
         requires { count ≤ length (held self.old) }
         ensures same_source { (source_of self.new).ghost_name ≡ (source_of self.old).ghost_name }
         ensures source { (source_of self.new).now ≡ (source_of self.old).now }
-        ensures passed { Consumes (waiting S.left self.old) (waiting S.left self.new) (take count (held self.old)) }
+        ensures passed { Consumes (waiting S.left self.old) (waiting S.left self.new)
+            (take count (held self.old)) }
     {
         self.start += count;
     }
@@ -110,11 +111,14 @@ impl<'a, S: Source> Window<'a, S> {
         requires { length (held self.old) < 79 }
         ensures same_source { (source_of self.new).ghost_name ≡ (source_of self.old).ghost_name }
         ensures kept { Consumes (waiting S.left self.old) (waiting S.left self.new) [] }
-        ensures more { IfOk result (λ more. IsTrue more → length (held self.old) < length (held self.new)) }
+        ensures more { IfOk result
+            (λ more. IsTrue more → length (held self.old) < length (held self.new)) }
         ensures same { IfOk result (λ more. more ≡ false → held self.new ≡ held self.old) }
-        ensures end { IfOk result (λ more. more ≡ false → IsAtEnd (S.left (source_of self.new).now)) }
+        ensures end { IfOk result
+            (λ more. more ≡ false → IsAtEnd (S.left (source_of self.new).now)) }
         ensures err { OnErr result (held self.new ≡ held self.old) }
-        ensures cause { HasCause (S.faults (source_of self.old).now) (S.faults (source_of self.new).now) result }
+        ensures cause { HasCause (S.faults (source_of self.old).now)
+            (S.faults (source_of self.new).now) result }
     {
         self.make_room();
         match self.source.take(&mut self.buffer[self.end..]) {
@@ -137,9 +141,11 @@ impl<'a, S: Source> Window<'a, S> {
         ensures kept { Consumes (waiting S.left self.old) (waiting S.left self.new) [] }
         ensures whole { IfOk result (λ whole. IsTrue whole → count ≤ length (held self.new)) }
         ensures short { IfOk result (λ whole. whole ≡ false → length (held self.new) < count) }
-        ensures end { IfOk result (λ whole. whole ≡ false → IsAtEnd (S.left (source_of self.new).now)) }
+        ensures end { IfOk result
+            (λ whole. whole ≡ false → IsAtEnd (S.left (source_of self.new).now)) }
         ensures err { OnErr result (length (held self.new) < count) }
-        ensures cause { HasCause (S.faults (source_of self.old).now) (S.faults (source_of self.new).now) result }
+        ensures cause { HasCause (S.faults (source_of self.old).now)
+            (S.faults (source_of self.new).now) result }
     {
         'pieces: while self.front().len() < count {
             match self.more() {

@@ -36,7 +36,8 @@ impl<'a, K: Sink> BinWriter<'a, K> {
         ensures always { IsOk result }
         ensures same_sink { IfOk result (λ w. (sink_of w).ghost_name ≡ sink.entry.ghost_name) }
         ensures kept { IfOk result (λ w. (sink_of w).now ≡ sink.entry.now) }
-        ensures bytes { IfOk result (λ w. GivesFront K.held (K.held sink.entry.now) (header_bytes header.now) w) }
+        ensures bytes { IfOk result
+            (λ w. GivesFront K.held (K.held sink.entry.now) (header_bytes header.now) w) }
         ensures version { IfOk result (λ w. version_of w ≡ header.now.version) }
         ensures whole { IfOk result (λ w. has_failed w ≡ false) }
     {
@@ -68,11 +69,13 @@ impl<'a, K: Sink> BinWriter<'a, K> {
         requires { InRange (version_of self.old) event.now }
         ensures same_sink { (sink_of self.new).ghost_name ≡ (sink_of self.old).ghost_name }
         ensures same_version { version_of self.new ≡ version_of self.old }
-        ensures bytes { (before : Option (List ℕ)) (bytes : List ℕ) → GivesFront K.held before bytes self.old
+        ensures bytes { (before : Option (List ℕ)) (bytes : List ℕ)
+            → GivesFront K.held before bytes self.old
             → GivesFront K.held before (bytes ++ event_bytes event.now) self.new }
         ensures failed { has_failed self.new ≡ is_err result }
         ensures again { has_failed self.old ≡ true → self.new ≡ self.old }
-        ensures cause { has_failed self.old ≡ false → HasCause (K.faults (sink_of self.old).now) (K.faults (sink_of self.new).now) result }
+        ensures cause { has_failed self.old ≡ false
+            → HasCause (K.faults (sink_of self.old).now) (K.faults (sink_of self.new).now) result }
     {
         self.give_over(BYTE_ROOM - RECORD_LIMIT)?;
         self.bytes.push_event(event);
@@ -87,13 +90,16 @@ impl<'a, K: Sink> BinWriter<'a, K> {
     pub fn flush(&mut self) -> Result<(), WriteErr>
         ensures same_sink { (sink_of self.new).ghost_name ≡ (sink_of self.old).ghost_name }
         ensures same_version { version_of self.new ≡ version_of self.old }
-        ensures bytes { (before : Option (List ℕ)) (bytes : List ℕ) → GivesFront K.held before bytes self.old
+        ensures bytes { (before : Option (List ℕ)) (bytes : List ℕ)
+            → GivesFront K.held before bytes self.old
             → GivesFront K.held before bytes self.new }
-        ensures whole { OnOk result ((before : Option (List ℕ)) (bytes : List ℕ) → GivesFront K.held before bytes self.old
+        ensures whole { OnOk result
+            ((before : Option (List ℕ)) (bytes : List ℕ) → GivesFront K.held before bytes self.old
             → Appends before (K.held (sink_of self.new).now) bytes) }
         ensures failed { has_failed self.new ≡ is_err result }
         ensures again { has_failed self.old ≡ true → self.new ≡ self.old }
-        ensures cause { has_failed self.old ≡ false → HasCause (K.faults (sink_of self.old).now) (K.faults (sink_of self.new).now) result }
+        ensures cause { has_failed self.old ≡ false
+            → HasCause (K.faults (sink_of self.old).now) (K.faults (sink_of self.new).now) result }
     {
         self.give_over(0)
     }
@@ -109,12 +115,14 @@ impl<'a, K: Sink> BinWriter<'a, K> {
     fn give_over(&mut self, most: usize) -> Result<(), WriteErr>
         ensures same_sink { (sink_of self.new).ghost_name ≡ (sink_of self.old).ghost_name }
         ensures same_version { version_of self.new ≡ version_of self.old }
-        ensures bytes { (before : Option (List ℕ)) (bytes : List ℕ) → GivesFront K.held before bytes self.old
+        ensures bytes { (before : Option (List ℕ)) (bytes : List ℕ)
+            → GivesFront K.held before bytes self.old
             → GivesFront K.held before bytes self.new }
         ensures room { OnOk result (length (in_hand self.new) ≤ most) }
         ensures failed { has_failed self.new ≡ is_err result }
         ensures again { has_failed self.old ≡ true → self.new ≡ self.old }
-        ensures cause { has_failed self.old ≡ false → HasCause (K.faults (sink_of self.old).now) (K.faults (sink_of self.new).now) result }
+        ensures cause { has_failed self.old ≡ false
+            → HasCause (K.faults (sink_of self.old).now) (K.faults (sink_of self.new).now) result }
     {
         if self.failed {
             return Err(WriteErr::WriteFault);
