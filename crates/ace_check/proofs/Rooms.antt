@@ -1,15 +1,18 @@
 -- Shares that have room for a run have room for each event that may be its next.
-use Rattle.std.proofs.Common.{◌≡◌, ℕ, ◌≤◌, ◌∷◌, length, slice_index_or, subst}
+use Rattle.std.proofs.Common.{◌≡◌, ℕ, ◌<◌, ◌≤◌, ◌-◌, ◌^◌, ◌∷◌, None, length, slice_index_or, subst}
 use Rattle.std.proofs.lemmas.Option.{get_or_from_slice_get, slice_get_within}
 use Rattle.ace_event.specs.declared.event.Event.{Event}
+use Rattle.ace_event.specs.declared.event.Event.TheVariants.{Ac}
 use Rattle.ace_event.specs.declared.header.Header.{Header}
+use Rattle.ace_model.specs.Accepted.{least_broken}
 use Rattle.ace_model.specs.Snoops.{snoops_of}
 use Rattle.ace_model.specs.Trace.{Trace}
 use Rattle.ace_portck.specs.declared.port.PortRecord.{PortRecord}
 use Rattle.ace_portck.specs.declared.ports.PortCheck.{PortCheck}
 use Rattle.ace_portck.specs.Port as port
 use Rattle.ace_portck.specs.Snoops as snoops
-use Rattle.ace_portck.specs.Stands.{HasRoom, IsRoomy, PortsStand, record_at}
+use Rattle.ace_portck.specs.Stands.{HasRoom, IsRoomy, MayApply, PortsStand, Stands, record_at}
+use Rattle.ace_portck.proofs.AllPorts.{has_room}
 use Rattle.ace_portck.proofs.Rooms.{room-for-all}
 
 pub room-for-next : (h : Header) (past : Trace) (e : Event) (n : ℕ) (s : PortCheck) → PortsStand h past s.ports.items s.outside → IsRoomy n s
@@ -21,3 +24,8 @@ room-for-next h past e n s stand roomy few = λ p k own at.
     let stands : port.PortStands h past p k = subst (port.PortStands h past p) here (stand p) in
     let room : snoops.IsRoomy n k.snoops = subst (λ (v : PortRecord). snoops.IsRoomy n v.snoops) one (roomy p k within) in
     room-for-all h past p n e k stands room own (few p)
+
+-- an event that isn't an AC, and breaks no rule, may be heard by the ports without more room
+pub may-apply : (s : PortCheck) (h : Header) (past : Trace) (e : Event) → Stands s (record { header = h; past = past }) → least_broken h past e ≡ None
+    → length past < 2 ^ 64 - 1 → ((p addr snoop : ℕ) → e ≡ Ac p addr snoop → ⊥) → MayApply s (record { header = h; past = past }) e
+may-apply s h past e stands fine few other = record { stands = stands; room = λ p k own at. has_room e k other; keeps = fine; few = few }

@@ -1,5 +1,5 @@
 -- What the parts of a checker say together.
-use Rattle.std.proofs.Common.{◌≡◌, ℕ, Bool, true, false, not, ◌&&◌, nat_le, if◌then◌else◌, Option, Some, None, length, is_some, is_none, option_map, Result, Ok, Err, is_err, IsOk, OnOk, OnErr, refl, sym, ap, subst, ◌∙◌, inl, inr}
+use Rattle.std.proofs.Common.{◌≡◌, ◌==◌, ℕ, Bool, true, false, not, ◌&&◌, nat_le, if◌then◌else◌, Option, Some, None, length, is_some, is_none, option_map, Result, Ok, Err, is_err, IsOk, OnOk, OnErr, refl, sym, ap, subst, ◌∙◌, inl, inr}
 use Rattle.std.proofs.lemmas.Bool.{cases_Bool, eqb-true}
 use Rattle.std.specs.List.{AllByRecursion}
 use Rattle.ace_event.specs.Range.{FitsFields}
@@ -24,7 +24,7 @@ use Rattle.ace_model.proofs.Exclusives.Law.{accepted_exclusive_holds}
 use Rattle.ace_model.proofs.Dvm.Law.{accepted_dvm_holds}
 use Rattle.ace_model.proofs.Holders.Law.{accepted_holds}
 use Rattle.ace_portck.specs.Targets.{line_in}
-use Rattle.ace_check.specs.Run.{IsSound, begins, is_first, goes_over}
+use Rattle.ace_check.specs.Run.{IsSound, goes_over}
 
 -- an accepted trace whose events fit their fields is sound
 pub accepted_sound : (h : Header) (past : Trace) → IsAccepted h past → AllByRecursion FitsFields past → IsSound h past
@@ -34,14 +34,6 @@ accepted_sound h past a fits = record {
   barrier = accepted_barriers_order h past a;
   dvm = accepted_dvm_holds h past a;
 }
-
-begins_over : (past : Trace) (x : Transaction) (l n : ℕ) → (if is_line x then Some x.addr else None) ≡ Some l
-    → (names_new_line past x && nat_le n (length (known_lines past))) ≡ (not (is_known past l) && nat_le n (length (known_lines past)))
-begins_over past x l n is = by (is_line x) refl
-  where
-    by : (b : Bool) → is_line x ≡ b → (names_new_line past x && nat_le n (length (known_lines past))) ≡ (not (is_known past l) && nat_le n (length (known_lines past)))
-    by true t = let same : Some x.addr ≡ Some l = rw t at is in let addr : x.addr ≡ l = cc in rw (t, addr) refl
-    by false f = let bad : None ≡ Some l = rw f at is in cc
 
 begins_none : (x : Transaction) → (if is_line x then Some x.addr else None) ≡ None → is_line x ≡ false
 begins_none x is = by (is_line x) refl
@@ -56,23 +48,11 @@ new_read past p i addr snoop dom bar lock = record { place = length past; port =
 abbrev new_write : Trace → ℕ → ℕ → ℕ → ℕ → ℕ → ℕ → Transaction
 new_write past p i addr snoop dom bar = record { place = length past; port = p; chan = Write; id = i; addr = addr; snoop = snoop; dom = dom; bar = bar; lock = false }
 
--- an AR or AW of a line names one too many where the line isn't known and all are
-pub over_of_line : (h : Header) (past : Trace) (e : Event) (l : ℕ) → begins e ≡ true → line_in h past e ≡ Some l
-    → goes_over past e ≡ (not (is_known past l) && nat_le 4096 (length (known_lines past)))
-over_of_line h past (Ar p i addr snoop dom bar lock) l b is = begins_over past (new_read past p i addr snoop dom bar lock) l 4096 is
-over_of_line h past (Aw p i addr snoop dom bar) l b is = begins_over past (new_write past p i addr snoop dom bar) l 4096 is
-over_of_line h past e l b is = cc
-
 -- any other event names none
 pub over_of_none : (h : Header) (past : Trace) (e : Event) → line_in h past e ≡ None → goes_over past e ≡ false
 over_of_none h past (Ar p i addr snoop dom bar lock) is = let no = begins_none (new_read past p i addr snoop dom bar lock) is in rw no refl
 over_of_none h past (Aw p i addr snoop dom bar) is = let no = begins_none (new_write past p i addr snoop dom bar) is in rw no refl
 over_of_none h past _ is = refl
-
-pub over_of_other : (past : Trace) (e : Event) → begins e ≡ false → goes_over past e ≡ false
-over_of_other past (Ar p i addr snoop dom bar lock) b = cc
-over_of_other past (Aw p i addr snoop dom bar) b = cc
-over_of_other past _ b = refl
 
 -- the name of a transaction
 abbrev pub name_of : Transaction → ℕ × Channel × ℕ
@@ -118,14 +98,6 @@ unlocked_stands h past l = by (granted h past l) refl
     by None n unlocked = rw n refl
     by (Some x) s unlocked = rw (s, unlocked) refl
 
-pub over_is : (h : Header) (past : Trace) (e : Event) (l : ℕ) → line_in h past e ≡ Some l
-    → (begins e && (not (is_known past l) && nat_le 4096 (length (known_lines past)))) ≡ goes_over past e
-over_is h past e l is =
-    elim (cases_Bool (begins e)) [
-      | inl t ↦ rw t (sym (over_of_line h past e l t is))
-      | inr f ↦ rw f (sym (over_of_other past e f))
-    ]
-
 -- where K1 is broken, the ports say so
 pub ports_say_1 : (h : Header) (past : Trace) (e : Event) → k1 h past e ≡ false → least_of port_rules h past e ≡ Some 1
 ports_say_1 h past e f = rw f refl
@@ -137,6 +109,10 @@ from_err (Err e) b p = p
 pub from_ok : {A E P : Type 0} → (r : Result A E) → is_err r ≡ false → OnOk r P → P
 from_ok (Ok x) b p = p
 from_ok (Err e) b p = cc
+
+-- it is K1
+abbrev is_first : Option ℕ → Bool
+is_first rule = is_some_and rule (λ k. k == 1)
 
 pub first_is : (rule : Option ℕ) → is_first rule ≡ true → rule ≡ Some 1
 first_is None t = cc
@@ -163,3 +139,7 @@ none_from_some None true is = refl
 none_from_some None false is = cc
 none_from_some (Some x) true is = cc
 none_from_some (Some x) false is = refl
+
+pub some-mapped : {A B : Type 0} → (o : Option A) (f : A → B) → is_some o ≡ is_some (option_map f o)
+some-mapped None f = refl
+some-mapped (Some x) f = refl

@@ -1,5 +1,5 @@
 -- What comes of an event that the shares hear.
-use Rattle.std.proofs.Common.{◌≡◌, ◌≤◌, ◌∷◌, ◌&&◌, ℕ, Bool, true, false, if◌then◌else◌, nat_le, nat_lt, Option, Some, None, length, option_map, refl, sym, ◌∙◌, arith, inl, inr}
+use Rattle.std.proofs.Common.{◌≡◌, ◌<◌, ◌≤◌, ◌-◌, ◌^◌, ◌∷◌, ◌&&◌, ℕ, Bool, true, false, if◌then◌else◌, nat_le, nat_lt, Option, Some, None, length, option_map, refl, sym, ◌∙◌, arith, inl, inr}
 use Rattle.std.proofs.lemmas.Bool.{and_parts, cases_Bool, leb-true, ltb-true}
 use Rattle.ace_event.specs.declared.event.Event.{Event}
 use Rattle.ace_event.specs.declared.header.Header.{Header}
@@ -11,11 +11,12 @@ use Rattle.ace_model.specs.Trace.{Trace, is_some_and}
 use Rattle.ace_model.specs.Transactions.{issued}
 use Rattle.ace_portck.specs.Targets.{progress_of}
 use Rattle.ace_portck.proofs.LineMaps.{room-stays}
+use Rattle.ace_portck.specs.Stands as ports
 use Rattle.ace_lineck.specs.Stands as lines
 use Rattle.ace_lineck.specs.declared.lines.LineCheck.{LineCheck}
 use Rattle.ace_sysck.specs.Stands as system
 use Rattle.ace_sysck.specs.declared.system.SysCheck.{SysCheck}
-use Rattle.ace_check.specs.Heard.{IsHeard, is_fine}
+use Rattle.ace_check.specs.Heard.{IsHeard}
 use Rattle.ace_check.specs.Run.{goes_over}
 use Rattle.ace_check.specs.Shares.{SharesTell}
 use Rattle.ace_check.specs.declared.heard.Heard.{Heard}
@@ -27,10 +28,6 @@ use Rattle.ace_check.proofs.Steps.{least_with}
 pub no-progress : (h : Header) (past : Trace) (o : Option Transaction) → option_map (progress_of h past) o ≡ None → o ≡ None
 no-progress h past None is = refl
 no-progress h past (Some x) is = let bad : Some (progress_of h past x) ≡ None = is in cc
-
-pub fine-is : (what : Heard) → is_fine what ≡ true → what ≡ Fine
-fine-is Fine t = refl
-fine-is what t = cc
 
 -- the trace of a run with its next event names no line too many
 lines-fit : (past : Trace) (e : Event) → length (known_lines (e ∷ past)) ≤ 4096 → goes_over past e ≡ true → ⊥
@@ -82,11 +79,6 @@ lesser-most k (Some i) (Some j) left right m is =
       | inr f ↦ left m (rw f at is)
     ]
 
--- An event that keeps all rules of each share.
-pub keeps-each : (h : Header) (past : Trace) (e : Event) → None ≡ least_of port_rules h past e → None ≡ least_of line_rules h past e
-    → None ≡ least_of system_rules h past e → least_broken h past e ≡ None
-keeps-each h past e p l s = sym (least_with h past e None None None p l s)
-
 -- where lines and system say nothing, the ports say which rule is broken
 pub ports-decide : (h : Header) (past : Trace) (e : Event) (a : Option ℕ) → a ≡ least_of port_rules h past e → None ≡ least_of line_rules h past e
     → None ≡ least_of system_rules h past e → least_broken h past e ≡ a
@@ -108,10 +100,15 @@ lines-next h past e k p l system =
     let other = least_of system_rules h past e in
     sym (least_with h past e None (Some k) other p l refl) ∙ lesser-first k other system
 
--- one about the system is, where ports and lines say nothing
-pub system-last : (h : Header) (past : Trace) (e : Event) (k : ℕ) → None ≡ least_of port_rules h past e → None ≡ least_of line_rules h past e
-    → Some k ≡ least_of system_rules h past e → least_broken h past e ≡ Some k
-system-last h past e k p l s = sym (least_with h past e None None (Some k) p l s)
+-- where ports and system say nothing, the lines say which rule is broken, if any is
+pub lines-decide : (h : Header) (past : Trace) (e : Event) (a : Option ℕ) → None ≡ least_of port_rules h past e → a ≡ least_of line_rules h past e
+    → None ≡ least_of system_rules h past e → a ≡ least_broken h past e
+lines-decide h past e a p l s = sym (lesser-none a) ∙ least_with h past e None a None p l s
+
+-- and where ports and lines say nothing, the system does
+pub system-decides : (h : Header) (past : Trace) (e : Event) (a : Option ℕ) → None ≡ least_of port_rules h past e → None ≡ least_of line_rules h past e
+    → a ≡ least_of system_rules h past e → a ≡ least_broken h past e
+system-decides h past e a p l s = least_with h past e None None a p l s
 
 -- the number of the first of some rules that isn't kept
 pub of-one : (n : ℕ) (a : Bool) (k : ℕ) → Some k ≡ (if a then None else Some n) → k ≡ n
@@ -126,9 +123,38 @@ of-two j n a b k le = by a b
     by true false is = let same : k ≡ n = cc in (omega (arith, le, same), omega (arith, same))
     by false b is = let same : k ≡ j = cc in (omega (arith, same), omega (arith, le, same))
 
+-- of three, it is at most the last
+pub of-three : (i j n : ℕ) (a b c : Bool) (k : ℕ) → i ≤ n → j ≤ n → Some k ≡ (if a then (if b then (if c then None else Some n) else Some j) else Some i) → k ≤ n
+of-three i j n a b c k least next is = by a b c is
+  where
+    by : (a b c : Bool) → Some k ≡ (if a then (if b then (if c then None else Some n) else Some j) else Some i) → k ≤ n
+    by true true true is = let bad : Some k ≡ None = is in cc
+    by true true false is = let same : k ≡ n = cc in omega (arith, same)
+    by true false c is = let same : k ≡ j = cc in omega (arith, same, next)
+    by false b c is = let same : k ≡ i = cc in omega (arith, same, least)
+
 -- the room for the lines of a trace is there for any that is longer
 pub lines-roomy : (e : Event) (past : Trace) (s : LineCheck) → lines.IsRoomy 4096 past s → lines.IsRoomy 4096 (e ∷ past) s
 lines-roomy e past s room = record { map = room-stays 4096 e past s.lines room.map; records = room.records }
 
 pub system-roomy : (e : Event) (past : Trace) (s : SysCheck) → system.IsRoomy 4096 past s → system.IsRoomy 4096 (e ∷ past) s
 system-roomy e past s room = room-stays 4096 e past s.registrations.lines room
+
+-- an event that is fine, where each share tells of the trace with it, and keeps its room
+pub heard-fine : (s n : Shares) (e : Event)
+    → ((h : Header) (past : Trace) → SharesTell s h past → length past < 2 ^ 64 - 1
+    → (least_broken h past e ≡ None) × (goes_over past e ≡ false) × SharesTell n h (e ∷ past))
+    → (ports.IsRoomy 24576 s.ports → ports.IsRoomy 24576 n.ports)
+    → ((past : Trace) → lines.IsRoomy 4096 past s.lines → lines.IsRoomy 4096 past n.lines)
+    → ((past : Trace) → system.IsRoomy 4096 past s.system → system.IsRoomy 4096 past n.system) → IsHeard s e n Fine
+heard-fine s n e tells ports lines system = record {
+  comes_to = tells;
+  room = λ h past stand may. (
+    refl,
+    record {
+      ports = ports stand.room.ports;
+      lines = lines-roomy e past n.lines (lines past stand.room.lines);
+      system = system-roomy e past n.system (system past stand.room.system);
+    },
+  );
+}

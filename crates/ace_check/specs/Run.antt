@@ -1,50 +1,22 @@
 -- What a checker stands for, and what it answers to an event.
-use Rattle.std.specs.Prelude.{◌+◌, ◌≡◌, ◌<◌, ◌-◌, ◌^◌, ◌∷◌, ◌⊎◌, ◌&&◌, ◌==◌, ℕ, Bool, true, false, nat_le, Option, Some, None, length}
+use Rattle.std.specs.Prelude.{◌+◌, ◌≡◌, ◌<◌, ◌-◌, ◌^◌, ◌∷◌, ◌⊎◌, ℕ, false, Option, Some, None, length}
 use Rattle.std.specs.List.{AllByRecursion}
 use Rattle.ace_event.specs.Range.{FitsFields}
 use Rattle.ace_event.specs.declared.event.Event.{Event}
-use Rattle.ace_event.specs.declared.event.Event.TheVariants.{Ar, Aw}
 use Rattle.ace_event.specs.declared.header.Header.{Header}
 use Rattle.ace_model.specs.declared.breaks.Break.{Break}
-use Rattle.ace_model.specs.Trace.{Trace, is_some_and}
-use Rattle.ace_model.specs.Transactions.{issued}
+use Rattle.ace_model.specs.Trace.{Trace}
 use Rattle.ace_model.specs.Accepted.{least_broken}
-use Rattle.ace_model.specs.Lines.{known_lines, names_new_line}
-use Rattle.ace_model.specs.Coherent.{Coherent}
-use Rattle.ace_model.specs.ExclusiveHolds.{ExclusiveHolds}
-use Rattle.ace_model.specs.BarrierHolds.{BarrierHolds}
-use Rattle.ace_model.specs.DvmHolds.{DvmHolds}
 use Rattle.ace_portck.specs.Targets.{target_of}
 use Rattle.ace_portck.specs.Unfinished.{RisesAt}
 use Rattle.ace_lineck.specs.Stands.{BeginsLine}
 use Rattle.ace_sysck.specs.Registrations.{IsNewLock}
-use Rattle.ace_check.specs.Shares.{SharesTell, most_lines}
+use Rattle.ace_check.specs.Shares.{SharesTell}
 use Rattle.ace_check.specs.declared.shares.Shares.{Shares}
 use Rattle.ace_check.specs.declared.checker.Checker.{Checker}
 use Rattle.ace_check.specs.declared.checker.Step.{Step}
 use Rattle.ace_check.specs.declared.checker.Step.TheVariants.{Fine, Broken}
-
--- it is K1
-abbrev pub is_first : Option ℕ → Bool
-is_first rule = is_some_and rule (λ k. k == 1)
-
--- the event issues a transaction
-abbrev pub begins : Event → Bool
-begins (Ar p i addr snoop dom bar lock) = true
-begins (Aw p i addr snoop dom bar) = true
-begins _ = false
-
--- the event is an AR or AW that names one line more than a trace may have
-abbrev pub goes_over : Trace → Event → Bool
-goes_over past e = is_some_and (issued (length past) e) (names_new_line past) && nat_le most_lines (length (known_lines past))
-
--- What the shares tell after an event that a short way may take: where it is taken, it breaks no rule and names no line too many, and they
--- tell the longer trace; else nothing has changed.
-pub record IsTaken (old : Shares) (e : Event) (new : Shares) (taken : Bool) : Type 0 where
-  pub fine : (h : Header) (past : Trace) → SharesTell old h past → length past < 2 ^ 64 - 1 → taken ≡ true
-      → (least_broken h past e ≡ None) × SharesTell new h (e ∷ past)
-  pub few_lines : (h : Header) (past : Trace) → SharesTell old h past → taken ≡ true → goes_over past e ≡ false
-  pub stays : taken ≡ false → new ≡ old
+pub use Rattle.ace_check.specs.Promises.{IsSound, goes_over}
 
 -- The checker stands for a trace under its header: for each share it keeps what there is to keep of the trace, which is accepted.
 -- The last number is the break that was answered after it, if any was.
@@ -75,10 +47,3 @@ past_after past e (Broken index rule) = past
 abbrev pub break_after : Step → Option Break
 break_after Fine = None
 break_after (Broken index rule) = Some (record { index = index; rule = rule })
-
--- What acceptance promises of a trace.
-pub record IsSound (h : Header) (past : Trace) : Type 0 where
-  pub coherent : Coherent h past
-  pub exclusive : ExclusiveHolds past
-  pub barrier : BarrierHolds past
-  pub dvm : DvmHolds h past

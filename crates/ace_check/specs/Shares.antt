@@ -1,22 +1,16 @@
 -- What the three shares of the rules keep of a trace, and when they may hear an event.
-use Rattle.std.specs.Prelude.{ℕ, ◌≡◌, ◌<◌, ◌≤◌, ◌-◌, ◌^◌, ◌∷◌, true, Option, None, length, is_some}
+use Rattle.std.specs.Prelude.{ℕ, ◌≡◌, ◌<◌, ◌≤◌, ◌-◌, ◌^◌, ◌∷◌, true, None, length, is_some}
 use Rattle.ace_event.specs.declared.event.Event.{Event}
 use Rattle.ace_event.specs.declared.header.Header.{Header}
 use Rattle.ace_model.specs.Trace.{Trace, port_of}
 use Rattle.ace_model.specs.Accepted.{least_broken}
 use Rattle.ace_model.specs.Lines.{known_lines}
 use Rattle.ace_model.specs.Snoops.{snoops_of}
-use Rattle.ace_portck.specs.declared.target.Target.{Target}
-use Rattle.ace_portck.specs.Targets.{target_of}
-use Rattle.ace_lineck.specs.Stands.{place_on}
 use Rattle.ace_portck.specs.Stands as ports
 use Rattle.ace_lineck.specs.Stands as lines
 use Rattle.ace_sysck.specs.Stands as system
 use Rattle.ace_check.specs.declared.shares.Shares.{Shares}
-
--- the most lines that the transactions of a trace may name
-abbrev pub most_lines : ℕ
-most_lines = 4096
+pub use Rattle.ace_check.specs.Promises.{most_lines}
 
 -- the most snoops that a run may have at one port
 abbrev pub most_snoops : ℕ
@@ -39,15 +33,8 @@ pub record SharesStand (s : Shares) (h : Header) (past : Trace) : Type 0 where
   pub tell : SharesTell s h past
   pub room : HaveRoom s past
 
--- The event may be taken: it breaks no rule, the target is its own, and the place is that of its line.
-pub record MayTake (s : Shares) (h : Header) (past : Trace) (e : Event) (t : Target) (place : Option ℕ) : Type 0 where
-  pub tell : SharesTell s h past
-  pub target : t ≡ target_of h past e
-  pub at : place ≡ place_on s.lines t.line
-  pub fine : least_broken h past e ≡ None
-  pub few : length past < 2 ^ 64 - 1
-
--- The event may be the next of a run: it breaks no rule and is one of a port, and the trace with it has few enough events, lines and snoops.
+-- The event may be the next of a run: it breaks no rule and is one of a port, and the trace with it has few enough events, lines
+-- and snoops.
 pub record MayHear (h : Header) (past : Trace) (e : Event) : Type 0 where
   pub fine : least_broken h past e ≡ None
   pub port : is_some (port_of e) ≡ true

@@ -1,32 +1,30 @@
 //! The checker of a trace, which is fed one event at a time, and the three shares of the rules that it stands on.
 #![tactic(auto)]
 
-mod barrier_addresses;
-mod barrier_responses;
+mod acknowledges;
 mod checker;
+mod grants;
 mod heard;
 mod hearing;
-mod lineless_beats;
+mod judging;
+mod line_addresses;
+mod lineless_addresses;
+mod lineless_reads;
 mod loads;
 mod memory_writes;
-mod message_addresses;
-mod message_snoops;
-mod plain;
-mod plain_acknowledges;
-mod plain_addresses;
-mod plain_beats;
-mod plain_grants;
-mod plain_snoop_answers;
-mod plain_snoops;
-mod plain_write_addresses;
-mod plain_write_ends;
+mod opening_memory;
+mod read_addresses;
+mod read_data;
 mod retirements;
 mod shares;
 mod silent_changes;
+mod snoop_answers;
 mod snoop_data;
+mod snoops;
 mod stores;
+mod write_addresses;
+mod write_responses;
 mod writes;
 
 pub use checker::{CheckErr, Checker, Step};
-pub use plain::PlainKind;
 pub use shares::Shares;

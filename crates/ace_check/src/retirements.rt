@@ -1,33 +1,38 @@
 //! OPs: an OP moves nothing but what is kept of its port.
 
-ghost use Rattle.std.specs.Prelude.{◌≡◌, false};
+ghost use Rattle.std.specs.Prelude.{◌≡◌};
 ghost use Rattle.ace_event.specs.declared.event.Event.TheVariants.{Op};
-ghost use Rattle.ace_check.specs.Heard.{IsHeard, is_fine};
+ghost use Rattle.ace_check.specs.Heard.{IsHeard};
 
 use crate::heard::Heard;
-use crate::plain::PlainKind;
 use crate::shares::Shares;
-use ace_event::Outcome;
-use ace_portck::event_kinds;
+use ace_event::{Event, Outcome};
 
 impl Shares {
-    /// Hears an OP. Only K1 and K40 look at it, and both at its port.
+    ghost use Rattle.ace_event.specs.declared.header.Header.{Header};
+    ghost use Rattle.ace_event.specs.declared.event.Outcome.{Outcome};
+    ghost use Rattle.ace_model.specs.Accepted.{least_broken};
+    ghost use Rattle.ace_model.specs.Trace.{Trace};
+    ghost use Rattle.ace_check.specs.Shares.{SharesTell};
+
+    /// The least rule that an OP breaks: K1 or K40, both of its port.
+    #[inline(always)]
+    pub(crate) fn rule_of_op(&self, port: u8, k: u16) -> Option<u8>
+        ensures { (h : Header) (past : Trace) (res : Outcome) → SharesTell self.now h past
+            → result ≡ least_broken h past (Op port k res) }
+    {
+        self.ports.rule_of_op(port, k)
+    }
+
+    /// Hears an OP.
     #[inline(never)]
     pub(crate) fn hear_op(&mut self, port: u8, k: u16, res: Outcome) -> Heard
-        ensures heard { IsHeard self.old (Op port k res) self.new result }
-        ensures stays { is_fine result ≡ false → self.new ≡ self.old }
+        ensures { IsHeard self.old (Op port k res) self.new result }
     {
-        if let Some(rule) = self.ports.rule_of_op(port, k) {
+        if let Some(rule) = self.rule_of_op(port, k) {
             return Heard::Broken(rule);
         }
-        self.ports.apply(&event_kinds::Op { port, k, res });
+        self.ports.hear(&Event::Op { port, k, res });
         Heard::Fine
-    }
-}
-
-impl PlainKind for event_kinds::Op {
-    #[inline(always)]
-    fn take(&self, shares: &mut Shares) -> bool {
-        shares.hear_op(self.port, self.k, self.res).is_fine()
     }
 }

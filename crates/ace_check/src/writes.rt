@@ -1,18 +1,17 @@
 //! Ws: a W moves nothing but what is kept of its port.
 
-ghost use Rattle.std.specs.Prelude.{◌≡◌, false};
+ghost use Rattle.std.specs.Prelude.{◌≡◌};
 ghost use Rattle.ace_event.specs.declared.event.Event.TheVariants.{W};
-ghost use Rattle.ace_check.specs.Heard.{IsHeard, is_fine};
+ghost use Rattle.ace_check.specs.Heard.{IsHeard};
 
 use crate::heard::Heard;
-use crate::plain::PlainKind;
 use crate::shares::Shares;
-use ace_portck::event_kinds;
+use ace_event::Event;
 
 impl Shares {
     ghost use Rattle.std.specs.Prelude.{Bool, ℕ, true};
     ghost use Rattle.ace_event.specs.declared.header.Header.{Header};
-    ghost use Rattle.ace_model.specs.Accepted.{least_of};
+    ghost use Rattle.ace_model.specs.Accepted.{least_broken, least_of};
     ghost use Rattle.ace_model.specs.AddressRules.{k1};
     ghost use Rattle.ace_model.specs.Shares.{line_rules};
     ghost use Rattle.ace_model.specs.Trace.{Trace};
@@ -32,33 +31,32 @@ impl Shares {
         self.lines.rule_of_w(&write, beat, word)
     }
 
-    /// Hears a W. K1 and K11 look at it, and K11 at its line too, where its write is a memory update.
-    #[inline(never)]
-    pub(crate) fn hear_w(&mut self, port: u8, strb: u16, last: bool, word: u128) -> Heard
-        ensures heard { IsHeard self.old (W port strb last word) self.new result }
-        ensures stays { is_fine result ≡ false → self.new ≡ self.old }
+    /// The least rule that a W breaks: K1 or K11 of its port, or K11 of its line, where its write is a memory update.
+    #[inline(always)]
+    pub(crate) fn rule_of_w(&self, port: u8, strb: u16, last: bool, word: u128) -> Option<u8>
+        ensures { (h : Header) (past : Trace) → SharesTell self.now h past
+            → result ≡ least_broken h past (W port strb last word) }
     {
         if let Some(rule) = self.ports.rule_of_w(port, strb, last) {
+            return Some(rule);
+        }
+        self.line_rule_of_w(port, word)
+    }
+
+    /// Hears a W.
+    #[inline(never)]
+    pub(crate) fn hear_w(&mut self, port: u8, strb: u16, last: bool, word: u128) -> Heard
+        ensures { IsHeard self.old (W port strb last word) self.new result }
+    {
+        if let Some(rule) = self.rule_of_w(port, strb, last, word) {
             return Heard::Broken(rule);
         }
-        if let Some(rule) = self.line_rule_of_w(port, word) {
-            return Heard::Broken(rule);
-        }
-        self.ports.apply(&event_kinds::W {
+        self.ports.hear(&Event::W {
             port,
             strb,
             last,
             word,
         });
         Heard::Fine
-    }
-}
-
-impl PlainKind for event_kinds::W {
-    #[inline(always)]
-    fn take(&self, shares: &mut Shares) -> bool {
-        shares
-            .hear_w(self.port, self.strb, self.last, self.word)
-            .is_fine()
     }
 }

@@ -9,6 +9,8 @@ mod cases;
 #[cfg(test)]
 mod checker;
 #[cfg(test)]
+mod kinds;
+#[cfg(test)]
 mod line_cases;
 #[cfg(test)]
 mod lines;

@@ -1,14 +1,13 @@
 //! A line from its opening to a write-back, and events that break a rule on the way, as a reader of the rules finds them.
 
+use ace_check::{Checker, Shares, Step};
 use ace_codes::LineState::{I, SD, UC, UD};
 use ace_event::Channel::{Read, Write};
 use ace_event::{Event, Header, Line};
-use ace_lineck::LineCheck;
-use ace_portck::PortCheck;
 use std::alloc::Global;
 use std::test::Fail;
 
-const TWO_ACE: Header = Header {
+pub(crate) const TWO_ACE: Header = Header {
     version: 2,
     ports: 2,
     ace: 3,
@@ -104,7 +103,7 @@ const SILENT: Event = Event::S {
 };
 
 /// Port 0 reads the line of memory for itself alone, up to its RK.
-const READ: &[Event] = &[
+pub(crate) const READ: &[Event] = &[
     Event::Mem {
         addr: 64,
         line: OPENED,
@@ -118,10 +117,10 @@ const READ: &[Event] = &[
 ];
 
 /// It stores the line, and port 1 asks for it.
-const ASKED: &[Event] = &[rk!(0, UC), l!(2), STORE, ar!(1, 7, 1), g!(1), ac!(0)];
+pub(crate) const ASKED: &[Event] = &[rk!(0, UC), l!(2), STORE, ar!(1, 7, 1), g!(1), ac!(0)];
 
 /// Port 0 passes it on, and port 1 writes it back, up to its last beat.
-const WRITTEN: &[Event] = &[
+pub(crate) const WRITTEN: &[Event] = &[
     cr!(0, 21),
     cd!(false, 5),
     cd!(false, 6),
@@ -139,7 +138,7 @@ const WRITTEN: &[Event] = &[
 ];
 
 /// Port 1 ends its write.
-const ENDED: &[Event] = &[w!(true, 8), m!(STORED), RESPONSE, wk!(I)];
+pub(crate) const ENDED: &[Event] = &[w!(true, 8), m!(STORED), RESPONSE, wk!(I)];
 
 /// After some events, which break no rule: events, each with the rule that it breaks. One that breaks none is taken.
 struct Case {
@@ -202,70 +201,81 @@ const CASES: &[Case] = &[
     },
 ];
 
-#[derive(Drop)]
-struct Shares {
-    ports: PortCheck,
-    lines: LineCheck,
-}
-
-fn start(alloc: Global) -> Result<Shares, Fail> {
-    let ports = PortCheck::new(alloc, TWO_ACE)?;
-    let lines = LineCheck::new(alloc, TWO_ACE);
-    Ok(Shares { ports, lines })
-}
-
-/// The rule that the event breaks; else it is taken.
-fn feed(shares: &mut Shares, event: &Event) -> Result<Option<u8>, Fail> {
-    let target = shares.ports.target(event);
-    let place = shares.lines.place(target.line);
-    if let Some(rule) = shares.lines.test(event, &target, place, false) {
-        return Ok(Some(rule));
-    }
-    shares.ports.ready(event)?;
-    let place = shares.lines.ready(event, &target, place)?;
-    shares.ports.apply(event);
-    shares.lines.apply(event, &target, place);
-    Ok(None)
-}
-
-/// Takes the events. Whether one of them breaks a rule.
-fn do_break(shares: &mut Shares, events: &[Event]) -> Result<bool, Fail> {
+/// The shares hear the events. Whether one of them breaks a rule.
+fn do_break(shares: &mut Shares, events: &[Event]) -> bool {
     for event in events {
-        if feed(shares, event)?.is_some() {
-            return Ok(true);
+        if !shares.keeps(event) {
+            return true;
         }
+        shares.hear(event);
     }
-    Ok(false)
+    false
+}
+
+/// Where the record of the line stands.
+fn place(shares: &Shares) -> Option<usize> {
+    shares.lines().place(Some(64))
 }
 
 /// No event of the line's way breaks a rule, and in the end memory has what was stored.
 #[test]
 fn takes_a_line(rt: HostRuntime) -> Result<(), Fail> {
-    let mut shares = start(rt.alloc())?;
-    assert!(rt; !shares.lines.knows(shares.lines.place(Some(64))) && shares.lines.lines() == 0);
-    assert!(rt; !do_break(&mut shares, READ)?);
-    assert!(rt; shares.lines.knows(shares.lines.place(Some(64))) && shares.lines.lines() == 1);
-    assert!(rt; shares.lines.granted(shares.lines.place(Some(64))) == Some((0, Read, 0)));
-    assert!(rt; shares.lines.memory(64) == OPENED);
+    let mut shares = Shares::new(rt.alloc(), TWO_ACE)?;
+    assert!(rt; !shares.lines().knows(place(&shares)) && shares.lines().lines() == 0);
+    assert!(rt; !do_break(&mut shares, READ));
+    assert!(rt; shares.lines().knows(place(&shares)) && shares.lines().lines() == 1);
+    assert!(rt; shares.lines().granted(place(&shares)) == Some((0, Read, 0)));
+    assert!(rt; shares.lines().memory(64) == OPENED);
     for events in [ASKED, WRITTEN] {
-        assert!(rt; !do_break(&mut shares, events)?);
+        assert!(rt; !do_break(&mut shares, events));
     }
-    assert!(rt; shares.lines.granted(shares.lines.place(Some(64))).is_none());
-    assert!(rt; !do_break(&mut shares, ENDED)?);
-    assert!(rt; shares.lines.memory(64) == STORED && shares.lines.lines() == 1);
+    assert!(rt; shares.lines().granted(place(&shares)).is_none());
+    assert!(rt; !do_break(&mut shares, ENDED));
+    assert!(rt; shares.lines().memory(64) == STORED && shares.lines().lines() == 1);
     Ok(())
+}
+
+/// The checker takes these events. Whether none breaks a rule.
+fn takes_all(checker: &mut Checker, events: &[Event]) -> Result<bool, Fail> {
+    for event in events {
+        if checker.feed(event)? != Step::Fine {
+            return Ok(false);
+        }
+    }
+    Ok(true)
+}
+
+/// A checker that has taken the events in front, and those of the case before the one of this number that break no rule.
+fn before(alloc: Global, case: &Case, number: usize) -> Result<Checker, Fail> {
+    let mut checker = Checker::new(alloc, TWO_ACE)?;
+    for events in case.front {
+        let _all = takes_all(&mut checker, events)?;
+    }
+    for (place, (event, rule)) in case.events.iter().enumerate() {
+        if place < number && rule.is_none() {
+            let _fine = checker.feed(event)?;
+        }
+    }
+    Ok(checker)
+}
+
+/// The rule that the event of the case, which has this number, breaks.
+fn rule_of(alloc: Global, case: &Case, number: usize, event: &Event) -> Result<Option<u8>, Fail> {
+    let mut checker = before(alloc, case, number)?;
+    let step = checker.feed(event)?;
+    drop(checker);
+    match step {
+        Step::Fine => Ok(None),
+        Step::Broken { rule, .. } => Ok(Some(rule)),
+    }
 }
 
 #[test]
 fn breaks_rules(rt: HostRuntime) -> Result<(), Fail> {
     for (number, case) in CASES.iter().enumerate() {
-        let mut shares = start(rt.alloc())?;
-        for events in case.front {
-            assert!(rt; !do_break(&mut shares, events)?, "case {number}");
-        }
         for (place, (event, rule)) in case.events.iter().enumerate() {
             assert_eq!(rt;
-                feed(&mut shares, event)?,
+                rule_of(rt.alloc(), case, place, event)?,
                 *rule,
                 "case {number}, event {place}"
             );

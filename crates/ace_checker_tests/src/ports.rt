@@ -1,8 +1,9 @@
 // A trace of an ACE port and an ACE-Lite port, and events that break a rule at some point of it, written out by hand.
 
-use ace_codes::LineState;
+use ace_codes::{LineState, read_ar, read_aw};
 use ace_event::{Channel, Event, Header, Line, Outcome};
-use ace_portck::PortCheck;
+use ace_model::kinds::read_kind;
+use ace_portck::{PortCheck, Progress, issued};
 use std::alloc::Global;
 use std::test::Fail;
 
@@ -42,53 +43,90 @@ macro_rules! op {
     ($k:expr) => { Event::Op { port: 0, k: $k, res: Outcome::Ok } };
 }
 
-/// The checker hears these events, where there is room for them.
-fn hear_all(check: &mut PortCheck, events: &[Event]) -> bool {
-    for event in events {
-        if check.ready(event).is_err() {
-            return false;
-        }
-        check.apply(event);
-    }
-    true
-}
-
-/// A checker that has heard these events.
+/// A checker that has heard these events, none of which is a snoop.
 fn after(alloc: Global, events: &[Event]) -> Option<PortCheck> {
     let Ok(mut check) = PortCheck::new(alloc, HEADER) else {
         return None;
     };
-    if hear_all(&mut check, events) {
-        Some(check)
-    } else {
-        drop(check);
-        None
+    for event in events {
+        check.hear(event);
+    }
+    Some(check)
+}
+
+/// The rule that an R breaks.
+fn rule_of_r(check: &PortCheck, port: u8, id: u8, resp: u8, last: bool) -> Option<u8> {
+    let Some(x) = check.outstanding(port, Channel::Read, id) else {
+        return Some(check.rule_of_no_r(port, resp));
+    };
+    let kind = read_kind(&x.transaction)?;
+    check.rule_of_r(port, x, kind, resp, last)
+}
+
+/// The rule that a B breaks.
+fn rule_of_b(check: &PortCheck, port: u8, id: u8, resp: u8) -> Option<u8> {
+    match check.outstanding(port, Channel::Write, id) {
+        None => Some(check.rule_of_no_b(port, resp)),
+        Some(x) => check.rule_of_b(port, x, resp),
+    }
+}
+
+/// The rule that the event breaks.
+fn rule_of(check: &PortCheck, event: Event) -> Option<u8> {
+    match event {
+        Event::Ar {
+            port,
+            id,
+            addr,
+            snoop,
+            dom,
+            bar,
+            lock,
+        } => check.rule_of_ar(port, id, addr, read_ar(snoop, dom, bar), lock),
+        Event::Aw {
+            port,
+            id,
+            addr,
+            snoop,
+            dom,
+            bar,
+        } => check.rule_of_aw(port, id, addr, read_aw(snoop, dom, bar)),
+        Event::R {
+            port,
+            id,
+            resp,
+            last,
+            ..
+        } => rule_of_r(check, port, id, resp, last),
+        Event::B { port, id, resp } => rule_of_b(check, port, id, resp),
+        Event::W {
+            port,
+            strb,
+            last,
+            ..
+        } => check.rule_of_w(port, strb, last),
+        Event::Rk { port, .. } => check.rule_of_rk(port),
+        Event::Wk { port, .. } => check.rule_of_wk(port),
+        Event::Cr { port, resp, .. } => check.rule_of_cr(port, resp),
+        Event::Cd { port, last, .. } => check.rule_of_cd(port, last),
+        Event::Op { port, k, .. } => check.rule_of_op(port, k),
+        Event::Mem { addr, .. } => check.rule_of_mem(addr),
+        _ => None,
     }
 }
 
 /// The rule that the event breaks after these.
 fn broken(alloc: Global, events: &[Event], event: Event) -> Option<Option<u8>> {
     let check = after(alloc, events)?;
-    let target = check.target(&event);
-    let rule = check.test(&event, &target);
+    let rule = rule_of(&check, event);
     drop(check);
     Some(rule)
-}
-
-/// There is room for a snoop and for a transaction.
-fn has_room(check: &mut PortCheck) -> bool {
-    let snoop = Event::Ac {
-        port: 0,
-        addr: 0x40,
-        snoop: 7,
-    };
-    check.ready(&snoop) == Ok(()) && check.ready(&ar!(0, 1, 0x40, 7, false)) == Ok(())
 }
 
 #[test]
 fn makes_room(rt: HostRuntime) -> Result<(), Fail> {
     let mut check = PortCheck::new(rt.alloc(), HEADER)?;
-    let holds = has_room(&mut check);
+    let holds = check.make_snoop_room(0) == Ok(());
     drop(check);
     assert!(rt; holds);
     Ok(())
@@ -180,33 +218,45 @@ const ACKNOWLEDGE: Event = Event::Rk {
     st: LineState::UC,
 };
 
+/// What is kept of the transaction that the event belongs to.
+fn progress(check: &PortCheck, event: Event) -> Option<Progress> {
+    match event {
+        Event::R { port, id, .. } => check.outstanding(port, Channel::Read, id).copied(),
+        Event::G { port, chan, id } => check.outstanding(port, chan, id).copied(),
+        Event::Rk { port, .. } => check.acknowledged(port, Channel::Read).copied(),
+        Event::L { port, addr, .. } => check.own(port, addr).copied(),
+        _ => None,
+    }
+}
+
+const LOAD: Event = Event::L {
+    port: 0,
+    addr: 0x40,
+    w: 0,
+    x: false,
+    word: 0,
+};
+
 #[test]
-fn tells_targets(rt: HostRuntime) {
+fn tells_progress(rt: HostRuntime) {
     // after how many of them, the event, and its transaction's place, transfers, completion and grant
     let cases = [
-        (0, READ[0], Some((0, 0, false, false))),
         (1, READ[1], Some((0, 0, false, false))),
         (2, READ[2], Some((0, 0, false, true))),
+        (3, LOAD, Some((0, 1, false, true))),
         (5, READ[5], Some((0, 3, false, true))),
         (5, ACKNOWLEDGE, None),
         (6, ACKNOWLEDGE, Some((0, 4, true, true))),
         (6, r!(6, false), None),
     ];
     for (count, event, told) in cases {
-        let transaction = after(rt.alloc(), &READ[..count])
-            .and_then(|check| check.target(&event).transaction)
+        let found = after(rt.alloc(), &READ[..count])
+            .and_then(|check| progress(&check, event))
             .map(|x| (x.transaction.place, x.transfers, x.complete, x.granted));
-        assert_eq!(rt; transaction, told);
+        assert_eq!(rt; found, told);
     }
-    let load = Event::L {
-        port: 0,
-        addr: 0x40,
-        w: 0,
-        x: false,
-        word: 0,
-    };
-    let own = after(rt.alloc(), &READ[..3])
-        .and_then(|check| check.target(&load).own)
-        .map(|x| x.transfers);
-    assert_eq!(rt; own, Some(1));
+    let begun = after(rt.alloc(), &[])
+        .and_then(|check| issued(check.place(), &READ[0]))
+        .map(|x| (x.place, x.port, x.addr));
+    assert_eq!(rt; begun, Some((0, 0, 0x40)));
 }

@@ -3,9 +3,8 @@
 use ace_codes::LineState;
 use ace_event::{Channel, Event, Header, Line};
 use ace_io::{Failed, MemSink};
-use ace_model::Transaction;
-use ace_portck::{Progress, Target, WriteData};
-use ace_report::Report;
+use ace_portck::PortCheck;
+use ace_report::{Report, told_line};
 use std::alloc::Global;
 use std::test::Fail;
 
@@ -30,139 +29,116 @@ const STORED: Line = Line {
 const TEXT: &[u8] =
     b"port 0 loads 1 stores 1 reads 1 writes 0\nport 1 loads 0 stores 0 reads 1 writes 1\nline 00000000 stores 1 value 00000000000000000000000000000001000000000000000000000000000000000000000000000000000000000000000000000000000000000000000000000002\nline 00000040 stores 2 value 00000000000000000000000000000000000000000000000000000000000000000000000000000000000000000000000000000000000000000000000000000000\nload 9 0 00000040 1\n";
 
-/// A transaction with identifier 0 and bar 0.
-fn transaction(port: u8, chan: Channel, addr: u32, snoop: u8, dom: u8) -> Transaction {
-    Transaction {
-        place: 0,
-        port,
-        chan,
-        id: 0,
-        addr,
-        snoop,
-        dom,
-        bar: 0,
-        lock: false,
-    }
+macro_rules! ar {
+    ($port:expr, $snoop:expr) => {
+        Event::Ar { port: $port, id: 0, addr: 64, snoop: $snoop, dom: 1, bar: 0, lock: false }
+    };
 }
 
-/// The target of an event of the transaction, or of the port's own on the line.
-fn target(transaction: Option<Transaction>, line: Option<u32>, data: Option<WriteData>) -> Target {
-    Target {
-        transaction: transaction.map(|transaction| Progress {
-            transaction,
-            transfers: 0,
-            response: 0,
-            complete: false,
-            granted: false,
-            written: false,
-            stored: false,
-        }),
-        snoop: None,
-        line,
-        own: None,
-        beat: 0,
-        data,
-        unordered: None,
-        incomplete: None,
-    }
+macro_rules! r {
+    ($port:expr, $last:expr) => {
+        Event::R { port: $port, id: 0, resp: 0, last: $last, word: 0 }
+    };
 }
 
-fn ar(port: u8, addr: u32, snoop: u8) -> Event {
-    Event::Ar {
-        port,
-        id: 0,
-        addr,
-        snoop,
-        dom: 1,
-        bar: 0,
-        lock: false,
-    }
+macro_rules! w {
+    ($strb:expr, $last:expr, $word:expr) => {
+        Event::W { port: 1, strb: $strb, last: $last, word: $word }
+    };
 }
 
-fn r(port: u8, last: bool) -> Event {
-    Event::R {
-        port,
-        id: 0,
-        resp: 0,
-        last,
-        word: 0,
-    }
-}
-
-/// Port 0 reads line 64 by ReadUnique, stores a byte and loads it.
-fn hear_store(report: &mut Report) -> Result<(), Fail> {
-    let read = transaction(0, Channel::Read, 64, 7, 1);
-    let of_read = target(Some(read), Some(64), None);
-    report.hear(&ar(0, 64, 7), &of_read, ZERO)?;
-    let grant = Event::G {
+/// Port 0 reads line 64 by ReadUnique, stores a byte and loads it. Port 1 gives up the data of line 64 by MakeInvalid, and writes line 0
+/// by WriteNoSnoop.
+const EVENTS: &[Event] = &[
+    ar!(0, 7),
+    Event::G {
         port: 0,
         chan: Channel::Read,
         id: 0,
-    };
-    report.hear(&grant, &of_read, ZERO)?;
-    for last in [false, false, false, true] {
-        report.hear(&r(0, last), &of_read, ZERO)?;
-    }
-    let acknowledge = Event::Rk {
+    },
+    r!(0, false),
+    r!(0, false),
+    r!(0, false),
+    r!(0, true),
+    Event::Rk {
         port: 0,
         st: LineState::UC,
-    };
-    report.hear(&acknowledge, &of_read, ZERO)?;
-    let store = Event::D {
+    },
+    Event::D {
         port: 0,
         addr: 64,
         strobe: 1,
         x: false,
         line: STORED,
-    };
-    report.hear(&store, &target(None, Some(64), None), ZERO)?;
-    let load = Event::L {
+    },
+    Event::L {
         port: 0,
         addr: 64,
         w: 0,
         x: false,
         word: STORED.words[0],
-    };
-    report.hear(&load, &target(None, Some(64), None), ZERO)?;
-    Ok(())
-}
-
-/// Port 1 gives up the data of line 64 by MakeInvalid, and writes line 0 by WriteNoSnoop.
-fn hear_writes(report: &mut Report) -> Result<(), Fail> {
-    let invalid = transaction(1, Channel::Read, 64, 13, 1);
-    let of_invalid = target(Some(invalid), Some(64), None);
-    report.hear(&ar(1, 64, 13), &of_invalid, ZERO)?;
-    report.hear(&r(1, true), &of_invalid, ZERO)?;
-    let write = transaction(1, Channel::Write, 0, 0, 0);
-    let address = Event::Aw {
+    },
+    ar!(1, 13),
+    r!(1, true),
+    Event::Aw {
         port: 1,
         id: 0,
         addr: 0,
         snoop: 0,
         dom: 0,
         bar: 0,
-    };
-    report.hear(&address, &target(Some(write), Some(0), None), ZERO)?;
-    let burst = WriteData {
-        strobe: 0xffff_0000_0000_ffff,
-        line: WRITTEN,
-    };
-    let memory = Event::M {
+    },
+    w!(0xffff, false, 1),
+    w!(0, false, 0),
+    w!(0, false, 0),
+    w!(0xffff, true, 2),
+    Event::M {
         port: 1,
         chan: Channel::Write,
         id: 0,
         line: WRITTEN,
-    };
-    report.hear(&memory, &target(Some(write), Some(0), Some(burst)), ZERO)?;
-    Ok(())
-}
+    },
+];
 
 /// The report of the trace.
 fn report(alloc: Global) -> Result<Report, Fail> {
+    let mut ports = PortCheck::new(alloc, TWO_ACE)?;
     let mut report = Report::new(alloc, TWO_ACE)?;
-    hear_store(&mut report)?;
-    hear_writes(&mut report)?;
+    for event in EVENTS {
+        report.hear(event, &ports, told_line(event, &ports), ZERO)?;
+        ports.hear(event);
+    }
     Ok(report)
+}
+
+/// Of which line the event of this number tells.
+fn told(alloc: Global, count: usize) -> Result<Option<u32>, Fail> {
+    let mut ports = PortCheck::new(alloc, TWO_ACE)?;
+    for (number, event) in EVENTS.iter().enumerate() {
+        if number == count {
+            return Ok(told_line(event, &ports));
+        }
+        ports.hear(event);
+    }
+    Ok(None)
+}
+
+#[test]
+fn tells_lines(rt: HostRuntime) -> Result<(), Fail> {
+    let cases = [
+        (0, Some(64)),
+        (1, None),
+        (2, Some(64)),
+        (7, Some(64)),
+        (10, Some(64)),
+        (11, Some(0)),
+        (12, None),
+        (16, Some(0)),
+    ];
+    for (count, line) in cases {
+        assert_eq!(rt; told(rt.alloc(), count)?, line, "event {count}");
+    }
+    Ok(())
 }
 
 #[test]

@@ -1,5 +1,5 @@
 -- What is left to do in a run, event by event.
-use Rattle.std.proofs.Common.{◌≡◌, ◌≢◌, ◌<◌, ◌+◌, ◌-◌, ◌==◌, ◌++◌, ◌&&◌, ℕ, zero, suc, Bool, true, false, not, nat_le, nat_lt, List, [], ◌∷◌, filter, if◌then◌else◌, map, take, length, Some, None, is_none, slice_get, Result, Ok, Err, IsOk, OnOk, inl, inr, refl, sym, ap, subst, ◌∙◌, arith}
+use Rattle.std.proofs.Common.{◌≡◌, ◌≢◌, ◌<◌, ◌+◌, ◌-◌, ◌==◌, ◌++◌, ◌&&◌, ℕ, zero, suc, Bool, true, false, not, nat_le, nat_lt, List, [], ◌∷◌, filter, if◌then◌else◌, map, take, length, Some, None, is_none, slice_get, inl, inr, refl, sym, ap, subst, ◌∙◌, arith}
 use Rattle.std.specs.List.{list_all}
 use Rattle.std.proofs.Math.ListN.{get_or}
 use Rattle.std.proofs.lemmas.Bool.{and_from, and_parts, cases_Bool, cases_eq, eq-eqb, eqb-true, false_from_ne_true, ltb-true, ne_eqb, not-true}
@@ -7,6 +7,7 @@ use Rattle.std.proofs.lemmas.Bool.Decides.{nat_tests}
 use Rattle.std.proofs.lemmas.List.{length-append, take_more}
 use Rattle.std.proofs.lemmas.Option.{get_or_from_slice_get, slice_get-get_or, slice_get_within}
 use Rattle.ace_codes.specs.Reads.{ar_kind_of}
+use Rattle.ace_codes.specs.declared.kind.ArKind.TheVariants.{DvmComplete}
 use Rattle.ace_codes.specs.declared.state.LineState.{LineState}
 use Rattle.ace_event.specs.declared.event.Channel.{Channel}
 use Rattle.ace_event.specs.declared.event.Channel.TheVariants.{Read, Write}
@@ -36,7 +37,7 @@ use Rattle.ace_runs.specs.Follows.{is_done, is_port_at_end, owes_completion}
 use Rattle.ace_runs.specs.Operations.{operations_of}
 use Rattle.ace_runs.proofs.Few.EachPort.{six-snoops-for-each}
 use Rattle.ace_runs.proofs.Few.Queues.{answers-within}
-use Rattle.ace_runs.proofs.NeverStuck.IssuedTransactions.{issuer-low}
+use Rattle.ace_model.proofs.Trace.IssuedTransactions.{issuer-low}
 use Rattle.ace_engine.specs.Engines.{IsLegal}
 use Rattle.ace_engine.proofs.Pending.{pending-at}
 use Rattle.ace_portck.specs.Pending.{is_pending, pending_of}
@@ -110,6 +111,10 @@ pub counted-none : (plan : Plan) (past : Trace) (e : Event) (counts : List PortL
 counted-none plan past e counts none stand = λ p k there. counted-other plan past p k (stand p k there) e (λ mine. let bad : None ≡ Some p = sym none ∙ mine in cc)
 
 -- ---- what is left of a port --------------------------------------------------------------------------
+
+pub completion-kind : ar_kind_of 14 1 0 ≡ Some DvmComplete
+unfolding ar_kind_of
+completion-kind = refl
 
 -- the port owes a DVM Complete exactly where the rules of the system allow one
 pub owes-test : (h : Header) (past : Trace) (p : ℕ) → is_none (least_of system_rules h past (Ar p 0 0 14 1 0 false)) ≡ owes_completion past p
@@ -255,8 +260,3 @@ started-more plan counts s new stand = λ p k there.
     slice_get-at_end [] (suc i) x e = absurd (omega (arith, e))
     slice_get-at_end (y ∷ xs) zero x e = absurd (omega (arith, e))
     slice_get-at_end (y ∷ xs) (suc i) x e = slice_get-at_end xs i x (omega (arith, e))
-
--- a call that may fail and doesn't
-pub from-ok : {A E : Type 0} → (r : Result A E) (P : Type 0) → IsOk r → OnOk r P → P
-from-ok (Ok x) P ok p = p
-from-ok (Err e) P ok p = cc

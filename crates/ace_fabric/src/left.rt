@@ -18,16 +18,10 @@ ghost use Rattle.ace_fabric.specs.declared.left.PortLeft.{PortLeft};
 use ace_engine::Burst;
 use ace_event::Event;
 use ace_io::NoMemory;
-use ace_model::PlanView;
+use ace_model::{MOST_LINES, MOST_SNOOPS, PlanView};
 use ace_portck::PortCheck;
 use ace_sysck::SysCheck;
 use std::alloc::Global;
-
-/// The most snoops that a plan can have at one port.
-const SNOOPS: usize = 24576;
-
-/// The most lines that a plan can name.
-const LINES: usize = 4096;
 
 /// What is left of a port.
 #[derive(Clone, Copy, Debug, PartialEq, Eq)]
@@ -183,10 +177,10 @@ impl Left {
         requires { IsRight plan.now.plan }
         ensures { IfOk result (λ s. LeftStands s plan.now.plan []) }
     {
-        let Ok(ports) = PortCheck::with_room(alloc, plan.header(), SNOOPS) else {
+        let Ok(ports) = PortCheck::with_room(alloc, plan.header(), MOST_SNOOPS) else {
             return Err(NoMemory);
         };
-        let Ok(system) = SysCheck::with_room(alloc, plan.header(), LINES) else {
+        let Ok(system) = SysCheck::with_room(alloc, plan.header(), MOST_LINES) else {
             return Err(NoMemory);
         };
         let counts = all_left(alloc, plan)?;
@@ -201,10 +195,8 @@ impl Left {
     pub fn hear(&mut self, event: &Event)
         ensures { (plan : Plan) (past : Trace) → LeftStands self.old plan past → IsLegal plan (event.now ∷ past) → LeftStands self.new plan (event.now ∷ past) }
     {
-        let target = self.ports.target(event);
-        let _room = self.system.ready(event, &target);
-        self.system.apply(event, &target);
-        self.ports.apply(event);
+        self.system.hear(&self.ports, event);
+        self.ports.hear(event);
         note(self.counts.as_mut_slice(), event);
     }
 
@@ -212,20 +204,7 @@ impl Left {
     fn owes(&self, port: u8) -> bool
         ensures { (plan : Plan) (past : Trace) → LeftStands self.now plan past → port < plan.header.ports → result ≡ owes_completion past port }
     {
-        let completion = Event::Ar {
-            port,
-            id: 0,
-            addr: 0,
-            snoop: 14,
-            dom: 1,
-            bar: 0,
-            lock: false,
-        };
-        let target = self.ports.target(&completion);
-        match self.system.test(&completion, &target) {
-            None => true,
-            Some(_) => false,
-        }
+        self.system.rule_of_completion_ar(port, 0).is_none()
     }
 
     /// Nothing is left of the port, nor any transaction of it outstanding.

@@ -12,9 +12,9 @@ use ace_engine::Engine;
 use ace_io::NoMemory;
 use ace_master::laws::policies_go_by_their_words;
 use ace_master::{AceMaster, LiteMaster};
+use ace_model::kinds::is_ace;
 use ace_model::{PlanView, PolicyWord};
 use ace_policy::{Chosen, Listed, Mixed};
-use ace_portck::kinds::is_ace;
 use std::alloc::Global;
 
 /// The master of a port of a script.

@@ -31,7 +31,7 @@ use Rattle.ace_runs.specs.LineSteps.{grant_burst, gives_snoops, is_first_to_wait
 use Rattle.ace_runs.specs.SameEvents.{same_burst}
 use Rattle.ace_runs.specs.Steps.{is_enabled_by, is_sound, is_step_by}
 use Rattle.ace_runs.proofs.Accepting.{kept-breaks-none}
-use Rattle.ace_runs.proofs.NeverStuck.IssuedTransactions.{issuer-low}
+use Rattle.ace_model.proofs.Trace.IssuedTransactions.{issuer-low}
 use Rattle.ace_runs.proofs.NeverStuck.Steps.SameBursts.{burst-self}
 use Rattle.ace_runs.proofs.NeverStuck.Steps.SameEvents.{event-self}
 use Rattle.ace_runs.proofs.NeverStuck.Updates.EvictsMove.{may-answer-evict, response-kept}

@@ -19,7 +19,7 @@ use Rattle.ace_runs.specs.LineSteps.{is_first_to_wait, waits}
 use Rattle.ace_runs.proofs.Accepting.{kept-breaks-none}
 use Rattle.ace_runs.proofs.NeverStuck.Barriers.EachIssued.{each-from}
 use Rattle.ace_runs.proofs.NeverStuck.Barriers.WaitingMove.{grant-kept}
-use Rattle.ace_runs.proofs.NeverStuck.IssuedTransactions.{issuer-low}
+use Rattle.ace_model.proofs.Trace.IssuedTransactions.{issuer-low}
 use Rattle.ace_home.specs.Home.{IsOf, goes_before, grant_of}
 use Rattle.ace_home.proofs.Outstanding.{of-at, of-port, out-own}
 

@@ -22,7 +22,7 @@ use ace_codes::ac_code;
 use ace_event::{Event, Line};
 use ace_lineck::{is_line_read_transaction, snoop_of};
 use ace_model::Transaction;
-use ace_portck::kinds::{beats_of, read_kind};
+use ace_model::kinds::{beats_of, read_kind};
 use ace_portck::{Progress, WriteData};
 
 /// The M by which the transaction writes the line.
@@ -210,8 +210,8 @@ impl Home {
         ensures { (plan : Plan) (past : Trace) (p : ℕ) → HomeStands self.now plan past → IsOf plan.header past p write.now
             → result ≡ data_of_write past write.now }
     {
-        let unwritten = write_of(write, Line { words: [0; 4] });
-        self.shares.ports().target(&unwritten).data
+        let ports = self.shares.ports();
+        ports.burst(write.port, write.chan, write.id).copied()
     }
 
     /// The M of a granted write.

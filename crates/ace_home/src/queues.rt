@@ -13,8 +13,8 @@ ghost use Rattle.ace_home.specs.Home.{HomeStands, IsOf, goes_before, grant_of};
 use crate::home::Home;
 use ace_event::{Channel, Event};
 use ace_model::Transaction;
+use ace_model::kinds::is_on;
 use ace_portck::Progress;
-use ace_portck::kinds::is_on;
 
 /// The G of the transaction.
 pub fn grant_of(x: &Transaction) -> Event

@@ -13,7 +13,7 @@ use Rattle.ace_model.specs.declared.transactions.Transaction.{Transaction}
 use Rattle.ace_model.proofs.Terms.{Event, Header, Trace, IsAccepted, granted, is_some_and}
 use Rattle.ace_model.specs.Accepted.{least_broken}
 use Rattle.ace_portck.specs.Targets.{Recording, after, line_in}
-use Rattle.ace_portck.specs.declared.target.Target.{Target}
+use Rattle.ace_portck.specs.Target.{Target}
 use Rattle.ace_lineck.specs.declared.lines.LineCheck.{LineCheck}
 use Rattle.ace_lineck.specs.declared.record.LineRecord.{LineRecord}
 use Rattle.ace_lineck.specs.declared.record.Holder.{Holder}

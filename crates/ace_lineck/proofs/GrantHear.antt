@@ -1,5 +1,5 @@
 -- The steps of what is kept of a grant, for the event and the target of a step.
-use Rattle.std.proofs.Common.{◌≡◌, ◌≢◌, ℕ, true, false, Bool, not, ◌&&◌, ◌||◌, ◌==◌, if◌then◌else◌, List, ◌∷◌, Option, Some, None, option_map, is_none, refl, sym, ap, subst, ◌∙◌}
+use Rattle.std.proofs.Common.{◌≡◌, ℕ, true, false, Bool, not, ◌&&◌, ◌||◌, ◌==◌, if◌then◌else◌, List, ◌∷◌, Option, Some, None, option_map, is_none, refl, sym, ap, subst, ◌∙◌}
 use Rattle.std.proofs.lemmas.Bool.{and_parts}
 use Rattle.ace_event.specs.declared.line.Line.{Line}
 use Rattle.ace_codes.specs.Responses.{is_shared, passes_dirty, transfers_data}
@@ -11,7 +11,7 @@ use Rattle.ace_model.proofs.General.Options.{none_is}
 use Rattle.ace_model.proofs.Rules.Keeps.{accepted_keeps}
 use Rattle.ace_portck.specs.Targets.{line_in, transaction_in, progress_of}
 use Rattle.ace_portck.specs.declared.target.Progress.{Progress}
-use Rattle.ace_portck.specs.declared.target.Target.{Target}
+use Rattle.ace_portck.specs.Target.{Target}
 use Rattle.ace_lineck.specs.declared.record.Holder.{Holder}
 use Rattle.ace_lineck.specs.declared.stages.Stage.{Stage}
 use Rattle.ace_lineck.specs.declared.stages.Stage.TheVariants.{Unanswered, Sending, Done}
@@ -21,7 +21,7 @@ use Rattle.ace_lineck.specs.Grants.{GrantFits, IsGrantStep, IsMoved, fresh_grant
 use Rattle.ace_lineck.proofs.OnLine.{on-transaction, outstanding-of}
 use Rattle.ace_lineck.proofs.OffLine.{ace-of_rk, ace-of_wk, read-of}
 use Rattle.ace_lineck.proofs.GrantFrame.{none-stays}
-use Rattle.ace_lineck.proofs.GrantSteps.{snoop_step, fourth_step, earlier_step, answer_step, calm-stays}
+use Rattle.ace_lineck.proofs.GrantSteps.{snoop_step, fourth_step, answer_step, calm-stays}
 use Rattle.ace_lineck.proofs.GrantServes.{given_step, stays-other, ends-grant, beat_step, write_step}
 
 -- the line of the event
@@ -36,16 +36,6 @@ is_heard (Cd p last word) = true
 is_heard (R p i resp last word) = true
 is_heard (M p c i line) = true
 is_heard e = false
-
-pub unheard : (e : Event) → ((p i resp : ℕ) (last : Bool) (word : ℕ) → e ≡ R p i resp last word → ⊥) → ((p addr snoop : ℕ) → e ≡ Ac p addr snoop → ⊥)
-    → ((p resp : ℕ) (st : LineState) → e ≡ Cr p resp st → ⊥) → ((p : ℕ) (last : Bool) (word : ℕ) → e ≡ Cd p last word → ⊥)
-    → ((p : ℕ) (c : Channel) (i : ℕ) (line : Line) → e ≡ M p c i line → ⊥) → is_heard e ≡ false
-unheard (R p i resp last word) r ac cr cd m = absurd (r p i resp last word refl)
-unheard (Ac p addr snoop) r ac cr cd m = absurd (ac p addr snoop refl)
-unheard (Cr p resp st) r ac cr cd m = absurd (cr p resp st refl)
-unheard (Cd p last word) r ac cr cd m = absurd (cd p last word refl)
-unheard (M p c i line) r ac cr cd m = absurd (m p c i line refl)
-unheard e r ac cr cd m = refl
 
 module _ (h : Header) (past : Trace) (l : ℕ) (t : Target) (g : Grant) (xs : List Holder) (memory : Line) where
   pub snoop_heard : (q addr code : ℕ) → IsGrantStep h past l (Ac q addr code) t (Some g) xs memory → (stages : List Stage) → IsMoved g.stages stages q Unanswered
@@ -69,11 +59,6 @@ module _ (h : Header) (past : Trace) (l : ℕ) (t : Target) (g : Grant) (xs : Li
   fourth_heard q last word s beat stages moved =
       fourth_step h past l g s.grant q last word s.step.accepted (line-of_step h past l (Cd q last word) t s.step) s.step.header.most_ports
       (ap (λ (v : Target). v.beat) (sym s.step.target) ∙ beat) stages moved
-
-  pub earlier_heard : (q : ℕ) (last : Bool) (word : ℕ) → IsGrantStep h past l (Cd q last word) t (Some g) xs memory → t.beat ≢ 3 → GrantFits h (Cd q last word ∷ past) l g
-  earlier_heard q last word s beat =
-      earlier_step h past l g s.grant q last word s.step.accepted (line-of_step h past l (Cd q last word) t s.step) s.step.header.most_ports
-      (λ z. beat (ap (λ (v : Target). v.beat) s.step.target ∙ z))
 
   pub beat_heard : (q j resp : ℕ) (last : Bool) (word : ℕ) → IsGrantStep h past l (R q j resp last word) t (Some g) xs memory
       → is_transaction (ended h past (R q j resp last word)) g.transaction ≡ false
@@ -152,10 +137,6 @@ given_heard h past l p c i t s x is =
 abbrev pub is_grant : Event → Bool
 is_grant (G p c i) = true
 is_grant e = false
-
-pub no_grant : (e : Event) → ((p : ℕ) (c : Channel) (i : ℕ) → e ≡ G p c i → ⊥) → is_grant e ≡ false
-no_grant (G p c i) n = absurd (n p c i refl)
-no_grant e n = refl
 
 pub gives_none : (past : Trace) (e : Event) (l : ℕ) → is_grant e ≡ false → gives_line past e l ≡ false
 gives_none past (G p c i) l n = cc

@@ -8,19 +8,17 @@ use Rattle.ace_model.specs.declared.snoops.Answer.{Answer}
 use Rattle.ace_model.specs.declared.transactions.Transaction.{Transaction}
 use Rattle.ace_model.specs.Grants.{is_short}
 use Rattle.ace_model.specs.Shares.{k18_line}
-use Rattle.ace_model.specs.States.{owes_wack}
-use Rattle.ace_model.proofs.Terms.{Header, Trace, Channel, Read, G, Ac, R, IsAccepted, implies, is_some_and, is_none_or, is_ace, is_read, is_line, is_transaction, read_kind, snoop_of, takes_grant, takes_passed_data, outstanding, transfers, is_complete}
+use Rattle.ace_model.proofs.Terms.{Header, Trace, Channel, Read, R, IsAccepted, implies, is_some_and, is_none_or, is_ace, is_read, is_line, is_transaction, read_kind, snoop_of, takes_passed_data, outstanding, transfers}
 use Rattle.ace_model.proofs.Terms.{granted, is_granted, was_snooped, answer_of, owes_answer, owes_data, passer, list_all, ports_below, has_passed_data, are_passed_data_whole, has_failed, has_memory_write, state_of, is_invalid, is_port_done, are_snoops_done}
-use Rattle.ace_model.proofs.Terms.{snoops_a_line, k12, k13, has_snoop_code, may_snoop_for, may_transfer, takes_passed}
+use Rattle.ace_model.proofs.Terms.{has_snoop_code, may_snoop_for, may_transfer, takes_passed}
 use Rattle.ace_model.proofs.General.Options.{Some-injective}
 use Rattle.ace_model.proofs.Trace.Looks.{is_on-addr}
 use Rattle.ace_model.proofs.Trace.Issued.{outstanding-name}
 use Rattle.ace_model.proofs.Holders.Law.{accepted_holds}
 use Rattle.ace_model.proofs.Grants.Granted.{granted_at}
 use Rattle.ace_model.proofs.Grants.Pending.{snoops}
-use Rattle.ace_model.proofs.GrantLooks.Had.{may_grant, grants_by_line, takes-on}
-use Rattle.ace_portck.specs.Targets.{line_in, own_of, own_on, progress_of}
-use Rattle.ace_portck.specs.declared.target.Target.{Target}
+use Rattle.ace_portck.specs.Targets.{progress_of}
+use Rattle.ace_portck.specs.Target.{Target}
 use Rattle.ace_codes.specs.declared.state.LineState.{LineState}
 use Rattle.ace_lineck.specs.declared.record.LineRecord.{LineRecord}
 use Rattle.ace_lineck.specs.declared.grant.Grant.{Grant}
@@ -30,8 +28,7 @@ use Rattle.ace_lineck.specs.States.{StatesStand, state_at}
 use Rattle.ace_lineck.specs.Grants.{GrantFits, GrantStands, stage_at, stage_by, stage_of}
 use Rattle.ace_lineck.specs.Records.{IsNext}
 use Rattle.ace_lineck.specs.Kept.{is_unsnooped, is_sending, is_settled, may_be_snooped, has_passed, is_passed_whole, is_done_at, are_done, is_its, takes_data, may_have_beat, IsFailure}
-use Rattle.ace_lineck.proofs.OnLine.{line-transaction, line-snoop}
-use Rattle.ace_portck.proofs.Own.{owes_wack-own}
+use Rattle.ace_lineck.proofs.OnLine.{line-transaction}
 use Rattle.ace_lineck.proofs.GrantFrame.{passed_at}
 
 -- nothing is kept exactly where nothing is granted
@@ -186,52 +183,6 @@ snooped-law h past a addr p snoop failed (Some g) fails f =
     ∙ sym (ap (λ o. is_some_and o (λ v. may_snoop_for past v p snoop) && not (was_snooped past p addr)) f.granted)
 
 module _ (h : Header) (past : Trace) (t : Target) (x : LineRecord) where
-  -- K12
-  pub k12-law : (p : ℕ) (c : Channel) (i : ℕ) → IsNext h past (G p c i) t x
-      → is_some_and t.transaction (λ y. takes_grant y.transaction && is_none x.grant) ≡ k12 h past (G p c i)
-  k12-law p c i s =
-      ap (λ (v : Target). is_some_and v.transaction (λ y. takes_grant y.transaction && is_none x.grant)) s.target ∙ by (outstanding h past p c i) refl
-      ∙ sym (grants_by_line h past p c i s.accepted)
-    where
-      by : (o : Option Transaction) → outstanding h past p c i ≡ o
-          → is_some_and (option_map (progress_of h past) o) (λ y. takes_grant y.transaction && is_none x.grant) ≡ is_some_and o (may_grant h past)
-      by None is = refl
-      by (Some y) is =
-          elim (cases_Bool (takes_grant y)) [
-            | inr n ↦ rw n refl
-            | inl k ↦
-                let line : t.line ≡ Some y.addr = ap (λ (v : Target). v.line) s.target ∙ line-transaction h past (outstanding h past p c i) y.addr (rw is (takes-on y k)) in
-                ap (λ b. takes_grant y && b) (none-is h past y.addr x.grant (s.line y.addr line).grant)
-          ]
-
-  -- K13
-  pub k13-law : (p addr snoop : ℕ) (failed : Bool) → IsNext h past (Ac p addr snoop) t x → IsFailure h past t failed
-      → implies (snoops_a_line snoop) (may_be_snooped failed x.grant p snoop && not (is_some_and t.own (λ y. not (is_read y.transaction.chan) && y.complete)))
-      ≡ k13 h past (Ac p addr snoop)
-  k13-law p addr snoop failed s fails =
-      elim (cases_Bool (snoops_a_line snoop)) [
-        | inr n ↦ rw n refl
-        | inl line ↦ ap (implies (snoops_a_line snoop)) (ap (λ b. b && not (is_some_and t.own (λ y. not (is_read y.transaction.chan) && y.complete))) (snooped-law h past s.accepted addr p snoop failed x.grant (λ y there. fails addr (on line) ∙ ap (λ o. is_some_and o (has_failed past)) there) (s.line addr (on line)).grant)
-            ∙ ap (λ b. (is_some_and (granted h past addr) (λ y. may_snoop_for past y p snoop) && not (was_snooped past p addr)) && not b) (own line))
-      ]
-    where
-      here : snoops_a_line snoop ≡ true → line_in h past (Ac p addr snoop) ≡ Some addr
-      here line = rw (eq-eqb p p (refl {a = p})) (line-snoop (Some (record { place = length past; addr = addr; snoop = snoop })) addr (and_from _ _ line (eq-eqb addr addr refl)))
-
-      on : snoops_a_line snoop ≡ true → t.line ≡ Some addr
-      on line = ap (λ (v : Target). v.line) s.target ∙ here line
-
-      own : snoops_a_line snoop ≡ true → is_some_and t.own (λ y. not (is_read y.transaction.chan) && y.complete) ≡ owes_wack h past p addr
-      own line =
-          ap (λ (v : Target). is_some_and v.own (λ y. not (is_read y.transaction.chan) && y.complete)) s.target
-          ∙ ap (λ o. is_some_and (own_on h past p o) (λ y. not (is_read y.transaction.chan) && y.complete)) (here line)
-          ∙ by (own_of h past p addr) ∙ sym (owes_wack-own h past s.accepted p addr)
-        where
-          by : (o : Option Transaction) → is_some_and (option_map (progress_of h past) o) (λ y. not (is_read y.transaction.chan) && y.complete)
-              ≡ is_some_and o (λ y. not (is_read y.chan) && is_complete past y.port y.chan y.id)
-          by None = refl
-          by (Some y) = refl
-
   -- K18 of a line
   module _ (p i resp : ℕ) (last : Bool) (word : ℕ) (s : IsNext h past (R p i resp last word) t x) where
     -- of a line read, the line is that of the event

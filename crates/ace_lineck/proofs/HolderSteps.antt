@@ -5,7 +5,7 @@ use Rattle.ace_model.specs.Trace.{port_of}
 use Rattle.ace_model.proofs.Terms.{Header, Trace, Channel, Event, D, M, Line, outstanding, transaction_of, IsAccepted, merged, is_some_on, copy_of}
 use Rattle.ace_model.proofs.General.Options.{Some-injective}
 use Rattle.ace_portck.specs.Targets.{line_in}
-use Rattle.ace_portck.specs.declared.target.Target.{Target}
+use Rattle.ace_portck.specs.Target.{Target}
 use Rattle.ace_lineck.specs.declared.record.Holder.{Holder}
 use Rattle.ace_lineck.specs.Holders.{HolderStands, HoldersStand, MemoryStands, IsHolderStep, IsHoldersStep, holder_at, empty_holder}
 use Rattle.ace_lineck.proofs.OnLine.{on-transaction}
@@ -32,11 +32,6 @@ module _ (h : Header) (past : Trace) (p l : ℕ) (t : Target) (w : Option Line) 
   pub d-stores : (q addr strobe : ℕ) (b : Bool) (line : Line) → Step (D q addr strobe b line)
       → HolderStands (D q addr strobe b line ∷ past) p l (record x { copy = merged x.copy strobe line })
   d-stores q addr strobe b line s = record { copy = stored q addr strobe b line s; sent = s.stands.sent }
-
--- for an event that is known by its fields
-pub at-event : (h : Header) (past : Trace) (p l : ℕ) (t : Target) (w : Option Line) (x y : Holder) (e f : Event) → e ≡ f
-    → (IsHolderStep h past p l f t w x → HolderStands (f ∷ past) p l y) → IsHolderStep h past p l e t w x → HolderStands (e ∷ past) p l y
-at-event h past p l t w x y e f is = subst (λ v. IsHolderStep h past p l v t w x → HolderStands (v ∷ past) p l y) (sym is)
 
 -- of the holders, the port's own changes with its event
 pub holders-hear : (h : Header) (past : Trace) (l : ℕ) (e : Event) (t : Target) (w : Option Line) (xs : List Holder) (p : ℕ) (y : Holder) → IsHoldersStep h past l e t w xs

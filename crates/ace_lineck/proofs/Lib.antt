@@ -29,7 +29,33 @@ pub mod WriteLaws
 pub mod LineLooks
 -- Which rule is told, where one is asked by itself, and where two are asked in order.
 pub mod Asked
--- The least rule that an event breaks.
-pub mod Judging
--- What the short ways of the checker ask and leave.
-pub mod ShortWays
+-- The AR or AW of a line transaction: what it asks of its line.
+pub mod AddressLaws
+-- The events with which a line begins: an AR, an AW or a MEM.
+pub mod Beginnings
+-- An R: the least rule that it breaks, and what that of a line read leaves.
+pub mod BeatLaws
+pub mod BeatSteps
+pub mod LinelessBeats
+-- What an RK or WK asks of its line, and what it leaves.
+pub mod AcknowledgeLaws
+pub mod AcknowledgeSteps
+-- What a W and an L ask of a line.
+pub mod WritesAndLoads
+-- A B: what it asks of its write, and what that of a line write leaves.
+pub mod WriteResponses
+pub mod BarrierResponses
+-- What a G grants, by what is kept of the line.
+pub mod Granting
+-- A CR: what is asked of it, and what it leaves of the line of its snoop.
+pub mod SnoopAnswers
+-- A CD: what it asks of its line, and what it leaves.
+pub mod SnoopData
+-- What an M asks of its line, and what it leaves.
+pub mod MemoryWrites
+-- An S and a D: what each asks of its line, and what it leaves.
+pub mod SilentChanges
+pub mod StoreLaws
+-- Events that move nothing of any line: W, L and OP, and the ACs of DVM.
+pub mod StillLines
+pub mod MessageSnoops

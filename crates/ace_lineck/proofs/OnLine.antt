@@ -48,6 +48,3 @@ on-snoop (Some s) l e = address-is (snoops_a_line s.snoop) s.addr l e
 pub line-snoop : (o : Option Snoop) (l : ℕ) → is_some_and o (λ s. is_snoop_on s l) ≡ true → line_of_snoop o ≡ Some l
 line-snoop None l e = cc
 line-snoop (Some s) l e = is-address (snoops_a_line s.snoop) s.addr l e
-
-pub off-snoop : (o : Option Snoop) (l : ℕ) → (line_of_snoop o ≡ Some l → ⊥) → is_some_and o (λ s. is_snoop_on s l) ≡ false
-off-snoop o l n = false_from_ne_true (is_some_and o (λ s. is_snoop_on s l)) (λ t. n (line-snoop o l t))

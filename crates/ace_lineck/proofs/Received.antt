@@ -16,7 +16,7 @@ use Rattle.ace_model.proofs.Values.FullReads.{words-length}
 use Rattle.ace_model.proofs.Values.MergedLines.{whole_line}
 use Rattle.ace_model.proofs.Lines.ReplyWords.{word-replied, reply-words}
 use Rattle.ace_portck.specs.Targets.{line_in, progress_of}
-use Rattle.ace_portck.specs.declared.target.Target.{Target}
+use Rattle.ace_portck.specs.Target.{Target}
 use Rattle.ace_lineck.specs.declared.grant.Grant.{Grant}
 use Rattle.ace_lineck.specs.declared.record.LineRecord.{LineRecord}
 use Rattle.ace_lineck.specs.Grants.{GrantStands, settled_reply}

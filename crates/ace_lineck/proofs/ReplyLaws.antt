@@ -17,19 +17,17 @@ use Rattle.ace_model.proofs.General.Booleans.{implies-at}
 use Rattle.ace_model.proofs.Trace.Looks.{is_on-addr, read_writes_none}
 use Rattle.ace_model.proofs.Trace.Issued.{outstanding-name}
 use Rattle.ace_model.proofs.Trace.Outstanding.{acknowledged_is}
-use Rattle.ace_model.proofs.Trace.Transfers.{full_some}
 use Rattle.ace_model.proofs.Holders.Law.{accepted_holds}
 use Rattle.ace_model.proofs.Holders.Acknowledge.{ends}
 use Rattle.ace_model.proofs.Grants.Granted.{granted_at}
-use Rattle.ace_model.proofs.Values.FullReads.{under_way}
 use Rattle.ace_model.proofs.Values.Replies.{memory-before}
 use Rattle.ace_portck.specs.Targets.{line_in, progress_of}
-use Rattle.ace_portck.specs.declared.target.Target.{Target}
+use Rattle.ace_portck.specs.Target.{Target}
 use Rattle.ace_lineck.specs.declared.record.LineRecord.{LineRecord}
 use Rattle.ace_lineck.specs.declared.grant.Grant.{Grant}
 use Rattle.ace_lineck.specs.Grants.{GrantFits, GrantStands, fetched}
 use Rattle.ace_lineck.specs.Records.{IsNext}
-use Rattle.ace_lineck.specs.Kept.{reply_kept, fits_reply, fits_shared, fits_bits, has_passed, has_passed_for, is_shared_under, is_its, ends_kept, IsFailure}
+use Rattle.ace_lineck.specs.Kept.{reply_kept, fits_reply, fits_shared, fits_bits, has_passed, has_passed_for, is_shared_under, is_its, ends_kept}
 use Rattle.ace_lineck.proofs.OnLine.{line-transaction}
 use Rattle.ace_lineck.proofs.GrantLaws.{passed-law, read-line, read-count}
 use Rattle.ace_lineck.specs.States.{state_at}
@@ -237,15 +235,6 @@ module _ (h : Header) (past : Trace) (t : Target) (x : LineRecord) (p : ℕ) (st
       let there : line_in h past (Rk p st) ≡ Some y.addr = rw ace (line-transaction h past (acknowledged past p Read) y.addr (rw is (and_from _ _ line (eq-eqb y.addr y.addr refl)))) in
       ap (λ (v : Target). v.line) s.target ∙ there
 
-  -- the read is granted its line
-  rk-granted : (y : Transaction) → acknowledged past p Read ≡ Some y → is_line y ≡ true → granted h past y.addr ≡ Some y
-  rk-granted y is line =
-      let n = acknowledged_is past p Read y is in
-      let e = ends h past p st (accepted_holds h past s.accepted) s.port (ap is_some n.next) in
-      let one : e.ended_one ≡ y = Some-injective e.ended_one y (sym e.is ∙ is) in
-      let out : outstanding h past p Read e.id ≡ Some y = e.out ∙ ap (λ v. Some v) one in
-      under_way h past s.accepted p e.id y out line (full_some past p e.id e.ended_one e.full)
-
   -- where it is known whether the read is an exclusive store that failed
   pub k23-of : (failed : Bool) → ((y : Transaction) → acknowledged past p Read ≡ Some y → is_line y ≡ true → failed ≡ has_failed past y)
       → is_none_or t.transaction (ends_kept failed (state_at x.states p) st) ≡ k23 h past (Rk p st)
@@ -291,6 +280,3 @@ module _ (h : Header) (past : Trace) (t : Target) (x : LineRecord) (p : ℕ) (st
       by : (o : Option Transaction) → acknowledged past p Read ≡ o → is_none_or (option_map (progress_of h past) o) (ends_kept failed (state_at x.states p) st) ≡ is_none_or o (ends_well h past st)
       by None is = refl
       by (Some y) is = kinds y is (read_kind y) refl
-
-  pub k23-law : (failed : Bool) → IsFailure h past t failed → is_none_or t.transaction (ends_kept failed (state_at x.states p) st) ≡ k23 h past (Rk p st)
-  k23-law failed fails = k23-of failed (λ y is line. fails y.addr (rk-line y is line) ∙ ap (λ o. is_some_and o (has_failed past)) (rk-granted y is line))

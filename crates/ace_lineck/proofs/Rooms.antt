@@ -1,27 +1,19 @@
 -- What leaves the room that there is for lines.
-use Rattle.std.proofs.Common.{◌≡◌, ℕ, zero, suc, ◌+◌, ◌≤◌, ◌<◌, nat_eq, if◌then◌else◌, true, false, ◌∷◌, length, Option, Some, None, is_some, unwrap_or, refl, sym, ap, subst, ◌∙◌, arith}
+use Rattle.std.proofs.Common.{◌≡◌, ℕ, zero, suc, ◌+◌, ◌≤◌, ◌<◌, nat_eq, ◌∷◌, length, is_some, unwrap_or, refl, sym, ap, subst, ◌∙◌, arith}
 use Rattle.std.specs.List.{All, IsDistinct, list_any}
 use Rattle.std.specs.Map.{lookup}
-use Rattle.std.proofs.lemmas.Bool.{and_from, eq-eqb, or_left}
 use Rattle.std.proofs.lemmas.Map.Made.{is_some-lookup}
 use Rattle.indexmap.specs.IndexMap.{get, index_map_len, keys, spare, with_value_at}
 use Rattle.indexmap.proofs.CallerLemmas.{keys-with_value_at, index_map_len-with_value_at}
 use Rattle.ace_event.specs.declared.event.Event.{Event}
-use Rattle.ace_event.specs.declared.event.Event.TheVariants.{Ar, Aw}
-use Rattle.ace_event.specs.declared.event.Channel.TheVariants.{Read, Write}
-use Rattle.ace_model.specs.declared.transactions.Transaction.{Transaction}
-use Rattle.ace_model.specs.Lines.{is_known}
-use Rattle.ace_model.specs.Trace.{port_of}
-use Rattle.ace_model.proofs.Terms.{Header, Trace, is_line, is_on, issued, is_some_and}
-use Rattle.ace_model.proofs.General.Options.{some_if-is}
+use Rattle.ace_model.proofs.Terms.{Trace}
 use Rattle.ace_portck.specs.LineMaps.{HasRoomForLines}
-use Rattle.ace_portck.specs.Targets.{Recording, line_in}
+use Rattle.ace_portck.specs.Targets.{Recording}
 use Rattle.ace_portck.proofs.LineMaps.{room-same, room-stays}
 use Rattle.ace_lineck.specs.declared.lines.LineCheck.{LineCheck}
 use Rattle.ace_lineck.specs.declared.record.LineRecord.{LineRecord}
 use Rattle.ace_lineck.specs.Records.{IsFresh, LineStands}
-use Rattle.ace_lineck.specs.Stands.{Stands, IsEmpty, IsKnown, IsRoomy, begins_line, record_of}
-use Rattle.ace_lineck.proofs.RuleLaws.{issue-line}
+use Rattle.ace_lineck.specs.Stands.{Stands, IsEmpty, IsRoomy, record_of}
 
 -- a record that is written
 pub written-roomy : (lines : ℕ) (past : Trace) (s : LineCheck) (i : ℕ) (y : LineRecord) → IsRoomy lines past s → HasRoomForLines lines past (with_value_at s.lines i y)
@@ -76,25 +68,3 @@ respared s t r header empty known same spare st = record {
 pub none-left : {P : Type 0} (n : ℕ) → (0 < n → P) → (P → ⊥) → n ≡ 0
 none-left zero some not-so = refl
 none-left (suc n) some not-so = absurd (not-so (some (omega arith)))
-
-on-line : (x : Transaction) (l : ℕ) → (if is_line x then Some x.addr else None) ≡ Some l → is_on x l ≡ true
-on-line x l line = let s = some_if-is (is_line x) x.addr l line in and_from (is_line x) (nat_eq x.addr l) s.0 (eq-eqb x.addr l s.1)
-
--- an AR or AW issues a transaction
-begun : (past : Trace) (e : Event) → begins_line e ≡ true → is_some (port_of e) ≡ true → (x : Transaction) × (issued (length past) e ≡ Some x)
-begun past (Ar p i addr snoop dom bar lock) begins port =
-    (record { place = length past; port = p; chan = Read; id = i; addr = addr; snoop = snoop; dom = dom; bar = bar; lock = lock }, refl)
-begun past (Aw p i addr snoop dom bar) begins port =
-    (record { place = length past; port = p; chan = Write; id = i; addr = addr; snoop = snoop; dom = dom; bar = bar; lock = false }, refl)
-begun past e begins port = cc
-
--- and its line is known from then on
-pub begun-known : (h : Header) (past : Trace) (e : Event) (l : ℕ) → begins_line e ≡ true → is_some (port_of e) ≡ true → line_in h past e ≡ Some l → is_known (e ∷ past) l ≡ true
-begun-known h past e l begins port line =
-    let x = begun past e begins port in
-    let on = on-line x.0 l (sym (issue-line h past e x.0 x.1) ∙ line) in
-    or_left (is_some_and (issued (length past) e) (λ y. is_on y l)) (is_known past l) (ap (λ o. is_some_and o (λ y. is_on y l)) x.1 ∙ on)
-
-pub begun-line : (h : Header) (past : Trace) (e : Event) (line : Option ℕ) → begins_line e ≡ true → is_some (port_of e) ≡ true → line ≡ line_in h past e → IsKnown (e ∷ past) line
-begun-line h past e None begins port is = tt
-begun-line h past e (Some l) begins port is = begun-known h past e l begins port (sym is)

@@ -3,7 +3,6 @@ use Rattle.std.proofs.Common.{◌≡◌, ℕ, true, false, Bool, not, ◌&&◌, 
 use Rattle.std.proofs.lemmas.Bool.{and_parts, and_from, cases_Bool, eq-eqb, false_from_ne_true, or_right}
 use Rattle.ace_codes.specs.declared.kind.AwKind.TheVariants as write
 use Rattle.ace_codes.specs.declared.kind.SnoopKind.TheVariants as snoop
-use Rattle.ace_codes.specs.Snoops.{ac_kind_of}
 use Rattle.ace_event.specs.declared.line.Line.{Line}
 use Rattle.ace_tables.specs.Answers.{is_snoop_row, same_test}
 use Rattle.ace_tables.specs.EndStates.{ends_write}
@@ -11,10 +10,10 @@ use Rattle.ace_model.specs.declared.transactions.Transaction.{Transaction}
 use Rattle.ace_model.specs.declared.snoops.Snoop.{Snoop}
 use Rattle.ace_model.specs.Shares.{k11_data, k17_data, fits_copy}
 use Rattle.ace_model.specs.Replies.{next_sent, next_sent_beat}
-use Rattle.ace_model.proofs.Terms.{Header, Trace, Event, Ar, Aw, W, Wk, Cr, Cd, S, L, D, Write, AwKind, SnoopKind, LineState, I, IsAccepted, implies, is_some_and, is_none_or, is_ace, is_read, is_line, is_on, is_line_write, is_line_read, is_line_snoop, is_update, is_make_unique, read_kind, write_kind}
-use Rattle.ace_model.proofs.Terms.{issued, acknowledged, starts_read, starts_write, state_of, copy_of, word_of, next_write, next_write_beat, snoops_a_line, is_snoop_on, answered, updates_memory, has_update, has_outstanding_on, has_store, each_issued, is_no_snoop, is_used_alike}
-use Rattle.ace_model.proofs.Terms.{answers_by_row, answers_beside_update, k6, k8, k15, k16, k28, k29, k30, k31, k32, held_of, full_line, is_silent_move, is_invalid, is_unique, some_issued, wants_store}
-use Rattle.ace_model.proofs.General.Options.{Some-injective, is_none_or-at}
+use Rattle.ace_model.proofs.Terms.{Header, Trace, Event, Ar, Aw, W, Wk, Cd, L, D, Write, AwKind, SnoopKind, LineState, I, IsAccepted, implies, is_some_and, is_none_or, is_ace, is_read, is_line, is_on, is_line_write, is_line_read, is_line_snoop, is_update, is_make_unique, read_kind, write_kind}
+use Rattle.ace_model.proofs.Terms.{issued, acknowledged, state_of, copy_of, word_of, next_write, next_write_beat, is_snoop_on, updates_memory, has_outstanding_on, has_store, each_issued, is_no_snoop, is_used_alike}
+use Rattle.ace_model.proofs.Terms.{k28, k30, k31, k32, held_of, full_line, is_invalid, is_unique, some_issued, wants_store}
+use Rattle.ace_model.proofs.General.Options.{Some-injective}
 use Rattle.ace_model.proofs.General.Booleans.{implies-at}
 use Rattle.ace_model.proofs.Trace.Growth.{IsIssued, issued-new, issued-old, issued-cases, each_issued-at, some_issued-is}
 use Rattle.ace_model.proofs.Trace.Issued.{transaction_of-name}
@@ -23,20 +22,16 @@ use Rattle.ace_model.proofs.Holders.ShareableLines.{used_alike}
 use Rattle.ace_model.proofs.Lines.Known.{data_write-issued}
 use Rattle.ace_portck.specs.Targets.{line_in, own_of, progress_of, sending}
 use Rattle.ace_portck.specs.declared.target.Progress.{Progress}
-use Rattle.ace_portck.specs.declared.target.Target.{Target}
+use Rattle.ace_portck.specs.Target.{Target}
 use Rattle.ace_lineck.specs.declared.record.Use.{Use}
 use Rattle.ace_lineck.specs.declared.record.Use.TheVariants.{Unknown, Shareable, NoSnoop}
 use Rattle.ace_lineck.specs.declared.record.LineRecord.{LineRecord}
 use Rattle.ace_lineck.specs.Holders.{holder_at, awaits_store, sent_on}
 use Rattle.ace_lineck.specs.Uses.{use_by, use_of, newest_use, goes_with}
 use Rattle.ace_lineck.specs.Records.{LineStands, IsNext}
-use Rattle.ace_portck.proofs.Own.{has_update-own, has_outstanding-own, wants_store-own, awaits_own_store}
+use Rattle.ace_portck.proofs.Own.{has_outstanding-own, wants_store-own, awaits_own_store}
 use Rattle.ace_lineck.proofs.Sent.{next-sent, none-sent, sends-a_line}
 use Rattle.ace_lineck.specs.States.{state_at}
-
--- the state is a start state of the kind of a line transaction
-abbrev pub may_start_of : Transaction → LineState → Bool
-may_start_of y held = implies (is_line y) (is_none_or (read_kind y) (λ k. starts_read k held) && is_none_or (write_kind y) (λ k. starts_write k held))
 
 -- the line of an event that issues a transaction
 pub issue-line : (h : Header) (past : Trace) (e : Event) (y : Transaction) → issued (length past) e ≡ Some y → line_in h past e ≡ (if is_line y then Some y.addr else None)
@@ -146,11 +141,6 @@ row-apart snoop.DvmComplete held other update also resp st f = refl
 row-apart snoop.DvmMessage held other update also resp st f = refl
 row-apart k held other update also resp st f = cc
 
-rows-apart : (o : Option SnoopKind) (held other : LineState) (update also : Bool) (resp : ℕ) (st : LineState) → is_some_and o is_line_snoop ≡ false
-    → is_none_or o (λ k. is_snoop_row k held update resp st) ≡ is_none_or o (λ k. is_snoop_row k other also resp st)
-rows-apart None held other update also resp st f = refl
-rows-apart (Some k) held other update also resp st f = row-apart k held other update also resp st f
-
 pub implies-true : (b c : Bool) → c ≡ true → implies b c ≡ true
 implies-true true c e = e
 implies-true false c e = refl
@@ -173,30 +163,6 @@ module _ (h : Header) (past : Trace) (t : Target) (x : LineRecord) where
 
   state : (e : Event) → IsNext h past e t x → (p l : ℕ) → line_in h past e ≡ Some l → state_at x.states p ≡ state_of h past p l
   state e s p l on = (stands e s l on).states.state p
-
-  pub k6-law : (e : Event) → IsNext h past e t x → (y : Transaction) → issued (length past) e ≡ Some y
-      → implies (is_line y) (is_none_or (read_kind y) (λ k. starts_read k (state_at x.states y.port)) && is_none_or (write_kind y) (λ k. starts_write k (state_at x.states y.port)))
-      ≡ k6 h past e
-  k6-law e s y new =
-      elim (cases_Bool (is_line y)) [
-        | inr f ↦ rw (new, f) refl
-        | inl line ↦
-            let on : line_in h past e ≡ Some y.addr = rw line at (issue-line h past e y new) in
-            let held = state e s y.port y.addr on in
-            rw (new, held) refl
-      ]
-
-  pub k8-law : (e : Event) → IsNext h past e t x → (y : Transaction) → issued (length past) e ≡ Some y
-      → implies (is_line y) (goes_with x.used (is_no_snoop y)) ≡ k8 h past e
-  k8-law e s y new =
-      elim (cases_Bool (is_line y)) [
-        | inr f ↦ rw (new, f) refl
-        | inl line ↦
-            let on : line_in h past e ≡ Some y.addr = rw line at (issue-line h past e y new) in
-            let used = (stands e s y.addr on).used in
-            let same = uses-law h past s.accepted y in
-            rw (new, used, same) refl
-      ]
 
   pub k11-law : (p strb : ℕ) (last : Bool) (word : ℕ) → IsNext h past (W p strb last word) t x
       → is_none_or t.transaction (λ y. implies (updates_memory y.transaction) (word == word_of (holder_at x.holders.items p).copy t.beat)) ≡ k11_data h past (W p strb last word)
@@ -227,14 +193,6 @@ module _ (h : Header) (past : Trace) (t : Target) (x : LineRecord) where
       by (Some z) is = fits z is (write_kind z) refl
 
   -- what is asked of the port's own transaction
-  own-updates : (p addr : ℕ) (o : Option Progress) → o ≡ option_map (progress_of h past) (own_of h past p addr) → IsAccepted h past
-      → is_some_and o (λ y. updates_memory y.transaction) ≡ has_update h past p addr
-  own-updates p addr o is a = ap (λ v. is_some_and v (λ y. updates_memory y.transaction)) is ∙ by (own_of h past p addr) ∙ sym (has_update-own h past a p addr)
-    where
-      by : (w : Option Transaction) → is_some_and (option_map (progress_of h past) w) (λ y. updates_memory y.transaction) ≡ is_some_and w updates_memory
-      by None = refl
-      by (Some z) = refl
-
   own-some : (p addr : ℕ) (o : Option Progress) → o ≡ option_map (progress_of h past) (own_of h past p addr) → IsAccepted h past → is_some o ≡ has_outstanding_on h past p addr
   own-some p addr o is a = ap is_some is ∙ by (own_of h past p addr) ∙ sym (has_outstanding-own h past a p addr)
     where
@@ -254,54 +212,6 @@ module _ (h : Header) (past : Trace) (t : Target) (x : LineRecord) where
             | inr f ↦ rw f refl
             | inl t ↦ let reads = make_unique-reads past z t in rw reads refl
           ]
-
-  module _ (p resp : ℕ) (st : LineState) (s : IsNext h past (Cr p resp st) t x) where
-    asked : t.snoop ≡ answered past p
-    asked = ap (λ (v : Target). v.snoop) s.target
-
-    -- the rows of a snoop of the line are by the state that is kept
-    rows : (update : Bool) (q : Snoop) → answered past p ≡ Some q
-        → is_none_or (ac_kind_of q.snoop) (λ k. is_snoop_row k (state_at x.states p) update resp st) ≡ is_none_or (ac_kind_of q.snoop) (λ k. is_snoop_row k (state_of h past p q.addr) update resp st)
-    rows update q is =
-        elim (cases_Bool (snoops_a_line q.snoop)) [
-          | inr f ↦ rows-apart (ac_kind_of q.snoop) (state_at x.states p) (state_of h past p q.addr) update update resp st f
-          | inl line ↦
-              let on : line_in h past (Cr p resp st) ≡ Some q.addr = rw (is, line) refl in
-              let held = state (Cr p resp st) s p q.addr on in
-              rw held refl
-        ]
-
-    pub k15-law : is_none_or t.snoop (λ q. is_none_or (ac_kind_of q.snoop) (λ k. is_snoop_row k (state_at x.states p) false resp st)) ≡ k15 h past (Cr p resp st)
-    k15-law = rw asked (by (answered past p) refl)
-      where
-        by : (o : Option Snoop) → answered past p ≡ o
-            → is_none_or o (λ q. is_none_or (ac_kind_of q.snoop) (λ k. is_snoop_row k (state_at x.states p) false resp st))
-            ≡ is_none_or o (λ q. is_none_or (ac_kind_of q.snoop) (λ k. is_snoop_row k (state_of h past p q.addr) false resp st))
-        by None is = refl
-        by (Some q) is = rows false q is
-
-    pub k16-law : k15 h past (Cr p resp st) ≡ true
-        → implies (is_some_and t.own (λ y. updates_memory y.transaction)) (is_none_or t.snoop (λ q. is_none_or (ac_kind_of q.snoop) (λ k. is_snoop_row k (state_at x.states p) true resp st)))
-        ≡ k16 h past (Cr p resp st)
-    k16-law kept = rw asked (by (answered past p) refl)
-      where
-        by : (o : Option Snoop) → answered past p ≡ o
-            → implies (is_some_and t.own (λ y. updates_memory y.transaction)) (is_none_or o (λ q. is_none_or (ac_kind_of q.snoop) (λ k. is_snoop_row k (state_at x.states p) true resp st)))
-            ≡ is_none_or o (answers_beside_update h past p resp st)
-        by None is = implies-true (is_some_and t.own (λ y. updates_memory y.transaction)) true refl
-        by (Some q) is =
-            elim (cases_Bool (snoops_a_line q.snoop)) [
-              | inr f ↦
-                  let own : t.own ≡ None = rw (is, f) at (ap (λ (v : Target). v.own) s.target) in
-                  let row = is_none_or-at (answered past p) (answers_by_row h past p resp st) q kept is in
-                  let also : is_none_or (ac_kind_of q.snoop) (λ k. is_snoop_row k (state_of h past p q.addr) true resp st) ≡ true =
-                  rows-apart (ac_kind_of q.snoop) (state_of h past p q.addr) (state_of h past p q.addr) true false resp st f ∙ row in
-                  rw own (sym (implies-true (has_update h past p q.addr) _ also))
-              | inl line ↦
-                  let own : t.own ≡ option_map (progress_of h past) (own_of h past p q.addr) = rw (is, line) at (ap (λ (v : Target). v.own) s.target) in
-                  ap (λ b. implies b (is_none_or (ac_kind_of q.snoop) (λ k. is_snoop_row k (state_at x.states p) true resp st))) (own-updates p q.addr t.own own s.accepted)
-                  ∙ ap (implies (has_update h past p q.addr)) (rows true q is)
-            ]
 
   pub k17-law : (p : ℕ) (last : Bool) (word : ℕ) → IsNext h past (Cd p last word) t x
       → is_none_or t.snoop (λ q. word == word_of (holder_at x.holders.items p).sent t.beat) ≡ k17_data h past (Cd p last word)
@@ -342,14 +252,6 @@ module _ (h : Header) (past : Trace) (t : Target) (x : LineRecord) where
                 let held : state_at x.states p ≡ state_of h past z.port z.addr = state (Wk p st) s p z.addr on ∙ ap (λ v. state_of h past v z.addr) (sym port) in
                 rw (line, held) refl
           ]
-
-  pub k29-law : (p addr : ℕ) (st : LineState) → IsNext h past (S p addr st) t x
-      → (is_silent_move (state_at x.states p) st && not (is_invalid st && is_some_and t.own (λ y. updates_memory y.transaction))) ≡ k29 h past (S p addr st)
-  k29-law p addr st s =
-      let held = state (S p addr st) s p addr refl in
-      let own : t.own ≡ option_map (progress_of h past) (own_of h past p addr) = ap (λ (v : Target). v.own) s.target in
-      let update = own-updates p addr t.own own s.accepted in
-      rw (held, update) refl
 
   pub k30-law : (p addr w : ℕ) (b : Bool) (word : ℕ) → IsNext h past (L p addr w b word) t x → not (is_invalid (state_at x.states p)) ≡ k30 h past (L p addr w b word)
   k30-law p addr w b word s = let held = state (L p addr w b word) s p addr refl in rw held refl

@@ -9,7 +9,7 @@ use Rattle.ace_model.proofs.General.Options.{Some-injective}
 use Rattle.ace_model.proofs.Rules.Keeps.{accepted_keeps}
 use Rattle.ace_portck.specs.Acknowledges.{acknowledge}
 use Rattle.ace_portck.specs.Targets.{line_in, own_of, progress_of}
-use Rattle.ace_portck.specs.declared.target.Target.{Target}
+use Rattle.ace_portck.specs.Target.{Target}
 use Rattle.ace_lineck.specs.Holders.{IsLineStep, awaits_store}
 use Rattle.ace_lineck.specs.States.{IsInState, IsStatesStep, StatesStand, state_at}
 use Rattle.ace_lineck.proofs.OffLine.{ace-of_rk, ace-of_wk, off-state}
@@ -71,11 +71,6 @@ states-hear h past l e t xs ys p st s port new is = record { state = λ q. new q
     at q (inr other) =
         let there : nat_eq q p ≡ false = ne_eqb q p other in
         rw there (s.stand.state q ∙ sym (off-state h past e s.step.accepted q l (λ own. absurd (other (Some-injective q p (sym own ∙ port))))))
-
--- for an event that is known by its fields
-pub states-at : (h : Header) (past : Trace) (l : ℕ) (t : Target) (xs ys : List LineState) (e f : Event) → e ≡ f
-    → (IsStatesStep h past l f t xs → StatesStand h (f ∷ past) l ys) → IsStatesStep h past l e t xs → StatesStand h (e ∷ past) l ys
-states-at h past l t xs ys e f is = subst (λ v. IsStatesStep h past l v t xs → StatesStand h (v ∷ past) l ys) (sym is)
 
 module _ (h : Header) (past : Trace) (l : ℕ) (t : Target) where
   -- the line of the event

@@ -21,7 +21,7 @@ use Rattle.ace_model.specs.Values.{burst_strobe, burst_line}
 use Rattle.ace_model.specs.Writes.{burst_of}
 use Rattle.ace_portck.specs.Targets.{progress_of, data_of_write}
 use Rattle.ace_portck.specs.declared.target.WriteData.{WriteData}
-use Rattle.ace_portck.specs.declared.target.Target.{Target}
+use Rattle.ace_portck.specs.Target.{Target}
 use Rattle.ace_lineck.specs.declared.record.LineRecord.{LineRecord}
 use Rattle.ace_lineck.specs.declared.grant.Grant.{Grant}
 use Rattle.ace_lineck.specs.States.{StatesStand}

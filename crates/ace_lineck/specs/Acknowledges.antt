@@ -2,7 +2,7 @@
 use Rattle.std.specs.Prelude.{◌≡◌, Some, option_map}
 use Rattle.ace_model.specs.declared.transactions.Transaction.{Transaction}
 use Rattle.ace_portck.specs.declared.target.Progress.{Progress}
-use Rattle.ace_portck.specs.declared.target.Target.{Target}
+use Rattle.ace_portck.specs.Target.{Target}
 
 abbrev pub transaction_at : Progress → Transaction
 transaction_at y = y.transaction

@@ -13,7 +13,7 @@ use Rattle.ace_model.specs.Grants.{granted, is_begun, was_snooped, answer_of, is
 use Rattle.ace_model.specs.Copies.{zero_line}
 use Rattle.ace_model.specs.Replies.{copy_at_answer, first_sender, memory_at_first_beat}
 use Rattle.ace_portck.specs.declared.target.Progress.{Progress}
-use Rattle.ace_portck.specs.declared.target.Target.{Target}
+use Rattle.ace_portck.specs.Target.{Target}
 use Rattle.ace_lineck.specs.declared.record.Holder.{Holder}
 use Rattle.ace_lineck.specs.declared.stages.Stage.{Stage}
 use Rattle.ace_lineck.specs.declared.stages.Stage.TheVariants.{Unsnooped, Unanswered, Sending, Done}

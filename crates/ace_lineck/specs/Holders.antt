@@ -14,7 +14,7 @@ use Rattle.ace_model.specs.Copies.{zero_line, received, copy_of, memory_of}
 use Rattle.ace_model.specs.Accepted.{IsAccepted}
 use Rattle.ace_portck.specs.Targets.{target_of}
 use Rattle.ace_portck.specs.declared.target.Progress.{Progress}
-use Rattle.ace_portck.specs.declared.target.Target.{Target}
+use Rattle.ace_portck.specs.Target.{Target}
 use Rattle.ace_lineck.specs.declared.record.Holder.{Holder}
 
 -- a port that has had nothing of the line

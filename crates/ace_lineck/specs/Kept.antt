@@ -23,7 +23,7 @@ use Rattle.std.specs.List.{list_all}
 use Rattle.ace_model.specs.Grants.{ports_below}
 use Rattle.ace_model.specs.SnoopRules.{has_snoop_code}
 use Rattle.ace_portck.specs.declared.target.Progress.{Progress}
-use Rattle.ace_portck.specs.declared.target.Target.{Target}
+use Rattle.ace_portck.specs.Target.{Target}
 use Rattle.ace_portck.specs.declared.target.WriteData.{WriteData}
 use Rattle.ace_lineck.specs.declared.stages.Stage.{Stage}
 use Rattle.ace_lineck.specs.declared.stages.Stage.TheVariants.{Unsnooped, Sending, Done}

@@ -1,9 +1,8 @@
 -- What is kept of a line says what there is to say of it after a trace.
-use Rattle.std.specs.Prelude.{ℕ, ◌≡◌, ◌==◌, ◌&&◌, Bool, true, false, length, replicate, Option, Some, None}
+use Rattle.std.specs.Prelude.{ℕ, ◌≡◌, ◌==◌, ◌&&◌, Bool, true, length, replicate, Option, Some, None}
 use Rattle.ace_codes.specs.declared.state.LineState.TheVariants.{I}
 use Rattle.ace_event.specs.declared.event.Channel.{Channel}
 use Rattle.ace_event.specs.declared.event.Event.{Event}
-use Rattle.ace_event.specs.declared.event.Event.TheVariants.{Ar, Aw}
 use Rattle.ace_event.specs.declared.header.Header.{Header}
 use Rattle.ace_model.specs.Copies.{zero_line, is_line_read_transaction}
 use Rattle.ace_model.specs.declared.transactions.Transaction.{Transaction}
@@ -12,7 +11,7 @@ use Rattle.ace_model.specs.AddressRules.{k1}
 use Rattle.ace_model.specs.Accepted.{IsAccepted}
 use Rattle.ace_portck.specs.Targets.{target_of}
 use Rattle.ace_portck.specs.declared.target.Progress.{Progress}
-use Rattle.ace_portck.specs.declared.target.Target.{Target}
+use Rattle.ace_portck.specs.Target.{Target}
 use Rattle.ace_lineck.specs.declared.record.LineRecord.{LineRecord}
 use Rattle.ace_lineck.specs.declared.record.Use.TheVariants.{Unknown}
 use Rattle.ace_lineck.specs.Holders.{HoldersStand, MemoryStands, IsLineStep, holder_at, empty_holder}
@@ -54,12 +53,6 @@ pub record IsFresh (ports : ℕ) (x : LineRecord) : Type 0 where
 -- a read of a line that has had three of its four beats
 abbrev pub has_three : Option Progress → Bool
 has_three x = is_some_and x (λ y. (y.transfers == 3) && is_line_read_transaction y.transaction)
-
--- the event issues a transaction
-abbrev pub issues : Event → Bool
-issues (Ar p i addr snoop dom bar lock) = true
-issues (Aw p i addr snoop dom bar) = true
-issues _ = false
 
 -- the name of a transaction: its port, channel and identifier
 abbrev pub name_of : Transaction → ℕ × Channel × ℕ

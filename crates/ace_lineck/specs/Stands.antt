@@ -1,5 +1,5 @@
 -- What is kept of all lines says what there is to say of them after a recording.
-use Rattle.std.specs.Prelude.{ℕ, ◌≡◌, ◌<◌, ◌≤◌, ◌+◌, ◌-◌, ◌^◌, Bool, true, false, [], length, replicate, Option, Some, None, nat_eq, unwrap_or, is_some, IsSome, ⊤}
+use Rattle.std.specs.Prelude.{ℕ, ◌≡◌, ◌<◌, ◌≤◌, ◌+◌, ◌-◌, ◌^◌, Bool, true, false, [], length, replicate, Option, Some, None, nat_eq, unwrap_or, IsSome, ⊤}
 use Rattle.std.specs.Bool.{OnTrue}
 use Rattle.std.specs.List.{All}
 use Rattle.indexmap.specs.IndexMap.{get, index_of, index_map_len}
@@ -7,18 +7,17 @@ use Rattle.ace_codes.specs.declared.state.LineState.TheVariants.{I}
 use Rattle.ace_event.specs.declared.event.Event.{Event}
 use Rattle.ace_event.specs.declared.event.Event.TheVariants.{Ar, Aw, Mem}
 use Rattle.ace_event.specs.Ports.{IsHeader}
-use Rattle.ace_model.specs.Trace.{Trace, port_of}
+use Rattle.ace_model.specs.Trace.{Trace}
 use Rattle.ace_model.specs.Copies.{zero_line}
 use Rattle.ace_model.specs.Lines.{is_known, known_lines}
 use Rattle.ace_model.specs.Accepted.{IsAccepted, least_broken}
 use Rattle.ace_portck.specs.LineMaps.{HasRoomForLines}
 use Rattle.ace_portck.specs.Targets.{Recording, target_of}
-use Rattle.ace_portck.specs.declared.target.Target.{Target}
+use Rattle.ace_portck.specs.Target.{Target}
 use Rattle.ace_lineck.specs.declared.record.Use.TheVariants.{Unknown}
 use Rattle.ace_lineck.specs.declared.record.LineRecord.{LineRecord}
 use Rattle.ace_lineck.specs.declared.lines.LineCheck.{LineCheck}
 use Rattle.ace_lineck.specs.Records.{LineStands, IsFresh}
-use Rattle.ace_lineck.specs.Kept.{IsFailure}
 
 -- the record of the line: that of the map, or else the one of a line of which nothing is kept
 abbrev pub record_of : LineCheck → ℕ → LineRecord
@@ -53,14 +52,6 @@ pub record Stands (s : LineCheck) (r : Recording) : Type 0 where
   pub known : s.known ≡ length (known_lines r.past)
   pub spare : All (IsFresh r.header.ports) s.spare.items
 
--- The event comes next after the recording, the target is its own, and the place is that of its line. `failed` says whether the granted
--- transaction of its line is an exclusive store that failed.
-pub record MayTest (s : LineCheck) (r : Recording) (e : Event) (t : Target) (place : Option ℕ) (failed : Bool) : Type 0 where
-  pub stands : Stands s r
-  pub target : t ≡ target_of r.header r.past e
-  pub at : place ≡ place_on s t.line
-  pub has_failed : IsFailure r.header r.past t failed
-
 -- there is a record of the line, if there is a line
 abbrev pub HasRecord : LineCheck → Option ℕ → Type 0
 HasRecord s None = ⊤
@@ -80,13 +71,6 @@ pub record IsRoomy (lines : ℕ) (past : Trace) (s : LineCheck) : Type 0 where
 abbrev pub IsKnown : Trace → Option ℕ → Type 0
 IsKnown past None = ⊤
 IsKnown past (Some l) = is_known past l ≡ true
-
--- There is room for so many lines, and the event may come next: it is no MEM, the target is its own, and the place is that of its line.
-pub record MayMakeRoom (lines : ℕ) (s : LineCheck) (r : Recording) (e : Event) (t : Target) (place : Option ℕ) : Type 0 where
-  pub roomy : IsRoomy lines r.past s
-  pub port : is_some (port_of e) ≡ true
-  pub target : t ≡ target_of r.header r.past e
-  pub at : place ≡ place_on s t.line
 
 -- an AR, an AW or a MEM: the events with which a line begins
 abbrev pub begins_line : Event → Bool

@@ -6,7 +6,7 @@ use Rattle.ace_event.specs.declared.event.Event.{Event}
 use Rattle.ace_event.specs.declared.header.Header.{Header}
 use Rattle.ace_model.specs.States.{state_of}
 use Rattle.ace_model.specs.Trace.{Trace}
-use Rattle.ace_portck.specs.declared.target.Target.{Target}
+use Rattle.ace_portck.specs.Target.{Target}
 use Rattle.ace_lineck.specs.Holders.{IsLineStep}
 
 -- the state in which the port has the line: a port for which none is kept doesn't have it

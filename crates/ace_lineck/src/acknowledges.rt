@@ -6,9 +6,10 @@ ghost use Rattle.ace_event.specs.declared.event.Channel.{Channel};
 ghost use Rattle.ace_event.specs.declared.header.Header.{Header};
 ghost use Rattle.ace_event.specs.declared.line.Line.{Line};
 ghost use Rattle.ace_model.specs.Trace.{Trace};
+ghost use Rattle.ace_tables.specs.EndStates.{ends_write};
 ghost use Rattle.ace_portck.specs.Acknowledges.{acknowledge};
 ghost use Rattle.ace_portck.specs.declared.target.Progress.{Progress};
-ghost use Rattle.ace_portck.specs.declared.target.Target.{Target};
+ghost use Rattle.ace_portck.specs.Target.{Target};
 ghost use Rattle.ace_lineck.specs.Acknowledges.{IsOf};
 ghost use Rattle.ace_lineck.specs.declared.record.Holder.{Holder};
 ghost use Rattle.ace_lineck.specs.Grants.{GrantStands, IsGrantStep};
@@ -18,11 +19,11 @@ use crate::LineCheck;
 use crate::grant::Grant;
 use crate::record::LineRecord;
 use crate::replies::ends_as;
-use crate::rules::ends_write;
 use crate::states::set_state;
 use ace_codes::{ArKind, AwKind, LineState};
 use ace_model::Transaction;
 use ace_portck::Progress;
+use ace_tables::end_write;
 
 /// Both are the same transaction: they were issued at the same place.
 #[inline(always)]
@@ -61,6 +62,14 @@ fn end(kept: &mut LineRecord, x: &Transaction, port: u8, st: LineState)
 {
     set_state(&mut kept.states, port, st);
     release(&mut kept.grant, x);
+}
+
+/// The state is an end state of a write of this kind, at whose end its port holds `held` of its line.
+#[inline(always)]
+fn ends_write(kind: AwKind, held: LineState, st: LineState) -> bool
+    ensures { result ≡ ends_write kind held st }
+{
+    end_write(kind, held).has(st)
 }
 
 impl LineCheck {

@@ -1,57 +1,26 @@
-//! The rules of grants, of snoops and of read transfers, K12, K13 and the part of K18 that looks at the line.
+//! What the rules of snoops, of read transfers and of memory writes ask of a grant, K13, K18 and K24.
 
-ghost use Rattle.std.specs.Prelude.{◌≡◌, ◌<◌, ◌≤◌, ℕ, Bool, true, false, not, ◌&&◌, ◌||◌, ◌==◌, Option, Some, is_some, is_none, if◌then◌else◌};
-ghost use Rattle.ace_codes.specs.Responses.{passes_dirty};
-ghost use Rattle.ace_event.specs.declared.event.Event.{Event};
-ghost use Rattle.ace_event.specs.declared.event.Event.TheVariants.{G, Ac, R};
-ghost use Rattle.ace_event.specs.declared.event.Channel.{Channel};
+ghost use Rattle.std.specs.Prelude.{◌≡◌, ◌<◌, ◌≤◌, ℕ, true, false, not, ◌&&◌, ◌||◌, ◌==◌, Option, Some, is_some};
 ghost use Rattle.ace_event.specs.declared.header.Header.{Header};
 ghost use Rattle.ace_tables.specs.States.{is_invalid};
-ghost use Rattle.ace_model.specs.Trace.{Trace, implies, is_none_or, is_some_and};
-ghost use Rattle.ace_model.specs.Transactions.{is_ace, is_line, is_read, read_kind, snoop_of, takes_grant};
+ghost use Rattle.ace_model.specs.Trace.{is_some_and};
+ghost use Rattle.ace_model.specs.Transactions.{is_ace};
 ghost use Rattle.std.specs.List.{list_all};
 ghost use Rattle.ace_model.specs.Grants.{ports_below};
-ghost use Rattle.ace_model.specs.Snoops.{snoops_a_line};
-ghost use Rattle.ace_model.specs.SnoopRules.{has_snoop_code, k12, k13};
-ghost use Rattle.ace_model.specs.Shares.{k18_line};
-ghost use Rattle.ace_model.specs.Lines.{has_failed_on};
-ghost use Rattle.ace_portck.specs.declared.target.Progress.{Progress};
-ghost use Rattle.ace_portck.specs.declared.target.Target.{Target};
-ghost use Rattle.ace_portck.specs.Targets.{line_of};
-ghost use Rattle.ace_lineck.specs.Records.{IsNext};
+ghost use Rattle.ace_model.specs.SnoopRules.{has_snoop_code};
 ghost use Rattle.ace_lineck.specs.Grants.{stage_at};
 ghost use Rattle.ace_lineck.specs.States.{state_at};
-ghost use Rattle.ace_lineck.specs.Kept.{is_unsnooped, is_sending, may_be_snooped, has_passed, is_passed_whole, is_settled, is_done_at, are_done, is_its, takes_data, may_have_beat, IsFailure};
+ghost use Rattle.ace_lineck.specs.Kept.{is_unsnooped, is_sending, may_be_snooped, has_passed, is_passed_whole, is_settled, is_done_at, is_its};
 
 use crate::grant::Grant;
-use crate::granting::{has_snoop_code, snoop_of, takes_grant, takes_passed_data};
+use crate::kinds::has_snoop_code;
 use crate::record::LineRecord;
 use crate::stages::{Stage, stage_at};
-use ace_codes::{LineState, passes_dirty};
+use ace_codes::LineState;
 use ace_event::Header;
 use ace_model::Transaction;
-use ace_portck::kinds::{is_ace, snoops_a_line};
-use ace_portck::{Progress, Target};
+use ace_model::kinds::is_ace;
 use ace_tables::is_invalid;
-
-/// The transaction is of a kind that is granted, and the line is free.
-#[inline(always)]
-fn may_be_granted(x: &Option<Progress>, free: bool) -> bool
-    ensures { result ≡ is_some_and x.now (λ y. takes_grant y.transaction && free) }
-{
-    match x {
-        None => false,
-        Some(y) => takes_grant(&y.transaction) && free,
-    }
-}
-
-/// K12, of a G.
-#[inline(always)]
-pub fn keeps_grant(kept: &LineRecord, target: &Target) -> bool
-    ensures { (h : Header) (past : Trace) (p : ℕ) (c : Channel) (i : ℕ) → IsNext h past (G p c i) target.now kept.now → result ≡ k12 h past (G p c i) }
-{
-    may_be_granted(&target.transaction, kept.grant.is_none())
-}
 
 #[inline(always)]
 fn is_unsnooped(stage: Stage) -> bool
@@ -83,44 +52,6 @@ pub fn may_be_snooped(grant: &Option<Grant>, failed: bool, port: u8, snoop: u8) 
                 && unsnooped
         }
     }
-}
-
-/// The port's own transaction is a write with B.
-#[inline(always)]
-fn owes_wack(own: &Option<Progress>) -> bool
-    ensures { result ≡ is_some_and own.now (λ x. not (is_read x.transaction.chan) && x.complete) }
-{
-    match own {
-        None => false,
-        Some(x) => !is_read_transaction(&x.transaction) && x.complete,
-    }
-}
-
-/// It is a read.
-#[inline(always)]
-fn is_read_transaction(x: &Transaction) -> bool
-    ensures { result ≡ is_read x.now.chan }
-{
-    matches!(x.chan, ace_event::Channel::Read)
-}
-
-/// The snoop is one of DVM, or the line may be snooped.
-#[inline(always)]
-fn may_snoop(kept: &LineRecord, target: &Target, failed: bool, port: u8, snoop: u8) -> bool
-    ensures { result ≡ implies (snoops_a_line snoop)
-        (may_be_snooped failed kept.now.grant port snoop && not (is_some_and target.now.own (λ x. not (is_read x.transaction.chan) && x.complete))) }
-{
-    !snoops_a_line(snoop)
-        || may_be_snooped(&kept.grant, failed, port, snoop) && !owes_wack(&target.own)
-}
-
-/// K13, of an AC. `failed` says that the line's granted transaction is an exclusive store that failed.
-#[inline(always)]
-pub fn keeps_snoop(kept: &LineRecord, target: &Target, failed: bool, port: u8, snoop: u8) -> bool
-    ensures { (h : Header) (past : Trace) (addr : ℕ) → IsNext h past (Ac port addr snoop) target.now kept.now → IsFailure h past target.now failed
-        → result ≡ k13 h past (Ac port addr snoop) }
-{
-    may_snoop(kept, target, failed, port, snoop)
 }
 
 /// The granted transaction has passed data.
@@ -254,69 +185,10 @@ pub fn is_each_done(kept: &LineRecord, g: &Grant, header: &Header) -> bool
     is_each_quiet(&g.stages, &kept.states) || is_one_by_one_done(kept, g, header)
 }
 
-/// The snoops under the grant are done.
-#[inline(always)]
-pub fn are_done(kept: &LineRecord, g: &Grant, header: &Header, failed: bool) -> bool
-    ensures { result ≡ are_done header.now failed g.now kept.now.states }
-{
-    snoop_of(&g.transaction).is_none() || failed || is_each_done(kept, g, header)
-}
-
 /// The grant is that of the transaction.
 #[inline(always)]
 pub fn is_its(g: &Grant, x: &Transaction) -> bool
     ensures { result ≡ is_its g.now x.now }
 {
     g.transaction.place == x.place
-}
-
-/// The passed data are for a kind that takes them, they are whole, and the response says PassDirty.
-#[inline(always)]
-fn takes_data(g: &Grant, x: &Transaction, resp: u8) -> bool
-    ensures { result ≡ takes_data g.now x.now resp }
-{
-    takes_passed_data(x) && is_passed_whole(g) && passes_dirty(resp)
-}
-
-/// The transfer is one that the grant of the line lets through.
-#[inline(always)]
-fn may_have_beat(kept: &LineRecord, header: &Header, failed: bool, x: &Progress, resp: u8) -> bool
-    ensures { result ≡ may_have_beat header.now failed kept.now.grant kept.now.states x.now resp }
-{
-    match &kept.grant {
-        None => false,
-        Some(g) => {
-            is_its(g, &x.transaction)
-                && (x.transfers != 0 || are_done(kept, g, header, failed))
-                && (!has_passed(g) || takes_data(g, &x.transaction, resp))
-        }
-    }
-}
-
-/// The transfer is none of a line transaction, or its grant lets it through.
-#[inline(always)]
-fn may_transfer(kept: &LineRecord, header: &Header, target: &Target, failed: bool, resp: u8) -> bool
-    ensures { target.now.line ≡ line_of target.now.transaction
-        → result ≡ is_none_or target.now.transaction (λ x. implies (is_line x.transaction) (may_have_beat header.now failed kept.now.grant kept.now.states x resp)) }
-{
-    match &target.transaction {
-        None => true,
-        Some(x) => target.line.is_none() || may_have_beat(kept, header, failed, x, resp),
-    }
-}
-
-/// The part of K18 that looks at the line, of an R. `failed` says that the line's granted transaction is an exclusive store that
-/// failed.
-#[inline(always)]
-pub fn keeps_transfer(
-    kept: &LineRecord,
-    header: &Header,
-    target: &Target,
-    failed: bool,
-    resp: u8,
-) -> bool
-    ensures { (past : Trace) (p i : ℕ) (last : Bool) (word : ℕ) → IsNext header.now past (R p i resp last word) target.now kept.now
-        → IsFailure header.now past target.now failed → result ≡ k18_line header.now past (R p i resp last word) }
-{
-    may_transfer(kept, header, target, failed, resp)
 }

@@ -4,8 +4,8 @@ ghost use Rattle.std.specs.Prelude.{◌≡◌, Some};
 ghost use Rattle.ace_lineck.specs.Grants.{fresh_grant};
 
 use crate::LineCheck;
-use crate::granting::takes_grant;
-use crate::heard::fresh;
+use crate::grant::fresh;
+use crate::kinds::takes_grant;
 use crate::record::LineRecord;
 use ace_model::Transaction;
 

@@ -1,11 +1,9 @@
 //! The records of all lines.
 
 use crate::hints::Hints;
-use crate::judge::judge;
-use crate::record::{LineRecord, NoMemory, empty_record, new_records, take_record};
-use crate::step::advance;
-use ace_event::{Channel, Event, Header, Line};
-use ace_portck::{EventKind, Target};
+use crate::record::{LineRecord, empty_record, new_records, take_record};
+use ace_event::{Channel, Header, Line};
+use ace_io::NoMemory;
 use indexmap::IndexMap;
 use std::alloc::Global;
 
@@ -16,7 +14,7 @@ pub struct LineCheck {
     alloc: Global,
     pub(crate) lines: IndexMap<u32, LineRecord>,
     /// How many lines a transaction has named.
-    known: usize,
+    pub(crate) known: usize,
     /// What is kept of every other line.
     empty: LineRecord,
     /// Records of lines to come.
@@ -26,17 +24,14 @@ pub struct LineCheck {
 }
 
 impl LineCheck {
-    ghost use Rattle.std.specs.Prelude.{◌≡◌, ◌≤◌, ◌∷◌, ℕ, true, [], length, Option, Some, option_map, IfOk, IsOk, OnOk, OnErr};
+    ghost use Rattle.std.specs.Prelude.{◌≡◌, ◌≤◌, ℕ, true, [], length, Option, Some, option_map, IfOk, IsOk, OnOk, OnErr};
     ghost use Rattle.ace_event.specs.Ports.{IsHeader};
-    ghost use Rattle.ace_model.specs.Accepted.{least_of};
-    ghost use Rattle.ace_model.specs.AddressRules.{k1};
     ghost use Rattle.ace_model.specs.Copies.{memory_of};
     ghost use Rattle.ace_model.specs.Grants.{granted};
-    ghost use Rattle.ace_model.specs.Shares.{line_rules};
     ghost use Rattle.ace_model.specs.Trace.{Trace};
     ghost use Rattle.ace_model.specs.Lines.{is_known, known_lines};
-    ghost use Rattle.ace_portck.specs.Targets.{Recording, after};
-    ghost use Rattle.ace_lineck.specs.Stands.{Stands, MayTest, MayApply, MayMakeRoom, HasRecord, HasRoom, IsAbsent, IsKnown, IsRoomy, BeginsLine, place_on, record_on};
+    ghost use Rattle.ace_portck.specs.Targets.{Recording};
+    ghost use Rattle.ace_lineck.specs.Stands.{Stands, HasRecord, IsAbsent, IsKnown, IsRoomy, place_on, record_on};
     ghost use Rattle.ace_lineck.specs.Records.{name_of};
 
     /// The checker of the empty trace under the header.
@@ -54,7 +49,7 @@ impl LineCheck {
         }
     }
 
-    /// The same, with room for so many lines: as long as no more are known, `ready` makes room for any event but a MEM.
+    /// The same, with room for so many lines: as long as no more are known, `make_record` makes room for any.
     pub fn with_room(alloc: Global, header: Header, lines: usize) -> Result<LineCheck, NoMemory>
         ensures stands { IfOk result (λ s. IsHeader header → Stands s (record { header = header; past = [] })) }
         ensures room { IfOk result (IsRoomy lines []) }
@@ -133,39 +128,30 @@ impl LineCheck {
         }
     }
 
-    /// The least rule of the share that the event breaks, if it breaks one and keeps K1. `place` is that of its line, and `failed`
-    /// says whether the granted transaction of its line is an exclusive store that failed.
-    pub fn test<E: EventKind>(
-        &self,
-        event: &E,
-        target: &Target,
-        place: Option<usize>,
-        failed: bool,
-    ) -> Option<u8>
-        ensures { (r : Recording) → MayTest self.now r (E.event event.now) target.now place failed → k1 r.header r.past (E.event event.now) ≡ true
-            → result ≡ least_of line_rules r.header r.past (E.event event.now) }
-    {
-        judge(self.record(place), event, target, &self.header, failed)
-    }
-
-    /// Makes a record of the line, if there is a line without one. The place of its record from then on.
-    fn make_room(
+    /// Makes a record of the line, if it has none. The place of its record from then on.
+    #[inline(always)]
+    pub fn make_record(
         &mut self,
-        line: Option<u32>,
+        line: u32,
         place: Option<usize>,
     ) -> Result<Option<usize>, NoMemory>
-        ensures stands { (r : Recording) → Stands self.old r → place ≡ place_on self.old line → Stands self.new r }
-        ensures room { place ≡ place_on self.old line → IfOk result (λ q. q ≡ place_on self.new line) }
-        ensures made { place ≡ place_on self.old line → OnOk result (HasRecord self.new line) }
-        ensures cause { place ≡ place_on self.old line → OnErr result (IsAbsent self.old line) }
-        ensures roomy { (n : ℕ) (past : Trace) → IsRoomy n past self.old → place ≡ place_on self.old line → IsKnown past line → IsRoomy n past self.new }
-        ensures refused { OnErr result ((n : ℕ) (past : Trace) → IsRoomy n past self.old → IsRoomy n past self.new) }
-        ensures succeeds { (n : ℕ) (past : Trace) → IsRoomy n past self.old → place ≡ place_on self.old line → IsKnown past line
+        ensures stands { (r : Recording) → Stands self.old r
+            → place ≡ place_on self.old (Some line) → Stands self.new r }
+        ensures room { place ≡ place_on self.old (Some line)
+            → IfOk result (λ q. q ≡ place_on self.new (Some line)) }
+        ensures made { place ≡ place_on self.old (Some line)
+            → OnOk result (HasRecord self.new (Some line)) }
+        ensures cause { place ≡ place_on self.old (Some line)
+            → OnErr result (IsAbsent self.old (Some line)) }
+        ensures roomy { (n : ℕ) (past : Trace) → IsRoomy n past self.old
+            → place ≡ place_on self.old (Some line) → IsKnown past (Some line)
+            → IsRoomy n past self.new }
+        ensures refused { OnErr result ((n : ℕ) (past : Trace)
+            → IsRoomy n past self.old → IsRoomy n past self.new) }
+        ensures succeeds { (n : ℕ) (past : Trace) → IsRoomy n past self.old
+            → place ≡ place_on self.old (Some line) → IsKnown past (Some line)
             → length (known_lines past) ≤ n → IsOk result }
     {
-        let Some(line) = line else {
-            return Ok(place);
-        };
         if place.is_some() {
             return Ok(place);
         }
@@ -179,76 +165,6 @@ impl LineCheck {
                 Ok(made)
             }
             Err(_) => Err(NoMemory),
-        }
-    }
-
-    /// Makes room for what the event leaves: a record of its line, if a line begins with it. The place of its line from then on.
-    /// There is no memory for it only where the event is a MEM, or an AR or AW of a line that no transaction has named.
-    pub fn ready<E: EventKind>(
-        &mut self,
-        event: &E,
-        target: &Target,
-        place: Option<usize>,
-    ) -> Result<Option<usize>, NoMemory>
-        ensures stands { (r : Recording) → Stands self.old r → place ≡ place_on self.old target.now.line → Stands self.new r }
-        ensures room { place ≡ place_on self.old target.now.line → IfOk result (λ q. HasRoom self.new (E.event event.now) target.now q) }
-        ensures cause { place ≡ place_on self.old target.now.line
-            → OnErr result ((r : Recording) → Stands self.old r → BeginsLine r.past (E.event event.now) target.now) }
-        ensures roomy { (n : ℕ) (r : Recording) → MayMakeRoom n self.old r (E.event event.now) target.now place
-            → IsRoomy n (E.event event.now ∷ r.past) self.new }
-        ensures refused { OnErr result ((n : ℕ) (past : Trace) → IsRoomy n past self.old → IsRoomy n past self.new) }
-        ensures succeeds { (n : ℕ) (r : Recording) → MayMakeRoom n self.old r (E.event event.now) target.now place
-            → length (known_lines (E.event event.now ∷ r.past)) ≤ n → IsOk result }
-    {
-        self.ready_for(&event.event(), target, place)
-    }
-
-    /// The same, of an event whose kind isn't known.
-    #[inline(always)]
-    fn ready_for(
-        &mut self,
-        event: &Event,
-        target: &Target,
-        place: Option<usize>,
-    ) -> Result<Option<usize>, NoMemory>
-        ensures stands { (r : Recording) → Stands self.old r → place ≡ place_on self.old target.now.line → Stands self.new r }
-        ensures room { place ≡ place_on self.old target.now.line → IfOk result (λ q. HasRoom self.new event.now target.now q) }
-        ensures cause { place ≡ place_on self.old target.now.line → OnErr result ((r : Recording) → Stands self.old r → BeginsLine r.past event.now target.now) }
-        ensures roomy { (n : ℕ) (r : Recording) → MayMakeRoom n self.old r event.now target.now place → IsRoomy n (event.now ∷ r.past) self.new }
-        ensures refused { OnErr result ((n : ℕ) (past : Trace) → IsRoomy n past self.old → IsRoomy n past self.new) }
-        ensures succeeds { (n : ℕ) (r : Recording) → MayMakeRoom n self.old r event.now target.now place
-            → length (known_lines (event.now ∷ r.past)) ≤ n → IsOk result }
-    {
-        match *event {
-            Event::Ar { .. } => self.make_room(target.line, place),
-            Event::Aw { .. } => self.make_room(target.line, place),
-            Event::Mem { .. } => self.make_room(target.line, place),
-            _ => Ok(place),
-        }
-    }
-
-    /// Takes an event that breaks no rule. The room for it was made, and `place` is that of its line.
-    pub fn apply<E: EventKind>(&mut self, event: &E, target: &Target, place: Option<usize>)
-        ensures stands { (r : Recording) → MayApply self.old r (E.event event.now) target.now place → Stands self.new (after r (E.event event.now)) }
-        ensures roomy { (n : ℕ) (past : Trace) → IsRoomy n past self.old → IsRoomy n past self.new }
-    {
-        self.hear(&event.event(), target, place);
-    }
-
-    /// The same, of an event whose kind isn't known.
-    #[inline(always)]
-    fn hear(&mut self, event: &Event, target: &Target, place: Option<usize>)
-        ensures stands { (r : Recording) → MayApply self.old r event.now target.now place → Stands self.new (after r event.now) }
-        ensures roomy { (n : ℕ) (past : Trace) → IsRoomy n past self.old → IsRoomy n past self.new }
-    {
-        let Some(place) = place else {
-            return;
-        };
-        let Some(kept) = self.lines.get_index_mut(place) else {
-            return;
-        };
-        if advance(kept, event, target, &self.header) {
-            self.known = self.known.wrapping_add(1);
         }
     }
 

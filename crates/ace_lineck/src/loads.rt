@@ -1,11 +1,39 @@
 //! The least rule of those that look at one line that an L breaks.
 
+ghost use Rattle.std.specs.Prelude.{◌≡◌, ℕ, Bool};
+ghost use Rattle.ace_event.specs.declared.event.Event.TheVariants.{L};
+ghost use Rattle.ace_event.specs.declared.header.Header.{Header};
+ghost use Rattle.ace_model.specs.CacheRules.{k30, k31};
+ghost use Rattle.ace_model.specs.Trace.{Trace};
+ghost use Rattle.ace_portck.specs.Target.{Target};
+ghost use Rattle.ace_lineck.specs.Records.{IsNext};
+
 use crate::LineCheck;
-use crate::rules::{keeps_hold, keeps_load};
+use crate::record::LineRecord;
+use ace_tables::is_invalid;
+
+/// K30, of an L.
+#[inline(always)]
+fn keeps_hold(kept: &LineRecord, port: u8) -> bool
+    ensures { (h : Header) (past : Trace) (addr w : ℕ) (x : Bool) (word : ℕ) (t : Target)
+        → IsNext h past (L port addr w x word) t kept.now
+        → result ≡ k30 h past (L port addr w x word) }
+{
+    !is_invalid(kept.state(port))
+}
+
+/// K31, of an L.
+#[inline(always)]
+fn keeps_load(kept: &LineRecord, port: u8, w: u8, word: u128) -> bool
+    ensures { (h : Header) (past : Trace) (addr : ℕ) (x : Bool) (t : Target)
+        → IsNext h past (L port addr w x word) t kept.now
+        → result ≡ k31 h past (L port addr w x word) }
+{
+    word == kept.copied_word(port, w)
+}
 
 impl LineCheck {
-    ghost use Rattle.std.specs.Prelude.{◌≡◌, Bool, true};
-    ghost use Rattle.ace_event.specs.declared.event.Event.TheVariants.{L};
+    ghost use Rattle.std.specs.Prelude.{true};
     ghost use Rattle.ace_model.specs.Accepted.{least_of};
     ghost use Rattle.ace_model.specs.AddressRules.{k1};
     ghost use Rattle.ace_model.specs.Shares.{line_rules};

@@ -6,8 +6,8 @@ use crate::memory_writes::{passed_kept, written_kept};
 use crate::replies::{can_take, is_shared_under, must_be_shared, reply_kept};
 use ace_event::Line;
 use ace_model::Transaction;
+use ace_model::kinds::{read_kind, write_kind};
 use ace_portck::WriteData;
-use ace_portck::kinds::{read_kind, write_kind};
 
 impl LineCheck {
     ghost use Rattle.std.specs.Prelude.{◌≡◌, ◌&&◌, ℕ, true, not, Some};

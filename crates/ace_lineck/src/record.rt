@@ -13,13 +13,8 @@ use crate::grant::Grant;
 use crate::states::state_at;
 use ace_codes::LineState;
 use ace_event::{Channel, Line};
+use ace_io::NoMemory;
 use std::alloc::Global;
-use thiserror::Error;
-
-/// There is no memory for what is kept of one more line.
-#[derive(Clone, Copy, Debug, PartialEq, Eq, Error)]
-#[error("out of memory")]
-pub struct NoMemory;
 
 /// How the transactions of a line use it.
 #[derive(Clone, Copy, Debug, PartialEq, Eq)]

@@ -1,12 +1,23 @@
 //! An S: the least rule of those that look at one line that it breaks, and what it leaves of what is kept of its line.
 
+ghost use Rattle.std.specs.Prelude.{◌≡◌, ◌&&◌, not};
+ghost use Rattle.ace_tables.specs.SilentTransitions.{is_silent_move};
+
 use crate::LineCheck;
-use crate::rules::may_move;
 use crate::states::set_state;
 use ace_codes::LineState;
+use ace_tables::silent_ok;
+
+/// A silent transition from the held state to the next, which drops no memory update of the port.
+#[inline(always)]
+fn may_move(held: LineState, next: LineState, drops: bool) -> bool
+    ensures { result ≡ (is_silent_move held next && not drops) }
+{
+    silent_ok(held, next) && !drops
+}
 
 impl LineCheck {
-    ghost use Rattle.std.specs.Prelude.{◌≡◌, ◌<◌, ◌-◌, ◌^◌, ◌&&◌, ℕ, None, Some, length};
+    ghost use Rattle.std.specs.Prelude.{◌<◌, ◌-◌, ◌^◌, ℕ, None, Some, length};
     ghost use Rattle.ace_event.specs.declared.event.Event.TheVariants.{S};
     ghost use Rattle.ace_tables.specs.States.{is_invalid};
     ghost use Rattle.ace_model.specs.Accepted.{least_broken, least_of};

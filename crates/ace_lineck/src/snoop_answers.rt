@@ -1,25 +1,24 @@
 //! A CR: the least rule of the share that it breaks, and what it leaves of the line of its snoop.
 
-ghost use Rattle.std.specs.Prelude.{◌≡◌, ◌∷◌, ℕ, List, true, length};
+ghost use Rattle.std.specs.Prelude.{◌≡◌, ◌∷◌, ℕ, List, Option, true, length};
 ghost use Rattle.ace_codes.specs.declared.state.LineState.{LineState};
-ghost use Rattle.ace_event.specs.declared.event.Event.TheVariants.{Cr as Answer};
+ghost use Rattle.ace_event.specs.declared.event.Event.TheVariants.{Cr};
 ghost use Rattle.ace_event.specs.declared.header.Header.{Header};
 ghost use Rattle.ace_event.specs.declared.line.Line.{Line};
 ghost use Rattle.ace_tables.specs.Answers.{is_snoop_row};
 ghost use Rattle.ace_model.specs.Trace.{Trace, implies};
-ghost use Rattle.ace_portck.specs.declared.target.Target.{Target};
+ghost use Rattle.ace_portck.specs.Target.{Target};
 ghost use Rattle.ace_lineck.specs.declared.record.Holder.{Holder};
 ghost use Rattle.ace_lineck.specs.Grants.{GrantStands, IsGrantStep};
-ghost use Rattle.ace_lineck.specs.Holders.{holder_at};
+ghost use Rattle.ace_lineck.specs.Holders.{HolderStands, IsHolderStep, holder_at};
 ghost use Rattle.ace_lineck.specs.Records.{IsRecordStep, LineStands};
 
+use crate::LineCheck;
 use crate::grant::Grant;
-use crate::record::LineRecord;
+use crate::record::{Holder, LineRecord};
 use crate::states::set_state;
-use crate::{LineCheck, holders};
-use ace_codes::{LineState, SnoopKind};
+use ace_codes::{LineState, SnoopKind, transfers_data};
 use ace_event::Line;
-use ace_portck::event_kinds::Cr;
 use ace_tables::is_snoop_row;
 
 /// The answer goes with a memory update of the port, where one is outstanding: it is a row of the snoop with an update.
@@ -41,9 +40,9 @@ fn goes_beside_update(
 fn hear_in_grant(grant: &mut Option<Grant>, port: u8, resp: u8, copy: &Line)
     ensures { (h : Header) (past : Trace) (l : ℕ) (st : LineState) (t : Target)
         (xs : List Holder) (memory : Line)
-        → IsGrantStep h past l (Answer port resp st) t grant.old xs memory
+        → IsGrantStep h past l (Cr port resp st) t grant.old xs memory
         → copy.now ≡ (holder_at xs port).copy
-        → GrantStands h (Answer port resp st ∷ past) l grant.new }
+        → GrantStands h (Cr port resp st ∷ past) l grant.new }
 {
     match grant {
         None => {}
@@ -51,25 +50,33 @@ fn hear_in_grant(grant: &mut Option<Grant>, port: u8, resp: u8, copy: &Line)
     }
 }
 
+/// What is kept of a port, after its answer to a snoop of the line.
+#[inline(always)]
+fn hear_in_holder(holder: &mut Holder, resp: u8)
+    ensures { (h : Header) (past : Trace) (p q l : ℕ) (st : LineState) (t : Target)
+        (whole : Option Line)
+        → IsHolderStep h past p l (Cr q resp st) t whole holder.old
+        → HolderStands (Cr q resp st ∷ past) p l holder.new }
+{
+    if transfers_data(resp) {
+        holder.sent = holder.copy;
+    }
+}
+
 /// What is kept of the line, after the answer of the port to a snoop of the line.
 #[inline(always)]
-fn hear_in_record(kept: &mut LineRecord, answer: &Cr)
+fn hear_in_record(kept: &mut LineRecord, port: u8, resp: u8, st: LineState)
     ensures stands { (h : Header) (past : Trace) (l : ℕ) (t : Target)
-        → IsRecordStep h past l (Answer answer.now.port answer.now.resp answer.now.st) t kept.old
-        → LineStands h (Answer answer.now.port answer.now.resp answer.now.st ∷ past) l kept.new }
+        → IsRecordStep h past l (Cr port resp st) t kept.old
+        → LineStands h (Cr port resp st ∷ past) l kept.new }
     ensures room { length kept.new.holders.items ≡ length kept.old.holders.items }
     ensures used { kept.new.used ≡ kept.old.used }
 {
-    set_state(&mut kept.states, answer.port, answer.st);
-    let port = answer.port as usize;
-    if port < kept.holders.len() {
-        hear_in_grant(
-            &mut kept.grant,
-            answer.port,
-            answer.resp,
-            &kept.holders[port].copy,
-        );
-        holders::hear_answer(&mut kept.holders[port], answer.resp);
+    set_state(&mut kept.states, port, st);
+    let own = port as usize;
+    if own < kept.holders.len() {
+        hear_in_grant(&mut kept.grant, port, resp, &kept.holders[own].copy);
+        hear_in_holder(&mut kept.holders[own], resp);
     }
 }
 
@@ -102,7 +109,7 @@ impl LineCheck {
         ensures { (r : Recording) (x : Snoop) → Stands self.now r
             → IsAnswered r.past port x kind → place ≡ place_on self.now (line_of_snoop (Some x))
             → (snoops_a_line x.snoop ≡ true → update ≡ has_update r.header r.past port x.addr)
-            → result ≡ least_of line_rules r.header r.past (Answer port resp st) }
+            → result ≡ least_of line_rules r.header r.past (Cr port resp st) }
     {
         let held = self.record(place).state(port);
         if !is_snoop_row(kind, held, false, resp, st) {
@@ -117,13 +124,13 @@ impl LineCheck {
 
     /// Takes a CR that breaks no rule. `place` is that of the line of the snoop that it answers.
     #[inline(always)]
-    pub fn hear_snoop_answer(&mut self, answer: &Cr, place: Option<usize>)
+    pub fn hear_snoop_answer(&mut self, port: u8, resp: u8, st: LineState, place: Option<usize>)
         ensures stands { (r : Recording) (x : Snoop) (k : Kind) → Stands self.old r
-            → IsAnswered r.past answer.now.port x k
+            → IsAnswered r.past port x k
             → place ≡ place_on self.old (line_of_snoop (Some x))
-            → least_broken r.header r.past (Answer answer.now.port answer.now.resp answer.now.st)
-            ≡ None → length r.past < 2 ^ 64 - 1
-            → Stands self.new (after r (Answer answer.now.port answer.now.resp answer.now.st)) }
+            → least_broken r.header r.past (Cr port resp st) ≡ None
+            → length r.past < 2 ^ 64 - 1
+            → Stands self.new (after r (Cr port resp st)) }
         ensures roomy { (n : ℕ) (past : Trace) → IsRoomy n past self.old → IsRoomy n past self.new }
     {
         let Some(place) = place else {
@@ -132,6 +139,6 @@ impl LineCheck {
         let Some(kept) = self.lines.get_index_mut(place) else {
             return;
         };
-        hear_in_record(kept, answer);
+        hear_in_record(kept, port, resp, st);
     }
 }

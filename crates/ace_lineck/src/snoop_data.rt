@@ -6,7 +6,7 @@ ghost use Rattle.ace_event.specs.declared.header.Header.{Header};
 ghost use Rattle.ace_event.specs.declared.line.Line.{Line};
 ghost use Rattle.ace_model.specs.Copies.{word_of};
 ghost use Rattle.ace_model.specs.Trace.{Trace};
-ghost use Rattle.ace_portck.specs.declared.target.Target.{Target};
+ghost use Rattle.ace_portck.specs.Target.{Target};
 ghost use Rattle.ace_lineck.specs.declared.record.Holder.{Holder};
 ghost use Rattle.ace_lineck.specs.Grants.{GrantStands, IsGrantStep};
 ghost use Rattle.ace_lineck.specs.Holders.{holder_at};

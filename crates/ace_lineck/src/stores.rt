@@ -1,23 +1,32 @@
 //! A D: the least rule of those that look at one line that it breaks, and what it leaves of what is kept of its line.
 
-ghost use Rattle.std.specs.Prelude.{◌≡◌, ℕ, Bool, ◌∷◌, None, length};
+ghost use Rattle.std.specs.Prelude.{◌≡◌, ◌==◌, ◌&&◌, not, ℕ, Bool, ◌∷◌, None, length};
 ghost use Rattle.ace_event.specs.Bytes.{merged};
 ghost use Rattle.ace_event.specs.declared.event.Event.TheVariants.{D};
 ghost use Rattle.ace_event.specs.declared.header.Header.{Header};
 ghost use Rattle.ace_event.specs.declared.line.Line.{Line};
 ghost use Rattle.ace_model.specs.Trace.{Trace, is_some_and};
-ghost use Rattle.ace_portck.specs.declared.target.Target.{Target};
+ghost use Rattle.ace_model.specs.Values.{full_line};
+ghost use Rattle.ace_portck.specs.Target.{Target};
 ghost use Rattle.ace_lineck.specs.Holders.{HoldersStand, IsHoldersStep, awaits_store};
 ghost use Rattle.ace_lineck.specs.States.{IsStatesStep, StatesStand};
 
 use crate::LineCheck;
+use crate::kinds::is_make_unique;
 use crate::record::Holder;
-use crate::rules::is_own_store;
 use crate::states::set_state;
 use ace_codes::LineState;
 use ace_event::{Line, merge};
 use ace_portck::Progress;
 use ace_tables::is_unique;
+
+/// The store is the one of the MakeUnique, which is complete and has had none: a store of the whole line with x 0.
+#[inline(always)]
+fn is_own_store(own: &Progress, strobe: u64, x: bool) -> bool
+    ensures { result ≡ ((awaits_store own.now && not own.now.stored) && not x && (strobe == full_line)) }
+{
+    is_make_unique(&own.transaction) && own.complete && !own.stored && !x && strobe == u64::MAX
+}
 
 /// The states in which the ports have the line, after the D: it is unique and dirty at its port, unless it is the store of a MakeUnique.
 #[inline(always)]

@@ -2,7 +2,7 @@
 
 use crate::LineCheck;
 use ace_model::Transaction;
-use ace_portck::kinds::updates_memory;
+use ace_model::kinds::updates_memory;
 
 impl LineCheck {
     ghost use Rattle.std.specs.Prelude.{◌≡◌, ℕ, Bool, true, Some};

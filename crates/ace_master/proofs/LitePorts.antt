@@ -15,7 +15,7 @@ use Rattle.ace_model.specs.Transactions.{is_ace, is_outstanding, issued, write_k
 use Rattle.ace_model.proofs.General.Options.{is_none_or-at, is_some_and-is}
 use Rattle.ace_model.proofs.Rules.Keeps.{accepted_keeps}
 use Rattle.ace_model.proofs.Trace.Growth.{some_issued-is}
-use Rattle.ace_runs.proofs.NeverStuck.IssuedTransactions.{issued-by-rule}
+use Rattle.ace_model.proofs.Trace.IssuedTransactions.{issued-by-rule}
 
 some-none : {A : Type 0} (o : Option A) (test : A → Bool) → is_some_and o test ≡ true → is_none_or o test ≡ true
 some-none None test t = refl

@@ -32,8 +32,8 @@ use ace_codes::{ArKind, LineState, is_shared, low_bits, passes_dirty};
 use ace_engine::Burst;
 use ace_event::{Channel, Event};
 use ace_master_state::{Cached, Kept};
+use ace_model::kinds::{is_line, is_make_unique, read_kind, write_kind};
 use ace_model::{Op, Transaction};
-use ace_portck::kinds::{is_line, is_make_unique, read_kind, write_kind};
 use ace_portck::{OnePort, Progress};
 use ace_tables::{StateSet, end_read, end_write};
 

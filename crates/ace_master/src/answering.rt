@@ -23,9 +23,9 @@ use ace_codes::{LineState, SnoopKind, read_ac, transfers_data};
 use ace_engine::Burst;
 use ace_event::{Event, Line};
 use ace_master_state::Cached;
+use ace_model::kinds::updates_memory;
 use ace_policy::Policy;
 use ace_portck::OnePort;
-use ace_portck::kinds::updates_memory;
 use ace_tables::{Row, snoop_rows};
 
 /// What the answer to a snoop goes by.

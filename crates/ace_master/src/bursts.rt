@@ -24,8 +24,8 @@ use ace_codes::{ArKind, AwKind, LineState};
 use ace_event::{Channel, Event};
 use ace_master_state::{Cached, Completions, Request, request_of};
 use ace_model::Op;
+use ace_model::kinds::{gives_up, is_unique_write};
 use ace_portck::OnePort;
-use ace_portck::kinds::{gives_up, is_unique_write};
 use ace_tables::is_dirty;
 
 /// The port has no outstanding write that may not be beside one of the kind (Arm IHI 0022E, C4).

@@ -19,7 +19,7 @@ use ace_codes::AwKind;
 use ace_engine::Burst;
 use ace_master_state::Cached;
 use ace_model::Transaction;
-use ace_portck::kinds::write_kind;
+use ace_model::kinds::write_kind;
 use ace_portck::{OnePort, WriteData};
 
 /// The write carries the data of the operation for which it was issued.

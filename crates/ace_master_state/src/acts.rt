@@ -6,8 +6,8 @@ ghost use Rattle.ace_runs.specs.Acts.{is_act, is_act_read, is_act_transaction, i
 use ace_codes::{ArKind, AwKind};
 use ace_event::Event;
 use ace_model::Transaction;
+use ace_model::kinds::{read_kind, write_kind};
 use ace_portck::issued;
-use ace_portck::kinds::{read_kind, write_kind};
 
 /// A read of this kind is an act.
 fn is_act_read(kind: ArKind) -> bool

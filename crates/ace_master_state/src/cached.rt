@@ -22,7 +22,7 @@ use ace_event::laws::every_event_fits;
 use ace_event::{Channel, Event, Line};
 use ace_io::NoMemory;
 use ace_model::Transaction;
-use ace_portck::kinds::read_kind;
+use ace_model::kinds::read_kind;
 use ace_portck::{OnePort, is_at};
 use std::alloc::Global;
 

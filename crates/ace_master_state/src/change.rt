@@ -15,8 +15,8 @@ use crate::arriving::Arriving;
 use ace_cache::LineCache;
 use ace_codes::LineState;
 use ace_event::{Channel, Event, Line};
+use ace_model::kinds::{is_line, snoops_a_line};
 use ace_model::{Snoop, Transaction};
-use ace_portck::kinds::{is_line, snoops_a_line};
 use ace_portck::{OnePort, Progress, issued};
 use ace_tables::is_invalid;
 

@@ -18,7 +18,7 @@ ghost use Rattle.ace_master_state.specs.Completions.{CompletionsStand};
 use ace_codes::{ArKind, SnoopKind, read_ac};
 use ace_event::Event;
 use ace_model::Snoop;
-use ace_portck::kinds::read_kind;
+use ace_model::kinds::read_kind;
 use ace_portck::{OnePort, is_at, issued};
 
 /// How many Syncs of other ports a port has answered, and how many DVM Completes it has issued (Arm IHI 0022E, C12).

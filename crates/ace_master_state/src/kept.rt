@@ -11,12 +11,9 @@ ghost use Rattle.ace_master_state.specs.Kept.{KeptStands};
 use crate::{Cached, Completions, Monitor, Segment, Syncs};
 use ace_event::Event;
 use ace_io::NoMemory;
-use ace_model::PlanView;
+use ace_model::{MOST_SNOOPS, PlanView};
 use ace_portck::OnePort;
 use std::alloc::Global;
-
-/// The most snoops that a port can have in a run.
-const SNOOPS: usize = 24576;
 
 /// What the master of an ACE port keeps of the trace of a run.
 #[derive(Drop)]
@@ -47,7 +44,7 @@ impl Kept {
     {
         let lines = Cached::new(alloc, plan.ways())?;
         let segment = Segment::new(alloc, port)?;
-        let Ok(of_port) = OnePort::new(alloc, plan.header(), port, SNOOPS) else {
+        let Ok(of_port) = OnePort::new(alloc, plan.header(), port, MOST_SNOOPS) else {
             return Err(NoMemory);
         };
         Ok(Kept {

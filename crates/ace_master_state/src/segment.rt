@@ -14,7 +14,7 @@ use ace_codes::ArKind;
 use ace_event::Event;
 use ace_io::NoMemory;
 use ace_model::Transaction;
-use ace_portck::kinds::read_kind;
+use ace_model::kinds::read_kind;
 use ace_portck::{is_at, issued};
 use std::alloc::Global;
 

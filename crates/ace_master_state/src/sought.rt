@@ -17,7 +17,7 @@ use crate::acts::is_act_transaction;
 use ace_codes::{ArKind, AwKind, ar_code, aw_code};
 use ace_event::Channel;
 use ace_model::Transaction;
-use ace_portck::kinds::{is_on, updates_memory};
+use ace_model::kinds::{is_on, updates_memory};
 
 /// What is looked for.
 #[derive(Clone, Copy, Debug, PartialEq, Eq)]

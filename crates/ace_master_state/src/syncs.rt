@@ -15,7 +15,7 @@ use crate::completions::{has_second, is_sync_word, unless};
 use ace_codes::{ArKind, SnoopKind, read_ac};
 use ace_event::Event;
 use ace_model::Snoop;
-use ace_portck::kinds::read_kind;
+use ace_model::kinds::read_kind;
 use ace_portck::{OnePort, is_at, issued};
 
 /// Whether the last Sync of a port has had its AC DVM Complete, and whether the port has answered it (Arm IHI 0022E, C12).

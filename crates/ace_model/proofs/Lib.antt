@@ -16,3 +16,5 @@ pub mod Coherence
 pub mod Lines
 pub mod GrowingPlans
 pub mod Report
+-- Which transactions are halves of barriers, by their bars.
+pub mod BarrierBars

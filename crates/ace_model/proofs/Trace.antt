@@ -54,3 +54,5 @@ pub mod Opening
 pub mod WriteQueue
 -- The writes with data that have had no M (K24).
 pub mod UnwrittenWrites
+-- What the rules say of each transaction that was issued (K1 to K3).
+pub mod IssuedTransactions

@@ -140,14 +140,6 @@ abbrev pub is_make_invalid : ArKind → Bool
 is_make_invalid read.MakeInvalid = true
 is_make_invalid _ = false
 
-abbrev pub is_read_unique : ArKind → Bool
-is_read_unique read.ReadUnique = true
-is_read_unique _ = false
-
-abbrev pub is_read_unique_snoop : SnoopKind → Bool
-is_read_unique_snoop snoop.ReadUnique = true
-is_read_unique_snoop _ = false
-
 abbrev pub is_read_not_shared_dirty : ArKind → Bool
 is_read_not_shared_dirty read.ReadNotSharedDirty = true
 is_read_not_shared_dirty _ = false

@@ -42,7 +42,7 @@ use Rattle.ace_runs.proofs.NeverStuck.Barriers.EachIssued.{each-from}
 use Rattle.ace_runs.proofs.NeverStuck.Barriers.Halves.{half-dataless, half-reads}
 use Rattle.ace_runs.proofs.NeverStuck.Barriers.OpenPairs.{IsOpen, pair-is}
 use Rattle.ace_runs.proofs.NeverStuck.Barriers.Together.{half-in}
-use Rattle.ace_runs.proofs.NeverStuck.IssuedTransactions.{issuer-low}
+use Rattle.ace_model.proofs.Trace.IssuedTransactions.{issuer-low}
 use Rattle.ace_runs.proofs.NeverStuck.Reads.PlainTransfers.{half-there, reads-half}
 use Rattle.ace_runs.proofs.NeverStuck.Reads.TransfersKept.{implied_by}
 use Rattle.ace_runs.proofs.NeverStuck.Steps.SameBursts.{burst-self}
@@ -83,7 +83,7 @@ module _ (h : Header) (past : Trace) (p : ℕ) (b : Pair) (w : IsWaiting h past 
   read-issued : IsIssued past b.read
   read-issued = (half-in past p Read w.number b.read first).0
 
-  read-half : is_barrier_half b.read ≡ true
+  pub read-half : is_barrier_half b.read ≡ true
   read-half = (half-in past p Read w.number b.read first).1
 
   read-port : b.read.port ≡ p

@@ -1,6 +1,6 @@
 -- The R of a read without a line: where it breaks no rule, the read isn't complete; and where the read isn't complete, the rules of the system
 -- decide alone.
-use Rattle.std.proofs.Common.{◌≡◌, ℕ, Bool, true, false, if◌then◌else◌, ◌∷◌, Option, Some, None, is_none, nat_lt, refl, sym, subst, ◌∙◌, inl, inr, arith}
+use Rattle.std.proofs.Common.{◌≡◌, ℕ, Bool, true, false, if◌then◌else◌, ◌∷◌, Option, Some, None, is_none, is_some, not, nat_lt, refl, sym, subst, ◌∙◌, inl, inr, arith}
 use Rattle.std.proofs.lemmas.Bool.{and_from, and_parts, cases_Bool, false_from_ne_true, ltb-true}
 use Rattle.ace_codes.specs.declared.kind.ArKind.{ArKind}
 use Rattle.ace_codes.specs.declared.kind.ArKind.TheVariants as read
@@ -29,7 +29,7 @@ use Rattle.ace_model.proofs.Values.FullReads.{done_read}
 use Rattle.ace_runs.specs.Bursts.{is_kept}
 use Rattle.ace_runs.specs.OrderSteps.{plain_transfer}
 use Rattle.ace_runs.proofs.Accepting.{kept-breaks-none}
-use Rattle.ace_runs.proofs.NeverStuck.IssuedTransactions.{issuer-low}
+use Rattle.ace_model.proofs.Trace.IssuedTransactions.{issuer-low}
 use Rattle.ace_runs.proofs.NeverStuck.Reads.PlainReads.{plain-kept}
 
 -- An outstanding read of a kind without a line.
@@ -50,6 +50,12 @@ one-beat k none = cc
 pub nothing-broken : (o : Option ℕ) → is_none o ≡ true → o ≡ None
 nothing-broken None t = refl
 nothing-broken (Some n) t = cc
+
+pub none-where : (o : Option ℕ) (b : Bool) → is_some o ≡ not b → b ≡ is_none o
+none-where None true e = refl
+none-where None false e = cc
+none-where (Some x) true e = cc
+none-where (Some x) false e = refl
 
 three-keep : (a b c : Bool) → a ≡ true → b ≡ true → c ≡ true → is_none {T = ℕ} (if a then (if b then (if c then None else Some 37) else Some 34) else Some 21) ≡ true
 three-keep a b c s t u = rw (s, t, u) refl

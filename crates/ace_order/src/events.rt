@@ -9,7 +9,7 @@ ghost use Rattle.ace_order.specs.Messages.{forwarding};
 use ace_codes::{ArKind, SnoopKind, ac_code};
 use ace_event::Event;
 use ace_model::Transaction;
-use ace_portck::kinds::read_kind;
+use ace_model::kinds::read_kind;
 
 /// A part of a DVM message, or a DVM Complete.
 pub fn is_dvm(read: &Transaction) -> bool
@@ -19,6 +19,13 @@ pub fn is_dvm(read: &Transaction) -> bool
         read_kind(read),
         Some(ArKind::DvmMessage | ArKind::DvmComplete)
     )
+}
+
+/// A part of a DVM message.
+pub fn is_message_part(read: &Transaction) -> bool
+    ensures { result ≡ is_message_part read.now }
+{
+    matches!(read_kind(read), Some(ArKind::DvmMessage))
 }
 
 /// The one transfer of a read without a line.

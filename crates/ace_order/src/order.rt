@@ -4,12 +4,13 @@ ghost use Rattle.std.specs.Prelude.{◌≡◌, ◌<◌, ◌≤◌, ◌∷◌, �
 ghost use Rattle.ace_event.specs.declared.event.Channel.TheVariants.{Read};
 ghost use Rattle.ace_model.specs.declared.transactions.Transaction.{Transaction};
 ghost use Rattle.ace_model.specs.Accepted.{least_of};
-ghost use Rattle.ace_model.specs.AddressRules.{k1};
+ghost use Rattle.ace_model.specs.Barriers.{is_barrier_half};
 ghost use Rattle.ace_model.specs.Plans.{IsRight, Plan};
 ghost use Rattle.ace_model.specs.Shares.{system_rules};
 ghost use Rattle.ace_model.specs.Trace.{Trace};
+ghost use Rattle.ace_model.specs.Transactions.{outstanding};
 ghost use Rattle.ace_runs.specs.Bursts.{may_begin, may_serve, onto};
-ghost use Rattle.ace_runs.specs.OrderSteps.{barrier_burst, dvm_burst, may_forward, may_give_completion};
+ghost use Rattle.ace_runs.specs.OrderSteps.{barrier_burst, dvm_burst, may_forward, may_give_completion, plain_transfer};
 ghost use Rattle.ace_engine.specs.Engines.{IsLegal};
 ghost use Rattle.ace_portck.specs.Pending.{pending_of};
 ghost use Rattle.ace_portck.specs.Targets.{progress_of};
@@ -19,21 +20,18 @@ ghost use Rattle.ace_sysck.specs.Barriers.{pair_in};
 ghost use Rattle.ace_order.specs.Messages.{forwards_to, is_next_for, next_for};
 ghost use Rattle.ace_order.specs.Order.{IsAnswerable, IsCurrent, IsForwardable, IsRespondable, IsTurn, OrderStands};
 
-use crate::events::{forwarding, is_dvm, plain_transfer, response, sync_completion};
+use crate::events::{
+    forwarding, is_dvm, is_message_part, plain_transfer, response, sync_completion,
+};
+use ace_codes::SnoopKind;
 use ace_engine::{Burst, Engine};
 use ace_event::{Event, Header};
 use ace_io::NoMemory;
-use ace_model::{PlanView, Transaction};
-use ace_portck::kinds::is_ace;
+use ace_model::kinds::is_ace;
+use ace_model::{MOST_LINES, MOST_SNOOPS, PlanView, Transaction};
 use ace_portck::{PortCheck, Progress};
 use ace_sysck::{Message, OpenPair, SysCheck};
 use std::alloc::Global;
-
-/// The most snoops that a plan can have at one port.
-const SNOOPS: usize = 24576;
-
-/// The most lines that the transactions of a plan can name.
-const LINES: usize = 4096;
 
 /// The engine of barriers and DVM. It answers both halves of a barrier at once, when what is before the barrier has come far enough; it
 /// forwards each DVM message as a whole, to all ports for which it is the next; it responds to a part of a message once every port has
@@ -56,10 +54,10 @@ impl Order {
         ensures { IfOk result (λ s. OrderStands s plan.now.plan []) }
     {
         let header = plan.header();
-        let Ok(ports) = PortCheck::with_room(alloc, header, SNOOPS) else {
+        let Ok(ports) = PortCheck::with_room(alloc, header, MOST_SNOOPS) else {
             return Err(NoMemory);
         };
-        let Ok(system) = SysCheck::with_room(alloc, header, LINES) else {
+        let Ok(system) = SysCheck::with_room(alloc, header, MOST_LINES) else {
             return Err(NoMemory);
         };
         Ok(Order {
@@ -73,10 +71,8 @@ impl Order {
     fn note(&mut self, event: &Event)
         ensures { (plan : Plan) (past : Trace) → IsCurrent self.old plan past → IsLegal plan (event.now ∷ past) → IsCurrent self.new plan (event.now ∷ past) }
     {
-        let target = self.ports.target(event);
-        let _ready = self.system.ready(event, &target);
-        self.system.apply(event, &target);
-        self.ports.apply(event);
+        self.system.hear(&self.ports, event);
+        self.ports.hear(event);
     }
 
     /// Hears the event, and puts it in the burst, if that isn't full.
@@ -90,13 +86,32 @@ impl Order {
         }
     }
 
-    /// The event, which is of a port that may have it, breaks no rule of the system.
-    fn keeps(&self, event: &Event) -> bool
-        ensures { (plan : Plan) (past : Trace) → IsCurrent self.now plan past → k1 plan.header past event.now ≡ true
-            → result ≡ is_none (least_of system_rules plan.header past event.now) }
+    /// The half of a barrier, which is outstanding, may have its R.
+    fn lets_answer(&self, half: &Transaction) -> bool
+        ensures { (plan : Plan) (past : Trace) → IsCurrent self.now plan past
+            → outstanding plan.header past half.now.port Read half.now.id ≡ Some half.now
+            → is_barrier_half half.now ≡ true
+            → result ≡ is_none (least_of system_rules plan.header past (plain_transfer half.now)) }
     {
-        let target = self.ports.target(event);
-        self.system.test(event, &target).is_none()
+        let unordered = self.ports.first_unordered(half.port);
+        let incomplete = self.ports.first_incomplete(half.port);
+        self.system
+            .rule_of_half_r(half, 0, unordered, incomplete)
+            .is_none()
+    }
+
+    /// The part of a message, or DVM Complete, which is outstanding, may have its R.
+    fn lets_respond(&self, read: &Transaction) -> bool
+        ensures { (plan : Plan) (past : Trace) → IsCurrent self.now plan past
+            → outstanding plan.header past read.now.port Read read.now.id ≡ Some read.now
+            → is_barrier_half read.now ≡ false
+            → result ≡ is_none (least_of system_rules plan.header past (plain_transfer read.now)) }
+    {
+        if is_message_part(read) {
+            self.system.rule_of_message_r(read, 0).is_none()
+        } else {
+            self.system.rule_of_r(read, 0).is_none()
+        }
     }
 
     /// The barrier pair of the port that may have its R and B.
@@ -108,7 +123,7 @@ impl Order {
         let Some(pair) = self.system.open_pair(port) else {
             return None;
         };
-        if self.keeps(&plain_transfer(&pair.read)) {
+        if self.lets_answer(&pair.read) {
             Some(pair)
         } else {
             None
@@ -193,7 +208,7 @@ impl Order {
             → result ≡ may_begin plan.header past (dvm_burst plan.header past y) }
     {
         let read = &x.transaction;
-        is_dvm(read) && !x.complete && self.keeps(&plain_transfer(read))
+        is_dvm(read) && !x.complete && self.lets_respond(read)
     }
 
     /// The first part of a message or DVM Complete of the port that may have its R.
@@ -223,7 +238,11 @@ impl Order {
     fn may_complete(&self, port: u8) -> bool
         ensures { (plan : Plan) (past : Trace) → OrderStands self.now plan past → result ≡ may_give_completion plan.header past port }
     {
-        is_ace(&self.header, port) && self.keeps(&sync_completion(port))
+        is_ace(&self.header, port)
+            && self
+                .system
+                .rule_of_ac(port, 0, SnoopKind::DvmComplete)
+                .is_none()
     }
 
     /// Puts the AC that completes the port's Sync, where it may have it.

@@ -12,7 +12,7 @@ use Rattle.ace_model.specs.declared.transactions.Transaction.{Transaction}
 use Rattle.ace_model.specs.Trace.{Trace, port_of, is_some_and, more}
 use Rattle.ace_model.specs.Accepted.{IsAccepted}
 use Rattle.ace_model.specs.Progress.{transactions}
-use Rattle.ace_model.specs.Transactions.{is_ace, same_channel, is_transaction, issued, ended, outstanding, is_outstanding, acknowledgements, completed}
+use Rattle.ace_model.specs.Transactions.{is_ace, same_channel, is_transaction, issued, ended, is_outstanding, acknowledgements, completed}
 use Rattle.ace_model.proofs.General.Options.{Some-injective}
 use Rattle.ace_model.proofs.Trace.Growth.{IsIssued}
 use Rattle.ace_model.proofs.Trace.LineOnce.{outstanding_is}
@@ -33,10 +33,6 @@ use Rattle.ace_portck.proofs.Ending.{ends_is, waiting-after}
 -- whether a transaction stays
 abbrev stays : Option ℕ → Progress → Bool
 stays gone v = not (is_some_and gone (λ i. nat_eq v.transaction.id i))
-
--- a transaction that is outstanding is at its name
-pending-out : (h : Header) (past : Trace) (p : ℕ) (c : Channel) (x : Transaction) → IsIssued past x → is_pending h past p c x ≡ true → outstanding h past x.port x.chan x.id ≡ Some x
-pending-out h past p c x i t = outstanding_is h past x i (and_parts _ (is_outstanding h past x) t).1
 
 -- the port of an event is that of the transaction that it issues
 pub issued-port : (n : ℕ) (e : Event) (p : ℕ) (y : Transaction) → issued n e ≡ Some y → port_of e ≡ Some p → y.port ≡ p

@@ -15,8 +15,15 @@ pub mod Kept
 pub mod AllPorts
 pub mod Rooms
 pub mod LineMaps
-pub mod BarrierBars
 -- A port's own transaction on a line (K5), and what the rules ask of it.
 pub mod Own
--- What the short ways of the checker ask and leave.
-pub mod ShortWays
+-- What the transactions are, by their kinds.
+pub mod LineReads
+pub mod DvmReads
+pub mod ReadAddresses
+pub mod LineWrites
+pub mod WriteAddresses
+pub mod BarrierAddresses
+pub mod BarrierResponses
+-- What the rules ask of an RK and a WK, by the transaction that it belongs to.
+pub mod Acknowledges

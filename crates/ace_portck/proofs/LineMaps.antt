@@ -1,9 +1,8 @@
 -- Maps by lines that have room for the lines that the transactions of a trace name.
 use Rattle.std.proofs.Common.{◌≡◌, ℕ, ◌+◌, ◌≤◌, ◌<◌, true, false, ◌||◌, nat_eq, [], ◌∷◌, length, Option, Some, None, is_some, IsSome, refl, sym, ap, subst, ◌∙◌, inl, inr, arith, List}
 use Rattle.std.specs.Cmp.{nat_eq_equiv}
-use Rattle.std.specs.HashMap.{HashMap, get, hash_map_len, keys, spare, IsEmpty, IsUnique}
+use Rattle.std.specs.HashMap.{HashMap, get, hash_map_len, keys, spare, IsUnique}
 use Rattle.std.specs.List.{list_any, AllByRecursion}
-use Rattle.std.specs.Map.{lookup}
 use Rattle.std.proofs.lemmas.Bool.{cases_Bool, cases_eq, eqb-true, or_cases}
 use Rattle.std.proofs.lemmas.Map.Entries.{length-keys_of}
 use Rattle.std.proofs.lemmas.Map.Keys.{IsDistinct-cons}
@@ -43,14 +42,6 @@ known-listed (e ∷ past) q = by (known-listed past q) (issued (length past) e)
               | inl t ↦ rw t (ap (is_known past) (sym (eqb-true l q t)) ∙ old)
             ]
 
--- as the trace grows, no fewer lines are known
-pub known-more : (e : Event) (past : Trace) → length (known_lines past) ≤ length (known_lines (e ∷ past))
-known-more e past = by (issued (length past) e)
-  where
-    by : (o : Option Transaction) → length (known_lines past) ≤ length (add_line past o (known_lines past))
-    by None = omega arith
-    by (Some x) = elim (cases_Bool (names_new_line past x)) [ inl t ↦ rw t (omega arith) | inr f ↦ rw f (omega arith) ]
-
 none-is-it : (l : ℕ) (ks : List ℕ) → list_any (nat_eq l) ks ≡ false → AllByRecursion (λ k. nat_eq l k ≡ false) ks
 none-is-it l [] none = tt
 none-is-it l (k ∷ ks) none =
@@ -60,14 +51,6 @@ none-is-it l (k ∷ ks) none =
     ]
 
 module _ {X S : Type 0} where
-  -- a map without lines
-  pub room-at-first : (lines : ℕ) (m : HashMap ℕ X S) → IsEmpty m → lines ≤ spare m → IsUnique nat_eq m → HasRoomForLines lines [] m
-  room-at-first lines m empty room unique = record {
-    places = omega (arith, room);
-    known = λ l there. let none : get nat_eq m l ≡ None = ap (lookup (nat_eq l)) empty in let bad : false ≡ true = sym (ap is_some none) ∙ there in cc;
-    unique = unique;
-  }
-
   -- it keeps its room as the trace grows
   pub room-stays : (lines : ℕ) (e : Event) (past : Trace) (m : HashMap ℕ X S) → HasRoomForLines lines past m → HasRoomForLines lines (e ∷ past) m
   room-stays lines e past m room = record { places = room.places; known = λ l there. known-grown e past l (room.known l there); unique = room.unique }

@@ -3,14 +3,11 @@ use Rattle.std.proofs.Common.{◌≡◌, ◌⊎◌, ℕ, true, false, Bool, not,
 use Rattle.std.proofs.lemmas.Bool.{and_parts, and_from, cases_Bool, eqb-true, eq-eqb, false_from_ne_true, or_left}
 use Rattle.ace_codes.specs.declared.kind.ArKind.TheVariants as read
 use Rattle.ace_model.specs.declared.transactions.Transaction.{Transaction}
-use Rattle.ace_model.specs.States.{owes_wack, awaits_wack}
-use Rattle.ace_model.proofs.Terms.{ArKind, Header, Trace, Channel, IsAccepted, is_some_and, is_read, is_line, is_on, is_make_unique, is_make_unique_on, is_line_read, is_line_write, read_kind, write_kind, issued, outstanding, is_outstanding, is_outstanding_on, has_outstanding_on, is_complete, some_issued}
+use Rattle.ace_model.proofs.Terms.{ArKind, Header, Trace, IsAccepted, is_some_and, is_line, is_on, is_make_unique, is_make_unique_on, is_line_read, is_line_write, read_kind, write_kind, issued, outstanding, is_outstanding, is_outstanding_on, has_outstanding_on, is_complete, some_issued}
 use Rattle.ace_model.proofs.Terms.{updates_memory, is_update_on, has_update, has_store, awaits_store, is_in_make_unique, wants_store}
 use Rattle.ace_model.proofs.General.Options.{Some-injective, some_or-cases, is_some_and-is}
-use Rattle.ace_model.proofs.Trace.Growth.{IsIssued, issued-new, issued-old, named-issued, some_issued-is, some_issued-found}
-use Rattle.ace_model.proofs.Trace.Issued.{outstanding-named, outstanding-name}
+use Rattle.ace_model.proofs.Trace.Growth.{IsIssued, issued-new, issued-old, some_issued-is, some_issued-found}
 use Rattle.ace_model.proofs.Trace.LineOnce.{one_on_line, outstanding_is}
-use Rattle.ace_model.proofs.Trace.Outstanding.{outstanding_own}
 use Rattle.ace_portck.specs.Targets.{last_issued, own_of}
 
 last_issued-cases : (o : Option Transaction) (older : Option Transaction) (test : Transaction → Bool) (x : Transaction)
@@ -80,11 +77,6 @@ module _ (h : Header) (past : Trace) (a : IsAccepted h past) (p l : ℕ) where
           let some = some_issued-found past (is_outstanding_on h past p l) x.place x s.issued_one.there (own-on x s) in cc
       by (Some y) is = is ∙ ap Some (one-own y x (own-is y is) s)
 
-  pub own-outstanding : (c : Channel) (i : ℕ) (x : Transaction) → outstanding h past p c i ≡ Some x → is_on x l ≡ true → own_of h past p l ≡ Some x
-  own-outstanding c i x o on =
-      let name = outstanding-name h past p c i x o in
-      own-found x (record { issued_one = named-issued past p c i x (outstanding-named h past p c i x o); out = outstanding_own h past p c i x o; port = name.port; on = on })
-
   -- a test that asks for an outstanding transaction of the port on the line
   pub some-own : (test own_test : Transaction → Bool) → ((x : Transaction) → test x ≡ true → is_outstanding_on h past p l x ≡ true)
       → ((x : Transaction) → Owns x → test x ≡ own_test x) → some_issued past test ≡ is_some_and (own_of h past p l) own_test
@@ -153,13 +145,6 @@ module _ (h : Header) (past : Trace) (a : IsAccepted h past) (p l : ℕ) where
     where
       is_out : (x : Transaction) → Owns h past a p l x → is_outstanding h past x ≡ true
       is_out x s = let out = s.out in rw out (eq-eqb x.place x.place refl)
-
-  -- a write with B
-  pub owes_wack-own : owes_wack h past p l ≡ is_some_and (own_of h past p l) (λ x. not (is_read x.chan) && is_complete past x.port x.chan x.id)
-  owes_wack-own =
-      some-own h past a p l (awaits_wack h past p l) (λ x. not (is_read x.chan) && is_complete past x.port x.chan x.id)
-      (λ x t. (and_parts (is_outstanding_on h past p l x) (not (is_read x.chan)) (and_parts (is_outstanding_on h past p l x && not (is_read x.chan)) (is_complete past x.port x.chan x.id) t).0).0)
-      (λ x s. let on = own-on h past a p l x s in rw on refl)
 
   -- a MakeUnique that is complete, and whose store is the next of the port to the line
   awaits-on : (x : Transaction) → awaits_store h past p l x ≡ true → is_outstanding_on h past p l x ≡ true

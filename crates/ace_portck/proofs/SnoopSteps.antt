@@ -1,5 +1,5 @@
 -- The queues of the snoops of a port after an event.
-use Rattle.std.proofs.Common.{◌≡◌, ◌⊎◌, zero, suc, if◌then◌else◌, ◌≤◌, ◌<◌, ◌+◌, ◌-◌, ◌*◌, ◌/◌, ℕ, true, false, Bool, ◌&&◌, nat_eq, List, [], ◌∷◌, ◌++◌, length, drop, Option, Some, None, is_some, slice_get, option_map, refl, sym, ap, subst, ◌∙◌, inl, inr, arith, length-append, length-drop}
+use Rattle.std.proofs.Common.{◌≡◌, zero, suc, if◌then◌else◌, ◌≤◌, ◌<◌, ◌+◌, ◌-◌, ◌*◌, ◌/◌, ℕ, true, false, Bool, ◌&&◌, nat_eq, List, [], ◌∷◌, ◌++◌, length, drop, Option, Some, None, is_some, slice_get, option_map, refl, sym, ap, subst, ◌∙◌, inl, inr, arith, length-append, length-drop}
 use Rattle.std.proofs.lemmas.Bool.{cases_Bool, eq-eqb}
 use Rattle.std.proofs.lemmas.List.{drop-append-le, drop-drop}
 use Rattle.std.proofs.lemmas.Option.{slice_get_within}
@@ -11,19 +11,18 @@ use Rattle.ace_event.specs.declared.event.Event.TheVariants.{Ac, Cr, Cd}
 use Rattle.ace_event.specs.declared.header.Header.{Header}
 use Rattle.ace_model.specs.declared.snoops.Snoop.{Snoop}
 use Rattle.ace_model.specs.Shares.{k17_burst}
-use Rattle.ace_model.specs.Trace.{Trace, is_some_and, more, port_of}
+use Rattle.ace_model.specs.Trace.{Trace, is_some_and, more}
 use Rattle.ace_tables.specs.Answers.{same_test}
-use mathlib.Core.Bool.{beq}
 use Rattle.ace_model.specs.Accepted.{IsAccepted}
 use Rattle.ace_model.specs.Copies.{copy_of}
 use Rattle.ace_model.specs.Replies.{next_sent, next_sent_beat, sent, sent_at}
 use Rattle.ace_model.specs.Snoops.{answered, answers, data_beats, snoops_of}
 use Rattle.ace_model.proofs.General.Lists.{slice_get-drop}
-use Rattle.ace_model.proofs.General.Options.{Some-injective, is_some_and-is}
+use Rattle.ace_model.proofs.General.Options.{is_some_and-is}
 use Rattle.ace_model.proofs.Rules.Keeps.{accepted_keeps}
 use Rattle.ace_portck.specs.Snoops.{QueuesStand}
 use Rattle.ace_portck.specs.Targets.{data_snoops, data_snoop_at, sending}
-use Rattle.ace_portck.specs.Unfinished.{unfinished, most_unfinished, RisesAt}
+use Rattle.ace_portck.specs.Unfinished.{unfinished, most_unfinished}
 
 -- events that the queues of a port care about
 abbrev pub moves_snoops : Event → ℕ → Bool
@@ -100,54 +99,9 @@ module _ (past : Trace) (p : ℕ) (ws ss : List Snoop) (b wr sr : ℕ) (s : Queu
       after_event past e p ws ss b wr sr (rw (a, o) s.waiting_is) (rw (n, d) s.sending_is) (rw n s.beats_are) (rw (a, o) s.answers_within) (rw (n, d) s.beats_within)
       s.waiting_fit s.sending_fit fits.0 fits.1
 
-  -- more room
-  pub roomier : (wr' sr' : ℕ) → wr ≤ wr' → sr ≤ sr' → QueuesStand past p ws ss b wr' sr'
-  roomier wr' sr' w' s' = record {
-    waiting_is = s.waiting_is;
-    sending_is = s.sending_is;
-    beats_are = s.beats_are;
-    answers_within = s.answers_within;
-    beats_within = s.beats_within;
-    waiting_fit = let wf = s.waiting_fit in omega (arith, wf, w');
-    sending_fit = let sf = s.sending_fit in omega (arith, sf, s');
-  }
-
-  -- where a queue is full, an AC takes the snoops under way above all that were
-  pub rises : (addr snoop : ℕ) → (wr < length ws + length ss + 1) ⊎ (sr < length ws + length ss + 1) → RisesAt past (Ac p addr snoop)
-  rises addr snoop full =
-      let own = eq-eqb p p (refl {a = p}) in
-      let new : Snoop = record { place = length past; addr = addr; snoop = snoop } in
-      let long : length (snoops_of past p ++ new ∷ []) ≡ length (snoops_of past p) + 1 = length-append (snoops_of past p) (new ∷ []) in
-      let within = s.answers_within in
-      let n = under_way in
-      let m = unfinished-most past p in
-      let wf = s.waiting_fit in
-      let sf = s.sending_fit in
-      let full' : most_unfinished past p < length ws + length ss + 1 = elim full [ inl w ↦ omega (arith, wf, w) | inr t ↦ omega (arith, sf, t) ] in
-      rw own (omega (arith, n, full', long, within))
-
-  -- a new snoop waits for its answer
-  pub snoops_ac : (addr snoop : ℕ) → length ws + length ss < wr → length ws + length ss < sr
-      → QueuesStand (Ac p addr snoop ∷ past) p (ws ++ (record { place = length past; addr = addr; snoop = snoop }) ∷ []) ss b wr sr
-  snoops_ac addr snoop lw ls =
-      let own = eq-eqb p p (refl {a = p}) in
-      let new : Snoop = record { place = length past; addr = addr; snoop = snoop } in
-      let o : snoops_of (Ac p addr snoop ∷ past) p ≡ snoops_of past p ++ new ∷ [] = rw own refl in
-      let long : length (snoops_of past p ++ new ∷ []) ≡ length (snoops_of past p) + 1 = length-append (snoops_of past p) (new ∷ []) in
-      let more' : length (ws ++ new ∷ []) ≡ length ws + 1 = length-append ws (new ∷ []) in
-      let within = s.answers_within in
-      after_event past (Ac p addr snoop) p (ws ++ new ∷ []) ss b wr sr
-      (ap (λ v. v ++ new ∷ []) s.waiting_is ∙ sym (drop-append-le (answers past p) (snoops_of past p) (new ∷ []) within) ∙ ap (drop (answers past p)) (sym o))
-      s.sending_is s.beats_are (subst (λ v. answers past p ≤ length v) (sym o) (omega (arith, long, within))) s.beats_within s.waiting_fit s.sending_fit
-      (omega (arith, more', lw)) (omega (arith, more', ls))
-
   -- the first of the queue is the snoop that a CR answers
   pub answered-is : slice_get ws 0 ≡ answered past p
   answered-is = ap (λ v. slice_get v 0) s.waiting_is ∙ slice_get-drop (snoops_of past p) (answers past p) 0 (answers past p) (omega arith)
-
-  -- the first of the other is the snoop that a CD sends data for
-  pub sending-is : slice_get ss 0 ≡ sending past p
-  sending-is = ap (λ v. slice_get v 0) s.sending_is ∙ slice_get-drop (data_snoops past p) (data_beats past p / 4) 0 (data_beats past p / 4) (omega arith)
 
   module _ (resp : ℕ) (st : LineState) (x : Snoop) (front : slice_get ws 0 ≡ Some x) where
     answers-more : answers (Cr p resp st ∷ past) p ≡ answers past p + 1
@@ -288,18 +242,9 @@ other_kind (Cr q resp st) p ac cr cd = absurd (cr q resp st refl)
 other_kind (Cd q last word) p ac cr cd = absurd (cd q last word refl)
 other_kind _ p ac cr cd = refl
 
-pub beq-same : (a b : Bool) → beq a b ≡ same_test a b
-beq-same true true = refl
-beq-same true false = refl
-beq-same false true = refl
-beq-same false false = refl
-
 -- what K17 but its data asks of a CD
-pub cd-burst : (h : Header) (past : Trace) (p : ℕ) (e : Event) (q : ℕ) (last : Bool) (word : ℕ) → e ≡ Cd q last word → port_of e ≡ Some p
-    → k17_burst h past e ≡ (is_some (sending past p) && same_test last (nat_eq (next_sent_beat past p) 3))
-cd-burst h past p e q last word is at =
-    let port : q ≡ p = Some-injective q p (sym (ap port_of is) ∙ at) in
-    let here : e ≡ Cd p last word = is ∙ ap (λ v. Cd v last word) port in
-    ap (k17_burst h past) here
-    ∙ some_and-same (next_sent past p) (same_test last (nat_eq (next_sent_beat past p) 3))
+pub cd-burst : (h : Header) (past : Trace) (p : ℕ) (last : Bool) (word : ℕ)
+    → k17_burst h past (Cd p last word) ≡ (is_some (sending past p) && same_test last (nat_eq (next_sent_beat past p) 3))
+cd-burst h past p last word =
+    some_and-same (next_sent past p) (same_test last (nat_eq (next_sent_beat past p) 3))
     ∙ ap (λ v. v && same_test last (nat_eq (next_sent_beat past p) 3)) (sent-sending past p)

@@ -1,17 +1,8 @@
 -- The reads of DVM.
-use Rattle.std.specs.Prelude.{ℕ, Bool, not, ◌&&◌, ◌||◌}
+use Rattle.std.specs.Prelude.{ℕ, Bool, not, ◌&&◌}
 use Rattle.ace_codes.specs.Reads.{ar_kind_of}
-use Rattle.ace_codes.specs.declared.kind.ArKind.{ArKind}
 use Rattle.ace_model.specs.Kinds.{is_dvm_complete, is_dvm_message}
 use Rattle.ace_model.specs.Trace.{is_some_and}
-
--- a DVM Message or a DVM Complete
-abbrev pub is_dvm_read : ArKind → Bool
-is_dvm_read k = is_dvm_message k || is_dvm_complete k
-
--- the fields are those of the AR of a DVM read with lock 0
-abbrev pub is_dvm_address : ℕ → ℕ → ℕ → Bool → Bool
-is_dvm_address snoop dom bar lock = is_some_and (ar_kind_of snoop dom bar) is_dvm_read && not lock
 
 -- the fields are those of the AR of a DVM Message with lock 0
 abbrev pub is_message : ℕ → ℕ → ℕ → Bool → Bool

@@ -1,5 +1,5 @@
+pub mod Target
 pub mod Targets
-pub mod TargetsByKind
 pub mod Unfinished
 pub mod Heard
 pub mod Pending
@@ -12,11 +12,9 @@ pub mod Port
 pub mod OnePort
 pub mod Stands
 pub mod LineMaps
-pub mod Plain
+pub mod Reads
 pub mod DvmReads
-pub mod LinelessReads
 pub mod BarrierAddresses
-pub mod PlainWriteAddresses
 pub mod SnoopAnswers
-pub mod WriteEnds
+pub mod LineWrites
 pub mod Acknowledges

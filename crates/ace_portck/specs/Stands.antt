@@ -8,13 +8,12 @@ use Rattle.ace_model.specs.Accepted.{IsAccepted, least_broken}
 use Rattle.ace_model.specs.Trace.{Trace, port_of}
 use Rattle.ace_portck.specs.declared.port.PortRecord.{PortRecord}
 use Rattle.ace_portck.specs.declared.ports.PortCheck.{PortCheck}
-use Rattle.ace_portck.specs.declared.target.Target.{Target}
 use Rattle.ace_portck.specs.Opening.{OpeningStands}
 use Rattle.ace_portck.specs.Pending.{HasByteId}
 use Rattle.ace_portck.specs.Port as port
 use Rattle.ace_portck.specs.Port.{PortStands}
 use Rattle.ace_portck.specs.Snoops as snoops
-use Rattle.ace_portck.specs.Targets.{Recording, target_of}
+use Rattle.ace_portck.specs.Targets.{Recording}
 
 -- the record of port p; a port that isn't there has the other one
 abbrev pub record_at : List PortRecord → PortRecord → ℕ → PortRecord
@@ -49,11 +48,6 @@ pub record Stands (s : PortCheck) (r : Recording) : Type 0 where
 -- there is room for the event
 abbrev pub HasRoom : PortCheck → Event → Type 0
 HasRoom s e = (p : ℕ) (k : PortRecord) → port_of e ≡ Some p → slice_get s.ports.items p ≡ Some k → port.HasRoom k e
-
--- the event may be looked at, as the next of the recording, with its target
-pub record MayTest (s : PortCheck) (r : Recording) (e : Event) (t : Target) : Type 0 where
-  pub stands : Stands s r
-  pub target : t ≡ target_of r.header r.past e
 
 -- the event may be the next of the recording: it keeps the rules, and there is room for it
 pub record MayApply (s : PortCheck) (r : Recording) (e : Event) : Type 0 where

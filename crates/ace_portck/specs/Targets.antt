@@ -20,7 +20,7 @@ use Rattle.ace_model.specs.Values.{burst_strobe, burst_line}
 use Rattle.ace_model.specs.Barriers.{is_barrier_half}
 use Rattle.ace_portck.specs.declared.target.Progress.{Progress}
 use Rattle.ace_portck.specs.declared.target.WriteData.{WriteData}
-use Rattle.ace_portck.specs.declared.target.Target.{Target}
+use Rattle.ace_portck.specs.Target.{Target}
 
 -- A trace under its header, as far as it was recorded: the newest event first.
 pub record Recording : Type 0 where

@@ -5,21 +5,21 @@ ghost use Rattle.ace_model.specs.AddressRules.{may_issue_read, may_issue_write};
 ghost use Rattle.ace_model.specs.Kinds.{may_be_exclusive};
 ghost use Rattle.ace_model.specs.Trace.{implies};
 ghost use Rattle.ace_model.specs.Transactions.{is_ace};
-ghost use Rattle.ace_portck.specs.PlainWriteAddresses.{plain_write_kind};
+ghost use Rattle.ace_portck.specs.LineWrites.{line_write_kind};
 
 use crate::PortCheck;
-use crate::kinds::{
-    is_ace, is_line_read, is_line_write, is_lite_read, is_lite_write, may_be_exclusive,
-};
 use crate::ports::record_of;
 use crate::rules::{has_port, is_line_address};
 use ace_codes::{ArKind, AwKind, read_aw};
 use ace_event::{Channel, Header};
+use ace_model::kinds::{
+    is_ace, is_line_read, is_line_write, is_lite_read, is_lite_write, may_be_exclusive,
+};
 
 /// The kind of a line write, by the fields of its AW.
 #[inline(always)]
-pub fn plain_write_kind(snoop: u8, dom: u8, bar: u8) -> Option<AwKind>
-    ensures { result ≡ plain_write_kind snoop dom bar }
+pub fn line_write_kind(snoop: u8, dom: u8, bar: u8) -> Option<AwKind>
+    ensures { result ≡ line_write_kind snoop dom bar }
 {
     match read_aw(snoop, dom, bar) {
         Some(kind) if is_line_write(kind) => Some(kind),

@@ -1,10 +1,10 @@
 //! The least rule of those that look at one port that an S, L or D breaks, and what else such an event asks of its port.
 
 use crate::PortCheck;
-use crate::event_kinds::S;
 use crate::ports::record_of;
 use crate::rules::{has_ace_port, is_line_address};
 use crate::target::Progress;
+use ace_codes::LineState;
 use ace_tables::is_invalid;
 
 impl PortCheck {
@@ -75,12 +75,13 @@ impl PortCheck {
             .own_on(line)
     }
 
-    /// The S leaves its port without the line, while a memory update of the port on the line is outstanding.
+    /// An S to this state leaves its port without the line, while a memory update of the port on
+    /// the line is outstanding.
     #[inline(always)]
-    pub fn drops_update(&self, change: &S) -> bool
+    pub fn drops_update(&self, port: u8, addr: u32, st: LineState) -> bool
         ensures { (r : Recording) → Stands self.now r
-            → result ≡ (is_invalid change.now.st && has_update r.header r.past change.now.port change.now.addr) }
+            → result ≡ (is_invalid st && has_update r.header r.past port addr) }
     {
-        is_invalid(change.st) && self.has_update(change.port, change.addr)
+        is_invalid(st) && self.has_update(port, addr)
     }
 }

@@ -14,12 +14,12 @@ ghost use Rattle.ace_portck.specs.OnePort.{IsRoomy, MayHear, OnePortStands, port
 ghost use Rattle.ace_portck.specs.Pending.{pending_of};
 ghost use Rattle.ace_portck.specs.Targets.{own_of, progress_of};
 
-use crate::NoMemory;
 use crate::port::PortRecord;
 use crate::ports::has_byte_id;
 use crate::rules::is_at;
 use crate::target::Progress;
 use ace_event::{Channel, Event, Header};
+use ace_io::NoMemory;
 use ace_model::{Snoop, Transaction};
 use std::alloc::Global;
 

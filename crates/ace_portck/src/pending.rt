@@ -8,11 +8,11 @@ ghost use Rattle.ace_model.specs.Transactions.{issued, is_make_unique_on};
 ghost use Rattle.ace_portck.specs.Pending.{transferred, renewed, advanced, named_by, change_first, is_store, AreApart, is_acknowledge, completed_by, on_channel, without_id};
 ghost use Rattle.ace_portck.specs.Targets.{begun};
 
-use crate::NoMemory;
-use crate::kinds::{is_ace, is_make_unique, read_kind};
 use crate::target::Progress;
 use ace_event::{Channel, Event, Header};
+use ace_io::NoMemory;
 use ace_model::Transaction;
+use ace_model::kinds::{is_ace, is_make_unique, read_kind};
 use std::alloc::Global;
 use std::collections::VecDeque;
 
@@ -252,7 +252,10 @@ fn completed_by(event: &Event, chan: Channel) -> Option<u8>
 fn on_channel(chan: Channel, transaction: Option<Transaction>) -> Option<Transaction>
     ensures { result ≡ on_channel chan transaction }
 {
-    transaction.filter(|x| x.chan == chan)
+    match transaction {
+        Some(x) if x.chan == chan => Some(x),
+        _ => None,
+    }
 }
 
 /// The event is an RK, or a WK for the write channel.

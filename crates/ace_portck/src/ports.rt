@@ -2,24 +2,23 @@
 
 ghost use Rattle.std.specs.Prelude.{◌≡◌, ◌<◌, ℕ, [], ◌∷◌, None, Some, length, map, option_map, slice_get, IfOk, IsOk, OnOk, OnErr};
 ghost use Rattle.std.specs.List.{All, AllByRecursion};
+ghost use Rattle.ace_event.specs.declared.event.Event.TheVariants.{Ac};
 ghost use Rattle.ace_event.specs.declared.header.Header.{Header};
 ghost use Rattle.ace_model.specs.Trace.{Trace, port_of};
 ghost use Rattle.ace_portck.specs.Heard.{IsHeard};
 ghost use Rattle.ace_portck.specs.Pending.{HasByteId};
 ghost use Rattle.ace_portck.specs.Port.{HasRoom};
+ghost use Rattle.ace_portck.specs.Snoops.{HasRoomForOne};
 ghost use Rattle.ace_portck.specs.Stands.{AreRoomy, IsFresh, PortsStand, record_at};
-ghost use Rattle.ace_portck.specs.Targets.{target_of};
 ghost use Rattle.ace_portck.specs.Unfinished.{RisesAt};
 ghost use Rattle.ace_portck.specs.declared.port.PortRecord.{PortRecord};
 
-use crate::NoMemory;
-use crate::event_kinds::EventKind;
 use crate::opening::OpeningMemory;
 use crate::port::PortRecord;
-use crate::rules::{keeps_codes, keeps_port, port_of};
-use crate::target::{Progress, Target};
-use crate::targets::of_line;
+use crate::target::Progress;
 use ace_event::{Channel, Event, Header};
+use ace_io::NoMemory;
+use ace_model::port_of;
 use std::alloc::Global;
 
 /// What is kept of the ports of a trace, to tell what an event belongs to, and which rules about one port it breaks.
@@ -49,17 +48,6 @@ fn fresh_ports(alloc: Global, count: u8, snoops: usize) -> Result<Vec<PortRecord
         }
     }
     Ok(ports)
-}
-
-/// What a MEM belongs to, which names no port: its line.
-#[inline(always)]
-fn target_without_port(event: &Event) -> Target
-    ensures { (h : Header) (past : Trace) → port_of event.now ≡ None → result ≡ target_of h past event.now }
-{
-    match *event {
-        Event::Mem { addr, .. } => of_line(addr),
-        _ => of_line(0),
-    }
 }
 
 /// The identifiers of a program are bytes.
@@ -95,20 +83,24 @@ pub(crate) fn record_of<'a>(
     }
 }
 
-/// Makes room for the event in the record of its port, if there is such a port.
+/// Makes room for one more snoop in the record of the port, if there is such a port.
 #[inline(always)]
-fn make_room(ports: &mut Vec<PortRecord>, port: u8, event: &Event) -> Result<(), NoMemory>
+fn make_room(ports: &mut Vec<PortRecord>, port: u8) -> Result<(), NoMemory>
     ensures len { length ports.new.items ≡ length ports.old.items }
-    ensures stands { (h : Header) (past : Trace) (outside : PortRecord) → PortsStand h past ports.old.items outside
-        → PortsStand h past ports.new.items outside }
-    ensures room { OnOk result ((k : PortRecord) → slice_get ports.new.items port ≡ Some k → HasRoom k event.now) }
-    ensures cause { OnErr result ((h : Header) (past : Trace) (outside : PortRecord) → PortsStand h past ports.old.items outside
-        → port_of event.now ≡ Some port → RisesAt past event.now) }
-    ensures roomy { (snoops : ℕ) → AreRoomy snoops ports.old.items → AreRoomy snoops ports.new.items }
-    ensures succeeds { ((k : PortRecord) → slice_get ports.old.items port ≡ Some k → HasRoom k event.now) → IsOk result }
+    ensures stands { (h : Header) (past : Trace) (outside : PortRecord)
+        → PortsStand h past ports.old.items outside → PortsStand h past ports.new.items outside }
+    ensures room { OnOk result ((k : PortRecord) → slice_get ports.new.items port ≡ Some k
+        → HasRoomForOne k.snoops) }
+    ensures cause { OnErr result ((h : Header) (past : Trace) (outside : PortRecord)
+        (addr snoop : ℕ) → PortsStand h past ports.old.items outside
+        → RisesAt past (Ac port addr snoop)) }
+    ensures roomy { (snoops : ℕ) → AreRoomy snoops ports.old.items
+        → AreRoomy snoops ports.new.items }
+    ensures succeeds { ((k : PortRecord) → slice_get ports.old.items port ≡ Some k
+        → HasRoomForOne k.snoops) → IsOk result }
 {
     match ports.get_mut(usize::from(port)) {
-        Some(kept) => kept.ready(event),
+        Some(kept) => kept.make_snoop_room(),
         None => Ok(()),
     }
 }
@@ -129,14 +121,10 @@ fn hear_at(ports: &mut Vec<PortRecord>, header: &Header, port: u8, place: usize,
 }
 
 impl PortCheck {
-    ghost use Rattle.std.specs.Prelude.{true, drop};
-    ghost use Rattle.ace_model.specs.AddressRules.{k1};
     ghost use Rattle.ace_event.specs.Ports.{IsHeader};
     ghost use Rattle.std.specs.Option.{option_copied};
     ghost use Rattle.ace_model.specs.Transactions.{outstanding};
-    ghost use Rattle.ace_model.specs.Accepted.{least_of};
-    ghost use Rattle.ace_model.specs.Shares.{port_rules};
-    ghost use Rattle.ace_portck.specs.Stands.{Stands, HasRoom as HasRoomFor, IsRoomy, MayTest, MayApply};
+    ghost use Rattle.ace_portck.specs.Stands.{Stands, HasRoom as HasRoomFor, IsRoomy, MayApply};
     ghost use Rattle.ace_portck.specs.Targets.{Recording, after, progress_of};
     ghost use Rattle.ace_portck.specs.Pending.{pending_of};
     ghost use Rattle.ace_event.specs.declared.event.Channel.TheVariants.{Read, Write};
@@ -152,7 +140,8 @@ impl PortCheck {
         PortCheck::with_room(alloc, header, 0)
     }
 
-    /// The same, with room for so many snoops under way at each port. As long as no port has more, `apply` needs no `ready`.
+    /// The same, with room for so many snoops under way at each port. As long as no port has more,
+    /// `hear` needs no `make_snoop_room`.
     ///
     /// # Errors
     ///
@@ -170,28 +159,6 @@ impl PortCheck {
             ports,
             outside,
         })
-    }
-
-    /// What the event belongs to, as the next of the trace.
-    pub fn target<E: EventKind>(&self, event: &E) -> Target
-        ensures { (r : Recording) → Stands self.now r → result ≡ target_of r.header r.past (E.event event.now) }
-    {
-        self.target_of(&event.event())
-    }
-
-    /// The same, of an event whose kind isn't known.
-    #[inline(always)]
-    fn target_of(&self, event: &Event) -> Target
-        ensures { (r : Recording) → Stands self.now r → result ≡ target_of r.header r.past event.now }
-    {
-        match port_of(event) {
-            Some(port) => record_of(&self.ports, &self.outside, port).target(
-                &self.header,
-                self.count,
-                event,
-            ),
-            None => target_without_port(event),
-        }
     }
 
     /// The outstanding transaction of the port on the channel under the identifier, where it stands.
@@ -231,88 +198,29 @@ impl PortCheck {
             .writes()
     }
 
-    /// The least rule of those that look at one port that the event breaks, as the next of the trace. `target` is its target.
-    pub fn test<E: EventKind>(&self, event: &E, target: &Target) -> Option<u8>
-        ensures { (r : Recording) → MayTest self.now r (E.event event.now) target.now
-            → result ≡ least_of port_rules r.header r.past (E.event event.now) }
-    {
-        self.test_event(&event.event(), target)
-    }
-
-    /// The same, of an event whose kind isn't known.
-    #[inline(always)]
-    fn test_event(&self, event: &Event, target: &Target) -> Option<u8>
-        ensures { (r : Recording) → MayTest self.now r event.now target.now → result ≡ least_of port_rules r.header r.past event.now }
-    {
-        if !keeps_port(&self.header, event) {
-            return Some(1);
-        }
-        if !keeps_codes(&self.header, event) {
-            return Some(2);
-        }
-        if !self.opening.may_open(&self.header, event, self.count) {
-            return Some(3);
-        }
-        self.test_port(event, target)
-    }
-
-    /// The least of those from K4 on.
-    #[inline(always)]
-    fn test_port(&self, event: &Event, target: &Target) -> Option<u8>
-        ensures { (r : Recording) → MayTest self.now r event.now target.now → k1 r.header r.past event.now ≡ true
-            → result ≡ least_of (drop 3 port_rules) r.header r.past event.now }
-    {
-        match port_of(event) {
-            Some(port) => record_of(&self.ports, &self.outside, port).test(
-                &self.header,
-                event,
-                target,
-            ),
-            None => None,
-        }
-    }
-
-    /// Makes room for the event, so that `apply` takes no memory.
+    /// Makes room for the snoop of an AC of the port, so that `hear` takes no memory. Nothing is
+    /// needed for an event of any other kind.
     ///
     /// # Errors
     ///
-    /// `NoMemory` only at an AC with which its port has more snoops under way than at any point before.
-    pub fn ready<E: EventKind>(&mut self, event: &E) -> Result<(), NoMemory>
-        ensures stands { (r : Recording) → Stands self.old r → Stands self.new r }
-        ensures room { OnOk result (HasRoomFor self.new (E.event event.now)) }
-        ensures cause { OnErr result ((r : Recording) → Stands self.old r → RisesAt r.past (E.event event.now)) }
-        ensures roomy { (snoops : ℕ) → IsRoomy snoops self.old → IsRoomy snoops self.new }
-        ensures succeeds { HasRoomFor self.old (E.event event.now) → IsOk result }
-    {
-        self.ready_for(&event.event())
-    }
-
-    /// The same, of an event whose kind isn't known.
+    /// `NoMemory` only where the port has more snoops under way with this one than at any point
+    /// before.
     #[inline(always)]
-    fn ready_for(&mut self, event: &Event) -> Result<(), NoMemory>
+    pub fn make_snoop_room(&mut self, port: u8) -> Result<(), NoMemory>
         ensures stands { (r : Recording) → Stands self.old r → Stands self.new r }
-        ensures room { OnOk result (HasRoomFor self.new event.now) }
-        ensures cause { OnErr result ((r : Recording) → Stands self.old r → RisesAt r.past event.now) }
+        ensures room { OnOk result ((addr snoop : ℕ) → HasRoomFor self.new (Ac port addr snoop)) }
+        ensures cause { OnErr result ((r : Recording) (addr snoop : ℕ) → Stands self.old r
+            → RisesAt r.past (Ac port addr snoop)) }
         ensures roomy { (snoops : ℕ) → IsRoomy snoops self.old → IsRoomy snoops self.new }
-        ensures succeeds { HasRoomFor self.old event.now → IsOk result }
+        ensures succeeds { (addr snoop : ℕ) → HasRoomFor self.old (Ac port addr snoop)
+            → IsOk result }
     {
-        match *event {
-            Event::Ac { port, .. } => make_room(&mut self.ports, port, event),
-            _ => Ok(()),
-        }
+        make_room(&mut self.ports, port)
     }
 
     /// Hears the next event of the trace, which keeps the rules.
-    pub fn apply<E: EventKind>(&mut self, event: &E)
-        ensures stands { (r : Recording) → MayApply self.old r (E.event event.now) → Stands self.new (after r (E.event event.now)) }
-        ensures room { (snoops : ℕ) → IsRoomy snoops self.old → IsRoomy snoops self.new }
-    {
-        self.hear(&event.event());
-    }
-
-    /// The same, of an event whose kind isn't known.
     #[inline(always)]
-    fn hear(&mut self, event: &Event)
+    pub fn hear(&mut self, event: &Event)
         ensures stands { (r : Recording) → MayApply self.old r event.now → Stands self.new (after r event.now) }
         ensures room { (snoops : ℕ) → IsRoomy snoops self.old → IsRoomy snoops self.new }
     {

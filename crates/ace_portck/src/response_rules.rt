@@ -1,15 +1,15 @@
 //! The least rule of those that look at one port that an R or B breaks, by the transaction that it belongs to.
 
 ghost use Rattle.std.specs.Prelude.{◌≡◌, ◌==◌, ◌&&◌, not};
-ghost use Rattle.ace_portck.specs.WriteEnds.{line_write};
+ghost use Rattle.ace_portck.specs.Reads.{is_next_beat};
+ghost use Rattle.ace_portck.specs.LineWrites.{line_write};
 
 use crate::PortCheck;
-use crate::kinds::{is_line_write, write_kind};
-use crate::port_rules::is_next_beat;
 use crate::rules::has_port;
 use crate::target::Progress;
 use ace_codes::{ArKind, AwKind, low_bits};
 use ace_model::Transaction;
+use ace_model::kinds::{beats_of, is_line_write, write_kind};
 
 /// The kind of a line write: a write that isn't half of a barrier.
 #[inline(always)]
@@ -20,6 +20,16 @@ pub fn line_write(transaction: &Transaction) -> Option<AwKind>
         Some(kind) if is_line_write(kind) => Some(kind),
         _ => None,
     }
+}
+
+/// After so many transfers of a read of this kind some are left, and `last` says whether the next
+/// is the last.
+#[inline(always)]
+fn is_next_beat(transfers: u8, last: bool, kind: ArKind) -> bool
+    ensures { result ≡ is_next_beat transfers last kind }
+{
+    let beats = beats_of(kind);
+    transfers < beats && last == (transfers.wrapping_add(1) == beats)
 }
 
 /// Of K26, that the write has had no B and that the response is 0.

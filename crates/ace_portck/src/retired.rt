@@ -1,9 +1,9 @@
 //! The operations of one port that retired.
 
-ghost use Rattle.std.specs.Prelude.{◌≡◌, ◌∷◌, ℕ, Some, []};
+ghost use Rattle.std.specs.Prelude.{◌≡◌, ◌∷◌, ℕ, []};
 ghost use Rattle.ace_event.specs.declared.header.Header.{Header};
-ghost use Rattle.ace_model.specs.OrderRules.{k40, retired};
-ghost use Rattle.ace_model.specs.Trace.{Trace, port_of};
+ghost use Rattle.ace_model.specs.OrderRules.{retired};
+ghost use Rattle.ace_model.specs.Trace.{Trace};
 ghost use Rattle.ace_portck.specs.Heard.{IsHeard};
 ghost use Rattle.ace_portck.specs.Retired.{RetiredStand};
 
@@ -29,18 +29,6 @@ impl RetiredCount {
         ensures { (past : Trace) (p : ℕ) → RetiredStand past p self.now → result ≡ retired past p }
     {
         self.next
-    }
-
-    /// K40: the number of an OP is that of the port's earlier OP events.
-    #[inline(always)]
-    pub fn may_retire(&self, event: &Event) -> bool
-        ensures { (h : Header) (past : Trace) (p : ℕ) → RetiredStand past p self.now → port_of event.now ≡ Some p
-            → result ≡ k40 h past event.now }
-    {
-        match *event {
-            Event::Op { k, .. } => u32::from(k) == self.next,
-            _ => true,
-        }
     }
 
     /// Hears an event of the port that keeps the rules.

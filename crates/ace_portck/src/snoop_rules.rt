@@ -8,12 +8,12 @@ ghost use Rattle.ace_model.specs.Transactions.{is_on};
 ghost use Rattle.ace_portck.specs.Targets.{line_of_snoop};
 
 use crate::PortCheck;
-use crate::kinds::{is_line_snoop, is_on, updates_memory};
 use crate::ports::record_of;
 use crate::rules::{has_ace_port, is_line_address};
 use crate::target::Progress;
 use ace_codes::{SnoopKind, has_error};
 use ace_model::Snoop;
+use ace_model::kinds::{is_line_snoop, is_on, updates_memory};
 
 /// The line of a snoop of this kind, if it is a line snoop.
 #[inline(always)]
@@ -45,7 +45,7 @@ fn has_update_on(list: &[Progress], line: u32) -> bool
 }
 
 impl PortCheck {
-    ghost use Rattle.std.specs.Prelude.{ℕ, true};
+    ghost use Rattle.std.specs.Prelude.{ℕ};
     ghost use Rattle.std.specs.Option.{option_copied};
     ghost use Rattle.ace_codes.specs.declared.state.LineState.{LineState};
     ghost use Rattle.ace_event.specs.declared.event.Event.TheVariants.{Ac, Cr, Cd};
@@ -55,7 +55,7 @@ impl PortCheck {
     ghost use Rattle.ace_model.specs.Shares.{port_rules};
     ghost use Rattle.ace_model.specs.Snoops.{answered};
     ghost use Rattle.ace_model.specs.States.{owes_wack};
-    ghost use Rattle.ace_portck.specs.Stands.{Stands, HasRoom};
+    ghost use Rattle.ace_portck.specs.Stands.{Stands};
     ghost use Rattle.ace_portck.specs.Targets.{Recording, sending};
 
     /// The least rule of the share that an AC breaks: K1 to K3. `kind` is the one that its code tells, if it tells one.
@@ -107,7 +107,7 @@ impl PortCheck {
             return Some(1);
         }
         let kept = record_of(&self.ports, &self.outside, port);
-        if kept.snoops.sent_by(last).is_some() {
+        if kept.snoops.may_send(last) {
             None
         } else {
             Some(17)
@@ -154,16 +154,5 @@ impl PortCheck {
         ensures { (r : Recording) → Stands self.now r → result ≡ owes_wack r.header r.past port line }
     {
         has_complete_on(self.writes(port), line)
-    }
-
-    /// There is room for one more snoop of the port: `apply` takes no memory for it.
-    #[inline(always)]
-    pub fn has_room_for_snoop(&self, port: u8) -> bool
-        ensures { (addr snoop : ℕ) → result ≡ true → HasRoom self.now (Ac port addr snoop) }
-    {
-        match self.ports.get(usize::from(port)) {
-            None => false,
-            Some(kept) => kept.snoops.has_room_for_one(),
-        }
     }
 }

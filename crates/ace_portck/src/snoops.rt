@@ -1,6 +1,6 @@
 //! The snoops of one port that are under way.
 
-ghost use Rattle.std.specs.Prelude.{◌≡◌, ◌≤◌, ◌==◌, slice_get};
+ghost use Rattle.std.specs.Prelude.{◌≡◌, ◌==◌, slice_get};
 ghost use Rattle.std.specs.Option.{option_copied};
 ghost use Rattle.ace_tables.specs.Answers.{same_test};
 
@@ -44,17 +44,15 @@ fn says_last(last: bool, beat: u8) -> bool
 }
 
 impl SnoopQueues {
-    ghost use Rattle.std.specs.Prelude.{ℕ, Bool, true, length, ◌∷◌, IfOk, IsOk, OnOk, OnErr, Some, [], is_some};
+    ghost use Rattle.std.specs.Prelude.{ℕ, Bool, true, ◌∷◌, IfOk, IsOk, OnOk, OnErr, []};
     ghost use Rattle.ace_codes.specs.declared.state.LineState.{LineState};
     ghost use Rattle.ace_event.specs.declared.event.Event.TheVariants.{Ac, Cd, Cr};
     ghost use Rattle.ace_event.specs.declared.header.Header.{Header};
-    ghost use Rattle.ace_model.specs.declared.snoops.Snoop.{Snoop as Snooped};
     ghost use Rattle.ace_model.specs.Accepted.{IsAccepted};
     ghost use Rattle.ace_model.specs.Replies.{next_sent_beat};
     ghost use Rattle.ace_model.specs.Shares.{k17_burst};
-    ghost use Rattle.ace_model.specs.SnoopRules.{k14};
     ghost use Rattle.ace_model.specs.Snoops.{answered};
-    ghost use Rattle.ace_model.specs.Trace.{Trace, port_of};
+    ghost use Rattle.ace_model.specs.Trace.{Trace};
     ghost use Rattle.ace_portck.specs.Heard.{IsHeard};
     ghost use Rattle.ace_portck.specs.Snoops.{SnoopsStand, HasRoom, HasRoomForOne, IsRoomy};
     ghost use Rattle.ace_portck.specs.Targets.{sending};
@@ -103,74 +101,41 @@ impl SnoopQueues {
         self.beats
     }
 
-    /// K14: a CR answers a snoop of the port.
-    pub fn may_answer(&self, event: &Event) -> bool
-        ensures { (h : Header) (past : Trace) (p : ℕ) → SnoopsStand past p self.now → port_of event.now ≡ Some p
-            → result ≡ k14 h past event.now }
-    {
-        match *event {
-            Event::Cr { .. } => self.answered().is_some(),
-            _ => true,
-        }
-    }
-
-    /// K17 but its data: a CD belongs to an answer with data, and is the last beat exactly where it says so.
-    pub fn may_send(&self, event: &Event) -> bool
-        ensures { (h : Header) (past : Trace) (p : ℕ) → SnoopsStand past p self.now → port_of event.now ≡ Some p
-            → result ≡ k17_burst h past event.now }
-    {
-        match *event {
-            Event::Cd { last, .. } => self.sent_by(last).is_some(),
-            _ => true,
-        }
-    }
-
-    /// The snoop that the port's next CD sends data for, and which beat of its burst that is, from 0: where there is such a snoop, and
-    /// that is the last beat exactly where it says so.
+    /// K17 but its data: the port's next CD belongs to an answer with data, and is the last beat
+    /// exactly where it says so.
     #[inline(always)]
-    pub fn sent_by(&self, last: bool) -> Option<(Snoop, u8)>
-        ensures kept { (h : Header) (past : Trace) (p word : ℕ) → SnoopsStand past p self.now
-            → is_some result ≡ k17_burst h past (Cd p last word) }
-        ensures snoop { (past : Trace) (p : ℕ) (s : Snooped) (n : ℕ) → SnoopsStand past p self.now → result ≡ Some (s, n)
-            → (sending past p ≡ Some s) × (n ≡ next_sent_beat past p) }
+    pub fn may_send(&self, last: bool) -> bool
+        ensures { (h : Header) (past : Trace) (p word : ℕ) → SnoopsStand past p self.now
+            → result ≡ k17_burst h past (Cd p last word) }
     {
-        match self.sending() {
-            None => None,
-            Some(snoop) => {
-                let beat = self.beat();
-                if says_last(last, beat) {
-                    Some((snoop, beat))
-                } else {
-                    None
-                }
-            }
-        }
-    }
-
-    /// Makes room for the snoop of an AC, and for its data. Memory runs out only where the port has more snoops under way than
-    /// ever before.
-    #[inline(always)]
-    pub fn ready(&mut self, event: &Event) -> Result<(), AllocError>
-        ensures stands { (past : Trace) (p : ℕ) → SnoopsStand past p self.old → SnoopsStand past p self.new }
-        ensures room { OnOk result (HasRoom self.new event.now) }
-        ensures cause { OnErr result ((past : Trace) (p : ℕ) → SnoopsStand past p self.old → port_of event.now ≡ Some p
-            → RisesAt past event.now) }
-        ensures roomy { (snoops : ℕ) → IsRoomy snoops self.old → IsRoomy snoops self.new }
-        ensures succeeds { HasRoom self.old event.now → IsOk result }
-    {
-        match *event {
-            Event::Ac { .. } => self.make_room(),
-            _ => Ok(()),
-        }
+        self.sending().is_some() && says_last(last, self.beat())
     }
 
     /// There is room for one more snoop, and for its data.
     #[inline(always)]
-    pub fn has_room_for_one(&self) -> bool
+    fn has_room_for_one(&self) -> bool
         ensures { result ≡ true → HasRoomForOne self.now }
     {
         let under_way = self.waiting.len() + self.sending.len();
         under_way < self.waiting.capacity() && under_way < self.sending.capacity()
+    }
+
+    /// Makes room for one more snoop, and for its data. Memory runs out only where the port has
+    /// more snoops under way than ever before.
+    #[inline(always)]
+    pub fn make_room(&mut self) -> Result<(), AllocError>
+        ensures stands { (past : Trace) (p : ℕ) → SnoopsStand past p self.old
+            → SnoopsStand past p self.new }
+        ensures room { OnOk result (HasRoomForOne self.new) }
+        ensures cause { OnErr result ((past : Trace) (p addr snoop : ℕ)
+            → SnoopsStand past p self.old → RisesAt past (Ac p addr snoop)) }
+        ensures roomy { (snoops : ℕ) → IsRoomy snoops self.old → IsRoomy snoops self.new }
+        ensures succeeds { HasRoomForOne self.old → IsOk result }
+    {
+        if self.has_room_for_one() {
+            return Ok(());
+        }
+        self.grow()
     }
 
     /// Hears an event of the port that keeps the rules, with `place` events before it. It takes no memory.
@@ -190,12 +155,13 @@ impl SnoopQueues {
         }
     }
 
-    /// Makes room for one more snoop, and for its data.
-    fn make_room(&mut self) -> Result<(), AllocError>
-        ensures stands { (past : Trace) (p : ℕ) → SnoopsStand past p self.old → SnoopsStand past p self.new }
+    /// Makes room for one more snoop, and for its data, where there is none.
+    fn grow(&mut self) -> Result<(), AllocError>
+        ensures stands { (past : Trace) (p : ℕ) → SnoopsStand past p self.old
+            → SnoopsStand past p self.new }
         ensures room { OnOk result (HasRoomForOne self.new) }
-        ensures cause { OnErr result ((past : Trace) (p addr snoop : ℕ) → SnoopsStand past p self.old
-            → RisesAt past (Ac p addr snoop)) }
+        ensures cause { OnErr result ((past : Trace) (p addr snoop : ℕ)
+            → SnoopsStand past p self.old → RisesAt past (Ac p addr snoop)) }
         ensures roomy { (snoops : ℕ) → IsRoomy snoops self.old → IsRoomy snoops self.new }
         ensures succeeds { HasRoomForOne self.old → IsOk result }
     {

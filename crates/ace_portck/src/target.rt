@@ -1,7 +1,7 @@
-//! What an event belongs to.
+//! How far a transaction has come, and the data of a write.
 
 use ace_event::Line;
-use ace_model::{Snoop, Transaction};
+use ace_model::Transaction;
 
 /// A transaction, and how far it has come.
 #[derive(Clone, Copy, Debug, PartialEq, Eq)]
@@ -26,25 +26,4 @@ pub struct Progress {
 pub struct WriteData {
     pub strobe: u64,
     pub line: Line,
-}
-
-/// What an event belongs to, and what else is asked of its port: the state before the event.
-#[derive(Clone, Copy, Debug, PartialEq, Eq)]
-pub struct Target {
-    /// The transaction that the event begins, or belongs to.
-    pub transaction: Option<Progress>,
-    /// The snoop that it begins, answers, or sends data for.
-    pub snoop: Option<Snoop>,
-    /// The line that it names, or that these name.
-    pub line: Option<u32>,
-    /// Of an S, L, D, AC or CR: the port's outstanding transaction on that line.
-    pub own: Option<Progress>,
-    /// Of a W or CD: which beat of its burst it is, from 0.
-    pub beat: u8,
-    /// Of the M of a write: its burst, where it is whole and the write has had no M.
-    pub data: Option<WriteData>,
-    /// Of an R or B of a barrier: the place of the port's oldest line transaction with bar 0 without its order point.
-    pub unordered: Option<usize>,
-    /// Of an R or B of a barrier: the place of the port's oldest line transaction with bar 0 that isn't complete.
-    pub incomplete: Option<usize>,
 }

@@ -13,13 +13,14 @@ ghost use Rattle.ace_portck.specs.Heard.{IsHeard};
 ghost use Rattle.ace_portck.specs.Pending.{HasByteId, PendingStands};
 ghost use Rattle.ace_portck.specs.Transactions.{is_ordered_by, has_order_point, is_unordered, is_incomplete, moved_channel};
 
-use crate::NoMemory;
-use crate::kinds::{evicts, gives_up, is_line, is_on, is_unique_write, updates_memory, write_kind};
 use crate::pending::Pending;
 use crate::target::Progress;
 use ace_codes::AwKind;
 use ace_event::{Channel, Event, Header};
-use ace_model::Transaction;
+use ace_io::NoMemory;
+use ace_model::kinds::{
+    evicts, gives_up, is_line, is_on, is_unique_write, updates_memory, write_kind,
+};
 use std::alloc::Global;
 
 /// The outstanding transactions of a port.
@@ -132,8 +133,7 @@ fn moved_channel(event: &Event) -> Option<Channel>
 impl Transactions {
     ghost use Rattle.std.specs.Prelude.{ℕ, true, not, [], IfOk, is_none};
     ghost use Rattle.ace_event.specs.declared.header.Header.{Header};
-    ghost use Rattle.ace_model.specs.AddressRules.{has_free_name, has_free_line, has_write, keeps_apart};
-    ghost use Rattle.ace_model.specs.Trace.{is_none_or};
+    ghost use Rattle.ace_model.specs.AddressRules.{has_write, keeps_apart};
     ghost use Rattle.ace_model.specs.Transactions.{is_ace, outstanding, has_outstanding_on, acknowledged, next_complete};
     ghost use Rattle.ace_portck.specs.Targets.{progress_of, own_of, first_unordered, first_incomplete};
     ghost use Rattle.ace_event.specs.declared.event.Channel.TheVariants.{Read, Write};
@@ -263,14 +263,7 @@ impl Transactions {
         )
     }
 
-    /// K4, of a new transaction of the port: none with its name is outstanding.
-    pub fn has_free_name(&self, x: &Transaction) -> bool
-        ensures { (h : Header) (past : Trace) → TransactionsStand h past x.now.port self.now → result ≡ has_free_name h past x.now }
-    {
-        self.named(x.chan, x.id).is_none()
-    }
-
-    /// None is outstanding on the channel under the identifier.
+    /// K4, of a new transaction on the channel under the identifier: none is outstanding there.
     #[inline(always)]
     pub fn is_name_free(&self, chan: Channel, id: u8) -> bool
         ensures { (h : Header) (past : Trace) (p : ℕ) → TransactionsStand h past p self.now → result ≡ is_none (outstanding h past p chan id) }
@@ -300,25 +293,8 @@ impl Transactions {
         has_giving_up(self.writes.list())
     }
 
-    /// K5, of a new transaction of the port: none on its line is outstanding.
-    pub fn has_free_line(&self, x: &Transaction) -> bool
-        ensures { (h : Header) (past : Trace) → TransactionsStand h past x.now.port self.now → result ≡ has_free_line h past x.now }
-    {
-        !is_line(x) || self.is_line_free(x.addr)
-    }
-
-    /// K10, of a new transaction of the port: memory updates and Evict keep apart from WriteUnique and WriteLineUnique.
-    pub fn keeps_apart(&self, x: &Transaction) -> bool
-        ensures { (h : Header) (past : Trace) → TransactionsStand h past x.now.port self.now
-            → result ≡ is_none_or (write_kind x.now) (keeps_apart h past x.now.port) }
-    {
-        match write_kind(x) {
-            None => true,
-            Some(kind) => self.keeps_kind_apart(kind),
-        }
-    }
-
-    /// The same, of a new write of the kind.
+    /// K10, of a new write of the kind: memory updates and Evict keep apart from WriteUnique and
+    /// WriteLineUnique.
     #[inline(always)]
     pub fn keeps_kind_apart(&self, kind: AwKind) -> bool
         ensures { (h : Header) (past : Trace) (p : ℕ) → TransactionsStand h past p self.now → result ≡ keeps_apart h past p kind }

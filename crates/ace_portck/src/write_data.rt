@@ -7,12 +7,12 @@ ghost use Rattle.ace_model.specs.Shares.{fits_burst, fits_strobe};
 ghost use Rattle.ace_model.specs.Writes.{Beat};
 ghost use Rattle.ace_portck.specs.WriteData.{IsPart, data_of_burst};
 
-use crate::NoMemory;
-use crate::kinds::{has_write_data, is_update, write_kind};
 use crate::target::WriteData;
 use ace_codes::AwKind;
 use ace_event::{Channel, Event, Line};
+use ace_io::NoMemory;
 use ace_model::Transaction;
+use ace_model::kinds::{has_write_data, is_update, write_kind};
 use std::alloc::Global;
 use std::collections::VecDeque;
 
@@ -140,7 +140,7 @@ impl WriteBursts {
     ghost use Rattle.ace_event.specs.declared.line.Line.{Line};
     ghost use Rattle.ace_model.specs.Accepted.{IsAccepted};
     ghost use Rattle.ace_model.specs.Shares.{k11_burst};
-    ghost use Rattle.ace_model.specs.Trace.{Trace, port_of};
+    ghost use Rattle.ace_model.specs.Trace.{Trace};
     ghost use Rattle.ace_model.specs.Transactions.{issued};
     ghost use Rattle.ace_model.specs.Writes.{next_write, next_write_beat};
     ghost use Rattle.ace_portck.specs.Heard.{IsHeard};
@@ -180,14 +180,6 @@ impl WriteBursts {
 
     /// Of an M of the transaction under the identifier: the burst of a write with data, where it is whole and the write has had no
     /// M.
-    pub fn data_of(&self, chan: Channel, id: u8) -> Option<WriteData>
-        ensures { (h : Header) (past : Trace) (p : ℕ) (line : Line) → WritesStand h past p self.now
-            → result ≡ data_in h past (M p chan id line) }
-    {
-        self.burst(chan, id).copied()
-    }
-
-    /// The same, where it stands.
     #[inline(always)]
     pub fn burst(&self, chan: Channel, id: u8) -> Option<&WriteData>
         ensures { (h : Header) (past : Trace) (p : ℕ) (line : Line) → WritesStand h past p self.now
@@ -199,20 +191,9 @@ impl WriteBursts {
         }
     }
 
-    /// K11 but its data: a W belongs to a write with data whose burst isn't whole. It is the last beat exactly where it says so,
-    /// and WriteLineUnique and memory updates have all strobes.
-    #[inline(always)]
-    pub fn may_write(&self, event: &Event) -> bool
-        ensures { (h : Header) (past : Trace) (p : ℕ) → WritesStand h past p self.now → port_of event.now ≡ Some p
-            → result ≡ k11_burst h past event.now }
-    {
-        match *event {
-            Event::W { strb, last, .. } => self.may_have_beat(strb, last),
-            _ => true,
-        }
-    }
-
-    /// The same, of a W with this strobe, which says whether it is the last beat.
+    /// K11 but its data, of a W with this strobe, which says whether it is the last beat: it
+    /// belongs to a write with data whose burst isn't whole. It is the last beat exactly where it
+    /// says so, and WriteLineUnique and memory updates have all strobes.
     #[inline(always)]
     pub fn may_have_beat(&self, strobe: u16, last: bool) -> bool
         ensures { (h : Header) (past : Trace) (p word : ℕ) → WritesStand h past p self.now

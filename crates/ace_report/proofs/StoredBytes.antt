@@ -1,4 +1,4 @@
--- The bytes that an M or an R stores, by the target of the event.
+-- The bytes that an M or an R stores.
 use Rattle.std.proofs.Common.{◌≡◌, ℕ, Bool, true, ◌||◌, nat_eq, if◌then◌else◌, Option, Some, None, option_map, refl, ap, ◌∙◌, inl, inr}
 use Rattle.std.proofs.lemmas.Bool.{cases_Bool, and_parts, eqb-true}
 use Rattle.ace_codes.specs.declared.kind.AwKind.{AwKind}
@@ -21,8 +21,7 @@ use Rattle.ace_model.proofs.Trace.Issued.{outstanding-named}
 use Rattle.ace_model.proofs.Grants.Begins.{may_of}
 use Rattle.ace_model.proofs.Grants.Granted.{data_may}
 use Rattle.ace_model.proofs.Values.Stores.{stores_write, stores_kind}
-use Rattle.ace_portck.specs.declared.target.Target.{Target}
-use Rattle.ace_portck.specs.Targets.{data_of_write, line_of, progress_of}
+use Rattle.ace_portck.specs.Targets.{data_in, data_of_write, line_in, line_of, progress_of, transaction_in}
 use Rattle.ace_report.specs.Heard.{bytes_of, bytes_to, written_bytes, discarded_bytes}
 use Rattle.ace_report.specs.Next.{IsNext}
 
@@ -64,12 +63,12 @@ write_bytes h past x l may =
     ]
 
 -- the M of a write that stores
-pub written_are : (h : Header) (past : Trace) (p : ℕ) (c : Channel) (i : ℕ) (line : Line) (t : Target) (before : Line) → IsNext h past (M p c i line) t before
-    → (l : ℕ) → bytes_to t.line (written_bytes t) l ≡ option_map bytes_of (store_at past (M p c i line) l)
-written_are h past p c i line t before n l =
+pub written_are : (h : Header) (past : Trace) (p : ℕ) (c : Channel) (i : ℕ) (line : Line) (before : Line) → IsNext h past (M p c i line) before
+    → (l : ℕ) → bytes_to (line_in h past (M p c i line)) (written_bytes (transaction_in h past (M p c i line)) (data_in h past (M p c i line))) l ≡ option_map bytes_of (store_at past (M p c i line) l)
+written_are h past p c i line before n l =
     let z = is_some_and-is (outstanding h past p c i) (may_write_memory h past) (accepted_keeps h past (M p c i line) n.accepted).rule_24 in
     let named = outstanding-named h past p c i z.0 z.1 in
-    rw (n.target, z.1, named) (write_bytes h past z.0 l z.2)
+    rw (z.1, named) (write_bytes h past z.0 l z.2)
 
 discard_bytes : (past : Trace) (x : Transaction) (before : Line) (l : ℕ) → (is_on x l ≡ true → before ≡ memory_of past l)
     → bytes_to (if is_line x then Some x.addr else None) (if discards_data x then Some (record { strobe = full_line; line = before }) else None) l
@@ -94,11 +93,11 @@ on_line x l on =
     rw parts.0 (ap (λ n. Some n) (eqb-true x.addr l parts.1))
 
 -- the R of a MakeInvalid
-pub discarded_are : (h : Header) (past : Trace) (p i resp : ℕ) (last : Bool) (word : ℕ) (t : Target) (before : Line) → IsNext h past (R p i resp last word) t before
-    → (l : ℕ) → bytes_to t.line (discarded_bytes t before) l ≡ option_map bytes_of (store_at past (R p i resp last word) l)
-discarded_are h past p i resp last word t before n l =
+pub discarded_are : (h : Header) (past : Trace) (p i resp : ℕ) (last : Bool) (word : ℕ) (before : Line) → IsNext h past (R p i resp last word) before
+    → (l : ℕ) → bytes_to (line_in h past (R p i resp last word)) (discarded_bytes (transaction_in h past (R p i resp last word)) before) l ≡ option_map bytes_of (store_at past (R p i resp last word) l)
+discarded_are h past p i resp last word before n l =
     let m = may_of h past p i resp last word n.accepted in
-    let line : t.line ≡ (if is_line m.one then Some m.one.addr else None) =
-    ap (λ (v : Target). v.line) n.target ∙ ap (λ o. line_of (option_map (progress_of h past) o)) m.out in
+    let line : line_in h past (R p i resp last word) ≡ (if is_line m.one then Some m.one.addr else None) =
+    ap (λ o. line_of (option_map (progress_of h past) o)) m.out in
     let memory : is_on m.one l ≡ true → before ≡ memory_of past l = λ on. n.memory l (line ∙ on_line m.one l on) in
-    rw (n.target, m.out, m.named) (discard_bytes past m.one before l memory)
+    rw (m.out, m.named) (discard_bytes past m.one before l memory)

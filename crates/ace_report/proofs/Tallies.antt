@@ -15,11 +15,10 @@ use Rattle.ace_model.specs.Lines.{is_known}
 use Rattle.ace_model.specs.Transactions.{is_line, is_on}
 use Rattle.ace_model.specs.Values.{Store, store_at, stores_of, value_of, after_store}
 use Rattle.ace_model.proofs.Report.Untouched.{untouched, opened_unknown, stores_of-count}
-use Rattle.ace_portck.specs.declared.target.Target.{Target}
 use Rattle.ace_portck.specs.declared.target.WriteData.{WriteData}
 use Rattle.ace_report.specs.declared.tally.LineTally.{LineTally}
 use Rattle.ace_report.specs.Heard.{LinesStand, line_tally, bytes_of, bytes_to, stored}
-use Rattle.ace_report.specs.Next.{IsNext, IsAbsent, IsNewLine}
+use Rattle.ace_report.specs.Next.{IsNext, IsAbsent, IsNewLine, told_line}
 
 -- an AR or AW
 abbrev pub is_address : Event → Bool
@@ -60,28 +59,28 @@ first_tally h past a l before o is value =
           rw (is, f, u.stores, value f) refl
     ]
 
-named_stand : (h : Header) (past : Trace) → IsAccepted h past → (x : Transaction) (t : Target) (before : Line) (old new : BTreeMap ℕ LineTally)
-    → t.line ≡ (if is_line x then Some x.addr else None) → ((l : ℕ) → t.line ≡ Some l → is_known past l ≡ false → before ≡ value_of past l)
-    → LinesStand past old → Named t.line before old new
+named_stand : (h : Header) (past : Trace) → IsAccepted h past → (x : Transaction) (before : Line) (old new : BTreeMap ℕ LineTally)
+    → ((l : ℕ) → (if is_line x then Some x.addr else None) ≡ Some l → is_known past l ≡ false → before ≡ value_of past l)
+    → LinesStand past old → Named (if is_line x then Some x.addr else None) before old new
     → (l : ℕ) → get nat_cmp new l ≡ (if is_on x l || is_known past l then Some (line_tally past l) else None)
-named_stand h past a x t before old new line value stands named l =
-    let test : is_some_and t.line (λ m. nat_eq m l) ≡ is_on x l = ap (λ o. is_some_and o (λ m. nat_eq m l)) line ∙ tested x l in
+named_stand h past a x before old new value stands named l =
+    let test = tested x l in
     elim (cases_Bool (is_on x l)) [
       | inr f ↦ named l ∙ rw (test, f) (stands l)
       | inl on ↦
-          named l ∙ rw (test, on) (ap (λ v. Some v) (first_tally h past a l before (get nat_cmp old l) (stands l) (value l (line ∙ on_line x l on))))
+          named l ∙ rw (test, on) (ap (λ v. Some v) (first_tally h past a l before (get nat_cmp old l) (stands l) (value l (on_line x l on))))
     ]
 
 -- after an AR or AW
-pub heard_named : (h : Header) (past : Trace) (e : Event) (t : Target) (before : Line) (old new : BTreeMap ℕ LineTally) → is_address e ≡ true
-    → LinesStand past old → IsNext h past e t before → Named t.line before old new → LinesStand (e ∷ past) new
-heard_named h past (Ar p i addr snoop dom bar lock) t before old new is stands n named l =
-    named_stand h past n.accepted.0 (record { place = length past; port = p; chan = Read; id = i; addr = addr; snoop = snoop; dom = dom; bar = bar; lock = lock }) t before old new (ap (λ (v : Target). v.line) n.target)
+pub heard_named : (h : Header) (past : Trace) (e : Event) (before : Line) (old new : BTreeMap ℕ LineTally) → is_address e ≡ true
+    → LinesStand past old → IsNext h past e before → Named (told_line h past e) before old new → LinesStand (e ∷ past) new
+heard_named h past (Ar p i addr snoop dom bar lock) before old new is stands n named l =
+    named_stand h past n.accepted.0 (record { place = length past; port = p; chan = Read; id = i; addr = addr; snoop = snoop; dom = dom; bar = bar; lock = lock }) before old new
     (λ m line unknown. n.memory m line ∙ sym (untouched h past n.accepted.0 m unknown).value) stands named l
-heard_named h past (Aw p i addr snoop dom bar) t before old new is stands n named l =
-    named_stand h past n.accepted.0 (record { place = length past; port = p; chan = Write; id = i; addr = addr; snoop = snoop; dom = dom; bar = bar; lock = false }) t before old new (ap (λ (v : Target). v.line) n.target)
+heard_named h past (Aw p i addr snoop dom bar) before old new is stands n named l =
+    named_stand h past n.accepted.0 (record { place = length past; port = p; chan = Write; id = i; addr = addr; snoop = snoop; dom = dom; bar = bar; lock = false }) before old new
     (λ m line unknown. n.memory m line ∙ sym (untouched h past n.accepted.0 m unknown).value) stands named l
-heard_named h past e t before old new is stands n named l = cc
+heard_named h past e before old new is stands n named l = cc
 
 tally_step : (o : Option Store) (xs : List Store) (v : Line) → length xs < 2 ^ 64 - 1
     → stored (option_map bytes_of o) (record { stores = length xs; value = v }) ≡ record { stores = length (more xs o); value = after_store v o }
@@ -90,10 +89,10 @@ tally_step (Some s) xs v few =
     let e = length-append xs (s ∷ []) in
     ap (λ n. record { stores = n; value = after_store v (Some s) }) (omega (arith, e, few))
 
-stored_stand : (h : Header) (past : Trace) (e : Event) (t : Target) (bytes : Option WriteData) (old new : BTreeMap ℕ LineTally) → IsAccepted h (e ∷ past)
-    → length past < 2 ^ 64 - 1 → ((l : ℕ) → bytes_to t.line bytes l ≡ option_map bytes_of (store_at past e l)) → LinesStand past old → Added t.line bytes old new
+stored_stand : (h : Header) (past : Trace) (e : Event) (line : Option ℕ) (bytes : Option WriteData) (old new : BTreeMap ℕ LineTally) → IsAccepted h (e ∷ past)
+    → length past < 2 ^ 64 - 1 → ((l : ℕ) → bytes_to line bytes l ≡ option_map bytes_of (store_at past e l)) → LinesStand past old → Added line bytes old new
     → (l : ℕ) → get nat_cmp new l ≡ (if is_known past l then Some (line_tally (e ∷ past) l) else None)
-stored_stand h past e t bytes old new a few is stands added l =
+stored_stand h past e line bytes old new a few is stands added l =
     elim (cases_Bool (is_known past l)) [
       | inr f ↦ added l ∙ rw (stands l, f) refl
       | inl k ↦
@@ -105,13 +104,13 @@ stored_stand h past e t bytes old new a few is stands added l =
     ]
 
 -- after another event
-pub heard_stored : (h : Header) (past : Trace) (e : Event) (t : Target) (before : Line) (bytes : Option WriteData) (old new : BTreeMap ℕ LineTally) → is_address e ≡ false
-    → LinesStand past old → IsNext h past e t before → ((l : ℕ) → bytes_to t.line bytes l ≡ option_map bytes_of (store_at past e l)) → Added t.line bytes old new
+pub heard_stored : (h : Header) (past : Trace) (e : Event) (line : Option ℕ) (before : Line) (bytes : Option WriteData) (old new : BTreeMap ℕ LineTally) → is_address e ≡ false
+    → LinesStand past old → IsNext h past e before → ((l : ℕ) → bytes_to line bytes l ≡ option_map bytes_of (store_at past e l)) → Added line bytes old new
     → LinesStand (e ∷ past) new
-heard_stored h past (Ar p i addr snoop dom bar lock) t before bytes old new is stands n store added l = cc
-heard_stored h past (Aw p i addr snoop dom bar) t before bytes old new is stands n store added l = cc
-heard_stored h past e t before bytes old new is stands n store added l =
-    stored_stand h past e t bytes old new n.accepted (let few = n.few in omega (arith, few)) store stands added l
+heard_stored h past (Ar p i addr snoop dom bar lock) line before bytes old new is stands n store added l = cc
+heard_stored h past (Aw p i addr snoop dom bar) line before bytes old new is stands n store added l = cc
+heard_stored h past e line before bytes old new is stands n store added l =
+    stored_stand h past e line bytes old new n.accepted (let few = n.few in omega (arith, few)) store stands added l
 
 -- the stores before a load, by the tally of its line
 pub stores_before : (h : Header) (past : Trace) → IsAccepted h past → (l : ℕ) (o : Option LineTally) → o ≡ (if is_known past l then Some (line_tally past l) else None)

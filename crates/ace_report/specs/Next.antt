@@ -3,22 +3,29 @@ use Rattle.std.specs.Prelude.{ℕ, ◌≡◌, ◌<◌, ◌-◌, ◌^◌, ◌∷�
 use Rattle.std.specs.Ordering.{nat_cmp}
 use Rattle.std.specs.BTreeMap.{BTreeMap, get}
 use Rattle.ace_event.specs.declared.event.Event.{Event}
-use Rattle.ace_event.specs.declared.event.Event.TheVariants.{Ar, Aw, L}
+use Rattle.ace_event.specs.declared.event.Event.TheVariants.{Ar, Aw, R, M, L, D}
 use Rattle.ace_event.specs.declared.header.Header.{Header}
 use Rattle.ace_event.specs.declared.line.Line.{Line}
 use Rattle.ace_model.specs.Trace.{Trace}
 use Rattle.ace_model.specs.Accepted.{IsAccepted}
 use Rattle.ace_model.specs.Copies.{memory_of}
 use Rattle.ace_model.specs.Lines.{is_known}
-use Rattle.ace_portck.specs.declared.target.Target.{Target}
-use Rattle.ace_portck.specs.Targets.{target_of}
+use Rattle.ace_portck.specs.Targets.{line_in}
 use Rattle.ace_report.specs.declared.tally.LineTally.{LineTally}
 
--- The event comes next in an accepted trace, with its target, and with memory of its line before it.
-pub record IsNext (h : Header) (past : Trace) (e : Event) (t : Target) (before : Line) : Type 0 where
+-- the line of which an event tells a report: that of the transaction of an AR, AW, R or M, or of a D
+abbrev pub told_line : Header → Trace → Event → Option ℕ
+told_line h past (Ar p i addr snoop dom bar lock) = line_in h past (Ar p i addr snoop dom bar lock)
+told_line h past (Aw p i addr snoop dom bar) = line_in h past (Aw p i addr snoop dom bar)
+told_line h past (R p i resp last word) = line_in h past (R p i resp last word)
+told_line h past (M p c i line) = line_in h past (M p c i line)
+told_line h past (D p addr strobe x line) = Some addr
+told_line h past _ = None
+
+-- The event comes next in an accepted trace, with memory of the line of which it tells before it.
+pub record IsNext (h : Header) (past : Trace) (e : Event) (before : Line) : Type 0 where
   pub accepted : IsAccepted h (e ∷ past)
-  pub target : t ≡ target_of h past e
-  pub memory : (l : ℕ) → t.line ≡ Some l → before ≡ memory_of past l
+  pub memory : (l : ℕ) → told_line h past e ≡ Some l → before ≡ memory_of past l
   pub few : length past < 2 ^ 64 - 2
 
 -- there is a line, without a tally
@@ -32,8 +39,8 @@ IsNewLine past None = ⊥
 IsNewLine past (Some l) = is_known past l ≡ false
 
 -- the report grows with the event: it is a load, or the first AR or AW that names its line
-abbrev pub AddsEntry : Trace → Event → Target → Type 0
-AddsEntry past (L p addr w x word) t = ⊤
-AddsEntry past (Ar p i addr snoop dom bar lock) t = IsNewLine past t.line
-AddsEntry past (Aw p i addr snoop dom bar) t = IsNewLine past t.line
-AddsEntry past _ t = ⊥
+abbrev pub AddsEntry : Header → Trace → Event → Type 0
+AddsEntry h past (L p addr w x word) = ⊤
+AddsEntry h past (Ar p i addr snoop dom bar lock) = IsNewLine past (line_in h past (Ar p i addr snoop dom bar lock))
+AddsEntry h past (Aw p i addr snoop dom bar) = IsNewLine past (line_in h past (Aw p i addr snoop dom bar))
+AddsEntry h past _ = ⊥

@@ -3,7 +3,6 @@
 
 mod lines;
 mod loads;
-mod no_memory;
 mod ports;
 mod put;
 mod report;
@@ -11,5 +10,5 @@ mod stores;
 mod tally;
 mod text;
 
-pub use no_memory::NoMemory;
+pub use lines::told_line;
 pub use report::Report;

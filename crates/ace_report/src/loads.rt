@@ -6,14 +6,13 @@ ghost use Rattle.std.specs.BTreeMap.{get};
 ghost use Rattle.ace_event.specs.declared.header.Header.{Header};
 ghost use Rattle.ace_model.specs.Accepted.{IsAccepted};
 ghost use Rattle.ace_model.specs.Trace.{Trace};
-ghost use Rattle.ace_portck.specs.declared.target.Target.{Target};
 ghost use Rattle.ace_report.specs.declared.tally.LineTally.{LineTally};
 ghost use Rattle.ace_report.specs.Heard.{LinesStand, loads_of};
 ghost use Rattle.ace_report.specs.Next.{AddsEntry};
 
-use crate::no_memory::NoMemory;
 use crate::tally::{LineTally, Load};
 use ace_event::Event;
+use ace_io::NoMemory;
 use std::collections::BTreeMap;
 
 /// How many stores were made to the line.
@@ -36,7 +35,7 @@ pub(crate) fn hear_load(
 ) -> Result<(), NoMemory>
     ensures stands { (h : Header) (past : Trace) → LinesStand past lines.now → loads.old.items ≡ loads_of past → number ≡ length past + 1
         → IsAccepted h (event.now ∷ past) → OnOk result (loads.new.items ≡ loads_of (event.now ∷ past)) }
-    ensures cause { OnErr result ((past : Trace) (t : Target) → AddsEntry past event.now t) }
+    ensures cause { OnErr result ((h : Header) (past : Trace) → AddsEntry h past event.now) }
 {
     match *event {
         Event::L { port, addr, .. } => {

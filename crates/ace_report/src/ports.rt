@@ -4,9 +4,9 @@ ghost use Rattle.std.specs.Prelude.{◌≡◌, ◌<◌, ◌-◌, ◌^◌, ◌∷
 ghost use Rattle.ace_model.specs.Trace.{Trace};
 ghost use Rattle.ace_report.specs.Heard.{PortsStand, counted, counted_port};
 
-use crate::no_memory::NoMemory;
 use crate::tally::PortTally;
 use ace_event::Event;
+use ace_io::NoMemory;
 use std::alloc::Global;
 
 /// So many ports that did nothing yet.

@@ -2,13 +2,12 @@
 
 use crate::lines::hear_line;
 use crate::loads::hear_load;
-use crate::no_memory::NoMemory;
 use crate::ports::{count, no_counts};
 use crate::put::put_all;
 use crate::tally::{LineTally, Load, PortTally};
 use ace_event::{Event, Header, Line};
-use ace_io::{Failed, Sink};
-use ace_portck::Target;
+use ace_io::{Failed, NoMemory, Sink};
+use ace_portck::PortCheck;
 use std::alloc::Global;
 use std::collections::BTreeMap;
 
@@ -30,6 +29,8 @@ impl Report {
     ghost use Rattle.ace_event.specs.declared.header.Header.{Header};
     ghost use Rattle.ace_io.specs.Faults.{HasCause};
     ghost use Rattle.ace_model.specs.Trace.{Trace};
+    ghost use Rattle.ace_portck.specs.Stands.{Stands as Tell};
+    ghost use Rattle.ace_report.specs.Next.{told_line};
     ghost use Rattle.ace_report.specs.Put.{AppendsPart};
     ghost use Rattle.ace_report.specs.Report.{report_text};
     ghost use Rattle.ace_report.specs.Stands.{Stands, IsNext, AddsEntry};
@@ -55,20 +56,30 @@ impl Report {
         }
     }
 
-    /// Counts the next event of an accepted trace, with its target, and with memory of its line before the event.
+    /// Counts the next event of an accepted trace, with the ports before it, its `told_line`, and memory of that line before it.
     ///
     /// # Errors
     ///
     /// `NoMemory` where there is none for a load, or for a line that no transaction has named before. The report is of no use then.
-    pub fn hear(&mut self, event: &Event, target: &Target, memory: Line) -> Result<(), NoMemory>
-        ensures stands { (h : Header) (past : Trace) → Stands self.old h past → IsNext h past event.now target.now memory
-            → OnOk result (Stands self.new h (event.now ∷ past)) }
-        ensures cause { OnErr result ((h : Header) (past : Trace) → Stands self.old h past → AddsEntry past event.now target.now) }
+    pub fn hear(
+        &mut self,
+        event: &Event,
+        ports: &PortCheck,
+        line: Option<u32>,
+        memory: Line,
+    ) -> Result<(), NoMemory>
+        ensures stands { (h : Header) (past : Trace)
+            → Tell ports.now (record { header = h; past = past })
+            → line ≡ told_line h past event.now → Stands self.old h past
+            → IsNext h past event.now memory → OnOk result (Stands self.new h (event.now ∷ past)) }
+        ensures cause { OnErr result ((h : Header) (past : Trace)
+            → line ≡ told_line h past event.now → Stands self.old h past
+            → AddsEntry h past event.now) }
     {
         self.events = self.events.saturating_add(1);
         count(&mut self.ports, event);
         match hear_load(&mut self.loads, &self.lines, self.events, event) {
-            Ok(()) => hear_line(&mut self.lines, event, target, memory),
+            Ok(()) => hear_line(&mut self.lines, event, ports, line, memory),
             Err(none) => Err(none),
         }
     }

@@ -4,8 +4,6 @@
 
 -- What each step gives.
 pub mod Steps
--- What the rules say of each transaction that was issued.
-pub mod IssuedTransactions
 -- Data are whole between the steps of a run.
 pub mod Data
 -- Memory updates and Evicts move on.

@@ -6,7 +6,7 @@ use Rattle.std.proofs.lemmas.List.{append-nil, map-append}
 use Rattle.std.proofs.lemmas.List.Elements.{All-nil, All-weaker, All-push}
 use Rattle.ace_event.specs.declared.event.Channel.TheVariants.{Read, Write}
 use Rattle.ace_model.specs.declared.transactions.Transaction.{Transaction}
-use Rattle.ace_model.proofs.Terms.{Channel, Header, Event, Ar, Aw, R, B, G, M, Trace, transaction_of, more, implies, is_some_and, is_none_or, is_read, same_channel, issued, Pair, barriers, option_filter, is_barrier_of, place_of, is_barrier_half, may_answer, is_awaited, is_before, is_synchronisation, is_completed, is_transaction, served_by, has_had, is_completion_event, outstanding, begins_well, may_answer_half, is_past_barriers, k34, k35, IsAccepted}
+use Rattle.ace_model.proofs.Terms.{Channel, Header, Event, Ar, Aw, R, B, G, M, Trace, transaction_of, more, implies, is_some_and, is_none_or, is_read, same_channel, issued, Pair, barriers, option_filter, is_barrier_of, place_of, is_barrier_half, may_answer, is_awaited, is_before, is_synchronisation, is_completed, is_transaction, served_by, has_had, is_completion_event, outstanding, begins_well, may_answer_half, k34, IsAccepted}
 use Rattle.ace_model.specs.AddressRules.{begins_barrier}
 use Rattle.ace_model.specs.Trace.{port_of}
 use Rattle.ace_model.proofs.Rules.Keeps.{accepted_keeps}
@@ -16,7 +16,7 @@ use Rattle.ace_model.proofs.Trace.Growth.{IsIssued, issued-cases, each_issued-at
 use Rattle.ace_model.proofs.Trace.Issued.{issued_at, issued-place, transaction_of-stands}
 use Rattle.ace_model.proofs.General.Options.{Some-injective, is_none_or-at}
 use Rattle.ace_model.proofs.General.Booleans.{implies-at}
-use Rattle.ace_portck.specs.declared.target.Target.{Target}
+use Rattle.ace_portck.specs.Target.{Target}
 use Rattle.ace_portck.specs.Targets.{Recording, after, target_of, first_unordered, first_incomplete}
 use Rattle.ace_sysck.specs.declared.barriers.OpenPair.{OpenPair}
 use Rattle.ace_sysck.specs.declared.barriers.Barrier.{Barrier}
@@ -26,7 +26,7 @@ use Rattle.ace_sysck.specs.Events.{begun_in, completed_in}
 use Rattle.ace_sysck.specs.Barriers.{BarriersStand, BarrierStands, IsDone, IsUnderWay, read_half, write_half, pair_in, begins_after, joined, answered, may_answer_after}
 use Rattle.ace_sysck.proofs.Tables.{set_at}
 use Rattle.ace_sysck.proofs.Steps.{port_within}
-use Rattle.ace_sysck.proofs.EventLaws.{granting, responding, responds-at, Completes, completes-at, completes-none, begun-is}
+use Rattle.ace_sysck.proofs.EventLaws.{responding, responds-at, Completes, completes-at, completes-none, begun-is}
 use Rattle.ace_sysck.proofs.FirstIssued.{each-from}
 use Rattle.ace_sysck.proofs.BarrierRules.{begins-is}
 use Rattle.ace_sysck.proofs.BarrierAnswers.{halves_on, current, come-is, answer-is}
@@ -187,11 +187,6 @@ module _ (past : Trace) (e : Event) (x : Transaction) (new : issued (length past
   barrier_joins (ReadHalf y) Read chan begins s = let bad : false ≡ true = rw chan at begins in cc
   barrier_joins (WriteHalf y) Write chan begins s = let bad : false ≡ true = rw chan at begins in cc
   barrier_joins (Open o) c chan begins s = cc
-
--- K35 is a test of what the event grants
-pub k35-is : (h : Header) (past : Trace) (e : Event) → k35 h past e ≡ is_none_or (granting h past e) (is_past_barriers past)
-k35-is h past (G p c i) = refl
-k35-is h past e = refl
 
 cons-injective : {A : Type 0} → (y z : A) → y ∷ [] ≡ z ∷ [] → y ≡ z
 cons-injective y z e = cc
@@ -404,9 +399,9 @@ barriers_begun r s n e t x accepted own begun half stands items =
     others p b off = barrier_stays r.past e p b (λ c. ap (λ o. option_filter (λ y. is_barrier_of y p c) o) new ∙ no_half x p c (rw half (ne_eqb x.port p off))) (λ c y is. issue-hits r.past e x y new)
 
 -- an event that issues another transaction
-pub barriers_plain : (r : Recording) (s : Barriers) (e : Event) (t : Target) (x : Transaction) → t ≡ target_of r.header r.past e → begun_in e t ≡ Some x
+pub barriers_other_issue : (r : Recording) (s : Barriers) (e : Event) (t : Target) (x : Transaction) → t ≡ target_of r.header r.past e → begun_in e t ≡ Some x
     → is_barrier_half x ≡ false → BarriersStand r s → BarriersStand (after r e) s
-barriers_plain r s e t x own begun plain stands =
+barriers_other_issue r s e t x own begun plain stands =
     let new : issued (length r.past) e ≡ Some x = sym (begun-is r.header r.past e t own) ∙ begun in record {
       size = stands.size;
       ports = λ p. barrier_stays r.past e p (get_or s.ports.items p Idle) (λ c. ap (λ o. option_filter (λ y. is_barrier_of y p c) o) new ∙ no_half x p c (rw plain refl)) (λ c y is. issue-hits r.past e x y new) (stands.ports p);

@@ -4,15 +4,15 @@ use Rattle.std.specs.Option.{option_map}
 use Rattle.std.proofs.lemmas.Bool.{and_parts}
 use Rattle.ace_event.specs.declared.event.Channel.TheVariants.{Read, Write}
 use Rattle.ace_model.specs.declared.transactions.Transaction.{Transaction}
-use Rattle.ace_model.proofs.Terms.{Event, Ar, Aw, R, B, G, Header, Trace, is_transaction, issued, outstanding, served_by, is_completion_event, is_due, may_respond, IsAccepted}
+use Rattle.ace_model.proofs.Terms.{Event, Ar, Aw, R, B, Header, Trace, is_transaction, issued, outstanding, served_by, is_completion_event, is_due, may_respond, IsAccepted}
 use Rattle.ace_model.specs.Trace.{port_of}
 use Rattle.ace_model.proofs.Rules.Keeps.{accepted_keeps}
 use Rattle.ace_model.proofs.General.Options.{is_some_and-is}
 use Rattle.ace_model.proofs.Trace.Issued.{outstanding-named, outstanding-name}
 use Rattle.ace_model.proofs.Trace.Growth.{IsIssued, named-issued}
-use Rattle.ace_portck.specs.declared.target.Target.{Target}
+use Rattle.ace_portck.specs.Target.{Target}
 use Rattle.ace_portck.specs.Targets.{target_of, progress_of, begun}
-use Rattle.ace_sysck.specs.Events.{own_of, carried, begun_in, responded_in, completed_in, granted_in}
+use Rattle.ace_sysck.specs.Events.{own_of, carried, begun_in, responded_in, completed_in}
 
 carried-begun : (o : Option Transaction) → option_map own_of (option_map begun o) ≡ o
 carried-begun None = refl
@@ -37,14 +37,6 @@ pub responded-is : (h : Header) (past : Trace) (e : Event) (t : Target) → t �
 responded-is h past (R p i resp last word) t own = ap carried own ∙ carried-progress h past (outstanding h past p Read i)
 responded-is h past (B p i resp) t own = ap carried own ∙ carried-progress h past (outstanding h past p Write i)
 responded-is h past e t own = refl
-
-abbrev pub granting : Header → Trace → Event → Option Transaction
-granting h past (G p c i) = outstanding h past p c i
-granting h past _ = None
-
-pub granted-is : (h : Header) (past : Trace) (e : Event) (t : Target) → t ≡ target_of h past e → granted_in e t ≡ granting h past e
-granted-is h past (G p c i) t own = ap carried own ∙ carried-progress h past (outstanding h past p c i)
-granted-is h past e t own = refl
 
 -- what is answered was issued, by the port of the event
 pub record Responds (h : Header) (past : Trace) (e : Event) (x : Transaction) : Type 0 where

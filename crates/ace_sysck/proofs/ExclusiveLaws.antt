@@ -2,27 +2,10 @@
 use Rattle.std.proofs.Common.{◌≡◌, ℕ, Bool, true, false, not, ◌&&◌, [], ◌∷◌, length, Option, Some, None, refl, sym, ap, ◌∙◌, inl, inr}
 use Rattle.std.proofs.lemmas.Bool.{cases_Bool, and_parts, and_right}
 use Rattle.ace_model.specs.declared.transactions.Transaction.{Transaction}
-use Rattle.ace_model.proofs.Terms.{Event, G, Read, Header, Trace, IsAccepted, is_exclusive_store, transaction_of, outstanding, given, issued, is_named, has_name, passed_at_grant, has_failed, store_result, is_some_and, newer}
+use Rattle.ace_model.proofs.Terms.{Event, G, Read, Header, Trace, is_exclusive_store, transaction_of, outstanding, given, issued, is_named, has_name, passed_at_grant, has_failed, store_result, is_some_and, newer}
 use Rattle.ace_model.proofs.General.Options.{Some-injective}
 use Rattle.ace_model.proofs.Trace.Looks.{has_name-is, at_name, newest_named-older}
 use Rattle.ace_model.proofs.Trace.Issued.{transaction_of-name, outstanding-named, outstanding-name}
-use Rattle.ace_portck.specs.declared.target.Target.{Target}
-use Rattle.ace_portck.specs.Targets.{target_of}
-use Rattle.ace_sysck.specs.Events.{granted_in}
-use Rattle.ace_sysck.proofs.EventLaws.{granted-is}
-use Rattle.ace_sysck.proofs.Steps.{granted_one}
-
--- what a G grants by its target is what it grants
-pub granted-given : (h : Header) (past : Trace) (e : Event) (t : Target) (x : Transaction) → t ≡ target_of h past e → granted_in e t ≡ Some x → given past e ≡ Some x
-granted-given h past (G p c i) t x own is = outstanding-named h past p c i x (sym (granted-is h past (G p c i) t own) ∙ is)
-granted-given h past e t x own is = cc
-
-pub granted-none : (h : Header) (past : Trace) (e : Event) (t : Target) (x : Transaction) → IsAccepted h (e ∷ past) → t ≡ target_of h past e → granted_in e t ≡ None
-    → given past e ≡ Some x → ⊥
-granted-none h past (G p c i) t x accepted own none is =
-    let o = granted_one h past p c i accepted in
-    let bad : Some o.0 ≡ None = sym o.1 ∙ sym (granted-is h past (G p c i) t own) ∙ none in cc
-granted-none h past e t x accepted own none is = cc
 
 -- a transaction that the event grants is the last of its name
 given-named : (past : Trace) (e : Event) (y : Transaction) (p i : ℕ) → given past e ≡ Some y → has_name y p Read i ≡ true → transaction_of past p Read i ≡ Some y

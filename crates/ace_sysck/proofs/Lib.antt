@@ -20,7 +20,8 @@ pub mod ExclusiveLaws
 pub mod RuleLaws
 -- What each kind of event leaves as it is.
 pub mod Unmoved
-pub mod Judging
 pub mod MessageCodes
--- What the short ways of the checker ask and leave.
-pub mod ShortWays
+-- What an event of each kind asks and leaves.
+pub mod ByKind
+-- What the events leave where the ports are kept beside the system.
+pub mod WhatIsHeard

@@ -8,7 +8,7 @@ use Rattle.ace_model.proofs.Dvm.Syncs.{last_sync-is}
 use Rattle.ace_model.proofs.Trace.Growth.{at_point-end}
 use Rattle.ace_model.proofs.Trace.Issued.{issued_at, issued-place}
 use Rattle.ace_model.proofs.General.Options.{Some-injective}
-use Rattle.ace_portck.specs.declared.target.Target.{Target}
+use Rattle.ace_portck.specs.Target.{Target}
 use Rattle.ace_portck.specs.Targets.{Recording, after, target_of}
 use Rattle.ace_sysck.specs.declared.messages.PortMessages.{PortMessages}
 use Rattle.ace_sysck.specs.declared.messages.Messages.{Messages}
@@ -160,9 +160,9 @@ messages_part r s n e t x accepted own begun part stands items =
     let u = unpart r.past x p (rw part (ne_eqb x.port p off)) in
     stays r.past e p k (ap (λ o. part_in o p) new ∙ u.0) (ap (λ o. sync_in r.past o p) new ∙ u.1) (issues-no_ac r.past e x p new) (λ y is. issue-hits r.past e x y new))
 
-pub messages_plain : (r : Recording) (s : Messages) (e : Event) (t : Target) (x : Transaction) → t ≡ target_of r.header r.past e → begun_in e t ≡ Some x
+pub messages_other_issue : (r : Recording) (s : Messages) (e : Event) (t : Target) (x : Transaction) → t ≡ target_of r.header r.past e → begun_in e t ≡ Some x
     → is_message_part x ≡ false → MessagesStand r s → MessagesStand (after r e) s
-messages_plain r s e t x own begun plain stands =
+messages_other_issue r s e t x own begun plain stands =
     let new : issued (length r.past) e ≡ Some x = sym (begun-is r.header r.past e t own) ∙ begun in record {
       size = stands.size;
       ports = λ p.

@@ -1,25 +1,22 @@
 -- The registrations, event by event.
 use Rattle.std.proofs.Common.{◌≡◌, ℕ, ◌*◌, ◌%◌, ◌^◌, ◌<◌, ◌≤◌, true, false, not, ◌&&◌, ◌||◌, nat_eq, nat_lt, if◌then◌else◌, bit_or, [], ◌∷◌, Option, Some, None, IsSome, unwrap_or, refl, sym, ap, subst, ◌∙◌, arith, inl, inr, w32}
 use Rattle.std.specs.Int.{bit_at}
-use Rattle.std.proofs.lemmas.Bool.{cases_Bool, cases_eq, and_from, and_parts, eq-eqb, ne_eqb, le-ltb}
+use Rattle.std.proofs.lemmas.Bool.{cases_Bool, cases_eq, and_parts, eq-eqb, ne_eqb, le-ltb}
 use Rattle.std.proofs.lemmas.Nat.Bits.{bit_at_set_same, bit_at_set_other, bit_at_above, bit_at-zero}
 use Rattle.indexmap.specs.IndexMap.{get}
 use Rattle.ace_model.specs.declared.transactions.Transaction.{Transaction}
 use Rattle.ace_model.proofs.Terms.{Event, G, Header, Trace, is_some_and, is_line, is_on, is_exclusive_store, outstanding, given, IsAccepted}
 use Rattle.ace_model.specs.Exclusives.{is_registered}
-use Rattle.ace_model.specs.Lines.{is_known}
 use Rattle.ace_model.specs.Trace.{port_of}
 use Rattle.std.specs.Option.{option_map}
 use Rattle.ace_sysck.proofs.Steps.{granted_one, port_within}
 use Rattle.ace_model.proofs.General.Options.{Some-injective, some_where-is}
 use Rattle.ace_model.proofs.Trace.Issued.{outstanding-named, outstanding-name}
-use Rattle.ace_model.proofs.Trace.Growth.{named-issued}
-use Rattle.ace_model.proofs.Lines.Known.{known-issued}
-use Rattle.ace_portck.specs.declared.target.Target.{Target}
+use Rattle.ace_portck.specs.Target.{Target}
 use Rattle.ace_portck.specs.declared.target.Progress.{Progress}
 use Rattle.ace_portck.specs.Targets.{Recording, target_of, progress_of}
 use Rattle.ace_sysck.specs.declared.registrations.Registrations.{Registrations}
-use Rattle.ace_sysck.specs.Registrations.{RegistrationsStand, IsNewLock, locked_in, locked_of, grants_locked, was_locked, registered_bits, kept_bits}
+use Rattle.ace_sysck.specs.Registrations.{RegistrationsStand, locked_in, locked_of, grants_locked, was_locked, registered_bits, kept_bits}
 use Rattle.ace_portck.specs.Targets.{after}
 
 -- the bits with one more set
@@ -68,13 +65,6 @@ locked-at h past (G q c j) t x own is =
       named = ap Some (sym name.port);
     }
 locked-at h past e t x own is = cc
-
--- its line is one that a transaction names
-pub locked-known : (h : Header) (past : Trace) (e : Event) (t : Target) (x : Transaction) → t ≡ target_of h past e → locked_in e t ≡ Some x → is_known past x.addr ≡ true
-locked-known h past (G q c j) t x own is =
-    let k = locked-at h past (G q c j) t x own is in
-    known-issued past x x.addr (named-issued past q c j x k.grants) (and_from (is_line x) _ k.line (eq-eqb x.addr x.addr refl))
-locked-known h past e t x own is = cc
 
 -- an accepted event that grants no line to a transaction with lock 1
 no_lock : (x : Transaction) (l : ℕ) → (x.lock && is_line x) ≡ false → (x.lock && is_on x l) ≡ false
@@ -176,14 +166,3 @@ never-locked r s l stands none =
       | inl t ↦ let bad : false ≡ true = subst (λ o. IsSome o) none (stands.known l t) in cc
       | inr f ↦ f
     ]
-
--- so its transaction is the first with lock 1 that is granted it
-pub new_lock : (r : Recording) (s : Registrations) (e : Event) (t : Target) (x : Transaction) → t ≡ target_of r.header r.past e → locked_in e t ≡ Some x
-    → RegistrationsStand r s → get nat_eq s.lines x.addr ≡ None → IsNewLock r.past e
-new_lock r s e t x own is stands none =
-    let k = locked-at r.header r.past e t x own is in
-    (x.addr, rw (k.grants, k.lock, k.line, eq-eqb x.addr x.addr refl) refl, never-locked r s x.addr stands none)
-
--- the registrations of the empty trace
-pub registrations_fresh : (h : Header) (s : Registrations) → ((l : ℕ) → get nat_eq s.lines l ≡ None) → RegistrationsStand (record { header = h; past = [] }) s
-registrations_fresh h s none = record { lines = λ p l. rw (none l, bit_at-zero p) refl; known = λ l was. cc }

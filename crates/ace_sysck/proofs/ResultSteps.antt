@@ -116,7 +116,7 @@ pub results_fresh : (h : Header) (s : Results) → length s.passed.items ≡ h.p
 results_fresh h s size none = record { size = size; passed = λ p i low. none (slot_of p i) }
 
 -- a G of any other transaction
-pub results_plain : (r : Recording) (s : Results) (e : Event) (x : Transaction) → issued (length r.past) e ≡ None → given r.past e ≡ Some x → is_exclusive_store x ≡ false
+pub results_other_grant : (r : Recording) (s : Results) (e : Event) (x : Transaction) → issued (length r.past) e ≡ None → given r.past e ≡ Some x → is_exclusive_store x ≡ false
     → ResultsStand r s → ResultsStand (after r e) s
-results_plain r s e x unissued grants plain stands =
+results_other_grant r s e x unissued grants plain stands =
     results_stay r s e (λ p i. ap (λ o. is_named o p Read i) unissued) (ap (λ o. is_some_and o is_exclusive_store) grants ∙ plain) stands

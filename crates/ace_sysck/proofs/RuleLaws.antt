@@ -5,7 +5,7 @@ use Rattle.ace_codes.specs.declared.kind.SnoopKind.{SnoopKind}
 use Rattle.ace_model.specs.declared.transactions.Transaction.{Transaction}
 use Rattle.ace_model.proofs.Terms.{Header, Ac, implies, is_some_and, is_none_or, is_complete_snoop, ac_kind_of, last_sync, is_sync_completed, may_complete, has_every_completion, k39}
 use Rattle.ace_model.proofs.Dvm.Syncs.{last_sync-is}
-use Rattle.ace_portck.specs.declared.target.Target.{Target}
+use Rattle.ace_portck.specs.Target.{Target}
 use Rattle.ace_portck.specs.Targets.{Recording}
 use Rattle.ace_sysck.specs.declared.messages.PortMessages.{PortMessages}
 use Rattle.ace_sysck.specs.declared.messages.Messages.{Messages}

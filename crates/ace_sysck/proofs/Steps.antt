@@ -10,10 +10,10 @@ use Rattle.ace_model.proofs.Rules.Keeps.{accepted_keeps}
 use Rattle.ace_model.proofs.General.Options.{is_none_or-at, is_some_and-is, Some-injective}
 use Rattle.ace_model.proofs.Trace.Issued.{outstanding-named, outstanding-name}
 use Rattle.ace_model.specs.Grants.{given}
-use Rattle.ace_portck.specs.declared.target.Target.{Target}
+use Rattle.ace_portck.specs.Target.{Target}
 use Rattle.ace_portck.specs.declared.target.Progress.{Progress}
 use Rattle.ace_portck.specs.Targets.{Recording, target_of, progress_of}
-use Rattle.ace_sysck.specs.Steps.{IsStep, IsAsked}
+use Rattle.ace_sysck.specs.Steps.{IsStep}
 
 -- the port of an event of an accepted trace is one of the header
 pub port_within : (h : Header) (past : Trace) (e : Event) (p : ℕ) → IsAccepted h (e ∷ past) → port_of e ≡ Some p → p < h.ports
@@ -54,7 +54,3 @@ grants-at r q c j e t y step is some =
       grants = ap (given r.past) is ∙ named;
       port = rw name.port (port_within r.header r.past e q step.accepted (ap port_of is));
     }
-
--- the port of an event that keeps K1 is one of the header
-pub within-asked : (r : Recording) (e : Event) (t : Target) (p : ℕ) → IsAsked r e t → port_of e ≡ Some p → p < r.header.ports
-within-asked r e t p asked port = ltb-true p r.header.ports (and_parts (nat_lt p r.header.ports) _ (is_none_or-at (port_of e) (may_have r.header e) p asked.first port)).0

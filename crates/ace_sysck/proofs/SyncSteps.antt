@@ -19,7 +19,7 @@ use Rattle.ace_model.proofs.Trace.Issued.{issued-place}
 use Rattle.ace_model.proofs.General.Options.{Some-injective, is_none_or-at, some_where-is}
 use Rattle.ace_model.proofs.General.Booleans.{implies-at, not_both}
 use Rattle.ace_model.proofs.General.Lists.{start-all, count_by-start, count_by-agree, count_by-cons}
-use Rattle.ace_portck.specs.declared.target.Target.{Target}
+use Rattle.ace_portck.specs.Target.{Target}
 use Rattle.ace_portck.specs.Targets.{Recording, after, target_of}
 use Rattle.ace_sysck.specs.declared.messages.PortMessages.{PortMessages}
 use Rattle.ace_sysck.specs.declared.syncs.PortSyncs.{PortSyncs}
@@ -56,9 +56,9 @@ message_order h past e x accepted new part =
     implies-at (is_message_part x) _ (and_parts _ _ (and_parts _ _ well).0).1 part
 
 -- a first part that waits for its second is no Sync
-first-plain : (h : Header) (past : Trace) (p : ℕ) (f : Transaction) → IsAccepted h past → first_waiting past p ≡ Some f → is_sync_word f.addr ≡ false
-first-plain h [] p f accepted w = cc
-first-plain h (e ∷ past) p f accepted w = go (λ g. first-plain h past p g accepted.0) (first_waiting past p) refl (issued (length past) e) refl w
+first-no_sync : (h : Header) (past : Trace) (p : ℕ) (f : Transaction) → IsAccepted h past → first_waiting past p ≡ Some f → is_sync_word f.addr ≡ false
+first-no_sync h [] p f accepted w = cc
+first-no_sync h (e ∷ past) p f accepted w = go (λ g. first-no_sync h past p g accepted.0) (first_waiting past p) refl (issued (length past) e) refl w
   where
     mine : (o : Option Transaction) → first_waiting past p ≡ o → (x : Transaction) → issued (length past) e ≡ Some x → (is_message_part x && nat_eq x.port p) ≡ true
         → waits_after o (Some x) ≡ Some f → is_sync_word f.addr ≡ false
@@ -121,7 +121,7 @@ module _ (h : Header) (past : Trace) (e : Event) (x : Transaction) (accepted : I
   message-syncs : (o : Option Transaction) → first_waiting past x.port ≡ o → count_by (is_sync (e ∷ past)) (parts_with o x) ≡ (if is_sync_word x.addr && not (is_some o) then 1 else 0)
   message-syncs (Some f) was =
       let w = waits-old e past x.port f (waits-is past x.port f was) in
-      let plain = first-plain h past x.port f accepted.0 was in
+      let plain = first-no_sync h past x.port f accepted.0 was in
       let first : is_sync (e ∷ past) f ≡ false = rw (w.part, plain) refl in
       let last : is_sync (e ∷ past) x ≡ false = is-sync (Some f) was ∙ and_right (is_sync_word x.addr) false refl in
       two_count (is_sync (e ∷ past)) f x first last
@@ -150,9 +150,9 @@ module _ (h : Header) (past : Trace) (e : Event) (x : Transaction) (accepted : I
   pub own-syncs : count_by (is_sync (e ∷ past)) (parts_in past (issued (length past) e) x.port) ≡ 0
   own-syncs = rw (new, part, eq-eqb x.port x.port refl) refl
 
-plain-syncs : (past : Trace) (e : Event) (n : Option Transaction) (q : ℕ) → is_some_and n is_message_part ≡ false → count_by (is_sync (e ∷ past)) (parts_in past n q) ≡ 0
-plain-syncs past e None q plain = refl
-plain-syncs past e (Some x) q plain = rw plain refl
+no_part-syncs : (past : Trace) (e : Event) (n : Option Transaction) (q : ℕ) → is_some_and n is_message_part ≡ false → count_by (is_sync (e ∷ past)) (parts_in past n q) ≡ 0
+no_part-syncs past e None q plain = refl
+no_part-syncs past e (Some x) q plain = rw plain refl
 
 -- there are no more Syncs for a port than events
 pub syncs-few : (h : Header) (past : Trace) (q : ℕ) → IsAccepted h past → syncs_for past q ≤ length past
@@ -169,7 +169,7 @@ syncs-few h (e ∷ past) q accepted =
 
     new-few : (n : Option Transaction) → issued (length past) e ≡ n → (is_some_and (issued (length past) e) is_message_part ≡ true) ⊎ (is_some_and (issued (length past) e) is_message_part ≡ false)
         → count_by (is_sync (e ∷ past)) (parts_in past (issued (length past) e) q) ≤ 1
-    new-few n is (inr plain) = let zero_is = plain-syncs past e (issued (length past) e) q plain in omega arith
+    new-few n is (inr plain) = let zero_is = no_part-syncs past e (issued (length past) e) q plain in omega arith
     new-few None is (inl t) = let bad : false ≡ true = rw is at t in cc
     new-few (Some x) is (inl t) =
         let part : is_message_part x ≡ true = rw is at t in
@@ -318,7 +318,7 @@ port_completed : (h : Header) (past : Trace) (e : Event) (x : Transaction) (s : 
     → is_message_part x ≡ false → is_dvm_completion x ≡ true → PortSyncsStand past x.port s → PortSyncsStand (e ∷ past) x.port (one_completed s)
 port_completed h past e x s accepted few new plain completion k =
     let z = port_stays-but h past e x.port s accepted (λ resp st is. let bad : None ≡ Some x = sym (ap (issued (length past)) is) ∙ new in cc)
-    (plain-syncs past e (issued (length past) e) x.port (rw new plain)) (λ p. no_sync-in past e (issued (length past) e) p (rw new plain)) k in
+    (no_part-syncs past e (issued (length past) e) x.port (rw new plain)) (λ p. no_sync-in past e (issued (length past) e) p (rw new plain)) k in
     record {
       reached = z.0;
       answered = z.1;
@@ -475,7 +475,7 @@ pub syncs_completion : (r : Recording) (s n : Syncs) (e : Event) (t : Target) (x
 syncs_completion r s n e t x step begun plain completion stands items =
     syncs_set r s n e x.port (one_completed (get_or s.ports.items x.port untold)) stands within items
     (port_completed r.header r.past e x (get_or s.ports.items x.port untold) step.accepted step.few new plain completion (stands.ports x.port within))
-    (λ p k off st. port_stays r.header r.past e p k step.accepted (issues-no_cr r.past e x p new) (plain-syncs r.past e (issued (length r.past) e) p (rw new plain))
+    (λ p k off st. port_stays r.header r.past e p k step.accepted (issues-no_cr r.past e x p new) (no_part-syncs r.past e (issued (length r.past) e) p (rw new plain))
     (λ m. no_sync-in r.past e (issued (length r.past) e) m (rw new plain)) (completes-same r.past e p (rw (new, completion, ne_eqb x.port p off) refl)) st)
   where
     new : issued (length r.past) e ≡ Some x
@@ -485,11 +485,11 @@ syncs_completion r s n e t x step begun plain completion stands items =
     within = port_within r.header r.past e x.port step.accepted (issuing-port r.past e x new)
 
 -- any other transaction
-pub syncs_plain : (r : Recording) (s : Syncs) (e : Event) (t : Target) (x : Transaction) → IsStep r e t → begun_in e t ≡ Some x → is_message_part x ≡ false → is_dvm_completion x ≡ false
+pub syncs_other_issue : (r : Recording) (s : Syncs) (e : Event) (t : Target) (x : Transaction) → IsStep r e t → begun_in e t ≡ Some x → is_message_part x ≡ false → is_dvm_completion x ≡ false
     → SyncsStand r s → SyncsStand (after r e) s
-syncs_plain r s e t x step begun plain other stands =
+syncs_other_issue r s e t x step begun plain other stands =
     let new : issued (length r.past) e ≡ Some x = sym (begun-is r.header r.past e t step.target) ∙ begun in
-    syncs_all r s e stands (λ p k st. port_stays r.header r.past e p k step.accepted (issues-no_cr r.past e x p new) (plain-syncs r.past e (issued (length r.past) e) p (rw new plain))
+    syncs_all r s e stands (λ p k st. port_stays r.header r.past e p k step.accepted (issues-no_cr r.past e x p new) (no_part-syncs r.past e (issued (length r.past) e) p (rw new plain))
     (λ m. no_sync-in r.past e (issued (length r.past) e) m (rw new plain)) (completes-same r.past e p (rw (new, other) refl)) st)
 
 -- an event that issues nothing, for a port of which it is no CR

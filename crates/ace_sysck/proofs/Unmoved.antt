@@ -1,9 +1,9 @@
 -- Each kind of event moves some groups, and the others stand after it as they are.
 use Rattle.std.proofs.Common.{◌≡◌, ◌<◌, ◌-◌, ◌^◌, ℕ, Bool, true, false, None, length, refl}
-use Rattle.ace_codes.specs.declared.state.LineState.{LineState}
-use Rattle.ace_model.proofs.Terms.{Event, Channel, Ar, Aw, R, B, Rk, Wk, Ac, Cr, Cd, G, M, S, L, D, Op, W, Trace, given}
+use Rattle.ace_event.specs.declared.event.Event.TheVariants.{Mem}
+use Rattle.ace_model.proofs.Terms.{Event, Ar, Aw, R, B, Rk, Wk, Ac, Cr, Cd, G, M, S, L, D, Op, W}
 use Rattle.ace_model.specs.Accepted.{least_broken}
-use Rattle.ace_portck.specs.declared.target.Target.{Target}
+use Rattle.ace_portck.specs.Target.{Target}
 use Rattle.ace_portck.specs.Targets.{Recording, after, target_of}
 use Rattle.ace_sysck.specs.declared.barriers.Barriers.{Barriers}
 use Rattle.ace_sysck.specs.declared.monitors.Monitors.{Monitors}
@@ -138,12 +138,6 @@ by_response moves r b (R p i resp last word) is = r p i resp last word
 by_response moves r b (B p i resp) is = b p i resp
 by_response moves r b e is = cc
 
--- an event that issues a transaction grants none
-pub issue-grants_none : (past : Trace) (e : Event) → is_issue e ≡ true → given past e ≡ None
-issue-grants_none past (Ar p i addr snoop dom bar lock) is = refl
-issue-grants_none past (Aw p i addr snoop dom bar) is = refl
-issue-grants_none past e is = cc
-
 -- What moves the monitors at most.
 pub record MovesMonitors (e : Event) : Type 0 where
   pub barriers : moves_barriers e ≡ false
@@ -153,30 +147,13 @@ pub record MovesMonitors (e : Event) : Type 0 where
   pub inboxes : moves_inboxes e ≡ false
   pub syncs : moves_syncs e ≡ false
 
--- an event of any other kind
-pub moves-other : (e : Event)
-    → ((p i addr snoop dom bar : ℕ) (lock : Bool) → e ≡ Ar p i addr snoop dom bar lock → ⊥)
-    → ((p i addr snoop dom bar : ℕ) → e ≡ Aw p i addr snoop dom bar → ⊥)
-    → ((p i resp : ℕ) (last : Bool) (word : ℕ) → e ≡ R p i resp last word → ⊥)
-    → ((p i resp : ℕ) → e ≡ B p i resp → ⊥)
-    → ((p addr snoop : ℕ) → e ≡ Ac p addr snoop → ⊥)
-    → ((p resp : ℕ) (st : LineState) → e ≡ Cr p resp st → ⊥)
-    → ((p : ℕ) (c : Channel) (i : ℕ) → e ≡ G p c i → ⊥) → MovesMonitors e
-moves-other (Ar p i addr snoop dom bar lock) ar aw r b ac cr g = absurd (ar p i addr snoop dom bar lock refl)
-moves-other (Aw p i addr snoop dom bar) ar aw r b ac cr g = absurd (aw p i addr snoop dom bar refl)
-moves-other (R p i resp last word) ar aw r b ac cr g = absurd (r p i resp last word refl)
-moves-other (B p i resp) ar aw r b ac cr g = absurd (b p i resp refl)
-moves-other (Ac p addr snoop) ar aw r b ac cr g = absurd (ac p addr snoop refl)
-moves-other (Cr p resp st) ar aw r b ac cr g = absurd (cr p resp st refl)
-moves-other (G p c i) ar aw r b ac cr g = absurd (g p c i refl)
-moves-other e ar aw r b ac cr g = record { barriers = refl; results = refl; registrations = refl; messages = refl; inboxes = refl; syncs = refl }
-
 -- the event moves nothing of the system
 abbrev pub moves_nothing : Event → Bool
 moves_nothing (W p strb last word) = true
 moves_nothing (Cd p last word) = true
 moves_nothing (M p c i line) = true
 moves_nothing (Op p k res) = true
+moves_nothing (Mem addr line) = true
 moves_nothing _ = false
 
 moved-none : (e : Event) → moves_nothing e ≡ true → MovesMonitors e × (moves_monitors e ≡ false)
@@ -184,6 +161,7 @@ moved-none (W p strb last word) n = (record { barriers = refl; results = refl; r
 moved-none (Cd p last word) n = (record { barriers = refl; results = refl; registrations = refl; messages = refl; inboxes = refl; syncs = refl }, refl)
 moved-none (M p c i line) n = (record { barriers = refl; results = refl; registrations = refl; messages = refl; inboxes = refl; syncs = refl }, refl)
 moved-none (Op p k res) n = (record { barriers = refl; results = refl; registrations = refl; messages = refl; inboxes = refl; syncs = refl }, refl)
+moved-none (Mem addr line) n = (record { barriers = refl; results = refl; registrations = refl; messages = refl; inboxes = refl; syncs = refl }, refl)
 moved-none e n = cc
 
 -- all groups stand after it as they are

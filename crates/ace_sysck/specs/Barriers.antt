@@ -3,20 +3,17 @@ use Rattle.std.specs.Prelude.{ℕ, ◌≡◌, ◌<◌, Bool, true, false, not, m
 use Rattle.std.specs.List.{All}
 use Rattle.std.specs.Option.{option_map}
 use Rattle.ace_event.specs.declared.event.Channel.TheVariants.{Read, Write}
-use Rattle.ace_event.specs.declared.event.Event.{Event}
 use Rattle.ace_model.specs.declared.transactions.Transaction.{Transaction}
 use Rattle.ace_model.specs.Trace.{Trace}
 use Rattle.ace_model.specs.Transactions.{is_read}
 use Rattle.ace_model.specs.Progress.{is_completed}
 use Rattle.ace_model.specs.AddressRules.{is_like_half}
 use Rattle.ace_model.specs.Barriers.{Pair, barriers, pairs, is_pair_complete, may_answer, place_of}
-use Rattle.ace_portck.specs.declared.target.Target.{Target}
 use Rattle.ace_portck.specs.Targets.{Recording}
 use Rattle.ace_sysck.specs.declared.barriers.OpenPair.{OpenPair}
 use Rattle.ace_sysck.specs.declared.barriers.Barrier.{Barrier}
 use Rattle.ace_sysck.specs.declared.barriers.Barrier.TheVariants.{Idle, ReadHalf, WriteHalf, Open}
 use Rattle.ace_sysck.specs.declared.barriers.Barriers.{Barriers}
-use Rattle.ace_sysck.specs.Steps.{IsStep, IsAsked}
 
 -- the halves of a barrier on each channel
 abbrev pub reads_of : Barrier → List Transaction
@@ -80,14 +77,6 @@ pub record TellsOpenPair (past : Trace) (p : ℕ) (o : Option OpenPair) : Type 0
 pub record BarriersStand (r : Recording) (s : Barriers) : Type 0 where
   pub size : length s.ports.items ≡ r.header.ports
   pub ports : (p : ℕ) → BarrierStands r.past p (slice_index_or s.ports.items p Idle)
-
-pub record MayHearBarriers (r : Recording) (s : Barriers) (e : Event) (t : Target) : Type 0 where
-  pub step : IsStep r e t
-  pub stands : BarriersStand r s
-
-pub record MayAskBarriers (r : Recording) (s : Barriers) (e : Event) (t : Target) : Type 0 where
-  pub asked : IsAsked r e t
-  pub stands : BarriersStand r s
 
 -- an accepted trace may go on with the transaction as the next that is issued
 pub record MayBegin (r : Recording) (s : Barriers) (x : Transaction) : Type 0 where

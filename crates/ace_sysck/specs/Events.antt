@@ -2,10 +2,10 @@
 use Rattle.std.specs.Prelude.{Bool, true, false, if◌then◌else◌, Option, None}
 use Rattle.std.specs.Option.{option_map}
 use Rattle.ace_event.specs.declared.event.Event.{Event}
-use Rattle.ace_event.specs.declared.event.Event.TheVariants.{Ar, Aw, R, B, G}
+use Rattle.ace_event.specs.declared.event.Event.TheVariants.{Ar, Aw, R, B}
 use Rattle.ace_model.specs.declared.transactions.Transaction.{Transaction}
 use Rattle.ace_portck.specs.declared.target.Progress.{Progress}
-use Rattle.ace_portck.specs.declared.target.Target.{Target}
+use Rattle.ace_portck.specs.Target.{Target}
 
 abbrev pub own_of : Progress → Transaction
 own_of x = x.transaction
@@ -30,11 +30,6 @@ abbrev pub completed_in : Event → Target → Option Transaction
 completed_in (R p i resp last word) t = if last then carried t else None
 completed_in (B p i resp) t = carried t
 completed_in _ t = None
-
--- what a G grants
-abbrev pub granted_in : Event → Target → Option Transaction
-granted_in (G p c i) t = carried t
-granted_in _ t = None
 
 -- it issues a transaction
 abbrev pub is_issue : Event → Bool

@@ -13,17 +13,15 @@ use Rattle.ace_model.specs.Kinds.{is_message_snoop}
 use Rattle.ace_model.specs.Transactions.{is_ace}
 use Rattle.ace_model.specs.Progress.{IsTransaction}
 use Rattle.ace_model.specs.Messages.{has_second, is_sync_word, is_second_part, is_sync, parts_for, answered_parts, parts_among, forwarded, next_part}
-use Rattle.ace_portck.specs.declared.target.Target.{Target}
+use Rattle.ace_portck.specs.Target.{Target}
 use Rattle.ace_portck.specs.Targets.{Recording}
 use Rattle.ace_sysck.specs.declared.messages.PortMessages.{PortMessages}
-use Rattle.ace_sysck.specs.declared.messages.Messages.{Messages}
 use Rattle.ace_sysck.specs.declared.inboxes.Message.{Message}
 use Rattle.ace_sysck.specs.declared.inboxes.Part.{Part}
 use Rattle.ace_sysck.specs.declared.inboxes.Sent.{Sent}
 use Rattle.ace_sysck.specs.declared.inboxes.Inbox.{Inbox}
 use Rattle.ace_sysck.specs.declared.inboxes.Inboxes.{Inboxes}
-use Rattle.ace_sysck.specs.Steps.{IsStep, IsAsked}
-use Rattle.ace_sysck.specs.Messages.{MessagesStand}
+use Rattle.ace_sysck.specs.Steps.{IsAsked}
 
 -- the empty inbox of the port: that of an ACE port has room for a part under each identifier of each port
 pub record IsEmptyInbox (h : Header) (q : ℕ) (b : Inbox) : Type 0 where
@@ -148,9 +146,3 @@ forwards_in next addr k =
 pub record MayAskInboxes (r : Recording) (s : Inboxes) (e : Event) (t : Target) : Type 0 where
   pub asked : IsAsked r e t
   pub stands : InboxesStand r s
-
--- the messages are those before the event
-pub record MayHearInboxes (r : Recording) (s : Inboxes) (e : Event) (t : Target) (m : Messages) : Type 0 where
-  pub step : IsStep r e t
-  pub stands : InboxesStand r s
-  pub messages : MessagesStand r m

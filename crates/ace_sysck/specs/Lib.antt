@@ -9,3 +9,4 @@ pub mod Inboxes
 pub mod Syncs
 pub mod Rules
 pub mod Stands
+pub mod Hearing

@@ -1,15 +1,12 @@
 -- What is kept of the DVM messages that each port issues.
 use Rattle.std.specs.Prelude.{ℕ, ◌≡◌, Bool, true, false, not, ◌&&◌, ◌||◌, ◌==◌, if◌then◌else◌, length, slice_index_or, Option, Some, None, is_some}
-use Rattle.ace_event.specs.declared.event.Event.{Event}
 use Rattle.ace_model.specs.declared.transactions.Transaction.{Transaction}
 use Rattle.ace_model.specs.Trace.{Trace, implies, is_some_and}
 use Rattle.ace_model.specs.Progress.{is_completed}
 use Rattle.ace_model.specs.Messages.{is_sync_word, is_message_word, waits_after, first_waiting, last_sync, is_sync_completed}
-use Rattle.ace_portck.specs.declared.target.Target.{Target}
 use Rattle.ace_portck.specs.Targets.{Recording}
 use Rattle.ace_sysck.specs.declared.messages.PortMessages.{PortMessages}
 use Rattle.ace_sysck.specs.declared.messages.Messages.{Messages}
-use Rattle.ace_sysck.specs.Steps.{IsStep}
 
 -- of a port that has issued none
 abbrev pub silent : PortMessages
@@ -24,10 +21,6 @@ pub record PortMessagesStand (past : Trace) (p : ℕ) (m : PortMessages) : Type 
 pub record MessagesStand (r : Recording) (s : Messages) : Type 0 where
   pub size : length s.ports.items ≡ r.header.ports
   pub ports : (p : ℕ) → PortMessagesStand r.past p (slice_index_or s.ports.items p silent)
-
-pub record MayHearMessages (r : Recording) (s : Messages) (e : Event) (t : Target) : Type 0 where
-  pub step : IsStep r e t
-  pub stands : MessagesStand r s
 
 -- the part is a Sync, after what the port has issued
 abbrev pub is_new_sync : PortMessages → Transaction → Bool

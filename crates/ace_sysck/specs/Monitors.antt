@@ -6,10 +6,8 @@ use Rattle.ace_event.specs.declared.event.Event.TheVariants.{Rk, Wk, Cr, S}
 use Rattle.ace_tables.specs.States.{is_invalid}
 use Rattle.ace_model.specs.Trace.{is_some_and}
 use Rattle.ace_model.specs.Monitors.{is_monitored}
-use Rattle.ace_portck.specs.declared.target.Target.{Target}
 use Rattle.ace_portck.specs.Targets.{Recording}
 use Rattle.ace_sysck.specs.declared.monitors.Monitors.{Monitors}
-use Rattle.ace_sysck.specs.Steps.{IsStep}
 
 -- there is a line, and it is this one
 abbrev pub is_line_of : Option ℕ → ℕ → Bool
@@ -32,7 +30,3 @@ left_state _ = None
 pub record MonitorsStand (r : Recording) (s : Monitors) : Type 0 where
   pub size : length s.lines.items ≡ r.header.ports
   pub lines : (p l : ℕ) → is_monitored r.header r.past p l ≡ is_line_of (slice_index_or s.lines.items p None) l
-
-pub record MayHearMonitors (r : Recording) (s : Monitors) (e : Event) (t : Target) : Type 0 where
-  pub step : IsStep r e t
-  pub stands : MonitorsStand r s

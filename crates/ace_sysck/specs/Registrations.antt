@@ -10,10 +10,9 @@ use Rattle.ace_model.specs.Transactions.{is_line, is_on, is_exclusive_store}
 use Rattle.ace_model.specs.Grants.{given}
 use Rattle.ace_model.specs.Exclusives.{is_registered}
 use Rattle.ace_portck.specs.declared.target.Progress.{Progress}
-use Rattle.ace_portck.specs.declared.target.Target.{Target}
-use Rattle.ace_portck.specs.Targets.{Recording, target_of}
+use Rattle.ace_portck.specs.Target.{Target}
+use Rattle.ace_portck.specs.Targets.{Recording}
 use Rattle.ace_sysck.specs.declared.registrations.Registrations.{Registrations}
-use Rattle.ace_sysck.specs.Steps.{IsStep}
 
 -- the event grants the line to a transaction with lock 1
 abbrev pub grants_locked : Trace → Event → ℕ → Bool
@@ -46,19 +45,6 @@ pub record RegistrationsStand (r : Recording) (s : Registrations) : Type 0 where
   pub lines : (p l : ℕ) → (bit_at (registered_bits s l) p == 1) ≡ is_registered r.past p l
   pub known : (l : ℕ) → was_locked r.past l ≡ true → IsSome (get nat_eq s.lines l)
 
--- there is a place for the line that the event grants to a transaction with lock 1
-abbrev pub HasLineRoom : Registrations → Event → Target → Type 0
-HasLineRoom s e t = (x : Transaction) → locked_in e t ≡ Some x → IsSome (get nat_eq s.lines x.addr)
-
 -- the event grants a line to a transaction with lock 1 for the first time
 abbrev pub IsNewLock : Trace → Event → Type 0
 IsNewLock past e = (l : ℕ) × (grants_locked past e l ≡ true) × (was_locked past l ≡ false)
-
-pub record MayMakeLineRoom (r : Recording) (s : Registrations) (e : Event) (t : Target) : Type 0 where
-  pub stands : RegistrationsStand r s
-  pub target : t ≡ target_of r.header r.past e
-
-pub record MayHearRegistrations (r : Recording) (s : Registrations) (e : Event) (t : Target) : Type 0 where
-  pub step : IsStep r e t
-  pub stands : RegistrationsStand r s
-  pub room : HasLineRoom s e t

@@ -1,19 +1,17 @@
 -- What is kept of the system as a whole says what there is to say of it after a recording.
-use Rattle.std.specs.Prelude.{ℕ, ◌≡◌, ◌<◌, ◌-◌, ◌^◌, true, None, IsSome, length, nat_eq}
+use Rattle.std.specs.Prelude.{ℕ, ◌≡◌, true, IsSome, nat_eq}
 use Rattle.indexmap.specs.IndexMap.{get}
 use Rattle.ace_event.specs.Ports.{IsHeader}
-use Rattle.ace_event.specs.declared.event.Event.{Event}
-use Rattle.ace_model.specs.Accepted.{IsAccepted, least_broken}
+use Rattle.ace_model.specs.Accepted.{IsAccepted}
 use Rattle.ace_model.specs.Trace.{Trace}
 use Rattle.ace_model.specs.declared.transactions.Transaction.{Transaction}
-use Rattle.ace_portck.specs.declared.target.Target.{Target}
 use Rattle.ace_portck.specs.LineMaps.{HasRoomForLines}
-use Rattle.ace_portck.specs.Targets.{Recording, target_of}
+use Rattle.ace_portck.specs.Targets.{Recording}
 use Rattle.ace_sysck.specs.declared.system.SysCheck.{SysCheck}
 use Rattle.ace_sysck.specs.Barriers.{BarriersStand}
 use Rattle.ace_sysck.specs.Monitors.{MonitorsStand}
 use Rattle.ace_sysck.specs.Results.{ResultsStand}
-use Rattle.ace_sysck.specs.Registrations.{RegistrationsStand, HasLineRoom}
+use Rattle.ace_sysck.specs.Registrations.{RegistrationsStand}
 use Rattle.ace_sysck.specs.Messages.{MessagesStand}
 use Rattle.ace_sysck.specs.Inboxes.{InboxesStand}
 use Rattle.ace_sysck.specs.Syncs.{SyncsStand}
@@ -31,15 +29,6 @@ pub record Stands (s : SysCheck) (r : Recording) : Type 0 where
   pub inboxes : InboxesStand r s.inboxes
   pub syncs : SyncsStand r s.syncs
 
--- the event comes next after the recording, and the target is its own
-pub record MayTest (s : SysCheck) (r : Recording) (e : Event) (t : Target) : Type 0 where
-  pub stands : Stands s r
-  pub target : t ≡ target_of r.header r.past e
-
--- there is room for what the event leaves: a place for the line that it grants to a transaction with lock 1
-abbrev pub HasRoom : SysCheck → Event → Target → Type 0
-HasRoom s e t = HasLineRoom s.registrations e t
-
 -- there is a place for the line of the transaction, if that has lock 1: room for what its G leaves
 abbrev pub HasLockRoom : SysCheck → Transaction → Type 0
 HasLockRoom s x = x.lock ≡ true → IsSome (get nat_eq s.registrations.lines x.addr)
@@ -48,11 +37,3 @@ HasLockRoom s x = x.lock ≡ true → IsSome (get nat_eq s.registrations.lines x
 -- the trace names.
 abbrev pub IsRoomy : ℕ → Trace → SysCheck → Type 0
 IsRoomy lines past s = HasRoomForLines lines past s.registrations.lines
-
--- the event may be next: it breaks no rule, the target is its own, and there is room for what it leaves
-pub record MayApply (s : SysCheck) (r : Recording) (e : Event) (t : Target) : Type 0 where
-  pub stands : Stands s r
-  pub target : t ≡ target_of r.header r.past e
-  pub room : HasRoom s e t
-  pub kept : least_broken r.header r.past e ≡ None
-  pub few : length r.past < 2 ^ 64 - 1

@@ -1,21 +1,14 @@
 -- What is kept of the Syncs that reach each port, and of its DVM Completes.
 use Rattle.std.specs.Prelude.{ℕ, ◌≡◌, ◌<◌, ◌+◌, ◌-◌, ◌^◌, Bool, min, ◌==◌, nat_le, if◌then◌else◌, length, replicate, slice_set, slice_index_or, count_by, Some}
-use Rattle.ace_event.specs.declared.event.Event.{Event}
 use Rattle.ace_event.specs.declared.header.Header.{Header}
 use Rattle.ace_model.specs.declared.transactions.Transaction.{Transaction}
 use Rattle.ace_model.specs.Trace.{Trace, implies}
 use Rattle.std.specs.List.{list_all}
 use Rattle.ace_model.specs.Grants.{ports_below}
 use Rattle.ace_model.specs.Messages.{is_sync, parts_for, answered_syncs, dvm_completes, last_sync, sync_number, is_other_ace}
-use Rattle.ace_portck.specs.declared.target.Target.{Target}
 use Rattle.ace_portck.specs.Targets.{Recording}
-use Rattle.ace_sysck.specs.declared.messages.Messages.{Messages}
 use Rattle.ace_sysck.specs.declared.syncs.PortSyncs.{PortSyncs}
 use Rattle.ace_sysck.specs.declared.syncs.Syncs.{Syncs}
-use Rattle.ace_sysck.specs.declared.inboxes.Inboxes.{Inboxes}
-use Rattle.ace_sysck.specs.Steps.{IsStep}
-use Rattle.ace_sysck.specs.Messages.{MessagesStand}
-use Rattle.ace_sysck.specs.Inboxes.{InboxesStand}
 
 -- of a port that none has reached
 abbrev pub untold : PortSyncs
@@ -69,15 +62,3 @@ completes_all h s p =
     (λ q. implies (is_other_ace h p q)
     (nat_le (slice_index_or (slice_index_or s.ports.items q untold).numbers p 0) (slice_index_or s.ports.items q untold).completes))
     (ports_below h.ports)
-
--- an accepted trace may go on with the transaction, which is of a port of the header
-pub record MayIssueCompletion (r : Recording) (s : Syncs) (x : Transaction) : Type 0 where
-  pub stands : SyncsStand r s
-  pub within : x.port < r.header.ports
-
--- the messages and the inboxes are those before the event
-pub record MayHearSyncs (r : Recording) (s : Syncs) (e : Event) (t : Target) (m : Messages) (boxes : Inboxes) : Type 0 where
-  pub step : IsStep r e t
-  pub stands : SyncsStand r s
-  pub messages : MessagesStand r m
-  pub inboxes : InboxesStand r boxes

@@ -4,11 +4,8 @@ ghost use Rattle.std.specs.Prelude.{◌≡◌, max};
 ghost use Rattle.ace_model.specs.AddressRules.{is_like_half};
 ghost use Rattle.ace_sysck.specs.Barriers.{begins_after, joined, answered, is_awaited_by, comes_far_enough, may_answer_after, is_past};
 
-use crate::events::{begun_in, completed_in, granted_in, responded_in};
-use ace_event::{Channel, Event};
+use ace_event::Channel;
 use ace_model::Transaction;
-use ace_portck::Target;
-use ace_portck::kinds::is_barrier_half;
 use std::alloc::{AllocError, Global};
 
 /// A barrier pair that isn't complete: its halves, and whether they have had their R and B.
@@ -168,15 +165,14 @@ fn is_past(barrier: &Barrier, x: &Transaction) -> bool
 }
 
 impl Barriers {
-    ghost use Rattle.std.specs.Prelude.{◌≡◌, [], true, IfOk, slice_set, slice_index_or, length, Some, is_some};
+    ghost use Rattle.std.specs.Prelude.{◌≡◌, [], true, IfOk, slice_set, slice_index_or, Some};
     ghost use Rattle.ace_event.specs.declared.header.Header.{Header};
-    ghost use Rattle.ace_model.specs.Trace.{is_none_or, implies};
     ghost use Rattle.ace_model.specs.Transactions.{issued};
-    ghost use Rattle.ace_model.specs.OrderRules.{is_past_barriers, k34, k35};
+    ghost use Rattle.ace_model.specs.OrderRules.{is_past_barriers};
     ghost use Rattle.ace_model.specs.AddressRules.{begins_barrier};
     ghost use Rattle.ace_model.specs.Barriers.{is_barrier_half};
-    ghost use Rattle.ace_portck.specs.Targets.{Recording, after};
-    ghost use Rattle.ace_sysck.specs.Barriers.{BarriersStand, TellsOpenPair, MayBegin, MayHearBarriers, MayAskBarriers};
+    ghost use Rattle.ace_portck.specs.Targets.{Recording};
+    ghost use Rattle.ace_sysck.specs.Barriers.{BarriersStand, TellsOpenPair, MayBegin};
     ghost use Rattle.ace_sysck.specs.declared.barriers.Barrier.TheVariants.{Idle};
 
     /// The barriers of the empty trace, of so many ports.
@@ -234,16 +230,8 @@ impl Barriers {
         }
     }
 
-    /// Of K9, where the event issues the transaction: a barrier half has address 0, every earlier pair of the port is complete, and
-    /// its own other half, if it was issued, is alike.
-    #[inline(always)]
-    pub fn keeps_k9(&self, x: &Transaction) -> bool
-        ensures { (r : Recording) → MayBegin r self.now x.now → result ≡ implies (is_barrier_half x.now) (begins_barrier r.past x.now) }
-    {
-        !is_barrier_half(x) || self.lets_begin(x)
-    }
-
-    /// The same, of a barrier half.
+    /// Of K9, where the event issues the barrier half: it has address 0, every earlier pair of the
+    /// port is complete, and its own other half, if it was issued, is alike.
     pub fn lets_begin(&self, x: &Transaction) -> bool
         ensures { (r : Recording) → MayBegin r self.now x.now → is_barrier_half x.now ≡ true → result ≡ begins_barrier r.past x.now }
     {
@@ -266,31 +254,8 @@ impl Barriers {
         }
     }
 
-    /// K34: a barrier is answered once both halves were issued and what is before it has come far enough.
-    #[inline(always)]
-    pub fn keeps_k34(&self, event: &Event, target: &Target) -> bool
-        ensures { (r : Recording) → MayAskBarriers r self.now event.now target.now → result ≡ k34 r.header r.past event.now }
-    {
-        match responded_in(event, target) {
-            None => true,
-            Some(x) => {
-                !is_barrier_half(&x) || self.may_answer(&x, target.unordered, target.incomplete)
-            }
-        }
-    }
-
-    /// K35: where a G grants a transaction with bar 0, every barrier pair of the port before it is complete.
-    #[inline(always)]
-    pub fn keeps_k35(&self, event: &Event, target: &Target) -> bool
-        ensures { (r : Recording) → MayAskBarriers r self.now event.now target.now → result ≡ k35 r.header r.past event.now }
-    {
-        match granted_in(event, target) {
-            None => true,
-            Some(x) => is_past(&self.barrier_of(x.port), &x),
-        }
-    }
-
-    /// The same, of the transaction that a G grants.
+    /// K35, of the transaction that a G grants: where its bar is 0, every barrier pair of the port
+    /// before it is complete.
     #[inline(always)]
     pub fn lets_past(&self, x: &Transaction) -> bool
         ensures { (r : Recording) → BarriersStand r self.now → result ≡ is_past_barriers r.past x.now }
@@ -307,19 +272,5 @@ impl Barriers {
     {
         let barrier = joined(self.barrier_of(x.port), *x);
         self.set(x.port, barrier);
-    }
-
-    /// The barriers after the event.
-    #[inline(always)]
-    pub fn hear(&mut self, event: &Event, target: &Target)
-        ensures { (r : Recording) → MayHearBarriers r self.old event.now target.now → BarriersStand (after r event.now) self.new }
-    {
-        if let Some(x) = begun_in(event, target) {
-            if is_barrier_half(&x) {
-                self.begin(&x);
-            }
-        } else if let Some(x) = completed_in(event, target) {
-            self.answer(x.port, x.place);
-        }
     }
 }

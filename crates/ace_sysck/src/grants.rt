@@ -1,9 +1,9 @@
 //! The G of a transaction that is known: the rule of the share that it may break, and what it moves.
 
 use crate::SysCheck;
+use ace_io::NoMemory;
 use ace_model::Transaction;
-use ace_portck::NoMemory;
-use ace_portck::kinds::is_exclusive_store;
+use ace_model::kinds::is_exclusive_store;
 
 impl SysCheck {
     ghost use Rattle.std.specs.Prelude.{◌≡◌, ◌≤◌, ◌<◌, ◌-◌, ◌^◌, ℕ, true, false, None, Some, IsSome, IsOk, OnOk, OnErr, length, nat_eq};

@@ -1,19 +1,15 @@
 //! The parts of DVM messages that are forwarded to the ports.
 
-ghost use Rattle.std.specs.Prelude.{◌≡◌, ◌<◌, ◌≤◌, ◌+◌, ◌++◌, ◌∷◌, [], length, slice_get, IfOk};
+ghost use Rattle.std.specs.Prelude.{◌≡◌, ◌<◌, ◌+◌, [], length, slice_get, IfOk};
 ghost use Rattle.std.specs.Option.{option_map, option_to_list};
-ghost use Rattle.std.specs.VecDeque.{deque_capacity};
-ghost use Rattle.ace_sysck.specs.Inboxes.{IsEmptyInbox, parts_sent, sent_list, Receives, forwards_in, has_place, answers_message, own_transaction, next_message_in};
+ghost use Rattle.ace_sysck.specs.Inboxes.{IsEmptyInbox, parts_sent, sent_list, Receives, forwards_in, has_place, own_transaction, next_message_in};
 
-use crate::events::begun_in;
-use crate::kinds::{is_message_part, is_message_snoop};
-use crate::messages::{Messages, PortMessages};
+use crate::messages::PortMessages;
 use crate::words::{has_second, is_sync_word};
-use ace_codes::{SnoopKind, read_ac};
-use ace_event::{Event, Header};
+use ace_codes::SnoopKind;
+use ace_event::Header;
 use ace_model::Transaction;
-use ace_portck::Target;
-use ace_portck::kinds::is_ace;
+use ace_model::kinds::is_ace;
 use std::alloc::{AllocError, Global};
 use std::collections::VecDeque;
 
@@ -186,18 +182,16 @@ fn forwards_in(inbox: &Inbox, addr: u32, kind: SnoopKind) -> bool
 
 impl Inboxes {
     ghost use Rattle.std.specs.Prelude.{◌≡◌, ◌*◌, [], IfOk, slice_get, length, true};
-    ghost use Rattle.ace_portck.specs.declared.target.Target.{Target};
     ghost use Rattle.std.specs.Option.{option_map};
     ghost use Rattle.ace_event.specs.declared.header.Header.{Header};
     ghost use Rattle.ace_model.specs.Transactions.{is_ace};
-    ghost use Rattle.ace_model.specs.OrderRules.{k36};
     ghost use Rattle.std.specs.Prelude.{not, ◌||◌};
     ghost use Rattle.ace_model.specs.Trace.{implies, is_some_and};
     ghost use Rattle.std.specs.List.{list_all};
     ghost use Rattle.ace_model.specs.Grants.{ports_below};
     ghost use Rattle.ace_model.specs.Messages.{is_other_ace};
     ghost use Rattle.ace_portck.specs.Targets.{Recording, after};
-    ghost use Rattle.ace_sysck.specs.Inboxes.{InboxesStand, MayAskInboxes, MayHearInboxes, SendsAll, SendsOne, ForwardsTo, AnswersFirst, first_is_sync, sent_list, awaits, message_of, next_in, next_message, part_of};
+    ghost use Rattle.ace_sysck.specs.Inboxes.{InboxesStand, SendsAll, SendsOne, ForwardsTo, AnswersFirst, first_is_sync, sent_list, awaits, message_of, next_in, next_message};
 
     /// The inboxes of the empty trace under the header.
     pub fn new(alloc: Global, header: &Header) -> Result<Inboxes, AllocError>
@@ -249,20 +243,6 @@ impl Inboxes {
         match self.ports.get(port as usize) {
             None => !matches!(kind, SnoopKind::DvmMessage),
             Some(inbox) => forwards_in(inbox, addr, kind),
-        }
-    }
-
-    /// K36: an AC DVM Message forwards the next part, and no other AC comes before a second part.
-    pub fn keeps_k36(&self, event: &Event) -> bool
-        ensures { (r : Recording) (t : Target) → MayAskInboxes r self.now event.now t
-            → result ≡ k36 r.header r.past event.now }
-    {
-        match *event {
-            Event::Ac { port, addr, snoop } => match read_ac(snoop) {
-                None => true,
-                Some(kind) => self.forwards(port, addr, kind),
-            },
-            _ => true,
         }
     }
 
@@ -351,42 +331,5 @@ impl Inboxes {
                 Some(part) => part.sync,
             },
         }
-    }
-
-    /// The inboxes after the event. The messages are those before it.
-    #[inline(always)]
-    pub fn hear(&mut self, event: &Event, target: &Target, messages: &Messages)
-        ensures { (r : Recording) → MayHearInboxes r self.old event.now target.now messages.now
-            → InboxesStand (after r event.now) self.new }
-    {
-        if let Some(x) = begun_in(event, target) {
-            if is_message_part(&x) {
-                self.send_with(&messages.of(x.port), x);
-            }
-        } else {
-            match *event {
-                Event::Ac { port, snoop, .. } => {
-                    if is_message_snoop(snoop) {
-                        self.forward(port);
-                    }
-                }
-                Event::Cr { port, .. } => {
-                    if answers_message(target) {
-                        self.answer(port);
-                    }
-                }
-                _ => {}
-            }
-        }
-    }
-}
-
-/// The snoop of the target is an AC DVM Message.
-pub fn answers_message(target: &Target) -> bool
-    ensures { result ≡ answers_message target.now }
-{
-    match target.snoop {
-        None => false,
-        Some(s) => is_message_snoop(s.snoop),
     }
 }

@@ -1,24 +1,24 @@
 //! The rules that look at the system as a whole: barriers, DVM messages and exclusive transactions.
 #![tactic(auto)]
 
+mod acknowledges;
 mod barrier_addresses;
 mod barriers;
-mod events;
 mod grants;
+mod hearing;
 mod inboxes;
 mod kinds;
+mod loads;
 mod message_addresses;
 mod messages;
 mod monitors;
-mod plain_acknowledges;
-mod plain_addresses;
-mod plain_loads;
-mod plain_silent_changes;
-mod plain_snoop_answers;
+mod read_addresses;
 mod registrations;
 mod responses;
 mod results;
 mod rules;
+mod silent_changes;
+mod snoop_answers;
 mod snoops;
 mod stores;
 mod syncs;

@@ -1,43 +1,21 @@
 //! An AR of a DVM Message or a DVM Complete: the rules of the share that it may break, and what it moves (Arm IHI 0022E, C12).
 
-ghost use Rattle.std.specs.Prelude.{◌≡◌, Some};
-ghost use Rattle.ace_event.specs.declared.event.Event.TheVariants.{Ar};
-ghost use Rattle.ace_model.specs.Transactions.{issued};
-
 use crate::SysCheck;
-use ace_event::Channel;
 use ace_model::Transaction;
-use ace_portck::event_kinds;
-
-/// The read that an AR issues, with `place` events before it.
-#[inline(always)]
-fn read_of(place: usize, address: &event_kinds::Ar) -> Transaction
-    ensures { issued place (Ar address.now.port address.now.id address.now.addr address.now.snoop
-        address.now.dom address.now.bar address.now.lock) ≡ Some result }
-{
-    Transaction {
-        place,
-        port: address.port,
-        chan: Channel::Read,
-        id: address.id,
-        addr: address.addr,
-        snoop: address.snoop,
-        dom: address.dom,
-        bar: address.bar,
-        lock: address.lock,
-    }
-}
 
 impl SysCheck {
     ghost use Rattle.std.specs.Prelude.{◌≡◌, ◌<◌, ◌-◌, ◌^◌, ℕ, Bool, true, None, Some, length};
     ghost use Rattle.ace_codes.specs.Reads.{ar_kind_of};
     ghost use Rattle.ace_codes.specs.declared.kind.ArKind.TheVariants.{DvmMessage, DvmComplete};
+    ghost use Rattle.ace_event.specs.declared.event.Event.{Event};
     ghost use Rattle.ace_event.specs.declared.event.Event.TheVariants.{Ar};
     ghost use Rattle.ace_model.specs.Accepted.{least_broken, least_of};
     ghost use Rattle.ace_model.specs.AddressRules.{k1};
+    ghost use Rattle.ace_model.specs.Messages.{is_message_part};
     ghost use Rattle.ace_model.specs.Shares.{system_rules};
     ghost use Rattle.ace_model.specs.Trace.{Trace};
-    ghost use Rattle.ace_portck.specs.DvmReads.{is_completion, is_message};
+    ghost use Rattle.ace_model.specs.Transactions.{issued};
+    ghost use Rattle.ace_portck.specs.DvmReads.{is_completion};
     ghost use Rattle.ace_portck.specs.Targets.{Recording, after};
     ghost use Rattle.ace_sysck.specs.Stands.{Stands, IsRoomy};
 
@@ -56,25 +34,21 @@ impl SysCheck {
         }
     }
 
-    /// Takes an AR of a DVM Message with lock 0 that breaks no rule, with `place` events before it. Where it ends a message, the inbox of
+    /// Takes an AR of a DVM Message that breaks no rule. Where it ends a message, the inbox of
     /// every other port has room for that.
-    pub fn begin_message(&mut self, address: &event_kinds::Ar, place: usize)
-        ensures stands { (r : Recording) → Stands self.old r
-            → is_message address.now.snoop address.now.dom address.now.bar address.now.lock ≡ true
-            → place ≡ length r.past
-            → least_broken r.header r.past (Ar address.now.port address.now.id address.now.addr
-            address.now.snoop address.now.dom address.now.bar address.now.lock) ≡ None
-            → length r.past < 2 ^ 64 - 1
-            → Stands self.new (after r (Ar address.now.port address.now.id address.now.addr
-            address.now.snoop address.now.dom address.now.bar address.now.lock)) }
+    pub fn begin_message(&mut self, part: &Transaction)
+        ensures stands { (r : Recording) (e : Event) → Stands self.old r
+            → issued (length r.past) e ≡ Some part.now
+            → is_message_part part.now ≡ true
+            → least_broken r.header r.past e ≡ None → length r.past < 2 ^ 64 - 1
+            → Stands self.new (after r e) }
         ensures roomy { (n : ℕ) (past : Trace) → IsRoomy n past self.old → IsRoomy n past self.new }
     {
-        let part = read_of(place, address);
         let kept = self.messages.of(part.port);
         self.results.begin(part.port, part.id);
-        self.syncs.issue(&kept, &part);
-        self.inboxes.send_with(&kept, part);
-        self.messages.issue(part);
+        self.syncs.issue(&kept, part);
+        self.inboxes.send_with(&kept, *part);
+        self.messages.issue(*part);
     }
 
     /// The least rule of the share that an AR of a DVM Complete breaks: K9, where the address isn't 0, or K38, where the port has answered

@@ -5,12 +5,8 @@ ghost use Rattle.ace_sysck.specs.Messages.{is_new_sync, part_issued, part_comple
 ghost use Rattle.ace_model.specs.Messages.{waits_after};
 ghost use Rattle.ace_model.specs.declared.transactions.Transaction.{Transaction};
 
-use crate::events::{begun_in, completed_in};
-use crate::kinds::{is_complete_snoop, is_message_part};
 use crate::words::{has_second, is_message_word, is_sync_word};
-use ace_event::Event;
 use ace_model::Transaction;
-use ace_portck::Target;
 use std::alloc::{AllocError, Global};
 
 /// What is kept of the messages that one port issues (Arm IHI 0022E, C12).
@@ -94,13 +90,12 @@ fn is_in_order(kept: &PortMessages, addr: u32, dom: u8, bar: u8) -> bool
 }
 
 impl Messages {
-    ghost use Rattle.std.specs.Prelude.{◌≡◌, ◌<◌, [], IfOk, slice_set, slice_index_or, length, Some};
+    ghost use Rattle.std.specs.Prelude.{◌≡◌, ◌<◌, [], IfOk, slice_set, slice_index_or, Some};
     ghost use Rattle.ace_event.specs.declared.header.Header.{Header};
-    ghost use Rattle.ace_model.specs.Trace.{implies};
     ghost use Rattle.ace_model.specs.AddressRules.{is_part_in_order};
-    ghost use Rattle.ace_model.specs.Messages.{is_message_part, first_waiting};
+    ghost use Rattle.ace_model.specs.Messages.{first_waiting};
     ghost use Rattle.ace_portck.specs.Targets.{Recording, after};
-    ghost use Rattle.ace_sysck.specs.Messages.{MessagesStand, MayHearMessages, silent, PortMessagesStand};
+    ghost use Rattle.ace_sysck.specs.Messages.{MessagesStand, silent, PortMessagesStand};
 
     /// What is kept after the empty trace, of so many ports.
     pub fn new(alloc: Global, ports: u8) -> Result<Messages, AllocError>
@@ -182,15 +177,8 @@ impl Messages {
         }
     }
 
-    /// Of K9, where the event issues the transaction: a part of a message follows the part that the port issued before it.
-    #[inline(always)]
-    pub fn keeps_k9(&self, x: &Transaction) -> bool
-        ensures { (r : Recording) → MessagesStand r self.now → result ≡ implies (is_message_part x.now) (is_part_in_order r.past x.now (first_waiting r.past x.now.port)) }
-    {
-        !is_message_part(x) || is_in_order(&self.of(x.port), x.addr, x.dom, x.bar)
-    }
-
-    /// The same, of a part with these fields that the port, one of the header, issues.
+    /// Of K9, where the port, one of the header, issues a part of a message with these fields: it
+    /// follows the part that the port issued before it.
     #[inline(always)]
     pub(crate) fn lets_begin(&self, port: u8, addr: u32, dom: u8, bar: u8) -> bool
         ensures { (r : Recording) (x : Transaction) → MessagesStand r self.now → port < r.header.ports → x.addr ≡ addr → x.dom ≡ dom → x.bar ≡ bar
@@ -209,23 +197,5 @@ impl Messages {
     {
         let kept = part_issued(self.of(x.port), x);
         self.set(x.port, kept);
-    }
-
-    /// What is kept after the event.
-    #[inline(always)]
-    pub fn hear(&mut self, event: &Event, target: &Target)
-        ensures { (r : Recording) → MayHearMessages r self.old event.now target.now → MessagesStand (after r event.now) self.new }
-    {
-        if let Some(x) = begun_in(event, target) {
-            if is_message_part(&x) {
-                self.issue(x);
-            }
-        } else if let Some(x) = completed_in(event, target) {
-            self.complete(x.port, x.place);
-        } else if let Event::Ac { port, snoop, .. } = *event {
-            if is_complete_snoop(snoop) {
-                self.tell_complete(port);
-            }
-        }
     }
 }

@@ -1,11 +1,9 @@
 //! The monitors of the ports.
 
 ghost use Rattle.std.specs.Prelude.{◌≡◌};
-ghost use Rattle.ace_sysck.specs.Monitors.{kept_after, left_state};
+ghost use Rattle.ace_sysck.specs.Monitors.{kept_after};
 
 use ace_codes::LineState;
-use ace_event::Event;
-use ace_portck::Target;
 use std::alloc::{AllocError, Global};
 
 /// For each port of the header, the line that its monitor is set for: the line of its last exclusive load, where it made no
@@ -26,31 +24,16 @@ fn kept_after(kept: Option<u32>, line: Option<u32>, state: LineState) -> Option<
     }
 }
 
-/// The port that an RK, WK, CR or S leaves in a state of the line of its target, and the state.
-#[inline(always)]
-fn left_state(event: &Event) -> Option<(u8, LineState)>
-    ensures { result ≡ left_state event.now }
-{
-    match *event {
-        Event::Rk { port, st } => Some((port, st)),
-        Event::Wk { port, st } => Some((port, st)),
-        Event::Cr { port, st, .. } => Some((port, st)),
-        Event::S { port, st, .. } => Some((port, st)),
-        _ => None,
-    }
-}
-
 impl Monitors {
     ghost use Rattle.std.specs.Prelude.{◌≡◌, ◌∷◌, ℕ, [], IfOk, None, slice_set, slice_index_or};
     ghost use Rattle.ace_event.specs.declared.event.Event.TheVariants.{L, D};
     ghost use Rattle.ace_event.specs.declared.line.Line.{Line};
     ghost use Rattle.ace_event.specs.declared.header.Header.{Header};
     ghost use Rattle.ace_model.specs.Accepted.{IsAccepted};
-    ghost use Rattle.ace_model.specs.CacheRules.{k33};
     ghost use Rattle.ace_model.specs.Monitors.{is_monitored};
     ghost use Rattle.ace_model.specs.Trace.{implies};
     ghost use Rattle.ace_portck.specs.Targets.{Recording, after};
-    ghost use Rattle.ace_sysck.specs.Monitors.{MonitorsStand, MayHearMonitors, kept_after};
+    ghost use Rattle.ace_sysck.specs.Monitors.{MonitorsStand, kept_after};
 
     /// The monitors of the empty trace, of so many ports.
     pub fn new(alloc: Global, ports: u8) -> Result<Monitors, AllocError>
@@ -95,17 +78,6 @@ impl Monitors {
         !x || self.line_of(port) == Some(addr)
     }
 
-    /// K33: at a D with x 1 the monitor of the port is set for the line.
-    pub fn keeps_k33(&self, event: &Event) -> bool
-        ensures { (r : Recording) → MonitorsStand r self.now
-            → result ≡ k33 r.header r.past event.now }
-    {
-        match *event {
-            Event::D { port, addr, x, .. } => self.lets_store(port, addr, x),
-            _ => true,
-        }
-    }
-
     /// The port is left in this state of the line.
     #[inline(always)]
     pub fn leave(&mut self, port: u8, line: Option<u32>, state: LineState)
@@ -138,23 +110,6 @@ impl Monitors {
     {
         if x {
             self.set(port, None);
-        }
-    }
-
-    /// The monitors after the event.
-    #[inline(always)]
-    pub fn hear(&mut self, event: &Event, target: &Target)
-        ensures { (r : Recording) → MayHearMonitors r self.old event.now target.now
-            → MonitorsStand (after r event.now) self.new }
-    {
-        match *event {
-            Event::L { port, addr, x, .. } => self.load(port, addr, x),
-            Event::D { port, x, .. } => self.store(port, x),
-            _ => {
-                if let Some((port, state)) = left_state(event) {
-                    self.leave(port, target.line, state);
-                }
-            }
         }
     }
 }

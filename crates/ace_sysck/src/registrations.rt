@@ -2,12 +2,10 @@
 
 ghost use Rattle.std.specs.Prelude.{◌≡◌, ◌<◌, ◌==◌, ◌||◌, ℕ};
 ghost use Rattle.std.specs.Int.{bit_at};
-ghost use Rattle.ace_sysck.specs.Registrations.{locked_in, kept_bits};
+ghost use Rattle.ace_sysck.specs.Registrations.{kept_bits};
 
-use ace_event::Event;
 use ace_model::Transaction;
-use ace_portck::Target;
-use ace_portck::kinds::{is_exclusive_store, is_line};
+use ace_model::kinds::is_exclusive_store;
 use indexmap::IndexMap;
 use std::alloc::{AllocError, Global};
 
@@ -42,19 +40,6 @@ fn kept_bits(x: &Transaction, bits: u32) -> u32
     }
 }
 
-/// The transaction with lock 1 to which the event grants a line.
-#[inline(always)]
-fn locked_in(event: &Event, target: &Target) -> Option<Transaction>
-    ensures { result ≡ locked_in event.now target.now }
-{
-    match (event, target.transaction) {
-        (Event::G { .. }, Some(x)) if x.transaction.lock && is_line(&x.transaction) => {
-            Some(x.transaction)
-        }
-        _ => None,
-    }
-}
-
 impl Registrations {
     ghost use Rattle.std.specs.Prelude.{◌≡◌, ◌≤◌, [], true, false, None, Some, IfOk, IsOk, IsSome, OnOk, OnErr, is_some, length, nat_eq};
     ghost use Rattle.indexmap.specs.IndexMap.{get};
@@ -63,10 +48,10 @@ impl Registrations {
     ghost use Rattle.ace_model.specs.Exclusives.{is_registered};
     ghost use Rattle.ace_model.specs.Lines.{is_known, known_lines};
     ghost use Rattle.ace_model.specs.Trace.{Trace};
-    ghost use Rattle.ace_portck.specs.declared.target.Target.{Target};
+    ghost use Rattle.ace_portck.specs.Target.{Target};
     ghost use Rattle.ace_portck.specs.LineMaps.{HasRoomForLines};
-    ghost use Rattle.ace_portck.specs.Targets.{Recording, after, target_of};
-    ghost use Rattle.ace_sysck.specs.Registrations.{RegistrationsStand, MayMakeLineRoom, MayHearRegistrations, HasLineRoom, IsNewLock, locked_in, registered_bits};
+    ghost use Rattle.ace_portck.specs.Targets.{Recording, after};
+    ghost use Rattle.ace_sysck.specs.Registrations.{RegistrationsStand, locked_in, registered_bits};
     ghost use Rattle.ace_sysck.specs.Steps.{IsStep};
 
     /// The registrations of the empty trace.
@@ -126,28 +111,6 @@ impl Registrations {
         Ok(())
     }
 
-    /// Makes room for the line that the event grants to a transaction with lock 1. There is no memory only where it is the first
-    /// of its line.
-    #[inline(always)]
-    pub fn ready(&mut self, event: &Event, target: &Target) -> Result<(), AllocError>
-        ensures stands { (r : Recording) → RegistrationsStand r self.old
-            → RegistrationsStand r self.new }
-        ensures room { OnOk result (HasLineRoom self.new event.now target.now) }
-        ensures cause { OnErr result ((r : Recording)
-            → MayMakeLineRoom r self.old event.now target.now → IsNewLock r.past event.now) }
-        ensures roomy { (n : ℕ) (r : Recording) → HasRoomForLines n r.past self.old.lines
-            → target.now ≡ target_of r.header r.past event.now
-            → HasRoomForLines n r.past self.new.lines }
-        ensures succeeds { (n : ℕ) (r : Recording) → HasRoomForLines n r.past self.old.lines
-            → target.now ≡ target_of r.header r.past event.now
-            → length (known_lines r.past) ≤ n → IsOk result }
-    {
-        match locked_in(event, target) {
-            None => Ok(()),
-            Some(x) => self.make_room(x.addr),
-        }
-    }
-
     /// Registers the port of the transaction with lock 1, which is granted its line, if the line has a place; says whether it has. If it
     /// has none, nothing has changed.
     pub fn register(&mut self, x: &Transaction) -> bool
@@ -166,19 +129,6 @@ impl Registrations {
                 *line = with_port(kept, x.port);
                 true
             }
-        }
-    }
-
-    /// The registrations after the event.
-    #[inline(always)]
-    pub fn hear(&mut self, event: &Event, target: &Target)
-        ensures stands { (r : Recording) → MayHearRegistrations r self.old event.now target.now
-            → RegistrationsStand (after r event.now) self.new }
-        ensures roomy { (n : ℕ) (past : Trace) → HasRoomForLines n past self.old.lines
-            → HasRoomForLines n past self.new.lines }
-    {
-        if let Some(x) = locked_in(event, target) {
-            self.register(&x);
         }
     }
 }

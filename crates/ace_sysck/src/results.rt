@@ -1,8 +1,5 @@
 //! What became of the exclusive stores.
 
-use ace_event::Event;
-use ace_portck::Target;
-use ace_portck::kinds::is_exclusive_store;
 use std::alloc::{AllocError, Global};
 
 /// For each port and identifier: whether the exclusive store that the port issued last under it passed at its G. None where
@@ -16,8 +13,8 @@ impl Results {
     ghost use Rattle.std.specs.Prelude.{◌≡◌, [], IfOk, slice_set, Option, None};
     ghost use Rattle.ace_event.specs.declared.header.Header.{Header};
     ghost use Rattle.ace_model.specs.Exclusives.{passed_at_grant};
-    ghost use Rattle.ace_portck.specs.Targets.{Recording, after};
-    ghost use Rattle.ace_sysck.specs.Results.{ResultsStand, MayHearResult, slot_of};
+    ghost use Rattle.ace_portck.specs.Targets.{Recording};
+    ghost use Rattle.ace_sysck.specs.Results.{ResultsStand, slot_of};
 
     /// The results of the empty trace, of so many ports.
     pub fn new(alloc: Global, ports: u8) -> Result<Results, AllocError>
@@ -59,23 +56,5 @@ impl Results {
         ensures { self.new.passed.items ≡ slice_set self.old.passed.items (slot_of port id) None }
     {
         self.set(port, id, None);
-    }
-
-    /// The results after the event. `passes` says whether an exclusive store that it grants passes.
-    #[inline(always)]
-    pub fn hear(&mut self, event: &Event, target: &Target, passes: bool)
-        ensures { (r : Recording) → MayHearResult r self.old event.now target.now passes → ResultsStand (after r event.now) self.new }
-    {
-        match *event {
-            Event::Ar { port, id, .. } => self.set(port, id, None),
-            Event::G { port, id, .. } => {
-                if let Some(granted) = target.transaction {
-                    if is_exclusive_store(&granted.transaction) {
-                        self.set(port, id, Some(passes));
-                    }
-                }
-            }
-            _ => {}
-        }
     }
 }

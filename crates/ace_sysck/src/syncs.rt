@@ -3,14 +3,11 @@
 ghost use Rattle.std.specs.Prelude.{◌≡◌};
 ghost use Rattle.ace_sysck.specs.Syncs.{next_count, reached_by, one_answered, one_completed};
 
-use crate::events::begun_in;
-use crate::inboxes::{Inboxes, answers_message};
-use crate::kinds::{is_dvm_completion, is_message_part};
-use crate::messages::{Messages, PortMessages, is_new_sync};
-use ace_event::{Event, Header};
+use crate::inboxes::Inboxes;
+use crate::messages::{PortMessages, is_new_sync};
+use ace_event::Header;
 use ace_model::Transaction;
-use ace_portck::Target;
-use ace_portck::kinds::is_ace;
+use ace_model::kinds::is_ace;
 use std::alloc::{AllocError, Global};
 
 /// What is kept of the Syncs of other ports that reach one port (Arm IHI 0022E, C12).
@@ -75,16 +72,14 @@ impl Syncs {
     ghost use Rattle.ace_event.specs.declared.event.Event.{Event};
     ghost use Rattle.ace_event.specs.declared.event.Event.TheVariants.{Cr};
     ghost use Rattle.ace_event.specs.declared.header.Header.{Header};
-    ghost use Rattle.ace_model.specs.Trace.{implies};
-    ghost use Rattle.ace_model.specs.OrderRules.{owes_completion};
-    ghost use Rattle.ace_portck.specs.declared.target.Target.{Target};
+    ghost use Rattle.ace_portck.specs.Target.{Target};
     ghost use Rattle.ace_portck.specs.Targets.{Recording, after};
     ghost use Rattle.ace_model.specs.Messages.{is_message_part};
     ghost use Rattle.ace_sysck.specs.Events.{begun_in};
     ghost use Rattle.ace_sysck.specs.Inboxes.{InboxesStand, answers_message};
     ghost use Rattle.ace_sysck.specs.Messages.{PortMessagesStand};
     ghost use Rattle.ace_sysck.specs.Steps.{IsStep};
-    ghost use Rattle.ace_sysck.specs.Syncs.{SyncsStand, MayHearSyncs, MayIssueCompletion, ReachesAll, completes_all, one_completed, untold};
+    ghost use Rattle.ace_sysck.specs.Syncs.{SyncsStand, ReachesAll, completes_all, one_completed, untold};
 
     /// What is kept after the empty trace, of so many ports.
     pub fn new(alloc: Global, ports: u8) -> Result<Syncs, AllocError>
@@ -141,14 +136,6 @@ impl Syncs {
     {
         let more = one_completed(self.of(port));
         self.set(port, more);
-    }
-
-    /// K38, where the event issues the transaction: the port of a DVM Complete has answered more Syncs than it has issued DVM
-    /// Completes.
-    pub fn keeps_k38(&self, x: &Transaction) -> bool
-        ensures { (r : Recording) → MayIssueCompletion r self.now x.now → result ≡ owes_completion r.past x.now }
-    {
-        !is_dvm_completion(x) || self.owes_completion(x.port)
     }
 
     /// Every other ACE port has issued its DVM Complete for the port's last Sync.
@@ -213,24 +200,6 @@ impl Syncs {
     {
         if is_new_sync(kept, x) {
             self.reach_all(x.port);
-        }
-    }
-
-    /// What is kept after the event. The messages and the inboxes are those before it.
-    #[inline(always)]
-    pub fn hear(&mut self, event: &Event, target: &Target, messages: &Messages, inboxes: &Inboxes)
-        ensures { (r : Recording) → MayHearSyncs r self.old event.now target.now messages.now inboxes.now → SyncsStand (after r event.now) self.new }
-    {
-        if let Some(x) = begun_in(event, target) {
-            if is_message_part(&x) {
-                self.issue(&messages.of(x.port), &x);
-            } else if is_dvm_completion(&x) {
-                self.complete(x.port);
-            }
-        } else if let Event::Cr { port, .. } = *event {
-            if answers_message(target) {
-                self.answer(port, inboxes);
-            }
         }
     }
 }

@@ -1,42 +1,77 @@
 -- One more event is followed.
-use Rattle.std.proofs.Common.{◌≡◌, ℕ, false, List, ◌∷◌, Option, Some, None, IfNone, subst}
+use Rattle.std.proofs.Common.{◌≡◌, ◌<◌, ◌-◌, ◌^◌, true, false, List, ◌∷◌, Option, Some, None, Result, Ok, Err, IfOk, IfNone, IfSome, length, refl}
+use Rattle.std.specs.Prelude.{is_some}
 use Rattle.ace_event.specs.declared.event.Event.{Event}
 use Rattle.ace_event.specs.declared.header.Header.{Header}
 use Rattle.ace_model.specs.Accepted.{IsAccepted, least_broken}
 use Rattle.ace_check.specs.Run as check
 use Rattle.ace_check.specs.declared.checker.Checker.{Checker}
+use Rattle.ace_check.specs.declared.checker.CheckErr.{CheckErr}
+use Rattle.ace_check.specs.declared.checker.CheckErr.TheVariants as lacks
 use Rattle.ace_check.specs.declared.checker.Step.{Step}
 use Rattle.ace_check.specs.declared.checker.Step.TheVariants.{Fine, Broken}
 use Rattle.ace_report.specs.Stands as reporting
 use Rattle.ace_report.specs.declared.report.Report.{Report}
 use Rattle.ace_top.specs.declared.answer.Answer.{Answer}
-use Rattle.ace_top.specs.declared.answer.Answer.TheVariants.{Refused}
-use Rattle.ace_top.specs.Follow.{Follows}
-use Rattle.ace_top.specs.Progress.{StopsAt}
+use Rattle.ace_top.specs.declared.follow.Follower.{Follower}
+use Rattle.ace_top.specs.Follow.{Follows, HasTaken, fed_answer}
+use Rattle.ace_top.specs.Progress.{IsStop, StopsAt}
 
 -- what the checker's answers say
-pub fed_fine : (h : Header) (past : List Event) (e : Event) (step : Step) → step ≡ Fine → check.IsAnswer h past e step
-    → (least_broken h past e ≡ None) × (check.goes_over past e ≡ false)
-fed_fine h past e step is a = subst (check.IsAnswer h past e) is a
+pub fed_fine : (h : Header) (past : List Event) (e : Event) (fed : Result Step CheckErr) → IfOk fed (check.IsAnswer h past e)
+    → IfNone (fed_answer fed) ((least_broken h past e ≡ None) × (check.goes_over past e ≡ false))
+fed_fine h past e (Ok Fine) a = a
+fed_fine h past e (Ok (Broken index rule)) a = tt
+fed_fine h past e (Err lacks.NoMemory) a = tt
+fed_fine h past e (Err lacks.TooManyLines) a = tt
 
-pub fed_on : (c : Checker) (h : Header) (past : List Event) (e : Event) (step : Step) → step ≡ Fine
-    → check.Stands c h (check.past_after past e step) (check.break_after step) → check.Stands c h (e ∷ past) None
-fed_on c h past e step is s = subst (λ (k : Step). check.Stands c h (check.past_after past e k) (check.break_after k)) is s
+pub fed_stands : (c : Checker) (h : Header) (past : List Event) (e : Event) (fed : Result Step CheckErr)
+    → IfOk fed (λ s. check.Stands c h (check.past_after past e s) (check.break_after s)) → IfNone (fed_answer fed) (check.Stands c h (e ∷ past) None)
+fed_stands c h past e (Ok Fine) s = s
+fed_stands c h past e (Ok (Broken index rule)) s = tt
+fed_stands c h past e (Err lacks.NoMemory) s = tt
+fed_stands c h past e (Err lacks.TooManyLines) s = tt
 
-pub fed_broken : (h : Header) (past : List Event) (e : Event) (step : Step) (index rule : ℕ) → step ≡ Broken index rule → check.IsAnswer h past e step
-    → StopsAt h past e (Refused index rule)
-fed_broken h past e step index rule is a = subst (check.IsAnswer h past e) is a
+pub fed_stops : (h : Header) (past : List Event) (e : Event) (fed : Result Step CheckErr) → IfOk fed (check.IsAnswer h past e)
+    → (fed ≡ Err lacks.TooManyLines → (least_broken h past e ≡ None) × (check.goes_over past e ≡ true)) → IfSome (fed_answer fed) (StopsAt h past e)
+fed_stops h past e (Ok Fine) a over = tt
+fed_stops h past e (Ok (Broken index rule)) a over = a
+fed_stops h past e (Err lacks.NoMemory) a over = tt
+fed_stops h past e (Err lacks.TooManyLines) a over = over refl
+
+pub fed_stop : (fed : Result Step CheckErr) → IfSome (fed_answer fed) IsStop
+fed_stop (Ok Fine) = tt
+fed_stop (Ok (Broken index rule)) = tt
+fed_stop (Err lacks.NoMemory) = tt
+fed_stop (Err lacks.TooManyLines) = tt
 
 -- the checker and the report stand for one event more
 pub both_follow : (stop : Option Answer) (c : Checker) (r : Report) (h : Header) (past : List Event) (e : Event) → IsAccepted h past
     → IfNone stop ((least_broken h past e ≡ None) × (check.goes_over past e ≡ false)) → IfNone stop (check.Stands c h (e ∷ past) None) → IfNone stop (reporting.Stands r h (e ∷ past))
-    → IfNone stop (Follows (record { checker = c; report = Some r }) h (e ∷ past))
-both_follow None c r h past e accepted fine stands reports = record { checker = stands; report = reports; accepted = (accepted, fine.0) }
+    → IfNone stop (Follows (record { checker = c; report = Some r; stop = stop }) h (e ∷ past))
+both_follow None c r h past e accepted fine stands reports = record { checker = stands; report = reports; accepted = (accepted, fine.0); goes_on = refl }
 both_follow (Some answer) c r h past e accepted fine stands reports = tt
 
 -- and the checker alone
-pub one_follows : (stop : Option Answer) (c : Checker) (r : Option Report) (h : Header) (past : List Event) (e : Event) → r ≡ None → IsAccepted h past
+one_follows : (stop : Option Answer) (c : Checker) (r : Option Report) (h : Header) (past : List Event) (e : Event) → r ≡ None → IsAccepted h past
     → IfNone stop ((least_broken h past e ≡ None) × (check.goes_over past e ≡ false)) → IfNone stop (check.Stands c h (e ∷ past) None)
-    → IfNone stop (Follows (record { checker = c; report = r }) h (e ∷ past))
-one_follows None c r h past e none accepted fine stands = record { checker = stands; report = rw none tt; accepted = (accepted, fine.0) }
+    → IfNone stop (Follows (record { checker = c; report = r; stop = stop }) h (e ∷ past))
+one_follows None c r h past e none accepted fine stands = record { checker = stands; report = rw none tt; accepted = (accepted, fine.0); goes_on = refl }
 one_follows (Some answer) c r h past e none accepted fine stands = tt
+
+pub none_is : {A : Type 0} (o : Option A) → is_some o ≡ false → o ≡ None
+none_is None none = refl
+none_is (Some x) none = absurd cc
+
+pub alone_taken : (f : Follower) (e : Event) (c : Checker) (stop : Option Answer) → f.report ≡ None
+    → ((h : Header) (past : List Event) → check.Stands f.checker h past None → IfNone stop ((least_broken h past e ≡ None) × (check.goes_over past e ≡ false)))
+    → ((h : Header) (past : List Event) → check.Stands f.checker h past None → length past < 2 ^ 64 - 2 → IfNone stop (check.Stands c h (e ∷ past) None))
+    → ((h : Header) (past : List Event) → check.Stands f.checker h past None → IfSome stop (StopsAt h past e)) → IfSome stop IsStop
+    → HasTaken f e (record { checker = c; report = f.report; stop = stop })
+alone_taken f e c stop none fine stands stops is_stop = record {
+  fine = λ h past s. fine h past s.checker;
+  follows = λ h past s few. one_follows stop c f.report h past e none s.accepted (fine h past s.checker) (stands h past s.checker few);
+  stops = λ h past s. stops h past s.checker;
+  stop = is_stop;
+  same_reports = refl;
+}

@@ -11,7 +11,7 @@ use Rattle.ace_grammar.proofs.Readings.OneReading.{one_reading, no_bad_header, o
 use Rattle.ace_report.specs.Report.{report_text}
 use Rattle.ace_model.specs.Accepted.{least_broken}
 use Rattle.ace_model.specs.Trace.{newer}
-use Rattle.ace_check.specs.Run.{goes_over}
+use Rattle.ace_check.specs.Promises.{goes_over}
 use Rattle.ace_top.specs.declared.answer.Answer.{Answer}
 use Rattle.ace_top.specs.declared.answer.Answer.TheVariants.{Accepted, Refused, Shown, Reported, Generated, Malformed, ReadFault, LimitEvents, LimitLines, NoMemory}
 use Rattle.ace_top.specs.declared.show.Version.{Version}

@@ -6,7 +6,7 @@ use Rattle.ace_event.specs.declared.event.Event.{Event}
 use Rattle.ace_event.specs.declared.header.Header.{Header}
 use Rattle.ace_model.specs.Trace.{newer}
 use Rattle.ace_model.specs.Accepted.{IsAccepted, least_broken}
-use Rattle.ace_check.specs.Run.{goes_over}
+use Rattle.ace_check.specs.Promises.{goes_over}
 use Rattle.ace_top.specs.Progress.{IsFine}
 use Rattle.ace_top.specs.Verdict.{Stop, Breaks, GoesOver, stop_of, first_stop, first_stop_after}
 

@@ -1,33 +1,64 @@
 -- What follows a trace event by event.
-use Rattle.std.specs.Prelude.{◌≡◌, ◌<◌, ◌-◌, ◌^◌, ◌∷◌, false, is_some, ℕ, List, Option, None, IfSome, [], length, reverse}
+use Rattle.std.specs.Prelude.{◌≡◌, ◌<◌, ◌-◌, ◌^◌, ◌∷◌, false, is_some, ℕ, List, Option, Some, None, Result, Ok, Err, IfNone, IfSome, [], length, reverse}
 use Rattle.ace_event.specs.declared.event.Event.{Event}
 use Rattle.ace_event.specs.declared.header.Header.{Header}
 use Rattle.ace_grammar.specs.Reading.{Reads, Whole}
 use Rattle.ace_model.specs.Trace.{Trace}
 use Rattle.ace_model.specs.Accepted.{IsAccepted, least_broken}
-use Rattle.ace_check.specs.Run.{goes_over}
+use Rattle.ace_check.specs.Promises.{goes_over}
 use Rattle.ace_check.specs.Run as check
+use Rattle.ace_check.specs.declared.checker.CheckErr.{CheckErr}
+use Rattle.ace_check.specs.declared.checker.CheckErr.TheVariants as lacks
+use Rattle.ace_check.specs.declared.checker.Step.{Step}
+use Rattle.ace_check.specs.declared.checker.Step.TheVariants.{Fine, Broken}
 use Rattle.ace_report.specs.Stands as report
+use Rattle.ace_top.specs.declared.answer.Answer.{Answer}
+use Rattle.ace_top.specs.declared.answer.Answer.TheVariants.{Refused, LimitLines, NoMemory}
 use Rattle.ace_top.specs.declared.follow.Follower.{Follower}
-use Rattle.ace_top.specs.Progress.{StandsAt}
-use Rattle.ace_top.specs.Verdict.{first_stop}
+use Rattle.ace_top.specs.Progress.{IsStop, StandsAt, StopsAt}
+use Rattle.ace_top.specs.Verdict.{IsVerdict, first_stop}
+
+-- the answer that ends a check, where the checker doesn't say that an event is fine
+abbrev pub fed_answer : Result Step CheckErr → Option Answer
+fed_answer (Ok Fine) = None
+fed_answer (Ok (Broken index rule)) = Some (Refused index rule)
+fed_answer (Err lacks.NoMemory) = Some NoMemory
+fed_answer (Err lacks.TooManyLines) = Some LimitLines
 
 -- The follower has come to the end of an accepted trace: its checker stands for it, and so does the report, where it keeps one.
+-- Nothing has ended the check.
 pub record Follows (f : Follower) (h : Header) (past : Trace) : Type 0 where
   pub checker : check.Stands f.checker h past None
   pub report : IfSome f.report (λ r. report.Stands r h past)
   pub accepted : IsAccepted h past
+  pub goes_on : f.stop ≡ None
 
--- The follower has followed one event more, and that is fine.
+-- The follower has followed one event more, which is fine; or it ended the check, with its answer.
 pub record HasTaken (old : Follower) (event : Event) (new : Follower) : Type 0 where
-  pub fine : (h : Header) (past : Trace) → Follows old h past → (least_broken h past event ≡ None) × (goes_over past event ≡ false)
-  pub follows : (h : Header) (past : Trace) → Follows old h past → length past < 2 ^ 64 - 2 → Follows new h (event ∷ past)
+  pub fine : (h : Header) (past : Trace) → Follows old h past
+      → IfNone new.stop ((least_broken h past event ≡ None) × (goes_over past event ≡ false))
+  pub follows : (h : Header) (past : Trace) → Follows old h past → length past < 2 ^ 64 - 2
+      → IfNone new.stop (Follows new h (event ∷ past))
+  pub stops : (h : Header) (past : Trace) → Follows old h past
+      → IfSome new.stop (StopsAt h past event)
+  pub stop : IfSome new.stop IsStop
   pub same_reports : is_some new.report ≡ is_some old.report
+
+-- The same, where nothing had ended the check before.
+abbrev pub TakesOn : Follower → Event → Follower → Type 0
+TakesOn old event new = (old.stop ≡ None) × HasTaken old event new
 
 -- Since nothing but a header was read, so many events were read and followed, each of them fine.
 abbrev pub HasCome : Follower → ℕ → Header → Option (List ℕ) → Option (List ℕ) → Type 0
 HasCome f count h start left = (past : Trace) × Follows f h past × (count ≡ length past)
     × ((told : Option (List ℕ)) → StandsAt told h [] start → StandsAt told h past left)
+
+-- The same where nothing has ended the check; else its answer is the verdict of the bytes.
+abbrev pub HasComeTo : Option Answer → Follower → ℕ → Header
+    → Option (List ℕ) → Option (List ℕ) → Type 0
+HasComeTo None f count h start left = HasCome f count h start left
+HasComeTo (Some answer) f count h start left = (told : Option (List ℕ)) → StandsAt told h [] start
+    → IfSome told (λ bytes. IsVerdict bytes answer)
 
 -- The follower has come to the end of an accepted trace. Where the bytes are told, they are that trace, and nothing ends its check before.
 pub record HasFollowed (told : Option (List ℕ)) (f : Follower) : Type 0 where

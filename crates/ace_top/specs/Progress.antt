@@ -1,15 +1,15 @@
 -- How far a check of the bytes of a trace has come.
-use Rattle.std.specs.Prelude.{◌≡◌, ◌≢◌, ◌<◌, ◌+◌, ⊤, ℕ, true, false, List, [], ◌∷◌, Option, None, Some, length, reverse}
+use Rattle.std.specs.Prelude.{◌≡◌, ◌≢◌, ◌+◌, ⊤, ℕ, true, false, List, [], ◌∷◌, Option, None, Some, length, reverse}
 use Rattle.std.specs.List.{AllByRecursion}
 use Rattle.std.specs.Io.KnownBytes.{Consumes}
 use Rattle.ace_io.specs.Faults.{Rose}
 use Rattle.ace_event.specs.declared.header.Header.{Header}
 use Rattle.ace_event.specs.declared.event.Event.{Event}
-use Rattle.ace_event.specs.Text.{trace_text, event_text, line_text}
+use Rattle.ace_event.specs.Text.{trace_text}
 use Rattle.ace_grammar.specs.Errors.{LeavesNothing}
-use Rattle.ace_grammar.specs.Reading.{IsReadable, IsReadableHeader, HasBadLine, IfTold, most_events}
+use Rattle.ace_grammar.specs.Reading.{IsReadable, IsReadableHeader}
 use Rattle.ace_model.specs.Accepted.{least_broken}
-use Rattle.ace_check.specs.Run.{goes_over}
+use Rattle.ace_check.specs.Promises.{goes_over}
 use Rattle.ace_top.specs.declared.answer.Answer.{Answer}
 use Rattle.ace_top.specs.declared.answer.Answer.TheVariants.{Accepted, Refused, Shown, Reported, Generated, Ran, Tried, Malformed, ReadFault, LimitEvents, LimitLines, NoMemory}
 
@@ -26,34 +26,12 @@ pub record StandsAt (told : Option (List ℕ)) (header : Header) (past : List Ev
   pub text : Consumes told left (trace_text header (reverse past))
   pub fine : IsFine header past
 
--- this event was read, and is fine
-pub record TakesEvent (header : Header) (past : List Event) (event : Event) (left left' : Option (List ℕ)) : Type 0 where
-  pub readable : IsReadable header.version event
-  pub taken : Consumes left left' (line_text (event_text header.version event))
-  pub kept : least_broken header past event ≡ None
-  pub within : goes_over past event ≡ false
-
 -- The answer where an event ends the check: it breaks a rule, or breaks none and names a line too many. Want of memory may end it as well.
 abbrev pub StopsAt : Header → List Event → Event → Answer → Type 0
 StopsAt header past event (Refused index rule) = (index ≡ length past + 1) × (least_broken header past event ≡ Some rule)
 StopsAt header past event LimitLines = (least_broken header past event ≡ None) × (goes_over past event ≡ true)
 StopsAt header past event NoMemory = ⊤
 StopsAt header past event answer = ⊥
-
--- the next line is an event that ends the check so
-abbrev pub TakesStop : Header → List Event → Option (List ℕ) → Option (List ℕ) → Answer → Type 0
-TakesStop header past left left' answer = (event : Event) × IsReadable header.version event
-    × Consumes left left' (line_text (event_text header.version event)) × StopsAt header past event answer × (length past < most_events)
-
--- the answer that the next line gives, where the trace isn't read on
-abbrev pub IsNextVerdict : Header → List Event → Option (List ℕ) → Option (List ℕ) → Answer → Type 0
-IsNextVerdict header past left left' (Refused index rule) = TakesStop header past left left' (Refused index rule)
-IsNextVerdict header past left left' LimitLines = TakesStop header past left left' LimitLines
-IsNextVerdict header past left left' (Malformed line reason) = IfTold left (λ bytes. HasBadLine header.version bytes reason) × (length past < most_events) × (line ≡ length past + 3)
-IsNextVerdict header past left left' LimitEvents = IfTold left (λ bytes. bytes ≢ []) × (length past ≡ most_events)
-IsNextVerdict header past left left' ReadFault = ⊤
-IsNextVerdict header past left left' NoMemory = ⊤
-IsNextVerdict header past left left' answer = ⊥
 
 -- an answer that an event may have where it isn't followed
 abbrev pub IsStop : Answer → Type 0

@@ -8,7 +8,7 @@ use Rattle.ace_grammar.specs.Lines.{BeginsWith}
 use Rattle.ace_grammar.specs.Reading.{Ending, Whole, Full, Bad, Reads, IsReadable, IsReadableHeader, HasBadHeader, most_events}
 use Rattle.ace_model.specs.Trace.{Trace, newer}
 use Rattle.ace_model.specs.Accepted.{least_broken}
-use Rattle.ace_check.specs.Run.{IsSound, goes_over}
+use Rattle.ace_check.specs.Promises.{IsSound, goes_over}
 use Rattle.ace_top.specs.declared.answer.Answer.{Answer}
 use Rattle.ace_top.specs.declared.answer.Answer.TheVariants.{Accepted, Refused, Malformed, ReadFault, LimitEvents, LimitLines, NoMemory}
 

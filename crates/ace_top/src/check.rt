@@ -1,15 +1,12 @@
 // Checks a trace, event by event, as it is read, and reports it where that is asked for.
-ghost use Rattle.std.specs.Prelude.{◌≡◌, ◌<◌, ◌≤◌, ◌+◌, ℕ, List, [], ◌∷◌, Option, None, true, false, is_some, length, IfSome, IfOk, IfErr, OnOk};
-ghost use Rattle.std.specs.Io.KnownBytes.{IsAtEnd};
-ghost use Rattle.ace_event.specs.declared.event.Event.{Event};
+ghost use Rattle.std.specs.Prelude.{◌≡◌, ◌≤◌, ℕ, List, [], Option, None, false, is_some, IfSome, IfOk, IfErr, OnOk};
 ghost use Rattle.ace_grammar.specs.Errors.{LeavesNothing, TakesFront};
 ghost use Rattle.ace_grammar.specs.Reader.{source_of, unread, header_of, count_of, last_answer, lasting, given};
 ghost use Rattle.ace_grammar.specs.Reading.{most_events};
-ghost use Rattle.ace_model.specs.Trace.{Trace};
 ghost use Rattle.ace_top.specs.Answer.{CarriesOut, HasStatusCause};
 ghost use Rattle.ace_top.specs.ErrorAnswer.{ends_so};
-ghost use Rattle.ace_top.specs.Follow.{Follows, HasCome, HasFollowed};
-ghost use Rattle.ace_top.specs.Progress.{EndsInput, HasReadCause, IsNextVerdict, IsRefusal, IsVerdictAnswer, TakesEvent, StandsAt};
+ghost use Rattle.ace_top.specs.Follow.{Follows, HasComeTo, HasFollowed};
+ghost use Rattle.ace_top.specs.Progress.{EndsInput, HasReadCause, IsRefusal, IsStop, IsVerdictAnswer, StandsAt};
 ghost use Rattle.ace_top.specs.Verdict.{IsVerdict, ReadsSound};
 ghost use Rattle.ace_top.specs.declared.words.Command.TheVariants as command;
 
@@ -124,7 +121,7 @@ fn follow<S: Source>(mut follower: Follower, reader: &mut Reader<S>) -> Result<F
 }
 
 /// Follows the events of a trace to its end, unless an answer comes before.
-#[tactic(auto, using(crate::proofs::ProgressLemmas::progress))]
+#[tactic(auto, using(crate::proofs::ReaderEnds::ended))]
 fn check_events<S: Source>(follower: &mut Follower, reader: &mut Reader<S>) -> Result<(), Answer>
     requires reads_on { last_answer reader.old ≡ None }
     requires fresh { count_of reader.old ≡ 0 }
@@ -141,11 +138,14 @@ fn check_events<S: Source>(follower: &mut Follower, reader: &mut Reader<S>) -> R
     ensures cause { IfErr result (HasReadCause (S.faults (source_of reader.old).now) (S.faults (source_of reader.new).now)) }
 {
     let mut event = NO_EVENT;
-    let mut end = Ok(());
-    'events: while check_next(follower, reader, &mut event, &mut end) {
+    'events: while reader.gives(&mut event) {
+        follower.take(&event);
         follow_at_once(follower, reader);
+        if let Some(answer) = follower.stop() {
+            return Err(answer);
+        }
     }
-    end
+    ending(reader, &mut event)
 }
 
 /// Follows the next events while they are read, as far as that can be, if no report is asked for.
@@ -160,69 +160,28 @@ fn follow_at_once<S: Source>(follower: &mut Follower, reader: &mut Reader<S>)
     ensures further { count_of reader.old ≤ count_of reader.new }
     ensures few { count_of reader.old ≤ most_events → count_of reader.new ≤ most_events }
     ensures front { TakesFront (unread S.left reader.old) (unread S.left reader.new) }
+    ensures stop { IfSome follower.old.stop IsStop → IfSome follower.new.stop IsStop }
     ensures comes { (start : Option (List ℕ)) → count_of reader.old ≤ most_events
-        → HasCome follower.old (count_of reader.old) (header_of reader.old) start (unread S.left reader.old)
-        → HasCome follower.new (count_of reader.new) (header_of reader.old) start (unread S.left reader.new) }
+        → HasComeTo follower.old.stop follower.old (count_of reader.old) (header_of reader.old)
+        start (unread S.left reader.old)
+        → HasComeTo follower.new.stop follower.new (count_of reader.new) (header_of reader.old)
+        start (unread S.left reader.new) }
 {
     if follower.is_brief() {
         reader.hands_all_over(follower);
     }
 }
 
-/// Reads one event into its place and follows it. Where the reading ends instead, at the end of the trace or by an answer, it says how
-/// in `end`.
-#[inline(always)]
-#[tactic(auto, using(crate::proofs::ErrorLemmas::errors, crate::proofs::ReaderEnds::none_given))]
-fn check_next<S: Source>(
-    follower: &mut Follower,
-    reader: &mut Reader<S>,
-    event: &mut Event,
-    end: &mut Result<(), Answer>,
-) -> bool
-    requires reads_on { last_answer reader.old ≡ None }
-    ensures same_source { (source_of reader.new).ghost_name ≡ (source_of reader.old).ghost_name }
-    ensures same_header { header_of reader.new ≡ header_of reader.old }
-    ensures same_reports { is_some follower.new.report ≡ is_some follower.old.report }
-    ensures reads_on { result ≡ true → last_answer reader.new ≡ None }
-    ensures room { result ≡ true → count_of reader.old < most_events }
-    ensures count { result ≡ true → count_of reader.new ≡ count_of reader.old + 1 }
-    ensures front { result ≡ true → TakesFront (unread S.left reader.old) (unread S.left reader.new) }
-    ensures takes { (past : Trace) → Follows follower.old (header_of reader.old) past → count_of reader.old ≡ length past → result ≡ true
-        → Follows follower.new (header_of reader.old) (event.new ∷ past)
-        × TakesEvent (header_of reader.old) past event.new (unread S.left reader.old) (unread S.left reader.new) }
-    ensures ended { result ≡ false → OnOk end.new (IsAtEnd (unread S.left reader.old)) }
-    ensures stays { result ≡ false → OnOk end.new (follower.new ≡ follower.old) }
-    ensures end { result ≡ false → OnOk end.new (LeavesNothing (unread S.left reader.old) (S.left (source_of reader.new).now)) }
-    ensures verdict { (past : Trace) → Follows follower.old (header_of reader.old) past → count_of reader.old ≡ length past → result ≡ false
-        → IfErr end.new (IsNextVerdict (header_of reader.old) past (unread S.left reader.old) (unread S.left reader.new)) }
-    ensures refusal { result ≡ false → IfErr end.new IsRefusal }
-    ensures steady { result ≡ true → S.faults (source_of reader.new).now ≡ S.faults (source_of reader.old).now }
-    ensures steady_end { result ≡ false → OnOk end.new (S.faults (source_of reader.new).now ≡ S.faults (source_of reader.old).now) }
-    ensures cause { result ≡ false → IfErr end.new (HasReadCause (S.faults (source_of reader.old).now) (S.faults (source_of reader.new).now)) }
-{
-    if !reader.gives(event) {
-        ending(reader, event, end);
-        return false;
-    }
-    match follower.take(event) {
-        None => true,
-        Some(answer) => {
-            *end = Err(answer);
-            false
-        }
-    }
-}
-
-/// Says how the reading of a trace has ended: at its end, or by an error.
+/// How the reading of a trace has ended: at its end, or by an error.
 #[cold]
 #[inline(never)]
-fn ending<S: Source>(reader: &mut Reader<S>, event: &mut Event, end: &mut Result<(), Answer>)
+fn ending<S: Source>(reader: &mut Reader<S>, event: &mut Event) -> Result<(), Answer>
     requires kept { last_answer reader.old ≡ lasting (given false event.old (last_answer reader.old)) }
     ensures same { reader.new ≡ reader.old }
-    ensures end { end.new ≡ ends_so (given false event.old (last_answer reader.old)) }
+    ensures end { result ≡ ends_so (given false event.old (last_answer reader.old)) }
 {
-    *end = match reader.next_into(event) {
+    match reader.next_into(event) {
         Ok(_) => Ok(()),
         Err(error) => Err(error_answer(error)),
-    };
+    }
 }

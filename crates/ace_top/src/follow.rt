@@ -8,11 +8,11 @@ ghost use Rattle.ace_model.specs.declared.breaks.Break.{Break};
 ghost use Rattle.ace_model.specs.Trace.{Trace};
 ghost use Rattle.ace_model.specs.Accepted.{IsAccepted, least_broken};
 ghost use Rattle.ace_model.specs.Copies.{memory_of};
-ghost use Rattle.ace_check.specs.Run.{goes_over};
+ghost use Rattle.ace_check.specs.Promises.{goes_over};
 ghost use Rattle.ace_check.specs.Run as check;
 ghost use Rattle.ace_report.specs.Stands as reporting;
 ghost use Rattle.ace_report.specs.Report.{report_text};
-ghost use Rattle.ace_top.specs.Follow.{Follows, HasTaken};
+ghost use Rattle.ace_top.specs.Follow.{Follows, HasTaken, TakesOn, fed_answer};
 ghost use Rattle.ace_top.specs.Output.{AppendsPart};
 ghost use Rattle.ace_top.specs.Progress.{IsStop, StopsAt};
 
@@ -21,10 +21,36 @@ use ace_check::{CheckErr, Checker, Step};
 use ace_event::{Event, Header, Line};
 use ace_grammar::Taker;
 use ace_io::{Failed, Sink};
-use ace_report::Report;
+use ace_report::{Report, told_line};
 use std::alloc::Global;
 
+/// The answer that ends the check, if the checker doesn't say that the event is fine.
+#[inline(always)]
+fn fed_answer(fed: Result<Step, CheckErr>) -> Option<Answer>
+    ensures { result ≡ fed_answer fed }
+{
+    match fed {
+        Ok(Step::Fine) => None,
+        _ => stop_of(fed),
+    }
+}
+
+/// The same, of an event that may not be fine.
+#[cold]
+#[inline(never)]
+fn stop_of(fed: Result<Step, CheckErr>) -> Option<Answer>
+    ensures { result ≡ fed_answer fed }
+{
+    match fed {
+        Ok(Step::Fine) => None,
+        Ok(Step::Broken { index, rule }) => Some(Answer::Refused { index, rule }),
+        Err(CheckErr::NoMemory) => Some(Answer::NoMemory),
+        Err(CheckErr::TooManyLines) => Some(Answer::LimitLines),
+    }
+}
+
 /// Checks the next event. An answer ends the check.
+#[inline(always)]
 fn feed(checker: &mut Checker, event: &Event) -> Option<Answer>
     ensures fine { (h : Header) (past : Trace) → check.Stands checker.old h past None
         → IfNone result ((least_broken h past event.now ≡ None) × (goes_over past event.now ≡ false)) }
@@ -33,12 +59,7 @@ fn feed(checker: &mut Checker, event: &Event) -> Option<Answer>
     ensures stops { (h : Header) (past : Trace) → check.Stands checker.old h past None → IfSome result (StopsAt h past event.now) }
     ensures stop { IfSome result IsStop }
 {
-    match checker.feed(event) {
-        Ok(Step::Fine) => None,
-        Ok(Step::Broken { index, rule }) => Some(Answer::Refused { index, rule }),
-        Err(CheckErr::NoMemory) => Some(Answer::NoMemory),
-        Err(CheckErr::TooManyLines) => Some(Answer::LimitLines),
-    }
+    fed_answer(checker.feed(event))
 }
 
 /// Memory of the line, if there is one.
@@ -63,10 +84,11 @@ fn hear(checker: &mut Checker, report: &mut Report, event: &Event) -> Option<Ans
     ensures stops { (h : Header) (past : Trace) → check.Stands checker.old h past None → IfSome result (StopsAt h past event.now) }
     ensures stop { IfSome result IsStop }
 {
-    let target = checker.target(event);
-    let memory = memory_at(checker, target.line);
+    let line = told_line(event, checker.ports());
+    let memory = memory_at(checker, line);
+    let told = report.hear(event, checker.ports(), line, memory);
     match feed(checker, event) {
-        None => match report.hear(event, &target, memory) {
+        None => match told {
             Ok(()) => None,
             Err(_) => Some(Answer::NoMemory),
         },
@@ -74,11 +96,13 @@ fn hear(checker: &mut Checker, report: &mut Report, event: &Event) -> Option<Ans
     }
 }
 
-/// What follows a trace: its checker, and its report where that is asked for.
+/// What follows a trace: its checker, its report where that is asked for, and the answer that
+/// ended its check, if one did.
 #[derive(Drop)]
 pub struct Follower {
     checker: Checker,
     report: Option<Report>,
+    stop: Option<Answer>,
 }
 
 impl Follower {
@@ -96,35 +120,39 @@ impl Follower {
             return Some(Follower {
                 checker,
                 report: None,
+                stop: None,
             });
         }
         match Report::new(alloc, header) {
             Ok(report) => Some(Follower {
                 checker,
                 report: Some(report),
+                stop: None,
             }),
             Err(_) => None,
         }
     }
 
-    /// Follows one more event of the trace, of fewer than 2^64 - 1. An answer ends that: the event breaks a rule, or names a line
-    /// too many, or there is no memory.
-    pub fn take(&mut self, event: &Event) -> Option<Answer>
-        ensures fine { (h : Header) (past : Trace) → Follows self.old h past
-            → IfNone result ((least_broken h past event.now ≡ None) × (goes_over past event.now ≡ false)) }
-        ensures follows { (h : Header) (past : Trace) → Follows self.old h past → length past < 2 ^ 64 - 2
-            → IfNone result (Follows self.new h (event.now ∷ past)) }
-        ensures stops { (h : Header) (past : Trace) → Follows self.old h past → IfSome result (StopsAt h past event.now) }
-        ensures stop { IfSome result IsStop }
-        ensures reports { is_some self.new.report ≡ is_some self.old.report }
+    /// Follows one more event of the trace, of fewer than 2^64 - 1. It ends the check where it
+    /// breaks a rule, or names a line too many, or there is no memory.
+    pub fn take(&mut self, event: &Event)
+        ensures { HasTaken self.old event.now self.new }
     {
         match &mut self.report {
-            Some(report) => hear(&mut self.checker, report, event),
-            None => feed(&mut self.checker, event),
+            Some(report) => self.stop = hear(&mut self.checker, report, event),
+            None => self.stop = feed(&mut self.checker, event),
         }
     }
 
-    /// Whether no report is asked for: then events may be followed by short ways.
+    /// The answer that ended the check, if one did.
+    #[inline(always)]
+    pub fn stop(&self) -> Option<Answer>
+        ensures { result ≡ self.now.stop }
+    {
+        self.stop
+    }
+
+    /// Whether no report is asked for: then events may be handed over.
     #[inline(always)]
     pub fn is_brief(&self) -> bool
         ensures { result ≡ not (is_some self.now.report) }
@@ -155,15 +183,18 @@ impl Follower {
 }
 
 impl Taker for Follower {
-    ghost took = { HasTaken };
+    ghost took = { TakesOn };
 
-    /// Follows one more event of the trace, where no report is asked for and the checker has a short way for it.
+    /// Follows one more event, where no report is asked for and nothing has ended the check.
     #[inline(always)]
     fn takes(&mut self, event: &Event) -> bool {
-        match self.report {
-            Some(_) => false,
-            None => self.checker.takes(event),
+        if self.report.is_some() || self.stop.is_some() {
+            return false;
         }
+        if let Some(answer) = feed(&mut self.checker, event) {
+            self.stop = Some(answer);
+        }
+        true
     }
 }
 

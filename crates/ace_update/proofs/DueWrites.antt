@@ -29,7 +29,7 @@ use Rattle.ace_runs.proofs.NeverStuck.Updates.EvictsMove.{evict-no-data, evicts-
 use Rattle.ace_runs.proofs.NeverStuck.Steps.StepShapes.{updates_write}
 use Rattle.ace_runs.proofs.NeverStuck.Steps.SameEvents.{same-line-self}
 use Rattle.ace_runs.proofs.NeverStuck.Updates.UpdatesMove.{data-there, sends-data}
-use Rattle.ace_runs.proofs.NeverStuck.IssuedTransactions.{issuer-low}
+use Rattle.ace_model.proofs.Trace.IssuedTransactions.{issuer-low}
 use Rattle.ace_engine.proofs.Pending.{IsPending, pending-at, serves-none as none-served}
 use Rattle.ace_portck.specs.Pending.{pending_of}
 use Rattle.ace_portck.specs.Targets.{data_of_write as data_sent}

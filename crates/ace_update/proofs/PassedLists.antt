@@ -5,7 +5,7 @@ use Rattle.ace_event.specs.declared.header.Header.{Header}
 use Rattle.ace_model.specs.Accepted.{IsAccepted}
 use Rattle.ace_model.specs.Trace.{Trace}
 use Rattle.ace_portck.specs.Targets.{target_of}
-use Rattle.ace_portck.specs.declared.target.Target.{Target}
+use Rattle.ace_portck.specs.Target.{Target}
 use Rattle.ace_update.specs.declared.passed.PassedLines.{PassedLines}
 use Rattle.ace_update.specs.Passed.{PassedStand, adds, has_passed_on, is_among, most_lines, removes, times_among, with_line, without_line}
 use Rattle.ace_update.proofs.LineLists.{among-after, once-after}

@@ -31,7 +31,7 @@ use Rattle.ace_runs.proofs.NeverStuck.Updates.EvictsMove.{may-answer-evict, resp
 use Rattle.ace_runs.proofs.NeverStuck.Steps.StepShapes.{updates_write}
 use Rattle.ace_runs.proofs.NeverStuck.Steps.SameEvents.{same-line-self}
 use Rattle.ace_runs.proofs.NeverStuck.Updates.UpdatesMove.{data-there, sends-data}
-use Rattle.ace_runs.proofs.NeverStuck.IssuedTransactions.{issuer-low}
+use Rattle.ace_model.proofs.Trace.IssuedTransactions.{issuer-low}
 use Rattle.ace_engine.specs.Engines.{IsLegal}
 use Rattle.ace_engine.proofs.OfInterconnect.{legal-with}
 use Rattle.ace_portck.specs.declared.target.WriteData.{WriteData}

@@ -7,7 +7,7 @@ use Rattle.ace_event.specs.declared.event.Event.TheVariants.{Cr, M, Rk}
 use Rattle.ace_event.specs.declared.header.Header.{Header}
 use Rattle.ace_model.specs.Trace.{Trace, is_some_and}
 use Rattle.ace_model.specs.Grants.{granted, has_passed_data}
-use Rattle.ace_portck.specs.declared.target.Target.{Target}
+use Rattle.ace_portck.specs.Target.{Target}
 use Rattle.ace_update.specs.declared.passed.PassedLines.{PassedLines}
 
 -- the granted transaction of the line has passed data

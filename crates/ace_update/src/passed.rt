@@ -4,13 +4,17 @@ ghost use Rattle.std.specs.Prelude.{◌≡◌, ◌==◌, ◌<◌, ◌≤◌, ◌
 ghost use Rattle.ace_event.specs.declared.header.Header.{Header};
 ghost use Rattle.ace_model.specs.Accepted.{IsAccepted};
 ghost use Rattle.ace_model.specs.Trace.{Trace};
-ghost use Rattle.ace_portck.specs.Targets.{target_of};
+ghost use Rattle.std.specs.Option.{option_copied};
+ghost use Rattle.ace_portck.specs.Stands.{Stands as Tell};
+ghost use Rattle.ace_portck.specs.Targets.{line_of, line_of_snoop, target_of};
 ghost use Rattle.ace_update.specs.Passed.{PassedStand, adds, is_among, most_lines, removes, with_line, without_line};
 
 use ace_codes::passes_dirty;
-use ace_event::Event;
+use ace_event::{Channel, Event};
 use ace_io::NoMemory;
-use ace_portck::Target;
+use ace_model::Snoop;
+use ace_model::kinds::{is_line, snoops_a_line};
+use ace_portck::{PortCheck, Progress};
 use std::alloc::Global;
 
 /// One more than a plan can have granted lines.
@@ -22,22 +26,46 @@ pub struct PassedLines {
     lines: Vec<u32>,
 }
 
-/// The line whose granted transaction has passed data from the event on.
-fn adds(event: &Event, target: &Target) -> Option<u32>
-    ensures { result ≡ adds event.now target.now }
+/// The line of a transaction, if it has one.
+fn line_of(x: Option<&Progress>) -> Option<u32>
+    ensures { result ≡ line_of (option_copied x.entry) }
 {
-    match *event {
-        Event::Cr { resp, .. } if passes_dirty(resp) => target.line,
+    match x {
+        Some(x) if is_line(&x.transaction) => Some(x.transaction.addr),
         _ => None,
     }
 }
 
-/// The line whose granted transaction has none from the event on: they are written to memory, or it ends. An update writes its line only where there are none.
-fn removes(event: &Event, target: &Target) -> Option<u32>
-    ensures { result ≡ removes event.now target.now }
+/// The line of a snoop, if it has one.
+fn line_of_snoop(snoop: Option<&Snoop>) -> Option<u32>
+    ensures { result ≡ line_of_snoop (option_copied snoop.entry) }
+{
+    match snoop {
+        Some(snoop) if snoops_a_line(snoop.snoop) => Some(snoop.addr),
+        _ => None,
+    }
+}
+
+/// The line whose granted transaction has passed data from the event on. The ports are those before it.
+fn adds(event: &Event, ports: &PortCheck) -> Option<u32>
+    ensures { (h : Header) (past : Trace) → Tell ports.now (record { header = h; past = past })
+        → result ≡ adds event.now (target_of h past event.now) }
 {
     match *event {
-        Event::M { .. } | Event::Rk { .. } => target.line,
+        Event::Cr { port, resp, .. } if passes_dirty(resp) => line_of_snoop(ports.answered(port)),
+        _ => None,
+    }
+}
+
+/// The line whose granted transaction has none from the event on: they are written to memory, or it ends. An update writes its line
+/// only where there are none.
+fn removes(event: &Event, ports: &PortCheck) -> Option<u32>
+    ensures { (h : Header) (past : Trace) → Tell ports.now (record { header = h; past = past })
+        → result ≡ removes event.now (target_of h past event.now) }
+{
+    match *event {
+        Event::M { port, chan, id, .. } => line_of(ports.outstanding(port, chan, id)),
+        Event::Rk { port, .. } => line_of(ports.acknowledged(port, Channel::Read)),
         _ => None,
     }
 }
@@ -80,12 +108,14 @@ impl PassedLines {
         }
     }
 
-    /// Hears the next event of a trace, which keeps the rules. `target` is what it belongs to. There has to be room for one more line.
-    pub fn hear(&mut self, event: &Event, target: &Target)
-        ensures { (h : Header) (past : Trace) → IsAccepted h (event.now ∷ past) → target.now ≡ target_of h past event.now
-            → length self.old.lines.items < most_lines → PassedStand h past self.old → PassedStand h (event.now ∷ past) self.new }
+    /// Hears the next event of a trace, which keeps the rules. The ports are those before it. There has to be room for one more line.
+    pub fn hear(&mut self, event: &Event, ports: &PortCheck)
+        ensures { (h : Header) (past : Trace) → IsAccepted h (event.now ∷ past)
+            → Tell ports.now (record { header = h; past = past })
+            → length self.old.lines.items < most_lines → PassedStand h past self.old
+            → PassedStand h (event.now ∷ past) self.new }
     {
-        self.remove(removes(event, target));
-        self.add(adds(event, target));
+        self.remove(removes(event, ports));
+        self.add(adds(event, ports));
     }
 }

@@ -18,13 +18,10 @@ use crate::passed::PassedLines;
 use ace_engine::{Burst, Engine};
 use ace_event::{Channel, Event, Line};
 use ace_io::NoMemory;
-use ace_model::{PlanView, Transaction};
-use ace_portck::kinds::{evicts, updates_memory};
+use ace_model::kinds::{evicts, updates_memory};
+use ace_model::{MOST_SNOOPS, PlanView, Transaction};
 use ace_portck::{PortCheck, Progress, WriteData};
 use std::alloc::Global;
-
-/// The most snoops that a plan can have at one port.
-const SNOOPS: usize = 24576;
 
 /// The engine of memory updates and Evicts: once the data of an update are whole, and the line's granted transaction has no passed data, it
 /// writes them to memory and responds; to an Evict it responds at once.
@@ -44,7 +41,7 @@ impl Update {
         requires { IsRight plan.now.plan }
         ensures { IfOk result (λ s. UpdateStands s plan.now.plan []) }
     {
-        let Ok(ports) = PortCheck::with_room(alloc, plan.header(), SNOOPS) else {
+        let Ok(ports) = PortCheck::with_room(alloc, plan.header(), MOST_SNOOPS) else {
             return Err(NoMemory);
         };
         let passed = PassedLines::new(alloc)?;
@@ -56,14 +53,9 @@ impl Update {
         ensures { (plan : Plan) (past : Trace) (p : ℕ) (k : ℕ) → UpdateStands self.now plan past → slice_get (pending_of plan.header past p Write) k ≡ Some write.now
             → result ≡ data_of_write past write.now }
     {
-        let unwritten = Line { words: [0; 4] };
-        let write_of_memory = Event::M {
-            port: write.port,
-            chan: Channel::Write,
-            id: write.id,
-            line: unwritten,
-        };
-        self.ports.target(&write_of_memory).data
+        self.ports
+            .burst(write.port, Channel::Write, write.id)
+            .copied()
     }
 
     /// An outstanding write may have its burst of step 3.
@@ -97,9 +89,8 @@ impl Update {
     fn note(&mut self, event: &Event)
         ensures { (plan : Plan) (past : Trace) → UpdateStands self.old plan past → IsLegal plan (event.now ∷ past) → UpdateStands self.new plan (event.now ∷ past) }
     {
-        let target = self.ports.target(event);
-        self.passed.hear(event, &target);
-        self.ports.apply(event);
+        self.passed.hear(event, &self.ports);
+        self.ports.hear(event);
     }
 
     /// Hears the event, and puts it in the burst.

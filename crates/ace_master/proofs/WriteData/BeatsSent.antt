@@ -14,7 +14,7 @@ use Rattle.ace_model.specs.Trace.{Trace, implies, is_none_or, is_some_and, more}
 use Rattle.ace_model.specs.Values.{stores_data}
 use Rattle.ace_model.specs.Writes.{Beat, beats, data_writes, next_write, next_write_beat}
 use Rattle.ace_model.proofs.Trace.UnwrittenWrites.{data_write-at}
-use Rattle.ace_runs.proofs.NeverStuck.IssuedTransactions.{issuer-low}
+use Rattle.ace_model.proofs.Trace.IssuedTransactions.{issuer-low}
 use Rattle.ace_runs.specs.Acts.{data_of_operation}
 use Rattle.ace_runs.specs.Bursts.{is_kept, onto}
 use Rattle.ace_runs.specs.Follows.{carries, is_beat_of}

@@ -32,7 +32,7 @@ use Rattle.ace_model.proofs.Tables.Kinds.{is_dirty_update}
 use Rattle.ace_model.proofs.Tables.States.{each_state, same_state-is}
 use Rattle.ace_model.proofs.Values.UpdateHolds.{holds_line}
 use Rattle.ace_runs.specs.MasterSteps.{end_of, is_told_dirty, is_told_shared}
-use Rattle.ace_runs.proofs.NeverStuck.IssuedTransactions.{issued-by-rule}
+use Rattle.ace_model.proofs.Trace.IssuedTransactions.{issued-by-rule}
 use Rattle.ace_master_laws.specs.Orderly.{is_write_clean}
 use Rattle.ace_master_laws.proofs.Acknowledges.Acknowledging.{on-line}
 use Rattle.ace_master_laws.proofs.Acknowledges.Due.{IsDue}

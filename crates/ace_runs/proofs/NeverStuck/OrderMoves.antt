@@ -28,7 +28,7 @@ use Rattle.ace_runs.specs.Steps.{AreSteps}
 use Rattle.ace_runs.proofs.Turns.{steps-accepted}
 use Rattle.ace_runs.proofs.NeverStuck.Barriers.Answered.{barrier-moves}
 use Rattle.ace_runs.proofs.NeverStuck.Steps.EnabledBy.{enabled-by-more}
-use Rattle.ace_runs.proofs.NeverStuck.IssuedTransactions.{issuer-low}
+use Rattle.ace_model.proofs.Trace.IssuedTransactions.{issuer-low}
 use Rattle.ace_runs.proofs.NeverStuck.Messages.DvmSteps.{OrderStep, dvm-has-a-step, owed-has-a-step}
 use Rattle.ace_runs.proofs.NeverStuck.Messages.Sorts.{transaction-sort}
 

@@ -17,7 +17,7 @@ use Rattle.ace_model.proofs.Trace.Growth.{IsIssued}
 use Rattle.ace_model.proofs.Outstanding.Issued.{issued-place_in}
 use Rattle.ace_model.proofs.General.Options.{Some-injective, some_is}
 use Rattle.ace_model.proofs.General.Lists.{start-length, slice_get-more}
-use Rattle.ace_portck.specs.declared.target.Target.{Target}
+use Rattle.ace_portck.specs.Target.{Target}
 use Rattle.ace_portck.specs.Targets.{Recording, after, target_of}
 use Rattle.ace_sysck.specs.declared.messages.PortMessages.{PortMessages}
 use Rattle.ace_sysck.specs.declared.inboxes.Part.{Part}
@@ -316,9 +316,9 @@ inboxes_sent r s n e t x m accepted own begun low part kept stands size sends =
         (b.0, b.1, omega (arith, kept_room), step q b.0 c (stands.room q b.0 b.1) receives)
 
 -- a transaction that is no part
-pub inboxes_plain : (r : Recording) (s : Inboxes) (e : Event) (t : Target) (x : Transaction) → t ≡ target_of r.header r.past e
+pub inboxes_other_issue : (r : Recording) (s : Inboxes) (e : Event) (t : Target) (x : Transaction) → t ≡ target_of r.header r.past e
     → begun_in e t ≡ Some x → x.id < 256 → is_message_part x ≡ false → InboxesStand r s → InboxesStand (after r e) s
-inboxes_plain r s e t x own begun low plain stands =
+inboxes_other_issue r s e t x own begun low plain stands =
     let new : issued (length r.past) e ≡ Some x = sym (begun-is r.header r.past e t own) ∙ begun in
     inboxes_stay r s e (ids-new r e stands.ids (λ y is. let same : x.id ≡ y.id = ap (λ (z : Transaction). z.id) (Some-injective x y (sym new ∙ is)) in omega (arith, same, low)))
     (λ q parts count ace. inbox_stays r.past e q parts count (issue-idle r.past e x q new) (rw (new, plain) refl)) stands

@@ -14,7 +14,7 @@ use Rattle.ace_model.proofs.Dvm.Parts.{parts-cases}
 use Rattle.ace_model.proofs.Dvm.Forwarding.{answered-first}
 use Rattle.ace_model.proofs.Trace.Growth.{IsIssued}
 use Rattle.ace_model.proofs.General.Lists.{start-is, slice_get-drop}
-use Rattle.ace_portck.specs.declared.target.Target.{Target}
+use Rattle.ace_portck.specs.Target.{Target}
 use Rattle.ace_portck.specs.Targets.{Recording}
 use Rattle.ace_sysck.specs.declared.inboxes.Inbox.{Inbox}
 use Rattle.ace_sysck.specs.declared.inboxes.Inboxes.{Inboxes}

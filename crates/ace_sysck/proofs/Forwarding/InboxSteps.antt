@@ -13,16 +13,6 @@ use Rattle.ace_sysck.specs.declared.inboxes.Inboxes.{Inboxes}
 use Rattle.ace_sysck.specs.Inboxes.{InboxesStand, IsEmptyInbox, Receives, SendsOne, ForwardsTo, AnswersFirst}
 use Rattle.ace_sysck.proofs.Tables.{slice_get-set_same, slice_get-set_other}
 
--- the inboxes of the empty trace
-pub inboxes_fresh : (h : Header) (s : Inboxes) → length s.ports.items ≡ h.ports
-    → ((q : ℕ) (b : Inbox) → slice_get s.ports.items q ≡ Some b → IsEmptyInbox h q b) → InboxesStand (record { header = h; past = [] }) s
-inboxes_fresh h s size fresh = record {
-  size = size;
-  room = λ q b at. (fresh q b at).room;
-  ports = λ q b at ace. let f = fresh q b at in record { parts_are = f.empty; count_is = let n = f.count in omega arith };
-  ids = λ x there. cc;
-}
-
 -- with one more
 pub fresh_more : (h : Header) (xs : List Inbox) (n : Inbox) → ((q : ℕ) (b : Inbox) → slice_get xs q ≡ Some b → IsEmptyInbox h q b) → IsEmptyInbox h (length xs) n
     → (q : ℕ) (b : Inbox) → slice_get (xs ++ n ∷ []) q ≡ Some b → IsEmptyInbox h q b

@@ -1,6 +1,6 @@
 use Rattle.std.proofs.Common.{refl}
 use Rattle.ace_lineck.proofs.StateSteps.{acknowledged-states}
-use Rattle.ace_lineck.proofs.ShortWays.AcknowledgeSteps.{acknowledged-record}
+use Rattle.ace_lineck.proofs.AcknowledgeSteps.{acknowledged-record}
 use Rattle.ace_lineck.proofs.acknowledges.end.Goals as goal
 
 pub returns-clause-stands : goal.returns-clause-stands

@@ -1,7 +1,7 @@
 use Rattle.std.proofs.Common.{◌∷◌, sym, subst, ◌∙◌}
 use Rattle.ace_portck.specs.Acknowledges.{acknowledge}
 use Rattle.ace_lineck.specs.Grants.{GrantStands, IsGrantStep}
-use Rattle.ace_lineck.proofs.ShortWays.AcknowledgeSteps.{released, still-granted, still-ungranted}
+use Rattle.ace_lineck.proofs.AcknowledgeSteps.{released, still-granted, still-ungranted}
 use Rattle.ace_lineck.proofs.acknowledges.release.Goals as goal
 
 pub returns-in-None : goal.returns-in-None

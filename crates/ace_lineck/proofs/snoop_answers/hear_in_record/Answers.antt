@@ -5,12 +5,12 @@ use Rattle.ace_model.proofs.Terms.{Cr}
 use Rattle.ace_lineck.specs.Holders.{empty_holder}
 use Rattle.ace_lineck.proofs.HolderSteps.{has-holder}
 use Rattle.ace_lineck.proofs.StateSteps.{answered-states}
-use Rattle.ace_lineck.proofs.ShortWays.SnoopAnswers.{answer-holders, answered-holders}
+use Rattle.ace_lineck.proofs.SnoopAnswers.{answer-holders, answered-holders}
 use Rattle.ace_lineck.proofs.snoop_answers.hear_in_record.Goals as goal
 
-pub returns-then-port-len-clause-stands : goal.returns-then-port-len-clause-stands
-returns-then-port-len-clause-stands c = λ h past l t s.
-    let a = c.args.answer.now in
+pub returns-then-own-len-clause-stands : goal.returns-then-own-len-clause-stands
+returns-then-own-len-clause-stands c = λ h past l t s.
+    let a = c.args in
     let k = c.args.kept.now in
     let xs = k.holders.items in
     let low : a.port < length xs = has-holder h past l (Cr a.port a.resp a.st) t None xs a.port (answer-holders h past l a.port a.resp a.st t k s) refl in
@@ -24,12 +24,12 @@ returns-then-port-len-clause-stands c = λ h past l t s.
       states = answered-states h past l t k.states c.set_state.new.states a.port a.resp a.st c.set_state.ensures (record { step = s.step; stand = s.stands.states });
       grant = c.hear_in_grant.ensures h past l a.st t xs k.memory (record { step = s.step; grant = s.stands.grant; holders = s.stands.holders; memory = s.stands.memory })
           (ap (λ o. (unwrap_or o empty_holder).copy) (sym there));
-      holders = answered-holders h past l a.port a.resp a.st t k x c.hear_answer.new.holder s here low (λ step. c.hear_answer.ensures h past a.port a.port l a.st t None step);
+      holders = answered-holders h past l a.port a.resp a.st t k x c.hear_in_holder.new.holder s here low (λ step. c.hear_in_holder.ensures h past a.port a.port l a.st t None step);
     }
 
-pub returns-else-port-len-clause-stands : goal.returns-else-port-len-clause-stands
-returns-else-port-len-clause-stands c = λ h past l t s.
-    let a = c.args.answer.now in
+pub returns-else-own-len-clause-stands : goal.returns-else-own-len-clause-stands
+returns-else-own-len-clause-stands c = λ h past l t s.
+    let a = c.args in
     let k = c.args.kept.now in
     let low : a.port < length k.holders.items = has-holder h past l (Cr a.port a.resp a.st) t None k.holders.items a.port (answer-holders h past l a.port a.resp a.st t k s) refl in
     grind (arith, common_steps)

@@ -4,7 +4,7 @@ use Rattle.std.proofs.lemmas.Option.{slice_get-get_or}
 use Rattle.ace_model.proofs.Terms.{D}
 use Rattle.ace_lineck.specs.Holders.{HoldersStand}
 use Rattle.ace_lineck.proofs.HolderSteps.{has-holder}
-use Rattle.ace_lineck.proofs.ShortWays.Stores.{stored-holders}
+use Rattle.ace_lineck.proofs.StoreLaws.{stored-holders}
 use Rattle.ace_lineck.proofs.stores.store_at.Goals as goal
 
 pub returns-then-port-len-clause-stand : goal.returns-then-port-len-clause-stand

@@ -31,7 +31,7 @@ use Rattle.ace_runs.proofs.Accepting.{kept-breaks-none}
 use Rattle.ace_runs.proofs.Turns.{steps-accepted}
 use Rattle.ace_runs.proofs.NeverStuck.Updates.EvictsMove.{response-kept}
 use Rattle.ace_runs.proofs.NeverStuck.Reads.TransfersKept.{implied_by}
-use Rattle.ace_runs.proofs.NeverStuck.IssuedTransactions.{issuer-low}
+use Rattle.ace_model.proofs.Trace.IssuedTransactions.{issuer-low}
 use Rattle.ace_runs.proofs.NeverStuck.Barriers.Answered.{ReadAnswered, read-answered}
 use Rattle.ace_runs.proofs.NeverStuck.Barriers.BothAnswered.{halves-together, undone-outstanding}
 use Rattle.ace_runs.proofs.NeverStuck.Barriers.Halves.{half-dataless}

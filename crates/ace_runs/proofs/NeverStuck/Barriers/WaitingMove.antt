@@ -26,7 +26,7 @@ use Rattle.ace_runs.proofs.Turns.{steps-accepted}
 use Rattle.ace_runs.proofs.Accepting.{three-kept}
 use Rattle.ace_runs.proofs.NeverStuck.Barriers.EachIssued.{IsOldest, each-from, oldest}
 use Rattle.ace_runs.proofs.NeverStuck.Updates.UpdatesOrGranted.{granted-there}
-use Rattle.ace_runs.proofs.NeverStuck.IssuedTransactions.{issuer-low}
+use Rattle.ace_model.proofs.Trace.IssuedTransactions.{issuer-low}
 use Rattle.ace_runs.proofs.NeverStuck.Barriers.HoldNone.{past-barriers}
 
 -- of the rules that look at a grant three can be broken

@@ -12,7 +12,7 @@ use Rattle.ace_runs.specs.Follows.{owes_completion}
 use Rattle.ace_runs.specs.Steps.{AreSteps, is_enabled_by}
 use Rattle.ace_runs.proofs.Turns.{steps-accepted}
 use Rattle.ace_runs.proofs.NeverStuck.Steps.EnabledBy.{enabled-by-more}
-use Rattle.ace_runs.proofs.NeverStuck.IssuedTransactions.{issuer-low}
+use Rattle.ace_model.proofs.Trace.IssuedTransactions.{issuer-low}
 use Rattle.ace_runs.proofs.NeverStuck.Messages.DvmResponses.{completion-moves}
 use Rattle.ace_runs.proofs.NeverStuck.Messages.MessagesMove.{message-moves}
 use Rattle.ace_runs.proofs.NeverStuck.Messages.OwedCompletions.{ower-low, owed-enabled}

@@ -16,7 +16,7 @@ use Rattle.ace_runs.proofs.Turns.{steps-accepted}
 use Rattle.ace_runs.proofs.NeverStuck.Forwarding.NextMessage.{next-begins}
 use Rattle.ace_runs.proofs.NeverStuck.Forwarding.Whole.{messages-whole}
 use Rattle.ace_runs.proofs.NeverStuck.Transactions.SnoopsMove.{failing-port}
-use Rattle.ace_runs.proofs.NeverStuck.IssuedTransactions.{issuer-low}
+use Rattle.ace_model.proofs.Trace.IssuedTransactions.{issuer-low}
 use Rattle.ace_runs.proofs.NeverStuck.Messages.DvmResponses.{answered-part-moves}
 use Rattle.ace_runs.proofs.NeverStuck.Messages.PartsGoOn.{message-there, next-enabled, next-there}
 use Rattle.ace_runs.proofs.NeverStuck.Messages.WholeMessages.{issues-whole}

@@ -19,7 +19,7 @@ use Rattle.ace_model.specs.Trace.{Trace, is_none_or, is_some_and}
 use Rattle.ace_model.specs.Transactions.{is_line, issued}
 use Rattle.ace_model.proofs.Rules.Keeps.{accepted_keeps}
 use Rattle.ace_model.proofs.Trace.Growth.{IsIssued}
-use Rattle.ace_runs.proofs.NeverStuck.IssuedTransactions.{issued-by-rule}
+use Rattle.ace_model.proofs.Trace.IssuedTransactions.{issued-by-rule}
 
 abbrev is_sorted : Transaction → Bool
 is_sorted x = is_line x || is_barrier_half x || is_message_part x || is_dvm_completion x

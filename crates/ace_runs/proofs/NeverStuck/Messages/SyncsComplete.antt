@@ -38,7 +38,7 @@ use Rattle.ace_runs.proofs.Turns.{steps-accepted}
 use Rattle.ace_runs.proofs.NeverStuck.Forwarding.Whole.{next-not-second}
 use Rattle.ace_runs.proofs.NeverStuck.Messages.AnsweredMessages.{completed-answered}
 use Rattle.ace_runs.proofs.NeverStuck.Transactions.SnoopsKept.{ac-kept}
-use Rattle.ace_runs.proofs.NeverStuck.IssuedTransactions.{issued-by-rule, some-none}
+use Rattle.ace_model.proofs.Trace.IssuedTransactions.{issued-by-rule, some-none}
 
 -- ---- the port of a message ---------------------------------------------------------------------------
 

@@ -38,7 +38,7 @@ use Rattle.ace_runs.specs.Segments.{acts_made, is_in_segment, segment}
 use Rattle.ace_runs.proofs.Accepting.{kept-breaks-none}
 use Rattle.ace_runs.proofs.NeverStuck.Steps.SameBursts.{equal-burst}
 use Rattle.ace_runs.proofs.NeverStuck.Steps.SameEvents.{is_lineless}
-use Rattle.ace_runs.proofs.NeverStuck.IssuedTransactions.{acknowledged-of}
+use Rattle.ace_model.proofs.Trace.IssuedTransactions.{acknowledged-of}
 use Rattle.ace_runs.proofs.NeverStuck.Phases.Calm.{IsCalm, calm-keeps, may_end}
 use Rattle.ace_runs.proofs.NeverStuck.Phases.CalmEvents.{outs-stay}
 use Rattle.ace_runs.proofs.NeverStuck.Phases.Endings.{closed-stays, lineless-closed, retired-burst, retirement-ends, same-ends}

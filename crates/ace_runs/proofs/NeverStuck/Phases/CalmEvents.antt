@@ -31,7 +31,7 @@ use Rattle.ace_runs.specs.Retiring.{has_answered_completion, tells_completion, u
 use Rattle.ace_runs.specs.Segments.{acts_made, is_at_port, is_for_operation, segment}
 use Rattle.ace_runs.proofs.Accepting.{kept-breaks-none}
 use Rattle.ace_runs.proofs.Few.Queues.{answers-within, eqb-swap}
-use Rattle.ace_runs.proofs.NeverStuck.IssuedTransactions.{acknowledged-of, named-of}
+use Rattle.ace_model.proofs.Trace.IssuedTransactions.{acknowledged-of, named-of}
 use Rattle.ace_runs.proofs.NeverStuck.Phases.Calm.{IsCalm, calm-keeps, may_end}
 use Rattle.ace_runs.proofs.NeverStuck.Phases.NextActs.{acts-more, segment-more}
 

@@ -33,7 +33,7 @@ use Rattle.ace_runs.proofs.NeverStuck.Reads.PlainTransfers.{no-line}
 use Rattle.ace_runs.proofs.NeverStuck.Reads.ReadsMove.{no-first}
 use Rattle.ace_runs.proofs.NeverStuck.Reads.TransfersKept.{transfer-kept}
 use Rattle.ace_runs.proofs.NeverStuck.Reads.TransfersLeft.{transfers-left}
-use Rattle.ace_runs.proofs.NeverStuck.IssuedTransactions.{issuer-low, issued-by-rule}
+use Rattle.ace_model.proofs.Trace.IssuedTransactions.{issuer-low, issued-by-rule}
 
 -- ---- kinds without a line ----------------------------------------------------------------------------
 

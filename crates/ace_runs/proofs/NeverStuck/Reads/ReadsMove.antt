@@ -29,7 +29,7 @@ use Rattle.ace_runs.proofs.Turns.{steps-accepted}
 use Rattle.ace_runs.proofs.NeverStuck.Steps.SameEvents.{same_test-self}
 use Rattle.ace_runs.proofs.NeverStuck.Transactions.PassedDataMove.{passed-whole}
 use Rattle.ace_runs.proofs.NeverStuck.Updates.UpdatesOrGranted.{HasLine}
-use Rattle.ace_runs.proofs.NeverStuck.IssuedTransactions.{issuer-low}
+use Rattle.ace_model.proofs.Trace.IssuedTransactions.{issuer-low}
 use Rattle.ace_runs.proofs.NeverStuck.Reads.FirstTransfers.{firsts-say}
 use Rattle.ace_runs.proofs.NeverStuck.Reads.TransfersKept.{GoesOn, next-kept, response-says}
 use Rattle.ace_runs.proofs.NeverStuck.Reads.TransfersLeft.{transfers-left}

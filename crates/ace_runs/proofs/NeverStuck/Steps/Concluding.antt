@@ -33,7 +33,7 @@ use Rattle.ace_runs.specs.Segments.{is_in_segment}
 use Rattle.ace_runs.proofs.NeverStuck.Steps.SameBursts.{all-as}
 use Rattle.ace_runs.proofs.NeverStuck.Steps.SameEvents.{TellsSame}
 use Rattle.ace_runs.proofs.NeverStuck.Steps.Lists.{all-append, all-if}
-use Rattle.ace_runs.proofs.NeverStuck.IssuedTransactions.{acknowledged-of}
+use Rattle.ace_model.proofs.Trace.IssuedTransactions.{acknowledged-of}
 
 -- ---- what ends an operation --------------------------------------------------------------------------
 

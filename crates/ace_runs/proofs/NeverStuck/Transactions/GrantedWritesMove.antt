@@ -21,7 +21,7 @@ use Rattle.ace_runs.proofs.Turns.{steps-accepted}
 use Rattle.ace_runs.proofs.NeverStuck.Steps.SameEvents.{same-line-self}
 use Rattle.ace_runs.proofs.NeverStuck.Updates.UpdatesMove.{data-there, write-kept}
 use Rattle.ace_runs.proofs.NeverStuck.Updates.UpdatesOrGranted.{HasLine}
-use Rattle.ace_runs.proofs.NeverStuck.IssuedTransactions.{issuer-low}
+use Rattle.ace_model.proofs.Trace.IssuedTransactions.{issuer-low}
 use Rattle.ace_runs.proofs.NeverStuck.Data.WritesAnswered.{writes-answered}
 
 -- a write that isn't complete has written no memory

@@ -26,7 +26,7 @@ use Rattle.ace_runs.proofs.NeverStuck.Steps.SameEvents.{same-line-self}
 use Rattle.ace_runs.proofs.NeverStuck.Data.NoDataOwed.{no-data-owed}
 use Rattle.ace_runs.proofs.NeverStuck.Updates.UpdatesMove.{write-kept}
 use Rattle.ace_runs.proofs.NeverStuck.Updates.UpdatesOrGranted.{HasLine}
-use Rattle.ace_runs.proofs.NeverStuck.IssuedTransactions.{issuer-low}
+use Rattle.ace_model.proofs.Trace.IssuedTransactions.{issuer-low}
 
 -- the passed data of the granted transaction
 pub passed-there : (h : Header) (past : Trace) (x : Transaction) → granted h past x.addr ≡ Some x → has_passed_data h past x ≡ true

@@ -23,7 +23,7 @@ use Rattle.ace_model.proofs.Tables.ReadSnoops.{kind_of_code}
 use Rattle.ace_model.proofs.Trace.Growth.{IsIssued}
 use Rattle.ace_runs.specs.Bursts.{is_kept}
 use Rattle.ace_runs.specs.LineSteps.{snoop_for}
-use Rattle.ace_runs.proofs.NeverStuck.IssuedTransactions.{line-aligned}
+use Rattle.ace_model.proofs.Trace.IssuedTransactions.{line-aligned}
 use Rattle.ace_runs.proofs.NeverStuck.Data.WholeAnswers.{line-not-complete}
 use Rattle.ace_runs.proofs.NeverStuck.Forwarding.Steps.{caused-line, line-no-message}
 

@@ -26,7 +26,7 @@ use Rattle.ace_runs.proofs.NeverStuck.Complete.{complete-enabled}
 use Rattle.ace_runs.proofs.NeverStuck.Steps.EnabledBy.{enabled-by-more}
 use Rattle.ace_runs.proofs.NeverStuck.Data.NoDataOwed.{no-data-owed}
 use Rattle.ace_runs.proofs.NeverStuck.Updates.UpdatesOrGranted.{HasLine}
-use Rattle.ace_runs.proofs.NeverStuck.IssuedTransactions.{issuer-low}
+use Rattle.ace_model.proofs.Trace.IssuedTransactions.{issuer-low}
 use Rattle.ace_runs.proofs.NeverStuck.Forwarding.Whole.{next-not-second}
 use Rattle.ace_runs.proofs.NeverStuck.Transactions.SnoopsKept.{MaySnoop, snoop-kept}
 use Rattle.ace_runs.proofs.NeverStuck.Transactions.Unanswered.{answered-all}

@@ -30,7 +30,7 @@ use Rattle.ace_runs.proofs.NeverStuck.Transactions.PassedDataMove.{passed-data-m
 use Rattle.ace_runs.proofs.NeverStuck.Reads.ReadsMove.{begun-read-moves, unbegun-read-moves}
 use Rattle.ace_runs.proofs.NeverStuck.Transactions.UnsentBursts.{unsent-burst-enabled}
 use Rattle.ace_runs.proofs.NeverStuck.Updates.UpdatesOrGranted.{HasLine, granted-there, update-or-granted}
-use Rattle.ace_runs.proofs.NeverStuck.IssuedTransactions.{issuer-low}
+use Rattle.ace_model.proofs.Trace.IssuedTransactions.{issuer-low}
 use Rattle.ace_runs.proofs.NeverStuck.Transactions.SnoopsMove.{snoops-move}
 
 -- ---- the cases ---------------------------------------------------------------------------------------

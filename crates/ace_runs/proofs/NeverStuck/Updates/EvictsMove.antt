@@ -26,7 +26,7 @@ use Rattle.ace_runs.specs.LineSteps.{memory_write, response, update_burst}
 use Rattle.ace_runs.specs.Steps.{AreSteps, is_enabled_by}
 use Rattle.ace_runs.proofs.Turns.{steps-accepted}
 use Rattle.ace_runs.proofs.Accepting.{three-kept}
-use Rattle.ace_runs.proofs.NeverStuck.IssuedTransactions.{issuer-low}
+use Rattle.ace_model.proofs.Trace.IssuedTransactions.{issuer-low}
 
 -- of the rules that look at a response three can be broken by one that is OKAY
 pub response-kept : (h : Header) (past : Trace) (p i : ℕ) → k1 h past (B p i 0) ≡ true → k26 h past (B p i 0) ≡ true

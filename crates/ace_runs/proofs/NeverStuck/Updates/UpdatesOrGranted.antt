@@ -23,7 +23,7 @@ use Rattle.ace_runs.specs.Steps.{AreSteps, is_enabled_by}
 use Rattle.ace_runs.proofs.Turns.{steps-accepted}
 use Rattle.ace_runs.proofs.NeverStuck.Steps.StepShapes.{updates_write}
 use Rattle.ace_runs.proofs.NeverStuck.Updates.UpdatesMove.{IsUpdate, update-moves}
-use Rattle.ace_runs.proofs.NeverStuck.IssuedTransactions.{updater-ace}
+use Rattle.ace_model.proofs.Trace.IssuedTransactions.{updater-ace}
 
 -- An outstanding transaction that is granted its line.
 pub record HasLine (h : Header) (past : Trace) (l : ℕ) (y : Transaction) : Type 0 where

@@ -1,16 +1,64 @@
-use Rattle.std.proofs.Common.{◌≡◌, None, Some, sym, subst}
-use Rattle.ace_check.specs.Run.{Stands}
-use Rattle.ace_check.specs.declared.checker.Checker.{Checker}
+use Rattle.std.proofs.Common.{◌∷◌, refl, subst, arith}
+use Rattle.ace_check.specs.Heard.{ComesTo}
+use Rattle.ace_check.proofs.Steps.{accepted_sound}
 use Rattle.ace_check.proofs.checker.Checker.feed.Goals as goal
 
-pub returns-then-takes-clause-answer : goal.returns-then-takes-clause-answer
-returns-then-takes-clause-answer c = λ h past s. let f = c.takes.ensures.fine h past None s c.if-takes.true in (f.1, f.2)
+-- ---- it breaks no rule ----
 
-pub returns-then-takes-clause-broken : goal.returns-then-takes-clause-broken
-returns-then-takes-clause-broken c = λ h past b s.
-    let f = c.takes.ensures.fine h past (Some b) s c.if-takes.true in
-    let bad : Some b ≡ None = f.0 in cc
+pub returns-in-Fine-clause-answer : goal.returns-in-Fine-clause-answer
+returns-in-Fine-clause-answer c = λ h past s.
+    let t = subst (ComesTo h past c.args.event.now _) c.in-Fine.is (c.hear_event.ensures.comes_to h past s.tell s.few) in
+    (t.0, t.1)
 
-pub returns-clause-broken : goal.returns-clause-broken
-returns-clause-broken c = λ h past b s.
-    c.answer.ensures.broken h past b (subst (λ (v : Checker). Stands v h past (Some b)) (sym (c.takes.ensures.stays c.if-takes.false)) s)
+pub returns-in-Fine-clause-stands : goal.returns-in-Fine-clause-stands
+returns-in-Fine-clause-stands c = λ h past s few.
+    let t = subst (ComesTo h past c.args.event.now _) c.in-Fine.is (c.hear_event.ensures.comes_to h past s.tell s.few) in
+    let count = s.count in
+    record {
+      tell = t.2;
+      count = omega (arith, count, few);
+      few = omega (arith, few);
+      broken = s.broken;
+      fits = (c.every_event_fits.ensures, s.fits);
+    }
+
+pub returns-in-Fine-clause-sound : goal.returns-in-Fine-clause-sound
+returns-in-Fine-clause-sound c = λ h past s fine.
+    let t = subst (ComesTo h past c.args.event.now _) c.in-Fine.is (c.hear_event.ensures.comes_to h past s.tell s.few) in
+    accepted_sound h (c.args.event.now ∷ past) (s.tell.ports.accepted, t.0) (c.every_event_fits.ensures, s.fits)
+
+-- ---- it breaks one ----
+
+pub returns-in-Broken-clause-answer : goal.returns-in-Broken-clause-answer
+returns-in-Broken-clause-answer c = λ h past s.
+    let t = subst (ComesTo h past c.args.event.now _) c.in-Broken.is (c.hear_event.ensures.comes_to h past s.tell s.few) in
+    let count = s.count in
+    let few = s.few in
+    (omega (arith, count, few), t.0)
+
+pub returns-in-Broken-clause-stands : goal.returns-in-Broken-clause-stands
+returns-in-Broken-clause-stands c = λ h past s few.
+    let t = subst (ComesTo h past c.args.event.now _) c.in-Broken.is (c.hear_event.ensures.comes_to h past s.tell s.few) in
+    record { tell = t.1; count = s.count; few = s.few; broken = refl; fits = s.fits }
+
+-- ---- it isn't taken ----
+
+pub returns-in-TooManyLines-clause-too_many : goal.returns-in-TooManyLines-clause-too_many
+returns-in-TooManyLines-clause-too_many c = λ h past s is.
+    let t = subst (ComesTo h past c.args.event.now _) c.in-TooManyLines.is (c.hear_event.ensures.comes_to h past s.tell s.few) in
+    (t.0, t.1)
+
+pub returns-in-TooManyLines-clause-stays : goal.returns-in-TooManyLines-clause-stays
+returns-in-TooManyLines-clause-stays c = λ h past s.
+    let t = subst (ComesTo h past c.args.event.now _) c.in-TooManyLines.is (c.hear_event.ensures.comes_to h past s.tell s.few) in
+    record { tell = t.2; count = s.count; few = s.few; broken = s.broken; fits = s.fits }
+
+pub returns-in-NoMemory-clause-no_memory : goal.returns-in-NoMemory-clause-no_memory
+returns-in-NoMemory-clause-no_memory c = λ h past s is.
+    let t = subst (ComesTo h past c.args.event.now _) c.in-NoMemory.is (c.hear_event.ensures.comes_to h past s.tell s.few) in
+    t.1
+
+pub returns-in-NoMemory-clause-stays : goal.returns-in-NoMemory-clause-stays
+returns-in-NoMemory-clause-stays c = λ h past s.
+    let t = subst (ComesTo h past c.args.event.now _) c.in-NoMemory.is (c.hear_event.ensures.comes_to h past s.tell s.few) in
+    record { tell = t.2; count = s.count; few = s.few; broken = s.broken; fits = s.fits }

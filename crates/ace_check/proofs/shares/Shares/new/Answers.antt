@@ -4,8 +4,8 @@ pub returns : goal.returns
 returns c = record {
   tell = record {
     ports = c.in_ok-ports.ensures.stands c.requires;
-    lines = c.in-Ok.ensures.stands c.requires;
+    lines = c.in_ok-lines.ensures.stands c.requires;
     system = c.in_ok-system.ensures.stands c.requires;
   };
-  room = record { ports = c.in_ok-ports.ensures.room; lines = c.in-Ok.ensures.room; system = c.in_ok-system.ensures.room };
+  room = record { ports = c.in_ok-ports.ensures.room; lines = c.in_ok-lines.ensures.room; system = c.in_ok-system.ensures.room };
 }

@@ -5,9 +5,9 @@ use Rattle.ace_portck.specs.Acknowledges.{acknowledge}
 use Rattle.ace_portck.specs.Targets.{target_of}
 use Rattle.ace_lineck.specs.Acknowledges.{transaction_at}
 use Rattle.ace_lineck.specs.Records.{LineStands}
-use Rattle.ace_lineck.proofs.ShortWays.AcknowledgeSteps.{acknowledge-may}
+use Rattle.ace_lineck.proofs.AcknowledgeSteps.{acknowledge-may}
 use Rattle.ace_lineck.proofs.AllLines.{unplaced, placed, line-step, applied-else}
-use Rattle.ace_lineck.proofs.ShortWays.BeatSteps.{still-used}
+use Rattle.ace_lineck.proofs.BeatSteps.{still-used}
 use Rattle.ace_lineck.proofs.Places.{get-at, place-taken, written-here, written-there}
 use Rattle.ace_lineck.proofs.Rooms.{written-records, written-roomy}
 use Rattle.ace_lineck.proofs.lines.LineCheck.hear_acknowledge.Goals as goal

@@ -4,7 +4,7 @@ use Rattle.ace_model.proofs.Terms.{R}
 use Rattle.ace_portck.specs.Targets.{target_of}
 use Rattle.ace_lineck.specs.Records.{LineStands, IsRecordStep}
 use Rattle.ace_lineck.proofs.AllLines.{unplaced, placed, line-step, applied-else}
-use Rattle.ace_lineck.proofs.ShortWays.BeatSteps.{beat-may, beat-port, still-used}
+use Rattle.ace_lineck.proofs.BeatSteps.{beat-may, beat-port, still-used}
 use Rattle.ace_lineck.proofs.Places.{get-at, place-taken, written-here, written-there}
 use Rattle.ace_lineck.proofs.Rooms.{written-records, written-roomy}
 use Rattle.ace_lineck.proofs.lines.LineCheck.hear_beat.Goals as goal

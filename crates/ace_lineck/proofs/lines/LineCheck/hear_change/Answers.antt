@@ -9,8 +9,8 @@ use Rattle.ace_lineck.proofs.AllLines.{unplaced, placed, line-step, applied-else
 use Rattle.ace_lineck.proofs.StateSteps.{changed-states}
 use Rattle.ace_lineck.proofs.Places.{get-at, place-taken, written-here, written-there}
 use Rattle.ace_lineck.proofs.Rooms.{written-records, written-roomy}
-use Rattle.ace_lineck.proofs.ShortWays.PlainGrants.{none-known}
-use Rattle.ace_lineck.proofs.ShortWays.PlainSilentChanges.{grant-changed, may-hear_change}
+use Rattle.ace_lineck.proofs.Granting.{none-known}
+use Rattle.ace_lineck.proofs.SilentChanges.{grant-changed, may-hear_change}
 use Rattle.ace_lineck.proofs.lines.LineCheck.hear_change.Goals as goal
 
 pub returns-in_default-clause-stands : goal.returns-in_default-clause-stands

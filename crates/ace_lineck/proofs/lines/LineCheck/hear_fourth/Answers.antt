@@ -8,7 +8,7 @@ use Rattle.ace_lineck.proofs.AllLines.{unplaced, placed, line-step, applied-else
 use Rattle.ace_lineck.proofs.Places.{get-at, place-taken, written-here, written-there}
 use Rattle.ace_lineck.proofs.Rooms.{written-records, written-roomy}
 use Rattle.ace_lineck.proofs.SnoopLaws.{stays_known}
-use Rattle.ace_lineck.proofs.ShortWays.SnoopData.{sent-may, sent_record}
+use Rattle.ace_lineck.proofs.SnoopData.{sent-may, sent_record}
 use Rattle.ace_lineck.proofs.lines.LineCheck.hear_fourth.Goals as goal
 
 pub returns-in_default-clause-stands : goal.returns-in_default-clause-stands

@@ -7,7 +7,7 @@ use Rattle.ace_lineck.specs.Uses.{is_unknown}
 use Rattle.ace_lineck.proofs.AllLines.{unplaced, placed, line-step, applied-else}
 use Rattle.ace_lineck.proofs.Places.{get-at, place-taken, written-here, written-there}
 use Rattle.ace_lineck.proofs.Rooms.{written-records, written-roomy}
-use Rattle.ace_lineck.proofs.ShortWays.PlainGrants.{granted-record, may-hear_grant, none-known}
+use Rattle.ace_lineck.proofs.Granting.{granted-record, may-hear_grant, none-known}
 use Rattle.ace_lineck.proofs.lines.LineCheck.hear_grant.Goals as goal
 
 pub returns-in_default-clause-stands : goal.returns-in_default-clause-stands

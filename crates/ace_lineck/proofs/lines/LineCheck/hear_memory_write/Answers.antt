@@ -4,10 +4,10 @@ use Rattle.ace_model.proofs.Terms.{M}
 use Rattle.ace_portck.specs.Targets.{target_of}
 use Rattle.ace_lineck.specs.Records.{LineStands}
 use Rattle.ace_lineck.proofs.AllLines.{unplaced, placed, line-step, applied-else}
-use Rattle.ace_lineck.proofs.ShortWays.BeatSteps.{still-used}
+use Rattle.ace_lineck.proofs.BeatSteps.{still-used}
 use Rattle.ace_lineck.proofs.Places.{get-at, place-taken, written-here, written-there}
 use Rattle.ace_lineck.proofs.Rooms.{written-records, written-roomy}
-use Rattle.ace_lineck.proofs.ShortWays.MemoryWrites.{memory_write-may}
+use Rattle.ace_lineck.proofs.MemoryWrites.{memory_write-may}
 use Rattle.ace_lineck.proofs.lines.LineCheck.hear_memory_write.Goals as goal
 
 pub returns-in_default-clause-stands : goal.returns-in_default-clause-stands

@@ -1,6 +1,6 @@
 use Rattle.std.proofs.Common.{◌≡◌, true, false, sym, ◌∙◌}
 use Rattle.std.proofs.lemmas.Bool.{eq-eqb, eqb-true}
-use Rattle.ace_lineck.proofs.ShortWays.SnoopData.{earlier-still}
+use Rattle.ace_lineck.proofs.SnoopData.{earlier-still}
 use Rattle.ace_lineck.proofs.lines.LineCheck.hear_sent.Goals as goal
 
 pub returns-then-is_fourth-clause-stands : goal.returns-then-is_fourth-clause-stands

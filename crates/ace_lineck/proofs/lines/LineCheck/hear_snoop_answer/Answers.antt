@@ -3,23 +3,23 @@ use Rattle.indexmap.specs.IndexMap.{get, values}
 use Rattle.ace_model.proofs.Terms.{Cr}
 use Rattle.ace_portck.specs.Targets.{target_of}
 use Rattle.ace_lineck.proofs.AllLines.{unplaced, placed, line-step, applied-else}
-use Rattle.ace_lineck.proofs.ShortWays.BeatSteps.{still-used}
+use Rattle.ace_lineck.proofs.BeatSteps.{still-used}
 use Rattle.ace_lineck.proofs.Places.{get-at, place-taken, written-here, written-there}
 use Rattle.ace_lineck.proofs.Rooms.{written-records, written-roomy}
-use Rattle.ace_lineck.proofs.ShortWays.SnoopAnswers.{may-hear_answer}
+use Rattle.ace_lineck.proofs.SnoopAnswers.{may-hear_answer}
 use Rattle.ace_lineck.proofs.lines.LineCheck.hear_snoop_answer.Goals as goal
 
 pub returns-in_default-clause-stands : goal.returns-in_default-clause-stands
 returns-in_default-clause-stands c = λ r x k s is at fine few.
     let self = c.args.self.now in
-    let a = c.args.answer.now in
+    let a = c.args in
     let e = Cr a.port a.resp a.st in
     unplaced self r e (target_of r.header r.past e) c.args.place (may-hear_answer self r a.port a.resp a.st x k c.args.place s is at fine few) c.in_default.is
 
 pub returns-in_default-get_index_mut-clause-stands : goal.returns-in_default-get_index_mut-clause-stands
 returns-in_default-get_index_mut-clause-stands c = λ r x k s is at fine few.
     let self = c.args.self.now in
-    let a = c.args.answer.now in
+    let a = c.args in
     let e = Cr a.port a.resp a.st in
     let n = c.in-Some.place in
     let on = placed self r e (target_of r.header r.past e) c.args.place (may-hear_answer self r a.port a.resp a.st x k c.args.place s is at fine few) n c.in-Some.is in
@@ -29,7 +29,7 @@ returns-in_default-get_index_mut-clause-stands c = λ r x k s is at fine few.
 pub returns-clause-stands : goal.returns-clause-stands
 returns-clause-stands c = λ r x k s is at fine few.
     let self = c.args.self.now in
-    let a = c.args.answer.now in
+    let a = c.args in
     let e = Cr a.port a.resp a.st in
     let t = target_of r.header r.past e in
     let m = may-hear_answer self r a.port a.resp a.st x k c.args.place s is at fine few in

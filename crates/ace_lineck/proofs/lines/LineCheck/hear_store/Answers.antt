@@ -8,7 +8,7 @@ use Rattle.ace_lineck.proofs.AllLines.{unplaced, placed, line-step, applied-else
 use Rattle.ace_lineck.proofs.Places.{get-at, place-taken, written-here, written-there}
 use Rattle.ace_lineck.proofs.Rooms.{written-records, written-roomy}
 use Rattle.ace_lineck.proofs.SnoopLaws.{stays_known}
-use Rattle.ace_lineck.proofs.ShortWays.Stores.{store-may, store-granted}
+use Rattle.ace_lineck.proofs.StoreLaws.{store-may, store-granted}
 use Rattle.ace_lineck.proofs.lines.LineCheck.hear_store.Goals as goal
 
 pub returns-in_default-clause-stands : goal.returns-in_default-clause-stands

@@ -2,7 +2,7 @@ use Rattle.std.proofs.Common.{true, false, ◌∙◌}
 use Rattle.ace_model.specs.Shares.{k26_memory}
 use Rattle.ace_model.proofs.Terms.{B}
 use Rattle.ace_lineck.proofs.Asked.{told}
-use Rattle.ace_lineck.proofs.ShortWays.WriteEnds.{memory-law}
+use Rattle.ace_lineck.proofs.WriteResponses.{memory-law}
 use Rattle.ace_lineck.proofs.lines.LineCheck.rule_of_b.Goals as goal
 
 pub returns-then-is_written : goal.returns-then-is_written

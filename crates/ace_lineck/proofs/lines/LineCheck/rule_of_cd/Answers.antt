@@ -2,7 +2,7 @@ use Rattle.std.proofs.Common.{◌∙◌, true, false, Some}
 use Rattle.ace_model.specs.Shares.{k17_data}
 use Rattle.ace_model.proofs.Terms.{Cd}
 use Rattle.ace_lineck.proofs.Asked.{told}
-use Rattle.ace_lineck.proofs.ShortWays.SnoopData.{sent-law}
+use Rattle.ace_lineck.proofs.SnoopData.{sent-law}
 use Rattle.ace_lineck.proofs.lines.LineCheck.rule_of_cd.Goals as goal
 
 pub returns-then-is_word_sent : goal.returns-then-is_word_sent

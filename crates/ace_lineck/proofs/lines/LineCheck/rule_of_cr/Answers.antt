@@ -6,7 +6,7 @@ use Rattle.ace_portck.specs.Targets.{line_of_snoop}
 use Rattle.ace_lineck.specs.declared.record.LineRecord.{LineRecord}
 use Rattle.ace_lineck.specs.States.{state_at}
 use Rattle.ace_lineck.proofs.Asked.{told-first, told-second}
-use Rattle.ace_lineck.proofs.ShortWays.SnoopAnswers.{answer-law, held-on}
+use Rattle.ace_lineck.proofs.SnoopAnswers.{answer-law, held-on}
 use Rattle.ace_lineck.proofs.lines.LineCheck.rule_of_cr.Goals as goal
 
 pub returns-then-not-is_snoop_row : goal.returns-then-not-is_snoop_row

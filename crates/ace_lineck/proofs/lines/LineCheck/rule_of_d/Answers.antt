@@ -5,8 +5,8 @@ use Rattle.ace_model.proofs.Terms.{D, full_line, is_unique, k32}
 use Rattle.ace_lineck.specs.Holders.{awaits_store}
 use Rattle.ace_lineck.specs.Stands.{record_of}
 use Rattle.ace_lineck.specs.States.{state_at}
-use Rattle.ace_lineck.proofs.ShortWays.PlainEvents.{broken-some, kept-none}
-use Rattle.ace_lineck.proofs.ShortWays.Stores.{alone-may, own-may, store-law}
+use Rattle.ace_lineck.proofs.WritesAndLoads.{broken-some, kept-none}
+use Rattle.ace_lineck.proofs.StoreLaws.{alone-may, own-may, store-law}
 use Rattle.ace_lineck.proofs.lines.LineCheck.rule_of_d.Goals as goal
 
 pub returns-then-is_unique-clause-least : goal.returns-then-is_unique-clause-least

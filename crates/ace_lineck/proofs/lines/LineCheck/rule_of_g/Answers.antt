@@ -5,7 +5,7 @@ use Rattle.ace_lineck.specs.Grants.{GrantStands}
 use Rattle.ace_lineck.specs.Stands.{record_of}
 use Rattle.ace_lineck.proofs.Asked.{told}
 use Rattle.ace_lineck.proofs.GrantLaws.{flip-none}
-use Rattle.ace_lineck.proofs.ShortWays.PlainGrants.{grant-law}
+use Rattle.ace_lineck.proofs.Granting.{grant-law}
 use Rattle.ace_lineck.proofs.lines.LineCheck.rule_of_g.Goals as goal
 
 pub returns-then-not-takes_grant : goal.returns-then-not-takes_grant

@@ -3,7 +3,7 @@ use Rattle.ace_event.specs.declared.event.Event.TheVariants.{L}
 use Rattle.ace_model.proofs.Terms.{k31}
 use Rattle.ace_model.proofs.General.Options.{Some-injective}
 use Rattle.ace_portck.specs.Targets.{target_of}
-use Rattle.ace_lineck.proofs.ShortWays.PlainEvents.{load-rule, next-on}
+use Rattle.ace_lineck.proofs.WritesAndLoads.{load-rule, next-on}
 use Rattle.ace_lineck.proofs.lines.LineCheck.rule_of_l.Goals as goal
 
 pub returns-then-not-keeps_hold : goal.returns-then-not-keeps_hold

@@ -1,5 +1,5 @@
 use Rattle.std.proofs.Common.{◌∙◌}
-use Rattle.ace_lineck.proofs.ShortWays.LinelessBeats.{lineless-beat-rule}
+use Rattle.ace_lineck.proofs.LinelessBeats.{lineless-beat-rule}
 use Rattle.ace_lineck.proofs.lines.LineCheck.rule_of_lineless_r.Goals as goal
 
 pub returns : goal.returns

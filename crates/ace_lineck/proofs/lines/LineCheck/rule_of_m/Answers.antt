@@ -2,7 +2,7 @@ use Rattle.std.proofs.Common.{Some, sym, ap, subst, ◌∙◌}
 use Rattle.std.specs.Option.{option_copied}
 use Rattle.ace_lineck.specs.MemoryRules.{rule_of_write}
 use Rattle.ace_lineck.specs.Records.{LineStands}
-use Rattle.ace_lineck.proofs.ShortWays.MemoryWrites.{of-place, memory_write-law}
+use Rattle.ace_lineck.proofs.MemoryWrites.{of-place, memory_write-law}
 use Rattle.ace_lineck.proofs.lines.LineCheck.rule_of_m.Goals as goal
 
 pub returns : goal.returns

@@ -1,7 +1,7 @@
 use Rattle.std.proofs.Common.{Some, sym, ap, subst, ◌∙◌}
 use Rattle.ace_lineck.specs.Beats.{rule_of_beat}
 use Rattle.ace_lineck.specs.Records.{LineStands}
-use Rattle.ace_lineck.proofs.ShortWays.BeatLaws.{of-place, beat-rule}
+use Rattle.ace_lineck.proofs.BeatLaws.{of-place, beat-rule}
 use Rattle.ace_lineck.proofs.lines.LineCheck.rule_of_r.Goals as goal
 
 pub returns : goal.returns

@@ -5,7 +5,7 @@ use Rattle.ace_portck.specs.Targets.{line_in}
 use Rattle.ace_lineck.specs.declared.record.LineRecord.{LineRecord}
 use Rattle.ace_lineck.specs.States.{state_at}
 use Rattle.ace_lineck.proofs.Asked.{told}
-use Rattle.ace_lineck.proofs.ShortWays.AcknowledgeLaws.{rk-law}
+use Rattle.ace_lineck.proofs.AcknowledgeLaws.{rk-law}
 use Rattle.ace_lineck.proofs.lines.LineCheck.rule_of_rk.Goals as goal
 
 pub returns-then-ends_as : goal.returns-then-ends_as

@@ -3,8 +3,8 @@ use Rattle.ace_event.specs.declared.event.Event.TheVariants.{S}
 use Rattle.ace_model.proofs.Terms.{k29}
 use Rattle.ace_lineck.specs.declared.record.LineRecord.{LineRecord}
 use Rattle.ace_lineck.specs.States.{state_at}
-use Rattle.ace_lineck.proofs.ShortWays.PlainEvents.{broken-some, kept-none}
-use Rattle.ace_lineck.proofs.ShortWays.PlainSilentChanges.{change-law}
+use Rattle.ace_lineck.proofs.WritesAndLoads.{broken-some, kept-none}
+use Rattle.ace_lineck.proofs.SilentChanges.{change-law}
 use Rattle.ace_lineck.proofs.lines.LineCheck.rule_of_s.Goals as goal
 
 pub returns-then-may_move : goal.returns-then-may_move

@@ -7,7 +7,7 @@ use Rattle.ace_model.proofs.Terms.{implies, updates_memory}
 use Rattle.ace_model.proofs.Lines.Known.{data_write-issued}
 use Rattle.ace_lineck.specs.Holders.{holder_at}
 use Rattle.ace_lineck.specs.Stands.{record_of}
-use Rattle.ace_lineck.proofs.ShortWays.PlainEvents.{broken-some, kept-none, word-law}
+use Rattle.ace_lineck.proofs.WritesAndLoads.{broken-some, kept-none, word-law}
 use Rattle.ace_lineck.proofs.lines.LineCheck.rule_of_w.Goals as goal
 
 pub returns-then-not-updates_memory : goal.returns-then-not-updates_memory

@@ -1,16 +1,17 @@
-use Rattle.std.proofs.Common.{◌≡◌, Bool, refl, true, false, not, is_none, sym, ap, ◌∙◌}
+use Rattle.std.proofs.Common.{◌≡◌, Bool, refl, true, false, not, Some, is_none, sym, ap, subst, ◌∙◌}
 use Rattle.std.proofs.lemmas.Bool.{not-true}
 use Rattle.ace_event.specs.declared.event.Channel.TheVariants.{Read}
-use Rattle.ace_event.specs.declared.event.Event.{Event}
+use Rattle.ace_model.specs.declared.transactions.Transaction.{Transaction}
 use Rattle.ace_model.specs.Accepted.{least_of}
-use Rattle.ace_model.specs.AddressRules.{k1}
+use Rattle.ace_model.specs.Barriers.{is_barrier_half}
 use Rattle.ace_model.specs.Shares.{system_rules}
-use Rattle.ace_model.specs.Transactions.{is_complete}
+use Rattle.ace_model.specs.Transactions.{is_complete, outstanding}
 use Rattle.ace_runs.specs.OrderSteps.{plain_transfer}
+use Rattle.ace_runs.proofs.NeverStuck.Barriers.Halves.{dvm-no-half}
 use Rattle.ace_engine.proofs.Pending.{pending-at}
 use Rattle.ace_portck.specs.declared.target.Progress.{Progress}
 use Rattle.ace_order.proofs.DvmSteps.{dvm-begins, dvm-done, dvm-is-plain, dvm-none, is_dvm}
-use Rattle.ace_order.proofs.PlainReads.{plain-port}
+use Rattle.ace_order.proofs.PlainReads.{named-out}
 use Rattle.ace_order.proofs.order.Order.may_respond.Goals as goal
 use Rattle.ace_order.proofs.order.Order.may_respond.Goals.{then-is_dvm, else-is_dvm}
 
@@ -27,9 +28,10 @@ returns-then-not-x c = λ plan past p k y s there is.
           let dvm : is_dvm y ≡ true = sym asked ∙ t.if-is_dvm.true in
           let undone : is_complete past y.port y.chan y.id ≡ false = ap (λ (v : Progress). v.complete) (sym is) ∙ not-true x.complete (sym t.value-is ∙ c.if-not-x.true) in
           let plain = dvm-is-plain h past s.current.legal.accepted p y w dvm in
-          let e : c.plain_transfer.result ≡ plain_transfer y = c.plain_transfer.ensures ∙ ap plain_transfer same in
-          c.keeps.ensures plan past s.current (ap (k1 h past) e ∙ plain-port h past y plain)
-          ∙ ap (λ (v : Event). is_none (least_of system_rules h past v)) e ∙ dvm-begins h past s.current.legal.accepted p y w dvm undone
+          let out = subst (λ (v : Transaction). outstanding h past v.port Read v.id ≡ Some v) (sym same) (named-out h past y plain) in
+          let half = subst (λ v. is_barrier_half v ≡ false) (sym same) (dvm-no-half y dvm) in
+          c.lets_respond.ensures plan past s.current out half ∙ ap (λ v. is_none (least_of system_rules h past (plain_transfer v))) same
+          ∙ dvm-begins h past s.current.legal.accepted p y w dvm undone
     ]
 
 pub returns-else-not-x : goal.returns-else-not-x

@@ -1,13 +1,16 @@
-use Rattle.std.proofs.Common.{◌≡◌, sym, ap, ◌∙◌}
-use Rattle.ace_event.specs.declared.event.Event.TheVariants.{Cd}
-use Rattle.ace_model.specs.Shares.{k17_burst}
-use Rattle.ace_model.specs.Trace.{port_of}
-use Rattle.ace_model.proofs.General.Options.{Some-injective}
+use Rattle.std.proofs.Common.{◌≡◌, ◌∙◌, true, false, is_some, nat_eq, refl, sym, ap}
+use Rattle.ace_tables.specs.Answers.{same_test}
+use Rattle.ace_portck.specs.Targets.{sending}
+use Rattle.ace_portck.proofs.SnoopSteps.{cd-burst}
 use Rattle.ace_portck.proofs.snoops.SnoopQueues.may_send.Goals as goal
 
-pub returns-in-Cd : goal.returns-in-Cd
-returns-in-Cd c = λ h past p s at.
-    let e = c.in-Cd in
-    let port : e.port ≡ p = Some-injective e.port p (sym (ap port_of e.is) ∙ at) in
-    let here : c.args.event.now ≡ Cd p e.last e.word = e.is ∙ ap (λ v. Cd v e.last e.word) port in
-    c.is_some.ensures ∙ c.sent_by.ensures.kept h past p e.word s ∙ sym (ap (k17_burst h past) here)
+pub returns-then-is_some : goal.returns-then-is_some
+returns-then-is_some c = λ h past p word s.
+    let last = c.args.last in
+    let some : is_some (sending past p) ≡ true = ap is_some (sym (c.sending.ensures past p s)) ∙ sym c.is_some.ensures ∙ c.if-is_some.true in
+    c.says_last.ensures ∙ ap (λ v. same_test last (nat_eq v 3)) (c.beat.ensures past p s) ∙ sym (cd-burst h past p last word ∙ rw some refl)
+
+pub returns-else-is_some : goal.returns-else-is_some
+returns-else-is_some c = λ h past p word s.
+    let none : is_some (sending past p) ≡ false = ap is_some (sym (c.sending.ensures past p s)) ∙ sym c.is_some.ensures ∙ c.if-is_some.false in
+    c.if-is_some.false ∙ sym (cd-burst h past p c.args.last word ∙ rw none refl)

@@ -22,7 +22,7 @@ use Rattle.ace_model.proofs.Holders.ShareableLines.{held_is_shareable, used_alik
 use Rattle.ace_model.proofs.Trace.Growth.{IsIssued, issued-cases, some_issued-is}
 use Rattle.ace_runs.specs.Lean.{IsLean, is_on_named_line, is_one_of_three, is_one_of_two}
 use Rattle.ace_runs.specs.Operations.{names}
-use Rattle.ace_runs.proofs.NeverStuck.IssuedTransactions.{line-aligned}
+use Rattle.ace_model.proofs.Trace.IssuedTransactions.{line-aligned}
 use Rattle.ace_runs.proofs.NeverStuck.Operations.Kept.AsksKept.{IsOfClass}
 use Rattle.ace_runs.proofs.NeverStuck.Operations.Lines.OfPlan.{IsPlanned, alike-in-plan, any-at}
 

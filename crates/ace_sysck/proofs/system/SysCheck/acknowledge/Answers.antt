@@ -1,4 +1,4 @@
-use Rattle.ace_sysck.proofs.ShortWays.PlainAcknowledges.{acknowledged-stands}
+use Rattle.ace_sysck.proofs.ByKind.Acknowledges.{acknowledged-stands}
 use Rattle.ace_sysck.proofs.system.SysCheck.acknowledge.Goals as goal
 
 pub returns-clause-stands : goal.returns-clause-stands

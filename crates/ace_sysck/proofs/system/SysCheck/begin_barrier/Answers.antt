@@ -1,5 +1,5 @@
 use Rattle.std.proofs.Common.{◌<◌, arith}
-use Rattle.ace_sysck.proofs.ShortWays.BarrierAddresses.{half-stands, results-read, results-write}
+use Rattle.ace_sysck.proofs.ByKind.BarrierAddresses.{half-stands, results-read, results-write}
 use Rattle.ace_sysck.proofs.system.SysCheck.begin_barrier.Goals as goal
 
 pub returns-in-Read-clause-stands : goal.returns-in-Read-clause-stands

@@ -1,5 +1,5 @@
 use Rattle.std.proofs.Common.{◌<◌, arith}
-use Rattle.ace_sysck.proofs.ShortWays.MessageAddresses.{completion-stands}
+use Rattle.ace_sysck.proofs.ByKind.MessageAddresses.{completion-stands}
 use Rattle.ace_sysck.proofs.system.SysCheck.begin_completion.Goals as goal
 
 pub returns-clause-stands : goal.returns-clause-stands

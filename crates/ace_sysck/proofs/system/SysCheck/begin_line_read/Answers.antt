@@ -1,5 +1,5 @@
 use Rattle.std.proofs.Common.{◌<◌, arith}
-use Rattle.ace_sysck.proofs.ShortWays.PlainAddresses.{begun-stands}
+use Rattle.ace_sysck.proofs.ByKind.ReadAddresses.{begun-stands}
 use Rattle.ace_sysck.proofs.system.SysCheck.begin_line_read.Goals as goal
 
 pub returns-clause-stands : goal.returns-clause-stands

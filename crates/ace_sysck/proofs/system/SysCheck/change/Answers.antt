@@ -10,7 +10,7 @@ use Rattle.ace_sysck.proofs.system.SysCheck.change.Goals as goal
 pub returns-clause-stands : goal.returns-clause-stands
 returns-clause-stands c = λ r s fine few.
     let k = c.args.self.now in
-    let a = c.args.change.now in
+    let a = c.args in
     let e = S a.port a.addr a.st in
     let t = target_of r.header r.past e in
     let step : IsStep r e t = record { header = s.ports; accepted = (s.accepted, fine); target = refl; few = few } in

@@ -2,7 +2,7 @@ use Rattle.std.proofs.Common.{true, refl, ◌∙◌}
 use Rattle.ace_event.specs.declared.event.Event.TheVariants.{R, B}
 use Rattle.ace_portck.specs.Targets.{target_of}
 use Rattle.ace_sysck.proofs.EventLaws.{responded-is}
-use Rattle.ace_sysck.proofs.ShortWays.Responses.{transaction_completed}
+use Rattle.ace_sysck.proofs.ByKind.Responses.{transaction_completed}
 use Rattle.ace_sysck.proofs.system.SysCheck.complete_transaction.Goals as goal
 
 pub returns-clause-beat : goal.returns-clause-beat

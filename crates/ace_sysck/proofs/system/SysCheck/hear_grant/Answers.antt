@@ -1,4 +1,4 @@
-use Rattle.ace_sysck.proofs.ShortWays.Grants.{still-at_grant}
+use Rattle.ace_sysck.proofs.ByKind.Grants.{still-at_grant}
 use Rattle.ace_sysck.proofs.system.SysCheck.hear_grant.Goals as goal
 
 pub returns-then-not-x-clause-stands : goal.returns-then-not-x-clause-stands

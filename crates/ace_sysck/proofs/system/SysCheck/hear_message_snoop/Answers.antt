@@ -2,7 +2,7 @@ use Rattle.std.proofs.Common.{true, false, refl, ap}
 use Rattle.ace_model.specs.Kinds.{is_complete_snoop, is_message_snoop}
 use Rattle.ace_sysck.proofs.Forwarding.InboxHears.{inboxes_forward, inboxes_other_ac}
 use Rattle.ace_sysck.proofs.MessageSteps.{messages_told, messages_untold}
-use Rattle.ace_sysck.proofs.ShortWays.MessageSnoops.{of-kind, other-kind, snoop-stands}
+use Rattle.ace_sysck.proofs.ByKind.MessageSnoops.{of-kind, other-kind, snoop-stands}
 use Rattle.ace_sysck.proofs.system.SysCheck.hear_message_snoop.Goals as goal
 
 pub returns-in-DvmMessage-clause-stands : goal.returns-in-DvmMessage-clause-stands

@@ -1,5 +1,5 @@
 use Rattle.std.proofs.Common.{not, true, false, sym, ap, ◌∙◌}
-use Rattle.ace_sysck.proofs.ShortWays.MessageSnoops.{completes}
+use Rattle.ace_sysck.proofs.ByKind.MessageSnoops.{completes}
 use Rattle.ace_sysck.proofs.system.SysCheck.lets_complete.Goals as goal
 
 pub returns-then-not-is_complete : goal.returns-then-not-is_complete

@@ -6,10 +6,10 @@ use Rattle.ace_sysck.proofs.Unmoved.{barriers_still, results_still, registration
 use Rattle.ace_sysck.proofs.system.SysCheck.load.Goals as goal
 
 pub returns-clause-stands : goal.returns-clause-stands
-returns-clause-stands c = λ r s fine few.
+returns-clause-stands c = λ r w word s fine few.
     let k = c.args.self.now in
-    let a = c.args.load.now in
-    let e = L a.port a.addr a.w a.x a.word in
+    let a = c.args in
+    let e = L a.port a.addr w a.x word in
     let t = target_of r.header r.past e in
     let step : IsStep r e t = record { header = s.ports; accepted = (s.accepted, fine); target = refl; few = few } in
     record {
@@ -17,7 +17,7 @@ returns-clause-stands c = λ r s fine few.
       ports = s.ports;
       accepted = step.accepted;
       barriers = barriers_still r k.barriers e t step refl s.barriers;
-      monitors = c.load.ensures r a.w a.word step.accepted s.monitors;
+      monitors = c.load.ensures r w word step.accepted s.monitors;
       results = results_still r k.results e refl s.results;
       registrations = registrations_still r k.registrations e t step refl s.registrations;
       messages = messages_still r k.messages e t step refl s.messages;

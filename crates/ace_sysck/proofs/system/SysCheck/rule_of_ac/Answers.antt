@@ -1,7 +1,7 @@
 use Rattle.std.proofs.Common.{◌≡◌, true, false, refl, sym, ◌∙◌}
 use Rattle.ace_event.specs.declared.event.Event.TheVariants.{Ac}
 use Rattle.ace_model.specs.OrderRules.{k36, k39}
-use Rattle.ace_sysck.proofs.ShortWays.MessageSnoops.{forwards}
+use Rattle.ace_sysck.proofs.ByKind.MessageSnoops.{forwards}
 use Rattle.ace_sysck.proofs.system.SysCheck.rule_of_ac.Goals as goal
 
 pub returns-then-not-forwards : goal.returns-then-not-forwards

@@ -1,7 +1,7 @@
 use Rattle.std.proofs.Common.{◌≡◌, ◌∙◌, true, false, length, refl, sym}
 use Rattle.ace_model.specs.AddressRules.{begins_barrier}
 use Rattle.ace_model.proofs.Trace.Issued.{issued-place}
-use Rattle.ace_sysck.proofs.ShortWays.BarrierAddresses.{half-rule}
+use Rattle.ace_sysck.proofs.ByKind.BarrierAddresses.{half-rule}
 use Rattle.ace_sysck.proofs.system.SysCheck.rule_of_half.Goals as goal
 
 pub returns-then-lets_begin : goal.returns-then-lets_begin

@@ -4,7 +4,7 @@ use Rattle.ace_model.specs.Kinds.{is_dvm_message}
 use Rattle.ace_model.specs.Messages.{is_message_part}
 use Rattle.ace_model.specs.OrderRules.{may_answer_half}
 use Rattle.ace_model.specs.ReadRules.{has_low_bits}
-use Rattle.ace_sysck.proofs.ShortWays.Responses.{half-other}
+use Rattle.ace_sysck.proofs.ByKind.Responses.{half-other}
 use Rattle.ace_sysck.proofs.system.SysCheck.rule_of_half_r.Goals as goal
 
 pub returns-then-not-has_low_bits : goal.returns-then-not-has_low_bits

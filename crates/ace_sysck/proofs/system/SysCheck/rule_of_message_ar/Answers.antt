@@ -1,8 +1,8 @@
 use Rattle.std.proofs.Common.{◌≡◌, ◌∙◌, true, false, length, refl, sym}
 use Rattle.ace_model.specs.AddressRules.{is_part_in_order}
 use Rattle.ace_model.specs.Messages.{first_waiting}
-use Rattle.ace_portck.proofs.ShortWays.PlainAddresses.{read_of}
-use Rattle.ace_sysck.proofs.ShortWays.MessageAddresses.{ar-within, message-rule}
+use Rattle.ace_portck.proofs.ReadAddresses.{read_of}
+use Rattle.ace_sysck.proofs.ByKind.MessageAddresses.{ar-within, message-rule}
 use Rattle.ace_sysck.proofs.system.SysCheck.rule_of_message_ar.Goals as goal
 
 pub returns-then-lets_begin : goal.returns-then-lets_begin

@@ -2,7 +2,7 @@ use Rattle.std.proofs.Common.{◌≡◌, true, false, refl, sym, ◌∙◌}
 use Rattle.ace_model.specs.Barriers.{is_barrier_half}
 use Rattle.ace_model.specs.OrderRules.{is_answered_by_all}
 use Rattle.ace_model.specs.ReadRules.{has_low_bits}
-use Rattle.ace_sysck.proofs.ShortWays.Responses.{part-no_half}
+use Rattle.ace_sysck.proofs.ByKind.Responses.{part-no_half}
 use Rattle.ace_sysck.proofs.system.SysCheck.rule_of_message_r.Goals as goal
 
 pub returns-then-not-has_low_bits : goal.returns-then-not-has_low_bits

@@ -1,20 +1,18 @@
-use Rattle.ace_top.proofs.Following.{both_follow, one_follows}
+use Rattle.std.proofs.Common.{refl}
+use Rattle.ace_top.proofs.Following.{alone_taken, both_follow}
 use Rattle.ace_top.proofs.follow.Follower.take.Goals as goal
 
-pub returns-in-Some-clause-follows : goal.returns-in-Some-clause-follows
-returns-in-Some-clause-follows c h past f few =
-    both_follow _ _ _ h past _ f.accepted (c.hear.ensures.fine h past f.checker) (c.hear.ensures.stands h past f.checker few)
-    (c.hear.ensures.reports h past f.checker (rw c.in-Some.is at f.report) f.accepted few)
+pub returns-in-Some : goal.returns-in-Some
+returns-in-Some c =
+    let heard = c.hear-self.ensures in
+    record {
+      fine = λ h past f. heard.fine h past f.checker;
+      follows = λ h past f few. both_follow _ _ _ h past _ f.accepted (heard.fine h past f.checker) (heard.stands h past f.checker few)
+          (heard.reports h past f.checker (rw c.in-Some.is at f.report) f.accepted few);
+      stops = λ h past f. heard.stops h past f.checker;
+      stop = heard.stop;
+      same_reports = rw c.in-Some.is refl;
+    }
 
-pub returns-in-Some-clause-stops : goal.returns-in-Some-clause-stops
-returns-in-Some-clause-stops c h past f = c.hear.ensures.stops h past f.checker
-
-pub returns-in-None-clause-fine : goal.returns-in-None-clause-fine
-returns-in-None-clause-fine c h past f = c.feed.ensures.fine h past f.checker
-
-pub returns-in-None-clause-follows : goal.returns-in-None-clause-follows
-returns-in-None-clause-follows c h past f few =
-    one_follows _ _ _ h past _ c.in-None.is f.accepted (c.feed.ensures.fine h past f.checker) (c.feed.ensures.stands h past f.checker few)
-
-pub returns-in-None-clause-stops : goal.returns-in-None-clause-stops
-returns-in-None-clause-stops c h past f = c.feed.ensures.stops h past f.checker
+pub returns-in-None : goal.returns-in-None
+returns-in-None c = let fed = c.feed-self.ensures in alone_taken _ _ _ _ c.in-None.is fed.fine fed.stands fed.stops fed.stop

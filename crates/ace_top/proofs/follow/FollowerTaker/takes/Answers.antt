@@ -1,15 +1,20 @@
-use Rattle.std.proofs.Common.{None, refl}
+use Rattle.std.proofs.Common.{None, sym, subst, ◌∙◌}
+use Rattle.ace_top.specs.Follow.{HasTaken}
+use Rattle.ace_top.proofs.Following.{alone_taken, none_is}
 use Rattle.ace_top.proofs.follow.FollowerTaker.takes.Goals as goal
 
-pub returns-in-None-clause-took : goal.returns-in-None-clause-took
-returns-in-None-clause-took c is =
-    let takes = c.takes.ensures in
-    record {
-      fine = λ h past f. let t = takes.fine h past None f.checker is in (t.1, t.2);
-      follows = λ h past f few. let t = takes.fine h past None f.checker is in record {
-        checker = takes.stands h past f.checker is few;
-        report = rw c.in-None.is tt;
-        accepted = (f.accepted, t.1);
-      };
-      same_reports = refl;
-    }
+pub returns-in-Some-clause-took : goal.returns-in-Some-clause-took
+returns-in-Some-clause-took c is =
+    let fed = c.in-Some.ensures in (
+      none_is _ (sym c.is_some-else-is_some.ensures ∙ c.if-is_some-2.false),
+      alone_taken _ _ _ _ (none_is _ (sym c.is_some.ensures ∙ c.if-is_some.false)) fed.fine fed.stands fed.stops fed.stop,
+    )
+
+pub returns-in_default-clause-took : goal.returns-in_default-clause-took
+returns-in_default-clause-took c is =
+    let fed = c.in_default.ensures in
+    let none = none_is c.args.self.now.stop (sym c.is_some-else-is_some.ensures ∙ c.if-is_some-2.false) in (
+      none,
+      subst (λ o. HasTaken c.args.self.now c.args.event.now (record { checker = c.feed.new.checker; report = c.args.self.now.report; stop = o })) (sym none)
+          (alone_taken _ _ _ None (none_is _ (sym c.is_some.ensures ∙ c.if-is_some.false)) fed.fine fed.stands fed.stops fed.stop),
+    )

@@ -9,12 +9,12 @@ returns c = λ plan past s legal.
     let r : Recording = record { header = plan.header; past = past } in
     record {
       legal = legal;
-      ports = c.apply.ensures.stands r (record {
+      ports = c.hear-2.ensures.stands r (record {
         stands = s.ports;
         room = room-for-event plan past e c.args.self.now.ports legal s.ports.ports s.room;
         keeps = legal.accepted.1;
         few = few-events-there plan past s.legal;
       });
-      room = c.apply.ensures.room 24576 s.room;
-      passed = c.hear.ensures plan.header past legal.accepted (c.target-target.ensures r s.ports) (few-lines-there plan past c.args.self.now.passed s.legal s.passed) s.passed;
+      room = c.hear-2.ensures.room 24576 s.room;
+      passed = c.hear.ensures plan.header past legal.accepted s.ports (few-lines-there plan past c.args.self.now.passed s.legal s.passed) s.passed;
     }
