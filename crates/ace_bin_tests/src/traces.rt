@@ -1,4 +1,5 @@
-// Binary traces that were written out by hand, whole, cut, changed and in pieces, and sources and sinks that fail.
+// Binary traces that were written out by hand, whole, cut, changed and in pieces, and sources and
+// sinks that fail.
 ghost use Rattle.std.specs.Prelude.{◌<◌};
 ghost use Rattle.ace_event.specs.Ports.{IsHeader};
 ghost use Rattle.ace_event.specs.Range.{InRange};

@@ -10,8 +10,8 @@ use Rattle.ace_check.specs.declared.heard.Heard.{Heard}
 use Rattle.ace_check.specs.declared.heard.Heard.TheVariants.{Fine, Broken, TooManyLines, NoMemory}
 use Rattle.ace_check.specs.declared.shares.Shares.{Shares}
 
--- An event after a trace comes to this, and what the shares tell then: the trace with it where it breaks no rule and names no
--- line too many; else the trace as it was.
+-- An event after a trace comes to this, and what the shares tell then: the trace with it where it
+-- breaks no rule and names no line too many; else the trace as it was.
 abbrev pub ComesTo : Header → Trace → Event → Shares → Heard → Type 0
 ComesTo h past e new Fine =
     (least_broken h past e ≡ None) × (goes_over past e ≡ false) × SharesTell new h (e ∷ past)

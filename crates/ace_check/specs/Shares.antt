@@ -33,8 +33,8 @@ pub record SharesStand (s : Shares) (h : Header) (past : Trace) : Type 0 where
   pub tell : SharesTell s h past
   pub room : HaveRoom s past
 
--- The event may be the next of a run: it breaks no rule and is one of a port, and the trace with it has few enough events, lines
--- and snoops.
+-- The event may be the next of a run: it breaks no rule and is one of a port, and the trace with it
+-- has few enough events, lines and snoops.
 pub record MayHear (h : Header) (past : Trace) (e : Event) : Type 0 where
   pub fine : least_broken h past e ≡ None
   pub port : is_some (port_of e) ≡ true

@@ -1,4 +1,5 @@
-//! RKs and WKs: an acknowledge moves what is kept of its port, of its line, and of the port's monitor.
+//! RKs and WKs: an acknowledge moves what is kept of its port, of its line, and of the port's
+//! monitor.
 
 ghost use Rattle.std.specs.Prelude.{◌≡◌, None, Some};
 ghost use Rattle.ace_codes.specs.declared.state.LineState.{LineState};
@@ -27,8 +28,8 @@ use ace_model::kinds::{read_kind, write_kind};
 use ace_portck::{Progress, line_of_read, line_of_write};
 use ace_sysck::SysCheck;
 
-/// The least rule that the RK of a read breaks: K23. `kind` is that of the read, and `place` that of
-/// its line.
+/// The least rule that the RK of a read breaks: K23. `kind` is that of the read, and `place` that
+/// of its line.
 #[inline(always)]
 fn rule_of_read(
     lines: &LineCheck,
@@ -49,8 +50,8 @@ fn rule_of_read(
     lines.rule_of_rk(x, kind, failed, place, port, st)
 }
 
-/// The least rule that the WK of a write breaks: K28. `kind` is that of the write, and `place` that of
-/// its line.
+/// The least rule that the WK of a write breaks: K28. `kind` is that of the write, and `place` that
+/// of its line.
 #[inline(always)]
 fn rule_of_write(
     lines: &LineCheck,

@@ -30,8 +30,8 @@ impl Shares {
         }
     }
 
-    /// The least rule that a G of the outstanding transaction breaks: K12 of its line, whose record stands at the place, or K35 of the
-    /// barriers before it.
+    /// The least rule that a G of the outstanding transaction breaks: K12 of its line, whose record
+    /// stands at the place, or K35 of the barriers before it.
     #[inline(always)]
     fn rule_of_grant(&self, x: &Transaction, place: Option<usize>) -> Option<u8>
         ensures { (h : Header) (past : Trace) (port : ℕ) (chan : Channel) (id : ℕ)

@@ -12,7 +12,8 @@ use ace_event::Event;
 impl Shares {
     /// The event breaks no rule as the next of the trace.
     pub fn keeps(&self, event: &Event) -> bool
-        ensures { (h : Header) (past : Trace) → SharesStand self.now h past → result ≡ is_none (least_broken h past event.now) }
+        ensures { (h : Header) (past : Trace) → SharesStand self.now h past
+            → result ≡ is_none (least_broken h past event.now) }
     {
         self.rule_of(event).is_none()
     }

@@ -26,7 +26,8 @@ pub(crate) fn line_read_kind(snoop: u8, dom: u8, bar: u8) -> Option<ArKind>
 }
 
 impl Shares {
-    /// A transaction on the line whose record stands at the place names one line more than a trace may have.
+    /// A transaction on the line whose record stands at the place names one line more than a trace
+    /// may have.
     #[inline(always)]
     pub(crate) fn is_line_too_many(&self, place: Option<usize>) -> bool
         ensures { (h : Header) (past : Trace) (line : ℕ) → SharesTell self.now h past

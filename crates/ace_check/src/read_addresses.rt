@@ -1,4 +1,5 @@
-//! ARs: an AR of a line read moves what is kept of its port and of its line, and is the last read of its name.
+//! ARs: an AR of a line read moves what is kept of its port and of its line, and is the last read
+//! of its name.
 
 ghost use Rattle.std.specs.Prelude.{◌≡◌, ℕ, None, Some, true};
 ghost use Rattle.ace_codes.specs.Reads.{ar_kind_of};
@@ -41,7 +42,8 @@ impl Shares {
         self.rule_of_line_ar(port, id, addr, kind, lock, place)
     }
 
-    /// The same, of a line read of the kind: K1 to K5 and K7 look at it by its port, K6 and K8 by its line, whose place is given.
+    /// The same, of a line read of the kind: K1 to K5 and K7 look at it by its port, K6 and K8 by
+    /// its line, whose place is given.
     #[inline(always)]
     fn rule_of_line_ar(
         &self,
@@ -62,7 +64,8 @@ impl Shares {
         lesser(at_port, on_line)
     }
 
-    /// The same, of one that issues no line read: K1 to K4 and K7 look at it by its port, K9 and K38 by the system.
+    /// The same, of one that issues no line read: K1 to K4 and K7 look at it by its port, K9 and
+    /// K38 by the system.
     fn rule_of_lineless_ar(
         &self,
         port: u8,

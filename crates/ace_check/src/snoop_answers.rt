@@ -28,7 +28,8 @@ impl Shares {
         }
     }
 
-    /// The least rule that a CR breaks: K1, K2 or K14 of its port, or K15 or K16 of the snoop that it answers.
+    /// The least rule that a CR breaks: K1, K2 or K14 of its port, or K15 or K16 of the snoop that
+    /// it answers.
     #[inline(always)]
     pub(crate) fn rule_of_cr(&self, port: u8, resp: u8, st: LineState) -> Option<u8>
         ensures { (h : Header) (past : Trace) → SharesTell self.now h past

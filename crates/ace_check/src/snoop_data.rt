@@ -30,8 +30,8 @@ impl Shares {
         }
     }
 
-    /// The least rule that a CD breaks which is this beat of the data for a snoop: K1 or K17 of its port, or K17 of its line, whose record
-    /// stands at the place.
+    /// The least rule that a CD breaks which is this beat of the data for a snoop: K1 or K17 of its
+    /// port, or K17 of its line, whose record stands at the place.
     #[inline(always)]
     fn rule_of_beat(
         &self,

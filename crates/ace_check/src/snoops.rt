@@ -34,8 +34,8 @@ impl Shares {
         self.lines.is_granted_exclusively(place) && self.has_failed_at(place)
     }
 
-    /// The least rule that a line snoop of the kind breaks, which keeps the rules of its port: K13 of its line, whose record stands at the
-    /// place, or K36.
+    /// The least rule that a line snoop of the kind breaks, which keeps the rules of its port: K13
+    /// of its line, whose record stands at the place, or K36.
     #[inline(always)]
     fn rule_of_line_snoop(
         &self,
@@ -59,7 +59,8 @@ impl Shares {
         self.system.rule_of_ac(port, addr, kind)
     }
 
-    /// The least rule that an AC of the kind of DVM breaks, which keeps the rules of its port: K36 or K39.
+    /// The least rule that an AC of the kind of DVM breaks, which keeps the rules of its port: K36
+    /// or K39.
     #[inline(always)]
     fn rule_of_message_snoop(&self, port: u8, addr: u32, kind: SnoopKind) -> Option<u8>
         ensures { (h : Header) (past : Trace) (snoop : ℕ) → SharesTell self.now h past

@@ -18,8 +18,9 @@ impl Shares {
     ghost use Rattle.ace_lineck.specs.Holders.{awaits_store};
     ghost use Rattle.ace_check.specs.Shares.{SharesTell};
 
-    /// The least rule that a D breaks: K1 or K3 of its port, K32 of its line, or K33 of its port's monitor. A D beside a transaction of its
-    /// port on the line that breaks none is the store of a MakeUnique.
+    /// The least rule that a D breaks: K1 or K3 of its port, K32 of its line, or K33 of its port's
+    /// monitor. A D beside a transaction of its port on the line that breaks none is the store of a
+    /// MakeUnique.
     #[inline(always)]
     pub(crate) fn rule_of_d(&self, port: u8, addr: u32, strobe: u64, x: bool) -> Option<u8>
         ensures least { (h : Header) (past : Trace) (line : Line) → SharesTell self.now h past

@@ -39,7 +39,8 @@ impl Shares {
         self.rule_of_line_aw(port, id, addr, kind, place)
     }
 
-    /// The same, of a line write of the kind: K1 to K5 and K10 look at it by its port, K6 and K8 by its line, whose place is given.
+    /// The same, of a line write of the kind: K1 to K5 and K10 look at it by its port, K6 and K8 by
+    /// its line, whose place is given.
     #[inline(always)]
     fn rule_of_line_aw(
         &self,
@@ -59,7 +60,8 @@ impl Shares {
         lesser(at_port, on_line)
     }
 
-    /// The same, of one that issues no line write: K1 to K4 look at it by its port, K9 by the barriers of its port.
+    /// The same, of one that issues no line write: K1 to K4 look at it by its port, K9 by the
+    /// barriers of its port.
     fn rule_of_lineless_aw(
         &self,
         port: u8,

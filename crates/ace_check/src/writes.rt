@@ -31,7 +31,8 @@ impl Shares {
         self.lines.rule_of_w(&write, beat, word)
     }
 
-    /// The least rule that a W breaks: K1 or K11 of its port, or K11 of its line, where its write is a memory update.
+    /// The least rule that a W breaks: K1 or K11 of its port, or K11 of its line, where its write
+    /// is a memory update.
     #[inline(always)]
     pub(crate) fn rule_of_w(&self, port: u8, strb: u16, last: bool, word: u128) -> Option<u8>
         ensures { (h : Header) (past : Trace) → SharesTell self.now h past

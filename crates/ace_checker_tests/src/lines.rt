@@ -245,7 +245,8 @@ fn takes_all(checker: &mut Checker, events: &[Event]) -> Result<bool, Fail> {
     Ok(true)
 }
 
-/// A checker that has taken the events in front, and those of the case before the one of this number that break no rule.
+/// A checker that has taken the events in front, and those of the case before the one of this
+/// number that break no rule.
 fn before(alloc: Global, case: &Case, number: usize) -> Result<Checker, Fail> {
     let mut checker = Checker::new(alloc, TWO_ACE)?;
     for events in case.front {

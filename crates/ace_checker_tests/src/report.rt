@@ -47,8 +47,8 @@ macro_rules! w {
     };
 }
 
-/// Port 0 reads line 64 by ReadUnique, stores a byte and loads it. Port 1 gives up the data of line 64 by MakeInvalid, and writes line 0
-/// by WriteNoSnoop.
+/// Port 0 reads line 64 by ReadUnique, stores a byte and loads it. Port 1 gives up the data of line
+/// 64 by MakeInvalid, and writes line 0 by WriteNoSnoop.
 const EVENTS: &[Event] = &[
     ar!(0, 7),
     Event::G {

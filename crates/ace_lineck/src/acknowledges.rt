@@ -64,7 +64,8 @@ fn end(kept: &mut LineRecord, x: &Transaction, port: u8, st: LineState)
     release(&mut kept.grant, x);
 }
 
-/// The state is an end state of a write of this kind, at whose end its port holds `held` of its line.
+/// The state is an end state of a write of this kind, at whose end its port holds `held` of its
+/// line.
 #[inline(always)]
 fn ends_write(kind: AwKind, held: LineState, st: LineState) -> bool
     ensures { result ≡ ends_write kind held st }

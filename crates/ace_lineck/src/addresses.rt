@@ -1,4 +1,5 @@
-//! The AR or AW of a line transaction: the least rule of those that look at one line that it breaks, and what it leaves of its line.
+//! The AR or AW of a line transaction: the least rule of those that look at one line that it
+//! breaks, and what it leaves of its line.
 
 ghost use Rattle.std.specs.Prelude.{◌≡◌, None, Some, if◌then◌else◌};
 ghost use Rattle.ace_model.specs.Kinds.{is_no_snoop_read, is_no_snoop_write};
@@ -41,7 +42,8 @@ fn rule_of_read(kept: &LineRecord, port: u8, kind: ArKind) -> Option<u8>
     }
 }
 
-/// The least of K6 and K8 that an AW of a line write of the kind breaks, by what is kept of its line.
+/// The least of K6 and K8 that an AW of a line write of the kind breaks, by what is kept of its
+/// line.
 #[inline(always)]
 fn rule_of_write(kept: &LineRecord, port: u8, kind: AwKind) -> Option<u8>
     ensures { result ≡ (if starts_write kind (state_at kept.now.states port)
@@ -102,8 +104,9 @@ impl LineCheck {
         rule_of_read(self.record(place), port, kind)
     }
 
-    /// The least rule of the share that an AW of a line write of the kind breaks: K6, that the kind may start from the state in which its
-    /// port has the line, or K8, that it goes with the use of the line (Arm IHI 0022E, C4). `place` is that of the line.
+    /// The least rule of the share that an AW of a line write of the kind breaks: K6, that the kind
+    /// may start from the state in which its port has the line, or K8, that it goes with the use of
+    /// the line (Arm IHI 0022E, C4). `place` is that of the line.
     #[inline(always)]
     pub fn rule_of_aw(&self, port: u8, kind: AwKind, place: Option<usize>) -> Option<u8>
         ensures { (r : Recording) (id addr snoop dom bar : ℕ) → Stands self.now r
@@ -114,8 +117,8 @@ impl LineCheck {
         rule_of_write(self.record(place), port, kind)
     }
 
-    /// Takes an AR or AW that issues a line transaction and breaks no rule. `unshared` says whether the transaction is NoSnoop, and
-    /// `place` is that of its line, which has a record.
+    /// Takes an AR or AW that issues a line transaction and breaks no rule. `unshared` says whether
+    /// the transaction is NoSnoop, and `place` is that of its line, which has a record.
     #[inline(always)]
     pub fn hear_address(&mut self, unshared: bool, place: Option<usize>)
         ensures stands { (r : Recording) (e : Event) (x : Transaction) → Stands self.old r

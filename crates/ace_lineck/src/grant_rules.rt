@@ -1,4 +1,5 @@
-//! What the rules of snoops, of read transfers and of memory writes ask of a grant, K13, K18 and K24.
+//! What the rules of snoops, of read transfers and of memory writes ask of a grant, K13, K18 and
+//! K24.
 
 ghost use Rattle.std.specs.Prelude.{◌≡◌, ◌<◌, ◌≤◌, ℕ, true, false, not, ◌&&◌, ◌||◌, ◌==◌, Option, Some, is_some};
 ghost use Rattle.ace_event.specs.declared.header.Header.{Header};

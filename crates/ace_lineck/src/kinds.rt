@@ -1,4 +1,5 @@
-//! The kinds of transactions, and what they have in common: which take a grant, and what they cause and take under it.
+//! The kinds of transactions, and what they have in common: which take a grant, and what they cause
+//! and take under it.
 
 ghost use Rattle.std.specs.Prelude.{◌≡◌};
 ghost use Rattle.ace_model.specs.Copies.{is_line_read_transaction};

@@ -49,7 +49,8 @@ impl LineCheck {
         }
     }
 
-    /// The same, with room for so many lines: as long as no more are known, `make_record` makes room for any.
+    /// The same, with room for so many lines: as long as no more are known, `make_record` makes
+    /// room for any.
     pub fn with_room(alloc: Global, header: Header, lines: usize) -> Result<LineCheck, NoMemory>
         ensures stands { IfOk result (λ s. IsHeader header → Stands s (record { header = header; past = [] })) }
         ensures room { IfOk result (IsRoomy lines []) }

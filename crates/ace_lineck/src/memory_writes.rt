@@ -1,4 +1,5 @@
-//! An M: the least rule of the share that it breaks, and what it leaves of what is kept of its line.
+//! An M: the least rule of the share that it breaks, and what it leaves of what is kept of its
+//! line.
 
 ghost use Rattle.std.specs.Prelude.{◌≡◌, ◌∷◌, ◌&&◌, ◌||◌, ◌==◌, ℕ, List, Option, None, Some, if◌then◌else◌, false, not, length, unwrap_or};
 ghost use Rattle.std.specs.Option.{option_copied};
@@ -193,7 +194,8 @@ fn may_write_burst(kept: &LineRecord, header: &Header, x: &Transaction, kind: Aw
     is_due(kept, header, x, kind) || is_update_due(kept, kind)
 }
 
-/// The least of K24 and K25 that an M of the line breaks, of a write of this kind with a whole burst.
+/// The least of K24 and K25 that an M of the line breaks, of a write of this kind with a whole
+/// burst.
 #[inline(always)]
 fn rule_of_burst(
     kept: &LineRecord,
@@ -245,7 +247,8 @@ fn rule_of_passed(grant: &Option<Grant>, x: &Progress, line: &Line) -> Option<u8
     }
 }
 
-/// The same, of any transaction. `burst` is that of a write, where it is whole and the write has had no M.
+/// The same, of any transaction. `burst` is that of a write, where it is whole and the write has
+/// had no M.
 #[inline(always)]
 fn rule_of_write(
     kept: &LineRecord,
@@ -317,9 +320,9 @@ impl LineCheck {
     ghost use Rattle.ace_portck.specs.Targets.{Recording, after, data_in, progress_of};
     ghost use Rattle.ace_lineck.specs.Stands.{Stands, IsRoomy, place_on};
 
-    /// The least rule of the share that an M of the outstanding transaction breaks: K24, that it may write memory, or K25, that the line
-    /// is what it writes (Arm IHI 0022E, C6). `burst` is that of a write, where it is whole and the write has had no M, and `place` that
-    /// of the line.
+    /// The least rule of the share that an M of the outstanding transaction breaks: K24, that it
+    /// may write memory, or K25, that the line is what it writes (Arm IHI 0022E, C6). `burst` is
+    /// that of a write, where it is whole and the write has had no M, and `place` that of the line.
     #[inline(always)]
     pub fn rule_of_m(
         &self,

@@ -22,7 +22,8 @@ impl LineCheck {
     ghost use Rattle.ace_portck.specs.Targets.{Recording, after};
     ghost use Rattle.ace_lineck.specs.Stands.{Stands, HasRecord, IsRoomy, place_on};
 
-    /// Takes a MEM that breaks no rule: memory has this of its line. `place` is that of the line, which has a record.
+    /// Takes a MEM that breaks no rule: memory has this of its line. `place` is that of the line,
+    /// which has a record.
     pub fn hear_mem(&mut self, place: Option<usize>, line: &Line)
         ensures stands { (r : Recording) (addr : ℕ) → Stands self.old r
             → place ≡ place_on self.old (Some addr) → HasRecord self.old (Some addr)

@@ -1,4 +1,5 @@
-//! An R: the least rule of those that look at one line that it breaks, and what that of a line read leaves of what is kept of its line.
+//! An R: the least rule of those that look at one line that it breaks, and what that of a line read
+//! leaves of what is kept of its line.
 
 ghost use Rattle.std.specs.Prelude.{◌≡◌, ◌<◌, ◌-◌, ◌^◌, ℕ, Bool, true, false, not, ◌&&◌, List, ◌∷◌, length, Option, Some, None, option_and_then, option_copied, option_map};
 ghost use Rattle.ace_codes.specs.declared.kind.ArKind.{ArKind as Kind};
@@ -133,7 +134,8 @@ fn rule_of_beat(
     }
 }
 
-/// The least of K19, that the transfer has neither PassDirty nor IsShared, and K20, that it has the word 0, that it breaks.
+/// The least of K19, that the transfer has neither PassDirty nor IsShared, and K20, that it has the
+/// word 0, that it breaks.
 #[inline(always)]
 fn rule_of_dataless(resp: u8, word: u128) -> Option<u8>
     ensures { result ≡ rule_of_dataless resp word }
@@ -277,8 +279,8 @@ impl LineCheck {
         rule_of_beat(kept, &self.header, x, kind, failed, resp, word)
     }
 
-    /// The least rule of the share that the first R of a read without a line breaks: K19 or K20, since it has no data (Arm IHI 0022E,
-    /// C3.2.1).
+    /// The least rule of the share that the first R of a read without a line breaks: K19 or K20,
+    /// since it has no data (Arm IHI 0022E, C3.2.1).
     #[inline(always)]
     pub fn rule_of_lineless_r(&self, resp: u8, word: u128) -> Option<u8>
         ensures { (r : Recording) (port id : ℕ) (last : Bool) (x : Progress) (k : Kind)

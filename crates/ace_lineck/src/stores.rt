@@ -20,10 +20,12 @@ use ace_event::{Line, merge};
 use ace_portck::Progress;
 use ace_tables::is_unique;
 
-/// The store is the one of the MakeUnique, which is complete and has had none: a store of the whole line with x 0.
+/// The store is the one of the MakeUnique, which is complete and has had none: a store of the whole
+/// line with x 0.
 #[inline(always)]
 fn is_own_store(own: &Progress, strobe: u64, x: bool) -> bool
-    ensures { result ≡ ((awaits_store own.now && not own.now.stored) && not x && (strobe == full_line)) }
+    ensures { result
+        ≡ ((awaits_store own.now && not own.now.stored) && not x && (strobe == full_line)) }
 {
     is_make_unique(&own.transaction) && own.complete && !own.stored && !x && strobe == u64::MAX
 }

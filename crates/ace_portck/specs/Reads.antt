@@ -8,7 +8,9 @@ use Rattle.ace_model.specs.declared.transactions.Transaction.{Transaction}
 
 -- the kind of a line read that is no exclusive store, so that it can't fail (Arm IHI 0022E, C9)
 abbrev pub unfailing_read : Transaction → Option ArKind
-unfailing_read x = option_and_then (λ k. if is_line_read k && not (is_exclusive_store x) then Some k else None) (read_kind x)
+unfailing_read x =
+    option_and_then (λ k. if is_line_read k && not (is_exclusive_store x) then Some k else None)
+    (read_kind x)
 
 -- after so many transfers of a read of this kind some are left, and `last` says whether the next is the last
 abbrev pub is_next_beat : ℕ → Bool → ArKind → Bool

@@ -17,7 +17,9 @@ pub record Target : Type 0 where
   pub beat : ℕ
   -- of the M of a write: its burst, where it is whole and the write has had no M
   pub «data» : Option WriteData
-  -- of an R or B of a barrier: the place of the port's oldest line transaction with bar 0 without its order point
+  -- of an R or B of a barrier: the place of the port's oldest line transaction with bar 0 without
+  -- its order point
   pub unordered : Option ℕ
-  -- of an R or B of a barrier: the place of the port's oldest line transaction with bar 0 that isn't complete
+  -- of an R or B of a barrier: the place of the port's oldest line transaction with bar 0 that
+  -- isn't complete
   pub incomplete : Option ℕ

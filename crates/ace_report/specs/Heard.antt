@@ -85,7 +85,8 @@ written_bytes x burst = if is_some_and x (λ y. stores_data y.transaction) then 
 -- what memory has, where the transaction of an R is a MakeInvalid
 abbrev pub discarded_bytes : Option Progress → Line → Option WriteData
 discarded_bytes x before =
-    if is_some_and x (λ y. discards_data y.transaction) then Some (record { strobe = full_line; line = before }) else None
+    if is_some_and x (λ y. discards_data y.transaction)
+    then Some (record { strobe = full_line; line = before }) else None
 
 -- the tally with the store, if there is one
 abbrev pub stored : Option WriteData → LineTally → LineTally

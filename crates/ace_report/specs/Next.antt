@@ -13,7 +13,8 @@ use Rattle.ace_model.specs.Lines.{is_known}
 use Rattle.ace_portck.specs.Targets.{line_in}
 use Rattle.ace_report.specs.declared.tally.LineTally.{LineTally}
 
--- the line of which an event tells a report: that of the transaction of an AR, AW, R or M, or of a D
+-- the line of which an event tells a report: that of the transaction of an AR, AW, R or M, or of a
+-- D
 abbrev pub told_line : Header → Trace → Event → Option ℕ
 told_line h past (Ar p i addr snoop dom bar lock) = line_in h past (Ar p i addr snoop dom bar lock)
 told_line h past (Aw p i addr snoop dom bar) = line_in h past (Aw p i addr snoop dom bar)
@@ -41,6 +42,8 @@ IsNewLine past (Some l) = is_known past l ≡ false
 -- the report grows with the event: it is a load, or the first AR or AW that names its line
 abbrev pub AddsEntry : Header → Trace → Event → Type 0
 AddsEntry h past (L p addr w x word) = ⊤
-AddsEntry h past (Ar p i addr snoop dom bar lock) = IsNewLine past (line_in h past (Ar p i addr snoop dom bar lock))
-AddsEntry h past (Aw p i addr snoop dom bar) = IsNewLine past (line_in h past (Aw p i addr snoop dom bar))
+AddsEntry h past (Ar p i addr snoop dom bar lock) =
+    IsNewLine past (line_in h past (Ar p i addr snoop dom bar lock))
+AddsEntry h past (Aw p i addr snoop dom bar) =
+    IsNewLine past (line_in h past (Aw p i addr snoop dom bar))
 AddsEntry h past _ = ⊥

@@ -95,8 +95,8 @@ fn line_begun(place: usize, event: &Event) -> Option<u32>
     }
 }
 
-/// The line of which the event tells a report, which wants memory of it: that of the transaction of an AR, AW, R or M, or of a D. The
-/// ports are those before the event.
+/// The line of which the event tells a report, which wants memory of it: that of the transaction of
+/// an AR, AW, R or M, or of a D. The ports are those before the event.
 pub fn told_line(event: &Event, ports: &PortCheck) -> Option<u32>
     ensures { (h : Header) (past : Trace) → Tell ports.now (record { header = h; past = past })
         → result ≡ told_line h past event.now }
@@ -110,7 +110,8 @@ pub fn told_line(event: &Event, ports: &PortCheck) -> Option<u32>
     }
 }
 
-/// Hears the next event of an accepted trace, with its `told_line`. There is no memory for it only where it names a line first.
+/// Hears the next event of an accepted trace, with its `told_line`. There is no memory for it only
+/// where it names a line first.
 pub(crate) fn hear_line(
     lines: &mut BTreeMap<u32, LineTally>,
     event: &Event,
@@ -118,7 +119,8 @@ pub(crate) fn hear_line(
     line: Option<u32>,
     memory: Line,
 ) -> Result<(), NoMemory>
-    ensures stands { (h : Header) (past : Trace) → Tell ports.now (record { header = h; past = past })
+    ensures stands { (h : Header) (past : Trace)
+        → Tell ports.now (record { header = h; past = past })
         → line ≡ told_line h past event.now → LinesStand past lines.old
         → IsNext h past event.now memory
         → OnOk result (LinesStand (event.now ∷ past) lines.new) }

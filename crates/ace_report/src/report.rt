@@ -56,7 +56,8 @@ impl Report {
         }
     }
 
-    /// Counts the next event of an accepted trace, with the ports before it, its `told_line`, and memory of that line before it.
+    /// Counts the next event of an accepted trace, with the ports before it, its `told_line`, and
+    /// memory of that line before it.
     ///
     /// # Errors
     ///

@@ -63,8 +63,9 @@ fn discarded_bytes(x: Option<&Progress>, memory: Line) -> Option<WriteData>
     }
 }
 
-/// The bytes that the event stores to the line of which it tells, if it is a store: those of a D, the burst of a write that stores
-/// at its M, and the whole of memory at the R of a MakeInvalid. The ports are those before the event.
+/// The bytes that the event stores to the line of which it tells, if it is a store: those of a D,
+/// the burst of a write that stores at its M, and the whole of memory at the R of a MakeInvalid.
+/// The ports are those before the event.
 pub(crate) fn store_of(event: &Event, ports: &PortCheck, memory: Line) -> Option<WriteData>
     ensures { (h : Header) (past : Trace) → Tell ports.now (record { header = h; past = past })
         → IsNext h past event.now memory → (l : ℕ)

@@ -46,7 +46,8 @@ fn line_of_snoop(snoop: Option<&Snoop>) -> Option<u32>
     }
 }
 
-/// The line whose granted transaction has passed data from the event on. The ports are those before it.
+/// The line whose granted transaction has passed data from the event on. The ports are those before
+/// it.
 fn adds(event: &Event, ports: &PortCheck) -> Option<u32>
     ensures { (h : Header) (past : Trace) → Tell ports.now (record { header = h; past = past })
         → result ≡ adds event.now (target_of h past event.now) }
@@ -57,8 +58,8 @@ fn adds(event: &Event, ports: &PortCheck) -> Option<u32>
     }
 }
 
-/// The line whose granted transaction has none from the event on: they are written to memory, or it ends. An update writes its line
-/// only where there are none.
+/// The line whose granted transaction has none from the event on: they are written to memory, or it
+/// ends. An update writes its line only where there are none.
 fn removes(event: &Event, ports: &PortCheck) -> Option<u32>
     ensures { (h : Header) (past : Trace) → Tell ports.now (record { header = h; past = past })
         → result ≡ removes event.now (target_of h past event.now) }
@@ -108,7 +109,8 @@ impl PassedLines {
         }
     }
 
-    /// Hears the next event of a trace, which keeps the rules. The ports are those before it. There has to be room for one more line.
+    /// Hears the next event of a trace, which keeps the rules. The ports are those before it. There
+    /// has to be room for one more line.
     pub fn hear(&mut self, event: &Event, ports: &PortCheck)
         ensures { (h : Header) (past : Trace) → IsAccepted h (event.now ∷ past)
             → Tell ports.now (record { header = h; past = past })
