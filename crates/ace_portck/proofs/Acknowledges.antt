@@ -1,27 +1,10 @@
 -- An RK or WK of a transaction: its port is an ACE port, it breaks no rule that looks at one port, and what its line is.
 use Rattle.std.proofs.Common.{◌≡◌, ℕ, Bool, true, false, ◌&&◌, ◌||◌, nat_lt, if◌then◌else◌, Option, Some, None, is_none, option_map, refl, sym, ap, ◌∙◌}
 use Rattle.std.proofs.lemmas.Bool.{and_parts, and_from}
-use Rattle.ace_codes.specs.declared.kind.ArKind.{ArKind}
-use Rattle.ace_codes.specs.declared.kind.AwKind.{AwKind}
-use Rattle.ace_codes.specs.declared.state.LineState.{LineState}
-use Rattle.ace_event.specs.declared.event.Channel.{Channel}
-use Rattle.ace_event.specs.declared.event.Channel.TheVariants.{Read, Write}
-use Rattle.ace_event.specs.declared.event.Event.TheVariants.{Rk, Wk}
-use Rattle.ace_event.specs.declared.header.Header.{Header}
-use Rattle.ace_model.specs.Accepted.{IsAccepted, least_of}
-use Rattle.ace_model.specs.AddressRules.{k1}
-use Rattle.ace_model.specs.Kinds.{is_line_read, is_line_write}
-use Rattle.ace_model.specs.ReadRules.{k22}
-use Rattle.ace_model.specs.WriteRules.{k27}
-use Rattle.ace_model.specs.Shares.{port_rules}
-use Rattle.ace_model.specs.Trace.{Trace}
-use Rattle.ace_model.specs.Transactions.{acknowledged, is_ace, is_line, is_read, read_kind, write_kind}
-use Rattle.ace_model.specs.declared.transactions.Transaction.{Transaction}
+use Rattle.std.specs.Bool.{then_some}
+use Rattle.ace_portck.proofs.Terms.{ArKind, AwKind, LineState, Channel, Read, Write, Rk, Wk, Header, IsAccepted, least_of, k1, is_line_read, is_line_write, k22, k27, port_rules, Trace, acknowledged, is_ace, is_line, is_read, read_kind, write_kind, Transaction, acknowledge, progress_of, transaction_in, Progress}
 use Rattle.ace_model.proofs.General.Options.{Some-injective}
 use Rattle.ace_model.proofs.Trace.Looks.{read_writes_none}
-use Rattle.ace_portck.specs.Acknowledges.{acknowledge}
-use Rattle.ace_portck.specs.Targets.{progress_of, transaction_in}
-use Rattle.ace_portck.specs.declared.target.Progress.{Progress}
 use Rattle.ace_portck.proofs.Kept.{rk_keeps, wk_keeps}
 
 module _ (h : Header) (past : Trace) (p : ℕ) (st : LineState) where
@@ -68,6 +51,10 @@ module _ (h : Header) (past : Trace) (p : ℕ) (st : LineState) where
 or-false : (b : Bool) → (b || false) ≡ b
 or-false true = refl
 or-false false = refl
+
+pub then_some-is : {A : Type 0} → (b : Bool) (x : A) → then_some b x ≡ (if b then Some x else None)
+then_some-is true x = refl
+then_some-is false x = refl
 
 -- whether a read of a kind is one of a line, the kind says
 pub read-line : (x : Transaction) (k : ArKind) → read_kind x ≡ Some k → is_line x ≡ is_line_read k

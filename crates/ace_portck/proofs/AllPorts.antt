@@ -1,23 +1,11 @@
 -- The records of all ports, where one is replaced.
 use Rattle.std.proofs.Common.{◌≡◌, ◌≢◌, ◌⊎◌, ℕ, Bool, false, ◌&&◌, nat_eq, nat_lt, ◌∷◌, ◌<◌, List, length, Option, Some, None, Result, Ok, Err, slice_get, slice_set, refl, sym, ap, subst, ◌∙◌, inl, inr, arith, get_or-set_same, get_or-set_other}
-use Rattle.std.specs.Result.{OnOk, OnErr}
-use Rattle.std.specs.List.{All}
+use Rattle.ace_portck.proofs.Terms.{OnOk, OnErr, All, Header, Read, Write, Event, Ac, IsAccepted, may_have, Trace, port_of, is_some_and, PortRecord, PortStands, HasRoom, moves_channel, IsFresh, PortsStand, record_at}
 use Rattle.std.proofs.lemmas.Bool.{and_parts, cases_eq, cases_lt, ltb-true, ne_eqb}
 use Rattle.std.proofs.lemmas.List.{length-set, get_or_past}
 use Rattle.std.proofs.lemmas.Option.{slice_get-get_or}
-use Rattle.ace_event.specs.declared.header.Header.{Header}
-use Rattle.ace_event.specs.declared.event.Channel.TheVariants.{Read, Write}
-use Rattle.ace_event.specs.declared.event.Event.{Event}
-use Rattle.ace_event.specs.declared.event.Event.TheVariants.{Ac}
-use Rattle.ace_model.specs.Accepted.{IsAccepted}
-use Rattle.ace_model.specs.AddressRules.{may_have}
-use Rattle.ace_model.specs.Trace.{Trace, port_of, is_some_and}
 use Rattle.ace_model.proofs.General.Options.{Some-injective, is_none_or-at}
 use Rattle.ace_model.proofs.Rules.Keeps.{accepted_keeps}
-use Rattle.ace_portck.specs.declared.port.PortRecord.{PortRecord}
-use Rattle.ace_portck.specs.Port.{PortStands, HasRoom}
-use Rattle.ace_portck.specs.Pending.{moves_channel}
-use Rattle.ace_portck.specs.Stands.{IsFresh, PortsStand, record_at}
 use Rattle.ace_portck.proofs.Elsewhere.{snoops_elsewhere, writes_elsewhere, retired_elsewhere}
 use Rattle.ace_portck.proofs.Stays.{pending_elsewhere}
 
@@ -70,8 +58,8 @@ pub port_elsewhere : (h : Header) (past : Trace) (p : ℕ) (k : PortRecord) (e :
 port_elsewhere h past p k e a other s = record {
   transactions = record {
     accepted = a;
-    reads = pending_elsewhere h past e p Read k.transactions.reads a (no_port (port_of e) p (moves_channel e Read) other) s.transactions.reads;
-    writes = pending_elsewhere h past e p Write k.transactions.writes a (no_port (port_of e) p (moves_channel e Write) other) s.transactions.writes;
+    reads = pending_elsewhere h past e p Read a (no_port (port_of e) p (moves_channel e Read) other) k.transactions.reads s.transactions.reads;
+    writes = pending_elsewhere h past e p Write a (no_port (port_of e) p (moves_channel e Write) other) k.transactions.writes s.transactions.writes;
   };
   snoops = snoops_elsewhere past p k.snoops e other s.snoops;
   bursts = writes_elsewhere h past p k.bursts e a other s.bursts;

@@ -1,21 +1,11 @@
 -- What half of a barrier is, by the AR or AW that issues it.
 use Rattle.std.proofs.Common.{◌≡◌, ℕ, Bool, true, false, Some, None, length, refl, sym, ap, subst, ◌∙◌, inl, inr}
 use Rattle.std.proofs.lemmas.Bool.{or_cases}
-use Rattle.ace_codes.specs.declared.kind.ArKind.{ArKind}
+use Rattle.ace_portck.proofs.Terms.{ArKind, AwKind, ar_kind_of, aw_kind_of, Event, Ar, Aw, is_barrier_half, is_read_barrier, is_write_barrier, Trace, is_some_and, Transaction, IssuesHalf}
 use Rattle.ace_codes.specs.declared.kind.ArKind.TheVariants as read
-use Rattle.ace_codes.specs.declared.kind.AwKind.{AwKind}
 use Rattle.ace_codes.specs.declared.kind.AwKind.TheVariants as write
-use Rattle.ace_codes.specs.Reads.{ar_kind_of}
-use Rattle.ace_codes.specs.Writes.{aw_kind_of}
-use Rattle.ace_event.specs.declared.event.Event.{Event}
-use Rattle.ace_event.specs.declared.event.Event.TheVariants.{Ar, Aw}
-use Rattle.ace_model.specs.Barriers.{is_barrier_half}
-use Rattle.ace_model.specs.Kinds.{is_read_barrier, is_write_barrier}
-use Rattle.ace_model.specs.Trace.{Trace, is_some_and}
-use Rattle.ace_model.specs.declared.transactions.Transaction.{Transaction}
 use Rattle.ace_model.proofs.General.Options.{Some-injective, is_some_and-is}
 use Rattle.ace_model.proofs.Trace.Outstanding.{write_issued}
-use Rattle.ace_portck.specs.BarrierAddresses.{IssuesHalf}
 use Rattle.ace_portck.proofs.ReadAddresses.{read_of}
 
 one-read : (k : ArKind) → is_read_barrier k ≡ true → k ≡ read.Barrier

@@ -1,13 +1,7 @@
 -- What half of a barrier on the write channel is.
 use Rattle.std.proofs.Common.{◌≡◌, true, false, Option, Some, None, refl}
-use Rattle.ace_codes.specs.declared.kind.AwKind.{AwKind}
+use Rattle.ace_portck.proofs.Terms.{AwKind, Write, is_barrier_half, is_write_barrier, is_some_and, is_line, read_kind, write_kind, Transaction}
 use Rattle.ace_codes.specs.declared.kind.AwKind.TheVariants as write
-use Rattle.ace_event.specs.declared.event.Channel.TheVariants.{Write}
-use Rattle.ace_model.specs.Barriers.{is_barrier_half}
-use Rattle.ace_model.specs.Kinds.{is_write_barrier}
-use Rattle.ace_model.specs.Trace.{is_some_and}
-use Rattle.ace_model.specs.Transactions.{is_line, read_kind, write_kind}
-use Rattle.ace_model.specs.declared.transactions.Transaction.{Transaction}
 
 write-is : (o : Option AwKind) → is_some_and o is_write_barrier ≡ true → o ≡ Some write.Barrier
 write-is None b = cc

@@ -1,11 +1,8 @@
 -- What a DVM read is.
 use Rattle.std.proofs.Common.{◌≡◌, ℕ, Bool, true, false, not, ◌&&◌, Some, refl, subst}
 use Rattle.std.proofs.lemmas.Bool.{and_parts, not-true}
-use Rattle.ace_codes.specs.declared.kind.ArKind.{ArKind}
+use Rattle.ace_portck.proofs.Terms.{ArKind, ar_kind_of, is_dvm_complete, is_some_and}
 use Rattle.ace_codes.specs.declared.kind.ArKind.TheVariants as read
-use Rattle.ace_codes.specs.Reads.{ar_kind_of}
-use Rattle.ace_model.specs.Kinds.{is_dvm_complete}
-use Rattle.ace_model.specs.Trace.{is_some_and}
 use Rattle.ace_model.proofs.General.Options.{is_some_and-is}
 use Rattle.ace_portck.specs.DvmReads.{is_completion}
 

@@ -1,21 +1,7 @@
 -- An event that isn't the port's leaves what is kept of the port as it is.
 use Rattle.std.proofs.Common.{◌≡◌, ◌≢◌, ℕ, false, nat_eq, ◌∷◌, Some, refl, sym, ap, ◌∙◌}
-use Rattle.std.specs.Prelude.{vec_capacity}
-use Rattle.std.specs.VecDeque.{deque_capacity}
+use Rattle.ace_portck.proofs.Terms.{Event, Read, Write, Ac, Aw, Cd, Cr, M, Op, W, Header, IsAccepted, retired, Trace, port_of, RetiredCount, SnoopQueues, WriteBursts, RetiredStand, SnoopsStand, WritesStand}
 use Rattle.std.proofs.lemmas.Bool.{ne_eqb}
-use Rattle.ace_event.specs.declared.event.Event.{Event}
-use Rattle.ace_event.specs.declared.event.Channel.TheVariants.{Read, Write}
-use Rattle.ace_event.specs.declared.event.Event.TheVariants.{Ac, Aw, Cd, Cr, M, Op, W}
-use Rattle.ace_event.specs.declared.header.Header.{Header}
-use Rattle.ace_model.specs.Accepted.{IsAccepted}
-use Rattle.ace_model.specs.OrderRules.{retired}
-use Rattle.ace_model.specs.Trace.{Trace, port_of}
-use Rattle.ace_portck.specs.declared.retired.RetiredCount.{RetiredCount}
-use Rattle.ace_portck.specs.declared.snoops.SnoopQueues.{SnoopQueues}
-use Rattle.ace_portck.specs.declared.write_data.WriteBursts.{WriteBursts}
-use Rattle.ace_portck.specs.Retired.{RetiredStand}
-use Rattle.ace_portck.specs.Snoops.{SnoopsStand}
-use Rattle.ace_portck.specs.WriteData.{WritesStand}
 use Rattle.ace_portck.proofs.SnoopSteps.{moves_snoops, snoops_stay}
 use Rattle.ace_portck.proofs.WriteSteps.{moves_writes, writes_stay}
 
@@ -41,14 +27,12 @@ retired_same past _ p n = refl
 
 -- the queues of its snoops
 pub snoops_elsewhere : (past : Trace) (p : ℕ) (s : SnoopQueues) (e : Event) → port_of e ≢ Some p → SnoopsStand past p s → SnoopsStand (e ∷ past) p s
-snoops_elsewhere past p s e n st =
-    snoops_stay past p s.waiting.items s.sending.items s.beats (deque_capacity s.waiting) (deque_capacity s.sending) st e (no_snoop e p n)
+snoops_elsewhere past p s e n st = snoops_stay past p s st e (no_snoop e p n)
 
 -- its write data
 pub writes_elsewhere : (h : Header) (past : Trace) (p : ℕ) (s : WriteBursts) (e : Event) → IsAccepted h (e ∷ past) → port_of e ≢ Some p
     → WritesStand h past p s → WritesStand h (e ∷ past) p s
-writes_elsewhere h past p s e a n st =
-    writes_stay h past p s.filling.items s.part s.whole.items (deque_capacity s.filling) (vec_capacity s.whole) st e a (no_write e p n)
+writes_elsewhere h past p s e a n st = writes_stay h past p s st e a (no_write e p n)
 
 -- the count of its operations
 pub retired_elsewhere : (past : Trace) (p : ℕ) (s : RetiredCount) (e : Event) → port_of e ≢ Some p → RetiredStand past p s → RetiredStand (e ∷ past) p s

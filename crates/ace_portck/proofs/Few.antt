@@ -1,24 +1,14 @@
 -- A port has at most 256 outstanding transactions on a channel, since their identifiers are apart and each is a byte. So has it at
 -- most 256 complete ones that wait.
-use Rattle.std.specs.List.{All, AllPairs, AllByRecursion, filter}
-use Rattle.std.proofs.Common.{◌≡◌, ◌≢◌, ℕ, suc, ◌+◌, ◌-◌, ◌≤◌, ◌<◌, Bool, true, false, not, ◌&&◌, ◌==◌, nat_eq, List, [], ◌∷◌, ◌++◌, map, length, drop, Option, Some, None, slice_get, get_or, refl, sym, ap, subst, ◌∙◌, inl, inr, arith, length-drop}
+use Rattle.ace_portck.proofs.Terms.{All, AllPairs, AllByRecursion, filter, Channel, Read, Write, Event, Ar, R, Aw, B, Header, Transaction, Trace, more, IsAccepted, transactions, is_ace, same_channel, issued, outstanding, is_outstanding, acknowledgements, completed, completes, Progress, progress_of, HasByteId, is_pending, pending_of, AreApart}
+use Rattle.std.proofs.Common.{◌≡◌, ◌≢◌, ℕ, suc, ◌+◌, ◌-◌, ◌≤◌, ◌<◌, Bool, true, false, ◌&&◌, ◌==◌, List, [], ◌∷◌, ◌++◌, map, length, drop, Option, Some, None, slice_get, get_or, refl, sym, ap, subst, ◌∙◌, inl, inr, arith, length-drop}
 use Rattle.std.proofs.lemmas.Bool.{and_parts, cases_Bool, eqb-true, ne_eqb}
 use Rattle.std.proofs.lemmas.List.{append-nil, get_or-drop}
 use Rattle.std.proofs.lemmas.List.Elements.{All-from_recursion, filter-append}
 use Rattle.std.proofs.lemmas.List.Quantifiers.{all_pairs_push}
 use Rattle.std.proofs.lemmas.Option.{slice_get-get_or}
-use Rattle.ace_event.specs.declared.event.Channel.{Channel}
-use Rattle.ace_event.specs.declared.event.Channel.TheVariants.{Read, Write}
-use Rattle.ace_event.specs.declared.event.Event.{Event}
-use Rattle.ace_event.specs.declared.event.Event.TheVariants.{Ar, R, Aw, B}
-use Rattle.ace_event.specs.declared.header.Header.{Header}
-use Rattle.ace_model.specs.declared.transactions.Transaction.{Transaction}
-use Rattle.ace_model.specs.Trace.{Trace, more}
-use Rattle.ace_model.specs.Accepted.{IsAccepted}
-use Rattle.ace_model.specs.Progress.{transactions}
-use Rattle.ace_model.specs.Transactions.{is_ace, is_read, same_channel, issued, outstanding, is_outstanding, acknowledgements, completed, completes}
 use Rattle.ace_model.proofs.General.Lists.{slice_get-more}
-use Rattle.ace_model.proofs.General.Options.{Some-injective}
+use Rattle.ace_model.proofs.General.Options.{Some-injective, some_if-is}
 use Rattle.ace_model.proofs.General.Pigeonhole.{few_apart}
 use Rattle.ace_model.proofs.Holders.Law.{accepted_holds}
 use Rattle.ace_model.proofs.Trace.Issued.{issued-place}
@@ -28,9 +18,6 @@ use Rattle.ace_model.proofs.Outstanding.Issued.{transactions-issued}
 use Rattle.ace_model.proofs.Outstanding.Lists.{all_implies}
 use Rattle.ace_model.proofs.Outstanding.Only.{outstanding_at-is}
 use Rattle.ace_model.proofs.Trace.Looks.{same_channel-is}
-use Rattle.ace_portck.specs.declared.target.Progress.{Progress}
-use Rattle.ace_portck.specs.Targets.{progress_of}
-use Rattle.ace_portck.specs.Pending.{HasByteId, is_pending, pending_of, AreApart}
 
 new-below : (n : ℕ) (e : Event) (x : Transaction) → HasByteId e → issued n e ≡ Some x → x.id < 256
 new-below n (Ar p i addr snoop dom bar lock) x r s = subst (λ (v : Transaction). v.id < 256) (Some-injective _ x s) r
@@ -126,16 +113,8 @@ module _ (h : Header) (past : Trace) (p : ℕ) (c : Channel) where
       (λ x i t. t) (transactions-issued past))))
 
 completes-below : (e : Event) (p : ℕ) (c : Channel) (i : ℕ) → HasByteId e → completes e p c ≡ Some i → i < 256
-completes-below (R q j resp last word) p c i b is =
-    elim (cases_Bool ((is_read c && nat_eq p q) && last)) [
-      | inl t ↦ let f : Some j ≡ Some i = rw t at is in subst (λ v. v < 256) (Some-injective j i f) b
-      | inr f ↦ let none : None ≡ Some i = rw f at is in cc
-    ]
-completes-below (B q j resp) p c i b is =
-    elim (cases_Bool (not (is_read c) && nat_eq p q)) [
-      | inl t ↦ let f : Some j ≡ Some i = rw t at is in subst (λ v. v < 256) (Some-injective j i f) b
-      | inr f ↦ let none : None ≡ Some i = rw f at is in cc
-    ]
+completes-below (R q j resp last word) p c i b is = subst (λ v. v < 256) (some_if-is _ j i is).1 b
+completes-below (B q j resp) p c i b is = subst (λ v. v < 256) (some_if-is _ j i is).1 b
 completes-below _ p c i b is = cc
 
 completed-below : (past : Trace) (p : ℕ) (c : Channel) (k i : ℕ) → AllByRecursion HasByteId past → slice_get (completed past p c) k ≡ Some i → i < 256

@@ -1,21 +1,11 @@
 -- The looks at the lists of outstanding transactions say what the looks at the whole trace say.
-use Rattle.std.specs.Option.{option_or}
-use Rattle.std.specs.List.{find, list_any}
+use Rattle.ace_portck.proofs.Terms.{option_or, find, list_any, Channel, Read, Write, Header, AwKind, Transaction, Trace, more, is_some_and, IsAccepted, has_write, transactions, has_had, is_grant, is_completed, is_ordered, updates_memory, evicts, lesser, has_memory_write, is_ace, is_read, is_line, is_on, same_channel, write_kind, issued, outstanding, is_outstanding, is_outstanding_on, transaction_of, transaction_under, acknowledged, acknowledgements, next_complete, Progress, progress_of, last_issued, own_of, first_issued, is_ordered_by_barriers, first_unordered, first_incomplete, is_pending, pending_of, is_ordered_by, is_unordered, is_incomplete}
+use Rattle.ace_portck.specs.Transactions.{TransactionsStand}
+use Rattle.ace_portck.specs.declared.transactions.Transactions.{Transactions}
 use Rattle.std.proofs.Common.{◌≡◌, ◌⊎◌, ℕ, Bool, true, false, not, ◌&&◌, ◌||◌, ◌==◌, cond, List, [], ◌∷◌, map, length, Option, Some, None, is_some, option_map, le_refl, refl, sym, ap, subst, ◌∙◌, inl, inr, arith}
 use Rattle.std.proofs.lemmas.Bool.{and_parts, and_from, or_cases, or_left, or_right, cases_Bool, not-true}
+use Rattle.std.proofs.Math.Bool.{and-true}
 use Rattle.std.proofs.lemmas.List.Folds.{find-append}
-use Rattle.ace_event.specs.declared.event.Channel.{Channel}
-use Rattle.ace_event.specs.declared.event.Channel.TheVariants.{Read, Write}
-use Rattle.ace_event.specs.declared.header.Header.{Header}
-use Rattle.ace_codes.specs.declared.kind.AwKind.{AwKind}
-use Rattle.ace_model.specs.declared.transactions.Transaction.{Transaction}
-use Rattle.ace_model.specs.Trace.{Trace, more, is_some_and}
-use Rattle.ace_model.specs.Accepted.{IsAccepted}
-use Rattle.ace_model.specs.AddressRules.{has_write}
-use Rattle.ace_model.specs.Progress.{transactions, has_had, is_grant, is_completed, is_ordered, updates_memory, evicts}
-use Rattle.ace_model.specs.Shares.{lesser}
-use Rattle.ace_model.specs.Writes.{has_memory_write}
-use Rattle.ace_model.specs.Transactions.{is_ace, is_read, is_line, is_on, same_channel, write_kind, issued, outstanding, is_outstanding, is_outstanding_on, has_outstanding_on, transaction_of, transaction_under, acknowledged, acknowledgements, next_complete}
 use Rattle.ace_model.proofs.General.Options.{Some-injective, is_some_and-is}
 use Rattle.ace_model.proofs.Barriers.OrderPoints.{completed-ordered}
 use Rattle.ace_model.proofs.Trace.Issued.{issued-place, outstanding-named}
@@ -24,12 +14,8 @@ use Rattle.ace_model.proofs.Trace.LineOnce.{outstanding_is}
 use Rattle.ace_model.proofs.Outstanding.Issued.{transactions-issued, places_rise, some_issued-any}
 use Rattle.ace_model.proofs.Outstanding.Lists.{find_kept, any_kept, all_implies, IsSplit, first_split}
 use Rattle.ace_model.proofs.Outstanding.Names.{complete_by_name, grant_by_name, memory_by_name}
-use Rattle.ace_model.proofs.Outstanding.Only.{IsFound, find-found, found_same, found_some, one_outstanding_on, outstanding-find}
+use Rattle.ace_model.proofs.Outstanding.Only.{IsFound, find-found, found_same, one_outstanding_on, outstanding-find}
 use Rattle.ace_model.proofs.Outstanding.Waiting.{waits_is, ended_complete}
-use Rattle.ace_portck.specs.declared.target.Progress.{Progress}
-use Rattle.ace_portck.specs.Targets.{progress_of, last_issued, own_of, first_issued, is_ordered_by_barriers, first_unordered, first_incomplete}
-use Rattle.ace_portck.specs.Pending.{is_pending, pending_of}
-use Rattle.ace_portck.specs.Transactions.{is_ordered_by, is_unordered, is_incomplete}
 
 -- what the list has under an identifier
 pub named_is_found : (h : Header) (past : Trace) (p : ℕ) (c : Channel) (i : ℕ) (list : List Progress)
@@ -49,7 +35,7 @@ acknowledged_named h past p c i a ace next =
     w.1 ∙ sym (outstanding-named h past p c i w.0 w.1) ∙ ap (transaction_under past p c) (sym next)
 
 -- the last one that passes a test is one that passes it
-last-found : (past : Trace) (test : Transaction → Bool) → IsFound past test (last_issued past test)
+pub last-found : (past : Trace) (test : Transaction → Bool) → IsFound past test (last_issued past test)
 last-found [] test = record { some = λ x e. cc; none = λ e x i t. let b = i.before in absurd (omega arith) }
 last-found (e ∷ past) test =
     let old = last-found past test in
@@ -69,10 +55,6 @@ last-found (e ∷ past) test =
             ];
           })
     ]
-
--- whether a list has one on the line
-abbrev on_line : Header → Trace → ℕ → Channel → ℕ → Transaction → Bool
-on_line h past p c l x = is_pending h past p c x && is_on x l
 
 option_or-map : {A B : Type 0} → (f : A → B) (a b : Option A) → option_or (option_map f a) (option_map f b) ≡ option_map f (option_or a b)
 option_or-map f None b = refl
@@ -103,61 +85,12 @@ first_is_found (e ∷ past) test = by (issued (length past) e) refl (find test (
         rw (before ∙ ap (option_map (λ (x : Transaction). x.place)) found, find-append test (transactions past) (y ∷ []), found) refl
 
 -- The looks at both channels of a port.
-module _ (h : Header) (past : Trace) (p : ℕ) (accepted : IsAccepted h past) (reads writes : List Progress)
-    (reads_are : reads ≡ map (progress_of h past) (pending_of h past p Read)) (writes_are : writes ≡ map (progress_of h past) (pending_of h past p Write)) where
-  module _ (l : ℕ) where
-    to_test : (c : Channel) (x : Transaction) → on_line h past p c l x ≡ true → is_outstanding_on h past p l x ≡ true
-    to_test c x t =
-        let a = and_parts (is_pending h past p c x) (is_on x l) t in
-        let b = and_parts ((x.port == p) && same_channel x.chan c) (is_outstanding h past x) a.0 in
-        let d = and_parts (x.port == p) (same_channel x.chan c) b.0 in
-        and_from _ _ (and_from _ _ d.0 a.1) b.1
-
-    from_test : (c : Channel) (x : Transaction) → same_channel x.chan c ≡ true → is_outstanding_on h past p l x ≡ true → on_line h past p c l x ≡ true
-    from_test c x chan t =
-        let a = and_parts ((x.port == p) && is_on x l) (is_outstanding h past x) t in
-        let b = and_parts (x.port == p) (is_on x l) a.0 in
-        and_from _ _ (and_from _ _ (and_from _ _ b.0 chan) a.1) b.1
-
-    found-either : (r w : Option Transaction) → IsFound past (on_line h past p Read l) r → IsFound past (on_line h past p Write l) w
-        → IsFound past (is_outstanding_on h past p l) (option_or r w)
-    found-either (Some y) w fr fw = record {
-      some = λ x is. let s = fr.some x is in (s.0, to_test Read x s.1);
-      none = λ is x i t. cc;
-    }
-    found-either None w fr fw = record {
-      some = λ x is. let s = fw.some x is in (s.0, to_test Write x s.1);
-      none = λ is x i t. elim (channel_cases x.chan) [
-        | inl read ↦ fr.none refl x i (from_test Read x read t)
-        | inr write ↦ fw.none is x i (from_test Write x write t)
-      ];
-    }
-
-    pub own_is_found : option_or (find (λ v. is_on v.transaction l) reads) (find (λ v. is_on v.transaction l) writes) ≡ option_map (progress_of h past) (own_of h past p l)
-    own_is_found =
-        let r : Option Transaction = find (on_line h past p Read l) (transactions past) in
-        let w : Option Transaction = find (on_line h past p Write l) (transactions past) in
-        let in_reads = ap (find (λ (v : Progress). is_on v.transaction l)) reads_are
-        ∙ find_kept (progress_of h past) (is_pending h past p Read) (λ v. is_on v.transaction l) (on_line h past p Read l) (transactions past) (λ x. refl) in
-        let in_writes = ap (find (λ (v : Progress). is_on v.transaction l)) writes_are
-        ∙ find_kept (progress_of h past) (is_pending h past p Write) (λ v. is_on v.transaction l) (on_line h past p Write l) (transactions past) (λ x. refl) in
-        let one = found_same past (is_outstanding_on h past p l) (option_or r w) (own_of h past p l)
-        (λ x y ix iy tx ty. one_outstanding_on h past p l x y accepted ix iy tx ty)
-        (found-either r w (find-found past (on_line h past p Read l)) (find-found past (on_line h past p Write l)))
-        (last-found past (is_outstanding_on h past p l)) in
-        ap (λ o. option_or o (find (λ v. is_on v.transaction l) writes)) in_reads
-        ∙ ap (λ o. option_or (option_map (progress_of h past) r) o) in_writes
-        ∙ option_or-map (progress_of h past) r w
-        ∙ ap (option_map (progress_of h past)) one
-
-    pub has_own : has_outstanding_on h past p l ≡ is_some (own_of h past p l)
-    has_own = found_some past (is_outstanding_on h past p l) (own_of h past p l) (last-found past (is_outstanding_on h past p l))
-
+module _ (h : Header) (past : Trace) (p : ℕ) (q : Transactions) (s : TransactionsStand h past p q) where
   -- an outstanding write of some kind
-  pub has_write_is : (test : AwKind → Bool) → has_write h past p test ≡ list_any (λ v. is_some_and (write_kind v.transaction) test) writes
+  pub has_write_is : (test : AwKind → Bool) → has_write h past p test ≡ list_any (λ v. is_some_and (write_kind v.transaction) test) q.writes.list.items
   has_write_is test =
       some_issued-any past (λ y. (y.port == p) && is_some_and (write_kind y) test && is_outstanding h past y)
-      ∙ sym (ap (list_any (λ (v : Progress). is_some_and (write_kind v.transaction) test)) writes_are
+      ∙ sym (ap (list_any (λ (v : Progress). is_some_and (write_kind v.transaction) test)) s.writes.lists.list_is
       ∙ any_kept (progress_of h past) (is_pending h past p Write) (λ v. is_some_and (write_kind v.transaction) test)
       (λ y. (y.port == p) && is_some_and (write_kind y) test && is_outstanding h past y) (transactions past) same)
     where
@@ -227,20 +160,57 @@ module _ (h : Header) (past : Trace) (p : ℕ) (accepted : IsAccepted h past) (r
     place_mapped None = refl
     place_mapped (Some x) = refl
 
+    found_in : (c : Channel) (list : List Progress) → list ≡ map (progress_of h past) (pending_of h past p c)
+        → find look list ≡ option_map (progress_of h past) (find (among c) (transactions past))
+    found_in c list is = ap (find look) is ∙ find_kept (progress_of h past) (is_pending h past p c) look (among c) (transactions past) (λ x. refl)
+
     in_list : (c : Channel) (list : List Progress) → list ≡ map (progress_of h past) (pending_of h past p c)
         → option_map (λ v. v.transaction.place) (find look list) ≡ option_map (λ (x : Transaction). x.place) (find (among c) (transactions past))
-    in_list c list is =
-        ap (λ l. option_map (λ (v : Progress). v.transaction.place) (find look l)) is
-        ∙ ap (option_map (λ (v : Progress). v.transaction.place)) (find_kept (progress_of h past) (is_pending h past p c) look (among c) (transactions past) (λ x. refl))
-        ∙ place_mapped (find (among c) (transactions past))
+    in_list c list is = ap (option_map (λ (v : Progress). v.transaction.place)) (found_in c list is) ∙ place_mapped (find (among c) (transactions past))
 
-    first_of_both : lesser (option_map (λ v. v.transaction.place) (find look reads)) (option_map (λ v. v.transaction.place) (find look writes)) ≡ first_issued past test
+    found_either : (r w : Option Transaction) → IsFound past (among Read) r → IsFound past (among Write) w → IsFound past test (option_or r w)
+    found_either (Some y) w fr fw = record {
+      some = λ x is. let f = fr.some x is in (f.0, (among-test Read x f.0 f.1).0);
+      none = λ is x i t. cc;
+    }
+    found_either None w fr fw = record {
+      some = λ x is. let f = fw.some x is in (f.0, (among-test Write x f.0 f.1).0);
+      none = λ is x i t. elim (channel_cases x.chan) [
+        | inl read ↦ fr.none refl x i (test-among Read x i read t)
+        | inr write ↦ fw.none is x i (test-among Write x i write t)
+      ];
+    }
+
+    -- where one passes it at most, that is in one of the lists
+    one_of_both : ((x y : Transaction) → IsIssued past x → IsIssued past y → test x ≡ true → test y ≡ true → x ≡ y)
+        → (o : Option Transaction) → IsFound past test o → option_or (find look q.reads.list.items) (find look q.writes.list.items) ≡ option_map (progress_of h past) o
+    one_of_both only o found =
+        let r : Option Transaction = find (among Read) (transactions past) in
+        let w : Option Transaction = find (among Write) (transactions past) in
+        ap (λ v. option_or v (find look q.writes.list.items)) (found_in Read q.reads.list.items s.reads.lists.list_is)
+        ∙ ap (option_or (option_map (progress_of h past) r)) (found_in Write q.writes.list.items s.writes.lists.list_is)
+        ∙ option_or-map (progress_of h past) r w
+        ∙ ap (option_map (progress_of h past))
+        (found_same past test (option_or r w) o only (found_either r w (find-found past (among Read)) (find-found past (among Write))) found)
+
+    first_of_both : lesser (option_map (λ v. v.transaction.place) (find look q.reads.list.items)) (option_map (λ v. v.transaction.place) (find look q.writes.list.items)) ≡ first_issued past test
     first_of_both =
-        ap (λ o. lesser o (option_map (λ v. v.transaction.place) (find look writes))) (in_list Read reads reads_are)
-        ∙ ap (lesser (option_map (λ (x : Transaction). x.place) (find (among Read) (transactions past)))) (in_list Write writes writes_are)
+        ap (λ o. lesser o (option_map (λ v. v.transaction.place) (find look q.writes.list.items))) (in_list Read q.reads.list.items s.reads.lists.list_is)
+        ∙ ap (lesser (option_map (λ (x : Transaction). x.place) (find (among Read) (transactions past)))) (in_list Write q.writes.list.items s.writes.lists.list_is)
         ∙ sym (first_split (λ (x : Transaction). x.place) test (among Read) (among Write) (transactions past) (places_rise past)
         (all_implies (IsIssued past) (IsSplit test (among Read) (among Write)) (transactions past) splits (transactions-issued past)))
         ∙ sym (first_is_found past test)
+
+  -- the port's own transaction on a line
+  pub own_is_found : (l : ℕ) → option_or (find (λ v. is_on v.transaction l) q.reads.list.items) (find (λ v. is_on v.transaction l) q.writes.list.items)
+      ≡ option_map (progress_of h past) (own_of h past p l)
+  own_is_found l =
+      one_of_both (is_outstanding_on h past p l) (λ v. is_on v.transaction l)
+      (λ x i t.
+      let a = and_parts ((x.port == p) && is_on x l) (is_outstanding h past x) t in
+      ((and_parts (x.port == p) (is_on x l) a.0).0, a.1))
+      (λ x i port out. rw (port, out) (and-true (is_on x l)))
+      (λ x y ix iy tx ty. one_outstanding_on h past p l x y s.accepted ix iy tx ty) (own_of h past p l) (last-found past (is_outstanding_on h past p l))
 
   -- by barriers
   ordered_at : (x : Transaction) → (x.port == p) ≡ true → is_ordered_by_barriers p x ≡ is_ordered_by (progress_of h past x)
@@ -253,7 +223,7 @@ module _ (h : Header) (past : Trace) (p : ℕ) (accepted : IsAccepted h past) (r
   still_out x i incomplete =
       elim (cases_Bool (is_outstanding h past x)) [
         | inl out ↦ out
-        | inr gone ↦ let no : true ≡ false = sym (ended_complete h past x accepted i gone) ∙ incomplete in cc
+        | inr gone ↦ let no : true ≡ false = sym (ended_complete h past x s.accepted i gone) ∙ incomplete in cc
       ]
 
   ordered_parts : (x : Transaction) (b : Bool) → (is_ordered_by_barriers p x && not b) ≡ true → ((x.port == p) ≡ true) × (is_line x ≡ true) × (b ≡ false)
@@ -263,7 +233,7 @@ module _ (h : Header) (past : Trace) (p : ℕ) (accepted : IsAccepted h past) (r
       let d = and_parts (x.port == p) (is_line x) c.0 in
       (d.0, d.1, not-true b a.1)
 
-  pub first_unordered_is : lesser (option_map (λ v. v.transaction.place) (find is_unordered reads)) (option_map (λ v. v.transaction.place) (find is_unordered writes))
+  pub first_unordered_is : lesser (option_map (λ v. v.transaction.place) (find is_unordered q.reads.list.items)) (option_map (λ v. v.transaction.place) (find is_unordered q.writes.list.items))
       ≡ first_unordered past p
   first_unordered_is =
       first_of_both (λ x. is_ordered_by_barriers p x && not (is_ordered past x)) is_unordered
@@ -273,7 +243,7 @@ module _ (h : Header) (past : Trace) (p : ℕ) (accepted : IsAccepted h past) (r
         elim (cases_Bool (is_completed past x)) [
           | inr f ↦ still_out x i f
           | inl complete ↦
-              let ordered = completed-ordered h x past complete accepted i.there parts.1 in
+              let ordered = completed-ordered h x past complete s.accepted i.there parts.1 in
               let no : true ≡ false = sym ordered ∙ parts.2 in cc
         ],
       ))
@@ -285,7 +255,7 @@ module _ (h : Header) (past : Trace) (p : ℕ) (accepted : IsAccepted h past) (r
       ∙ ap (λ b. is_ordered_by (progress_of h past x) && not (evicts x || (cond (updates_memory x) b (has_had is_grant past x)))) (sym m)
       ∙ ap (λ b. is_ordered_by (progress_of h past x) && not (evicts x || (cond (updates_memory x) (has_memory_write past x.port x.chan x.id) b))) (sym g))
 
-  pub first_incomplete_is : lesser (option_map (λ v. v.transaction.place) (find is_incomplete reads)) (option_map (λ v. v.transaction.place) (find is_incomplete writes))
+  pub first_incomplete_is : lesser (option_map (λ v. v.transaction.place) (find is_incomplete q.reads.list.items)) (option_map (λ v. v.transaction.place) (find is_incomplete q.writes.list.items))
       ≡ first_incomplete past p
   first_incomplete_is =
       first_of_both (λ x. is_ordered_by_barriers p x && not (is_completed past x)) is_incomplete

@@ -1,18 +1,9 @@
 -- The outstanding transactions of a port on a channel after an event.
-use Rattle.std.specs.List.{AllByRecursion, filter}
+use Rattle.ace_portck.proofs.Terms.{AllByRecursion, filter, Channel, Event, Ar, R, Aw, B, Header, Transaction, Trace, port_of, is_some_and, more, IsAccepted, transactions, is_ace, same_channel, is_transaction, issued, ended, is_outstanding, acknowledgements, completed, Progress, progress_of, begun, Pending, IsHeard, deque_capacity, HasByteId, PendingStands, completed_by, is_pending, pending_of, renewed, ending_of, waiting_after, on_channel, without_id}
 use Rattle.std.proofs.Common.{◌≡◌, ℕ, ◌≤◌, ◌<◌, Bool, true, false, not, ◌&&◌, nat_eq, List, [], ◌∷◌, ◌++◌, map, length, drop, Option, Some, None, option_map, refl, sym, ap, ◌∙◌, inl, inr, arith}
 use Rattle.std.proofs.lemmas.Bool.{and_parts, cases_Bool, eq-eqb}
 use Rattle.std.proofs.lemmas.List.{append-nil, map-append, length-map, length-append}
 use Rattle.std.proofs.lemmas.List.Elements.{filter-append}
-use Rattle.ace_event.specs.declared.event.Channel.{Channel}
-use Rattle.ace_event.specs.declared.event.Event.{Event}
-use Rattle.ace_event.specs.declared.event.Event.TheVariants.{Ar, R, Aw, B}
-use Rattle.ace_event.specs.declared.header.Header.{Header}
-use Rattle.ace_model.specs.declared.transactions.Transaction.{Transaction}
-use Rattle.ace_model.specs.Trace.{Trace, port_of, is_some_and, more}
-use Rattle.ace_model.specs.Accepted.{IsAccepted}
-use Rattle.ace_model.specs.Progress.{transactions}
-use Rattle.ace_model.specs.Transactions.{is_ace, same_channel, is_transaction, issued, ended, is_outstanding, acknowledgements, completed}
 use Rattle.ace_model.proofs.General.Options.{Some-injective}
 use Rattle.ace_model.proofs.Trace.Growth.{IsIssued}
 use Rattle.ace_model.proofs.Trace.LineOnce.{outstanding_is}
@@ -20,14 +11,9 @@ use Rattle.ace_model.proofs.Outstanding.Issued.{transactions-issued}
 use Rattle.ace_model.proofs.Outstanding.Lists.{IsRenewed, kept_renewed, all_implies}
 use Rattle.ace_model.proofs.Outstanding.Only.{outstanding_at-is}
 use Rattle.ace_model.proofs.Outstanding.Steps.{outstanding_after, outstanding_new_one}
-use Rattle.ace_portck.specs.declared.target.Progress.{Progress}
-use Rattle.ace_portck.specs.Targets.{progress_of, begun}
-use Rattle.ace_portck.specs.declared.pending.Pending.{Pending}
-use Rattle.ace_portck.specs.Heard.{IsHeard}
-use Rattle.std.specs.VecDeque.{deque_capacity}
 use Rattle.ace_portck.proofs.Few.{few_pending, few_waiting}
-use Rattle.ace_portck.specs.Pending.{HasByteId, IsRoomy, PendingStands, completed_by, is_pending, pending_of, renewed, ending_of, waiting_after, on_channel, without_id}
-use Rattle.ace_portck.proofs.Renewed.{renewed_is, renewed_keeps}
+use Rattle.ace_portck.specs.Pending.{IsRoomy}
+use Rattle.ace_portck.proofs.Renewed.{renewed_is}
 use Rattle.ace_portck.proofs.Ending.{ends_is, waiting-after}
 
 -- whether a transaction stays
@@ -64,7 +50,8 @@ module _ (h : Header) (past : Trace) (e : Event) (p : ℕ) (c : Channel) (waitin
             let out = outstanding_at-is h past p c x i t in
             let ends = ends_is h past e p c waiting x accepted own waiting_is out in
             let a = and_parts (nat_eq x.port p && same_channel x.chan c) (is_outstanding h past x) t in
-            rw (renewed_keeps e (progress_of h past x), ends) (rw (a.0, after, a.1) refl);
+            let keeps : (renewed e (progress_of h past x)).transaction ≡ x = sym (ap (λ (v : Progress). v.transaction) (renewed_is h past x (outstanding_is h past x i a.1) e accepted)) in
+            rw (keeps, ends) (rw (a.0, after, a.1) refl);
         same = λ u.
             let a = and_parts (nat_eq x.port p && same_channel x.chan c) (is_outstanding h (e ∷ past) x) u in
             let was : is_outstanding h past x ≡ true = (and_parts (is_outstanding h past x) (not (is_transaction (ended h past e) x)) (sym after ∙ a.1)).0 in

@@ -1,3 +1,4 @@
+mod Terms
 pub mod Renewed
 pub mod Ending
 pub mod Few

@@ -1,19 +1,11 @@
 -- Maps by lines that have room for the lines that the transactions of a trace name.
 use Rattle.std.proofs.Common.{◌≡◌, ℕ, ◌+◌, ◌≤◌, ◌<◌, true, false, ◌||◌, nat_eq, [], ◌∷◌, length, Option, Some, None, is_some, IsSome, refl, sym, ap, subst, ◌∙◌, inl, inr, arith, List}
-use Rattle.std.specs.Cmp.{nat_eq_equiv}
-use Rattle.std.specs.HashMap.{HashMap, get, hash_map_len, keys, spare, IsUnique}
-use Rattle.std.specs.List.{list_any, AllByRecursion}
+use Rattle.ace_portck.proofs.Terms.{nat_eq_equiv, HashMap, get, hash_map_len, keys, spare, IsUnique, list_any, AllByRecursion, Event, Transaction, add_line, is_known, known_lines, Trace, is_some_and, is_line, is_on, issued, HasRoomForLines}
 use Rattle.std.proofs.lemmas.Bool.{cases_Bool, cases_eq, eqb-true, or_cases}
 use Rattle.std.proofs.lemmas.Map.Entries.{length-keys_of}
 use Rattle.std.proofs.lemmas.Map.Keys.{IsDistinct-cons}
 use Rattle.std.proofs.lemmas.Map.Made.{is_some-lookup, length-le_from_is_member}
-use Rattle.ace_event.specs.declared.event.Event.{Event}
-use Rattle.ace_model.specs.declared.transactions.Transaction.{Transaction}
-use Rattle.ace_model.specs.Lines.{add_line, is_known, known_lines, names_new_line}
-use Rattle.ace_model.specs.Trace.{Trace, is_some_and}
-use Rattle.ace_model.specs.Transactions.{is_line, is_on, issued}
 use Rattle.ace_model.proofs.Lines.Known.{known-grown}
-use Rattle.ace_portck.specs.LineMaps.{HasRoomForLines}
 
 -- the known lines are those of the list
 pub known-listed : (past : Trace) (q : ℕ) → list_any (nat_eq q) (known_lines past) ≡ is_known past q

@@ -1,23 +1,8 @@
 -- What a line read is that is no exclusive store, and which rules about one port look at an R.
 use Rattle.std.proofs.Common.{◌≡◌, ℕ, Bool, true, false, not, ◌&&◌, nat_lt, if◌then◌else◌, Option, Some, None, is_none, option_map, option_and_then, refl, ap, subst, ◌∙◌}
-use Rattle.ace_codes.specs.declared.kind.ArKind.{ArKind}
+use Rattle.ace_portck.proofs.Terms.{ArKind, ar_kind_of, low_bits, Read, R, Header, least_of, is_barrier_half, is_dvm_message, is_line_read, is_read_barrier, is_message_part, k18_transfer, port_rules, Trace, is_exclusive_store, is_read, outstanding, read_kind, write_kind, Transaction, unfailing_read, progress_of, Progress}
 use Rattle.ace_codes.specs.declared.kind.ArKind.TheVariants as read
-use Rattle.ace_codes.specs.Reads.{ar_kind_of}
-use Rattle.ace_codes.specs.Responses.{low_bits}
-use Rattle.ace_event.specs.declared.event.Channel.TheVariants.{Read}
-use Rattle.ace_event.specs.declared.event.Event.TheVariants.{R}
-use Rattle.ace_event.specs.declared.header.Header.{Header}
-use Rattle.ace_model.specs.Accepted.{least_of}
-use Rattle.ace_model.specs.Barriers.{is_barrier_half}
-use Rattle.ace_model.specs.Kinds.{is_dvm_message, is_line_read, is_read_barrier}
-use Rattle.ace_model.specs.Messages.{is_message_part}
-use Rattle.ace_model.specs.Shares.{k18_transfer, port_rules}
-use Rattle.ace_model.specs.Trace.{Trace}
-use Rattle.ace_model.specs.Transactions.{is_exclusive_store, is_read, outstanding, read_kind, write_kind}
-use Rattle.ace_model.specs.declared.transactions.Transaction.{Transaction}
-use Rattle.ace_portck.specs.Reads.{is_next_beat, unfailing_read}
-use Rattle.ace_portck.specs.Targets.{progress_of}
-use Rattle.ace_portck.specs.declared.target.Progress.{Progress}
+use Rattle.ace_portck.specs.Reads.{is_next_beat}
 
 -- The transaction is a line read of the kind, and no exclusive store.
 pub record IsUnfailingRead (x : Transaction) (k : ArKind) : Type 0 where

@@ -1,15 +1,8 @@
 -- What a line write is.
 use Rattle.std.proofs.Common.{◌≡◌, true, false, if◌then◌else◌, Option, Some, None, option_and_then, refl, ap, subst}
-use Rattle.ace_codes.specs.declared.kind.AwKind.{AwKind}
+use Rattle.ace_portck.proofs.Terms.{AwKind, aw_kind_of, is_barrier_half, is_line_write, is_write_barrier, is_message_part, is_line, is_read, write_kind, Transaction, line_write}
 use Rattle.ace_codes.specs.declared.kind.AwKind.TheVariants as write
-use Rattle.ace_codes.specs.Writes.{aw_kind_of}
-use Rattle.ace_model.specs.Barriers.{is_barrier_half}
-use Rattle.ace_model.specs.Kinds.{is_line_write, is_write_barrier}
-use Rattle.ace_model.specs.Messages.{is_message_part}
-use Rattle.ace_model.specs.Transactions.{is_line, is_read, write_kind}
-use Rattle.ace_model.specs.declared.transactions.Transaction.{Transaction}
 use Rattle.ace_model.proofs.General.Options.{none_if-is, some_if-is}
-use Rattle.ace_portck.specs.LineWrites.{line_write}
 
 -- The transaction is a line write of the kind.
 pub record IsLineWrite (x : Transaction) (k : AwKind) : Type 0 where

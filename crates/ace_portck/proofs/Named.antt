@@ -1,17 +1,9 @@
 -- An event names one of the outstanding transactions of its port on the channel at most, and only that one advances.
-use Rattle.std.specs.List.{AllByRecursion}
+use Rattle.ace_portck.proofs.Terms.{AllByRecursion, Channel, Read, Write, Event, R, B, G, M, D, port_of, is_some_and, same_channel, Progress, renewed, advanced, named_by, change_first, is_store, AreApart}
 use Rattle.std.proofs.Common.{◌≡◌, ℕ, suc, ◌+◌, ◌<◌, Bool, true, false, ◌==◌, nat_eq, if◌then◌else◌, List, [], ◌∷◌, ◌++◌, map, length, take, drop, set, get_or, Some, None, refl, sym, ap, ◌∙◌, inl, inr, arith}
 use Rattle.std.proofs.lemmas.Bool.{cases_Bool, eq-eqb, eqb-true}
 use Rattle.std.proofs.lemmas.List.{drop_more, set_split}
-use Rattle.ace_event.specs.declared.event.Channel.{Channel}
-use Rattle.ace_event.specs.declared.event.Channel.TheVariants.{Read, Write}
-use Rattle.ace_event.specs.declared.event.Event.{Event}
-use Rattle.ace_event.specs.declared.event.Event.TheVariants.{R, B, G, M, D}
-use Rattle.ace_model.specs.Trace.{port_of, is_some_and}
-use Rattle.ace_model.specs.Transactions.{same_channel}
 use Rattle.ace_model.proofs.General.Options.{Some-injective}
-use Rattle.ace_portck.specs.declared.target.Progress.{Progress}
-use Rattle.ace_portck.specs.Pending.{renewed, advanced, named_by, change_first, is_store, AreApart}
 
 -- A loop that looks for the first transaction under the identifier.
 module _ (f : Progress → Progress) (i : ℕ) (xs : List Progress) (k : ℕ) (d : Progress) (lt : k < length xs)

@@ -1,101 +1,59 @@
 -- A port has at most one outstanding transaction on a line (K5), so what the rules ask of all its transactions is asked of that one.
-use Rattle.std.proofs.Common.{◌≡◌, ◌⊎◌, ℕ, true, false, Bool, not, ◌&&◌, ◌||◌, if◌then◌else◌, nat_eq, [], ◌∷◌, length, Option, Some, None, is_some, refl, sym, ap, subst, ◌∙◌, inl, inr}
-use Rattle.std.proofs.lemmas.Bool.{and_parts, and_from, cases_Bool, eqb-true, eq-eqb, false_from_ne_true, or_left}
+use Rattle.std.proofs.Common.{◌≡◌, ℕ, true, false, Bool, not, ◌&&◌, nat_eq, Option, Some, None, is_some, refl, sym, ap, ◌∙◌, inl, inr}
+use Rattle.std.proofs.lemmas.Bool.{and_parts, and_from, cases_Bool, or_left}
 use Rattle.ace_codes.specs.declared.kind.ArKind.TheVariants as read
-use Rattle.ace_model.specs.declared.transactions.Transaction.{Transaction}
-use Rattle.ace_model.proofs.Terms.{ArKind, Header, Trace, IsAccepted, is_some_and, is_line, is_on, is_make_unique, is_make_unique_on, is_line_read, is_line_write, read_kind, write_kind, issued, outstanding, is_outstanding, is_outstanding_on, has_outstanding_on, is_complete, some_issued}
-use Rattle.ace_model.proofs.Terms.{updates_memory, is_update_on, has_update, has_store, awaits_store, is_in_make_unique, wants_store}
-use Rattle.ace_model.proofs.General.Options.{Some-injective, some_or-cases, is_some_and-is}
-use Rattle.ace_model.proofs.Trace.Growth.{IsIssued, issued-new, issued-old, some_issued-is, some_issued-found}
-use Rattle.ace_model.proofs.Trace.LineOnce.{one_on_line, outstanding_is}
-use Rattle.ace_portck.specs.Targets.{last_issued, own_of}
-
-last_issued-cases : (o : Option Transaction) (older : Option Transaction) (test : Transaction → Bool) (x : Transaction)
-    → (if is_some_and o test then o else older) ≡ Some x → ((o ≡ Some x) × (test x ≡ true)) ⊎ (older ≡ Some x)
-last_issued-cases None older test x e = inr e
-last_issued-cases (Some y) older test x e =
-    elim (some_or-cases test y older x e) [
-      | inl new ↦ inl new
-      | inr old ↦ inr old.0
-    ]
-
--- the last transaction that passes a test was issued, and passes it
-pub last_issued-is : (past : Trace) (test : Transaction → Bool) (x : Transaction) → last_issued past test ≡ Some x → IsIssued past x × (test x ≡ true)
-last_issued-is [] test x e = cc
-last_issued-is (e ∷ past) test x is =
-    elim (last_issued-cases (issued (length past) e) (last_issued past test) test x is) [
-      | inl new ↦ (issued-new e past x new.0, new.1)
-      | inr old ↦ let i = last_issued-is past test x old in (issued-old e past x i.0, i.1)
-    ]
-
--- where none passes it, there is none
-pub last_issued-none : (past : Trace) (test : Transaction → Bool) → last_issued past test ≡ None → some_issued past test ≡ false
-last_issued-none [] test none = refl
-last_issued-none (e ∷ past) test none = by (issued (length past) e) (last_issued-none past test) none
-  where
-    by : (o : Option Transaction) → (last_issued past test ≡ None → some_issued past test ≡ false) → (if is_some_and o test then o else last_issued past test) ≡ None
-        → (is_some_and o test || some_issued past test) ≡ false
-    by None older n = older n
-    by (Some y) older n =
-        elim (cases_Bool (test y)) [
-          | inl t ↦ let bad : Some y ≡ None = rw t at n in cc
-          | inr f ↦ let old : last_issued past test ≡ None = rw f at n in rw f (older old)
-        ]
+use Rattle.ace_portck.proofs.Terms.{Transaction, ArKind, Header, Trace, IsAccepted, is_some_and, is_line, is_on, is_make_unique, is_make_unique_on, is_line_read, is_line_write, read_kind, write_kind, is_outstanding, is_outstanding_on, has_outstanding_on, is_complete, some_issued, updates_memory, is_update_on, has_update, has_store, awaits_store, is_in_make_unique, wants_store, own_of}
+use Rattle.ace_model.proofs.General.Options.{Some-injective, is_some_and-is}
+use Rattle.ace_model.proofs.Trace.Growth.{IsIssued, some_issued-found}
+use Rattle.ace_model.proofs.Outstanding.Only.{IsFound, found_some, one_outstanding_on}
+use Rattle.ace_portck.proofs.Found.{last-found}
 
 module _ (h : Header) (past : Trace) (a : IsAccepted h past) (p l : ℕ) where
   -- The port's own transaction on the line.
   pub record Owns (x : Transaction) : Type 0 where
     pub issued_one : IsIssued past x
-    pub out : outstanding h past x.port x.chan x.id ≡ Some x
-    pub port : x.port ≡ p
+    pub out : is_outstanding h past x ≡ true
+    pub port : nat_eq x.port p ≡ true
     pub on : is_on x l ≡ true
 
-  owns : (x : Transaction) → IsIssued past x → is_outstanding_on h past p l x ≡ true → Owns x
-  owns x i t =
-      let parts = and_parts (nat_eq x.port p && is_on x l) (is_outstanding h past x) t in
+  own-at : IsFound past (is_outstanding_on h past p l) (own_of h past p l)
+  own-at = last-found past (is_outstanding_on h past p l)
+
+  own-is : (x : Transaction) → own_of h past p l ≡ Some x → Owns x
+  own-is x is =
+      let f = own-at.some x is in
+      let parts = and_parts (nat_eq x.port p && is_on x l) (is_outstanding h past x) f.1 in
       let two = and_parts (nat_eq x.port p) (is_on x l) parts.0 in
-      record { issued_one = i; out = outstanding_is h past x i parts.1; port = eqb-true x.port p two.0; on = two.1 }
+      record { issued_one = f.0; out = parts.1; port = two.0; on = two.1 }
 
-  pub own-is : (x : Transaction) → own_of h past p l ≡ Some x → Owns x
-  own-is x is = let i = last_issued-is past (is_outstanding_on h past p l) x is in owns x i.0 i.1
-
-  one-own : (x y : Transaction) → Owns x → Owns y → x ≡ y
-  one-own x y s t =
-      one_on_line h past a p x.chan y.chan x.id y.id l x y (ap (λ v. outstanding h past v x.chan x.id) (sym s.port) ∙ s.out)
-      (ap (λ v. outstanding h past v y.chan y.id) (sym t.port) ∙ t.out) s.on t.on
-
-  own-on : (x : Transaction) → Owns x → is_outstanding_on h past p l x ≡ true
-  own-on x s = let out = s.out in and_from _ _ (and_from _ _ (eq-eqb x.port p s.port) s.on) (rw out (eq-eqb x.place x.place refl))
-
-  -- an outstanding transaction of the port on the line is its own
-  own-found : (x : Transaction) → Owns x → own_of h past p l ≡ Some x
-  own-found x s = by (own_of h past p l) refl
+  -- where it has none that passes a test, none of the trace does that asks for an outstanding transaction of the port on the line
+  none-own : (test : Transaction → Bool) → ((x : Transaction) → test x ≡ true → is_outstanding_on h past p l x ≡ true)
+      → ((x : Transaction) → own_of h past p l ≡ Some x → test x ≡ false) → some_issued past test ≡ false
+  none-own test implied fails =
+      found_some past test None (record {
+        some = λ x is. cc;
+        none = λ none x i t. by x i t (own_of h past p l) refl;
+      })
     where
-      by : (o : Option Transaction) → own_of h past p l ≡ o → own_of h past p l ≡ Some x
-      by None is =
-          let none = last_issued-none past (is_outstanding_on h past p l) is in
-          let some = some_issued-found past (is_outstanding_on h past p l) x.place x s.issued_one.there (own-on x s) in cc
-      by (Some y) is = is ∙ ap Some (one-own y x (own-is y is) s)
+      by : (x : Transaction) → IsIssued past x → test x ≡ true → (o : Option Transaction) → own_of h past p l ≡ o → ⊥
+      by x i t None is = own-at.none is x i (implied x t)
+      by x i t (Some y) is =
+          let f = own-at.some y is in
+          let one : x ≡ y = one_outstanding_on h past p l x y a i f.0 (implied x t) f.1 in
+          let off : test x ≡ false = ap test one ∙ fails y is in cc
 
   -- a test that asks for an outstanding transaction of the port on the line
-  pub some-own : (test own_test : Transaction → Bool) → ((x : Transaction) → test x ≡ true → is_outstanding_on h past p l x ≡ true)
+  some-own : (test own_test : Transaction → Bool) → ((x : Transaction) → test x ≡ true → is_outstanding_on h past p l x ≡ true)
       → ((x : Transaction) → Owns x → test x ≡ own_test x) → some_issued past test ≡ is_some_and (own_of h past p l) own_test
   some-own test own_test implied same = by (own_of h past p l) refl
     where
-      found : some_issued past test ≡ true → (x : Transaction) × (own_of h past p l ≡ Some x) × (test x ≡ true)
-      found t = let x = some_issued-is past test t in (x.0, own-found x.0 (owns x.0 x.1 (implied x.0 x.2)), x.2)
-
       by : (o : Option Transaction) → own_of h past p l ≡ o → some_issued past test ≡ is_some_and o own_test
-      by None is = false_from_ne_true (some_issued past test) (λ t. let x = found t in let bad : None ≡ Some x.0 = sym is ∙ x.1 in cc)
+      by None is = none-own test implied (λ x own. let bad : None ≡ Some x = sym is ∙ own in cc)
       by (Some y) is =
           let s = own-is y is in
           elim (cases_Bool (test y)) [
             | inl t ↦ some_issued-found past test y.place y s.issued_one.there t ∙ sym t ∙ same y s
-            | inr f ↦
-                false_from_ne_true (some_issued past test) (λ t.
-                let x = found t in
-                let one = Some-injective x.0 y (sym x.1 ∙ is) in
-                let bad = subst (λ v. test v ≡ true) one x.2 in cc) ∙ sym f ∙ same y s
+            | inr f ↦ none-own test implied (λ x own. ap test (Some-injective x y (sym own ∙ is)) ∙ f) ∙ sym f ∙ same y s
           ]
 
 -- what is asked of a transaction beside that it is outstanding
@@ -127,11 +85,7 @@ awaits_own_store past x = is_some_and (read_kind x) is_make_unique && is_complet
 module _ (h : Header) (past : Trace) (a : IsAccepted h past) (p l : ℕ) where
   -- a transaction of the port on the line is outstanding
   pub has_outstanding-own : has_outstanding_on h past p l ≡ is_some (own_of h past p l)
-  has_outstanding-own = some-own h past a p l (is_outstanding_on h past p l) (λ x. true) (λ x t. t) (λ x s. own-on h past a p l x s) ∙ by (own_of h past p l)
-    where
-      by : (o : Option Transaction) → is_some_and o (λ x. true) ≡ is_some o
-      by None = refl
-      by (Some x) = refl
+  has_outstanding-own = found_some past (is_outstanding_on h past p l) (own_of h past p l) (last-found past (is_outstanding_on h past p l))
 
   -- a memory update
   pub has_update-own : has_update h past p l ≡ is_some_and (own_of h past p l) updates_memory
@@ -141,10 +95,7 @@ module _ (h : Header) (past : Trace) (a : IsAccepted h past) (p l : ℕ) where
       let o = and_parts ((nat_eq x.port p && updates_memory x) && is_on x l) (is_outstanding h past x) t in
       let n = and_parts (nat_eq x.port p && updates_memory x) (is_on x l) o.0 in
       and_from _ _ (and_from _ _ (and_parts (nat_eq x.port p) (updates_memory x) n.0).0 n.1) o.1)
-      (λ x s. stripped_two (nat_eq x.port p) (is_on x l) (is_outstanding h past x) (updates_memory x) (eq-eqb x.port p s.port) s.on (is_out x s))
-    where
-      is_out : (x : Transaction) → Owns h past a p l x → is_outstanding h past x ≡ true
-      is_out x s = let out = s.out in rw out (eq-eqb x.place x.place refl)
+      (λ x s. stripped_two (nat_eq x.port p) (is_on x l) (is_outstanding h past x) (updates_memory x) s.port s.on s.out)
 
   -- a MakeUnique that is complete, and whose store is the next of the port to the line
   awaits-on : (x : Transaction) → awaits_store h past p l x ≡ true → is_outstanding_on h past p l x ≡ true
@@ -156,9 +107,8 @@ module _ (h : Header) (past : Trace) (a : IsAccepted h past) (p l : ℕ) where
 
   awaits-own : (x : Transaction) → Owns h past a p l x → awaits_store h past p l x ≡ awaits_own_store past x
   awaits-own x s =
-      let out : is_outstanding h past x ≡ true = let o = s.out in rw o (eq-eqb x.place x.place refl) in
       stripped (nat_eq x.port p) (nat_eq x.addr l) (is_outstanding h past x) (is_some_and (read_kind x) is_make_unique) (is_complete past x.port x.chan x.id)
-      (eq-eqb x.port p s.port) (and_parts (is_line x) (nat_eq x.addr l) s.on).1 out
+      s.port (and_parts (is_line x) (nat_eq x.addr l) s.on).1 s.out
 
   pub in_make_unique-own : is_in_make_unique h past p l ≡ is_some_and (own_of h past p l) (awaits_own_store past)
   in_make_unique-own = some-own h past a p l (awaits_store h past p l) (awaits_own_store past) awaits-on awaits-own

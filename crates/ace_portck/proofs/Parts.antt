@@ -1,10 +1,7 @@
 -- The beats of a burst in four places.
 use Rattle.std.proofs.Common.{◌≡◌, ℕ, ◌+◌, ◌*◌, ◌<◌, List, [], ◌∷◌, ◌++◌, length, map, get_or, slice_set, refl, sym, ap, ◌∙◌, arith, length-append}
 use Rattle.std.proofs.lemmas.List.{length-map, map-append}
-use Rattle.ace_model.specs.Writes.{Beat}
-use Rattle.ace_portck.specs.declared.target.WriteData.{WriteData}
-use Rattle.ace_portck.specs.declared.write_data.Part.{Part}
-use Rattle.ace_portck.specs.WriteData.{IsPart, data_of_burst, four}
+use Rattle.ace_portck.proofs.Terms.{Beat, WriteData, Part, IsPart, data_of_burst, four}
 
 -- one more number
 four_more : (xs : List ℕ) (y : ℕ) → length xs < 4 → slice_set (four xs) (length xs) y ≡ four (xs ++ y ∷ [])

@@ -1,10 +1,6 @@
 -- The read that an AR issues.
 use Rattle.std.proofs.Common.{◌≡◌, ℕ, Bool, true, false, Some, refl}
-use Rattle.ace_codes.specs.declared.kind.ArKind.{ArKind}
-use Rattle.ace_codes.specs.Reads.{ar_kind_of}
-use Rattle.ace_event.specs.declared.event.Channel.TheVariants.{Read}
-use Rattle.ace_model.specs.Kinds.{is_line_read}
-use Rattle.ace_model.specs.declared.transactions.Transaction.{Transaction}
+use Rattle.ace_portck.proofs.Terms.{ArKind, ar_kind_of, Read, is_line_read, Transaction}
 use Rattle.ace_portck.proofs.LineReads.{IsUnfailingRead}
 
 -- the read that an AR with these fields issues

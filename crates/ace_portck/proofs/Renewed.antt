@@ -1,21 +1,7 @@
 -- How far an outstanding transaction has come after an event.
 use Rattle.std.proofs.Common.{◌≡◌, ℕ, ◌+◌, ◌≤◌, ◌<◌, ◌%◌, cond, Bool, true, false, ◌&&◌, ◌||◌, nat_eq, if◌then◌else◌, ◌∷◌, length, Option, Some, None, unwrap_or, refl, sym, ap, ◌∙◌, inl, inr, arith}
 use Rattle.std.proofs.lemmas.Bool.{and_parts, cases_Bool, eq-eqb, ltb-true}
-use Rattle.ace_event.specs.declared.event.Channel.{Channel}
-use Rattle.ace_event.specs.declared.event.Channel.TheVariants.{Read, Write}
-use Rattle.ace_event.specs.declared.event.Event.{Event}
-use Rattle.ace_event.specs.declared.event.Event.TheVariants.{Ar, R, Aw, B, G, M, D}
-use Rattle.ace_event.specs.declared.header.Header.{Header}
-use Rattle.ace_event.specs.declared.line.Line.{Line}
-use Rattle.ace_model.specs.declared.transactions.Transaction.{Transaction}
-use Rattle.ace_model.specs.Trace.{Trace, is_some_and}
-use Rattle.ace_model.specs.Accepted.{IsAccepted}
-use Rattle.ace_model.specs.Transactions.{is_read, has_name, is_named, read_kind, is_make_unique_on, issued, transaction_of, outstanding, is_outstanding, transfers, first_resp, is_completion, is_complete}
-use Rattle.ace_model.specs.Kinds.{beats_of, reads_a_line}
-use Rattle.ace_model.specs.Grants.{given, has_grant}
-use Rattle.ace_model.specs.Writes.{is_memory_write, has_memory_write}
-use Rattle.ace_model.specs.States.{is_store_of, has_store}
-use Rattle.ace_model.specs.ReadRules.{is_due, is_next_transfer}
+use Rattle.ace_portck.proofs.Terms.{Channel, Read, Write, Event, Ar, R, Aw, B, G, M, D, Header, Line, Transaction, Trace, is_some_and, IsAccepted, is_read, has_name, is_named, read_kind, is_make_unique_on, issued, transaction_of, outstanding, is_outstanding, transfers, first_resp, is_completion, is_complete, beats_of, reads_a_line, given, has_grant, has_memory_write, is_store_of, has_store, is_due, is_next_transfer, Progress, progress_of, renewed}
 use Rattle.ace_model.proofs.General.Options.{is_some_and-at, is_some_and-is}
 use Rattle.ace_model.proofs.Rules.Keeps.{accepted_keeps}
 use Rattle.ace_model.proofs.Trace.Looks.{has_name-is, is_read-is}
@@ -23,57 +9,15 @@ use Rattle.ace_model.proofs.Trace.Issued.{outstanding-named}
 use Rattle.ace_model.proofs.Trace.Outstanding.{named_read, read_issued}
 use Rattle.ace_model.proofs.Outstanding.Names.{named_is, completion_agrees, grant_agrees, memory_agrees}
 use Rattle.ace_model.proofs.Outstanding.Steps.{other_name_issued}
-use Rattle.ace_portck.specs.declared.target.Progress.{Progress}
-use Rattle.ace_portck.specs.Targets.{progress_of}
-use Rattle.ace_portck.specs.Pending.{renewed}
 
--- it is the same transaction
-pub renewed_keeps : (e : Event) (v : Progress) → (renewed e v).transaction ≡ v.transaction
-renewed_keeps (R p i resp last word) v = elim (cases_Bool (has_name v.transaction p Read i)) [ inl t ↦ rw t refl | inr f ↦ rw f refl ]
-renewed_keeps (B p i resp) v = elim (cases_Bool (has_name v.transaction p Write i)) [ inl t ↦ rw t refl | inr f ↦ rw f refl ]
-renewed_keeps (G p c i) v = elim (cases_Bool (has_name v.transaction p c i)) [ inl t ↦ rw t refl | inr f ↦ rw f refl ]
-renewed_keeps (M p c i line) v = elim (cases_Bool (has_name v.transaction p c i)) [ inl t ↦ rw t refl | inr f ↦ rw f refl ]
-renewed_keeps (D p addr strobe x line) v =
-    elim (cases_Bool ((nat_eq v.transaction.port p) && is_make_unique_on v.transaction addr && v.complete)) [ inl t ↦ rw t refl | inr f ↦ rw f refl ]
-renewed_keeps _ v = refl
-
--- How far it has come, field by field.
-record AreSame (a b : Progress) : Type 0 where
-  transaction : a.transaction ≡ b.transaction
-  transfers : a.transfers ≡ b.transfers
-  response : a.response ≡ b.response
-  complete : a.complete ≡ b.complete
-  granted : a.granted ≡ b.granted
-  written : a.written ≡ b.written
-  stored : a.stored ≡ b.stored
-
-abbrev made : Transaction → ℕ → ℕ → Bool → Bool → Bool → Bool → Progress
-made x n r c g w d = record { transaction = x; transfers = n; response = r; complete = c; granted = g; written = w; stored = d }
-
-are_one : (a b : Progress) → AreSame a b → a ≡ b
-are_one a b s =
-    ap (λ v. made v a.transfers a.response a.complete a.granted a.written a.stored) s.transaction
-    ∙ ap (λ v. made b.transaction v a.response a.complete a.granted a.written a.stored) s.transfers
-    ∙ ap (λ v. made b.transaction b.transfers v a.complete a.granted a.written a.stored) s.response
-    ∙ ap (λ v. made b.transaction b.transfers b.response v a.granted a.written a.stored) s.complete
-    ∙ ap (λ v. made b.transaction b.transfers b.response b.complete v a.written a.stored) s.granted
-    ∙ ap (λ v. made b.transaction b.transfers b.response b.complete b.granted v a.stored) s.written
-    ∙ ap (λ v. made b.transaction b.transfers b.response b.complete b.granted b.written v) s.stored
+-- what is set where a test holds stays as it was where it doesn't
+set_where : (f : Bool → Progress) (b old now : Bool) → now ≡ (b || old) → f now ≡ (if b then f true else f old)
+set_where f true old now is = ap f is
+set_where f false old now is = ap f is
 
 module _ (h : Header) (past : Trace) (x : Transaction) (out : outstanding h past x.port x.chan x.id ≡ Some x) where
   of_name : transaction_of past x.port x.chan x.id ≡ Some x
   of_name = outstanding-named h past x.port x.chan x.id x out
-
-  -- the looks at an event that issues nothing under the name
-  module _ (e : Event) (other : is_named (issued (length past) e) x.port x.chan x.id ≡ false) where
-    complete_after : is_complete (e ∷ past) x.port x.chan x.id ≡ (is_completion e x.port x.chan x.id || is_complete past x.port x.chan x.id)
-    complete_after = rw other refl
-
-    grant_after : has_grant (e ∷ past) x.port x.chan x.id ≡ (is_named (given past e) x.port x.chan x.id || has_grant past x.port x.chan x.id)
-    grant_after = rw other refl
-
-    written_after : has_memory_write (e ∷ past) x.port x.chan x.id ≡ (is_memory_write e x.port x.chan x.id || has_memory_write past x.port x.chan x.id)
-    written_after = rw other refl
 
   transfer_completes : (q j resp : ℕ) (last : Bool) (word : ℕ) → is_completion (R q j resp last word) x.port x.chan x.id ≡ (last && has_name x q Read j)
   transfer_completes q j resp last word =
@@ -125,10 +69,14 @@ module _ (h : Header) (past : Trace) (x : Transaction) (out : outstanding h past
       few true = omega arith
       few false = omega arith
 
+  same_but_transfer : (n m r s : ℕ) (c d : Bool) → n ≡ m → r ≡ s → c ≡ d
+      → record (progress_of h past x) { transfers = n; response = r; complete = c } ≡ record (progress_of h past x) { transfers = m; response = s; complete = d }
+  same_but_transfer n m r s c d transfer response complete = rw (transfer, response, complete) refl
+
   renewed_r : (q j resp : ℕ) (last : Bool) (word : ℕ) → IsAccepted h (R q j resp last word ∷ past)
       → progress_of h (R q j resp last word ∷ past) x ≡ renewed (R q j resp last word) (progress_of h past x)
   renewed_r q j resp last word a =
-      let completes = transfer_completes q j resp last word in
+      let completes = ap (λ b. b || is_complete past x.port x.chan x.id) (transfer_completes q j resp last word) in
       elim (cases_Bool (has_name x q Read j)) [
         | inl t ↦
             let n = has_name-is x q Read j t in
@@ -137,39 +85,18 @@ module _ (h : Header) (past : Trace) (x : Transaction) (out : outstanding h past
             let wrap : (transfers past x.port x.id + 1) % 256 ≡ transfers past x.port x.id + 1 = omega (arith, low) in
             let port = eq-eqb x.port q n.port in
             let id = eq-eqb x.id j n.id in
-            are_one _ _ (record {
-              transaction = rw t refl;
-              transfers = rw (t, read, port, id) (sym wrap);
-              response = rw (t, read, port, id) (first (nat_eq (transfers past x.port x.id) 0) (first_resp past x.port x.id));
-              complete = complete_after (R q j resp last word) refl ∙ rw (completes, t) (either last (is_complete past x.port x.chan x.id));
-              granted = rw t refl;
-              written = rw t refl;
-              stored = rw t refl;
-            })
+            rw t
+            (same_but_transfer _ _ _ _ _ _ (rw (read, port, id) (sym wrap))
+            (rw (read, port, id) (first (nat_eq (transfers past x.port x.id) 0) (first_resp past x.port x.id)))
+            (completes ∙ rw t (either last (is_complete past x.port x.chan x.id))))
         | inr f ↦
+            let complete = completes ∙ rw f (neither last (is_complete past x.port x.chan x.id)) in
             elim (cases_Bool (is_read x.chan)) [
-              | inr write ↦
-                  are_one _ _ (record {
-                    transaction = rw f refl;
-                    transfers = rw (f, write) refl;
-                    response = rw (f, write) refl;
-                    complete = complete_after (R q j resp last word) refl ∙ rw (completes, f) (neither last (is_complete past x.port x.chan x.id));
-                    granted = rw f refl;
-                    written = rw f refl;
-                    stored = rw (f, write) refl;
-                  })
+              | inr write ↦ rw f (same_but_transfer _ _ _ _ _ _ (rw write refl) (rw write refl) complete)
               | inl read ↦
                   let chan = is_read-is x.chan read in
                   let apart = unnamed (nat_eq x.port q) (nat_eq x.id j) (rw chan at f) in
-                  are_one _ _ (record {
-                    transaction = rw f refl;
-                    transfers = rw (f, read, apart) refl;
-                    response = rw (f, read, apart) refl;
-                    complete = complete_after (R q j resp last word) refl ∙ rw (completes, f) (neither last (is_complete past x.port x.chan x.id));
-                    granted = rw f refl;
-                    written = rw f refl;
-                    stored = rw f refl;
-                  })
+                  rw f (same_but_transfer _ _ _ _ _ _ (rw (read, apart) refl) (rw (read, apart) refl) complete)
             ]
       ]
     where
@@ -193,86 +120,26 @@ module _ (h : Header) (past : Trace) (x : Transaction) (out : outstanding h past
 
   renewed_b : (q j resp : ℕ) → progress_of h (B q j resp ∷ past) x ≡ renewed (B q j resp) (progress_of h past x)
   renewed_b q j resp =
-      let completes = complete_after (B q j resp) refl ∙ ap (λ b. b || is_complete past x.port x.chan x.id) (response_completes q j resp) in
-      elim (cases_Bool (has_name x q Write j)) [
-        | inl t ↦
-            are_one _ _ (record {
-              transaction = rw t refl;
-              transfers = rw t refl;
-              response = rw t refl;
-              complete = completes ∙ rw t refl;
-              granted = rw t refl;
-              written = rw t refl;
-              stored = rw t refl;
-            })
-        | inr f ↦
-            are_one _ _ (record {
-              transaction = rw f refl;
-              transfers = rw f refl;
-              response = rw f refl;
-              complete = completes ∙ rw f refl;
-              granted = rw f refl;
-              written = rw f refl;
-              stored = rw f refl;
-            })
-      ]
+      set_where (λ c. record (progress_of h past x) { complete = c }) (has_name x q Write j) (is_complete past x.port x.chan x.id) _
+      (ap (λ b. b || is_complete past x.port x.chan x.id) (response_completes q j resp))
 
   renewed_g : (q : ℕ) (d : Channel) (j : ℕ) → progress_of h (G q d j ∷ past) x ≡ renewed (G q d j) (progress_of h past x)
   renewed_g q d j =
-      let grants = grant_after (G q d j) refl ∙ ap (λ b. b || has_grant past x.port x.chan x.id) (grant_names q d j) in
-      elim (cases_Bool (has_name x q d j)) [
-        | inl t ↦
-            are_one _ _ (record {
-              transaction = rw t refl;
-              transfers = rw t refl;
-              response = rw t refl;
-              complete = rw t refl;
-              granted = grants ∙ rw t refl;
-              written = rw t refl;
-              stored = rw t refl;
-            })
-        | inr f ↦
-            are_one _ _ (record {
-              transaction = rw f refl;
-              transfers = rw f refl;
-              response = rw f refl;
-              complete = rw f refl;
-              granted = grants ∙ rw f refl;
-              written = rw f refl;
-              stored = rw f refl;
-            })
-      ]
+      set_where (λ g. record (progress_of h past x) { granted = g }) (has_name x q d j) (has_grant past x.port x.chan x.id) _
+      (ap (λ b. b || has_grant past x.port x.chan x.id) (grant_names q d j))
 
   renewed_m : (q : ℕ) (d : Channel) (j : ℕ) (line : Line) → progress_of h (M q d j line ∷ past) x ≡ renewed (M q d j line) (progress_of h past x)
   renewed_m q d j line =
       let names = memory_agrees past (M q d j line) x.port x.chan x.id x of_name ∙ named_is past x.port q x.chan d x.id j x of_name in
-      let writes = written_after (M q d j line) refl ∙ ap (λ b. b || has_memory_write past x.port x.chan x.id) names in
-      elim (cases_Bool (has_name x q d j)) [
-        | inl t ↦
-            are_one _ _ (record {
-              transaction = rw t refl;
-              transfers = rw t refl;
-              response = rw t refl;
-              complete = rw t refl;
-              granted = rw t refl;
-              written = writes ∙ rw t refl;
-              stored = rw t refl;
-            })
-        | inr f ↦
-            are_one _ _ (record {
-              transaction = rw f refl;
-              transfers = rw f refl;
-              response = rw f refl;
-              complete = rw f refl;
-              granted = rw f refl;
-              written = writes ∙ rw f refl;
-              stored = rw f refl;
-            })
-      ]
+      set_where (λ w. record (progress_of h past x) { written = w }) (has_name x q d j) (has_memory_write past x.port x.chan x.id) _
+      (ap (λ b. b || has_memory_write past x.port x.chan x.id) names)
 
   -- the store of a MakeUnique
+  abbrev stores : ℕ → ℕ → Bool
+  stores q addr = (nat_eq x.port q && is_make_unique_on x addr) && is_complete past x.port x.chan x.id
+
   stores_of_read : (q addr strobe : ℕ) (b : Bool) (line : Line) → x.chan ≡ Read
-      → is_store_of h past (D q addr strobe b line) x.port x.id ≡ ((nat_eq x.port q && is_make_unique_on x addr) && is_complete past x.port x.chan x.id)
+      → is_store_of h past (D q addr strobe b line) x.port x.id ≡ stores q addr
   stores_of_read q addr strobe b line chan =
       let there : outstanding h past x.port Read x.id ≡ Some x = rw (← chan) out in
       let self : is_outstanding h past x ≡ true = rw out (eq-eqb x.place x.place refl) in
@@ -287,52 +154,23 @@ module _ (h : Header) (past : Trace) (x : Transaction) (out : outstanding h past
 
   renewed_d : (q addr strobe : ℕ) (b : Bool) (line : Line) → progress_of h (D q addr strobe b line ∷ past) x ≡ renewed (D q addr strobe b line) (progress_of h past x)
   renewed_d q addr strobe b line =
-      elim (cases_Bool (is_read x.chan)) [
+      set_where (λ s. record (progress_of h past x) { stored = s }) (stores q addr) (is_read x.chan && has_store h past x.port x.id) _
+      (elim (cases_Bool (is_read x.chan)) [
         | inr write ↦
             let no_kind : read_kind x ≡ None = rw write refl in
-            let none : ((nat_eq x.port q && is_make_unique_on x addr) && is_complete past x.port x.chan x.id) ≡ false = rw no_kind (nothing (nat_eq x.port q)) in
-            are_one _ _ (record {
-              transaction = rw none refl;
-              transfers = rw none refl;
-              response = rw none refl;
-              complete = rw none refl;
-              granted = rw none refl;
-              written = rw none refl;
-              stored = rw (none, write) refl;
-            })
+            let none : stores q addr ≡ false = rw no_kind (nothing (nat_eq x.port q)) in rw (none, write) refl
         | inl read ↦
-            let is = stores_of_read q addr strobe b line (is_read-is x.chan read) in
-            elim (cases_Bool ((nat_eq x.port q && is_make_unique_on x addr) && is_complete past x.port x.chan x.id)) [
-              | inl t ↦
-                  are_one _ _ (record {
-                    transaction = rw t refl;
-                    transfers = rw t refl;
-                    response = rw t refl;
-                    complete = rw t refl;
-                    granted = rw t refl;
-                    written = rw t refl;
-                    stored = stored_then true (is ∙ t) ∙ ap (λ r. r && true) read ∙ rw t refl;
-                  })
-              | inr f ↦
-                  are_one _ _ (record {
-                    transaction = rw f refl;
-                    transfers = rw f refl;
-                    response = rw f refl;
-                    complete = rw f refl;
-                    granted = rw f refl;
-                    written = rw f refl;
-                    stored = stored_then false (is ∙ f) ∙ rw f refl;
-                  })
-            ]
-      ]
+            ap (λ s. is_read x.chan && (s || has_store h past x.port x.id)) (stores_of_read q addr strobe b line (is_read-is x.chan read))
+            ∙ turned (is_read x.chan) (stores q addr) (has_store h past x.port x.id) read
+      ])
     where
-      stored_then : (v : Bool) → is_store_of h past (D q addr strobe b line) x.port x.id ≡ v
-          → (is_read x.chan && has_store h (D q addr strobe b line ∷ past) x.port x.id) ≡ (is_read x.chan && (v || has_store h past x.port x.id))
-      stored_then v is = ap (λ s. is_read x.chan && (s || has_store h past x.port x.id)) is
-
       nothing : (m : Bool) → ((m && false) && is_complete past x.port x.chan x.id) ≡ false
       nothing true = refl
       nothing false = refl
+
+      turned : (r s t : Bool) → r ≡ true → (r && (s || t)) ≡ (s || (r && t))
+      turned true s t read = refl
+      turned false s t read = cc
 
   -- after any event of an accepted trace
   pub renewed_is : (e : Event) → IsAccepted h (e ∷ past) → progress_of h (e ∷ past) x ≡ renewed e (progress_of h past x)

@@ -1,19 +1,8 @@
 -- What is kept of a port has room for an event, where it has room for all snoops of the port.
 use Rattle.std.proofs.Common.{◌≡◌, ℕ, ◌+◌, ◌-◌, ◌/◌, ◌≤◌, Bool, true, false, ◌&&◌, ◌==◌, if◌then◌else◌, [], ◌∷◌, ◌++◌, length, Option, Some, None, sym, ap, ◌∙◌, refl, arith, length-append, length-drop}
 use Rattle.std.proofs.lemmas.Bool.{eq-eqb}
-use Rattle.ace_codes.specs.Responses.{transfers_data}
-use Rattle.ace_event.specs.declared.event.Event.{Event}
-use Rattle.ace_event.specs.declared.event.Event.TheVariants.{Ac, Cr}
-use Rattle.ace_event.specs.declared.header.Header.{Header}
-use Rattle.ace_model.specs.declared.snoops.Snoop.{Snoop}
-use Rattle.ace_model.specs.Snoops.{answered, answers, data_beats, snoops_of}
-use Rattle.ace_model.specs.Trace.{Trace, more, port_of}
+use Rattle.ace_portck.proofs.Terms.{transfers_data, Event, Ac, Cr, Header, Snoop, answered, answers, data_beats, snoops_of, Trace, more, port_of, PortRecord, SnoopQueues, HasRoom, PortStands, IsRoomy, SnoopsStand, data_snoops}
 use Rattle.ace_model.proofs.General.Options.{Some-injective}
-use Rattle.ace_portck.specs.declared.port.PortRecord.{PortRecord}
-use Rattle.ace_portck.specs.declared.snoops.SnoopQueues.{SnoopQueues}
-use Rattle.ace_portck.specs.Port.{HasRoom, PortStands}
-use Rattle.ace_portck.specs.Snoops.{IsRoomy, SnoopsStand}
-use Rattle.ace_portck.specs.Targets.{data_snoops}
 
 -- each answer has data at most once
 data-snoops-few : (past : Trace) (p : ℕ) → length (data_snoops past p) ≤ answers past p

@@ -1,13 +1,8 @@
 -- What the AW of a line write issues.
 use Rattle.std.proofs.Common.{◌≡◌, ℕ, true, false, Some, refl}
-use Rattle.ace_codes.specs.declared.kind.AwKind.{AwKind}
-use Rattle.ace_codes.specs.Writes.{aw_kind_of}
-use Rattle.ace_model.specs.Barriers.{is_barrier_half}
-use Rattle.ace_model.specs.Kinds.{is_line_write}
-use Rattle.ace_model.specs.Trace.{Trace}
+use Rattle.ace_portck.proofs.Terms.{AwKind, aw_kind_of, is_barrier_half, is_line_write, Trace, line_write_kind}
 use Rattle.ace_model.proofs.General.Options.{option_filter-is}
 use Rattle.ace_model.proofs.Trace.Outstanding.{write_issued}
-use Rattle.ace_portck.specs.LineWrites.{line_write_kind}
 use Rattle.ace_portck.proofs.LineWrites.{line-no_barrier}
 
 module _ (past : Trace) (p i addr snoop dom bar : ℕ) (k : AwKind) (is : line_write_kind snoop dom bar ≡ Some k) where

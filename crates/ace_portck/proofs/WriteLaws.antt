@@ -1,76 +1,26 @@
 -- The writes of a port whose bursts are whole and that have had no M: they are outstanding, each under an identifier of its own,
 -- and they are all that have data to write.
-use Rattle.std.specs.List.{All, filter, find}
-use Rattle.std.proofs.Common.{◌≡◌, ◌≢◌, ℕ, zero, suc, ◌+◌, ◌*◌, ◌/◌, ◌<◌, ◌≤◌, Bool, true, false, not, ◌&&◌, nat_eq, List, [], ◌∷◌, ◌++◌, length, take, drop, Option, Some, None, option_map, slice_get, get_or, le_refl, refl, sym, ap, subst, ◌∙◌, arith, inl, inr, length-drop, length-append}
-use Rattle.std.specs.Option.{option_and_then}
+use Rattle.ace_portck.proofs.Terms.{All, filter, find, list_any, option_and_then, Read, Write, Event, W, M, Header, Trace, IsAccepted, is_some_and, more, has_write_data, write_kind, outstanding, is_memory_write, has_memory_write, data_writes, next_write, next_write_beat, Beat, beats, beat_at, burst_of, is_burst_whole, Transaction, data_of_burst, open_burst, filled_at, filled}
+use Rattle.std.proofs.Common.{◌≡◌, ◌≢◌, ℕ, ◌+◌, ◌*◌, ◌/◌, ◌<◌, ◌≤◌, Bool, true, false, not, ◌&&◌, nat_eq, List, [], ◌∷◌, ◌++◌, length, take, drop, Option, Some, None, option_map, slice_get, get_or, le_refl, refl, sym, ap, subst, ◌∙◌, arith, inl, inr, length-drop, length-append}
 use Rattle.std.proofs.Math.Seq.{take-length}
 use Rattle.std.proofs.lemmas.Bool.{and_parts, and_right, not-true, cases_Bool, eqb-true, eq-eqb, lt-ltb}
 use Rattle.std.proofs.lemmas.List.{length-take, take-append-le, drop-append-le}
 use Rattle.std.proofs.lemmas.List.Kept.{AllPairs-filter}
 use Rattle.std.proofs.lemmas.List.Quantifiers.{all_pairs_push}
-use Rattle.std.proofs.lemmas.Option.{slice_get_within, slice_get-get_or}
-use Rattle.ace_model.proofs.Terms.{Read, Write, Event, W, M, Header, Trace, IsAccepted, is_some_and, more, has_write_data, write_kind, outstanding, is_memory_write, has_memory_write, data_writes, next_write, next_write_beat, Beat, beats, beat_at, burst_of, is_burst_whole}
-use Rattle.ace_model.specs.declared.transactions.Transaction.{Transaction}
-use Rattle.ace_model.proofs.General.Lists.{slice_get-more, slice_get-grown, slice_get-at_end}
-use Rattle.ace_model.proofs.General.Options.{Some-injective, is_some_and-is}
+use Rattle.std.proofs.lemmas.Option.{slice_get_within}
+use Rattle.ace_model.proofs.General.Lists.{any-right, slice_get-all, start-any, start-more}
+use Rattle.ace_model.proofs.Outstanding.Issued.{find-some}
+use Rattle.std.proofs.lemmas.Map.Views.{any-filter_same}
+use Rattle.std.proofs.lemmas.List.Elements.{All-filter, All-push, filter_passes}
+use Rattle.ace_model.proofs.General.Options.{is_some_and-is}
 use Rattle.ace_model.proofs.General.Pigeonhole.{AreApart}
 use Rattle.ace_model.proofs.Rules.Keeps.{accepted_keeps}
-use Rattle.ace_model.proofs.Trace.Looks.{at_name}
+use Rattle.ace_model.proofs.Trace.Looks.{Named, at_name}
 use Rattle.ace_model.proofs.Trace.Issued.{outstanding-name, outstanding-named}
 use Rattle.ace_model.proofs.Trace.Growth.{IsIssued, at_point-before, named-issued}
 use Rattle.ace_model.proofs.Trace.WriteBursts.{start_of, IsBeat, burst_grows, burst_new, four_beats}
 use Rattle.ace_model.proofs.Trace.UnwrittenWrites.{Unwritten, one_unwritten, unwritten_stays, unwritten_origin, data_write-at, burst_short, filling_unwritten}
 use Rattle.ace_portck.specs.Targets.{data_of_write}
-use Rattle.ace_portck.specs.WriteData.{data_of_burst, open_burst, filled_at, filled}
-
--- an element that a test keeps was there, and passes it
-pub filter-at : {A : Type 0} → (test : A → Bool) (xs : List A) (k : ℕ) (x : A) → slice_get (filter test xs) k ≡ Some x
-    → ((j : ℕ) × (slice_get xs j ≡ Some x)) × (test x ≡ true)
-filter-at test [] k x e = cc
-filter-at test (y ∷ ys) zero x e =
-    elim (cases_Bool (test y)) [
-      | inl t ↦ let here : Some y ≡ Some x = rw t at e in ((0, here), subst (λ z. test z ≡ true) (Some-injective y x here) t)
-      | inr f ↦ let r = filter-at test ys zero x (rw f at e) in ((suc r.0.0, r.0.1), r.1)
-    ]
-filter-at test (y ∷ ys) (suc k) x e =
-    elim (cases_Bool (test y)) [
-      | inl t ↦ let r = filter-at test ys k x (rw t at e) in ((suc r.0.0, r.0.1), r.1)
-      | inr f ↦ let r = filter-at test ys (suc k) x (rw f at e) in ((suc r.0.0, r.0.1), r.1)
-    ]
-
--- and one that passes it is kept
-pub filter-there : {A : Type 0} → (test : A → Bool) (xs : List A) (j : ℕ) (x : A) → slice_get xs j ≡ Some x → test x ≡ true
-    → (k : ℕ) × (slice_get (filter test xs) k ≡ Some x)
-filter-there test [] j x e pass = cc
-filter-there test (y ∷ ys) zero x e pass =
-    let t : test y ≡ true = subst (λ z. test z ≡ true) (sym (Some-injective y x e)) pass in (0, rw t e)
-filter-there test (y ∷ ys) (suc j) x e pass =
-    let r = filter-there test ys j x e pass in
-    elim (cases_Bool (test y)) [
-      | inl t ↦ (suc r.0, rw t r.1)
-      | inr f ↦ (r.0, rw f r.1)
-    ]
-
-find-there : {A : Type 0} → (test : A → Bool) (xs : List A) (x : A) → find test xs ≡ Some x → ((k : ℕ) × (slice_get xs k ≡ Some x)) × (test x ≡ true)
-find-there test [] x e = cc
-find-there test (y ∷ ys) x e =
-    elim (cases_Bool (test y)) [
-      | inl t ↦ let here : Some y ≡ Some x = rw t at e in ((0, here), subst (λ z. test z ≡ true) (Some-injective y x here) t)
-      | inr f ↦ let r = find-there test ys x (rw f at e) in ((suc r.0.0, r.0.1), r.1)
-    ]
-
-find-no : {A : Type 0} → (test : A → Bool) (xs : List A) (k : ℕ) (x : A) → find test xs ≡ None → slice_get xs k ≡ Some x → test x ≡ false
-find-no test [] k x e there = cc
-find-no test (y ∷ ys) zero x e there =
-    elim (cases_Bool (test y)) [
-      | inl t ↦ let some : Some y ≡ None = rw t at e in cc
-      | inr f ↦ subst (λ z. test z ≡ false) (Some-injective y x there) f
-    ]
-find-no test (y ∷ ys) (suc k) x e there =
-    elim (cases_Bool (test y)) [
-      | inl t ↦ let some : Some y ≡ None = rw t at e in cc
-      | inr f ↦ find-no test ys k x (rw f at e) there
-    ]
 
 -- a whole burst stays as it is
 pub whole_stays : (past : Trace) (e : Event) (x : Transaction) → IsIssued past x → is_burst_whole past x ≡ true → burst_of (e ∷ past) x ≡ burst_of past x
@@ -141,12 +91,14 @@ pub record IsFilled (h : Header) (past : Trace) (p : ℕ) (x : Transaction) : Ty
   pub open' : Unwritten h past p x.id x
   pub whole : is_burst_whole past x ≡ true
 
--- it stays so but at its M
-filled_stays : (h : Header) (past : Trace) (e : Event) (p : ℕ) (x : Transaction) → IsAccepted h (e ∷ past) → IsFilled h past p x
-    → is_memory_write e p Write x.id ≡ false → IsFilled h (e ∷ past) p x
-filled_stays h past e p x a f not_now =
+-- they stay so but at their M
+filled_stay : (h : Header) (past : Trace) (e : Event) (p : ℕ) (xs : List Transaction) → IsAccepted h (e ∷ past) → All (IsFilled h past p) xs
+    → All (λ (x : Transaction). is_memory_write e p Write x.id ≡ false) xs → All (IsFilled h (e ∷ past) p) xs
+filled_stay h past e p xs a filled not_now k d low =
+    let x = get_or xs k d in
+    let f = filled k d low in
     let same = whole_stays past e x (unwritten-issued h past p x.id x f.open') f.whole in
-    record { open' = unwritten_stays h past p x.id x f.open' e a not_now; whole = rw same f.whole }
+    record { open' = unwritten_stays h past p x.id x f.open' e a (not_now k d low); whole = rw same f.whole }
 
 -- the write that a fourth beat makes whole
 filled_new : (h : Header) (past : Trace) (p strb : ℕ) (last : Bool) (word : ℕ) (x : Transaction) → IsAccepted h (W p strb last word ∷ past)
@@ -175,31 +127,36 @@ filled_at-is past q strb last word p x e =
     ]
 
 -- each whole burst without M is of an outstanding write
-pub filled_are : (h : Header) (past : Trace) → IsAccepted h past → (p k : ℕ) (x : Transaction) → slice_get (filled past p) k ≡ Some x → IsFilled h past p x
-filled_are h [] a p k x there = cc
-filled_are h (W q strb last word ∷ past) a p k x there =
-    elim (slice_get-more (filled past p) (filled_at past (W q strb last word) p) k x there) [
-      | inl old ↦ filled_stays h past (W q strb last word) p x a (filled_are h past a.0 p k x old) refl
-      | inr new ↦
-          let n = filled_at-is past q strb last word p x new.1 in
-          let one : IsAccepted h (W p strb last word ∷ past) = subst (λ v. IsAccepted h (W v strb last word ∷ past)) (sym n.0) a in
-          subst (λ v. IsFilled h (W v strb last word ∷ past) p x) n.0 (filled_new h past p strb last word x one n.2 n.1)
-    ]
-filled_are h (M q Write i line ∷ past) a p k x there =
+pub filled_are : (h : Header) (past : Trace) → IsAccepted h past → (p : ℕ) → All (IsFilled h past p) (filled past p)
+filled_are h [] a p = λ k d low. absurd (omega (arith, low))
+filled_are h (W q strb last word ∷ past) a p =
+    grown (filled_stay h past (W q strb last word) p (filled past p) a (filled_are h past a.0 p) (λ k d low. refl)) (filled_at past (W q strb last word) p) refl
+  where
+    grown : All (IsFilled h (W q strb last word ∷ past) p) (filled past p) → (o : Option Transaction) → filled_at past (W q strb last word) p ≡ o
+        → All (IsFilled h (W q strb last word ∷ past) p) (more (filled past p) o)
+    grown old None is = old
+    grown old (Some x) is =
+        let n = filled_at-is past q strb last word p x is in
+        let one : IsAccepted h (W p strb last word ∷ past) = subst (λ v. IsAccepted h (W v strb last word ∷ past)) (sym n.0) a in
+        All-push (IsFilled h (W q strb last word ∷ past) p) (filled past p) x old
+        (subst (λ v. IsFilled h (W v strb last word ∷ past) p x) n.0 (filled_new h past p strb last word x one n.2 n.1))
+filled_are h (M q Write i line ∷ past) a p =
+    let old = filled_are h past a.0 p in
     elim (cases_Bool (nat_eq p q)) [
-      | inr f ↦ filled_stays h past (M q Write i line) p x a (filled_are h past a.0 p k x (rw f at there)) (rw f refl)
+      | inr f ↦ rw f (filled_stay h past (M q Write i line) p (filled past p) a old (λ k d low. rw f refl))
       | inl t ↦
-          let old = filter-at (λ (y : Transaction). not (nat_eq y.id i)) (filled past p) k x (rw t at there) in
-          let other : nat_eq x.id i ≡ false = not-true (nat_eq x.id i) old.1 in
-          filled_stays h past (M q Write i line) p x a (filled_are h past a.0 p old.0.0 x old.0.1) (rw other (and_right _ false refl))
+          rw t
+          (filled_stay h past (M q Write i line) p (filter (λ (y : Transaction). not (nat_eq y.id i)) (filled past p)) a
+          (All-filter (λ (y : Transaction). not (nat_eq y.id i)) (IsFilled h past p) (filled past p) old)
+          (λ k d low. rw (not-true _ (filter_passes (λ (y : Transaction). not (nat_eq y.id i)) (filled past p) k d low)) (and_right _ false refl)))
     ]
-filled_are h (M q Read i line ∷ past) a p k x there =
-    filled_stays h past (M q Read i line) p x a (filled_are h past a.0 p k x there) (rw (and_right (nat_eq p q) false refl) refl)
-filled_are h (e ∷ past) a p k x there = filled_stays h past e p x a (filled_are h past a.0 p k x there) refl
+filled_are h (M q Read i line ∷ past) a p =
+    filled_stay h past (M q Read i line) p (filled past p) a (filled_are h past a.0 p) (λ k d low. rw (and_right (nat_eq p q) false refl) refl)
+filled_are h (e ∷ past) a p = filled_stay h past e p (filled past p) a (filled_are h past a.0 p) (λ k d low. refl)
 
 -- and each such write is among them
-pub filled_there : (h : Header) (past : Trace) → IsAccepted h past → (p i : ℕ) (x : Transaction) → Unwritten h past p i x → is_burst_whole past x ≡ true
-    → (k : ℕ) × (slice_get (filled past p) k ≡ Some x)
+filled_there : (h : Header) (past : Trace) → IsAccepted h past → (p i : ℕ) (x : Transaction) → Unwritten h past p i x → is_burst_whole past x ≡ true
+    → list_any (λ y. nat_eq y.id i) (filled past p) ≡ true
 filled_there h [] a p i x u whole = let none = u.out in cc
 filled_there h (e ∷ past) a p i x u whole =
     elim (unwritten_origin h past e p i x u) [
@@ -208,61 +165,52 @@ filled_there h (e ∷ past) a p i x u whole =
           absurd (burst_new past e x 0 four.b0 new (ap (λ bs. slice_get bs 0) four.is))
       | inr old ↦
           elim (cases_Bool (is_burst_whole past x)) [
-            | inl before ↦
-                let k = filled_there h past a.0 p i x old.0 before in
-                still e k.0 k.1 old.1 (outstanding-name h past p Write i x old.0.out).id
+            | inl before ↦ still e (filled_there h past a.0 p i x old.0 before) old.1
             | inr not_yet ↦
                 let four = four_beats (e ∷ past) x whole in
-                let name = outstanding-name h past p Write i x old.0.out in
                 elim (burst_grows past e x 3 four.b3 (unwritten-issued h past p i x old.0) u.sends (ap (λ bs. slice_get bs 3) four.is)) [
                   | inl there ↦
-                      let four_then = eq-eqb (length (burst_of past x)) 4 (all past x 3 four.b3 there refl) in
+                      let low = slice_get_within (burst_of past x) 3 four.b3 there in
+                      let long = length-take 4 (drop (4 * start_of past x) (beats past x.port)) in
+                      let four_then = eq-eqb (length (burst_of past x)) 4 (omega (arith, low, long)) in
                       let bad : false ≡ true = sym not_yet ∙ four_then in cc
-                  | inr b ↦ now e four.b3 b name.port
+                  | inr b ↦ now e four.b3 b (outstanding-name h past p Write i x old.0.out)
                 ]
           ]
     ]
   where
-    all : (t : Trace) (y : Transaction) (n : ℕ) (b : Beat) → slice_get (burst_of t y) n ≡ Some b → n ≡ 3 → length (burst_of t y) ≡ 4
-    all t y n b there three =
-        let low = slice_get_within (burst_of t y) n b there in
-        let long = length-take 4 (drop (4 * start_of t y) (beats t y.port)) in
-        omega (arith, low, long, three)
-
-    still : (d : Event) (k : ℕ) → slice_get (filled past p) k ≡ Some x → is_memory_write d p Write i ≡ false → x.id ≡ i
-        → (j : ℕ) × (slice_get (filled (d ∷ past) p) j ≡ Some x)
-    still (W q strb last word) k there other id = (k, slice_get-grown (filled past p) (filled_at past (W q strb last word) p) k x there)
-    still (M q Write j line) k there other id =
+    still : (d : Event) → list_any (λ y. nat_eq y.id i) (filled past p) ≡ true → is_memory_write d p Write i ≡ false
+        → list_any (λ y. nat_eq y.id i) (filled (d ∷ past) p) ≡ true
+    still (W q strb last word) there other =
+        start-any (λ (y : Transaction). nat_eq y.id i) (filled past p) (filled (W q strb last word ∷ past) p)
+        (start-more (filled past p) (filled_at past (W q strb last word) p)) there
+    still (M q Write j line) there other =
         elim (cases_Bool (nat_eq p q)) [
-          | inr f ↦ (k, rw f there)
+          | inr f ↦ rw f there
           | inl t ↦
               let apart : nat_eq i j ≡ false = rw t at other in
-              let keeps : not (nat_eq x.id j) ≡ true = rw (id, apart) refl in
-              let r = filter-there (λ (y : Transaction). not (nat_eq y.id j)) (filled past p) k x there keeps in (r.0, rw t r.1)
+              rw t
+              (any-filter_same (λ (y : Transaction). nat_eq y.id i) (λ (y : Transaction). not (nat_eq y.id j)) true
+              (λ y is. rw (eqb-true y.id i is, apart) refl) (filled past p) ∙ there)
         ]
-    still (M q Read j line) k there other id = (k, there)
-    still d k there other id = (k, there)
+    still (M q Read j line) there other = there
+    still d there other = there
 
-    now : (d : Event) (b : Beat) → IsBeat past d x 3 b → x.port ≡ p → (j : ℕ) × (slice_get (filled (d ∷ past) p) j ≡ Some x)
-    now d b is port =
-        let own : nat_eq x.port x.port ≡ true = eq-eqb x.port x.port refl in
+    now : (d : Event) (b : Beat) → IsBeat past d x 3 b → Named x p Write i → list_any (λ y. nat_eq y.id i) (filled (d ∷ past) p) ≡ true
+    now d b is name =
         let third = eq-eqb (next_write_beat past x.port) 3 is.number in
-        let at : filled_at past (W x.port b.strobe is.last b.word) x.port ≡ Some x = rw (own, third) is.next in
-        let more' : filled (W x.port b.strobe is.last b.word ∷ past) x.port ≡ filled past x.port ++ x ∷ [] = rw at refl in
-        let here : slice_get (filled (W x.port b.strobe is.last b.word ∷ past) x.port) (length (filled past x.port)) ≡ Some x =
-        rw more' (slice_get-at_end (filled past x.port) (length (filled past x.port)) x refl) in (
-          length (filled past x.port),
-          ap (λ q. slice_get (filled (d ∷ past) q) (length (filled past x.port))) (sym port)
-              ∙ ap (λ (v : Event). slice_get (filled (v ∷ past) x.port) (length (filled past x.port))) is.is
-              ∙ here,
-        )
+        let at : filled_at past (W x.port b.strobe is.last b.word) x.port ≡ Some x = rw (eq-eqb x.port x.port refl, third) is.next in
+        let here : list_any (λ y. nat_eq y.id i) (filled (W x.port b.strobe is.last b.word ∷ past) x.port) ≡ true =
+        rw at (any-right (λ (y : Transaction). nat_eq y.id i) (filled past x.port) (x ∷ []) (rw (eq-eqb x.id i name.id) refl)) in
+        ap (λ q. list_any (λ (y : Transaction). nat_eq y.id i) (filled (d ∷ past) q)) (sym name.port)
+        ∙ ap (λ (v : Event). list_any (λ (y : Transaction). nat_eq y.id i) (filled (v ∷ past) x.port)) is.is ∙ here
 
 -- the write that a W fills has an identifier of its own among them
 pub other_filled : (h : Header) (past : Trace) → IsAccepted h past → (p : ℕ) (x : Transaction) → next_write past p ≡ Some x
     → All (λ (y : Transaction). y.id ≢ x.id) (filled past p)
 other_filled h past a p x next k d low same =
     let y = get_or (filled past p) k d in
-    let f = filled_are h past a p k y (slice_get-get_or (filled past p) k d low) in
+    let f = filled_are h past a p k d low in
     let u = filling_unwritten h past a p (length (beats past p) / 4) x (le_refl (length (beats past p) / 4)) next in
     let one : y ≡ x = one_unwritten h past p y.id x.id y x f.open' u same in
     let short = burst_short past p (length (beats past p) / 4) x next (le_refl (length (beats past p) / 4)) in
@@ -297,6 +245,14 @@ pub filled-data : (h : Header) (past : Trace) → IsAccepted h past → (p i : �
     ≡ option_and_then (data_of_write past) (outstanding h past p Write i)
 filled-data h past a p i = by (find (λ (x : Transaction). nat_eq x.id i) (filled past p)) refl
   where
+    find-none_any : (xs : List Transaction) → find (λ (x : Transaction). nat_eq x.id i) xs ≡ None → list_any (λ x. nat_eq x.id i) xs ≡ false
+    find-none_any [] e = refl
+    find-none_any (x ∷ xs) e =
+        elim (cases_Bool (nat_eq x.id i)) [
+          | inl t ↦ let bad : Some x ≡ None = rw t at e in cc
+          | inr f ↦ rw f (find-none_any xs (rw f at e))
+        ]
+
     none : (o : Option Transaction) → outstanding h past p Write i ≡ o → find (λ (x : Transaction). nat_eq x.id i) (filled past p) ≡ None
         → None ≡ option_and_then (data_of_write past) o
     none None out missing = refl
@@ -308,18 +264,16 @@ filled-data h past a p i = by (find (λ (x : Transaction). nat_eq x.id i) (fille
               let two = and_parts (is_some_and (write_kind x) has_write_data) (is_burst_whole past x) parts.0 in
               let name = outstanding-name h past p Write i x out in
               let unwritten = sym (at_name (has_memory_write past) x p Write i name) ∙ not-true (has_memory_write past x.port x.chan x.id) parts.1 in
-              let k = filled_there h past a p i x (record { out = out; sends = two.0; unwritten = unwritten }) two.1 in
-              let other = find-no (λ (y : Transaction). nat_eq y.id i) (filled past p) k.0 x missing k.1 in
-              let same = eq-eqb x.id i name.id in
-              let bad : false ≡ true = sym other ∙ same in cc
+              let some = filled_there h past a p i x (record { out = out; sends = two.0; unwritten = unwritten }) two.1 in
+              let bad : false ≡ true = sym (find-none_any (filled past p) missing) ∙ some in cc
         ]
 
     by : (r : Option Transaction) → find (λ (x : Transaction). nat_eq x.id i) (filled past p) ≡ r
         → option_map (λ x. data_of_burst (burst_of past x)) r ≡ option_and_then (data_of_write past) (outstanding h past p Write i)
     by None missing = none (outstanding h past p Write i) refl missing
     by (Some y) is =
-        let r = find-there (λ (x : Transaction). nat_eq x.id i) (filled past p) y is in
-        let f = filled_are h past a p r.0.0 y r.0.1 in
+        let r = find-some (λ (x : Transaction). nat_eq x.id i) (filled past p) y is in
+        let f = slice_get-all (IsFilled h past p) (filled past p) r.0.0 y (filled_are h past a p) r.0.1 in
         let id = eqb-true y.id i r.1 in
         let out : outstanding h past p Write i ≡ Some y = ap (outstanding h past p Write) (sym id) ∙ f.open'.out in
         let name = outstanding-name h past p Write i y out in

@@ -10,4 +10,5 @@ is_message snoop dom bar lock = is_some_and (ar_kind_of snoop dom bar) is_dvm_me
 
 -- the fields are those of the AR of a DVM Complete with lock 0
 abbrev pub is_completion : ℕ → ℕ → ℕ → Bool → Bool
-is_completion snoop dom bar lock = is_some_and (ar_kind_of snoop dom bar) is_dvm_complete && not lock
+is_completion snoop dom bar lock =
+    is_some_and (ar_kind_of snoop dom bar) is_dvm_complete && not lock

@@ -28,7 +28,8 @@ pub record OnePortStands (s : OnePort) (h : Header) (past : Trace) (p : ℕ) : T
 abbrev pub IsRoomy : ℕ → OnePort → Type 0
 IsRoomy n s = snoops.IsRoomy n s.kept.snoops
 
--- the event may be the next of the trace: it keeps the rules, and there is room for it where it is one of the port
+-- the event may be the next of the trace: it keeps the rules, and there is room for it where it is
+-- one of the port
 pub record MayHear (s : OnePort) (h : Header) (past : Trace) (p : ℕ) (e : Event) : Type 0 where
   pub stands : OnePortStands s h past p
   pub keeps : least_broken h past e ≡ None

@@ -23,18 +23,21 @@ is_pending h past p c x = (x.port == p) && same_channel x.chan c && is_outstandi
 abbrev pub pending_of : Header → Trace → ℕ → Channel → List Transaction
 pending_of h past p c = filter (is_pending h past p c) (transactions past)
 
--- These transactions, each with how far it has come, and the identifiers of the complete ones of an ACE port that wait for their
--- RK or WK, in the order of completion.
-pub record ListsStand (h : Header) (past : Trace) (p : ℕ) (c : Channel) (list : List Progress) (waiting : List ℕ) : Type 0 where
+-- These transactions, each with how far it has come, and the identifiers of the complete ones of an
+-- ACE port that wait for their RK or WK, in the order of completion.
+pub record ListsStand (h : Header) (past : Trace) (p : ℕ) (c : Channel) (list : List Progress)
+    (waiting : List ℕ) : Type 0 where
   pub list_is : list ≡ map (progress_of h past) (pending_of h past p c)
-  pub waiting_is : is_ace h p ≡ true → waiting ≡ drop (acknowledgements past p c) (completed past p c)
+  pub waiting_is : is_ace h p ≡ true
+      → waiting ≡ drop (acknowledgements past p c) (completed past p c)
 
 -- there is room for a transaction under each identifier
 pub record IsRoomy (s : Pending) : Type 0 where
   pub list : 256 ≤ vec_capacity s.list
   pub waiting : 256 ≤ deque_capacity s.waiting
 
-pub record PendingStands (h : Header) (past : Trace) (p : ℕ) (c : Channel) (s : Pending) : Type 0 where
+pub record PendingStands (h : Header) (past : Trace) (p : ℕ) (c : Channel) (s : Pending)
+    : Type 0 where
   pub lists : ListsStand h past p c s.list.items s.waiting.items
   pub roomy : IsRoomy s
 
@@ -56,12 +59,15 @@ transferred resp last x = record x {
 
 -- how far a transaction has come after an event of its port, by how far it had come before
 abbrev pub renewed : Event → Progress → Progress
-renewed (R p i resp last word) x = if has_name x.transaction p Read i then transferred resp last x else x
-renewed (B p i resp) x = if has_name x.transaction p Write i then record x { complete = true } else x
+renewed (R p i resp last word) x =
+    if has_name x.transaction p Read i then transferred resp last x else x
+renewed (B p i resp) x =
+    if has_name x.transaction p Write i then record x { complete = true } else x
 renewed (G p c i) x = if has_name x.transaction p c i then record x { granted = true } else x
 renewed (M p c i line) x = if has_name x.transaction p c i then record x { written = true } else x
 renewed (D p addr strobe x' line) x =
-    if (x.transaction.port == p) && is_make_unique_on x.transaction addr && x.complete then record x { stored = true } else x
+    if (x.transaction.port == p) && is_make_unique_on x.transaction addr && x.complete
+    then record x { stored = true } else x
 renewed _ x = x
 
 -- how far a transaction has come after an event that names it
@@ -94,7 +100,8 @@ change_first f i (x ∷ xs) = if x.transaction.id == i then f x ∷ xs else x �
 abbrev pub AreApart : ℕ → Channel → List Progress → Type 0
 AreApart p c [] = ⊤
 AreApart p c (x ∷ xs) =
-    (x.transaction.port ≡ p) × (x.transaction.chan ≡ c) × AllByRecursion (λ y. (y.transaction.id == x.transaction.id) ≡ false) xs × AreApart p c xs
+    (x.transaction.port ≡ p) × (x.transaction.chan ≡ c)
+    × AllByRecursion (λ y. (y.transaction.id == x.transaction.id) ≡ false) xs × AreApart p c xs
 
 -- the event is an RK, or a WK for the write channel
 abbrev pub is_acknowledge : Event → Channel → Bool
@@ -102,21 +109,24 @@ is_acknowledge (Rk p st) c = is_read c
 is_acknowledge (Wk p st) c = not (is_read c)
 is_acknowledge _ c = false
 
--- the identifier of the transaction on the channel that an event of the port completes: its last R, or its B
+-- the identifier of the transaction on the channel that an event of the port completes: its last R,
+-- or its B
 abbrev pub completed_by : Event → Channel → Option ℕ
 completed_by (R p i resp last word) c = if is_read c && last then Some i else None
 completed_by (B p i resp) c = if is_read c then None else Some i
 completed_by _ c = None
 
--- the identifier of the transaction that an event of the port ends: at an ACE port an RK or WK the one that waits first, at an
--- ACE-Lite port the last R or the B its own
+-- the identifier of the transaction that an event of the port ends: at an ACE port an RK or WK the
+-- one that waits first, at an ACE-Lite port the last R or the B its own
 abbrev pub ending_of : List ℕ → Bool → Channel → Event → Option ℕ
-ending_of waiting ace c e = if is_acknowledge e c then slice_get waiting 0 else if ace then None else completed_by e c
+ending_of waiting ace c e =
+    if is_acknowledge e c then slice_get waiting 0 else if ace then None else completed_by e c
 
 -- the complete ones after an event of the port
 abbrev pub waiting_after : List ℕ → Bool → Channel → Event → List ℕ
 waiting_after waiting ace c e =
-    if is_acknowledge e c then drop 1 waiting else if ace then more waiting (completed_by e c) else waiting
+    if is_acknowledge e c then drop 1 waiting
+    else if ace then more waiting (completed_by e c) else waiting
 
 -- the transaction, where it is on the channel
 abbrev pub on_channel : Channel → Option Transaction → Option Transaction
@@ -127,18 +137,22 @@ on_channel c (Some x) = if same_channel x.chan c then Some x else None
 abbrev pub without_id : Option ℕ → List Progress → List Progress
 without_id ended list = filter (λ x. not (is_some_and ended (λ i. x.transaction.id == i))) list
 
--- the event may change something of the outstanding transactions of its port on the channel
+-- the channel on which the event may change something of the outstanding transactions of its port
+abbrev pub moved_channel : Event → Option Channel
+moved_channel (Ar q i addr snoop dom bar lock) = Some Read
+moved_channel (R q i resp last word) = Some Read
+moved_channel (Rk q st) = Some Read
+moved_channel (D q addr strobe x line) = Some Read
+moved_channel (Aw q i addr snoop dom bar) = Some Write
+moved_channel (B q i resp) = Some Write
+moved_channel (Wk q st) = Some Write
+moved_channel (G q c i) = Some c
+moved_channel (M q c i line) = Some c
+moved_channel _ = None
+
+-- it may change something of those on this channel
 abbrev pub moves_channel : Event → Channel → Bool
-moves_channel (Ar q i addr snoop dom bar lock) c = is_read c
-moves_channel (R q i resp last word) c = is_read c
-moves_channel (Rk q st) c = is_read c
-moves_channel (D q addr strobe x line) c = is_read c
-moves_channel (Aw q i addr snoop dom bar) c = not (is_read c)
-moves_channel (B q i resp) c = not (is_read c)
-moves_channel (Wk q st) c = not (is_read c)
-moves_channel (G q d i) c = same_channel c d
-moves_channel (M q d i line) c = same_channel c d
-moves_channel _ c = false
+moves_channel e c = is_some_and (moved_channel e) (same_channel c)
 
 -- and of this port
 abbrev pub moves_pending : Event → ℕ → Channel → Bool

@@ -12,6 +12,8 @@ unfailing_read x =
     option_and_then (λ k. if is_line_read k && not (is_exclusive_store x) then Some k else None)
     (read_kind x)
 
--- after so many transfers of a read of this kind some are left, and `last` says whether the next is the last
+-- after so many transfers of a read of this kind some are left, and `last` says whether the next is
+-- the last
 abbrev pub is_next_beat : ℕ → Bool → ArKind → Bool
-is_next_beat transfers last k = nat_lt transfers (beats_of k) && same_test last (transfers + 1 == beats_of k)
+is_next_beat transfers last k =
+    nat_lt transfers (beats_of k) && same_test last (transfers + 1 == beats_of k)

@@ -11,9 +11,11 @@ use Rattle.ace_portck.specs.declared.snoops.SnoopQueues.{SnoopQueues}
 use Rattle.ace_portck.specs.Targets.{data_snoops}
 use Rattle.ace_portck.specs.Unfinished.{most_unfinished}
 
--- The snoops of the port without an answer, those whose data aren't whole, and the beats of the first of these. Each queue has
--- room for as many as ever were under way, so that an answer moves a snoop from one to the other without memory.
-pub record QueuesStand (past : Trace) (p : ℕ) (waiting sending : List Snoop) (beats waiting_room sending_room : ℕ) : Type 0 where
+-- The snoops of the port without an answer, those whose data aren't whole, and the beats of the
+-- first of these. Each queue has room for as many as ever were under way, so that an answer moves a
+-- snoop from one to the other without memory.
+pub record QueuesStand (past : Trace) (p : ℕ) (waiting sending : List Snoop)
+    (beats waiting_room sending_room : ℕ) : Type 0 where
   pub waiting_is : waiting ≡ drop (answers past p) (snoops_of past p)
   pub sending_is : sending ≡ drop (data_beats past p / 4) (data_snoops past p)
   pub beats_are : beats ≡ next_sent_beat past p
@@ -23,7 +25,9 @@ pub record QueuesStand (past : Trace) (p : ℕ) (waiting sending : List Snoop) (
   pub sending_fit : most_unfinished past p ≤ sending_room
 
 abbrev pub SnoopsStand : Trace → ℕ → SnoopQueues → Type 0
-SnoopsStand past p s = QueuesStand past p s.waiting.items s.sending.items s.beats (deque_capacity s.waiting) (deque_capacity s.sending)
+SnoopsStand past p s =
+    QueuesStand past p s.waiting.items s.sending.items s.beats (deque_capacity s.waiting)
+    (deque_capacity s.sending)
 
 -- each queue has room for all that are under way and one more
 abbrev pub HasRoomForOne : SnoopQueues → Type 0

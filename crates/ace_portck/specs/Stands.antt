@@ -47,7 +47,9 @@ pub record Stands (s : PortCheck) (r : Recording) : Type 0 where
 
 -- there is room for the event
 abbrev pub HasRoom : PortCheck → Event → Type 0
-HasRoom s e = (p : ℕ) (k : PortRecord) → port_of e ≡ Some p → slice_get s.ports.items p ≡ Some k → port.HasRoom k e
+HasRoom s e =
+    (p : ℕ) (k : PortRecord) → port_of e ≡ Some p → slice_get s.ports.items p ≡ Some k
+    → port.HasRoom k e
 
 -- the event may be the next of the recording: it keeps the rules, and there is room for it
 pub record MayApply (s : PortCheck) (r : Recording) (e : Event) : Type 0 where

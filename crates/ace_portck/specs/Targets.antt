@@ -68,16 +68,20 @@ served_in h past _ = None
 
 -- the transaction that the event begins or belongs to
 abbrev pub transaction_in : Header → Trace → Event → Option Progress
-transaction_in h past (Ar p i addr snoop dom bar lock) = option_map begun (issued (length past) (Ar p i addr snoop dom bar lock))
-transaction_in h past (Aw p i addr snoop dom bar) = option_map begun (issued (length past) (Aw p i addr snoop dom bar))
+transaction_in h past (Ar p i addr snoop dom bar lock) =
+    option_map begun (issued (length past) (Ar p i addr snoop dom bar lock))
+transaction_in h past (Aw p i addr snoop dom bar) =
+    option_map begun (issued (length past) (Aw p i addr snoop dom bar))
 transaction_in h past e = option_map (progress_of h past) (served_in h past e)
 
 -- the snoop that the port answers with data by the event
 abbrev pub data_snoop_at : Trace → Event → ℕ → Option Snoop
-data_snoop_at past (Cr q resp st) p = if (p == q) && transfers_data resp then answered past p else None
+data_snoop_at past (Cr q resp st) p =
+    if (p == q) && transfers_data resp then answered past p else None
 data_snoop_at past _ p = None
 
--- the snoops that the port has answered with data, in order; its CD events send the data, four beats to each
+-- the snoops that the port has answered with data, in order; its CD events send the data, four
+-- beats to each
 abbrev pub data_snoops : Trace → ℕ → List Snoop
 data_snoops [] p = []
 data_snoops (e ∷ past) p = more (data_snoops past p) (data_snoop_at past e p)
@@ -117,7 +121,9 @@ line_in h past e = line_of (transaction_in h past e)
 -- the last transaction of the trace that passes the test
 abbrev pub last_issued : Trace → (Transaction → Bool) → Option Transaction
 last_issued [] test = None
-last_issued (e ∷ past) test = if is_some_and (issued (length past) e) test then issued (length past) e else last_issued past test
+last_issued (e ∷ past) test =
+    if is_some_and (issued (length past) e) test then issued (length past) e
+    else last_issued past test
 
 -- the port's outstanding transaction on the line
 abbrev pub own_of : Header → Trace → ℕ → ℕ → Option Transaction
@@ -145,8 +151,11 @@ beat_in past _ = 0
 -- the burst of a write with data, where it is whole and the write has had no M
 abbrev pub data_of_write : Trace → Transaction → Option WriteData
 data_of_write past x =
-    if is_some_and (write_kind x) has_write_data && is_burst_whole past x && not (has_memory_write past x.port x.chan x.id)
-    then Some (record { strobe = burst_strobe (burst_of past x); line = burst_line (burst_of past x) }) else None
+    if is_some_and (write_kind x) has_write_data && is_burst_whole past x
+    && not (has_memory_write past x.port x.chan x.id)
+    then
+    Some (record { strobe = burst_strobe (burst_of past x); line = burst_line (burst_of past x) })
+    else None
 
 abbrev pub data_in : Header → Trace → Event → Option WriteData
 data_in h past (M p c i line) = option_and_then (data_of_write past) (outstanding h past p c i)
@@ -167,25 +176,32 @@ is_ordered_by_barriers p x = (x.port == p) && is_line x && (x.bar == 0)
 
 -- the port's oldest such transaction without its order point; that isn't complete
 abbrev pub first_unordered : Trace → ℕ → Option ℕ
-first_unordered past p = first_issued past (λ x. is_ordered_by_barriers p x && not (is_ordered past x))
+first_unordered past p =
+    first_issued past (λ x. is_ordered_by_barriers p x && not (is_ordered past x))
 
 abbrev pub first_incomplete : Trace → ℕ → Option ℕ
-first_incomplete past p = first_issued past (λ x. is_ordered_by_barriers p x && not (is_completed past x))
+first_incomplete past p =
+    first_issued past (λ x. is_ordered_by_barriers p x && not (is_completed past x))
 
 -- the event is an R or B of a barrier
 abbrev pub answers_barrier : Header → Trace → Event → Bool
-answers_barrier h past (R p i resp last word) = is_some_and (outstanding h past p Read i) is_barrier_half
+answers_barrier h past (R p i resp last word) =
+    is_some_and (outstanding h past p Read i) is_barrier_half
 answers_barrier h past (B p i resp) = is_some_and (outstanding h past p Write i) is_barrier_half
 answers_barrier h past _ = false
 
 abbrev pub unordered_in : Header → Trace → Event → Option ℕ
-unordered_in h past (R p i resp last word) = if answers_barrier h past (R p i resp last word) then first_unordered past p else None
-unordered_in h past (B p i resp) = if answers_barrier h past (B p i resp) then first_unordered past p else None
+unordered_in h past (R p i resp last word) =
+    if answers_barrier h past (R p i resp last word) then first_unordered past p else None
+unordered_in h past (B p i resp) =
+    if answers_barrier h past (B p i resp) then first_unordered past p else None
 unordered_in h past _ = None
 
 abbrev pub incomplete_in : Header → Trace → Event → Option ℕ
-incomplete_in h past (R p i resp last word) = if answers_barrier h past (R p i resp last word) then first_incomplete past p else None
-incomplete_in h past (B p i resp) = if answers_barrier h past (B p i resp) then first_incomplete past p else None
+incomplete_in h past (R p i resp last word) =
+    if answers_barrier h past (R p i resp last word) then first_incomplete past p else None
+incomplete_in h past (B p i resp) =
+    if answers_barrier h past (B p i resp) then first_incomplete past p else None
 incomplete_in h past _ = None
 
 -- the event's own target

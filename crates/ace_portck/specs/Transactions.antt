@@ -1,9 +1,6 @@
 -- What the outstanding transactions of a port say of a trace.
-use Rattle.std.specs.Prelude.{ℕ, Bool, not, ◌&&◌, ◌||◌, ◌==◌, if◌then◌else◌, Option, Some, None}
-use Rattle.ace_event.specs.declared.event.Channel.{Channel}
+use Rattle.std.specs.Prelude.{ℕ, Bool, not, ◌&&◌, ◌||◌, ◌==◌, if◌then◌else◌}
 use Rattle.ace_event.specs.declared.event.Channel.TheVariants.{Read, Write}
-use Rattle.ace_event.specs.declared.event.Event.{Event}
-use Rattle.ace_event.specs.declared.event.Event.TheVariants.{Ar, R, Rk, Aw, B, Wk, G, M, D}
 use Rattle.ace_event.specs.declared.header.Header.{Header}
 use Rattle.ace_model.specs.Trace.{Trace}
 use Rattle.ace_model.specs.Accepted.{IsAccepted}
@@ -25,7 +22,8 @@ is_ordered_by x = is_line x.transaction && (x.transaction.bar == 0)
 
 -- it has had its order point
 abbrev pub has_order_point : Progress → Bool
-has_order_point x = evicts x.transaction || (if updates_memory x.transaction then x.written else x.granted)
+has_order_point x =
+    evicts x.transaction || (if updates_memory x.transaction then x.written else x.granted)
 
 -- barriers order it, and it has had no order point; it isn't complete
 abbrev pub is_unordered : Progress → Bool
@@ -33,16 +31,3 @@ is_unordered x = is_ordered_by x && not (has_order_point x)
 
 abbrev pub is_incomplete : Progress → Bool
 is_incomplete x = is_ordered_by x && not x.complete
-
--- the channel on which the event may change something of the outstanding transactions of its port
-abbrev pub moved_channel : Event → Option Channel
-moved_channel (Ar q i addr snoop dom bar lock) = Some Read
-moved_channel (R q i resp last word) = Some Read
-moved_channel (Rk q st) = Some Read
-moved_channel (D q addr strobe x line) = Some Read
-moved_channel (Aw q i addr snoop dom bar) = Some Write
-moved_channel (B q i resp) = Some Write
-moved_channel (Wk q st) = Some Write
-moved_channel (G q c i) = Some c
-moved_channel (M q c i line) = Some c
-moved_channel _ = None

@@ -1,4 +1,5 @@
--- How many snoops of a port are under way. A fold needs memory only where there are more of them than ever before.
+-- How many snoops of a port are under way. A fold needs memory only where there are more of them
+-- than ever before.
 use Rattle.std.specs.Prelude.{ℕ, ◌+◌, ◌-◌, ◌/◌, ◌<◌, [], ◌∷◌, length, max}
 use Rattle.ace_event.specs.declared.event.Event.{Event}
 use Rattle.ace_event.specs.declared.event.Event.TheVariants.{Ac}
@@ -8,7 +9,9 @@ use Rattle.ace_portck.specs.Targets.{data_snoops}
 
 -- the port's snoops without an answer, and those answered with data whose burst isn't whole
 abbrev pub unfinished : Trace → ℕ → ℕ
-unfinished past p = (length (snoops_of past p) - answers past p) + (length (data_snoops past p) - data_beats past p / 4)
+unfinished past p =
+    (length (snoops_of past p) - answers past p)
+    + (length (data_snoops past p) - data_beats past p / 4)
 
 -- the most that were ever unfinished
 abbrev pub most_unfinished : Trace → ℕ → ℕ

@@ -36,22 +36,25 @@ open_burst past p = drop (4 * (length (beats past p) / 4)) (beats past p)
 
 -- the write whose burst the event makes whole
 abbrev pub filled_at : Trace → Event → ℕ → Option Transaction
-filled_at past (W q strb last word) p = if (p == q) && (next_write_beat past p == 3) then next_write past p else None
+filled_at past (W q strb last word) p =
+    if (p == q) && (next_write_beat past p == 3) then next_write past p else None
 filled_at past _ p = None
 
 -- the port's writes whose bursts are whole and that have had no M
 abbrev pub filled : Trace → ℕ → List Transaction
 filled [] p = []
-filled (M q Write i line ∷ past) p = if p == q then filter (λ x. not (x.id == i)) (filled past p) else filled past p
+filled (M q Write i line ∷ past) p =
+    if p == q then filter (λ x. not (x.id == i)) (filled past p) else filled past p
 filled (e ∷ past) p = more (filled past p) (filled_at past e p)
 
 -- the burst of a write
 abbrev pub burst_as : Trace → Transaction → Burst
 burst_as past x = record { id = x.id; sent = data_of_burst (burst_of past x) }
 
--- The writes whose bursts aren't whole, the beats of the first of them, and the whole bursts. There is room for a write under
--- each identifier.
-pub record BurstsStand (h : Header) (past : Trace) (p : ℕ) (filling : List Transaction) (part : Part) (whole : List Burst) (filling_room whole_room : ℕ) : Type 0 where
+-- The writes whose bursts aren't whole, the beats of the first of them, and the whole bursts. There
+-- is room for a write under each identifier.
+pub record BurstsStand (h : Header) (past : Trace) (p : ℕ) (filling : List Transaction)
+    (part : Part) (whole : List Burst) (filling_room whole_room : ℕ) : Type 0 where
   pub accepted : IsAccepted h past
   pub filling_is : filling ≡ drop (length (beats past p) / 4) (data_writes past p)
   pub part_is : IsPart (open_burst past p) part
@@ -62,4 +65,6 @@ pub record BurstsStand (h : Header) (past : Trace) (p : ℕ) (filling : List Tra
   pub whole_fit : 256 ≤ whole_room
 
 abbrev pub WritesStand : Header → Trace → ℕ → WriteBursts → Type 0
-WritesStand h past p s = BurstsStand h past p s.filling.items s.part s.whole.items (deque_capacity s.filling) (vec_capacity s.whole)
+WritesStand h past p s =
+    BurstsStand h past p s.filling.items s.part s.whole.items (deque_capacity s.filling)
+    (vec_capacity s.whole)

@@ -6,8 +6,7 @@ ghost use Rattle.ace_model.specs.Transactions.{read_kind, write_kind};
 ghost use Rattle.ace_portck.specs.Targets.{line_of};
 
 use crate::PortCheck;
-use crate::ports::record_of;
-use crate::rules::has_ace_port;
+use crate::rules::{has_ace_port, unless};
 use crate::target::Progress;
 use ace_codes::{ArKind, AwKind};
 use ace_event::Channel;
@@ -18,11 +17,7 @@ use ace_model::kinds::{is_line_read, is_line_write};
 pub fn line_of_read(x: &Progress, kind: ArKind) -> Option<u32>
     ensures { read_kind x.now.transaction ≡ Some kind → result ≡ line_of (Some x.now) }
 {
-    if is_line_read(kind) {
-        Some(x.transaction.addr)
-    } else {
-        None
-    }
+    is_line_read(kind).then_some(x.transaction.addr)
 }
 
 /// The line of a write of this kind: barriers have none.
@@ -30,11 +25,7 @@ pub fn line_of_read(x: &Progress, kind: ArKind) -> Option<u32>
 pub fn line_of_write(x: &Progress, kind: AwKind) -> Option<u32>
     ensures { write_kind x.now.transaction ≡ Some kind → result ≡ line_of (Some x.now) }
 {
-    if is_line_write(kind) {
-        Some(x.transaction.addr)
-    } else {
-        None
-    }
+    is_line_write(kind).then_some(x.transaction.addr)
 }
 
 impl PortCheck {
@@ -48,8 +39,9 @@ impl PortCheck {
     ghost use Rattle.ace_portck.specs.Stands.{Stands};
     ghost use Rattle.ace_portck.specs.Targets.{Recording, progress_of};
 
-    /// The least rule of the share that an RK breaks: K1, or K22, that its port has a complete read without RK (Arm IHI 0022E, C3.3).
-    /// Where `acknowledged` finds the transaction that it belongs to, it breaks none.
+    /// The least rule of the share that an RK breaks: K1, or K22, that its port has a complete read
+    /// without RK (Arm IHI 0022E, C3.3). Where `acknowledged` finds the transaction that it belongs
+    /// to, it breaks none.
     #[inline(always)]
     pub fn rule_of_rk(&self, port: u8) -> Option<u8>
         ensures { (r : Recording) (st : LineState) → Stands self.now r
@@ -58,16 +50,13 @@ impl PortCheck {
         if !has_ace_port(&self.header, port) {
             return Some(1);
         }
-        let kept = &record_of(&self.ports, &self.outside, port).transactions;
-        if kept.next_complete(Channel::Read).is_some() {
-            None
-        } else {
-            Some(22)
-        }
+        let kept = &self.kept(port).transactions;
+        unless(kept.next_complete(Channel::Read).is_some(), Some(22))
     }
 
-    /// The least rule of the share that a WK breaks: K1, or K27, that its port has a complete write without WK (Arm IHI 0022E, C3.5).
-    /// Where `acknowledged` finds the transaction that it belongs to, it breaks none.
+    /// The least rule of the share that a WK breaks: K1, or K27, that its port has a complete write
+    /// without WK (Arm IHI 0022E, C3.5). Where `acknowledged` finds the transaction that it belongs
+    /// to, it breaks none.
     #[inline(always)]
     pub fn rule_of_wk(&self, port: u8) -> Option<u8>
         ensures { (r : Recording) (st : LineState) → Stands self.now r
@@ -76,12 +65,8 @@ impl PortCheck {
         if !has_ace_port(&self.header, port) {
             return Some(1);
         }
-        let kept = &record_of(&self.ports, &self.outside, port).transactions;
-        if kept.next_complete(Channel::Write).is_some() {
-            None
-        } else {
-            Some(27)
-        }
+        let kept = &self.kept(port).transactions;
+        unless(kept.next_complete(Channel::Write).is_some(), Some(27))
     }
     /// The transaction that the next RK or WK of the port belongs to, if it is an ACE port of the
     /// header, where it stands. Where there is one, the RK or WK breaks no rule that looks at one
@@ -93,6 +78,6 @@ impl PortCheck {
             → option_copied result ≡ option_map (progress_of r.header r.past)
             (if is_ace r.header port then acknowledged r.past port chan else None) }
     {
-        record_of(&self.ports, &self.outside, port).next_acknowledged(&self.header, port, chan)
+        self.kept(port).next_acknowledged(&self.header, port, chan)
     }
 }

@@ -8,8 +8,7 @@ ghost use Rattle.ace_model.specs.Transactions.{is_ace};
 ghost use Rattle.ace_portck.specs.LineWrites.{line_write_kind};
 
 use crate::PortCheck;
-use crate::ports::record_of;
-use crate::rules::{has_port, is_line_address};
+use crate::rules::{has_port, is_line_address, unless};
 use ace_codes::{ArKind, AwKind, read_aw};
 use ace_event::{Channel, Header};
 use ace_model::kinds::{
@@ -43,7 +42,8 @@ fn may_issue_write(header: &Header, port: u8, kind: AwKind) -> bool
     is_ace(header, port) || is_lite_write(kind)
 }
 
-/// K7, of an AR: with lock 1 the port is an ACE port, and the kind is one of exclusive transactions (Arm IHI 0022E, C9).
+/// K7, of an AR: with lock 1 the port is an ACE port, and the kind is one of exclusive transactions
+/// (Arm IHI 0022E, C9).
 #[inline(always)]
 fn may_lock(header: &Header, port: u8, kind: ArKind, lock: bool) -> bool
     ensures { result ≡ implies lock (is_ace header.now port && may_be_exclusive kind) }
@@ -61,7 +61,8 @@ impl PortCheck {
     ghost use Rattle.ace_portck.specs.Stands.{Stands};
     ghost use Rattle.ace_portck.specs.Targets.{Recording};
 
-    /// The least rule of the share that an AR breaks: one of K1 to K5 and K7. `kind` is the one that its codes tell, if they tell one.
+    /// The least rule of the share that an AR breaks: one of K1 to K5 and K7. `kind` is the one
+    /// that its codes tell, if they tell one.
     #[inline(always)]
     pub fn rule_of_ar(
         &self,
@@ -71,7 +72,8 @@ impl PortCheck {
         kind: Option<ArKind>,
         lock: bool,
     ) -> Option<u8>
-        ensures { (r : Recording) (snoop dom bar : ℕ) → Stands self.now r → kind ≡ ar_kind_of snoop dom bar
+        ensures { (r : Recording) (snoop dom bar : ℕ) → Stands self.now r
+            → kind ≡ ar_kind_of snoop dom bar
             → result ≡ least_of port_rules r.header r.past (Ar port id addr snoop dom bar lock) }
     {
         if !has_port(&self.header, port) {
@@ -87,24 +89,22 @@ impl PortCheck {
         if line && !is_line_address(addr) {
             return Some(3);
         }
-        let kept = &record_of(&self.ports, &self.outside, port).transactions;
+        let kept = &self.kept(port).transactions;
         if !kept.is_name_free(Channel::Read, id) {
             return Some(4);
         }
         if line && !kept.is_line_free(addr) {
             return Some(5);
         }
-        if may_lock(&self.header, port, kind, lock) {
-            None
-        } else {
-            Some(7)
-        }
+        unless(may_lock(&self.header, port, kind, lock), Some(7))
     }
 
-    /// The least rule of the share that an AW breaks: one of K1 to K5 and K10. `kind` is the one that its codes tell, if they tell one.
+    /// The least rule of the share that an AW breaks: one of K1 to K5 and K10. `kind` is the one
+    /// that its codes tell, if they tell one.
     #[inline(always)]
     pub fn rule_of_aw(&self, port: u8, id: u8, addr: u32, kind: Option<AwKind>) -> Option<u8>
-        ensures { (r : Recording) (snoop dom bar : ℕ) → Stands self.now r → kind ≡ aw_kind_of snoop dom bar
+        ensures { (r : Recording) (snoop dom bar : ℕ) → Stands self.now r
+            → kind ≡ aw_kind_of snoop dom bar
             → result ≡ least_of port_rules r.header r.past (Aw port id addr snoop dom bar) }
     {
         if !has_port(&self.header, port) {
@@ -120,17 +120,13 @@ impl PortCheck {
         if on_line && !is_line_address(addr) {
             return Some(3);
         }
-        let kept = &record_of(&self.ports, &self.outside, port).transactions;
+        let kept = &self.kept(port).transactions;
         if !kept.is_name_free(Channel::Write, id) {
             return Some(4);
         }
         if on_line && !kept.is_line_free(addr) {
             return Some(5);
         }
-        if kept.keeps_kind_apart(kind) {
-            None
-        } else {
-            Some(10)
-        }
+        unless(kept.keeps_kind_apart(kind), Some(10))
     }
 }

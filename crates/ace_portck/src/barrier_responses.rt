@@ -1,7 +1,7 @@
-//! What the R or B of half of a barrier asks of its port: which of the transactions before it have come how far (Arm IHI 0022E, C8).
+//! What the R or B of half of a barrier asks of its port: which of the transactions before it have
+//! come how far (Arm IHI 0022E, C8).
 
 use crate::PortCheck;
-use crate::ports::record_of;
 
 impl PortCheck {
     ghost use Rattle.std.specs.Prelude.{◌≡◌};
@@ -12,17 +12,13 @@ impl PortCheck {
     pub fn first_unordered(&self, port: u8) -> Option<usize>
         ensures { (r : Recording) → Stands self.now r → result ≡ first_unordered r.past port }
     {
-        record_of(&self.ports, &self.outside, port)
-            .transactions
-            .first_unordered()
+        self.kept(port).transactions.first_unordered()
     }
 
     /// The place of the port's oldest line transaction with bar 0 that isn't complete.
     pub fn first_incomplete(&self, port: u8) -> Option<usize>
         ensures { (r : Recording) → Stands self.now r → result ≡ first_incomplete r.past port }
     {
-        record_of(&self.ports, &self.outside, port)
-            .transactions
-            .first_incomplete()
+        self.kept(port).transactions.first_incomplete()
     }
 }

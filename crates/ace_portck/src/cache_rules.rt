@@ -1,7 +1,7 @@
-//! The least rule of those that look at one port that an S, L or D breaks, and what else such an event asks of its port.
+//! The least rule of those that look at one port that an S, L or D breaks, and what else such an
+//! event asks of its port.
 
 use crate::PortCheck;
-use crate::ports::record_of;
 use crate::rules::{has_ace_port, is_line_address};
 use crate::target::Progress;
 use ace_codes::LineState;
@@ -20,8 +20,8 @@ impl PortCheck {
     ghost use Rattle.ace_portck.specs.Stands.{Stands};
     ghost use Rattle.ace_portck.specs.Targets.{Recording, own_on};
 
-    /// The least of K1 and K3, which are all that is asked of the port of an S, L or D: it is an ACE port of the header, and the line
-    /// is at a multiple of 64.
+    /// The least of K1 and K3, which are all that is asked of the port of an S, L or D: it is an
+    /// ACE port of the header, and the line is at a multiple of 64.
     #[inline(always)]
     fn rule_on_line(&self, port: u8, addr: u32) -> Option<u8>
         ensures change { (r : Recording) (st : LineState) → Stands self.now r
@@ -70,9 +70,7 @@ impl PortCheck {
         ensures { (r : Recording) → Stands self.now r
             → option_copied result ≡ own_on r.header r.past port (Some line) }
     {
-        record_of(&self.ports, &self.outside, port)
-            .transactions
-            .own_on(line)
+        self.kept(port).transactions.own_on(line)
     }
 
     /// An S to this state leaves its port without the line, while a memory update of the port on

@@ -28,6 +28,6 @@ pub use one_port::OnePort;
 pub use pending::issued;
 pub use ports::PortCheck;
 pub use response_rules::line_write;
-pub use rules::is_at;
+pub use rules::{is_at, unless};
 pub use snoop_rules::snooped_line;
 pub use target::{Progress, WriteData};

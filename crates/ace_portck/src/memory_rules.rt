@@ -1,8 +1,8 @@
-//! The least rule of those that look at one port that a G, M or MEM breaks, and the burst that an M writes.
+//! The least rule of those that look at one port that a G, M or MEM breaks, and the burst that an M
+//! writes.
 
 use crate::PortCheck;
-use crate::ports::record_of;
-use crate::rules::{has_port, is_line_address};
+use crate::rules::{has_port, is_line_address, unless};
 use crate::target::WriteData;
 use ace_event::Channel;
 
@@ -23,11 +23,7 @@ impl PortCheck {
         ensures { (r : Recording) (chan : Channel) (id : ℕ) → Stands self.now r
             → result ≡ least_of port_rules r.header r.past (G port chan id) }
     {
-        if has_port(&self.header, port) {
-            None
-        } else {
-            Some(1)
-        }
+        unless(has_port(&self.header, port), Some(1))
     }
 
     /// The least rule of the share that an M breaks: K1 is all that is asked of its port.
@@ -36,11 +32,7 @@ impl PortCheck {
         ensures { (r : Recording) (chan : Channel) (id : ℕ) (line : Line) → Stands self.now r
             → result ≡ least_of port_rules r.header r.past (M port chan id line) }
     {
-        if has_port(&self.header, port) {
-            None
-        } else {
-            Some(1)
-        }
+        unless(has_port(&self.header, port), Some(1))
     }
 
     /// The least rule of the share that a MEM breaks: K3. It names no port.
@@ -55,15 +47,13 @@ impl PortCheck {
         }
     }
 
-    /// Of an M of the port's transaction under the identifier: the burst of a write with data, where it is whole and the write has had
-    /// no M.
+    /// Of an M of the port's transaction under the identifier: the burst of a write with data,
+    /// where it is whole and the write has had no M.
     #[inline(always)]
     pub fn burst(&self, port: u8, chan: Channel, id: u8) -> Option<&WriteData>
         ensures { (r : Recording) (line : Line) → Stands self.now r
             → option_copied result ≡ data_in r.header r.past (M port chan id line) }
     {
-        record_of(&self.ports, &self.outside, port)
-            .bursts
-            .burst(chan, id)
+        self.kept(port).bursts.burst(chan, id)
     }
 }

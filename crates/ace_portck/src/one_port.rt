@@ -54,7 +54,8 @@ impl OnePort {
     }
 
     pub fn header(&self) -> Header
-        ensures { (h : Header) (past : Trace) (p : ℕ) → OnePortStands self.now h past p → result ≡ h }
+        ensures { (h : Header) (past : Trace) (p : ℕ) → OnePortStands self.now h past p
+            → result ≡ h }
     {
         self.header
     }
@@ -67,7 +68,8 @@ impl OnePort {
 
     /// How many events came, at any port: the place of the next.
     pub fn count(&self) -> usize
-        ensures { (h : Header) (past : Trace) (p : ℕ) → OnePortStands self.now h past p → result ≡ length past }
+        ensures { (h : Header) (past : Trace) (p : ℕ) → OnePortStands self.now h past p
+            → result ≡ length past }
     {
         self.count
     }
@@ -93,7 +95,7 @@ impl OnePort {
         ensures { (h : Header) (past : Trace) (p : ℕ) → OnePortStands self.now h past p
             → result ≡ option_map (progress_of h past) (outstanding h past p chan id) }
     {
-        self.kept.transactions.named(chan, id)
+        self.kept.transactions.outstanding(chan, id).copied()
     }
 
     /// The outstanding transaction on the line.
@@ -101,7 +103,7 @@ impl OnePort {
         ensures { (h : Header) (past : Trace) (p : ℕ) → OnePortStands self.now h past p
             → result ≡ option_map (progress_of h past) (own_of h past p line) }
     {
-        self.kept.transactions.own(line)
+        self.kept.transactions.own_on(line).copied()
     }
 
     /// No transaction on the line is outstanding.
@@ -122,43 +124,49 @@ impl OnePort {
 
     /// A memory update or an Evict is outstanding.
     pub fn has_giving_up(&self) -> bool
-        ensures { (h : Header) (past : Trace) (p : ℕ) → OnePortStands self.now h past p → result ≡ has_write h past p gives_up }
+        ensures { (h : Header) (past : Trace) (p : ℕ) → OnePortStands self.now h past p
+            → result ≡ has_write h past p gives_up }
     {
         self.kept.transactions.has_giving_up()
     }
 
     /// The transaction that the next RK or WK belongs to, at an ACE port.
     pub fn acknowledged(&self, chan: Channel) -> Option<Progress>
-        ensures { (h : Header) (past : Trace) (p : ℕ) → OnePortStands self.now h past p → is_ace h p ≡ true
+        ensures { (h : Header) (past : Trace) (p : ℕ) → OnePortStands self.now h past p
+            → is_ace h p ≡ true
             → result ≡ option_map (progress_of h past) (acknowledged past p chan) }
     {
-        self.kept.transactions.acknowledged(chan)
+        self.kept.transactions.next_acknowledged(chan).copied()
     }
 
     /// The write that the next W belongs to.
     pub fn next_write(&self) -> Option<Transaction>
-        ensures { (h : Header) (past : Trace) (p : ℕ) → OnePortStands self.now h past p → result ≡ next_write past p }
+        ensures { (h : Header) (past : Trace) (p : ℕ) → OnePortStands self.now h past p
+            → result ≡ next_write past p }
     {
         self.kept.bursts.next_write()
     }
 
     /// Which beat of its burst the next W is, from 0.
     pub fn next_write_beat(&self) -> u8
-        ensures { (h : Header) (past : Trace) (p : ℕ) → OnePortStands self.now h past p → result ≡ next_write_beat past p }
+        ensures { (h : Header) (past : Trace) (p : ℕ) → OnePortStands self.now h past p
+            → result ≡ next_write_beat past p }
     {
         self.kept.bursts.beat()
     }
 
     /// The snoop that the next CR answers.
     pub fn answered(&self) -> Option<Snoop>
-        ensures { (h : Header) (past : Trace) (p : ℕ) → OnePortStands self.now h past p → result ≡ answered past p }
+        ensures { (h : Header) (past : Trace) (p : ℕ) → OnePortStands self.now h past p
+            → result ≡ answered past p }
     {
-        self.kept.snoops.answered()
+        self.kept.snoops.unanswered().copied()
     }
 
     /// How many operations retired.
     pub fn retired(&self) -> u32
-        ensures { (h : Header) (past : Trace) (p : ℕ) → OnePortStands self.now h past p → result ≡ retired past p }
+        ensures { (h : Header) (past : Trace) (p : ℕ) → OnePortStands self.now h past p
+            → result ≡ retired past p }
     {
         self.kept.retired.next()
     }

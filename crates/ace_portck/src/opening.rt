@@ -54,7 +54,8 @@ impl OpeningMemory {
     /// Hears an event that keeps the rules.
     #[inline(always)]
     pub fn hear(&mut self, event: &Event)
-        ensures { (h : Header) (past : Trace) → IsAccepted h (event.now ∷ past) → OpeningStands past self.old
+        ensures { (h : Header) (past : Trace) → IsAccepted h (event.now ∷ past)
+            → OpeningStands past self.old
             → OpeningStands (event.now ∷ past) self.new }
     {
         *self = match *event {

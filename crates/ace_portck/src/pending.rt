@@ -19,12 +19,14 @@ use std::collections::VecDeque;
 /// How many identifiers there are.
 const IDS: usize = 256;
 
-/// The outstanding transactions of a port on one channel. It has room for one under each identifier.
+/// The outstanding transactions of a port on one channel. It has room for one under each
+/// identifier.
 #[derive(Drop)]
 pub struct Pending {
     /// The transactions, in the order of issue.
     list: Vec<Progress>,
-    /// At an ACE port, the identifiers of the complete ones, which wait for their RK or WK, in the order of completion.
+    /// At an ACE port, the identifiers of the complete ones, which wait for their RK or WK, in the
+    /// order of completion.
     waiting: VecDeque<u8>,
 }
 
@@ -181,11 +183,13 @@ fn is_store(event: &Event) -> bool
     matches!(*event, Event::D { .. })
 }
 
-/// Brings the transactions of a port on the channel up to date. An event names one of them at most: only a D asks each.
+/// Brings the transactions of a port on the channel up to date. An event names one of them at most:
+/// only a D asks each.
 #[inline(always)]
 #[tactic(auto, using(crate::proofs::Named::none_named, crate::proofs::Named::first_named))]
 fn renew(list: &mut [Progress], chan: Channel, event: &Event)
-    ensures { (p : ℕ) → port_of event.now ≡ Some p → AreApart p chan list.old → list.new ≡ map (renewed event.now) list.old }
+    ensures { (p : ℕ) → port_of event.now ≡ Some p → AreApart p chan list.old
+        → list.new ≡ map (renewed event.now) list.old }
 {
     if is_store(event) {
         store_all(list, event);
@@ -223,10 +227,12 @@ fn take_out(list: &mut Vec<Progress>, ended: Option<u8>)
     }
 }
 
-/// Puts a new transaction behind the others, if there is one. Where there is room, it takes no memory.
+/// Puts a new transaction behind the others, if there is one. Where there is room, it takes no
+/// memory.
 #[inline(always)]
 fn put_in(list: &mut Vec<Progress>, new: Option<Transaction>)
-    ensures items { length list.old.items < vec_capacity list.old → list.new.items ≡ more list.old.items (option_map begun new) }
+    ensures items { length list.old.items < vec_capacity list.old
+        → list.new.items ≡ more list.old.items (option_map begun new) }
     ensures none { new ≡ None → list.new.items ≡ list.old.items }
     ensures capacity { vec_capacity list.old ≤ vec_capacity list.new }
 {
@@ -235,7 +241,8 @@ fn put_in(list: &mut Vec<Progress>, new: Option<Transaction>)
     }
 }
 
-/// The identifier of the transaction on the channel that an event of the port completes: its last R, or its B.
+/// The identifier of the transaction on the channel that an event of the port completes: its last
+/// R, or its B.
 #[inline(always)]
 fn completed_by(event: &Event, chan: Channel) -> Option<u8>
     ensures { result ≡ completed_by event.now chan }
@@ -283,7 +290,8 @@ impl Pending {
 
     /// The outstanding transactions of a port without events: none.
     pub fn new(alloc: Global) -> Result<Pending, NoMemory>
-        ensures { IfOk result (λ s. (h : Header) → (p : ℕ) → (c : Channel) → PendingStands h [] p c s) }
+        ensures { IfOk result (λ s. (h : Header) → (p : ℕ) → (c : Channel)
+            → PendingStands h [] p c s) }
     {
         let list = Vec::with_capacity(alloc, IDS).map_err(|_| NoMemory)?;
         let waiting = VecDeque::with_capacity(alloc, IDS).map_err(|_| NoMemory)?;
@@ -297,45 +305,44 @@ impl Pending {
         self.list.as_slice()
     }
 
-    /// The outstanding transaction under the identifier.
-    pub fn named(&self, id: u8) -> Option<Progress>
-        ensures { (h : Header) (past : Trace) (p : ℕ) (c : Channel) → PendingStands h past p c self.now
-            → result ≡ option_map (progress_of h past) (outstanding h past p c id) }
-    {
-        find_id(&self.list, id).copied()
-    }
-
-    /// The same, where it stands.
+    /// The outstanding transaction under the identifier, where it stands.
     #[inline(always)]
     pub fn outstanding(&self, id: u8) -> Option<&Progress>
-        ensures { (h : Header) (past : Trace) (p : ℕ) (c : Channel) → PendingStands h past p c self.now
+        ensures { (h : Header) (past : Trace) (p : ℕ) (c : Channel)
+            → PendingStands h past p c self.now
             → option_copied result ≡ option_map (progress_of h past) (outstanding h past p c id) }
     {
         find_id(&self.list, id)
     }
 
-    /// The identifier of the complete transaction that the port's next RK or WK belongs to, at an ACE port.
+    /// The identifier of the complete transaction that the port's next RK or WK belongs to, at an
+    /// ACE port.
     #[inline(always)]
     pub fn next_complete(&self) -> Option<u8>
         ensures items { result ≡ slice_get self.now.waiting.items 0 }
-        ensures next { (h : Header) (past : Trace) (p : ℕ) (c : Channel) → PendingStands h past p c self.now → is_ace h p ≡ true
+        ensures next { (h : Header) (past : Trace) (p : ℕ) (c : Channel)
+            → PendingStands h past p c self.now → is_ace h p ≡ true
             → result ≡ next_complete past p c }
     {
         self.waiting.front().copied()
     }
 
-    /// What is complete after an event of the port waits for its acknowledge at an ACE port, and ends at an ACE-Lite port; an RK or WK
-    /// ends the one that waits first. Only these events ask which kind of port it is.
+    /// What is complete after an event of the port waits for its acknowledge at an ACE port, and
+    /// ends at an ACE-Lite port; an RK or WK ends the one that waits first. Only these events ask
+    /// which kind of port it is.
     #[inline(always)]
     #[tactic(auto, using(crate::proofs::Ending::all_stay))]
     fn settle(&mut self, header: &Header, port: u8, chan: Channel, event: &Event)
         ensures list { self.new.list.items
-            ≡ without_id (ending_of self.old.waiting.items (is_ace header.now port) chan event.now) self.old.list.items }
+            ≡ without_id (ending_of self.old.waiting.items (is_ace header.now port) chan event.now)
+            self.old.list.items }
         ensures room { vec_capacity self.new.list ≡ vec_capacity self.old.list }
         ensures waiting { length self.old.waiting.items < deque_capacity self.old.waiting
-            → self.new.waiting.items ≡ waiting_after self.old.waiting.items (is_ace header.now port) chan event.now }
+            → self.new.waiting.items
+            ≡ waiting_after self.old.waiting.items (is_ace header.now port) chan event.now }
         ensures idle { completed_by event.now chan ≡ None
-            → self.new.waiting.items ≡ waiting_after self.old.waiting.items (is_ace header.now port) chan event.now }
+            → self.new.waiting.items
+            ≡ waiting_after self.old.waiting.items (is_ace header.now port) chan event.now }
         ensures capacity { deque_capacity self.old.waiting ≤ deque_capacity self.new.waiting }
     {
         if is_acknowledge(event, chan) {
@@ -350,11 +357,14 @@ impl Pending {
         }
     }
 
-    /// Hears an event of the port that keeps the rules, with `place` events before it. It takes no memory.
+    /// Hears an event of the port that keeps the rules, with `place` events before it. It takes no
+    /// memory.
     #[inline(always)]
     pub fn hear(&mut self, header: &Header, port: u8, chan: Channel, place: usize, event: &Event)
-        ensures { (past : Trace) → IsHeard header.now past place event.now port → AllByRecursion HasByteId (event.now ∷ past)
-            → PendingStands header.now past port chan self.old → PendingStands header.now (event.now ∷ past) port chan self.new }
+        ensures { (past : Trace) → IsHeard header.now past place event.now port
+            → AllByRecursion HasByteId (event.now ∷ past)
+            → PendingStands header.now past port chan self.old
+            → PendingStands header.now (event.now ∷ past) port chan self.new }
     {
         renew_all(&mut self.list, chan, event);
         self.settle(header, port, chan, event);

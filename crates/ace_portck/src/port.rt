@@ -88,13 +88,16 @@ impl PortRecord {
         }
     }
 
-    /// Hears an event of the port that keeps the rules, with `place` events before it. It takes no memory.
+    /// Hears an event of the port that keeps the rules, with `place` events before it. It takes no
+    /// memory.
     #[inline(always)]
     pub fn hear(&mut self, header: &Header, port: u8, place: usize, event: &Event)
-        ensures stands { (past : Trace) → IsHeard header.now past place event.now port → AllByRecursion HasByteId (event.now ∷ past)
+        ensures stands { (past : Trace) → IsHeard header.now past place event.now port
+            → AllByRecursion HasByteId (event.now ∷ past)
             → PortStands header.now past port self.old → HasRoom self.old event.now
             → PortStands header.now (event.now ∷ past) port self.new }
-        ensures room { (snoops : ℕ) → IsRoomy snoops self.old.snoops → IsRoomy snoops self.new.snoops }
+        ensures room { (snoops : ℕ) → IsRoomy snoops self.old.snoops
+            → IsRoomy snoops self.new.snoops }
     {
         self.transactions.hear(header, port, place, event);
         self.snoops.hear(event, place);

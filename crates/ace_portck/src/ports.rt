@@ -21,7 +21,8 @@ use ace_io::NoMemory;
 use ace_model::port_of;
 use std::alloc::Global;
 
-/// What is kept of the ports of a trace, to tell what an event belongs to, and which rules about one port it breaks.
+/// What is kept of the ports of a trace, to tell what an event belongs to, and which rules about
+/// one port it breaks.
 #[derive(Drop)]
 pub struct PortCheck {
     pub(crate) header: Header,
@@ -70,11 +71,7 @@ pub fn has_byte_id(event: &Event)
 
 /// The record of the port.
 #[inline(always)]
-pub(crate) fn record_of<'a>(
-    ports: &'a [PortRecord],
-    outside: &'a PortRecord,
-    port: u8,
-) -> &'a PortRecord
+fn record_of<'a>(ports: &'a [PortRecord], outside: &'a PortRecord, port: u8) -> &'a PortRecord
     ensures { result.now ≡ record_at ports.now outside.now port }
 {
     match ports.get(usize::from(port)) {
@@ -109,11 +106,14 @@ fn make_room(ports: &mut Vec<PortRecord>, port: u8) -> Result<(), NoMemory>
 #[inline(always)]
 fn hear_at(ports: &mut Vec<PortRecord>, header: &Header, port: u8, place: usize, event: &Event)
     ensures len { length ports.new.items ≡ length ports.old.items }
-    ensures room { (snoops : ℕ) → AreRoomy snoops ports.old.items → AreRoomy snoops ports.new.items }
-    ensures stands { (past : Trace) (outside : PortRecord) → IsHeard header.now past place event.now port
+    ensures room { (snoops : ℕ) → AreRoomy snoops ports.old.items
+        → AreRoomy snoops ports.new.items }
+    ensures stands { (past : Trace) (outside : PortRecord)
+        → IsHeard header.now past place event.now port
         → AllByRecursion HasByteId (event.now ∷ past) → port < length ports.old.items
         → ((k : PortRecord) → slice_get ports.old.items port ≡ Some k → HasRoom k event.now)
-        → PortsStand header.now past ports.old.items outside → PortsStand header.now (event.now ∷ past) ports.new.items outside }
+        → PortsStand header.now past ports.old.items outside
+        → PortsStand header.now (event.now ∷ past) ports.new.items outside }
 {
     if let Some(kept) = ports.get_mut(usize::from(port)) {
         kept.hear(header, port, place, event);
@@ -127,6 +127,7 @@ impl PortCheck {
     ghost use Rattle.ace_portck.specs.Stands.{Stands, HasRoom as HasRoomFor, IsRoomy, MayApply};
     ghost use Rattle.ace_portck.specs.Targets.{Recording, after, progress_of};
     ghost use Rattle.ace_portck.specs.Pending.{pending_of};
+    ghost use Rattle.ace_portck.specs.Port.{PortStands};
     ghost use Rattle.ace_event.specs.declared.event.Channel.TheVariants.{Read, Write};
 
     /// The checker of the empty trace under this header.
@@ -135,7 +136,8 @@ impl PortCheck {
     ///
     /// `NoMemory` where there is none for the ports.
     pub fn new(alloc: Global, header: Header) -> Result<PortCheck, NoMemory>
-        ensures { IfOk result (λ s. IsHeader header → Stands s (record { header = header; past = [] })) }
+        ensures { IfOk result (λ s. IsHeader header
+            → Stands s (record { header = header; past = [] })) }
     {
         PortCheck::with_room(alloc, header, 0)
     }
@@ -147,7 +149,8 @@ impl PortCheck {
     ///
     /// `NoMemory` where there is none for the ports and their snoops.
     pub fn with_room(alloc: Global, header: Header, snoops: usize) -> Result<PortCheck, NoMemory>
-        ensures stands { IfOk result (λ s. IsHeader header → Stands s (record { header = header; past = [] })) }
+        ensures stands { IfOk result (λ s. IsHeader header
+            → Stands s (record { header = header; past = [] })) }
         ensures room { IfOk result (IsRoomy snoops) }
     {
         let ports = fresh_ports(alloc, header.ports, snoops)?;
@@ -161,15 +164,24 @@ impl PortCheck {
         })
     }
 
-    /// The outstanding transaction of the port on the channel under the identifier, where it stands.
+    /// What is kept of the port.
+    #[inline(always)]
+    pub(crate) fn kept(&self, port: u8) -> &PortRecord
+        ensures { (r : Recording) → Stands self.now r
+            → PortStands r.header r.past port result.now }
+    {
+        record_of(&self.ports, &self.outside, port)
+    }
+
+    /// The outstanding transaction of the port on the channel under the identifier, where it
+    /// stands.
     #[inline(always)]
     pub fn outstanding(&self, port: u8, chan: Channel, id: u8) -> Option<&Progress>
         ensures { (r : Recording) → Stands self.now r
-            → option_copied result ≡ option_map (progress_of r.header r.past) (outstanding r.header r.past port chan id) }
+            → option_copied result
+            ≡ option_map (progress_of r.header r.past) (outstanding r.header r.past port chan id) }
     {
-        record_of(&self.ports, &self.outside, port)
-            .transactions
-            .outstanding(chan, id)
+        self.kept(port).transactions.outstanding(chan, id)
     }
 
     /// How many events came: the place of a transaction that the next one issues.
@@ -182,20 +194,20 @@ impl PortCheck {
 
     /// The outstanding reads of the port, in the order of issue, and how far each has come.
     pub fn reads(&self, port: u8) -> &[Progress]
-        ensures { (r : Recording) → Stands self.now r → result.now ≡ map (progress_of r.header r.past) (pending_of r.header r.past port Read) }
+        ensures { (r : Recording) → Stands self.now r
+            → result.now
+            ≡ map (progress_of r.header r.past) (pending_of r.header r.past port Read) }
     {
-        record_of(&self.ports, &self.outside, port)
-            .transactions
-            .reads()
+        self.kept(port).transactions.reads()
     }
 
     /// The outstanding writes of the port, in the order of issue, and how far each has come.
     pub fn writes(&self, port: u8) -> &[Progress]
-        ensures { (r : Recording) → Stands self.now r → result.now ≡ map (progress_of r.header r.past) (pending_of r.header r.past port Write) }
+        ensures { (r : Recording) → Stands self.now r
+            → result.now
+            ≡ map (progress_of r.header r.past) (pending_of r.header r.past port Write) }
     {
-        record_of(&self.ports, &self.outside, port)
-            .transactions
-            .writes()
+        self.kept(port).transactions.writes()
     }
 
     /// Makes room for the snoop of an AC of the port, so that `hear` takes no memory. Nothing is
@@ -221,7 +233,8 @@ impl PortCheck {
     /// Hears the next event of the trace, which keeps the rules.
     #[inline(always)]
     pub fn hear(&mut self, event: &Event)
-        ensures stands { (r : Recording) → MayApply self.old r event.now → Stands self.new (after r event.now) }
+        ensures stands { (r : Recording) → MayApply self.old r event.now
+            → Stands self.new (after r event.now) }
         ensures room { (snoops : ℕ) → IsRoomy snoops self.old → IsRoomy snoops self.new }
     {
         has_byte_id(event);

@@ -1,11 +1,12 @@
-//! The least rule of those that look at one port that an R or B breaks, by the transaction that it belongs to.
+//! The least rule of those that look at one port that an R or B breaks, by the transaction that it
+//! belongs to.
 
 ghost use Rattle.std.specs.Prelude.{◌≡◌, ◌==◌, ◌&&◌, not};
 ghost use Rattle.ace_portck.specs.Reads.{is_next_beat};
 ghost use Rattle.ace_portck.specs.LineWrites.{line_write};
 
 use crate::PortCheck;
-use crate::rules::has_port;
+use crate::rules::{has_port, unless};
 use crate::target::Progress;
 use ace_codes::{ArKind, AwKind, low_bits};
 use ace_model::Transaction;
@@ -50,8 +51,9 @@ impl PortCheck {
     ghost use Rattle.ace_portck.specs.Stands.{Stands};
     ghost use Rattle.ace_portck.specs.Targets.{Recording, progress_of};
 
-    /// The least rule of the share that an R of the outstanding read breaks: K1, K2 or, of K18, that transfers are left and that it is
-    /// the last exactly where it says so (Arm IHI 0022E, C3.2). `kind` is that of the read.
+    /// The least rule of the share that an R of the outstanding read breaks: K1, K2 or, of K18,
+    /// that transfers are left and that it is the last exactly where it says so (Arm IHI 0022E,
+    /// C3.2). `kind` is that of the read.
     #[inline(always)]
     pub fn rule_of_r(
         &self,
@@ -62,7 +64,8 @@ impl PortCheck {
         last: bool,
     ) -> Option<u8>
         ensures { (r : Recording) (id word : ℕ) → Stands self.now r
-            → option_map (progress_of r.header r.past) (outstanding r.header r.past port Read id) ≡ Some x.now
+            → option_map (progress_of r.header r.past) (outstanding r.header r.past port Read id)
+            ≡ Some x.now
             → read_kind x.now.transaction ≡ Some kind
             → result ≡ least_of port_rules r.header r.past (R port id resp last word) }
     {
@@ -72,11 +75,7 @@ impl PortCheck {
         if low_bits(resp) >= 2 {
             return Some(2);
         }
-        if is_next_beat(x.transfers, last, kind) {
-            None
-        } else {
-            Some(18)
-        }
+        unless(is_next_beat(x.transfers, last, kind), Some(18))
     }
 
     /// The same, of an R under an identifier with no outstanding read, which breaks K18.
@@ -91,12 +90,13 @@ impl PortCheck {
         if low_bits(resp) >= 2 { 2 } else { 18 }
     }
 
-    /// The least rule of the share that a B of the outstanding write breaks: K1, K2 or, of K26, that the write has had no B and that
-    /// the response is 0 (Arm IHI 0022E, C3.5 and C3.6.1).
+    /// The least rule of the share that a B of the outstanding write breaks: K1, K2 or, of K26,
+    /// that the write has had no B and that the response is 0 (Arm IHI 0022E, C3.5 and C3.6.1).
     #[inline(always)]
     pub fn rule_of_b(&self, port: u8, x: &Progress, resp: u8) -> Option<u8>
         ensures { (r : Recording) (id : ℕ) → Stands self.now r
-            → option_map (progress_of r.header r.past) (outstanding r.header r.past port Write id) ≡ Some x.now
+            → option_map (progress_of r.header r.past) (outstanding r.header r.past port Write id)
+            ≡ Some x.now
             → result ≡ least_of port_rules r.header r.past (B port id resp) }
     {
         if !has_port(&self.header, port) {

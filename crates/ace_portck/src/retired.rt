@@ -12,7 +12,8 @@ use ace_event::Event;
 /// How many operations of one port retired.
 #[derive(Clone, Copy, Debug, PartialEq, Eq)]
 pub struct RetiredCount {
-    /// The number of the port's next OP. It can be one more than the greatest number that an OP can have.
+    /// The number of the port's next OP. It can be one more than the greatest number that an OP can
+    /// have.
     next: u32,
 }
 
@@ -34,7 +35,8 @@ impl RetiredCount {
     /// Hears an event of the port that keeps the rules.
     #[inline(always)]
     pub fn hear(&mut self, event: &Event)
-        ensures { (h : Header) (past : Trace) (place p : ℕ) → IsHeard h past place event.now p → RetiredStand past p self.old
+        ensures { (h : Header) (past : Trace) (place p : ℕ) → IsHeard h past place event.now p
+            → RetiredStand past p self.old
             → RetiredStand (event.now ∷ past) p self.new }
     {
         if let Event::Op { k, .. } = *event {

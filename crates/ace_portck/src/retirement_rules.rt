@@ -1,8 +1,7 @@
 //! The least rule of those that look at one port that an OP breaks.
 
 use crate::PortCheck;
-use crate::ports::record_of;
-use crate::rules::has_port;
+use crate::rules::{has_port, unless};
 
 impl PortCheck {
     ghost use Rattle.std.specs.Prelude.{◌≡◌};
@@ -13,7 +12,8 @@ impl PortCheck {
     ghost use Rattle.ace_portck.specs.Stands.{Stands};
     ghost use Rattle.ace_portck.specs.Targets.{Recording};
 
-    /// The least rule of the share that an OP breaks: K1, or K40, that its number is that of the port's earlier OP events.
+    /// The least rule of the share that an OP breaks: K1, or K40, that its number is that of the
+    /// port's earlier OP events.
     #[inline(always)]
     pub fn rule_of_op(&self, port: u8, k: u16) -> Option<u8>
         ensures { (r : Recording) (res : Outcome) → Stands self.now r
@@ -22,11 +22,7 @@ impl PortCheck {
         if !has_port(&self.header, port) {
             return Some(1);
         }
-        let kept = record_of(&self.ports, &self.outside, port);
-        if u32::from(k) == kept.retired.next() {
-            None
-        } else {
-            Some(40)
-        }
+        let kept = self.kept(port);
+        unless(u32::from(k) == kept.retired.next(), Some(40))
     }
 }

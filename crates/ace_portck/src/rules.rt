@@ -1,6 +1,6 @@
 //! What the rules ask of the header and of an event alone.
 
-ghost use Rattle.std.specs.Prelude.{◌≡◌, ◌==◌, ◌%◌, ◌&&◌, nat_lt};
+ghost use Rattle.std.specs.Prelude.{◌≡◌, ◌==◌, ◌%◌, ◌&&◌, nat_lt, if◌then◌else◌, None};
 ghost use Rattle.ace_model.specs.Trace.{is_some_and, port_of};
 ghost use Rattle.ace_model.specs.Transactions.{is_ace};
 
@@ -40,4 +40,12 @@ pub fn is_line_address(addr: u32) -> bool
     ensures { result ≡ (addr % 64 == 0) }
 {
     addr % 64 == 0
+}
+
+/// The rule, unless what it asks is so.
+#[inline(always)]
+pub fn unless(fits: bool, rule: Option<u8>) -> Option<u8>
+    ensures { result ≡ (if fits then None else rule) }
+{
+    if fits { None } else { rule }
 }

@@ -1,4 +1,5 @@
-//! The least rule of those that look at one port that an AC, CR or CD breaks, and what else such an event asks of its port.
+//! The least rule of those that look at one port that an AC, CR or CD breaks, and what else such an
+//! event asks of its port.
 
 ghost use Rattle.std.specs.Prelude.{◌≡◌, ◌&&◌, Some};
 ghost use Rattle.std.specs.List.{list_any};
@@ -8,8 +9,7 @@ ghost use Rattle.ace_model.specs.Transactions.{is_on};
 ghost use Rattle.ace_portck.specs.Targets.{line_of_snoop};
 
 use crate::PortCheck;
-use crate::ports::record_of;
-use crate::rules::{has_ace_port, is_line_address};
+use crate::rules::{has_ace_port, is_line_address, unless};
 use crate::target::Progress;
 use ace_codes::{SnoopKind, has_error};
 use ace_model::Snoop;
@@ -39,7 +39,8 @@ fn has_complete_on(list: &[Progress], line: u32) -> bool
 /// One of the list is a memory update of the line.
 #[inline(always)]
 fn has_update_on(list: &[Progress], line: u32) -> bool
-    ensures { result ≡ list_any (λ x. is_on x.transaction line && updates_memory x.transaction) list.now }
+    ensures { result
+        ≡ list_any (λ x. is_on x.transaction line && updates_memory x.transaction) list.now }
 {
     list.iter().any(|x| is_on(&x.transaction, line) && updates_memory(&x.transaction))
 }
@@ -58,7 +59,8 @@ impl PortCheck {
     ghost use Rattle.ace_portck.specs.Stands.{Stands};
     ghost use Rattle.ace_portck.specs.Targets.{Recording, sending};
 
-    /// The least rule of the share that an AC breaks: K1 to K3. `kind` is the one that its code tells, if it tells one.
+    /// The least rule of the share that an AC breaks: K1 to K3. `kind` is the one that its code
+    /// tells, if it tells one.
     #[inline(always)]
     pub fn rule_of_ac(&self, port: u8, addr: u32, kind: Option<SnoopKind>) -> Option<u8>
         ensures { (r : Recording) (snoop : ℕ) → Stands self.now r → kind ≡ ac_kind_of snoop
@@ -76,7 +78,8 @@ impl PortCheck {
         None
     }
 
-    /// The least rule of the share that a CR breaks: K1, K2 or K14, that it answers a snoop of the port (Arm IHI 0022E, C3.7).
+    /// The least rule of the share that a CR breaks: K1, K2 or K14, that it answers a snoop of the
+    /// port (Arm IHI 0022E, C3.7).
     #[inline(always)]
     pub fn rule_of_cr(&self, port: u8, resp: u8) -> Option<u8>
         ensures { (r : Recording) (st : LineState) → Stands self.now r
@@ -88,16 +91,12 @@ impl PortCheck {
         if has_error(resp) {
             return Some(2);
         }
-        let kept = record_of(&self.ports, &self.outside, port);
-        if kept.snoops.answered().is_some() {
-            None
-        } else {
-            Some(14)
-        }
+        let kept = self.kept(port);
+        unless(kept.snoops.unanswered().is_some(), Some(14))
     }
 
-    /// The least rule of the share that a CD breaks: K1 or, of K17, that an answer with data waits for it, and that it is the last beat
-    /// exactly where it says so (Arm IHI 0022E, C3.8).
+    /// The least rule of the share that a CD breaks: K1 or, of K17, that an answer with data waits
+    /// for it, and that it is the last beat exactly where it says so (Arm IHI 0022E, C3.8).
     #[inline(always)]
     pub fn rule_of_cd(&self, port: u8, last: bool) -> Option<u8>
         ensures { (r : Recording) (word : ℕ) → Stands self.now r
@@ -106,22 +105,17 @@ impl PortCheck {
         if !has_ace_port(&self.header, port) {
             return Some(1);
         }
-        let kept = record_of(&self.ports, &self.outside, port);
-        if kept.snoops.may_send(last) {
-            None
-        } else {
-            Some(17)
-        }
+        let kept = self.kept(port);
+        unless(kept.snoops.may_send(last), Some(17))
     }
 
     /// The snoop that the port's next CR answers, where it stands.
     #[inline(always)]
     pub fn answered(&self, port: u8) -> Option<&Snoop>
-        ensures { (r : Recording) → Stands self.now r → option_copied result ≡ answered r.past port }
+        ensures { (r : Recording) → Stands self.now r
+            → option_copied result ≡ answered r.past port }
     {
-        record_of(&self.ports, &self.outside, port)
-            .snoops
-            .unanswered()
+        self.kept(port).snoops.unanswered()
     }
 
     /// The snoop that the port's next CD sends data for.
@@ -129,7 +123,7 @@ impl PortCheck {
     pub fn sending(&self, port: u8) -> Option<Snoop>
         ensures { (r : Recording) → Stands self.now r → result ≡ sending r.past port }
     {
-        record_of(&self.ports, &self.outside, port).snoops.sending()
+        self.kept(port).snoops.sending()
     }
 
     /// Which beat of its burst the port's next CD is, from 0.
@@ -137,21 +131,24 @@ impl PortCheck {
     pub fn next_sent_beat(&self, port: u8) -> u8
         ensures { (r : Recording) → Stands self.now r → result ≡ next_sent_beat r.past port }
     {
-        record_of(&self.ports, &self.outside, port).snoops.beat()
+        self.kept(port).snoops.beat()
     }
 
     /// A memory update of the port on the line is outstanding.
     #[inline(always)]
     pub fn has_update(&self, port: u8, line: u32) -> bool
-        ensures { (r : Recording) → Stands self.now r → result ≡ has_update r.header r.past port line }
+        ensures { (r : Recording) → Stands self.now r
+            → result ≡ has_update r.header r.past port line }
     {
         has_update_on(self.writes(port), line)
     }
 
-    /// The port has a write of the line with B and without WK: it may not be snooped (Arm IHI 0022E, C6).
+    /// The port has a write of the line with B and without WK: it may not be snooped (Arm IHI
+    /// 0022E, C6).
     #[inline(always)]
     pub fn owes_wack(&self, port: u8, line: u32) -> bool
-        ensures { (r : Recording) → Stands self.now r → result ≡ owes_wack r.header r.past port line }
+        ensures { (r : Recording) → Stands self.now r
+            → result ≡ owes_wack r.header r.past port line }
     {
         has_complete_on(self.writes(port), line)
     }

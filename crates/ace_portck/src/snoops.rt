@@ -10,8 +10,8 @@ use ace_model::Snoop;
 use std::alloc::{AllocError, Global};
 use std::collections::VecDeque;
 
-/// The snoops of one port that are under way, the oldest first: those without an answer, and those answered with data whose
-/// burst isn't whole.
+/// The snoops of one port that are under way, the oldest first: those without an answer, and those
+/// answered with data whose burst isn't whole.
 #[derive(Drop)]
 pub struct SnoopQueues {
     waiting: VecDeque<Snoop>,
@@ -20,14 +20,7 @@ pub struct SnoopQueues {
     beats: u8,
 }
 
-/// The oldest of the queue.
-fn first(queue: &VecDeque<Snoop>) -> Option<Snoop>
-    ensures { result ≡ slice_get queue.now.items 0 }
-{
-    queue.front().copied()
-}
-
-/// The same, where it stands.
+/// The oldest of the queue, where it stands.
 #[inline(always)]
 fn oldest(queue: &VecDeque<Snoop>) -> Option<&Snoop>
     ensures { option_copied result ≡ slice_get queue.now.items 0 }
@@ -72,17 +65,11 @@ impl SnoopQueues {
         })
     }
 
-    /// The snoop that the port's next CR answers.
-    pub fn answered(&self) -> Option<Snoop>
-        ensures { (past : Trace) (p : ℕ) → SnoopsStand past p self.now → result ≡ answered past p }
-    {
-        first(&self.waiting)
-    }
-
-    /// The same, where it stands.
+    /// The snoop that the port's next CR answers, where it stands.
     #[inline(always)]
     pub fn unanswered(&self) -> Option<&Snoop>
-        ensures { (past : Trace) (p : ℕ) → SnoopsStand past p self.now → option_copied result ≡ answered past p }
+        ensures { (past : Trace) (p : ℕ) → SnoopsStand past p self.now
+            → option_copied result ≡ answered past p }
     {
         oldest(&self.waiting)
     }
@@ -91,12 +78,13 @@ impl SnoopQueues {
     pub fn sending(&self) -> Option<Snoop>
         ensures { (past : Trace) (p : ℕ) → SnoopsStand past p self.now → result ≡ sending past p }
     {
-        first(&self.sending)
+        oldest(&self.sending).copied()
     }
 
     /// Which beat of its burst the port's next CD is, from 0.
     pub fn beat(&self) -> u8
-        ensures { (past : Trace) (p : ℕ) → SnoopsStand past p self.now → result ≡ next_sent_beat past p }
+        ensures { (past : Trace) (p : ℕ) → SnoopsStand past p self.now
+            → result ≡ next_sent_beat past p }
     {
         self.beats
     }
@@ -138,10 +126,12 @@ impl SnoopQueues {
         self.grow()
     }
 
-    /// Hears an event of the port that keeps the rules, with `place` events before it. It takes no memory.
+    /// Hears an event of the port that keeps the rules, with `place` events before it. It takes no
+    /// memory.
     #[inline(always)]
     pub fn hear(&mut self, event: &Event, place: usize)
-        ensures stands { (h : Header) (past : Trace) (p : ℕ) → IsHeard h past place event.now p → SnoopsStand past p self.old
+        ensures stands { (h : Header) (past : Trace) (p : ℕ) → IsHeard h past place event.now p
+            → SnoopsStand past p self.old
             → HasRoom self.old event.now → SnoopsStand (event.now ∷ past) p self.new }
         ensures room { (snoops : ℕ) → IsRoomy snoops self.old → IsRoomy snoops self.new }
     {
@@ -172,7 +162,8 @@ impl SnoopQueues {
     /// The oldest unanswered snoop has its answer; where that announces data, they are awaited.
     #[inline(always)]
     fn answer(&mut self, resp: u8)
-        ensures stands { (h : Header) (past : Trace) (p : ℕ) (st : LineState) → IsAccepted h (Cr p resp st ∷ past)
+        ensures stands { (h : Header) (past : Trace) (p : ℕ) (st : LineState)
+            → IsAccepted h (Cr p resp st ∷ past)
             → SnoopsStand past p self.old → SnoopsStand (Cr p resp st ∷ past) p self.new }
         ensures room { (snoops : ℕ) → IsRoomy snoops self.old → IsRoomy snoops self.new }
     {
@@ -186,7 +177,8 @@ impl SnoopQueues {
     /// One more beat of the oldest data that are awaited; the fourth makes them whole.
     #[inline(always)]
     fn send(&mut self)
-        ensures stands { (h : Header) (past : Trace) (p : ℕ) (last : Bool) (word : ℕ) → IsAccepted h (Cd p last word ∷ past)
+        ensures stands { (h : Header) (past : Trace) (p : ℕ) (last : Bool) (word : ℕ)
+            → IsAccepted h (Cd p last word ∷ past)
             → SnoopsStand past p self.old → SnoopsStand (Cd p last word ∷ past) p self.new }
         ensures room { (snoops : ℕ) → IsRoomy snoops self.old → IsRoomy snoops self.new }
     {

@@ -10,8 +10,8 @@ ghost use Rattle.ace_model.specs.Transactions.{is_on, write_kind};
 ghost use Rattle.std.specs.List.{AllByRecursion};
 ghost use Rattle.ace_model.specs.Trace.{Trace, is_some_and};
 ghost use Rattle.ace_portck.specs.Heard.{IsHeard};
-ghost use Rattle.ace_portck.specs.Pending.{HasByteId, PendingStands};
-ghost use Rattle.ace_portck.specs.Transactions.{is_ordered_by, has_order_point, is_unordered, is_incomplete, moved_channel};
+ghost use Rattle.ace_portck.specs.Pending.{HasByteId, PendingStands, moved_channel};
+ghost use Rattle.ace_portck.specs.Transactions.{is_ordered_by, has_order_point, is_unordered, is_incomplete};
 
 use crate::pending::Pending;
 use crate::target::Progress;
@@ -39,7 +39,8 @@ fn find_on(list: &[Progress], line: u32) -> Option<&Progress>
 
 /// The list has a WriteUnique or WriteLineUnique.
 fn has_unique_write(list: &[Progress]) -> bool
-    ensures { result ≡ list_any (λ x. is_some_and (write_kind x.transaction) is_unique_write) list.now }
+    ensures { result
+        ≡ list_any (λ x. is_some_and (write_kind x.transaction) is_unique_write) list.now }
 {
     list.iter().any(|x| write_kind(&x.transaction).is_some_and(is_unique_write))
 }
@@ -59,7 +60,8 @@ fn is_ordered_by(x: &Progress) -> bool
     is_line(&x.transaction) && x.transaction.bar == 0
 }
 
-/// It has had its order point: its M if it is a memory update, else its G; an Evict has none to wait for.
+/// It has had its order point: its M if it is a memory update, else its G; an Evict has none to
+/// wait for.
 fn has_order_point(x: &Progress) -> bool
     ensures { result ≡ has_order_point x.now }
 {
@@ -152,7 +154,8 @@ impl Transactions {
     /// Those of the channel.
     #[inline(always)]
     fn channel(&self, chan: Channel) -> &Pending
-        ensures { (h : Header) (past : Trace) (p : ℕ) → TransactionsStand h past p self.now → PendingStands h past p chan result.now }
+        ensures { (h : Header) (past : Trace) (p : ℕ) → TransactionsStand h past p self.now
+            → PendingStands h past p chan result.now }
     {
         match chan {
             Channel::Read => &self.reads,
@@ -160,27 +163,22 @@ impl Transactions {
         }
     }
 
-    /// The outstanding transaction under the identifier.
-    pub fn named(&self, chan: Channel, id: u8) -> Option<Progress>
-        ensures { (h : Header) (past : Trace) (p : ℕ) → TransactionsStand h past p self.now
-            → result ≡ option_map (progress_of h past) (outstanding h past p chan id) }
-    {
-        self.channel(chan).named(id)
-    }
-
-    /// The same, where it stands.
+    /// The outstanding transaction under the identifier, where it stands.
     #[inline(always)]
     pub fn outstanding(&self, chan: Channel, id: u8) -> Option<&Progress>
         ensures { (h : Header) (past : Trace) (p : ℕ) → TransactionsStand h past p self.now
-            → option_copied result ≡ option_map (progress_of h past) (outstanding h past p chan id) }
+            → option_copied result
+            ≡ option_map (progress_of h past) (outstanding h past p chan id) }
     {
         self.channel(chan).outstanding(id)
     }
 
-    /// The identifier of the complete transaction that the next RK or WK of the port belongs to, which is an ACE port.
+    /// The identifier of the complete transaction that the next RK or WK of the port belongs to,
+    /// which is an ACE port.
     #[inline(always)]
     pub fn next_complete(&self, chan: Channel) -> Option<u8>
-        ensures { (h : Header) (past : Trace) (p : ℕ) → TransactionsStand h past p self.now → is_ace h p ≡ true
+        ensures { (h : Header) (past : Trace) (p : ℕ) → TransactionsStand h past p self.now
+            → is_ace h p ≡ true
             → result ≡ next_complete past p chan }
     {
         self.channel(chan).next_complete()
@@ -202,18 +200,12 @@ impl Transactions {
         self.writes.list()
     }
 
-    /// The transaction that the next RK or WK of the port belongs to, which is an ACE port.
-    pub fn acknowledged(&self, chan: Channel) -> Option<Progress>
-        ensures { (h : Header) (past : Trace) (p : ℕ) → TransactionsStand h past p self.now → is_ace h p ≡ true
-            → result ≡ option_map (progress_of h past) (acknowledged past p chan) }
-    {
-        self.next_acknowledged(chan).copied()
-    }
-
-    /// The same, where it stands.
+    /// The transaction that the next RK or WK of the port belongs to, which is an ACE port, where
+    /// it stands.
     #[inline(always)]
     pub fn next_acknowledged(&self, chan: Channel) -> Option<&Progress>
-        ensures { (h : Header) (past : Trace) (p : ℕ) → TransactionsStand h past p self.now → is_ace h p ≡ true
+        ensures { (h : Header) (past : Trace) (p : ℕ) → TransactionsStand h past p self.now
+            → is_ace h p ≡ true
             → option_copied result ≡ option_map (progress_of h past) (acknowledged past p chan) }
     {
         match self.next_complete(chan) {
@@ -222,16 +214,7 @@ impl Transactions {
         }
     }
 
-    /// The outstanding transaction on the line.
-    #[inline(always)]
-    pub fn own(&self, line: u32) -> Option<Progress>
-        ensures { (h : Header) (past : Trace) (p : ℕ) → TransactionsStand h past p self.now
-            → result ≡ option_map (progress_of h past) (own_of h past p line) }
-    {
-        self.own_on(line).copied()
-    }
-
-    /// The same, where it stands.
+    /// The outstanding transaction on the line, where it stands.
     #[inline(always)]
     pub fn own_on(&self, line: u32) -> Option<&Progress>
         ensures { (h : Header) (past : Trace) (p : ℕ) → TransactionsStand h past p self.now
@@ -245,7 +228,8 @@ impl Transactions {
 
     /// The place of the oldest line transaction with bar 0 without its order point.
     pub fn first_unordered(&self) -> Option<usize>
-        ensures { (h : Header) (past : Trace) (p : ℕ) → TransactionsStand h past p self.now → result ≡ first_unordered past p }
+        ensures { (h : Header) (past : Trace) (p : ℕ) → TransactionsStand h past p self.now
+            → result ≡ first_unordered past p }
     {
         lesser(
             place_of(find_unordered(self.reads.list())),
@@ -255,7 +239,8 @@ impl Transactions {
 
     /// The place of the oldest line transaction with bar 0 that isn't complete.
     pub fn first_incomplete(&self) -> Option<usize>
-        ensures { (h : Header) (past : Trace) (p : ℕ) → TransactionsStand h past p self.now → result ≡ first_incomplete past p }
+        ensures { (h : Header) (past : Trace) (p : ℕ) → TransactionsStand h past p self.now
+            → result ≡ first_incomplete past p }
     {
         lesser(
             place_of(find_incomplete(self.reads.list())),
@@ -266,7 +251,8 @@ impl Transactions {
     /// K4, of a new transaction on the channel under the identifier: none is outstanding there.
     #[inline(always)]
     pub fn is_name_free(&self, chan: Channel, id: u8) -> bool
-        ensures { (h : Header) (past : Trace) (p : ℕ) → TransactionsStand h past p self.now → result ≡ is_none (outstanding h past p chan id) }
+        ensures { (h : Header) (past : Trace) (p : ℕ) → TransactionsStand h past p self.now
+            → result ≡ is_none (outstanding h past p chan id) }
     {
         self.outstanding(chan, id).is_none()
     }
@@ -274,21 +260,24 @@ impl Transactions {
     /// None on the line is outstanding.
     #[inline(always)]
     pub fn is_line_free(&self, line: u32) -> bool
-        ensures { (h : Header) (past : Trace) (p : ℕ) → TransactionsStand h past p self.now → result ≡ not (has_outstanding_on h past p line) }
+        ensures { (h : Header) (past : Trace) (p : ℕ) → TransactionsStand h past p self.now
+            → result ≡ not (has_outstanding_on h past p line) }
     {
-        self.own(line).is_none()
+        self.own_on(line).is_none()
     }
 
     /// A WriteUnique or WriteLineUnique is outstanding.
     pub fn has_unique_write(&self) -> bool
-        ensures { (h : Header) (past : Trace) (p : ℕ) → TransactionsStand h past p self.now → result ≡ has_write h past p is_unique_write }
+        ensures { (h : Header) (past : Trace) (p : ℕ) → TransactionsStand h past p self.now
+            → result ≡ has_write h past p is_unique_write }
     {
         has_unique_write(self.writes.list())
     }
 
     /// A memory update or an Evict is outstanding.
     pub fn has_giving_up(&self) -> bool
-        ensures { (h : Header) (past : Trace) (p : ℕ) → TransactionsStand h past p self.now → result ≡ has_write h past p gives_up }
+        ensures { (h : Header) (past : Trace) (p : ℕ) → TransactionsStand h past p self.now
+            → result ≡ has_write h past p gives_up }
     {
         has_giving_up(self.writes.list())
     }
@@ -297,17 +286,21 @@ impl Transactions {
     /// WriteLineUnique.
     #[inline(always)]
     pub fn keeps_kind_apart(&self, kind: AwKind) -> bool
-        ensures { (h : Header) (past : Trace) (p : ℕ) → TransactionsStand h past p self.now → result ≡ keeps_apart h past p kind }
+        ensures { (h : Header) (past : Trace) (p : ℕ) → TransactionsStand h past p self.now
+            → result ≡ keeps_apart h past p kind }
     {
         (!gives_up(kind) || !self.has_unique_write())
             && (!is_unique_write(kind) || !self.has_giving_up())
     }
 
-    /// Hears an event of the port that keeps the rules, with `place` events before it. It takes no memory.
+    /// Hears an event of the port that keeps the rules, with `place` events before it. It takes no
+    /// memory.
     #[inline(always)]
     pub fn hear(&mut self, header: &Header, port: u8, place: usize, event: &Event)
-        ensures { (past : Trace) → IsHeard header.now past place event.now port → AllByRecursion HasByteId (event.now ∷ past)
-            → TransactionsStand header.now past port self.old → TransactionsStand header.now (event.now ∷ past) port self.new }
+        ensures { (past : Trace) → IsHeard header.now past place event.now port
+            → AllByRecursion HasByteId (event.now ∷ past)
+            → TransactionsStand header.now past port self.old
+            → TransactionsStand header.now (event.now ∷ past) port self.new }
     {
         match moved_channel(event) {
             None => {}

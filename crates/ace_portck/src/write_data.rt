@@ -7,6 +7,7 @@ ghost use Rattle.ace_model.specs.Shares.{fits_burst, fits_strobe};
 ghost use Rattle.ace_model.specs.Writes.{Beat};
 ghost use Rattle.ace_portck.specs.WriteData.{IsPart, data_of_burst};
 
+use crate::pending::issued;
 use crate::target::WriteData;
 use ace_codes::AwKind;
 use ace_event::{Channel, Event, Line};
@@ -39,8 +40,8 @@ struct Burst {
     sent: WriteData,
 }
 
-/// The writes with data of one port that have had no M, and the beats of their bursts. It has room for a write under each
-/// identifier.
+/// The writes with data of one port that have had no M, and the beats of their bursts. It has room
+/// for a write under each identifier.
 #[derive(Drop)]
 pub struct WriteBursts {
     /// The writes whose bursts aren't whole, in the order of their AW.
@@ -65,7 +66,8 @@ fn fits_strobe(strobe: u16, kind: AwKind) -> bool
     !(is_update(kind) || is_write_line_unique(kind)) || strobe == FULL
 }
 
-/// The beat of this number is the last exactly where it says so, and has the strobe that the kind of the write asks for.
+/// The beat of this number is the last exactly where it says so, and has the strobe that the kind
+/// of the write asks for.
 fn fits_burst(beat: u8, strobe: u16, last: bool, write: &Transaction) -> bool
     ensures { result ≡ fits_burst beat strobe last write.now }
 {
@@ -122,7 +124,8 @@ impl Part {
 
     /// The four beats as one.
     fn data(&self) -> WriteData
-        ensures { (bs : List Beat) → length bs ≡ 4 → IsPart bs self.now → result ≡ data_of_burst bs }
+        ensures { (bs : List Beat) → length bs ≡ 4 → IsPart bs self.now
+            → result ≡ data_of_burst bs }
     {
         let upper = u64::from(self.strobes[2]) + 0x1_0000 * u64::from(self.strobes[3]);
         let lower = u64::from(self.strobes[0]) + 0x1_0000 * u64::from(self.strobes[1]);
@@ -166,20 +169,22 @@ impl WriteBursts {
 
     /// The write that the port's next W belongs to.
     pub fn next_write(&self) -> Option<Transaction>
-        ensures { (h : Header) (past : Trace) (p : ℕ) → WritesStand h past p self.now → result ≡ next_write past p }
+        ensures { (h : Header) (past : Trace) (p : ℕ) → WritesStand h past p self.now
+            → result ≡ next_write past p }
     {
         self.filling.front().copied()
     }
 
     /// Which beat of its burst the port's next W is, from 0.
     pub fn beat(&self) -> u8
-        ensures { (h : Header) (past : Trace) (p : ℕ) → WritesStand h past p self.now → result ≡ next_write_beat past p }
+        ensures { (h : Header) (past : Trace) (p : ℕ) → WritesStand h past p self.now
+            → result ≡ next_write_beat past p }
     {
         self.part.beats
     }
 
-    /// Of an M of the transaction under the identifier: the burst of a write with data, where it is whole and the write has had no
-    /// M.
+    /// Of an M of the transaction under the identifier: the burst of a write with data, where it is
+    /// whole and the write has had no M.
     #[inline(always)]
     pub fn burst(&self, chan: Channel, id: u8) -> Option<&WriteData>
         ensures { (h : Header) (past : Trace) (p : ℕ) (line : Line) → WritesStand h past p self.now
@@ -205,31 +210,20 @@ impl WriteBursts {
         }
     }
 
-    /// Hears an event of the port that keeps the rules, with `place` events before it. It takes no memory.
+    /// Hears an event of the port that keeps the rules, with `place` events before it. It takes no
+    /// memory.
     #[inline(always)]
     pub fn hear(&mut self, event: &Event, place: usize)
-        ensures { (h : Header) (past : Trace) (p : ℕ) → IsHeard h past place event.now p → WritesStand h past p self.old
+        ensures { (h : Header) (past : Trace) (p : ℕ) → IsHeard h past place event.now p
+            → WritesStand h past p self.old
             → WritesStand h (event.now ∷ past) p self.new }
     {
         match *event {
-            Event::Aw {
-                port,
-                id,
-                addr,
-                snoop,
-                dom,
-                bar,
-            } => self.begin(Transaction {
-                place,
-                port,
-                chan: Channel::Write,
-                id,
-                addr,
-                snoop,
-                dom,
-                bar,
-                lock: false,
-            }),
+            Event::Aw { .. } => {
+                if let Some(write) = issued(place, event) {
+                    self.begin(write);
+                }
+            }
             Event::W { strb, word, .. } => self.add(strb, word),
             Event::M { chan, id, .. } => self.remove(chan, id),
             _ => {}
@@ -239,8 +233,10 @@ impl WriteBursts {
     /// A write is issued: where it has data, its beats are awaited.
     #[inline(always)]
     fn begin(&mut self, write: Transaction)
-        ensures { (h : Header) (past : Trace) (p i addr snoop dom bar : ℕ) → IsAccepted h (Aw p i addr snoop dom bar ∷ past)
-            → issued (length past) (Aw p i addr snoop dom bar) ≡ Some write → WritesStand h past p self.old
+        ensures { (h : Header) (past : Trace) (p i addr snoop dom bar : ℕ)
+            → IsAccepted h (Aw p i addr snoop dom bar ∷ past)
+            → issued (length past) (Aw p i addr snoop dom bar) ≡ Some write
+            → WritesStand h past p self.old
             → WritesStand h (Aw p i addr snoop dom bar ∷ past) p self.new }
     {
         if let Some(kind) = write_kind(&write) {
@@ -253,8 +249,10 @@ impl WriteBursts {
     /// One more beat of the oldest burst that isn't whole. The fourth makes it whole.
     #[inline(always)]
     fn add(&mut self, strobe: u16, word: u128)
-        ensures { (h : Header) (past : Trace) (p : ℕ) (last : Bool) → IsAccepted h (W p strobe last word ∷ past)
-            → WritesStand h past p self.old → WritesStand h (W p strobe last word ∷ past) p self.new }
+        ensures { (h : Header) (past : Trace) (p : ℕ) (last : Bool)
+            → IsAccepted h (W p strobe last word ∷ past)
+            → WritesStand h past p self.old
+            → WritesStand h (W p strobe last word ∷ past) p self.new }
     {
         self.part.add(strobe, word);
         if self.part.beats < 4 {
@@ -270,7 +268,8 @@ impl WriteBursts {
     /// The transaction under the identifier has had its M. That of a read takes no write data.
     #[inline(always)]
     fn remove(&mut self, chan: Channel, id: u8)
-        ensures { (h : Header) (past : Trace) (p : ℕ) (line : Line) → IsAccepted h (M p chan id line ∷ past)
+        ensures { (h : Header) (past : Trace) (p : ℕ) (line : Line)
+            → IsAccepted h (M p chan id line ∷ past)
             → WritesStand h past p self.old → WritesStand h (M p chan id line ∷ past) p self.new }
     {
         match chan {

@@ -1,8 +1,7 @@
 //! The least rule of those that look at one port that a W breaks, and the write that it belongs to.
 
 use crate::PortCheck;
-use crate::ports::record_of;
-use crate::rules::has_port;
+use crate::rules::{has_port, unless};
 use ace_model::Transaction;
 
 impl PortCheck {
@@ -14,7 +13,8 @@ impl PortCheck {
     ghost use Rattle.ace_portck.specs.Stands.{Stands};
     ghost use Rattle.ace_portck.specs.Targets.{Recording};
 
-    /// The least rule of the share that a W breaks: K1 or, of K11, all but the data of a memory update (Arm IHI 0022E, C3.4).
+    /// The least rule of the share that a W breaks: K1 or, of K11, all but the data of a memory
+    /// update (Arm IHI 0022E, C3.4).
     #[inline(always)]
     pub fn rule_of_w(&self, port: u8, strb: u16, last: bool) -> Option<u8>
         ensures { (r : Recording) (word : ℕ) → Stands self.now r
@@ -23,12 +23,8 @@ impl PortCheck {
         if !has_port(&self.header, port) {
             return Some(1);
         }
-        let kept = record_of(&self.ports, &self.outside, port);
-        if kept.bursts.may_have_beat(strb, last) {
-            None
-        } else {
-            Some(11)
-        }
+        let kept = self.kept(port);
+        unless(kept.bursts.may_have_beat(strb, last), Some(11))
     }
 
     /// The write that the port's next W belongs to.
@@ -36,9 +32,7 @@ impl PortCheck {
     pub fn next_write(&self, port: u8) -> Option<Transaction>
         ensures { (r : Recording) → Stands self.now r → result ≡ next_write r.past port }
     {
-        record_of(&self.ports, &self.outside, port)
-            .bursts
-            .next_write()
+        self.kept(port).bursts.next_write()
     }
 
     /// Which beat of its burst the port's next W is, from 0.
@@ -46,6 +40,6 @@ impl PortCheck {
     pub fn next_write_beat(&self, port: u8) -> u8
         ensures { (r : Recording) → Stands self.now r → result ≡ next_write_beat r.past port }
     {
-        record_of(&self.ports, &self.outside, port).bursts.beat()
+        self.kept(port).bursts.beat()
     }
 }

@@ -1,14 +1,9 @@
-use Rattle.std.proofs.Common.{◌≡◌, true, false, refl, sym, ◌∙◌}
-use Rattle.ace_model.specs.Transactions.{is_line}
-use Rattle.ace_portck.proofs.Acknowledges.{read-line}
+use Rattle.std.proofs.Common.{if◌then◌else◌, Some, None, sym, ap, ◌∙◌}
+use Rattle.ace_portck.proofs.Acknowledges.{then_some-is, read-line}
 use Rattle.ace_portck.proofs.acknowledge_rules.line_of_read.Goals as goal
 
-pub returns-then-is_line_read : goal.returns-then-is_line_read
-returns-then-is_line_read c = λ kind.
-    let on : is_line c.args.x.now.transaction ≡ true = read-line c.args.x.now.transaction c.args.kind kind ∙ sym c.is_line_read.ensures ∙ c.if-is_line_read.true in
-    rw on refl
-
-pub returns-else-is_line_read : goal.returns-else-is_line_read
-returns-else-is_line_read c = λ kind.
-    let off : is_line c.args.x.now.transaction ≡ false = read-line c.args.x.now.transaction c.args.kind kind ∙ sym c.is_line_read.ensures ∙ c.if-is_line_read.false in
-    rw off refl
+pub returns : goal.returns
+returns c = λ kind.
+    let x = c.args.x.now.transaction in
+    c.then_some.ensures ∙ then_some-is c.is_line_read.result x.addr
+    ∙ ap (λ b. if b then Some x.addr else None) (c.is_line_read.ensures ∙ sym (read-line x c.args.kind kind))

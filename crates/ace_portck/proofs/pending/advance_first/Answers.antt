@@ -1,6 +1,6 @@
 use Rattle.std.proofs.Common.{◌<◌, ap, ◌∙◌, length, slice_set, arith}
 use Rattle.std.proofs.lemmas.Bool.{eq-eqb}
-use Rattle.ace_portck.specs.Pending.{advanced, change_first}
+use Rattle.ace_portck.proofs.Terms.{advanced, change_first}
 use Rattle.ace_portck.proofs.Named.{first_here}
 use Rattle.ace_portck.proofs.pending.advance_first.Goals as goal
 

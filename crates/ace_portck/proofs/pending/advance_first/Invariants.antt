@@ -1,5 +1,5 @@
 use Rattle.std.proofs.Common.{◌≡◌, ◌++◌, take, drop}
-use Rattle.ace_portck.specs.Pending.{advanced, change_first}
+use Rattle.ace_portck.proofs.Terms.{advanced, change_first}
 use Rattle.ace_portck.proofs.pending.advance_first.Given as goal
 
 -- no transaction so far is under the identifier

@@ -1,7 +1,7 @@
 use Rattle.std.proofs.Common.{◌<◌, length, arith}
 use Rattle.std.proofs.lemmas.List.{get_or_default}
 use Rattle.std.proofs.lemmas.List.Edits.{map_over_more}
-use Rattle.ace_portck.specs.Pending.{renewed}
+use Rattle.ace_portck.proofs.Terms.{renewed}
 use Rattle.ace_portck.proofs.pending.store_all.Goals as goal
 
 pub loop-x-preserved : goal.loop-x-preserved

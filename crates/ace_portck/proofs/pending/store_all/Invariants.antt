@@ -1,5 +1,5 @@
 use Rattle.std.proofs.Common.{◌≡◌, ◌++◌, true, map, take, drop}
-use Rattle.ace_portck.specs.Pending.{renewed, is_store}
+use Rattle.ace_portck.proofs.Terms.{renewed, is_store}
 use Rattle.ace_portck.proofs.pending.store_all.Given as goal
 
 -- the transactions so far are up to date, and the others are as they were

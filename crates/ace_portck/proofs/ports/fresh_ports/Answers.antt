@@ -1,9 +1,8 @@
 use Rattle.std.proofs.Common.{◌≡◌, ◌+◌, ◌++◌, [], ◌∷◌, length, sym, ap, subst, ◌∙◌, arith, length-append}
 use Rattle.std.proofs.lemmas.Grind.{common_steps}
 use Rattle.std.proofs.lemmas.List.Elements.{All-push}
-use Rattle.std.specs.List.{All}
+use Rattle.ace_portck.proofs.Terms.{All, AreRoomy, IsFresh}
 use Rattle.ace_portck.specs.Snoops as snoops
-use Rattle.ace_portck.specs.Stands.{AreRoomy, IsFresh}
 use Rattle.ace_portck.proofs.ports.fresh_ports.Goals as goal
 
 pub loop-port-preserved : goal.loop-port-preserved

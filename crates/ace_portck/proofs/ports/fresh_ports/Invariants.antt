@@ -1,6 +1,5 @@
 use Rattle.std.proofs.Common.{◌≡◌, length}
-use Rattle.std.specs.List.{All}
-use Rattle.ace_portck.specs.Stands.{AreRoomy, IsFresh}
+use Rattle.ace_portck.proofs.Terms.{All, AreRoomy, IsFresh}
 use Rattle.ace_portck.proofs.ports.fresh_ports.Given as goal
 
 -- the records so far are of ports without events

@@ -3,10 +3,8 @@ use Rattle.std.proofs.lemmas.Grind.{common_steps}
 use Rattle.std.proofs.lemmas.List.{get_or_read}
 use Rattle.std.proofs.lemmas.Option.{slice_get-get_or}
 use Rattle.std.proofs.lemmas.List.Elements.{All-set}
-use Rattle.ace_portck.specs.declared.port.PortRecord.{PortRecord}
-use Rattle.ace_portck.specs.Port.{PortStands}
+use Rattle.ace_portck.proofs.Terms.{PortRecord, PortStands, record_at}
 use Rattle.ace_portck.specs.Snoops as snoops
-use Rattle.ace_portck.specs.Stands.{record_at}
 use Rattle.ace_portck.proofs.AllPorts.{ports_set, port_elsewhere}
 use Rattle.ace_model.proofs.General.Options.{Some-injective}
 use Rattle.ace_portck.proofs.ports.hear_at.Goals as goal

@@ -2,10 +2,7 @@ use Rattle.std.proofs.Common.{◌≡◌, ◌<◌, ◌≤◌, length, Some, slice
 use Rattle.std.proofs.lemmas.Grind.{common_steps}
 use Rattle.std.proofs.lemmas.List.{get_or_read}
 use Rattle.std.proofs.lemmas.Option.{slice_get_within}
-use Rattle.ace_portck.specs.declared.port.PortRecord.{PortRecord}
-use Rattle.ace_portck.specs.Port.{PortStands}
-use Rattle.ace_portck.specs.Snoops.{HasRoomForOne}
-use Rattle.ace_portck.specs.Stands.{record_at}
+use Rattle.ace_portck.proofs.Terms.{PortRecord, PortStands, HasRoomForOne, record_at}
 use Rattle.ace_portck.proofs.AllPorts.{on_ok, on_err, set_there, ports_set}
 use Rattle.ace_portck.proofs.ports.make_room.Goals as goal
 

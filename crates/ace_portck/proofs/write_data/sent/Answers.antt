@@ -1,6 +1,5 @@
 use Rattle.std.proofs.Common.{option_map, sym, ap, ◌∙◌}
-use Rattle.std.specs.Option.{option_copied}
-use Rattle.ace_portck.specs.declared.write_data.Burst.{Burst}
+use Rattle.ace_portck.proofs.Terms.{option_copied, Burst}
 use Rattle.ace_portck.proofs.write_data.sent.Goals as goal
 
 pub returns-in-Some : goal.returns-in-Some

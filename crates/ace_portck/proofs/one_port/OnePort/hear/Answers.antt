@@ -1,11 +1,7 @@
 use Rattle.std.proofs.Common.{◌≡◌, ◌≢◌, ◌==◌, ◌∷◌, true, false, Some, sym, ap, subst, ◌∙◌, arith}
 use Rattle.std.proofs.lemmas.Bool.{eqb-true, eq-eqb}
-use Rattle.ace_event.specs.declared.header.Header.{Header}
-use Rattle.ace_model.specs.Accepted.{IsAccepted}
-use Rattle.ace_model.specs.Trace.{is_some_and, port_of}
+use Rattle.ace_portck.proofs.Terms.{Header, IsAccepted, is_some_and, port_of, IsHeard, PortStands}
 use Rattle.ace_model.proofs.General.Options.{is_some_and-is}
-use Rattle.ace_portck.specs.Heard.{IsHeard}
-use Rattle.ace_portck.specs.Port.{PortStands}
 use Rattle.ace_portck.proofs.AllPorts.{port_elsewhere}
 use Rattle.ace_portck.proofs.one_port.OnePort.hear.Goals as goal
 
@@ -14,24 +10,22 @@ returns-then-is_at-clause-stands c = λ h past p m.
     let s = m.stands in
     let e = c.args.event.now in
     let q = c.args.self.now.port in
-    let head = c.args.self.now.header in
     let few = m.few in
     let count = s.count in
     let named = is_some_and-is (port_of e) (λ r. r == q) (sym c.is_at.ensures ∙ c.if-is_at.true) in
     let own : port_of e ≡ Some q = named.1 ∙ ap Some (eqb-true named.0 q named.2) in
     let accepted : IsAccepted h (e ∷ past) = (s.accepted, m.keeps) in
-    let heard : IsHeard head past c.args.self.now.count e q =
-    record { accepted = subst (λ (v : Header). IsAccepted v (e ∷ past)) (sym s.header) accepted; place_is = count; port = own } in
-    let before : PortStands head past q c.args.self.now.kept =
-    subst (λ (v : Header). PortStands v past q c.args.self.now.kept) (sym s.header) (subst (λ r. PortStands h past r c.args.self.now.kept) (sym s.port) s.kept) in
-    let then = c.hear.ensures.stands past heard (c.has_byte_id.ensures, s.bytes) before (m.room (own ∙ ap Some s.port)) in
+    let then = subst (λ (v : Header). IsHeard v past c.args.self.now.count e q → PortStands v past q c.args.self.now.kept → PortStands v (e ∷ past) q c.hear.new.self) s.header
+    (λ heard before. c.hear.ensures.stands past heard (c.has_byte_id.ensures, s.bytes) before (m.room (own ∙ ap Some s.port))) in
     record {
       header = s.header;
       port = s.port;
       accepted = accepted;
       bytes = (c.has_byte_id.ensures, s.bytes);
       count = omega (arith, few, count);
-      kept = subst (λ r. PortStands h (e ∷ past) r c.hear.new.self) s.port (subst (λ (v : Header). PortStands v (e ∷ past) q c.hear.new.self) s.header then);
+      kept =
+          subst (λ r. PortStands h (e ∷ past) r c.hear.new.self) s.port
+          (then (record { accepted = accepted; place_is = count; port = own }) (subst (λ r. PortStands h past r c.args.self.now.kept) (sym s.port) s.kept));
     }
 
 pub returns-else-is_at-clause-stands : goal.returns-else-is_at-clause-stands

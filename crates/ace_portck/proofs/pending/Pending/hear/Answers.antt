@@ -1,8 +1,5 @@
 use Rattle.std.proofs.Common.{◌≡◌, ◌∙◌, ap, map, arith, option_map, vec_capacity}
-use Rattle.ace_model.specs.Trace.{more}
-use Rattle.ace_model.specs.Transactions.{is_ace, issued}
-use Rattle.ace_portck.specs.Targets.{begun}
-use Rattle.ace_portck.specs.Pending.{renewed, ending_of, on_channel, without_id}
+use Rattle.ace_portck.proofs.Terms.{more, is_ace, issued, begun, renewed, ending_of, on_channel, without_id}
 use Rattle.ace_portck.proofs.Few.{are_apart}
 use Rattle.ace_portck.proofs.Heard.{pending_heard}
 use Rattle.ace_portck.proofs.pending.Pending.hear.Goals as goal

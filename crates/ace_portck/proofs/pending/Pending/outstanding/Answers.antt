@@ -1,7 +1,5 @@
 use Rattle.std.proofs.Common.{rules, ◌≡◌, ◌==◌, ◌∙◌}
-use Rattle.std.specs.List.{find}
-use Rattle.std.specs.Option.{option_copied}
-use Rattle.ace_portck.specs.declared.target.Progress.{Progress}
+use Rattle.ace_portck.proofs.Terms.{find, option_copied, Progress}
 use Rattle.ace_portck.proofs.Found.{named_is_found}
 use Rattle.ace_portck.proofs.pending.Pending.outstanding.Goals as goal
 

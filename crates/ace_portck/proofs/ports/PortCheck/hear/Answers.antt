@@ -1,8 +1,5 @@
 use Rattle.std.proofs.Common.{◌∙◌, ◌∷◌, sym, subst, arith}
-use Rattle.ace_event.specs.declared.header.Header.{Header}
-use Rattle.ace_model.specs.Accepted.{IsAccepted}
-use Rattle.ace_portck.specs.Heard.{IsHeard}
-use Rattle.ace_portck.specs.Stands.{PortsStand, record_at}
+use Rattle.ace_portck.proofs.Terms.{Header, IsAccepted, IsHeard, PortsStand, record_at}
 use Rattle.ace_portck.proofs.AllPorts.{port_elsewhere, port_below}
 use Rattle.ace_portck.proofs.ports.PortCheck.hear.Goals as goal
 
@@ -19,13 +16,8 @@ returns-in-Some-clause-stands c = λ r m.
     let own = sym c.port_of.ensures ∙ c.in-Some.is in
     let below = port_below r.header r.past e p accepted own in
     let len = s.len in
-    let heard : IsHeard c.args.self.now.header r.past c.args.self.now.count e p = record {
-      accepted = subst (λ (v : Header). IsAccepted v (e ∷ r.past)) (sym s.header) accepted;
-      place_is = s.count;
-      port = own;
-    } in
-    let before = subst (λ (v : Header). PortsStand v r.past items outside) (sym s.header) s.ports in
-    let then = c.hear_at.ensures.stands r.past outside heard (c.has_byte_id.ensures, s.bytes) (omega (arith, below, len)) (λ k at. m.room p k own at) before in
+    let then = subst (λ (v : Header). IsHeard v r.past c.args.self.now.count e p → PortsStand v r.past items outside → PortsStand v (e ∷ r.past) c.hear_at.new.ports.items outside) s.header
+    (λ heard before. c.hear_at.ensures.stands r.past outside heard (c.has_byte_id.ensures, s.bytes) (omega (arith, below, len)) (λ k at. m.room p k own at) before) in
     record {
       header = s.header;
       is_header = s.is_header;
@@ -34,7 +26,7 @@ returns-in-Some-clause-stands c = λ r m.
       count = omega (arith, few, count);
       len = c.hear_at.ensures.len ∙ s.len;
       opening = c.hear.ensures r.header r.past accepted s.opening;
-      ports = subst (λ (v : Header). PortsStand v (e ∷ r.past) c.hear_at.new.ports.items outside) s.header then;
+      ports = then (record { accepted = accepted; place_is = s.count; port = own }) s.ports;
     }
 
 pub returns-in_default-clause-stands : goal.returns-in_default-clause-stands

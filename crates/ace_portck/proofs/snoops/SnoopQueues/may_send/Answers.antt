@@ -1,6 +1,5 @@
 use Rattle.std.proofs.Common.{◌≡◌, ◌∙◌, true, false, is_some, nat_eq, refl, sym, ap}
-use Rattle.ace_tables.specs.Answers.{same_test}
-use Rattle.ace_portck.specs.Targets.{sending}
+use Rattle.ace_portck.proofs.Terms.{same_test, sending}
 use Rattle.ace_portck.proofs.SnoopSteps.{cd-burst}
 use Rattle.ace_portck.proofs.snoops.SnoopQueues.may_send.Goals as goal
 

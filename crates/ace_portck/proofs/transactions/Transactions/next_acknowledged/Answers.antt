@@ -1,7 +1,5 @@
 use Rattle.std.proofs.Common.{◌≡◌, ◌∙◌, ap, sym, Some, option_map}
-use Rattle.std.specs.Option.{option_copied}
-use Rattle.ace_model.specs.Transactions.{outstanding, next_complete}
-use Rattle.ace_portck.specs.Targets.{progress_of}
+use Rattle.ace_portck.proofs.Terms.{option_copied, outstanding, next_complete, progress_of}
 use Rattle.ace_portck.proofs.Found.{acknowledged_named}
 use Rattle.ace_portck.proofs.transactions.Transactions.next_acknowledged.Goals as goal
 
