@@ -1,31 +1,16 @@
 -- What an RK or WK leaves of what is kept of its line.
 use Rattle.std.proofs.Common.{◌≡◌, ◌<◌, ◌-◌, ◌^◌, ℕ, true, false, ◌==◌, List, ◌∷◌, length, Option, Some, None, option_map, refl, sym, ap, subst, ◌∙◌}
-use Rattle.ace_model.specs.Accepted.{least_broken}
-use Rattle.ace_model.specs.declared.transactions.Transaction.{Transaction}
-use Rattle.ace_model.proofs.Terms.{Channel, Header, Line, LineState, Read, Trace, Write, ended, is_transaction}
+use Rattle.ace_lineck.proofs.Terms.{Rk, Wk, least_broken, Transaction, Channel, Header, Line, LineState, Read, Trace, Write, ended, is_transaction, acknowledge, Recording, line_in, target_of, Progress, Target, Grant, LineCheck, Holder, LineRecord, IsOf, transaction_at, GrantStands, IsGrantStep, is_of, is_over, HoldersStand, LineStands, MayApply, Stands, place_on, StatesStand}
 use Rattle.ace_model.proofs.General.Options.{Some-injective}
-use Rattle.ace_portck.specs.Acknowledges.{acknowledge}
-use Rattle.ace_portck.specs.Targets.{Recording, line_in, target_of}
-use Rattle.ace_portck.specs.declared.target.Progress.{Progress}
-use Rattle.ace_portck.specs.Target.{Target}
-use Rattle.ace_lineck.specs.declared.grant.Grant.{Grant}
-use Rattle.ace_lineck.specs.declared.lines.LineCheck.{LineCheck}
-use Rattle.ace_lineck.specs.declared.record.Holder.{Holder}
-use Rattle.ace_lineck.specs.declared.record.LineRecord.{LineRecord}
-use Rattle.ace_lineck.specs.Acknowledges.{IsOf, transaction_at}
-use Rattle.ace_lineck.specs.Grants.{GrantStands, IsGrantStep, is_of, is_over}
-use Rattle.ace_lineck.specs.Holders.{HoldersStand}
-use Rattle.ace_lineck.specs.Records.{LineStands}
-use Rattle.ace_lineck.specs.Stands.{MayApply, Stands, place_on}
-use Rattle.ace_lineck.proofs.GrantHear.{ends_heard, is_grant, is_heard, none_heard, other_heard, over_heard}
-use Rattle.ace_lineck.specs.States.{StatesStand}
+use Rattle.ace_lineck.proofs.GrantHear.{ends_heard, is_grant, is_heard, other_heard, over_heard}
+use Rattle.ace_lineck.proofs.Heard.{may-hear}
 
 is-of : (o : Option Progress) (x y : Transaction) → option_map transaction_at o ≡ Some x → is_of o y ≡ (x.place == y.place)
 is-of None x y is = cc
 is-of (Some z) x y is = ap (λ (v : Transaction). v.place == y.place) (Some-injective z.transaction x is)
 
 module _ (h : Header) (past : Trace) (l p : ℕ) (st : LineState) (t : Target) where
-  no-grant : (c : Channel) → is_grant (acknowledge c p st) ≡ false
+  pub no-grant : (c : Channel) → is_grant (acknowledge c p st) ≡ false
   no-grant Read = refl
   no-grant Write = refl
 
@@ -36,9 +21,6 @@ module _ (h : Header) (past : Trace) (l p : ℕ) (st : LineState) (t : Target) w
   over-own : (c : Channel) (y : Transaction) → is_over h (acknowledge c p st) (is_of t.transaction y) ≡ is_of t.transaction y
   over-own Read y = refl
   over-own Write y = refl
-
-  pub still-ungranted : (c : Channel) (xs : List Holder) (memory : Line) → IsGrantStep h past l (acknowledge c p st) t None xs memory → GrantStands h (acknowledge c p st ∷ past) l None
-  still-ungranted c xs memory s = none_heard h past l (acknowledge c p st) (no-grant c) s.grant
 
   module _ (x : Transaction) (own : IsOf t x) (g : Grant) (xs : List Holder) (memory : Line) where
     -- the granted transaction ends with it where it is its own
@@ -73,5 +55,5 @@ module _ (h : Header) (past : Trace) (l p : ℕ) (st : LineState) (t : Target) w
 pub acknowledge-may : (s : LineCheck) (r : Recording) (p : ℕ) (st : LineState) (c : Channel) (place : Option ℕ) → Stands s r → place ≡ place_on s (line_in r.header r.past (acknowledge c p st))
     → least_broken r.header r.past (acknowledge c p st) ≡ None → length r.past < 2 ^ 64 - 1
     → MayApply s r (acknowledge c p st) (target_of r.header r.past (acknowledge c p st)) place
-acknowledge-may s r p st Read place stands at fine few = record { stands = stands; target = refl; room = record { made = tt; at = at }; kept = fine; few = few }
-acknowledge-may s r p st Write place stands at fine few = record { stands = stands; target = refl; room = record { made = tt; at = at }; kept = fine; few = few }
+acknowledge-may s r p st Read place stands at fine few = may-hear s r (Rk p st) place refl stands at fine few
+acknowledge-may s r p st Write place stands at fine few = may-hear s r (Wk p st) place refl stands at fine few

@@ -1,20 +1,9 @@
 -- What the AR of a line read and the AW of a line write ask of their line: K6 and K8.
 use Rattle.std.proofs.Common.{◌≡◌, ℕ, Bool, true, false, ◌&&◌, ◌||◌, if◌then◌else◌, length, Some, None, refl, sym, ap, ◌∙◌}
-use Rattle.ace_codes.specs.Reads.{ar_kind_of}
-use Rattle.ace_codes.specs.declared.kind.ArKind.{ArKind}
-use Rattle.ace_event.specs.declared.event.Event.TheVariants.{Ar, Aw}
-use Rattle.ace_tables.specs.StartStates.{starts_read, starts_write}
-use Rattle.ace_model.specs.Accepted.{least_of}
-use Rattle.ace_model.specs.Kinds.{is_line_read, is_no_snoop_read, is_line_write, is_no_snoop_write}
-use Rattle.ace_model.specs.Shares.{line_rules}
-use Rattle.ace_model.specs.declared.transactions.Transaction.{Transaction}
-use Rattle.ace_model.proofs.Terms.{Header, Trace, IsAccepted, implies, is_none_or, is_some_and, is_line, is_no_snoop, is_used_alike, each_issued, state_of, k6, k8}
+use Rattle.ace_lineck.proofs.Terms.{ar_kind_of, ArKind, Ar, Aw, starts_read, starts_write, least_of, is_line_read, is_no_snoop_read, is_line_write, is_no_snoop_write, line_rules, Transaction, Header, Trace, IsAccepted, implies, is_none_or, is_some_and, is_line, is_no_snoop, is_used_alike, each_issued, state_of, k6, k8, use_of, goes_with, aw_kind_of, AwKind}
 use Rattle.ace_portck.proofs.ReadAddresses.{read_of}
-use Rattle.ace_lineck.specs.Uses.{use_of, goes_with}
 use Rattle.ace_lineck.proofs.Asked.{ruled}
 use Rattle.ace_lineck.proofs.RuleLaws.{uses-law}
-use Rattle.ace_codes.specs.Writes.{aw_kind_of}
-use Rattle.ace_codes.specs.declared.kind.AwKind.{AwKind}
 use Rattle.ace_model.proofs.Trace.Outstanding.{write_issued}
 
 pub under : (b c : Bool) → b ≡ true → implies b c ≡ c

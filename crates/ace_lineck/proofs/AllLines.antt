@@ -1,46 +1,41 @@
 -- What is kept of all lines, after an event and after room was made.
 use Rattle.std.proofs.Common.{rules, ◌≡◌, ◌⊎◌, ◌+◌, ◌%◌, ℕ, nat_eq, true, false, Bool, not, ◌&&◌, if◌then◌else◌, List, [], ◌∷◌, length, Option, Some, None, option_map, IsSome, refl, sym, ap, subst, ◌∙◌, inl, inr, unwrap_or, arith}
 use Rattle.std.proofs.lemmas.Bool.{cases_eq}
-use Rattle.std.specs.Bool.{OnTrue}
-use Rattle.std.specs.List.{All}
-use Rattle.std.specs.Map.{lookup}
-use Rattle.indexmap.specs.IndexMap.{get}
+use Rattle.ace_lineck.proofs.Terms.{OnTrue, Use, add_line, copy_of, ended, issued, memory_of, newest_use, sent_on, state_of, All, lookup, get, known_lines, I, IsHeader, Transaction, Event, Header, Trace, IsAccepted, granted, is_some_and, least_broken, Recording, after, line_in, Target, LineCheck, LineRecord, Holder, Grant, Unknown, MemoryStands, holder_at, GrantStands, StatesStand, state_at, use_of, is_unknown, LineStands, IsRecordStep, IsFresh, name_of, Stands, IsEmpty, IsAbsent, IsNewLine, HasRecord, MayApply, begins_line, place_on, record_of}
 use Rattle.indexmap.specs.IndexMap as map
-use Rattle.ace_model.specs.Lines.{known_lines}
-use Rattle.ace_codes.specs.declared.state.LineState.TheVariants.{I}
-use Rattle.ace_event.specs.Ports.{IsHeader}
-use Rattle.ace_model.specs.declared.transactions.Transaction.{Transaction}
-use Rattle.ace_model.proofs.Terms.{Event, Header, Trace, IsAccepted, granted, is_some_and}
-use Rattle.ace_model.specs.Accepted.{least_broken}
-use Rattle.ace_portck.specs.Targets.{Recording, after, line_in}
-use Rattle.ace_portck.specs.Target.{Target}
-use Rattle.ace_lineck.specs.declared.lines.LineCheck.{LineCheck}
-use Rattle.ace_lineck.specs.declared.record.LineRecord.{LineRecord}
-use Rattle.ace_lineck.specs.declared.record.Holder.{Holder}
-use Rattle.ace_lineck.specs.declared.grant.Grant.{Grant}
-use Rattle.ace_lineck.specs.declared.record.Use.TheVariants.{Unknown}
-use Rattle.ace_lineck.specs.Holders.{MemoryStands, holder_at}
-use Rattle.ace_lineck.specs.Grants.{GrantStands}
-use Rattle.ace_lineck.specs.States.{StatesStand, state_at}
-use Rattle.ace_lineck.specs.Uses.{use_of, is_unknown}
-use Rattle.ace_lineck.specs.Records.{LineStands, IsRecordStep, IsFresh, name_of}
-use Rattle.ace_lineck.specs.Stands.{Stands, IsEmpty, IsAbsent, IsNewLine, HasRecord, MayApply, begins_line, place_on, record_of}
 use Rattle.ace_lineck.proofs.Places.{get-none}
 use Rattle.ace_lineck.proofs.OnLine.{IsOff}
-use Rattle.ace_lineck.proofs.OffLine.{holders-stay, memory-stays, states-stay}
+use Rattle.ace_lineck.proofs.OffLine.{off-copy, off-memory, off-sent, off-state}
+use Rattle.ace_model.proofs.General.Options.{Some-injective}
 use Rattle.ace_lineck.proofs.StateSteps.{all-same}
 use Rattle.ace_lineck.proofs.GrantFrame.{grant_stays}
+use Rattle.ace_lineck.proofs.GrantSteps.{calm-granted, is_calm, serves}
 use Rattle.ace_lineck.proofs.KnownLines.{use-stays, known-used, known-counts, known-same, few-known, line-known}
+
+-- the event leaves memory of the line, and its states and data at the ports, as they are
+pub record IsStill (h : Header) (past : Trace) (e : Event) (l : ℕ) : Type 0 where
+  pub memory : memory_of (e ∷ past) l ≡ memory_of past l
+  pub state : (p : ℕ) → state_of h (e ∷ past) p l ≡ state_of h past p l
+  pub copy : (p : ℕ) → copy_of (e ∷ past) p l ≡ copy_of past p l
+  pub sent : (p : ℕ) → sent_on (e ∷ past) p l ≡ sent_on past p l
+
+-- what is kept of the line is then as it was, but for its use and its grant
+pub left : (h : Header) (past : Trace) (e : Event) (l : ℕ) (x : LineRecord) (u : Use) (g : Option Grant) → u ≡ use_of (e ∷ past) l → IsStill h past e l
+    → LineStands h past l x → GrantStands h (e ∷ past) l g → LineStands h (e ∷ past) l (record x { used = u; grant = g })
+left h past e l x u g used q s grant = record {
+  used = used;
+  memory = record { memory = s.memory.memory ∙ sym q.memory };
+  grant = grant;
+  states = record { state = λ p. s.states.state p ∙ sym (q.state p) };
+  holders = record { copy = λ p. s.holders.copy p ∙ sym (q.copy p); sent = λ p. s.holders.sent p ∙ sym (q.sent p) };
+}
 
 -- what is kept of a line stays at an event of another
 pub line-stays : (h : Header) (past : Trace) (e : Event) → IsAccepted h (e ∷ past) → (l : ℕ) (x : LineRecord) → IsOff h past e l → LineStands h past l x → LineStands h (e ∷ past) l x
-line-stays h past e a l x off s = record {
-  used = s.used ∙ sym (use-stays h past e l off);
-  memory = memory-stays h past e a l x.memory off s.memory;
-  grant = grant_stays h past e a l x.grant off s.grant;
-  states = states-stay h past e a l x.states off s.states;
-  holders = holders-stay h past e a l x.holders.items off s.holders;
-}
+line-stays h past e a l x off s =
+    left h past e l x x.used x.grant (s.used ∙ sym (use-stays h past e l off))
+    (record { memory = off-memory h past e a l off; state = λ p. off-state h past e a p l (λ q. off); copy = λ p. off-copy h past e a p l (λ q. off); sent = λ p. off-sent h past e p l (λ q. off) })
+    s (grant_stays h past e a l x.grant off s.grant)
 
 -- what is kept in an empty record is what there is of a line after no event
 pub empty-stands : (h : Header) (l : ℕ) (x : LineRecord) → IsEmpty x → LineStands h [] l x
@@ -97,13 +92,14 @@ pub record IsChanged (s t : LineCheck) (line : ℕ) (x : LineRecord) : Type 0 wh
   pub here : get nat_eq t.lines line ≡ Some x
   pub others : (q : ℕ) → (q ≡ line → ⊥) → get nat_eq t.lines q ≡ get nat_eq s.lines q
 
-pub changed : (s t : LineCheck) (r : Recording) (e : Event) (line : ℕ) (x : LineRecord) → IsChanged s t line x → Stands s r → least_broken r.header r.past e ≡ None
-    → line_in r.header r.past e ≡ Some line → LineStands r.header (e ∷ r.past) line x → length x.holders.items ≡ r.header.ports → t.known ≡ length (known_lines (e ∷ r.past))
-    → All (IsFresh r.header.ports) t.spare.items → Stands t (after r e)
-changed s t r e line x c st fine on new room known spare = record {
+-- what is kept of the new record and of the others is what there is of their lines after a longer trace
+replaced : (s t : LineCheck) (h : Header) (past longer : Trace) (line : ℕ) (x : LineRecord) → IsChanged s t line x → Stands s (record { header = h; past = past }) → IsAccepted h longer
+    → LineStands h longer line x → ((l : ℕ) → (l ≡ line → ⊥) → LineStands h longer l (record_of s l)) → length x.holders.items ≡ h.ports → t.known ≡ length (known_lines longer)
+    → All (IsFresh h.ports) t.spare.items → Stands t (record { header = h; past = longer })
+replaced s t h past longer line x c st a new others room known spare = record {
   header = c.header ∙ st.header;
   ports = st.ports;
-  accepted = accepted;
+  accepted = a;
   empty = subst IsEmpty (sym c.empty) st.empty;
   lines = λ l. by l (cases_eq l line);
   holders = λ l y is. rooms l y is (cases_eq l line);
@@ -111,37 +107,61 @@ changed s t r e line x c st fine on new room known spare = record {
   spare = spare;
 }
   where
-    accepted : IsAccepted r.header (e ∷ r.past)
-    accepted = (st.accepted, fine)
-
-    by : (l : ℕ) → (l ≡ line) ⊎ (l ≡ line → ⊥) → LineStands r.header (e ∷ r.past) l (record_of t l)
+    by : (l : ℕ) → (l ≡ line) ⊎ (l ≡ line → ⊥) → LineStands h longer l (record_of t l)
     by l (inl is) =
         let one : record_of t l ≡ x = ap (record_of t) is ∙ ap (λ v. unwrap_or v t.empty) c.here in
-        subst (LineStands r.header (e ∷ r.past) l) (sym one) (subst (λ v. LineStands r.header (e ∷ r.past) v x) (sym is) new)
+        subst (LineStands h longer l) (sym one) (subst (λ v. LineStands h longer v x) (sym is) new)
     by l (inr off) =
         let one : record_of t l ≡ record_of s l = ap (λ v. unwrap_or v t.empty) (c.others l off) ∙ ap (unwrap_or (get nat_eq s.lines l)) c.empty in
-        let apart : IsOff r.header r.past e l = λ q. let f : Some line ≡ Some l = sym on ∙ q in off cc in
-        subst (LineStands r.header (e ∷ r.past) l) (sym one) (line-stays r.header r.past e accepted l (record_of s l) apart (st.lines l))
+        subst (LineStands h longer l) (sym one) (others l off)
 
-    rooms : (l : ℕ) (y : LineRecord) → get nat_eq t.lines l ≡ Some y → (l ≡ line) ⊎ (l ≡ line → ⊥) → length y.holders.items ≡ r.header.ports
+    rooms : (l : ℕ) (y : LineRecord) → get nat_eq t.lines l ≡ Some y → (l ≡ line) ⊎ (l ≡ line → ⊥) → length y.holders.items ≡ h.ports
     rooms l y is (inl same) =
         let one : Some x ≡ Some y = sym c.here ∙ ap (get nat_eq t.lines) (sym same) ∙ is in
         let eq : x ≡ y = cc in
-        subst (λ (v : LineRecord). length v.holders.items ≡ r.header.ports) eq room
+        subst (λ (v : LineRecord). length v.holders.items ≡ h.ports) eq room
     rooms l y is (inr off) = st.holders l y (sym (c.others l off) ∙ is)
 
--- an event of no line leaves all records as they are
-pub unchanged : (s : LineCheck) (r : Recording) (e : Event) → Stands s r → least_broken r.header r.past e ≡ None → line_in r.header r.past e ≡ None → Stands s (after r e)
-unchanged s r e st fine off = record {
+changed : (s t : LineCheck) (r : Recording) (e : Event) (line : ℕ) (x : LineRecord) → IsChanged s t line x → Stands s r → least_broken r.header r.past e ≡ None
+    → line_in r.header r.past e ≡ Some line → LineStands r.header (e ∷ r.past) line x → length x.holders.items ≡ r.header.ports → t.known ≡ length (known_lines (e ∷ r.past))
+    → All (IsFresh r.header.ports) t.spare.items → Stands t (after r e)
+changed s t r e line x c st fine on new =
+    replaced s t r.header r.past (e ∷ r.past) line x c st (st.accepted, fine) new
+    (λ l off. line-stays r.header r.past e (st.accepted, fine) l (record_of s l) (λ q. off (Some-injective l line (sym q ∙ on))) (st.lines l))
+
+-- an event that leaves what is kept of its line leaves all records as they are
+pub still : (s : LineCheck) (r : Recording) (e : Event) → Stands s r → least_broken r.header r.past e ≡ None → length (known_lines (e ∷ r.past)) ≡ length (known_lines r.past)
+    → ((l : ℕ) → line_in r.header r.past e ≡ Some l → LineStands r.header (e ∷ r.past) l (record_of s l)) → Stands s (after r e)
+still s r e st fine count here = record {
   header = st.header;
   ports = st.ports;
   accepted = (st.accepted, fine);
   empty = st.empty;
-  lines = λ l. line-stays r.header r.past e (st.accepted, fine) l (record_of s l) (λ q. let f : None ≡ Some l = sym off ∙ q in cc) (st.lines l);
+  lines = λ l. by l (line_in r.header r.past e) refl;
   holders = st.holders;
-  known = st.known ∙ sym (known-same r.header r.past e off);
+  known = st.known ∙ sym count;
   spare = st.spare;
 }
+  where
+    by : (l : ℕ) (o : Option ℕ) → line_in r.header r.past e ≡ o → LineStands r.header (e ∷ r.past) l (record_of s l)
+    by l None is = line-stays r.header r.past e (st.accepted, fine) l (record_of s l) (λ q. let bad : None ≡ Some l = sym is ∙ q in cc) (st.lines l)
+    by l (Some m) is =
+        elim (cases_eq m l) [
+          | inl same ↦ here l (is ∙ ap Some same)
+          | inr off ↦ line-stays r.header r.past e (st.accepted, fine) l (record_of s l) (λ q. off (Some-injective m l (sym is ∙ q))) (st.lines l)
+        ]
+
+-- so does an event of no line
+pub unchanged : (s : LineCheck) (r : Recording) (e : Event) → Stands s r → least_broken r.header r.past e ≡ None → line_in r.header r.past e ≡ None → Stands s (after r e)
+unchanged s r e st fine off = still s r e st fine (known-same r.header r.past e off) (λ l on. let bad : None ≡ Some l = sym off ∙ on in cc)
+
+-- and one that moves nothing of any line
+pub untouched-lines : (s : LineCheck) (r : Recording) (e : Event) → Stands s r → least_broken r.header r.past e ≡ None → issued (length r.past) e ≡ None → is_calm e ≡ true → serves e ≡ false
+    → ended r.header r.past e ≡ None → ((l : ℕ) → IsStill r.header r.past e l) → Stands s (after r e)
+untouched-lines s r e st fine new calm idle none looks =
+    still s r e st fine (ap (λ o. length (add_line r.past o (known_lines r.past))) new)
+    (λ l on. left r.header r.past e l (record_of s l) (record_of s l).used (record_of s l).grant ((st.lines l).used ∙ sym (ap (λ o. newest_use o l (use_of r.past l)) new)) (looks l) (st.lines l)
+    (calm-granted r.header r.past e l (record_of s l).grant (st.accepted, fine) calm idle none (st.lines l).grant))
 
 -- a new record of a line of which nothing was kept stands where the empty one stood
 pub fresh-stands : (h : Header) (past : Trace) (l : ℕ) (x y : LineRecord) → IsEmpty x → IsFresh h.ports y → LineStands h past l x → LineStands h past l y
@@ -161,35 +181,13 @@ fresh-stands h past l x y e f s = record {
 
 pub made : (s t : LineCheck) (r : Recording) (line : ℕ) (x : LineRecord) → IsChanged s t line x → get nat_eq s.lines line ≡ None → t.known ≡ s.known → IsFresh s.header.ports x
     → All (IsFresh s.header.ports) t.spare.items → Stands s r → Stands t r
-made s t r line x c none known f spare st = record {
-  header = c.header ∙ st.header;
-  ports = st.ports;
-  accepted = st.accepted;
-  empty = subst IsEmpty (sym c.empty) st.empty;
-  lines = λ l. by l (cases_eq l line);
-  holders = λ l y is. rooms l y is (cases_eq l line);
-  known = known ∙ st.known;
-  spare = subst (λ (v : Header). All (IsFresh v.ports) t.spare.items) st.header spare;
-}
+made s t r line x c none known f spare st =
+    replaced s t r.header r.past r.past line x c st st.accepted
+    (fresh-stands r.header r.past line s.empty x st.empty fresh (subst (LineStands r.header r.past line) (ap (λ v. unwrap_or v s.empty) none) (st.lines line)))
+    (λ l off. st.lines l) fresh.count (known ∙ st.known) (subst (λ (v : Header). All (IsFresh v.ports) t.spare.items) st.header spare)
   where
     fresh : IsFresh r.header.ports x
     fresh = subst (λ (v : Header). IsFresh v.ports x) st.header f
-
-    by : (l : ℕ) → (l ≡ line) ⊎ (l ≡ line → ⊥) → LineStands r.header r.past l (record_of t l)
-    by l (inl is) =
-        let one : record_of t l ≡ x = ap (record_of t) is ∙ ap (λ v. unwrap_or v t.empty) c.here in
-        let was : record_of s l ≡ s.empty = ap (record_of s) is ∙ ap (λ v. unwrap_or v s.empty) none in
-        subst (LineStands r.header r.past l) (sym one) (fresh-stands r.header r.past l s.empty x st.empty fresh (subst (LineStands r.header r.past l) was (st.lines l)))
-    by l (inr off) =
-        let one : record_of t l ≡ record_of s l = ap (λ v. unwrap_or v t.empty) (c.others l off) ∙ ap (unwrap_or (get nat_eq s.lines l)) c.empty in
-        subst (LineStands r.header r.past l) (sym one) (st.lines l)
-
-    rooms : (l : ℕ) (y : LineRecord) → get nat_eq t.lines l ≡ Some y → (l ≡ line) ⊎ (l ≡ line → ⊥) → length y.holders.items ≡ r.header.ports
-    rooms l y is (inl same) =
-        let one : Some x ≡ Some y = sym c.here ∙ ap (get nat_eq t.lines) (sym same) ∙ is in
-        let eq : x ≡ y = cc in
-        subst (λ (v : LineRecord). length v.holders.items ≡ r.header.ports) eq fresh.count
-    rooms l y is (inr off) = st.holders l y (sym (c.others l off) ∙ is)
 
 -- a line without a record is one that no transaction has named
 pub absent-new : (s : LineCheck) (r : Recording) (line : Option ℕ) → Stands s r → IsAbsent s line → IsNewLine r.past line
@@ -255,23 +253,18 @@ counts s r e t place m l line x y old new =
     let uses = new.used in
     rw (known, used, uses) (known-counts r.header r.past e l on)
 
-pub applied-then : (s t : LineCheck) (r : Recording) (e : Event) (g : Target) (place : Option ℕ) → MayApply s r e g place → (l : ℕ) → g.line ≡ Some l → (x y : LineRecord) → IsRecordStep r.header r.past l e g x
-    → LineStands r.header (e ∷ r.past) l y → length y.holders.items ≡ length x.holders.items → (is_unknown x.used && not (is_unknown y.used)) ≡ true → IsChanged s t l y
-    → t.known ≡ (s.known + 1) % 18446744073709551616 → All (IsFresh r.header.ports) t.spare.items → Stands t (after r e)
-applied-then s t r e g place m l line x y step new room grows c known spare =
-    changed s t r e l y c m.stands m.kept (ap (λ (v : Target). v.line) (sym m.target) ∙ line) new (room ∙ step.room)
-    (let n : length (known_lines (e ∷ r.past)) ≡ s.known + 1 = rw grows at (counts s r e g place m l line x y step.stands new) in
-    let low = few-known r.past in
-    let count = m.stands.known in
-    let few = m.few in
-    let fits : (s.known + 1) % 18446744073709551616 ≡ s.known + 1 = omega arith in
-    known ∙ fits ∙ sym n)
-    spare
-
-pub applied-else : (s t : LineCheck) (r : Recording) (e : Event) (g : Target) (place : Option ℕ) → MayApply s r e g place → (l : ℕ) → g.line ≡ Some l → (x y : LineRecord) → IsRecordStep r.header r.past l e g x
-    → LineStands r.header (e ∷ r.past) l y → length y.holders.items ≡ length x.holders.items → (is_unknown x.used && not (is_unknown y.used)) ≡ false → IsChanged s t l y
-    → t.known ≡ s.known → All (IsFresh r.header.ports) t.spare.items → Stands t (after r e)
-applied-else s t r e g place m l line x y step new room same c known spare =
-    changed s t r e l y c m.stands m.kept (ap (λ (v : Target). v.line) (sym m.target) ∙ line) new (room ∙ step.room)
-    (let n : length (known_lines (e ∷ r.past)) ≡ s.known = rw same at (counts s r e g place m l line x y step.stands new) in known ∙ sym n)
-    spare
+-- it counts its line where that becomes known
+pub applied : (s t : LineCheck) (r : Recording) (e : Event) (g : Target) (place : Option ℕ) → MayApply s r e g place → (l : ℕ) → g.line ≡ Some l → (x y : LineRecord) → IsRecordStep r.header r.past l e g x
+    → LineStands r.header (e ∷ r.past) l y → length y.holders.items ≡ length x.holders.items → (b : Bool) → (is_unknown x.used && not (is_unknown y.used)) ≡ b → IsChanged s t l y
+    → t.known ≡ (if b then (s.known + 1) % 18446744073709551616 else s.known) → All (IsFresh r.header.ports) t.spare.items → Stands t (after r e)
+applied s t r e g place m l line x y step new room b grows c known spare =
+    changed s t r e l y c m.stands m.kept (ap (λ (v : Target). v.line) (sym m.target) ∙ line) new (room ∙ step.room) (known ∙ by b (rw grows at (counts s r e g place m l line x y step.stands new))) spare
+  where
+    by : (b : Bool) → length (known_lines (e ∷ r.past)) ≡ (if b then s.known + 1 else s.known) → (if b then (s.known + 1) % 18446744073709551616 else s.known) ≡ length (known_lines (e ∷ r.past))
+    by false n = sym n
+    by true n =
+        let low = few-known r.past in
+        let count = m.stands.known in
+        let few = m.few in
+        let fits : (s.known + 1) % 18446744073709551616 ≡ s.known + 1 = omega arith in
+        fits ∙ sym n

@@ -5,8 +5,9 @@ use Rattle.std.proofs.Common.{◌≡◌, ℕ, Bool, true, false, if◌then◌els
 abbrev pub asked : ℕ → Bool → Option ℕ
 asked n kept = if kept then None else Some n
 
-pub told : (n : ℕ) (a b k : Bool) → a ≡ b → a ≡ k → asked n b ≡ asked n k
-told n a b k is rule = ap (asked n) (sym is ∙ rule)
+pub asked-kept : (n : ℕ) (kept : Bool) → asked n kept ≡ None → kept ≡ true
+asked-kept n true none = refl
+asked-kept n false none = cc
 
 -- the same of two
 abbrev pub asked_both : ℕ → ℕ → Bool → Bool → Option ℕ

@@ -1,15 +1,8 @@
 -- A B of half of a barrier: it breaks no rule about lines, and leaves all lines as they are.
 use Rattle.std.proofs.Common.{◌≡◌, ℕ, true, Some, None, is_none, option_map, refl, ap, ◌∙◌}
-use Rattle.ace_model.specs.declared.transactions.Transaction.{Transaction}
-use Rattle.ace_model.specs.Accepted.{least_broken, least_of}
-use Rattle.ace_model.specs.Barriers.{is_barrier_half}
-use Rattle.ace_model.specs.Shares.{line_rules}
-use Rattle.ace_model.proofs.Terms.{Header, Trace, B, Write, outstanding}
+use Rattle.ace_lineck.proofs.Terms.{Transaction, least_broken, least_of, is_barrier_half, line_rules, Header, Trace, B, Write, outstanding, Recording, after, line_in, line_of, progress_of, LineCheck, Stands}
 use Rattle.ace_model.proofs.Trace.Issued.{outstanding-name}
-use Rattle.ace_portck.specs.Targets.{Recording, after, line_in, line_of, progress_of}
 use Rattle.ace_portck.proofs.BarrierResponses.{write_half-kind, write_half-no_line}
-use Rattle.ace_lineck.specs.declared.lines.LineCheck.{LineCheck}
-use Rattle.ace_lineck.specs.Stands.{Stands}
 use Rattle.ace_lineck.proofs.AllLines.{unchanged}
 
 module _ (h : Header) (past : Trace) (p i resp : ℕ) (x : Transaction) (out : outstanding h past p Write i ≡ Some x) (half : is_barrier_half x ≡ true) where

@@ -1,26 +1,9 @@
 -- The least rule of the share that a transfer of a line read breaks, in the words of what is kept of its line.
-use Rattle.std.proofs.Common.{◌≡◌, ℕ, true, Bool, if◌then◌else◌, Option, Some, None, option_map, refl, sym, ap, subst, ◌∙◌, inl, inr}
-use Rattle.std.proofs.lemmas.Bool.{cases_Bool}
-use Rattle.ace_codes.specs.declared.kind.ArKind.{ArKind}
-use Rattle.ace_model.specs.declared.transactions.Transaction.{Transaction}
-use Rattle.ace_model.specs.Accepted.{least_of}
-use Rattle.ace_model.specs.AddressRules.{k1}
-use Rattle.ace_model.specs.Kinds.{is_line_read}
-use Rattle.ace_model.specs.Lines.{has_failed_on}
-use Rattle.ace_model.specs.Shares.{line_rules, k18_line}
-use Rattle.ace_model.specs.Transactions.{read_kind}
-use Rattle.ace_model.proofs.Terms.{Header, Trace, Channel, R, Read, IsAccepted, implies, is_some_and, is_none_or, is_line, outstanding, granted, has_failed, k19, k20}
+use Rattle.std.proofs.Common.{◌≡◌, ℕ, true, Bool, Option, Some, None, option_map, refl, sym, ap, subst, ◌∙◌}
+use Rattle.ace_lineck.proofs.Terms.{has_upper_bits, has_word, may_transfer, ArKind, Transaction, least_of, is_line_read, line_rules, k18_line, read_kind, Header, Trace, Channel, R, Read, IsAccepted, implies, is_none_or, is_line, outstanding, has_failed, k19, k20, line_in, line_of, progress_of, Progress, LineRecord, Grant, GrantStands, LineStands, may_have_beat, fits_bits, fits_reply, has_passed_for, is_shared_under, rule_of_beat, IsOfPlace}
 use Rattle.ace_model.proofs.General.Options.{Some-injective}
-use Rattle.ace_portck.specs.Targets.{line_in, line_of, progress_of, target_of}
-use Rattle.ace_portck.specs.declared.target.Progress.{Progress}
-use Rattle.ace_lineck.specs.declared.record.LineRecord.{LineRecord}
-use Rattle.ace_lineck.specs.declared.grant.Grant.{Grant}
-use Rattle.ace_lineck.specs.Grants.{GrantFits, GrantStands}
-use Rattle.ace_lineck.specs.Records.{IsNext, LineStands}
-use Rattle.ace_lineck.specs.Kept.{may_have_beat, fits_bits, fits_reply, has_passed_for, is_shared_under, is_its, IsFailure}
-use Rattle.ace_lineck.specs.Beats.{rule_of_beat, IsOfPlace}
-use Rattle.ace_lineck.proofs.GrantLaws.{its-is, k18-law}
-use Rattle.ace_lineck.proofs.Asked.{ruled}
+use Rattle.ace_lineck.proofs.GrantLaws.{its-is, may-law}
+use Rattle.ace_lineck.proofs.Asked.{asked, asked_both, ruled}
 use Rattle.ace_lineck.proofs.ReplyLaws.{kind-line, k19-law, k20-law}
 
 -- the transaction whose progress this is
@@ -35,6 +18,24 @@ granted-of_place h past p c i x o a out s g is same =
     let f : GrantStands h past x.addr (Some g) = subst (GrantStands h past x.addr) is s in
     its-is h past a x.addr g f p c i x out refl same
 
+pub progress-is : (h : Header) (past : Trace) (o : Option Transaction) (x : Progress) → option_map (progress_of h past) o ≡ Some x → x ≡ progress_of h past x.transaction
+progress-is h past None x is = cc
+progress-is h past (Some y) x is = let one : progress_of h past y ≡ x = Some-injective (progress_of h past y) x is in sym (ap (λ (v : Progress). progress_of h past v.transaction) (sym one) ∙ one)
+
+-- K19 and K20, where K18 lets the transfer through
+pub beat-answers : (h : Header) (past : Trace) → IsAccepted h past → (p i resp : ℕ) (last : Bool) (word : ℕ) (x : Progress) → option_map (progress_of h past) (outstanding h past p Read i) ≡ Some x
+    → (kept : LineRecord) → (is_line x.transaction ≡ true → LineStands h past x.transaction.addr kept) → (is_line x.transaction ≡ true → may_transfer h past x.transaction resp ≡ true)
+    → asked_both 19 20 (fits_bits h (has_passed_for kept.grant x.transaction) (is_shared_under kept.grant) resp x) (fits_reply kept.grant kept.memory word x)
+    ≡ asked_both 19 20 (k19 h past (R p i resp last word)) (k20 h past (R p i resp last word))
+beat-answers h past a p i resp last word x out kept s may =
+    let y = x.transaction in
+    let o = progress-from h past (outstanding h past p Read i) x out in
+    let is = progress-is h past (outstanding h past p Read i) x out in
+    ruled (fits_bits h (has_passed_for kept.grant y) (is_shared_under kept.grant) resp x) (k19 h past (R p i resp last word)) 19
+    (asked 20 (fits_reply kept.grant kept.memory word x)) (asked 20 (k20 h past (R p i resp last word)))
+    (ap (fits_bits h (has_passed_for kept.grant y) (is_shared_under kept.grant) resp) is ∙ k19-law h past a p i resp y o kept s may ∙ sym (ap (λ v. is_none_or v (has_upper_bits h past resp)) o))
+    (λ fits. ap (asked 20) (ap (fits_reply kept.grant kept.memory word) is ∙ k20-law h past a p i resp y o kept s may word ∙ sym (ap (λ v. is_none_or v (has_word past word)) o)))
+
 module _ (h : Header) (past : Trace) (p i resp : ℕ) (last : Bool) (word : ℕ) (x : Progress) (k : ArKind) (out : option_map (progress_of h past) (outstanding h past p Read i) ≡ Some x)
     (kind : read_kind x.transaction ≡ Some k) (line : is_line_read k ≡ true) where
   -- its line
@@ -45,47 +46,15 @@ module _ (h : Header) (past : Trace) (p i resp : ℕ) (last : Bool) (word : ℕ)
     pub of-place : IsOfPlace kept.grant x.transaction
     of-place = granted-of_place h past p Read i x.transaction kept.grant a (progress-from h past (outstanding h past p Read i) x out) s.grant
 
-    -- where the read is granted, the granted transaction of its line has failed exactly where it has
-    failing : (failed : Bool) → failed ≡ has_failed past x.transaction
-        → may_have_beat h (has_failed_on h past x.transaction.addr) kept.grant kept.states x resp ≡ may_have_beat h failed kept.grant kept.states x resp
-    failing failed own = by kept.grant refl
-      where
-        by : (o : Option Grant) → kept.grant ≡ o → may_have_beat h (has_failed_on h past x.transaction.addr) o kept.states x resp ≡ may_have_beat h failed o kept.states x resp
-        by None is = refl
-        by (Some g) is =
-            elim (cases_Bool (is_its g x.transaction)) [
-              | inr n ↦ rw n refl
-              | inl same ↦
-                  let f : GrantFits h past x.transaction.addr g = subst (GrantStands h past x.transaction.addr) is s.grant in
-                  let stands : granted h past x.transaction.addr ≡ Some x.transaction = f.granted ∙ ap (λ v. Some v) (of-place g is same) in
-                  let same_failure : has_failed_on h past x.transaction.addr ≡ failed = ap (λ o. is_some_and o (has_failed past)) stands ∙ sym own in
-                  ap (λ b. may_have_beat h b (Some g) kept.states x resp) same_failure
-            ]
-
-    pub beat-rule : (failed : Bool) → failed ≡ has_failed past x.transaction → k1 h past (R p i resp last word) ≡ true
-        → rule_of_beat h failed kept x resp word ≡ least_of line_rules h past (R p i resp last word)
-    beat-rule failed own port =
-        let e = R p i resp last word in
-        let t = target_of h past e in
-        let told = has_failed_on h past x.transaction.addr in
-        let next : IsNext h past e t kept = record {
-          accepted = a;
-          port = port;
-          target = refl;
-          line = λ l is. subst (λ v. LineStands h past v kept) (Some-injective x.transaction.addr l (sym beat-line ∙ is)) s;
-        } in
-        let fails : IsFailure h past t told = λ l is. ap (has_failed_on h past) (Some-injective x.transaction.addr l (sym beat-line ∙ is)) in
-        let on = kind-line x.transaction k kind line in
-        let first : is_none_or t.transaction (λ y. implies (is_line y.transaction) (may_have_beat h told kept.grant kept.states y resp))
-        ≡ may_have_beat h told kept.grant kept.states x resp =
-        ap (λ o. is_none_or o (λ y. implies (is_line y.transaction) (may_have_beat h told kept.grant kept.states y resp))) out ∙ (rw on refl) in
-        let due : may_have_beat h failed kept.grant kept.states x resp ≡ k18_line h past e =
-        sym (failing failed own) ∙ sym first ∙ k18-law h past t kept p i resp last word next told fails in
-        ruled (may_have_beat h failed kept.grant kept.states x resp) (k18_line h past e) 18
-        (if fits_bits h (has_passed_for kept.grant x.transaction) (is_shared_under kept.grant) resp x then (if fits_reply kept.grant kept.memory word x then None else Some 20) else Some 19)
-        (if k19 h past e then if k20 h past e then None else Some 20 else Some 19) due
-        (λ is. ruled (fits_bits h (has_passed_for kept.grant x.transaction) (is_shared_under kept.grant) resp x) (k19 h past e) 19
-        (if fits_reply kept.grant kept.memory word x then None else Some 20) (if k20 h past e then None else Some 20)
-        (sym (ap (λ o. is_none_or o (λ y. fits_bits h (has_passed_for kept.grant y.transaction) (is_shared_under kept.grant) resp y)) out) ∙ k19-law h past t kept p i resp last word next is)
-        (λ fits. ruled (fits_reply kept.grant kept.memory word x) (k20 h past e) 20 None None
-        (sym (ap (λ o. is_none_or o (fits_reply kept.grant kept.memory word)) out) ∙ k20-law h past t kept p i resp last word next is) (λ same. refl)))
+    pub beat-rule : (failed : Bool) → failed ≡ has_failed past x.transaction → rule_of_beat h failed kept x resp word ≡ least_of line_rules h past (R p i resp last word)
+    beat-rule failed own =
+        let y = x.transaction in
+        let o = progress-from h past (outstanding h past p Read i) x out in
+        let is = progress-is h past (outstanding h past p Read i) x out in
+        let on = kind-line y k kind line in
+        let law : may_have_beat h failed kept.grant kept.states x resp ≡ may_transfer h past y resp =
+        ap (λ v. may_have_beat h failed kept.grant kept.states v resp) is ∙ may-law h past a p i y o kept resp failed own s in
+        ruled (may_have_beat h failed kept.grant kept.states x resp) (k18_line h past (R p i resp last word)) 18 _ _
+        (law ∙ sym (ap (λ v. is_none_or v (λ z. implies (is_line z) (may_transfer h past z resp))) o ∙ ap (λ b. implies b (may_transfer h past y resp)) on))
+        (λ due. beat-answers h past a p i resp last word x out kept (λ t. s)
+        (λ t. sym (ap (λ v. is_none_or v (λ z. implies (is_line z) (may_transfer h past z resp))) o ∙ ap (λ b. implies b (may_transfer h past y resp)) on) ∙ due))

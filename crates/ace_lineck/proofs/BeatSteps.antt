@@ -1,37 +1,18 @@
 -- What a transfer of a line read leaves of what is kept of its line.
 use Rattle.std.proofs.Common.{◌≡◌, ◌⊎◌, ◌<◌, ◌-◌, ◌^◌, ℕ, true, false, Bool, not, ◌&&◌, List, ◌∷◌, length, Option, Some, None, option_map, option_and_then, slice_set, slice_get, unwrap_or, refl, sym, ap, subst, ◌∙◌, inl, inr}
 use Rattle.std.proofs.lemmas.Bool.{and_parts, cases_eq, eq-eqb, ne_eqb}
-use Rattle.ace_codes.specs.declared.kind.ArKind.{ArKind}
-use Rattle.ace_event.specs.declared.line.Line.{Line}
-use Rattle.ace_model.specs.declared.transactions.Transaction.{Transaction}
-use Rattle.ace_model.specs.Accepted.{least_broken}
-use Rattle.ace_model.specs.Copies.{received}
-use Rattle.ace_model.specs.Kinds.{is_line_read}
-use Rattle.ace_model.specs.Transactions.{read_kind}
-use Rattle.ace_model.proofs.Terms.{Header, Trace, R, Read, newer, is_ace, is_line, is_transaction, ended, outstanding, granted, copy_of}
+use Rattle.ace_lineck.proofs.Terms.{ArKind, Line, Transaction, least_broken, received, is_line_read, read_kind, Header, Trace, R, Read, newer, is_ace, is_line, is_transaction, ended, outstanding, granted, copy_of, Recording, line_in, progress_of, target_of, Progress, Target, LineCheck, Holder, LineRecord, Grant, GrantFits, GrantStands, IsGrantStep, is_of, HoldersStand, IsHoldersStep, IsLineStep, IsRecordStep, has_three, Stands, MayApply, place_on}
 use Rattle.ace_model.proofs.General.Options.{Some-injective}
 use Rattle.ace_model.proofs.Trace.Issued.{outstanding-name}
 use Rattle.ace_model.proofs.Trace.Looks.{is_on-addr}
 use Rattle.ace_model.proofs.Grants.Begins.{may_of, line_due}
 use Rattle.ace_model.proofs.Grants.Granted.{granted_at}
-use Rattle.ace_portck.specs.Targets.{Recording, line_in, progress_of, target_of}
-use Rattle.ace_portck.specs.declared.target.Progress.{Progress}
-use Rattle.ace_portck.specs.Target.{Target}
-use Rattle.ace_lineck.specs.declared.lines.LineCheck.{LineCheck}
-use Rattle.ace_lineck.specs.declared.record.Holder.{Holder}
-use Rattle.ace_lineck.specs.declared.record.LineRecord.{LineRecord}
-use Rattle.ace_lineck.specs.declared.grant.Grant.{Grant}
-use Rattle.ace_lineck.specs.declared.record.Use.{Use}
-use Rattle.ace_lineck.specs.Grants.{GrantFits, GrantStands, IsGrantStep, is_of}
-use Rattle.ace_lineck.specs.Holders.{HoldersStand, IsHoldersStep, IsLineStep}
-use Rattle.ace_lineck.specs.Records.{IsRecordStep, has_three}
-use Rattle.ace_lineck.specs.Uses.{is_unknown}
-use Rattle.ace_lineck.specs.Stands.{Stands, MayApply, place_on}
 use Rattle.ace_lineck.proofs.OnLine.{on-transaction}
-use Rattle.ace_lineck.proofs.GrantHear.{beat_heard, ends_heard, none_heard, over_heard}
+use Rattle.ace_lineck.proofs.GrantHear.{beat_heard, ends_heard, over_heard}
 use Rattle.ace_lineck.proofs.HolderSteps.{holders-hear, holder-step}
 use Rattle.ace_lineck.proofs.Received.{received-some, received-none}
 use Rattle.ace_lineck.proofs.BeatLaws.{beat-line}
+use Rattle.ace_lineck.proofs.Heard.{may-hear}
 
 module _ (h : Header) (past : Trace) (l p i resp : ℕ) (last : Bool) (word : ℕ) (t : Target) where
   -- the read whose transfer the event is has the grant of its line
@@ -56,9 +37,6 @@ module _ (h : Header) (past : Trace) (l p i resp : ℕ) (last : Bool) (word : �
       → is_transaction (ended h past (R p i resp last word)) g.transaction ≡ (last && not (is_ace h p))
   ends-last g xs memory s =
       sym (ends_heard h past l t g xs memory (R p i resp last word) s.step) ∙ ap (λ b. (last && not (is_ace h p)) && b) (granted-is s.step g s.grant) ∙ and-true (last && not (is_ace h p))
-
-  pub ungranted : (xs : List Holder) (memory : Line) → IsGrantStep h past l (R p i resp last word) t None xs memory → GrantStands h (R p i resp last word ∷ past) l None
-  ungranted xs memory s = none_heard h past l (R p i resp last word) refl s.grant
 
   pub over : (g : Grant) (xs : List Holder) (memory : Line) → IsGrantStep h past l (R p i resp last word) t (Some g) xs memory → (last && not (is_ace h p)) ≡ true
       → GrantStands h (R p i resp last word ∷ past) l None
@@ -108,24 +86,10 @@ module _ (h : Header) (past : Trace) (l p i resp : ℕ) (last : Bool) (word : �
       pub whole-none : has_three (Some x) ≡ false → None ≡ received past (R p i resp last word) p l
       whole-none three = sym (received-none h past l p i resp last word t kept s (ap has_three at ∙ three))
 
--- no line becomes known by it
-pub still-used : (u v : Use) → v ≡ u → (is_unknown u && not (is_unknown v)) ≡ false
-still-used u v is = rw is (by (is_unknown u))
-  where
-    by : (b : Bool) → (b && not b) ≡ false
-    by true = refl
-    by false = refl
-
 -- the transfer may be taken
 pub beat-may : (s : LineCheck) (r : Recording) (p i resp : ℕ) (last : Bool) (word : ℕ) (x : Progress) (k : ArKind) (place : Option ℕ) → Stands s r
     → option_map (progress_of r.header r.past) (outstanding r.header r.past p Read i) ≡ Some x → read_kind x.transaction ≡ Some k → is_line_read k ≡ true
     → place ≡ place_on s (Some x.transaction.addr)
     → least_broken r.header r.past (R p i resp last word) ≡ None → length r.past < 2 ^ 64 - 1
     → MayApply s r (R p i resp last word) (target_of r.header r.past (R p i resp last word)) place
-beat-may s r p i resp last word x k place st out kind line at fine few = record {
-  stands = st;
-  target = refl;
-  room = record { made = tt; at = at ∙ ap (place_on s) (sym (beat-line r.header r.past p i resp last word x k out kind line)) };
-  kept = fine;
-  few = few;
-}
+beat-may s r p i resp last word x k place st out kind line at fine few = may-hear s r (R p i resp last word) place refl st (at ∙ ap (place_on s) (sym (beat-line r.header r.past p i resp last word x k out kind line))) fine few

@@ -1,25 +1,13 @@
 -- The events with which a line begins, an AR or AW of a line transaction and a MEM: what they ask of room, and what they leave of their line.
-use Rattle.std.proofs.Common.{◌≡◌, ◌<◌, ◌-◌, ◌^◌, ℕ, Bool, true, false, not, ◌&&◌, nat_eq, if◌then◌else◌, ◌∷◌, length, Option, Some, None, is_some, refl, sym, ap, subst, ◌∙◌}
-use Rattle.std.specs.Bool.{OnTrue}
+use Rattle.std.proofs.Common.{◌≡◌, ◌<◌, ◌-◌, ◌^◌, ℕ, Bool, true, false, not, ◌&&◌, nat_eq, if◌then◌else◌, ◌∷◌, ◌+◌, ◌%◌, slice_get, length, Option, Some, None, is_some, refl, sym, ap, subst, ◌∙◌}
+use Rattle.ace_lineck.proofs.Terms.{OnTrue, IsUnique, after, values, with_value_at, least_broken, is_known, Transaction, Event, Header, Trace, Line, IsAccepted, Ar, Aw, Mem, issued, is_line, is_on, is_no_snoop, is_some_and, Recording, line_in, target_of, LineCheck, LineRecord, Use, LineStands, BeginsLine, HasRecord, IsAbsent, IsNewLine, IsRoomy, MayApply, Stands, begins_line, place_on, is_unknown, newest_use, use_for, use_of}
 use Rattle.std.proofs.lemmas.Bool.{and_from, eq-eqb, or_left}
-use Rattle.ace_model.specs.Accepted.{least_broken}
-use Rattle.ace_model.specs.Lines.{is_known}
-use Rattle.ace_model.specs.declared.transactions.Transaction.{Transaction}
-use Rattle.ace_model.proofs.Terms.{Event, Header, Trace, Line, IsAccepted, Ar, Aw, Mem, issued, is_line, is_on, is_no_snoop, is_some_and}
-use Rattle.ace_portck.specs.Targets.{Recording, line_in, target_of}
-use Rattle.ace_lineck.specs.declared.grant.Grant.{Grant}
-use Rattle.ace_lineck.specs.declared.lines.LineCheck.{LineCheck}
-use Rattle.ace_lineck.specs.declared.record.LineRecord.{LineRecord}
-use Rattle.ace_lineck.specs.declared.record.Use.{Use}
-use Rattle.ace_lineck.specs.Grants.{GrantStands}
-use Rattle.ace_lineck.specs.Records.{LineStands}
-use Rattle.ace_lineck.specs.Stands.{BeginsLine, HasRecord, IsAbsent, IsNewLine, IsRoomy, MayApply, Stands, begins_line, place_on}
-use Rattle.ace_lineck.specs.Uses.{is_unknown, newest_use, use_for, use_of}
-use Rattle.ace_lineck.proofs.AllLines.{absent-new}
-use Rattle.ace_lineck.proofs.GrantFrame.{none-stays}
-use Rattle.ace_lineck.proofs.GrantSteps.{calm-stays, stays-unended}
+use Rattle.ace_model.proofs.General.Options.{Some-injective}
+use Rattle.ace_lineck.proofs.AllLines.{absent-new, left}
+use Rattle.ace_lineck.proofs.GrantSteps.{calm-granted}
 use Rattle.ace_lineck.proofs.Rooms.{grown-roomy}
 use Rattle.ace_lineck.proofs.RuleLaws.{issue-line}
+use Rattle.ace_lineck.proofs.Heard.{heard-counted}
 
 -- an event that issues a line transaction is of its line
 pub address-line : (h : Header) (past : Trace) (e : Event) (x : Transaction) → issued (length past) e ≡ Some x → is_line x ≡ true → line_in h past e ≡ Some x.addr
@@ -62,34 +50,13 @@ may-hear_address s r e x place st new on at made fine few =
       few = few;
     }
 
--- of a grant it leaves what there is
-grant-issued : (h : Header) (past : Trace) (e : Event) (l : ℕ) (g : Option Grant) → is_some (issued (length past) e) ≡ true → IsAccepted h (e ∷ past)
-    → GrantStands h past l g → GrantStands h (e ∷ past) l g
-grant-issued h past (Ar p i addr snoop dom bar lock) l None is a none = none-stays h past (Ar p i addr snoop dom bar lock) l refl none
-grant-issued h past (Aw p i addr snoop dom bar) l None is a none = none-stays h past (Aw p i addr snoop dom bar) l refl none
-grant-issued h past (Ar p i addr snoop dom bar lock) l (Some g) is a f =
-    calm-stays h past l g f (Ar p i addr snoop dom bar lock) a refl refl (stays-unended h past l g f (Ar p i addr snoop dom bar lock) a refl)
-grant-issued h past (Aw p i addr snoop dom bar) l (Some g) is a f =
-    calm-stays h past l g f (Aw p i addr snoop dom bar) a refl refl (stays-unended h past l g f (Aw p i addr snoop dom bar) a refl)
-grant-issued h past e l g is a f = cc
-
--- and of the record the rest
+-- of the record it leaves all but the use of the line
 record-issued : (h : Header) (past : Trace) (e : Event) (l : ℕ) (x : LineRecord) (used : Use) → is_some (issued (length past) e) ≡ true → IsAccepted h (e ∷ past)
     → used ≡ use_of (e ∷ past) l → LineStands h past l x → LineStands h (e ∷ past) l (record x { used = used })
-record-issued h past (Ar p i addr snoop dom bar lock) l x used is a uses s = record {
-  used = uses;
-  memory = record { memory = s.memory.memory };
-  grant = grant-issued h past (Ar p i addr snoop dom bar lock) l x.grant is a s.grant;
-  states = record { state = s.states.state };
-  holders = record { copy = s.holders.copy; sent = s.holders.sent };
-}
-record-issued h past (Aw p i addr snoop dom bar) l x used is a uses s = record {
-  used = uses;
-  memory = record { memory = s.memory.memory };
-  grant = grant-issued h past (Aw p i addr snoop dom bar) l x.grant is a s.grant;
-  states = record { state = s.states.state };
-  holders = record { copy = s.holders.copy; sent = s.holders.sent };
-}
+record-issued h past (Ar p i addr snoop dom bar lock) l x used is a uses s =
+    left h past (Ar p i addr snoop dom bar lock) l x used x.grant uses (record { memory = refl; state = λ p. refl; copy = λ p. refl; sent = λ p. refl }) s (calm-granted h past (Ar p i addr snoop dom bar lock) l x.grant a refl refl refl s.grant)
+record-issued h past (Aw p i addr snoop dom bar) l x used is a uses s =
+    left h past (Aw p i addr snoop dom bar) l x used x.grant uses (record { memory = refl; state = λ p. refl; copy = λ p. refl; sent = λ p. refl }) s (calm-granted h past (Aw p i addr snoop dom bar) l x.grant a refl refl refl s.grant)
 record-issued h past e l x used is a uses s = cc
 
 -- what is kept of its line stands after it with the use by its transaction
@@ -110,6 +77,16 @@ becomes-known true false = refl
 becomes-known false true = refl
 becomes-known false false = refl
 
+-- so it leaves this of all lines
+pub address-heard : (s : LineCheck) (r : Recording) (e : Event) (y : Transaction) (place : Option ℕ) → MayApply s r e (target_of r.header r.past e) place → (n : ℕ) → place ≡ Some n
+    → (x : LineRecord) (unshared : Bool) → Some x ≡ slice_get (values s.lines) n → IsUnique nat_eq s.lines → issued (length r.past) e ≡ Some y → is_line y ≡ true
+    → unshared ≡ is_no_snoop y → (b : Bool) → is_unknown x.used ≡ b
+    → Stands (record s { lines = with_value_at s.lines n (record x { used = use_for unshared }); known = if b then (s.known + 1) % 18446744073709551616 else s.known }) (after r e)
+address-heard s r e y place m n is x unshared value unique new on no-snoop b was =
+    heard-counted s r e place m n is x (record x { used = use_for unshared }) value unique
+    (λ l step. address-record r.header r.past e y l x unshared new on no-snoop (Some-injective y.addr l (sym (address-line r.header r.past e y new on) ∙ step.step.line)) step.step.accepted step.stands)
+    refl b (becomes-known (is_unknown x.used) unshared ∙ was)
+
 -- the MEM may be taken
 pub may-hear_mem : (s : LineCheck) (r : Recording) (addr : ℕ) (line : Line) (place : Option ℕ) → Stands s r → place ≡ place_on s (Some addr) → HasRecord s (Some addr)
     → least_broken r.header r.past (Mem addr line) ≡ None → length r.past < 2 ^ 64 - 1 → MayApply s r (Mem addr line) (target_of r.header r.past (Mem addr line)) place
@@ -121,18 +98,13 @@ may-hear_mem s r addr line place st at made fine few = record {
   few = few;
 }
 
-grant-opened : (h : Header) (past : Trace) (addr : ℕ) (line : Line) (l : ℕ) (g : Option Grant) → IsAccepted h (Mem addr line ∷ past) → GrantStands h past l g
-    → GrantStands h (Mem addr line ∷ past) l g
-grant-opened h past addr line l None a none = none-stays h past (Mem addr line) l refl none
-grant-opened h past addr line l (Some g) a f = calm-stays h past l g f (Mem addr line) a refl refl (stays-unended h past l g f (Mem addr line) a refl)
-
 -- what is kept of its line stands after it with its line as memory
 pub mem-record : (h : Header) (past : Trace) (addr : ℕ) (line : Line) (l : ℕ) (x : LineRecord) → l ≡ addr → IsAccepted h (Mem addr line ∷ past) → LineStands h past l x
     → LineStands h (Mem addr line ∷ past) l (record x { memory = line })
 mem-record h past addr line l x at a s = record {
   used = s.used;
   memory = record { memory = let here = eq-eqb l addr at in rw here refl };
-  grant = grant-opened h past addr line l x.grant a s.grant;
+  grant = calm-granted h past (Mem addr line) l x.grant a refl refl refl s.grant;
   states = record { state = s.states.state };
   holders = record { copy = s.holders.copy; sent = s.holders.sent };
 }

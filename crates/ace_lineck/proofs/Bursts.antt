@@ -2,19 +2,12 @@
 use Rattle.std.proofs.Common.{◌≡◌, ◌≢◌, ℕ, ◌+◌, ◌*◌, ◌/◌, ◌%◌, ◌<◌, ◌≤◌, arith, true, false, Bool, not, ◌&&◌, nat_eq, nat_le, [], ◌∷◌, length, length-append, slice_get, Some, None, refl, sym, ap, subst, ◌∙◌, inl, inr}
 use Rattle.std.proofs.lemmas.Bool.{and_parts, cases_Bool, eqb-true, eq-eqb, ne_eqb, le-leb, lt-leb, leb-true, leb-false}
 use Rattle.std.proofs.lemmas.Option.{slice_get_within}
-use Rattle.ace_model.specs.declared.snoops.Snoop.{Snoop}
-use Rattle.ace_model.specs.declared.snoops.Answer.{Answer}
-use Rattle.ace_model.specs.Snoops.{data_beats}
-use Rattle.ace_model.specs.Replies.{sent, next_sent}
-use Rattle.ace_model.specs.Grants.{is_short}
-use Rattle.ace_model.specs.Trace.{more}
-use Rattle.ace_model.proofs.Terms.{Header, Trace, Event, Cr, Cd, IsAccepted, answered, answers_line, answer_of, data_answers, is_snoop_on, transfers_data, gives_line, copy_of}
+use Rattle.ace_lineck.proofs.Terms.{Snoop, Answer, data_beats, sent, next_sent, is_short, more, Header, Trace, Event, Cr, Cd, IsAccepted, answered, answers_line, answer_of, data_answers, is_snoop_on, transfers_data, gives_line, copy_of, data_snoop_at, data_snoops, sending, line_in}
 use Rattle.ace_model.proofs.General.Options.{some_is, is_some_and-is}
 use Rattle.ace_model.proofs.General.Lists.{slice_get-more, slice_get-at_end, slice_get-grown}
 use Rattle.ace_model.proofs.Rules.Keeps.{accepted_keeps}
 use Rattle.ace_model.proofs.Grants.SnoopAnswers.{answer_cases}
 use Rattle.ace_model.proofs.Lines.Owing.{Owing, data_beats-grow, owing_stays, owing_new}
-use Rattle.ace_portck.specs.Targets.{data_snoop_at, data_snoops, sending, line_in}
 use Rattle.ace_lineck.proofs.OnLine.{IsOff, on-snoop, line-snoop}
 
 -- the answers with data are as many as the snoops that they answer
@@ -102,7 +95,7 @@ unfinished h (e ∷ past) a p n l s there on short =
     by d a is at = cc
 
 -- the lines that a port announces are as many as its answers with data
-sent_count : (h : Header) (past : Trace) → IsAccepted h past → (p : ℕ) → length (sent past p) ≡ data_answers past p
+pub sent_count : (h : Header) (past : Trace) → IsAccepted h past → (p : ℕ) → length (sent past p) ≡ data_answers past p
 sent_count h [] a p = refl
 sent_count h (Cr q resp st ∷ past) a p =
     let before = sent_count h past a.0 p in

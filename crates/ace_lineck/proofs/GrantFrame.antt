@@ -2,13 +2,7 @@
 use Rattle.std.proofs.Common.{◌≡◌, ◌≢◌, ℕ, true, false, ◌&&◌, nat_eq, ◌∷◌, length, Option, Some, None, option_map, unwrap_or, refl, sym, ap, subst, ◌∙◌, inl, inr}
 use Rattle.std.proofs.Math.Bool.{and-false}
 use Rattle.std.proofs.lemmas.Bool.{false_from_ne_true, and_parts, and_from, cases_Bool, cases_eq, eqb-true, eq-eqb, ne_eqb}
-use Rattle.ace_model.specs.declared.snoops.Answer.{Answer}
-use Rattle.ace_model.specs.declared.transactions.Transaction.{Transaction}
-use Rattle.ace_model.specs.Grants.{is_short}
-use Rattle.ace_model.specs.Copies.{zero_line}
-use Rattle.ace_model.proofs.Terms.{Header, Trace, Channel, Read, Write, Event, R, Rk, B, Wk, Ac, Cr, Cd, G, M, LineState, IsAccepted, newer, is_read, is_on, ended, outstanding, acknowledged}
-use Rattle.ace_model.proofs.Terms.{without, given, gives_line, granted, is_snoop_to, was_snooped, answered, answers_grant, answer_at, answer_of, is_snoop_on, snoops_a_line, transfers_data, sender_at, passer, transfers, is_memory_write}
-use Rattle.ace_model.proofs.Terms.{copy_at_answer, memory_at_first_beat, may_be_granted}
+use Rattle.ace_lineck.proofs.Terms.{Answer, Transaction, is_short, zero_line, Header, Trace, Channel, Read, Write, Event, R, Rk, B, Wk, Ac, Cr, Cd, G, M, LineState, IsAccepted, newer, is_read, is_on, ended, outstanding, acknowledged, without, given, gives_line, granted, is_snoop_to, was_snooped, answered, answers_grant, answer_at, answer_of, is_snoop_on, snoops_a_line, transfers_data, sender_at, passer, transfers, is_memory_write, copy_at_answer, memory_at_first_beat, may_be_granted, line_in, Passed, Grant, GrantFits, GrantStands, stage_by, stage_of, passed_by, fetched, settled_reply}
 use Rattle.ace_model.proofs.Rules.Keeps.{accepted_keeps}
 use Rattle.ace_model.proofs.General.Options.{is_some_and-is}
 use Rattle.ace_model.proofs.Trace.Looks.{is_read-is, newest_on-older}
@@ -20,10 +14,6 @@ use Rattle.ace_model.proofs.Grants.Granted.{writes_now}
 use Rattle.ace_model.proofs.Values.FullReads.{Transfer}
 use Rattle.ace_model.proofs.GrantLooks.Quiet.{Quiet, copy_at_answer-old, snooped-stays, answer-stays, sharer-stays, passer-stays, sent-stays}
 use Rattle.ace_model.proofs.GrantLooks.Progress.{Untouched, begun-stays, first_beat-stays, untouched}
-use Rattle.ace_portck.specs.Targets.{line_in}
-use Rattle.ace_lineck.specs.declared.grant.Passed.{Passed}
-use Rattle.ace_lineck.specs.declared.grant.Grant.{Grant}
-use Rattle.ace_lineck.specs.Grants.{GrantFits, GrantStands, stage_by, stage_of, passed_by, fetched, settled_reply}
 use Rattle.ace_lineck.proofs.OnLine.{IsOff, line-transaction, off-transaction, line-snoop, outstanding-of}
 use Rattle.ace_lineck.proofs.OffLine.{ace-of_rk, ace-of_wk, read-of}
 use Rattle.ace_lineck.proofs.Bursts.{short-apart, short-off}

@@ -1,23 +1,11 @@
 -- The steps of what is kept of a grant, for the event and the target of a step.
 use Rattle.std.proofs.Common.{◌≡◌, ℕ, true, false, Bool, not, ◌&&◌, ◌||◌, ◌==◌, if◌then◌else◌, List, ◌∷◌, Option, Some, None, option_map, is_none, refl, sym, ap, subst, ◌∙◌}
 use Rattle.std.proofs.lemmas.Bool.{and_parts}
-use Rattle.ace_event.specs.declared.line.Line.{Line}
-use Rattle.ace_codes.specs.Responses.{is_shared, passes_dirty, transfers_data}
-use Rattle.ace_model.specs.declared.transactions.Transaction.{Transaction}
-use Rattle.ace_model.proofs.Terms.{Header, Trace, Channel, Event, R, Rk, B, Wk, Ac, Cr, Cd, G, M, LineState, IsAccepted, newer, is_read, is_on, is_transaction, ended, outstanding, granted, gives_line, may_be_granted, is_ace, acknowledged, Read, Write, transaction_of}
+use Rattle.ace_lineck.proofs.Terms.{Line, is_shared, passes_dirty, transfers_data, Transaction, Header, Trace, Channel, Event, R, Rk, B, Wk, Ac, Cr, Cd, G, M, LineState, IsAccepted, newer, is_read, is_on, is_transaction, ended, outstanding, granted, gives_line, may_be_granted, is_ace, acknowledged, Read, Write, transaction_of, line_in, transaction_in, progress_of, Progress, Target, Holder, Stage, Unanswered, Sending, Done, Grant, IsLineStep, holder_at, GrantFits, GrantStands, IsGrantStep, IsMoved, fresh_grant, is_of, is_over}
 use Rattle.ace_model.proofs.General.Options.{Some-injective, is_some_and-is}
 use Rattle.ace_model.proofs.Trace.Looks.{is_on-addr}
 use Rattle.ace_model.proofs.General.Options.{none_is}
 use Rattle.ace_model.proofs.Rules.Keeps.{accepted_keeps}
-use Rattle.ace_portck.specs.Targets.{line_in, transaction_in, progress_of}
-use Rattle.ace_portck.specs.declared.target.Progress.{Progress}
-use Rattle.ace_portck.specs.Target.{Target}
-use Rattle.ace_lineck.specs.declared.record.Holder.{Holder}
-use Rattle.ace_lineck.specs.declared.stages.Stage.{Stage}
-use Rattle.ace_lineck.specs.declared.stages.Stage.TheVariants.{Unanswered, Sending, Done}
-use Rattle.ace_lineck.specs.declared.grant.Grant.{Grant}
-use Rattle.ace_lineck.specs.Holders.{IsLineStep, holder_at}
-use Rattle.ace_lineck.specs.Grants.{GrantFits, IsGrantStep, IsMoved, fresh_grant, is_of, is_over}
 use Rattle.ace_lineck.proofs.OnLine.{on-transaction, outstanding-of}
 use Rattle.ace_lineck.proofs.OffLine.{ace-of_rk, ace-of_wk, read-of}
 use Rattle.ace_lineck.proofs.GrantFrame.{none-stays}
@@ -145,6 +133,11 @@ gives_none past e l n = refl
 -- without a grant there is none after another event than a G
 pub none_heard : (h : Header) (past : Trace) (l : ℕ) (e : Event) → is_grant e ≡ false → granted h past l ≡ None → granted h (e ∷ past) l ≡ None
 none_heard h past l e n none = none-stays h past e l (gives_none past e l n) none
+
+-- so it is with what is kept, where that is none
+pub still-none : (h : Header) (past : Trace) (l : ℕ) (e : Event) (g : Option Grant) → is_grant e ≡ false → g ≡ None → GrantStands h past l g → GrantStands h (e ∷ past) l g
+still-none h past l e None n is none = none_heard h past l e n none
+still-none h past l e (Some g) n is f = cc
 
 -- and none after one that ends it
 pub over_heard : (h : Header) (past : Trace) (l : ℕ) (e : Event) (g : Grant) → GrantFits h past l g → is_grant e ≡ false → is_transaction (ended h past e) g.transaction ≡ true

@@ -1,34 +1,15 @@
 -- What the rules of a grant say, in the words of what is kept of the line.
 use Rattle.std.proofs.Common.{◌≡◌, ◌≤◌, arith, ℕ, zero, suc, true, false, Bool, not, ◌&&◌, ◌||◌, ◌==◌, List, length, Option, Some, None, is_some, is_none, option_map, refl, sym, ap, ◌∙◌, inl, inr}
-use Rattle.std.proofs.lemmas.Bool.{and_from, cases_Bool, cases_eq, eq-eqb}
+use Rattle.std.proofs.lemmas.Bool.{cases_Bool, cases_eq, eq-eqb}
 use Rattle.std.proofs.lemmas.Option.{slice_get_past}
 use Rattle.std.proofs.Math.Bool.{or-true}
-use Rattle.ace_codes.specs.Responses.{passes_dirty}
-use Rattle.ace_model.specs.declared.snoops.Answer.{Answer}
-use Rattle.ace_model.specs.declared.transactions.Transaction.{Transaction}
-use Rattle.ace_model.specs.Grants.{is_short}
-use Rattle.ace_model.specs.Shares.{k18_line}
-use Rattle.ace_model.proofs.Terms.{Header, Trace, Channel, Read, R, IsAccepted, implies, is_some_and, is_none_or, is_ace, is_read, is_line, is_transaction, read_kind, snoop_of, takes_passed_data, outstanding, transfers}
-use Rattle.ace_model.proofs.Terms.{granted, is_granted, was_snooped, answer_of, owes_answer, owes_data, passer, list_all, ports_below, has_passed_data, are_passed_data_whole, has_failed, has_memory_write, state_of, is_invalid, is_port_done, are_snoops_done}
-use Rattle.ace_model.proofs.Terms.{has_snoop_code, may_snoop_for, may_transfer, takes_passed}
+use Rattle.ace_lineck.proofs.Terms.{LineStands, passes_dirty, Answer, Transaction, is_short, Header, Trace, Channel, Read, IsAccepted, implies, is_some_and, is_ace, is_read, is_transaction, read_kind, snoop_of, takes_passed_data, outstanding, transfers, granted, is_granted, was_snooped, answer_of, owes_answer, owes_data, passer, list_all, ports_below, has_passed_data, are_passed_data_whole, has_failed, has_memory_write, state_of, is_invalid, is_port_done, are_snoops_done, has_snoop_code, may_snoop_for, may_transfer, takes_passed, progress_of, LineState, LineRecord, Grant, Stage, Unsnooped, Unanswered, Sending, Done, StatesStand, state_at, GrantFits, GrantStands, stage_at, stage_by, stage_of, is_unsnooped, is_sending, is_settled, may_be_snooped, has_passed, is_passed_whole, is_done_at, are_done, is_its, takes_data, may_have_beat}
 use Rattle.ace_model.proofs.General.Options.{Some-injective}
 use Rattle.ace_model.proofs.Trace.Looks.{is_on-addr}
 use Rattle.ace_model.proofs.Trace.Issued.{outstanding-name}
 use Rattle.ace_model.proofs.Holders.Law.{accepted_holds}
 use Rattle.ace_model.proofs.Grants.Granted.{granted_at}
 use Rattle.ace_model.proofs.Grants.Pending.{snoops}
-use Rattle.ace_portck.specs.Targets.{progress_of}
-use Rattle.ace_portck.specs.Target.{Target}
-use Rattle.ace_codes.specs.declared.state.LineState.{LineState}
-use Rattle.ace_lineck.specs.declared.record.LineRecord.{LineRecord}
-use Rattle.ace_lineck.specs.declared.grant.Grant.{Grant}
-use Rattle.ace_lineck.specs.declared.stages.Stage.{Stage}
-use Rattle.ace_lineck.specs.declared.stages.Stage.TheVariants.{Unsnooped, Unanswered, Sending, Done}
-use Rattle.ace_lineck.specs.States.{StatesStand, state_at}
-use Rattle.ace_lineck.specs.Grants.{GrantFits, GrantStands, stage_at, stage_by, stage_of}
-use Rattle.ace_lineck.specs.Records.{IsNext}
-use Rattle.ace_lineck.specs.Kept.{is_unsnooped, is_sending, is_settled, may_be_snooped, has_passed, is_passed_whole, is_done_at, are_done, is_its, takes_data, may_have_beat, IsFailure}
-use Rattle.ace_lineck.proofs.OnLine.{line-transaction}
 use Rattle.ace_lineck.proofs.GrantFrame.{passed_at}
 
 -- nothing is kept exactly where nothing is granted
@@ -182,63 +163,37 @@ snooped-law h past a addr p snoop failed (Some g) fails f =
     ∙ ap (λ b. may_snoop_for past y p snoop && b) (ap is_unsnooped (f.stages p) ∙ unsnooped-is h past a p addr)
     ∙ sym (ap (λ o. is_some_and o (λ v. may_snoop_for past v p snoop) && not (was_snooped past p addr)) f.granted)
 
-module _ (h : Header) (past : Trace) (t : Target) (x : LineRecord) where
-  -- K18 of a line
-  module _ (p i resp : ℕ) (last : Bool) (word : ℕ) (s : IsNext h past (R p i resp last word) t x) where
-    -- of a line read, the line is that of the event
-    pub read-line : (y : Transaction) → outstanding h past p Read i ≡ Some y → is_line y ≡ true → t.line ≡ Some y.addr
-    read-line y o line =
-        ap (λ (v : Target). v.line) s.target
-        ∙ line-transaction h past (outstanding h past p Read i) y.addr (let there = o in rw there (and_from _ _ line (eq-eqb y.addr y.addr refl)))
+module _ (h : Header) (past : Trace) (a : IsAccepted h past) (p i : ℕ) (y : Transaction) (o : outstanding h past p Read i ≡ Some y) where
+  -- how many transfers the read has had
+  pub read-count : (progress_of h past y).transfers ≡ transfers past y.port y.id
+  read-count = let reads = ap is_read (outstanding-name h past p Read i y o).chan in rw reads refl
 
-    -- how many transfers it has had
-    pub read-count : (y : Transaction) → outstanding h past p Read i ≡ Some y → (progress_of h past y).transfers ≡ transfers past y.port y.id
-    read-count y o = let reads = ap is_read (outstanding-name h past p Read i y o).chan in rw reads refl
-
-    may-law : (failed : Bool) → IsFailure h past t failed → (y : Transaction) → outstanding h past p Read i ≡ Some y → is_line y ≡ true
-        → may_have_beat h failed x.grant x.states (progress_of h past y) resp ≡ may_transfer h past y resp
-    may-law failed fails y o line = by x.grant (s.line y.addr (read-line y o line)).grant
-      where
-        held : StatesStand h past y.addr x.states
-        held = (s.line y.addr (read-line y o line)).states
-
-        by : (g : Option Grant) → GrantStands h past y.addr g → may_have_beat h failed g x.states (progress_of h past y) resp ≡ may_transfer h past y resp
-        by None f = let none : is_granted h past y ≡ false = ap (λ v. is_transaction v y) f in rw none refl
-        by (Some g) f =
-            elim (cases_Bool (is_its g y)) [
-              | inr n ↦ let none : is_granted h past y ≡ false = its-granted h past s.accepted y.addr g f y refl ∙ n in rw (n, none) refl
-              | inl own ↦
-                  let one = its-is h past s.accepted y.addr g f p Read i y o refl own in
-                  let yes : is_granted h past y ≡ true = its-granted h past s.accepted y.addr g f y refl ∙ own in
-                  let failed_is : failed ≡ has_failed past g.transaction = fails y.addr (read-line y o line) ∙ ap (λ v. is_some_and v (has_failed past)) f.granted in
-                  let done : are_done h failed g x.states ≡ are_snoops_done h past y = done-law h past s.accepted y.addr g f failed x.states failed_is held ∙ ap (are_snoops_done h past) one in
-                  let passed : has_passed g ≡ has_passed_data h past y = passed-law h past s.accepted y.addr g f ∙ ap (has_passed_data h past) one in
-                  let whole : is_passed_whole g ≡ are_passed_data_whole h past y = whole-law h past s.accepted y.addr g f ∙ ap (are_passed_data_whole h past) one in
-                  let first : implies ((progress_of h past y).transfers == 0) (are_done h failed g x.states) ≡ implies (transfers past y.port y.id == 0) (are_snoops_done h past y) =
-                  ap (λ n. implies (n == 0) (are_done h failed g x.states)) (read-count y o) ∙ ap (implies (transfers past y.port y.id == 0)) done in
-                  let takes : implies (has_passed g) (takes_data g y resp) ≡ implies (has_passed_data h past y) (takes_passed h past y resp) =
-                  ap (λ b. implies b (takes_data g y resp)) passed
-                  ∙ ap (λ b. implies (has_passed_data h past y) ((is_some_and (read_kind y) takes_passed_data && b) && passes_dirty resp)) whole in
-                  ap (λ b. (b && implies ((progress_of h past y).transfers == 0) (are_done h failed g x.states)) && implies (has_passed g) (takes_data g y resp)) (own ∙ sym yes)
-                  ∙ ap (λ b. (is_granted h past y && b) && implies (has_passed g) (takes_data g y resp)) first
-                  ∙ ap (λ b. (is_granted h past y && implies (transfers past y.port y.id == 0) (are_snoops_done h past y)) && b) takes
-            ]
-
-    pub k18-law : (failed : Bool) → IsFailure h past t failed
-        → is_none_or t.transaction (λ y. implies (is_line y.transaction) (may_have_beat h failed x.grant x.states y resp)) ≡ k18_line h past (R p i resp last word)
-    k18-law failed fails =
-        ap (λ (v : Target). is_none_or v.transaction (λ y. implies (is_line y.transaction) (may_have_beat h failed x.grant x.states y resp))) s.target
-        ∙ by (outstanding h past p Read i) refl
-      where
-        by : (o : Option Transaction) → outstanding h past p Read i ≡ o
-            → is_none_or (option_map (progress_of h past) o) (λ y. implies (is_line y.transaction) (may_have_beat h failed x.grant x.states y resp))
-            ≡ is_none_or o (λ y. implies (is_line y) (may_transfer h past y resp))
-        by None is = refl
-        by (Some y) is =
-            elim (cases_Bool (is_line y)) [
-              | inr n ↦ rw n refl
-              | inl line ↦ ap (implies (is_line y)) (may-law failed fails y is line)
-            ]
+  -- K18 of a line: whether it may have the transfer
+  pub may-law : (x : LineRecord) (resp : ℕ) (failed : Bool) → failed ≡ has_failed past y → LineStands h past y.addr x
+      → may_have_beat h failed x.grant x.states (progress_of h past y) resp ≡ may_transfer h past y resp
+  may-law x resp failed fails s = by x.grant s.grant
+    where
+      by : (g : Option Grant) → GrantStands h past y.addr g → may_have_beat h failed g x.states (progress_of h past y) resp ≡ may_transfer h past y resp
+      by None f = let none : is_granted h past y ≡ false = ap (λ v. is_transaction v y) f in rw none refl
+      by (Some g) f =
+          elim (cases_Bool (is_its g y)) [
+            | inr n ↦ let none : is_granted h past y ≡ false = its-granted h past a y.addr g f y refl ∙ n in rw (n, none) refl
+            | inl own ↦
+                let one = its-is h past a y.addr g f p Read i y o refl own in
+                let yes : is_granted h past y ≡ true = its-granted h past a y.addr g f y refl ∙ own in
+                let done : are_done h failed g x.states ≡ are_snoops_done h past y =
+                done-law h past a y.addr g f failed x.states (fails ∙ ap (has_failed past) (sym one)) s.states ∙ ap (are_snoops_done h past) one in
+                let passed : has_passed g ≡ has_passed_data h past y = passed-law h past a y.addr g f ∙ ap (has_passed_data h past) one in
+                let whole : is_passed_whole g ≡ are_passed_data_whole h past y = whole-law h past a y.addr g f ∙ ap (are_passed_data_whole h past) one in
+                let first : implies ((progress_of h past y).transfers == 0) (are_done h failed g x.states) ≡ implies (transfers past y.port y.id == 0) (are_snoops_done h past y) =
+                ap (λ n. implies (n == 0) (are_done h failed g x.states)) read-count ∙ ap (implies (transfers past y.port y.id == 0)) done in
+                let takes : implies (has_passed g) (takes_data g y resp) ≡ implies (has_passed_data h past y) (takes_passed h past y resp) =
+                ap (λ b. implies b (takes_data g y resp)) passed
+                ∙ ap (λ b. implies (has_passed_data h past y) ((is_some_and (read_kind y) takes_passed_data && b) && passes_dirty resp)) whole in
+                ap (λ b. (b && implies ((progress_of h past y).transfers == 0) (are_done h failed g x.states)) && implies (has_passed g) (takes_data g y resp)) (own ∙ sym yes)
+                ∙ ap (λ b. (is_granted h past y && b) && implies (has_passed g) (takes_data g y resp)) first
+                ∙ ap (λ b. (is_granted h past y && implies (transfers past y.port y.id == 0) (are_snoops_done h past y)) && b) takes
+          ]
 
 pub flip-none : {A : Type 0} → (o : Option A) (b : Bool) → is_some o ≡ not b → b ≡ is_none o
 flip-none None true e = refl

@@ -1,10 +1,7 @@
 -- What is kept of a grant after a G, after a transfer or an M of a transaction on its line, and where its transaction ends.
 use Rattle.std.proofs.Common.{arith, ◌+◌, ◌≡◌, ◌≢◌, ℕ, zero, suc, true, false, Bool, not, ◌&&◌, ◌||◌, ◌==◌, nat_eq, ◌∷◌, Option, Some, None, option_and_then, option_map, refl, sym, ap, subst, ◌∙◌, inl, inr}
 use Rattle.std.proofs.lemmas.Bool.{false_from_ne_true, and_parts, and_from, cases_Bool, cases_eq, eqb-true, eq-eqb, ne_eqb}
-use Rattle.ace_event.specs.declared.line.Line.{Line}
-use Rattle.ace_model.specs.declared.transactions.Transaction.{Transaction}
-use Rattle.ace_model.proofs.Terms.{Header, Trace, Channel, Read, Event, R, G, M, IsAccepted, newer, is_read, is_line, is_on, is_transaction, ended, outstanding, transaction_of, without, given, gives_line, granted}
-use Rattle.ace_model.proofs.Terms.{list_any, ports_below, find, shares, passes, first_sender, transfers, is_memory_write, has_memory_write, same_channel, is_begun, memory_of, copy_at_answer, memory_at_first_beat}
+use Rattle.ace_lineck.proofs.Terms.{Line, Transaction, Header, Trace, Channel, Read, Event, R, G, M, IsAccepted, newer, is_read, is_line, is_on, is_transaction, ended, outstanding, transaction_of, without, given, gives_line, granted, list_any, ports_below, find, shares, passes, first_sender, transfers, is_memory_write, has_memory_write, same_channel, is_begun, memory_of, copy_at_answer, memory_at_first_beat, line_in, Unsnooped, Grant, GrantFits, fresh_grant, fetched, settled_reply}
 use Rattle.ace_model.proofs.General.Options.{Some-injective, is_some_and-is}
 use Rattle.ace_model.proofs.Trace.Looks.{same_channel-is, same_channel-self, newest_on-older, is_on-addr}
 use Rattle.ace_model.proofs.Trace.Issued.{same_place, outstanding-named, outstanding-name}
@@ -15,10 +12,6 @@ use Rattle.ace_model.proofs.Grants.Begins.{line_due}
 use Rattle.ace_model.proofs.Values.Replies.{memory-before}
 use Rattle.ace_model.proofs.GrantLooks.Quiet.{Quiet, sharer-stays, sent-stays}
 use Rattle.ace_model.proofs.GrantLooks.Progress.{first_beat-stays, written-now, GivenFresh, given_fresh}
-use Rattle.ace_portck.specs.Targets.{line_in}
-use Rattle.ace_lineck.specs.declared.stages.Stage.TheVariants.{Unsnooped}
-use Rattle.ace_lineck.specs.declared.grant.Grant.{Grant}
-use Rattle.ace_lineck.specs.Grants.{GrantFits, fresh_grant, fetched, settled_reply}
 use Rattle.ace_lineck.proofs.OnLine.{on-transaction}
 use Rattle.ace_lineck.proofs.StateSteps.{all-same}
 use Rattle.ace_lineck.proofs.GrantFrame.{fetched-same, passed-stays}

@@ -1,15 +1,7 @@
 -- What is kept of a grant after an event of its line.
 use Rattle.std.proofs.Common.{arith, ◌+◌, ◌*◌, ◌≤◌, nat_le, ◌≡◌, ◌≢◌, ℕ, ◌%◌, true, false, Bool, not, ◌&&◌, ◌||◌, ◌==◌, if◌then◌else◌, nat_eq, nat_lt, List, ◌∷◌, length, Option, Some, None, option_map, option_and_then, unwrap_or, refl, sym, ap, subst, ◌∙◌, inl, inr}
-use Rattle.std.proofs.lemmas.Bool.{and_parts, cases_Bool, cases_eq, eqb-true, eq-eqb, ne_eqb, not-true, ltb-true, lt-ltb, lt-leb}
-use Rattle.ace_event.specs.declared.line.Line.{Line}
-use Rattle.ace_model.specs.declared.snoops.Answer.{Answer}
-use Rattle.ace_model.specs.declared.transactions.Transaction.{Transaction}
-use Rattle.ace_model.specs.Snoops.{data_beats}
-use Rattle.ace_model.specs.Grants.{is_short}
-use Rattle.ace_model.specs.Copies.{zero_line}
-use Rattle.ace_model.proofs.Terms.{Header, Trace, Event, R, Ac, Cr, Cd, G, M, LineState, IsAccepted, is_some_and, newer, is_read, ended}
-use Rattle.ace_model.proofs.Terms.{gives_line, is_snoop_to, was_snooped, answered, answer_at, answer_of, snoops_a_line, is_shared, passes_dirty, transfers_data, first_sender, sender_at, data_answers, passer, passes, at_point, transfers, is_memory_write, is_begun}
-use Rattle.ace_model.proofs.Terms.{copy_of, copy_at_answer, answers_line}
+use Rattle.std.proofs.lemmas.Bool.{and_parts, cases_Bool, cases_eq, eqb-true, eq-eqb, ne_eqb, not-true, lt-ltb, lt-leb}
+use Rattle.ace_lineck.proofs.Terms.{has_sharer, port_of, Line, Answer, Transaction, data_beats, is_short, zero_line, Header, Trace, Event, R, Ac, Cr, Cd, G, M, LineState, IsAccepted, is_some_and, newer, is_read, ended, gives_line, is_snoop_to, was_snooped, answered, answer_at, answer_of, snoops_a_line, is_shared, passes_dirty, transfers_data, first_sender, sender_at, data_answers, passer, passes, at_point, transfers, is_memory_write, is_begun, copy_of, copy_at_answer, answers_line, line_in, Stage, Unanswered, Sending, Done, Grant, GrantFits, GrantStands, IsMoved, stage_at, stage_by, stage_of, passed_by, fetched, settled_reply}
 use Rattle.ace_model.proofs.Rules.Keeps.{accepted_keeps}
 use Rattle.ace_model.proofs.General.Options.{Some-injective, newer-none}
 use Rattle.ace_model.proofs.General.Booleans.{implies-at, then_of}
@@ -21,13 +13,9 @@ use Rattle.ace_model.proofs.Values.Replies.{sender_sent}
 use Rattle.ace_model.proofs.GrantLooks.Quiet.{Quiet, copy_at_answer-old}
 use Rattle.ace_model.proofs.GrantLooks.Answered.{the_answer, answering, answer-now, answer-other, copy-now, copy-other, sharer-now, passer-same, passer-now, sender-silent, sender-now}
 use Rattle.ace_model.proofs.GrantLooks.Progress.{Untouched, begun-stays, untouched}
-use Rattle.ace_portck.specs.Targets.{line_in}
-use Rattle.ace_lineck.specs.declared.stages.Stage.{Stage}
-use Rattle.ace_lineck.specs.declared.stages.Stage.TheVariants.{Unanswered, Sending, Done}
-use Rattle.ace_lineck.specs.declared.grant.Grant.{Grant}
-use Rattle.ace_lineck.specs.Grants.{GrantFits, IsMoved, stage_at, stage_by, stage_of, passed_by, fetched, settled_reply}
 use Rattle.ace_lineck.proofs.OnLine.{on-snoop}
-use Rattle.ace_lineck.proofs.GrantFrame.{passed_at, stage-same, fits-stays, stages-stay, fetched-stays}
+use Rattle.ace_lineck.proofs.StateSteps.{port-below}
+use Rattle.ace_lineck.proofs.GrantFrame.{passed_at, stage-same, fits-stays, stages-stay, fetched-stays, none-stays}
 use Rattle.ace_lineck.proofs.Bursts.{sent_few, short-apart, beat_of, short-before, whole-now, short-now}
 
 pub otherwise_of : {A : Type 0} → (b : Bool) (t u : A) → b ≡ false → (if b then t else u) ≡ u
@@ -48,6 +36,24 @@ moved_here q x y low = rw (eq-eqb q q (refl {a = q}), low) refl
 moved_there : (p q : ℕ) (x y : Stage) → p ≢ q → (if (p == q) && nat_lt p 32 then x else y) ≡ y
 moved_there p q x y apart = rw (ne_eqb p q apart) refl
 
+-- neither a transfer nor an M
+abbrev pub serves : Event → Bool
+serves (R p i resp last word) = true
+serves (M p c i line) = true
+serves e = false
+
+-- an event that moves nothing under a grant, whatever its line
+abbrev pub is_calm : Event → Bool
+is_calm (Ac p addr snoop) = false
+is_calm (Cr p resp st) = false
+is_calm (Cd p last word) = false
+is_calm (G p c i) = false
+is_calm e = true
+
+calm-gives : (past : Trace) (l : ℕ) (e : Event) → is_calm e ≡ true → gives_line past e l ≡ false
+calm-gives past l (G p c i) s = cc
+calm-gives past l e s = refl
+
 module _ (h : Header) (past : Trace) (l : ℕ) (g : Grant) (f : GrantFits h past l g) where
   -- an event that ends no transaction leaves the grant
   pub stays-unended : (e : Event) → IsAccepted h (e ∷ past) → ended h past e ≡ None → Stays h past e l g.transaction
@@ -56,12 +62,6 @@ module _ (h : Header) (past : Trace) (l : ℕ) (g : Grant) (f : GrantFits h past
         | inl stays ↦ stays
         | inr ends ↦ let is = ends.1 in let bad : None ≡ Some ends.0 = sym none ∙ is in cc
       ]
-
-  -- neither a transfer nor an M
-  abbrev pub serves : Event → Bool
-  serves (R p i resp last word) = true
-  serves (M p c i line) = true
-  serves e = false
 
   pub untouched-idle : (e : Event) → IsAccepted h (e ∷ past) → serves e ≡ false → Untouched past e g.transaction
   untouched-idle e a idle = untouched h past e a l g.transaction f.granted (λ reads t. beat e idle t) (write e idle)
@@ -74,21 +74,9 @@ module _ (h : Header) (past : Trace) (l : ℕ) (g : Grant) (f : GrantFits h past
       write (M p c i line) s = cc
       write d s = refl
 
-  -- an event that moves nothing under a grant, whatever its line
-  abbrev pub is_calm : Event → Bool
-  is_calm (Ac p addr snoop) = false
-  is_calm (Cr p resp st) = false
-  is_calm (Cd p last word) = false
-  is_calm (G p c i) = false
-  is_calm e = true
-
   pub quiet-calm : (e : Event) → is_calm e ≡ true → Quiet past e l
-  quiet-calm e calm = record { gives = gives e calm; snoop = λ p. snoop e calm p; answer = λ p. answer e calm p; sender = sender e calm }
+  quiet-calm e calm = record { gives = calm-gives past l e calm; snoop = λ p. snoop e calm p; answer = λ p. answer e calm p; sender = sender e calm }
     where
-      gives : (d : Event) → is_calm d ≡ true → gives_line past d l ≡ false
-      gives (G p c i) s = cc
-      gives d s = refl
-
       snoop : (d : Event) → is_calm d ≡ true → (p : ℕ) → is_snoop_to d p l ≡ false
       snoop (Ac q addr code) s p = cc
       snoop d s p = refl
@@ -129,6 +117,35 @@ module _ (h : Header) (past : Trace) (l : ℕ) (g : Grant) (f : GrantFits h past
       ∙ ap (λ o. newer o (fetched (e ∷ past) g.transaction)) copies
       ∙ ap (newer (option_and_then (copy_at_answer past l) (first_sender past l))) (fetched-stays h past e l g.transaction idle)
 
+  -- where the port of the event comes to this stage, and no other port moves
+  stage_moved : (e : Event) (q : ℕ) (new : Stage) → IsAccepted h (e ∷ past) → port_of e ≡ Some q → h.ports ≤ 32 → new ≡ stage_of (e ∷ past) q l
+      → ((p : ℕ) → p ≢ q → stage_of (e ∷ past) p l ≡ stage_of past p l) → (p : ℕ) → (if (p == q) && nat_lt p 32 then new else stage_at g.stages p) ≡ stage_of (e ∷ past) p l
+  stage_moved e q new a port few here others p =
+      elim (cases_eq p q) [
+        | inr apart ↦ moved_there p q new (stage_at g.stages p) apart ∙ f.stages p ∙ sym (others p apart)
+        | inl same ↦
+            let low = port-below h past e a q port in
+            subst (λ v. (if (v == q) && nat_lt v 32 then new else stage_at g.stages v) ≡ stage_of (e ∷ past) v l) (sym same)
+            (moved_here q new (stage_at g.stages q) (lt-ltb q 32 (omega arith)) ∙ here)
+      ]
+
+  -- an event that moves stages, and nothing else
+  stages_step : (e : Event) → IsAccepted h (e ∷ past) → serves e ≡ false → ended h past e ≡ None → ((p : ℕ) → answer_of (e ∷ past) p l ≡ answer_of past p l)
+      → has_sharer h (e ∷ past) l ≡ has_sharer h past l → passer h (e ∷ past) l ≡ passer h past l → first_sender (e ∷ past) l ≡ first_sender past l
+      → (stages : List Stage) → ((p : ℕ) → stage_at stages p ≡ stage_of (e ∷ past) p l) → GrantFits h (e ∷ past) l (record g { stages = stages })
+  stages_step e a idle none answers shared passed sender stages moved =
+      let u = untouched-idle e a idle in
+      let same = copies_same e answers in
+      record {
+        granted = (stays-unended e a none).is;
+        begun = f.begun ∙ sym (begun-stays past e g.transaction u);
+        written = f.written ∙ sym u.written;
+        stages = moved;
+        shared = f.shared ∙ sym shared;
+        passed = f.passed ∙ sym (ap (option_map (passed_at (e ∷ past) l)) passed ∙ (same (passer h past l)).0);
+        reply = f.reply ∙ sym (settled_same e sender (same (first_sender past l)).1 u);
+      }
+
   -- AC: the port is snooped
   module _ (q addr code : ℕ) (a : IsAccepted h (Ac q addr code ∷ past)) (on : line_in h past (Ac q addr code) ≡ Some l) (few : h.ports ≤ 32) where
     ac_line : (snoops_a_line code ≡ true) × (addr ≡ l)
@@ -143,75 +160,32 @@ module _ (h : Header) (past : Trace) (l : ℕ) (g : Grant) (f : GrantFits h past
         let two = and_parts (_ && not (was_snooped past q addr)) _ may in
         subst (λ b. was_snooped past q b ≡ false) ac_line.1 (not-true (was_snooped past q addr) (and_parts _ (not (was_snooped past q addr)) two.0).1)
 
-    ac_low : nat_lt q 32 ≡ true
-    ac_low = let low = ltb-true q h.ports (and_parts (nat_lt q h.ports) _ (accepted_keeps h past (Ac q addr code) a).rule_1).0 in lt-ltb q 32 (omega arith)
-
-    ac_stage : (p : ℕ) → (if (p == q) && nat_lt p 32 then Unanswered else stage_at g.stages p) ≡ stage_of (Ac q addr code ∷ past) p l
-    ac_stage p =
-        elim (cases_eq p q) [
-          | inl same ↦
-              subst (λ v. (if (v == q) && nat_lt v 32 then Unanswered else stage_at g.stages v) ≡ stage_of (Ac q addr code ∷ past) v l) (sym same)
-              (let none = (snoops h past a.0).first q l ac_unsnooped in
-              rw (eq-eqb q q (refl {a = q}), ac_low, ac_line.0, eq-eqb l addr (sym ac_line.1), none) refl)
-          | inr apart ↦
-              let other = ne_eqb p q apart in
-              let stage : stage_of (Ac q addr code ∷ past) p l ≡ stage_of past p l = stage-same (Ac q addr code ∷ past) past p l (rw other refl) refl (λ w is. refl) in
-              rw other (f.stages p) ∙ sym stage
-        ]
-
     pub snoop_step : (stages : List Stage) → IsMoved g.stages stages q Unanswered → GrantFits h (Ac q addr code ∷ past) l (record g { stages = stages })
     snoop_step stages moved =
-        let e = Ac q addr code in
-        let idle = untouched-idle e a refl in
-        let same = copies_same e (λ p. refl) in
-        record {
-          granted = (stays-unended e a refl).is;
-          begun = f.begun ∙ sym (begun-stays past e g.transaction idle);
-          written = f.written ∙ sym idle.written;
-          stages = λ p. moved p ∙ ac_stage p;
-          shared = f.shared;
-          passed = f.passed ∙ sym (same (passer h past l)).0;
-          reply = f.reply ∙ sym (settled_same e (newer-none (first_sender past l)) (same (first_sender past l)).1 idle);
-        }
+        stages_step (Ac q addr code) a refl refl (λ p. refl) refl refl (newer-none (first_sender past l)) stages
+        (λ p. moved p ∙ stage_moved (Ac q addr code) q Unanswered a refl few now (λ p apart. let other = ne_eqb p q apart in stage-same (Ac q addr code ∷ past) past p l (rw other refl) refl (λ w is. refl)) p)
+      where
+        now : Unanswered ≡ stage_of (Ac q addr code ∷ past) q l
+        now = let none = (snoops h past a.0).first q l ac_unsnooped in rw (eq-eqb q q (refl {a = q}), ac_line.0, eq-eqb l addr (sym ac_line.1), none) refl
 
   -- CD: a beat of the port's data
   module _ (q : ℕ) (last : Bool) (word : ℕ) (a : IsAccepted h (Cd q last word ∷ past)) (on : line_in h past (Cd q last word) ≡ Some l) (few : h.ports ≤ 32) where
-    cd_low : nat_lt q 32 ≡ true
-    cd_low = let low = ltb-true q h.ports (and_parts (nat_lt q h.ports) _ (accepted_keeps h past (Cd q last word) a).rule_1).0 in lt-ltb q 32 (omega arith)
-
     cd_other : (p : ℕ) → p ≢ q → stage_of (Cd q last word ∷ past) p l ≡ stage_of past p l
     cd_other p apart = stage-same (Cd q last word ∷ past) past p l refl refl (λ w is. short-apart h past q last word a l p apart w)
 
     cd_fits : (stages : List Stage) → ((p : ℕ) → stage_at stages p ≡ stage_of (Cd q last word ∷ past) p l) → GrantFits h (Cd q last word ∷ past) l (record g { stages = stages })
-    cd_fits stages moved =
-        let e = Cd q last word in
-        let idle = untouched-idle e a refl in
-        let same = copies_same e (λ p. refl) in
-        record {
-          granted = (stays-unended e a refl).is;
-          begun = f.begun ∙ sym (begun-stays past e g.transaction idle);
-          written = f.written ∙ sym idle.written;
-          stages = moved;
-          shared = f.shared;
-          passed = f.passed ∙ sym (same (passer h past l)).0;
-          reply = f.reply ∙ sym (settled_same e (newer-none (first_sender past l)) (same (first_sender past l)).1 idle);
-        }
+    cd_fits = stages_step (Cd q last word) a refl refl (λ p. refl) refl refl (newer-none (first_sender past l))
 
     -- the fourth
     pub fourth_step : data_beats past q % 4 ≡ 3 → (stages : List Stage) → IsMoved g.stages stages q Done → GrantFits h (Cd q last word ∷ past) l (record g { stages = stages })
-    fourth_step fourth stages moved = cd_fits stages (λ p. moved p ∙ stage p)
+    fourth_step fourth stages moved = cd_fits stages (λ p. moved p ∙ stage_moved (Cd q last word) q Done a refl few now cd_other p)
       where
-        stage : (p : ℕ) → (if (p == q) && nat_lt p 32 then Done else stage_at g.stages p) ≡ stage_of (Cd q last word ∷ past) p l
-        stage p =
-            elim (cases_eq p q) [
-              | inr apart ↦ moved_there p q Done (stage_at g.stages p) apart ∙ f.stages p ∙ sym (cd_other p apart)
-              | inl same ↦
-                  subst (λ v. (if (v == q) && nat_lt v 32 then Done else stage_at g.stages v) ≡ stage_of (Cd q last word ∷ past) v l) (sym same)
-                  (let b = beat_of h past q last word a l on in
-                  let is : answer_of (Cd q last word ∷ past) q l ≡ Some b.answer = b.is in
-                  let whole = whole-now h past q last word a l b.answer b.sends b.bursts fourth in
-                  moved_here q Done (stage_at g.stages q) cd_low ∙ sym (ap (stage_by (Cd q last word ∷ past) q (was_snooped past q l)) is ∙ ap (λ v. if v then Sending else Done) whole))
-            ]
+        now : Done ≡ stage_of (Cd q last word ∷ past) q l
+        now =
+            let b = beat_of h past q last word a l on in
+            let is : answer_of (Cd q last word ∷ past) q l ≡ Some b.answer = b.is in
+            let whole = whole-now h past q last word a l b.answer b.sends b.bursts fourth in
+            sym (ap (stage_by (Cd q last word ∷ past) q (was_snooped past q l)) is ∙ ap (λ v. if v then Sending else Done) whole)
 
     -- an earlier one
     pub earlier_step : data_beats past q % 4 ≢ 3 → GrantFits h (Cd q last word ∷ past) l g
@@ -235,9 +209,6 @@ module _ (h : Header) (past : Trace) (l : ℕ) (g : Grant) (f : GrantFits h past
     cr_line : answers_line past q l ≡ true
     cr_line = on-snoop (answered past q) l on
 
-    cr_low : nat_lt q 32 ≡ true
-    cr_low = let low = ltb-true q h.ports (and_parts (nat_lt q h.ports) _ (accepted_keeps h past (Cr q resp st) a).rule_1).0 in lt-ltb q 32 (omega arith)
-
     -- its data, if it sends any, are still to come
     cr_short : is_short (Cr q resp st ∷ past) q (the_answer h past q resp st l a cr_line) ≡ transfers_data resp
     cr_short =
@@ -250,16 +221,10 @@ module _ (h : Header) (past : Trace) (l : ℕ) (g : Grant) (f : GrantFits h past
         ]
 
     cr_stage : (p : ℕ) → (if (p == q) && nat_lt p 32 then (if transfers_data resp then Sending else Done) else stage_at g.stages p) ≡ stage_of (Cr q resp st ∷ past) p l
-    cr_stage p =
-        elim (cases_eq p q) [
-          | inr apart ↦
-              moved_there p q (if transfers_data resp then Sending else Done) (stage_at g.stages p) apart ∙ f.stages p
-              ∙ sym (stage-same (Cr q resp st ∷ past) past p l refl (answer-other h past q resp st l a cr_line p apart) (λ w is. refl))
-          | inl same ↦
-              subst (λ v. (if (v == q) && nat_lt v 32 then (if transfers_data resp then Sending else Done) else stage_at g.stages v) ≡ stage_of (Cr q resp st ∷ past) v l) (sym same)
-              (moved_here q (if transfers_data resp then Sending else Done) (stage_at g.stages q) cr_low
-              ∙ sym (ap (stage_by (Cr q resp st ∷ past) q (was_snooped past q l)) (answer-now h past q resp st l a cr_line) ∙ ap (λ b. if b then Sending else Done) cr_short))
-        ]
+    cr_stage =
+        stage_moved (Cr q resp st) q (if transfers_data resp then Sending else Done) a refl few
+        (sym (ap (stage_by (Cr q resp st ∷ past) q (was_snooped past q l)) (answer-now h past q resp st l a cr_line) ∙ ap (λ b. if b then Sending else Done) cr_short))
+        (λ p apart. stage-same (Cr q resp st ∷ past) past p l refl (answer-other h past q resp st l a cr_line p apart) (λ w is. refl))
 
     -- the copies at the other answers
     cr_passed : passes_dirty resp ≡ false → passed_by h (Cr q resp st ∷ past) l ≡ passed_by h past l
@@ -359,3 +324,9 @@ module _ (h : Header) (past : Trace) (l : ℕ) (g : Grant) (f : GrantFits h past
               | inl t ↦ then_of (transfers_data resp) _ _ t ∙ cr_sends mine copy t
               | inr n ↦ otherwise_of (transfers_data resp) _ _ n ∙ cr_silent n idle
             ]
+
+-- what is kept of the grant of a line stays at a calm event that serves none and ends none
+pub calm-granted : (h : Header) (past : Trace) (e : Event) (l : ℕ) (g : Option Grant) → IsAccepted h (e ∷ past) → is_calm e ≡ true → serves e ≡ false → ended h past e ≡ None
+    → GrantStands h past l g → GrantStands h (e ∷ past) l g
+calm-granted h past e l None a calm idle none f = none-stays h past e l (calm-gives past l e calm) f
+calm-granted h past e l (Some g) a calm idle none f = calm-stays h past l g f e a calm idle (stays-unended h past l g f e a none)

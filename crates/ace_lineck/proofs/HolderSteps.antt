@@ -1,13 +1,8 @@
 -- What is kept of the port of an event, after the event.
 use Rattle.std.proofs.Common.{◌≡◌, ℕ, true, Bool, nat_eq, ◌<◌, length, List, ◌∷◌, Option, Some, unwrap_or, slice_get, slice_set, refl, sym, ap, subst, ◌∙◌, inl, inr}
 use Rattle.std.proofs.lemmas.Bool.{cases_eq, eq-eqb}
-use Rattle.ace_model.specs.Trace.{port_of}
-use Rattle.ace_model.proofs.Terms.{Header, Trace, Channel, Event, D, M, Line, outstanding, transaction_of, IsAccepted, merged, is_some_on, copy_of}
+use Rattle.ace_lineck.proofs.Terms.{port_of, Header, Trace, Channel, Event, D, M, Line, outstanding, transaction_of, IsAccepted, merged, is_some_on, copy_of, line_in, Target, Holder, HolderStands, HoldersStand, MemoryStands, IsHolderStep, IsHoldersStep, holder_at, empty_holder}
 use Rattle.ace_model.proofs.General.Options.{Some-injective}
-use Rattle.ace_portck.specs.Targets.{line_in}
-use Rattle.ace_portck.specs.Target.{Target}
-use Rattle.ace_lineck.specs.declared.record.Holder.{Holder}
-use Rattle.ace_lineck.specs.Holders.{HolderStands, HoldersStand, MemoryStands, IsHolderStep, IsHoldersStep, holder_at, empty_holder}
 use Rattle.ace_lineck.proofs.OnLine.{on-transaction}
 use Rattle.ace_lineck.proofs.StateSteps.{port-below, slice_get-set_other, slice_get-set_same}
 use Rattle.ace_lineck.proofs.OffLine.{holder-stays, written-of}

@@ -1,22 +1,12 @@
 -- Which lines are known: those that are used; and every line of an event that begins none.
 use Rattle.std.proofs.Common.{◌≡◌, ℕ, ◌+◌, ◌≤◌, arith, true, false, Bool, not, ◌&&◌, ◌||◌, if◌then◌else◌, nat_eq, [], ◌∷◌, length, Option, Some, None, slice_get, option_map, refl, sym, ap, subst, ◌∙◌, inl, inr}
 use Rattle.std.proofs.lemmas.Bool.{and_parts, cases_Bool, eqb-true, eq-eqb, or_cases, not-true, and_from}
-use Rattle.ace_codes.specs.declared.state.LineState.{LineState}
-use Rattle.ace_codes.specs.declared.state.LineState.TheVariants.{I, UC, UD}
-use Rattle.ace_codes.specs.Responses.{transfers_data}
-use Rattle.ace_model.specs.declared.transactions.Transaction.{Transaction}
-use Rattle.ace_model.specs.declared.snoops.Snoop.{Snoop}
-use Rattle.ace_model.specs.Lines.{is_known, known_lines, names_new_line, add_line}
-use Rattle.ace_model.proofs.Terms.{Header, Trace, Event, Ar, R, Rk, Aw, W, B, Wk, Ac, Cr, Cd, G, M, S, L, D, Op, Mem, Read, Write, IsAccepted, is_ace, is_some_and, is_line, is_on, is_no_snoop, issued, granted, outstanding, acknowledged, next_write, answered, snoop_at, snoops_a_line, is_snoop_on, state_of}
-use Rattle.ace_model.proofs.Terms.{is_silent_move, is_invalid, is_unique, may_store, wants_store, awaits_store, has_store, is_make_unique_on, is_outstanding}
+use Rattle.ace_lineck.proofs.Terms.{LineState, I, UC, UD, transfers_data, Transaction, Snoop, is_known, known_lines, names_new_line, add_line, Header, Trace, Event, Ar, R, Rk, Aw, W, B, Wk, Ac, Cr, Cd, G, M, S, L, D, Op, Mem, Read, Write, IsAccepted, is_ace, is_some_and, is_line, is_on, is_no_snoop, issued, granted, outstanding, acknowledged, next_write, answered, snoop_at, snoops_a_line, is_snoop_on, state_of, is_silent_move, is_invalid, is_unique, may_store, wants_store, awaits_store, has_store, is_make_unique_on, is_outstanding, line_in, line_of, line_of_snoop, progress_of, data_snoop_at, data_snoops, sending, use_by, newest_use, use_of, is_unknown, begins_line}
 use Rattle.ace_model.proofs.General.Options.{Some-injective, is_some_and-is, some_if-is}
 use Rattle.ace_model.proofs.General.Lists.{slice_get-more}
 use Rattle.ace_model.proofs.Trace.Growth.{some_issued-is}
 use Rattle.ace_model.proofs.Rules.Keeps.{accepted_keeps}
 use Rattle.ace_model.proofs.Lines.Known.{known-issued, known-grown, known-outstanding, known-acknowledged, known-granted, known-held, known-snooped, known-write, snooped-granted}
-use Rattle.ace_portck.specs.Targets.{line_in, line_of, line_of_snoop, progress_of, data_snoop_at, data_snoops, sending}
-use Rattle.ace_lineck.specs.Uses.{use_by, newest_use, use_of, is_unknown}
-use Rattle.ace_lineck.specs.Stands.{begins_line}
 use Rattle.ace_lineck.proofs.OnLine.{IsOff, on-transaction, on-snoop}
 use Rattle.ace_portck.proofs.Own.{make_unique-on}
 use Rattle.ace_lineck.proofs.RuleLaws.{issue-line}
@@ -70,15 +60,15 @@ few-known (e ∷ past) = by (issued (length past) e) (few-known past)
           | inr f ↦ rw f (omega arith)
         ]
 
+pub never : (b : Bool) → (b && not b) ≡ false
+never true = refl
+never false = refl
+
 -- it grows where an event makes a line used
 pub known-counts : (h : Header) (past : Trace) (e : Event) (l : ℕ) → line_in h past e ≡ Some l
     → length (known_lines (e ∷ past)) ≡ (if is_unknown (use_of past l) && not (is_unknown (use_of (e ∷ past) l)) then length (known_lines past) + 1 else length (known_lines past))
 known-counts h past e l line = by (issued (length past) e) refl
   where
-    never : (b : Bool) → (b && not b) ≡ false
-    never true = refl
-    never false = refl
-
     by : (o : Option Transaction) → issued (length past) e ≡ o
         → length (add_line past o (known_lines past)) ≡ (if is_unknown (use_of past l) && not (is_unknown (newest_use o l (use_of past l))) then length (known_lines past) + 1 else length (known_lines past))
     by None is = let none = never (is_unknown (use_of past l)) in rw none refl

@@ -1,3 +1,4 @@
+mod Terms
 -- The line of an event, and what an event of another line leaves as it is.
 pub mod OnLine
 pub mod OffLine
@@ -19,6 +20,7 @@ pub mod KnownLines
 pub mod Places
 pub mod AllLines
 pub mod Rooms
+pub mod Heard
 -- What the rules say, in the words of what is kept.
 pub mod RuleLaws
 pub mod GrantLaws
@@ -27,6 +29,7 @@ pub mod ReplyLaws
 pub mod WriteLaws
 -- What the interconnect looks up of a line.
 pub mod LineLooks
+pub mod WaitingLooks
 -- Which rule is told, where one is asked by itself, and where two are asked in order.
 pub mod Asked
 -- The AR or AW of a line transaction: what it asks of its line.

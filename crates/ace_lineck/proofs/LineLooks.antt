@@ -1,20 +1,10 @@
 -- What is kept of a line, looked up for the transaction that is granted on it.
 use Rattle.std.proofs.Common.{◌≡◌, ℕ, true, false, not, ◌&&◌, if◌then◌else◌, Option, Some, None, option_map, refl, sym, ap, ◌∙◌}
 use Rattle.std.proofs.lemmas.Bool.{and_parts}
-use Rattle.ace_codes.specs.declared.kind.AwKind.{AwKind}
-use Rattle.ace_event.specs.declared.event.Channel.{Channel}
-use Rattle.ace_event.specs.declared.event.Channel.TheVariants.{Read, Write}
-use Rattle.ace_event.specs.declared.line.Line.{Line}
-use Rattle.ace_model.specs.declared.transactions.Transaction.{Transaction}
-use Rattle.ace_model.specs.WriteRules.{data_of}
+use Rattle.ace_lineck.proofs.Terms.{AwKind, Channel, Read, Write, Line, Transaction, data_of, Header, Trace, IsAccepted, is_some_and, is_read, write_kind, has_write_data, granted, has_passed_data, has_sharer, passed_data, memory_of, reply_of, is_burst_whole, has_memory_write, WriteData, Grant, GrantStands, has_passed, is_shared_under, reply_kept, written_kept}
 use Rattle.ace_model.specs.WriteRules as rules
-use Rattle.ace_model.proofs.Terms.{Header, Trace, IsAccepted, is_some_and, is_read, write_kind, has_write_data, granted, has_passed_data, has_sharer, passed_data, memory_of, reply_of, is_burst_whole, has_memory_write}
 use Rattle.ace_model.proofs.General.Options.{Some-injective, is_some_and-is, some_if-is}
 use Rattle.ace_portck.specs.Targets.{data_of_write}
-use Rattle.ace_portck.specs.declared.target.WriteData.{WriteData}
-use Rattle.ace_lineck.specs.declared.grant.Grant.{Grant}
-use Rattle.ace_lineck.specs.Grants.{GrantStands}
-use Rattle.ace_lineck.specs.Kept.{has_passed, is_shared_under, reply_kept, written_kept}
 use Rattle.ace_lineck.proofs.GrantLaws.{passed-law}
 use Rattle.ace_lineck.proofs.ReplyLaws.{reply-law}
 use Rattle.ace_lineck.proofs.WriteLaws.{the_burst, written-law}

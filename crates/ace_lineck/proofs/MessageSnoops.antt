@@ -1,12 +1,7 @@
 -- An AC of DVM has no line: no rule of the share looks at it, and all lines stay as they are.
 use Rattle.std.proofs.Common.{◌≡◌, ℕ, false, None, refl}
 use Rattle.std.proofs.lemmas.Bool.{eq-eqb}
-use Rattle.ace_model.specs.Accepted.{least_broken, least_of}
-use Rattle.ace_model.specs.Shares.{line_rules}
-use Rattle.ace_model.proofs.Terms.{Ac, Header, Trace, snoops_a_line}
-use Rattle.ace_portck.specs.Targets.{Recording, after, line_in}
-use Rattle.ace_lineck.specs.declared.lines.LineCheck.{LineCheck}
-use Rattle.ace_lineck.specs.Stands.{Stands}
+use Rattle.ace_lineck.proofs.Terms.{least_broken, least_of, line_rules, Ac, Header, Trace, snoops_a_line, Recording, after, line_in, LineCheck, Stands}
 use Rattle.ace_lineck.proofs.AllLines.{unchanged}
 
 module _ (h : Header) (past : Trace) (p addr code : ℕ) (off : snoops_a_line code ≡ false) where

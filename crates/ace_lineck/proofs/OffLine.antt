@@ -1,16 +1,10 @@
 -- An event of another line, or of another port, leaves what a port has of a line; and an event of another line leaves its memory and
 -- how it is used.
-use Rattle.std.proofs.Common.{◌≡◌, ℕ, true, Bool, ◌&&◌, nat_eq, ◌∷◌, length, Some, refl, sym, ap, subst, ◌∙◌, inl, inr}
-use Rattle.std.proofs.lemmas.Bool.{and_parts, cases_Bool, eqb-true}
-use Rattle.ace_model.specs.Trace.{port_of}
-use Rattle.ace_model.proofs.Terms.{Header, Trace, Channel, Read, Write, Event, R, Rk, Wk, Cr, M, S, D, Mem, LineState, IsAccepted, is_ace, is_some_and, is_on, is_some_on, outstanding, transaction_of, acknowledged}
-use Rattle.ace_model.proofs.Terms.{answers_line, answered, transfers_data, state_of, copy_of, words_read, is_line_read_transaction, is_due, may_write_memory}
+use Rattle.std.proofs.Common.{◌≡◌, ℕ, true, false, Bool, ◌&&◌, nat_eq, ◌∷◌, length, Some, refl, sym, ap, subst, ◌∙◌}
+use Rattle.std.proofs.lemmas.Bool.{and_parts, eqb-true, false_from_ne_true}
+use Rattle.ace_lineck.proofs.Terms.{port_of, Header, Trace, Channel, Read, Write, Event, R, Rk, Wk, Cr, M, S, D, Mem, LineState, IsAccepted, is_ace, is_some_and, is_on, is_some_on, outstanding, transaction_of, acknowledged, answers_line, answered, transfers_data, state_of, copy_of, memory_of, words_read, is_line_read_transaction, is_due, may_write_memory, line_in, Holder, HolderStands, sent_on}
 use Rattle.ace_model.proofs.Rules.Keeps.{accepted_keeps}
 use Rattle.ace_model.proofs.General.Options.{is_some_and-is}
-use Rattle.ace_portck.specs.Targets.{line_in}
-use Rattle.ace_lineck.specs.declared.record.Holder.{Holder}
-use Rattle.ace_lineck.specs.Holders.{HolderStands, HoldersStand, MemoryStands, sent_on}
-use Rattle.ace_lineck.specs.States.{StatesStand}
 use Rattle.ace_lineck.proofs.OnLine.{IsOff, line-transaction, line-snoop, outstanding-of}
 
 module _ (h : Header) (past : Trace) where
@@ -38,45 +32,28 @@ module _ (h : Header) (past : Trace) where
   abbrev pub IsApart : Event → ℕ → ℕ → Type 0
   IsApart e p l = port_of e ≡ Some p → IsOff h past e l
 
-  same_port : (p q : ℕ) → nat_eq p q ≡ true → Some q ≡ Some p
-  same_port p q t = ap Some (sym (eqb-true p q t))
+  -- what would be so of the line of the event at its port isn't so at another line or port
+  no-part : (e : Event) (p q l : ℕ) (test : ℕ → Bool) → IsApart e p l → port_of e ≡ Some q → (test q ≡ true → line_in h past e ≡ Some l) → (nat_eq p q && test p) ≡ false
+  no-part e p q l test n port on =
+      false_from_ne_true (nat_eq p q && test p) (λ t.
+      let parts = and_parts (nat_eq p q) (test p) t in
+      let same = eqb-true p q parts.0 in
+      n (port ∙ ap Some (sym same)) (on (subst (λ v. test v ≡ true) same parts.1)))
+
+  between : (x b t : Bool) → (x && t) ≡ false → ((x && b) && t) ≡ false
+  between true true t f = f
+  between true false t f = refl
+  between false b t f = refl
+
+  on-addr : (l addr : ℕ) → nat_eq l addr ≡ true → Some addr ≡ Some l
+  on-addr l addr t = ap Some (sym (eqb-true l addr t))
 
   pub off-state : (e : Event) → IsAccepted h (e ∷ past) → (p l : ℕ) → IsApart e p l → state_of h (e ∷ past) p l ≡ state_of h past p l
-  off-state (Rk q st) a p l n =
-      elim (cases_Bool (nat_eq p q && is_some_on (acknowledged past p Read) l)) [
-        | inr f ↦ rw f refl
-        | inl t ↦
-            let parts = and_parts (nat_eq p q) (is_some_on (acknowledged past p Read) l) t in
-            absurd (n (same_port p q parts.0) (line-rk q st a l (subst (λ v. is_some_on (acknowledged past v Read) l ≡ true) (eqb-true p q parts.0) parts.1)))
-      ]
-  off-state (Wk q st) a p l n =
-      elim (cases_Bool (nat_eq p q && is_some_on (acknowledged past p Write) l)) [
-        | inr f ↦ rw f refl
-        | inl t ↦
-            let parts = and_parts (nat_eq p q) (is_some_on (acknowledged past p Write) l) t in
-            absurd (n (same_port p q parts.0) (line-wk q st a l (subst (λ v. is_some_on (acknowledged past v Write) l ≡ true) (eqb-true p q parts.0) parts.1)))
-      ]
-  off-state (Cr q resp st) a p l n =
-      elim (cases_Bool (nat_eq p q && answers_line past p l)) [
-        | inr f ↦ rw f refl
-        | inl t ↦
-            let parts = and_parts (nat_eq p q) (answers_line past p l) t in
-            absurd (n (same_port p q parts.0) (line-snoop (answered past q) l (subst (λ v. answers_line past v l ≡ true) (eqb-true p q parts.0) parts.1)))
-      ]
-  off-state (S q addr st) a p l n =
-      elim (cases_Bool (nat_eq p q && nat_eq l addr)) [
-        | inr f ↦ rw f refl
-        | inl t ↦
-            let parts = and_parts (nat_eq p q) (nat_eq l addr) t in
-            absurd (n (same_port p q parts.0) (ap Some (sym (eqb-true l addr parts.1))))
-      ]
-  off-state (D q addr strobe x line) a p l n =
-      elim (cases_Bool (nat_eq p q && nat_eq l addr)) [
-        | inr f ↦ rw f refl
-        | inl t ↦
-            let parts = and_parts (nat_eq p q) (nat_eq l addr) t in
-            absurd (n (same_port p q parts.0) (ap Some (sym (eqb-true l addr parts.1))))
-      ]
+  off-state (Rk q st) a p l n = let f = no-part (Rk q st) p q l (λ v. is_some_on (acknowledged past v Read) l) n refl (line-rk q st a l) in rw f refl
+  off-state (Wk q st) a p l n = let f = no-part (Wk q st) p q l (λ v. is_some_on (acknowledged past v Write) l) n refl (line-wk q st a l) in rw f refl
+  off-state (Cr q resp st) a p l n = let f = no-part (Cr q resp st) p q l (λ v. answers_line past v l) n refl (line-snoop (answered past q) l) in rw f refl
+  off-state (S q addr st) a p l n = let f = no-part (S q addr st) p q l (λ v. nat_eq l addr) n refl (on-addr l addr) in rw f refl
+  off-state (D q addr strobe x line) a p l n = let f = no-part (D q addr strobe x line) p q l (λ v. nat_eq l addr) n refl (on-addr l addr) in rw f refl
   off-state _ a p l n = refl
 
   -- a line that is received whole is that of the event
@@ -91,32 +68,14 @@ module _ (h : Header) (past : Trace) where
 
   pub off-copy : (e : Event) → IsAccepted h (e ∷ past) → (p l : ℕ) → IsApart e p l → copy_of (e ∷ past) p l ≡ copy_of past p l
   off-copy (R q i resp last word) a p l n =
-      elim (cases_Bool ((nat_eq p q && nat_eq (length (words_read past p i)) 3) && is_some_and (transaction_of past p Read i) (λ x. is_on x l && is_line_read_transaction x))) [
-        | inr f ↦ rw f refl
-        | inl t ↦
-            let parts = and_parts (nat_eq p q && nat_eq (length (words_read past p i)) 3) _ t in
-            let port = (and_parts (nat_eq p q) _ parts.0).0 in
-            absurd (n (same_port p q port) (received-on q i resp last word a l
-            (subst (λ v. is_some_and (transaction_of past v Read i) (λ x. is_on x l && is_line_read_transaction x) ≡ true) (eqb-true p q port) parts.1)))
-      ]
-  off-copy (D q addr strobe x line) a p l n =
-      elim (cases_Bool (nat_eq p q && nat_eq l addr)) [
-        | inr f ↦ rw f refl
-        | inl t ↦
-            let parts = and_parts (nat_eq p q) (nat_eq l addr) t in
-            absurd (n (same_port p q parts.0) (ap Some (sym (eqb-true l addr parts.1))))
-      ]
+      let test = λ (v : ℕ). is_some_and (transaction_of past v Read i) (λ x. is_on x l && is_line_read_transaction x) in
+      let f = between (nat_eq p q) (nat_eq (length (words_read past p i)) 3) (test p) (no-part (R q i resp last word) p q l test n refl (received-on q i resp last word a l)) in rw f refl
+  off-copy (D q addr strobe x line) a p l n = let f = no-part (D q addr strobe x line) p q l (λ v. nat_eq l addr) n refl (on-addr l addr) in rw f refl
   off-copy _ a p l n = refl
 
   pub off-sent : (e : Event) → (p l : ℕ) → IsApart e p l → sent_on (e ∷ past) p l ≡ sent_on past p l
   off-sent (Cr q resp st) p l n =
-      elim (cases_Bool ((nat_eq p q && transfers_data resp) && answers_line past p l)) [
-        | inr f ↦ rw f refl
-        | inl t ↦
-            let parts = and_parts (nat_eq p q && transfers_data resp) (answers_line past p l) t in
-            let port = (and_parts (nat_eq p q) (transfers_data resp) parts.0).0 in
-            absurd (n (same_port p q port) (line-snoop (answered past q) l (subst (λ v. answers_line past v l ≡ true) (eqb-true p q port) parts.1)))
-      ]
+      let f = between (nat_eq p q) (transfers_data resp) (answers_line past p l) (no-part (Cr q resp st) p q l (λ v. answers_line past v l) n refl (line-snoop (answered past q) l)) in rw f refl
   off-sent _ p l n = refl
 
   -- what is kept of a port stays
@@ -126,25 +85,10 @@ module _ (h : Header) (past : Trace) where
     sent = s.sent ∙ sym (off-sent e p l n);
   }
 
-  -- at an event of another line what is kept of all ports stays
-  pub states-stay : (e : Event) → IsAccepted h (e ∷ past) → (l : ℕ) (xs : _) → IsOff h past e l → StatesStand h past l xs → StatesStand h (e ∷ past) l xs
-  states-stay e a l xs n s = record { state = λ p. s.state p ∙ sym (off-state e a p l (λ q. n)) }
-
-  pub holders-stay : (e : Event) → IsAccepted h (e ∷ past) → (l : ℕ) (xs : _) → IsOff h past e l → HoldersStand past l xs → HoldersStand (e ∷ past) l xs
-  holders-stay e a l xs n s = record {
-    copy = λ p. s.copy p ∙ sym (off-copy e a p l (λ q. n));
-    sent = λ p. s.sent p ∙ sym (off-sent e p l (λ q. n));
-  }
-
-  pub memory-stays : (e : Event) → IsAccepted h (e ∷ past) → (l : ℕ) (m : _) → IsOff h past e l → MemoryStands past l m → MemoryStands (e ∷ past) l m
-  memory-stays (M q c i line) a l m n s =
-      elim (cases_Bool (is_some_on (transaction_of past q c i) l)) [
-        | inr f ↦ record { memory = rw f s.memory }
-        | inl t ↦ absurd (n (line-transaction h past (outstanding h past q c i) l (subst (λ o. is_some_on o l ≡ true) (written-of q c i line a) t)))
-      ]
-  memory-stays (Mem addr line) a l m n s =
-      elim (cases_Bool (nat_eq l addr)) [
-        | inr f ↦ record { memory = rw f s.memory }
-        | inl t ↦ absurd (n (ap Some (sym (eqb-true l addr t))))
-      ]
-  memory-stays _ a l m n s = record { memory = s.memory }
+  -- and so does memory
+  pub off-memory : (e : Event) → IsAccepted h (e ∷ past) → (l : ℕ) → IsOff h past e l → memory_of (e ∷ past) l ≡ memory_of past l
+  off-memory (M q c i line) a l n =
+      let f = false_from_ne_true (is_some_on (transaction_of past q c i) l)
+      (λ t. n (line-transaction h past (outstanding h past q c i) l (subst (λ o. is_some_on o l ≡ true) (written-of q c i line a) t))) in rw f refl
+  off-memory (Mem addr line) a l n = let f = false_from_ne_true (nat_eq l addr) (λ t. n (on-addr l addr t)) in rw f refl
+  off-memory _ a l n = refl

@@ -1,12 +1,9 @@
 -- The line of an event is that of what it belongs to.
 use Rattle.std.proofs.Common.{◌≡◌, ℕ, true, false, Bool, ◌&&◌, if◌then◌else◌, nat_eq, Option, Some, None, option_map, sym, ap, ◌∙◌}
 use Rattle.std.proofs.lemmas.Bool.{eqb-true, eq-eqb, false_from_ne_true}
-use Rattle.ace_model.specs.declared.snoops.Snoop.{Snoop}
-use Rattle.ace_model.specs.declared.transactions.Transaction.{Transaction}
-use Rattle.ace_model.proofs.Terms.{Header, Trace, Event, Channel, is_line, is_some_on, is_some_and, snoops_a_line, is_snoop_on, outstanding, transaction_of}
+use Rattle.ace_lineck.proofs.Terms.{Snoop, Transaction, Header, Trace, Event, Channel, is_line, is_some_on, is_some_and, snoops_a_line, is_snoop_on, outstanding, transaction_of, line_of, line_of_snoop, line_in, progress_of}
 use Rattle.ace_model.proofs.General.Options.{Some-injective, is_some_and-is}
 use Rattle.ace_model.proofs.Trace.Issued.{outstanding-named}
-use Rattle.ace_portck.specs.Targets.{line_of, line_of_snoop, line_in, progress_of}
 
 -- the event is not on the line
 abbrev pub IsOff : Header → Trace → Event → ℕ → Type 0

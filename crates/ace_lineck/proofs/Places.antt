@@ -1,16 +1,10 @@
 -- Where the records of the lines stand in the map.
 use Rattle.std.proofs.Common.{◌≡◌, ◌<◌, ℕ, Bool, length, suc, ◌+◌, nat_eq, true, false, List, [], ◌∷◌, Option, Some, None, is_some, unwrap_or, slice_get, refl, sym, ap, subst, ◌∙◌, arith}
 use Rattle.std.proofs.lemmas.Bool.{eqb-true, ne_eqb}
-use Rattle.std.specs.List.{position_or_len}
-use Rattle.std.specs.Cmp.{nat_eq_equiv}
-use Rattle.std.specs.Map.{keys_of, values_of}
-use Rattle.indexmap.specs.IndexMap.{get, values, with_value_at, IsUnique}
+use Rattle.ace_lineck.proofs.Terms.{position_or_len, nat_eq_equiv, keys_of, values_of, get, values, with_value_at, IsUnique, LineCheck, LineRecord, HasRecord, place_on, record_on}
 use Rattle.indexmap.proofs.CallerLemmas.{updates-with_value_at}
 use Rattle.indexmap.proofs.MapLemmas.{Found-position, index-first, some_index}
 use Rattle.indexmap.proofs.RemoveLemmas.{own_first}
-use Rattle.ace_lineck.specs.declared.lines.LineCheck.{LineCheck}
-use Rattle.ace_lineck.specs.declared.record.LineRecord.{LineRecord}
-use Rattle.ace_lineck.specs.Stands.{HasRecord, place_on, record_on}
 
 first-entry : {X : Type 0} (l : ℕ) (es : List (ℕ × X)) (x : X) → slice_get (values_of es) (position_or_len (nat_eq l) (keys_of es)) ≡ Some x
     → slice_get es (position_or_len (nat_eq l) (keys_of es)) ≡ Some (l, x)

@@ -1,11 +1,7 @@
 -- The line that a port receives whole with the fourth R of its read is the reply that is kept of the grant.
 use Rattle.std.proofs.Common.{◌≡◌, ◌≢◌, ℕ, ◌+◌, true, false, Bool, ◌&&◌, nat_eq, [], ◌∷◌, ◌++◌, length, length-append, Option, Some, None, slice_get, option_map, option_and_then, unwrap_or, refl, sym, ap, ◌∙◌, arith, inl, inr}
 use Rattle.std.proofs.lemmas.Bool.{and_parts, eqb-true, eq-eqb, ne_eqb}
-use Rattle.ace_event.specs.declared.line.Line.{Line}
-use Rattle.ace_model.specs.declared.transactions.Transaction.{Transaction}
-use Rattle.ace_model.specs.Trace.{newer}
-use Rattle.ace_model.specs.Copies.{received}
-use Rattle.ace_model.proofs.Terms.{Header, Trace, R, Read, IsAccepted, is_read, is_line, is_on, is_some_and, outstanding, transaction_of, transfers, words_read, is_line_read_transaction, granted, word_of, reply_of, first_sender, copy_at_answer, memory_at_first_beat}
+use Rattle.ace_lineck.proofs.Terms.{Line, Transaction, newer, received, Header, Trace, R, Read, IsAccepted, is_read, is_line, is_on, is_some_and, outstanding, transaction_of, transfers, words_read, is_line_read_transaction, granted, word_of, reply_of, first_sender, copy_at_answer, memory_at_first_beat, line_in, progress_of, Target, Grant, LineRecord, GrantStands, settled_reply, IsRecordStep, has_three}
 use Rattle.ace_model.proofs.General.Options.{Some-injective}
 use Rattle.ace_model.proofs.General.Lists.{slice_get-more}
 use Rattle.ace_model.proofs.Trace.Looks.{is_on-addr}
@@ -15,12 +11,6 @@ use Rattle.ace_model.proofs.Grants.Granted.{granted_at}
 use Rattle.ace_model.proofs.Values.FullReads.{words-length}
 use Rattle.ace_model.proofs.Values.MergedLines.{whole_line}
 use Rattle.ace_model.proofs.Lines.ReplyWords.{word-replied, reply-words}
-use Rattle.ace_portck.specs.Targets.{line_in, progress_of}
-use Rattle.ace_portck.specs.Target.{Target}
-use Rattle.ace_lineck.specs.declared.grant.Grant.{Grant}
-use Rattle.ace_lineck.specs.declared.record.LineRecord.{LineRecord}
-use Rattle.ace_lineck.specs.Grants.{GrantStands, settled_reply}
-use Rattle.ace_lineck.specs.Records.{IsRecordStep, has_three}
 use Rattle.ace_lineck.proofs.OnLine.{on-transaction}
 
 newer-some : (o : Option Line) (m : Line) → newer o (Some m) ≡ Some (unwrap_or o m)

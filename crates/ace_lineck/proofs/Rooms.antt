@@ -1,37 +1,24 @@
 -- What leaves the room that there is for lines.
 use Rattle.std.proofs.Common.{◌≡◌, ℕ, zero, suc, ◌+◌, ◌≤◌, ◌<◌, nat_eq, ◌∷◌, length, is_some, unwrap_or, refl, sym, ap, subst, ◌∙◌, arith}
-use Rattle.std.specs.List.{All, IsDistinct, list_any}
-use Rattle.std.specs.Map.{lookup}
+use Rattle.ace_lineck.proofs.Terms.{All, IsDistinct, list_any, lookup, get, index_map_len, keys, spare, with_value_at, Event, Trace, HasRoomForLines, Recording, LineCheck, LineRecord, IsFresh, LineStands, Stands, IsEmpty, IsRoomy, record_of}
 use Rattle.std.proofs.lemmas.Map.Made.{is_some-lookup}
-use Rattle.indexmap.specs.IndexMap.{get, index_map_len, keys, spare, with_value_at}
 use Rattle.indexmap.proofs.CallerLemmas.{keys-with_value_at, index_map_len-with_value_at}
-use Rattle.ace_event.specs.declared.event.Event.{Event}
-use Rattle.ace_model.proofs.Terms.{Trace}
-use Rattle.ace_portck.specs.LineMaps.{HasRoomForLines}
-use Rattle.ace_portck.specs.Targets.{Recording}
 use Rattle.ace_portck.proofs.LineMaps.{room-same, room-stays}
-use Rattle.ace_lineck.specs.declared.lines.LineCheck.{LineCheck}
-use Rattle.ace_lineck.specs.declared.record.LineRecord.{LineRecord}
-use Rattle.ace_lineck.specs.Records.{IsFresh, LineStands}
-use Rattle.ace_lineck.specs.Stands.{Stands, IsEmpty, IsRoomy, record_of}
 
 -- a record that is written
-pub written-roomy : (lines : ℕ) (past : Trace) (s : LineCheck) (i : ℕ) (y : LineRecord) → IsRoomy lines past s → HasRoomForLines lines past (with_value_at s.lines i y)
-written-roomy lines past s i y room =
-    let m = s.lines in
-    let n = with_value_at m i y in
-    let same : keys n ≡ keys m = keys-with_value_at m i y in
-    let len : index_map_len n ≡ index_map_len m = index_map_len-with_value_at m i y in
-    room-same lines past m n room.map
-    (λ l. is_some-lookup (nat_eq l) n.entries ∙ ap (list_any (nat_eq l)) same ∙ sym (is_some-lookup (nat_eq l) m.entries))
-    (omega (arith, len)) (omega arith) (subst (IsDistinct nat_eq) (sym same) room.map.unique)
-
-pub written-records : (lines : ℕ) (past : Trace) (s : LineCheck) (i : ℕ) (y : LineRecord) → IsRoomy lines past s
-    → lines ≤ index_map_len (with_value_at s.lines i y) + length s.spare.items
-written-records lines past s i y room =
-    let len : index_map_len (with_value_at s.lines i y) ≡ index_map_len s.lines = index_map_len-with_value_at s.lines i y in
+pub written-fits : (s t : LineCheck) (i : ℕ) (y : LineRecord) → t.lines ≡ with_value_at s.lines i y → t.spare ≡ s.spare → (lines : ℕ) (past : Trace) → IsRoomy lines past s → IsRoomy lines past t
+written-fits s t i y written kept lines past room =
+    let n = with_value_at s.lines i y in
+    let same : keys n ≡ keys s.lines = keys-with_value_at s.lines i y in
+    let len : index_map_len n ≡ index_map_len s.lines = index_map_len-with_value_at s.lines i y in
     let records = room.records in
-    omega (arith, len, records)
+    record {
+      map = subst (HasRoomForLines lines past) (sym written)
+          (room-same lines past s.lines n room.map
+          (λ l. is_some-lookup (nat_eq l) n.entries ∙ ap (list_any (nat_eq l)) same ∙ sym (is_some-lookup (nat_eq l) s.lines.entries))
+          (omega (arith, len)) (omega arith) (subst (IsDistinct nat_eq) (sym same) room.map.unique));
+      records = rw (written, kept) (omega (arith, len, records));
+    }
 
 -- the trace grows
 pub grown-roomy : (lines : ℕ) (past : Trace) (e : Event) (s : LineCheck) → IsRoomy lines past s → IsRoomy lines (e ∷ past) s

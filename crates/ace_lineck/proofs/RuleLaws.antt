@@ -1,37 +1,14 @@
 -- What the rules say, in the words of what is kept of the line.
-use Rattle.std.proofs.Common.{◌≡◌, ℕ, true, false, Bool, not, ◌&&◌, ◌||◌, ◌==◌, if◌then◌else◌, [], ◌∷◌, length, Option, Some, None, is_some, option_map, refl, sym, ap, subst, ◌∙◌, inl, inr}
-use Rattle.std.proofs.lemmas.Bool.{and_parts, and_from, cases_Bool, eq-eqb, false_from_ne_true, or_right}
-use Rattle.ace_codes.specs.declared.kind.AwKind.TheVariants as write
+use Rattle.std.proofs.Common.{◌≡◌, ℕ, true, false, Bool, not, ◌&&◌, if◌then◌else◌, [], ◌∷◌, length, Option, Some, None, is_some, option_map, refl, sym, ap, subst, ◌∙◌, inl, inr}
+use Rattle.std.proofs.lemmas.Bool.{and_parts, cases_Bool, false_from_ne_true}
 use Rattle.ace_codes.specs.declared.kind.SnoopKind.TheVariants as snoop
-use Rattle.ace_event.specs.declared.line.Line.{Line}
-use Rattle.ace_tables.specs.Answers.{is_snoop_row, same_test}
-use Rattle.ace_tables.specs.EndStates.{ends_write}
-use Rattle.ace_model.specs.declared.transactions.Transaction.{Transaction}
-use Rattle.ace_model.specs.declared.snoops.Snoop.{Snoop}
-use Rattle.ace_model.specs.Shares.{k11_data, k17_data, fits_copy}
-use Rattle.ace_model.specs.Replies.{next_sent, next_sent_beat}
-use Rattle.ace_model.proofs.Terms.{Header, Trace, Event, Ar, Aw, W, Wk, Cd, L, D, Write, AwKind, SnoopKind, LineState, I, IsAccepted, implies, is_some_and, is_none_or, is_ace, is_read, is_line, is_on, is_line_write, is_line_read, is_line_snoop, is_update, is_make_unique, read_kind, write_kind}
-use Rattle.ace_model.proofs.Terms.{issued, acknowledged, state_of, copy_of, word_of, next_write, next_write_beat, is_snoop_on, updates_memory, has_outstanding_on, has_store, each_issued, is_no_snoop, is_used_alike}
-use Rattle.ace_model.proofs.Terms.{k28, k30, k31, k32, held_of, full_line, is_invalid, is_unique, some_issued, wants_store}
+use Rattle.ace_lineck.proofs.Terms.{is_snoop_row, same_test, Transaction, Header, Trace, Event, Ar, Aw, SnoopKind, LineState, IsAccepted, implies, is_some_and, is_read, is_line, is_on, is_line_snoop, is_make_unique, read_kind, issued, has_outstanding_on, has_store, each_issued, is_no_snoop, is_used_alike, some_issued, wants_store, line_in, own_of, progress_of, Progress, Use, Unknown, Shareable, NoSnoop, use_by, use_of, newest_use, goes_with}
 use Rattle.ace_model.proofs.General.Options.{Some-injective}
 use Rattle.ace_model.proofs.General.Booleans.{implies-at}
 use Rattle.ace_model.proofs.Trace.Growth.{IsIssued, issued-new, issued-old, issued-cases, each_issued-at, some_issued-is}
-use Rattle.ace_model.proofs.Trace.Issued.{transaction_of-name}
-use Rattle.ace_model.proofs.Trace.Outstanding.{acknowledged_is}
 use Rattle.ace_model.proofs.Holders.ShareableLines.{used_alike}
-use Rattle.ace_model.proofs.Lines.Known.{data_write-issued}
-use Rattle.ace_portck.specs.Targets.{line_in, own_of, progress_of, sending}
-use Rattle.ace_portck.specs.declared.target.Progress.{Progress}
-use Rattle.ace_portck.specs.Target.{Target}
-use Rattle.ace_lineck.specs.declared.record.Use.{Use}
-use Rattle.ace_lineck.specs.declared.record.Use.TheVariants.{Unknown, Shareable, NoSnoop}
-use Rattle.ace_lineck.specs.declared.record.LineRecord.{LineRecord}
-use Rattle.ace_lineck.specs.Holders.{holder_at, awaits_store, sent_on}
-use Rattle.ace_lineck.specs.Uses.{use_by, use_of, newest_use, goes_with}
-use Rattle.ace_lineck.specs.Records.{LineStands, IsNext}
+use Rattle.ace_lineck.specs.Holders.{awaits_store}
 use Rattle.ace_portck.proofs.Own.{has_outstanding-own, wants_store-own, awaits_own_store}
-use Rattle.ace_lineck.proofs.Sent.{next-sent, none-sent, sends-a_line}
-use Rattle.ace_lineck.specs.States.{state_at}
 
 -- the line of an event that issues a transaction
 pub issue-line : (h : Header) (past : Trace) (e : Event) (y : Transaction) → issued (length past) e ≡ Some y → line_in h past e ≡ (if is_line y then Some y.addr else None)
@@ -145,10 +122,6 @@ pub implies-true : (b c : Bool) → c ≡ true → implies b c ≡ true
 implies-true true c e = e
 implies-true false c e = refl
 
-update-line : (k : AwKind) → is_update k ≡ true → is_line_write k ≡ true
-update-line write.Barrier u = cc
-update-line k u = refl
-
 make_unique-reads : (past : Trace) (x : Transaction) → awaits_own_store past x ≡ true → is_read x.chan ≡ true
 make_unique-reads past x t =
     elim (cases_Bool (is_read x.chan)) [
@@ -156,51 +129,16 @@ make_unique-reads past x t =
       | inr writes ↦ let bad = (and_parts (is_some_and (read_kind x) is_make_unique) _ t).0 in let no : false ≡ true = rw writes at bad in cc
     ]
 
-module _ (h : Header) (past : Trace) (t : Target) (x : LineRecord) where
-  -- what is kept of the line of the event stands
-  stands : (e : Event) → IsNext h past e t x → (l : ℕ) → line_in h past e ≡ Some l → LineStands h past l x
-  stands e s l on = s.line l (ap (λ (v : Target). v.line) s.target ∙ on)
-
-  state : (e : Event) → IsNext h past e t x → (p l : ℕ) → line_in h past e ≡ Some l → state_at x.states p ≡ state_of h past p l
-  state e s p l on = (stands e s l on).states.state p
-
-  pub k11-law : (p strb : ℕ) (last : Bool) (word : ℕ) → IsNext h past (W p strb last word) t x
-      → is_none_or t.transaction (λ y. implies (updates_memory y.transaction) (word == word_of (holder_at x.holders.items p).copy t.beat)) ≡ k11_data h past (W p strb last word)
-  k11-law p strb last word s =
-      let trans : t.transaction ≡ option_map (progress_of h past) (next_write past p) = ap (λ (v : Target). v.transaction) s.target in
-      let beat : t.beat ≡ next_write_beat past p = ap (λ (v : Target). v.beat) s.target in
-      rw (trans, beat) (by (next_write past p) refl)
-    where
-      fits : (z : Transaction) → next_write past p ≡ Some z → (k : Option AwKind) → write_kind z ≡ k
-          → implies (is_some_and k is_update) (word == word_of (holder_at x.holders.items p).copy (next_write_beat past p))
-          ≡ is_none_or k (λ k. implies (is_update k) (word == word_of (copy_of past z.port z.addr) (next_write_beat past p)))
-      fits z is None kind = refl
-      fits z is (Some k) kind =
-          elim (cases_Bool (is_update k)) [
-            | inr f ↦ rw f refl
-            | inl u ↦
-                let line : is_line z ≡ true = let l = update-line k u in rw kind (or_right (is_some_and (read_kind z) is_line_read) (is_line_write k) l) in
-                let on : line_in h past (W p strb last word) ≡ Some z.addr = rw (is, line) refl in
-                let port : z.port ≡ p = (data_write-issued past p _ z is).1 in
-                let copy : (holder_at x.holders.items p).copy ≡ copy_of past z.port z.addr = (stands (W p strb last word) s z.addr on).holders.copy p ∙ ap (λ v. copy_of past v z.addr) (sym port) in
-                rw copy refl
-          ]
-
-      by : (o : Option Transaction) → next_write past p ≡ o
-          → is_none_or (option_map (progress_of h past) o) (λ y. implies (updates_memory y.transaction) (word == word_of (holder_at x.holders.items p).copy (next_write_beat past p)))
-          ≡ is_none_or o (fits_copy past (next_write_beat past p) word)
-      by None is = refl
-      by (Some z) is = fits z is (write_kind z) refl
-
+module _ (h : Header) (past : Trace) where
   -- what is asked of the port's own transaction
-  own-some : (p addr : ℕ) (o : Option Progress) → o ≡ option_map (progress_of h past) (own_of h past p addr) → IsAccepted h past → is_some o ≡ has_outstanding_on h past p addr
+  pub own-some : (p addr : ℕ) (o : Option Progress) → o ≡ option_map (progress_of h past) (own_of h past p addr) → IsAccepted h past → is_some o ≡ has_outstanding_on h past p addr
   own-some p addr o is a = ap is_some is ∙ by (own_of h past p addr) ∙ sym (has_outstanding-own h past a p addr)
     where
       by : (w : Option Transaction) → is_some (option_map (progress_of h past) w) ≡ is_some w
       by None = refl
       by (Some z) = refl
 
-  own-wants : (p addr : ℕ) (o : Option Progress) → o ≡ option_map (progress_of h past) (own_of h past p addr) → IsAccepted h past
+  pub own-wants : (p addr : ℕ) (o : Option Progress) → o ≡ option_map (progress_of h past) (own_of h past p addr) → IsAccepted h past
       → is_some_and o (λ y. awaits_store y && not y.stored) ≡ wants_store h past p addr
   own-wants p addr o is a = ap (λ v. is_some_and v (λ y. awaits_store y && not y.stored)) is ∙ by (own_of h past p addr) ∙ sym (wants_store-own h past a p addr)
     where
@@ -212,62 +150,3 @@ module _ (h : Header) (past : Trace) (t : Target) (x : LineRecord) where
             | inr f ↦ rw f refl
             | inl t ↦ let reads = make_unique-reads past z t in rw reads refl
           ]
-
-  pub k17-law : (p : ℕ) (last : Bool) (word : ℕ) → IsNext h past (Cd p last word) t x
-      → is_none_or t.snoop (λ q. word == word_of (holder_at x.holders.items p).sent t.beat) ≡ k17_data h past (Cd p last word)
-  k17-law p last word s =
-      let asked : t.snoop ≡ sending past p = ap (λ (v : Target). v.snoop) s.target in
-      let beat : t.beat ≡ next_sent_beat past p = ap (λ (v : Target). v.beat) s.target in
-      rw (asked, beat) (by (sending past p) refl)
-    where
-      by : (o : Option Snoop) → sending past p ≡ o
-          → is_none_or o (λ q. word == word_of (holder_at x.holders.items p).sent (next_sent_beat past p)) ≡ is_none_or (next_sent past p) (λ line. word == word_of line (next_sent_beat past p))
-      by None is = let none = none-sent h past s.accepted p is in rw none refl
-      by (Some q) is =
-          let line = sends-a_line h past s.accepted p _ q is in
-          let on : line_in h past (Cd p last word) ≡ Some q.addr = rw (is, line) refl in
-          let here : is_snoop_on q q.addr ≡ true = and_from _ _ line (eq-eqb q.addr q.addr refl) in
-          let next = next-sent h past s.accepted p q.addr q is here in
-          let sent : (holder_at x.holders.items p).sent ≡ sent_on past p q.addr = (stands (Cd p last word) s q.addr on).holders.sent p in
-          rw (next, sent) refl
-
-  pub k28-law : (p : ℕ) (st : LineState) → IsNext h past (Wk p st) t x
-      → is_none_or t.transaction (λ y. is_none_or (write_kind y.transaction) (λ k. ends_write k (if is_line y.transaction then (state_at x.states p) else I) st)) ≡ k28 h past (Wk p st)
-  k28-law p st s =
-      let ace : is_ace h p ≡ true = (and_parts _ (is_ace h p) s.port).1 in
-      let trans : t.transaction ≡ option_map (progress_of h past) (acknowledged past p Write) = rw ace at (ap (λ (v : Target). v.transaction) s.target) in
-      rw trans (by ace (acknowledged past p Write) refl)
-    where
-      by : is_ace h p ≡ true → (o : Option Transaction) → acknowledged past p Write ≡ o
-          → is_none_or (option_map (progress_of h past) o) (λ y. is_none_or (write_kind y.transaction) (λ k. ends_write k (if is_line y.transaction then (state_at x.states p) else I) st))
-          ≡ is_none_or o (λ z. is_none_or (write_kind z) (λ k. ends_write k (held_of h past z) st))
-      by ace None is = refl
-      by ace (Some z) is =
-          elim (cases_Bool (is_line z)) [
-            | inr f ↦ rw f refl
-            | inl line ↦
-                let on : line_in h past (Wk p st) ≡ Some z.addr = rw (ace, is, line) refl in
-                let n = acknowledged_is past p Write z is in
-                let port : z.port ≡ p = (transaction_of-name past p Write n.id z n.named).port in
-                let held : state_at x.states p ≡ state_of h past z.port z.addr = state (Wk p st) s p z.addr on ∙ ap (λ v. state_of h past v z.addr) (sym port) in
-                rw (line, held) refl
-          ]
-
-  pub k30-law : (p addr w : ℕ) (b : Bool) (word : ℕ) → IsNext h past (L p addr w b word) t x → not (is_invalid (state_at x.states p)) ≡ k30 h past (L p addr w b word)
-  k30-law p addr w b word s = let held = state (L p addr w b word) s p addr refl in rw held refl
-
-  pub k31-law : (p addr w : ℕ) (b : Bool) (word : ℕ) → IsNext h past (L p addr w b word) t x
-      → (word == word_of (holder_at x.holders.items p).copy w) ≡ k31 h past (L p addr w b word)
-  k31-law p addr w b word s = let copy = (stands (L p addr w b word) s addr refl).holders.copy p in rw copy refl
-
-  pub k32-law : (p addr strobe : ℕ) (b : Bool) (line : Line) → IsNext h past (D p addr strobe b line) t x
-      → ((is_unique (state_at x.states p) && not (is_some t.own)) || (is_some_and t.own (λ y. awaits_store y && not y.stored) && not b && (strobe == full_line)))
-      ≡ k32 h past (D p addr strobe b line)
-  k32-law p addr strobe b line s =
-      let held = state (D p addr strobe b line) s p addr refl in
-      let own : t.own ≡ option_map (progress_of h past) (own_of h past p addr) = ap (λ (v : Target). v.own) s.target in
-      let some = own-some p addr t.own own s.accepted in
-      let wants = own-wants p addr t.own own s.accepted in
-      ap (λ v. (is_unique v && not (is_some t.own)) || (is_some_and t.own (λ y. awaits_store y && not y.stored) && not b && (strobe == full_line))) held
-      ∙ ap (λ v. (is_unique (state_of h past p addr) && not v) || (is_some_and t.own (λ y. awaits_store y && not y.stored) && not b && (strobe == full_line))) some
-      ∙ ap (λ v. (is_unique (state_of h past p addr) && not (has_outstanding_on h past p addr)) || (v && not b && (strobe == full_line))) wants

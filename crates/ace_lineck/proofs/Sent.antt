@@ -1,41 +1,14 @@
 -- The line that a port's next CD belongs to, where that is a snoop of a line: the port's copy at its last answer with data for it.
-use Rattle.std.proofs.Common.{◌≡◌, ℕ, zero, suc, ◌+◌, ◌*◌, ◌/◌, ◌<◌, arith, true, false, ◌&&◌, nat_eq, List, [], ◌∷◌, length, length-append, slice_get, Some, None, is_some, refl, sym, ap, subst, ◌∙◌, inl, inr}
+use Rattle.std.proofs.Common.{◌≡◌, ℕ, ◌+◌, ◌*◌, ◌/◌, ◌<◌, arith, true, false, ◌&&◌, nat_eq, [], ◌∷◌, length, slice_get, Some, None, is_some, refl, sym, ap, subst, ◌∙◌, inl, inr}
 use Rattle.std.proofs.lemmas.Bool.{and_parts, cases_Bool, eqb-true, eq-eqb}
-use Rattle.ace_codes.specs.declared.kind.SnoopKind.{SnoopKind}
+use Rattle.ace_lineck.proofs.Terms.{SnoopKind, LineState, transfers_data, ac_kind_of, is_snoop_row, is_plain_row, is_invalid, Snoop, is_line_snoop, data_beats, answers_by_row, sent_at, sent, next_sent, Header, Trace, Event, Ac, Cr, IsAccepted, is_some_and, snoop_at, snoops_of, snoops_a_line, answered, answers_line, is_snoop_on, copy_of, state_of, data_snoop_at, data_snoops, sending, sends_line, sent_on}
 use Rattle.ace_codes.specs.declared.kind.SnoopKind.TheVariants as snoop
-use Rattle.ace_codes.specs.declared.state.LineState.{LineState}
-use Rattle.ace_codes.specs.Responses.{transfers_data}
-use Rattle.ace_codes.specs.Snoops.{ac_kind_of}
-use Rattle.ace_tables.specs.Answers.{is_snoop_row, is_plain_row}
-use Rattle.ace_tables.specs.States.{is_invalid}
-use Rattle.ace_model.specs.declared.snoops.Snoop.{Snoop}
-use Rattle.ace_model.specs.Kinds.{is_line_snoop}
-use Rattle.ace_model.specs.Snoops.{data_beats}
-use Rattle.ace_model.specs.SnoopRules.{answers_by_row}
-use Rattle.ace_model.specs.Replies.{sent_at, sent, next_sent}
-use Rattle.ace_model.proofs.Terms.{Header, Trace, Event, Ac, Cr, IsAccepted, is_some_and, snoop_at, snoops_of, snoops_a_line, answered, answers_line, data_answers, is_snoop_on, copy_of, state_of}
 use Rattle.ace_model.proofs.General.Options.{some_is, some_if-is, is_none_or-at}
 use Rattle.ace_model.proofs.General.Lists.{slice_get-more, slice_get-at_end, slice_get-grown}
 use Rattle.ace_model.proofs.Rules.Keeps.{accepted_keeps}
 use Rattle.ace_model.proofs.Grants.SnoopAnswers.{answering_cr}
 use Rattle.ace_model.proofs.Lines.Owing.{data_beats-grow}
-use Rattle.ace_portck.specs.Targets.{data_snoop_at, data_snoops, sending}
-use Rattle.ace_lineck.specs.Holders.{sends_line, sent_on}
-use Rattle.ace_lineck.proofs.Bursts.{data_count, unfinished}
-
--- the lines that a port announces are as many as its answers with data
-sent_count : (h : Header) (past : Trace) → IsAccepted h past → (p : ℕ) → length (sent past p) ≡ data_answers past p
-sent_count h [] a p = refl
-sent_count h (Cr q resp st ∷ past) a p =
-    let before = sent_count h past a.0 p in
-    elim (cases_Bool (nat_eq p q && transfers_data resp)) [
-      | inr f ↦ rw f before
-      | inl t ↦
-          let s = some_is (answered past q) (accepted_keeps h past (Cr q resp st) a).rule_14 in
-          let there : answered past p ≡ Some s.0 = ap (answered past) (eqb-true p q (and_parts (nat_eq p q) (transfers_data resp) t).0) ∙ s.1 in
-          rw (t, there) (length-append (sent past p) (copy_of past p s.0.addr ∷ []) ∙ ap (λ n. n + 1) before)
-    ]
-sent_count h (_ ∷ past) a p = sent_count h past a.0 p
+use Rattle.ace_lineck.proofs.Bursts.{data_count, sent_count, unfinished}
 
 -- The answer with data that the event is, and its snoop.
 record NewSnoop (past : Trace) (e : Event) (p : ℕ) (s : Snoop) : Type 0 where
@@ -100,16 +73,6 @@ pub next-sent : (h : Header) (past : Trace) → IsAccepted h past → (p l : ℕ
     → next_sent past p ≡ Some (sent_on past p l)
 next-sent h past a p l s is on = sent-line h past a p (data_beats past p / 4) l s is on (omega arith)
 
-short_list : {A B : Type 0} → (xs : List A) (ys : List B) (k : ℕ) → length xs ≡ length ys → slice_get xs k ≡ None → slice_get ys k ≡ None
-short_list [] [] k same none = refl
-short_list [] (y ∷ ys) k same none = absurd (omega arith)
-short_list (x ∷ xs) [] k same none = refl
-short_list (x ∷ xs) (y ∷ ys) zero same none = cc
-short_list (x ∷ xs) (y ∷ ys) (suc k) same none = short_list xs ys k (omega arith) none
-
-pub none-sent : (h : Header) (past : Trace) → IsAccepted h past → (p : ℕ) → sending past p ≡ None → next_sent past p ≡ None
-none-sent h past a p none = short_list (data_snoops past p) (sent past p) (data_beats past p / 4) (data_count h past a p ∙ sym (sent_count h past a p)) none
-
 -- a snoop of the trace has a kind
 snoop-kind : (h : Header) (past : Trace) → IsAccepted h past → (p n : ℕ) (s : Snoop) → slice_get (snoops_of past p) n ≡ Some s → is_some (ac_kind_of s.snoop) ≡ true
 snoop-kind h [] a p n s there = cc
@@ -126,15 +89,12 @@ snoop-kind h (e ∷ past) a p n s there =
     by d b is = cc
 
 -- a snoop that isn't of a line is answered without data
+silent : (resp : ℕ) (st : LineState) → is_plain_row resp st ≡ true → transfers_data resp ≡ true → false ≡ true
+silent resp st row sends = subst (λ v. transfers_data v ≡ true) (eqb-true resp 0 (and_parts (nat_eq resp 0) (is_invalid st) row).0) sends
+
 plain_sends : (k : SnoopKind) (held : LineState) (resp : ℕ) (st : LineState) → is_snoop_row k held false resp st ≡ true → transfers_data resp ≡ true → is_line_snoop k ≡ true
 plain_sends snoop.DvmComplete held resp st row sends = silent resp st row sends
-  where
-    silent : (resp : ℕ) (st : LineState) → is_plain_row resp st ≡ true → transfers_data resp ≡ true → false ≡ true
-    silent resp st row sends = let bad : transfers_data 0 ≡ true = subst (λ v. transfers_data v ≡ true) (eqb-true resp 0 (and_parts (nat_eq resp 0) (is_invalid st) row).0) sends in cc
 plain_sends snoop.DvmMessage held resp st row sends = silent resp st row sends
-  where
-    silent : (resp : ℕ) (st : LineState) → is_plain_row resp st ≡ true → transfers_data resp ≡ true → false ≡ true
-    silent resp st row sends = let bad : transfers_data 0 ≡ true = subst (λ v. transfers_data v ≡ true) (eqb-true resp 0 (and_parts (nat_eq resp 0) (is_invalid st) row).0) sends in cc
 plain_sends k held resp st row sends = refl
 
 -- so a snoop that is answered with data is one of a line

@@ -1,14 +1,7 @@
 -- What an S asks of its line, and what it leaves of it.
-use Rattle.std.proofs.Common.{◌≡◌, ◌<◌, ◌-◌, ◌^◌, ℕ, Bool, not, ◌&&◌, ◌∷◌, length, Option, Some, None, refl, ap, ◌∙◌}
-use Rattle.ace_model.specs.Accepted.{least_broken}
-use Rattle.ace_model.proofs.Terms.{Header, Trace, S, LineState, IsAccepted, has_update, is_invalid, is_silent_move, k29, state_of}
-use Rattle.ace_portck.specs.Targets.{Recording, target_of}
-use Rattle.ace_lineck.specs.declared.grant.Grant.{Grant}
-use Rattle.ace_lineck.specs.declared.lines.LineCheck.{LineCheck}
-use Rattle.ace_lineck.specs.Grants.{GrantStands}
-use Rattle.ace_lineck.specs.Stands.{MayApply, Stands, place_on}
-use Rattle.ace_lineck.proofs.GrantFrame.{none-stays}
-use Rattle.ace_lineck.proofs.GrantSteps.{calm-stays, stays-unended}
+use Rattle.std.proofs.Common.{◌≡◌, ◌<◌, ◌-◌, ◌^◌, ℕ, Bool, not, ◌&&◌, length, Option, Some, None, refl, ap, ◌∙◌}
+use Rattle.ace_lineck.proofs.Terms.{least_broken, Header, Trace, S, LineState, has_update, is_invalid, is_silent_move, k29, state_of, Recording, target_of, LineCheck, MayApply, Stands, place_on}
+use Rattle.ace_lineck.proofs.Heard.{may-hear}
 
 -- K29, which is all that the share asks of an S
 pub change-law : (h : Header) (past : Trace) (p addr : ℕ) (st held : LineState) (drops : Bool) → held ≡ state_of h past p addr → drops ≡ (is_invalid st && has_update h past p addr)
@@ -16,19 +9,7 @@ pub change-law : (h : Header) (past : Trace) (p addr : ℕ) (st held : LineState
 change-law h past p addr st held drops is drop =
     ap (λ v. is_silent_move v st && not drops) is ∙ ap (λ b. is_silent_move (state_of h past p addr) st && not b) drop
 
--- the grant of a line stays
-pub grant-changed : (h : Header) (past : Trace) (p addr : ℕ) (st : LineState) (l : ℕ) (g : Option Grant) → IsAccepted h (S p addr st ∷ past) → GrantStands h past l g
-    → GrantStands h (S p addr st ∷ past) l g
-grant-changed h past p addr st l None a none = none-stays h past (S p addr st) l refl none
-grant-changed h past p addr st l (Some g) a f = calm-stays h past l g f (S p addr st) a refl refl (stays-unended h past l g f (S p addr st) a refl)
-
 -- an S that breaks no rule may be heard
 pub may-hear_change : (s : LineCheck) (r : Recording) (p addr : ℕ) (st : LineState) (place : Option ℕ) → Stands s r → place ≡ place_on s (Some addr)
     → least_broken r.header r.past (S p addr st) ≡ None → length r.past < 2 ^ 64 - 1 → MayApply s r (S p addr st) (target_of r.header r.past (S p addr st)) place
-may-hear_change s r p addr st place stands at fine few = record {
-  stands = stands;
-  target = refl;
-  room = record { made = tt; at = at };
-  kept = fine;
-  few = few;
-}
+may-hear_change s r p addr st place stands at fine few = may-hear s r (S p addr st) place refl stands at fine few

@@ -1,24 +1,11 @@
 -- A CR: what is asked of it by what is kept of the line of its snoop, and what it leaves of that.
 use Rattle.std.proofs.Common.{◌≡◌, ◌<◌, ◌-◌, ◌^◌, ℕ, Bool, true, false, ◌∷◌, length, Option, Some, None, slice_get, slice_set, refl, sym, ap, ◌∙◌, inl, inr}
 use Rattle.std.proofs.lemmas.Bool.{cases_Bool}
-use Rattle.ace_tables.specs.Answers.{is_snoop_row}
-use Rattle.ace_model.specs.declared.snoops.Snoop.{Snoop}
-use Rattle.ace_model.specs.Accepted.{least_broken, least_of}
-use Rattle.ace_model.specs.Shares.{line_rules}
-use Rattle.ace_model.proofs.Terms.{Header, Trace, Cr, SnoopKind, LineState, answers_beside_update, answers_by_row, has_update, implies, is_line_snoop, is_none_or, is_some_and, k15, k16, snoops_a_line, state_of}
-use Rattle.ace_portck.specs.SnoopAnswers.{IsAnswered}
-use Rattle.ace_portck.specs.Targets.{Recording, line_in, line_of_snoop, target_of}
-use Rattle.ace_portck.specs.Target.{Target}
-use Rattle.ace_lineck.specs.declared.lines.LineCheck.{LineCheck}
-use Rattle.ace_lineck.specs.declared.record.Holder.{Holder}
-use Rattle.ace_lineck.specs.declared.record.LineRecord.{LineRecord}
-use Rattle.ace_lineck.specs.Holders.{HolderStands, HoldersStand, IsHolderStep, IsHoldersStep}
-use Rattle.ace_lineck.specs.Records.{IsRecordStep}
-use Rattle.ace_lineck.specs.Stands.{MayApply, Stands, place_on, record_on}
-use Rattle.ace_lineck.specs.States.{state_at}
+use Rattle.ace_lineck.proofs.Terms.{is_snoop_row, Snoop, least_broken, least_of, line_rules, Header, Trace, Cr, SnoopKind, LineState, answers_beside_update, answers_by_row, has_update, implies, is_line_snoop, is_none_or, is_some_and, k15, k16, snoops_a_line, state_of, IsAnswered, Recording, line_in, line_of_snoop, target_of, Target, LineCheck, Holder, LineRecord, HolderStands, HoldersStand, IsHolderStep, IsHoldersStep, IsRecordStep, MayApply, Stands, place_on, record_on, state_at}
 use Rattle.ace_lineck.proofs.Asked.{asked, asked_both, ruled}
 use Rattle.ace_lineck.proofs.HolderSteps.{holders-hear, holder-step}
 use Rattle.ace_lineck.proofs.RuleLaws.{implies-true, row-apart}
+use Rattle.ace_lineck.proofs.Heard.{may-hear}
 
 module _ (h : Header) (past : Trace) (p resp : ℕ) (st : LineState) (x : Snoop) (k : SnoopKind) (is : IsAnswered past p x k) where
   -- K15 and K16, of the snoop that it answers
@@ -80,13 +67,7 @@ held-on s r p x held st is line =
 pub may-hear_answer : (s : LineCheck) (r : Recording) (p resp : ℕ) (st : LineState) (x : Snoop) (k : SnoopKind) (place : Option ℕ) → Stands s r → IsAnswered r.past p x k
     → place ≡ place_on s (line_of_snoop (Some x)) → least_broken r.header r.past (Cr p resp st) ≡ None → length r.past < 2 ^ 64 - 1
     → MayApply s r (Cr p resp st) (target_of r.header r.past (Cr p resp st)) place
-may-hear_answer s r p resp st x k place stands is at fine few = record {
-  stands = stands;
-  target = refl;
-  room = record { made = tt; at = at ∙ ap (place_on s) (sym (answered-line r.header r.past p resp st x k is)) };
-  kept = fine;
-  few = few;
-}
+may-hear_answer s r p resp st x k place stands is at fine few = may-hear s r (Cr p resp st) place refl stands (at ∙ ap (place_on s) (sym (answered-line r.header r.past p resp st x k is))) fine few
 
 -- the data of the ports before the answer
 pub answer-holders : (h : Header) (past : Trace) (l p resp : ℕ) (st : LineState) (t : Target) (x : LineRecord) → IsRecordStep h past l (Cr p resp st) t x

@@ -1,17 +1,10 @@
 -- The states in which the ports have a line, after an event of the line.
 use Rattle.std.proofs.Common.{◌≡◌, ◌⊎◌, ◌<◌, ◌≤◌, ℕ, zero, suc, true, false, Bool, ◌&&◌, ◌==◌, nat_eq, nat_lt, if◌then◌else◌, List, [], ◌∷◌, length, replicate, slice_get, slice_set, Option, Some, None, option_map, unwrap_or, arith, refl, sym, ap, subst, ◌∙◌, inl, inr}
 use Rattle.std.proofs.lemmas.Bool.{and_parts, cases_eq, eq-eqb, lt-ltb, ltb-true, ne_eqb}
-use Rattle.ace_model.specs.AddressRules.{may_have}
-use Rattle.ace_model.specs.Trace.{is_none_or, port_of}
-use Rattle.ace_model.specs.declared.transactions.Transaction.{Transaction}
-use Rattle.ace_model.proofs.Terms.{Channel, Cr, D, Event, Header, I, IsAccepted, Line, LineState, Read, Rk, S, Trace, UD, Wk, Write, acknowledged, answered, answers_line, is_in_make_unique, is_some_and, is_some_on, state_of}
+use Rattle.ace_lineck.proofs.Terms.{may_have, is_none_or, port_of, Transaction, Channel, Cr, D, Event, Header, I, IsAccepted, Line, LineState, Read, Rk, S, Trace, UD, Wk, Write, acknowledged, answered, answers_line, is_in_make_unique, is_some_and, is_some_on, state_of, acknowledge, line_in, own_of, progress_of, Target, IsLineStep, IsInState, IsStatesStep, StatesStand, state_at}
 use Rattle.ace_model.proofs.General.Options.{Some-injective}
 use Rattle.ace_model.proofs.Rules.Keeps.{accepted_keeps}
-use Rattle.ace_portck.specs.Acknowledges.{acknowledge}
-use Rattle.ace_portck.specs.Targets.{line_in, own_of, progress_of}
-use Rattle.ace_portck.specs.Target.{Target}
-use Rattle.ace_lineck.specs.Holders.{IsLineStep, awaits_store}
-use Rattle.ace_lineck.specs.States.{IsInState, IsStatesStep, StatesStand, state_at}
+use Rattle.ace_lineck.specs.Holders.{awaits_store}
 use Rattle.ace_lineck.proofs.OffLine.{ace-of_rk, ace-of_wk, off-state}
 use Rattle.ace_lineck.proofs.OnLine.{on-snoop, on-transaction}
 use Rattle.ace_portck.proofs.Own.{awaits_own_store, in_make_unique-own}

@@ -1,27 +1,11 @@
 -- A D: what it asks of its line, and what it leaves.
 use Rattle.std.proofs.Common.{◌≡◌, ◌<◌, ◌-◌, ◌^◌, ℕ, Bool, true, false, not, ◌&&◌, ◌||◌, ◌==◌, List, ◌∷◌, length, slice_get, slice_set, Option, Some, None, is_some, refl, ap, ◌∙◌}
-use Rattle.ace_event.specs.Bytes.{merged}
-use Rattle.ace_event.specs.declared.line.Line.{Line}
-use Rattle.ace_model.specs.Accepted.{least_broken}
-use Rattle.ace_model.specs.AddressRules.{k1}
-use Rattle.ace_model.proofs.Terms.{D, Header, Trace, IsAccepted, full_line, is_some_and, is_unique, k32}
-use Rattle.ace_model.proofs.General.Options.{Some-injective}
-use Rattle.ace_portck.specs.Targets.{Recording, own_on, target_of}
-use Rattle.ace_portck.specs.declared.target.Progress.{Progress}
-use Rattle.ace_portck.specs.Target.{Target}
-use Rattle.ace_lineck.specs.declared.grant.Grant.{Grant}
-use Rattle.ace_lineck.specs.declared.lines.LineCheck.{LineCheck}
-use Rattle.ace_lineck.specs.declared.record.Holder.{Holder}
-use Rattle.ace_lineck.specs.declared.record.LineRecord.{LineRecord}
-use Rattle.ace_lineck.specs.Grants.{GrantStands}
-use Rattle.ace_lineck.specs.Holders.{HoldersStand, IsHoldersStep, awaits_store}
-use Rattle.ace_lineck.specs.Stands.{Stands, MayApply, place_on, record_of}
-use Rattle.ace_lineck.proofs.GrantFrame.{none-stays}
-use Rattle.ace_lineck.proofs.GrantSteps.{calm-stays, stays-unended}
+use Rattle.ace_lineck.proofs.Terms.{has_outstanding_on, state_of, merged, Line, least_broken, D, Header, Trace, full_line, is_some_and, is_unique, k32, Recording, own_on, target_of, Progress, Target, LineCheck, Holder, LineRecord, HoldersStand, IsHoldersStep, Stands, MayApply, place_on, record_of, state_at}
+use Rattle.ace_lineck.specs.Holders.{awaits_store}
 use Rattle.ace_lineck.proofs.HolderSteps.{d-stores, holder-step, holders-hear}
-use Rattle.ace_lineck.proofs.WritesAndLoads.{next-on}
-use Rattle.ace_lineck.proofs.RuleLaws.{k32-law}
-use Rattle.ace_lineck.specs.States.{state_at}
+use Rattle.ace_lineck.proofs.WritesAndLoads.{state-on}
+use Rattle.ace_lineck.proofs.RuleLaws.{own-some, own-wants}
+use Rattle.ace_lineck.proofs.Heard.{may-hear}
 
 -- a store in the state of its port, by the port's own transaction on the line
 abbrev pub may_store_by : Bool → ℕ → Bool → Option Progress → Bool
@@ -37,13 +21,14 @@ own-may false strobe b y = refl
 
 -- of a D K32
 pub store-law : (s : LineCheck) (r : Recording) (p addr strobe : ℕ) (b : Bool) (line : Line) (x : LineRecord) (own : Option Progress) → Stands s r
-    → k1 r.header r.past (D p addr strobe b line) ≡ true → own ≡ own_on r.header r.past p (Some addr) → x ≡ record_of s addr
+    → own ≡ own_on r.header r.past p (Some addr) → x ≡ record_of s addr
     → may_store_by (is_unique (state_at x.states p)) strobe b own ≡ k32 r.header r.past (D p addr strobe b line)
-store-law s r p addr strobe b line x own st first is at =
-    let e = D p addr strobe b line in
-    let next = next-on s r e addr x st first (λ m there. Some-injective addr m there) at in
-    ap (may_store_by (is_unique (state_at x.states p)) strobe b) is
-    ∙ k32-law r.header r.past (target_of r.header r.past e) x p addr strobe b line next
+store-law s r p addr strobe b line x own st is at =
+    ap (λ v. may_store_by (is_unique v) strobe b own) (state-on s r p addr x st at)
+    ∙ ap (λ v. (is_unique (state_of r.header r.past p addr) && not v) || (is_some_and own (λ y. awaits_store y && not y.stored) && not b && (strobe == full_line)))
+    (own-some r.header r.past p addr own is st.accepted)
+    ∙ ap (λ v. (is_unique (state_of r.header r.past p addr) && not (has_outstanding_on r.header r.past p addr)) || (v && not b && (strobe == full_line)))
+    (own-wants r.header r.past p addr own is st.accepted)
 
 -- what it leaves of the data of its port
 pub stored-holders : (h : Header) (past : Trace) (l p addr strobe : ℕ) (b : Bool) (line : Line) (t : Target) (xs : List Holder) (x : Holder)
@@ -54,21 +39,8 @@ stored-holders h past l p addr strobe b line t xs x s at low =
     holders-hear h past l e t None xs p (record x { copy = merged x.copy strobe line }) s refl low
     (d-stores h past p l t None x p addr strobe b line (holder-step h past l e t None xs p x s refl at))
 
--- the grant of the line stays
-pub store-granted : (h : Header) (past : Trace) (p addr strobe : ℕ) (b : Bool) (line : Line) (l : ℕ) (g : Option Grant) → IsAccepted h (D p addr strobe b line ∷ past)
-    → GrantStands h past l g → GrantStands h (D p addr strobe b line ∷ past) l g
-store-granted h past p addr strobe b line l None a none = none-stays h past (D p addr strobe b line) l refl none
-store-granted h past p addr strobe b line l (Some g) a f =
-    calm-stays h past l g f (D p addr strobe b line) a refl refl (stays-unended h past l g f (D p addr strobe b line) a refl)
-
 -- it may be taken
 pub store-may : (s : LineCheck) (r : Recording) (p addr strobe : ℕ) (b : Bool) (line : Line) (place : Option ℕ) → Stands s r → place ≡ place_on s (Some addr)
     → least_broken r.header r.past (D p addr strobe b line) ≡ None → length r.past < 2 ^ 64 - 1
     → MayApply s r (D p addr strobe b line) (target_of r.header r.past (D p addr strobe b line)) place
-store-may s r p addr strobe b line place st at fine few = record {
-  stands = st;
-  target = refl;
-  room = record { made = tt; at = at };
-  kept = fine;
-  few = few;
-}
+store-may s r p addr strobe b line place st at fine few = may-hear s r (D p addr strobe b line) place refl st at fine few

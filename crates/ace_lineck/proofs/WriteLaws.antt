@@ -1,15 +1,9 @@
 -- The rules of the writes to memory, in the words of what is kept of the line.
 use Rattle.std.proofs.Common.{◌≡◌, ℕ, true, false, Bool, not, ◌&&◌, ◌||◌, ◌==◌, if◌then◌else◌, List, Option, Some, None, is_some, option_map, option_and_then, unwrap_or, refl, sym, ap, ◌∙◌, inl, inr}
-use Rattle.std.proofs.lemmas.Bool.{false_from_ne_true, and_parts, and_from, or_cases, or_left, or_right, not_from_false, cases_Bool, eq-eqb}
-use Rattle.ace_codes.specs.declared.kind.AwKind.{AwKind}
+use Rattle.std.proofs.lemmas.Bool.{and_parts, and_from, and_right, or_cases, or_left, or_right, not_from_false, cases_Bool}
+use Rattle.ace_lineck.proofs.Terms.{LineStands, is_clean_unique, is_exclusive_store, may_write, may_write_burst, passed_at_grant, AwKind, Line, Answer, Transaction, zero_line, Header, Trace, Channel, IsAccepted, is_some_and, is_none_or, is_read, is_line, is_line_read, is_line_write, is_update, is_transaction, read_kind, write_kind, has_write_data, updates_memory, outstanding, transfers, granted, is_granted, answer_of, LineState, has_passed_data, are_passed_data_whole, are_snoops_done, passer, passes, copy_of, at_point, copy_at_answer, passed_data, passes_dirty, has_failed, has_memory_write, is_burst_whole, may_write_memory, may_write_passed, may_write_data, is_write_due, is_update_due, has_data, same_line, memory_of, burst_strobe, burst_line, burst_of, progress_of, WriteData, LineRecord, Grant, StatesStand, GrantStands, has_passed, is_passed_whole, are_done, is_its, passed_kept, written_kept, fits_data}
 use Rattle.ace_codes.specs.declared.kind.AwKind.TheVariants as write
-use Rattle.ace_event.specs.declared.line.Line.{Line}
-use Rattle.ace_model.specs.declared.snoops.Answer.{Answer}
-use Rattle.ace_model.specs.declared.transactions.Transaction.{Transaction}
-use Rattle.ace_model.specs.Copies.{zero_line}
-use Rattle.ace_model.proofs.Terms.{Header, Trace, Channel, M, IsAccepted, is_some_and, is_none_or, is_read, is_line, is_line_read, is_line_write, is_update, is_transaction, read_kind, write_kind, has_write_data, updates_memory, outstanding, transfers, granted, is_granted, answer_of, LineState}
-use Rattle.ace_model.proofs.Terms.{has_passed_data, are_passed_data_whole, are_snoops_done, passer, passes, copy_of, at_point, copy_at_answer, passed_data, passes_dirty, has_failed, has_memory_write, is_burst_whole, may_write_memory, may_write_passed, may_write_data, is_write_due, is_update_due, has_data, same_line, memory_of, k24, k25}
-use Rattle.ace_model.proofs.General.Options.{is_some_and-is, is_some_and-at}
+use Rattle.ace_model.proofs.General.Options.{is_some_and-is}
 use Rattle.ace_model.proofs.General.Booleans.{then_of}
 use Rattle.ace_model.proofs.General.Ports.{found_passes}
 use Rattle.ace_model.proofs.Tables.Kinds.{granted_data}
@@ -17,18 +11,7 @@ use Rattle.ace_model.proofs.Holders.Law.{accepted_holds}
 use Rattle.ace_model.proofs.Grants.Granted.{granted_at, granted_given, granted_write, passed_may, data_may}
 use Rattle.ace_model.proofs.Grants.Granted as grants
 use Rattle.ace_model.specs.WriteRules as rules
-use Rattle.ace_model.specs.Values.{burst_strobe, burst_line}
-use Rattle.ace_model.specs.Writes.{burst_of}
-use Rattle.ace_portck.specs.Targets.{progress_of, data_of_write}
-use Rattle.ace_portck.specs.declared.target.WriteData.{WriteData}
-use Rattle.ace_portck.specs.Target.{Target}
-use Rattle.ace_lineck.specs.declared.record.LineRecord.{LineRecord}
-use Rattle.ace_lineck.specs.declared.grant.Grant.{Grant}
-use Rattle.ace_lineck.specs.States.{StatesStand}
-use Rattle.ace_lineck.specs.Grants.{GrantStands}
-use Rattle.ace_lineck.specs.Records.{IsNext}
-use Rattle.ace_lineck.specs.Kept.{has_passed, is_passed_whole, are_done, is_its, may_write_kept, passed_kept, written_kept, fits_data, IsFailure}
-use Rattle.ace_lineck.proofs.OnLine.{line-transaction}
+use Rattle.ace_portck.specs.Targets.{data_of_write}
 use Rattle.ace_lineck.proofs.GrantFrame.{passed_at}
 use Rattle.ace_lineck.proofs.GrantSteps.{otherwise_of}
 use Rattle.ace_lineck.proofs.GrantLaws.{its-is, its-granted, passed-law, whole-law, done-law}
@@ -120,7 +103,7 @@ module _ (h : Header) (past : Trace) (a : IsAccepted h past) (p : ℕ) (c : Chan
             ]
 
     -- a granted write with its snoops done
-    due-for : (failed : Bool) (xs : List LineState) → failed ≡ is_some_and (granted h past y.addr) (has_failed past) → StatesStand h past y.addr xs
+    due-for : (failed : Bool) (xs : List LineState) → failed ≡ has_failed past y → StatesStand h past y.addr xs
         → is_some_and g (λ v. is_its v y && are_done h failed v xs) ≡ is_write_due h past y
     due-for failed xs is held = by g f
       where
@@ -133,7 +116,7 @@ module _ (h : Header) (past : Trace) (a : IsAccepted h past) (p : ℕ) (c : Chan
                   let one = its-is h past a y.addr g f p c i y o refl own in
                   let stands : is_granted h past y ≡ true = its-granted h past a y.addr g f y refl ∙ own in
                   ap (λ b. b && are_done h failed g xs) (own ∙ sym stands)
-                  ∙ ap (λ b. is_granted h past y && b) (done-law h past a y.addr g f failed xs (is ∙ ap (λ v. is_some_and v (has_failed past)) f.granted) held ∙ ap (are_snoops_done h past) one)
+                  ∙ ap (λ b. is_granted h past y && b) (done-law h past a y.addr g f failed xs (is ∙ ap (has_failed past) (sym one)) held ∙ ap (are_snoops_done h past) one)
             ]
 
     -- a memory update while no passed data are on their way
@@ -148,106 +131,79 @@ module _ (h : Header) (past : Trace) (a : IsAccepted h past) (p : ℕ) (c : Chan
     passed-for : passed_kept g ≡ passed_data h past y.addr
     passed-for = passed-data-law h past a y.addr g f
 
-module _ (h : Header) (past : Trace) (t : Target) (x : LineRecord) (p : ℕ) (c : Channel) (i : ℕ) (line : Line) (s : IsNext h past (M p c i line) t x) where
-  line-for : (y : Transaction) → outstanding h past p c i ≡ Some y → is_line y ≡ true → t.line ≡ Some y.addr
-  line-for y o l =
-      ap (λ (v : Target). v.line) s.target ∙ line-transaction h past (outstanding h past p c i) y.addr (let there = o in rw there (and_from _ _ l (eq-eqb y.addr y.addr refl)))
+-- no write is an exclusive store that failed
+unfailing : (past : Trace) (x : Transaction) → is_read x.chan ≡ false → has_failed past x ≡ false
+unfailing past x writes =
+    let read : read_kind x ≡ None = otherwise_of (is_read x.chan) _ None writes in
+    let none : is_exclusive_store x ≡ false = ap (λ o. x.lock && is_some_and o is_clean_unique) read ∙ and_right x.lock false refl in
+    ap (λ b. b && is_some_and (passed_at_grant past x.port x.id) not) none
 
-  burst-for : (y : Transaction) → outstanding h past p c i ≡ Some y → t.«data» ≡ data_of_write past y
-  burst-for y o = ap (λ (v : Target). v.«data») s.target ∙ ap (option_and_then (data_of_write past)) o
+-- whether there is a burst
+some-if : {A : Type 0} → (b : Bool) (v : A) → is_some (if b then Some v else None) ≡ b
+some-if true v = refl
+some-if false v = refl
 
-  -- whether there is a burst
-  some-if : {A : Type 0} → (b : Bool) (v : A) → is_some (if b then Some v else None) ≡ b
-  some-if true v = refl
-  some-if false v = refl
+same-burst : (d w n m : Bool) → (m ≡ true → d ≡ true) → (((d && w) && n) && m) ≡ ((w && n) && m)
+same-burst true w n m f = refl
+same-burst false w n true f = let bad = f refl in cc
+same-burst false true n false f = sym (and_right n false refl)
+same-burst false false n false f = refl
 
-  same-burst : (d w n m : Bool) → (m ≡ true → d ≡ true) → (((d && w) && n) && m) ≡ ((w && n) && m)
-  same-burst true w n m f = refl
-  same-burst false w n true f = let bad = f refl in cc
-  same-burst false w n false f = none (w && n)
-    where
-      none : (b : Bool) → false ≡ (b && false)
-      none true = refl
-      none false = refl
+-- what has no kind has no data
+of-kind : (o : Option AwKind) (w n due free : Bool) → (((is_some_and o has_write_data && w) && n) && is_some_and o (λ k. due || (is_update k && free)))
+    ≡ (((is_some_and o has_write_data && w) && n) && (due || (is_some_and o is_update && free)))
+of-kind None w n due free = refl
+of-kind (Some k) w n due free = refl
 
-  may-for : (failed : Bool) → IsFailure h past t failed → (y : Transaction) → outstanding h past p c i ≡ Some y
-      → may_write_kept h failed x.grant x.states (data_of_write past y) (progress_of h past y) ≡ may_write_memory h past y
-  may-for failed fails y o =
-      elim (cases_Bool (is_line y)) [
-        | inr n ↦
-            let none = false_from_ne_true (may_write_memory h past y) (λ m. let l = writes-line h past s.accepted p c i y o m in cc) in
-            off (is_line y) _ n ∙ sym none
-        | inl l ↦ elim (cases_Bool (is_read y.chan)) [
-          | inl reads ↦
-              on (is_line y) _ l ∙ then_of (is_read y.chan) _ _ reads
-              ∙ ap (λ b. b && ((progress_of h past y).transfers == 0)) (whole-for h past s.accepted p c i y o x.grant (s.line y.addr (line-for y o l)).grant)
-              ∙ ap (λ n. (has_passed_data h past y && are_passed_data_whole h past y) && (n == 0)) (then_of (is_read y.chan) (transfers past y.port y.id) 0 reads)
-              ∙ sym (then_of (is_read y.chan) (may_write_passed h past y) (may_write_data h past y) reads)
-          | inr writes ↦
-              let stands = s.line y.addr (line-for y o l) in
-              on (is_line y) _ l ∙ otherwise_of (is_read y.chan) _ _ writes
-              ∙ ap (λ b. b && (is_some_and x.grant (λ g. is_its g y && are_done h failed g x.states) || (updates_memory y && is_none_or x.grant (λ g. not (has_passed g)))))
-              (some-if ((is_some_and (write_kind y) has_write_data && is_burst_whole past y) && not (has_memory_write past y.port y.chan y.id)) (the_burst past y))
-              ∙ ap (λ b. ((is_some_and (write_kind y) has_write_data && is_burst_whole past y) && not (has_memory_write past y.port y.chan y.id)) && (b || (updates_memory y && is_none_or x.grant (λ g. not (has_passed g)))))
-              (due-for h past s.accepted p c i y o x.grant stands.grant failed x.states (fails y.addr (line-for y o l)) stands.states)
-              ∙ ap (λ b. ((is_some_and (write_kind y) has_write_data && is_burst_whole past y) && not (has_memory_write past y.port y.chan y.id)) && (is_write_due h past y || b))
-              (update-for h past s.accepted p c i y o x.grant stands.grant)
-              ∙ same-burst (is_some_and (write_kind y) has_write_data) (is_burst_whole past y) (not (has_memory_write past y.port y.chan y.id)) (is_write_due h past y || is_update_due h past y)
-              (λ m. writes-data h past s.accepted p c i y o m writes)
-              ∙ sym (otherwise_of (is_read y.chan) (may_write_passed h past y) (may_write_data h past y) writes)
-        ]
-      ]
-    where
-      off : (b d : Bool) → b ≡ false → (b && d) ≡ false
-      off true d e = cc
-      off false d e = refl
-
-      on : (b d : Bool) → b ≡ true → (b && d) ≡ d
-      on true d e = refl
-      on false d e = cc
-
+module _ (h : Header) (past : Trace) (a : IsAccepted h past) (p : ℕ) (c : Channel) (i : ℕ) (y : Transaction) (o : outstanding h past p c i ≡ Some y)
+    (x : LineRecord) (s : LineStands h past y.addr x) (burst : Option WriteData) (sends : burst ≡ data_of_write past y) where
   -- K24
-  pub k24-law : (failed : Bool) → IsFailure h past t failed → is_some_and t.transaction (may_write_kept h failed x.grant x.states t.«data») ≡ k24 h past (M p c i line)
-  k24-law failed fails =
-      ap (λ (v : Target). is_some_and v.transaction (may_write_kept h failed x.grant x.states t.«data»)) s.target ∙ by (outstanding h past p c i) refl
-    where
-      by : (o : Option Transaction) → outstanding h past p c i ≡ o
-          → is_some_and (option_map (progress_of h past) o) (may_write_kept h failed x.grant x.states t.«data») ≡ is_some_and o (may_write_memory h past)
-      by None is = refl
-      by (Some y) is = ap (λ d. may_write_kept h failed x.grant x.states d (progress_of h past y)) (burst-for y is) ∙ may-for failed fails y is
+  pub k24-law : may_write h x (progress_of h past y) burst ≡ may_write_memory h past y
+  k24-law =
+      let own = is_some_and (write_kind y) has_write_data in
+      let whole = is_burst_whole past y in
+      let first = not (has_memory_write past y.port y.chan y.id) in
+      let free = is_none_or x.grant (λ g. not (has_passed g)) in
+      let due = is_some_and x.grant (λ g. is_its g y && are_done h false g x.states) in
+      elim (cases_Bool (is_read y.chan)) [
+        | inl reads ↦
+            then_of (is_read y.chan) _ _ reads
+            ∙ ap (λ b. b && ((progress_of h past y).transfers == 0)) (whole-for h past a p c i y o x.grant s.grant)
+            ∙ ap (λ n. (has_passed_data h past y && are_passed_data_whole h past y) && (n == 0)) (then_of (is_read y.chan) (transfers past y.port y.id) 0 reads)
+            ∙ sym (then_of (is_read y.chan) (may_write_passed h past y) (may_write_data h past y) reads)
+        | inr writes ↦
+            otherwise_of (is_read y.chan) _ _ writes
+            ∙ ap (λ b. b && is_some_and (write_kind y) (may_write_burst h x y)) (ap is_some sends ∙ some-if ((own && whole) && first) (the_burst past y))
+            ∙ of-kind (write_kind y) whole first due free
+            ∙ ap (λ b. ((own && whole) && first) && (b || (updates_memory y && free))) (due-for h past a p c i y o x.grant s.grant false x.states (sym (unfailing past y writes)) s.states)
+            ∙ ap (λ b. ((own && whole) && first) && (is_write_due h past y || b)) (update-for h past a p c i y o x.grant s.grant)
+            ∙ same-burst own whole first (is_write_due h past y || is_update_due h past y) (λ m. writes-data h past a p c i y o m writes)
+            ∙ sym (otherwise_of (is_read y.chan) (may_write_passed h past y) (may_write_data h past y) writes)
+      ]
 
   -- K25
-  pub k25-law : k24 h past (M p c i line) ≡ true → is_none_or t.transaction (λ y. fits_data (passed_kept x.grant) x.memory t.«data» line y.transaction) ≡ k25 h past (M p c i line)
-  k25-law kept =
-      ap (λ (v : Target). is_none_or v.transaction (λ y. fits_data (passed_kept x.grant) x.memory t.«data» line y.transaction)) s.target ∙ by (outstanding h past p c i) refl
+  pub k25-law : (line : Line) → may_write_memory h past y ≡ true → fits_data (passed_kept x.grant) x.memory burst line y ≡ has_data h past line y
+  k25-law line m =
+      let passed = passed-for h past a p c i y o x.grant s.grant in
+      elim (cases_Bool (is_read y.chan)) [
+        | inl reads ↦
+            then_of (is_read y.chan) _ _ reads ∙ ap (λ v. is_none_or v (same_line line)) passed
+            ∙ sym (ap (λ v. is_none_or v (same_line line)) (then_of (is_read y.chan) (passed_data h past y.addr) (option_map (rules.data_of_write h past y) (write_kind y)) reads))
+        | inr writes ↦
+            let may = data_may h past y m writes in
+            let due : (is_write_due h past y || is_update_due h past y) ≡ true = elim may.how [
+              | inl d ↦ or_left (is_write_due h past y) (is_update_due h past y) d
+              | inr u ↦ or_right (is_write_due h past y) (is_update_due h past y) u
+            ] in
+            let has = writes-data h past a p c i y o due writes in
+            let some : data_of_write past y ≡ Some (the_burst past y) = then_of _ (Some (the_burst past y)) None (and_from _ _ (and_from _ _ has may.whole) (not_from_false _ may.first)) in
+            otherwise_of (is_read y.chan) _ _ writes
+            ∙ ap (λ v. is_none_or v (λ b. is_none_or (write_kind y) (λ k. same_line line (written_kept (passed_kept x.grant) x.memory b k)))) (sends ∙ some)
+            ∙ each passed (write_kind y)
+            ∙ sym (ap (λ v. is_none_or v (same_line line)) (otherwise_of (is_read y.chan) (passed_data h past y.addr) (option_map (rules.data_of_write h past y) (write_kind y)) writes))
+      ]
     where
-      each : (y : Transaction) → passed_kept x.grant ≡ passed_data h past y.addr → x.memory ≡ memory_of past y.addr → (o : Option AwKind)
-          → is_none_or o (λ k. same_line line (written_kept (passed_kept x.grant) x.memory (the_burst past y) k)) ≡ is_none_or (option_map (rules.data_of_write h past y) o) (same_line line)
-      each y passed memory None = refl
-      each y passed memory (Some k) = ap (same_line line) (written-law h past y (passed_kept x.grant) x.memory passed memory k)
-
-      by : (o : Option Transaction) → outstanding h past p c i ≡ o
-          → is_none_or (option_map (progress_of h past) o) (λ y. fits_data (passed_kept x.grant) x.memory t.«data» line y.transaction) ≡ is_none_or o (has_data h past line)
-      by None is = refl
-      by (Some y) is =
-          let m = is_some_and-at (outstanding h past p c i) (may_write_memory h past) y kept is in
-          let l = writes-line h past s.accepted p c i y is m in
-          let stands = s.line y.addr (line-for y is l) in
-          let passed = passed-for h past s.accepted p c i y is x.grant stands.grant in
-          elim (cases_Bool (is_read y.chan)) [
-            | inl reads ↦
-                then_of (is_read y.chan) _ _ reads ∙ ap (λ v. is_none_or v (same_line line)) passed
-                ∙ sym (ap (λ v. is_none_or v (same_line line)) (then_of (is_read y.chan) (passed_data h past y.addr) (option_map (rules.data_of_write h past y) (write_kind y)) reads))
-            | inr writes ↦
-                let may = data_may h past y m writes in
-                let due : (is_write_due h past y || is_update_due h past y) ≡ true = elim may.how [
-                  | inl d ↦ or_left (is_write_due h past y) (is_update_due h past y) d
-                  | inr u ↦ or_right (is_write_due h past y) (is_update_due h past y) u
-                ] in
-                let has = writes-data h past s.accepted p c i y is due writes in
-                let some : data_of_write past y ≡ Some (the_burst past y) = then_of _ (Some (the_burst past y)) None (and_from _ _ (and_from _ _ has may.whole) (not_from_false _ may.first)) in
-                otherwise_of (is_read y.chan) _ _ writes
-                ∙ ap (λ v. is_none_or v (λ b. is_none_or (write_kind y) (λ k. same_line line (written_kept (passed_kept x.grant) x.memory b k)))) (burst-for y is ∙ some)
-                ∙ each y passed stands.memory.memory (write_kind y)
-                ∙ sym (ap (λ v. is_none_or v (same_line line)) (otherwise_of (is_read y.chan) (passed_data h past y.addr) (option_map (rules.data_of_write h past y) (write_kind y)) writes))
-          ]
+      each : passed_kept x.grant ≡ passed_data h past y.addr → (k : Option AwKind)
+          → is_none_or k (λ k. same_line line (written_kept (passed_kept x.grant) x.memory (the_burst past y) k)) ≡ is_none_or (option_map (rules.data_of_write h past y) k) (same_line line)
+      each passed None = refl
+      each passed (Some k) = ap (same_line line) (written-law h past y (passed_kept x.grant) x.memory passed s.memory.memory k)

@@ -37,7 +37,8 @@ stage_at stages p = unwrap_or (slice_get stages p) Unsnooped
 -- the port that answered with PassDirty under the grant of the line, and its copy at that answer
 abbrev pub passed_by : Header → Trace → ℕ → Option Passed
 passed_by h past l =
-    option_map (λ p. record { port = p; line = unwrap_or (copy_at_answer past l p) zero_line }) (passer h past l)
+    option_map (λ p. record { port = p; line = unwrap_or (copy_at_answer past l p) zero_line })
+    (passer h past l)
 
 -- memory of the line of a read at the point before its first beat, where it has had one
 abbrev pub fetched : Trace → Transaction → Option Line
@@ -45,16 +46,18 @@ fetched past x =
     if is_read x.chan && not (transfers past x.port x.id == 0)
     then Some (memory_at_first_beat past x.port x.id x.addr) else None
 
--- The reply of the granted read of the line, as soon as it is settled: the copy of the first port that sent data, or else memory at
--- the first beat.
+-- The reply of the granted read of the line, as soon as it is settled: the copy of the first port
+-- that sent data, or else memory at the first beat.
 abbrev pub settled_reply : Trace → ℕ → Transaction → Option Line
-settled_reply past l x = newer (option_and_then (copy_at_answer past l) (first_sender past l)) (fetched past x)
+settled_reply past l x =
+    newer (option_and_then (copy_at_answer past l) (first_sender past l)) (fetched past x)
 
 -- what is kept is the grant of the line, and what came under it
 pub record GrantFits (h : Header) (past : Trace) (l : ℕ) (g : Grant) : Type 0 where
   pub granted : granted h past l ≡ Some g.transaction
   pub begun : g.begun ≡ is_begun past g.transaction
-  pub written : g.written ≡ has_memory_write past g.transaction.port g.transaction.chan g.transaction.id
+  pub written : g.written
+      ≡ has_memory_write past g.transaction.port g.transaction.chan g.transaction.id
   pub stages : (p : ℕ) → stage_at g.stages p ≡ stage_of past p l
   pub shared : g.shared ≡ has_sharer h past l
   pub passed : g.passed ≡ passed_by h past l
@@ -81,8 +84,8 @@ fresh_grant x = record {
 abbrev pub is_of : Option Progress → Transaction → Bool
 is_of target x = is_some_and target (λ y. y.transaction.place == x.place)
 
--- With the event its transaction is no longer outstanding, where that is the granted one: at an ACE port it ends with its RK or WK,
--- at an ACE-Lite port with its last R or its B.
+-- With the event its transaction is no longer outstanding, where that is the granted one: at an ACE
+-- port it ends with its RK or WK, at an ACE-Lite port with its last R or its B.
 abbrev pub is_over : Header → Event → Bool → Bool
 is_over h (Rk p st) own = own
 is_over h (Wk p st) own = own
@@ -92,10 +95,12 @@ is_over h e own = false
 
 -- the port has come to this stage, and the others haven't moved
 abbrev pub IsMoved : List Stage → List Stage → ℕ → Stage → Type 0
-IsMoved old new q stage = (p : ℕ) → stage_at new p ≡ (if (p == q) && nat_lt p 32 then stage else stage_at old p)
+IsMoved old new q stage =
+    (p : ℕ) → stage_at new p ≡ (if (p == q) && nat_lt p 32 then stage else stage_at old p)
 
 -- the event is the next of the line, and what is kept of the line stands
-pub record IsGrantStep (h : Header) (past : Trace) (l : ℕ) (e : Event) (t : Target) (g : Option Grant) (xs : List Holder) (line : Line) : Type 0 where
+pub record IsGrantStep (h : Header) (past : Trace) (l : ℕ) (e : Event) (t : Target)
+    (g : Option Grant) (xs : List Holder) (line : Line) : Type 0 where
   pub step : IsLineStep h past l e t
   pub grant : GrantStands h past l g
   pub holders : HoldersStand past l xs

@@ -1,4 +1,5 @@
--- What is kept of the data that the ports and memory have of a line says what they are after a trace.
+-- What is kept of the data that the ports and memory have of a line says what they are after a
+-- trace.
 use Rattle.std.specs.Prelude.{ℕ, ◌≡◌, Bool, false, ◌&&◌, ◌==◌, if◌then◌else◌, List, [], ◌∷◌, length, slice_get, Option, Some, unwrap_or}
 use Rattle.ace_codes.specs.Responses.{transfers_data}
 use Rattle.ace_event.specs.declared.event.Event.{Event}
@@ -30,7 +31,8 @@ abbrev pub sends_line : Trace → Event → ℕ → ℕ → Bool
 sends_line past (Cr q resp st) p l = (p == q) && transfers_data resp && answers_line past p l
 sends_line past _ p l = false
 
--- The port's copy of the line at its last answer with DataTransfer to a snoop of the line; zeros where there is none.
+-- The port's copy of the line at its last answer with DataTransfer to a snoop of the line; zeros
+-- where there is none.
 abbrev pub sent_on : Trace → ℕ → ℕ → Line
 sent_on [] p l = zero_line
 sent_on (e ∷ past) p l = if sends_line past e p l then copy_of past p l else sent_on past p l
@@ -60,15 +62,18 @@ pub record IsLineStep (h : Header) (past : Trace) (l : ℕ) (e : Event) (t : Tar
 abbrev pub awaits_store : Progress → Bool
 awaits_store x = is_some_and (read_kind x.transaction) is_make_unique && x.complete
 
--- The event of the line is the port's, this is what is kept of the port, and this is the line that it has received whole with it, if there is one.
-pub record IsHolderStep (h : Header) (past : Trace) (p l : ℕ) (e : Event) (t : Target) (line : Option Line) (x : Holder) : Type 0 where
+-- The event of the line is the port's, this is what is kept of the port, and this is the line that
+-- it has received whole with it, if there is one.
+pub record IsHolderStep (h : Header) (past : Trace) (p l : ℕ) (e : Event) (t : Target)
+    (line : Option Line) (x : Holder) : Type 0 where
   pub step : IsLineStep h past l e t
   pub port : port_of e ≡ Some p
   pub whole : line ≡ received past e p l
   pub stands : HolderStands past p l x
 
 -- The same of every port, where something is kept of each port of the header.
-pub record IsHoldersStep (h : Header) (past : Trace) (l : ℕ) (e : Event) (t : Target) (line : Option Line) (xs : List Holder) : Type 0 where
+pub record IsHoldersStep (h : Header) (past : Trace) (l : ℕ) (e : Event) (t : Target)
+    (line : Option Line) (xs : List Holder) : Type 0 where
   pub step : IsLineStep h past l e t
   pub room : length xs ≡ h.ports
   pub whole : (p : ℕ) → port_of e ≡ Some p → line ≡ received past e p l

@@ -1,29 +1,24 @@
 -- What the rules of a grant ask, asked of what is kept of the line.
-use Rattle.std.specs.Prelude.{ℕ, ◌≡◌, Bool, true, false, not, ◌&&◌, ◌||◌, ◌==◌, List, Option, Some, None, is_some, is_none, option_map, unwrap_or, if◌then◌else◌}
+use Rattle.std.specs.Prelude.{ℕ, Bool, true, false, not, ◌&&◌, ◌||◌, ◌==◌, List, Option, Some, None, is_some, is_none, option_map, unwrap_or, if◌then◌else◌}
 use Rattle.ace_codes.specs.declared.kind.ArKind.{ArKind}
 use Rattle.ace_codes.specs.declared.kind.AwKind.{AwKind}
 use Rattle.ace_codes.specs.declared.kind.AwKind.TheVariants.{WriteUnique, WriteNoSnoop}
 use Rattle.ace_codes.specs.declared.state.LineState.{LineState}
-use Rattle.ace_codes.specs.declared.state.LineState.TheVariants.{I}
 use Rattle.ace_codes.specs.Responses.{passes_dirty, is_shared}
 use Rattle.ace_event.specs.declared.header.Header.{Header}
 use Rattle.ace_event.specs.declared.line.Line.{Line}
 use Rattle.ace_event.specs.Bytes.{merged}
-use Rattle.ace_tables.specs.EndStates.{ends_read}
 use Rattle.ace_model.specs.Copies.{is_line_read_transaction, word_of, same_line}
-use Rattle.ace_model.specs.Progress.{updates_memory}
 use Rattle.ace_model.specs.ReadRules.{same_upper_bits}
 use Rattle.ace_tables.specs.States.{is_invalid}
 use Rattle.ace_model.specs.declared.transactions.Transaction.{Transaction}
-use Rattle.ace_model.specs.Trace.{Trace, implies, is_none_or, is_some_and}
-use Rattle.ace_model.specs.Lines.{has_failed_on}
-use Rattle.ace_model.specs.Kinds.{takes_passed_data, may_be_shared, is_read_not_shared_dirty, is_make_unique}
+use Rattle.ace_model.specs.Trace.{implies, is_none_or, is_some_and}
+use Rattle.ace_model.specs.Kinds.{takes_passed_data, may_be_shared, is_read_not_shared_dirty}
 use Rattle.ace_model.specs.Transactions.{is_ace, is_line, is_read, read_kind, write_kind, snoop_of}
 use Rattle.std.specs.List.{list_all}
 use Rattle.ace_model.specs.Grants.{ports_below}
 use Rattle.ace_model.specs.SnoopRules.{has_snoop_code}
 use Rattle.ace_portck.specs.declared.target.Progress.{Progress}
-use Rattle.ace_portck.specs.Target.{Target}
 use Rattle.ace_portck.specs.declared.target.WriteData.{WriteData}
 use Rattle.ace_lineck.specs.declared.stages.Stage.{Stage}
 use Rattle.ace_lineck.specs.declared.stages.Stage.TheVariants.{Unsnooped, Sending, Done}
@@ -49,7 +44,8 @@ is_settled _ spared = false
 abbrev pub may_be_snooped : Bool → Option Grant → ℕ → ℕ → Bool
 may_be_snooped failed None p snoop = false
 may_be_snooped failed (Some g) p snoop =
-    not (g.transaction.port == p) && has_snoop_code g.transaction snoop && not failed && not g.begun && is_unsnooped (stage_at g.stages p)
+    not (g.transaction.port == p) && has_snoop_code g.transaction snoop && not failed
+    && not g.begun && is_unsnooped (stage_at g.stages p)
 
 -- the granted transaction has passed data; their burst is whole
 abbrev pub has_passed : Grant → Bool
@@ -61,10 +57,13 @@ is_passed_whole g = is_some_and g.passed (λ p. not (is_sending (stage_at g.stag
 -- the snoops under the grant are done: the port's, and all
 abbrev pub is_done_at : Header → Grant → List LineState → ℕ → Bool
 is_done_at h g states q =
-    is_settled (stage_at g.stages q) ((q == g.transaction.port) || not (is_ace h q) || is_invalid (state_at states q))
+    is_settled (stage_at g.stages q)
+    ((q == g.transaction.port) || not (is_ace h q) || is_invalid (state_at states q))
 
 abbrev pub are_done : Header → Bool → Grant → List LineState → Bool
-are_done h failed g states = is_none (snoop_of g.transaction) || failed || list_all (is_done_at h g states) (ports_below h.ports)
+are_done h failed g states =
+    is_none (snoop_of g.transaction) || failed
+    || list_all (is_done_at h g states) (ports_below h.ports)
 
 -- the grant is that of the transaction
 abbrev pub is_its : Grant → Transaction → Bool
@@ -72,17 +71,14 @@ is_its g x = g.transaction.place == x.place
 
 -- K18: the transfer of a line read is one that its grant lets through
 abbrev pub takes_data : Grant → Transaction → ℕ → Bool
-takes_data g x resp = is_some_and (read_kind x) takes_passed_data && is_passed_whole g && passes_dirty resp
+takes_data g x resp =
+    is_some_and (read_kind x) takes_passed_data && is_passed_whole g && passes_dirty resp
 
 abbrev pub may_have_beat : Header → Bool → Option Grant → List LineState → Progress → ℕ → Bool
 may_have_beat h failed None states x resp = false
 may_have_beat h failed (Some g) states x resp =
     is_its g x.transaction && implies (x.transfers == 0) (are_done h failed g states)
     && implies (has_passed g) (takes_data g x.transaction resp)
-
--- the line's granted transaction is an exclusive store that failed, where the event has a line
-abbrev pub IsFailure : Header → Trace → Target → Bool → Type 0
-IsFailure h past t failed = (l : ℕ) → t.line ≡ Some l → failed ≡ has_failed_on h past l
 
 -- the reply of the granted read: memory, as long as it isn't settled
 abbrev pub reply_kept : Option Grant → Line → Line
@@ -92,17 +88,22 @@ reply_kept (Some g) memory = unwrap_or g.reply memory
 -- K20: the word is that of the reply, or 0 of a dataless transfer
 abbrev pub fits_reply : Option Grant → Line → ℕ → Progress → Bool
 fits_reply grant memory word x =
-    word == (if is_line_read_transaction x.transaction then word_of (reply_kept grant memory) x.transfers else 0)
+    word
+    == (if is_line_read_transaction x.transaction then word_of (reply_kept grant memory) x.transfers
+    else 0)
 
--- K19: the upper bits of the response fit the kind, where there are passed data or not, and an answer with IsShared or not
+-- K19: the upper bits of the response fit the kind, where there are passed data or not, and an
+-- answer with IsShared or not
 abbrev pub fits_shared : Header → Bool → ℕ → Transaction → ArKind → Bool
 fits_shared h shared resp x k =
-    implies (is_shared resp) (may_be_shared k) && not (is_read_not_shared_dirty k && passes_dirty resp && is_shared resp)
+    implies (is_shared resp) (may_be_shared k)
+    && not (is_read_not_shared_dirty k && passes_dirty resp && is_shared resp)
     && implies (is_ace h x.port && may_be_shared k && shared) (is_shared resp)
 
 abbrev pub fits_bits : Header → Bool → Bool → ℕ → Progress → Bool
 fits_bits h passed shared resp x =
-    implies (passes_dirty resp) passed && is_none_or (read_kind x.transaction) (fits_shared h shared resp x.transaction)
+    implies (passes_dirty resp) passed
+    && is_none_or (read_kind x.transaction) (fits_shared h shared resp x.transaction)
     && implies (passes_dirty resp || is_shared resp) (is_ace h x.transaction.port)
     && (if x.transfers == 0 then true else same_upper_bits resp x.response)
 
@@ -113,23 +114,6 @@ has_passed_for grant x = is_line x && is_some_and grant (λ g. is_its g x && has
 abbrev pub is_shared_under : Option Grant → Bool
 is_shared_under grant = is_some_and grant (λ g. g.shared)
 
--- K23: the state is an end state of the read, and a MakeUnique has had its D
-abbrev pub ends_kept : Bool → LineState → LineState → Progress → Bool
-ends_kept failed held st x =
-    is_none_or (read_kind x.transaction)
-    (λ k. ends_read k (if is_line x.transaction then held else I) (is_shared x.response) (passes_dirty x.response) (is_line x.transaction && failed) st
-    && implies (is_make_unique k) x.stored)
-
--- K24: the transaction may write memory: a granted read its passed data, a granted write or a memory update its burst
-abbrev pub may_write_kept : Header → Bool → Option Grant → List LineState → Option WriteData → Progress → Bool
-may_write_kept h failed grant states burst x =
-    is_line x.transaction
-    && (if is_read x.transaction.chan
-    then is_some_and grant (λ g. is_its g x.transaction && has_passed g && is_passed_whole g) && (x.transfers == 0)
-    else is_some burst
-    && (is_some_and grant (λ g. is_its g x.transaction && are_done h failed g states)
-    || (updates_memory x.transaction && is_none_or grant (λ g. not (has_passed g)))))
-
 -- the passed data of the line
 abbrev pub passed_kept : Option Grant → Option Line
 passed_kept None = None
@@ -137,7 +121,8 @@ passed_kept (Some g) = if has_passed g then option_map (λ p. p.line) g.passed e
 
 -- K25: what a write of this kind writes
 abbrev pub written_kept : Option Line → Line → WriteData → AwKind → Line
-written_kept passed memory burst WriteUnique = merged (unwrap_or passed memory) burst.strobe burst.line
+written_kept passed memory burst WriteUnique =
+    merged (unwrap_or passed memory) burst.strobe burst.line
 written_kept passed memory burst WriteNoSnoop = merged memory burst.strobe burst.line
 written_kept passed memory burst _ = burst.line
 
@@ -145,4 +130,5 @@ written_kept passed memory burst _ = burst.line
 abbrev pub fits_data : Option Line → Line → Option WriteData → Line → Transaction → Bool
 fits_data passed memory burst line x =
     if is_read x.chan then is_none_or passed (same_line line)
-    else is_none_or burst (λ b. is_none_or (write_kind x) (λ k. same_line line (written_kept passed memory b k)))
+    else is_none_or burst
+    (λ b. is_none_or (write_kind x) (λ k. same_line line (written_kept passed memory b k)))

@@ -9,3 +9,4 @@ pub mod Beats
 pub mod Snoops
 pub mod Acknowledges
 pub mod MemoryRules
+pub mod Waiting

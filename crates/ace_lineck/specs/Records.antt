@@ -1,5 +1,5 @@
 -- What is kept of a line says what there is to say of it after a trace.
-use Rattle.std.specs.Prelude.{ℕ, ◌≡◌, ◌==◌, ◌&&◌, Bool, true, length, replicate, Option, Some, None}
+use Rattle.std.specs.Prelude.{ℕ, ◌≡◌, ◌==◌, ◌&&◌, Bool, length, replicate, Option, None}
 use Rattle.ace_codes.specs.declared.state.LineState.TheVariants.{I}
 use Rattle.ace_event.specs.declared.event.Channel.{Channel}
 use Rattle.ace_event.specs.declared.event.Event.{Event}
@@ -7,9 +7,6 @@ use Rattle.ace_event.specs.declared.header.Header.{Header}
 use Rattle.ace_model.specs.Copies.{zero_line, is_line_read_transaction}
 use Rattle.ace_model.specs.declared.transactions.Transaction.{Transaction}
 use Rattle.ace_model.specs.Trace.{Trace, is_some_and}
-use Rattle.ace_model.specs.AddressRules.{k1}
-use Rattle.ace_model.specs.Accepted.{IsAccepted}
-use Rattle.ace_portck.specs.Targets.{target_of}
 use Rattle.ace_portck.specs.declared.target.Progress.{Progress}
 use Rattle.ace_portck.specs.Target.{Target}
 use Rattle.ace_lineck.specs.declared.record.LineRecord.{LineRecord}
@@ -27,16 +24,9 @@ pub record LineStands (h : Header) (past : Trace) (l : ℕ) (x : LineRecord) : T
   pub grant : GrantStands h past l x.grant
   pub holders : HoldersStand past l x.holders.items
 
--- The event comes next after an accepted trace, from a port that may have it; the target is its own; and this is what is kept of its
--- line, if it has one.
-pub record IsNext (h : Header) (past : Trace) (e : Event) (t : Target) (x : LineRecord) : Type 0 where
-  pub accepted : IsAccepted h past
-  pub port : k1 h past e ≡ true
-  pub target : t ≡ target_of h past e
-  pub line : (l : ℕ) → t.line ≡ Some l → LineStands h past l x
-
 -- the event is the next of the line, which this is kept of, with a holder for each port
-pub record IsRecordStep (h : Header) (past : Trace) (l : ℕ) (e : Event) (t : Target) (x : LineRecord) : Type 0 where
+pub record IsRecordStep (h : Header) (past : Trace) (l : ℕ) (e : Event) (t : Target)
+    (x : LineRecord) : Type 0 where
   pub step : IsLineStep h past l e t
   pub stands : LineStands h past l x
   pub room : length x.holders.items ≡ h.ports

@@ -41,14 +41,16 @@ pub record IsEmpty (x : LineRecord) : Type 0 where
   pub grant : x.grant ≡ None
   pub holders : x.holders.items ≡ []
 
--- What is kept is what there is of each line after the recording, and a record of the map has a holder for each port.
+-- What is kept is what there is of each line after the recording, and a record of the map has a
+-- holder for each port.
 pub record Stands (s : LineCheck) (r : Recording) : Type 0 where
   pub header : s.header ≡ r.header
   pub ports : IsHeader r.header
   pub accepted : IsAccepted r.header r.past
   pub empty : IsEmpty s.empty
   pub lines : (l : ℕ) → LineStands r.header r.past l (record_of s l)
-  pub holders : (l : ℕ) (x : LineRecord) → get nat_eq s.lines l ≡ Some x → length x.holders.items ≡ r.header.ports
+  pub holders : (l : ℕ) (x : LineRecord) → get nat_eq s.lines l ≡ Some x
+      → length x.holders.items ≡ r.header.ports
   pub known : s.known ≡ length (known_lines r.past)
   pub spare : All (IsFresh r.header.ports) s.spare.items
 
@@ -62,7 +64,8 @@ abbrev pub IsAbsent : LineCheck → Option ℕ → Type 0
 IsAbsent s None = ⊥
 IsAbsent s (Some l) = get nat_eq s.lines l ≡ None
 
--- There is room for the records of so many lines, and each record is that of a line which a transaction of the trace names.
+-- There is room for the records of so many lines, and each record is that of a line which a
+-- transaction of the trace names.
 pub record IsRoomy (lines : ℕ) (past : Trace) (s : LineCheck) : Type 0 where
   pub map : HasRoomForLines lines past s.lines
   pub records : lines ≤ index_map_len s.lines + length s.spare.items
@@ -96,8 +99,10 @@ BeginsLine past (Aw p i addr snoop dom bar) t = IsNewLine past t.line
 BeginsLine past (Mem addr line) t = ⊤
 BeginsLine past _ t = ⊥
 
--- the event may be next: it breaks no rule, the target is its own, the place is that of its line, and there is room for what it leaves
-pub record MayApply (s : LineCheck) (r : Recording) (e : Event) (t : Target) (place : Option ℕ) : Type 0 where
+-- the event may be next: it breaks no rule, the target is its own, the place is that of its line,
+-- and there is room for what it leaves
+pub record MayApply (s : LineCheck) (r : Recording) (e : Event) (t : Target) (place : Option ℕ)
+    : Type 0 where
   pub stands : Stands s r
   pub target : t ≡ target_of r.header r.past e
   pub room : HasRoom s e t place

@@ -15,13 +15,15 @@ state_at states p = unwrap_or (slice_get states p) I
 
 -- the port has the line in this state, and the states of the others haven't changed
 abbrev pub IsInState : List LineState → List LineState → ℕ → LineState → Type 0
-IsInState old new q st = (p : ℕ) → state_at new p ≡ (if (p == q) && nat_lt p 32 then st else state_at old p)
+IsInState old new q st =
+    (p : ℕ) → state_at new p ≡ (if (p == q) && nat_lt p 32 then st else state_at old p)
 
 -- what is kept of each port is its state
 pub record StatesStand (h : Header) (past : Trace) (l : ℕ) (states : List LineState) : Type 0 where
   pub state : (p : ℕ) → state_at states p ≡ state_of h past p l
 
 -- the event is the next of the line, and the states are those before it
-pub record IsStatesStep (h : Header) (past : Trace) (l : ℕ) (e : Event) (t : Target) (states : List LineState) : Type 0 where
+pub record IsStatesStep (h : Header) (past : Trace) (l : ℕ) (e : Event) (t : Target)
+    (states : List LineState) : Type 0 where
   pub step : IsLineStep h past l e t
   pub stand : StatesStand h past l states

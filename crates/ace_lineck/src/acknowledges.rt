@@ -1,4 +1,5 @@
-//! RK and WK, by what is kept of their line: the least rule of the share that one breaks, and what it leaves.
+//! RK and WK, by what is kept of their line: the least rule of the share that one breaks, and what
+//! it leaves.
 
 ghost use Rattle.std.specs.Prelude.{◌≡◌, ◌==◌, ◌<◌, ◌-◌, ◌^◌, ◌∷◌, ℕ, List, None, Some, length};
 ghost use Rattle.ace_codes.specs.declared.state.LineState.{LineState};
@@ -22,7 +23,7 @@ use crate::replies::ends_as;
 use crate::states::set_state;
 use ace_codes::{ArKind, AwKind, LineState};
 use ace_model::Transaction;
-use ace_portck::Progress;
+use ace_portck::{Progress, unless};
 use ace_tables::end_write;
 
 /// Both are the same transaction: they were issued at the same place.
@@ -82,9 +83,10 @@ impl LineCheck {
     ghost use Rattle.ace_portck.specs.Targets.{Recording, after, line_in, transaction_in};
     ghost use Rattle.ace_lineck.specs.Stands.{Stands, IsRoomy, place_on};
 
-    /// The least rule of the share that an RK of the read breaks: K23, that its state is an end state of the read, and that a MakeUnique
-    /// has had its D (Arm IHI 0022E, C4). `kind` is that of the read, `failed` says whether it is an exclusive store that failed, and
-    /// `place` is that of its line.
+    /// The least rule of the share that an RK of the read breaks: K23, that its state is an end
+    /// state of the read, and that a MakeUnique has had its D (Arm IHI 0022E, C4). `kind` is that
+    /// of the read, `failed` says whether it is an exclusive store that failed, and `place` is that
+    /// of its line.
     #[inline(always)]
     pub fn rule_of_rk(
         &self,
@@ -102,15 +104,15 @@ impl LineCheck {
             → place ≡ place_on self.now (line_in r.header r.past (Rk port st))
             → result ≡ least_of line_rules r.header r.past (Rk port st) }
     {
-        if ends_as(kind, self.record(place).state(port), failed, st, x) {
-            None
-        } else {
-            Some(23)
-        }
+        unless(
+            ends_as(kind, self.record(place).state(port), failed, st, x),
+            Some(23),
+        )
     }
 
-    /// The least rule of the share that a WK of the write breaks: K28, that its state is an end state of the write (Arm IHI 0022E, C4).
-    /// `kind` is that of the write, and `place` that of its line.
+    /// The least rule of the share that a WK of the write breaks: K28, that its state is an end
+    /// state of the write (Arm IHI 0022E, C4). `kind` is that of the write, and `place` that of its
+    /// line.
     #[inline(always)]
     pub fn rule_of_wk(
         &self,
@@ -125,11 +127,10 @@ impl LineCheck {
             → place ≡ place_on self.now (line_in r.header r.past (Wk port st))
             → result ≡ least_of line_rules r.header r.past (Wk port st) }
     {
-        if ends_write(kind, self.record(place).state(port), st) {
-            None
-        } else {
-            Some(28)
-        }
+        unless(
+            ends_write(kind, self.record(place).state(port), st),
+            Some(28),
+        )
     }
 
     /// Takes an RK or WK of the transaction, which breaks no rule. `place` is that of its line.

@@ -11,6 +11,7 @@ use crate::LineCheck;
 use crate::kinds::{is_no_snoop_read, is_no_snoop_write};
 use crate::record::{LineRecord, Use};
 use ace_codes::{ArKind, AwKind};
+use ace_portck::unless;
 use ace_tables::{start_read_ok, start_write_ok};
 
 /// A transaction goes with the use of its line: a NoSnoop one, or another.
@@ -25,7 +26,8 @@ fn goes_with(used: Use, unshared: bool) -> bool
     }
 }
 
-/// The least of K6 and K8 that an AR of a line read of the kind breaks, by what is kept of its line.
+/// The least of K6 and K8 that an AR of a line read of the kind breaks, by what is kept of its
+/// line.
 #[inline(always)]
 fn rule_of_read(kept: &LineRecord, port: u8, kind: ArKind) -> Option<u8>
     ensures { result ≡ (if starts_read kind (state_at kept.now.states port)
@@ -35,11 +37,7 @@ fn rule_of_read(kept: &LineRecord, port: u8, kind: ArKind) -> Option<u8>
     if !start_read_ok(kind, kept.state(port)) {
         return Some(6);
     }
-    if goes_with(kept.used, is_no_snoop_read(kind)) {
-        None
-    } else {
-        Some(8)
-    }
+    unless(goes_with(kept.used, is_no_snoop_read(kind)), Some(8))
 }
 
 /// The least of K6 and K8 that an AW of a line write of the kind breaks, by what is kept of its
@@ -53,11 +51,7 @@ fn rule_of_write(kept: &LineRecord, port: u8, kind: AwKind) -> Option<u8>
     if !start_write_ok(kind, kept.state(port)) {
         return Some(6);
     }
-    if goes_with(kept.used, is_no_snoop_write(kind)) {
-        None
-    } else {
-        Some(8)
-    }
+    unless(goes_with(kept.used, is_no_snoop_write(kind)), Some(8))
 }
 
 /// The line is used by NoSnoop transactions, or by others. Whether it becomes known so.
@@ -91,9 +85,9 @@ impl LineCheck {
     ghost use Rattle.ace_portck.specs.Targets.{Recording, after};
     ghost use Rattle.ace_lineck.specs.Stands.{Stands, HasRecord, IsRoomy, place_on};
 
-    /// The least rule of the share that an AR of a line read of the kind breaks, whatever its lock is: K6, that the kind may start from
-    /// the state in which its port has the line, or K8, that it goes with the use of the line (Arm IHI 0022E, C4). `place` is that of
-    /// the line.
+    /// The least rule of the share that an AR of a line read of the kind breaks, whatever its lock
+    /// is: K6, that the kind may start from the state in which its port has the line, or K8, that
+    /// it goes with the use of the line (Arm IHI 0022E, C4). `place` is that of the line.
     #[inline(always)]
     pub fn rule_of_ar(&self, port: u8, kind: ArKind, place: Option<usize>) -> Option<u8>
         ensures { (r : Recording) (id addr snoop dom bar : ℕ) (lock : Bool) → Stands self.now r

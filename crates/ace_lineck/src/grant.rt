@@ -33,7 +33,8 @@ pub struct Grant {
     pub shared: bool,
     /// The port that answered with PassDirty.
     pub passed: Option<Passed>,
-    /// The reply of a read: the copy of the first port that sent data or, from the first beat on, memory as it was then.
+    /// The reply of a read: the copy of the first port that sent data or, from the first beat on,
+    /// memory as it was then.
     pub reply: Option<Line>,
 }
 

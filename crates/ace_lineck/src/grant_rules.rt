@@ -94,7 +94,7 @@ fn either(a: bool, b: bool) -> bool
 }
 
 #[inline(always)]
-fn both(a: bool, b: bool) -> bool
+pub(crate) fn both(a: bool, b: bool) -> bool
     ensures { result ≡ (a && b) }
 {
     a && b
@@ -111,11 +111,12 @@ fn is_settled(stage: Stage, spared: bool) -> bool
     )
 }
 
-/// The snoops under the grant of a port at this stage, which has the line in this state, are done: it owes nothing, and was snooped
-/// unless it need not be.
+/// The snoops under the grant of a port at this stage, which has the line in this state, are done:
+/// it owes nothing, and was snooped unless it need not be.
 #[inline(always)]
 fn is_done_with(g: &Grant, header: &Header, port: u8, stage: Stage, state: LineState) -> bool
-    ensures { result ≡ is_settled stage ((port == g.now.transaction.port) || not (is_ace header.now port) || is_invalid state) }
+    ensures { result ≡ is_settled stage ((port == g.now.transaction.port)
+        || not (is_ace header.now port) || is_invalid state) }
 {
     let spared = either(
         either(port == g.transaction.port, !is_ace(header, port)),
@@ -135,7 +136,8 @@ fn is_done_at(states: &[LineState; 32], g: &Grant, header: &Header, port: u8) ->
     is_done_with(g, header, port, stage, state)
 }
 
-/// Of how many ports of the header a stage and a state are kept: of all, as a header has no more than 32.
+/// Of how many ports of the header a stage and a state are kept: of all, as a header has no more
+/// than 32.
 #[inline(always)]
 fn kept_ports(header: &Header) -> u8
     ensures most { result ≤ 32 }
@@ -145,8 +147,8 @@ fn kept_ports(header: &Header) -> u8
     if header.ports <= 32 { header.ports } else { 32 }
 }
 
-/// Whichever port it is, a port at this stage, which has the line in this state, owes nothing and need not be snooped: it has answered
-/// whole, or it wasn't snooped and doesn't have the line.
+/// Whichever port it is, a port at this stage, which has the line in this state, owes nothing and
+/// need not be snooped: it has answered whole, or it wasn't snooped and doesn't have the line.
 #[inline(always)]
 fn is_quiet(stage: Stage, state: LineState) -> bool
     ensures { result ≡ is_settled stage (is_invalid state) }
@@ -154,10 +156,12 @@ fn is_quiet(stage: Stage, state: LineState) -> bool
     is_settled(stage, is_invalid(state))
 }
 
-/// Each port is quiet, which is asked of all at once, as no port's answer depends on another's or on the header.
+/// Each port is quiet, which is asked of all at once, as no port's answer depends on another's or
+/// on the header.
 #[inline(always)]
 fn is_each_quiet(stages: &[Stage; 32], states: &[LineState; 32]) -> bool
-    ensures { result ≡ true → (q : ℕ) → is_settled (stage_at stages.now q) (is_invalid (state_at states.now q)) ≡ true }
+    ensures { result ≡ true → (q : ℕ)
+        → is_settled (stage_at stages.now q) (is_invalid (state_at states.now q)) ≡ true }
 {
     let mut all = true;
     for port in 0..32 {
@@ -166,10 +170,11 @@ fn is_each_quiet(stages: &[Stage; 32], states: &[LineState; 32]) -> bool
     all
 }
 
-/// The snoops of each port are done, port by port. So are those of a port beyond the 32 of which a stage and a state are kept: it wasn't
-/// snooped, and doesn't have the line.
+/// The snoops of each port are done, port by port. So are those of a port beyond the 32 of which a
+/// stage and a state are kept: it wasn't snooped, and doesn't have the line.
 fn is_one_by_one_done(kept: &LineRecord, g: &Grant, header: &Header) -> bool
-    ensures { result ≡ list_all (is_done_at header.now g.now kept.now.states) (ports_below header.now.ports) }
+    ensures { result
+        ≡ list_all (is_done_at header.now g.now kept.now.states) (ports_below header.now.ports) }
 {
     let mut all = true;
     for port in 0..kept_ports(header) {
@@ -181,7 +186,8 @@ fn is_one_by_one_done(kept: &LineRecord, g: &Grant, header: &Header) -> bool
 /// The snoops of each port are done. Mostly each is quiet, so that is asked first.
 #[tactic(auto, using(crate::proofs::GrantLaws::quiet_done))]
 pub fn is_each_done(kept: &LineRecord, g: &Grant, header: &Header) -> bool
-    ensures { result ≡ list_all (is_done_at header.now g.now kept.now.states) (ports_below header.now.ports) }
+    ensures { result
+        ≡ list_all (is_done_at header.now g.now kept.now.states) (ports_below header.now.ports) }
 {
     is_each_quiet(&g.stages, &kept.states) || is_one_by_one_done(kept, g, header)
 }

@@ -5,11 +5,14 @@ ghost use Rattle.ace_lineck.specs.Grants.{fresh_grant};
 
 use crate::LineCheck;
 use crate::grant::fresh;
+use crate::grant_rules::both;
 use crate::kinds::takes_grant;
 use crate::record::LineRecord;
 use ace_model::Transaction;
+use ace_portck::unless;
 
-/// The line is granted to the transaction: nothing has come under its grant, and the rest is as it was.
+/// The line is granted to the transaction: nothing has come under its grant, and the rest is as it
+/// was.
 #[inline(always)]
 fn grant_to(kept: &mut LineRecord, x: &Transaction)
     ensures { kept.new ≡ record kept.old { grant = Some (fresh_grant x.now) } }
@@ -28,8 +31,9 @@ impl LineCheck {
     ghost use Rattle.ace_portck.specs.Targets.{Recording, after};
     ghost use Rattle.ace_lineck.specs.Stands.{Stands, IsRoomy, place_on};
 
-    /// The least rule of the share that a G of the outstanding transaction breaks: K12, that its kind is granted its line, and that no
-    /// transaction on the line is granted (our choice, for what Arm IHI 0022E, C6, asks of an interconnect). `place` is that of its line.
+    /// The least rule of the share that a G of the outstanding transaction breaks: K12, that its
+    /// kind is granted its line, and that no transaction on the line is granted (our choice, for
+    /// what Arm IHI 0022E, C6, asks of an interconnect). `place` is that of its line.
     #[inline(always)]
     pub fn rule_of_g(&self, x: &Transaction, place: Option<usize>) -> Option<u8>
         ensures { (r : Recording) (p : ℕ) (c : Channel) (i : ℕ) → Stands self.now r
@@ -37,14 +41,10 @@ impl LineCheck {
             → place ≡ place_on self.now (Some x.now.addr)
             → result ≡ least_of line_rules r.header r.past (G p c i) }
     {
-        if !takes_grant(x) {
-            return Some(12);
-        }
-        if self.record(place).grant.is_none() {
-            None
-        } else {
-            Some(12)
-        }
+        unless(
+            both(takes_grant(x), self.record(place).grant.is_none()),
+            Some(12),
+        )
     }
 
     /// The same, of a G that names no outstanding transaction, which breaks K12.

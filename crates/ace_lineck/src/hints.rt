@@ -3,8 +3,9 @@
 /// How many places are remembered.
 const HINTS: usize = 1024;
 
-/// For each number that a line can have, where the record of the last line with the number stands. It is a guess, of which nothing is
-/// promised: whoever takes it looks whether the line stands there.
+/// For each number that a line can have, where the record of the last line with the number stands.
+/// It is a guess, of which nothing is promised: whoever takes it looks whether the line stands
+/// there.
 #[derive(Clone, Copy)]
 pub struct Hints {
     places: [u16; HINTS],

@@ -7,7 +7,8 @@ use ace_io::NoMemory;
 use indexmap::IndexMap;
 use std::alloc::Global;
 
-/// The checker of the rules that look at one line: what is kept of each line of which something has come.
+/// The checker of the rules that look at one line: what is kept of each line of which something has
+/// come.
 #[derive(Drop)]
 pub struct LineCheck {
     pub(crate) header: Header,
@@ -52,7 +53,8 @@ impl LineCheck {
     /// The same, with room for so many lines: as long as no more are known, `make_record` makes
     /// room for any.
     pub fn with_room(alloc: Global, header: Header, lines: usize) -> Result<LineCheck, NoMemory>
-        ensures stands { IfOk result (λ s. IsHeader header → Stands s (record { header = header; past = [] })) }
+        ensures stands { IfOk result (λ s. IsHeader header
+            → Stands s (record { header = header; past = [] })) }
         ensures room { IfOk result (IsRoomy lines []) }
     {
         let Ok(records) = IndexMap::with_capacity(alloc, lines) else {
@@ -70,7 +72,8 @@ impl LineCheck {
         })
     }
 
-    /// Where the record of a line stands, if it has one. It stays there; that a line has none is good until room is made for one.
+    /// Where the record of a line stands, if it has one. It stays there; that a line has none is
+    /// good until room is made for one.
     #[inline(always)]
     pub fn place(&self, line: Option<u32>) -> Option<usize>
         ensures { result ≡ place_on self.now line }
@@ -118,7 +121,8 @@ impl LineCheck {
 
     /// What is kept of the line whose record stands at the place.
     pub(crate) fn record(&self, place: Option<usize>) -> &LineRecord
-        ensures { (line : Option ℕ) → place ≡ place_on self.now line → result.now ≡ record_on self.now line }
+        ensures { (line : Option ℕ) → place ≡ place_on self.now line
+            → result.now ≡ record_on self.now line }
     {
         match place {
             None => &self.empty,
@@ -171,14 +175,17 @@ impl LineCheck {
 
     /// Whether a line transaction has named the line whose record stands at the place.
     pub fn knows(&self, place: Option<usize>) -> bool
-        ensures { (r : Recording) (line : ℕ) → Stands self.now r → place ≡ place_on self.now (Some line) → result ≡ is_known r.past line }
+        ensures { (r : Recording) (line : ℕ) → Stands self.now r
+            → place ≡ place_on self.now (Some line) → result ≡ is_known r.past line }
     {
         !self.record(place).is_unknown()
     }
 
-    /// The port, channel and identifier of the transaction that is granted on the line whose record stands at the place.
+    /// The port, channel and identifier of the transaction that is granted on the line whose record
+    /// stands at the place.
     pub fn granted(&self, place: Option<usize>) -> Option<(u8, Channel, u8)>
-        ensures { (r : Recording) (line : ℕ) → Stands self.now r → place ≡ place_on self.now (Some line)
+        ensures { (r : Recording) (line : ℕ) → Stands self.now r
+            → place ≡ place_on self.now (Some line)
             → result ≡ option_map name_of (granted r.header r.past line) }
     {
         self.record(place).granted_name()

@@ -28,7 +28,7 @@ use ace_codes::AwKind;
 use ace_event::{Channel, Header, Line, merge};
 use ace_model::Transaction;
 use ace_model::kinds::{is_update, write_kind};
-use ace_portck::{Progress, WriteData};
+use ace_portck::{Progress, WriteData, unless};
 use ace_tables::snoop_of_write;
 
 /// The granted read has passed data that are whole.
@@ -215,11 +215,10 @@ fn rule_of_burst(
     if !may_write_burst(kept, header, x, kind) {
         return Some(24);
     }
-    if is_written(&kept.grant, &kept.memory, burst, line, kind) {
-        None
-    } else {
-        Some(25)
-    }
+    unless(
+        is_written(&kept.grant, &kept.memory, burst, line, kind),
+        Some(25),
+    )
 }
 
 /// K24: the read, which is granted, has passed data that are whole, and no transfer.
@@ -240,11 +239,7 @@ fn rule_of_passed(grant: &Option<Grant>, x: &Progress, line: &Line) -> Option<u8
     if !may_write_passed(grant, x) {
         return Some(24);
     }
-    if is_passed(grant, line) {
-        None
-    } else {
-        Some(25)
-    }
+    unless(is_passed(grant, line), Some(25))
 }
 
 /// The same, of any transaction. `burst` is that of a write, where it is whole and the write has

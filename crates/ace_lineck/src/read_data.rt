@@ -37,10 +37,11 @@ use crate::replies::{fits_shared, reply_in, same_upper_bits, word_at};
 use ace_codes::{ArKind, is_shared, passes_dirty};
 use ace_event::{Header, Line};
 use ace_model::kinds::is_ace;
-use ace_portck::Progress;
+use ace_portck::{Progress, unless};
 use ace_tables::snoop_of_read;
 
-/// The snoops under the grant of a read of this kind are done, or it is an exclusive store that failed.
+/// The snoops under the grant of a read of this kind are done, or it is an exclusive store that
+/// failed.
 #[inline(always)]
 fn are_done(kept: &LineRecord, g: &Grant, header: &Header, kind: ArKind, failed: bool) -> bool
     ensures { read_kind g.now.transaction ≡ Some kind
@@ -127,11 +128,7 @@ fn rule_of_beat(
     if !fits_bits(g, header, x, kind, resp) {
         return Some(19);
     }
-    if fits_reply(kept, x, kind, word) {
-        None
-    } else {
-        Some(20)
-    }
+    unless(fits_reply(kept, x, kind, word), Some(20))
 }
 
 /// The least of K19, that the transfer has neither PassDirty nor IsShared, and K20, that it has the
@@ -172,8 +169,8 @@ fn settled_in(grant: &Option<Grant>) -> Option<&Line>
     }
 }
 
-/// The line that the port of the read has received whole with the transfer: the reply where it stands, at the fourth of a read of
-/// the line.
+/// The line that the port of the read has received whole with the transfer: the reply where it
+/// stands, at the fourth of a read of the line.
 #[inline(always)]
 fn received<'a>(grant: &'a Option<Grant>, x: &Progress, kind: ArKind) -> Option<&'a Line>
     ensures { (h : Header) (past : Trace) (l port id resp word : ℕ) (last : Bool) (t : Target)
@@ -206,7 +203,8 @@ fn receive(holders: &mut Vec<Holder>, port: u8, whole: Option<&Line>)
     }
 }
 
-/// What the transfer leaves of the grant. `over` says whether it is the last one of an ACE-Lite port, with which the transaction ends.
+/// What the transfer leaves of the grant. `over` says whether it is the last one of an ACE-Lite
+/// port, with which the transaction ends.
 #[inline(always)]
 fn serve(grant: &mut Option<Grant>, memory: &Line, over: bool)
     ensures { (h : Header) (past : Trace) (l port id resp word : ℕ) (last : Bool) (t : Target)
@@ -253,9 +251,9 @@ fn advance(kept: &mut LineRecord, header: &Header, x: &Progress, kind: ArKind, l
 }
 
 impl LineCheck {
-    /// The least rule of the share that an R of the line read breaks: of K18, that its grant lets it through, K19 or K20 (Arm IHI 0022E,
-    /// C3.2.1, C4 and C6). `kind` is that of the read, `failed` says whether it is an exclusive store that failed, and `place` is that of
-    /// its line.
+    /// The least rule of the share that an R of the line read breaks: of K18, that its grant lets
+    /// it through, K19 or K20 (Arm IHI 0022E, C3.2.1, C4 and C6). `kind` is that of the read,
+    /// `failed` says whether it is an exclusive store that failed, and `place` is that of its line.
     #[inline(always)]
     pub fn rule_of_r(
         &self,
@@ -294,7 +292,8 @@ impl LineCheck {
         rule_of_dataless(resp, word)
     }
 
-    /// Takes an R of the line read, which breaks no rule. `kind` is that of the read, and `place` that of its line.
+    /// Takes an R of the line read, which breaks no rule. `kind` is that of the read, and `place`
+    /// that of its line.
     #[inline(always)]
     pub fn hear_beat(&mut self, x: &Progress, kind: ArKind, place: Option<usize>, last: bool)
         ensures stands { (r : Recording) (port id resp word : ℕ) → Stands self.old r

@@ -32,14 +32,17 @@ pub enum Use {
 pub struct Holder {
     /// The port's copy of the line.
     pub copy: Line,
-    /// The copy at the port's last answer with DataTransfer to a snoop of the line, which its CD events send.
+    /// The copy at the port's last answer with DataTransfer to a snoop of the line, which its CD
+    /// events send.
     pub sent: Line,
 }
 
-/// What is kept of a line. What most events look at stands first, so that few lines of a processor's cache hold it.
+/// What is kept of a line. What most events look at stands first, so that few lines of a
+/// processor's cache hold it.
 #[derive(Drop)]
 pub struct LineRecord {
-    /// What each port of the header has of the line's data, by its number. A port that isn't there has had nothing of it.
+    /// What each port of the header has of the line's data, by its number. A port that isn't there
+    /// has had nothing of it.
     pub holders: Vec<Holder>,
     pub used: Use,
     /// The state in which each port has the line, by the port's number.

@@ -89,7 +89,8 @@ pub fn must_be_shared(header: &Header, shared: bool, x: &Transaction, kind: ArKi
     shared && may_be_shared(kind) && is_ace(header, x.port)
 }
 
-/// A read of this kind can take passed data, beside an answer with IsShared or without: its response may say PassDirty.
+/// A read of this kind can take passed data, beside an answer with IsShared or without: its
+/// response may say PassDirty.
 #[inline(always)]
 pub fn can_take(kind: ArKind, shared: bool) -> bool
     ensures { result ≡ (takes_passed_data kind && not (is_read_not_shared_dirty kind && shared)) }
@@ -125,10 +126,12 @@ pub fn is_shared_under(grant: &Option<Grant>) -> bool
     }
 }
 
-/// The state is an end state of a read of this kind, at whose end its port holds `held` of its line, and a MakeUnique has had its D.
+/// The state is an end state of a read of this kind, at whose end its port holds `held` of its
+/// line, and a MakeUnique has had its D.
 #[inline(always)]
 pub fn ends_as(kind: ArKind, held: LineState, failed: bool, st: LineState, x: &Progress) -> bool
-    ensures { result ≡ (ends_read kind held (is_shared x.now.response) (passes_dirty x.now.response) failed st && implies (is_make_unique kind) x.now.stored) }
+    ensures { result ≡ (ends_read kind held (is_shared x.now.response)
+        (passes_dirty x.now.response) failed st && implies (is_make_unique kind) x.now.stored) }
 {
     let shared = is_shared(x.response);
     let pass = passes_dirty(x.response);

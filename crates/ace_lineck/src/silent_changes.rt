@@ -1,4 +1,5 @@
-//! An S: the least rule of those that look at one line that it breaks, and what it leaves of what is kept of its line.
+//! An S: the least rule of those that look at one line that it breaks, and what it leaves of what
+//! is kept of its line.
 
 ghost use Rattle.std.specs.Prelude.{◌≡◌, ◌&&◌, not};
 ghost use Rattle.ace_tables.specs.SilentTransitions.{is_silent_move};
@@ -6,6 +7,7 @@ ghost use Rattle.ace_tables.specs.SilentTransitions.{is_silent_move};
 use crate::LineCheck;
 use crate::states::set_state;
 use ace_codes::LineState;
+use ace_portck::unless;
 use ace_tables::silent_ok;
 
 /// A silent transition from the held state to the next, which drops no memory update of the port.
@@ -27,9 +29,10 @@ impl LineCheck {
     ghost use Rattle.ace_portck.specs.Targets.{Recording, after};
     ghost use Rattle.ace_lineck.specs.Stands.{Stands, IsRoomy, place_on};
 
-    /// The least rule of the share that an S breaks: K29, that its port may move silently from the state that it has the line in, and
-    /// drops no update (Arm IHI 0022E, C4). `place` is that of its line. `drops` says whether it leaves its port without the line, while
-    /// a memory update of the port on the line is outstanding.
+    /// The least rule of the share that an S breaks: K29, that its port may move silently from the
+    /// state that it has the line in, and drops no update (Arm IHI 0022E, C4). `place` is that of
+    /// its line. `drops` says whether it leaves its port without the line, while a memory update of
+    /// the port on the line is outstanding.
     #[inline(always)]
     pub fn rule_of_s(
         &self,
@@ -43,14 +46,14 @@ impl LineCheck {
             → drops ≡ (is_invalid st && has_update r.header r.past port addr)
             → result ≡ least_of line_rules r.header r.past (S port addr st) }
     {
-        if may_move(self.record(place).state(port), st, drops) {
-            None
-        } else {
-            Some(29)
-        }
+        unless(
+            may_move(self.record(place).state(port), st, drops),
+            Some(29),
+        )
     }
 
-    /// Takes an S that breaks no rule: its port has the line in the new state. `place` is that of its line.
+    /// Takes an S that breaks no rule: its port has the line in the new state. `place` is that of
+    /// its line.
     #[inline(always)]
     pub fn hear_change(&mut self, port: u8, st: LineState, place: Option<usize>)
         ensures stands { (r : Recording) (addr : ℕ) → Stands self.old r

@@ -19,9 +19,11 @@ use crate::record::{Holder, LineRecord};
 use crate::states::set_state;
 use ace_codes::{LineState, SnoopKind, transfers_data};
 use ace_event::Line;
+use ace_portck::unless;
 use ace_tables::is_snoop_row;
 
-/// The answer goes with a memory update of the port, where one is outstanding: it is a row of the snoop with an update.
+/// The answer goes with a memory update of the port, where one is outstanding: it is a row of the
+/// snoop with an update.
 #[inline(always)]
 fn goes_beside_update(
     kind: SnoopKind,
@@ -92,10 +94,11 @@ impl LineCheck {
     ghost use Rattle.ace_portck.specs.Targets.{Recording, after, line_of_snoop};
     ghost use Rattle.ace_lineck.specs.Stands.{Stands, IsRoomy, place_on};
 
-    /// The least rule of the share that a CR breaks which answers a snoop of the kind: K15, that the response and the state are a row of
-    /// the snoop and of the port's state, or K16, that they go with a memory update of the port, where one is outstanding (Arm IHI
-    /// 0022E, C5). `place` is that of the line of the snoop, and `update` says of a line snoop whether the port has such an update of
-    /// the line.
+    /// The least rule of the share that a CR breaks which answers a snoop of the kind: K15, that
+    /// the response and the state are a row of the snoop and of the port's state, or K16, that they
+    /// go with a memory update of the port, where one is outstanding (Arm IHI 0022E, C5). `place`
+    /// is that of the line of the snoop, and `update` says of a line snoop whether the port has
+    /// such an update of the line.
     #[inline(always)]
     pub fn rule_of_cr(
         &self,
@@ -115,11 +118,7 @@ impl LineCheck {
         if !is_snoop_row(kind, held, false, resp, st) {
             return Some(15);
         }
-        if goes_beside_update(kind, held, update, resp, st) {
-            None
-        } else {
-            Some(16)
-        }
+        unless(goes_beside_update(kind, held, update, resp, st), Some(16))
     }
 
     /// Takes a CR that breaks no rule. `place` is that of the line of the snoop that it answers.

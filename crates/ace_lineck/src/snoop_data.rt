@@ -15,6 +15,7 @@ use crate::LineCheck;
 use crate::grant::Grant;
 use crate::record::LineRecord;
 use crate::stages::{Stage, set_stage};
+use ace_portck::unless;
 
 /// The word is that of the copy of the port at its answer.
 #[inline(always)]
@@ -56,8 +57,9 @@ impl LineCheck {
     ghost use Rattle.ace_portck.specs.Targets.{Recording, after, sending};
     ghost use Rattle.ace_lineck.specs.Stands.{Stands, IsRoomy, place_on};
 
-    /// The least rule of the share that a CD breaks which is this beat of the data for a snoop: of K17, that its word is that of the
-    /// port's copy at its answer (Arm IHI 0022E, C3.8). `place` is that of the line of the snoop.
+    /// The least rule of the share that a CD breaks which is this beat of the data for a snoop: of
+    /// K17, that its word is that of the port's copy at its answer (Arm IHI 0022E, C3.8). `place`
+    /// is that of the line of the snoop.
     #[inline(always)]
     pub fn rule_of_cd(&self, place: Option<usize>, port: u8, beat: u8, word: u128) -> Option<u8>
         ensures { (r : Recording) (s : Snoop) (last : Bool)
@@ -66,15 +68,11 @@ impl LineCheck {
             → place ≡ place_on self.now (Some s.addr)
             → result ≡ least_of line_rules r.header r.past (Cd port last word) }
     {
-        if is_word_sent(self.record(place), port, beat, word) {
-            None
-        } else {
-            Some(17)
-        }
+        unless(is_word_sent(self.record(place), port, beat, word), Some(17))
     }
 
-    /// Takes a CD that breaks no rule and is this beat of the data for a snoop: the fourth makes them whole. `place` is that of the line
-    /// of the snoop.
+    /// Takes a CD that breaks no rule and is this beat of the data for a snoop: the fourth makes
+    /// them whole. `place` is that of the line of the snoop.
     #[inline(always)]
     pub fn hear_sent(&mut self, place: Option<usize>, port: u8, beat: u8)
         ensures stands { (r : Recording) (s : Snoop) (last : Bool) (word : ℕ)

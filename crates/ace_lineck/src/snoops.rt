@@ -1,4 +1,5 @@
-//! Line snoops, by what is kept of the grant of their line: the least rule of the share that one breaks, and what it leaves.
+//! Line snoops, by what is kept of the grant of their line: the least rule of the share that one
+//! breaks, and what it leaves.
 
 ghost use Rattle.std.specs.Prelude.{◌≡◌, ◌∷◌, ℕ, List};
 ghost use Rattle.ace_event.specs.declared.event.Event.TheVariants.{Ac};
@@ -11,8 +12,9 @@ ghost use Rattle.ace_lineck.specs.Grants.{GrantStands, IsGrantStep};
 
 use crate::LineCheck;
 use crate::grant::Grant;
-use crate::grant_rules::may_be_snooped;
+use crate::grant_rules::{both, may_be_snooped};
 use crate::stages::{Stage, set_stage};
+use ace_portck::unless;
 
 /// The port is snooped under the grant.
 #[inline(always)]
@@ -39,7 +41,8 @@ impl LineCheck {
     ghost use Rattle.ace_lineck.specs.Stands.{Stands, IsRoomy, place_on};
     ghost use Rattle.ace_lineck.specs.Snoops.{MaySnoop, HearsSnoop};
 
-    /// The transaction that is granted on the line, if there is one, has lock 1. `place` is that of its line.
+    /// The transaction that is granted on the line, if there is one, has lock 1. `place` is that of
+    /// its line.
     #[inline(always)]
     pub fn is_granted_exclusively(&self, place: Option<usize>) -> bool
         ensures { (r : Recording) (line : ℕ) → Stands self.now r
@@ -49,9 +52,10 @@ impl LineCheck {
         self.record(place).is_granted_exclusively()
     }
 
-    /// The least rule of the share that a snoop of the line breaks: K13 (Arm IHI 0022E, C6). `place` is that of the line, `owes` says
-    /// whether the port has a write of the line with B and without WK, and `failed` whether the granted transaction of the line is an
-    /// exclusive store that failed. No rule of the share looks at an AC of DVM.
+    /// The least rule of the share that a snoop of the line breaks: K13 (Arm IHI 0022E, C6).
+    /// `place` is that of the line, `owes` says whether the port has a write of the line with B and
+    /// without WK, and `failed` whether the granted transaction of the line is an exclusive store
+    /// that failed. No rule of the share looks at an AC of DVM.
     #[inline(always)]
     pub fn rule_of_ac(
         &self,
@@ -65,14 +69,8 @@ impl LineCheck {
             → failed ≡ has_failed_on r.header r.past addr
             → result ≡ least_of line_rules r.header r.past (Ac port addr snoop) }
     {
-        if owes {
-            return Some(13);
-        }
-        if may_be_snooped(&self.record(place).grant, failed, port, snoop) {
-            None
-        } else {
-            Some(13)
-        }
+        let may = may_be_snooped(&self.record(place).grant, failed, port, snoop);
+        unless(both(!owes, may), Some(13))
     }
 
     /// Takes a line snoop of the port that breaks no rule. `place` is that of its line.

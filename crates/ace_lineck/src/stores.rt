@@ -1,4 +1,5 @@
-//! A D: the least rule of those that look at one line that it breaks, and what it leaves of what is kept of its line.
+//! A D: the least rule of those that look at one line that it breaks, and what it leaves of what is
+//! kept of its line.
 
 ghost use Rattle.std.specs.Prelude.{◌≡◌, ◌==◌, ◌&&◌, not, ℕ, Bool, ◌∷◌, None, length};
 ghost use Rattle.ace_event.specs.Bytes.{merged};
@@ -17,7 +18,7 @@ use crate::record::Holder;
 use crate::states::set_state;
 use ace_codes::LineState;
 use ace_event::{Line, merge};
-use ace_portck::Progress;
+use ace_portck::{Progress, unless};
 use ace_tables::is_unique;
 
 /// The store is the one of the MakeUnique, which is complete and has had none: a store of the whole
@@ -30,7 +31,8 @@ fn is_own_store(own: &Progress, strobe: u64, x: bool) -> bool
     is_make_unique(&own.transaction) && own.complete && !own.stored && !x && strobe == u64::MAX
 }
 
-/// The states in which the ports have the line, after the D: it is unique and dirty at its port, unless it is the store of a MakeUnique.
+/// The states in which the ports have the line, after the D: it is unique and dirty at its port,
+/// unless it is the store of a MakeUnique.
 #[inline(always)]
 fn dirty(states: &mut [LineState; 32], port: u8, own: bool)
     ensures { (h : Header) (past : Trace) (l addr strobe : ℕ) (x : Bool) (line : Line) (t : Target)
@@ -74,9 +76,9 @@ impl LineCheck {
     ghost use Rattle.ace_portck.specs.Targets.{Recording, after, own_on};
     ghost use Rattle.ace_lineck.specs.Stands.{Stands, IsRoomy, place_on};
 
-    /// The least rule of the share that a D breaks: K32, that its port holds the line alone and has no transaction on it, or that the D
-    /// is the store of the port's MakeUnique (Arm IHI 0022E, C4). `own` is the port's outstanding transaction on the line, and `place`
-    /// that of the line.
+    /// The least rule of the share that a D breaks: K32, that its port holds the line alone and has
+    /// no transaction on it, or that the D is the store of the port's MakeUnique (Arm IHI 0022E,
+    /// C4). `own` is the port's outstanding transaction on the line, and `place` that of the line.
     #[inline(always)]
     pub fn rule_of_d(
         &self,
@@ -95,24 +97,13 @@ impl LineCheck {
             → is_some own.entry ≡ is_some_and (option_copied own.entry) awaits_store }
     {
         match own {
-            None => {
-                if is_unique(self.record(place).state(port)) {
-                    None
-                } else {
-                    Some(32)
-                }
-            }
-            Some(begun) => {
-                if is_own_store(begun, strobe, x) {
-                    None
-                } else {
-                    Some(32)
-                }
-            }
+            None => unless(is_unique(self.record(place).state(port)), Some(32)),
+            Some(begun) => unless(is_own_store(begun, strobe, x), Some(32)),
         }
     }
 
-    /// Takes a D that breaks no rule. `own` says whether it is the store of its port's MakeUnique, and `place` is that of its line.
+    /// Takes a D that breaks no rule. `own` says whether it is the store of its port's MakeUnique,
+    /// and `place` is that of its line.
     #[inline(always)]
     pub fn hear_store(
         &mut self,

@@ -15,7 +15,7 @@ use crate::LineCheck;
 use crate::grant::Grant;
 use ace_codes::AwKind;
 use ace_model::kinds::{has_write_data, is_ace};
-use ace_portck::Progress;
+use ace_portck::{Progress, unless};
 
 /// A write of this kind has had its M, if it has data.
 #[inline(always)]
@@ -33,7 +33,8 @@ fn is_granted(g: &Grant, x: &Progress) -> bool
     x.transaction.place == g.transaction.place
 }
 
-/// What the B of a write of an ACE-Lite port leaves of the grant of its line: none, if it was that of the write.
+/// What the B of a write of an ACE-Lite port leaves of the grant of its line: none, if it was that
+/// of the write.
 #[inline(always)]
 fn end_grant(grant: &mut Option<Grant>, x: &Progress)
     ensures { (h : Header) (past : Trace) (l port id resp : ℕ) (t : Target)
@@ -63,8 +64,8 @@ impl LineCheck {
     ghost use Rattle.ace_portck.specs.LineWrites.{line_write};
     ghost use Rattle.ace_lineck.specs.Stands.{Stands, IsRoomy};
 
-    /// The least rule of the share that a B of the outstanding write breaks: of K26, that a write with data has had its M (Arm IHI 0022E,
-    /// C6). `kind` is that of the write.
+    /// The least rule of the share that a B of the outstanding write breaks: of K26, that a write
+    /// with data has had its M (Arm IHI 0022E, C6). `kind` is that of the write.
     #[inline(always)]
     pub fn rule_of_b(&self, x: &Progress, kind: AwKind) -> Option<u8>
         ensures { (r : Recording) (port id resp : ℕ)
@@ -73,11 +74,11 @@ impl LineCheck {
             → write_kind x.now.transaction ≡ Some kind
             → result ≡ least_of line_rules r.header r.past (B port id resp) }
     {
-        if is_written(x, kind) { None } else { Some(26) }
+        unless(is_written(x, kind), Some(26))
     }
 
-    /// Takes a B of the line write that breaks no rule. With it the write of an ACE-Lite port ends, and its grant; that of an ACE port
-    /// goes on until its WK (Arm IHI 0022E, C3.5).
+    /// Takes a B of the line write that breaks no rule. With it the write of an ACE-Lite port ends,
+    /// and its grant; that of an ACE port goes on until its WK (Arm IHI 0022E, C3.5).
     #[inline(always)]
     pub fn hear_response(&mut self, x: &Progress)
         ensures stands { (r : Recording) (port id resp : ℕ) (kind : AwKind) → Stands self.old r

@@ -1,8 +1,10 @@
 //! The least rule of those that look at one line that a W breaks.
 
 use crate::LineCheck;
+use crate::loads::is_word_copied;
 use ace_model::Transaction;
 use ace_model::kinds::updates_memory;
+use ace_portck::unless;
 
 impl LineCheck {
     ghost use Rattle.std.specs.Prelude.{◌≡◌, ℕ, Bool, true, Some};
@@ -14,8 +16,9 @@ impl LineCheck {
     ghost use Rattle.ace_portck.specs.Targets.{Recording};
     ghost use Rattle.ace_lineck.specs.Stands.{Stands};
 
-    /// The least rule of the share that a W breaks, which is this beat of the write: of K11, that a memory update sends the word of its
-    /// port's copy (Arm IHI 0022E, C4). The line of any other write isn't looked at.
+    /// The least rule of the share that a W breaks, which is this beat of the write: of K11, that a
+    /// memory update sends the word of its port's copy (Arm IHI 0022E, C4). The line of any other
+    /// write isn't looked at.
     #[inline(always)]
     pub fn rule_of_w(&self, write: &Transaction, beat: u8, word: u128) -> Option<u8>
         ensures { (r : Recording) (p strb : ℕ) (last : Bool) → Stands self.now r
@@ -27,10 +30,6 @@ impl LineCheck {
             return None;
         }
         let kept = self.record(self.place(Some(write.addr)));
-        if word == kept.copied_word(write.port, beat) {
-            None
-        } else {
-            Some(11)
-        }
+        unless(is_word_copied(kept, write.port, beat, word), Some(11))
     }
 }

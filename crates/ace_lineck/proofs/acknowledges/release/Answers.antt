@@ -1,13 +1,12 @@
-use Rattle.std.proofs.Common.{◌∷◌, sym, subst, ◌∙◌}
-use Rattle.ace_portck.specs.Acknowledges.{acknowledge}
-use Rattle.ace_lineck.specs.Grants.{GrantStands, IsGrantStep}
-use Rattle.ace_lineck.proofs.AcknowledgeSteps.{released, still-granted, still-ungranted}
+use Rattle.std.proofs.Common.{sym, subst, ◌∙◌}
+use Rattle.ace_lineck.proofs.Terms.{acknowledge, IsGrantStep}
+use Rattle.ace_lineck.proofs.AcknowledgeSteps.{released, still-granted, no-grant}
+use Rattle.ace_lineck.proofs.GrantHear.{still-none}
 use Rattle.ace_lineck.proofs.acknowledges.release.Goals as goal
 
 pub returns-in-None : goal.returns-in-None
 returns-in-None c h past l p ch st t xs memory s own =
-    subst (GrantStands h (acknowledge ch p st ∷ past) l) (sym c.in-None.is)
-    (still-ungranted h past l p st t ch xs memory (subst (λ v. IsGrantStep h past l (acknowledge ch p st) t v xs memory) c.in-None.is s))
+    still-none h past l (acknowledge ch p st) _ (no-grant h past l p st t ch) c.in-None.is s.grant
 
 pub returns-then-same : goal.returns-then-same
 returns-then-same c h past l p ch st t xs memory s own =

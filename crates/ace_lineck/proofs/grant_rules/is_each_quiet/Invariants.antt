@@ -1,8 +1,5 @@
 use Rattle.std.proofs.Common.{◌≡◌, ◌<◌, ℕ, true}
-use Rattle.ace_tables.specs.States.{is_invalid}
-use Rattle.ace_lineck.specs.Grants.{stage_at}
-use Rattle.ace_lineck.specs.Kept.{is_settled}
-use Rattle.ace_lineck.specs.States.{state_at}
+use Rattle.ace_lineck.proofs.Terms.{is_invalid, stage_at, is_settled, state_at}
 use Rattle.ace_lineck.proofs.grant_rules.is_each_quiet.Given as goal
 
 abbrev pub invariant-loop-port : goal.invariant-loop-port

@@ -1,9 +1,7 @@
 use Rattle.std.proofs.Common.{◌≡◌, ◌≤◌, ◌∙◌, ℕ, true, length, arith, ap, inl, inr}
 use Rattle.std.proofs.lemmas.Grind.{common_steps}
 use Rattle.std.proofs.lemmas.Bool.{cases_lt}
-use Rattle.std.specs.List.{list_all}
-use Rattle.ace_model.specs.Grants.{ports_below}
-use Rattle.ace_lineck.specs.Kept.{is_done_at}
+use Rattle.ace_lineck.proofs.Terms.{list_all, ports_below, is_done_at}
 use Rattle.ace_lineck.proofs.GrantLaws.{all-below, done-beyond}
 use Rattle.ace_lineck.proofs.grant_rules.is_one_by_one_done.Goals as goal
 

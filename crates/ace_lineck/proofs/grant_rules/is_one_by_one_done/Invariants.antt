@@ -1,7 +1,5 @@
 use Rattle.std.proofs.Common.{◌≡◌}
-use Rattle.std.specs.List.{list_all}
-use Rattle.ace_model.specs.Grants.{ports_below}
-use Rattle.ace_lineck.specs.Kept.{is_done_at}
+use Rattle.ace_lineck.proofs.Terms.{list_all, ports_below, is_done_at}
 use Rattle.ace_lineck.proofs.grant_rules.is_one_by_one_done.Given as goal
 
 abbrev pub invariant-loop-port : goal.invariant-loop-port

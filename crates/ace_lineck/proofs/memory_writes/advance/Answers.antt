@@ -1,7 +1,5 @@
 use Rattle.std.proofs.Common.{◌≡◌, Some, ap, sym, ◌∙◌}
-use Rattle.ace_model.proofs.Terms.{M}
-use Rattle.ace_portck.specs.Targets.{line_in}
-use Rattle.ace_portck.specs.Target.{Target}
+use Rattle.ace_lineck.proofs.Terms.{M, line_in, Target}
 use Rattle.ace_lineck.proofs.HolderSteps.{m-hears}
 use Rattle.ace_lineck.proofs.memory_writes.advance.Goals as goal
 

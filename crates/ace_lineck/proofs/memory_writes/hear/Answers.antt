@@ -1,13 +1,12 @@
-use Rattle.std.proofs.Common.{◌∷◌, sym, subst}
-use Rattle.ace_model.proofs.Terms.{M}
-use Rattle.ace_lineck.specs.Grants.{GrantStands, IsGrantStep}
-use Rattle.ace_lineck.proofs.MemoryWrites.{ungranted, stays-granted}
+use Rattle.std.proofs.Common.{refl, subst}
+use Rattle.ace_lineck.proofs.Terms.{M, IsGrantStep}
+use Rattle.ace_lineck.proofs.MemoryWrites.{stays-granted}
+use Rattle.ace_lineck.proofs.GrantHear.{still-none}
 use Rattle.ace_lineck.proofs.memory_writes.hear.Goals as goal
 
 pub returns-in-None : goal.returns-in-None
 returns-in-None c h past l p ch i line t xs memory s at =
-    subst (GrantStands h (M p ch i line ∷ past) l) (sym c.in-None.is)
-    (ungranted h past l p ch i line t xs memory (subst (λ v. IsGrantStep h past l (M p ch i line) t v xs memory) c.in-None.is s))
+    still-none h past l (M p ch i line) _ refl c.in-None.is s.grant
 
 pub returns-in-Some : goal.returns-in-Some
 returns-in-Some c h past l p ch i line t xs memory s at =

@@ -1,7 +1,6 @@
 use Rattle.std.proofs.Common.{◌≡◌, option_copied, refl, subst}
-use Rattle.ace_model.specs.Copies.{received}
+use Rattle.ace_lineck.proofs.Terms.{received, R}
 use Rattle.ace_model.proofs.General.Options.{Some-injective}
-use Rattle.ace_model.proofs.Terms.{R}
 use Rattle.ace_lineck.proofs.read_data.advance.Goals as goal
 
 pub returns-clause-stands : goal.returns-clause-stands

@@ -1,8 +1,7 @@
 use Rattle.std.proofs.Common.{◌≡◌, ◌<◌, length, Some, option_copied, slice_get, arith, refl, sym, ap, subst, ◌∙◌}
 use Rattle.std.proofs.lemmas.Grind.{common_steps}
 use Rattle.std.proofs.lemmas.Option.{slice_get-get_or}
-use Rattle.ace_event.specs.declared.event.Event.TheVariants.{R}
-use Rattle.ace_lineck.specs.Holders.{IsHoldersStep}
+use Rattle.ace_lineck.proofs.Terms.{R, IsHoldersStep}
 use Rattle.ace_lineck.proofs.HolderSteps.{has-holder}
 use Rattle.ace_lineck.proofs.BeatSteps.{received-whole, unreceived}
 use Rattle.ace_lineck.proofs.read_data.receive.Goals as goal

@@ -1,6 +1,5 @@
 use Rattle.std.proofs.Common.{◌≡◌, true, false, Some, option_and_then, option_copied, sym, ap, ◌∙◌}
-use Rattle.ace_lineck.specs.declared.grant.Grant.{Grant}
-use Rattle.ace_lineck.specs.Records.{has_three}
+use Rattle.ace_lineck.proofs.Terms.{Grant, has_three}
 use Rattle.ace_lineck.proofs.BeatSteps.{whole-some, whole-none}
 use Rattle.ace_lineck.proofs.read_data.received.Goals as goal
 

@@ -1,8 +1,7 @@
 use Rattle.std.proofs.Common.{◌≡◌, ◌+◌, ◌++◌, [], ◌∷◌, length, sym, ap, subst, ◌∙◌, arith, length-append}
 use Rattle.std.proofs.lemmas.Grind.{common_steps}
 use Rattle.std.proofs.lemmas.List.Elements.{All-push}
-use Rattle.std.specs.List.{All}
-use Rattle.ace_lineck.specs.Records.{IsFresh}
+use Rattle.ace_lineck.proofs.Terms.{All, IsFresh}
 use Rattle.ace_lineck.proofs.record.new_records.Goals as goal
 
 pub loop-line-preserved : goal.loop-line-preserved

@@ -1,6 +1,5 @@
 use Rattle.std.proofs.Common.{◌≡◌, length}
-use Rattle.std.specs.List.{All}
-use Rattle.ace_lineck.specs.Records.{IsFresh}
+use Rattle.ace_lineck.proofs.Terms.{All, IsFresh}
 use Rattle.ace_lineck.proofs.record.new_records.Given as goal
 
 -- so many fresh records so far

@@ -1,4 +1,4 @@
-use Rattle.ace_lineck.specs.Holders.{HasNothing}
+use Rattle.ace_lineck.proofs.Terms.{HasNothing}
 use Rattle.ace_lineck.proofs.record.no_holders.Given as goal
 
 abbrev pub invariant-loop-port : goal.invariant-loop-port

@@ -1,6 +1,5 @@
 use Rattle.std.proofs.Common.{◌∷◌, refl, sym, subst}
-use Rattle.ace_model.proofs.Terms.{Cr}
-use Rattle.ace_lineck.specs.Grants.{GrantFits, GrantStands, IsGrantStep}
+use Rattle.ace_lineck.proofs.Terms.{Cr, GrantFits, GrantStands, IsGrantStep}
 use Rattle.ace_lineck.proofs.GrantHear.{answer_heard, none_heard}
 use Rattle.ace_lineck.proofs.snoop_answers.hear_in_grant.Goals as goal
 

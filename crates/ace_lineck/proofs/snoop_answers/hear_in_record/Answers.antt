@@ -1,8 +1,7 @@
 use Rattle.std.proofs.Common.{◌≡◌, ◌<◌, length, None, Some, slice_get, unwrap_or, arith, refl, sym, ap, ◌∙◌}
 use Rattle.std.proofs.lemmas.Grind.{common_steps}
 use Rattle.std.proofs.lemmas.Option.{slice_get-get_or}
-use Rattle.ace_model.proofs.Terms.{Cr}
-use Rattle.ace_lineck.specs.Holders.{empty_holder}
+use Rattle.ace_lineck.proofs.Terms.{Cr, empty_holder}
 use Rattle.ace_lineck.proofs.HolderSteps.{has-holder}
 use Rattle.ace_lineck.proofs.StateSteps.{answered-states}
 use Rattle.ace_lineck.proofs.SnoopAnswers.{answer-holders, answered-holders}

@@ -1,13 +1,11 @@
-use Rattle.std.proofs.Common.{◌∷◌, refl, sym, subst}
-use Rattle.ace_lineck.specs.Grants.{GrantStands, IsGrantStep}
-use Rattle.ace_model.proofs.Terms.{Cd}
-use Rattle.ace_lineck.proofs.GrantHear.{fourth_heard, none_heard}
+use Rattle.std.proofs.Common.{refl, subst}
+use Rattle.ace_lineck.proofs.Terms.{IsGrantStep, Cd}
+use Rattle.ace_lineck.proofs.GrantHear.{fourth_heard, still-none}
 use Rattle.ace_lineck.proofs.snoop_data.complete_data.Goals as goal
 
 pub returns-in-None : goal.returns-in-None
 returns-in-None c = λ h past l last word t xs memory s beat.
-    subst (GrantStands h (Cd c.args.port last word ∷ past) l) (sym c.in-None.is)
-    (none_heard h past l (Cd c.args.port last word) refl (subst (GrantStands h past l) c.in-None.is s.grant))
+    still-none h past l (Cd c.args.port last word) _ refl c.in-None.is s.grant
 
 pub returns-in-Some : goal.returns-in-Some
 returns-in-Some c = λ h past l last word t xs memory s beat.

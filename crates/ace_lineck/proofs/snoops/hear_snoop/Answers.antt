@@ -1,13 +1,11 @@
-use Rattle.std.proofs.Common.{◌∷◌, refl, sym, subst}
-use Rattle.ace_lineck.specs.Grants.{GrantStands, IsGrantStep}
-use Rattle.ace_model.proofs.Terms.{Ac}
-use Rattle.ace_lineck.proofs.GrantHear.{snoop_heard, none_heard}
+use Rattle.std.proofs.Common.{refl, subst}
+use Rattle.ace_lineck.proofs.Terms.{IsGrantStep, Ac}
+use Rattle.ace_lineck.proofs.GrantHear.{snoop_heard, still-none}
 use Rattle.ace_lineck.proofs.snoops.hear_snoop.Goals as goal
 
 pub returns-in-None : goal.returns-in-None
 returns-in-None c = λ h past l addr snoop t xs memory s.
-    subst (GrantStands h (Ac c.args.port addr snoop ∷ past) l) (sym c.in-None.is)
-    (none_heard h past l (Ac c.args.port addr snoop) refl (subst (GrantStands h past l) c.in-None.is s.grant))
+    still-none h past l (Ac c.args.port addr snoop) _ refl c.in-None.is s.grant
 
 pub returns-in-Some : goal.returns-in-Some
 returns-in-Some c = λ h past l addr snoop t xs memory s.

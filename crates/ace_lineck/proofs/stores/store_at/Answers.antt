@@ -1,8 +1,7 @@
 use Rattle.std.proofs.Common.{◌≡◌, ◌<◌, ◌∷◌, length, None, Some, slice_get, slice_set, arith, refl, sym, ap, subst, ◌∙◌}
 use Rattle.std.proofs.lemmas.Grind.{common_steps}
 use Rattle.std.proofs.lemmas.Option.{slice_get-get_or}
-use Rattle.ace_model.proofs.Terms.{D}
-use Rattle.ace_lineck.specs.Holders.{HoldersStand}
+use Rattle.ace_lineck.proofs.Terms.{D, HoldersStand}
 use Rattle.ace_lineck.proofs.HolderSteps.{has-holder}
 use Rattle.ace_lineck.proofs.StoreLaws.{stored-holders}
 use Rattle.ace_lineck.proofs.stores.store_at.Goals as goal

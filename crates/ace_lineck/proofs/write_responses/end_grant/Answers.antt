@@ -1,13 +1,12 @@
-use Rattle.std.proofs.Common.{◌∷◌, sym, subst, ◌∙◌}
-use Rattle.ace_event.specs.declared.event.Event.TheVariants.{B}
-use Rattle.ace_lineck.specs.Grants.{GrantStands, IsGrantStep}
-use Rattle.ace_lineck.proofs.WriteResponses.{ungranted-after, own-ends, other-stays}
+use Rattle.std.proofs.Common.{refl, sym, subst, ◌∙◌}
+use Rattle.ace_lineck.proofs.Terms.{B, IsGrantStep}
+use Rattle.ace_lineck.proofs.WriteResponses.{own-ends, other-stays}
+use Rattle.ace_lineck.proofs.GrantHear.{still-none}
 use Rattle.ace_lineck.proofs.write_responses.end_grant.Goals as goal
 
 pub returns-in-None : goal.returns-in-None
 returns-in-None c = λ h past l p i resp t xs memory s at lite.
-    subst (GrantStands h (B p i resp ∷ past) l) (sym c.in-None.is)
-    (ungranted-after h past l p i resp t xs memory (subst (λ v. IsGrantStep h past l (B p i resp) t v xs memory) c.in-None.is s))
+    still-none h past l (B p i resp) _ refl c.in-None.is s.grant
 
 pub returns-then-is_granted : goal.returns-then-is_granted
 returns-then-is_granted c = λ h past l p i resp t xs memory s at lite.

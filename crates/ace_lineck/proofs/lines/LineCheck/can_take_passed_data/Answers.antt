@@ -1,10 +1,5 @@
 use Rattle.std.proofs.Common.{Bool, not, ◌&&◌, sym, ap, ◌∙◌}
-use Rattle.ace_codes.specs.declared.kind.ArKind.{ArKind}
-use Rattle.ace_event.specs.declared.header.Header.{Header}
-use Rattle.ace_model.specs.declared.transactions.Transaction.{Transaction}
-use Rattle.ace_model.specs.Grants.{has_sharer}
-use Rattle.ace_model.specs.Kinds.{is_read_not_shared_dirty, takes_passed_data}
-use Rattle.ace_model.specs.Trace.{Trace, is_some_and}
+use Rattle.ace_lineck.proofs.Terms.{ArKind, Header, Transaction, has_sharer, is_read_not_shared_dirty, takes_passed_data, Trace, is_some_and}
 use Rattle.ace_lineck.proofs.lines.LineCheck.can_take_passed_data.Goals as goal
 
 abbrev can_take : Header → Trace → Transaction → ArKind → Bool

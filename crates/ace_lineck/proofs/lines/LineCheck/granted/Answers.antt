@@ -1,7 +1,5 @@
 use Rattle.std.proofs.Common.{Some, ◌∙◌, option_map, ap}
-use Rattle.ace_lineck.specs.declared.grant.Grant.{Grant}
-use Rattle.ace_lineck.specs.declared.record.LineRecord.{LineRecord}
-use Rattle.ace_lineck.specs.Records.{name_of}
+use Rattle.ace_lineck.proofs.Terms.{Grant, LineRecord, name_of}
 use Rattle.ace_lineck.proofs.AllLines.{name-granted}
 use Rattle.ace_lineck.proofs.lines.LineCheck.granted.Goals as goal
 

@@ -1,7 +1,5 @@
 use Rattle.std.proofs.Common.{Some, ap, ◌∙◌}
-use Rattle.ace_model.specs.Trace.{is_some_and}
-use Rattle.ace_lineck.specs.declared.record.LineRecord.{LineRecord}
-use Rattle.ace_lineck.specs.Kept.{has_passed}
+use Rattle.ace_lineck.proofs.Terms.{is_some_and, LineRecord, has_passed}
 use Rattle.ace_lineck.proofs.LineLooks.{passed-look}
 use Rattle.ace_lineck.proofs.lines.LineCheck.has_passed_data.Goals as goal
 

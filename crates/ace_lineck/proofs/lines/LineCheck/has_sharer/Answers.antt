@@ -1,6 +1,5 @@
 use Rattle.std.proofs.Common.{Some, ap, ◌∙◌}
-use Rattle.ace_lineck.specs.declared.record.LineRecord.{LineRecord}
-use Rattle.ace_lineck.specs.Kept.{is_shared_under}
+use Rattle.ace_lineck.proofs.Terms.{LineRecord, is_shared_under}
 use Rattle.ace_lineck.proofs.LineLooks.{sharer-look}
 use Rattle.ace_lineck.proofs.lines.LineCheck.has_sharer.Goals as goal
 

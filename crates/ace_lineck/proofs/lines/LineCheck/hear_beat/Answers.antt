@@ -1,55 +1,29 @@
-use Rattle.std.proofs.Common.{◌≡◌, ◌∷◌, Some, true, false, nat_eq, slice_get, refl, sym, subst, ◌∙◌}
-use Rattle.indexmap.specs.IndexMap.{get, values}
-use Rattle.ace_model.proofs.Terms.{R}
-use Rattle.ace_portck.specs.Targets.{target_of}
-use Rattle.ace_lineck.specs.Records.{LineStands, IsRecordStep}
-use Rattle.ace_lineck.proofs.AllLines.{unplaced, placed, line-step, applied-else}
-use Rattle.ace_lineck.proofs.BeatSteps.{beat-may, beat-port, still-used}
-use Rattle.ace_lineck.proofs.Places.{get-at, place-taken, written-here, written-there}
-use Rattle.ace_lineck.proofs.Rooms.{written-records, written-roomy}
+use Rattle.std.proofs.Common.{◌≡◌, ◌∷◌, true, false, refl, sym, subst}
+use Rattle.ace_lineck.proofs.Terms.{R, target_of, LineStands, IsRecordStep}
+use Rattle.ace_lineck.proofs.AllLines.{unplaced}
+use Rattle.ace_lineck.proofs.Heard.{heard, taken}
+use Rattle.ace_lineck.proofs.Rooms.{written-fits}
+use Rattle.ace_lineck.proofs.BeatSteps.{beat-may, beat-port}
 use Rattle.ace_lineck.proofs.lines.LineCheck.hear_beat.Goals as goal
 
 pub returns-in_default-clause-stands : goal.returns-in_default-clause-stands
-returns-in_default-clause-stands c r p i resp word st out kind line at fine few =
-    let a = c.args in
-    let e = R p i resp a.last word in
-    let m = beat-may a.self.now r p i resp a.last word a.x.now a.kind a.place st out kind line at fine few in
-    unplaced a.self.now r e (target_of r.header r.past e) a.place m c.in_default.is
+returns-in_default-clause-stands c r p i resp word st out kind line at fine few = unplaced c.args.self.now r _ _ c.args.place (beat-may c.args.self.now r p i resp c.args.last word c.args.x.now c.args.kind c.args.place st out kind line at fine few) c.in_default.is
 
 pub returns-in_default-get_index_mut-clause-stands : goal.returns-in_default-get_index_mut-clause-stands
 returns-in_default-get_index_mut-clause-stands c r p i resp word st out kind line at fine few =
-    let a = c.args in
-    let e = R p i resp a.last word in
-    let m = beat-may a.self.now r p i resp a.last word a.x.now a.kind a.place st out kind line at fine few in
-    let n = c.in-Some.place in
-    let on = placed a.self.now r e (target_of r.header r.past e) a.place m n c.in-Some.is in
-    let within = place-taken a.self.now (Some on.0) n on.2 in
+    let within = taken c.args.self.now r _ c.args.place (beat-may c.args.self.now r p i resp c.args.last word c.args.x.now c.args.kind c.args.place st out kind line at fine few) c.in-Some.place c.in-Some.is in
     let bad : false ≡ true = c.in_default-get_index_mut.ensures.found.1 within in cc
 
 pub returns-clause-stands : goal.returns-clause-stands
 returns-clause-stands c r p i resp word st out kind line at fine few =
-    let a = c.args in
-    let self = a.self.now in
-    let x = a.x.now in
-    let e = R p i resp a.last word in
-    let t = target_of r.header r.past e in
-    let m = beat-may self r p i resp a.last word x a.kind a.place st out kind line at fine few in
-    let n = c.in-Some.place in
     let was = c.in-Some-get_index_mut.kept.now in
-    let kept = c.advance.new.kept in
-    let on = placed self r e t a.place m n c.in-Some.is in
-    let value : slice_get (values self.lines) n ≡ Some was = sym c.in-Some-get_index_mut.ensures.value in
-    let unique = c.get_index_mut.ensures.unique in
-    let here : get nat_eq self.lines on.0 ≡ Some was = get-at self on.0 n on.2 ∙ value in
-    let step = line-step self r e t a.place m on.0 on.1 was here in
-    let port : x.transaction.port ≡ p = beat-port r.header r.past on.0 p i resp a.last word t x out step.step in
-    let moved : IsRecordStep self.header r.past on.0 e t was → LineStands self.header (e ∷ r.past) on.0 kept =
-    subst (λ q. IsRecordStep self.header r.past on.0 (R q i resp a.last word) t was → LineStands self.header (R q i resp a.last word ∷ r.past) on.0 kept) port
-    (λ s. c.advance.ensures.stands r.past on.0 i resp word t s out kind) in
-    let new : LineStands r.header (e ∷ r.past) on.0 kept =
-    subst (λ v. LineStands v (e ∷ r.past) on.0 kept) st.header (moved (subst (λ v. IsRecordStep v r.past on.0 e t was) (sym st.header) step)) in
-    applied-else self _ r e t a.place m on.0 on.1 was kept step new c.advance.ensures.room (still-used was.used kept.used c.advance.ensures.used)
-    (record { header = refl; empty = refl; here = written-here self on.0 n on.2 unique was kept value; others = written-there self on.0 n on.2 unique was kept value }) refl st.spare
+    heard c.args.self.now r _ c.args.place (beat-may c.args.self.now r p i resp c.args.last word c.args.x.now c.args.kind c.args.place st out kind line at fine few) c.in-Some.place c.in-Some.is was c.advance.new.kept c.in-Some-get_index_mut.ensures.value c.get_index_mut.ensures.unique
+    (λ l step.
+    let e = R p i resp c.args.last word in
+    let port = beat-port r.header r.past l p i resp c.args.last word _ c.args.x.now out step.step in
+    subst (λ v. LineStands v (e ∷ r.past) l c.advance.new.kept) st.header
+    (subst (λ q. IsRecordStep c.args.self.now.header r.past l (R q i resp c.args.last word) (target_of r.header r.past e) was → LineStands c.args.self.now.header (R q i resp c.args.last word ∷ r.past) l c.advance.new.kept) port
+    (λ s. c.advance.ensures.stands r.past l i resp word _ s out kind) (subst (λ v. IsRecordStep v r.past l e (target_of r.header r.past e) was) (sym st.header) step))) c.advance.ensures.room c.advance.ensures.used
 
 pub returns-clause-roomy : goal.returns-clause-roomy
-returns-clause-roomy c n past room = record { map = written-roomy n past c.args.self.now c.in-Some.place c.advance.new.kept room; records = written-records n past c.args.self.now c.in-Some.place c.advance.new.kept room }
+returns-clause-roomy c = written-fits c.args.self.now _ c.in-Some.place _ refl refl

@@ -1,49 +1,25 @@
-use Rattle.std.proofs.Common.{◌≡◌, ◌∷◌, Some, true, false, nat_eq, slice_get, refl, sym, ◌∙◌}
-use Rattle.indexmap.specs.IndexMap.{get, values}
-use Rattle.ace_model.proofs.Terms.{Cd}
-use Rattle.ace_portck.specs.Targets.{target_of}
-use Rattle.ace_lineck.specs.Grants.{GrantStands}
-use Rattle.ace_lineck.specs.declared.record.LineRecord.{LineRecord}
-use Rattle.ace_lineck.proofs.AllLines.{unplaced, placed, line-step, applied-else}
-use Rattle.ace_lineck.proofs.Places.{get-at, place-taken, written-here, written-there}
-use Rattle.ace_lineck.proofs.Rooms.{written-records, written-roomy}
-use Rattle.ace_lineck.proofs.SnoopLaws.{stays_known}
-use Rattle.ace_lineck.proofs.SnoopData.{sent-may, sent_record}
+use Rattle.std.proofs.Common.{◌≡◌, true, false, refl}
+use Rattle.ace_lineck.proofs.Terms.{Cd}
+use Rattle.ace_lineck.proofs.AllLines.{left, unplaced}
+use Rattle.ace_lineck.proofs.Heard.{heard, taken}
+use Rattle.ace_lineck.proofs.Rooms.{written-fits}
+use Rattle.ace_lineck.proofs.SnoopData.{sent-may}
 use Rattle.ace_lineck.proofs.lines.LineCheck.hear_fourth.Goals as goal
 
 pub returns-in_default-clause-stands : goal.returns-in_default-clause-stands
-returns-in_default-clause-stands c = λ r z last word s is beat at fine few.
-    let self = c.args.self.now in
-    let e = Cd c.args.port last word in
-    unplaced self r e (target_of r.header r.past e) c.args.place (sent-may self r c.args.port last word z c.args.place s is at fine few) c.in_default.is
+returns-in_default-clause-stands c r z last word s is beat at fine few = unplaced c.args.self.now r _ _ c.args.place (sent-may c.args.self.now r c.args.port last word z c.args.place s is at fine few) c.in_default.is
 
 pub returns-in_default-get_index_mut-clause-stands : goal.returns-in_default-get_index_mut-clause-stands
-returns-in_default-get_index_mut-clause-stands c = λ r z last word s is beat at fine few.
-    let within = place-taken c.args.self.now (Some z.addr) c.in-Some.place (sym at ∙ c.in-Some.is) in
+returns-in_default-get_index_mut-clause-stands c r z last word s is beat at fine few =
+    let within = taken c.args.self.now r _ c.args.place (sent-may c.args.self.now r c.args.port last word z c.args.place s is at fine few) c.in-Some.place c.in-Some.is in
     let bad : false ≡ true = c.in_default-get_index_mut.ensures.found.1 within in cc
 
 pub returns-clause-stands : goal.returns-clause-stands
-returns-clause-stands c = λ r z last word s is beat at fine few.
-    let self = c.args.self.now in
-    let p = c.args.port in
-    let e = Cd p last word in
-    let t = target_of r.header r.past e in
-    let n = c.in-Some.place in
+returns-clause-stands c r z last word s is beat at fine few =
     let was = c.in-Some-get_index_mut.kept.now in
-    let m = sent-may self r p last word z c.args.place s is at fine few in
-    let on = placed self r e t c.args.place m n c.in-Some.is in
-    let value : slice_get (values self.lines) n ≡ Some was = sym c.in-Some-get_index_mut.ensures.value in
-    let unique = c.get_index_mut.ensures.unique in
-    let here : get nat_eq self.lines on.0 ≡ Some was = get-at self on.0 n on.2 ∙ value in
-    let step = line-step self r e t c.args.place m on.0 on.1 was here in
-    let grant : GrantStands r.header (e ∷ r.past) on.0 c.complete_data.new.grant =
-    c.complete_data.ensures r.header r.past on.0 last word t was.holders.items was.memory
-    (record { step = step.step; grant = step.stands.grant; holders = step.stands.holders; memory = step.stands.memory }) beat in
-    let new = sent_record r.header r.past on.0 p last word was c.complete_data.new.grant step.stands grant in
-    applied-else self _ r e t c.args.place m on.0 on.1 was (record was { grant = c.complete_data.new.grant }) step new refl (stays_known was.used)
-    (record { header = refl; empty = refl; here = written-here self on.0 n on.2 unique was _ value; others = written-there self on.0 n on.2 unique was _ value }) refl s.spare
+    heard c.args.self.now r _ c.args.place (sent-may c.args.self.now r c.args.port last word z c.args.place s is at fine few) c.in-Some.place c.in-Some.is was (record was { grant = c.complete_data.new.grant }) c.in-Some-get_index_mut.ensures.value c.get_index_mut.ensures.unique
+    (λ l step. left r.header r.past (Cd c.args.port last word) l was was.used _ step.stands.used (record { memory = refl; state = λ p. refl; copy = λ p. refl; sent = λ p. refl }) step.stands
+    (c.complete_data.ensures r.header r.past l last word _ was.holders.items was.memory (record { step = step.step; grant = step.stands.grant; holders = step.stands.holders; memory = step.stands.memory }) beat)) refl refl
 
 pub returns-clause-roomy : goal.returns-clause-roomy
-returns-clause-roomy c = λ n past room.
-    let kept : LineRecord = record c.in-Some-get_index_mut.kept.now { grant = c.complete_data.new.grant } in
-    record { map = written-roomy n past c.args.self.now c.in-Some.place kept room; records = written-records n past c.args.self.now c.in-Some.place kept room }
+returns-clause-roomy c = written-fits c.args.self.now _ c.in-Some.place _ refl refl

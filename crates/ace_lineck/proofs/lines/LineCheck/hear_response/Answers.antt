@@ -1,6 +1,5 @@
 use Rattle.std.proofs.Common.{sym, ap, ◌∙◌}
-use Rattle.ace_event.specs.declared.header.Header.{Header}
-use Rattle.ace_model.specs.Transactions.{is_ace}
+use Rattle.ace_lineck.proofs.Terms.{Header, is_ace}
 use Rattle.ace_lineck.proofs.WriteResponses.{ace_response-still, response-port}
 use Rattle.ace_lineck.proofs.lines.LineCheck.hear_response.Goals as goal
 

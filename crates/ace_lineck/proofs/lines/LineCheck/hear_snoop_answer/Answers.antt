@@ -1,50 +1,23 @@
-use Rattle.std.proofs.Common.{◌≡◌, Some, true, false, nat_eq, slice_get, refl, sym, ◌∙◌}
-use Rattle.indexmap.specs.IndexMap.{get, values}
-use Rattle.ace_model.proofs.Terms.{Cr}
-use Rattle.ace_portck.specs.Targets.{target_of}
-use Rattle.ace_lineck.proofs.AllLines.{unplaced, placed, line-step, applied-else}
-use Rattle.ace_lineck.proofs.BeatSteps.{still-used}
-use Rattle.ace_lineck.proofs.Places.{get-at, place-taken, written-here, written-there}
-use Rattle.ace_lineck.proofs.Rooms.{written-records, written-roomy}
+use Rattle.std.proofs.Common.{◌≡◌, true, false, refl}
+use Rattle.ace_lineck.proofs.AllLines.{unplaced}
+use Rattle.ace_lineck.proofs.Heard.{heard, taken}
+use Rattle.ace_lineck.proofs.Rooms.{written-fits}
 use Rattle.ace_lineck.proofs.SnoopAnswers.{may-hear_answer}
 use Rattle.ace_lineck.proofs.lines.LineCheck.hear_snoop_answer.Goals as goal
 
 pub returns-in_default-clause-stands : goal.returns-in_default-clause-stands
-returns-in_default-clause-stands c = λ r x k s is at fine few.
-    let self = c.args.self.now in
-    let a = c.args in
-    let e = Cr a.port a.resp a.st in
-    unplaced self r e (target_of r.header r.past e) c.args.place (may-hear_answer self r a.port a.resp a.st x k c.args.place s is at fine few) c.in_default.is
+returns-in_default-clause-stands c r x k s is at fine few = unplaced c.args.self.now r _ _ c.args.place (may-hear_answer c.args.self.now r c.args.port c.args.resp c.args.st x k c.args.place s is at fine few) c.in_default.is
 
 pub returns-in_default-get_index_mut-clause-stands : goal.returns-in_default-get_index_mut-clause-stands
-returns-in_default-get_index_mut-clause-stands c = λ r x k s is at fine few.
-    let self = c.args.self.now in
-    let a = c.args in
-    let e = Cr a.port a.resp a.st in
-    let n = c.in-Some.place in
-    let on = placed self r e (target_of r.header r.past e) c.args.place (may-hear_answer self r a.port a.resp a.st x k c.args.place s is at fine few) n c.in-Some.is in
-    let within = place-taken self (Some on.0) n on.2 in
+returns-in_default-get_index_mut-clause-stands c r x k s is at fine few =
+    let within = taken c.args.self.now r _ c.args.place (may-hear_answer c.args.self.now r c.args.port c.args.resp c.args.st x k c.args.place s is at fine few) c.in-Some.place c.in-Some.is in
     let bad : false ≡ true = c.in_default-get_index_mut.ensures.found.1 within in cc
 
 pub returns-clause-stands : goal.returns-clause-stands
-returns-clause-stands c = λ r x k s is at fine few.
-    let self = c.args.self.now in
-    let a = c.args in
-    let e = Cr a.port a.resp a.st in
-    let t = target_of r.header r.past e in
-    let m = may-hear_answer self r a.port a.resp a.st x k c.args.place s is at fine few in
-    let n = c.in-Some.place in
+returns-clause-stands c r x k s is at fine few =
     let was = c.in-Some-get_index_mut.kept.now in
-    let kept = c.hear_in_record.new.kept in
-    let on = placed self r e t c.args.place m n c.in-Some.is in
-    let value : slice_get (values self.lines) n ≡ Some was = sym c.in-Some-get_index_mut.ensures.value in
-    let unique = c.get_index_mut.ensures.unique in
-    let here : get nat_eq self.lines on.0 ≡ Some was = get-at self on.0 n on.2 ∙ value in
-    let step = line-step self r e t c.args.place m on.0 on.1 was here in
-    let new = c.hear_in_record.ensures.stands r.header r.past on.0 t step in
-    applied-else self _ r e t c.args.place m on.0 on.1 was kept step new c.hear_in_record.ensures.room (still-used was.used kept.used c.hear_in_record.ensures.used)
-    (record { header = refl; empty = refl; here = written-here self on.0 n on.2 unique was kept value; others = written-there self on.0 n on.2 unique was kept value }) refl s.spare
+    heard c.args.self.now r _ c.args.place (may-hear_answer c.args.self.now r c.args.port c.args.resp c.args.st x k c.args.place s is at fine few) c.in-Some.place c.in-Some.is was c.hear_in_record.new.kept c.in-Some-get_index_mut.ensures.value c.get_index_mut.ensures.unique
+    (λ l step. c.hear_in_record.ensures.stands r.header r.past l _ step) c.hear_in_record.ensures.room c.hear_in_record.ensures.used
 
 pub returns-clause-roomy : goal.returns-clause-roomy
-returns-clause-roomy c = λ n past room.
-    record { map = written-roomy n past c.args.self.now c.in-Some.place c.hear_in_record.new.kept room; records = written-records n past c.args.self.now c.in-Some.place c.hear_in_record.new.kept room }
+returns-clause-roomy c = written-fits c.args.self.now _ c.in-Some.place _ refl refl

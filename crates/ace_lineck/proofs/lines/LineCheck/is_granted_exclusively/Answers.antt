@@ -1,7 +1,5 @@
 use Rattle.std.proofs.Common.{Some, ◌∙◌, ap}
-use Rattle.ace_model.specs.Trace.{is_some_and}
-use Rattle.ace_lineck.specs.declared.grant.Grant.{Grant}
-use Rattle.ace_lineck.specs.declared.record.LineRecord.{LineRecord}
+use Rattle.ace_lineck.proofs.Terms.{is_some_and, Grant, LineRecord}
 use Rattle.ace_lineck.proofs.AllLines.{lock-granted}
 use Rattle.ace_lineck.proofs.lines.LineCheck.is_granted_exclusively.Goals as goal
 

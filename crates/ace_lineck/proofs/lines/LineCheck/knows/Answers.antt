@@ -1,6 +1,5 @@
 use Rattle.std.proofs.Common.{Some, ◌∙◌, not, ap, sym}
-use Rattle.ace_lineck.specs.declared.record.LineRecord.{LineRecord}
-use Rattle.ace_lineck.specs.Uses.{is_unknown}
+use Rattle.ace_lineck.proofs.Terms.{LineRecord, is_unknown}
 use Rattle.ace_lineck.proofs.KnownLines.{known-used}
 use Rattle.ace_lineck.proofs.lines.LineCheck.knows.Goals as goal
 

@@ -1,10 +1,7 @@
 use Rattle.std.proofs.Common.{◌≡◌, ◌+◌, ℕ, false, true, length, Some, is_some, if◌then◌else◌, nat_eq, refl, sym, ap, subst, ◌∙◌, arith}
-use Rattle.std.specs.List.{All}
+use Rattle.ace_lineck.proofs.Terms.{All, get, index_map_len, spare, Header, IsFresh}
 use Rattle.std.proofs.lemmas.Grind.{common_steps}
-use Rattle.indexmap.specs.IndexMap.{get, index_map_len, spare}
-use Rattle.ace_event.specs.declared.header.Header.{Header}
 use Rattle.ace_portck.proofs.LineMaps.{room-for-line, room-with}
-use Rattle.ace_lineck.specs.Records.{IsFresh}
 use Rattle.ace_lineck.proofs.AllLines.{made}
 use Rattle.ace_lineck.proofs.Places.{get-none, has-place, is-none}
 use Rattle.ace_lineck.proofs.Rooms.{none-left, respared, spent-roomy}

@@ -1,5 +1,5 @@
 use Rattle.std.proofs.Common.{Some, ap, ◌∙◌}
-use Rattle.ace_lineck.specs.declared.record.LineRecord.{LineRecord}
+use Rattle.ace_lineck.proofs.Terms.{LineRecord}
 use Rattle.ace_lineck.proofs.lines.LineCheck.memory.Goals as goal
 
 pub returns : goal.returns

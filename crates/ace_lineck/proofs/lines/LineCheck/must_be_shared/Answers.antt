@@ -1,9 +1,5 @@
 use Rattle.std.proofs.Common.{◌&&◌, sym, ap, ◌∙◌}
-use Rattle.ace_model.specs.Grants.{has_sharer}
-use Rattle.ace_model.specs.Kinds.{may_be_shared}
-use Rattle.ace_model.specs.ReadRules.{must_be_shared}
-use Rattle.ace_model.specs.Trace.{is_some_and}
-use Rattle.ace_model.specs.Transactions.{is_ace}
+use Rattle.ace_lineck.proofs.Terms.{has_sharer, may_be_shared, must_be_shared, is_some_and, is_ace}
 use Rattle.ace_lineck.proofs.lines.LineCheck.must_be_shared.Goals as goal
 
 pub returns-in-None : goal.returns-in-None

@@ -1,7 +1,6 @@
 use Rattle.std.proofs.Common.{refl, sym, subst}
 use Rattle.std.proofs.lemmas.List.Elements.{All-nil}
-use Rattle.std.specs.List.{All}
-use Rattle.ace_lineck.specs.Records.{IsFresh}
+use Rattle.ace_lineck.proofs.Terms.{All, IsFresh}
 use Rattle.ace_lineck.proofs.AllLines.{begins}
 use Rattle.ace_lineck.proofs.lines.LineCheck.new.Goals as goal
 

@@ -1,6 +1,5 @@
 use Rattle.std.proofs.Common.{Some, ap, ◌∙◌}
-use Rattle.ace_lineck.specs.declared.record.LineRecord.{LineRecord}
-use Rattle.ace_lineck.specs.Kept.{passed_kept}
+use Rattle.ace_lineck.proofs.Terms.{LineRecord, passed_kept}
 use Rattle.ace_lineck.proofs.WriteLaws.{passed-data-law}
 use Rattle.ace_lineck.proofs.lines.LineCheck.passed_data.Goals as goal
 

@@ -1,7 +1,6 @@
 use Rattle.std.proofs.Common.{◌≡◌, ℕ, Some, option_map, slice_get, sym, ap, ◌∙◌}
 use Rattle.std.proofs.lemmas.Option.{slice_get-map}
-use Rattle.indexmap.specs.IndexMap.{values}
-use Rattle.ace_lineck.specs.declared.record.LineRecord.{LineRecord}
+use Rattle.ace_lineck.proofs.Terms.{values, LineRecord}
 use Rattle.ace_lineck.proofs.Places.{no-place, at-place}
 use Rattle.ace_lineck.proofs.lines.LineCheck.record.Goals as goal
 

@@ -1,6 +1,5 @@
 use Rattle.std.proofs.Common.{Some, ap, ◌∙◌}
-use Rattle.ace_lineck.specs.declared.record.LineRecord.{LineRecord}
-use Rattle.ace_lineck.specs.Kept.{reply_kept}
+use Rattle.ace_lineck.proofs.Terms.{LineRecord, reply_kept}
 use Rattle.ace_lineck.proofs.LineLooks.{reply-look}
 use Rattle.ace_lineck.proofs.lines.LineCheck.reply.Goals as goal
 

@@ -1,7 +1,5 @@
 use Rattle.std.proofs.Common.{Some, sym, ap, subst, ◌∙◌}
-use Rattle.std.specs.Option.{option_copied}
-use Rattle.ace_lineck.specs.MemoryRules.{rule_of_write}
-use Rattle.ace_lineck.specs.Records.{LineStands}
+use Rattle.ace_lineck.proofs.Terms.{option_copied, rule_of_write, LineStands}
 use Rattle.ace_lineck.proofs.MemoryWrites.{of-place, memory_write-law}
 use Rattle.ace_lineck.proofs.lines.LineCheck.rule_of_m.Goals as goal
 
@@ -14,4 +12,4 @@ returns c r p ch i s out sends at port =
     let stands = subst (LineStands r.header r.past x.transaction.addr) (sym (c.record.ensures (Some x.transaction.addr) at)) (s.lines x.transaction.addr) in
     c.rule_of_write.ensures (of-place r.header r.past p ch i line x out kept s.accepted stands)
     ∙ ap (λ h. rule_of_write h kept x (option_copied a.burst) line) s.header
-    ∙ memory_write-law r.header r.past p ch i line x out kept s.accepted stands (option_copied a.burst) sends port
+    ∙ memory_write-law r.header r.past p ch i line x out kept s.accepted stands (option_copied a.burst) sends

@@ -1,8 +1,5 @@
 use Rattle.std.proofs.Common.{◌≡◌, Some, sym, ap, ◌∙◌}
-use Rattle.ace_model.specs.Copies.{memory_of}
-use Rattle.ace_model.specs.Replies.{passed_data}
-use Rattle.ace_lineck.specs.declared.record.LineRecord.{LineRecord}
-use Rattle.ace_lineck.specs.Kept.{passed_kept}
+use Rattle.ace_lineck.proofs.Terms.{memory_of, passed_data, LineRecord, passed_kept}
 use Rattle.ace_lineck.proofs.LineLooks.{whole-kind, written-look}
 use Rattle.ace_lineck.proofs.WriteLaws.{passed-data-law}
 use Rattle.ace_lineck.proofs.lines.LineCheck.written.Goals as goal
